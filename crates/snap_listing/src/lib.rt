@@ -1,0 +1,6 @@
+//! Listings: their texts, read.
+#![tactic(auto)]
+
+mod listing;
+
+pub use listing::Listing;

@@ -1,0 +1,10 @@
+pub mod Name
+pub mod Answers
+pub mod Source
+pub mod State
+pub mod Value
+pub mod Table
+pub mod Run
+pub mod Memory
+pub mod Readers
+pub mod SeqForm

@@ -1,0 +1,149 @@
+//! The lines of a listing.
+use crate::name::Name;
+use snap_words::Field;
+
+/// A number that can stand for a place.
+#[derive(Clone, Copy, Debug)]
+pub enum Index {
+    Number(u64),
+    /// `n`, the number of processes.
+    Processes,
+    /// `w`, the number of words.
+    Words,
+    /// `me`, the process.
+    Me,
+    /// `word`, the word of the update; 0 in a scan.
+    Word,
+    /// `@`, the place of a quantifier.
+    Place,
+    Scalar(Name),
+}
+
+/// An operand.
+#[derive(Clone, Copy, Debug)]
+pub enum Term {
+    Index(Index),
+    /// `arg`, the value of the update; 0 in a scan.
+    Arg,
+    /// `R[I]`.
+    Row(Name, Index),
+    /// `seq(W[I])`, and so `data`, `id` and `toggle`.
+    Field(Field, Name, Index),
+    /// `hand(W[I],J)`.
+    Hand(Name, Index, Index),
+}
+
+/// What is computed from operands.
+#[derive(Clone, Copy, Debug)]
+pub enum Expr {
+    Term(Term),
+    Sum(Term, Term),
+    /// 1 where the operand is 0, else 0.
+    Not(Term),
+}
+
+/// How two operands are compared.
+#[derive(Clone, Copy, Debug, PartialEq, Eq)]
+pub enum Relation {
+    Equal,
+    Different,
+    Less,
+}
+
+/// Two operands compared.
+#[derive(Clone, Copy, Debug)]
+pub struct Comparison {
+    pub left: Term,
+    pub relation: Relation,
+    pub right: Term,
+}
+
+/// How comparisons are joined.
+#[derive(Clone, Copy, Debug, PartialEq, Eq)]
+pub enum Join {
+    And,
+    Or,
+}
+
+/// One to four comparisons, all joined alike.
+#[derive(Clone, Copy, Debug)]
+pub enum Condition {
+    One(Comparison),
+    Two(Join, Comparison, Comparison),
+    Three(Join, Comparison, Comparison, Comparison),
+    Four(Join, Comparison, Comparison, Comparison, Comparison),
+}
+
+/// The places that a quantifier goes over: 1 to `n`, or 1 to `w`.
+#[derive(Clone, Copy, Debug, PartialEq, Eq)]
+pub enum Range {
+    Processes,
+    Words,
+}
+
+/// A bank of bits.
+#[derive(Clone, Copy, Debug, PartialEq, Eq)]
+pub enum BitBank {
+    Q,
+    P,
+}
+
+/// The parts of a word to be written, as the word's kind has them.
+#[derive(Clone, Copy, Debug)]
+pub enum Tuple {
+    /// `(data, seq, S)`.
+    Seq(Expr, Expr, Name),
+    /// `(data, R, toggle, S)`, with the hands in row R.
+    Bits(Expr, Name, Expr, Name),
+    /// `(data, id, toggle)`.
+    Multi(Expr, Expr, Expr),
+}
+
+/// What a line does. Names stand for locals: X a scalar, R a row, W a `words` local, S a view.
+#[derive(Clone, Copy, Debug)]
+pub enum Instr {
+    /// `let X = E`.
+    Let(Name, Expr),
+    /// `let R[I] = E`.
+    LetPlace(Name, Index, Expr),
+    /// `get W[I] = r[J]`.
+    Get(Name, Index, Index),
+    /// `bit X = q[I,J]`.
+    Bit(Name, BitBank, Index, Index),
+    /// `look S = v[I]`.
+    Look(Name, Index),
+    /// `put r[I] = (..)`.
+    Put(Index, Tuple),
+    /// `put q[I,J] = E`.
+    PutBit(BitBank, Index, Index, Expr),
+    /// `put v[I] = S`.
+    PutView(Index, Name),
+    /// `view S = data(W)`.
+    ViewData(Name, Name),
+    /// `view S = view(W[I])`.
+    ViewOf(Name, Name, Index),
+    /// `each G: R[@] = E where C`.
+    Each(Range, Name, Expr, Option<Condition>),
+    /// `first X G: C goto N`.
+    First(Name, Range, Condition, u64),
+    /// `next X G goto N`.
+    Next(Name, Range, u64),
+    /// `if C goto N`.
+    If(Condition, u64),
+    /// `if all G: C goto N`.
+    IfAll(Range, Condition, u64),
+    /// `goto N`.
+    Goto(u64),
+    /// `call N`.
+    Call(u64),
+    /// `return S`.
+    Return(Name),
+    Finish,
+}
+
+/// A numbered line.
+#[derive(Clone, Copy, Debug)]
+pub struct Line {
+    pub number: u64,
+    pub instr: Instr,
+}

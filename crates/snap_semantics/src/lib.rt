@@ -1,0 +1,18 @@
+//! What listings, schedules and runs are: the types that all crates speak of, and, in `specs/`, the definitions.
+#![tactic(auto)]
+
+mod event;
+mod instr;
+mod name;
+mod process;
+mod refusal;
+mod text;
+
+pub use event::{Event, Happening};
+pub use instr::{
+    BitBank, Comparison, Condition, Expr, Index, Instr, Join, Line, Range, Relation, Term, Tuple,
+};
+pub use name::Name;
+pub use process::{Activity, Cause, Item, Op, Outcome, Reason, Status};
+pub use refusal::{CommandRefusal, ListingRefusal, Refusal, ScheduleRefusal};
+pub use text::{Command, Mark, Sort, Sub, Task};

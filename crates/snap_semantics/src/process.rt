@@ -1,0 +1,78 @@
+//! What processes are asked, where they stand, and what comes of it.
+use snap_words::View;
+
+/// An operation on the snapshot object.
+#[derive(Clone, Copy, Debug, PartialEq, Eq)]
+pub enum Op {
+    Scan,
+    /// Sets a word, counted from 1, to a value.
+    Update { word: u64, value: u64 },
+}
+
+/// An item of a schedule: one atomic event of one process.
+#[derive(Clone, Copy, Debug, PartialEq, Eq)]
+pub enum Item {
+    /// The process runs its line.
+    Step(u32),
+    /// The process is asked for an operation.
+    Call(u32, Op),
+}
+
+/// Why a process trapped.
+#[derive(Clone, Copy, Debug, PartialEq, Eq)]
+pub enum Cause {
+    /// A place outside its local or bank.
+    Index,
+    /// A sum above 2^64 - 1.
+    Overflow,
+    /// A bit, hand or toggle to be written that is not 0 or 1.
+    NotABit,
+    /// A register of another process.
+    Owner,
+    /// A `call` within a `call`.
+    Nested,
+    /// A `return` or `finish` where the operation does not end so.
+    BadEnd,
+    /// No line follows.
+    OffEnd,
+}
+
+/// What a busy process is at.
+#[derive(Clone, Copy, Debug, PartialEq, Eq)]
+pub struct Activity {
+    pub op: Op,
+    /// The number of the line that it runs next.
+    pub line: u64,
+    /// The line to which `return` leads back.
+    pub link: Option<u64>,
+}
+
+/// How a process stands.
+#[derive(Clone, Copy, Debug, PartialEq, Eq)]
+pub enum Status {
+    Idle,
+    Busy(Activity),
+    /// Trapped for good, at what it was at.
+    Trapped(Cause, Activity),
+}
+
+/// Why an item was skipped.
+#[derive(Clone, Copy, Debug, PartialEq, Eq)]
+pub enum Reason {
+    Trapped,
+    Busy,
+    Idle,
+    NoSuchWord,
+    NotOwner,
+}
+
+/// What came of an item.
+#[derive(Debug, Drop)]
+pub enum Outcome {
+    Called,
+    Stepped,
+    Answered(View),
+    Finished,
+    Trapped(Cause),
+    Skipped(Reason),
+}

@@ -1,0 +1,89 @@
+//! Why texts are refused. Each refusal is shown by its code, its name and its number.
+use snap_words::WordFault;
+use thiserror::Error;
+
+/// Why a listing is refused. The number is that of a text line, from 1; of `NoSuchLine` it is the target.
+#[derive(Clone, Copy, Debug, PartialEq, Eq, Error)]
+pub enum ListingRefusal {
+    /// More than 65,536 bytes.
+    #[error("L1 TooLong")]
+    TooLong,
+    /// Not the header line that is expected.
+    #[error("L2 BadHeader {0}")]
+    BadHeader(u64),
+    /// No form of a line.
+    #[error("L3 BadLine {0}")]
+    BadLine(u64),
+    /// A line number that is not above the one before.
+    #[error("L4 NumberNotRising {0}")]
+    NumberNotRising(u64),
+    /// A name that is not declared.
+    #[error("L5 UnknownName {0}")]
+    UnknownName(u64),
+    /// A name that is declared already.
+    #[error("L6 NameTwice {0}")]
+    NameTwice(u64),
+    /// A name of another sort.
+    #[error("L7 WrongKind {0}")]
+    WrongKind(u64),
+    /// A target that is no line.
+    #[error("L8 NoSuchLine {0}")]
+    NoSuchLine(u64),
+    /// A 33rd local, or a 201st line.
+    #[error("L9 TooMany {0}")]
+    TooMany(u64),
+    /// A name of more than eight letters, or a reserved word.
+    #[error("L10 BadName {0}")]
+    BadName(u64),
+}
+
+/// Why a schedule is refused. The number is that of a text line, from 1.
+#[derive(Clone, Copy, Debug, PartialEq, Eq, Error)]
+pub enum ScheduleRefusal {
+    /// More than 4,194,304 bytes.
+    #[error("S1 TooLong")]
+    TooLong,
+    /// The first form is not a shape of 1 to 16 processes and words.
+    #[error("S2 BadShape")]
+    BadShape,
+    /// No form of an item.
+    #[error("S3 BadItem {0}")]
+    BadItem(u64),
+    /// More than 1,000,000 items.
+    #[error("S4 TooManyItems {0}")]
+    TooManyItems(u64),
+    /// A process that is not there.
+    #[error("S5 NoSuchProcess {0}")]
+    NoSuchProcess(u64),
+}
+
+/// Why a text of commands is refused. The number is that of a text line, from 1.
+#[derive(Clone, Copy, Debug, PartialEq, Eq, Error)]
+pub enum CommandRefusal {
+    /// No form of a command.
+    #[error("G1 BadCommand {0}")]
+    BadCommand(u64),
+    /// More than 1,048,576 bytes, or more than 10,000 commands.
+    #[error("G7 TooLong")]
+    TooLong,
+}
+
+/// Why the program refuses its input.
+#[derive(Clone, Copy, Debug, PartialEq, Eq, Error)]
+pub enum Refusal {
+    /// More than 16,777,216 bytes.
+    #[error("P1 InputTooLong")]
+    InputTooLong,
+    /// Another number of parts than the subcommand takes.
+    #[error("P2 WrongParts {0}")]
+    WrongParts(u64),
+    #[error("{0}")]
+    Listing(ListingRefusal),
+    #[error("{0}")]
+    Schedule(ScheduleRefusal),
+    /// A shape that does not fit the kind of registers.
+    #[error("{0}")]
+    Words(WordFault),
+    #[error("{0}")]
+    Commands(CommandRefusal),
+}

@@ -1,0 +1,46 @@
+//! What texts are made of, and what the program is asked.
+
+/// A token that is no word and no number.
+#[derive(Clone, Copy, Debug, PartialEq, Eq)]
+pub enum Mark {
+    Colon,
+    Equal,
+    /// `!=`.
+    Different,
+    Less,
+    Plus,
+    Comma,
+    OpenParenthesis,
+    CloseParenthesis,
+    OpenBracket,
+    CloseBracket,
+    At,
+    Star,
+}
+
+/// A sort of locals.
+#[derive(Clone, Copy, Debug, PartialEq, Eq)]
+pub enum Sort {
+    Scalar,
+    Row,
+    Words,
+    View,
+}
+
+/// A command of the debugger.
+#[derive(Clone, Copy, Debug, PartialEq, Eq)]
+pub enum Command {
+    Run,
+}
+
+/// A subcommand of the program.
+#[derive(Clone, Copy, Debug, PartialEq, Eq)]
+pub enum Sub {
+    Run,
+}
+
+/// What the program is to do with its input.
+#[derive(Clone, Copy, Debug, PartialEq, Eq)]
+pub struct Task {
+    pub sub: Sub,
+}

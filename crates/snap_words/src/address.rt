@@ -1,0 +1,22 @@
+//! Where a register stands.
+
+/// A bank of registers.
+#[derive(Clone, Copy, Debug, PartialEq, Eq)]
+pub enum Bank {
+    /// The words.
+    R,
+    /// Handshake bits of scanners.
+    Q,
+    /// Handshake bits of updaters.
+    P,
+    /// The views of kind multi.
+    V,
+}
+
+/// A register by its bank and its indices, which count from 1. In banks R and V `j` is 0.
+#[derive(Clone, Copy, Debug, PartialEq, Eq)]
+pub struct Address {
+    pub bank: Bank,
+    pub i: u64,
+    pub j: u64,
+}

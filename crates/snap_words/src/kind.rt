@@ -1,0 +1,21 @@
+//! The kinds of registers, and the fields of their words.
+
+/// A kind of registers: what its words have, and who may write them.
+#[derive(Clone, Copy, Debug, PartialEq, Eq)]
+pub enum KindTag {
+    /// Single-writer words with a sequence number.
+    Seq,
+    /// Single-writer words with handshake bits and a toggle.
+    Bits,
+    /// Multi-writer words with a writer and a toggle.
+    Multi,
+}
+
+/// A field of a word that is one number.
+#[derive(Clone, Copy, Debug, PartialEq, Eq)]
+pub enum Field {
+    Datum,
+    Seq,
+    Id,
+    Toggle,
+}

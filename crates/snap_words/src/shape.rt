@@ -1,0 +1,64 @@
+//! How many processes and words there are.
+ghost use Rattle.std.specs.Prelude.{◌≡◌, MatchResult};
+ghost use Rattle.snap_words.specs.Shape.{IsShape};
+ghost use Rattle.snap_words.specs.declared.shape.WordFault.TheVariants.{BadShape};
+
+use std::marker::Model;
+use thiserror::Error;
+
+/// The most processes, and the most words.
+pub const MAX_COUNT: u64 = 16;
+
+/// Why a shape or a word is refused.
+#[derive(Clone, Copy, Debug, PartialEq, Eq, Error)]
+pub enum WordFault {
+    /// A count of processes or of words outside 1 to 16.
+    #[error("W1 BadShape")]
+    BadShape,
+}
+
+/// The numbers of processes and of words, each 1 to 16.
+#[derive(Clone, Copy, Debug)]
+pub struct Shape {
+    n: u64,
+    w: u64,
+}
+
+impl Model for Shape {
+    ghost use Rattle.snap_words.specs.Shape.{Counts, IsShape};
+
+    ghost Value = { Counts };
+
+    ghost view = { λ s. record { n = s.n; w = s.w } };
+
+    ghost invariant = { λ s. IsShape s.n s.w };
+
+    ghost inverse = { λ c. record { n = c.n; w = c.w } };
+}
+
+impl Shape {
+    /// The shape of `n` processes and `w` words, or `BadShape` unless both are 1 to 16.
+    pub fn new(n: u64, w: u64) -> Result<Shape, WordFault>
+        ensures { MatchResult result (λ s. (s ≡ record { n = n; w = w }) × IsShape n w) (λ e. (e ≡ BadShape) × (IsShape n w → ⊥)) }
+    {
+        if 1 <= n && n <= MAX_COUNT && 1 <= w && w <= MAX_COUNT {
+            Ok(Shape { n, w })
+        } else {
+            Err(WordFault::BadShape)
+        }
+    }
+
+    /// The number of processes.
+    pub fn n(&self) -> u64
+        ensures { result ≡ self.now.n }
+    {
+        self.n
+    }
+
+    /// The number of words.
+    pub fn w(&self) -> u64
+        ensures { result ≡ self.now.w }
+    {
+        self.w
+    }
+}

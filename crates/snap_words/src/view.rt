@@ -1,0 +1,44 @@
+//! Views: the values of all words.
+ghost use Rattle.std.specs.Prelude.{◌≡◌, IfOk};
+
+use std::alloc::{AllocError, Global};
+use std::marker::Model;
+
+/// A value for each word, seen as the list of these values.
+#[derive(Debug, Drop)]
+pub struct View {
+    places: Vec<u64>,
+}
+
+impl Model for View {
+    ghost use Rattle.std.specs.Prelude.{List, ℕ};
+
+    ghost Value = { List ℕ };
+
+    ghost view = { λ v. v.places.items };
+}
+
+impl View {
+    /// The view with these values.
+    pub fn of(places: Vec<u64>) -> View
+        ensures { result ≡ places.items }
+    {
+        View { places }
+    }
+
+    /// Its values.
+    pub fn as_slice(&self) -> &[u64]
+        ensures { result.now ≡ self.now }
+    {
+        self.places.as_slice()
+    }
+
+    /// An equal view.
+    pub fn copy(&self, alloc: Global) -> Result<View, AllocError>
+        ensures { IfOk result (λ v. v ≡ self.now) }
+    {
+        Ok(View {
+            places: Vec::from_slice(alloc, self.places.as_slice())?,
+        })
+    }
+}

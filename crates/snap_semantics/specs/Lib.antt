@@ -8,3 +8,9 @@ pub mod Run
 pub mod Memory
 pub mod Readers
 pub mod SeqForm
+pub mod Token
+pub mod Forms
+pub mod ScheduleForms
+pub mod Schedule
+pub mod ScheduleText
+pub mod ListingForms

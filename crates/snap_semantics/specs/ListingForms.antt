@@ -1,0 +1,396 @@
+-- The forms of the lines of a listing. Names are any words that are not reserved; a word of more than eight letters is kept
+-- by its first nine.
+use Rattle.std.specs.Prelude.{ℕ, Bool, true, false, ◌&&◌, List, [], ◌∷◌, ◌++◌, take, Option, Some, None, nat_le, bytes_eq, codes, if◌then◌else◌}
+use Rattle.std.specs.List.{list_any}
+use Rattle.snap_words.specs.declared.kind.Field.{Field}
+use Rattle.snap_words.specs.declared.kind.Field.TheVariants as field
+use Rattle.snap_semantics.specs.declared.instr.Comparison.{Comparison}
+use Rattle.snap_semantics.specs.declared.instr.Condition.{Condition}
+use Rattle.snap_semantics.specs.declared.instr.Condition.TheVariants.{One, Two, Three, Four}
+use Rattle.snap_semantics.specs.declared.instr.Expr.{Expr}
+use Rattle.snap_semantics.specs.declared.instr.Expr.TheVariants as expr
+use Rattle.snap_semantics.specs.declared.instr.Index.{Index}
+use Rattle.snap_semantics.specs.declared.instr.Index.TheVariants as index
+use Rattle.snap_semantics.specs.declared.instr.Instr.{Instr}
+use Rattle.snap_semantics.specs.declared.instr.Instr.TheVariants as instr
+use Rattle.snap_semantics.specs.declared.instr.Join.{Join}
+use Rattle.snap_semantics.specs.declared.instr.Join.TheVariants.{And, Or}
+use Rattle.snap_semantics.specs.declared.instr.Line.{Line}
+use Rattle.snap_semantics.specs.declared.instr.Range.{Range}
+use Rattle.snap_semantics.specs.declared.instr.Range.TheVariants as range
+use Rattle.snap_semantics.specs.declared.instr.Relation.{Relation}
+use Rattle.snap_semantics.specs.declared.instr.Relation.TheVariants as relation
+use Rattle.snap_semantics.specs.declared.instr.Term.{Term}
+use Rattle.snap_semantics.specs.declared.instr.Term.TheVariants as term
+use Rattle.snap_semantics.specs.declared.instr.Tuple.{Tuple}
+use Rattle.snap_semantics.specs.declared.instr.Tuple.TheVariants as tuple
+use Rattle.snap_semantics.specs.declared.text.Mark.TheVariants as mark
+use Rattle.snap_semantics.specs.Forms.{◌>>=◌, or_else, Found, number_at, word_at, keyword_at, mark_at, end_at}
+use Rattle.snap_semantics.specs.Source.{Name}
+use Rattle.snap_semantics.specs.Token.{Token}
+
+-- the words that are no names
+abbrev pub reserved_words : List (List ℕ)
+reserved_words =
+    codes "kind" ∷ codes "seq" ∷ codes "bit" ∷ codes "multi" ∷ codes "scalar" ∷ codes "row" ∷ codes "words" ∷ codes "view"
+    ∷ codes "scan" ∷ codes "update" ∷ codes "let" ∷ codes "get" ∷ codes "look" ∷ codes "put" ∷ codes "each" ∷ codes "first"
+    ∷ codes "next" ∷ codes "if" ∷ codes "all" ∷ codes "goto" ∷ codes "call" ∷ codes "return" ∷ codes "finish" ∷ codes "where"
+    ∷ codes "and" ∷ codes "or" ∷ codes "not" ∷ codes "n" ∷ codes "w" ∷ codes "me" ∷ codes "word" ∷ codes "arg" ∷ codes "r"
+    ∷ codes "q" ∷ codes "p" ∷ codes "v" ∷ codes "data" ∷ codes "hand" ∷ codes "toggle" ∷ codes "id" ∷ []
+
+abbrev pub is_reserved : List ℕ → Bool
+is_reserved w = list_any (bytes_eq w) reserved_words
+
+-- a word in a name's place
+abbrev pub name_of_word : List ℕ → Option Name
+name_of_word w = if is_reserved w then None else Some (take 9 w)
+
+unfoldable pub name_at : List Token → Found Name
+name_at ts = do
+  w ← word_at ts
+  x ← name_of_word w.0
+  Some (x, w.1)
+
+-- An index: a number, `n`, `w`, `me`, `word`, `@` where it may stand, or a scalar.
+abbrev pub index_of_word : List ℕ → Option Index
+index_of_word w =
+    if bytes_eq w (codes "n") then Some index.Processes else
+    if bytes_eq w (codes "w") then Some index.Words else
+    if bytes_eq w (codes "me") then Some index.Me else
+    if bytes_eq w (codes "word") then Some index.Word else
+    name_of_word w >>= λ x. Some (index.Scalar x)
+
+unfoldable pub number_index : List Token → Found Index
+number_index ts = do
+  k ← number_at ts
+  Some (index.Number k.0, k.1)
+
+unfoldable pub place_index : Bool → List Token → Found Index
+place_index in_quantifier ts = do
+  rest ← mark_at mark.At ts
+  if in_quantifier then Some (index.Place, rest) else None
+
+unfoldable pub word_index : List Token → Found Index
+word_index ts = do
+  w ← word_at ts
+  i ← index_of_word w.0
+  Some (i, w.1)
+
+unfoldable pub index_at : Bool → List Token → Found Index
+index_at q ts = or_else (number_index ts) (or_else (place_index q ts) (word_index ts))
+
+-- `[I]`
+unfoldable pub place_at : Bool → List Token → Found Index
+place_at q ts = do
+  a ← mark_at mark.OpenBracket ts
+  i ← index_at q a
+  b ← mark_at mark.CloseBracket i.1
+  Some (i.0, b)
+
+-- a local's name and `[I]`
+unfoldable pub named_place_at : Bool → List Token → Found (Name × Index)
+named_place_at q ts = do
+  x ← name_at ts
+  i ← place_at q x.1
+  Some ((x.0, i.0), i.1)
+
+-- A term: `arg`, `R[I]`, a field of a word, or an index.
+unfoldable pub arg_term : List Token → Found Term
+arg_term ts = do
+  rest ← keyword_at (codes "arg") ts
+  Some (term.Arg, rest)
+
+unfoldable pub row_term : Bool → List Token → Found Term
+row_term q ts = do
+  x ← named_place_at q ts
+  Some (term.Row x.0.0 x.0.1, x.1)
+
+-- the fields of kind seq that a term can name
+abbrev pub field_of_word : List ℕ → Option Field
+field_of_word w =
+    if bytes_eq w (codes "seq") then Some field.Seq else
+    if bytes_eq w (codes "data") then Some field.Datum else None
+
+-- `seq(W[I])` or `data(W[I])`
+unfoldable pub field_term : Bool → List Token → Found Term
+field_term q ts = do
+  w ← word_at ts
+  f ← field_of_word w.0
+  a ← mark_at mark.OpenParenthesis w.1
+  x ← named_place_at q a
+  b ← mark_at mark.CloseParenthesis x.1
+  Some (term.Field f x.0.0 x.0.1, b)
+
+unfoldable pub index_term : Bool → List Token → Found Term
+index_term q ts = do
+  i ← index_at q ts
+  Some (term.Index i.0, i.1)
+
+unfoldable pub term_at : Bool → List Token → Found Term
+term_at q ts = or_else (arg_term ts) (or_else (row_term q ts) (or_else (field_term q ts) (index_term q ts)))
+
+-- An expression: `not` term, term `+` term, or a term.
+unfoldable pub not_expr : Bool → List Token → Found Expr
+not_expr q ts = do
+  a ← keyword_at (codes "not") ts
+  t ← term_at q a
+  Some (expr.Not t.0, t.1)
+
+-- `+` and a term behind the first one
+unfoldable pub plus_expr : Bool → Term → List Token → Found Expr
+plus_expr q t ts = do
+  a ← mark_at mark.Plus ts
+  u ← term_at q a
+  Some (expr.Sum t u.0, u.1)
+
+unfoldable pub term_expr : Bool → List Token → Found Expr
+term_expr q ts = do
+  t ← term_at q ts
+  or_else (plus_expr q t.0 t.1) (Some (expr.Term t.0, t.1))
+
+unfoldable pub expr_at : Bool → List Token → Found Expr
+expr_at q ts = or_else (not_expr q ts) (term_expr q ts)
+
+-- A condition: one to four comparisons, all joined by `and` or all by `or`.
+unfoldable pub relation_at : List Token → Found Relation
+relation_at ts =
+    or_else (mark_at mark.Equal ts >>= λ rest. Some (relation.Equal, rest))
+    (or_else (mark_at mark.Different ts >>= λ rest. Some (relation.Different, rest))
+    (mark_at mark.Less ts >>= λ rest. Some (relation.Less, rest)))
+
+unfoldable pub comparison_at : Bool → List Token → Found Comparison
+comparison_at q ts = do
+  t ← term_at q ts
+  r ← relation_at t.1
+  u ← term_at q r.1
+  Some (record { left = t.0; relation = r.0; right = u.0 }, u.1)
+
+abbrev pub join_word : Join → List ℕ
+join_word And = codes "and"
+join_word Or = codes "or"
+
+-- a comparison behind `and` or `or`
+unfoldable pub joined_at : Bool → Join → List Token → Found Comparison
+joined_at q j ts = do
+  a ← keyword_at (join_word j) ts
+  comparison_at q a
+
+unfoldable pub third_on : Bool → Join → Comparison → Comparison → Comparison → List Token → Found Condition
+third_on q j k l m ts =
+    or_else (joined_at q j ts >>= λ o. Some (Four j k l m o.0, o.1)) (Some (Three j k l m, ts))
+
+unfoldable pub second_on : Bool → Join → Comparison → Comparison → List Token → Found Condition
+second_on q j k l ts =
+    or_else (joined_at q j ts >>= λ m. third_on q j k l m.0 m.1) (Some (Two j k l, ts))
+
+unfoldable pub first_on : Bool → Comparison → List Token → Found Condition
+first_on q k ts =
+    or_else (joined_at q And ts >>= λ l. second_on q And k l.0 l.1)
+    (or_else (joined_at q Or ts >>= λ l. second_on q Or k l.0 l.1) (Some (One k, ts)))
+
+unfoldable pub condition_at : Bool → List Token → Found Condition
+condition_at q ts = do
+  k ← comparison_at q ts
+  first_on q k.0 k.1
+
+-- `n` or `w`
+unfoldable pub range_at : List Token → Found Range
+range_at ts =
+    or_else (keyword_at (codes "n") ts >>= λ rest. Some (range.Processes, rest))
+    (keyword_at (codes "w") ts >>= λ rest. Some (range.Words, rest))
+
+-- `goto N`
+unfoldable pub target_at : List Token → Found ℕ
+target_at ts = do
+  a ← keyword_at (codes "goto") ts
+  number_at a
+
+-- Instructions, behind their first word; each to the end of the line.
+-- `let X = E`
+unfoldable pub let_form : List Token → Option Instr
+let_form ts = do
+  x ← name_at ts
+  a ← mark_at mark.Equal x.1
+  e ← expr_at false a
+  end ← end_at e.1
+  Some (instr.Let x.0 e.0)
+
+-- `let R[I] = E`
+unfoldable pub let_place_form : List Token → Option Instr
+let_place_form ts = do
+  x ← named_place_at false ts
+  a ← mark_at mark.Equal x.1
+  e ← expr_at false a
+  end ← end_at e.1
+  Some (instr.LetPlace x.0.0 x.0.1 e.0)
+
+-- `get W[I] = r[J]`
+unfoldable pub get_form : List Token → Option Instr
+get_form ts = do
+  x ← named_place_at false ts
+  a ← mark_at mark.Equal x.1
+  b ← keyword_at (codes "r") a
+  j ← place_at false b
+  end ← end_at j.1
+  Some (instr.Get x.0.0 x.0.1 j.0)
+
+-- `(E, E, S)`
+unfoldable pub seq_tuple_at : List Token → Found Tuple
+seq_tuple_at ts = do
+  a ← mark_at mark.OpenParenthesis ts
+  d ← expr_at false a
+  b ← mark_at mark.Comma d.1
+  q ← expr_at false b
+  c ← mark_at mark.Comma q.1
+  s ← name_at c
+  e ← mark_at mark.CloseParenthesis s.1
+  Some (tuple.Seq d.0 q.0 s.0, e)
+
+-- `put r[I] = (E, E, S)`
+unfoldable pub put_form : List Token → Option Instr
+put_form ts = do
+  a ← keyword_at (codes "r") ts
+  i ← place_at false a
+  b ← mark_at mark.Equal i.1
+  t ← seq_tuple_at b
+  end ← end_at t.1
+  Some (instr.Put i.0 t.0)
+
+-- `view S = data(W)`
+unfoldable pub view_data_form : List Token → Option Instr
+view_data_form ts = do
+  x ← name_at ts
+  a ← mark_at mark.Equal x.1
+  b ← keyword_at (codes "data") a
+  c ← mark_at mark.OpenParenthesis b
+  y ← name_at c
+  d ← mark_at mark.CloseParenthesis y.1
+  end ← end_at d
+  Some (instr.ViewData x.0 y.0)
+
+-- `view S = view(W[I])`
+unfoldable pub view_of_form : List Token → Option Instr
+view_of_form ts = do
+  x ← name_at ts
+  a ← mark_at mark.Equal x.1
+  b ← keyword_at (codes "view") a
+  c ← mark_at mark.OpenParenthesis b
+  y ← named_place_at false c
+  d ← mark_at mark.CloseParenthesis y.1
+  end ← end_at d
+  Some (instr.ViewOf x.0 y.0.0 y.0.1)
+
+-- `where C`, or nothing
+unfoldable pub where_at : List Token → Found (Option Condition)
+where_at ts =
+    or_else (keyword_at (codes "where") ts >>= λ a. condition_at true a >>= λ k. Some (Some k.0, k.1)) (Some (None, ts))
+
+-- `each G: R[@] = E where C`
+unfoldable pub each_form : List Token → Option Instr
+each_form ts = do
+  g ← range_at ts
+  a ← mark_at mark.Colon g.1
+  x ← name_at a
+  b ← mark_at mark.OpenBracket x.1
+  c ← mark_at mark.At b
+  d ← mark_at mark.CloseBracket c
+  f ← mark_at mark.Equal d
+  e ← expr_at true f
+  k ← where_at e.1
+  end ← end_at k.1
+  Some (instr.Each g.0 x.0 e.0 k.0)
+
+-- `first X G: C goto N`
+unfoldable pub first_form : List Token → Option Instr
+first_form ts = do
+  x ← name_at ts
+  g ← range_at x.1
+  a ← mark_at mark.Colon g.1
+  k ← condition_at true a
+  target ← target_at k.1
+  end ← end_at target.1
+  Some (instr.First x.0 g.0 k.0 target.0)
+
+-- `next X G goto N`
+unfoldable pub next_form : List Token → Option Instr
+next_form ts = do
+  x ← name_at ts
+  g ← range_at x.1
+  target ← target_at g.1
+  end ← end_at target.1
+  Some (instr.Next x.0 g.0 target.0)
+
+-- `if C goto N`
+unfoldable pub if_form : List Token → Option Instr
+if_form ts = do
+  k ← condition_at false ts
+  target ← target_at k.1
+  end ← end_at target.1
+  Some (instr.If k.0 target.0)
+
+-- `if all G: C goto N`
+unfoldable pub if_all_form : List Token → Option Instr
+if_all_form ts = do
+  a ← keyword_at (codes "all") ts
+  g ← range_at a
+  b ← mark_at mark.Colon g.1
+  k ← condition_at true b
+  target ← target_at k.1
+  end ← end_at target.1
+  Some (instr.IfAll g.0 k.0 target.0)
+
+-- `goto N`
+unfoldable pub goto_form : List Token → Option Instr
+goto_form ts = do
+  target ← number_at ts
+  end ← end_at target.1
+  Some (instr.Goto target.0)
+
+-- `call N`
+unfoldable pub call_form : List Token → Option Instr
+call_form ts = do
+  target ← number_at ts
+  end ← end_at target.1
+  Some (instr.Call target.0)
+
+-- `return S`
+unfoldable pub return_form : List Token → Option Instr
+return_form ts = do
+  x ← name_at ts
+  end ← end_at x.1
+  Some (instr.Return x.0)
+
+-- `finish`
+unfoldable pub finish_form : List Token → Option Instr
+finish_form ts = do
+  end ← end_at ts
+  Some instr.Finish
+
+-- the forms that begin with this word
+unfoldable pub form_of_word : List ℕ → List Token → Option Instr
+form_of_word w ts =
+    if bytes_eq w (codes "let") then or_else (let_form ts) (let_place_form ts) else
+    if bytes_eq w (codes "get") then get_form ts else
+    if bytes_eq w (codes "put") then put_form ts else
+    if bytes_eq w (codes "view") then or_else (view_data_form ts) (view_of_form ts) else
+    if bytes_eq w (codes "each") then each_form ts else
+    if bytes_eq w (codes "first") then first_form ts else
+    if bytes_eq w (codes "next") then next_form ts else
+    if bytes_eq w (codes "if") then or_else (if_form ts) (if_all_form ts) else
+    if bytes_eq w (codes "goto") then goto_form ts else
+    if bytes_eq w (codes "call") then call_form ts else
+    if bytes_eq w (codes "return") then return_form ts else
+    if bytes_eq w (codes "finish") then finish_form ts else None
+
+-- a line number
+abbrev pub is_line_number : ℕ → Bool
+is_line_number k = nat_le 1 k && nat_le k 999
+
+-- `N: instruction`
+unfoldable pub line_form : List Token → Option Line
+line_form ts = do
+  k ← number_at ts
+  a ← mark_at mark.Colon k.1
+  w ← word_at a
+  i ← form_of_word w.0 w.1
+  if is_line_number k.0 then Some (record { number = k.0; instr = i }) else None

@@ -14,3 +14,13 @@ pub mod ScheduleForms
 pub mod Schedule
 pub mod ScheduleText
 pub mod ListingForms
+pub mod HeaderForms
+pub mod Uses
+pub mod Listing
+pub mod Spelling
+pub mod IsListing
+pub mod Report
+pub mod CommandForms
+pub mod Commands
+pub mod Perform
+pub mod Output

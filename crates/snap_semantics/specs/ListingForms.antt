@@ -1,6 +1,6 @@
 -- The forms of the lines of a listing. Names are any words that are not reserved; a word of more than eight letters is kept
 -- by its first nine.
-use Rattle.std.specs.Prelude.{ℕ, Bool, true, false, ◌&&◌, List, [], ◌∷◌, ◌++◌, take, Option, Some, None, nat_le, bytes_eq, codes, if◌then◌else◌}
+use Rattle.std.specs.Prelude.{ℕ, Bool, true, false, ◌&&◌, List, [], ◌∷◌, take, Option, Some, None, nat_le, bytes_eq, codes, if◌then◌else◌}
 use Rattle.std.specs.List.{list_any}
 use Rattle.snap_words.specs.declared.kind.Field.{Field}
 use Rattle.snap_words.specs.declared.kind.Field.TheVariants as field

@@ -1,0 +1,36 @@
+-- The forms of the header lines of a listing.
+use Rattle.std.specs.Prelude.{ℕ, List, [], ◌∷◌, Option, Some, None, codes, if◌then◌else◌}
+use Rattle.snap_words.specs.declared.kind.KindTag.{KindTag}
+use Rattle.snap_words.specs.declared.kind.KindTag.TheVariants as kind
+use Rattle.snap_semantics.specs.Forms.{◌>>=◌, number_at, keyword_at, end_at}
+use Rattle.snap_semantics.specs.ListingForms.{is_line_number}
+use Rattle.snap_semantics.specs.Token.{Token, Word, Number, Sign}
+
+-- `kind seq`
+unfoldable pub kind_form : List Token → Option KindTag
+kind_form ts = do
+  a ← keyword_at (codes "kind") ts
+  b ← keyword_at (codes "seq") a
+  end ← end_at b
+  Some kind.Seq
+
+-- words alone
+abbrev pub words_form : List Token → Option (List (List ℕ))
+words_form [] = Some []
+words_form (Word w ∷ ts) = words_form ts >>= λ ws. Some (w ∷ ws)
+words_form (Number k ∷ ts) = None
+words_form (Sign m ∷ ts) = None
+
+-- a keyword and the names of a sort
+unfoldable pub names_form : List ℕ → List Token → Option (List (List ℕ))
+names_form keyword ts = do
+  a ← keyword_at keyword ts
+  words_form a
+
+-- a keyword and a line number
+unfoldable pub entry_form : List ℕ → List Token → Option ℕ
+entry_form keyword ts = do
+  a ← keyword_at keyword ts
+  k ← number_at a
+  end ← end_at k.1
+  if is_line_number k.0 then Some k.0 else None

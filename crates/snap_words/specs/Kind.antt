@@ -1,5 +1,6 @@
 -- The kinds of registers: which shapes fit, how a word begins, and who may write what.
-use Rattle.std.specs.Prelude.{ℕ, Bool, true, nat_eq, [], replicate}
+use Rattle.std.specs.Prelude.{ℕ, ◌-◌, Bool, true, false, ◌&&◌, List, [], ◌∷◌, length, Option, Some, None, nat_eq, nat_lt, nat_le, replicate, slice_get, if◌then◌else◌}
+use Rattle.std.specs.List.{list_all}
 use Rattle.snap_words.specs.Shape.{Counts}
 use Rattle.snap_words.specs.Word.{Word}
 use Rattle.snap_words.specs.declared.kind.KindTag.{KindTag}
@@ -36,3 +37,70 @@ field_of field.Datum w = w.datum
 field_of field.Seq w = w.seq
 field_of field.Id w = w.id
 field_of field.Toggle w = w.toggle
+
+-- which banks there are
+abbrev pub has_bank : KindTag → Bank → Bool
+has_bank k R = true
+has_bank Seq Q = false
+has_bank Seq P = false
+has_bank Seq V = false
+has_bank Bits Q = true
+has_bank Bits P = false
+has_bank Bits V = false
+has_bank Multi Q = true
+has_bank Multi P = true
+has_bank Multi V = true
+
+-- which fields of one number a word has
+abbrev pub has_field : KindTag → Field → Bool
+has_field k field.Datum = true
+has_field Seq field.Seq = true
+has_field Seq field.Id = false
+has_field Seq field.Toggle = false
+has_field Bits field.Seq = false
+has_field Bits field.Id = false
+has_field Bits field.Toggle = true
+has_field Multi field.Seq = false
+has_field Multi field.Id = true
+has_field Multi field.Toggle = true
+
+abbrev pub has_hands : KindTag → Bool
+has_hands Seq = false
+has_hands Bits = true
+has_hands Multi = false
+
+abbrev pub has_view : KindTag → Bool
+has_view Seq = true
+has_view Bits = true
+has_view Multi = false
+
+-- a field that the kind has
+abbrev pub field_in : KindTag → Field → Word → Option ℕ
+field_in k f w = if has_field k f then Some (field_of f w) else None
+
+-- hand i, counted from 1, where the kind has hands and there is one
+abbrev pub hand_in : KindTag → ℕ → Word → Option ℕ
+hand_in k i w = if has_hands k && nat_lt 0 i then slice_get w.hands (i - 1) else None
+
+-- the view, where the kind has one
+abbrev pub view_in : KindTag → Word → Option (List ℕ)
+view_in k w = if has_view k then Some w.view else None
+
+abbrev pub is_bit : ℕ → Bool
+is_bit x = nat_le x 1
+
+-- what the kind keeps of the parts of a word
+abbrev pub kept : KindTag → Word → Word
+kept Seq w = record { datum = w.datum; seq = w.seq; id = 0; toggle = 0; hands = []; view = w.view }
+kept Bits w = record { datum = w.datum; seq = 0; id = 0; toggle = w.toggle; hands = w.hands; view = w.view }
+kept Multi w = record { datum = w.datum; seq = 0; id = w.id; toggle = w.toggle; hands = []; view = [] }
+
+-- whether the toggle and the hands that the kind has are bits
+abbrev pub has_bits : KindTag → Word → Bool
+has_bits k w = is_bit (kept k w).toggle && list_all is_bit (kept k w).hands
+
+-- whether the hands and the view that the kind has are as long as the shape wants
+abbrev pub is_sized : KindTag → Counts → Word → Bool
+is_sized Seq s w = nat_eq (length w.view) s.w
+is_sized Bits s w = nat_eq (length w.hands) s.n && nat_eq (length w.view) s.w
+is_sized Multi s w = true

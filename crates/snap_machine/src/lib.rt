@@ -1,0 +1,8 @@
+//! A machine: processes that run a listing over registers of kind seq, one schedule item at a time.
+#![tactic(auto)]
+
+mod process;
+mod value;
+mod word;
+
+pub use word::Word;

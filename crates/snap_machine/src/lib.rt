@@ -1,6 +1,7 @@
 //! A machine: processes that run a listing over registers of kind seq, one schedule item at a time.
 #![tactic(auto)]
 
+mod locals;
 mod process;
 mod value;
 mod word;

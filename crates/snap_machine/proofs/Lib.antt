@@ -1,2 +1,3 @@
 pub mod Slots
 pub mod Hands
+pub mod Places

@@ -5,6 +5,7 @@ mod lines;
 mod local_lines;
 mod locals;
 mod process;
+mod quantifiers;
 mod value;
 mod word;
 

@@ -1,9 +1,12 @@
 //! Quantifiers: what holds, and what the values are, at the places from 1 on. The operands of a place are all taken
 //! before those of the next.
-ghost use Rattle.std.specs.Prelude.{◌≡◌, if◌then◌else◌};
+ghost use Rattle.std.specs.Prelude.{◌≡◌, [], ◌∷◌, ◌++◌, drop, if◌then◌else◌, IfOk, OnOk};
 ghost use Rattle.snap_semantics.specs.Readers.{or_else};
 ghost use Rattle.snap_semantics.specs.Table.{each_value, range_end};
-ghost use Rattle.snap_machine.specs.Quantifiers.{first_place, holds_at_all};
+ghost use Rattle.snap_machine.specs.Lines.{IfAnswered};
+ghost use Rattle.snap_machine.specs.Quantifiers.{
+    first_place, holds_at_all, checked_values, new_row, items_of
+};
 ghost use Rattle.snap_machine.specs.Seen.{seen_context};
 
 use crate::lines::Halt;
@@ -96,4 +99,69 @@ fn row_value(
             }
         }
     }
+}
+
+/// The trap of the first place that has no new value, if one has none.
+pub fn check_values(
+    listing: &Listing,
+    taker: &Taker,
+    process: &Process,
+    count: u64,
+    name: Name,
+    expr: &Expr,
+    condition: &Option<Condition>,
+) -> Result<(), Cause>
+    ensures { result ≡ checked_values (seen_context listing.now taker.now process.now) count name expr.now condition.now }
+{
+    for passed in 0..count {
+        row_value(listing, &taker.at(passed + 1), process, name, expr, condition)?;
+    }
+    Ok(())
+}
+
+/// A row with the new values, and after them the old ones.
+pub fn new_row(
+    alloc: Global,
+    listing: &Listing,
+    taker: &Taker,
+    process: &Process,
+    count: u64,
+    name: Name,
+    expr: &Expr,
+    condition: &Option<Condition>,
+) -> Result<Vec<u64>, Halt>
+    ensures { IfAnswered result (λ r.
+        items_of r ≡ new_row (seen_context listing.now taker.now process.now) count name expr.now condition.now) }
+{
+    let old = row(listing.rows(), process.rows.as_slice(), name);
+    let mut values = room(alloc, old.len())?;
+    for passed in 0..count {
+        let value = row_value(listing, &taker.at(passed + 1), process, name, expr, condition)?;
+        push(&mut values, value)?;
+    }
+    push_rest(&mut values, old, count)?;
+    Ok(values)
+}
+
+/// An empty row with room.
+fn room(alloc: Global, count: usize) -> Result<Vec<u64>, AllocError>
+    ensures { IfOk result (λ row. row.items ≡ []) }
+{
+    Vec::with_capacity(alloc, count)
+}
+
+/// A row with one number more.
+fn push(row: &mut Vec<u64>, value: u64) -> Result<(), AllocError>
+    ensures { OnOk result (row.new.items ≡ row.old.items ++ value ∷ []) }
+{
+    row.push(value)?;
+    Ok(())
+}
+
+/// A row with what another has after this many numbers.
+fn push_rest(row: &mut Vec<u64>, other: &[u64], count: u64) -> Result<(), AllocError>
+    ensures { OnOk result (row.new.items ≡ row.old.items ++ drop count other.now) }
+{
+    let from = (count as usize).min(other.len());
+    row.extend_from_slice(&other[from..])
 }

@@ -8,6 +8,7 @@ mod locals;
 mod process;
 mod quantifiers;
 mod register_lines;
+mod step;
 mod value;
 mod word;
 

@@ -4,8 +4,9 @@ ghost use Rattle.snap_semantics.specs.Source.{following};
 ghost use Rattle.snap_machine.specs.Lines.{next_line};
 ghost use Rattle.snap_machine.specs.declared.lines.Halt.TheVariants.{Trap, NoMemory};
 
+use crate::value::Turn;
 use snap_listing::Listing;
-use snap_semantics::{Activity, Cause};
+use snap_semantics::Cause;
 use snap_words::View;
 use std::alloc::AllocError;
 
@@ -41,14 +42,21 @@ impl From<AllocError> for Halt {
 }
 
 /// The line after this one.
-pub fn next_line(listing: &Listing, activity: &Activity) -> Result<Next, Cause>
-    ensures { result ≡ next_line activity.now (following listing.now.lines activity.now.line) }
+pub fn next_line(listing: &Listing, turn: &Turn) -> Result<Next, Cause>
+    ensures { result ≡ next_line turn.now.activity (following listing.now.lines turn.now.activity.line) }
 {
-    match listing.following(activity.line) {
-        Some(line) => Ok(Next::Line {
-            line,
-            link: activity.link,
-        }),
+    match listing.following(turn.activity.line) {
+        Some(line) => Ok(goto(turn, line)),
         None => Err(Cause::OffEnd),
+    }
+}
+
+/// A line, with the same link.
+pub fn goto(turn: &Turn, line: u64) -> Next
+    ensures { result ≡ Next.Line line turn.now.activity.link }
+{
+    Next::Line {
+        line,
+        link: turn.activity.link,
     }
 }

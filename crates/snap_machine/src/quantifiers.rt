@@ -5,14 +5,18 @@ ghost use Rattle.snap_semantics.specs.Readers.{or_else};
 ghost use Rattle.snap_semantics.specs.Table.{each_value, range_end};
 ghost use Rattle.snap_machine.specs.Lines.{IfAnswered};
 ghost use Rattle.snap_machine.specs.Quantifiers.{
-    first_place, holds_at_all, checked_values, new_row, items_of
+  first_place,
+  holds_at_all,
+  checked_values,
+  new_row,
+  items_of,
 };
 ghost use Rattle.snap_machine.specs.Seen.{seen_context};
 
 use crate::lines::Halt;
 use crate::locals::row;
 use crate::process::Process;
-use crate::value::{Taker, condition_holds, expr_value, joined, number_at};
+use crate::value::{Turn, condition_holds, expr_value, joined, number_at};
 use snap_listing::Listing;
 use snap_semantics::{Cause, Condition, Expr, Join, Name, Range};
 use snap_words::Shape;
@@ -31,17 +35,17 @@ pub fn range_end(shape: Shape, range: Range) -> u64
 /// The least place at which a condition holds.
 pub fn first_place(
     listing: &Listing,
-    taker: &Taker,
+    turn: &Turn,
     process: &Process,
     count: u64,
     condition: &Condition,
 ) -> Result<Option<u64>, Cause>
-    ensures { result ≡ first_place (seen_context listing.now taker.now process.now) count condition.now }
+    ensures { result ≡ first_place (seen_context listing.now turn.now process.now) count condition.now }
 {
     let mut found = None;
     for passed in 0..count {
         let place = passed + 1;
-        let holds = condition_holds(listing, &taker.at(place), process, condition)?;
+        let holds = condition_holds(listing, &turn.at(place), process, condition)?;
         found = first_of(found, holds, place);
     }
     Ok(found)
@@ -60,16 +64,16 @@ fn first_of(found: Option<u64>, holds: bool, place: u64) -> Option<u64>
 /// Whether a condition holds at every place.
 pub fn holds_at_all(
     listing: &Listing,
-    taker: &Taker,
+    turn: &Turn,
     process: &Process,
     count: u64,
     condition: &Condition,
 ) -> Result<bool, Cause>
-    ensures { result ≡ holds_at_all (seen_context listing.now taker.now process.now) count condition.now }
+    ensures { result ≡ holds_at_all (seen_context listing.now turn.now process.now) count condition.now }
 {
     let mut all = true;
     for passed in 0..count {
-        let holds = condition_holds(listing, &taker.at(passed + 1), process, condition)?;
+        let holds = condition_holds(listing, &turn.at(passed + 1), process, condition)?;
         all = joined(Join::And, all, holds);
     }
     Ok(all)
@@ -78,24 +82,24 @@ pub fn holds_at_all(
 /// A place's new value: the expression's where the condition holds, else the old one.
 fn row_value(
     listing: &Listing,
-    taker: &Taker,
+    turn: &Turn,
     process: &Process,
     name: Name,
     expr: &Expr,
     condition: &Option<Condition>,
 ) -> Result<u64, Cause>
-    ensures { result ≡ each_value (seen_context listing.now taker.now process.now) name expr.now condition.now }
+    ensures { result ≡ each_value (seen_context listing.now turn.now process.now) name expr.now condition.now }
 {
     match condition {
-        None => expr_value(listing, taker, process, expr),
+        None => expr_value(listing, turn, process, expr),
         Some(condition) => {
-            let value = expr_value(listing, taker, process, expr)?;
-            let holds = condition_holds(listing, taker, process, condition)?;
+            let value = expr_value(listing, turn, process, expr)?;
+            let holds = condition_holds(listing, turn, process, condition)?;
             if holds {
                 Ok(value)
             } else {
                 let row = row(listing.rows(), process.rows.as_slice(), name);
-                Ok(number_at(row, taker.place.saturating_sub(1) as usize))
+                Ok(number_at(row, turn.place.saturating_sub(1) as usize))
             }
         }
     }
@@ -104,17 +108,24 @@ fn row_value(
 /// The trap of the first place that has no new value, if one has none.
 pub fn check_values(
     listing: &Listing,
-    taker: &Taker,
+    turn: &Turn,
     process: &Process,
     count: u64,
     name: Name,
     expr: &Expr,
     condition: &Option<Condition>,
 ) -> Result<(), Cause>
-    ensures { result ≡ checked_values (seen_context listing.now taker.now process.now) count name expr.now condition.now }
+    ensures { result ≡ checked_values (seen_context listing.now turn.now process.now) count name expr.now condition.now }
 {
     for passed in 0..count {
-        row_value(listing, &taker.at(passed + 1), process, name, expr, condition)?;
+        row_value(
+            listing,
+            &turn.at(passed + 1),
+            process,
+            name,
+            expr,
+            condition,
+        )?;
     }
     Ok(())
 }
@@ -123,7 +134,7 @@ pub fn check_values(
 pub fn new_row(
     alloc: Global,
     listing: &Listing,
-    taker: &Taker,
+    turn: &Turn,
     process: &Process,
     count: u64,
     name: Name,
@@ -131,12 +142,19 @@ pub fn new_row(
     condition: &Option<Condition>,
 ) -> Result<Vec<u64>, Halt>
     ensures { IfAnswered result (λ r.
-        items_of r ≡ new_row (seen_context listing.now taker.now process.now) count name expr.now condition.now) }
+        items_of r ≡ new_row (seen_context listing.now turn.now process.now) count name expr.now condition.now) }
 {
     let old = row(listing.rows(), process.rows.as_slice(), name);
     let mut values = room(alloc, old.len())?;
     for passed in 0..count {
-        let value = row_value(listing, &taker.at(passed + 1), process, name, expr, condition)?;
+        let value = row_value(
+            listing,
+            &turn.at(passed + 1),
+            process,
+            name,
+            expr,
+            condition,
+        )?;
         push(&mut values, value)?;
     }
     push_rest(&mut values, old, count)?;

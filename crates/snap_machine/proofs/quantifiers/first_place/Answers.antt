@@ -3,7 +3,7 @@ use Rattle.snap_semantics.specs.declared.process.Cause.{Cause}
 use Rattle.snap_semantics.specs.Readers.{or_else}
 use Rattle.snap_semantics.specs.Table.{first_true}
 use Rattle.snap_semantics.specs.Value.{Context, at_place, condition_holds}
-use Rattle.snap_machine.specs.declared.value.Taker.{Taker}
+use Rattle.snap_machine.specs.declared.value.Turn.{Turn}
 use Rattle.snap_machine.specs.Seen.{seen_context}
 use Rattle.snap_machine.proofs.Places.{more_found, next_place, trap_place}
 use Rattle.std.proofs.lemmas.Result.{err_from_is_err_and}
@@ -15,9 +15,9 @@ returns-in_err-holds c =
     let p = c.args.process.now in
     let k = c.args.condition.now in
     let passed = c.loop-passed.passed in
-    let context : Context = seen_context s c.args.taker.now p in
+    let context : Context = seen_context s c.args.turn.now p in
     let is : condition_holds (at_place context (passed + 1)) k ≡ Err c.in_err-holds.field-0.0 =
-    ap (λ (t : Taker). condition_holds (seen_context s t p) k) (sym c.at.ensures) ∙ sym c.condition_holds.ensures ∙ c.in_err-holds.was in
+    ap (λ (t : Turn). condition_holds (seen_context s t p) k) (sym c.at.ensures) ∙ sym c.condition_holds.ensures ∙ c.in_err-holds.was in
     let left : List Bool → Option ℕ = λ bs. or_else c.loop-passed.found (first_true (passed + 1) bs) in
     let e = err_from_is_err_and c.from_residual.result c.from_residual.ensures.1 in
     rw (e.1, e.2) (sym (trap_place (λ q. condition_holds (at_place context q) k) left passed c.args.count c.in_err-holds.field-0.0 (omega arith) is) ∙ c.loop-passed.invariant)
@@ -28,9 +28,9 @@ loop-passed-preserved c =
     let p = c.args.process.now in
     let k = c.args.condition.now in
     let passed = c.loop-passed.passed in
-    let context : Context = seen_context s c.args.taker.now p in
+    let context : Context = seen_context s c.args.turn.now p in
     let is : condition_holds (at_place context (passed + 1)) k ≡ Ok c.in_ok-holds.holds =
-    ap (λ (t : Taker). condition_holds (seen_context s t p) k) (sym c.at.ensures) ∙ sym c.condition_holds.ensures ∙ c.in_ok-holds.was in
+    ap (λ (t : Turn). condition_holds (seen_context s t p) k) (sym c.at.ensures) ∙ sym c.condition_holds.ensures ∙ c.in_ok-holds.was in
     let found : Option ℕ = c.first_of-found.result in
     let left : List Bool → Option ℕ = λ bs. or_else c.loop-passed.found (first_true (passed + 1) bs) in
     let left' : List Bool → Option ℕ = λ bs. or_else found (first_true (passed + 1 + 1) bs) in

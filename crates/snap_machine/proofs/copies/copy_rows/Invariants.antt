@@ -1,0 +1,7 @@
+use Rattle.std.proofs.Common.{◌≡◌, map, take, vec_items}
+use Rattle.snap_semantics.specs.Source.{Source}
+use Rattle.snap_machine.specs.Seen.{seen_process, seq_words}
+use Rattle.snap_machine.proofs.copies.copy_rows.Given as goal
+
+abbrev pub invariant-loop-row : goal.invariant-loop-row
+invariant-loop-row l = map vec_items l.copies.items ≡ map vec_items (take l.row-index l.rows)

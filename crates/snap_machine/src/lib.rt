@@ -11,10 +11,12 @@ mod locals;
 mod machine;
 mod process;
 mod quantifiers;
+mod reading;
 mod register_lines;
 mod step;
 mod value;
 mod word;
 
 pub use machine::Machine;
+pub use reading::{Contents, Local, RegisterFault};
 pub use word::Word;

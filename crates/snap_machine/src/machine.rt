@@ -1,21 +1,33 @@
 //! The machine.
-ghost use Rattle.std.specs.Prelude.{◌≡◌, IfOk, IsTrue, OnErr, map, vec_items, zip};
+ghost use Rattle.std.specs.Prelude.{◌≡◌, IfOk, IsTrue, MatchResult, OnErr, map, option_map, vec_items, zip};
 ghost use Rattle.snap_words.specs.Shape.{IsOneOf};
 ghost use Rattle.snap_semantics.specs.Memory.{may_grow};
-ghost use Rattle.snap_semantics.specs.Readers.{activity_of, line_of, link_of, operation_of};
+ghost use Rattle.snap_semantics.specs.Readers.{
+  activity_of,
+  contents,
+  line_of,
+  link_of,
+  local_value,
+  operation_of,
+};
 ghost use Rattle.snap_semantics.specs.State.{initial, process_at, values};
 ghost use Rattle.snap_semantics.specs.Table.{done, who};
-ghost use Rattle.snap_machine.specs.Seen.{seen_memory, seq_word, seq_words};
+ghost use Rattle.snap_machine.specs.declared.reading.RegisterFault.TheVariants.{Index};
+ghost use Rattle.snap_machine.specs.Reading.{seen_contents, seen_local};
+ghost use Rattle.snap_machine.specs.Seen.{seen_locals, seen_memory, seq_word, seq_words};
 
 use crate::call::call;
+use crate::copies::{copy_processes, copy_words};
 use crate::fresh::{new_processes, new_words};
 use crate::local_lines::data_of;
+use crate::locals::{find_row, find_scalar, find_view, find_words};
 use crate::process::Process;
+use crate::reading::{Contents, Local, RegisterFault};
 use crate::step::step;
 use crate::word::Word;
 use snap_listing::Listing;
-use snap_semantics::{Item, Op, Outcome, Status};
-use snap_words::{Shape, View};
+use snap_semantics::{Item, Name, Op, Outcome, Status};
+use snap_words::{Address, Bank, Shape, View};
 use std::alloc::{AllocError, Global};
 use std::marker::Model;
 
@@ -48,6 +60,7 @@ impl Machine {
         ensures { IfOk result (λ m.
             m ≡ record { source = listing.now; shape = shape; state = initial listing.now shape }) }
     {
+        // Its contract tells that the kind is seq, which the registers are made for.
         let _kind = listing.kind();
         let registers = new_words(alloc, shape, shape.w())?;
         let processes = new_processes(alloc, listing, shape)?;
@@ -195,5 +208,64 @@ impl Machine {
         ensures { (process_at self.now.state i).locals.views ≡ zip self.now.source.views result.now }
     {
         self.processes[(i - 1) as usize].views.as_slice()
+    }
+
+    /// An equal machine.
+    pub fn copy(&self) -> Result<Machine, AllocError>
+        ensures { IfOk result (λ m. m ≡ self.now) }
+    {
+        Ok(Machine {
+            alloc: self.alloc,
+            listing: self.listing.copy(self.alloc)?,
+            shape: self.shape,
+            registers: copy_words(self.alloc, self.registers.as_slice())?,
+            processes: copy_processes(self.alloc, self.processes.as_slice())?,
+        })
+    }
+
+    /// What a register has.
+    pub fn register(&self, address: Address) -> Result<Contents<'_>, RegisterFault>
+        ensures { let read = contents self.now.state.memory address.bank address.i address.j in
+            MatchResult result (λ c. read ≡ Some (seen_contents c)) (λ e. (e ≡ Index) × (read ≡ None)) }
+    {
+        match address.bank {
+            Bank::R => {
+                if address.j == 0 && 0 < address.i && address.i <= self.shape.w() {
+                    let word = &self.registers[(address.i - 1) as usize];
+                    Ok(Contents::Word(word))
+                } else {
+                    Err(RegisterFault::Index)
+                }
+            }
+            Bank::Q | Bank::P | Bank::V => Err(RegisterFault::Index),
+        }
+    }
+
+    /// The value of a local, if there is one of this name.
+    pub fn local(&self, i: u32, name: Name) -> Option<Local<'_>>
+        requires { IsOneOf self.now.shape.n i }
+        ensures { option_map seen_local result ≡ local_value (process_at self.now.state i).locals name }
+    {
+        let process = &self.processes[(i - 1) as usize];
+        find_local(&self.listing, process, name)
+    }
+}
+
+/// The value of a local of a process, if there is one of this name.
+fn find_local<'a>(listing: &Listing, process: &'a Process, name: Name) -> Option<Local<'a>>
+    ensures { option_map seen_local result ≡ local_value (seen_locals listing.now process.now) name }
+{
+    if let Some(number) = find_scalar(listing.scalars(), process.scalars.as_slice(), name) {
+        return Some(Local::Number(number));
+    }
+    if let Some(row) = find_row(listing.rows(), process.rows.as_slice(), name) {
+        return Some(Local::Row(row));
+    }
+    if let Some(words) = find_words(listing.words(), process.words.as_slice(), name) {
+        return Some(Local::Words(words));
+    }
+    match find_view(listing.views(), process.views.as_slice(), name) {
+        Some(view) => Some(Local::View(view)),
+        None => None,
     }
 }

@@ -1,6 +1,5 @@
-use Rattle.std.proofs.Common.{◌≡◌, map, take, vec_items}
-use Rattle.snap_semantics.specs.Source.{Source}
-use Rattle.snap_machine.specs.Seen.{seen_process, seq_words}
+use Rattle.std.proofs.Common.{◌≡◌, map, take}
+use Rattle.snap_machine.specs.Seen.{seq_words}
 use Rattle.snap_machine.proofs.copies.copy_word_rows.Given as goal
 
 abbrev pub invariant-loop-row : goal.invariant-loop-row

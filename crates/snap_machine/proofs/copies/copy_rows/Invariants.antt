@@ -1,0 +1,5 @@
+use Rattle.std.proofs.Common.{◌≡◌, map, take, vec_items}
+use Rattle.snap_machine.proofs.copies.copy_rows.Given as goal
+
+abbrev pub invariant-loop-row : goal.invariant-loop-row
+invariant-loop-row l = map vec_items l.copies.items ≡ map vec_items (take l.row-index l.rows)

@@ -1,0 +1,6 @@
+pub mod Lines
+pub mod Quantifiers
+pub mod Reading
+pub mod Seen
+pub mod Slot
+pub mod Standing

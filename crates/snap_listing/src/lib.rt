@@ -1,6 +1,14 @@
 //! Listings: their texts, read.
 #![tactic(auto)]
 
+mod conditions;
+mod fault;
+mod forms;
 mod listing;
+mod terms;
 
+pub use conditions::condition_at;
+pub use fault::ListingFault;
+pub use forms::line_form;
 pub use listing::Listing;
+pub use terms::{name_at, term_at};

@@ -4,8 +4,10 @@
 mod conditions;
 mod fault;
 mod forms;
+mod header;
 mod listing;
 mod terms;
+mod uses;
 
 pub use conditions::condition_at;
 pub use fault::ListingFault;

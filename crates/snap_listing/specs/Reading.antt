@@ -3,7 +3,9 @@ use Rattle.std.specs.Prelude.{ℕ, ◌+◌, Bool, true, false, List, [], ◌∷�
 use Rattle.snap_semantics.specs.declared.instr.Line.{Line}
 use Rattle.snap_semantics.specs.declared.refusal.ListingRefusal.{ListingRefusal}
 use Rattle.snap_semantics.specs.declared.refusal.ListingRefusal.TheVariants as refusal
-use Rattle.snap_semantics.specs.Listing.{is_bad_name}
+use Rattle.snap_semantics.specs.Answers.{◌>>=◌}
+use Rattle.snap_semantics.specs.Listing.{is_bad_name, form_or, checked_line, has_line}
+use Rattle.snap_semantics.specs.ListingForms.{line_form}
 use Rattle.snap_semantics.specs.Source.{Name, Source}
 use Rattle.snap_semantics.specs.Token.{TextLine}
 use Rattle.snap_semantics.specs.Uses.{is_among}
@@ -44,3 +46,14 @@ new_name line known w =
 abbrev pub onto : {A E : Type 0} → List A → Result (List A) E → Result (List A) E
 onto xs (Ok ys) = Ok (xs ++ ys)
 onto xs (Err e) = Err e
+
+-- the numbered line that a text line is, behind line number `last`, with so many lines before it
+abbrev pub numbered_line : Source → ℕ → ℕ → TextLine → Result Line ListingRefusal
+numbered_line s last count text = form_or (refusal.BadLine text.number) line_form text.tokens >>= λ line. checked_line s text.number last count line
+
+abbrev pub target_list : Option ℕ → List ℕ
+target_list None = []
+target_list (Some k) = k ∷ []
+
+abbrev pub checked_target : List Line → ℕ → Result (Unit {0}) ListingRefusal
+checked_target lines k = if has_line lines k then Ok tt else Err (refusal.NoSuchLine k)

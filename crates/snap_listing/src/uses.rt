@@ -1,6 +1,6 @@
 //! The names on a line: each has to be declared, and of the sort that its place takes.
 ghost use Rattle.std.specs.Prelude.{◌≡◌};
-ghost use Rattle.snap_semantics.specs.Uses.{sort_of, same_sort};
+ghost use Rattle.snap_semantics.specs.Uses.{sort_of, same_sort, instr_uses, checked_uses};
 ghost use Rattle.snap_listing.specs.Checks.{checked_use, checked_index, checked_place, checked_term, checked_expr, checked_comparison, checked_condition, checked_where, checked_tuple, checked_instr};
 ghost use Rattle.snap_listing.specs.Fields.{header_source};
 
@@ -166,8 +166,7 @@ fn checked_tuple(header: &Header, line: u64, tuple: &Tuple) -> Result<(), Listin
     }
 }
 
-/// The names of an instruction, from left to right.
-pub fn checked_instr(header: &Header, line: u64, instr: &Instr) -> Result<(), ListingRefusal>
+fn checked_instr(header: &Header, line: u64, instr: &Instr) -> Result<(), ListingRefusal>
     ensures { result ≡ checked_instr (header_source header.now) line instr.now }
 {
     match instr {
@@ -224,4 +223,12 @@ pub fn checked_instr(header: &Header, line: u64, instr: &Instr) -> Result<(), Li
         Instr::Return(view) => checked_use(header, line, Sort::View, view),
         Instr::Goto(_) | Instr::Call(_) | Instr::Finish => Ok(()),
     }
+}
+
+/// The names of an instruction, from left to right: the first that is not as it has to be decides.
+#[tactic(auto, using(crate::proofs::Checks::instr_checks))]
+pub fn checked_uses(header: &Header, line: u64, instr: &Instr) -> Result<(), ListingRefusal>
+    ensures { result ≡ checked_uses (header_source header.now) line (instr_uses instr.now) }
+{
+    checked_instr(header, line, instr)
 }

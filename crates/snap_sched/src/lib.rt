@@ -4,10 +4,12 @@
 mod fault;
 mod forms;
 mod items;
+mod printing;
 mod reading;
 mod schedule;
 
 pub use fault::ScheduleFault;
 pub use items::{Items, Run};
+pub use printing::print;
 pub use reading::read;
 pub use schedule::{MAX_BYTES, MAX_ITEMS, Schedule};

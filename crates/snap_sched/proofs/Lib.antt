@@ -1,3 +1,6 @@
 pub mod Apart
 pub mod Greatest
 pub mod Lines
+pub mod Found
+pub mod Spelled
+pub mod Again

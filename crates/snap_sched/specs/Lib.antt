@@ -2,3 +2,5 @@ pub mod Fault
 pub mod Runs
 pub mod Reading
 pub mod Printing
+pub mod Spelling
+pub mod Laws

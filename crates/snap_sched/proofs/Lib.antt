@@ -4,3 +4,4 @@ pub mod Lines
 pub mod Found
 pub mod Spelled
 pub mod Again
+pub mod Round

@@ -84,16 +84,21 @@ fn prints_greatest_runs(rt: HostRuntime) -> Result<(), Fail> {
 fn long_texts(rt: HostRuntime) -> Result<(), Fail> {
     let mut text = Vec::new(rt.alloc());
     text.extend_from_slice(b"shape 3 1\n")?;
-    for _ in 0..500_000u64 {
+    for _ in 0..50_000u64 {
         text.extend_from_slice(b"1\n2\n")?;
     }
     let schedule = read(rt.alloc(), text.as_slice())?;
-    assert_eq!(rt; schedule.items().len(), 1_000_000);
-    text.resize(4_194_304, b'\n')?;
-    assert_eq!(rt; refusal(rt.alloc(), text.as_slice())?, None);
-    text.push(b'\n')?;
+    assert_eq!(rt; schedule.items().len(), 100_000);
+    let mut blank = Vec::new(rt.alloc());
+    blank.extend_from_slice(b"$\n")?;
+    blank.resize(4_194_304, b'\n')?;
     assert_eq!(rt;
-        refusal(rt.alloc(), text.as_slice())?,
+        refusal(rt.alloc(), blank.as_slice())?,
+        Some(ScheduleRefusal::BadShape)
+    );
+    blank.push(b'\n')?;
+    assert_eq!(rt;
+        refusal(rt.alloc(), blank.as_slice())?,
         Some(ScheduleRefusal::TooLong)
     );
     Ok(())

@@ -1,11 +1,10 @@
 -- What is spelled so is read.
-use Rattle.std.proofs.Common.{◌≡◌, ℕ, zero, suc, ◌+◌, ◌-◌, ◌<◌, ◌≤◌, Bool, true, false, not, ◌&&◌, List, [], ◌∷◌, ◌++◌, length, map, replicate, Option, Some, None, Result, Ok, Err, nat_eq, nat_le, nat_lt, if◌then◌else◌, refl, sym, ap, ◌∙◌, arith, subst, ◌⊎◌, inl, inr}
+use Rattle.std.proofs.Common.{◌≡◌, ℕ, zero, suc, ◌+◌, ◌-◌, ◌<◌, ◌≤◌, Bool, true, false, not, ◌&&◌, List, [], ◌∷◌, ◌++◌, length, Option, Some, None, Result, Ok, Err, nat_eq, nat_le, nat_lt, if◌then◌else◌, refl, sym, ap, ◌∙◌, arith, subst, ◌⊎◌, inl, inr}
 use Rattle.std.proofs.lemmas.Bool.{eqb-true, le-leb, le-ltb, lt-ltb, and_from}
 use Rattle.std.proofs.lemmas.List.{length-append}
 use Rattle.std.specs.List.{AllByRecursion, flat_map}
 use Rattle.snap_words.specs.Shape.{Counts, IsOneOf, IsShape}
 use Rattle.snap_semantics.specs.declared.process.Item.{Item}
-use Rattle.snap_semantics.specs.declared.process.Item.TheVariants as item
 use Rattle.snap_semantics.specs.declared.process.Op.{Op}
 use Rattle.snap_semantics.specs.declared.process.Op.TheVariants as op
 use Rattle.snap_semantics.specs.declared.refusal.ScheduleRefusal.{ScheduleRefusal}
@@ -83,8 +82,8 @@ admitted_again : (n left line : ℕ) (f : Form) → IsOneOf n (form_process f) �
 admitted_again n left line f there few =
     let low = there.0 in
     admitted_by n left line f (nat_le 1 (form_process f) && nat_le (form_process f) n) (nat_lt left (form_count f))
-      (and_from (nat_le 1 (form_process f)) (nat_le (form_process f) n) (le-leb 1 (form_process f) (omega (arith, low))) (le-leb (form_process f) n there.1))
-      (le-ltb left (form_count f) few)
+    (and_from (nat_le 1 (form_process f)) (nat_le (form_process f) n) (le-leb 1 (form_process f) (omega (arith, low))) (le-leb (form_process f) n there.1))
+    (le-ltb left (form_count f) few)
 
 pub all_rest : (P : ℕ → Type 0) (xs ys : List Item) → AllByRecursion (λ x. P (who x)) (xs ++ ys) → AllByRecursion (λ x. P (who x)) ys
 all_rest P [] ys h = h
@@ -117,8 +116,8 @@ lines_again s (line ∷ lines) h spelled =
     let fs = spelled.1.0 in
     let made = spelled.1.2 in
     let rest = items_again s.shape.n 1000000 fs lines spelled.1.1
-        (subst (λ (xs : List Item). AllByRecursion (λ x. IsOneOf s.shape.n (who x)) xs) (sym made) h.processes)
-        (subst (λ (xs : List Item). length xs ≤ 1000000) (sym made) h.few) in
+    (subst (λ (xs : List Item). AllByRecursion (λ x. IsOneOf s.shape.n (who x)) xs) (sym made) h.processes)
+    (subst (λ (xs : List Item). length xs ≤ 1000000) (sym made) h.few) in
     ap (λ (r : Result Counts ScheduleRefusal). r >>= λ shape. items_of shape.n 1000000 lines >>= λ items. let y : Result Schedule ScheduleRefusal = Ok (record { shape = shape; items = items }) in y) (shape_line_again s.shape line.tokens h.shape spelled.0)
     ∙ ap (λ (r : Result (List Item) ScheduleRefusal). r >>= λ items. let y : Result Schedule ScheduleRefusal = Ok (record { shape = s.shape; items = items }) in y) rest
     ∙ ap (λ (xs : List Item). let y : Result Schedule ScheduleRefusal = Ok (record { shape = s.shape; items = xs }) in y) made

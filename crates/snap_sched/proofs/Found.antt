@@ -1,24 +1,15 @@
 -- What is read is spelled so.
-use Rattle.std.proofs.Common.{◌≡◌, ℕ, zero, suc, ◌+◌, ◌-◌, ◌<◌, ◌≤◌, Bool, true, false, not, ◌&&◌, List, [], ◌∷◌, ◌++◌, length, map, Option, Some, None, Result, Ok, Err, nat_eq, nat_le, nat_lt, bytes_eq, codes, if◌then◌else◌, refl, sym, ap, ◌∙◌, arith, subst, ◌⊎◌, inl, inr}
-use Rattle.std.proofs.lemmas.Bool.{leb-true, ltb-true, ltb-false, and_parts}
-use Rattle.std.proofs.lemmas.List.{length-append}
+use Rattle.std.proofs.Common.{◌≡◌, ℕ, ◌<◌, Bool, true, false, ◌&&◌, List, [], ◌∷◌, Option, Some, None, nat_le, nat_lt, bytes_eq, codes, if◌then◌else◌, refl, sym, ap, ◌∙◌, arith, subst, ◌⊎◌, inl, inr}
+use Rattle.std.proofs.lemmas.Bool.{leb-true, ltb-true, and_parts}
 use Rattle.std.specs.Cmp.Lexicographic.{same_text}
-use Rattle.std.specs.List.{AllByRecursion, flat_map}
 use Rattle.snap_words.specs.Shape.{Counts, IsOneOf, IsShape}
-use Rattle.snap_semantics.specs.declared.process.Item.{Item}
-use Rattle.snap_semantics.specs.declared.process.Op.{Op}
 use Rattle.snap_semantics.specs.declared.process.Op.TheVariants as op
-use Rattle.snap_semantics.specs.declared.refusal.ScheduleRefusal.{ScheduleRefusal}
-use Rattle.snap_semantics.specs.declared.refusal.ScheduleRefusal.TheVariants as refusal
 use Rattle.snap_semantics.specs.declared.text.Mark.{Mark}
 use Rattle.snap_semantics.specs.declared.text.Mark.TheVariants as mark
 use Rattle.snap_semantics.specs.Forms.{◌>>=◌, or_else, Found, number_at, keyword_at, mark_at, end_at}
-use Rattle.snap_semantics.specs.Schedule.{Schedule, form_or, found_or, admitted, items_of, schedule_of_lines, schedule_of, form_process, form_count, form_items}
-use Rattle.snap_semantics.specs.ScheduleForms.{Form, Steps, Calls, spelled_shape, spelled_steps, spelled_call, is_count, shape_form, step_form, steps_form, scan_form, update_form, item_form}
-use Rattle.snap_semantics.specs.ScheduleText.{IsSchedule}
-use Rattle.snap_semantics.specs.Table.{who}
-use Rattle.snap_semantics.specs.Token.{Token, Word, Number, Sign, TextLine, same_mark, text_lines}
-use Rattle.snap_sched.specs.Spelling.{IsSpelling, IsLineOf, AreLinesOf, IsSpelled, line_tokens}
+use Rattle.snap_semantics.specs.ScheduleForms.{Form, Steps, Calls, spelled_shape, is_count, shape_form, step_form, steps_form, scan_form, update_form, item_form}
+use Rattle.snap_semantics.specs.Token.{Token, Word, Number, Sign, same_mark}
+use Rattle.snap_sched.specs.Spelling.{IsSpelling}
 
 -- what was found first, and what was found behind it
 pub bind_found : {A B : Type 0} (o : Option A) (f : A → Option B) (y : B) → (o >>= f) ≡ Some y → (x : A) × (o ≡ Some x) × (f x ≡ Some y)
@@ -85,13 +76,14 @@ shape_found ts s e =
     let n = bind_found (number_at a.0) _ s a.2 in
     let w = bind_found (number_at n.0.1) _ s n.2 in
     let z = bind_found (end_at w.0.1) _ s w.2 in
-    let h = shape_if n.0.0 w.0.0 s (is_count n.0.0 && is_count w.0.0) refl z.2 in
-    (keyword_found (codes "shape") ts a.0 a.1
-     ∙ ap (λ (t : List Token). Word (codes "shape") ∷ t) (number_found a.0 n.0 n.1)
-     ∙ ap (λ (t : List Token). Word (codes "shape") ∷ Number n.0.0 ∷ t) (number_found n.0.1 w.0 w.1)
-     ∙ ap (λ (t : List Token). Word (codes "shape") ∷ Number n.0.0 ∷ Number w.0.0 ∷ t) (end_found w.0.1 z.0 z.1)
-     ∙ ap spelled_shape (sym h.0),
-     subst (λ (c : Counts). IsShape c.n c.w) (sym h.0) h.1)
+    let h = shape_if n.0.0 w.0.0 s (is_count n.0.0 && is_count w.0.0) refl z.2 in (
+      keyword_found (codes "shape") ts a.0 a.1
+          ∙ ap (λ (t : List Token). Word (codes "shape") ∷ t) (number_found a.0 n.0 n.1)
+          ∙ ap (λ (t : List Token). Word (codes "shape") ∷ Number n.0.0 ∷ t) (number_found n.0.1 w.0 w.1)
+          ∙ ap (λ (t : List Token). Word (codes "shape") ∷ Number n.0.0 ∷ Number w.0.0 ∷ t) (end_found w.0.1 z.0 z.1)
+          ∙ ap spelled_shape (sym h.0),
+      subst (λ (c : Counts). IsShape c.n c.w) (sym h.0) h.1,
+    )
 
 some_is : (x f : Form) → (let r : Option Form = Some x in r) ≡ Some f → x ≡ f
 some_is x f e = cc
@@ -105,8 +97,8 @@ step_found ts f e =
     let i = bind_found (number_at ts) _ f e in
     let z = bind_found (end_at i.0.1) _ f i.2 in
     is_spelling ts (Steps i.0.0 1) f
-      (omega arith, inl (number_found ts i.0 i.1 ∙ ap (λ (t : List Token). Number i.0.0 ∷ t) (end_found i.0.1 z.0 z.1)))
-      (some_is (Steps i.0.0 1) f z.2)
+    (omega arith, inl (number_found ts i.0 i.1 ∙ ap (λ (t : List Token). Number i.0.0 ∷ t) (end_found i.0.1 z.0 z.1)))
+    (some_is (Steps i.0.0 1) f z.2)
 
 steps_if : (i count : ℕ) (f : Form) (b : Bool) → nat_lt 0 count ≡ b → (let r : Option Form = if b then Some (Steps i count) else None in r) ≡ Some f → (Steps i count ≡ f) × (0 < count)
 steps_if i count f true b e = (some_is (Steps i count) f e, ltb-true 0 count b)
@@ -120,12 +112,14 @@ steps_found ts f e =
     let k = bind_found (number_at m.0) _ f m.2 in
     let z = bind_found (end_at k.0.1) _ f k.2 in
     let h = steps_if i.0.0 k.0.0 f (nat_lt 0 k.0.0) refl z.2 in
-    is_spelling ts (Steps i.0.0 k.0.0) f
-      (h.1, inr (number_found ts i.0 i.1
-        ∙ ap (λ (t : List Token). Number i.0.0 ∷ t) (star_found i.0.1 m.0 m.1)
-        ∙ ap (λ (t : List Token). Number i.0.0 ∷ Sign mark.Star ∷ t) (number_found m.0 k.0 k.1)
-        ∙ ap (λ (t : List Token). Number i.0.0 ∷ Sign mark.Star ∷ Number k.0.0 ∷ t) (end_found k.0.1 z.0 z.1)))
-      h.0
+    is_spelling ts (Steps i.0.0 k.0.0) f (
+      h.1,
+      inr (number_found ts i.0 i.1
+          ∙ ap (λ (t : List Token). Number i.0.0 ∷ t) (star_found i.0.1 m.0 m.1)
+          ∙ ap (λ (t : List Token). Number i.0.0 ∷ Sign mark.Star ∷ t) (number_found m.0 k.0 k.1)
+          ∙ ap (λ (t : List Token). Number i.0.0 ∷ Sign mark.Star ∷ Number k.0.0 ∷ t) (end_found k.0.1 z.0 z.1)),
+    )
+    h.0
 
 scan_found : (ts : List Token) (f : Form) → scan_form ts ≡ Some f → IsSpelling f ts
 unfolding scan_form
@@ -134,10 +128,10 @@ scan_found ts f e =
     let a = bind_found (keyword_at (codes "scan") i.0.1) _ f i.2 in
     let z = bind_found (end_at a.0) _ f a.2 in
     is_spelling ts (Calls i.0.0 op.Scan) f
-      (number_found ts i.0 i.1
-        ∙ ap (λ (t : List Token). Number i.0.0 ∷ t) (keyword_found (codes "scan") i.0.1 a.0 a.1)
-        ∙ ap (λ (t : List Token). Number i.0.0 ∷ Word (codes "scan") ∷ t) (end_found a.0 z.0 z.1))
-      (some_is (Calls i.0.0 op.Scan) f z.2)
+    (number_found ts i.0 i.1
+    ∙ ap (λ (t : List Token). Number i.0.0 ∷ t) (keyword_found (codes "scan") i.0.1 a.0 a.1)
+    ∙ ap (λ (t : List Token). Number i.0.0 ∷ Word (codes "scan") ∷ t) (end_found a.0 z.0 z.1))
+    (some_is (Calls i.0.0 op.Scan) f z.2)
 
 update_found : (ts : List Token) (f : Form) → update_form ts ≡ Some f → IsSpelling f ts
 unfolding update_form
@@ -148,12 +142,12 @@ update_found ts f e =
     let x = bind_found (number_at k.0.1) _ f k.2 in
     let z = bind_found (end_at x.0.1) _ f x.2 in
     is_spelling ts (Calls i.0.0 (op.Update k.0.0 x.0.0)) f
-      (number_found ts i.0 i.1
-        ∙ ap (λ (t : List Token). Number i.0.0 ∷ t) (keyword_found (codes "update") i.0.1 a.0 a.1)
-        ∙ ap (λ (t : List Token). Number i.0.0 ∷ Word (codes "update") ∷ t) (number_found a.0 k.0 k.1)
-        ∙ ap (λ (t : List Token). Number i.0.0 ∷ Word (codes "update") ∷ Number k.0.0 ∷ t) (number_found k.0.1 x.0 x.1)
-        ∙ ap (λ (t : List Token). Number i.0.0 ∷ Word (codes "update") ∷ Number k.0.0 ∷ Number x.0.0 ∷ t) (end_found x.0.1 z.0 z.1))
-      (some_is (Calls i.0.0 (op.Update k.0.0 x.0.0)) f z.2)
+    (number_found ts i.0 i.1
+    ∙ ap (λ (t : List Token). Number i.0.0 ∷ t) (keyword_found (codes "update") i.0.1 a.0 a.1)
+    ∙ ap (λ (t : List Token). Number i.0.0 ∷ Word (codes "update") ∷ t) (number_found a.0 k.0 k.1)
+    ∙ ap (λ (t : List Token). Number i.0.0 ∷ Word (codes "update") ∷ Number k.0.0 ∷ t) (number_found k.0.1 x.0 x.1)
+    ∙ ap (λ (t : List Token). Number i.0.0 ∷ Word (codes "update") ∷ Number k.0.0 ∷ Number x.0.0 ∷ t) (end_found x.0.1 z.0 z.1))
+    (some_is (Calls i.0.0 (op.Update k.0.0 x.0.0)) f z.2)
 
 first_found : (o p : Option Form) (f : Form) → or_else o p ≡ Some f → (o ≡ Some f) ⊎ (p ≡ Some f)
 first_found None p f e = inr e

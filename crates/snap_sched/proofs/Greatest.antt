@@ -8,7 +8,6 @@ use Rattle.snap_semantics.specs.declared.process.Item.{Item}
 use Rattle.snap_semantics.specs.declared.process.Item.TheVariants as item
 use Rattle.snap_semantics.specs.declared.process.Op.{Op}
 use Rattle.snap_semantics.specs.Schedule.{form_items}
-use Rattle.snap_semantics.specs.ScheduleForms.{Form, Steps, Calls}
 use Rattle.snap_semantics.specs.ScheduleText.{forms_of}
 use Rattle.snap_sched.specs.declared.items.Run.{Run}
 use Rattle.snap_sched.specs.declared.items.Run.TheVariants as runs
@@ -38,7 +37,7 @@ steps_greatest old new p c is some none h = run_added old new (runs.Steps p c) i
 pub grown_greatest : (old new : List Run) (k p a b : ℕ) → new ≡ set old k (runs.Steps p b) → suc k ≡ length old → last_count p (map view_run old) ≡ Some a → 0 < b → AreGreatest old → AreGreatest new
 grown_greatest old new k p a b is last found some h =
     apart_greatest new (subst AreApart (sym (ap (map view_run) is ∙ map-set view_run old k (runs.Steps p b)))
-      (steps_grown (map view_run old) k p a b (last ∙ sym (length-map old view_run)) (greatest_apart old h) found some))
+    (steps_grown (map view_run old) k p a b (last ∙ sym (length-map old view_run)) (greatest_apart old h) found some))
 
 pub grown_items : (old new : List Run) (k p a c : ℕ) → new ≡ set old k (runs.Steps p (a + c)) → suc k ≡ length old → last_count p (map view_run old) ≡ Some a →
     items_of_runs new ≡ items_of_runs old ++ replicate c (item.Step p)

@@ -1,22 +1,21 @@
 -- The items of lines, one line after another.
-use Rattle.std.proofs.Common.{◌≡◌, ℕ, zero, suc, ◌+◌, ◌-◌, ◌<◌, ◌≤◌, Bool, true, false, not, ◌&&◌, List, [], ◌∷◌, ◌++◌, length, map, replicate, Option, Some, None, Result, Ok, Err, nat_eq, nat_le, nat_lt, if◌then◌else◌, refl, sym, ap, ◌∙◌, arith, append_assoc, append-nil, subst}
+use Rattle.std.proofs.Common.{◌≡◌, ℕ, zero, suc, ◌+◌, ◌-◌, ◌≤◌, Bool, true, false, not, ◌&&◌, List, [], ◌∷◌, ◌++◌, length, replicate, Option, Some, Result, Ok, Err, nat_le, nat_lt, if◌then◌else◌, refl, sym, ap, ◌∙◌, arith, append_assoc, append-nil, subst}
 use Rattle.std.proofs.lemmas.Bool.{leb-true, ltb-false, and_parts}
 use Rattle.std.proofs.lemmas.List.{length-append, length-replicate}
 use Rattle.std.specs.List.{AllByRecursion}
-use Rattle.snap_words.specs.Shape.{Counts, IsOneOf}
+use Rattle.snap_words.specs.Shape.{IsOneOf}
 use Rattle.snap_semantics.specs.declared.process.Item.{Item}
 use Rattle.snap_semantics.specs.declared.process.Item.TheVariants as item
-use Rattle.snap_semantics.specs.declared.process.Op.{Op}
 use Rattle.snap_semantics.specs.declared.refusal.ScheduleRefusal.{ScheduleRefusal}
 use Rattle.snap_semantics.specs.declared.refusal.ScheduleRefusal.TheVariants as refusal
 use Rattle.snap_semantics.specs.Answers.{◌>>=◌}
-use Rattle.snap_semantics.specs.Schedule.{Schedule, form_or, found_or, admitted, items_of, schedule_of_lines, form_process, form_count, form_items}
-use Rattle.snap_semantics.specs.ScheduleForms.{Form, Steps, Calls, item_form, shape_form}
+use Rattle.snap_semantics.specs.Schedule.{form_or, admitted, items_of, form_process, form_count, form_items}
+use Rattle.snap_semantics.specs.ScheduleForms.{Form, Steps, Calls, item_form}
 use Rattle.snap_semantics.specs.Table.{who}
 use Rattle.snap_semantics.specs.Token.{TextLine}
 use Rattle.snap_text.specs.declared.lines.TokenLine.{TokenLine}
 use Rattle.snap_text.specs.Lines.{IsNext, view_line}
-use Rattle.snap_sched.specs.Reading.{line_form, shape_then, first_shape}
+use Rattle.snap_sched.specs.Reading.{line_form}
 
 -- items before those that were read
 abbrev pub prefixed : List Item → Result (List Item) ScheduleRefusal → Result (List Item) ScheduleRefusal
@@ -125,9 +124,10 @@ pub kept : (n : ℕ) (line : TextLine) (items more : List Item) (f : Form) → l
     length items ≤ 1000000 → AllByRecursion (λ x. IsOneOf n (who x)) items → (length more ≤ 1000000) × AllByRecursion (λ x. IsOneOf n (who x)) more
 kept n line items more f found added few h =
     let ok = line_admitted n (1000000 - length items) line f found in
-    let longer : length more ≡ length items + form_count f = ap length added ∙ length-append items (form_items f) ∙ ap (λ (k : ℕ). length items + k) (length_items f) in
-    (omega (arith, ok.1, longer, few),
-     subst (λ (xs : List Item). AllByRecursion (λ x. IsOneOf n (who x)) xs) (sym added) (all_more (λ i. IsOneOf n i) items (form_items f) h (all_form (λ i. IsOneOf n i) f ok.0)))
+    let longer : length more ≡ length items + form_count f = ap length added ∙ length-append items (form_items f) ∙ ap (λ (k : ℕ). length items + k) (length_items f) in (
+      omega (arith, ok.1, longer, few),
+      subst (λ (xs : List Item). AllByRecursion (λ x. IsOneOf n (who x)) xs) (sym added) (all_more (λ i. IsOneOf n i) items (form_items f) h (all_form (λ i. IsOneOf n i) f ok.0)),
+    )
 
 -- the next line, where there is one
 pub next_is : (o : Option TokenLine) (line : TokenLine) (old new : List TextLine) → IsNext o old new → o ≡ Some line → old ≡ view_line line ∷ new

@@ -1,5 +1,5 @@
 -- What is printed of a schedule is read as that schedule.
-use Rattle.std.proofs.Common.{◌≡◌, ℕ, zero, suc, ◌+◌, ◌-◌, ◌<◌, ◌≤◌, ◌^◌, Bool, true, false, not, ◌&&◌, List, [], ◌∷◌, ◌++◌, length, map, replicate, Option, Some, None, Ok, nat_eq, decimal, codes, nat_le, if◌then◌else◌, refl, sym, ap, ◌∙◌, arith, subst, append_assoc, ◌⊎◌, inl, inr}
+use Rattle.std.proofs.Common.{◌≡◌, ℕ, zero, suc, ◌+◌, ◌<◌, ◌≤◌, ◌^◌, Bool, true, false, not, List, [], ◌∷◌, ◌++◌, length, map, Option, Some, Ok, nat_eq, decimal, codes, nat_le, if◌then◌else◌, refl, sym, ap, ◌∙◌, arith, subst, append_assoc, inl}
 use Rattle.std.proofs.lemmas.Bool.{eqb-true, and_parts, and_from, ne_eqb, leb-true}
 use Rattle.std.proofs.lemmas.List.{length-append}
 use Rattle.std.proofs.lemmas.List.Folds.{list_all-append}
@@ -7,20 +7,19 @@ use Rattle.std.specs.List.{AllByRecursion, flat_map, list_all}
 use Rattle.snap_words.specs.Shape.{Counts, IsOneOf, IsShape}
 use Rattle.snap_semantics.specs.declared.process.Item.{Item}
 use Rattle.snap_semantics.specs.declared.process.Item.TheVariants as item
-use Rattle.snap_semantics.specs.declared.process.Op.{Op}
 use Rattle.snap_semantics.specs.declared.process.Op.TheVariants as op
 use Rattle.snap_semantics.specs.declared.text.Mark.{Mark}
 use Rattle.snap_semantics.specs.declared.text.Mark.TheVariants as mark
-use Rattle.snap_semantics.specs.Schedule.{Schedule, schedule_of, form_process, form_count, form_items}
-use Rattle.snap_semantics.specs.ScheduleForms.{Form, Steps, Calls, spelled_shape, spelled_steps, spelled_call, spelled_form}
+use Rattle.snap_semantics.specs.Schedule.{Schedule, schedule_of, form_count, form_items}
+use Rattle.snap_semantics.specs.ScheduleForms.{Form, Steps, Calls, spelled_shape, spelled_steps, spelled_form}
 use Rattle.snap_semantics.specs.ScheduleText.{IsSchedule, step_onto, item_onto, forms_of, mark_text, token_text, is_sign, gap, behind, line_text, forms_text, schedule_text}
 use Rattle.snap_semantics.specs.Table.{who}
-use Rattle.snap_semantics.specs.Token.{Token, Word, Number, Sign, TextLine, is_letter, is_digit, no_run, front_of, front_tokens, tokens_of, lines_of, numbered, text_lines}
+use Rattle.snap_semantics.specs.Token.{Token, Word, Number, Sign, is_letter, is_digit, front_of, front_tokens, tokens_of, lines_of, numbered, text_lines}
 use Rattle.snap_text.proofs.Before.{number_before, word_before, space_before, sign_before, is_plain, line_before, numbered_before}
 use Rattle.snap_text.proofs.Decimals.{decimal_digits}
 use Rattle.snap_sched.specs.Laws.{FitsWords, FitsItem}
 use Rattle.snap_sched.specs.Spelling.{IsSpelling, AreLinesOf, IsSpelled, line_tokens}
-use Rattle.snap_sched.proofs.Again.{all_rest, spelled_is_read}
+use Rattle.snap_sched.proofs.Again.{spelled_is_read}
 use Rattle.snap_sched.proofs.Apart.{AreApart, forms_apart}
 use Rattle.snap_sched.proofs.Lines.{length_items}
 
@@ -70,7 +69,7 @@ behind_reads t (u ∷ us) h =
     let rest = behind_reads u us h.1 in
     let first = token_first u us h.0 rest in
     let is : gap t u ++ token_text u ++ behind u us ≡ gap_by (is_sign t) (is_sign u) ++ (token_text u ++ behind u us) =
-        append_assoc (gap t u) (token_text u) (behind u us) ∙ ap (λ (g : List ℕ). g ++ (token_text u ++ behind u us)) (gap_is t u) in
+    append_assoc (gap t u) (token_text u) (behind u us) ∙ ap (λ (g : List ℕ). g ++ (token_text u ++ behind u us)) (gap_is t u) in
     record {
       tokens = ap tokens_of is ∙ tokens_by (is_sign t) (is_sign u) (token_text u ++ behind u us) (u ∷ us) first;
       apart = λ e. ap front_of is ∙ apart_by (is_sign t) (is_sign u) (token_text u ++ behind u us) (u ∷ us) first (sign_apart u us rest) e;
@@ -125,8 +124,8 @@ behind_plain : (t : Token) (ts : List Token) → AllByRecursion IsSound ts → l
 behind_plain t [] h = refl
 behind_plain t (u ∷ us) h =
     joined_plain (gap t u ++ token_text u) (behind u us)
-      (joined_plain (gap t u) (token_text u) (ap (list_all is_plain) (gap_is t u) ∙ gap_plain (is_sign t) (is_sign u)) (token_plain u h.0))
-      (behind_plain u us h.1)
+    (joined_plain (gap t u) (token_text u) (ap (list_all is_plain) (gap_is t u) ∙ gap_plain (is_sign t) (is_sign u)) (token_plain u h.0))
+    (behind_plain u us h.1)
 
 -- the first of printed lines, and the others
 pub printed_line : (k : ℕ) (t : Token) (ts : List Token) (rest : List ℕ) → IsSound t → AllByRecursion IsSound ts →
@@ -209,9 +208,10 @@ form_fits (Calls i o) xs some few h = h.0
 forms_fit : (fs : List Form) → AreApart fs → AllByRecursion Fits (flat_map form_items fs) → length (flat_map form_items fs) ≤ 1000000 → AllByRecursion FitsForm fs
 forms_fit [] apart h few = tt
 forms_fit (f ∷ fs) apart h few =
-    let all : length (form_items f ++ flat_map form_items fs) ≡ form_count f + length (flat_map form_items fs) = length-append (form_items f) (flat_map form_items fs) ∙ ap (λ (k : ℕ). k + length (flat_map form_items fs)) (length_items f) in
-    (form_fits f (flat_map form_items fs) apart.0 (omega (arith, all, few)) h,
-     forms_fit fs apart.2 (all_behind (form_items f) (flat_map form_items fs) h) (omega (arith, all, few)))
+    let all : length (form_items f ++ flat_map form_items fs) ≡ form_count f + length (flat_map form_items fs) = length-append (form_items f) (flat_map form_items fs) ∙ ap (λ (k : ℕ). k + length (flat_map form_items fs)) (length_items f) in (
+      form_fits f (flat_map form_items fs) apart.0 (omega (arith, all, few)) h,
+      forms_fit fs apart.2 (all_behind (form_items f) (flat_map form_items fs) h) (omega (arith, all, few)),
+    )
 
 items_fit : (n : ℕ) (xs : List Item) → n ≤ 16 → AllByRecursion (λ x. IsOneOf n (who x)) xs → AllByRecursion FitsItem xs → AllByRecursion Fits xs
 items_fit n [] small h g = tt
@@ -235,4 +235,4 @@ printed_lines s h fits =
 pub printed_again : (s : Schedule) → IsSchedule s → AllByRecursion FitsItem s.items → length (schedule_text s) ≤ 4194304 → schedule_of (schedule_text s) ≡ Ok s
 printed_again s h fits few =
     spelled_is_read (schedule_text s) s few h
-      (subst (IsSpelled s) (sym (printed_lines s h fits)) (refl, (forms_of s.items, forms_spelled (forms_of s.items) (forms_apart s.items), forms_items s.items)))
+    (subst (IsSpelled s) (sym (printed_lines s h fits)) (refl, (forms_of s.items, forms_spelled (forms_of s.items) (forms_apart s.items), forms_items s.items)))

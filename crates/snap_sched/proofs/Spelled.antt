@@ -1,15 +1,15 @@
 -- A schedule that was read is spelled by the lines.
-use Rattle.std.proofs.Common.{◌≡◌, ℕ, zero, suc, ◌+◌, ◌-◌, ◌<◌, ◌≤◌, Bool, true, false, not, ◌&&◌, List, [], ◌∷◌, ◌++◌, length, map, Option, Some, None, Result, Ok, Err, nat_eq, nat_le, nat_lt, if◌then◌else◌, refl, sym, ap, ◌∙◌, arith, subst}
+use Rattle.std.proofs.Common.{◌≡◌, ℕ, ◌+◌, ◌-◌, ◌≤◌, Bool, true, false, List, [], ◌∷◌, ◌++◌, length, Option, Some, None, Result, Ok, Err, nat_lt, if◌then◌else◌, refl, sym, ap, ◌∙◌, arith, subst}
 use Rattle.std.proofs.lemmas.Bool.{ltb-false}
 use Rattle.std.proofs.lemmas.List.{length-append}
 use Rattle.std.specs.List.{AllByRecursion, flat_map}
-use Rattle.snap_words.specs.Shape.{Counts, IsOneOf, IsShape}
+use Rattle.snap_words.specs.Shape.{IsOneOf}
 use Rattle.snap_semantics.specs.declared.process.Item.{Item}
 use Rattle.snap_semantics.specs.declared.refusal.ScheduleRefusal.{ScheduleRefusal}
 use Rattle.snap_semantics.specs.declared.refusal.ScheduleRefusal.TheVariants as refusal
 use Rattle.snap_semantics.specs.Answers.{◌>>=◌}
 use Rattle.snap_semantics.specs.Schedule.{Schedule, form_or, found_or, admitted, items_of, schedule_of_lines, schedule_of, form_process, form_count, form_items}
-use Rattle.snap_semantics.specs.ScheduleForms.{Form, spelled_shape, shape_form, item_form}
+use Rattle.snap_semantics.specs.ScheduleForms.{Form, shape_form, item_form}
 use Rattle.snap_semantics.specs.ScheduleText.{IsSchedule}
 use Rattle.snap_semantics.specs.Table.{who}
 use Rattle.snap_semantics.specs.Token.{Token, TextLine, text_lines}
@@ -68,8 +68,8 @@ items_found n left (line ∷ lines) items e =
     let ok = is_admitted n left line.number a.0 b.0 b.1 in
     let same = admitted_is n left line.number a.0 b.0 b.1 in
     reads_line n left items rest.0 line lines b.0
-      (line_of line.tokens h.0 b.0 h.1 (subst (λ (x : Form). IsSpelling x h.0) same (item_found h.0 a.0 h.2)))
-      ok.0 ok.1 (ok_items (form_items b.0 ++ rest.0) items rest.2) (items_found n (left - form_count b.0) lines rest.0 rest.1)
+    (line_of line.tokens h.0 b.0 h.1 (subst (λ (x : Form). IsSpelling x h.0) same (item_found h.0 a.0 h.2)))
+    ok.0 ok.1 (ok_items (form_items b.0 ++ rest.0) items rest.2) (items_found n (left - form_count b.0) lines rest.0 rest.1)
 
 ok_schedule : (x y : Schedule) → (let r : Result Schedule ScheduleRefusal = Ok x in r) ≡ Ok y → x ≡ y
 ok_schedule x y e = cc
@@ -86,9 +86,10 @@ lines_found (line ∷ lines) s e =
     let h = form_found refusal.BadShape shape_form line.tokens a.0 a.1 in
     let shape = shape_found h.0 a.0 h.2 in
     let reads = items_found a.0.n 1000000 lines b.0 b.1 in
-    subst (λ (x : Schedule). SpelledBy x (line ∷ lines)) (ok_schedule (record { shape = a.0; items = b.0 }) s b.2)
-      (record { shape = shape.1; processes = reads.processes; few = reads.few },
-       (h.1 ∙ ap (λ (ts : List Token). let o : Option (List Token) = Some ts in o) shape.0, (reads.forms, reads.spelled, reads.made)))
+    subst (λ (x : Schedule). SpelledBy x (line ∷ lines)) (ok_schedule (record { shape = a.0; items = b.0 }) s b.2) (
+      record { shape = shape.1; processes = reads.processes; few = reads.few },
+      (h.1 ∙ ap (λ (ts : List Token). let o : Option (List Token) = Some ts in o) shape.0, (reads.forms, reads.spelled, reads.made)),
+    )
 
 within : (n : ℕ) (lines : List TextLine) (s : Schedule) (b : Bool) → nat_lt 4194304 n ≡ b → (if b then Err refusal.TooLong else schedule_of_lines lines) ≡ Ok s →
     (n ≤ 4194304) × IsSchedule s × IsSpelled s (line_tokens lines)

@@ -1,5 +1,4 @@
-use Rattle.std.proofs.Common.{◌≡◌, ◌<◌, ◌≤◌, ◌+◌, ◌-◌, suc, length, refl, sym, ap, ◌∙◌, arith, map, Some, None}
-use Rattle.snap_sched.specs.Runs.{view_run, last_count, items_of_runs}
+use Rattle.std.proofs.Common.{◌<◌, ◌+◌, ◌-◌, length, refl, sym, ap, ◌∙◌, arith, Some, None}
 use Rattle.snap_sched.proofs.Greatest.{last_fits, last_place, found_in, grown_items, grown_greatest, steps_greatest}
 use Rattle.snap_sched.proofs.items.push_run.Goals as goal
 

@@ -9,7 +9,7 @@ loop-items-preserved-in_ok-push_form-in-Ok c =
     let items = c.loop-items.items in
     let next = next_is c.in_ok-line.field-0 c.in-Some.line c.loop-items.lines c.next_line.new.self c.in_ok-line.ensures.next c.in-Some.is in
     let found : line_form c.args.n (1000000 - length items) (view_line c.in-Some.line) ≡ Ok (view_form c.in-Ok.form) =
-        ap (λ k. line_form c.args.n (1000000 - k) (view_line c.in-Some.line)) (sym c.len.ensures) ∙ c.in-Ok.ensures in
+    ap (λ k. line_form c.args.n (1000000 - k) (view_line c.in-Some.line)) (sym c.len.ensures) ∙ c.in-Ok.ensures in
     let more = c.in_ok-push_form-in-Ok.ensures in
     let keeps = kept c.args.n (view_line c.in-Some.line) items c.push_form.new.items (view_form c.in-Ok.form) found more c.loop-items.invariant.few c.loop-items.invariant.processes in
     record {

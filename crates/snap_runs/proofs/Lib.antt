@@ -1,0 +1,5 @@
+pub mod Algorithm
+pub mod Embedding
+pub mod Held
+pub mod ScanSpan
+pub mod UpdateSpan

@@ -1,0 +1,258 @@
+-- What every world of U keeps.
+use Rattle.std.specs.Prelude.{◌≡◌, ◌≢◌, ℕ, suc, ◌+◌, ◌-◌, ◌<◌, ◌≤◌, ◌⊎◌, max, List, [], length, slice_set, refl}
+use Rattle.std.proofs.Common.{sym, ◌∙◌, ap, subst, arith, inl, inr}
+use Rattle.std.proofs.lemmas.Bool.{cases_eq}
+use Rattle.std.proofs.lemmas.Grind.{get_or-set_at}
+use Rattle.std.proofs.lemmas.List.{length-set, get_or-set_other}
+use Rattle.snap_semantics.specs.declared.process.Outcome.{Outcome}
+use Rattle.snap_words.specs.Word.{Word}
+use Rattle.snap_words.specs.Word.{no_word}
+use Rattle.snap_runs.proofs.Algorithm.{Idle, At, New, typed_at, changed, stepped_auxiliary}
+use Rattle.snap_runs.proofs.Embedding as embed
+use Rattle.snap_single.proofs.Algorithm.{Change, Control, Process, State, Variables, Task, Scanning, Embedded, Updating, ProgramCounter, L31, L32, L33, value_of, IsUpdate, writes, algorithm}
+use Rattle.snap_single.proofs.Control.{ControlWell}
+use Rattle.snap_words.specs.Shape.{IsOneOf}
+use Rattle.snap_runs.proofs.Held.{word_at, Held, held_wider, seq_at, WordBefore, before_seq, Grows}
+use Rattle.snap_single.proofs.Collect.{Viewed}
+use Rattle.snap_single.proofs.Stage.{Stage, stage_kept}
+use Rattle.snap_single.proofs.Count.{Count}
+
+abbrev pub pending : Control → ℕ
+pending Idle = 0
+pending (At d k) = writes k
+
+-- an update whose view is being made or waits to be written
+abbrev pub Late : ProgramCounter → Type 0
+Late L31 = Unit {0}
+Late L32 = Unit {0}
+Late _ = ⊥
+
+abbrev pub MakingAt : Task → ProgramCounter → Type 0
+MakingAt Scanning k = ⊥
+MakingAt (Embedded word arg) k = Unit {0}
+MakingAt (Updating word arg) k = Late k
+
+abbrev pub Making : Control → Type 0
+Making Idle = ⊥
+Making (At d k) = MakingAt d k
+
+abbrev pub StageAt : ℕ → (ℕ → List Word) → ℕ → ℕ → List Word → List Word → Variables → Control → Type 0
+StageAt n history t since base m p Idle = Unit {0}
+StageAt n history t since base m p (At d k) = Stage n history t since base m p k
+
+-- in a scan, top-level or embedded
+abbrev pub IsInScan : Task → Type 0
+IsInScan Scanning = Unit {0}
+IsInScan (Embedded word arg) = Unit {0}
+IsInScan (Updating word arg) = ⊥
+
+abbrev pub InScan : Control → Type 0
+InScan Idle = ⊥
+InScan (At d k) = IsInScan d
+
+abbrev pub CountAt : ℕ → Variables → ℕ → ℕ → Control → Type 0
+CountAt n p own c Idle = Unit {0}
+CountAt n p own c (At d k) = Count n p own c k
+
+-- the writes of an update so far
+abbrev pub written_at : ProgramCounter → ℕ
+written_at L33 = 1
+written_at _ = 0
+
+abbrev pub WroteAt : Control → ℕ → Type 0
+WroteAt Idle w = Unit {0}
+WroteAt (At Scanning k) w = Unit {0}
+WroteAt (At (Embedded word arg) k) w = w ≡ 0
+WroteAt (At (Updating word arg) k) w = w ≡ written_at k
+
+pub record Own (n t : ℕ) (history : ℕ → List Word) (m : List Word) (i : ℕ) (q : Process) : Type 0 where
+  pub well : ControlWell n i q.variables q.control
+  pub length_a : length q.variables.a ≡ max n n
+  pub length_b : length q.variables.b ≡ max n n
+  pub seq : q.variables.c ≡ seq_at m i + pending q.control
+  pub fresh : q.variables.c ≤ t
+  pub since_le : q.auxiliary.since ≤ t
+  pub low : (k : ℕ) → IsOneOf n k → seq_at q.auxiliary.base k ≤ seq_at m k
+  pub views : Viewed n history t q.auxiliary.since q.auxiliary.base m
+  pub stage : StageAt n history t q.auxiliary.since q.auxiliary.base m q.variables q.control
+  pub self : InScan q.control → seq_at q.auxiliary.base i ≡ seq_at m i
+  pub counts : CountAt n q.variables q.auxiliary.own q.auxiliary.collects q.control
+  pub wrote : WroteAt q.control q.auxiliary.wrote
+
+-- a view that is made after a write since the start of u's scan is made by a later scan
+abbrev pub Pair : List Word → Process → Process → ℕ → Type 0
+Pair m u v b = Making v.control → seq_at u.auxiliary.base b < seq_at m b → u.auxiliary.since ≤ v.auxiliary.since
+
+pub record Inv (n t : ℕ) (history : ℕ → List Word) (x : State) : Type 0 where
+  pub size : length x.memory ≡ n
+  pub each : (i : ℕ) → IsOneOf n i → Own n t history x.memory i (typed_at (algorithm n) x i)
+  pub start : (i k : ℕ) → IsOneOf n i → IsOneOf n k → Pair x.memory (typed_at (algorithm n) x i) (typed_at (algorithm n) x k) k
+
+stage_at_kept : (n : ℕ) (history : ℕ → List Word) (t t' since : ℕ) (base m m' : List Word) (p : Variables) (control : Control) → t ≤ t' → Grows n m m' →
+    StageAt n history t since base m p control → StageAt n history t' since base m' p control
+stage_at_kept n history t t' since base m m' p Idle le g h = tt
+stage_at_kept n history t t' since base m m' p (At d k) le g h = stage_kept n history t t' since base m m' p k le g h
+
+-- other processes act
+pub own_kept : (n t t' : ℕ) (history : ℕ → List Word) (m m' : List Word) (i : ℕ) (q : Process) → t ≤ t' → Grows n m m' → seq_at m' i ≡ seq_at m i →
+    Viewed n history t' q.auxiliary.since q.auxiliary.base m' → Own n t history m i q → Own n t' history m' i q
+own_kept n t t' history m m' i q le g same v h = record {
+  well = h.well;
+  length_a = h.length_a;
+  length_b = h.length_b;
+  seq = h.seq ∙ ap (λ s. s + pending q.control) (sym same);
+  fresh = let f : q.variables.c ≤ t = h.fresh in omega arith;
+  since_le = let f : q.auxiliary.since ≤ t = h.since_le in omega arith;
+  low = λ k i. let l : seq_at q.auxiliary.base k ≤ seq_at m k = h.low k i in
+      let s : seq_at m k ≤ seq_at m' k = before_seq (word_at m k) (word_at m' k) (g k i) in omega arith;
+  views = v;
+  stage = stage_at_kept n history t t' q.auxiliary.since q.auxiliary.base m m' q.variables q.control le g h.stage;
+  self = λ scan. h.self scan ∙ sym same;
+  counts = h.counts;
+  wrote = h.wrote;
+}
+
+pub inv_later : (n t : ℕ) (history : ℕ → List Word) (x : State) → Inv n t history x → Inv n (suc t) history x
+inv_later n t history x h = record {
+  size = h.size;
+  each = λ i e. own_kept n t (suc t) history x.memory x.memory i (typed_at (algorithm n) x i) (omega arith) (λ k j. inr refl) refl
+      (λ k j more. held_wider history t (suc t) _ _ _ (omega arith) (omega arith) ((h.each i e).views k j more)) (h.each i e);
+  start = h.start;
+}
+
+-- one process changes and the words stay
+pub put_inv : (n t : ℕ) (history : ℕ → List Word) (x : State) (i : ℕ) (q' : Process) (o : Outcome) → length x.processes ≡ n → IsOneOf n i → Inv n t history x →
+    Own n t history x.memory i q' →
+    (Making q'.control → (q'.auxiliary.since ≡ t) ⊎ (Making (typed_at (algorithm n) x i).control × (q'.auxiliary.since ≡ (typed_at (algorithm n) x i).auxiliary.since))) →
+    ((q'.auxiliary.base ≡ x.memory) ⊎ ((q'.auxiliary.base ≡ (typed_at (algorithm n) x i).auxiliary.base) × (q'.auxiliary.since ≡ (typed_at (algorithm n) x i).auxiliary.since))) →
+    Inv n t history (changed x i (New x.memory q' o))
+put_inv n t history x i q' o count one h own r1 r2 =
+    let c : Change = New x.memory q' o in
+    let a = algorithm n in
+    let new : typed_at a (changed x i c) i ≡ q' = embed.own_process a x i x.memory q' o count one in
+    let at_i : (k : ℕ) → k ≡ i → typed_at a (changed x i c) k ≡ q' = λ k e. ap (typed_at a (changed x i c)) e ∙ new in
+    let off_i : (k : ℕ) → IsOneOf n k → k ≢ i → typed_at a (changed x i c) k ≡ typed_at a x k = λ k j ne. embed.other_process a x i k c one.0 j.0 ne in
+    record {
+      size = h.size;
+      each = λ k j. elim (cases_eq k i) [
+        | inl same ↦ subst (λ (q : Process). Own n t history x.memory k q) (sym (at_i k same)) (subst (λ y. Own n t history x.memory y q') (sym same) own)
+        | inr other ↦ subst (λ (q : Process). Own n t history x.memory k q) (sym (off_i k j other)) (h.each k j)
+      ];
+      start = λ u b ju jb.
+          let m = x.memory in
+          elim (cases_eq u i) [
+            | inl su ↦ elim (cases_eq b i) [
+              | inl sb ↦ subst (λ (q : Process). Pair m q (typed_at a (changed x i c) b) b) (sym (at_i u su))
+                  (subst (λ (q : Process). Pair m q' q b) (sym (at_i b sb)) (λ making lt. omega arith))
+              | inr ob ↦ subst (λ (q : Process). Pair m q (typed_at a (changed x i c) b) b) (sym (at_i u su))
+                  (subst (λ (q : Process). Pair m q' q b) (sym (off_i b jb ob))
+                  (λ making lt. elim r2 [
+                    | inl fresh ↦ absurd (let e : seq_at q'.auxiliary.base b ≡ seq_at m b = ap (λ w. seq_at w b) fresh in omega arith)
+                    | inr old ↦ subst (λ s. s ≤ (typed_at a x b).auxiliary.since) (sym old.1)
+                        (h.start i b one jb making (subst (λ w. seq_at w b < seq_at m b) old.0 lt))
+                  ]))
+            ]
+            | inr ou ↦ elim (cases_eq b i) [
+              | inl sb ↦ subst (λ (q : Process). Pair m q (typed_at a (changed x i c) b) b) (sym (off_i u ju ou))
+                  (subst (λ (q : Process). Pair m (typed_at a x u) q b) (sym (at_i b sb))
+                  (λ making lt. elim (r1 making) [
+                    | inl now ↦ (let le : (typed_at a x u).auxiliary.since ≤ t = (h.each u ju).since_le in omega arith)
+                    | inr old ↦ subst (λ s. (typed_at a x u).auxiliary.since ≤ s) (sym old.1)
+                        (h.start u i ju one old.0 (subst (λ y. seq_at (typed_at a x u).auxiliary.base y < seq_at m y) sb lt))
+                  ]))
+              | inr ob ↦ subst (λ (q : Process). Pair m q (typed_at a (changed x i c) b) b) (sym (off_i u ju ou))
+                  (subst (λ (q : Process). Pair m (typed_at a x u) q b) (sym (off_i b jb ob)) (h.start u b ju jb))
+            ]
+          ];
+    }
+
+-- line 32
+abbrev pub written : ℕ → Task → Variables → Word
+written me d p = record { datum = value_of d; seq = p.c; id = 0; toggle = 0; hands = []; view = p.s }
+
+pub write_inv : (n t : ℕ) (history : ℕ → List Word) (x : State) (i : ℕ) (d : Task) (q' : Process) (o : Outcome) → length x.processes ≡ n → IsOneOf n i →
+    Inv n t history x → (typed_at (algorithm n) x i).control ≡ At d L32 → IsUpdate i d →
+    q' ≡ record { control = At d L33; variables = (typed_at (algorithm n) x i).variables; auxiliary = stepped_auxiliary (algorithm n) L32 (typed_at (algorithm n) x i).auxiliary } →
+    Inv n (suc t) history (changed x i (New (slice_set x.memory (i - 1) (written i d (typed_at (algorithm n) x i).variables)) q' o))
+write_inv n t history x i d q' o count one h at up is =
+    let a = algorithm n in
+    let m = x.memory in
+    let q = typed_at a x i in
+    let w = written i d q.variables in
+    let m' = slice_set m (i - 1) w in
+    let c : Change = New m' q' o in
+    let ownq : Own n t history m i q = h.each i one in
+    let len : length m ≡ n = h.size in
+    let one_more : q.variables.c ≡ seq_at m i + 1 = ownq.seq ∙ ap (λ (p : Control). seq_at m i + pending p) at in
+    let held : Held history t q.auxiliary.since q.variables.s = subst (λ (p : Control). StageAt n history t q.auxiliary.since q.auxiliary.base m q.variables p) at ownq.stage in
+    let making : Making q.control = subst Making (sym at) (late i d up) in
+    let new_word : (k : ℕ) → k ≡ i → word_at m' k ≡ w = λ k e. get_or-set_at m (i - 1) (k - 1) w no_word (ap (λ y. y - 1) e) (omega arith) in
+    let old_word : (k : ℕ) → IsOneOf n k → k ≢ i → word_at m' k ≡ word_at m k = λ k j ne. get_or-set_other m (i - 1) (k - 1) w no_word (λ same. ne (omega arith)) in
+    let grows : Grows n m m' = λ k j. elim (cases_eq k i) [
+      | inl same ↦ subst (λ (y : Word). WordBefore (word_at m k) y) (sym (new_word k same)) (inl (subst (λ y. seq_at m y < q.variables.c) (sym same) (omega arith)))
+      | inr other ↦ inr (sym (old_word k j other))
+    ] in
+    let viewed : (u : ℕ) → IsOneOf n u → Viewed n history (suc t) (typed_at a x u).auxiliary.since (typed_at a x u).auxiliary.base m' = λ u ju k j. elim (cases_eq k i) [
+      | inl same ↦ subst (λ (y : Word). seq_at (typed_at a x u).auxiliary.base k + 2 ≤ y.seq → Held history (suc t) (typed_at a x u).auxiliary.since y.view) (sym (new_word k same))
+          (λ more. held_wider history t (suc t) q.auxiliary.since (typed_at a x u).auxiliary.since q.variables.s (omega arith)
+          (h.start u i ju one making (let e : seq_at (typed_at a x u).auxiliary.base k ≡ seq_at (typed_at a x u).auxiliary.base i = ap (seq_at (typed_at a x u).auxiliary.base) same in
+          let more2 : seq_at (typed_at a x u).auxiliary.base k + 2 ≤ q.variables.c = more in omega arith)) held)
+      | inr other ↦ subst (λ (y : Word). seq_at (typed_at a x u).auxiliary.base k + 2 ≤ y.seq → Held history (suc t) (typed_at a x u).auxiliary.since y.view) (sym (old_word k j other))
+          (λ more. held_wider history t (suc t) _ _ _ (omega arith) (omega arith) ((h.each u ju).views k j more))
+    ] in
+    let own_new : Own n (suc t) history m' i q' =
+    subst (λ (r : Process). Own n (suc t) history m' i r) (sym is) (record {
+      well = (up, tt);
+      length_a = ownq.length_a;
+      length_b = ownq.length_b;
+      seq = (let e : seq_at m' i ≡ q.variables.c = ap (λ (y : Word). y.seq) (new_word i refl) in omega arith);
+      fresh = (let f : q.variables.c ≤ t = ownq.fresh in omega arith);
+      since_le = (let f : q.auxiliary.since ≤ t = ownq.since_le in omega arith);
+      low = λ k j. (let l : seq_at q.auxiliary.base k ≤ seq_at m k = ownq.low k j in
+          let s : seq_at m k ≤ seq_at m' k = before_seq (word_at m k) (word_at m' k) (grows k j) in omega arith);
+      views = viewed i one;
+      stage = tt;
+      self = λ scan. absurd (not_scan i d up scan);
+      counts = tt;
+      wrote = wrote33 i d q.auxiliary.wrote up (subst (λ (p : Control). WroteAt p q.auxiliary.wrote) at ownq.wrote);
+    }) in
+    let new : typed_at a (changed x i c) i ≡ q' = embed.own_process a x i m' q' o count one in
+    let at_i : (k : ℕ) → k ≡ i → typed_at a (changed x i c) k ≡ q' = λ k e. ap (typed_at a (changed x i c)) e ∙ new in
+    let off_i : (k : ℕ) → IsOneOf n k → k ≢ i → typed_at a (changed x i c) k ≡ typed_at a x k = λ k j ne. embed.other_process a x i k c one.0 j.0 ne in
+    record {
+      size = length-set m (i - 1) w ∙ len;
+      each = λ k j. elim (cases_eq k i) [
+        | inl same ↦ subst (λ (r : Process). Own n (suc t) history m' k r) (sym (at_i k same)) (subst (λ y. Own n (suc t) history m' y q') (sym same) own_new)
+        | inr other ↦ subst (λ (r : Process). Own n (suc t) history m' k r) (sym (off_i k j other))
+            (own_kept n t (suc t) history m m' k (typed_at a x k) (omega arith) grows (ap (λ (y : Word). y.seq) (old_word k j other)) (viewed k j) (h.each k j))
+      ];
+      start = λ u b ju jb. elim (cases_eq b i) [
+        | inl sb ↦ subst (λ (r : Process). Pair m' (typed_at a (changed x i c) u) r b) (sym (at_i b sb ∙ is)) (λ made lt. absurd (not_late i d up made))
+        | inr ob ↦ subst (λ (r : Process). Pair m' (typed_at a (changed x i c) u) r b) (sym (off_i b jb ob))
+            (let past : Pair m' (typed_at a x u) (typed_at a x b) b = λ made lt. h.start u b ju jb made (subst (λ (y : Word). seq_at (typed_at a x u).auxiliary.base b < y.seq) (old_word b jb ob) lt) in
+            elim (cases_eq u i) [
+              | inl su ↦ subst (λ (r : Process). Pair m' r (typed_at a x b) b) (sym (at_i u su ∙ is)) (subst (λ y. Pair m' (typed_at a x y) (typed_at a x b) b) su past)
+              | inr ou ↦ subst (λ (r : Process). Pair m' r (typed_at a x b) b) (sym (off_i u ju ou)) past
+            ])
+      ];
+    }
+  where
+    late : (i : ℕ) (d : Task) → IsUpdate i d → MakingAt d L32
+    late i Scanning u = absurd u
+    late i (Embedded w x) u = absurd u
+    late i (Updating w x) u = tt
+
+    not_late : (i : ℕ) (d : Task) → IsUpdate i d → MakingAt d L33 → ⊥
+    not_late i Scanning u h = h
+    not_late i (Embedded w x) u h = u
+    not_late i (Updating w x) u h = h
+
+    not_scan : (i : ℕ) (d : Task) → IsUpdate i d → IsInScan d → ⊥
+    not_scan i Scanning u h = u
+    not_scan i (Embedded w x) u h = u
+    not_scan i (Updating w x) u h = h
+
+    wrote33 : (i : ℕ) (d : Task) (w : ℕ) → IsUpdate i d → WroteAt (At d L32) w → WroteAt (At d L33) (w + 1)
+    wrote33 i Scanning w u h = tt
+    wrote33 i (Embedded word arg) w u h = absurd u
+    wrote33 i (Updating word arg) w u h = omega arith

@@ -1,0 +1,10 @@
+pub mod Algorithm
+pub mod Lines
+pub mod Control
+pub mod Collect
+pub mod Stage
+pub mod Count
+pub mod Invariant
+pub mod Keep
+pub mod Runs
+pub mod Updates

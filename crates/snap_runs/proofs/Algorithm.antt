@@ -1,5 +1,5 @@
 -- An algorithm in its own words: typed variables, one move for each line; and the runs of its processes.
-use Rattle.std.specs.Prelude.{◌≡◌, ℕ, zero, suc, ◌+◌, ◌-◌, List, map, Option, Some, None, Result, Ok, slice_index_or, slice_set, replicate}
+use Rattle.std.specs.Prelude.{◌≡◌, ℕ, zero, suc, ◌+◌, ◌-◌, Bool, if◌then◌else◌, List, map, Option, Some, None, Result, Ok, slice_index_or, slice_set, replicate}
 use Rattle.snap_words.specs.Shape.{Counts}
 use Rattle.snap_semantics.specs.declared.process.Cause.{Cause}
 use Rattle.snap_semantics.specs.declared.process.Item.{Item}
@@ -31,14 +31,16 @@ pub data Move (T V P M : Type 0) : Type 0 where
   Answer : (view : List ℕ) → Move T V P M
   Finish : Move T V P M
 
--- what the proof remembers of a process
-pub record Auxiliary (M : Type 0) : Type 0 where
-  -- the item that started its last scan, and the memory then
+-- what the proof remembers of a process, in numbers of items and counts
+pub record Auxiliary : Type 0 where
+  -- the item that started its last scan
   pub since : ℕ
-  pub base : M
   -- its steps and its double collects since
   pub own : ℕ
   pub collects : ℕ
+  -- the item that started its last double collect, and the ends of double collects since
+  pub round : ℕ
+  pub tested : ℕ
   -- the item of its last call, and its writes since
   pub called : ℕ
   pub wrote : ℕ
@@ -46,7 +48,7 @@ pub record Auxiliary (M : Type 0) : Type 0 where
 pub record TypedProcess (T V P M : Type 0) : Type 0 where
   pub control : Control T P
   pub variables : V
-  pub auxiliary : Auxiliary M
+  pub auxiliary : Auxiliary
 
 pub record TypedState (T V P M : Type 0) : Type 0 where
   pub memory : M
@@ -66,8 +68,10 @@ pub record Algorithm (T V P M : Type 0) : Type 0 where
   -- where an operation begins
   pub task : Op → T
   pub counter : Op → P
-  -- 1 for a line that ends a double collect, and for the line that writes a word; else 0
+  -- 1 for a line that ends a double collect, else 0; whether a line goes back to start another one
   pub tests : P → ℕ
+  pub restarts : P → Bool
+  -- 1 for the line that writes a word, else 0
   pub writes : P → ℕ
   pub first_variables : V
   pub first_memory : M
@@ -78,24 +82,25 @@ pub record Algorithm (T V P M : Type 0) : Type 0 where
   pub entry_is : (op : Op) → number (counter op) ≡ entry source op
 
 -- after a line that goes on or ends the operation
-abbrev pub stepped_auxiliary : {T V P M : Type 0} → Algorithm T V P M → P → Auxiliary M → Auxiliary M
-stepped_auxiliary a k g = record {
+abbrev pub stepped_auxiliary : {T V P M : Type 0} → Algorithm T V P M → P → ℕ → Auxiliary → Auxiliary
+stepped_auxiliary a k time g = record {
   since = g.since;
-  base = g.base;
   own = suc g.own;
   collects = g.collects + a.tests k;
+  round = if a.restarts k then time else g.round;
+  tested = if a.restarts k then 0 else g.tested + a.tests k;
   called = g.called;
   wrote = g.wrote + a.writes k;
 }
 
 -- after a line that begins an embedded scan
-abbrev pub begun_auxiliary : {T V P M : Type 0} → Algorithm T V P M → P → ℕ → M → Auxiliary M → Auxiliary M
-begun_auxiliary a k time m g = record { since = time; base = m; own = 0; collects = 0; called = g.called; wrote = g.wrote + a.writes k }
+abbrev pub begun_auxiliary : {T V P M : Type 0} → Algorithm T V P M → P → ℕ → Auxiliary → Auxiliary
+begun_auxiliary a k time g = record { since = time; own = 0; collects = 0; round = time; tested = 0; called = g.called; wrote = g.wrote + a.writes k }
 
 -- after a call
-abbrev pub called_auxiliary : {M : Type 0} → ℕ → M → Op → Auxiliary M → Auxiliary M
-called_auxiliary time m Scan g = record { since = time; base = m; own = 0; collects = 0; called = time; wrote = 0 }
-called_auxiliary time m (Update word value) g = record { since = g.since; base = g.base; own = g.own; collects = g.collects; called = time; wrote = 0 }
+abbrev pub called_auxiliary : ℕ → Op → Auxiliary → Auxiliary
+called_auxiliary time Scan g = record { since = time; own = 0; collects = 0; round = time; tested = 0; called = time; wrote = 0 }
+called_auxiliary time (Update word value) g = record { since = g.since; own = g.own; collects = g.collects; round = g.round; tested = g.tested; called = time; wrote = 0 }
 
 -- what an item does: nothing, or another memory and another process
 pub data Change (T V P M : Type 0) : Type 0 where
@@ -103,10 +108,10 @@ pub data Change (T V P M : Type 0) : Type 0 where
   New : (memory : M) → (process : TypedProcess T V P M) → (outcome : Outcome) → Change T V P M
 
 abbrev pub by_move : {T V P M : Type 0} → Algorithm T V P M → ℕ → M → TypedProcess T V P M → P → Move T V P M → Change T V P M
-by_move a time m q k (To d m' p k') = New m' (record { control = At d k'; variables = p; auxiliary = stepped_auxiliary a k q.auxiliary }) Stepped
-by_move a time m q k (Begin d p k') = New m (record { control = At d k'; variables = p; auxiliary = begun_auxiliary a k time m q.auxiliary }) Stepped
-by_move a time m q k (Answer v) = New m (record { control = Idle; variables = q.variables; auxiliary = stepped_auxiliary a k q.auxiliary }) (Answered v)
-by_move a time m q k Finish = New m (record { control = Idle; variables = q.variables; auxiliary = stepped_auxiliary a k q.auxiliary }) Finished
+by_move a time m q k (To d m' p k') = New m' (record { control = At d k'; variables = p; auxiliary = stepped_auxiliary a k time q.auxiliary }) Stepped
+by_move a time m q k (Begin d p k') = New m (record { control = At d k'; variables = p; auxiliary = begun_auxiliary a k time q.auxiliary }) Stepped
+by_move a time m q k (Answer v) = New m (record { control = Idle; variables = q.variables; auxiliary = stepped_auxiliary a k time q.auxiliary }) (Answered v)
+by_move a time m q k Finish = New m (record { control = Idle; variables = q.variables; auxiliary = stepped_auxiliary a k time q.auxiliary }) Finished
 
 abbrev pub by_step : {T V P M : Type 0} → Algorithm T V P M → ℕ → M → ℕ → TypedProcess T V P M → Control T P → Change T V P M
 by_step a time m i q Idle = Same reason.Idle
@@ -114,7 +119,7 @@ by_step a time m i q (At d k) = by_move a time m q k (a.move i d m q.variables k
 
 abbrev pub by_admission : {T V P M : Type 0} → Algorithm T V P M → ℕ → M → TypedProcess T V P M → Op → Option Reason → Change T V P M
 by_admission a time m q op (Some why) = Same why
-by_admission a time m q op None = New m (record { control = At (a.task op) (a.counter op); variables = q.variables; auxiliary = called_auxiliary time m op q.auxiliary }) Called
+by_admission a time m q op None = New m (record { control = At (a.task op) (a.counter op); variables = q.variables; auxiliary = called_auxiliary time op q.auxiliary }) Called
 
 abbrev pub by_call : {T V P M : Type 0} → Algorithm T V P M → ℕ → M → ℕ → Op → TypedProcess T V P M → Control T P → Change T V P M
 by_call a time m i op q Idle = by_admission a time m q op (call_skip a.source.kind a.shape i op)
@@ -124,7 +129,7 @@ abbrev pub first_process : {T V P M : Type 0} → Algorithm T V P M → TypedPro
 first_process a = record {
   control = Idle;
   variables = a.first_variables;
-  auxiliary = record { since = 0; base = a.first_memory; own = 0; collects = 0; called = 0; wrote = 0 };
+  auxiliary = record { since = 0; own = 0; collects = 0; round = 0; tested = 0; called = 0; wrote = 0 };
 }
 
 abbrev pub first_state : {T V P M : Type 0} → Algorithm T V P M → TypedState T V P M

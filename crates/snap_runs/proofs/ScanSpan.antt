@@ -15,7 +15,7 @@ use Rattle.snap_semantics.specs.State.{process_at}
 use Rattle.snap_semantics.specs.Table.{who}
 use Rattle.snap_words.specs.Shape.{IsOneOf}
 use Rattle.snap_runs.specs.Run.{Run, Fits, state, before, item, outcome}
-use Rattle.snap_runs.specs.Scan.{line_in, link_in, IsCallLine, Returns, Starts, Scan, count, steps, is_if_all, is_stepped, is_not_skipped, double_collects, own_steps}
+use Rattle.snap_runs.specs.Scan.{line_in, link_in, IsCallLine, Returns, Starts, Scan, count, steps, is_if_all, is_stepped, is_not_skipped, ends_double_collect, takes_step, double_collects, own_steps}
 use Rattle.snap_runs.proofs.Algorithm.{Control, Idle, At, Move, To, Begin, Answer, Finish, TypedProcess, TypedState, Algorithm, by_move, by_step, by_call, typed_at, by_item, changed, outcome_of, happens, item_at, typed_state, status_of, process_of, stepped_auxiliary, begun_auxiliary, called_auxiliary}
 use Rattle.snap_runs.proofs.Embedding as embed
 
@@ -33,6 +33,25 @@ count_none test c (suc e) h =
 
 pub count_next : (test : ℕ → Bool) (c e : ℕ) → c ≤ e → count test c (suc e) ≡ (if test (suc e) then suc (count test c e) else count test c e)
 count_next test c e h = ap (λ b. if b && test (suc e) then suc (count test c e) else count test c e) (below c (suc e) (omega arith))
+
+below_from : (x y : ℕ) → nat_lt x y ≡ true → x < y
+below_from x y h = grind (arith, common_steps)
+
+-- fewer from a later item on
+pub count_later : (test : ℕ → Bool) (c c' e : ℕ) → c ≤ c' → count test c' e ≤ count test c e
+count_later test c c' zero h = omega arith
+count_later test c c' (suc e) h =
+    both_more (nat_lt c' (suc e)) (nat_lt c (suc e)) (test (suc e)) (count test c' e) (count test c e)
+    (λ is. let lt : c' < suc e = below_from c' (suc e) is in below c (suc e) (omega arith)) (count_later test c c' e h)
+  where
+    both_more : (later sooner passes : Bool) (x y : ℕ) → (later ≡ true → sooner ≡ true) → x ≤ y →
+        (if later && passes then suc x else x) ≤ (if sooner && passes then suc y else y)
+    both_more true true true x y f h = omega arith
+    both_more true true false x y f h = h
+    both_more true false passes x y f h = absurd (let e : false ≡ true = f refl in cc)
+    both_more false true true x y f h = omega arith
+    both_more false true false x y f h = h
+    both_more false false passes x y f h = h
 
 pub count_not : (test : ℕ → Bool) (c e : ℕ) → c ≤ e → test (suc e) ≡ false → count test c (suc e) ≡ count test c e
 count_not test c e h n = count_next test c e h ∙ ap (λ b. if b then suc (count test c e) else count test c e) n
@@ -102,6 +121,18 @@ module _ {T V P M : Type 0} (a : Algorithm T V P M) where
       pub since : (his t).auxiliary.since ≡ c
       pub own : (his t).auxiliary.own ≡ own_steps r i c t
       pub collects : (his t).auxiliary.collects ≡ double_collects r i c t
+      pub round_after : c ≤ (his t).auxiliary.round
+      pub round_before : (his t).auxiliary.round ≤ t
+      pub tested : (his t).auxiliary.tested ≡ double_collects r i (his t).auxiliary.round t
+
+    -- the counts after an item that is no step of the process
+    collects_same : (c t : ℕ) → c ≤ t → steps i (item_at items t) ≡ false → double_collects r i c (suc t) ≡ double_collects r i c t
+    collects_same c t le none =
+        count_not (ends_double_collect r i) c t le
+        (ap (λ b. b && (is_if_all (line_in r.source (process_at (before r (suc t)) i).status) && is_stepped (outcome r (suc t)))) none)
+
+    own_same : (c t : ℕ) → c ≤ t → steps i (item_at items t) ≡ false → own_steps r i c (suc t) ≡ own_steps r i c t
+    own_same c t le none = count_not (takes_step r i) c t le (ap (λ b. b && is_not_skipped (outcome r (suc t))) none)
 
     -- another process's item, and what changes nothing
     same_goes : (link : Option ℕ) (c t : ℕ) → c ≤ t → his (suc t) ≡ his t → ((who (item_at items t) ≡ i → ⊥) ⊎ (steps i (item_at items t) ≡ false)) → Goes link c t → Goes link c (suc t)
@@ -114,10 +145,12 @@ module _ {T V P M : Type 0} (a : Algorithm T V P M) where
           inside = g.inside;
           since = ap (λ (q : TypedProcess T V P M). q.auxiliary.since) same ∙ g.since;
           own = ap (λ (q : TypedProcess T V P M). q.auxiliary.own) same ∙ g.own
-              ∙ sym (count_not (λ u. steps i (item r u) && is_not_skipped (outcome r u)) c t le (ap (λ b. b && is_not_skipped (outcome r (suc t))) none));
-          collects = ap (λ (q : TypedProcess T V P M). q.auxiliary.collects) same ∙ g.collects
-              ∙ sym (count_not (λ u. steps i (item r u) && (is_if_all (line_in r.source (process_at (before r u) i).status) && is_stepped (outcome r u))) c t le
-              (ap (λ b. b && (is_if_all (line_in r.source (process_at (before r (suc t)) i).status) && is_stepped (outcome r (suc t)))) none));
+              ∙ sym (own_same c t le none);
+          collects = ap (λ (q : TypedProcess T V P M). q.auxiliary.collects) same ∙ g.collects ∙ sym (collects_same c t le none);
+          round_after = subst (λ (q : TypedProcess T V P M). c ≤ q.auxiliary.round) (sym same) g.round_after;
+          round_before = subst (λ (q : TypedProcess T V P M). q.auxiliary.round ≤ suc t) (sym same) (let le2 : (his t).auxiliary.round ≤ t = g.round_before in omega arith);
+          tested = subst (λ (q : TypedProcess T V P M). q.auxiliary.tested ≡ double_collects r i q.auxiliary.round (suc t)) (sym same)
+              (g.tested ∙ sym (collects_same (his t).auxiliary.round t g.round_before none));
         }
 
     add_one : (b : Bool) (x : ℕ) → (if b then suc x else x) ≡ x + (if b then 1 else 0)
@@ -132,6 +165,40 @@ module _ {T V P M : Type 0} (a : Algorithm T V P M) where
     is_busy_at t le d k e =
         embed.process_at_is a items fits does t i le one
         ∙ ap (λ (p : Control T P). process_of a (record { control = p; variables = (his t).variables; auxiliary = (his t).auxiliary })) e
+
+    -- the counts after a step of the process
+    collects_next : (c t : ℕ) (d : T) (k : P) → c ≤ t → t ≤ length items → steps i (item_at items t) ≡ true → outcome r (suc t) ≡ Stepped → (his t).control ≡ At d k →
+        double_collects r i c (suc t) ≡ double_collects r i c t + a.tests k
+    collects_next c t d k le short steps_is out_is at =
+        let line : line_in r.source (process_at (before r (suc t)) i).status ≡ instr_at a.source.lines (a.number k) =
+        ap (λ (y : Process). line_in r.source y.status) (is_busy_at t short d k at) in
+        let old = double_collects r i c t in
+        count_next (ends_double_collect r i) c t le
+        ∙ ap (λ b. if b && (is_if_all (line_in r.source (process_at (before r (suc t)) i).status) && is_stepped (outcome r (suc t))) then suc old else old) steps_is
+        ∙ ap (λ (o : Outcome). if is_if_all (line_in r.source (process_at (before r (suc t)) i).status) && is_stepped o then suc old else old) out_is
+        ∙ ap (λ b. if b then suc old else old) (and_true (is_if_all (line_in r.source (process_at (before r (suc t)) i).status)))
+        ∙ ap (λ o. if is_if_all o then suc old else old) line
+        ∙ add_one (is_if_all (instr_at a.source.lines (a.number k))) old
+        ∙ ap (λ y. old + y) (tests_is k)
+
+    own_next : (c t : ℕ) → c ≤ t → steps i (item_at items t) ≡ true → outcome r (suc t) ≡ Stepped → own_steps r i c (suc t) ≡ suc (own_steps r i c t)
+    own_next c t le steps_is out_is =
+        count_next (takes_step r i) c t le
+        ∙ ap (λ b. if b && is_not_skipped (outcome r (suc t)) then suc (own_steps r i c t) else own_steps r i c t) steps_is
+        ∙ ap (λ (o : Outcome). if is_not_skipped o then suc (own_steps r i c t) else own_steps r i c t) out_is
+
+    -- the last double collect goes on, or another one starts
+    round_from : (again : Bool) (c round t : ℕ) → c ≤ round → c ≤ t → c ≤ (if again then suc t else round)
+    round_from true c round t h le = omega arith
+    round_from false c round t h le = h
+
+    round_to : (again : Bool) (round t : ℕ) → round ≤ t → (if again then suc t else round) ≤ suc t
+    round_to true round t h = omega arith
+    round_to false round t h = omega arith
+
+    tested_next : (again : Bool) (round t tested : ℕ) → tested ≡ double_collects r i round (suc t) → (if again then 0 else tested) ≡ double_collects r i (if again then suc t else round) (suc t)
+    tested_next true round t tested h = sym (count_none (ends_double_collect r i) (suc t) (suc t) (omega arith))
+    tested_next false round t tested h = h
 
     -- a step of the process that stays in the scan
     step_goes : (link : Option ℕ) (c e t : ℕ) (v : Move T V P M) (d : T) (k : P) → Scan r i link c e → c ≤ t → suc t < e → item_at items t ≡ Step i →
@@ -153,28 +220,22 @@ module _ {T V P M : Type 0} (a : Algorithm T V P M) where
             typed_state a items (suc t) ≡ changed (typed_state a items t) i (by_move a (suc t) (typed_state a items t).memory (his t) k v) →
             outcome r (suc t) ≡ outcome_of (by_move a (suc t) (typed_state a items t).memory (his t) k v) → steps i (item_at items t) ≡ true → Stays link k (his t).variables v → Goes link c (suc t)
         stepped_goes link c e t d k scan le lt short is at g (To d' m' p' k') state_becomes out_is steps_is (inl inside) =
-            let q' : TypedProcess T V P M = record { control = At d' k'; variables = p'; auxiliary = stepped_auxiliary a k (his t).auxiliary } in
+            let q' : TypedProcess T V P M = record { control = At d' k'; variables = p'; auxiliary = stepped_auxiliary a k (suc t) (his t).auxiliary } in
             let new : his (suc t) ≡ q' = ap (λ (y : TypedState T V P M). typed_at a y i) state_becomes ∙ embed.own_process a (typed_state a items t) i m' q' Stepped (embed.count a items t) one in
-            let line : line_in r.source (process_at (before r (suc t)) i).status ≡ instr_at a.source.lines (a.number k) =
-            ap (λ (y : Process). line_in r.source y.status) (is_busy_at t (omega arith) d k at) in
             record {
               task = d';
               counter = k';
               control = ap (λ (q : TypedProcess T V P M). q.control) new;
               inside = inside;
               since = ap (λ (q : TypedProcess T V P M). q.auxiliary.since) new ∙ g.since;
-              own = ap (λ (q : TypedProcess T V P M). q.auxiliary.own) new ∙ ap suc g.own
-                  ∙ sym (count_next (λ u. steps i (item r u) && is_not_skipped (outcome r u)) c t le
-                  ∙ ap (λ b. if b && is_not_skipped (outcome r (suc t)) then suc (own_steps r i c t) else own_steps r i c t) steps_is
-                  ∙ ap (λ (o : Outcome). if is_not_skipped o then suc (own_steps r i c t) else own_steps r i c t) out_is);
+              own = ap (λ (q : TypedProcess T V P M). q.auxiliary.own) new ∙ ap suc g.own ∙ sym (own_next c t le steps_is out_is);
               collects = ap (λ (q : TypedProcess T V P M). q.auxiliary.collects) new ∙ ap (λ y. y + a.tests k) g.collects
-                  ∙ sym (count_next (λ u. steps i (item r u) && (is_if_all (line_in r.source (process_at (before r u) i).status) && is_stepped (outcome r u))) c t le
-                  ∙ ap (λ b. if b && (is_if_all (line_in r.source (process_at (before r (suc t)) i).status) && is_stepped (outcome r (suc t))) then suc (double_collects r i c t) else double_collects r i c t) steps_is
-                  ∙ ap (λ (o : Outcome). if is_if_all (line_in r.source (process_at (before r (suc t)) i).status) && is_stepped o then suc (double_collects r i c t) else double_collects r i c t) out_is
-                  ∙ ap (λ b. if b then suc (double_collects r i c t) else double_collects r i c t) (and_true (is_if_all (line_in r.source (process_at (before r (suc t)) i).status)))
-                  ∙ ap (λ o. if is_if_all o then suc (double_collects r i c t) else double_collects r i c t) line
-                  ∙ add_one (is_if_all (instr_at a.source.lines (a.number k))) (double_collects r i c t)
-                  ∙ ap (λ y. double_collects r i c t + y) (tests_is k));
+                  ∙ sym (collects_next c t d k le (omega arith) steps_is out_is at);
+              round_after = subst (λ (q : TypedProcess T V P M). c ≤ q.auxiliary.round) (sym new) (round_from (a.restarts k) c (his t).auxiliary.round t g.round_after le);
+              round_before = subst (λ (q : TypedProcess T V P M). q.auxiliary.round ≤ suc t) (sym new) (round_to (a.restarts k) (his t).auxiliary.round t g.round_before);
+              tested = subst (λ (q : TypedProcess T V P M). q.auxiliary.tested ≡ double_collects r i q.auxiliary.round (suc t)) (sym new)
+                  (tested_next (a.restarts k) (his t).auxiliary.round t ((his t).auxiliary.tested + a.tests k)
+                  (ap (λ y. y + a.tests k) g.tested ∙ sym (collects_next (his t).auxiliary.round t d k g.round_before (omega arith) steps_is out_is at)));
             }
         stepped_goes None c e t d k scan le lt short is at g (To d' m' p' k') state_becomes out_is steps_is (inr h) = absurd h
         stepped_goes (Some l) c e t d k scan le lt short is at g (To d' m' p' k') state_becomes out_is steps_is (inr h) =
@@ -230,7 +291,7 @@ module _ {T V P M : Type 0} (a : Algorithm T V P M) where
             outcome_of (by_call a (suc c) (typed_state a items c).memory i ScanOp (his c) control) ≡ Called → Goes None (suc c) (suc c)
         from_control c Idle state_becomes out_is =
             let x = typed_state a items c in
-            let q' : TypedProcess T V P M = record { control = At (a.task ScanOp) (a.counter ScanOp); variables = (his c).variables; auxiliary = called_auxiliary (suc c) x.memory ScanOp (his c).auxiliary } in
+            let q' : TypedProcess T V P M = record { control = At (a.task ScanOp) (a.counter ScanOp); variables = (his c).variables; auxiliary = called_auxiliary (suc c) ScanOp (his c).auxiliary } in
             let new : his (suc c) ≡ q' = ap (λ (y : TypedState T V P M). typed_at a y i) state_becomes ∙ embed.own_process a x i x.memory q' Called (embed.count a items c) one in
             record {
               task = a.task ScanOp;
@@ -238,9 +299,12 @@ module _ {T V P M : Type 0} (a : Algorithm T V P M) where
               control = ap (λ (q : TypedProcess T V P M). q.control) new;
               inside = (a.link_is ScanOp, a.op_is ScanOp);
               since = ap (λ (q : TypedProcess T V P M). q.auxiliary.since) new;
-              own = ap (λ (q : TypedProcess T V P M). q.auxiliary.own) new ∙ sym (count_none (λ u. steps i (item r u) && is_not_skipped (outcome r u)) (suc c) (suc c) (omega arith));
-              collects = ap (λ (q : TypedProcess T V P M). q.auxiliary.collects) new
-                  ∙ sym (count_none (λ u. steps i (item r u) && (is_if_all (line_in r.source (process_at (before r u) i).status) && is_stepped (outcome r u))) (suc c) (suc c) (omega arith));
+              own = ap (λ (q : TypedProcess T V P M). q.auxiliary.own) new ∙ sym (count_none (takes_step r i) (suc c) (suc c) (omega arith));
+              collects = ap (λ (q : TypedProcess T V P M). q.auxiliary.collects) new ∙ sym (count_none (ends_double_collect r i) (suc c) (suc c) (omega arith));
+              round_after = subst (λ (q : TypedProcess T V P M). suc c ≤ q.auxiliary.round) (sym new) (omega arith);
+              round_before = subst (λ (q : TypedProcess T V P M). q.auxiliary.round ≤ suc c) (sym new) (omega arith);
+              tested = subst (λ (q : TypedProcess T V P M). q.auxiliary.tested ≡ double_collects r i q.auxiliary.round (suc c)) (sym new)
+                  (sym (count_none (ends_double_collect r i) (suc c) (suc c) (omega arith)));
             }
         from_control c (At d k) state_becomes out_is = absurd (cc)
 
@@ -267,7 +331,7 @@ module _ {T V P M : Type 0} (a : Algorithm T V P M) where
         from_move l c d k (To d' m' p' k') not_to state_becomes out_is link_is = absurd not_to
         from_move l c d k (Begin d' p' k') not_to state_becomes out_is link_is =
             let x = typed_state a items c in
-            let q' : TypedProcess T V P M = record { control = At d' k'; variables = p'; auxiliary = begun_auxiliary a k (suc c) x.memory (his c).auxiliary } in
+            let q' : TypedProcess T V P M = record { control = At d' k'; variables = p'; auxiliary = begun_auxiliary a k (suc c) (his c).auxiliary } in
             let new : his (suc c) ≡ q' = ap (λ (y : TypedState T V P M). typed_at a y i) state_becomes ∙ embed.own_process a x i x.memory q' Stepped (embed.count a items c) one in
             record {
               task = d';
@@ -275,9 +339,12 @@ module _ {T V P M : Type 0} (a : Algorithm T V P M) where
               control = ap (λ (q : TypedProcess T V P M). q.control) new;
               inside = sym (ap (λ (q : TypedProcess T V P M). link_in (status_of a q.control)) new) ∙ link_is;
               since = ap (λ (q : TypedProcess T V P M). q.auxiliary.since) new;
-              own = ap (λ (q : TypedProcess T V P M). q.auxiliary.own) new ∙ sym (count_none (λ u. steps i (item r u) && is_not_skipped (outcome r u)) (suc c) (suc c) (omega arith));
-              collects = ap (λ (q : TypedProcess T V P M). q.auxiliary.collects) new
-                  ∙ sym (count_none (λ u. steps i (item r u) && (is_if_all (line_in r.source (process_at (before r u) i).status) && is_stepped (outcome r u))) (suc c) (suc c) (omega arith));
+              own = ap (λ (q : TypedProcess T V P M). q.auxiliary.own) new ∙ sym (count_none (takes_step r i) (suc c) (suc c) (omega arith));
+              collects = ap (λ (q : TypedProcess T V P M). q.auxiliary.collects) new ∙ sym (count_none (ends_double_collect r i) (suc c) (suc c) (omega arith));
+              round_after = subst (λ (q : TypedProcess T V P M). suc c ≤ q.auxiliary.round) (sym new) (omega arith);
+              round_before = subst (λ (q : TypedProcess T V P M). q.auxiliary.round ≤ suc c) (sym new) (omega arith);
+              tested = subst (λ (q : TypedProcess T V P M). q.auxiliary.tested ≡ double_collects r i q.auxiliary.round (suc c)) (sym new)
+                  (sym (count_none (ends_double_collect r i) (suc c) (suc c) (omega arith)));
             }
         from_move l c d k (Answer v) not_to state_becomes out_is link_is = absurd (cc)
         from_move l c d k Finish not_to state_becomes out_is link_is = absurd (cc)
@@ -309,10 +376,10 @@ module _ {T V P M : Type 0} (a : Algorithm T V P M) where
 
     -- the counts at the start, and one item later
     pub started_collects : (c e : ℕ) → e ≤ c → double_collects r i c e ≡ 0
-    started_collects c e h = count_none (λ u. steps i (item r u) && (is_if_all (line_in r.source (process_at (before r u) i).status) && is_stepped (outcome r u))) c e h
+    started_collects c e h = count_none (ends_double_collect r i) c e h
 
     pub started_own : (c e : ℕ) → e ≤ c → own_steps r i c e ≡ 0
-    started_own c e h = count_none (λ u. steps i (item r u) && is_not_skipped (outcome r u)) c e h
+    started_own c e h = count_none (takes_step r i) c e h
 
     one_more : (b : Bool) (x : ℕ) → (if b then suc x else x) ≤ x + 1
     one_more true x = omega arith
@@ -327,16 +394,14 @@ module _ {T V P M : Type 0} (a : Algorithm T V P M) where
 
     pub last_own : (c t : ℕ) → c ≤ t → own_steps r i c (suc t) ≤ own_steps r i c t + 1
     last_own c t le =
-        subst (λ y. y ≤ own_steps r i c t + 1) (sym (count_next (λ u. steps i (item r u) && is_not_skipped (outcome r u)) c t le))
+        subst (λ y. y ≤ own_steps r i c t + 1) (sym (count_next (takes_step r i) c t le))
         (one_more (steps i (item r (suc t)) && is_not_skipped (outcome r (suc t))) (own_steps r i c t))
 
-    pub last_collects : (link : Option ℕ) (c t : ℕ) → c ≤ t → t ≤ length items → (g : Goes link c t) → double_collects r i c (suc t) ≤ double_collects r i c t + a.tests g.counter
-    last_collects link c t le short g =
+    pub last_collects : (c t : ℕ) (d : T) (k : P) → c ≤ t → t ≤ length items → (his t).control ≡ At d k → double_collects r i c (suc t) ≤ double_collects r i c t + a.tests k
+    last_collects c t d k le short at =
         let status = line_in r.source (process_at (before r (suc t)) i).status in
-        let line : status ≡ instr_at a.source.lines (a.number g.counter) =
-        ap (λ (y : Process). line_in r.source y.status) (is_busy_at t short g.task g.counter g.control) in
-        let tested : (if is_if_all status then 1 else 0) ≡ a.tests g.counter = ap (λ o. if is_if_all o then 1 else 0) line ∙ tests_is g.counter in
-        subst (λ y. y ≤ double_collects r i c t + a.tests g.counter)
-        (sym (count_next (λ u. steps i (item r u) && (is_if_all (line_in r.source (process_at (before r u) i).status) && is_stepped (outcome r u))) c t le))
+        let line : status ≡ instr_at a.source.lines (a.number k) = ap (λ (y : Process). line_in r.source y.status) (is_busy_at t short d k at) in
+        let tested : (if is_if_all status then 1 else 0) ≡ a.tests k = ap (λ o. if is_if_all o then 1 else 0) line ∙ tests_is k in
+        subst (λ y. y ≤ double_collects r i c t + a.tests k) (sym (count_next (ends_double_collect r i) c t le))
         (subst (λ y. (if steps i (item r (suc t)) && (is_if_all status && is_stepped (outcome r (suc t))) then suc (double_collects r i c t) else double_collects r i c t) ≤ double_collects r i c t + y) tested
         (inner_more (steps i (item r (suc t))) (is_if_all status) (is_stepped (outcome r (suc t))) (double_collects r i c t)))

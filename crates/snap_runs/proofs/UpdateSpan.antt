@@ -84,21 +84,21 @@ module _ {T V P M : Type 0} (a : Algorithm T V P M) where
         outcome r (suc t) ≡ outcome_of (by_move a (suc t) (typed_state a items t).memory (his t) k v) →
         UnderAt t (his t) (At d k) → UnderAt (suc t) (his (suc t)) (his (suc t)).control
     stepped_under t d k (To d' m' p' k') same at state_becomes out_is h =
-        let q' : TypedProcess T V P M = record { control = At d' k'; variables = p'; auxiliary = stepped_auxiliary a k (his t).auxiliary } in
+        let q' : TypedProcess T V P M = record { control = At d' k'; variables = p'; auxiliary = stepped_auxiliary a k (suc t) (his t).auxiliary } in
         let new : his (suc t) ≡ q' = ap (λ (y : TypedState T V P M). typed_at a y i) state_becomes ∙ embed.own_process a (typed_state a items t) i m' q' Stepped (embed.count a items t) one in
         subst (λ (q : TypedProcess T V P M). UnderAt (suc t) q q.control) (sym new)
         (subst (λ (op : Op). Under op (his t).auxiliary.called (suc t)) (sym same) (longer (a.op_of d) (his t).auxiliary.called t (λ done. absurd (let e = sym done.1 ∙ out_is in cc)) h))
     stepped_under t d k (Begin d' p' k') same at state_becomes out_is h =
-        let q' : TypedProcess T V P M = record { control = At d' k'; variables = p'; auxiliary = begun_auxiliary a k (suc t) (typed_state a items t).memory (his t).auxiliary } in
+        let q' : TypedProcess T V P M = record { control = At d' k'; variables = p'; auxiliary = begun_auxiliary a k (suc t) (his t).auxiliary } in
         let new : his (suc t) ≡ q' = ap (λ (y : TypedState T V P M). typed_at a y i) state_becomes ∙ embed.own_process a (typed_state a items t) i (typed_state a items t).memory q' Stepped (embed.count a items t) one in
         subst (λ (q : TypedProcess T V P M). UnderAt (suc t) q q.control) (sym new)
         (subst (λ (op : Op). Under op (his t).auxiliary.called (suc t)) (sym same) (longer (a.op_of d) (his t).auxiliary.called t (λ done. absurd (let e = sym done.1 ∙ out_is in cc)) h))
     stepped_under t d k (Answer v) same at state_becomes out_is h =
-        let q' : TypedProcess T V P M = record { control = Idle; variables = (his t).variables; auxiliary = stepped_auxiliary a k (his t).auxiliary } in
+        let q' : TypedProcess T V P M = record { control = Idle; variables = (his t).variables; auxiliary = stepped_auxiliary a k (suc t) (his t).auxiliary } in
         let new : his (suc t) ≡ q' = ap (λ (y : TypedState T V P M). typed_at a y i) state_becomes ∙ embed.own_process a (typed_state a items t) i (typed_state a items t).memory q' (Answered v) (embed.count a items t) one in
         subst (λ (q : TypedProcess T V P M). UnderAt (suc t) q q.control) (sym new) tt
     stepped_under t d k Finish same at state_becomes out_is h =
-        let q' : TypedProcess T V P M = record { control = Idle; variables = (his t).variables; auxiliary = stepped_auxiliary a k (his t).auxiliary } in
+        let q' : TypedProcess T V P M = record { control = Idle; variables = (his t).variables; auxiliary = stepped_auxiliary a k (suc t) (his t).auxiliary } in
         let new : his (suc t) ≡ q' = ap (λ (y : TypedState T V P M). typed_at a y i) state_becomes ∙ embed.own_process a (typed_state a items t) i (typed_state a items t).memory q' Done (embed.count a items t) one in
         subst (λ (q : TypedProcess T V P M). UnderAt (suc t) q q.control) (sym new) tt
 
@@ -119,10 +119,10 @@ module _ {T V P M : Type 0} (a : Algorithm T V P M) where
     admitted_under t op (Some why) is state_becomes out_is h =
         same_under t (ap (λ (y : TypedState T V P M). typed_at a y i) state_becomes) (λ done. absurd (let e = sym done.1 ∙ out_is in cc)) h
     admitted_under t op None is state_becomes out_is h =
-        let q' : TypedProcess T V P M = record { control = At (a.task op) (a.counter op); variables = (his t).variables; auxiliary = called_auxiliary (suc t) (typed_state a items t).memory op (his t).auxiliary } in
+        let q' : TypedProcess T V P M = record { control = At (a.task op) (a.counter op); variables = (his t).variables; auxiliary = called_auxiliary (suc t) op (his t).auxiliary } in
         let new : his (suc t) ≡ q' = ap (λ (y : TypedState T V P M). typed_at a y i) state_becomes ∙ embed.own_process a (typed_state a items t) i (typed_state a items t).memory q' Called (embed.count a items t) one in
         subst (λ (q : TypedProcess T V P M). UnderAt (suc t) q q.control) (sym new)
-        (subst (λ c. Under (a.op_of (a.task op)) c (suc t)) (sym (called_at (suc t) (typed_state a items t).memory op (his t).auxiliary)) (record {
+        (subst (λ c. Under (a.op_of (a.task op)) c (suc t)) (sym (called_at (suc t) op (his t).auxiliary)) (record {
           call = is ∙ ap (λ (y : Op). Call i y) (sym (a.op_is op));
           called = out_is;
           first = omega arith;
@@ -130,9 +130,9 @@ module _ {T V P M : Type 0} (a : Algorithm T V P M) where
           open_still = λ u lt le. absurd (omega arith);
         }))
       where
-        called_at : (t : ℕ) (m : M) (op : Op) (g : Auxiliary M) → (called_auxiliary t m op g).called ≡ t
-        called_at t m ScanOp g = refl
-        called_at t m (Update word value) g = refl
+        called_at : (t : ℕ) (op : Op) (g : Auxiliary) → (called_auxiliary t op g).called ≡ t
+        called_at t ScanOp g = refl
+        called_at t (Update word value) g = refl
 
     calling_under : (t : ℕ) (op : Op) (control : Control T P) → item_at items t ≡ Call i op → (his t).control ≡ control →
         typed_state a items (suc t) ≡ changed (typed_state a items t) i (by_call a (suc t) (typed_state a items t).memory i op (his t) control) →
@@ -204,7 +204,7 @@ module _ {T V P M : Type 0} (a : Algorithm T V P M) where
         typed_state a items (suc t) ≡ changed (typed_state a items t) i (by_move a (suc t) (typed_state a items t).memory (his t) k v) →
         outcome r (suc t) ≡ outcome_of (by_move a (suc t) (typed_state a items t).memory (his t) k v) → Going word value c t → Going word value c (suc t)
     stepped_going word value c e t d k (To d' m' p' k') up le lt short is same silence at op state_becomes out_is g =
-        let q' : TypedProcess T V P M = record { control = At d' k'; variables = p'; auxiliary = stepped_auxiliary a k (his t).auxiliary } in
+        let q' : TypedProcess T V P M = record { control = At d' k'; variables = p'; auxiliary = stepped_auxiliary a k (suc t) (his t).auxiliary } in
         let new : his (suc t) ≡ q' = ap (λ (y : TypedState T V P M). typed_at a y i) state_becomes ∙ embed.own_process a (typed_state a items t) i m' q' Stepped (embed.count a items t) one in
         record {
           task = d';
@@ -214,7 +214,7 @@ module _ {T V P M : Type 0} (a : Algorithm T V P M) where
           wrote = ap (λ (q : TypedProcess T V P M). q.auxiliary.wrote) new ∙ ap (λ y. y + a.writes k) g.wrote ∙ sym (line_counts t c d k le (omega arith) is at);
         }
     stepped_going word value c e t d k (Begin d' p' k') up le lt short is same silence at op state_becomes out_is g =
-        let q' : TypedProcess T V P M = record { control = At d' k'; variables = p'; auxiliary = begun_auxiliary a k (suc t) (typed_state a items t).memory (his t).auxiliary } in
+        let q' : TypedProcess T V P M = record { control = At d' k'; variables = p'; auxiliary = begun_auxiliary a k (suc t) (his t).auxiliary } in
         let new : his (suc t) ≡ q' = ap (λ (y : TypedState T V P M). typed_at a y i) state_becomes ∙ embed.own_process a (typed_state a items t) i (typed_state a items t).memory q' Stepped (embed.count a items t) one in
         record {
           task = d';
@@ -254,7 +254,7 @@ module _ {T V P M : Type 0} (a : Algorithm T V P M) where
         from_reason word value c (Some why) state_becomes out_is = absurd (cc)
         from_reason word value c None state_becomes out_is =
             let x = typed_state a items c in
-            let q' : TypedProcess T V P M = record { control = At (a.task (Update word value)) (a.counter (Update word value)); variables = (his c).variables; auxiliary = called_auxiliary (suc c) x.memory (Update word value) (his c).auxiliary } in
+            let q' : TypedProcess T V P M = record { control = At (a.task (Update word value)) (a.counter (Update word value)); variables = (his c).variables; auxiliary = called_auxiliary (suc c) (Update word value) (his c).auxiliary } in
             let new : his (suc c) ≡ q' = ap (λ (y : TypedState T V P M). typed_at a y i) state_becomes ∙ embed.own_process a x i x.memory q' Called (embed.count a items c) one in
             record {
               task = a.task (Update word value);

@@ -95,10 +95,19 @@ abbrev pub is_not_skipped : Outcome → Bool
 is_not_skipped (outcome.Skipped reason) = false
 is_not_skipped _ = true
 
--- how many of the items after c and up to e are double collects of process i: it executes an `if all` line
-abbrev pub double_collects : Run → ℕ → ℕ → ℕ → ℕ
-double_collects r i = count (λ t. steps i (item r t) && (is_if_all (line_in r.source (process_at (before r t) i).status) && is_stepped (outcome_at r t)))
+-- whether item t ends a double collect of process i: it executes an `if all` line
+abbrev pub ends_double_collect : Run → ℕ → ℕ → Bool
+ends_double_collect r i t =
+    steps i (item r t) && (is_if_all (line_in r.source (process_at (before r t) i).status) && is_stepped (outcome_at r t))
 
--- how many of the items after c and up to e are steps of process i that are not skipped
+-- whether item t is a step of process i that is not skipped
+abbrev pub takes_step : Run → ℕ → ℕ → Bool
+takes_step r i t = steps i (item r t) && is_not_skipped (outcome_at r t)
+
+-- how many double collects of process i end after item c and up to item e
+abbrev pub double_collects : Run → ℕ → ℕ → ℕ → ℕ
+double_collects r i = count (ends_double_collect r i)
+
+-- how many steps process i takes after item c and up to item e
 abbrev pub own_steps : Run → ℕ → ℕ → ℕ → ℕ
-own_steps r i = count (λ t. steps i (item r t) && is_not_skipped (outcome_at r t))
+own_steps r i = count (takes_step r i)

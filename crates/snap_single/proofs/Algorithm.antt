@@ -1,5 +1,5 @@
 -- The processes of U by its own lines and locals.
-use Rattle.std.specs.Prelude.{◌≡◌, ℕ, ◌+◌, ◌-◌, ◌^◌, ◌<◌, ◌≤◌, max, Bool, not, List, [], ◌∷◌, ◌++◌, take, drop, map, Option, Some, None, nat_eq, nat_lt, if◌then◌else◌, slice_index, slice_set, replicate, refl}
+use Rattle.std.specs.Prelude.{◌≡◌, ℕ, ◌+◌, ◌-◌, ◌^◌, ◌<◌, ◌≤◌, max, Bool, true, false, not, List, [], ◌∷◌, ◌++◌, take, drop, map, Option, Some, None, nat_eq, nat_lt, if◌then◌else◌, slice_index, slice_set, replicate, refl}
 use Rattle.snap_semantics.specs.declared.process.Op.{Op}
 use Rattle.snap_semantics.specs.declared.process.Op.TheVariants.{Scan, Update}
 use Rattle.snap_words.specs.Word.{Word}
@@ -223,6 +223,10 @@ abbrev pub tests : ProgramCounter → ℕ
 tests L16 = 1
 tests _ = 0
 
+abbrev pub restarts : ProgramCounter → Bool
+restarts L19 = true
+restarts _ = false
+
 abbrev pub writes : ProgramCounter → ℕ
 writes L32 = 1
 writes _ = 0
@@ -259,6 +263,7 @@ algorithm n = record {
   task = task;
   counter = counter;
   tests = tests;
+  restarts = restarts;
   writes = writes;
   first_variables = first_variables n;
   first_memory = replicate n (first_word n);

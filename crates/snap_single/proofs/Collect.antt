@@ -1,67 +1,93 @@
--- The two collects of a scan of U.
-use Rattle.std.specs.Prelude.{◌≡◌, ℕ, zero, suc, ◌+◌, ◌-◌, ◌<◌, ◌≤◌, Bool, true, false, not, ◌&&◌, List, take, length, map, slice_index, slice_set, nat_eq, if◌then◌else◌, refl}
+-- The two collects of a double collect of U, and what a scan learns of them.
+use Rattle.std.specs.Prelude.{◌≡◌, ℕ, ◌+◌, ◌-◌, ◌<◌, ◌≤◌, Bool, true, false, not, ◌&&◌, List, take, length, map, slice_index, slice_set, nat_eq, if◌then◌else◌, zero, suc, refl}
 use Rattle.std.proofs.Common.{sym, ◌∙◌, ap, subst, arith, inl, inr}
-use Rattle.std.proofs.lemmas.Grind.{common_steps, get_or-set_at}
 use Rattle.std.proofs.lemmas.Bool.{cases_eq}
+use Rattle.std.proofs.lemmas.Grind.{common_steps, get_or-set_at}
 use Rattle.std.proofs.lemmas.List.{get_or-set_other}
 use Rattle.std.proofs.Math.Nat.{eq-or-lt_of_le}
-use Rattle.snap_words.specs.Word.{Word}
-use Rattle.snap_words.specs.Word.{no_word}
 use Rattle.std.specs.List.{range_with_len}
-use Rattle.snap_semantics.specs.Table.{places_to, all_true}
-use Rattle.snap_single.proofs.Algorithm.{Variables, same_seq}
-use Rattle.snap_single.proofs.Control.{same_from}
 use Rattle.snap_words.specs.Shape.{IsOneOf}
+use Rattle.snap_words.specs.Word.{Word, no_word}
+use Rattle.snap_semantics.specs.Table.{places_to, all_true}
 use Rattle.snap_runs.proofs.Held.{word_at, Held, data_of, seq_at, WordBefore, squeezed, same_data}
+use Rattle.snap_single.proofs.Algorithm.{Words, Variables, same_seq}
+use Rattle.snap_single.proofs.Control.{same_from}
 
--- the writes of k up to the scan's start and the moves of k that it has seen since
-abbrev pub floor : List Word → List ℕ → ℕ → ℕ
+-- In all that follows `history u` are the words after u items, t is the number of items so far and `words` the words now;
+-- `since` is the item that started the scan, and `round` the item that started its double collect.
+
+-- the writes of process k up to the scan's start, and the moves of k that it has seen since
+abbrev pub floor : Words → List ℕ → ℕ → ℕ
 floor base moved k = seq_at base k + slice_index moved (k - 1)
 
-abbrev pub Low : ℕ → List Word → List Word → List ℕ → Type 0
-Low n base m moved = (k : ℕ) → IsOneOf n k → floor base moved k ≤ seq_at m k
+-- Every move that the scan has seen is a write since its start.
+abbrev pub Low : ℕ → Words → Words → List ℕ → Type 0
+Low n base words moved = (k : ℕ) → IsOneOf n k → floor base moved k ≤ seq_at words k
 
--- the first collect, as far as it has come
-abbrev pub First : ℕ → List Word → List Word → List ℕ → List Word → ℕ → Type 0
-First n base m moved a j = (k : ℕ) → IsOneOf n k → k < j → (floor base moved k ≤ seq_at a k) × WordBefore (word_at a k) (word_at m k)
+-- a word of the first collect: not older than the moves that were seen, nor than the double collect, and `now` is not older
+pub record FirstCopy (base opening : Words) (moved : List ℕ) (copy now : Words) (k : ℕ) : Type 0 where
+  pub moves : floor base moved k ≤ seq_at copy k
+  pub fresh : seq_at opening k ≤ seq_at copy k
+  pub before : WordBefore (word_at copy k) (word_at now k)
 
--- a view of the second or a later write since the scan's start was the values since
-abbrev pub Viewed : ℕ → (ℕ → List Word) → ℕ → ℕ → List Word → List Word → Type 0
-Viewed n history t since base m = (k : ℕ) → IsOneOf n k → seq_at base k + 2 ≤ seq_at m k → Held history t since (word_at m k).view
+-- The first collect has come to place j.
+abbrev pub First : ℕ → Words → Words → Words → List ℕ → Words → ℕ → Type 0
+First n base opening words moved a j = (k : ℕ) → IsOneOf n k → k < j → FirstCopy base opening moved a words k
 
--- the second collect; `mid` is the memory between the two
-pub record Second (n : ℕ) (history : ℕ → List Word) (t since : ℕ) (base m : List Word) (moved : List ℕ) (a b : List Word) (j : ℕ) (mid : List Word) : Type 0 where
-  pub first : (k : ℕ) → IsOneOf n k → (floor base moved k ≤ seq_at a k) × WordBefore (word_at a k) (word_at mid k)
-  pub read : (k : ℕ) → IsOneOf n k → k < j → WordBefore (word_at mid k) (word_at b k) × WordBefore (word_at b k) (word_at m k)
-  pub now : (k : ℕ) → IsOneOf n k → WordBefore (word_at mid k) (word_at m k)
-  pub views : (k : ℕ) → IsOneOf n k → k < j → seq_at base k + 2 ≤ seq_at b k → Held history t since (word_at b k).view
+-- The view beside the second or a later write since the scan's start was the values at some state since.
+abbrev pub Viewed : ℕ → (ℕ → Words) → ℕ → ℕ → Words → Type 0
+Viewed n history t since words = (k : ℕ) → IsOneOf n k → seq_at (history since) k + 2 ≤ seq_at words k → Held history t since (word_at words k).view
 
-abbrev pub Mid : ℕ → (ℕ → List Word) → ℕ → ℕ → List Word → List Word → List ℕ → List Word → List Word → ℕ → Type 0
-Mid n history t since base m moved a b j = (u : ℕ) × (since ≤ u) × (u ≤ t) × Second n history t since base m moved a b j (history u)
+-- The second collect has come to place j; `between` are the words at a state between the two collects.
+pub record Second (n : ℕ) (history : ℕ → Words) (t since round : ℕ) (words : Words) (moved : List ℕ) (a b : Words) (j : ℕ) (between : Words) : Type 0 where
+  -- the first collect was before
+  pub first : (k : ℕ) → IsOneOf n k → FirstCopy (history since) (history round) moved a between k
+  -- the second collect was after it, and the words now are not older
+  pub read : (k : ℕ) → IsOneOf n k → k < j → WordBefore (word_at between k) (word_at b k) × WordBefore (word_at b k) (word_at words k)
+  pub now : (k : ℕ) → IsOneOf n k → WordBefore (word_at between k) (word_at words k)
+  -- the views that the second collect read are as those of the registers
+  pub views : (k : ℕ) → IsOneOf n k → k < j → seq_at (history since) k + 2 ≤ seq_at b k → Held history t since (word_at b k).view
 
--- the second collect is done and its moves are counted
-pub record Gained (n : ℕ) (history : ℕ → List Word) (t since : ℕ) (base m : List Word) (moved : List ℕ) (b : List Word) : Type 0 where
-  pub low : (k : ℕ) → IsOneOf n k → floor base moved k ≤ seq_at b k
-  pub before : (k : ℕ) → IsOneOf n k → WordBefore (word_at b k) (word_at m k)
-  pub views : (k : ℕ) → IsOneOf n k → seq_at base k + 2 ≤ seq_at b k → Held history t since (word_at b k).view
+-- There is such a state since the scan's start.
+abbrev pub Between : ℕ → (ℕ → Words) → ℕ → ℕ → ℕ → Words → List ℕ → Words → Words → ℕ → Type 0
+Between n history t since round words moved a b j = (u : ℕ) × (since ≤ u) × (u ≤ t) × Second n history t since round words moved a b j (history u)
+
+-- The double collect has failed and its moves are counted.
+pub record Gained (n : ℕ) (history : ℕ → Words) (t since : ℕ) (words : Words) (moved : List ℕ) (b : Words) : Type 0 where
+  -- every move is a write that the second collect saw
+  pub low : (k : ℕ) → IsOneOf n k → floor (history since) moved k ≤ seq_at b k
+  -- the words now are not older than the second collect
+  pub before : (k : ℕ) → IsOneOf n k → WordBefore (word_at b k) (word_at words k)
+  -- the views that it read are as those of the registers
+  pub views : (k : ℕ) → IsOneOf n k → seq_at (history since) k + 2 ≤ seq_at b k → Held history t since (word_at b k).view
+
+-- a first copy has the same word and the same number of moves
+same_copy : (base opening : Words) (moved : List ℕ) (x y now : Words) (k : ℕ) → word_at x k ≡ word_at y k → FirstCopy base opening moved x now k → FirstCopy base opening moved y now k
+same_copy base opening moved x y now k e h = record {
+  moves = subst (λ (w : Word). floor base moved k ≤ w.seq) e h.moves;
+  fresh = subst (λ (w : Word). seq_at opening k ≤ w.seq) e h.fresh;
+  before = subst (λ (w : Word). WordBefore w (word_at now k)) e h.before;
+}
 
 -- line 12 reads one more word
-pub first_more : (n : ℕ) (base m : List Word) (moved : List ℕ) (a : List Word) (j : ℕ) → IsOneOf n j → n ≤ length a → Low n base m moved → First n base m moved a j →
-    First n base m moved (slice_set a (j - 1) (word_at m j)) (j + 1)
-first_more n base m moved a j i len low h k ik lt =
-    let P : Word → Type 0 = λ w. (floor base moved k ≤ w.seq) × WordBefore w (word_at m k) in
+pub first_more : (n : ℕ) (base opening words : Words) (moved : List ℕ) (a : Words) (j : ℕ) → IsOneOf n j → n ≤ length a → Low n base words moved →
+    ((k : ℕ) → IsOneOf n k → seq_at opening k ≤ seq_at words k) → First n base opening words moved a j →
+    First n base opening words moved (slice_set a (j - 1) (word_at words j)) (j + 1)
+first_more n base opening words moved a j i len low opened h k ik lt =
     elim (cases_eq k j) [
-      | inl same ↦ subst P (sym (get_or-set_at a (j - 1) (k - 1) (word_at m j) no_word (omega arith) (omega arith)))
-          (subst (λ x. (floor base moved k ≤ seq_at m x) × WordBefore (word_at m x) (word_at m k)) same (low k ik, inr refl))
-      | inr other ↦ subst P (sym (get_or-set_other a (j - 1) (k - 1) (word_at m j) no_word (λ same. other (omega arith)))) (h k ik (omega arith))
+      | inl same ↦ same_copy base opening moved words (slice_set a (j - 1) (word_at words j)) words k
+          (ap (word_at words) same ∙ sym (get_or-set_at a (j - 1) (k - 1) (word_at words j) no_word (omega arith) (omega arith)))
+          (record { moves = low k ik; fresh = opened k ik; before = inr refl })
+      | inr other ↦ same_copy base opening moved a (slice_set a (j - 1) (word_at words j)) words k
+          (sym (get_or-set_other a (j - 1) (k - 1) (word_at words j) no_word (λ same. other (omega arith)))) (h k ik (omega arith))
     ]
 
--- when the first collect is done, the memory of now stands between the collects
-pub second_starts : (n : ℕ) (history : ℕ → List Word) (t since : ℕ) (base m : List Word) (moved : List ℕ) (a b : List Word) → history t ≡ m → since ≤ t →
-    First n base m moved a (n + 1) → Mid n history t since base m moved a b 1
-second_starts n history t since base m moved a b now le h =
-    let P : List Word → Type 0 = λ mid. Second n history t since base m moved a b 1 mid in
-    let here : P m = record {
+-- when the first collect is done, the words of now stand between the collects
+pub second_starts : (n : ℕ) (history : ℕ → Words) (t since round : ℕ) (words : Words) (moved : List ℕ) (a b : Words) → history t ≡ words → since ≤ t →
+    First n (history since) (history round) words moved a (n + 1) → Between n history t since round words moved a b 1
+second_starts n history t since round words moved a b now le h =
+    let P : Words → Type 0 = λ between. Second n history t since round words moved a b 1 between in
+    let here : P words = record {
       first = λ k i. h k i (omega arith);
       read = λ k i lt. absurd (omega arith);
       now = λ k i. inr refl;
@@ -69,10 +95,11 @@ second_starts n history t since base m moved a b now le h =
     } in
     (t, le, omega arith, subst P (sym now) here)
 
-pub second_more : (n : ℕ) (history : ℕ → List Word) (t since : ℕ) (base m : List Word) (moved : List ℕ) (a b : List Word) (j : ℕ) → IsOneOf n j → n ≤ length b →
-    Viewed n history t since base m → Mid n history t since base m moved a b j → Mid n history t since base m moved a (slice_set b (j - 1) (word_at m j)) (j + 1)
-second_more n history t since base m moved a b j i len v h =
-    let s : Second n history t since base m moved a b j (history h.0) = h.3 in (
+-- line 14 reads one more word
+pub second_more : (n : ℕ) (history : ℕ → Words) (t since round : ℕ) (words : Words) (moved : List ℕ) (a b : Words) (j : ℕ) → IsOneOf n j → n ≤ length b →
+    Viewed n history t since words → Between n history t since round words moved a b j → Between n history t since round words moved a (slice_set b (j - 1) (word_at words j)) (j + 1)
+second_more n history t since round words moved a b j i len v h =
+    let s : Second n history t since round words moved a b j (history h.0) = h.3 in (
       h.0,
       h.1,
       h.2,
@@ -80,18 +107,18 @@ second_more n history t since base m moved a b j i len v h =
         first = s.first;
         now = s.now;
         read = λ k ik lt.
-            let P : Word → Type 0 = λ w. WordBefore (word_at (history h.0) k) w × WordBefore w (word_at m k) in
+            let P : Word → Type 0 = λ w. WordBefore (word_at (history h.0) k) w × WordBefore w (word_at words k) in
             elim (cases_eq k j) [
-              | inl same ↦ subst P (sym (get_or-set_at b (j - 1) (k - 1) (word_at m j) no_word (omega arith) (omega arith)))
-                  (subst (λ x. WordBefore (word_at (history h.0) k) (word_at m x) × WordBefore (word_at m x) (word_at m k)) same (s.now k ik, inr refl))
-              | inr other ↦ subst P (sym (get_or-set_other b (j - 1) (k - 1) (word_at m j) no_word (λ same. other (omega arith)))) (s.read k ik (omega arith))
+              | inl same ↦ subst P (sym (get_or-set_at b (j - 1) (k - 1) (word_at words j) no_word (omega arith) (omega arith)))
+                  (subst (λ x. WordBefore (word_at (history h.0) k) (word_at words x) × WordBefore (word_at words x) (word_at words k)) same (s.now k ik, inr refl))
+              | inr other ↦ subst P (sym (get_or-set_other b (j - 1) (k - 1) (word_at words j) no_word (λ same. other (omega arith)))) (s.read k ik (omega arith))
             ];
         views = λ k ik lt.
-            let P : Word → Type 0 = λ w. seq_at base k + 2 ≤ w.seq → Held history t since w.view in
+            let P : Word → Type 0 = λ w. seq_at (history since) k + 2 ≤ w.seq → Held history t since w.view in
             elim (cases_eq k j) [
-              | inl same ↦ subst P (sym (get_or-set_at b (j - 1) (k - 1) (word_at m j) no_word (omega arith) (omega arith)))
-                  (subst (λ x. P (word_at m x)) same (v k ik))
-              | inr other ↦ subst P (sym (get_or-set_other b (j - 1) (k - 1) (word_at m j) no_word (λ same. other (omega arith)))) (s.views k ik (omega arith))
+              | inl same ↦ subst P (sym (get_or-set_at b (j - 1) (k - 1) (word_at words j) no_word (omega arith) (omega arith)))
+                  (subst (λ x. P (word_at words x)) same (v k ik))
+              | inr other ↦ subst P (sym (get_or-set_other b (j - 1) (k - 1) (word_at words j) no_word (λ same. other (omega arith)))) (s.views k ik (omega arith))
             ];
       },
     )
@@ -109,20 +136,20 @@ all_at f from (suc count) h k low high =
       | inr more ↦ all_at f (from + 1) count r.1 k (omega arith) (omega arith)
     ]
 
--- a passed test: the second collect is the memory between the collects
-pub passed : (n : ℕ) (history : ℕ → List Word) (t since : ℕ) (base m : List Word) (p : Variables) → ((u : ℕ) → length (history u) ≡ n) → n ≤ length p.b →
-    Mid n history t since base m p.moved p.a p.b (n + 1) → all_true (map (same_seq p) (places_to n)) ≡ true → Held history t since (data_of (take n p.b))
-passed n history t since base m p lengths_are len h test =
-    let s : Second n history t since base m p.moved p.a p.b (n + 1) (history h.0) = h.3 in (
+-- a passed test: the second collect is the words between the collects
+pub passed : (n : ℕ) (history : ℕ → Words) (t since round : ℕ) (words : Words) (p : Variables) → ((u : ℕ) → length (history u) ≡ n) → n ≤ length p.b →
+    Between n history t since round words p.moved p.a p.b (n + 1) → all_true (map (same_seq p) (places_to n)) ≡ true → Held history t since (data_of (take n p.b))
+passed n history t since round words p lengths len h test =
+    let s : Second n history t since round words p.moved p.a p.b (n + 1) (history h.0) = h.3 in (
       h.0,
       h.1,
       h.2,
-      same_data n (history h.0) p.b (lengths_are h.0) len (λ k i.
-          squeezed (word_at p.a k) (word_at (history h.0) k) (word_at p.b k) (s.first k i).1 (s.read k i (omega arith)).0
+      same_data n (history h.0) p.b (lengths h.0) len (λ k i.
+          squeezed (word_at p.a k) (word_at (history h.0) k) (word_at p.b k) (s.first k i).before (s.read k i (omega arith)).0
           (same_from (word_at p.a k).seq (word_at p.b k).seq (all_at (same_seq p) 1 n test k (omega arith) (omega arith)))),
     )
 
-differs : (x y : ℕ) → nat_eq x y ≡ false → x ≤ y → x < y
+pub differs : (x y : ℕ) → nat_eq x y ≡ false → x ≤ y → x < y
 differs x y h e = grind (arith, common_steps)
 
 -- a failed test counted: a process that is seen to move has written

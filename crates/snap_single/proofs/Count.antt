@@ -1,14 +1,13 @@
 -- The double collects and own steps of a scan of U.
-use Rattle.std.specs.Prelude.{◌≡◌, ℕ, zero, suc, ◌+◌, ◌-◌, ◌*◌, ◌<◌, ◌≤◌, Bool, true, false, not, ◌&&◌, List, map, Option, Some, None, nat_eq, nat_lt, if◌then◌else◌, refl}
+use Rattle.std.specs.Prelude.{◌≡◌, ℕ, zero, suc, ◌+◌, ◌-◌, ◌*◌, ◌<◌, ◌≤◌, Bool, true, false, not, ◌&&◌, map, Option, Some, None, nat_eq, nat_lt, if◌then◌else◌, refl}
 use Rattle.std.proofs.Common.{sym, ◌∙◌, ap, subst, arith, inl, inr}
 use Rattle.std.proofs.lemmas.Bool.{cases_eq}
 use Rattle.std.proofs.Math.Nat.{mul-add, mul_left_comm}
-use Rattle.snap_words.specs.Word.{Word}
 use Rattle.std.specs.List.{range_with_len}
 use Rattle.snap_semantics.specs.Table.{places_to, all_true, first_true}
 use Rattle.snap_runs.proofs.Algorithm.{To, Begin, Answer, Finish}
 use Rattle.snap_words.specs.Shape.{IsOneOf}
-use Rattle.snap_single.proofs.Algorithm.{Move, Variables, Task, Scanning, Embedded, Updating, ProgramCounter, L10, L11, L12, L13, L14, L15, L16, L17, L18, L19, L21, L22, L23, L24, L30, L31, L32, L33, move, first_to, same_seq, moved_at, for_each, tests}
+use Rattle.snap_single.proofs.Algorithm.{Words, restarts, Move, Variables, Task, Scanning, Embedded, Updating, ProgramCounter, L10, L11, L12, L13, L14, L15, L16, L17, L18, L19, L21, L22, L23, L24, L30, L31, L32, L33, move, first_to, same_seq, moved_at, for_each, tests}
 use Rattle.snap_single.proofs.Control.{Keeps, for_each_at, not_lt}
 
 -- sums over places 1..n
@@ -97,40 +96,41 @@ budget_le n c h =
 abbrev pub moves : ℕ → Variables → ℕ
 moves n p = total (moved_at p) n
 
--- own steps and double collects at a line
-abbrev pub Count : ℕ → Variables → ℕ → ℕ → ProgramCounter → Type 0
-Count n p own c L10 = (own ≡ 0) × (c ≡ 0)
-Count n p own c L11 = (own ≤ 1) × (c ≡ 0)
-Count n p own c L12 = (own + 2 ≤ budget n c + 2 * p.j) × (c ≤ moves n p)
-Count n p own c L13 = (own + 1 ≤ budget n c + 2 * p.j) × (c ≤ moves n p)
-Count n p own c L14 = (own + 2 ≤ budget n c + 2 * n + 2 * p.j) × (c ≤ moves n p)
-Count n p own c L15 = (own + 1 ≤ budget n c + 2 * n + 2 * p.j) × (c ≤ moves n p)
-Count n p own c L16 = (own ≤ budget n c + 4 * n) × (c ≤ moves n p)
-Count n p own c L17 = (own + 3 ≤ budget n c) × (c ≤ moves n p + 1) × (c ≤ n) × (all_true (map (same_seq p) (places_to n)) ≡ false)
-Count n p own c L18 = (own + 2 ≤ budget n c) × (c ≤ moves n p) × (c ≤ n)
-Count n p own c L19 = (own + 1 ≤ budget n c) × (c ≤ moves n p)
-Count n p own c L21 = (own + 3 ≤ budget n c) × (c ≤ n)
-Count n p own c L22 = (own + 2 ≤ budget n c) × (c ≤ n)
-Count n p own c L23 = (own + 1 ≤ budget n c) × (c ≤ n)
-Count n p own c L24 = (own ≤ budget n c) × (c ≤ n)
-Count n p own c L30 = Unit {0}
-Count n p own c L31 = Unit {0}
-Count n p own c L32 = Unit {0}
-Count n p own c L33 = Unit {0}
+-- Where a scan stands at a line, with this many own steps and ended double collects since its start, and `recent` ended
+-- double collects since its current one was started.
+abbrev pub Count : ℕ → Variables → ℕ → ℕ → ℕ → ProgramCounter → Type 0
+Count n p own c recent L10 = (own ≡ 0) × (c ≡ 0) × (recent ≡ 0)
+Count n p own c recent L11 = (own ≤ 1) × (c ≡ 0) × (recent ≡ 0)
+Count n p own c recent L12 = (own + 2 ≤ budget n c + 2 * p.j) × (c ≤ moves n p) × (recent ≡ 0)
+Count n p own c recent L13 = (own + 1 ≤ budget n c + 2 * p.j) × (c ≤ moves n p) × (recent ≡ 0)
+Count n p own c recent L14 = (own + 2 ≤ budget n c + 2 * n + 2 * p.j) × (c ≤ moves n p) × (recent ≡ 0)
+Count n p own c recent L15 = (own + 1 ≤ budget n c + 2 * n + 2 * p.j) × (c ≤ moves n p) × (recent ≡ 0)
+Count n p own c recent L16 = (own ≤ budget n c + 4 * n) × (c ≤ moves n p) × (recent ≡ 0)
+Count n p own c recent L17 = (own + 3 ≤ budget n c) × (c ≤ moves n p + 1) × (c ≤ n) × (recent ≤ 1) × (all_true (map (same_seq p) (places_to n)) ≡ false)
+Count n p own c recent L18 = (own + 2 ≤ budget n c) × (c ≤ moves n p) × (c ≤ n)
+Count n p own c recent L19 = (own + 1 ≤ budget n c) × (c ≤ moves n p)
+Count n p own c recent L21 = (own + 3 ≤ budget n c) × (c ≤ n)
+Count n p own c recent L22 = (own + 2 ≤ budget n c) × (c ≤ n)
+Count n p own c recent L23 = (own + 1 ≤ budget n c) × (c ≤ n)
+Count n p own c recent L24 = (own ≤ budget n c) × (c ≤ n)
+Count n p own c recent L30 = Unit {0}
+Count n p own c recent L31 = Unit {0}
+Count n p own c recent L32 = Unit {0}
+Count n p own c recent L33 = Unit {0}
 
-abbrev pub CountMove : ℕ → ℕ → ℕ → Move → Type 0
-CountMove n own c (To d m p k) = Count n p own c k
-CountMove n own c (Begin d p k) = Unit {0}
-CountMove n own c (Answer v) = Unit {0}
-CountMove n own c Finish = Unit {0}
+abbrev pub CountMove : ℕ → ℕ → ℕ → ℕ → Move → Type 0
+CountMove n own c recent (To d words p k) = Count n p own c recent k
+CountMove n own c recent (Begin d p k) = Unit {0}
+CountMove n own c recent (Answer v) = Unit {0}
+CountMove n own c recent Finish = Unit {0}
 
-count_if : (n own c : ℕ) (b : Bool) (x y : Move) → (b ≡ true → CountMove n own c x) → (b ≡ false → CountMove n own c y) → CountMove n own c (if b then x else y)
-count_if n own c true x y f g = f refl
-count_if n own c false x y f g = g refl
+count_if : (n own c recent : ℕ) (b : Bool) (x y : Move) → (b ≡ true → CountMove n own c recent x) → (b ≡ false → CountMove n own c recent y) → CountMove n own c recent (if b then x else y)
+count_if n own c recent true x y f g = f refl
+count_if n own c recent false x y f g = g refl
 
-count_first : (n own c : ℕ) (d : Task) (m : List Word) (p : Variables) (o : Option ℕ) → own + 1 ≤ budget n c → c ≤ moves n p → c ≤ n → CountMove n own c (first_to d m p o)
-count_first n own c d m p None a b e = (a, b)
-count_first n own c d m p (Some k) a b e = (a, e)
+count_first : (n own c recent : ℕ) (d : Task) (words : Words) (p : Variables) (o : Option ℕ) → own + 1 ≤ budget n c → c ≤ moves n p → c ≤ n → CountMove n own c recent (first_to d words p o)
+count_first n own c recent d words p None a b e = (a, b)
+count_first n own c recent d words p (Some k) a b e = (a, e)
 
 -- a test that fails at some place
 not_all : (f : ℕ → Bool) (from count : ℕ) → all_true (map f (range_with_len from count)) ≡ false → (k : ℕ) × (from ≤ k) × (k < from + count) × (f k ≡ false)
@@ -164,47 +164,50 @@ after_count n p failed p' is =
     (subst (λ y. moved_at p k < y) (sym (is k i)) (raised_more (same_seq p k) (moved_at p k) some.3))
     (λ u j. subst (λ y. moved_at p u ≤ y) (sym (is u j)) (raised (same_seq p u) (moved_at p u)))
 
-pub count_move : (n me : ℕ) (d : Task) (m : List Word) (p : Variables) (k : ProgramCounter) (own c c' : ℕ) → c' ≡ c + tests k → Keeps n p k → ((k ≡ L16) → moves n p < n) →
-    Count n p own c k → CountMove n (suc own) c' (move n me d m p k)
-count_move n me d m p L10 own c c' e keeps sharp h = (omega arith, omega arith)
-count_move n me d m p L11 own c c' e keeps sharp h =
+-- each line keeps the counts: c' and recent' are the double collects with its own
+pub count_move : (n me : ℕ) (d : Task) (words : Words) (p : Variables) (k : ProgramCounter) (own c c' recent recent' : ℕ) → c' ≡ c + tests k →
+    recent' ≡ (if restarts k then 0 else recent + tests k) → Keeps n p k → ((k ≡ L16) → moves n p < n) →
+    Count n p own c recent k → CountMove n (suc own) c' recent' (move n me d words p k)
+count_move n me d words p L10 own c c' recent recent' e f keeps sharp h = (omega arith, omega arith, omega arith)
+count_move n me d words p L11 own c c' recent recent' e f keeps sharp h =
     let b : budget n c' ≡ budget n 0 = ap (budget n) (let f : c' ≡ 0 = omega arith in f) in
     let two : budget n 0 ≡ 2 = budget_zero n in
-    (omega arith, omega arith)
-count_move n me d m p L12 own c c' e keeps sharp h = let b : budget n c' ≡ budget n c = same_budget n c c' e in (omega arith, omega arith)
-count_move n me d m p L13 own c c' e keeps sharp h =
+    (omega arith, omega arith, omega arith)
+count_move n me d words p L12 own c c' recent recent' e f keeps sharp h = let b : budget n c' ≡ budget n c = same_budget n c c' e in (omega arith, omega arith, omega arith)
+count_move n me d words p L13 own c c' recent recent' e f keeps sharp h =
     let b : budget n c' ≡ budget n c = same_budget n c c' e in
-    count_if n (suc own) c' (nat_lt p.j n) _ _ (λ t. (omega arith, omega arith)) (λ t. let ge : n ≤ p.j = not_lt p.j n t in (omega arith, omega arith))
-count_move n me d m p L14 own c c' e keeps sharp h = let b : budget n c' ≡ budget n c = same_budget n c c' e in (omega arith, omega arith)
-count_move n me d m p L15 own c c' e keeps sharp h =
+    count_if n (suc own) c' recent' (nat_lt p.j n) _ _ (λ t. (omega arith, omega arith, omega arith)) (λ t. let ge : n ≤ p.j = not_lt p.j n t in (omega arith, omega arith, omega arith))
+count_move n me d words p L14 own c c' recent recent' e f keeps sharp h = let b : budget n c' ≡ budget n c = same_budget n c c' e in (omega arith, omega arith, omega arith)
+count_move n me d words p L15 own c c' recent recent' e f keeps sharp h =
     let b : budget n c' ≡ budget n c = same_budget n c c' e in
-    count_if n (suc own) c' (nat_lt p.j n) _ _ (λ t. (omega arith, omega arith)) (λ t. let ge : n ≤ p.j = not_lt p.j n t in (omega arith, omega arith))
-count_move n me d m p L16 own c c' e keeps sharp h =
+    count_if n (suc own) c' recent' (nat_lt p.j n) _ _ (λ t. (omega arith, omega arith, omega arith)) (λ t. let ge : n ≤ p.j = not_lt p.j n t in (omega arith, omega arith, omega arith))
+count_move n me d words p L16 own c c' recent recent' e f keeps sharp h =
     let b : budget n c' ≡ budget n c + (4 * n + 4) = next_budget n c c' e in
     let less : moves n p < n = sharp refl in
-    count_if n (suc own) c' (all_true (map (same_seq p) (places_to n))) _ _ (λ t. (omega arith, omega arith)) (λ t. (omega arith, omega arith, omega arith, t))
-count_move n me d m p L17 own c c' e keeps sharp h =
+    count_if n (suc own) c' recent' (all_true (map (same_seq p) (places_to n))) _ _ (λ t. (omega arith, omega arith))
+    (λ t. (omega arith, omega arith, omega arith, omega arith, t))
+count_move n me d words p L17 own c c' recent recent' e f keeps sharp h =
     let b : budget n c' ≡ budget n c = same_budget n c c' e in
-    let more : moves n p < moves n (counted_row n p) = after_count n p h.3 (counted_row n p) (λ k i. for_each_at n (counted p) p.moved k i) in
+    let more : moves n p < moves n (counted_row n p) = after_count n p h.4 (counted_row n p) (λ k i. for_each_at n (counted p) p.moved k i) in
     (omega arith, omega arith, omega arith)
-count_move n me d m p L18 own c c' e keeps sharp h =
+count_move n me d words p L18 own c c' recent recent' e f keeps sharp h =
     let b : budget n c' ≡ budget n c = same_budget n c c' e in
-    count_first n (suc own) c' d m p (first_true 1 (map (λ k. nat_eq (moved_at p k) 2) (places_to n))) (omega arith) (omega arith) (omega arith)
-count_move n me d m p L19 own c c' e keeps sharp h = let b : budget n c' ≡ budget n c = same_budget n c c' e in (omega arith, omega arith)
-count_move n me d m p L21 own c c' e keeps sharp h = let b : budget n c' ≡ budget n c = same_budget n c c' e in (omega arith, omega arith)
-count_move n me Scanning m p L22 own c c' e keeps sharp h = tt
-count_move n me (Embedded w x) m p L22 own c c' e keeps sharp h = tt
-count_move n me (Updating w x) m p L22 own c c' e keeps sharp h = tt
-count_move n me d m p L23 own c c' e keeps sharp h = let b : budget n c' ≡ budget n c = same_budget n c c' e in (omega arith, omega arith)
-count_move n me Scanning m p L24 own c c' e keeps sharp h = tt
-count_move n me (Embedded w x) m p L24 own c c' e keeps sharp h = tt
-count_move n me (Updating w x) m p L24 own c c' e keeps sharp h = tt
-count_move n me Scanning m p L30 own c c' e keeps sharp h = tt
-count_move n me (Embedded w x) m p L30 own c c' e keeps sharp h = tt
-count_move n me (Updating w x) m p L30 own c c' e keeps sharp h = tt
-count_move n me d m p L31 own c c' e keeps sharp h = tt
-count_move n me d m p L32 own c c' e keeps sharp h = tt
-count_move n me d m p L33 own c c' e keeps sharp h = tt
+    count_first n (suc own) c' recent' d words p (first_true 1 (map (λ k. nat_eq (moved_at p k) 2) (places_to n))) (omega arith) (omega arith) (omega arith)
+count_move n me d words p L19 own c c' recent recent' e f keeps sharp h = let b : budget n c' ≡ budget n c = same_budget n c c' e in (omega arith, omega arith, omega arith)
+count_move n me d words p L21 own c c' recent recent' e f keeps sharp h = let b : budget n c' ≡ budget n c = same_budget n c c' e in (omega arith, omega arith)
+count_move n me Scanning words p L22 own c c' recent recent' e f keeps sharp h = tt
+count_move n me (Embedded w x) words p L22 own c c' recent recent' e f keeps sharp h = tt
+count_move n me (Updating w x) words p L22 own c c' recent recent' e f keeps sharp h = tt
+count_move n me d words p L23 own c c' recent recent' e f keeps sharp h = let b : budget n c' ≡ budget n c = same_budget n c c' e in (omega arith, omega arith)
+count_move n me Scanning words p L24 own c c' recent recent' e f keeps sharp h = tt
+count_move n me (Embedded w x) words p L24 own c c' recent recent' e f keeps sharp h = tt
+count_move n me (Updating w x) words p L24 own c c' recent recent' e f keeps sharp h = tt
+count_move n me Scanning words p L30 own c c' recent recent' e f keeps sharp h = tt
+count_move n me (Embedded w x) words p L30 own c c' recent recent' e f keeps sharp h = tt
+count_move n me (Updating w x) words p L30 own c c' recent recent' e f keeps sharp h = tt
+count_move n me d words p L31 own c c' recent recent' e f keeps sharp h = tt
+count_move n me d words p L32 own c c' recent recent' e f keeps sharp h = tt
+count_move n me d words p L33 own c c' recent recent' e f keeps sharp h = tt
 
 abbrev pub InScanLine : ProgramCounter → Type 0
 InScanLine L30 = ⊥
@@ -214,45 +217,45 @@ InScanLine L33 = ⊥
 InScanLine _ = Unit {0}
 
 -- the bounds at each line of a scan
-pub collects_le : (n : ℕ) (p : Variables) (k : ProgramCounter) (own c : ℕ) → 0 < n → Keeps n p k → ((k ≡ L16) → moves n p < n) → Count n p own c k → InScanLine k → c + tests k ≤ n
-collects_le n p L10 own c pos keeps sharp h s = omega arith
-collects_le n p L11 own c pos keeps sharp h s = omega arith
-collects_le n p L12 own c pos keeps sharp h s = let t : moves n p ≤ n = total_le (moved_at p) n keeps.1 in omega arith
-collects_le n p L13 own c pos keeps sharp h s = let t : moves n p ≤ n = total_le (moved_at p) n keeps.1 in omega arith
-collects_le n p L14 own c pos keeps sharp h s = let t : moves n p ≤ n = total_le (moved_at p) n keeps.1 in omega arith
-collects_le n p L15 own c pos keeps sharp h s = let t : moves n p ≤ n = total_le (moved_at p) n keeps.1 in omega arith
-collects_le n p L16 own c pos keeps sharp h s = let t : moves n p < n = sharp refl in omega arith
-collects_le n p L17 own c pos keeps sharp h s = omega arith
-collects_le n p L18 own c pos keeps sharp h s = omega arith
-collects_le n p L19 own c pos keeps sharp h s = let t : moves n p ≤ n = total_le (moved_at p) n keeps.1 in omega arith
-collects_le n p L21 own c pos keeps sharp h s = omega arith
-collects_le n p L22 own c pos keeps sharp h s = omega arith
-collects_le n p L23 own c pos keeps sharp h s = omega arith
-collects_le n p L24 own c pos keeps sharp h s = omega arith
-collects_le n p L30 own c pos keeps sharp h s = absurd s
-collects_le n p L31 own c pos keeps sharp h s = absurd s
-collects_le n p L32 own c pos keeps sharp h s = absurd s
-collects_le n p L33 own c pos keeps sharp h s = absurd s
+pub collects_le : (n : ℕ) (p : Variables) (k : ProgramCounter) (own c recent : ℕ) → 0 < n → Keeps n p k → ((k ≡ L16) → moves n p < n) → Count n p own c recent k → InScanLine k → c + tests k ≤ n
+collects_le n p L10 own c recent pos keeps sharp h s = omega arith
+collects_le n p L11 own c recent pos keeps sharp h s = omega arith
+collects_le n p L12 own c recent pos keeps sharp h s = let t : moves n p ≤ n = total_le (moved_at p) n keeps.1 in omega arith
+collects_le n p L13 own c recent pos keeps sharp h s = let t : moves n p ≤ n = total_le (moved_at p) n keeps.1 in omega arith
+collects_le n p L14 own c recent pos keeps sharp h s = let t : moves n p ≤ n = total_le (moved_at p) n keeps.1 in omega arith
+collects_le n p L15 own c recent pos keeps sharp h s = let t : moves n p ≤ n = total_le (moved_at p) n keeps.1 in omega arith
+collects_le n p L16 own c recent pos keeps sharp h s = let t : moves n p < n = sharp refl in omega arith
+collects_le n p L17 own c recent pos keeps sharp h s = omega arith
+collects_le n p L18 own c recent pos keeps sharp h s = omega arith
+collects_le n p L19 own c recent pos keeps sharp h s = let t : moves n p ≤ n = total_le (moved_at p) n keeps.1 in omega arith
+collects_le n p L21 own c recent pos keeps sharp h s = omega arith
+collects_le n p L22 own c recent pos keeps sharp h s = omega arith
+collects_le n p L23 own c recent pos keeps sharp h s = omega arith
+collects_le n p L24 own c recent pos keeps sharp h s = omega arith
+collects_le n p L30 own c recent pos keeps sharp h s = absurd s
+collects_le n p L31 own c recent pos keeps sharp h s = absurd s
+collects_le n p L32 own c recent pos keeps sharp h s = absurd s
+collects_le n p L33 own c recent pos keeps sharp h s = absurd s
 
 own_all : (n c own : ℕ) → c ≤ n → own ≤ budget n c + 4 * n → own + 1 ≤ 4 * (n * n) + 8 * n + 7
 own_all n c own le h = let b : budget n c ≤ 4 * (n * n) + 4 * n + 2 = budget_le n c le in omega arith
 
-pub own_le : (n : ℕ) (p : Variables) (k : ProgramCounter) (own c : ℕ) → Keeps n p k → Count n p own c k → c ≤ n → InScanLine k → own + 1 ≤ 4 * (n * n) + 8 * n + 7
-own_le n p L10 own c keeps h le s = omega arith
-own_le n p L11 own c keeps h le s = omega arith
-own_le n p L12 own c keeps h le s = own_all n c own le (omega arith)
-own_le n p L13 own c keeps h le s = own_all n c own le (omega arith)
-own_le n p L14 own c keeps h le s = own_all n c own le (omega arith)
-own_le n p L15 own c keeps h le s = own_all n c own le (omega arith)
-own_le n p L16 own c keeps h le s = own_all n c own le (omega arith)
-own_le n p L17 own c keeps h le s = own_all n c own le (omega arith)
-own_le n p L18 own c keeps h le s = own_all n c own le (omega arith)
-own_le n p L19 own c keeps h le s = own_all n c own le (omega arith)
-own_le n p L21 own c keeps h le s = own_all n c own le (omega arith)
-own_le n p L22 own c keeps h le s = own_all n c own le (omega arith)
-own_le n p L23 own c keeps h le s = own_all n c own le (omega arith)
-own_le n p L24 own c keeps h le s = own_all n c own le (omega arith)
-own_le n p L30 own c keeps h le s = absurd s
-own_le n p L31 own c keeps h le s = absurd s
-own_le n p L32 own c keeps h le s = absurd s
-own_le n p L33 own c keeps h le s = absurd s
+pub own_le : (n : ℕ) (p : Variables) (k : ProgramCounter) (own c recent : ℕ) → Keeps n p k → Count n p own c recent k → c ≤ n → InScanLine k → own + 1 ≤ 4 * (n * n) + 8 * n + 7
+own_le n p L10 own c recent keeps h le s = omega arith
+own_le n p L11 own c recent keeps h le s = omega arith
+own_le n p L12 own c recent keeps h le s = own_all n c own le (omega arith)
+own_le n p L13 own c recent keeps h le s = own_all n c own le (omega arith)
+own_le n p L14 own c recent keeps h le s = own_all n c own le (omega arith)
+own_le n p L15 own c recent keeps h le s = own_all n c own le (omega arith)
+own_le n p L16 own c recent keeps h le s = own_all n c own le (omega arith)
+own_le n p L17 own c recent keeps h le s = own_all n c own le (omega arith)
+own_le n p L18 own c recent keeps h le s = own_all n c own le (omega arith)
+own_le n p L19 own c recent keeps h le s = own_all n c own le (omega arith)
+own_le n p L21 own c recent keeps h le s = own_all n c own le (omega arith)
+own_le n p L22 own c recent keeps h le s = own_all n c own le (omega arith)
+own_le n p L23 own c recent keeps h le s = own_all n c own le (omega arith)
+own_le n p L24 own c recent keeps h le s = own_all n c own le (omega arith)
+own_le n p L30 own c recent keeps h le s = absurd s
+own_le n p L31 own c recent keeps h le s = absurd s
+own_le n p L32 own c recent keeps h le s = absurd s
+own_le n p L33 own c recent keeps h le s = absurd s

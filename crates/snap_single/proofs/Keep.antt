@@ -1,6 +1,6 @@
 -- Every world of a run of U keeps the invariant.
 use Rattle.snap_words.specs.declared.kind.KindTag.TheVariants as kind
-use Rattle.std.specs.Prelude.{◌≡◌, ℕ, suc, ◌+◌, ◌<◌, ◌≤◌, ◌⊎◌, Bool, true, false, List, length, map, Option, Some, None, nat_eq, nat_lt, if◌then◌else◌, refl}
+use Rattle.std.specs.Prelude.{◌≡◌, ℕ, suc, ◌+◌, ◌<◌, ◌≤◌, ◌⊎◌, Bool, true, false, length, map, Option, Some, None, nat_eq, nat_lt, if◌then◌else◌, refl}
 use Rattle.std.proofs.Common.{sym, ◌∙◌, ap, subst, arith, inl, inr}
 use Rattle.snap_semantics.specs.declared.process.Op.{Op}
 use Rattle.snap_semantics.specs.declared.process.Op.TheVariants.{Scan, Update}
@@ -8,46 +8,45 @@ use Rattle.snap_semantics.specs.declared.process.Reason.{Reason}
 use Rattle.snap_semantics.specs.declared.process.Item.{Item}
 use Rattle.snap_semantics.specs.declared.process.Item.TheVariants.{Step, Call}
 use Rattle.snap_semantics.specs.declared.process.Outcome.TheVariants.{Called, Stepped, Answered, Finished}
-use Rattle.snap_words.specs.Word.{Word}
 use Rattle.snap_semantics.specs.Table.{places_to, all_true, first_true, call_skip, who}
 use Rattle.snap_single.specs.Promises.{square}
 use Rattle.snap_runs.proofs.Algorithm.{Idle, At, To, Begin, Answer, Finish, New, by_move, by_step, by_admission, by_call, typed_at, changed, happens, stepped_auxiliary, begun_auxiliary, called_auxiliary}
-use Rattle.snap_single.proofs.Algorithm.{Process, Control, Move, State, Variables, Task, Scanning, Embedded, Updating, ProgramCounter, L10, L11, L12, L13, L14, L15, L16, L17, L18, L19, L21, L22, L23, L24, L30, L31, L32, L33, op_of, move, first_to, return_to, embed_to, same_seq, moved_at, IsLineOf, IsScan, IsUpdate, tests, writes, algorithm}
+use Rattle.snap_single.proofs.Algorithm.{Words, restarts, Process, Control, Move, State, Variables, Task, Scanning, Embedded, Updating, ProgramCounter, L10, L11, L12, L13, L14, L15, L16, L17, L18, L19, L21, L22, L23, L24, L30, L31, L32, L33, op_of, move, first_to, return_to, embed_to, same_seq, moved_at, IsLineOf, IsScan, IsUpdate, tests, writes, algorithm}
 use Rattle.snap_single.proofs.Control.{Keeps, MoveWell, ControlWell, move_well, called_well}
 use Rattle.snap_words.specs.Shape.{IsOneOf}
 use Rattle.snap_runs.proofs.Held.{seq_at}
-use Rattle.snap_single.proofs.Stage.{Stage, StageMove, stage_move, SmallMove, small_move}
+use Rattle.snap_single.proofs.Stage.{Stage, StageMove, stage_move, Small, SmallMove, small_move}
 use Rattle.snap_single.proofs.Collect.{Low, floor}
 use Rattle.snap_single.proofs.Control.{Small as SmallMoves}
 use Rattle.snap_single.proofs.Count.{Count, CountMove, count_move, moves, total_less}
 use Rattle.snap_single.proofs.Invariant.{Own, Inv, Making, MakingAt, InScan, IsInScan, StageAt, CountAt, WroteAt, pending, inv_later, put_inv, write_inv}
 
-abbrev pub KeepsMemory : List Word → Move → Type 0
+abbrev pub KeepsMemory : Words → Move → Type 0
 KeepsMemory m (To d m' p k) = m' ≡ m
 KeepsMemory m (Begin d p k) = Unit {0}
 KeepsMemory m (Answer v) = Unit {0}
 KeepsMemory m Finish = Unit {0}
 
-kept_if : (m : List Word) (b : Bool) (x y : Move) → KeepsMemory m x → KeepsMemory m y → KeepsMemory m (if b then x else y)
+kept_if : (m : Words) (b : Bool) (x y : Move) → KeepsMemory m x → KeepsMemory m y → KeepsMemory m (if b then x else y)
 kept_if m true x y f g = f
 kept_if m false x y f g = g
 
-kept_return : (d : Task) (m : List Word) (p : Variables) → KeepsMemory m (return_to d m p)
+kept_return : (d : Task) (m : Words) (p : Variables) → KeepsMemory m (return_to d m p)
 kept_return Scanning m p = tt
 kept_return (Embedded word arg) m p = refl
 kept_return (Updating word arg) m p = tt
 
-kept_embed : (d : Task) (m : List Word) (p : Variables) → KeepsMemory m (embed_to d m p)
+kept_embed : (d : Task) (m : Words) (p : Variables) → KeepsMemory m (embed_to d m p)
 kept_embed Scanning m p = tt
 kept_embed (Embedded word arg) m p = tt
 kept_embed (Updating word arg) m p = tt
 
-kept_first : (d : Task) (m : List Word) (p : Variables) (o : Option ℕ) → KeepsMemory m (first_to d m p o)
+kept_first : (d : Task) (m : Words) (p : Variables) (o : Option ℕ) → KeepsMemory m (first_to d m p o)
 kept_first d m p None = refl
 kept_first d m p (Some k) = refl
 
 -- every line but 32 keeps the words
-pub kept : (n me : ℕ) (d : Task) (m : List Word) (p : Variables) (k : ProgramCounter) → KeepsMemory m (move n me d m p k) ⊎ (k ≡ L32)
+pub kept : (n me : ℕ) (d : Task) (m : Words) (p : Variables) (k : ProgramCounter) → KeepsMemory m (move n me d m p k) ⊎ (k ≡ L32)
 kept n me d m p L10 = inl refl
 kept n me d m p L11 = inl refl
 kept n me d m p L12 = inl refl
@@ -83,11 +82,11 @@ stays me Scanning k k' s h = h
 stays me (Embedded w x) k k' s h = tt
 stays me (Updating w x) k k' s h = absurd s
 
-making_first : (me : ℕ) (d : Task) (m : List Word) (p : Variables) (o : Option ℕ) → IsScan me d → MakingMove d L18 (first_to d m p o)
+making_first : (me : ℕ) (d : Task) (m : Words) (p : Variables) (o : Option ℕ) → IsScan me d → MakingMove d L18 (first_to d m p o)
 making_first me d m p None s = stays me d L18 L19 s
 making_first me d m p (Some k) s = stays me d L18 L23 s
 
-pub making_move : (n me : ℕ) (d : Task) (m : List Word) (p : Variables) (k : ProgramCounter) → IsLineOf me d k → MakingMove d k (move n me d m p k)
+pub making_move : (n me : ℕ) (d : Task) (m : Words) (p : Variables) (k : ProgramCounter) → IsLineOf me d k → MakingMove d k (move n me d m p k)
 making_move n me d m p L10 s = stays me d L10 L11 s
 making_move n me d m p L11 s = stays me d L11 L12 s
 making_move n me d m p L12 s = stays me d L12 L13 s
@@ -148,21 +147,21 @@ scan_if : (d : Task) (b : Bool) (x y : Move) → ScanMove d x → ScanMove d y �
 scan_if d true x y f g = f
 scan_if d false x y f g = g
 
-scan_first : (d : Task) (m : List Word) (p : Variables) (o : Option ℕ) → ScanMove d (first_to d m p o)
+scan_first : (d : Task) (m : Words) (p : Variables) (o : Option ℕ) → ScanMove d (first_to d m p o)
 scan_first d m p None = λ h. h
 scan_first d m p (Some k) = λ h. h
 
-scan_return : (d : Task) (m : List Word) (p : Variables) → ScanMove d (return_to d m p)
+scan_return : (d : Task) (m : Words) (p : Variables) → ScanMove d (return_to d m p)
 scan_return Scanning m p = tt
 scan_return (Embedded w x) m p = λ h. tt
 scan_return (Updating w x) m p = tt
 
-scan_embed : (d : Task) (m : List Word) (p : Variables) → ScanMove d (embed_to d m p)
+scan_embed : (d : Task) (m : Words) (p : Variables) → ScanMove d (embed_to d m p)
 scan_embed Scanning m p = tt
 scan_embed (Embedded w x) m p = tt
 scan_embed (Updating w x) m p = tt
 
-pub scan_move : (n me : ℕ) (d : Task) (m : List Word) (p : Variables) (k : ProgramCounter) → ScanMove d (move n me d m p k)
+pub scan_move : (n me : ℕ) (d : Task) (m : Words) (p : Variables) (k : ProgramCounter) → ScanMove d (move n me d m p k)
 scan_move n me d m p L10 = λ h. h
 scan_move n me d m p L11 = λ h. h
 scan_move n me d m p L12 = λ h. h
@@ -188,15 +187,15 @@ scan_of me Scanning s = tt
 scan_of me (Embedded w x) s = tt
 scan_of me (Updating w x) s = s
 
-pub unmoved : (n i : ℕ) (base m : List Word) (p : Variables) → IsOneOf n i → Low n base m p.moved → SmallMoves n 1 p → seq_at base i ≡ seq_at m i → moves n p < n
+pub unmoved : (n i : ℕ) (base m : Words) (p : Variables) → IsOneOf n i → Low n base m p.moved → SmallMoves n 1 p → seq_at base i ≡ seq_at m i → moves n p < n
 unmoved n i base m p one low small self =
     total_less (moved_at p) n i one
     (let l : floor base p.moved i ≤ seq_at m i = low i one in let z : moved_at p i ≡ 0 = omega arith in z) small
 
-pub sharp_at : (n me : ℕ) (history : ℕ → List Word) (t since : ℕ) (base m : List Word) (d : Task) (p : Variables) (k : ProgramCounter) → IsOneOf n me → IsLineOf me d k → Keeps n p k →
-    (IsInScan d → seq_at base me ≡ seq_at m me) → Stage n history t since base m p k → k ≡ L16 → moves n p < n
-sharp_at n me history t since base m d p k one doable keeps self stage e =
-    unmoved n me base m p one (subst (Stage n history t since base m p) e stage).0 (subst (Keeps n p) e keeps).1
+pub sharp_at : (n me : ℕ) (history : ℕ → Words) (t since round : ℕ) (m : Words) (d : Task) (p : Variables) (k : ProgramCounter) → IsOneOf n me → IsLineOf me d k → Keeps n p k →
+    (IsInScan d → seq_at (history since) me ≡ seq_at m me) → Stage n history t since round m p k → k ≡ L16 → moves n p < n
+sharp_at n me history t since round m d p k one doable keeps self stage e =
+    unmoved n me (history since) m p one (subst (Stage n history t since round m p) e stage).0 (subst (Keeps n p) e keeps).1
     (self (scan_of me d (subst (IsLineOf me d) e doable)))
 
 -- the writes of an update, line by line
@@ -215,16 +214,16 @@ wrote_stays me Scanning k k' w s h = tt
 wrote_stays me (Embedded word arg) k k' w s h = omega arith
 wrote_stays me (Updating word arg) k k' w s h = absurd s
 
-wrote_first : (me : ℕ) (d : Task) (m : List Word) (p : Variables) (o : Option ℕ) (w : ℕ) → IsScan me d → WroteAt (At d L18) w → WroteMove (w + 0) (first_to d m p o)
+wrote_first : (me : ℕ) (d : Task) (m : Words) (p : Variables) (o : Option ℕ) (w : ℕ) → IsScan me d → WroteAt (At d L18) w → WroteMove (w + 0) (first_to d m p o)
 wrote_first me d m p None w s h = wrote_stays me d L18 L19 w s h
 wrote_first me d m p (Some k) w s h = wrote_stays me d L18 L23 w s h
 
-wrote_return : (me : ℕ) (d : Task) (m : List Word) (p : Variables) (k : ProgramCounter) (w : ℕ) → IsScan me d → WroteAt (At d k) w → WroteMove (w + 0) (return_to d m p)
+wrote_return : (me : ℕ) (d : Task) (m : Words) (p : Variables) (k : ProgramCounter) (w : ℕ) → IsScan me d → WroteAt (At d k) w → WroteMove (w + 0) (return_to d m p)
 wrote_return me Scanning m p k w s h = tt
 wrote_return me (Embedded word arg) m p k w s h = omega arith
 wrote_return me (Updating word arg) m p k w s h = absurd s
 
-wrote_embed : (me : ℕ) (d : Task) (m : List Word) (p : Variables) (w : ℕ) → IsUpdate me d → WroteAt (At d L30) w → WroteMove (w + 0) (embed_to d m p)
+wrote_embed : (me : ℕ) (d : Task) (m : Words) (p : Variables) (w : ℕ) → IsUpdate me d → WroteAt (At d L30) w → WroteMove (w + 0) (embed_to d m p)
 wrote_embed me Scanning m p w s h = tt
 wrote_embed me (Embedded word arg) m p w s h = tt
 wrote_embed me (Updating word arg) m p w s h = omega arith
@@ -239,7 +238,7 @@ wrote_32 me Scanning w s h = tt
 wrote_32 me (Embedded word arg) w s h = absurd s
 wrote_32 me (Updating word arg) w s h = omega arith
 
-pub wrote_move : (n me : ℕ) (d : Task) (m : List Word) (p : Variables) (k : ProgramCounter) (w : ℕ) → IsLineOf me d k → WroteAt (At d k) w → WroteMove (w + writes k) (move n me d m p k)
+pub wrote_move : (n me : ℕ) (d : Task) (m : Words) (p : Variables) (k : ProgramCounter) (w : ℕ) → IsLineOf me d k → WroteAt (At d k) w → WroteMove (w + writes k) (move n me d m p k)
 wrote_move n me d m p L10 w s h = wrote_stays me d L10 L11 w s h
 wrote_move n me d m p L11 w s h = wrote_stays me d L11 L12 w s h
 wrote_move n me d m p L12 w s h = wrote_stays me d L12 L13 w s h
@@ -259,105 +258,129 @@ wrote_move n me d m p L31 w s h = wrote_31 me d w s h
 wrote_move n me d m p L32 w s h = wrote_32 me d w s h
 wrote_move n me d m p L33 w s h = tt
 
--- a line that keeps the words; `t` is the item's number
+-- process i
 abbrev pub at : ℕ → State → ℕ → Process
 at n x i = typed_at (algorithm n) x i
 
-quiet_inv : (n t : ℕ) (history : ℕ → List Word) (x : State) (i : ℕ) (d : Task) (k : ProgramCounter) (v : Move) →
-    length x.processes ≡ n → IsOneOf n i → Inv n t history x → (at n x i).control ≡ At d k → (at n x i).variables.c < t → writes k ≡ 0 →
-    KeepsMemory x.memory v → MoveWell (op_of d) n i v → StageMove n history t (at n x i).auxiliary.since (at n x i).auxiliary.base v →
-    SmallMove n (seq_at x.memory i) v → MakingMove d k v →
-    ScanMove d v → CountMove n (suc (at n x i).auxiliary.own) ((at n x i).auxiliary.collects + tests k) v → WroteMove ((at n x i).auxiliary.wrote + writes k) v →
-    Inv n t history (changed x i (by_move (algorithm n) t x.memory (at n x i) k v))
-quiet_inv n t history x i d k (To d' m' p k') count one h is c quiet keeps well stage small making scan counts wrote =
+-- the words at item t are the words now
+pub at_most_now : (history : ℕ → Words) (words : Words) (t : ℕ) → history t ≡ words → (k : ℕ) → seq_at (history t) k ≤ seq_at words k
+at_most_now history words t now k = let e : seq_at (history t) k ≡ seq_at words k = ap (λ w. seq_at w k) now in omega arith
+
+pub at_least_now : (history : ℕ → Words) (words : Words) (t : ℕ) → history t ≡ words → (k : ℕ) → seq_at words k ≤ seq_at (history t) k
+at_least_now history words t now k = let e : seq_at (history t) k ≡ seq_at words k = ap (λ w. seq_at w k) now in omega arith
+
+-- before a line that keeps the words, c is the sequence number of the process's word
+is_seq : (n t : ℕ) (history : ℕ → Words) (x : State) (i : ℕ) (d : Task) (k : ProgramCounter) → IsOneOf n i → Inv n t history x → (at n x i).control ≡ At d k → writes k ≡ 0 →
+    (at n x i).variables.c ≡ seq_at x.memory i + 0
+is_seq n t history x i d k one h is quiet =
+    (h.each i one).seq ∙ ap (λ (y : Control). seq_at x.memory i + pending y) is ∙ ap (λ y. seq_at x.memory i + y) quiet
+
+-- the words when the last double collect was started are not later than the words now, also where a line starts another one
+opened_next : (n : ℕ) (history : ℕ → Words) (words : Words) (again : Bool) (t round : ℕ) → history t ≡ words →
+    ((k : ℕ) → IsOneOf n k → seq_at (history round) k ≤ seq_at words k) →
+    (k : ℕ) → IsOneOf n k → seq_at (history (if again then t else round)) k ≤ seq_at words k
+opened_next n history words true t round now h k i = at_most_now history words t now k
+opened_next n history words false t round now h k i = h k i
+
+-- a process whose operation has ended
+idle_own : (n t : ℕ) (history : ℕ → Words) (words : Words) (i : ℕ) (q : Process) (k : ProgramCounter) → q.variables.c ≡ seq_at words i + 0 → history t ≡ words → q.variables.c < t →
+    Own n t history words i q → Own n t history words i (record { control = Idle; variables = q.variables; auxiliary = stepped_auxiliary (algorithm n) k t q.auxiliary })
+idle_own n t history words i q k seq now c own = record {
+  well = tt;
+  length_a = own.length_a;
+  length_b = own.length_b;
+  seq = seq;
+  fresh = omega arith;
+  since_le = own.since_le;
+  low = own.low;
+  opened = opened_next n history words (restarts k) t q.auxiliary.round now own.opened;
+  views = own.views;
+  stage = tt;
+  self = λ inside. absurd inside;
+  counts = tt;
+  wrote = tt;
+}
+
+-- what the move v of a process at line k owes; t is the item's number
+record Owes (n t : ℕ) (history : ℕ → Words) (x : State) (i : ℕ) (d : Task) (k : ProgramCounter) (v : Move) : Type 0 where
+  pub words : KeepsMemory x.memory v
+  pub well : MoveWell (op_of d) n i v
+  pub stage : StageMove n history t (at n x i).auxiliary.since (if restarts k then t else (at n x i).auxiliary.round) v
+  pub small : SmallMove n (seq_at x.memory i) v
+  pub making : MakingMove d k v
+  pub scan : ScanMove d v
+  pub counts : CountMove n (suc (at n x i).auxiliary.own) ((at n x i).auxiliary.collects + tests k)
+      (if restarts k then 0 else (at n x i).auxiliary.tested + tests k) v
+  pub wrote : WroteMove ((at n x i).auxiliary.wrote + writes k) v
+
+-- a line that keeps the words
+quiet_inv : (n t : ℕ) (history : ℕ → Words) (x : State) (i : ℕ) (d : Task) (k : ProgramCounter) (v : Move) →
+    length x.processes ≡ n → IsOneOf n i → history t ≡ x.memory → Inv n t history x → (at n x i).control ≡ At d k → (at n x i).variables.c < t → writes k ≡ 0 →
+    Owes n t history x i d k v → Inv n t history (changed x i (by_move (algorithm n) t x.memory (at n x i) k v))
+quiet_inv n t history x i d k (To d' m' p k') count one now h is c quiet owes =
     let q = at n x i in
     let own : Own n t history x.memory i q = h.each i one in
-    let q' : Process = record { control = At d' k'; variables = p; auxiliary = stepped_auxiliary (algorithm n) k q.auxiliary } in
+    let q' : Process = record { control = At d' k'; variables = p; auxiliary = stepped_auxiliary (algorithm n) k t q.auxiliary } in
     let seq_q : q.variables.c ≡ seq_at x.memory i + writes k = own.seq ∙ ap (λ (y : Control). seq_at x.memory i + pending y) is in
-    subst (λ w. Inv n t history (changed x i (New w q' Stepped))) (sym keeps)
-    (put_inv n t history x i q' Stepped count one h
+    let small : Small n (seq_at x.memory i) p k' = owes.small in
+    subst (λ w. Inv n t history (changed x i (New w q' Stepped))) (sym owes.words)
+    (put_inv n t history x i q' Stepped count one now h
     (record {
-      well = (well.0, well.1);
+      well = (owes.well.0, owes.well.1);
       length_a = small.0;
       length_b = small.1;
       seq = small.2;
       fresh = (let s : p.c ≡ seq_at x.memory i + writes k' = small.2 in let le : writes k' ≤ 1 = writes_le k' in omega arith);
       since_le = own.since_le;
       low = own.low;
+      opened = opened_next n history x.memory (restarts k) t q.auxiliary.round now own.opened;
       views = own.views;
-      stage = subst (λ w. Stage n history t q.auxiliary.since q.auxiliary.base w p k') keeps stage;
-      self = λ inside. own.self (subst InScan (sym is) (scan inside));
-      counts = counts;
-      wrote = wrote;
+      stage = subst (λ w. Stage n history t q.auxiliary.since (if restarts k then t else q.auxiliary.round) w p k') owes.words owes.stage;
+      self = λ inside. own.self (subst InScan (sym is) (owes.scan inside));
+      counts = owes.counts;
+      wrote = owes.wrote;
     })
-    (λ m. inr (subst Making (sym is) (making m), refl)) (inr (refl, refl)))
-quiet_inv n t history x i d k (Begin d' p k') count one h is c quiet keeps well stage small making scan counts wrote =
+    (λ m. inr (subst Making (sym is) (owes.making m), refl)) (inr refl))
+quiet_inv n t history x i d k (Begin d' p k') count one now h is c quiet owes =
     let q = at n x i in
     let own : Own n t history x.memory i q = h.each i one in
     let seq_q : q.variables.c ≡ seq_at x.memory i + writes k = own.seq ∙ ap (λ (y : Control). seq_at x.memory i + pending y) is in
-    put_inv n t history x i (record { control = At d' k'; variables = p; auxiliary = begun_auxiliary (algorithm n) k t x.memory q.auxiliary }) Stepped count one h
+    let small : Small n (seq_at x.memory i) p k' = owes.small in
+    put_inv n t history x i (record { control = At d' k'; variables = p; auxiliary = begun_auxiliary (algorithm n) k t q.auxiliary }) Stepped count one now h
     (record {
-      well = (well.0, well.1);
+      well = (owes.well.0, owes.well.1);
       length_a = small.0;
       length_b = small.1;
       seq = small.2;
       fresh = (let s : p.c ≡ seq_at x.memory i + writes k' = small.2 in let le : writes k' ≤ 1 = writes_le k' in omega arith);
       since_le = omega arith;
-      low = λ k j. omega arith;
-      views = λ k j more. absurd (omega arith);
-      stage = subst (λ y. Stage n history t t x.memory x.memory p y) (sym stage) tt;
-      self = λ inside. refl;
-      counts = subst (λ y. Count n p 0 0 y) (sym stage) (refl, refl);
-      wrote = wrote;
+      low = λ k j. at_most_now history x.memory t now k;
+      opened = λ k j. at_most_now history x.memory t now k;
+      views = λ k j more. absurd (let le : seq_at x.memory k ≤ seq_at (history t) k = at_least_now history x.memory t now k in omega arith);
+      stage = subst (λ y. Stage n history t t t x.memory p y) (sym owes.stage) tt;
+      self = λ inside. ap (λ w. seq_at w i) now;
+      counts = subst (λ y. Count n p 0 0 0 y) (sym owes.stage) (refl, refl, refl);
+      wrote = owes.wrote;
     })
     (λ m. inl refl) (inl refl)
-quiet_inv n t history x i d k (Answer v) count one h is c quiet keeps well stage small making scan counts wrote =
+quiet_inv n t history x i d k (Answer v) count one now h is c quiet owes =
     let q = at n x i in
-    let own : Own n t history x.memory i q = h.each i one in
-    put_inv n t history x i (record { control = Idle; variables = q.variables; auxiliary = stepped_auxiliary (algorithm n) k q.auxiliary }) (Answered v) count one h
-    (record {
-      well = tt;
-      length_a = own.length_a;
-      length_b = own.length_b;
-      seq = own.seq ∙ ap (λ (y : Control). seq_at x.memory i + pending y) is ∙ ap (λ y. seq_at x.memory i + y) quiet;
-      fresh = omega arith;
-      since_le = own.since_le;
-      low = own.low;
-      views = own.views;
-      stage = tt;
-      self = λ inside. absurd inside;
-      counts = tt;
-      wrote = tt;
-    })
-    (λ m. absurd m) (inr (refl, refl))
-quiet_inv n t history x i d k Finish count one h is c quiet keeps well stage small making scan counts wrote =
+    put_inv n t history x i (record { control = Idle; variables = q.variables; auxiliary = stepped_auxiliary (algorithm n) k t q.auxiliary }) (Answered v) count one now h
+    (idle_own n t history x.memory i q k (is_seq n t history x i d k one h is quiet) now c (h.each i one)) (λ m. absurd m) (inr refl)
+quiet_inv n t history x i d k Finish count one now h is c quiet owes =
     let q = at n x i in
-    let own : Own n t history x.memory i q = h.each i one in
-    put_inv n t history x i (record { control = Idle; variables = q.variables; auxiliary = stepped_auxiliary (algorithm n) k q.auxiliary }) Finished count one h
-    (record {
-      well = tt;
-      length_a = own.length_a;
-      length_b = own.length_b;
-      seq = own.seq ∙ ap (λ (y : Control). seq_at x.memory i + pending y) is ∙ ap (λ y. seq_at x.memory i + y) quiet;
-      fresh = omega arith;
-      since_le = own.since_le;
-      low = own.low;
-      views = own.views;
-      stage = tt;
-      self = λ inside. absurd inside;
-      counts = tt;
-      wrote = tt;
-    })
-    (λ m. absurd m) (inr (refl, refl))
+    put_inv n t history x i (record { control = Idle; variables = q.variables; auxiliary = stepped_auxiliary (algorithm n) k t q.auxiliary }) Finished count one now h
+    (idle_own n t history x.memory i q k (is_seq n t history x i d k one h is quiet) now c (h.each i one)) (λ m. absurd m) (inr refl)
 
-call_inv : (n t : ℕ) (history : ℕ → List Word) (x : State) (i : ℕ) (op : Op) (o : Option Reason) → call_skip kind.Seq (square n) i op ≡ o →
+call_inv : (n t : ℕ) (history : ℕ → Words) (x : State) (i : ℕ) (op : Op) (o : Option Reason) → call_skip kind.Seq (square n) i op ≡ o →
     length x.processes ≡ n → IsOneOf n i → Inv n t history x → (at n x i).control ≡ Idle →
+    history t ≡ (changed x i (by_admission (algorithm n) t x.memory (at n x i) op o)).memory →
     Inv n t history (changed x i (by_admission (algorithm n) t x.memory (at n x i) op o))
-call_inv n t history x i op (Some why) e count one h is = h
-call_inv n t history x i Scan None e count one h is =
+call_inv n t history x i op (Some why) e count one h is now = h
+call_inv n t history x i Scan None e count one h is now =
     let q = at n x i in
     let own : Own n t history x.memory i q = h.each i one in
-    put_inv n t history x i (record { control = At Scanning L10; variables = q.variables; auxiliary = called_auxiliary t x.memory Scan q.auxiliary }) Called count one h
+    put_inv n t history x i (record { control = At Scanning L10; variables = q.variables; auxiliary = called_auxiliary t Scan q.auxiliary }) Called count one now h
     (record {
       well = called_well n i q.variables Scan e;
       length_a = own.length_a;
@@ -365,33 +388,35 @@ call_inv n t history x i Scan None e count one h is =
       seq = own.seq ∙ ap (λ (y : Control). seq_at x.memory i + pending y) is;
       fresh = own.fresh;
       since_le = omega arith;
-      low = λ k j. omega arith;
-      views = λ k j more. absurd (omega arith);
+      low = λ k j. at_most_now history x.memory t now k;
+      opened = λ k j. at_most_now history x.memory t now k;
+      views = λ k j more. absurd (let le : seq_at x.memory k ≤ seq_at (history t) k = at_least_now history x.memory t now k in omega arith);
       stage = tt;
-      self = λ inside. refl;
-      counts = (refl, refl);
+      self = λ inside. ap (λ w. seq_at w i) now;
+      counts = (refl, refl, refl);
       wrote = tt;
     })
     (λ m. absurd m) (inl refl)
-call_inv n t history x i (Update word arg) None e count one h is =
+call_inv n t history x i (Update word value) None e count one h is now =
     let q = at n x i in
     let own : Own n t history x.memory i q = h.each i one in
-    put_inv n t history x i (record { control = At (Updating word arg) L30; variables = q.variables; auxiliary = called_auxiliary t x.memory (Update word arg) q.auxiliary }) Called count one h
+    put_inv n t history x i (record { control = At (Updating word value) L30; variables = q.variables; auxiliary = called_auxiliary t (Update word value) q.auxiliary }) Called count one now h
     (record {
-      well = called_well n i q.variables (Update word arg) e;
+      well = called_well n i q.variables (Update word value) e;
       length_a = own.length_a;
       length_b = own.length_b;
       seq = own.seq ∙ ap (λ (y : Control). seq_at x.memory i + pending y) is;
       fresh = own.fresh;
       since_le = own.since_le;
       low = own.low;
+      opened = own.opened;
       views = own.views;
       stage = tt;
       self = λ inside. absurd inside;
       counts = tt;
       wrote = refl;
     })
-    (λ m. absurd m) (inr (refl, refl))
+    (λ m. absurd m) (inr refl)
 
 pub keeps_then : (n t : ℕ) (x : State) (i : ℕ) (k : ProgramCounter) (v : Move) → KeepsMemory x.memory v →
     (changed x i (by_move (algorithm n) t x.memory (at n x i) k v)).memory ≡ x.memory
@@ -400,7 +425,7 @@ keeps_then n t x i k (Begin d p k') h = refl
 keeps_then n t x i k (Answer v) h = refl
 keeps_then n t x i k Finish h = refl
 
-quiet_zero : (n me : ℕ) (d : Task) (m : List Word) (p : Variables) (k : ProgramCounter) → (k ≡ L32) ⊎ (writes k ≡ 0)
+quiet_zero : (n me : ℕ) (d : Task) (m : Words) (p : Variables) (k : ProgramCounter) → (k ≡ L32) ⊎ (writes k ≡ 0)
 quiet_zero n me d m p L10 = inr refl
 quiet_zero n me d m p L11 = inr refl
 quiet_zero n me d m p L12 = inr refl
@@ -420,55 +445,75 @@ quiet_zero n me d m p L31 = inr refl
 quiet_zero n me d m p L32 = inl refl
 quiet_zero n me d m p L33 = inr refl
 
-line32_inv : (n t : ℕ) (history : ℕ → List Word) (x : State) (i : ℕ) (d : Task) → length x.processes ≡ n → IsOneOf n i → Inv n t history x →
+line32_inv : (n t : ℕ) (history : ℕ → Words) (x : State) (i : ℕ) (d : Task) → length x.processes ≡ n → IsOneOf n i → Inv n t history x →
     (at n x i).control ≡ At d L32 → Inv n (suc t) history (changed x i (by_step (algorithm n) (suc t) x.memory i (at n x i) (At d L32)))
 line32_inv n t history x i d count one h is =
     let well : ControlWell n i (at n x i).variables (At d L32) = subst (ControlWell n i (at n x i).variables) is (h.each i one).well in
     write_inv n t history x i d _ Stepped count one h is well.0 refl
 
 -- one step of a process
-step_inv : (n t : ℕ) (history : ℕ → List Word) (x : State) (i : ℕ) (control : Control) → ((u : ℕ) → length (history u) ≡ n) → length x.processes ≡ n → IsOneOf n i →
+step_inv : (n t : ℕ) (history : ℕ → Words) (x : State) (i : ℕ) (control : Control) → ((u : ℕ) → length (history u) ≡ n) → length x.processes ≡ n → IsOneOf n i →
     Inv n t history x → (at n x i).control ≡ control →
     history (suc t) ≡ (changed x i (by_step (algorithm n) (suc t) x.memory i (at n x i) control)).memory →
     Inv n (suc t) history (changed x i (by_step (algorithm n) (suc t) x.memory i (at n x i) control))
-step_inv n t history x i Idle lengths_are count one h is now = inv_later n t history x h
-step_inv n t history x i (At d k) lengths_are count one h is now =
+step_inv n t history x i Idle lengths count one h is now = inv_later n t history x h
+step_inv n t history x i (At d k) lengths count one h is now =
     let q = at n x i in
-    let m = x.memory in
+    let words = x.memory in
     let later : Inv n (suc t) history x = inv_later n t history x h in
-    let own : Own n (suc t) history m i q = later.each i one in
+    let own : Own n (suc t) history words i q = later.each i one in
     let well : ControlWell n i q.variables (At d k) = subst (ControlWell n i q.variables) is own.well in
-    let stage : Stage n history (suc t) q.auxiliary.since q.auxiliary.base m q.variables k = subst (λ (p : Control). StageAt n history (suc t) q.auxiliary.since q.auxiliary.base m q.variables p) is own.stage in
-    let seq : q.variables.c ≡ seq_at m i + writes k = own.seq ∙ ap (λ (y : Control). seq_at m i + pending y) is in
+    let stage : Stage n history (suc t) q.auxiliary.since q.auxiliary.round words q.variables k =
+    subst (λ (p : Control). StageAt n history (suc t) q.auxiliary.since q.auxiliary.round words q.variables p) is own.stage in
+    let seq : q.variables.c ≡ seq_at words i + writes k = own.seq ∙ ap (λ (y : Control). seq_at words i + pending y) is in
     let fresh : q.variables.c ≤ t = (h.each i one).fresh in
-    elim (quiet_zero n i d m q.variables k) [
-      | inl e ↦ subst (λ y. Inv n (suc t) history (changed x i (by_step (algorithm n) (suc t) m i q (At d y)))) (sym e)
+    elim (quiet_zero n i d words q.variables k) [
+      | inl e ↦ subst (λ y. Inv n (suc t) history (changed x i (by_step (algorithm n) (suc t) words i q (At d y)))) (sym e)
           (line32_inv n t history x i d count one h (is ∙ ap (λ y. At d y) e))
-      | inr zeroed ↦ elim (kept n i d m q.variables k) [
-        | inl keeps ↦ quiet_inv n (suc t) history x i d k (move n i d m q.variables k) count one later is (omega arith) zeroed keeps
-            (move_well n i d m q.variables k one well.0 well.1)
-            (stage_move n i history (suc t) q.auxiliary.since q.auxiliary.base m d q.variables k lengths_are (now ∙ keeps_then n (suc t) x i k (move n i d m q.variables k) keeps) own.since_le own.length_a own.length_b
-            own.low own.views well.0 well.1 stage)
-            (subst (λ s. SmallMove n s (move n i d m q.variables k)) (let z : seq_at m i + writes k ≡ seq_at m i = omega arith in z)
-            (small_move n i (seq_at m i) d m q.variables k well.0 (own.length_a, own.length_b, seq)))
-            (making_move n i d m q.variables k well.0)
-            (scan_move n i d m q.variables k)
-            (count_move n i d m q.variables k q.auxiliary.own q.auxiliary.collects (q.auxiliary.collects + tests k) refl well.1
-            (sharp_at n i history (suc t) q.auxiliary.since q.auxiliary.base m d q.variables k one well.0 well.1 (λ inside. own.self (subst InScan (sym is) inside)) stage)
-            (subst (λ (y : Control). CountAt n q.variables q.auxiliary.own q.auxiliary.collects y) is own.counts))
-            (wrote_move n i d m q.variables k q.auxiliary.wrote well.0 (subst (λ (y : Control). WroteAt y q.auxiliary.wrote) is own.wrote))
-        | inr e ↦ subst (λ y. Inv n (suc t) history (changed x i (by_step (algorithm n) (suc t) m i q (At d y)))) (sym e)
+      | inr zeroed ↦ elim (kept n i d words q.variables k) [
+        | inl keeps ↦ (let same : history (suc t) ≡ words = now ∙ keeps_then n (suc t) x i k (move n i d words q.variables k) keeps in
+            quiet_inv n (suc t) history x i d k (move n i d words q.variables k) count one same later is (omega arith) zeroed
+            (record {
+              words = keeps;
+              well = move_well n i d words q.variables k one well.0 well.1;
+              stage = stage_move n i history (suc t) q.auxiliary.since q.auxiliary.round words d q.variables k
+                  (record {
+                    lengths = lengths;
+                    now = same;
+                    since_le = own.since_le;
+                    length_a = own.length_a;
+                    length_b = own.length_b;
+                    low = own.low;
+                    opened = own.opened;
+                    views = own.views;
+                    line = well.0;
+                    keeps = well.1;
+                  })
+                  stage;
+              small = subst (λ s. SmallMove n s (move n i d words q.variables k)) (let z : seq_at words i + writes k ≡ seq_at words i = omega arith in z)
+                  (small_move n i (seq_at words i) d words q.variables k well.0 (own.length_a, own.length_b, seq));
+              making = making_move n i d words q.variables k well.0;
+              scan = scan_move n i d words q.variables k;
+              counts = count_move n i d words q.variables k q.auxiliary.own q.auxiliary.collects (q.auxiliary.collects + tests k) q.auxiliary.tested
+                  (if restarts k then 0 else q.auxiliary.tested + tests k) refl refl well.1
+                  (sharp_at n i history (suc t) q.auxiliary.since q.auxiliary.round words d q.variables k one well.0 well.1 (λ inside. own.self (subst InScan (sym is) inside)) stage)
+                  (subst (λ (y : Control). CountAt n q.variables q.auxiliary.own q.auxiliary.collects q.auxiliary.tested y) is own.counts);
+              wrote = wrote_move n i d words q.variables k q.auxiliary.wrote well.0 (subst (λ (y : Control). WroteAt y q.auxiliary.wrote) is own.wrote);
+            }))
+        | inr e ↦ subst (λ y. Inv n (suc t) history (changed x i (by_step (algorithm n) (suc t) words i q (At d y)))) (sym e)
             (line32_inv n t history x i d count one h (is ∙ ap (λ y. At d y) e))
       ]
     ]
 
-asked_inv : (n t : ℕ) (history : ℕ → List Word) (x : State) (i : ℕ) (op : Op) (control : Control) → length x.processes ≡ n → IsOneOf n i →
+asked_inv : (n t : ℕ) (history : ℕ → Words) (x : State) (i : ℕ) (op : Op) (control : Control) → length x.processes ≡ n → IsOneOf n i →
     Inv n t history x → (at n x i).control ≡ control →
+    history (suc t) ≡ (changed x i (by_call (algorithm n) (suc t) x.memory i op (at n x i) control)).memory →
     Inv n (suc t) history (changed x i (by_call (algorithm n) (suc t) x.memory i op (at n x i) control))
-asked_inv n t history x i op Idle count one h is = call_inv n (suc t) history x i op (call_skip kind.Seq (square n) i op) refl count one (inv_later n t history x h) is
-asked_inv n t history x i op (At d k) count one h is = inv_later n t history x h
+asked_inv n t history x i op Idle count one h is now =
+    call_inv n (suc t) history x i op (call_skip kind.Seq (square n) i op) refl count one (inv_later n t history x h) is now
+asked_inv n t history x i op (At d k) count one h is now = inv_later n t history x h
 
-pub happens_inv : (n t : ℕ) (history : ℕ → List Word) (x : State) (y : Item) → ((u : ℕ) → length (history u) ≡ n) → length x.processes ≡ n → IsOneOf n (who y) →
+pub happens_inv : (n t : ℕ) (history : ℕ → Words) (x : State) (y : Item) → ((u : ℕ) → length (history u) ≡ n) → length x.processes ≡ n → IsOneOf n (who y) →
     Inv n t history x → history (suc t) ≡ (happens (algorithm n) (suc t) x y).memory → Inv n (suc t) history (happens (algorithm n) (suc t) x y)
-happens_inv n t history x (Step i) lengths_are count one h now = step_inv n t history x i (at n x i).control lengths_are count one h refl now
-happens_inv n t history x (Call i op) lengths_are count one h now = asked_inv n t history x i op (at n x i).control count one h refl
+happens_inv n t history x (Step i) lengths count one h now = step_inv n t history x i (at n x i).control lengths count one h refl now
+happens_inv n t history x (Call i op) lengths count one h now = asked_inv n t history x i op (at n x i).control count one h refl now

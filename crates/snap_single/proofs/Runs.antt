@@ -25,19 +25,19 @@ use Rattle.snap_single.specs.Promises.{square, run_of, NeverTraps, HavePoints, F
 use Rattle.snap_runs.proofs.Algorithm.{Idle, At, To, Begin, Answer, Finish, by_move, by_step, by_admission, by_call, first_process, first_state, typed_at, by_item, changed, outcome_of, happens, item_at, typed_state, status_of, process_of}
 use Rattle.snap_runs.proofs.Embedding as embed
 use Rattle.snap_runs.proofs.ScanSpan as span
-use Rattle.snap_single.proofs.Algorithm.{Process, first_word, Control, Move, State, Variables, Task, Scanning, Embedded, Updating, ProgramCounter, L10, L11, L12, L13, L14, L15, L16, L17, L18, L19, L21, L22, L23, L24, L30, L31, L32, L33, number, locals_of, value_of, move, first_to, return_to, embed_to, same_seq, moved_at, IsLineOf, IsUpdate, tests, algorithm}
+use Rattle.snap_single.proofs.Algorithm.{Words, Process, first_word, Control, Move, State, Variables, Task, Scanning, Embedded, Updating, ProgramCounter, L10, L11, L12, L13, L14, L15, L16, L17, L18, L19, L21, L22, L23, L24, L30, L31, L32, L33, number, locals_of, value_of, move, first_to, return_to, embed_to, same_seq, moved_at, IsLineOf, IsUpdate, tests, algorithm}
 use Rattle.snap_single.proofs.Control.{ControlWell, does}
 use Rattle.snap_runs.proofs.Held.{word_at, Held, seq_at}
 use Rattle.snap_single.proofs.Stage.{Stage}
 use Rattle.snap_single.proofs.Invariant.{Own, Inv, Pair, StageAt, CountAt, InScan}
 use Rattle.std.proofs.Math.Nat.{eq-or-lt_of_le}
 use Rattle.snap_single.proofs.Count.{Count, InScanLine, collects_le, own_le}
-use Rattle.snap_single.proofs.Keep.{kept, keeps_then, happens_inv, sharp_at}
+use Rattle.snap_single.proofs.Keep.{at_most_now, kept, keeps_then, happens_inv, sharp_at}
 
 abbrev pub worlds : ℕ → List Item → ℕ → State
 worlds n items t = typed_state (algorithm n) items t
 
-abbrev pub memories : ℕ → List Item → ℕ → List Word
+abbrev pub memories : ℕ → List Item → ℕ → Words
 memories n items t = (worlds n items t).memory
 
 -- the memory keeps its length
@@ -77,8 +77,8 @@ lengths n items (suc t) = happens_length n (suc t) (worlds n items t) (item_at i
 zero_at : (n k : ℕ) → IsOneOf n k → word_at (replicate n (first_word n)) k ≡ first_word n
 zero_at n k h = get_or-replicate n (k - 1) (first_word n) no_word (omega arith)
 
-own0 : (n : ℕ) (history : ℕ → List Word) (i : ℕ) → IsOneOf n i → Own n 0 history (replicate n (first_word n)) i (first_process (algorithm n))
-own0 n history i h =
+own0 : (n : ℕ) (history : ℕ → Words) (i : ℕ) → IsOneOf n i → history 0 ≡ replicate n (first_word n) → Own n 0 history (replicate n (first_word n)) i (first_process (algorithm n))
+own0 n history i h now =
     let z : (k : ℕ) → IsOneOf n k → seq_at (replicate n (first_word n)) k ≡ 0 = λ k j. ap (λ (y : Word). y.seq) (zero_at n k j) in
     record {
       well = tt;
@@ -87,25 +87,26 @@ own0 n history i h =
       seq = (let e = z i h in omega arith);
       fresh = omega arith;
       since_le = omega arith;
-      low = λ k j. omega arith;
-      views = λ k j more. absurd (omega arith);
+      low = λ k j. at_most_now history (replicate n (first_word n)) 0 now k;
+      opened = λ k j. at_most_now history (replicate n (first_word n)) 0 now k;
+      views = λ k j more. absurd (let e = z k j in omega arith);
       stage = tt;
       self = λ inside. absurd inside;
       counts = tt;
       wrote = tt;
     }
 
-inv0 : (n : ℕ) (history : ℕ → List Word) → Inv n 0 history (first_state (algorithm n))
-inv0 n history =
+inv0 : (n : ℕ) (history : ℕ → Words) → history 0 ≡ replicate n (first_word n) → Inv n 0 history (first_state (algorithm n))
+inv0 n history now =
     let at : (i : ℕ) → IsOneOf n i → typed_at (algorithm n) (first_state (algorithm n)) i ≡ first_process (algorithm n) = λ i h. get_or-replicate n (i - 1) (first_process (algorithm n)) (first_process (algorithm n)) (omega arith) in
     record {
       size = length-replicate n (first_word n);
-      each = λ i h. subst (λ (q : Process). Own n 0 history (replicate n (first_word n)) i q) (sym (at i h)) (own0 n history i h);
-      start = λ i k h j. subst (λ (q : Process). Pair (replicate n (first_word n)) (typed_at (algorithm n) (first_state (algorithm n)) i) q k) (sym (at k j)) (λ making lt. absurd making);
+      each = λ i h. subst (λ (q : Process). Own n 0 history (replicate n (first_word n)) i q) (sym (at i h)) (own0 n history i h now);
+      start = λ i k h j. subst (λ (q : Process). Pair history (replicate n (first_word n)) (typed_at (algorithm n) (first_state (algorithm n)) i) q k) (sym (at k j)) (λ making lt. absurd making);
     }
 
 pub inv : (n : ℕ) (items : List Item) → Fits (run_of n items) → (t : ℕ) → t ≤ length items → Inv n t (memories n items) (worlds n items t)
-inv n items fits zero h = inv0 n (memories n items)
+inv n items fits zero h = inv0 n (memories n items) refl
 inv n items fits (suc t) h =
     happens_inv n t (memories n items) (worlds n items t) (item_at items t) (lengths n items) (embed.count (algorithm n) items t)
     (embed.all_index (λ y. IsOneOf n (who y)) items t (Step 0) fits.all (omega arith)) (inv n items fits t (omega arith)) refl
@@ -160,7 +161,7 @@ stays_if : (n : ℕ) (link : Option ℕ) (k : ProgramCounter) (p : Variables) (b
 stays_if n link k p true x y f g = f
 stays_if n link k p false x y f g = g
 
-stays_first : (n : ℕ) (link : Option ℕ) (d : Task) (m : List Word) (p : Variables) (o : Option ℕ) → Inside n link d → Stays n link L18 p (first_to d m p o)
+stays_first : (n : ℕ) (link : Option ℕ) (d : Task) (m : Words) (p : Variables) (o : Option ℕ) → Inside n link d → Stays n link L18 p (first_to d m p o)
 stays_first n link d m p None h = inl h
 stays_first n link d m p (Some k) h = inl h
 
@@ -170,7 +171,7 @@ not_update n link me (Embedded w x) h u = u
 not_update n None me (Updating w x) h u = absurd (let e : Update w x ≡ ScanOp = h.1 in cc)
 not_update n (Some l) me (Updating w x) h u = absurd (let e : ◌≡◌ {A = Option ℕ} None (Some l) = h in cc)
 
-pub stays : (n me : ℕ) (link : Option ℕ) (d : Task) (m : List Word) (p : Variables) (k : ProgramCounter) → IsLineOf me d k → Inside n link d → Stays n link k p (move n me d m p k)
+pub stays : (n me : ℕ) (link : Option ℕ) (d : Task) (m : Words) (p : Variables) (k : ProgramCounter) → IsLineOf me d k → Inside n link d → Stays n link k p (move n me d m p k)
 stays n me link d m p L10 s h = inl h
 stays n me link d m p L11 s h = inl h
 stays n me link d m p L12 s h = inl h
@@ -198,12 +199,12 @@ stays n me link d m p L31 s h = absurd (not_update n link me d h s)
 stays n me link d m p L32 s h = absurd (not_update n link me d h s)
 stays n me link d m p L33 s h = absurd (not_update n link me d h s)
 
-calls_embed : (n : ℕ) (d : Task) (m : List Word) (p : Variables) → span.NotTo (algorithm n) (embed_to d m p)
+calls_embed : (n : ℕ) (d : Task) (m : Words) (p : Variables) → span.NotTo (algorithm n) (embed_to d m p)
 calls_embed n Scanning m p = tt
 calls_embed n (Embedded w x) m p = tt
 calls_embed n (Updating w x) m p = tt
 
-pub calls : (n me : ℕ) (d : Task) (m : List Word) (p : Variables) (k : ProgramCounter) → IsCallLine (instr_at listing_u.lines (number k)) → span.NotTo (algorithm n) (move n me d m p k)
+pub calls : (n me : ℕ) (d : Task) (m : Words) (p : Variables) (k : ProgramCounter) → IsCallLine (instr_at listing_u.lines (number k)) → span.NotTo (algorithm n) (move n me d m p k)
 calls n me d m p L30 h = calls_embed n d m p
 calls n me d m p L10 h = absurd h
 calls n me d m p L11 h = absurd h
@@ -223,7 +224,7 @@ calls n me d m p L31 h = absurd h
 calls n me d m p L32 h = absurd h
 calls n me d m p L33 h = absurd h
 
-lawful_at : (n i : ℕ) (m : List Word) (p : Variables) (control : Control) → ControlWell n i p control → span.LawfulAt (algorithm n) i m p control
+lawful_at : (n i : ℕ) (m : Words) (p : Variables) (control : Control) → ControlWell n i p control → span.LawfulAt (algorithm n) i m p control
 lawful_at n i m p Idle h = tt
 lawful_at n i m p (At d k) h = record { stays = λ link inside. stays n i link d m p k h.0 inside; calls = λ c. calls n i d m p k c }
 
@@ -239,77 +240,77 @@ pub goes : (n : ℕ) (items : List Item) (fits : Fits (run_of n items)) (i : ℕ
 goes n items fits i one link c e t scan le lt = span.goes (algorithm n) tests_is items fits (all_do n items fits) (lawful n items fits) i one link c e t scan le lt
 
 -- (c)
-returns_held : (n : ℕ) (history : ℕ → List Word) (t since : ℕ) (base m : List Word) (p : Variables) (k : ProgramCounter) (v : List ℕ) →
-    Returns (instr_at listing_u.lines (number k)) (locals_of p) v → Stage n history t since base m p k → Held history t since v
-returns_held n history t since base m p L22 v g h = subst (Held history t since) g h
-returns_held n history t since base m p L24 v g h = subst (Held history t since) g h
-returns_held n history t since base m p L10 v g h = absurd g
-returns_held n history t since base m p L11 v g h = absurd g
-returns_held n history t since base m p L12 v g h = absurd g
-returns_held n history t since base m p L13 v g h = absurd g
-returns_held n history t since base m p L14 v g h = absurd g
-returns_held n history t since base m p L15 v g h = absurd g
-returns_held n history t since base m p L16 v g h = absurd g
-returns_held n history t since base m p L17 v g h = absurd g
-returns_held n history t since base m p L18 v g h = absurd g
-returns_held n history t since base m p L19 v g h = absurd g
-returns_held n history t since base m p L21 v g h = absurd g
-returns_held n history t since base m p L23 v g h = absurd g
-returns_held n history t since base m p L30 v g h = absurd g
-returns_held n history t since base m p L31 v g h = absurd g
-returns_held n history t since base m p L32 v g h = absurd g
-returns_held n history t since base m p L33 v g h = absurd g
+returns_held : (n : ℕ) (history : ℕ → Words) (t since round : ℕ) (m : Words) (p : Variables) (k : ProgramCounter) (v : List ℕ) →
+    Returns (instr_at listing_u.lines (number k)) (locals_of p) v → Stage n history t since round m p k → Held history t since v
+returns_held n history t since round m p L22 v g h = subst (Held history t since) g h
+returns_held n history t since round m p L24 v g h = subst (Held history t since) g h
+returns_held n history t since round m p L10 v g h = absurd g
+returns_held n history t since round m p L11 v g h = absurd g
+returns_held n history t since round m p L12 v g h = absurd g
+returns_held n history t since round m p L13 v g h = absurd g
+returns_held n history t since round m p L14 v g h = absurd g
+returns_held n history t since round m p L15 v g h = absurd g
+returns_held n history t since round m p L16 v g h = absurd g
+returns_held n history t since round m p L17 v g h = absurd g
+returns_held n history t since round m p L18 v g h = absurd g
+returns_held n history t since round m p L19 v g h = absurd g
+returns_held n history t since round m p L21 v g h = absurd g
+returns_held n history t since round m p L23 v g h = absurd g
+returns_held n history t since round m p L30 v g h = absurd g
+returns_held n history t since round m p L31 v g h = absurd g
+returns_held n history t since round m p L32 v g h = absurd g
+returns_held n history t since round m p L33 v g h = absurd g
 
-abbrev pub AnswerHeld : (ℕ → List Word) → ℕ → ℕ → Move → Type 0
+abbrev pub AnswerHeld : (ℕ → Words) → ℕ → ℕ → Move → Type 0
 AnswerHeld history t since (To d m p k) = Unit {0}
 AnswerHeld history t since (Begin d p k) = Unit {0}
 AnswerHeld history t since (Answer v) = Held history t since v
 AnswerHeld history t since Finish = Unit {0}
 
-answers_if : (history : ℕ → List Word) (t since : ℕ) (b : Bool) (x y : Move) → AnswerHeld history t since x → AnswerHeld history t since y → AnswerHeld history t since (if b then x else y)
+answers_if : (history : ℕ → Words) (t since : ℕ) (b : Bool) (x y : Move) → AnswerHeld history t since x → AnswerHeld history t since y → AnswerHeld history t since (if b then x else y)
 answers_if history t since true x y f g = f
 answers_if history t since false x y f g = g
 
-answers_first : (history : ℕ → List Word) (t since : ℕ) (d : Task) (m : List Word) (p : Variables) (o : Option ℕ) → AnswerHeld history t since (first_to d m p o)
+answers_first : (history : ℕ → Words) (t since : ℕ) (d : Task) (m : Words) (p : Variables) (o : Option ℕ) → AnswerHeld history t since (first_to d m p o)
 answers_first history t since d m p None = tt
 answers_first history t since d m p (Some k) = tt
 
-answers_return : (history : ℕ → List Word) (t since : ℕ) (d : Task) (m : List Word) (p : Variables) → Held history t since p.s → AnswerHeld history t since (return_to d m p)
+answers_return : (history : ℕ → Words) (t since : ℕ) (d : Task) (m : Words) (p : Variables) → Held history t since p.s → AnswerHeld history t since (return_to d m p)
 answers_return history t since Scanning m p h = h
 answers_return history t since (Embedded w x) m p h = tt
 answers_return history t since (Updating w x) m p h = tt
 
-answers_embed : (history : ℕ → List Word) (t since : ℕ) (d : Task) (m : List Word) (p : Variables) → AnswerHeld history t since (embed_to d m p)
+answers_embed : (history : ℕ → Words) (t since : ℕ) (d : Task) (m : Words) (p : Variables) → AnswerHeld history t since (embed_to d m p)
 answers_embed history t since Scanning m p = tt
 answers_embed history t since (Embedded w x) m p = tt
 answers_embed history t since (Updating w x) m p = tt
 
-answers : (n me : ℕ) (history : ℕ → List Word) (t since : ℕ) (base m : List Word) (d : Task) (p : Variables) (k : ProgramCounter) → Stage n history t since base m p k → AnswerHeld history t since (move n me d m p k)
-answers n me history t since base m d p L10 h = tt
-answers n me history t since base m d p L11 h = tt
-answers n me history t since base m d p L12 h = tt
-answers n me history t since base m d p L13 h = answers_if history t since (nat_lt p.j n) _ _ tt tt
-answers n me history t since base m d p L14 h = tt
-answers n me history t since base m d p L15 h = answers_if history t since (nat_lt p.j n) _ _ tt tt
-answers n me history t since base m d p L16 h = answers_if history t since (all_true (map (same_seq p) (places_to n))) _ _ tt tt
-answers n me history t since base m d p L17 h = tt
-answers n me history t since base m d p L18 h = answers_first history t since d m p (first_true 1 (map (λ k. nat_eq (moved_at p k) 2) (places_to n)))
-answers n me history t since base m d p L19 h = tt
-answers n me history t since base m d p L21 h = tt
-answers n me history t since base m d p L22 h = answers_return history t since d m p h
-answers n me history t since base m d p L23 h = tt
-answers n me history t since base m d p L24 h = answers_return history t since d m p h
-answers n me history t since base m d p L30 h = answers_embed history t since d m p
-answers n me history t since base m d p L31 h = tt
-answers n me history t since base m d p L32 h = tt
-answers n me history t since base m d p L33 h = tt
+answers : (n me : ℕ) (history : ℕ → Words) (t since round : ℕ) (m : Words) (d : Task) (p : Variables) (k : ProgramCounter) → Stage n history t since round m p k → AnswerHeld history t since (move n me d m p k)
+answers n me history t since round m d p L10 h = tt
+answers n me history t since round m d p L11 h = tt
+answers n me history t since round m d p L12 h = tt
+answers n me history t since round m d p L13 h = answers_if history t since (nat_lt p.j n) _ _ tt tt
+answers n me history t since round m d p L14 h = tt
+answers n me history t since round m d p L15 h = answers_if history t since (nat_lt p.j n) _ _ tt tt
+answers n me history t since round m d p L16 h = answers_if history t since (all_true (map (same_seq p) (places_to n))) _ _ tt tt
+answers n me history t since round m d p L17 h = tt
+answers n me history t since round m d p L18 h = answers_first history t since d m p (first_true 1 (map (λ k. nat_eq (moved_at p k) 2) (places_to n)))
+answers n me history t since round m d p L19 h = tt
+answers n me history t since round m d p L21 h = tt
+answers n me history t since round m d p L22 h = answers_return history t since d m p h
+answers n me history t since round m d p L23 h = tt
+answers n me history t since round m d p L24 h = answers_return history t since d m p h
+answers n me history t since round m d p L30 h = answers_embed history t since d m p
+answers n me history t since round m d p L31 h = tt
+answers n me history t since round m d p L32 h = tt
+answers n me history t since round m d p L33 h = tt
 
-answer_held : (n : ℕ) (history : ℕ → List Word) (t since : ℕ) (base : List Word) (u : ℕ) (m : List Word) (q : Process) (k : ProgramCounter) (x : Move) (v : List ℕ) →
+answer_held : (n : ℕ) (history : ℕ → Words) (t since u : ℕ) (m : Words) (q : Process) (k : ProgramCounter) (x : Move) (v : List ℕ) →
     outcome_of (by_move (algorithm n) u m q k x) ≡ Answered v → (AnswerHeld history t since x) → Held history t since v
-answer_held n history t since base u m q k (To d m' p k') v e h = absurd (cc)
-answer_held n history t since base u m q k (Begin d p k') v e h = absurd (cc)
-answer_held n history t since base u m q k (Answer w) v e h = subst (Held history t since) (let s : w ≡ v = cc in s) h
-answer_held n history t since base u m q k Finish v e h = absurd (cc)
+answer_held n history t since u m q k (To d m' p k') v e h = absurd (cc)
+answer_held n history t since u m q k (Begin d p k') v e h = absurd (cc)
+answer_held n history t since u m q k (Answer w) v e h = subst (Held history t since) (let s : w ≡ v = cc in s) h
+answer_held n history t since u m q k Finish v e h = absurd (cc)
 
 module _ (n : ℕ) (items : List Item) (fits : Fits (run_of n items)) where
   abbrev pub his : ℕ → ℕ → Process
@@ -322,9 +323,9 @@ module _ (n : ℕ) (items : List Item) (fits : Fits (run_of n items)) where
       (h.0, h.1, omega arith, ap values (embed.state_is (algorithm n) items fits (all_do n items fits) h.0 (omega arith)) ∙ h.3)
 
   pub stage_of : (t i : ℕ) (d : Task) (k : ProgramCounter) → t ≤ length items → IsOneOf n i → (his t i).control ≡ At d k →
-      Stage n (memories n items) t (his t i).auxiliary.since (his t i).auxiliary.base (memories n items t) (his t i).variables k
+      Stage n (memories n items) t (his t i).auxiliary.since (his t i).auxiliary.round (memories n items t) (his t i).variables k
   stage_of t i d k le one e =
-      subst (λ (p : Control). StageAt n (memories n items) t (his t i).auxiliary.since (his t i).auxiliary.base (memories n items t) (his t i).variables p) e (own n items fits t i le one).stage
+      subst (λ (p : Control). StageAt n (memories n items) t (his t i).auxiliary.since (his t i).auxiliary.round (memories n items t) (his t i).variables p) e (own n items fits t i le one).stage
 
   -- an embedded scan
   embedded_point : (i l c t : ℕ) (v : List ℕ) (one : IsOneOf n i) → t < length items → Goes n items fits i one (Some l) c t → Ends (run_of n items) i (suc t) (Some l) v → HasPoint (run_of n items) c (suc t) v
@@ -335,7 +336,7 @@ module _ (n : ℕ) (items : List Item) (fits : Fits (run_of n items)) where
       let returns_view : Returns (instr_at listing_u.lines (number g.counter)) (locals_of (his t i).variables) v =
       subst (λ (p : NamedProcess). Returns (line_in listing_u p.status) p.locals v) busy ends.1 in
       let held : Held (memories n items) t (his t i).auxiliary.since v =
-      returns_held n (memories n items) t (his t i).auxiliary.since (his t i).auxiliary.base (memories n items t) (his t i).variables g.counter v returns_view (stage_of t i g.task g.counter (omega arith) one g.control) in
+      returns_held n (memories n items) t (his t i).auxiliary.since (his t i).auxiliary.round (memories n items t) (his t i).variables g.counter v returns_view (stage_of t i g.task g.counter (omega arith) one g.control) in
       point_of c (suc t) t v (omega arith) (omega arith) (subst (λ s. Held (memories n items) t s v) g.since held)
 
   -- a top-level scan
@@ -353,9 +354,9 @@ module _ (n : ℕ) (items : List Item) (fits : Fits (run_of n items)) where
       ap (λ (y : Item). outcome_of (by_item (algorithm n) (suc t) (worlds n items t) y)) is2
       ∙ ap (λ (p : Control). outcome_of (by_step (algorithm n) (suc t) (memories n items t) i (his t i) p)) g.control in
       let held : Held (memories n items) t (his t i).auxiliary.since v =
-      answer_held n (memories n items) t (his t i).auxiliary.since (his t i).auxiliary.base (suc t) (memories n items t) (his t i) g.counter (move n i g.task (memories n items t) (his t i).variables g.counter) v
+      answer_held n (memories n items) t (his t i).auxiliary.since (suc t) (memories n items t) (his t i) g.counter (move n i g.task (memories n items t) (his t i).variables g.counter) v
       (sym e ∙ sym (embed.outcome_is (algorithm n) items fits (all_do n items fits) t short) ∙ out)
-      (answers n i (memories n items) t (his t i).auxiliary.since (his t i).auxiliary.base (memories n items t) g.task (his t i).variables g.counter (stage_of t i g.task g.counter (omega arith) one g.control)) in
+      (answers n i (memories n items) t (his t i).auxiliary.since (his t i).auxiliary.round (memories n items t) g.task (his t i).variables g.counter (stage_of t i g.task g.counter (omega arith) one g.control)) in
       point_of c (suc t) t v (omega arith) (omega arith) (subst (λ s. Held (memories n items) t s v) g.since held)
 
   pub point_lem : (i : ℕ) (link : Option ℕ) (c e : ℕ) (v : List ℕ) → Finished (run_of n items) i link c e v → HasPoint (run_of n items) c e v
@@ -403,11 +404,11 @@ module _ (n : ℕ) (items : List Item) (fits : Fits (run_of n items)) where
       let o = own n items fits t i le one in
       let w : ControlWell n i q.variables (At g.task g.counter) = subst (ControlWell n i q.variables) g.control o.well in
       let stage = stage_of n items fits t i g.task g.counter le one g.control in
-      let counts : Count n q.variables q.auxiliary.own q.auxiliary.collects g.counter = subst (λ (p : Control). CountAt n q.variables q.auxiliary.own q.auxiliary.collects p) g.control o.counts in
+      let counts : Count n q.variables q.auxiliary.own q.auxiliary.collects q.auxiliary.tested g.counter = subst (λ (p : Control). CountAt n q.variables q.auxiliary.own q.auxiliary.collects q.auxiliary.tested p) g.control o.counts in
       let scan = inside_line n i link g.task g.counter g.inside w.0 in
-      let sharp = sharp_at n i (memories n items) t q.auxiliary.since q.auxiliary.base (memories n items t) g.task q.variables g.counter one w.0 w.1 (λ inside. o.self (subst InScan (sym g.control) inside)) stage in
-      let few : q.auxiliary.collects + tests g.counter ≤ n = collects_le n q.variables g.counter q.auxiliary.own q.auxiliary.collects (omega arith) w.1 sharp counts scan in
-      let short : q.auxiliary.own + 1 ≤ 4 * (n * n) + 8 * n + 7 = own_le n q.variables g.counter q.auxiliary.own q.auxiliary.collects w.1 counts (omega arith) scan in
+      let sharp = sharp_at n i (memories n items) t q.auxiliary.since q.auxiliary.round (memories n items t) g.task q.variables g.counter one w.0 w.1 (λ inside. o.self (subst InScan (sym g.control) inside)) stage in
+      let few : q.auxiliary.collects + tests g.counter ≤ n = collects_le n q.variables g.counter q.auxiliary.own q.auxiliary.collects q.auxiliary.tested (omega arith) w.1 sharp counts scan in
+      let short : q.auxiliary.own + 1 ≤ 4 * (n * n) + 8 * n + 7 = own_le n q.variables g.counter q.auxiliary.own q.auxiliary.collects q.auxiliary.tested w.1 counts (omega arith) scan in
       (subst (λ y. y + tests g.counter ≤ n) g.collects few, subst (λ y. y + 1 ≤ 4 * (n * n) + 8 * n + 7) g.own short)
 
   pub bounds : (i : ℕ) (link : Option ℕ) (c e : ℕ) → Scan (run_of n items) i link c e →
@@ -422,7 +423,7 @@ module _ (n : ℕ) (items : List Item) (fits : Fits (run_of n items)) where
             (omega arith, omega arith))
         | inr more ↦ (let g = goes n items fits i one link c (suc t) t scan (omega arith) (omega arith) in
             let l = limits link i c t one (omega arith) g in
-            let a = span.last_collects (algorithm n) tests_is items fits (all_do n items fits) (lawful n items fits) i one link c t (omega arith) (omega arith) g in
+            let a = span.last_collects (algorithm n) tests_is items fits (all_do n items fits) (lawful n items fits) i one c t g.task g.counter (omega arith) (omega arith) g.control in
             let b = span.last_own (algorithm n) tests_is items fits (all_do n items fits) (lawful n items fits) i one c t (omega arith) in
             (omega arith, omega arith))
       ]

@@ -8,3 +8,4 @@ pub mod Invariant
 pub mod Keep
 pub mod Runs
 pub mod Updates
+pub mod Moves

@@ -51,26 +51,52 @@ writes_is L31 = refl
 writes_is L32 = refl
 writes_is L33 = refl
 
--- the line with this number
-at_32 : (k : ProgramCounter) → nat_eq (number k) 32 ≡ true → k ≡ L32
-at_32 L10 h = absurd (cc)
-at_32 L11 h = absurd (cc)
-at_32 L12 h = absurd (cc)
-at_32 L13 h = absurd (cc)
-at_32 L14 h = absurd (cc)
-at_32 L15 h = absurd (cc)
-at_32 L16 h = absurd (cc)
-at_32 L17 h = absurd (cc)
-at_32 L18 h = absurd (cc)
-at_32 L19 h = absurd (cc)
-at_32 L21 h = absurd (cc)
-at_32 L22 h = absurd (cc)
-at_32 L23 h = absurd (cc)
-at_32 L24 h = absurd (cc)
-at_32 L30 h = absurd (cc)
-at_32 L31 h = absurd (cc)
-at_32 L32 h = refl
-at_32 L33 h = absurd (cc)
+-- the program counter with this number
+abbrev pub counter_with : ℕ → Option ProgramCounter
+counter_with k =
+    if nat_eq k 10 then Some L10
+    else if nat_eq k 11 then Some L11
+    else if nat_eq k 12 then Some L12
+    else if nat_eq k 13 then Some L13
+    else if nat_eq k 14 then Some L14
+    else if nat_eq k 15 then Some L15
+    else if nat_eq k 16 then Some L16
+    else if nat_eq k 17 then Some L17
+    else if nat_eq k 18 then Some L18
+    else if nat_eq k 19 then Some L19
+    else if nat_eq k 21 then Some L21
+    else if nat_eq k 22 then Some L22
+    else if nat_eq k 23 then Some L23
+    else if nat_eq k 24 then Some L24
+    else if nat_eq k 30 then Some L30
+    else if nat_eq k 31 then Some L31
+    else if nat_eq k 32 then Some L32
+    else if nat_eq k 33 then Some L33
+    else None
+
+counter_is : (k : ProgramCounter) → counter_with (number k) ≡ Some k
+counter_is L10 = refl
+counter_is L11 = refl
+counter_is L12 = refl
+counter_is L13 = refl
+counter_is L14 = refl
+counter_is L15 = refl
+counter_is L16 = refl
+counter_is L17 = refl
+counter_is L18 = refl
+counter_is L19 = refl
+counter_is L21 = refl
+counter_is L22 = refl
+counter_is L23 = refl
+counter_is L24 = refl
+counter_is L30 = refl
+counter_is L31 = refl
+counter_is L32 = refl
+counter_is L33 = refl
+
+pub at_number : (k : ProgramCounter) (line : ℕ) (there : ProgramCounter) → counter_with line ≡ Some there → nat_eq (number k) line ≡ true → k ≡ there
+at_number k line there is same =
+    let e : Some k ≡ Some there = sym (counter_is k) ∙ ap counter_with (same_from (number k) line same) ∙ is in cc
 
 -- an update never answers, and is done at line 33 alone
 abbrev pub NoAnswer : ℕ → Move → Type 0
@@ -236,24 +262,25 @@ call_same : (n t : ℕ) (x : State) (i : ℕ) (op : Op) (control : Control) → 
 call_same n t x i op Idle = admit_same n t x i op (call_skip kind.Seq (square n) i op)
 call_same n t x i op (At d k) = refl
 
-happens_same : (n t : ℕ) (x : State) (y : Item) → ((happens (algorithm n) t x y).memory ≡ x.memory) ⊎ Writes n x y
+pub happens_same : (n t : ℕ) (x : State) (y : Item) → ((happens (algorithm n) t x y).memory ≡ x.memory) ⊎ Writes n x y
 happens_same n t x (Step i) = step_same n t x i (typed_at (algorithm n) x i).control refl
 happens_same n t x (Call i op) = inl (call_same n t x i op (typed_at (algorithm n) x i).control)
 
 self_number : (x : ℕ) → nat_eq x x ≡ true
 self_number x = grind (arith, common_steps)
 
-both : (x y : Bool) → (x && y) ≡ true → (x ≡ true) × (y ≡ true)
+pub both : (x y : Bool) → (x && y) ≡ true → (x ≡ true) × (y ≡ true)
 both true y h = (refl, h)
 both false y h = absurd (cc)
 
-step_of : (i : ℕ) (y : Item) → steps i y ≡ true → y ≡ Step i
+pub step_of : (i : ℕ) (y : Item) → steps i y ≡ true → y ≡ Step i
 step_of i (Step k) h = ap (λ u. Step u) (same_from k i h)
 step_of i (Call k op) h = absurd (cc)
 
-busy_of : (n : ℕ) (control : Control) → is_at 32 (status_of (algorithm n) control) ≡ true → (d : Task) × (control ≡ At d L32)
-busy_of n Idle h = absurd (cc)
-busy_of n (At d k) h = (d, ap (λ y. At d y) (at_32 k h))
+pub busy_at : (n line : ℕ) (there : ProgramCounter) (control : Control) → counter_with line ≡ Some there → is_at line (status_of (algorithm n) control) ≡ true →
+    (d : Task) × (control ≡ At d there)
+busy_at n line there Idle is h = absurd (cc)
+busy_at n line there (At d k) is h = (d, ap (λ y. At d y) (at_number k line there is h))
 
 update_of : (i : ℕ) (d : Task) → IsUpdate i d → (arg : ℕ) × (d ≡ Updating i arg)
 update_of i Scanning u = absurd u
@@ -267,20 +294,21 @@ module _ (n : ℕ) (items : List Item) (fits : Fits (run_of n items)) where
   values_is : (t : ℕ) → t ≤ length items → values (state (run_of n items) t) ≡ data_of (memories n items t)
   values_is t h = ap values (embed.state_is (algorithm n) items fits (all_do n items fits) t h)
 
+  pub write_executes : (t i : ℕ) (d : Task) → t < length items → item_at items t ≡ Step i → (at t i).control ≡ At d L32 → executes (run_of n items) i 32 (suc t) ≡ true
+  write_executes t i d h is at32 =
+      let one : IsOneOf n i = subst (λ y. IsOneOf n (who y)) is (embed.one_at (algorithm n) items fits (all_do n items fits) t h) in
+      let stands : is_at 32 (process_at (state (run_of n items) t) i).status ≡ true =
+      ap (λ (p : NamedProcess). is_at 32 p.status) (embed.process_at_is (algorithm n) items fits (all_do n items fits) t i (omega arith) one)
+      ∙ ap (λ (p : Control). is_at 32 (status_of (algorithm n) p)) at32 in
+      ap (λ (y : Item). steps i y && is_at 32 (process_at (state (run_of n items) t) i).status) is
+      ∙ ap (λ b. b && is_at 32 (process_at (state (run_of n items) t) i).status) (self_number i) ∙ stands
+
   pub changes_only_at_32 : (t : ℕ) → t < length items →
       (values (state (run_of n items) (suc t)) ≡ values (state (run_of n items) t)) ⊎ (executes (run_of n items) (who (item (run_of n items) (suc t))) 32 (suc t) ≡ true)
   changes_only_at_32 t h =
       elim (happens_same n (suc t) (worlds n items t) (item_at items t)) [
         | inl same ↦ inl (values_is (suc t) (omega arith) ∙ ap data_of same ∙ sym (values_is t (omega arith)))
-        | inr w ↦ inr (
-            let i = w.0 in
-            let is : item_at items t ≡ Step i = w.2 in
-            let one : IsOneOf n i = subst (λ y. IsOneOf n (who y)) is (embed.one_at (algorithm n) items fits (all_do n items fits) t h) in
-            let stands : is_at 32 (process_at (state (run_of n items) t) i).status ≡ true =
-            ap (λ (p : NamedProcess). is_at 32 p.status) (embed.process_at_is (algorithm n) items fits (all_do n items fits) t i (omega arith) one)
-            ∙ ap (λ (p : Control). is_at 32 (status_of (algorithm n) p)) w.3 in
-            ap (λ (y : Item). steps (who y) y && is_at 32 (process_at (state (run_of n items) t) (who y)).status) is
-            ∙ ap (λ b. b && is_at 32 (process_at (state (run_of n items) t) i).status) (self_number i) ∙ stands)
+        | inr w ↦ inr (subst (λ (y : Item). executes (run_of n items) (who y) 32 (suc t) ≡ true) (sym w.2) (write_executes t w.0 w.1 h w.2 w.3))
       ]
 
   quiet : (i : ℕ) → IsOneOf n i → (t : ℕ) → t < length items → (d : Task) (k : ProgramCounter) → (at t i).control ≡ At d k → (word arg : ℕ) → op_of d ≡ Update word arg →
@@ -295,7 +323,7 @@ module _ (n : ℕ) (items : List Item) (fits : Fits (run_of n items)) where
       let is : item_at items t ≡ Step i = step_of i (item_at items t) parts.0 in
       let stands : is_at 32 (status_of (algorithm n) (at t i).control) ≡ true =
       sym (ap (λ (p : NamedProcess). is_at 32 p.status) (embed.process_at_is (algorithm n) items fits (all_do n items fits) t i (omega arith) one)) ∙ parts.1 in
-      let busy = busy_of n (at t i).control stands in
+      let busy = busy_at n 32 L32 (at t i).control refl stands in
       let well : ControlWell n i (at t i).variables (At busy.0 L32) = subst (ControlWell n i (at t i).variables) busy.1 (own n items fits t i (omega arith) one).well in
       let up = update_of i busy.0 well.0 in
       let arg = up.0 in

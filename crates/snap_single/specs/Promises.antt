@@ -4,7 +4,7 @@ use Rattle.snap_words.specs.Shape.{Counts}
 use Rattle.snap_semantics.specs.declared.process.Item.{Item}
 use Rattle.snap_runs.specs.Run.{Run}
 use Rattle.snap_runs.specs.Promises as promises
-use Rattle.snap_single.specs.ListingU.{listing_u}
+use Rattle.snap_single.specs.ListingU.{listing_u, moved}
 
 -- a word for each of n processes
 abbrev pub square : ℕ → Counts
@@ -45,3 +45,7 @@ FewSteps = (n : ℕ) (items : List Item) → promises.StepsAtMost (4 * (n * n) +
 -- Every scan has at most n double collects.
 abbrev pub SharpCollects : Type 0
 SharpCollects = (n : ℕ) (items : List Item) → promises.CollectsAtMost n (run_of n items)
+
+-- A move that a scan sees at line 17 is a write since its previous double collect, or since its start where there is none.
+abbrev pub MovesAreWrites : Type 0
+MovesAreWrites = (n : ℕ) (items : List Item) → promises.MovesAreWrites 17 moved 32 (run_of n items)

@@ -9,3 +9,4 @@ pub mod Keep
 pub mod Runs
 pub mod Updates
 pub mod Moves
+pub mod Samples

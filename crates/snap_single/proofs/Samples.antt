@@ -4,7 +4,7 @@ use Rattle.std.proofs.Common.{arith}
 use Rattle.snap_semantics.specs.declared.process.Item.{Item}
 use Rattle.snap_semantics.specs.declared.process.Item.TheVariants.{Step, Call}
 use Rattle.snap_semantics.specs.declared.process.Op.TheVariants.{Scan as ScanOp, Update}
-use Rattle.snap_semantics.specs.declared.process.Outcome.TheVariants.{Called, Finished}
+use Rattle.snap_semantics.specs.declared.process.Outcome.TheVariants.{Finished}
 use Rattle.snap_semantics.specs.State.{values, value_at, process_at}
 use Rattle.snap_runs.specs.Run.{state, before, outcome}
 use Rattle.snap_runs.specs.Scan.{Starts, Ends, HasPoint, double_collects, own_steps}

@@ -1,5 +1,5 @@
 -- The invariant of U: what holds in every state of every run.
-use Rattle.std.specs.Prelude.{◌≡◌, ◌≢◌, ℕ, suc, ◌+◌, ◌-◌, ◌<◌, ◌≤◌, ◌⊎◌, max, [], length, slice_set, refl}
+use Rattle.std.specs.Prelude.{◌≡◌, ◌≢◌, ℕ, suc, ◌+◌, ◌-◌, ◌<◌, ◌≤◌, ◌⊎◌, max, length, slice_set, refl}
 use Rattle.std.proofs.Common.{sym, ◌∙◌, ap, subst, arith, inl, inr}
 use Rattle.std.proofs.lemmas.Bool.{cases_eq}
 use Rattle.std.proofs.lemmas.Grind.{get_or-set_at}
@@ -7,12 +7,12 @@ use Rattle.std.proofs.lemmas.List.{length-set, get_or-set_other}
 use Rattle.snap_semantics.specs.declared.process.Outcome.{Outcome}
 use Rattle.snap_words.specs.Word.{Word}
 use Rattle.snap_words.specs.Word.{no_word}
-use Rattle.snap_runs.proofs.Algorithm.{Task, Scanning, Embedded, Updating, value_of, Idle, At, New, typed_at, changed, stepped_auxiliary}
+use Rattle.snap_runs.proofs.Algorithm.{Task, Scanning, Embedded, Updating, Idle, At, New, typed_at, changed, stepped_auxiliary}
 use Rattle.snap_runs.proofs.Embedding as embed
 use Rattle.snap_runs.proofs.Flow.{IsInScan, InScan}
 use Rattle.snap_runs.proofs.Held.{word_at, Held, held_wider, seq_at, WordBefore, before_seq, Grows}
 use Rattle.snap_words.specs.Shape.{IsOneOf}
-use Rattle.snap_single.proofs.Algorithm.{Words, Change, Control, Process, State, Variables, L32, L33, IsUpdate, writes, algorithm}
+use Rattle.snap_single.proofs.Algorithm.{Words, Change, Control, Process, State, Variables, L32, L33, IsUpdate, word_put, writes, algorithm}
 use Rattle.snap_single.proofs.Collect.{Viewed}
 use Rattle.snap_single.proofs.Control.{ControlWell}
 use Rattle.snap_single.proofs.Count.{Count}
@@ -150,18 +150,15 @@ put_inv n t history x i q' o count one now h own r1 r2 =
     }
 
 -- line 32
-abbrev pub written : ℕ → Task → Variables → Word
-written me d p = record { datum = value_of d; seq = p.c; id = 0; toggle = 0; hands = []; view = p.s }
-
 pub write_inv : (n t : ℕ) (history : ℕ → Words) (x : State) (i : ℕ) (d : Task) (q' : Process) (o : Outcome) → length x.processes ≡ n → IsOneOf n i →
     Inv n t history x → (typed_at (algorithm n) x i).control ≡ At d L32 → IsUpdate i d →
     q' ≡ record { control = At d L33; variables = (typed_at (algorithm n) x i).variables; auxiliary = stepped_auxiliary (algorithm n) L32 (suc t) (typed_at (algorithm n) x i).auxiliary } →
-    Inv n (suc t) history (changed x i (New (slice_set x.memory (i - 1) (written i d (typed_at (algorithm n) x i).variables)) q' o))
+    Inv n (suc t) history (changed x i (New (slice_set x.memory (i - 1) (word_put d (typed_at (algorithm n) x i).variables)) q' o))
 write_inv n t history x i d q' o count one h at up is =
     let a = algorithm n in
     let words = x.memory in
     let q = typed_at a x i in
-    let w = written i d q.variables in
+    let w = word_put d q.variables in
     let words' = slice_set words (i - 1) w in
     let c : Change = New words' q' o in
     let ownq : Own n t history words i q = h.each i one in

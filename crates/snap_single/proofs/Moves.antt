@@ -1,5 +1,5 @@
 -- The moves that a scan of U sees are writes since its previous double collect.
-use Rattle.std.specs.Prelude.{◌≡◌, ℕ, zero, suc, ◌+◌, ◌-◌, ◌<◌, ◌≤◌, Bool, true, false, not, List, [], length, Option, slice_set, if◌then◌else◌, refl}
+use Rattle.std.specs.Prelude.{◌≡◌, ℕ, zero, suc, ◌+◌, ◌-◌, ◌<◌, ◌≤◌, Bool, true, false, not, List, length, Option, slice_set, if◌then◌else◌, refl}
 use Rattle.std.proofs.Common.{sym, ◌∙◌, ap, subst, arith, inl, inr}
 use Rattle.std.proofs.lemmas.Bool.{cases_eq}
 use Rattle.std.proofs.lemmas.List.{get_or-set_other}
@@ -15,7 +15,7 @@ use Rattle.snap_runs.specs.Run.{Fits, state, item}
 use Rattle.snap_runs.specs.Scan.{Scan, steps, ends_double_collect, double_collects}
 use Rattle.snap_runs.specs.Update.{is_at, executes}
 use Rattle.snap_runs.specs.Promises.{row_place, ObservedMove, RecentWrite}
-use Rattle.snap_runs.proofs.Algorithm.{Task, value_of, At, typed_at, by_step, changed, item_at, happens, status_of, stepped_auxiliary}
+use Rattle.snap_runs.proofs.Algorithm.{Task, At, typed_at, by_step, changed, item_at, happens, status_of, stepped_auxiliary}
 use Rattle.snap_runs.proofs.Computing.{both, differs}
 use Rattle.snap_runs.proofs.Embedding as embed
 use Rattle.snap_runs.proofs.Held.{word_at, seq_at, before_seq}
@@ -23,7 +23,7 @@ use Rattle.snap_runs.proofs.Places.{for_each_at}
 use Rattle.snap_runs.proofs.ScanSpan as span
 use Rattle.snap_single.specs.ListingU as u
 use Rattle.snap_single.specs.Promises.{run_of, MovesAreWrites}
-use Rattle.snap_single.proofs.Algorithm.{Words, Control, Process, State, Variables, L17, L18, L32, agree, moved_at, counted, algorithm}
+use Rattle.snap_single.proofs.Algorithm.{Words, Control, Process, State, Variables, L17, L18, L32, agree, moved_at, counted, word_put, algorithm}
 use Rattle.snap_single.proofs.Collect.{Second, Between}
 use Rattle.snap_single.proofs.Count.{Count, counted_row}
 use Rattle.snap_single.proofs.Flows.{line_listed}
@@ -46,7 +46,7 @@ module _ (n : ℕ) (items : List Item) (fits : Fits (run_of n items)) where
       seq_at (words_at n items (suc v)) j ≡ seq_at (words_at n items v) j
   other_word v i j d h one other is at32 =
       let his_one : IsOneOf n i = subst (λ y. IsOneOf n (who y)) is (one_at n items fits v h) in
-      let word : Word = record { datum = value_of d; seq = (at v i).variables.c; id = 0; toggle = 0; hands = []; view = (at v i).variables.s } in
+      let word : Word = word_put d (at v i).variables in
       let memory_is : words_at n items (suc v) ≡ slice_set (words_at n items v) (i - 1) word =
       ap (λ (y : Item). (happens (algorithm n) (suc v) (state_at n items v) y).memory) is
       ∙ ap (λ (p : Control). (changed (state_at n items v) i (by_step (algorithm n) (suc v) (words_at n items v) i (at v i) p)).memory) at32 in

@@ -1,5 +1,5 @@
 -- The writes of U: line 32 alone, once in each update that is done, with the update's value.
-use Rattle.std.specs.Prelude.{◌≡◌, ℕ, suc, ◌-◌, ◌<◌, ◌≤◌, ◌⊎◌, true, ◌&&◌, List, [], length, Some, slice_set, refl}
+use Rattle.std.specs.Prelude.{◌≡◌, ℕ, suc, ◌-◌, ◌<◌, ◌≤◌, ◌⊎◌, true, ◌&&◌, List, length, Some, slice_set, refl}
 use Rattle.std.proofs.Common.{sym, ◌∙◌, ap, subst, arith, inl, inr}
 use Rattle.std.proofs.lemmas.List.{map-set}
 use Rattle.snap_words.specs.Shape.{IsOneOf}
@@ -20,7 +20,7 @@ use Rattle.snap_runs.proofs.Held.{data_of}
 use Rattle.snap_runs.proofs.UpdateSpan as called
 use Rattle.snap_runs.proofs.WritesOnce as writes_once
 use Rattle.snap_single.specs.Promises.{run_of, ChangesOnlyAt32, WritesItsUpdate, WritesOnce}
-use Rattle.snap_single.proofs.Algorithm.{Control, Process, ProgramCounter, L32, move, IsUpdate, lines, algorithm}
+use Rattle.snap_single.proofs.Algorithm.{Control, Process, ProgramCounter, L32, move, IsUpdate, word_put, lines, algorithm}
 use Rattle.snap_single.proofs.Control.{ControlWell}
 use Rattle.snap_single.proofs.Flows.{counter_with, at_number, once}
 use Rattle.snap_single.proofs.Runs.{state_at, words_at, process_after, own, all_do, all_flow, words_change}
@@ -90,7 +90,7 @@ module _ (n : ℕ) (items : List Item) (fits : Fits (run_of n items)) where
       subst (called.UnderAt (algorithm n) 32 (once n).writes_is items fits (all_do n items fits) i one (quiet i one) t (at t i)) control
       (called.under (algorithm n) 32 (once n).writes_is items fits (all_do n items fits) i one (quiet i one) t (omega arith)) in
       let order : c ≤ t = under.order in
-      let memory_is : words_at n items (suc t) ≡ slice_set (words_at n items t) (i - 1) (record { datum = value; seq = (at t i).variables.c; id = 0; toggle = 0; hands = []; view = (at t i).variables.s }) =
+      let memory_is : words_at n items (suc t) ≡ slice_set (words_at n items t) (i - 1) (word_put (Updating i value) (at t i).variables) =
       ap (λ (y : Item). (happens (algorithm n) (suc t) (state_at n items t) y).memory) is
       ∙ ap (λ (p : Control). (changed (state_at n items t) i (by_step (algorithm n) (suc t) (words_at n items t) i (at t i) p)).memory) control in (
         i,
@@ -108,7 +108,7 @@ module _ (n : ℕ) (items : List Item) (fits : Fits (run_of n items)) where
         omega arith,
         one,
         values_is (suc t) (omega arith) ∙ ap data_of memory_is
-            ∙ map-set (λ (y : Word). y.datum) (words_at n items t) (i - 1) (record { datum = value; seq = (at t i).variables.c; id = 0; toggle = 0; hands = []; view = (at t i).variables.s })
+            ∙ map-set (λ (y : Word). y.datum) (words_at n items t) (i - 1) (word_put (Updating i value) (at t i).variables)
             ∙ ap (λ v. slice_set v (i - 1) value) (sym (values_is t (omega arith))),
       )
 

@@ -28,7 +28,7 @@ use Rattle.snap_single.proofs.Collect.{Second, Between}
 use Rattle.snap_single.proofs.Count.{Count, counted_row}
 use Rattle.snap_single.proofs.Flows.{line_listed}
 use Rattle.snap_single.proofs.Invariant.{CountAt}
-use Rattle.snap_single.proofs.Runs.{state_at, words_at, process_after, one_at, own, all_do, lawful, goes, stage_of, words_change}
+use Rattle.snap_single.proofs.Runs.{state_at, words_at, process_after, one_at, invariant_of, all_do, lawful, goes, stage_of, words_change}
 use Rattle.snap_single.proofs.Stage.{copies_grow}
 use Rattle.snap_single.proofs.Updates.{step_of, busy_at, write_executes}
 
@@ -119,7 +119,7 @@ module _ (n : ℕ) (items : List Item) (fits : Fits (run_of n items)) where
       let write = grew j move.process round t g.round_before (omega arith) (omega arith) in
       let after : c ≤ round = g.round_after in
       let counts : Count n p (at t i).auxiliary.own (at t i).auxiliary.collects (at t i).auxiliary.tested L17 =
-      subst (λ (y : Control). CountAt n p (at t i).auxiliary.own (at t i).auxiliary.collects (at t i).auxiliary.tested y) busy.1 (own n items fits t i (omega arith) one).counts in
+      subst (λ (y : Control). CountAt n p (at t i).auxiliary.own (at t i).auxiliary.collects (at t i).auxiliary.tested y) busy.1 (invariant_of n items fits t i (omega arith) one).counts in
       let few : (at t i).auxiliary.tested ≤ 1 = counts.3 in
       let tested : (at t i).auxiliary.tested ≡ double_collects r i round t = g.tested in
       let last : double_collects r i round (suc t) ≤ double_collects r i round t + 0 =

@@ -10,7 +10,7 @@ use Rattle.snap_runs.proofs.Places.{for_each_at, first_found}
 use Rattle.snap_words.specs.Shape.{IsOneOf}
 use Rattle.snap_single.proofs.Algorithm.{Words, Move, Variables, ProgramCounter, L10, L11, L12, L13, L14, L15, L16, L17, L18, L19, L21, L22, L23, L24, L30, L31, L32, L33, move, first_to, agree, limit, moved_at, counted, at_limit, IsLineOf, restarts, writes}
 use Rattle.snap_single.proofs.Collect.{floor, Low, First, Viewed, Second, Between, Gained, first_more, second_starts, second_more, passed, gained_at}
-use Rattle.snap_single.proofs.Control.{Keeps}
+use Rattle.snap_single.proofs.Control.{VariablesAt}
 
 -- At each line a scan has come so far.
 abbrev pub Stage : ℕ → (ℕ → Words) → ℕ → ℕ → ℕ → Words → Variables → ProgramCounter → Type 0
@@ -51,7 +51,7 @@ pub record Known (n me : ℕ) (history : ℕ → Words) (t since round : ℕ) (w
   pub opened : (k : ℕ) → IsOneOf n k → seq_at (history round) k ≤ seq_at words k
   pub views : Viewed n history t since words
   pub line : IsLineOf me d k
-  pub keeps : Keeps n p k
+  pub keeps : VariablesAt n p k
 
 -- between the collects a process has written no less than the first copy says, and no more than the second one
 pub copies_grow : (n : ℕ) (history : ℕ → Words) (t since round : ℕ) (words : Words) (p : Variables) → Between n history t since round words p.moved p.a p.b (n + 1) →

@@ -23,7 +23,7 @@ use Rattle.snap_single.specs.Promises.{run_of, ChangesOnlyAt32, WritesItsUpdate,
 use Rattle.snap_single.proofs.Algorithm.{Control, Process, ProgramCounter, L32, move, IsUpdate, word_put, lines, algorithm}
 use Rattle.snap_single.proofs.Control.{ControlWell}
 use Rattle.snap_single.proofs.Flows.{counter_with, at_number, once}
-use Rattle.snap_single.proofs.Runs.{state_at, words_at, process_after, own, all_do, all_flow, words_change}
+use Rattle.snap_single.proofs.Runs.{state_at, words_at, process_after, invariant_of, all_do, all_flow, words_change}
 
 pub step_of : (i : ℕ) (y : Item) → steps i y ≡ true → y ≡ Step i
 step_of i (Step k) h = ap (λ u. Step u) (same_from k i h)
@@ -42,7 +42,7 @@ update_of i (Updating word value) u = (value, ap (λ y. Updating y value) u)
 
 has_written : (n : ℕ) (items : List Item) → Fits (run_of n items) → (t i : ℕ) → t ≤ length items → IsOneOf n i →
     flow.HasWritten lines (process_after n items t i).control (process_after n items t i).auxiliary.wrote
-has_written n items fits t i h one = (own n items fits t i h one).wrote
+has_written n items fits t i h one = (invariant_of n items fits t i h one).wrote
 
 module _ (n : ℕ) (items : List Item) (fits : Fits (run_of n items)) where
   abbrev pub at : ℕ → ℕ → Process
@@ -81,7 +81,7 @@ module _ (n : ℕ) (items : List Item) (fits : Fits (run_of n items)) where
       let stands : is_at 32 (status_of (algorithm n) (at t i).control) ≡ true =
       sym (ap (λ (p : NamedProcess). is_at 32 p.status) (embed.process_at_is (algorithm n) items fits (all_do n items fits) t i (omega arith) one)) ∙ parts.1 in
       let busy = busy_at n 32 L32 (at t i).control refl stands in
-      let well : ControlWell n i (at t i).variables (At busy.0 L32) = subst (ControlWell n i (at t i).variables) busy.1 (own n items fits t i (omega arith) one).well in
+      let well : ControlWell n i (at t i).variables (At busy.0 L32) = subst (ControlWell n i (at t i).variables) busy.1 (invariant_of n items fits t i (omega arith) one).well in
       let up = update_of i busy.0 well.0 in
       let value = up.0 in
       let control : (at t i).control ≡ At (Updating i value) L32 = busy.1 ∙ ap (λ d. At d L32) up.1 in

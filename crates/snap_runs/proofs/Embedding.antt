@@ -133,6 +133,12 @@ module _ {V P M : Type 0} (a : Algorithm V P M) where
       typed_at a (changed x i (New m q o)) i ≡ q
   own_process x i m q o count one = get_or-set_at x.processes (i - 1) (i - 1) q (first_process a) refl (omega arith)
 
+  -- the process of an item that changes it
+  pub process_next : (items : List Item) (t i : ℕ) (m : M) (q : TypedProcess V P M) (o : Outcome) → IsOneOf a.shape.n i →
+      typed_state a items (suc t) ≡ changed (typed_state a items t) i (New m q o) → typed_at a (typed_state a items (suc t)) i ≡ q
+  process_next items t i m q o one becomes =
+      ap (λ (y : TypedState V P M). typed_at a y i) becomes ∙ own_process (typed_state a items t) i m q o (count items t) one
+
   pub first_process_is : (i : ℕ) → IsOneOf a.shape.n i → typed_at a (first_state a) i ≡ first_process a
   first_process_is i one = get_or-replicate a.shape.n (i - 1) (first_process a) (first_process a) (omega arith)
 

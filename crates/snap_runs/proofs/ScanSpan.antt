@@ -97,6 +97,9 @@ module _ {V P M : Type 0} (a : Algorithm V P M) where
     abbrev pub his : ℕ → TypedProcess V P M
     his t = typed_at a (typed_state a items t) i
 
+    abbrev pub memory : ℕ → M
+    memory t = (typed_state a items t).memory
+
     -- at state t the scan that started at item c goes on
     pub record Goes (link : Option ℕ) (c t : ℕ) : Type 0 where
       pub task : Task
@@ -187,7 +190,7 @@ module _ {V P M : Type 0} (a : Algorithm V P M) where
 
     -- a step of the process that stays in the scan
     step_goes : (link : Option ℕ) (c e t : ℕ) (v : Move V P M) (d : Task) (k : P) → Scan r i link c e → c ≤ t → suc t < e → item_at items t ≡ Step i →
-        (his t).control ≡ At d k → Inside link d → a.move i d (typed_state a items t).memory (his t).variables k ≡ v → Stays link k (his t).variables v → Goes link c t → Goes link c (suc t)
+        (his t).control ≡ At d k → Inside link d → a.move i d (memory t) (his t).variables k ≡ v → Stays link k (his t).variables v → Goes link c t → Goes link c (suc t)
     step_goes link c e t v d k scan le lt is at inside is_v stays g =
         let x = typed_state a items t in
         let short : t < length items = (let last : e ≤ length items = scan.last in omega arith) in
@@ -202,11 +205,11 @@ module _ {V P M : Type 0} (a : Algorithm V P M) where
       where
         stepped_goes : (link : Option ℕ) (c e t : ℕ) (d : Task) (k : P) → Scan r i link c e → c ≤ t → suc t < e → t < length items → item_at items t ≡ Step i →
             (his t).control ≡ At d k → Goes link c t → (v : Move V P M) →
-            typed_state a items (suc t) ≡ changed (typed_state a items t) i (by_move a (suc t) (typed_state a items t).memory (his t) k v) →
-            outcome r (suc t) ≡ outcome_of (by_move a (suc t) (typed_state a items t).memory (his t) k v) → steps i (item_at items t) ≡ true → Stays link k (his t).variables v → Goes link c (suc t)
+            typed_state a items (suc t) ≡ changed (typed_state a items t) i (by_move a (suc t) (memory t) (his t) k v) →
+            outcome r (suc t) ≡ outcome_of (by_move a (suc t) (memory t) (his t) k v) → steps i (item_at items t) ≡ true → Stays link k (his t).variables v → Goes link c (suc t)
         stepped_goes link c e t d k scan le lt short is at g (To d' m' p' k') state_becomes out_is steps_is (inl inside) =
             let q' : TypedProcess V P M = record { control = At d' k'; variables = p'; auxiliary = stepped_auxiliary a k (suc t) (his t).auxiliary } in
-            let new : his (suc t) ≡ q' = ap (λ (y : TypedState V P M). typed_at a y i) state_becomes ∙ embed.own_process a (typed_state a items t) i m' q' Stepped (embed.count a items t) one in
+            let new : his (suc t) ≡ q' = embed.process_next a items t i m' q' Stepped one state_becomes in
             record {
               task = d';
               counter = k';
@@ -242,8 +245,8 @@ module _ {V P M : Type 0} (a : Algorithm V P M) where
     item_goes link c e t (Step k) scan le lt is w g =
         let is2 : item_at items t ≡ Step i = is ∙ ap (λ u. Step u) w in
         let short : t < length items = (let last : e ≤ length items = scan.last in omega arith) in
-        let law : Lawful i g.task (typed_state a items t).memory (his t).variables g.counter = subst (LawfulAt i (typed_state a items t).memory (his t).variables) g.control (lawful t i short one) in
-        step_goes link c e t (a.move i g.task (typed_state a items t).memory (his t).variables g.counter) g.task g.counter scan le lt is2 g.control g.inside refl (law.stays link g.inside) g
+        let law : Lawful i g.task (memory t) (his t).variables g.counter = subst (LawfulAt i (memory t) (his t).variables) g.control (lawful t i short one) in
+        step_goes link c e t (a.move i g.task (memory t) (his t).variables g.counter) g.task g.counter scan le lt is2 g.control g.inside refl (law.stays link g.inside) g
     item_goes link c e t (Call k op) scan le lt is w g =
         let x = typed_state a items t in
         let is2 : item_at items t ≡ Call i op = is ∙ ap (λ u. Call u op) w in
@@ -272,12 +275,12 @@ module _ {V P M : Type 0} (a : Algorithm V P M) where
         let out_is : outcome_of (by_call a (suc c) x.memory i ScanOp (his c) (his c).control) ≡ Called = sym (ap outcome_of item_is_change) ∙ sym (embed.outcome_is a items fits does c short) ∙ out in
         from_control c (his c).control state_becomes out_is
       where
-        from_control : (c : ℕ) (control : Control P) → typed_state a items (suc c) ≡ changed (typed_state a items c) i (by_call a (suc c) (typed_state a items c).memory i ScanOp (his c) control) →
-            outcome_of (by_call a (suc c) (typed_state a items c).memory i ScanOp (his c) control) ≡ Called → Goes None (suc c) (suc c)
+        from_control : (c : ℕ) (control : Control P) → typed_state a items (suc c) ≡ changed (typed_state a items c) i (by_call a (suc c) (memory c) i ScanOp (his c) control) →
+            outcome_of (by_call a (suc c) (memory c) i ScanOp (his c) control) ≡ Called → Goes None (suc c) (suc c)
         from_control c Idle state_becomes out_is =
             let x = typed_state a items c in
             let q' : TypedProcess V P M = record { control = At (task_of ScanOp) (a.counter ScanOp); variables = (his c).variables; auxiliary = called_auxiliary (suc c) ScanOp (his c).auxiliary } in
-            let new : his (suc c) ≡ q' = ap (λ (y : TypedState V P M). typed_at a y i) state_becomes ∙ embed.own_process a x i x.memory q' Called (embed.count a items c) one in
+            let new : his (suc c) ≡ q' = embed.process_next a items c i x.memory q' Called one state_becomes in
             record {
               task = task_of ScanOp;
               counter = a.counter ScanOp;
@@ -310,14 +313,14 @@ module _ {V P M : Type 0} (a : Algorithm V P M) where
         from_control l c (his c).control state_becomes out_is call_is link_is law
       where
         from_move : (l c : ℕ) (d : Task) (k : P) (v : Move V P M) → NotTo v →
-            typed_state a items (suc c) ≡ changed (typed_state a items c) i (by_move a (suc c) (typed_state a items c).memory (his c) k v) →
-            outcome_of (by_move a (suc c) (typed_state a items c).memory (his c) k v) ≡ Stepped →
+            typed_state a items (suc c) ≡ changed (typed_state a items c) i (by_move a (suc c) (memory c) (his c) k v) →
+            outcome_of (by_move a (suc c) (memory c) (his c) k v) ≡ Stepped →
             link_in (status_of a (his (suc c)).control) ≡ Some l → Goes (Some l) (suc c) (suc c)
         from_move l c d k (To d' m' p' k') not_to state_becomes out_is link_is = absurd not_to
         from_move l c d k (Begin d' p' k') not_to state_becomes out_is link_is =
             let x = typed_state a items c in
             let q' : TypedProcess V P M = record { control = At d' k'; variables = p'; auxiliary = begun_auxiliary a k (suc c) (his c).auxiliary } in
-            let new : his (suc c) ≡ q' = ap (λ (y : TypedState V P M). typed_at a y i) state_becomes ∙ embed.own_process a x i x.memory q' Stepped (embed.count a items c) one in
+            let new : his (suc c) ≡ q' = embed.process_next a items c i x.memory q' Stepped one state_becomes in
             record {
               task = d';
               counter = k';
@@ -334,12 +337,12 @@ module _ {V P M : Type 0} (a : Algorithm V P M) where
         from_move l c d k (Answer v) not_to state_becomes out_is link_is = absurd (cc)
         from_move l c d k Finish not_to state_becomes out_is link_is = absurd (cc)
 
-        from_control : (l c : ℕ) (control : Control P) → typed_state a items (suc c) ≡ changed (typed_state a items c) i (by_step a (suc c) (typed_state a items c).memory i (his c) control) →
-            outcome_of (by_step a (suc c) (typed_state a items c).memory i (his c) control) ≡ Stepped → IsCallLine (line_in a.source (status_of a control)) →
-            link_in (status_of a (his (suc c)).control) ≡ Some l → LawfulAt i (typed_state a items c).memory (his c).variables control → Goes (Some l) (suc c) (suc c)
+        from_control : (l c : ℕ) (control : Control P) → typed_state a items (suc c) ≡ changed (typed_state a items c) i (by_step a (suc c) (memory c) i (his c) control) →
+            outcome_of (by_step a (suc c) (memory c) i (his c) control) ≡ Stepped → IsCallLine (line_in a.source (status_of a control)) →
+            link_in (status_of a (his (suc c)).control) ≡ Some l → LawfulAt i (memory c) (his c).variables control → Goes (Some l) (suc c) (suc c)
         from_control l c Idle state_becomes out_is call link law = absurd call
         from_control l c (At d k) state_becomes out_is call link law =
-            from_move l c d k (a.move i d (typed_state a items c).memory (his c).variables k) (law.calls call) state_becomes out_is link
+            from_move l c d k (a.move i d (memory c) (his c).variables k) (law.calls call) state_becomes out_is link
 
     start_goes : (link : Option ℕ) (c : ℕ) → c < length items → Starts r i (suc c) link → Goes link (suc c) (suc c)
     start_goes None c short h = called_goes c short h.0 h.1

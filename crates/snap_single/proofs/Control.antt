@@ -52,7 +52,8 @@ within false x most h = omega arith
 below : (x most : ℕ) → x ≤ most → nat_eq x most ≡ false → x < most
 below x most h e = grind (arith, common_steps)
 
-pub move_well : (n me : ℕ) (d : Task) (m : Words) (p : Variables) (k : ProgramCounter) → IsOneOf n me → IsLineOf me d k → VariablesAt n p k → MoveWell (op_of d) n me (move n me d m p k)
+pub move_well : (n me : ℕ) (d : Task) (m : Words) (p : Variables) (k : ProgramCounter) → IsOneOf n me → IsLineOf me d k → VariablesAt n p k →
+    MoveWell (op_of d) n me (move n me d m p k)
 move_well n me d m p L10 i s h = (s, λ k e. rw (for_each_at n (λ k. 0) p.moved k e) (omega arith), refl)
 move_well n me d m p L11 i s h = (s, ((omega arith, omega arith), h), refl)
 move_well n me d m p L12 i s h = (s, h, refl)
@@ -63,8 +64,10 @@ move_well n me d m p L14 i s h = (s, h, refl)
 move_well n me d m p L15 i s h =
     either (MoveWell (op_of d) n me) (nat_lt p.j n) _ _ (λ b. let j : p.j < n = lt_from p.j n b in (s, ((omega arith, omega arith), h.1), refl))
     (λ b. (s, (refl, h.1), refl))
-move_well n me d m p L16 i s h = either (MoveWell (op_of d) n me) (all_true (map (agree p) (places_to n))) _ _ (λ b. (s, tt, refl)) (λ b. (s, h, refl))
-move_well n me d m p L17 i s h = (s, (h.0, λ k e. rw (for_each_at n (counted p) p.moved k e) (within (agree p k) (moved_at p k) limit (h.1 k e))), refl)
+move_well n me d m p L16 i s h =
+    either (MoveWell (op_of d) n me) (all_true (map (agree p) (places_to n))) _ _ (λ b. (s, tt, refl)) (λ b. (s, h, refl))
+move_well n me d m p L17 i s h =
+    (s, (h.0, λ k e. rw (for_each_at n (counted p) p.moved k e) (within (agree p k) (moved_at p k) limit (h.1 k e))), refl)
 move_well n me d m p L18 i s h =
     whether (MoveWell (op_of d) n me) (first_to d m p) (first_true 1 (map (at_limit p) (places_to n)))
     (λ e. (s, (h.0, λ k o. below (moved_at p k) limit (h.1 k o) (first_none 1 n (at_limit p) e k (omega arith) (omega arith))), refl))
@@ -120,7 +123,8 @@ abbrev pub ControlWell : ℕ → ℕ → Variables → Control → Type 0
 ControlWell n me p Idle = Unit {0}
 ControlWell n me p (At d k) = IsLineOf me d k × VariablesAt n p k
 
-pub called_well : (n me : ℕ) (p : Variables) (op : Op) → call_skip kind.Seq (square n) me op ≡ None → ControlWell n me p (At (task_of op) (counter op))
+pub called_well : (n me : ℕ) (p : Variables) (op : Op) → call_skip kind.Seq (square n) me op ≡ None →
+    ControlWell n me p (At (task_of op) (counter op))
 called_well n me p Scan e = (tt, tt)
 called_well n me p (Update word value) e = (own_word n me word value e, tt)
 

@@ -69,13 +69,15 @@ pub record Invariant (n t : ℕ) (history : ℕ → Words) (x : State) : Type 0 
   pub each : (i : ℕ) → IsOneOf n i → ProcessInvariant n t history x.memory i (typed_at (algorithm n) x i)
   pub start : (i k : ℕ) → IsOneOf n i → IsOneOf n k → PairInvariant history x.memory (typed_at (algorithm n) x i) (typed_at (algorithm n) x k) k
 
-stage_at_kept : (n : ℕ) (history : ℕ → Words) (t t' since round : ℕ) (words words' : Words) (p : Variables) (control : Control) → t ≤ t' → Grows n words words' →
+stage_at_kept : (n : ℕ) (history : ℕ → Words) (t t' since round : ℕ) (words words' : Words) (p : Variables) (control : Control) → t ≤ t' →
+    Grows n words words' →
     StageAt n history t since round words p control → StageAt n history t' since round words' p control
 stage_at_kept n history t t' since round words words' p Idle le g h = tt
 stage_at_kept n history t t' since round words words' p (At d k) le g h = stage_kept n history t t' since round words words' p k le g h
 
 -- other processes act
-pub others_act : (n t t' : ℕ) (history : ℕ → Words) (words words' : Words) (i : ℕ) (q : Process) → t ≤ t' → Grows n words words' → seq_at words' i ≡ seq_at words i →
+pub others_act : (n t t' : ℕ) (history : ℕ → Words) (words words' : Words) (i : ℕ) (q : Process) → t ≤ t' → Grows n words words' →
+    seq_at words' i ≡ seq_at words i →
     Viewed n history t' q.auxiliary.since words' → ProcessInvariant n t history words i q → ProcessInvariant n t' history words' i q
 others_act n t t' history words words' i q le g same v h = record {
   well = h.well;
@@ -104,7 +106,8 @@ time_passes n t history x h = record {
 }
 
 -- one process changes and the words stay
-pub process_changes : (n t : ℕ) (history : ℕ → Words) (x : State) (i : ℕ) (q' : Process) (o : Outcome) → length x.processes ≡ n → IsOneOf n i → history t ≡ x.memory → Invariant n t history x →
+pub process_changes : (n t : ℕ) (history : ℕ → Words) (x : State) (i : ℕ) (q' : Process) (o : Outcome) → length x.processes ≡ n → IsOneOf n i →
+    history t ≡ x.memory → Invariant n t history x →
     ProcessInvariant n t history x.memory i q' →
     (Making q'.control → (q'.auxiliary.since ≡ t) ⊎ (Making (typed_at (algorithm n) x i).control × (q'.auxiliary.since ≡ (typed_at (algorithm n) x i).auxiliary.since))) →
     ((q'.auxiliary.since ≡ t) ⊎ (q'.auxiliary.since ≡ (typed_at (algorithm n) x i).auxiliary.since)) →
@@ -114,7 +117,8 @@ process_changes n t history x i q' o count one now h own r1 r2 =
     let a = algorithm n in
     let new : typed_at a (changed x i c) i ≡ q' = embed.own_process a x i x.memory q' o count one in
     let at_i : (k : ℕ) → k ≡ i → typed_at a (changed x i c) k ≡ q' = λ k e. ap (typed_at a (changed x i c)) e ∙ new in
-    let off_i : (k : ℕ) → IsOneOf n k → k ≢ i → typed_at a (changed x i c) k ≡ typed_at a x k = λ k j ne. embed.other_process a x i k c one.0 j.0 ne in
+    let off_i : (k : ℕ) → IsOneOf n k → k ≢ i → typed_at a (changed x i c) k ≡ typed_at a x k =
+    λ k j ne. embed.other_process a x i k c one.0 j.0 ne in
     record {
       size = h.size;
       each = λ k j. elim (cases_eq k i) [
@@ -150,7 +154,8 @@ process_changes n t history x i q' o count one now h own r1 r2 =
     }
 
 -- line 32
-pub line_32_writes : (n t : ℕ) (history : ℕ → Words) (x : State) (i : ℕ) (d : Task) (q' : Process) (o : Outcome) → length x.processes ≡ n → IsOneOf n i →
+pub line_32_writes : (n t : ℕ) (history : ℕ → Words) (x : State) (i : ℕ) (d : Task) (q' : Process) (o : Outcome) → length x.processes ≡ n →
+    IsOneOf n i →
     Invariant n t history x → (typed_at (algorithm n) x i).control ≡ At d L32 → IsUpdate i d →
     q' ≡ record { control = At d L33; variables = (typed_at (algorithm n) x i).variables; auxiliary = stepped_auxiliary (algorithm n) L32 (suc t) (typed_at (algorithm n) x i).auxiliary } →
     Invariant n (suc t) history (changed x i (New (slice_set x.memory (i - 1) (word_put d (typed_at (algorithm n) x i).variables)) q' o))
@@ -164,10 +169,12 @@ line_32_writes n t history x i d q' o count one h at up is =
     let ownq : ProcessInvariant n t history words i q = h.each i one in
     let len : length words ≡ n = h.size in
     let one_more : q.variables.c ≡ seq_at words i + 1 = ownq.seq ∙ ap (λ (p : Control). seq_at words i + pending p) at in
-    let held : Held history t q.auxiliary.since q.variables.s = subst (λ (p : Control). StageAt n history t q.auxiliary.since q.auxiliary.round words q.variables p) at ownq.stage in
+    let held : Held history t q.auxiliary.since q.variables.s =
+    subst (λ (p : Control). StageAt n history t q.auxiliary.since q.auxiliary.round words q.variables p) at ownq.stage in
     let making : Making q.control = subst Making (sym at) (late i d up) in
     let new_word : (k : ℕ) → k ≡ i → word_at words' k ≡ w = λ k e. get_or-set_at words (i - 1) (k - 1) w no_word (ap (λ y. y - 1) e) (omega arith) in
-    let old_word : (k : ℕ) → IsOneOf n k → k ≢ i → word_at words' k ≡ word_at words k = λ k j ne. get_or-set_other words (i - 1) (k - 1) w no_word (λ same. ne (omega arith)) in
+    let old_word : (k : ℕ) → IsOneOf n k → k ≢ i → word_at words' k ≡ word_at words k =
+    λ k j ne. get_or-set_other words (i - 1) (k - 1) w no_word (λ same. ne (omega arith)) in
     let grows : Grows n words words' = λ k j. elim (cases_eq k i) [
       | inl same ↦ subst (λ (y : Word). WordBefore (word_at words k) y) (sym (new_word k same)) (inl (subst (λ y. seq_at words y < q.variables.c) (sym same) (omega arith)))
       | inr other ↦ inr (sym (old_word k j other))
@@ -200,7 +207,8 @@ line_32_writes n t history x i d q' o count one h at up is =
     }) in
     let new : typed_at a (changed x i c) i ≡ q' = embed.own_process a x i words' q' o count one in
     let at_i : (k : ℕ) → k ≡ i → typed_at a (changed x i c) k ≡ q' = λ k e. ap (typed_at a (changed x i c)) e ∙ new in
-    let off_i : (k : ℕ) → IsOneOf n k → k ≢ i → typed_at a (changed x i c) k ≡ typed_at a x k = λ k j ne. embed.other_process a x i k c one.0 j.0 ne in
+    let off_i : (k : ℕ) → IsOneOf n k → k ≢ i → typed_at a (changed x i c) k ≡ typed_at a x k =
+    λ k j ne. embed.other_process a x i k c one.0 j.0 ne in
     record {
       size = length-set words (i - 1) w ∙ len;
       each = λ k j. elim (cases_eq k i) [

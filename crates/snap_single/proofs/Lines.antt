@@ -40,7 +40,8 @@ activity op link line = record { op = op; line = line; link = link }
 abbrev pub at_line : Counts → ℕ → Op → Words → Option ℕ → ℕ → Variables → Result Effect Cause
 at_line shape me op m link line p = effect_at listing_u (context_of shape me op p) (real m) (activity op link line) (instr_at listing_u.lines line)
 
-shown_if : (n : ℕ) (m : Words) (t : Bool) (x y : Move) → (if t then shown (algorithm n) m x else shown (algorithm n) m y) ≡ shown (algorithm n) m (if t then x else y)
+shown_if : (n : ℕ) (m : Words) (t : Bool) (x y : Move) →
+    (if t then shown (algorithm n) m x else shown (algorithm n) m y) ≡ shown (algorithm n) m (if t then x else y)
 shown_if n m true x y = refl
 shown_if n m false x y = refl
 
@@ -52,10 +53,12 @@ in_range n k low high = (omega arith, omega arith)
 abbrev pub at_k : ℕ → ℕ → Task → Variables → ℕ → Context
 at_k n me d p k = at_place (context_of (square n) me (op_of d) p) k
 
-compared_a : (n me : ℕ) (d : Task) (p : Variables) (k : ℕ) → IsOneOf (max n n) k → term_value (at_k n me d p k) u.seq_a ≡ Ok (compared (word_at p.a k))
+compared_a : (n me : ℕ) (d : Task) (p : Variables) (k : ℕ) → IsOneOf (max n n) k →
+    term_value (at_k n me d p k) u.seq_a ≡ Ok (compared (word_at p.a k))
 compared_a n me d p k h = bind_ok _ _ _ _ (place_ok (max n n) k h) refl
 
-compared_b : (n me : ℕ) (d : Task) (p : Variables) (k : ℕ) → IsOneOf (max n n) k → term_value (at_k n me d p k) u.seq_b ≡ Ok (compared (word_at p.b k))
+compared_b : (n me : ℕ) (d : Task) (p : Variables) (k : ℕ) → IsOneOf (max n n) k →
+    term_value (at_k n me d p k) u.seq_b ≡ Ok (compared (word_at p.b k))
 compared_b n me d p k h = bind_ok _ _ _ _ (place_ok (max n n) k h) refl
 
 row_moved : (n me : ℕ) (d : Task) (p : Variables) (k : ℕ) → IsOneOf (max n n) k → term_value (at_k n me d p k) (Row u.moved Place) ≡ Ok (moved_at p k)

@@ -71,7 +71,8 @@ module _ (n : ℕ) (items : List Item) (fits : Fits (run_of n items)) where
         ]
       ]
     where
-      earlier : (x : ℕ) × (u < x) × (x ≤ v) × (executes (run_of n items) j 32 x ≡ true) → (x : ℕ) × (u < x) × (x ≤ suc v) × (executes (run_of n items) j 32 x ≡ true)
+      earlier : (x : ℕ) × (u < x) × (x ≤ v) × (executes (run_of n items) j 32 x ≡ true) →
+          (x : ℕ) × (u < x) × (x ≤ suc v) × (executes (run_of n items) j 32 x ≡ true)
       earlier w = (w.0, w.1, omega arith, w.3)
 
   -- line 17 counts the places where the copies differ
@@ -80,16 +81,20 @@ module _ (n : ℕ) (items : List Item) (fits : Fits (run_of n items)) where
   row_after t i d one is at17 =
       let x = state_at n items t in
       let q = at t i in
-      let q' : Process = record { control = At d L18; variables = counted_row n q.variables; auxiliary = stepped_auxiliary (algorithm n) L17 (suc t) q.auxiliary } in
+      let q' : Process =
+      record { control = At d L18; variables = counted_row n q.variables; auxiliary = stepped_auxiliary (algorithm n) L17 (suc t) q.auxiliary } in
       let state_becomes : state_at n items (suc t) ≡ changed x i (by_step (algorithm n) (suc t) x.memory i q (At d L17)) =
       ap (happens (algorithm n) (suc t) x) is ∙ ap (λ (p : Control). changed x i (by_step (algorithm n) (suc t) x.memory i q p)) at17 in
       ap (λ (y : State). (typed_at (algorithm n) y i).variables) state_becomes
       ∙ ap (λ (y : Process). y.variables) (embed.own_process (algorithm n) x i x.memory q' Stepped (embed.count (algorithm n) items t) one)
 
-  row_is : (t i j : ℕ) → IsOneOf n i → t ≤ length items → row_place (process_at (state (run_of n items) t) i).locals u.moved j ≡ moved_at (at t i).variables j
-  row_is t i j one short = ap (λ (p : NamedProcess). row_place p.locals u.moved j) (embed.process_at_is (algorithm n) items fits (all_do n items fits) t i short one)
+  row_is : (t i j : ℕ) → IsOneOf n i → t ≤ length items →
+      row_place (process_at (state (run_of n items) t) i).locals u.moved j ≡ moved_at (at t i).variables j
+  row_is t i j one short =
+      ap (λ (p : NamedProcess). row_place p.locals u.moved j) (embed.process_at_is (algorithm n) items fits (all_do n items fits) t i short one)
 
-  pub move_is_write : (i j : ℕ) (link : Option ℕ) (c t : ℕ) → Scan (run_of n items) i link c (suc t) → c ≤ t → ObservedMove (run_of n items) 17 u.moved i j (suc t) →
+  pub move_is_write : (i j : ℕ) (link : Option ℕ) (c t : ℕ) → Scan (run_of n items) i link c (suc t) → c ≤ t →
+      ObservedMove (run_of n items) 17 u.moved i j (suc t) →
       RecentWrite (run_of n items) 32 i j c (suc t)
   move_is_write i j link c t scan le move =
       let r = run_of n items in
@@ -98,7 +103,8 @@ module _ (n : ℕ) (items : List Item) (fits : Fits (run_of n items)) where
       let parts = both (steps i (item r (suc t))) (is_at 17 (process_at (state r t) i).status) move.executed in
       let is : item_at items t ≡ Step i = step_of i (item_at items t) parts.0 in
       let stands : is_at 17 (status_of (algorithm n) (at t i).control) ≡ true =
-      sym (ap (λ (p : NamedProcess). is_at 17 p.status) (embed.process_at_is (algorithm n) items fits (all_do n items fits) t i (omega arith) one)) ∙ parts.1 in
+      sym (ap (λ (p : NamedProcess). is_at 17 p.status) (embed.process_at_is (algorithm n) items fits (all_do n items fits) t i (omega arith) one))
+      ∙ parts.1 in
       let busy = busy_at n 17 L17 (at t i).control refl stands in
       let g = goes n items fits i one link c (suc t) t scan le (omega arith) in
       let p = (at t i).variables in
@@ -124,7 +130,8 @@ module _ (n : ℕ) (items : List Item) (fits : Fits (run_of n items)) where
       let tested : (at t i).auxiliary.tested ≡ double_collects r i round t = g.tested in
       let last : double_collects r i round (suc t) ≤ double_collects r i round t + 0 =
       span.last_collects (algorithm n) (λ k. (line_listed k).tested) items fits (all_do n items fits) (lawful n items fits) i one round t busy.0 L17 g.round_before (omega arith) busy.1 in
-      let fewer : double_collects r i write.0 (suc t) ≤ double_collects r i round (suc t) = span.count_later (ends_double_collect r i) round write.0 (suc t) (omega arith) in
+      let fewer : double_collects r i write.0 (suc t) ≤ double_collects r i round (suc t) =
+      span.count_later (ends_double_collect r i) round write.0 (suc t) (omega arith) in
       record {
         item = write.0;
         after_start = omega arith;

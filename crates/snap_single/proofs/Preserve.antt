@@ -31,11 +31,13 @@ abbrev pub at : ℕ → State → ℕ → Process
 at n x i = typed_at (algorithm n) x i
 
 -- no process sees itself move, so the test at line 16 comes after fewer than n moves
-unmoved : (n i : ℕ) (base m : Words) (p : Variables) → IsOneOf n i → Low n base m p.moved → BelowLimit n p → seq_at base i ≡ seq_at m i → moves n p < n
+unmoved : (n i : ℕ) (base m : Words) (p : Variables) → IsOneOf n i → Low n base m p.moved → BelowLimit n p → seq_at base i ≡ seq_at m i →
+    moves n p < n
 unmoved n i base m p one low below self =
     moves_less n i p one (let l : floor base p.moved i ≤ seq_at m i = low i one in omega arith) below
 
-pub few_moves : (n me : ℕ) (history : ℕ → Words) (t since round : ℕ) (m : Words) (d : Task) (p : Variables) (k : ProgramCounter) → IsOneOf n me → IsLineOf me d k → VariablesAt n p k →
+pub few_moves : (n me : ℕ) (history : ℕ → Words) (t since round : ℕ) (m : Words) (d : Task) (p : Variables) (k : ProgramCounter) → IsOneOf n me →
+    IsLineOf me d k → VariablesAt n p k →
     (IsInScan d → seq_at (history since) me ≡ seq_at m me) → Stage n history t since round m p k → k ≡ L16 → moves n p < n
 few_moves n me history t since round m d p k one line keeps self stage e =
     unmoved n me (history since) m p one (subst (Stage n history t since round m p) e stage).0 (subst (VariablesAt n p) e keeps).1
@@ -52,7 +54,8 @@ pub at_least_now : (history : ℕ → Words) (words : Words) (t : ℕ) → histo
 at_least_now history words t now k = let e : seq_at (history t) k ≡ seq_at words k = ap (λ w. seq_at w k) now in omega arith
 
 -- before a line that keeps the words, c is the sequence number of the process's word
-is_seq : (n t : ℕ) (history : ℕ → Words) (x : State) (i : ℕ) (d : Task) (k : ProgramCounter) → IsOneOf n i → Invariant n t history x → (at n x i).control ≡ At d k → writes k ≡ 0 →
+is_seq : (n t : ℕ) (history : ℕ → Words) (x : State) (i : ℕ) (d : Task) (k : ProgramCounter) → IsOneOf n i → Invariant n t history x →
+    (at n x i).control ≡ At d k → writes k ≡ 0 →
     (at n x i).variables.c ≡ seq_at x.memory i + 0
 is_seq n t history x i d k one h is quiet =
     (h.each i one).seq ∙ ap (λ (y : Control). seq_at x.memory i + pending y) is ∙ ap (λ y. seq_at x.memory i + y) quiet
@@ -65,8 +68,10 @@ opened_next n history words true t round now h k i = at_most_now history words t
 opened_next n history words false t round now h k i = h k i
 
 -- a process whose operation has ended
-idle_own : (n t : ℕ) (history : ℕ → Words) (words : Words) (i : ℕ) (q : Process) (k : ProgramCounter) → q.variables.c ≡ seq_at words i + 0 → history t ≡ words → q.variables.c < t →
-    ProcessInvariant n t history words i q → ProcessInvariant n t history words i (record { control = Idle; variables = q.variables; auxiliary = stepped_auxiliary (algorithm n) k t q.auxiliary })
+idle_own : (n t : ℕ) (history : ℕ → Words) (words : Words) (i : ℕ) (q : Process) (k : ProgramCounter) → q.variables.c ≡ seq_at words i + 0 →
+    history t ≡ words → q.variables.c < t →
+    ProcessInvariant n t history words i q →
+    ProcessInvariant n t history words i (record { control = Idle; variables = q.variables; auxiliary = stepped_auxiliary (algorithm n) k t q.auxiliary })
 idle_own n t history words i q k seq now c own = record {
   well = tt;
   length_a = own.length_a;
@@ -97,7 +102,8 @@ record MoveOwes (n t : ℕ) (history : ℕ → Words) (x : State) (i : ℕ) (d :
 
 -- a line that keeps the words
 line_keeps : (n t : ℕ) (history : ℕ → Words) (x : State) (i : ℕ) (d : Task) (k : ProgramCounter) (v : Move) →
-    length x.processes ≡ n → IsOneOf n i → history t ≡ x.memory → Invariant n t history x → (at n x i).control ≡ At d k → (at n x i).variables.c < t → writes k ≡ 0 →
+    length x.processes ≡ n → IsOneOf n i → history t ≡ x.memory → Invariant n t history x → (at n x i).control ≡ At d k → (at n x i).variables.c < t →
+    writes k ≡ 0 →
     MoveOwes n t history x i d k v → Invariant n t history (changed x i (by_move (algorithm n) t x.memory (at n x i) k v))
 line_keeps n t history x i d k (To d' m' p k') count one now h is c quiet owes =
     let q = at n x i in
@@ -222,7 +228,8 @@ line_32_keeps n t history x i d count one h is =
     line_32_writes n t history x i d _ Stepped count one h is well.0 refl
 
 -- one step of a process
-step_keeps : (n t : ℕ) (history : ℕ → Words) (x : State) (i : ℕ) (control : Control) → ((u : ℕ) → u ≤ t → length (history u) ≡ n) → length x.processes ≡ n → IsOneOf n i →
+step_keeps : (n t : ℕ) (history : ℕ → Words) (x : State) (i : ℕ) (control : Control) → ((u : ℕ) → u ≤ t → length (history u) ≡ n) →
+    length x.processes ≡ n → IsOneOf n i →
     Invariant n t history x → (at n x i).control ≡ control →
     history (suc t) ≡ (changed x i (by_step (algorithm n) (suc t) x.memory i (at n x i) control)).memory →
     Invariant n (suc t) history (changed x i (by_step (algorithm n) (suc t) x.memory i (at n x i) control))
@@ -261,7 +268,8 @@ step_keeps n t history x i (At d k) lengths count one h is now =
                     keeps = well.1;
                   })
                   stage;
-              sized = subst (λ s. SizedMove n s (move n i d words q.variables k)) (let z : seq_at words i + writes k ≡ seq_at words i = omega arith in z)
+              sized =
+                  subst (λ s. SizedMove n s (move n i d words q.variables k)) (let z : seq_at words i + writes k ≡ seq_at words i = omega arith in z)
                   (sized_move n i (seq_at words i) d words q.variables k well.0 (own.length_a, own.length_b, seq));
               making = flow.makes_no_more lines (algorithm n) d words q.variables k (move n i d words q.variables k) passes;
               scan = flow.keeps_out lines (algorithm n) d words q.variables k (move n i d words q.variables k) passes;
@@ -284,7 +292,9 @@ call_keeps n t history x i op Idle count one h is now =
     admission_keeps n (suc t) history x i op (call_skip kind.Seq (square n) i op) refl count one (time_passes n t history x h) is now
 call_keeps n t history x i op (At d k) count one h is now = time_passes n t history x h
 
-pub item_keeps : (n t : ℕ) (history : ℕ → Words) (x : State) (y : Item) → ((u : ℕ) → u ≤ t → length (history u) ≡ n) → length x.processes ≡ n → IsOneOf n (who y) →
-    Invariant n t history x → history (suc t) ≡ (happens (algorithm n) (suc t) x y).memory → Invariant n (suc t) history (happens (algorithm n) (suc t) x y)
+pub item_keeps : (n t : ℕ) (history : ℕ → Words) (x : State) (y : Item) → ((u : ℕ) → u ≤ t → length (history u) ≡ n) → length x.processes ≡ n →
+    IsOneOf n (who y) →
+    Invariant n t history x → history (suc t) ≡ (happens (algorithm n) (suc t) x y).memory →
+    Invariant n (suc t) history (happens (algorithm n) (suc t) x y)
 item_keeps n t history x (Step i) lengths count one h now = step_keeps n t history x i (at n x i).control lengths count one h refl now
 item_keeps n t history x (Call i op) lengths count one h now = call_keeps n t history x i op (at n x i).control count one h refl now

@@ -30,7 +30,8 @@ step_of i (Step k) h = ap (λ u. Step u) (same_from k i h)
 step_of i (Call k op) h = absurd (cc)
 
 -- a process at a line stands at its program counter
-pub busy_at : (n line : ℕ) (there : ProgramCounter) (control : Control) → counter_with line ≡ Some there → is_at line (status_of (algorithm n) control) ≡ true →
+pub busy_at : (n line : ℕ) (there : ProgramCounter) (control : Control) → counter_with line ≡ Some there →
+    is_at line (status_of (algorithm n) control) ≡ true →
     (d : Task) × (control ≡ At d there)
 busy_at n line there Idle is h = absurd (cc)
 busy_at n line there (At d k) is h = (d, ap (λ y. At d y) (at_number k line there is h))
@@ -51,7 +52,8 @@ module _ (n : ℕ) (items : List Item) (fits : Fits (run_of n items)) where
   values_is : (t : ℕ) → t ≤ length items → values (state (run_of n items) t) ≡ data_of (words_at n items t)
   values_is t h = ap values (embed.state_is (algorithm n) items fits (all_do n items fits) t h)
 
-  pub write_executes : (t i : ℕ) (d : Task) → t < length items → item_at items t ≡ Step i → (at t i).control ≡ At d L32 → executes (run_of n items) i 32 (suc t) ≡ true
+  pub write_executes : (t i : ℕ) (d : Task) → t < length items → item_at items t ≡ Step i → (at t i).control ≡ At d L32 →
+      executes (run_of n items) i 32 (suc t) ≡ true
   write_executes t i d h is at32 =
       let one : IsOneOf n i = subst (λ y. IsOneOf n (who y)) is (embed.one_at (algorithm n) items fits (all_do n items fits) t h) in
       let stands : is_at 32 (process_at (state (run_of n items) t) i).status ≡ true =
@@ -68,9 +70,11 @@ module _ (n : ℕ) (items : List Item) (fits : Fits (run_of n items)) where
         | inr w ↦ inr (subst (λ (y : Item). executes (run_of n items) (who y) 32 (suc t) ≡ true) (sym w.2) (write_executes t w.0 w.1 h w.2 w.3))
       ]
 
-  quiet : (i : ℕ) → IsOneOf n i → (t : ℕ) → t < length items → (d : Task) (k : ProgramCounter) → (at t i).control ≡ At d k → (word value : ℕ) → op_of d ≡ Update word value →
+  quiet : (i : ℕ) → IsOneOf n i → (t : ℕ) → t < length items → (d : Task) (k : ProgramCounter) → (at t i).control ≡ At d k → (word value : ℕ) →
+      op_of d ≡ Update word value →
       called.NoAnswer (algorithm n) (move n i d (words_at n items t) (at t i).variables k)
-  quiet i one = writes_once.silent (algorithm n) lines 32 (once n) items fits (all_do n items fits) (all_flow n items fits) (has_written n items fits) i one
+  quiet i one =
+      writes_once.silent (algorithm n) lines 32 (once n) items fits (all_do n items fits) (all_flow n items fits) (has_written n items fits) i one
 
   pub writes_its_update : (i t : ℕ) → IsOneOf n i → t < length items → executes (run_of n items) i 32 (suc t) ≡ true →
       (word : ℕ) × (value : ℕ) × (c : ℕ) × UpdateOf (run_of n items) i word value c (suc t) × (c < suc t) × IsOneOf n word
@@ -79,9 +83,11 @@ module _ (n : ℕ) (items : List Item) (fits : Fits (run_of n items)) where
       let parts = both (steps i (item (run_of n items) (suc t))) (is_at 32 (process_at (state (run_of n items) t) i).status) ex in
       let is : item_at items t ≡ Step i = step_of i (item_at items t) parts.0 in
       let stands : is_at 32 (status_of (algorithm n) (at t i).control) ≡ true =
-      sym (ap (λ (p : NamedProcess). is_at 32 p.status) (embed.process_at_is (algorithm n) items fits (all_do n items fits) t i (omega arith) one)) ∙ parts.1 in
+      sym (ap (λ (p : NamedProcess). is_at 32 p.status) (embed.process_at_is (algorithm n) items fits (all_do n items fits) t i (omega arith) one))
+      ∙ parts.1 in
       let busy = busy_at n 32 L32 (at t i).control refl stands in
-      let well : ControlWell n i (at t i).variables (At busy.0 L32) = subst (ControlWell n i (at t i).variables) busy.1 (invariant_of n items fits t i (omega arith) one).well in
+      let well : ControlWell n i (at t i).variables (At busy.0 L32) =
+      subst (ControlWell n i (at t i).variables) busy.1 (invariant_of n items fits t i (omega arith) one).well in
       let up = update_of i busy.0 well.0 in
       let value = up.0 in
       let control : (at t i).control ≡ At (Updating i value) L32 = busy.1 ∙ ap (λ d. At d L32) up.1 in

@@ -1,4 +1,5 @@
 pub mod Computing
+pub mod Counting
 pub mod Places
 pub mod Totals
 pub mod Held

@@ -29,6 +29,7 @@ abbrev pub StageAt : ℕ → (ℕ → Words) → ℕ → ℕ → ℕ → Words �
 StageAt n history t since round words p Idle = Unit {0}
 StageAt n history t since round words p (At d k) = Stage n history t since round words p k
 
+-- and its counts are those of its line
 abbrev pub CountAt : ℕ → Variables → ℕ → ℕ → ℕ → Control → Type 0
 CountAt n p own c recent Idle = Unit {0}
 CountAt n p own c recent (At d k) = Count n p own c recent k
@@ -40,14 +41,17 @@ pub record ProcessInvariant (n t : ℕ) (history : ℕ → Words) (words : Words
   -- its copies have all places
   pub length_a : length q.variables.a ≡ max n n
   pub length_b : length q.variables.b ≡ max n n
-  -- c is the sequence number of its word, and one more just before the write; it is at most the number of items
+  -- c is the sequence number of its own word, and one more just before the write
   pub seq : q.variables.c ≡ seq_at words i + pending q.control
+  -- c is at most the number of items
   pub fresh : q.variables.c ≤ t
-  -- its last scan and that scan's last double collect have started
+  -- its last scan has started
   pub since_le : q.auxiliary.since ≤ t
+  -- no word is older than at the start of that scan
   pub low : (k : ℕ) → IsOneOf n k → seq_at (history q.auxiliary.since) k ≤ seq_at words k
+  -- nor than at the start of that scan's last double collect
   pub opened : (k : ℕ) → IsOneOf n k → seq_at (history q.auxiliary.round) k ≤ seq_at words k
-  -- the view beside a second write since its last scan's start was the values since
+  -- the view beside the second or a later write since that scan's start was the values at some state since
   pub views : Viewed n history t q.auxiliary.since words
   -- it has come as far as its line says
   pub stage : StageAt n history t q.auxiliary.since q.auxiliary.round words q.variables q.control
@@ -65,6 +69,7 @@ PairInvariant history words u v b = Making v.control → seq_at (history u.auxil
 
 -- What holds in every state of a run: the words, each process, and each pair of processes.
 pub record Invariant (n t : ℕ) (history : ℕ → Words) (x : State) : Type 0 where
+  -- there is a word for each process
   pub size : length x.memory ≡ n
   pub each : (i : ℕ) → IsOneOf n i → ProcessInvariant n t history x.memory i (typed_at (algorithm n) x i)
   pub start : (i k : ℕ) → IsOneOf n i → IsOneOf n k → PairInvariant history x.memory (typed_at (algorithm n) x i) (typed_at (algorithm n) x k) k
@@ -97,6 +102,7 @@ others_act n t t' history words words' i q le g same v h = record {
   wrote = h.wrote;
 }
 
+-- one more item, and nothing changes
 pub time_passes : (n t : ℕ) (history : ℕ → Words) (x : State) → Invariant n t history x → Invariant n (suc t) history x
 time_passes n t history x h = record {
   size = h.size;
@@ -153,7 +159,7 @@ process_changes n t history x i q' o count one now h own r1 r2 =
           ];
     }
 
--- line 32
+-- line 32 writes: the new word's view was held since a scan that started after each scan that saw the word before
 pub line_32_writes : (n t : ℕ) (history : ℕ → Words) (x : State) (i : ℕ) (d : Task) (q' : Process) (o : Outcome) → length x.processes ≡ n →
     IsOneOf n i →
     Invariant n t history x → (typed_at (algorithm n) x i).control ≡ At d L32 → IsUpdate i d →

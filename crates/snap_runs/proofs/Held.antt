@@ -1,0 +1,59 @@
+-- Values that the words had at some state of a run, and words that stand after one another.
+use Rattle.std.specs.Prelude.{◌≡◌, ℕ, ◌+◌, ◌-◌, ◌<◌, ◌≤◌, ◌⊎◌, List, take, length, map, slice_index_or, refl}
+use Rattle.std.proofs.Common.{sym, ◌∙◌, ap, subst, arith, inl, inr}
+use Rattle.std.proofs.lemmas.List.{get_or-take, ext_get_or, length-take-le}
+use Rattle.snap_words.specs.Shape.{IsOneOf}
+use Rattle.snap_words.specs.Word.{Word}
+use Rattle.snap_words.specs.Word.{no_word}
+
+abbrev pub word_at : List Word → ℕ → Word
+word_at ws k = slice_index_or ws (k - 1) no_word
+
+abbrev pub data_of : List Word → List ℕ
+data_of m = map (λ (x : Word). x.datum) m
+
+abbrev pub seq_at : List Word → ℕ → ℕ
+seq_at m k = (word_at m k).seq
+
+-- the values were these at some state from lo to t
+abbrev pub Held : (ℕ → List Word) → ℕ → ℕ → List ℕ → Type 0
+Held history t lo v = (u : ℕ) × (lo ≤ u) × (u ≤ t) × (data_of (history u) ≡ v)
+
+pub held_wider : (history : ℕ → List Word) (t t' lo lo' : ℕ) (v : List ℕ) → t ≤ t' → lo' ≤ lo → Held history t lo v → Held history t' lo' v
+held_wider history t t' lo lo' v e f h = (h.0, omega arith, omega arith, h.3)
+
+pub held_now : (history : ℕ → List Word) (t lo : ℕ) → lo ≤ t → Held history t lo (data_of (history t))
+held_now history t lo e = (t, e, omega arith, refl)
+
+-- y is x, or a later word of the same register
+abbrev pub WordBefore : Word → Word → Type 0
+WordBefore x y = (x.seq < y.seq) ⊎ (x ≡ y)
+
+pub before_trans : (x y z : Word) → WordBefore x y → WordBefore y z → WordBefore x z
+before_trans x y z (inl p) (inl q) = inl (omega arith)
+before_trans x y z (inl p) (inr q) = inl (subst (λ (w : Word). x.seq < w.seq) q p)
+before_trans x y z (inr p) q = subst (λ (w : Word). WordBefore w z) (sym p) q
+
+pub before_seq : (x y : Word) → WordBefore x y → x.seq ≤ y.seq
+before_seq x y (inl p) = omega arith
+before_seq x y (inr p) = let e : x.seq ≡ y.seq = ap (λ (w : Word). w.seq) p in omega arith
+
+-- words with equal sequence numbers that stand so are one
+pub squeezed : (a mid b : Word) → WordBefore a mid → WordBefore mid b → a.seq ≡ b.seq → mid ≡ b
+squeezed a mid b (inl p) (inl q) e = absurd (omega arith)
+squeezed a mid b (inl p) (inr q) e = q
+squeezed a mid b (inr p) (inl q) e = absurd (let s : a.seq ≡ mid.seq = ap (λ (w : Word). w.seq) p in omega arith)
+squeezed a mid b (inr p) (inr q) e = q
+
+-- each word of the memory stays or is written anew
+abbrev pub Grows : ℕ → List Word → List Word → Type 0
+Grows n m m' = (k : ℕ) → IsOneOf n k → WordBefore (word_at m k) (word_at m' k)
+
+pub same_data : (n : ℕ) (m b : List Word) → length m ≡ n → n ≤ length b → ((k : ℕ) → IsOneOf n k → word_at m k ≡ word_at b k) →
+    data_of m ≡ data_of (take n b)
+same_data n m b len more h =
+    let len_b : length (take n b) ≡ n = length-take-le n b more in
+    ap data_of (ext_get_or no_word m (take n b) (len ∙ sym len_b) (λ i lt.
+    let at : i + 1 - 1 ≡ i = omega arith in
+    ap (λ k. slice_index_or m k no_word) (sym at) ∙ h (i + 1) (omega arith, omega arith) ∙ ap (λ k. slice_index_or b k no_word) at
+    ∙ sym (get_or-take n b i no_word (omega arith))))

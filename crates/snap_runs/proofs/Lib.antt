@@ -1,0 +1,12 @@
+pub mod Computing
+pub mod Counting
+pub mod Places
+pub mod Totals
+pub mod Held
+pub mod Algorithm
+pub mod Embedding
+pub mod ScanSpan
+pub mod UpdateSpan
+pub mod Flow
+pub mod Scans
+pub mod WritesOnce

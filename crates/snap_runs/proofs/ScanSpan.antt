@@ -1,0 +1,397 @@
+-- From the start of a scan to its end: what the proof remembers of a process is what its items say.
+use Rattle.std.specs.Prelude.{◌≡◌, ◌≢◌, ℕ, zero, suc, ◌+◌, ◌<◌, ◌≤◌, ◌⊎◌, Bool, true, false, ◌&&◌, List, length, Option, Some, None, nat_lt, if◌then◌else◌, refl}
+use Rattle.std.proofs.Common.{sym, ◌∙◌, ap, subst, arith, inl, inr}
+use Rattle.std.proofs.lemmas.Bool.{cases_eq}
+use Rattle.std.proofs.Math.Nat.{eq-or-lt_of_le}
+use Rattle.snap_semantics.specs.Source.{instr_at}
+use Rattle.snap_semantics.specs.declared.process.Op.TheVariants.{Scan as ScanOp}
+use Rattle.snap_semantics.specs.declared.process.Item.{Item}
+use Rattle.snap_semantics.specs.declared.process.Item.TheVariants.{Step, Call}
+use Rattle.snap_semantics.specs.declared.process.Outcome.{Outcome}
+use Rattle.snap_semantics.specs.declared.process.Outcome.TheVariants.{Called, Stepped}
+use Rattle.snap_semantics.specs.State.{Process}
+use Rattle.snap_semantics.specs.State.{process_at}
+use Rattle.snap_semantics.specs.Table.{who}
+use Rattle.snap_words.specs.Shape.{IsOneOf}
+use Rattle.snap_runs.specs.Run.{Run, Fits, state, before, item, outcome}
+use Rattle.snap_runs.specs.Scan.{line_in, link_in, IsCallLine, Returns, Starts, Scan, count, steps, is_if_all, is_stepped, is_not_skipped, ends_double_collect, takes_step, double_collects, own_steps}
+use Rattle.snap_runs.proofs.Algorithm.{Task, op_of, link_of, task_of, op_is, link_is, Control, Idle, At, Move, To, Begin, Answer, Finish, TypedProcess, TypedState, Algorithm, by_move, by_step, by_call, typed_at, by_item, changed, outcome_of, happens, item_at, typed_state, status_of, process_of, stepped_auxiliary, begun_auxiliary, called_auxiliary}
+use Rattle.snap_runs.proofs.Counting.{count_none, count_next, count_not}
+use Rattle.snap_runs.proofs.Computing.{lt_true, lt_false, lt_from, same_number, other_number}
+use Rattle.snap_runs.proofs.Embedding as embed
+
+-- another process's item is no step of process i
+pub not_his : (i : ℕ) (y : Item) → who y ≢ i → steps i y ≡ false
+not_his i (Step k) h = other_number k i h
+not_his i (Call k op) h = refl
+
+module _ {V P M : Type 0} (a : Algorithm V P M) where
+  -- in a scan with this link
+  abbrev pub Inside : Option ℕ → Task → Type 0
+  Inside None d = (link_of a.back d ≡ None) × (op_of d ≡ ScanOp)
+  Inside (Some l) d = link_of a.back d ≡ Some l
+
+  -- an embedded scan is at a line that returns
+  abbrev pub ReturnsAt : Option ℕ → P → V → Type 0
+  ReturnsAt None k p = ⊥
+  ReturnsAt (Some l) k p = (v : List ℕ) × Returns (instr_at a.source.lines (a.number k)) (a.locals_of p) v
+
+  -- a scan that was called
+  abbrev pub IsTop : Option ℕ → Type 0
+  IsTop None = Unit {0}
+  IsTop (Some l) = ⊥
+
+  -- a line of a scan stays in it, or returns
+  abbrev pub Stays : Option ℕ → P → V → Move V P M → Type 0
+  Stays link k p (To d' m' p' k') = Inside link d' ⊎ ReturnsAt link k p
+  Stays link k p (Begin d' p' k') = ⊥
+  Stays link k p (Answer v) = IsTop link
+  Stays link k p Finish = ⊥
+
+  -- a move that does not merely go on
+  abbrev pub NotTo : Move V P M → Type 0
+  NotTo (To d m p k) = ⊥
+  NotTo (Begin d p k) = Unit {0}
+  NotTo (Answer v) = Unit {0}
+  NotTo Finish = Unit {0}
+
+  -- what a line owes: in a scan it stays or returns, and a `call` line begins a scan
+  pub record Lawful (me : ℕ) (d : Task) (m : M) (p : V) (k : P) : Type 0 where
+    pub stays : (link : Option ℕ) → Inside link d → Stays link k p (a.move me d m p k)
+    pub calls : IsCallLine (instr_at a.source.lines (a.number k)) → NotTo (a.move me d m p k)
+
+  -- the line at which a process stands is so
+  abbrev pub LawfulAt : ℕ → M → V → Control P → Type 0
+  LawfulAt me m p Idle = Unit {0}
+  LawfulAt me m p (At d k) = Lawful me d m p k
+
+  module _ (tests_is : (k : P) → (if is_if_all (instr_at a.source.lines (a.number k)) then 1 else 0) ≡ a.tests k)
+      (items : List Item) (fits : Fits (embed.run_of a items)) (does : embed.AllDo a items)
+      (lawful : (t i : ℕ) → t < length items → IsOneOf a.shape.n i → LawfulAt i (typed_state a items t).memory (typed_at a (typed_state a items t) i).variables (typed_at a (typed_state a items t) i).control)
+      (i : ℕ) (one : IsOneOf a.shape.n i) where
+    abbrev pub r : Run
+    r = embed.run_of a items
+
+    abbrev pub his : ℕ → TypedProcess V P M
+    his t = typed_at a (typed_state a items t) i
+
+    abbrev pub memory : ℕ → M
+    memory t = (typed_state a items t).memory
+
+    -- at state t the scan that started at item c goes on
+    pub record Goes (link : Option ℕ) (c t : ℕ) : Type 0 where
+      -- the process is busy at a line of the scan
+      pub task : Task
+      pub counter : P
+      pub control : (his t).control ≡ At task counter
+      pub inside : Inside link task
+      -- item c started its last scan
+      pub since : (his t).auxiliary.since ≡ c
+      -- its steps and double collects since are those of the run
+      pub own : (his t).auxiliary.own ≡ own_steps r i c t
+      pub collects : (his t).auxiliary.collects ≡ double_collects r i c t
+      -- its last double collect was started in this scan
+      pub round_after : c ≤ (his t).auxiliary.round
+      pub round_before : (his t).auxiliary.round ≤ t
+      -- the double collects that have ended since are those of the run
+      pub tested : (his t).auxiliary.tested ≡ double_collects r i (his t).auxiliary.round t
+
+    -- the counts after an item that is no step of the process
+    collects_same : (c t : ℕ) → c ≤ t → steps i (item_at items t) ≡ false → double_collects r i c (suc t) ≡ double_collects r i c t
+    collects_same c t le none =
+        count_not (ends_double_collect r i) c t le
+        (ap (λ b. b && (is_if_all (line_in r.source (process_at (before r (suc t)) i).status) && is_stepped (outcome r (suc t)))) none)
+
+    own_same : (c t : ℕ) → c ≤ t → steps i (item_at items t) ≡ false → own_steps r i c (suc t) ≡ own_steps r i c t
+    own_same c t le none = count_not (takes_step r i) c t le (ap (λ b. b && is_not_skipped (outcome r (suc t))) none)
+
+    -- another process's item, and what changes nothing
+    same_goes : (link : Option ℕ) (c t : ℕ) → c ≤ t → his (suc t) ≡ his t → ((who (item_at items t) ≡ i → ⊥) ⊎ (steps i (item_at items t) ≡ false)) →
+        Goes link c t → Goes link c (suc t)
+    same_goes link c t le same why g =
+        let none : steps i (item_at items t) ≡ false = elim why [ inl other ↦ not_his i (item_at items t) other | inr unstepped ↦ unstepped ] in
+        record {
+          task = g.task;
+          counter = g.counter;
+          control = ap (λ (q : TypedProcess V P M). q.control) same ∙ g.control;
+          inside = g.inside;
+          since = ap (λ (q : TypedProcess V P M). q.auxiliary.since) same ∙ g.since;
+          own = ap (λ (q : TypedProcess V P M). q.auxiliary.own) same ∙ g.own
+              ∙ sym (own_same c t le none);
+          collects = ap (λ (q : TypedProcess V P M). q.auxiliary.collects) same ∙ g.collects ∙ sym (collects_same c t le none);
+          round_after = subst (λ (q : TypedProcess V P M). c ≤ q.auxiliary.round) (sym same) g.round_after;
+          round_before = subst (λ (q : TypedProcess V P M). q.auxiliary.round ≤ suc t) (sym same) (let le2 : (his t).auxiliary.round ≤ t = g.round_before in omega arith);
+          tested = subst (λ (q : TypedProcess V P M). q.auxiliary.tested ≡ double_collects r i q.auxiliary.round (suc t)) (sym same)
+              (g.tested ∙ sym (collects_same (his t).auxiliary.round t g.round_before none));
+        }
+
+    add_one : (b : Bool) (x : ℕ) → (if b then suc x else x) ≡ x + (if b then 1 else 0)
+    add_one true x = omega arith
+    add_one false x = omega arith
+
+    and_true : (b : Bool) → (b && true) ≡ b
+    and_true true = refl
+    and_true false = refl
+
+    is_busy_at : (t : ℕ) → t ≤ length items → (d : Task) (k : P) → (his t).control ≡ At d k →
+        process_at (state r t) i ≡ process_of a (record { control = At d k; variables = (his t).variables; auxiliary = (his t).auxiliary })
+    is_busy_at t le d k e =
+        embed.process_at_is a items fits does t i le one
+        ∙ ap (λ (p : Control P). process_of a (record { control = p; variables = (his t).variables; auxiliary = (his t).auxiliary })) e
+
+    -- the counts after a step of the process
+    collects_next : (c t : ℕ) (d : Task) (k : P) → c ≤ t → t ≤ length items → steps i (item_at items t) ≡ true → outcome r (suc t) ≡ Stepped →
+        (his t).control ≡ At d k →
+        double_collects r i c (suc t) ≡ double_collects r i c t + a.tests k
+    collects_next c t d k le short steps_is out_is at =
+        let line : line_in r.source (process_at (before r (suc t)) i).status ≡ instr_at a.source.lines (a.number k) =
+        ap (λ (y : Process). line_in r.source y.status) (is_busy_at t short d k at) in
+        let old = double_collects r i c t in
+        count_next (ends_double_collect r i) c t le
+        ∙ ap (λ b. if b && (is_if_all (line_in r.source (process_at (before r (suc t)) i).status) && is_stepped (outcome r (suc t))) then suc old else old) steps_is
+        ∙ ap (λ (o : Outcome). if is_if_all (line_in r.source (process_at (before r (suc t)) i).status) && is_stepped o then suc old else old) out_is
+        ∙ ap (λ b. if b then suc old else old) (and_true (is_if_all (line_in r.source (process_at (before r (suc t)) i).status)))
+        ∙ ap (λ o. if is_if_all o then suc old else old) line
+        ∙ add_one (is_if_all (instr_at a.source.lines (a.number k))) old
+        ∙ ap (λ y. old + y) (tests_is k)
+
+    own_next : (c t : ℕ) → c ≤ t → steps i (item_at items t) ≡ true → outcome r (suc t) ≡ Stepped → own_steps r i c (suc t) ≡ suc (own_steps r i c t)
+    own_next c t le steps_is out_is =
+        count_next (takes_step r i) c t le
+        ∙ ap (λ b. if b && is_not_skipped (outcome r (suc t)) then suc (own_steps r i c t) else own_steps r i c t) steps_is
+        ∙ ap (λ (o : Outcome). if is_not_skipped o then suc (own_steps r i c t) else own_steps r i c t) out_is
+
+    -- the last double collect goes on, or another one starts
+    round_from : (again : Bool) (c round t : ℕ) → c ≤ round → c ≤ t → c ≤ (if again then suc t else round)
+    round_from true c round t h le = omega arith
+    round_from false c round t h le = h
+
+    round_to : (again : Bool) (round t : ℕ) → round ≤ t → (if again then suc t else round) ≤ suc t
+    round_to true round t h = omega arith
+    round_to false round t h = omega arith
+
+    tested_next : (again : Bool) (round t tested : ℕ) → tested ≡ double_collects r i round (suc t) →
+        (if again then 0 else tested) ≡ double_collects r i (if again then suc t else round) (suc t)
+    tested_next true round t tested h = sym (count_none (ends_double_collect r i) (suc t) (suc t) (omega arith))
+    tested_next false round t tested h = h
+
+    -- a step of the process that stays in the scan
+    step_goes : (link : Option ℕ) (c e t : ℕ) (v : Move V P M) (d : Task) (k : P) → Scan r i link c e → c ≤ t → suc t < e → item_at items t ≡ Step i →
+        (his t).control ≡ At d k → Inside link d → a.move i d (memory t) (his t).variables k ≡ v → Stays link k (his t).variables v → Goes link c t →
+        Goes link c (suc t)
+    step_goes link c e t v d k scan le lt is at inside is_v stays g =
+        let x = typed_state a items t in
+        let short : t < length items = (let last : e ≤ length items = scan.last in omega arith) in
+        let item_is_change : by_item a (suc t) x (item_at items t) ≡ by_move a (suc t) x.memory (his t) k v =
+        ap (by_item a (suc t) x) is ∙ ap (by_step a (suc t) x.memory i (his t)) at ∙ ap (by_move a (suc t) x.memory (his t) k) is_v in
+        let state_becomes : typed_state a items (suc t) ≡ changed x i (by_move a (suc t) x.memory (his t) k v) =
+        ap (λ (y : Item). changed x (who y) (by_item a (suc t) x (item_at items t))) is ∙ ap (changed x i) item_is_change in
+        let out_is : outcome r (suc t) ≡ outcome_of (by_move a (suc t) x.memory (his t) k v) =
+        embed.outcome_is a items fits does t short ∙ ap outcome_of item_is_change in
+        let steps_is : steps i (item_at items t) ≡ true = ap (steps i) is ∙ same_number i in
+        stepped_goes link c e t d k scan le lt short is at g v state_becomes out_is steps_is stays
+      where
+        stepped_goes : (link : Option ℕ) (c e t : ℕ) (d : Task) (k : P) → Scan r i link c e → c ≤ t → suc t < e → t < length items →
+            item_at items t ≡ Step i →
+            (his t).control ≡ At d k → Goes link c t → (v : Move V P M) →
+            typed_state a items (suc t) ≡ changed (typed_state a items t) i (by_move a (suc t) (memory t) (his t) k v) →
+            outcome r (suc t) ≡ outcome_of (by_move a (suc t) (memory t) (his t) k v) → steps i (item_at items t) ≡ true →
+            Stays link k (his t).variables v → Goes link c (suc t)
+        stepped_goes link c e t d k scan le lt short is at g (To d' m' p' k') state_becomes out_is steps_is (inl inside) =
+            let q' : TypedProcess V P M =
+            record { control = At d' k'; variables = p'; auxiliary = stepped_auxiliary a k (suc t) (his t).auxiliary } in
+            let new : his (suc t) ≡ q' = embed.process_next a items t i m' q' Stepped one state_becomes in
+            record {
+              task = d';
+              counter = k';
+              control = ap (λ (q : TypedProcess V P M). q.control) new;
+              inside = inside;
+              since = ap (λ (q : TypedProcess V P M). q.auxiliary.since) new ∙ g.since;
+              own = ap (λ (q : TypedProcess V P M). q.auxiliary.own) new ∙ ap suc g.own ∙ sym (own_next c t le steps_is out_is);
+              collects = ap (λ (q : TypedProcess V P M). q.auxiliary.collects) new ∙ ap (λ y. y + a.tests k) g.collects
+                  ∙ sym (collects_next c t d k le (omega arith) steps_is out_is at);
+              round_after = subst (λ (q : TypedProcess V P M). c ≤ q.auxiliary.round) (sym new) (round_from (a.restarts k) c (his t).auxiliary.round t g.round_after le);
+              round_before = subst (λ (q : TypedProcess V P M). q.auxiliary.round ≤ suc t) (sym new) (round_to (a.restarts k) (his t).auxiliary.round t g.round_before);
+              tested = subst (λ (q : TypedProcess V P M). q.auxiliary.tested ≡ double_collects r i q.auxiliary.round (suc t)) (sym new)
+                  (tested_next (a.restarts k) (his t).auxiliary.round t ((his t).auxiliary.tested + a.tests k)
+                  (ap (λ y. y + a.tests k) g.tested ∙ sym (collects_next (his t).auxiliary.round t d k g.round_before (omega arith) steps_is out_is at)));
+            }
+        stepped_goes None c e t d k scan le lt short is at g (To d' m' p' k') state_becomes out_is steps_is (inr h) = absurd h
+        stepped_goes (Some l) c e t d k scan le lt short is at g (To d' m' p' k') state_becomes out_is steps_is (inr h) =
+            let busy = is_busy_at t (omega arith) d k at in
+            let inside : link_of a.back g.task ≡ Some l = g.inside in
+            absurd (scan.goes_on (suc t) h.0 (omega arith) lt (
+              is,
+              subst (λ (y : Process). Returns (line_in r.source y.status) y.locals h.0) (sym busy) h.1,
+              ap (λ (y : Process). link_in y.status) (is_busy_at t (omega arith) g.task g.counter g.control) ∙ inside,
+            ))
+        stepped_goes link c e t d k scan le lt short is at g (Begin d' p' k') state_becomes out_is steps_is h = absurd h
+        stepped_goes None c e t d k scan le lt short is at g (Answer v) state_becomes out_is steps_is h =
+            absurd (scan.goes_on (suc t) v (omega arith) lt (ap who is, out_is))
+        stepped_goes (Some l) c e t d k scan le lt short is at g (Answer v) state_becomes out_is steps_is h = absurd h
+        stepped_goes link c e t d k scan le lt short is at g Finish state_becomes out_is steps_is h = absurd h
+
+    -- the item of the process in its scan: a step, or a call that is skipped
+    item_goes : (link : Option ℕ) (c e t : ℕ) (y : Item) → Scan r i link c e → c ≤ t → suc t < e → item_at items t ≡ y → who y ≡ i → Goes link c t →
+        Goes link c (suc t)
+    item_goes link c e t (Step k) scan le lt is w g =
+        let is2 : item_at items t ≡ Step i = is ∙ ap (λ u. Step u) w in
+        let short : t < length items = (let last : e ≤ length items = scan.last in omega arith) in
+        let law : Lawful i g.task (memory t) (his t).variables g.counter =
+        subst (LawfulAt i (memory t) (his t).variables) g.control (lawful t i short one) in
+        step_goes link c e t (a.move i g.task (memory t) (his t).variables g.counter) g.task g.counter scan le lt is2 g.control g.inside refl (law.stays link g.inside) g
+    item_goes link c e t (Call k op) scan le lt is w g =
+        let x = typed_state a items t in
+        let is2 : item_at items t ≡ Call i op = is ∙ ap (λ u. Call u op) w in
+        let state_becomes : typed_state a items (suc t) ≡ x =
+        ap (happens a (suc t) x) is2 ∙ ap (λ (p : Control P). changed x i (by_call a (suc t) x.memory i op (his t) p)) g.control in
+        same_goes link c t le (ap (λ (y : TypedState V P M). typed_at a y i) state_becomes) (inr (ap (steps i) is2)) g
+
+    next_goes : (link : Option ℕ) (c e t : ℕ) → Scan r i link c e → c ≤ t → suc t < e → Goes link c t → Goes link c (suc t)
+    next_goes link c e t scan le lt g =
+        let short : t < length items = (let last : e ≤ length items = scan.last in omega arith) in
+        let his_one : IsOneOf a.shape.n (who (item_at items t)) = embed.one_at a items fits does t short in
+        elim (cases_eq (who (item_at items t)) i) [
+          | inl his_item ↦ item_goes link c e t (item_at items t) scan le lt refl his_item g
+          | inr other ↦ same_goes link c t le
+              (embed.other_process a (typed_state a items t) (who (item_at items t)) i (by_item a (suc t) (typed_state a items t) (item_at items t)) his_one.0 one.0 (λ same. other (sym same)))
+              (inl other) g
+        ]
+
+    -- the item that starts a top-level scan
+    called_goes : (c : ℕ) → c < length items → item_at items c ≡ Call i ScanOp → outcome r (suc c) ≡ Called → Goes None (suc c) (suc c)
+    called_goes c short is out =
+        let x = typed_state a items c in
+        let item_is_change : by_item a (suc c) x (item_at items c) ≡ by_call a (suc c) x.memory i ScanOp (his c) (his c).control = ap (by_item a (suc c) x) is in
+        let state_becomes : typed_state a items (suc c) ≡ changed x i (by_call a (suc c) x.memory i ScanOp (his c) (his c).control) =
+        ap (λ (y : Item). changed x (who y) (by_item a (suc c) x (item_at items c))) is ∙ ap (changed x i) item_is_change in
+        let out_is : outcome_of (by_call a (suc c) x.memory i ScanOp (his c) (his c).control) ≡ Called =
+        sym (ap outcome_of item_is_change) ∙ sym (embed.outcome_is a items fits does c short) ∙ out in
+        from_control c (his c).control state_becomes out_is
+      where
+        from_control : (c : ℕ) (control : Control P) →
+            typed_state a items (suc c) ≡ changed (typed_state a items c) i (by_call a (suc c) (memory c) i ScanOp (his c) control) →
+            outcome_of (by_call a (suc c) (memory c) i ScanOp (his c) control) ≡ Called → Goes None (suc c) (suc c)
+        from_control c Idle state_becomes out_is =
+            let x = typed_state a items c in
+            let q' : TypedProcess V P M =
+            record { control = At (task_of ScanOp) (a.counter ScanOp); variables = (his c).variables; auxiliary = called_auxiliary (suc c) ScanOp (his c).auxiliary } in
+            let new : his (suc c) ≡ q' = embed.process_next a items c i x.memory q' Called one state_becomes in
+            record {
+              task = task_of ScanOp;
+              counter = a.counter ScanOp;
+              control = ap (λ (q : TypedProcess V P M). q.control) new;
+              inside = (link_is a.back ScanOp, op_is ScanOp);
+              since = ap (λ (q : TypedProcess V P M). q.auxiliary.since) new;
+              own = ap (λ (q : TypedProcess V P M). q.auxiliary.own) new ∙ sym (count_none (takes_step r i) (suc c) (suc c) (omega arith));
+              collects = ap (λ (q : TypedProcess V P M). q.auxiliary.collects) new
+                  ∙ sym (count_none (ends_double_collect r i) (suc c) (suc c) (omega arith));
+              round_after = subst (λ (q : TypedProcess V P M). suc c ≤ q.auxiliary.round) (sym new) (omega arith);
+              round_before = subst (λ (q : TypedProcess V P M). q.auxiliary.round ≤ suc c) (sym new) (omega arith);
+              tested = subst (λ (q : TypedProcess V P M). q.auxiliary.tested ≡ double_collects r i q.auxiliary.round (suc c)) (sym new)
+                  (sym (count_none (ends_double_collect r i) (suc c) (suc c) (omega arith)));
+            }
+        from_control c (At d k) state_becomes out_is = absurd (cc)
+
+    -- the item that starts an embedded scan
+    begun_goes : (l c : ℕ) → c < length items → item_at items c ≡ Step i → IsCallLine (line_in r.source (process_at (state r c) i).status) →
+        outcome r (suc c) ≡ Stepped →
+        link_in (process_at (state r (suc c)) i).status ≡ Some l → Goes (Some l) (suc c) (suc c)
+    begun_goes l c short is call out link =
+        let x = typed_state a items c in
+        let law = lawful c i short one in
+        let item_is_change : by_item a (suc c) x (item_at items c) ≡ by_step a (suc c) x.memory i (his c) (his c).control = ap (by_item a (suc c) x) is in
+        let state_becomes : typed_state a items (suc c) ≡ changed x i (by_step a (suc c) x.memory i (his c) (his c).control) =
+        ap (λ (y : Item). changed x (who y) (by_item a (suc c) x (item_at items c))) is ∙ ap (changed x i) item_is_change in
+        let out_is : outcome_of (by_step a (suc c) x.memory i (his c) (his c).control) ≡ Stepped =
+        sym (ap outcome_of item_is_change) ∙ sym (embed.outcome_is a items fits does c short) ∙ out in
+        let call_is : IsCallLine (line_in a.source (status_of a (his c).control)) =
+        subst (λ (y : Process). IsCallLine (line_in a.source y.status)) (embed.process_at_is a items fits does c i (omega arith) one) call in
+        let link_is : link_in (status_of a (his (suc c)).control) ≡ Some l =
+        sym (ap (λ (y : Process). link_in y.status) (embed.process_at_is a items fits does (suc c) i (omega arith) one)) ∙ link in
+        from_control l c (his c).control state_becomes out_is call_is link_is law
+      where
+        from_move : (l c : ℕ) (d : Task) (k : P) (v : Move V P M) → NotTo v →
+            typed_state a items (suc c) ≡ changed (typed_state a items c) i (by_move a (suc c) (memory c) (his c) k v) →
+            outcome_of (by_move a (suc c) (memory c) (his c) k v) ≡ Stepped →
+            link_in (status_of a (his (suc c)).control) ≡ Some l → Goes (Some l) (suc c) (suc c)
+        from_move l c d k (To d' m' p' k') not_to state_becomes out_is link_is = absurd not_to
+        from_move l c d k (Begin d' p' k') not_to state_becomes out_is link_is =
+            let x = typed_state a items c in
+            let q' : TypedProcess V P M = record { control = At d' k'; variables = p'; auxiliary = begun_auxiliary a k (suc c) (his c).auxiliary } in
+            let new : his (suc c) ≡ q' = embed.process_next a items c i x.memory q' Stepped one state_becomes in
+            record {
+              task = d';
+              counter = k';
+              control = ap (λ (q : TypedProcess V P M). q.control) new;
+              inside = sym (ap (λ (q : TypedProcess V P M). link_in (status_of a q.control)) new) ∙ link_is;
+              since = ap (λ (q : TypedProcess V P M). q.auxiliary.since) new;
+              own = ap (λ (q : TypedProcess V P M). q.auxiliary.own) new ∙ sym (count_none (takes_step r i) (suc c) (suc c) (omega arith));
+              collects = ap (λ (q : TypedProcess V P M). q.auxiliary.collects) new
+                  ∙ sym (count_none (ends_double_collect r i) (suc c) (suc c) (omega arith));
+              round_after = subst (λ (q : TypedProcess V P M). suc c ≤ q.auxiliary.round) (sym new) (omega arith);
+              round_before = subst (λ (q : TypedProcess V P M). q.auxiliary.round ≤ suc c) (sym new) (omega arith);
+              tested = subst (λ (q : TypedProcess V P M). q.auxiliary.tested ≡ double_collects r i q.auxiliary.round (suc c)) (sym new)
+                  (sym (count_none (ends_double_collect r i) (suc c) (suc c) (omega arith)));
+            }
+        from_move l c d k (Answer v) not_to state_becomes out_is link_is = absurd (cc)
+        from_move l c d k Finish not_to state_becomes out_is link_is = absurd (cc)
+
+        from_control : (l c : ℕ) (control : Control P) →
+            typed_state a items (suc c) ≡ changed (typed_state a items c) i (by_step a (suc c) (memory c) i (his c) control) →
+            outcome_of (by_step a (suc c) (memory c) i (his c) control) ≡ Stepped → IsCallLine (line_in a.source (status_of a control)) →
+            link_in (status_of a (his (suc c)).control) ≡ Some l → LawfulAt i (memory c) (his c).variables control → Goes (Some l) (suc c) (suc c)
+        from_control l c Idle state_becomes out_is call link law = absurd call
+        from_control l c (At d k) state_becomes out_is call link law =
+            from_move l c d k (a.move i d (memory c) (his c).variables k) (law.calls call) state_becomes out_is link
+
+    start_goes : (link : Option ℕ) (c : ℕ) → c < length items → Starts r i (suc c) link → Goes link (suc c) (suc c)
+    start_goes None c short h = called_goes c short h.0 h.1
+    start_goes (Some l) c short h = begun_goes l c short h.0 h.1 h.2 h.3
+
+    first_goes : (link : Option ℕ) (c e : ℕ) → 0 < c → c ≤ length items → Starts r i c link → Goes link c c
+    first_goes link zero e pos short h = absurd (omega arith)
+    first_goes link (suc c) e pos short h = start_goes link c (omega arith) h
+
+    -- the scan goes on up to the item before its end
+    pub goes : (link : Option ℕ) (c e t : ℕ) → Scan r i link c e → c ≤ t → t < e → Goes link c t
+    goes link c e zero scan le lt = absurd (let pos : 0 < c = scan.first in omega arith)
+    goes link c e (suc t) scan le lt =
+        let last : e ≤ length items = scan.last in
+        elim (eq-or-lt_of_le le) [
+          | inl same ↦ subst (λ y. Goes link c y) same (first_goes link c e scan.first (omega arith) scan.starts)
+          | inr more ↦ next_goes link c e t scan (omega arith) lt (goes link c e t scan (omega arith) (omega arith))
+        ]
+
+    -- the counts at the start, and one item later
+    pub started_collects : (c e : ℕ) → e ≤ c → double_collects r i c e ≡ 0
+    started_collects c e h = count_none (ends_double_collect r i) c e h
+
+    pub started_own : (c e : ℕ) → e ≤ c → own_steps r i c e ≡ 0
+    started_own c e h = count_none (takes_step r i) c e h
+
+    one_more : (b : Bool) (x : ℕ) → (if b then suc x else x) ≤ x + 1
+    one_more true x = omega arith
+    one_more false x = omega arith
+
+    inner_more : (s b o : Bool) (x : ℕ) → (if s && (b && o) then suc x else x) ≤ x + (if b then 1 else 0)
+    inner_more true true true x = omega arith
+    inner_more true true false x = omega arith
+    inner_more true false o x = omega arith
+    inner_more false true o x = omega arith
+    inner_more false false o x = omega arith
+
+    pub last_own : (c t : ℕ) → c ≤ t → own_steps r i c (suc t) ≤ own_steps r i c t + 1
+    last_own c t le =
+        subst (λ y. y ≤ own_steps r i c t + 1) (sym (count_next (takes_step r i) c t le))
+        (one_more (steps i (item r (suc t)) && is_not_skipped (outcome r (suc t))) (own_steps r i c t))
+
+    pub last_collects : (c t : ℕ) (d : Task) (k : P) → c ≤ t → t ≤ length items → (his t).control ≡ At d k →
+        double_collects r i c (suc t) ≤ double_collects r i c t + a.tests k
+    last_collects c t d k le short at =
+        let status = line_in r.source (process_at (before r (suc t)) i).status in
+        let line : status ≡ instr_at a.source.lines (a.number k) = ap (λ (y : Process). line_in r.source y.status) (is_busy_at t short d k at) in
+        let tested : (if is_if_all status then 1 else 0) ≡ a.tests k = ap (λ o. if is_if_all o then 1 else 0) line ∙ tests_is k in
+        subst (λ y. y ≤ double_collects r i c t + a.tests k) (sym (count_next (ends_double_collect r i) c t le))
+        (subst (λ y. (if steps i (item r (suc t)) && (is_if_all status && is_stepped (outcome r (suc t))) then suc (double_collects r i c t) else double_collects r i c t) ≤ double_collects r i c t + y) tested
+        (inner_more (steps i (item r (suc t))) (is_if_all status) (is_stepped (outcome r (suc t))) (double_collects r i c t)))

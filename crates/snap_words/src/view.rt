@@ -1,5 +1,7 @@
 //! Views: the values of all words.
-ghost use Rattle.std.specs.Prelude.{◌≡◌, IfOk};
+ghost use Rattle.std.specs.Prelude.{◌≡◌, IfOk, replicate};
+ghost use Rattle.std.specs.List.{list_all};
+ghost use Rattle.snap_words.specs.Kind.{is_bit};
 
 use std::alloc::{AllocError, Global};
 use std::marker::Model;
@@ -24,6 +26,22 @@ impl View {
         ensures { result ≡ places.items }
     {
         View { places }
+    }
+
+    /// The view of `count` zeros.
+    pub fn zeros(alloc: Global, count: u64) -> Result<View, AllocError>
+        ensures { IfOk result (λ v. v ≡ replicate count 0) }
+    {
+        Ok(View {
+            places: vec![in alloc; 0; count as usize]?,
+        })
+    }
+
+    /// Whether each of its values is 0 or 1.
+    pub fn has_bits(&self) -> bool
+        ensures { result ≡ list_all is_bit self.now }
+    {
+        self.places.iter().all(|&x| x <= 1)
     }
 
     /// Its values.

@@ -1,5 +1,5 @@
 //! The registers.
-ghost use Rattle.std.specs.Prelude.{◌≡◌, ◌-◌, true, false, [], length, Some, None, map, replicate, IfOk, MatchResult, OnErr, slice_index_or, slice_set};
+ghost use Rattle.std.specs.Prelude.{◌≡◌, ◌-◌, ◌<◌, true, false, [], length, Some, None, map, replicate, IfOk, MatchResult, OnErr, slice_index_or, slice_set};
 ghost use Rattle.snap_words.specs.Kind.{initial_word, is_bit, is_sized, may_write};
 ghost use Rattle.snap_words.specs.Word.{no_word};
 ghost use Rattle.snap_words.specs.declared.address.Bank.TheVariants as bank;
@@ -7,7 +7,7 @@ ghost use Rattle.snap_semantics.specs.Readers.{contents, WordContents, BitConten
 ghost use Rattle.snap_semantics.specs.State.{initial_memory, with_memory_words};
 ghost use Rattle.snap_semantics.specs.Table.{bank_of, bit_at, bits_of, with_bit_at, with_memory_bits, with_memory_views};
 ghost use Rattle.snap_regs.specs.Access.{is_place, is_bit_place, is_view_place, word_refused, bit_refused, view_refused};
-ghost use Rattle.snap_regs.specs.Store.{IsOfShape, rows_in};
+ghost use Rattle.snap_regs.specs.Store.{HasColumns, IsOfShape, rows_in};
 ghost use Rattle.snap_regs.specs.declared.fault.RegisterFault.TheVariants.{Index};
 
 use crate::fault::RegisterFault;
@@ -56,6 +56,37 @@ fn initial_words<K: Kind>(alloc: Global, shape: Shape) -> Result<Vec<K::Word>, A
     Ok(words)
 }
 
+/// The place of a bit, its row and column counted from 0.
+fn bit_place<K: Kind>(
+    shape: Shape,
+    bits: BitBank,
+    i: u64,
+    j: u64,
+) -> Result<(usize, usize), RegisterFault>
+    ensures { MatchResult result
+        (λ at. (is_bit_place K.TAG shape bits i j ≡ true) × (at.0 ≡ i - 1) × (at.1 ≡ j - 1) × (at.0 < rows_in K.TAG shape (bank_of bits)) × (at.1 < shape.n))
+        (λ e. (e ≡ Index) × (is_bit_place K.TAG shape bits i j ≡ false)) }
+{
+    if !K::has_bank(bank_of(bits)) {
+        return Err(RegisterFault::Index);
+    }
+    let row = place_in(shape.n(), i)?;
+    let column = place_in(shape.n(), j)?;
+    Ok((row, column))
+}
+
+/// The place of a view, counted from 0.
+fn view_place<K: Kind>(shape: Shape, i: u64) -> Result<usize, RegisterFault>
+    ensures { MatchResult result
+        (λ place. (is_view_place K.TAG shape i ≡ true) × (place ≡ i - 1) × (place < rows_in K.TAG shape bank.V))
+        (λ e. (e ≡ Index) × (is_view_place K.TAG shape i ≡ false)) }
+{
+    if !K::has_bank(Bank::V) {
+        return Err(RegisterFault::Index);
+    }
+    place_in(shape.n(), i)
+}
+
 impl<K: Kind> Registers<K> {
     /// The registers of this shape, nobody having written any.
     pub fn new(alloc: Global, shape: Shape) -> Result<Registers<K>, AllocError>
@@ -77,6 +108,57 @@ impl<K: Kind> Registers<K> {
         ensures of_shape { IsOfShape K.TAG self.now.shape self.now.memory }
     {
         self.shape
+    }
+
+    /// Word `k`, or `Index` where there is none.
+    pub fn word(&self, k: u64) -> Result<&K::Word, RegisterFault>
+        ensures place { MatchResult result
+            (λ word. (is_place self.now.shape.w k ≡ true) × (K.parts word.now ≡ slice_index_or self.now.memory.words (k - 1) no_word))
+            (λ e. (e ≡ Index) × (is_place self.now.shape.w k ≡ false)) }
+        ensures content { MatchResult result
+            (λ word. contents self.now.memory bank.R k 0 ≡ Some (WordContents (K.parts word.now)))
+            (λ _. contents self.now.memory bank.R k 0 ≡ None) }
+    {
+        let place = place_in(self.shape.w(), k)?;
+        Ok(&self.words[place])
+    }
+
+    /// Bit `j` of row `i`, or `Index` where there is none.
+    pub fn bit(&self, bits: BitBank, i: u64, j: u64) -> Result<u64, RegisterFault>
+        ensures place { MatchResult result
+            (λ bit. (is_bit_place K.TAG self.now.shape bits i j ≡ true) × (bit ≡ bit_at (bits_of bits self.now.memory) (i - 1) (j - 1)))
+            (λ e. (e ≡ Index) × (is_bit_place K.TAG self.now.shape bits i j ≡ false)) }
+        ensures content { MatchResult result
+            (λ bit. contents self.now.memory (bank_of bits) i j ≡ Some (BitContents bit))
+            (λ _. contents self.now.memory (bank_of bits) i j ≡ None) }
+    {
+        let (row, column) = bit_place::<K>(self.shape, bits, i, j)?;
+        Ok(self.rows(bits)[row].as_slice()[column])
+    }
+
+    /// View `i`, or `Index` where there is none.
+    pub fn view(&self, i: u64) -> Result<&View, RegisterFault>
+        ensures place { MatchResult result
+            (λ view. (is_view_place K.TAG self.now.shape i ≡ true) × (view.now ≡ slice_index_or self.now.memory.views (i - 1) []))
+            (λ e. (e ≡ Index) × (is_view_place K.TAG self.now.shape i ≡ false)) }
+        ensures content { MatchResult result
+            (λ view. contents self.now.memory bank.V i 0 ≡ Some (ViewContents view.now))
+            (λ _. contents self.now.memory bank.V i 0 ≡ None) }
+    {
+        let place = view_place::<K>(self.shape, i)?;
+        Ok(&self.views[place])
+    }
+
+    /// The rows of a bank of bits.
+    fn rows(&self, bits: BitBank) -> &[View]
+        ensures value { result.now ≡ bits_of bits self.now.memory }
+        ensures row_count { length result.now ≡ rows_in K.TAG self.now.shape (bank_of bits) }
+        ensures columns { HasColumns self.now.shape.n result.now }
+    {
+        match bits {
+            BitBank::Q => self.q.as_slice(),
+            BitBank::P => self.p.as_slice(),
+        }
     }
 
     /// The words.

@@ -21,20 +21,20 @@ is_bit_place k s b i j = has_bank k (bank_of b) && (is_place s.n i && is_place s
 abbrev pub is_view_place : KindTag → Counts → ℕ → Bool
 is_view_place k s i = has_bank k bank.V && is_place s.n i
 
--- why a word is not put
-abbrev pub word_refused : KindTag → Counts → ℕ → ℕ → RegisterFault → Type 0
-word_refused k s who i Index = is_place s.w i ≡ false
-word_refused k s who i NotABit = ⊥
-word_refused k s who i Owner = (is_place s.w i ≡ true) × (may_write k who bank.R i ≡ false)
+-- why a process does not put a word
+abbrev pub IsWordRefused : KindTag → Counts → ℕ → ℕ → RegisterFault → Type 0
+IsWordRefused k s who i Index = is_place s.w i ≡ false
+IsWordRefused k s who i NotABit = ⊥
+IsWordRefused k s who i Owner = (is_place s.w i ≡ true) × (may_write k who bank.R i ≡ false)
 
--- why a bit is not put
-abbrev pub bit_refused : KindTag → Counts → ℕ → BitBank → ℕ → ℕ → ℕ → RegisterFault → Type 0
-bit_refused k s who b i j x Index = is_bit_place k s b i j ≡ false
-bit_refused k s who b i j x NotABit = (is_bit_place k s b i j ≡ true) × (is_bit x ≡ false)
-bit_refused k s who b i j x Owner = (is_bit_place k s b i j ≡ true) × (is_bit x ≡ true) × (may_write k who (bank_of b) i ≡ false)
+-- why a process does not put this bit
+abbrev pub IsBitRefused : KindTag → Counts → ℕ → BitBank → ℕ → ℕ → ℕ → RegisterFault → Type 0
+IsBitRefused k s who b i j x Index = is_bit_place k s b i j ≡ false
+IsBitRefused k s who b i j x NotABit = (is_bit_place k s b i j ≡ true) × (is_bit x ≡ false)
+IsBitRefused k s who b i j x Owner = (is_bit_place k s b i j ≡ true) × (is_bit x ≡ true) × (may_write k who (bank_of b) i ≡ false)
 
--- why a view is not put
-abbrev pub view_refused : KindTag → Counts → ℕ → ℕ → RegisterFault → Type 0
-view_refused k s who i Index = is_view_place k s i ≡ false
-view_refused k s who i NotABit = ⊥
-view_refused k s who i Owner = (is_view_place k s i ≡ true) × (may_write k who bank.V i ≡ false)
+-- why a process does not put a view
+abbrev pub IsViewRefused : KindTag → Counts → ℕ → ℕ → RegisterFault → Type 0
+IsViewRefused k s who i Index = is_view_place k s i ≡ false
+IsViewRefused k s who i NotABit = ⊥
+IsViewRefused k s who i Owner = (is_view_place k s i ≡ true) × (may_write k who bank.V i ≡ false)

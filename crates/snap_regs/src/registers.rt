@@ -4,11 +4,11 @@ ghost use Rattle.snap_words.specs.Kind.{initial_word, is_bit, is_sized, may_writ
 ghost use Rattle.snap_words.specs.Word.{no_word};
 ghost use Rattle.snap_words.specs.declared.address.Bank.TheVariants as bank;
 ghost use Rattle.snap_semantics.specs.Readers.{contents, WordContents, BitContents, ViewContents};
-ghost use Rattle.snap_semantics.specs.State.{initial_memory, with_memory_words};
-ghost use Rattle.snap_semantics.specs.Table.{bank_of, bit_at, bits_of, with_bit_at, with_memory_bits, with_memory_views};
-ghost use Rattle.snap_regs.specs.Access.{is_place, is_bit_place, is_view_place, word_refused, bit_refused, view_refused};
-ghost use Rattle.snap_regs.specs.Store.{HasColumns, IsOfShape, rows_in};
-ghost use Rattle.snap_regs.specs.declared.fault.RegisterFault.TheVariants.{Index};
+ghost use Rattle.snap_semantics.specs.State.{initial_memory};
+ghost use Rattle.snap_semantics.specs.Table.{bank_of, bit_at, bits_of};
+ghost use Rattle.snap_regs.specs.Access.{is_place, is_bit_place, is_view_place, IsWordRefused, IsBitRefused, IsViewRefused};
+ghost use Rattle.snap_regs.specs.Store.{HasColumns, IsOfShape, rows_in, with_word, with_bit, with_view};
+ghost use Rattle.snap_regs.specs.declared.fault.RegisterFault.TheVariants.{Index, Owner};
 
 use crate::fault::RegisterFault;
 use crate::rows::{bank_of, place_in, set_bit, zero_rows};
@@ -87,6 +87,17 @@ fn view_place<K: Kind>(shape: Shape, i: u64) -> Result<usize, RegisterFault>
     place_in(shape.n(), i)
 }
 
+/// `Owner` unless the process may write the registers of this bank whose first index is `i`.
+fn check_owner<K: Kind>(who: u32, bank: Bank, i: u64) -> Result<(), RegisterFault>
+    ensures { MatchResult result (λ _. may_write K.TAG who bank i ≡ true) (λ e. (e ≡ Owner) × (may_write K.TAG who bank i ≡ false)) }
+{
+    if K::may_write(who, Address { bank, i, j: 0 }) {
+        Ok(())
+    } else {
+        Err(RegisterFault::Owner)
+    }
+}
+
 impl<K: Kind> Registers<K> {
     /// The registers of this shape, nobody having written any.
     pub fn new(alloc: Global, shape: Shape) -> Result<Registers<K>, AllocError>
@@ -118,6 +129,7 @@ impl<K: Kind> Registers<K> {
         ensures content { MatchResult result
             (λ word. contents self.now.memory bank.R k 0 ≡ Some (WordContents (K.parts word.now)))
             (λ _. contents self.now.memory bank.R k 0 ≡ None) }
+        ensures sized { IfOk result (λ word. is_sized K.TAG self.now.shape (K.parts word.now) ≡ true) }
     {
         let place = place_in(self.shape.w(), k)?;
         Ok(&self.words[place])
@@ -144,9 +156,64 @@ impl<K: Kind> Registers<K> {
         ensures content { MatchResult result
             (λ view. contents self.now.memory bank.V i 0 ≡ Some (ViewContents view.now))
             (λ _. contents self.now.memory bank.V i 0 ≡ None) }
+        ensures places { IfOk result (λ view. length view.now ≡ self.now.shape.w) }
     {
         let place = view_place::<K>(self.shape, i)?;
         Ok(&self.views[place])
+    }
+
+    /// Process `who` puts a word at place `k`: `Index` where there is no such word, `Owner` where the process may not
+    /// write it.
+    pub fn put_word(&mut self, who: u32, k: u64, word: K::Word) -> Result<(), RegisterFault>
+        requires { is_sized K.TAG self.old.shape (K.parts word) ≡ true }
+        ensures { MatchResult result
+            (λ _. (is_place self.old.shape.w k ≡ true) × (may_write K.TAG who bank.R k ≡ true) × (self.new ≡ with_word k (K.parts word) self.old))
+            (λ e. IsWordRefused K.TAG self.old.shape who k e × (self.new ≡ self.old)) }
+    {
+        let place = place_in(self.shape.w(), k)?;
+        check_owner::<K>(who, Bank::R, k)?;
+        self.words[place] = word;
+        Ok(())
+    }
+
+    /// Process `who` puts bit `j` of row `i`: `Index` where there is no such bit, `NotABit` where it is not 0 or 1,
+    /// `Owner` where the process may not write it.
+    pub fn put_bit(
+        &mut self,
+        who: u32,
+        bits: BitBank,
+        i: u64,
+        j: u64,
+        bit: u64,
+    ) -> Result<(), RegisterFault>
+        ensures { MatchResult result
+            (λ _. (is_bit_place K.TAG self.old.shape bits i j ≡ true) × (is_bit bit ≡ true) × (may_write K.TAG who (bank_of bits) i ≡ true)
+            × (self.new ≡ with_bit bits i j bit self.old))
+            (λ e. IsBitRefused K.TAG self.old.shape who bits i j bit e × (self.new ≡ self.old)) }
+    {
+        let (row, column) = bit_place::<K>(self.shape, bits, i, j)?;
+        if bit > 1 {
+            return Err(RegisterFault::NotABit);
+        }
+        check_owner::<K>(who, bank_of(bits), i)?;
+        match bits {
+            BitBank::Q => set_bit(&mut self.q, row, column, bit),
+            BitBank::P => set_bit(&mut self.p, row, column, bit),
+        }
+        Ok(())
+    }
+
+    /// Process `who` puts view `i`: `Index` where there is no such view, `Owner` where the process may not write it.
+    pub fn put_view(&mut self, who: u32, i: u64, view: View) -> Result<(), RegisterFault>
+        requires { length view ≡ self.old.shape.w }
+        ensures { MatchResult result
+            (λ _. (is_view_place K.TAG self.old.shape i ≡ true) × (may_write K.TAG who bank.V i ≡ true) × (self.new ≡ with_view i view self.old))
+            (λ e. IsViewRefused K.TAG self.old.shape who i e × (self.new ≡ self.old)) }
+    {
+        let place = view_place::<K>(self.shape, i)?;
+        check_owner::<K>(who, Bank::V, i)?;
+        self.views[place] = view;
+        Ok(())
     }
 
     /// The rows of a bank of bits.

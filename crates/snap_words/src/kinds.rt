@@ -79,4 +79,10 @@ pub trait Kind: Send + Sync {
 
     /// A kind keeps all the parts of its own words.
     ghost keeps: { (x : Self.Word) → kept TAG (parts x) ≡ parts x };
+
+    /// The toggle and the hands of a word are bits.
+    ghost has_only_bits: { (x : Self.Word) → has_bits TAG (parts x) ≡ true };
 }
+
+#[cfg(test)]
+mod tests;

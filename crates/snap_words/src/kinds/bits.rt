@@ -1,4 +1,8 @@
 //! Single-writer words with handshake bits and a toggle.
+ghost use Rattle.std.specs.Prelude.{◌≡◌, ◌&&◌, true};
+ghost use Rattle.std.specs.List.{list_all};
+ghost use Rattle.snap_words.specs.Kind.{is_bit};
+
 use crate::address::{Address, Bank};
 use crate::kind::{Field, KindTag};
 use crate::kinds::Kind;
@@ -17,6 +21,7 @@ pub struct BitsWord {
     toggle: u64,
     hands: View,
     view: View,
+    ghost bits: { (is_bit toggle && list_all is_bit hands) ≡ true },
 }
 
 impl Kind for Bits {
@@ -105,4 +110,6 @@ impl Kind for Bits {
     ghost equal = { bits_equal };
 
     ghost keeps = { λ x. refl };
+
+    ghost has_only_bits = { λ x. x.bits };
 }

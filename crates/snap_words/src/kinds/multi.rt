@@ -1,4 +1,7 @@
 //! Multi-writer words with a writer and a toggle.
+ghost use Rattle.std.specs.Prelude.{◌≡◌, true};
+ghost use Rattle.snap_words.specs.Kind.{is_bit};
+
 use crate::address::{Address, Bank};
 use crate::kind::{Field, KindTag};
 use crate::kinds::Kind;
@@ -16,11 +19,12 @@ pub struct MultiWord {
     datum: u64,
     id: u64,
     toggle: u64,
+    ghost bits: { is_bit toggle ≡ true },
 }
 
 impl Kind for Multi {
     ghost use Rattle.std.specs.Prelude.{refl};
-    ghost use Rattle.snap_words.specs.KindLaws.{multi_equal};
+    ghost use Rattle.snap_words.specs.KindLaws.{multi_equal, multi_has_bits};
     ghost use Rattle.snap_words.specs.KindWords.{multi_parts};
     ghost use Rattle.snap_words.specs.declared.kind.KindTag.TheVariants as tag;
 
@@ -99,4 +103,6 @@ impl Kind for Multi {
     ghost equal = { multi_equal };
 
     ghost keeps = { λ x. refl };
+
+    ghost has_only_bits = { multi_has_bits };
 }

@@ -91,4 +91,6 @@ impl Kind for Seq {
     ghost equal = { seq_equal };
 
     ghost keeps = { λ x. refl };
+
+    ghost has_only_bits = { λ x. refl };
 }

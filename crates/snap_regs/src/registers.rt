@@ -166,9 +166,10 @@ impl<K: Kind> Registers<K> {
     /// write it.
     pub fn put_word(&mut self, who: u32, k: u64, word: K::Word) -> Result<(), RegisterFault>
         requires { is_sized K.TAG self.old.shape (K.parts word) ≡ true }
-        ensures { MatchResult result
+        ensures put { MatchResult result
             (λ _. (is_place self.old.shape.w k ≡ true) × (may_write K.TAG who bank.R k ≡ true) × (self.new ≡ with_word k (K.parts word) self.old))
             (λ e. IsWordRefused K.TAG self.old.shape who k e × (self.new ≡ self.old)) }
+        ensures shape { self.new.shape ≡ self.old.shape }
     {
         let place = place_in(self.shape.w(), k)?;
         check_owner::<K>(who, Bank::R, k)?;
@@ -186,10 +187,11 @@ impl<K: Kind> Registers<K> {
         j: u64,
         bit: u64,
     ) -> Result<(), RegisterFault>
-        ensures { MatchResult result
+        ensures put { MatchResult result
             (λ _. (is_bit_place K.TAG self.old.shape bits i j ≡ true) × (is_bit bit ≡ true) × (may_write K.TAG who (bank_of bits) i ≡ true)
             × (self.new ≡ with_bit bits i j bit self.old))
             (λ e. IsBitRefused K.TAG self.old.shape who bits i j bit e × (self.new ≡ self.old)) }
+        ensures shape { self.new.shape ≡ self.old.shape }
     {
         let (row, column) = bit_place::<K>(self.shape, bits, i, j)?;
         if bit > 1 {
@@ -206,9 +208,10 @@ impl<K: Kind> Registers<K> {
     /// Process `who` puts view `i`: `Index` where there is no such view, `Owner` where the process may not write it.
     pub fn put_view(&mut self, who: u32, i: u64, view: View) -> Result<(), RegisterFault>
         requires { length view ≡ self.old.shape.w }
-        ensures { MatchResult result
+        ensures put { MatchResult result
             (λ _. (is_view_place K.TAG self.old.shape i ≡ true) × (may_write K.TAG who bank.V i ≡ true) × (self.new ≡ with_view i view self.old))
             (λ e. IsViewRefused K.TAG self.old.shape who i e × (self.new ≡ self.old)) }
+        ensures shape { self.new.shape ≡ self.old.shape }
     {
         let place = view_place::<K>(self.shape, i)?;
         check_owner::<K>(who, Bank::V, i)?;
@@ -235,3 +238,6 @@ impl<K: Kind> Registers<K> {
         self.words.as_slice()
     }
 }
+
+#[cfg(test)]
+mod tests;

@@ -3,10 +3,14 @@
 
 mod address;
 mod kind;
+mod kinds;
+mod parts;
 mod shape;
 mod view;
 
 pub use address::{Address, Bank};
 pub use kind::{Field, KindTag};
+pub use kinds::{Bits, BitsWord, Kind, Multi, MultiWord, Seq, SeqWord};
+pub use parts::Parts;
 pub use shape::{MAX_COUNT, Shape, WordFault};
 pub use view::View;

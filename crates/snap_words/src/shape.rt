@@ -15,6 +15,9 @@ pub enum WordFault {
     /// A count of processes or of words outside 1 to 16.
     #[error("W1 BadShape")]
     BadShape,
+    /// A toggle or a hand that is not 0 or 1.
+    #[error("W2 NotABit")]
+    NotABit,
 }
 
 /// The numbers of processes and of words, each 1 to 16.

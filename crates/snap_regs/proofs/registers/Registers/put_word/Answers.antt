@@ -1,0 +1,20 @@
+-- The words with one put are the old ones with its parts put.
+use Rattle.std.proofs.Common.{◌≡◌, ◌∙◌, ℕ, ap, map, subst, true}
+use Rattle.std.proofs.lemmas.List.{map-set}
+use Rattle.snap_words.specs.Kind.{is_sized}
+use Rattle.snap_regs.specs.Store.{Store}
+use Rattle.snap_regs.proofs.Words.{IsOfShape-set_word, with_word-parts}
+use Rattle.snap_regs.specs.Access.{is_place}
+use Rattle.snap_regs.proofs.registers.Registers.put_word.Goals as goal
+
+pub invariant_of-self : goal.invariant_of-self
+invariant_of-self g c =
+    let sized : is_sized g.K.Kind.TAG c.self.inside.shape (g.K.Kind.parts c.args.word) ≡ true =
+    rw (ap (λ (r : Store). r.shape) c.self.view_is) c.requires in
+    rw (map-set g.K.Kind.parts c.self.inside.words.items c.in_ok-place.place c.args.word)
+    (IsOfShape-set_word g.K.Kind.TAG c.self.inside.shape (record { words = map g.K.Kind.parts c.self.inside.words.items; q = c.self.inside.q.items; p = c.self.inside.p.items; views = c.self.inside.views.items }) c.in_ok-place.place (g.K.Kind.parts c.args.word) c.self.invariant sized)
+
+pub returns-clause-put : goal.returns-clause-put
+returns-clause-put g c =
+    let count = c.w.ensures ∙ ap (λ (r : Store). r.shape.w) c.self.view_is in
+    (subst (λ (n : ℕ). is_place n c.args.k ≡ true) count c.in_ok-place.ensures.0, c.in_ok-check_owner.ensures, with_word-parts g.K.Kind.parts c.self.inside.words.items c.self.inside.shape c.self.inside.q.items c.self.inside.p.items c.self.inside.views.items c.in_ok-place.place c.args.k c.args.word c.args.self.now c.self.view_is c.in_ok-place.ensures.1)

@@ -1,0 +1,9 @@
+//! The registers of a shape, of any kind: read by anybody, written by those who may.
+#![tactic(auto)]
+
+mod fault;
+mod registers;
+mod rows;
+
+pub use fault::RegisterFault;
+pub use registers::Registers;

@@ -1,0 +1,243 @@
+//! The registers.
+ghost use Rattle.std.specs.Prelude.{◌≡◌, ◌-◌, ◌<◌, true, false, [], length, Some, None, map, replicate, IfOk, MatchResult, OnErr, slice_index_or, slice_set};
+ghost use Rattle.snap_words.specs.Kind.{initial_word, is_bit, is_sized, may_write};
+ghost use Rattle.snap_words.specs.Word.{no_word};
+ghost use Rattle.snap_words.specs.declared.address.Bank.TheVariants as bank;
+ghost use Rattle.snap_semantics.specs.Readers.{contents, WordContents, BitContents, ViewContents};
+ghost use Rattle.snap_semantics.specs.State.{initial_memory};
+ghost use Rattle.snap_semantics.specs.Table.{bank_of, bit_at, bits_of};
+ghost use Rattle.snap_regs.specs.Access.{is_place, is_bit_place, is_view_place, IsWordRefused, IsBitRefused, IsViewRefused};
+ghost use Rattle.snap_regs.specs.Store.{HasColumns, IsOfShape, rows_in, with_word, with_bit, with_view};
+ghost use Rattle.snap_regs.specs.declared.fault.RegisterFault.TheVariants.{Index, Owner};
+
+use crate::fault::RegisterFault;
+use crate::rows::{bank_of, place_in, set_bit, zero_rows};
+use snap_semantics::BitBank;
+use snap_words::{Address, Bank, Kind, Shape, View};
+use std::alloc::{AllocError, Global};
+use std::marker::Model;
+
+/// The registers of a shape, seen as the shape and the memory that they make. Indices count from 1.
+#[derive(Drop)]
+pub struct Registers<K: Kind> {
+    shape: Shape,
+    words: Vec<K::Word>,
+    q: Vec<View>,
+    p: Vec<View>,
+    views: Vec<View>,
+}
+
+impl<K: Kind> Model for Registers<K> {
+    ghost use Rattle.std.specs.Prelude.{map};
+    ghost use Rattle.snap_regs.specs.Store.{Store, IsOfShape};
+
+    ghost Value = { Store };
+
+    ghost view = { λ r. record { shape = r.shape; memory = record { words = map K.parts r.words.items; q = r.q.items; p = r.p.items; views = r.views.items } } };
+
+    ghost invariant = { λ r. IsOfShape K.TAG r.shape (record { words = map K.parts r.words.items; q = r.q.items; p = r.p.items; views = r.views.items }) };
+}
+
+/// How many rows of bits, or views, a bank has.
+fn rows_in<K: Kind>(shape: Shape, bank: Bank) -> u64
+    ensures { result ≡ rows_in K.TAG shape bank }
+{
+    if K::has_bank(bank) { shape.n() } else { 0 }
+}
+
+/// A word for each place of the shape, none of them written.
+fn initial_words<K: Kind>(alloc: Global, shape: Shape) -> Result<Vec<K::Word>, AllocError>
+    ensures { IfOk result (λ words. map K.parts words.items ≡ replicate shape.w (initial_word K.TAG shape)) }
+{
+    let mut words = Vec::new(alloc);
+    for i in 0..shape.w() {
+        words.push(K::initial(alloc, shape)?)?;
+    }
+    Ok(words)
+}
+
+/// The place of a bit, its row and column counted from 0.
+fn bit_place<K: Kind>(
+    shape: Shape,
+    bits: BitBank,
+    i: u64,
+    j: u64,
+) -> Result<(usize, usize), RegisterFault>
+    ensures { MatchResult result
+        (λ at. (is_bit_place K.TAG shape bits i j ≡ true) × (at.0 ≡ i - 1) × (at.1 ≡ j - 1) × (at.0 < rows_in K.TAG shape (bank_of bits)) × (at.1 < shape.n))
+        (λ e. (e ≡ Index) × (is_bit_place K.TAG shape bits i j ≡ false)) }
+{
+    if !K::has_bank(bank_of(bits)) {
+        return Err(RegisterFault::Index);
+    }
+    let row = place_in(shape.n(), i)?;
+    let column = place_in(shape.n(), j)?;
+    Ok((row, column))
+}
+
+/// The place of a view, counted from 0.
+fn view_place<K: Kind>(shape: Shape, i: u64) -> Result<usize, RegisterFault>
+    ensures { MatchResult result
+        (λ place. (is_view_place K.TAG shape i ≡ true) × (place ≡ i - 1) × (place < rows_in K.TAG shape bank.V))
+        (λ e. (e ≡ Index) × (is_view_place K.TAG shape i ≡ false)) }
+{
+    if !K::has_bank(Bank::V) {
+        return Err(RegisterFault::Index);
+    }
+    place_in(shape.n(), i)
+}
+
+/// `Owner` unless the process may write the registers of this bank whose first index is `i`.
+fn check_owner<K: Kind>(who: u32, bank: Bank, i: u64) -> Result<(), RegisterFault>
+    ensures { MatchResult result (λ _. may_write K.TAG who bank i ≡ true) (λ e. (e ≡ Owner) × (may_write K.TAG who bank i ≡ false)) }
+{
+    if K::may_write(who, Address { bank, i, j: 0 }) {
+        Ok(())
+    } else {
+        Err(RegisterFault::Owner)
+    }
+}
+
+impl<K: Kind> Registers<K> {
+    /// The registers of this shape, nobody having written any.
+    pub fn new(alloc: Global, shape: Shape) -> Result<Registers<K>, AllocError>
+        ensures { IfOk result (λ r. (r.shape ≡ shape) × (r.memory ≡ initial_memory K.TAG shape)) }
+    {
+        let columns = shape.n();
+        Ok(Registers {
+            shape,
+            words: initial_words::<K>(alloc, shape)?,
+            q: zero_rows(alloc, rows_in::<K>(shape, Bank::Q), columns)?,
+            p: zero_rows(alloc, rows_in::<K>(shape, Bank::P), columns)?,
+            views: zero_rows(alloc, rows_in::<K>(shape, Bank::V), shape.w())?,
+        })
+    }
+
+    /// Their shape, of which they all are.
+    pub fn shape(&self) -> Shape
+        ensures value { result ≡ self.now.shape }
+        ensures of_shape { IsOfShape K.TAG self.now.shape self.now.memory }
+    {
+        self.shape
+    }
+
+    /// Word `k`, or `Index` where there is none.
+    pub fn word(&self, k: u64) -> Result<&K::Word, RegisterFault>
+        ensures place { MatchResult result
+            (λ word. (is_place self.now.shape.w k ≡ true) × (K.parts word.now ≡ slice_index_or self.now.memory.words (k - 1) no_word))
+            (λ e. (e ≡ Index) × (is_place self.now.shape.w k ≡ false)) }
+        ensures content { MatchResult result
+            (λ word. contents self.now.memory bank.R k 0 ≡ Some (WordContents (K.parts word.now)))
+            (λ _. contents self.now.memory bank.R k 0 ≡ None) }
+        ensures sized { IfOk result (λ word. is_sized K.TAG self.now.shape (K.parts word.now) ≡ true) }
+    {
+        let place = place_in(self.shape.w(), k)?;
+        Ok(&self.words[place])
+    }
+
+    /// Bit `j` of row `i`, or `Index` where there is none.
+    pub fn bit(&self, bits: BitBank, i: u64, j: u64) -> Result<u64, RegisterFault>
+        ensures place { MatchResult result
+            (λ bit. (is_bit_place K.TAG self.now.shape bits i j ≡ true) × (bit ≡ bit_at (bits_of bits self.now.memory) (i - 1) (j - 1)))
+            (λ e. (e ≡ Index) × (is_bit_place K.TAG self.now.shape bits i j ≡ false)) }
+        ensures content { MatchResult result
+            (λ bit. contents self.now.memory (bank_of bits) i j ≡ Some (BitContents bit))
+            (λ _. contents self.now.memory (bank_of bits) i j ≡ None) }
+    {
+        let (row, column) = bit_place::<K>(self.shape, bits, i, j)?;
+        Ok(self.rows(bits)[row].as_slice()[column])
+    }
+
+    /// View `i`, or `Index` where there is none.
+    pub fn view(&self, i: u64) -> Result<&View, RegisterFault>
+        ensures place { MatchResult result
+            (λ view. (is_view_place K.TAG self.now.shape i ≡ true) × (view.now ≡ slice_index_or self.now.memory.views (i - 1) []))
+            (λ e. (e ≡ Index) × (is_view_place K.TAG self.now.shape i ≡ false)) }
+        ensures content { MatchResult result
+            (λ view. contents self.now.memory bank.V i 0 ≡ Some (ViewContents view.now))
+            (λ _. contents self.now.memory bank.V i 0 ≡ None) }
+        ensures places { IfOk result (λ view. length view.now ≡ self.now.shape.w) }
+    {
+        let place = view_place::<K>(self.shape, i)?;
+        Ok(&self.views[place])
+    }
+
+    /// Process `who` puts a word at place `k`: `Index` where there is no such word, `Owner` where the process may not
+    /// write it.
+    pub fn put_word(&mut self, who: u32, k: u64, word: K::Word) -> Result<(), RegisterFault>
+        requires { is_sized K.TAG self.old.shape (K.parts word) ≡ true }
+        ensures put { MatchResult result
+            (λ _. (is_place self.old.shape.w k ≡ true) × (may_write K.TAG who bank.R k ≡ true) × (self.new ≡ with_word k (K.parts word) self.old))
+            (λ e. IsWordRefused K.TAG self.old.shape who k e × (self.new ≡ self.old)) }
+        ensures shape { self.new.shape ≡ self.old.shape }
+    {
+        let place = place_in(self.shape.w(), k)?;
+        check_owner::<K>(who, Bank::R, k)?;
+        self.words[place] = word;
+        Ok(())
+    }
+
+    /// Process `who` puts bit `j` of row `i`: `Index` where there is no such bit, `NotABit` where it is not 0 or 1,
+    /// `Owner` where the process may not write it.
+    pub fn put_bit(
+        &mut self,
+        who: u32,
+        bits: BitBank,
+        i: u64,
+        j: u64,
+        bit: u64,
+    ) -> Result<(), RegisterFault>
+        ensures put { MatchResult result
+            (λ _. (is_bit_place K.TAG self.old.shape bits i j ≡ true) × (is_bit bit ≡ true) × (may_write K.TAG who (bank_of bits) i ≡ true)
+            × (self.new ≡ with_bit bits i j bit self.old))
+            (λ e. IsBitRefused K.TAG self.old.shape who bits i j bit e × (self.new ≡ self.old)) }
+        ensures shape { self.new.shape ≡ self.old.shape }
+    {
+        let (row, column) = bit_place::<K>(self.shape, bits, i, j)?;
+        if bit > 1 {
+            return Err(RegisterFault::NotABit);
+        }
+        check_owner::<K>(who, bank_of(bits), i)?;
+        match bits {
+            BitBank::Q => set_bit(&mut self.q, row, column, bit),
+            BitBank::P => set_bit(&mut self.p, row, column, bit),
+        }
+        Ok(())
+    }
+
+    /// Process `who` puts view `i`: `Index` where there is no such view, `Owner` where the process may not write it.
+    pub fn put_view(&mut self, who: u32, i: u64, view: View) -> Result<(), RegisterFault>
+        requires { length view ≡ self.old.shape.w }
+        ensures put { MatchResult result
+            (λ _. (is_view_place K.TAG self.old.shape i ≡ true) × (may_write K.TAG who bank.V i ≡ true) × (self.new ≡ with_view i view self.old))
+            (λ e. IsViewRefused K.TAG self.old.shape who i e × (self.new ≡ self.old)) }
+        ensures shape { self.new.shape ≡ self.old.shape }
+    {
+        let place = view_place::<K>(self.shape, i)?;
+        check_owner::<K>(who, Bank::V, i)?;
+        self.views[place] = view;
+        Ok(())
+    }
+
+    /// The rows of a bank of bits.
+    fn rows(&self, bits: BitBank) -> &[View]
+        ensures value { result.now ≡ bits_of bits self.now.memory }
+        ensures row_count { length result.now ≡ rows_in K.TAG self.now.shape (bank_of bits) }
+        ensures columns { HasColumns self.now.shape.n result.now }
+    {
+        match bits {
+            BitBank::Q => self.q.as_slice(),
+            BitBank::P => self.p.as_slice(),
+        }
+    }
+
+    /// The words.
+    pub fn words(&self) -> &[K::Word]
+        ensures { map K.parts result.now ≡ self.now.memory.words }
+    {
+        self.words.as_slice()
+    }
+}
+
+#[cfg(test)]
+mod tests;

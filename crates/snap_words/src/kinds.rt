@@ -1,0 +1,88 @@
+//! What a kind of registers has to offer, and the three kinds.
+ghost use Rattle.std.specs.Prelude.{◌≡◌, true, false, IfOk, MatchResult, option_map};
+ghost use Rattle.snap_words.specs.Kind.{fits, initial_word, may_write, has_bank, field_in, hand_in, hands_in, view_in, kept, has_bits, is_sized};
+ghost use Rattle.snap_words.specs.Parts.{word_of_parts};
+ghost use Rattle.snap_words.specs.Word.{Word};
+ghost use Rattle.snap_words.specs.declared.kind.KindTag.{KindTag};
+ghost use Rattle.snap_words.specs.declared.shape.WordFault.TheVariants.{NotABit};
+
+mod bits;
+mod multi;
+mod seq;
+
+use crate::address::{Address, Bank};
+use crate::kind::{Field, KindTag};
+use crate::parts::Parts;
+use crate::shape::{Shape, WordFault};
+use crate::view::View;
+pub use bits::{Bits, BitsWord};
+pub use multi::{Multi, MultiWord};
+pub use seq::{Seq, SeqWord};
+use std::alloc::{AllocError, Global};
+
+/// A kind of registers: what its words have, and who may write them.
+pub trait Kind: Send + Sync {
+    type Word: Drop + Send + Sync;
+
+    ghost TAG: { KindTag };
+
+    const TAG: KindTag;
+
+    /// A word seen as its parts; those that the kind lacks are 0 or empty.
+    ghost parts: { Self.Word → Word };
+
+    /// Whether there are registers of this shape.
+    fn fits(shape: Shape) -> bool
+        ensures { result ≡ fits TAG shape };
+
+    /// A word that nobody has written.
+    fn initial(alloc: Global, shape: Shape) -> Result<Self::Word, AllocError>
+        ensures { IfOk result (λ w. parts w ≡ initial_word TAG shape) };
+
+    /// A field of one number, where the kind has it.
+    fn field(word: &Self::Word, field: Field) -> Option<u64>
+        ensures { result ≡ field_in TAG field (parts word.now) };
+
+    /// Hand `i`, counted from 1, where the kind has hands and there is one.
+    fn hand(word: &Self::Word, i: u32) -> Option<u64>
+        ensures { result ≡ hand_in TAG i (parts word.now) };
+
+    /// The hands, where the kind has them.
+    fn hands(word: &Self::Word) -> Option<&View>
+        ensures { option_map (λ h. h.now) result ≡ hands_in TAG (parts word.now) };
+
+    /// The view, where the kind has one.
+    fn view(word: &Self::Word) -> Option<&View>
+        ensures { option_map (λ v. v.now) result ≡ view_in TAG (parts word.now) };
+
+    /// The word of these parts, or `NotABit` where its toggle or one of its hands is not 0 or 1. Takes no memory.
+    fn build(shape: Shape, given: Parts) -> Result<Self::Word, WordFault>
+        requires { is_sized TAG shape (word_of_parts given) ≡ true }
+        ensures { MatchResult result
+            (λ w. (parts w ≡ kept TAG (word_of_parts given)) × (has_bits TAG (word_of_parts given) ≡ true))
+            (λ e. (e ≡ NotABit) × (has_bits TAG (word_of_parts given) ≡ false)) };
+
+    /// An equal word.
+    fn copy(alloc: Global, word: &Self::Word) -> Result<Self::Word, AllocError>
+        ensures { IfOk result (λ w. w ≡ word.now) };
+
+    /// Whether process `who` may write the register at this address.
+    fn may_write(who: u32, address: Address) -> bool
+        ensures { result ≡ may_write TAG who address.bank address.i };
+
+    /// Whether there are registers in this bank.
+    fn has_bank(bank: Bank) -> bool
+        ensures { result ≡ has_bank TAG bank };
+
+    /// Words with equal parts are equal.
+    ghost equal: { (x y : Self.Word) → parts x ≡ parts y → x ≡ y };
+
+    /// A kind keeps all the parts of its own words.
+    ghost keeps: { (x : Self.Word) → kept TAG (parts x) ≡ parts x };
+
+    /// The toggle and the hands of a word are bits.
+    ghost has_only_bits: { (x : Self.Word) → has_bits TAG (parts x) ≡ true };
+}
+
+#[cfg(test)]
+mod tests;

@@ -1,2 +1,3 @@
 pub mod Algorithm
 pub mod Lines
+pub mod Control

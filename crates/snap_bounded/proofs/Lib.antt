@@ -1,3 +1,5 @@
 pub mod Algorithm
 pub mod Lines
 pub mod Control
+pub mod Follow
+pub mod Collect

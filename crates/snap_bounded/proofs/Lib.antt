@@ -3,3 +3,4 @@ pub mod Lines
 pub mod Control
 pub mod Follow
 pub mod Collect
+pub mod Stage

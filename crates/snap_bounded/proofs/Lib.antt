@@ -4,3 +4,4 @@ pub mod Control
 pub mod Follow
 pub mod Collect
 pub mod Stage
+pub mod Handshake

@@ -5,3 +5,4 @@ pub mod Follow
 pub mod Collect
 pub mod Stage
 pub mod Handshake
+pub mod Count

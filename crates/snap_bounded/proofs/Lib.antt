@@ -6,3 +6,4 @@ pub mod Collect
 pub mod Stage
 pub mod Handshake
 pub mod Count
+pub mod Invariant

@@ -1,5 +1,11 @@
+pub mod Computing
+pub mod Places
+pub mod Totals
+pub mod Held
 pub mod Algorithm
 pub mod Embedding
-pub mod Held
 pub mod ScanSpan
 pub mod UpdateSpan
+pub mod Flow
+pub mod Scans
+pub mod WritesOnce

@@ -7,64 +7,31 @@ use Rattle.std.proofs.lemmas.List.{length-set, get_or-set_other}
 use Rattle.snap_semantics.specs.declared.process.Outcome.{Outcome}
 use Rattle.snap_words.specs.Word.{Word}
 use Rattle.snap_words.specs.Word.{no_word}
-use Rattle.snap_runs.proofs.Algorithm.{Idle, At, New, typed_at, changed, stepped_auxiliary}
+use Rattle.snap_runs.proofs.Algorithm.{Task, Scanning, Embedded, Updating, value_of, Idle, At, New, typed_at, changed, stepped_auxiliary}
 use Rattle.snap_runs.proofs.Embedding as embed
-use Rattle.snap_single.proofs.Algorithm.{Words, Change, Control, Process, State, Variables, Task, Scanning, Embedded, Updating, ProgramCounter, L31, L32, L33, value_of, IsUpdate, writes, algorithm}
-use Rattle.snap_single.proofs.Control.{ControlWell}
-use Rattle.snap_words.specs.Shape.{IsOneOf}
+use Rattle.snap_runs.proofs.Flow.{IsInScan, InScan}
 use Rattle.snap_runs.proofs.Held.{word_at, Held, held_wider, seq_at, WordBefore, before_seq, Grows}
+use Rattle.snap_words.specs.Shape.{IsOneOf}
+use Rattle.snap_single.proofs.Algorithm.{Words, Change, Control, Process, State, Variables, L32, L33, IsUpdate, writes, algorithm}
 use Rattle.snap_single.proofs.Collect.{Viewed}
-use Rattle.snap_single.proofs.Stage.{Stage, stage_kept}
+use Rattle.snap_single.proofs.Control.{ControlWell}
 use Rattle.snap_single.proofs.Count.{Count}
+use Rattle.snap_single.proofs.Flows.{Making, HasWritten}
+use Rattle.snap_single.proofs.Stage.{Stage, stage_kept}
 
+-- the number that c is ahead: 1 just before the write
 abbrev pub pending : Control → ℕ
 pending Idle = 0
 pending (At d k) = writes k
-
--- an update whose view is being made or waits to be written
-abbrev pub Late : ProgramCounter → Type 0
-Late L31 = Unit {0}
-Late L32 = Unit {0}
-Late _ = ⊥
-
-abbrev pub MakingAt : Task → ProgramCounter → Type 0
-MakingAt Scanning k = ⊥
-MakingAt (Embedded word arg) k = Unit {0}
-MakingAt (Updating word arg) k = Late k
-
-abbrev pub Making : Control → Type 0
-Making Idle = ⊥
-Making (At d k) = MakingAt d k
 
 -- a busy process is at the stage of its line
 abbrev pub StageAt : ℕ → (ℕ → Words) → ℕ → ℕ → ℕ → Words → Variables → Control → Type 0
 StageAt n history t since round words p Idle = Unit {0}
 StageAt n history t since round words p (At d k) = Stage n history t since round words p k
 
--- in a scan, top-level or embedded
-abbrev pub IsInScan : Task → Type 0
-IsInScan Scanning = Unit {0}
-IsInScan (Embedded word arg) = Unit {0}
-IsInScan (Updating word arg) = ⊥
-
-abbrev pub InScan : Control → Type 0
-InScan Idle = ⊥
-InScan (At d k) = IsInScan d
-
 abbrev pub CountAt : ℕ → Variables → ℕ → ℕ → ℕ → Control → Type 0
 CountAt n p own c recent Idle = Unit {0}
 CountAt n p own c recent (At d k) = Count n p own c recent k
-
--- the writes of an update so far
-abbrev pub written_at : ProgramCounter → ℕ
-written_at L33 = 1
-written_at _ = 0
-
-abbrev pub WroteAt : Control → ℕ → Type 0
-WroteAt Idle w = Unit {0}
-WroteAt (At Scanning k) w = Unit {0}
-WroteAt (At (Embedded word arg) k) w = w ≡ 0
-WroteAt (At (Updating word arg) k) w = w ≡ written_at k
 
 -- What holds of process i, at whichever line it stands, with these words.
 pub record Own (n t : ℕ) (history : ℕ → Words) (words : Words) (i : ℕ) (q : Process) : Type 0 where
@@ -89,12 +56,14 @@ pub record Own (n t : ℕ) (history : ℕ → Words) (words : Words) (i : ℕ) (
   -- the scan's double collects and steps are within their bounds
   pub counts : CountAt n q.variables q.auxiliary.own q.auxiliary.collects q.auxiliary.tested q.control
   -- an update has written once at line 33, and not before
-  pub wrote : WroteAt q.control q.auxiliary.wrote
+  pub wrote : HasWritten q.control q.auxiliary.wrote
 
--- a view that is made after a write since the start of u's scan is made by a later scan
+-- A view that process v makes after its word, b, was written since u's last scan started, is made by a scan that started no
+-- earlier than u's.
 abbrev pub Pair : (ℕ → Words) → Words → Process → Process → ℕ → Type 0
 Pair history words u v b = Making v.control → seq_at (history u.auxiliary.since) b < seq_at words b → u.auxiliary.since ≤ v.auxiliary.since
 
+-- What holds in every state of a run: the words, each process, and each pair of processes.
 pub record Inv (n t : ℕ) (history : ℕ → Words) (x : State) : Type 0 where
   pub size : length x.memory ≡ n
   pub each : (i : ℕ) → IsOneOf n i → Own n t history x.memory i (typed_at (algorithm n) x i)
@@ -230,7 +199,7 @@ write_inv n t history x i d q' o count one h at up is =
       stage = tt;
       self = λ scan. absurd (not_scan i d up scan);
       counts = tt;
-      wrote = wrote33 i d q.auxiliary.wrote up (subst (λ (p : Control). WroteAt p q.auxiliary.wrote) at ownq.wrote);
+      wrote = wrote33 i d q.auxiliary.wrote up (subst (λ (p : Control). HasWritten p q.auxiliary.wrote) at ownq.wrote);
     }) in
     let new : typed_at a (changed x i c) i ≡ q' = embed.own_process a x i words' q' o count one in
     let at_i : (k : ℕ) → k ≡ i → typed_at a (changed x i c) k ≡ q' = λ k e. ap (typed_at a (changed x i c)) e ∙ new in
@@ -253,12 +222,12 @@ write_inv n t history x i d q' o count one h at up is =
       ];
     }
   where
-    late : (i : ℕ) (d : Task) → IsUpdate i d → MakingAt d L32
+    late : (i : ℕ) (d : Task) → IsUpdate i d → Making (At d L32)
     late i Scanning u = absurd u
     late i (Embedded w x) u = absurd u
     late i (Updating w x) u = tt
 
-    not_late : (i : ℕ) (d : Task) → IsUpdate i d → MakingAt d L33 → ⊥
+    not_late : (i : ℕ) (d : Task) → IsUpdate i d → Making (At d L33) → ⊥
     not_late i Scanning u h = h
     not_late i (Embedded w x) u h = u
     not_late i (Updating w x) u h = h
@@ -268,7 +237,7 @@ write_inv n t history x i d q' o count one h at up is =
     not_scan i (Embedded w x) u h = u
     not_scan i (Updating w x) u h = h
 
-    wrote33 : (i : ℕ) (d : Task) (w : ℕ) → IsUpdate i d → WroteAt (At d L32) w → WroteAt (At d L33) (w + 1)
+    wrote33 : (i : ℕ) (d : Task) (w : ℕ) → IsUpdate i d → HasWritten (At d L32) w → HasWritten (At d L33) (w + 1)
     wrote33 i Scanning w u h = tt
     wrote33 i (Embedded word arg) w u h = absurd u
     wrote33 i (Updating word arg) w u h = omega arith

@@ -1,22 +1,22 @@
 -- The processes of B by its own lines and locals.
-use Rattle.std.specs.Prelude.{◌≡◌, ℕ, ◌+◌, ◌-◌, ◌<◌, ◌≤◌, max, Bool, true, false, not, ◌&&◌, List, [], ◌∷◌, ◌++◌, take, drop, map, Option, Some, None, nat_eq, nat_lt, if◌then◌else◌, slice_index, slice_index_or, slice_set, replicate, refl}
+use Rattle.std.specs.Prelude.{◌≡◌, ℕ, ◌+◌, ◌-◌, ◌⊎◌, max, Bool, true, false, not, ◌&&◌, List, [], ◌∷◌, take, map, Option, Some, None, nat_eq, nat_lt, if◌then◌else◌, slice_index, slice_set, replicate, refl}
 use Rattle.std.proofs.Common.{ap}
+use Rattle.snap_words.specs.Kind.{initial_word}
+use Rattle.snap_words.specs.Word.{Word}
+use Rattle.snap_words.specs.declared.kind.KindTag.TheVariants as kind
+use Rattle.snap_semantics.specs.State.{Locals, Memory}
+use Rattle.snap_semantics.specs.Table.{places_to, all_true, first_true, bit_at, with_bit_at, entry}
 use Rattle.snap_semantics.specs.declared.process.Op.{Op}
 use Rattle.snap_semantics.specs.declared.process.Op.TheVariants.{Scan, Update}
-use Rattle.snap_words.specs.Word.{Word}
-use Rattle.snap_semantics.specs.State.{Locals, Memory}
-use Rattle.snap_words.specs.Shape.{Counts, IsOneOf}
-use Rattle.snap_semantics.specs.Value.{Context}
-use Rattle.snap_semantics.specs.Table.{places_to, all_true, first_true, bit_at, with_bit_at, entry}
+use Rattle.snap_runs.proofs.Algorithm as typed
+use Rattle.snap_runs.proofs.Algorithm.{Task, Scanning, Embedded, Updating, value_of, To, Begin, Answer, Finish, Algorithm}
+use Rattle.snap_runs.proofs.Embedding.{map_same}
+use Rattle.snap_runs.proofs.Flow.{Lines}
+use Rattle.snap_runs.proofs.Held.{word_at, seq_at}
+use Rattle.snap_runs.proofs.Places.{for_each}
 use Rattle.snap_bounded.specs.ListingB as listing
 use Rattle.snap_bounded.specs.ListingB.{listing_b}
 use Rattle.snap_bounded.specs.Promises.{square}
-use Rattle.snap_words.specs.Kind.{initial_word}
-use Rattle.snap_words.specs.declared.kind.KindTag.TheVariants as kind
-use Rattle.snap_runs.proofs.Held.{word_at, seq_at}
-use Rattle.snap_runs.proofs.Embedding.{map_same}
-use Rattle.snap_runs.proofs.Algorithm as typed
-use Rattle.snap_runs.proofs.Algorithm.{To, Begin, Answer, Finish, Algorithm}
 
 pub data ProgramCounter : Type 0 where
   L10 : ProgramCounter
@@ -110,45 +110,20 @@ locals_of p = record {
   views = (listing.s, p.s) ∷ [];
 }
 
-abbrev pub context_of : Counts → ℕ → Op → Variables → Context
-context_of shape me op p = record { shape = shape; me = me; op = op; locals = locals_of p; place = 0 }
-
--- what a busy process is asked: a scan, a scan inside an update, or an update outside its scan
-pub data Task : Type 0 where
-  Scanning : Task
-  Embedded : (word arg : ℕ) → Task
-  Updating : (word arg : ℕ) → Task
-
-abbrev pub op_of : Task → Op
-op_of Scanning = Scan
-op_of (Embedded word arg) = Update word arg
-op_of (Updating word arg) = Update word arg
-
-abbrev pub link_of : Task → Option ℕ
-link_of Scanning = None
-link_of (Embedded word arg) = Some 45
-link_of (Updating word arg) = None
-
-abbrev pub value_of : Task → ℕ
-value_of Scanning = 0
-value_of (Embedded word arg) = arg
-value_of (Updating word arg) = arg
-
--- the algorithm's types
 abbrev pub Move : Type 0
-Move = typed.Move Task Variables ProgramCounter Registers
+Move = typed.Move Variables ProgramCounter Registers
 
 abbrev pub Control : Type 0
-Control = typed.Control Task ProgramCounter
+Control = typed.Control ProgramCounter
 
 abbrev pub Process : Type 0
-Process = typed.TypedProcess Task Variables ProgramCounter Registers
+Process = typed.TypedProcess Variables ProgramCounter Registers
 
 abbrev pub State : Type 0
-State = typed.TypedState Task Variables ProgramCounter Registers
+State = typed.TypedState Variables ProgramCounter Registers
 
 abbrev pub Change : Type 0
-Change = typed.Change Task Variables ProgramCounter Registers
+Change = typed.Change Variables ProgramCounter Registers
 
 -- place k of a row, and what a word says to process i
 abbrev pub place : List ℕ → ℕ → ℕ
@@ -165,47 +140,58 @@ abbrev pub opposite : ℕ → ℕ
 opposite x = if nat_eq x 0 then 1 else 0
 
 -- both copies of the word at place k say the bit that process `me` drew, and their toggles are equal
-abbrev pub agrees : ℕ → Variables → ℕ → Bool
-agrees me p k =
+abbrev pub agree : ℕ → Variables → ℕ → Bool
+agree me p k =
     nat_eq (hand_at (word_at p.a k) me) (place p.g k)
     && (nat_eq (hand_at (word_at p.b k) me) (place p.g k) && nat_eq (word_at p.a k).toggle (word_at p.b k).toggle)
+
+-- so many moves of one process has a scan to see before it borrows a view
+abbrev pub limit : ℕ
+limit = 2
 
 abbrev pub moved_at : Variables → ℕ → ℕ
 moved_at p k = place p.moved k
 
--- the row after `each`
-abbrev pub for_each : ℕ → (ℕ → ℕ) → List ℕ → List ℕ
-for_each n f old = map f (places_to n) ++ drop n old
+-- the moves of process k once line 21 has counted them
+abbrev pub counted : ℕ → Variables → ℕ → ℕ
+counted me p k = if not (agree me p k) then moved_at p k + 1 else moved_at p k
 
+abbrev pub at_limit : Variables → ℕ → Bool
+at_limit p k = nat_eq (moved_at p k) limit
+
+-- lines 15, 17, 19 and 43
 abbrev pub next_to : ℕ → Task → Registers → Variables → ProgramCounter → ProgramCounter → Move
 next_to n d m p back on = if nat_lt p.j n then To d m (record p { j = p.j + 1 }) back else To d m (record p { j = 1 }) on
 
+-- lines 26 and 28
 abbrev pub return_to : Task → Registers → Variables → Move
 return_to Scanning m p = Answer p.s
-return_to (Embedded word arg) m p = To (Updating word arg) m p L45
-return_to (Updating word arg) m p = Finish
+return_to (Embedded word value) m p = To (Updating word value) m p L45
+return_to (Updating word value) m p = Finish
 
+-- line 44
 abbrev pub embed_to : Task → Registers → Variables → Move
 embed_to Scanning m p = Finish
-embed_to (Embedded word arg) m p = Finish
-embed_to (Updating word arg) m p = Begin (Embedded word arg) p L10
+embed_to (Embedded word value) m p = Finish
+embed_to (Updating word value) m p = Begin (Embedded word value) p L10
 
+-- line 22
 abbrev pub first_to : Task → Registers → Variables → Option ℕ → Move
 first_to d m p None = To d m p L23
 first_to d m p (Some k) = To d m (record p { j = k }) L27
 
 -- the word that line 46 writes
-abbrev pub written : ℕ → ℕ → Task → Registers → Variables → Word
-written n me d m p = record { datum = value_of d; seq = seq_at m.words me + 1; id = 0; toggle = p.t; hands = take n p.f; view = p.s }
+abbrev pub new_word : ℕ → ℕ → Task → Registers → Variables → Word
+new_word n me d m p = record { datum = value_of d; seq = seq_at m.words me + 1; id = 0; toggle = p.t; hands = take n p.f; view = p.s }
 
 -- the registers after lines 14 and 46
 abbrev pub with_put : ℕ → Registers → Variables → Registers
 with_put me m p = record { words = m.words; q = with_bit_at m.q (me - 1) (p.j - 1) (place p.g p.j) }
 
 abbrev pub with_written : ℕ → ℕ → Task → Registers → Variables → Registers
-with_written n me d m p = record { words = slice_set m.words (me - 1) (written n me d m p); q = m.q }
+with_written n me d m p = record { words = slice_set m.words (me - 1) (new_word n me d m p); q = m.q }
 
--- the algorithm, line by line
+-- what each line does to process `me` of n
 abbrev pub move : ℕ → ℕ → Task → Registers → Variables → ProgramCounter → Move
 move n me d m p L10 = To d m (record p { moved = for_each n (λ k. 0) p.moved }) L11
 move n me d m p L11 = To d m (record p { j = 1 }) L12
@@ -217,9 +203,9 @@ move n me d m p L16 = To d m (record p { a = slice_set p.a (p.j - 1) (word_at m.
 move n me d m p L17 = next_to n d m p L16 L18
 move n me d m p L18 = To d m (record p { b = slice_set p.b (p.j - 1) (word_at m.words p.j) }) L19
 move n me d m p L19 = next_to n d m p L18 L20
-move n me d m p L20 = if all_true (map (agrees me p) (places_to n)) then To d m p L25 else To d m p L21
-move n me d m p L21 = To d m (record p { moved = for_each n (λ k. if not (agrees me p k) then moved_at p k + 1 else moved_at p k) p.moved }) L22
-move n me d m p L22 = first_to d m p (first_true 1 (map (λ k. nat_eq (moved_at p k) 2) (places_to n)))
+move n me d m p L20 = if all_true (map (agree me p) (places_to n)) then To d m p L25 else To d m p L21
+move n me d m p L21 = To d m (record p { moved = for_each n (counted me p) p.moved }) L22
+move n me d m p L22 = first_to d m p (first_true 1 (map (at_limit p) (places_to n)))
 move n me d m p L23 = To d m p L12
 move n me d m p L25 = To d m (record p { s = map (λ (r : Word). r.datum) (take n p.b) }) L26
 move n me d m p L26 = return_to d m p
@@ -234,69 +220,15 @@ move n me d m p L45 = To d m (record p { t = opposite p.t }) L46
 move n me d m p L46 = To d (with_written n me d m p) p L47
 move n me d m p L47 = Finish
 
-abbrev pub IsScan : ℕ → Task → Type 0
-IsScan me Scanning = Unit {0}
-IsScan me (Embedded word arg) = word ≡ me
-IsScan me (Updating word arg) = ⊥
-
-abbrev pub IsUpdate : ℕ → Task → Type 0
-IsUpdate me Scanning = ⊥
-IsUpdate me (Embedded word arg) = ⊥
-IsUpdate me (Updating word arg) = word ≡ me
-
--- a row of bits
-abbrev pub Bits : ℕ → List ℕ → Type 0
-Bits n row = (k : ℕ) → IsOneOf n k → place row k ≤ 1
-
--- what a line needs so that it does not trap
-abbrev pub Needs : ℕ → Variables → ProgramCounter → Type 0
-Needs n p L10 = Unit {0}
-Needs n p L11 = Unit {0}
-Needs n p L12 = IsOneOf n p.j
-Needs n p L13 = IsOneOf n p.j
-Needs n p L14 = IsOneOf n p.j × (place p.g p.j ≤ 1)
-Needs n p L15 = Unit {0}
-Needs n p L16 = IsOneOf n p.j
-Needs n p L17 = Unit {0}
-Needs n p L18 = IsOneOf n p.j
-Needs n p L19 = Unit {0}
-Needs n p L20 = Unit {0}
-Needs n p L21 = (k : ℕ) → IsOneOf n k → moved_at p k ≤ 1
-Needs n p L22 = Unit {0}
-Needs n p L23 = Unit {0}
-Needs n p L25 = Unit {0}
-Needs n p L26 = Unit {0}
-Needs n p L27 = IsOneOf n p.j
-Needs n p L28 = Unit {0}
-Needs n p L40 = Unit {0}
-Needs n p L41 = IsOneOf n p.j
-Needs n p L42 = IsOneOf n p.j
-Needs n p L43 = Unit {0}
-Needs n p L44 = Unit {0}
-Needs n p L45 = Unit {0}
-Needs n p L46 = (p.t ≤ 1) × Bits n p.f
-Needs n p L47 = Unit {0}
-
-abbrev pub IsLineOf : ℕ → Task → ProgramCounter → Type 0
-IsLineOf me d L40 = IsUpdate me d
-IsLineOf me d L41 = IsUpdate me d
-IsLineOf me d L42 = IsUpdate me d
-IsLineOf me d L43 = IsUpdate me d
-IsLineOf me d L44 = IsUpdate me d
-IsLineOf me d L45 = IsUpdate me d
-IsLineOf me d L46 = IsUpdate me d
-IsLineOf me d L47 = IsUpdate me d
-IsLineOf me d _ = IsScan me d
-
--- the algorithm for n processes
-abbrev pub task : Op → Task
-task Scan = Scanning
-task (Update word arg) = Updating word arg
-
+-- where an operation begins, and the line to which its embedded scan leads back
 abbrev pub counter : Op → ProgramCounter
 counter Scan = L10
-counter (Update word arg) = L40
+counter (Update word value) = L40
 
+abbrev pub back : ProgramCounter
+back = L45
+
+-- line 20 ends a double collect, line 23 starts another one, and line 46 writes
 abbrev pub tests : ProgramCounter → ℕ
 tests L20 = 1
 tests _ = 0
@@ -309,17 +241,9 @@ abbrev pub writes : ProgramCounter → ℕ
 writes L46 = 1
 writes _ = 0
 
-abbrev pub op_is : (op : Op) → op_of (task op) ≡ op
-op_is Scan = refl
-op_is (Update word arg) = refl
-
-abbrev pub link_is : (op : Op) → link_of (task op) ≡ None
-link_is Scan = refl
-link_is (Update word arg) = refl
-
-abbrev pub entry_is : (op : Op) → number (counter op) ≡ entry listing_b op
+pub entry_is : (op : Op) → number (counter op) ≡ entry listing_b op
 entry_is Scan = refl
-entry_is (Update word arg) = refl
+entry_is (Update word value) = refl
 
 -- a word that nobody has written
 abbrev pub first_word : ℕ → Word
@@ -345,6 +269,7 @@ first_variables n = record {
 abbrev pub first_registers : ℕ → Registers
 first_registers n = record { words = first_words n n; q = replicate n (replicate n 0) }
 
+-- the locals at the start, with these words in a and b
 abbrev pub locals_with : ℕ → Words → Locals
 locals_with n ws = record {
   scalars = (listing.j, 0) ∷ (listing.x, 0) ∷ (listing.t, 0) ∷ [];
@@ -353,17 +278,16 @@ locals_with n ws = record {
   views = (listing.s, replicate n 0) ∷ [];
 }
 
-abbrev pub algorithm : ℕ → Algorithm Task Variables ProgramCounter Registers
+-- the algorithm for n processes
+abbrev pub algorithm : ℕ → Algorithm Variables ProgramCounter Registers
 algorithm n = record {
   source = listing_b;
   shape = square n;
   real = real;
   locals_of = locals_of;
   number = number;
-  op_of = op_of;
-  link_of = link_of;
+  back = number back;
   move = move n;
-  task = task;
   counter = counter;
   tests = tests;
   restarts = restarts;
@@ -372,7 +296,51 @@ algorithm n = record {
   first_memory = first_registers n;
   variables_is = ap (locals_with n) (map_same plain (max n n) (first_word n));
   memory_is = ap (λ (ws : Words). let m : Memory = record { words = ws; q = replicate n (replicate n 0); p = []; views = [] } in m) (map_same plain n (first_word n));
-  op_is = op_is;
-  link_is = link_is;
   entry_is = entry_is;
+}
+
+-- which task a line belongs to; the word of an update is the process's own
+abbrev pub IsScan : ℕ → Task → Type 0
+IsScan me Scanning = Unit {0}
+IsScan me (Embedded word value) = word ≡ me
+IsScan me (Updating word value) = ⊥
+
+abbrev pub IsUpdate : ℕ → Task → Type 0
+IsUpdate me Scanning = ⊥
+IsUpdate me (Embedded word value) = ⊥
+IsUpdate me (Updating word value) = word ≡ me
+
+abbrev pub IsLineOf : ℕ → Task → ProgramCounter → Type 0
+IsLineOf me d L40 = IsUpdate me d
+IsLineOf me d L41 = IsUpdate me d
+IsLineOf me d L42 = IsUpdate me d
+IsLineOf me d L43 = IsUpdate me d
+IsLineOf me d L44 = IsUpdate me d
+IsLineOf me d L45 = IsUpdate me d
+IsLineOf me d L46 = IsUpdate me d
+IsLineOf me d L47 = IsUpdate me d
+IsLineOf me d _ = IsScan me d
+
+-- What the lines are for.
+
+-- the view is made and not yet written
+abbrev pub IsLate : ProgramCounter → Type 0
+IsLate L45 = Unit {0}
+IsLate L46 = Unit {0}
+IsLate _ = ⊥
+
+-- the writes of an update before a line
+abbrev pub written : ProgramCounter → ℕ
+written L47 = 1
+written _ = 0
+
+abbrev pub lines : Lines Variables ProgramCounter Registers
+lines = record {
+  Kept = λ m m'. m'.words ≡ m.words;
+  IsReturn = λ k. (k ≡ L26) ⊎ (k ≡ L28);
+  answer = λ p. p.s;
+  IsWrite = λ k. k ≡ L46;
+  IsLast = λ k. k ≡ L47;
+  IsLate = IsLate;
+  written = written;
 }

@@ -1,3 +1,4 @@
 pub mod Algorithm
 pub mod Lines
 pub mod Control
+pub mod Flows

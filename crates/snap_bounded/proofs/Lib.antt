@@ -6,3 +6,5 @@ pub mod Follow
 pub mod Collect
 pub mod Stage
 pub mod Handshake
+pub mod Count
+pub mod Invariant

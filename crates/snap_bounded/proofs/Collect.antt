@@ -231,14 +231,14 @@ agreed a b mark bit i f marked late hand toggle =
     ]
 
 -- a passed test: the second collect is the words between the collects
-pub passed : (n i : ℕ) (history : ℕ → Words) (t since round : ℕ) (words : Words) (p : Variables) → ((u : ℕ) → length (history u) ≡ n) → n ≤ length p.b →
+pub passed : (n i : ℕ) (history : ℕ → Words) (t since round : ℕ) (words : Words) (p : Variables) → ((u : ℕ) → u ≤ t → length (history u) ≡ n) → n ≤ length p.b →
     Between n i history t since round words p.g p.marks p.a p.b (n + 1) → all_true (map (agree i p) (places_to n)) ≡ true → Held history t since (data_of (take n p.b))
 passed n i history t since round words p lengths len h test =
     let s : Second n i history t since round words p.g p.marks p.a p.b (n + 1) (history h.0) = h.3 in (
       h.0,
       h.1,
       h.2,
-      same_data n (history h.0) p.b (lengths h.0) len (λ k ik.
+      same_data n (history h.0) p.b (lengths h.0 h.2) len (λ k ik.
           let copy = s.read k ik (omega arith) in
           let same = both (nat_eq (hand_at (word_at p.a k) i) (place p.g k)) (nat_eq (hand_at (word_at p.b k) i) (place p.g k) && nat_eq (word_at p.a k).toggle (word_at p.b k).toggle)
           (all_pass (agree i p) 1 n test k (omega arith) (omega arith)) in

@@ -120,6 +120,58 @@ bits_move n i d m p L45 one square sized s h = λ k ik lt. absurd (omega arith)
 bits_move n i d m p L46 one square sized s h = λ k ik lt. absurd (omega arith)
 bits_move n i d m p L47 one square sized s h = tt
 
+-- A line of process i keeps the bits, or puts one of its own.
+abbrev pub PutsMove : ℕ → Registers → Variables → Move → Type 0
+PutsMove i m p (To d m' p' k) = (m'.q ≡ m.q) ⊎ (m'.q ≡ with_bit_at m.q (i - 1) (p.j - 1) (place p.g p.j))
+PutsMove i m p (Begin d p' k) = Unit {0}
+PutsMove i m p (Answer v) = Unit {0}
+PutsMove i m p Finish = Unit {0}
+
+pub puts_move : (n i : ℕ) (d : Task) (m : Registers) (p : Variables) (k : ProgramCounter) → PutsMove i m p (move n i d m p k)
+puts_move n i d m p L10 = inl refl
+puts_move n i d m p L11 = inl refl
+puts_move n i d m p L12 = inl refl
+puts_move n i d m p L13 = inl refl
+puts_move n i d m p L14 = inr refl
+puts_move n i d m p L15 = either (PutsMove i m p) (nat_lt p.j n) _ _ (λ b. inl refl) (λ b. inl refl)
+puts_move n i d m p L16 = inl refl
+puts_move n i d m p L17 = either (PutsMove i m p) (nat_lt p.j n) _ _ (λ b. inl refl) (λ b. inl refl)
+puts_move n i d m p L18 = inl refl
+puts_move n i d m p L19 = either (PutsMove i m p) (nat_lt p.j n) _ _ (λ b. inl refl) (λ b. inl refl)
+puts_move n i d m p L20 = either (PutsMove i m p) (all_true (map (agree i p) (places_to n))) _ _ (λ b. inl refl) (λ b. inl refl)
+puts_move n i d m p L21 = inl refl
+puts_move n i d m p L22 = whether (PutsMove i m p) (first_to d m p) (first_true 1 (map (at_limit p) (places_to n))) (λ e. inl refl) (λ k e. inl refl)
+puts_move n i d m p L23 = inl refl
+puts_move n i d m p L25 = inl refl
+puts_move n i Scanning m p L26 = tt
+puts_move n i (Embedded word value) m p L26 = inl refl
+puts_move n i (Updating word value) m p L26 = tt
+puts_move n i d m p L27 = inl refl
+puts_move n i Scanning m p L28 = tt
+puts_move n i (Embedded word value) m p L28 = inl refl
+puts_move n i (Updating word value) m p L28 = tt
+puts_move n i d m p L40 = inl refl
+puts_move n i d m p L41 = inl refl
+puts_move n i d m p L42 = inl refl
+puts_move n i d m p L43 = either (PutsMove i m p) (nat_lt p.j n) _ _ (λ b. inl refl) (λ b. inl refl)
+puts_move n i Scanning m p L44 = tt
+puts_move n i (Embedded word value) m p L44 = tt
+puts_move n i (Updating word value) m p L44 = tt
+puts_move n i d m p L45 = inl refl
+puts_move n i d m p L46 = inl refl
+puts_move n i d m p L47 = tt
+
+pub square_kept : (n i : ℕ) (m : Registers) (p : Variables) (q' : List (List ℕ)) → Square n m.q → IsOneOf n i →
+    (q' ≡ m.q) ⊎ (q' ≡ with_bit_at m.q (i - 1) (p.j - 1) (place p.g p.j)) → Square n q'
+square_kept n i m p q' h one (inl e) = subst (Square n) (sym e) h
+square_kept n i m p q' h one (inr e) = subst (Square n) (sym e) (square_set n m.q i p.j (place p.g p.j) h one)
+
+pub rows_kept : (n i u k : ℕ) (m : Registers) (p : Variables) (q' : List (List ℕ)) → 0 < i → 0 < u → u ≢ i →
+    (q' ≡ m.q) ⊎ (q' ≡ with_bit_at m.q (i - 1) (p.j - 1) (place p.g p.j)) → bit_for q' u k ≡ bit_for m.q u k
+rows_kept n i u k m p q' pi pu other (inl e) = ap (λ q. bit_for q u k) e
+rows_kept n i u k m p q' pi pu other (inr e) =
+    ap (λ q. bit_for q u k) e ∙ ap (λ row. slice_index row (k - 1)) (other_row m.q i p.j u (place p.g p.j) pi pu other)
+
 -- What process k will say in its next word to the process that put this bit for it, line by line: it has read the bit, or it
 -- will. `said` is the place of its row f for that process.
 abbrev pub Says : ℕ → ℕ → Task → Type 0

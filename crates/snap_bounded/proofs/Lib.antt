@@ -8,3 +8,4 @@ pub mod Stage
 pub mod Handshake
 pub mod Count
 pub mod Invariant
+pub mod Preserve

@@ -1,5 +1,5 @@
 -- How far a scan of B has come at each line, and that each line takes it on.
-use Rattle.std.specs.Prelude.{◌≡◌, ℕ, ◌+◌, ◌-◌, ◌<◌, ◌≤◌, max, Bool, true, false, not, List, take, length, map, nat_eq, nat_lt, if◌then◌else◌, slice_set, refl}
+use Rattle.std.specs.Prelude.{◌≡◌, ℕ, zero, suc, ◌+◌, ◌-◌, ◌<◌, ◌≤◌, max, Bool, true, false, not, List, take, length, map, nat_eq, nat_lt, if◌then◌else◌, slice_set, refl}
 use Rattle.std.proofs.Common.{sym, ◌∙◌, subst, arith, inl, inr}
 use Rattle.std.proofs.lemmas.Bool.{cases_eq}
 use Rattle.std.proofs.lemmas.List.{length-set}
@@ -71,7 +71,7 @@ StageMove n i history t since round Finish = Unit {0}
 
 -- what is known of every process, at whichever line it stands
 pub record Known (n i : ℕ) (history : ℕ → Words) (t since round : ℕ) (words : Words) (d : Task) (p : Variables) (k : ProgramCounter) : Type 0 where
-  pub lengths : (u : ℕ) → length (history u) ≡ n
+  pub lengths : (u : ℕ) → u ≤ t → length (history u) ≡ n
   pub now : history t ≡ words
   pub since_le : since ≤ t
   pub sized : Sized n p
@@ -301,9 +301,12 @@ stage_kept n i history t t' since round words words' p L46 le g one h = held_wid
 stage_kept n i history t t' since round words words' p L47 le g one h = tt
 
 -- The lengths of the copies and the rows, the bits for the readers, and the toggle: it is the word's, but for line 46.
+abbrev pub IsToggle : ℕ → ℕ → ℕ → Type 0
+IsToggle zero toggle t = t ≡ toggle
+IsToggle (suc ahead) toggle t = t ≡ toggle → ⊥
+
 abbrev pub Toggled : ℕ → Variables → ProgramCounter → Type 0
-Toggled toggle p L46 = p.t ≡ toggle → ⊥
-Toggled toggle p _ = p.t ≡ toggle
+Toggled toggle p k = IsToggle (writes k) toggle p.t
 
 abbrev pub Fit : ℕ → ℕ → Variables → ProgramCounter → Type 0
 Fit n toggle p k = Sized n p × Bits n p.f × Toggled toggle p k

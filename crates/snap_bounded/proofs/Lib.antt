@@ -9,3 +9,8 @@ pub mod Handshake
 pub mod Count
 pub mod Invariant
 pub mod Preserve
+pub mod Runs
+pub mod Points
+pub mod Bounds
+pub mod Updates
+pub mod Moves

@@ -134,7 +134,8 @@ begun_auxiliary a k time g = record { since = time; own = 0; collects = 0; round
 -- after a call
 abbrev pub called_auxiliary : ℕ → Op → Auxiliary → Auxiliary
 called_auxiliary time Scan g = record { since = time; own = 0; collects = 0; round = time; tested = 0; called = time; wrote = 0 }
-called_auxiliary time (Update word value) g = record { since = g.since; own = g.own; collects = g.collects; round = g.round; tested = g.tested; called = time; wrote = 0 }
+called_auxiliary time (Update word value) g =
+    record { since = g.since; own = g.own; collects = g.collects; round = g.round; tested = g.tested; called = time; wrote = 0 }
 
 -- what an item does: nothing, or another memory and another process
 pub data Change (V P M : Type 0) : Type 0 where
@@ -144,7 +145,8 @@ pub data Change (V P M : Type 0) : Type 0 where
 abbrev pub by_move : {V P M : Type 0} → Algorithm V P M → ℕ → M → TypedProcess V P M → P → Move V P M → Change V P M
 by_move a time m q k (To d m' p k') = New m' (record { control = At d k'; variables = p; auxiliary = stepped_auxiliary a k time q.auxiliary }) Stepped
 by_move a time m q k (Begin d p k') = New m (record { control = At d k'; variables = p; auxiliary = begun_auxiliary a k time q.auxiliary }) Stepped
-by_move a time m q k (Answer v) = New m (record { control = Idle; variables = q.variables; auxiliary = stepped_auxiliary a k time q.auxiliary }) (Answered v)
+by_move a time m q k (Answer v) =
+    New m (record { control = Idle; variables = q.variables; auxiliary = stepped_auxiliary a k time q.auxiliary }) (Answered v)
 by_move a time m q k Finish = New m (record { control = Idle; variables = q.variables; auxiliary = stepped_auxiliary a k time q.auxiliary }) Finished
 
 abbrev pub by_step : {V P M : Type 0} → Algorithm V P M → ℕ → M → ℕ → TypedProcess V P M → Control P → Change V P M
@@ -153,7 +155,8 @@ by_step a time m i q (At d k) = by_move a time m q k (a.move i d m q.variables k
 
 abbrev pub by_admission : {V P M : Type 0} → Algorithm V P M → ℕ → M → TypedProcess V P M → Op → Option Reason → Change V P M
 by_admission a time m q op (Some why) = Same why
-by_admission a time m q op None = New m (record { control = At (task_of op) (a.counter op); variables = q.variables; auxiliary = called_auxiliary time op q.auxiliary }) Called
+by_admission a time m q op None =
+    New m (record { control = At (task_of op) (a.counter op); variables = q.variables; auxiliary = called_auxiliary time op q.auxiliary }) Called
 
 abbrev pub by_call : {V P M : Type 0} → Algorithm V P M → ℕ → M → ℕ → Op → TypedProcess V P M → Control P → Change V P M
 by_call a time m i op q Idle = by_admission a time m q op (call_skip a.source.kind a.shape i op)

@@ -44,6 +44,7 @@ either P true x y f g = f refl
 either P false x y f g = g refl
 
 -- the same of what may be there
-pub whether : {A B : Type 0} (P : B → Type 0) (f : Option A → B) (o : Option A) → (o ≡ None → P (f None)) → ((x : A) → o ≡ Some x → P (f (Some x))) → P (f o)
+pub whether : {A B : Type 0} (P : B → Type 0) (f : Option A → B) (o : Option A) → (o ≡ None → P (f None)) → ((x : A) → o ≡ Some x → P (f (Some x))) →
+    P (f o)
 whether P f None g h = g refl
 whether P f (Some x) g h = h x refl

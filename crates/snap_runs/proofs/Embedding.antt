@@ -28,7 +28,8 @@ pub map_same : {A B : Type 0} (f : A → B) (n : ℕ) (x : A) → map f (replica
 map_same f zero x = refl
 map_same f (suc n) x = ap (λ xs. f x ∷ xs) (map_same f n x)
 
-pub after_append : (s : Source) (shape : Counts) (S : State) (xs : List Item) (x : Item) → after s shape S (xs ++ x ∷ []) ≡ (done s shape (after s shape S xs) x).0
+pub after_append : (s : Source) (shape : Counts) (S : State) (xs : List Item) (x : Item) →
+    after s shape S (xs ++ x ∷ []) ≡ (done s shape (after s shape S xs) x).0
 after_append s shape S [] x = refl
 after_append s shape S (y ∷ xs) x = after_append s shape (done s shape S y).0 xs x
 
@@ -57,7 +58,8 @@ module _ {V P M : Type 0} (a : Algorithm V P M) where
       (effect_at a.source (context me (op_of d) p) (a.real m) (activity d k) (instr_at a.source.lines (a.number k)) ≡ shown a m (a.move me d m p k))
       × SameOp a d (a.move me d m p k)
 
-  pub process_is : (x : TypedState V P M) (i : ℕ) → length x.processes ≡ a.shape.n → IsOneOf a.shape.n i → process_at (state_of a x) i ≡ process_of a (typed_at a x i)
+  pub process_is : (x : TypedState V P M) (i : ℕ) → length x.processes ≡ a.shape.n → IsOneOf a.shape.n i →
+      process_at (state_of a x) i ≡ process_of a (typed_at a x i)
   process_is x i count h = get_or-map (process_of a) x.processes (i - 1) _ _ (omega arith)
 
   abbrev pub result_of : TypedState V P M → ℕ → Change V P M → State × Outcome
@@ -68,7 +70,8 @@ module _ {V P M : Type 0} (a : Algorithm V P M) where
 
   pub set_is : (x : TypedState V P M) (i : ℕ) (m : M) (q : TypedProcess V P M) (o : Outcome) →
       ◌≡◌ {A = State × Outcome} (put x i m (map (process_of a) x.processes) (process_of a q), o) (result_of x i (New m q o))
-  set_is x i m q o = ap (λ (ps : List Process). let S : State = record { memory = a.real m; processes = ps } in let r : State × Outcome = (S, o) in r) (sym (map-set (process_of a) x.processes (i - 1) q))
+  set_is x i m q o =
+      ap (λ (ps : List Process). let S : State = record { memory = a.real m; processes = ps } in let r : State × Outcome = (S, o) in r) (sym (map-set (process_of a) x.processes (i - 1) q))
 
   abbrev pub busy : Op → ℕ → Option ℕ → V → Process
   busy op line link p = record { status = status.Busy (record { op = op; line = line; link = link }); locals = a.locals_of p }
@@ -123,15 +126,23 @@ module _ {V P M : Type 0} (a : Algorithm V P M) where
 
   pub count : (items : List Item) (t : ℕ) → length (typed_state a items t).processes ≡ a.shape.n
   count items zero = length-replicate a.shape.n (first_process a)
-  count items (suc t) = changed_count (typed_state a items t) (who (item_at items t)) (by_item a (suc t) (typed_state a items t) (item_at items t)) ∙ count items t
+  count items (suc t) =
+      changed_count (typed_state a items t) (who (item_at items t)) (by_item a (suc t) (typed_state a items t) (item_at items t)) ∙ count items t
 
   pub other_process : (x : TypedState V P M) (i k : ℕ) (c : Change V P M) → 0 < i → 0 < k → k ≢ i → typed_at a (changed x i c) k ≡ typed_at a x k
   other_process x i k (Same why) pi pk h = refl
   other_process x i k (New m q o) pi pk h = get_or-set_other x.processes (i - 1) (k - 1) q (first_process a) (λ same. h (omega arith))
 
-  pub own_process : (x : TypedState V P M) (i : ℕ) (m : M) (q : TypedProcess V P M) (o : Outcome) → length x.processes ≡ a.shape.n → IsOneOf a.shape.n i →
+  pub own_process : (x : TypedState V P M) (i : ℕ) (m : M) (q : TypedProcess V P M) (o : Outcome) → length x.processes ≡ a.shape.n →
+      IsOneOf a.shape.n i →
       typed_at a (changed x i (New m q o)) i ≡ q
   own_process x i m q o count one = get_or-set_at x.processes (i - 1) (i - 1) q (first_process a) refl (omega arith)
+
+  -- the process of an item that changes it
+  pub process_next : (items : List Item) (t i : ℕ) (m : M) (q : TypedProcess V P M) (o : Outcome) → IsOneOf a.shape.n i →
+      typed_state a items (suc t) ≡ changed (typed_state a items t) i (New m q o) → typed_at a (typed_state a items (suc t)) i ≡ q
+  process_next items t i m q o one becomes =
+      ap (λ (y : TypedState V P M). typed_at a y i) becomes ∙ own_process (typed_state a items t) i m q o (count items t) one
 
   pub first_process_is : (i : ℕ) → IsOneOf a.shape.n i → typed_at a (first_state a) i ≡ first_process a
   first_process_is i one = get_or-replicate a.shape.n (i - 1) (first_process a) (first_process a) (omega arith)
@@ -149,7 +160,8 @@ module _ {V P M : Type 0} (a : Algorithm V P M) where
 
   -- each line that is met does its move
   abbrev pub AllDo : List Item → Type 0
-  AllDo items = (t i : ℕ) → t < length items → IsOneOf a.shape.n i → Does i (typed_state a items t).memory (typed_at a (typed_state a items t) i).variables (typed_at a (typed_state a items t) i).control
+  AllDo items =
+      (t i : ℕ) → t < length items → IsOneOf a.shape.n i → Does i (typed_state a items t).memory (typed_at a (typed_state a items t) i).variables (typed_at a (typed_state a items t) i).control
 
   module _ (items : List Item) (fits : Fits (run_of items)) (does : AllDo items) where
     pub one_at : (t : ℕ) → t < length items → IsOneOf a.shape.n (who (item_at items t))
@@ -157,7 +169,8 @@ module _ {V P M : Type 0} (a : Algorithm V P M) where
 
     pub item_is : (t : ℕ) → t < length items →
         done a.source a.shape (state_of a (typed_state a items t)) (item_at items t) ≡ result_of (typed_state a items t) (who (item_at items t)) (by_item a (suc t) (typed_state a items t) (item_at items t))
-    item_is t h = happens_is (suc t) (typed_state a items t) (item_at items t) (count items t) (one_at t h) (does t (who (item_at items t)) h (one_at t h))
+    item_is t h =
+        happens_is (suc t) (typed_state a items t) (item_at items t) (count items t) (one_at t h) (does t (who (item_at items t)) h (one_at t h))
 
     pub state_is : (t : ℕ) → t ≤ length items → state (run_of items) t ≡ state_of a (typed_state a items t)
     state_is zero h = sym first_state_is
@@ -166,10 +179,12 @@ module _ {V P M : Type 0} (a : Algorithm V P M) where
         ∙ ap (λ (S : State). (done a.source a.shape S (item_at items t)).0) (state_is t (omega arith))
         ∙ ap (λ (r : State × Outcome). r.0) (item_is t (omega arith))
 
-    pub outcome_is : (t : ℕ) → t < length items → outcome (run_of items) (suc t) ≡ outcome_of (by_item a (suc t) (typed_state a items t) (item_at items t))
+    pub outcome_is : (t : ℕ) → t < length items →
+        outcome (run_of items) (suc t) ≡ outcome_of (by_item a (suc t) (typed_state a items t) (item_at items t))
     outcome_is t h =
         ap (λ (S : State). (done a.source a.shape S (item_at items t)).1) (state_is t (omega arith))
         ∙ ap (λ (r : State × Outcome). r.1) (item_is t h)
 
-    pub process_at_is : (t i : ℕ) → t ≤ length items → IsOneOf a.shape.n i → process_at (state (run_of items) t) i ≡ process_of a (typed_at a (typed_state a items t) i)
+    pub process_at_is : (t i : ℕ) → t ≤ length items → IsOneOf a.shape.n i →
+        process_at (state (run_of items) t) i ≡ process_of a (typed_at a (typed_state a items t) i)
     process_at_is t i h one = ap (λ (S : State). process_at S i) (state_is t h) ∙ process_is (typed_state a items t) i (count items t) one

@@ -145,7 +145,8 @@ module _ {V P M : Type 0} (lines : Lines V P M) where
     makes_no_more d m p k (Answer v) h = tt
     makes_no_more d m p k Finish h = tt
 
-    pub counts_writes : (d : Task) (m : M) (p : V) (k : P) (v : Move V P M) (w : ℕ) → Flows d m p k v → HasWritten (At d k) w → CountsWrites (w + a.writes k) v
+    pub counts_writes : (d : Task) (m : M) (p : V) (k : P) (v : Move V P M) (w : ℕ) → Flows d m p k v → HasWritten (At d k) w →
+        CountsWrites (w + a.writes k) v
     counts_writes Scanning m p k (To d' m' p' k') w h is = subst (λ x. HasWritten (At x k') (w + a.writes k)) (sym h.0) tt
     counts_writes Scanning m p k (Begin d' p' k') w h is = absurd h
     counts_writes (Embedded word value) m p k (To d' m' p' k') w h is =
@@ -155,8 +156,10 @@ module _ {V P M : Type 0} (lines : Lines V P M) where
           | inr back ↦ subst (λ x. HasWritten (At x k') (w + a.writes k)) (sym back.0) (none ∙ sym back.2)
         ]
     counts_writes (Embedded word value) m p k (Begin d' p' k') w h is = absurd h
-    counts_writes (Updating word value) m p k (To d' m' p' k') w h is = subst (λ x. HasWritten (At x k') (w + a.writes k)) (sym h.1) (ap (λ y. y + a.writes k) is ∙ sym h.2)
-    counts_writes (Updating word value) m p k (Begin d' p' k') w h is = subst (λ x. HasWritten (At x k') (w + a.writes k)) (sym h.0) (ap (λ y. y + a.writes k) is ∙ h.1)
+    counts_writes (Updating word value) m p k (To d' m' p' k') w h is =
+        subst (λ x. HasWritten (At x k') (w + a.writes k)) (sym h.1) (ap (λ y. y + a.writes k) is ∙ sym h.2)
+    counts_writes (Updating word value) m p k (Begin d' p' k') w h is =
+        subst (λ x. HasWritten (At x k') (w + a.writes k)) (sym h.0) (ap (λ y. y + a.writes k) is ∙ h.1)
     counts_writes d m p k (Answer v) w h is = tt
     counts_writes d m p k Finish w h is = tt
 
@@ -169,7 +172,8 @@ module _ {V P M : Type 0} (lines : Lines V P M) where
     answers_at d m p k Finish h = tt
 
     -- an update never answers
-    pub never_answers : (d : Task) (m : M) (p : V) (k : P) (v : Move V P M) (word value : ℕ) → op_of d ≡ Update word value → Flows d m p k v → called.NoAnswer a v
+    pub never_answers : (d : Task) (m : M) (p : V) (k : P) (v : Move V P M) (word value : ℕ) → op_of d ≡ Update word value → Flows d m p k v →
+        called.NoAnswer a v
     never_answers d m p k (To d' m' p' k') word value is h = tt
     never_answers d m p k (Begin d' p' k') word value is h = tt
     never_answers Scanning m p k (Answer v) word value is h = absurd (cc)
@@ -193,7 +197,8 @@ module _ {V P M : Type 0} (lines : Lines V P M) where
     in_scan (Some l) (Updating word value) h = absurd (let e : ◌≡◌ {A = Option ℕ} None (Some l) = h in cc)
 
     pub stays : (link : Option ℕ) (d : Task) (m : M) (p : V) (k : P) (v : Move V P M) →
-        (lines.IsReturn k → Returns (instr_at a.source.lines (a.number k)) (a.locals_of p) (lines.answer p)) → Flows d m p k v → span.Inside a link d → span.Stays a link k p v
+        (lines.IsReturn k → Returns (instr_at a.source.lines (a.number k)) (a.locals_of p) (lines.answer p)) → Flows d m p k v →
+        span.Inside a link d → span.Stays a link k p v
     stays link Scanning m p k (To d' m' p' k') returns h inside = inl (subst (span.Inside a link) (sym h.0) inside)
     stays link Scanning m p k (Begin d' p' k') returns h inside = absurd h
     stays None Scanning m p k (Answer v) returns h inside = tt

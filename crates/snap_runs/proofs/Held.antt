@@ -49,7 +49,8 @@ squeezed a mid b (inr p) (inr q) e = q
 abbrev pub Grows : ℕ → List Word → List Word → Type 0
 Grows n m m' = (k : ℕ) → IsOneOf n k → WordBefore (word_at m k) (word_at m' k)
 
-pub same_data : (n : ℕ) (m b : List Word) → length m ≡ n → n ≤ length b → ((k : ℕ) → IsOneOf n k → word_at m k ≡ word_at b k) → data_of m ≡ data_of (take n b)
+pub same_data : (n : ℕ) (m b : List Word) → length m ≡ n → n ≤ length b → ((k : ℕ) → IsOneOf n k → word_at m k ≡ word_at b k) →
+    data_of m ≡ data_of (take n b)
 same_data n m b len more h =
     let len_b : length (take n b) ≡ n = length-take-le n b more in
     ap data_of (ext_get_or no_word m (take n b) (len ∙ sym len_b) (λ i lt.

@@ -23,7 +23,8 @@ place_ok count k h = rw (lt_true 0 k h.0, le_true k count h.1) refl
 pub sum_ok : (x y : ℕ) → x + y < 2 ^ 64 → checked_sum x y ≡ Ok (x + y)
 sum_ok x y h = if_true _ _ _ (lt_true (x + y) (2 ^ 64) h)
 
-pub owned_ok : (own : Bool) (word : Word) (cause : Cause) (f : Word → Result Effect Cause) → own ≡ true → ((if own then Ok word else Err cause) >>= f) ≡ f word
+pub owned_ok : (own : Bool) (word : Word) (cause : Cause) (f : Word → Result Effect Cause) → own ≡ true →
+    ((if own then Ok word else Err cause) >>= f) ≡ f word
 owned_ok own word cause f h = ap (λ b. (if b then Ok word else Err cause) >>= f) h
 
 pub each_ok : {A : Type 0} (f : ℕ → Result A Cause) (g : ℕ → A) (from count : ℕ) → ((k : ℕ) → from ≤ k → k < from + count → f k ≡ Ok (g k)) →
@@ -44,7 +45,8 @@ for_each_at n f old k h =
     ∙ get_or-map-range_with_len f 1 n (k - 1) k 0 (omega arith) (omega arith)
 
 -- the first place that passes a test, and what it means that none does
-pub first_found : (from count : ℕ) (f : ℕ → Bool) (k : ℕ) → first_true from (map f (range_with_len from count)) ≡ Some k → (from ≤ k) × (k < from + count) × (f k ≡ true)
+pub first_found : (from count : ℕ) (f : ℕ → Bool) (k : ℕ) → first_true from (map f (range_with_len from count)) ≡ Some k →
+    (from ≤ k) × (k < from + count) × (f k ≡ true)
 first_found from zero f k h = absurd (cc)
 first_found from (suc count) f k h =
     elim (f from) as (λ b. f from ≡ b → (if b then Some from else first_true (from + 1) (map f (range_with_len (from + 1) count))) ≡ Some k → (from ≤ k) × (k < from + suc count) × (f k ≡ true)) [
@@ -52,7 +54,8 @@ first_found from (suc count) f k h =
       | false ↦ λ is e. let r = first_found (from + 1) count f k e in (omega arith, omega arith, r.2)
     ] refl h
 
-pub first_none : (from count : ℕ) (f : ℕ → Bool) → first_true from (map f (range_with_len from count)) ≡ None → (k : ℕ) → from ≤ k → k < from + count → f k ≡ false
+pub first_none : (from count : ℕ) (f : ℕ → Bool) → first_true from (map f (range_with_len from count)) ≡ None → (k : ℕ) → from ≤ k →
+    k < from + count → f k ≡ false
 first_none from zero f h k low high = absurd (omega arith)
 first_none from (suc count) f h k low high =
     elim (f from) as (λ b. f from ≡ b → (if b then Some from else first_true (from + 1) (map f (range_with_len (from + 1) count))) ≡ None → f k ≡ false) [
@@ -64,7 +67,8 @@ first_none from (suc count) f h k low high =
     ] refl h
 
 -- a test that all places pass, and one that some place fails
-pub all_pass : (f : ℕ → Bool) (from count : ℕ) → all_true (map f (range_with_len from count)) ≡ true → (k : ℕ) → from ≤ k → k < from + count → f k ≡ true
+pub all_pass : (f : ℕ → Bool) (from count : ℕ) → all_true (map f (range_with_len from count)) ≡ true → (k : ℕ) → from ≤ k → k < from + count →
+    f k ≡ true
 all_pass f from zero h k low high = absurd (omega arith)
 all_pass f from (suc count) h k low high =
     let r = both (f from) (all_true (map f (range_with_len (from + 1) count))) h in
@@ -73,7 +77,8 @@ all_pass f from (suc count) h k low high =
       | inr more ↦ all_pass f (from + 1) count r.1 k (omega arith) (omega arith)
     ]
 
-pub some_fails : (f : ℕ → Bool) (from count : ℕ) → all_true (map f (range_with_len from count)) ≡ false → (k : ℕ) × (from ≤ k) × (k < from + count) × (f k ≡ false)
+pub some_fails : (f : ℕ → Bool) (from count : ℕ) → all_true (map f (range_with_len from count)) ≡ false →
+    (k : ℕ) × (from ≤ k) × (k < from + count) × (f k ≡ false)
 some_fails f from zero h = absurd (cc)
 some_fails f from (suc count) h =
     elim (f from) as (λ b. f from ≡ b → (b && all_true (map f (range_with_len (from + 1) count))) ≡ false → (k : ℕ) × (from ≤ k) × (k < from + suc count) × (f k ≡ false)) [

@@ -97,6 +97,9 @@ module _ {V P M : Type 0} (a : Algorithm V P M) where
     abbrev pub his : ℕ → TypedProcess V P M
     his t = typed_at a (typed_state a items t) i
 
+    abbrev pub memory : ℕ → M
+    memory t = (typed_state a items t).memory
+
     -- at state t the scan that started at item c goes on
     pub record Goes (link : Option ℕ) (c t : ℕ) : Type 0 where
       pub task : Task
@@ -120,7 +123,8 @@ module _ {V P M : Type 0} (a : Algorithm V P M) where
     own_same c t le none = count_not (takes_step r i) c t le (ap (λ b. b && is_not_skipped (outcome r (suc t))) none)
 
     -- another process's item, and what changes nothing
-    same_goes : (link : Option ℕ) (c t : ℕ) → c ≤ t → his (suc t) ≡ his t → ((who (item_at items t) ≡ i → ⊥) ⊎ (steps i (item_at items t) ≡ false)) → Goes link c t → Goes link c (suc t)
+    same_goes : (link : Option ℕ) (c t : ℕ) → c ≤ t → his (suc t) ≡ his t → ((who (item_at items t) ≡ i → ⊥) ⊎ (steps i (item_at items t) ≡ false)) →
+        Goes link c t → Goes link c (suc t)
     same_goes link c t le same why g =
         let none : steps i (item_at items t) ≡ false = elim why [ inl other ↦ not_his i (item_at items t) other | inr unstepped ↦ unstepped ] in
         record {
@@ -146,13 +150,15 @@ module _ {V P M : Type 0} (a : Algorithm V P M) where
     and_true true = refl
     and_true false = refl
 
-    is_busy_at : (t : ℕ) → t ≤ length items → (d : Task) (k : P) → (his t).control ≡ At d k → process_at (state r t) i ≡ process_of a (record { control = At d k; variables = (his t).variables; auxiliary = (his t).auxiliary })
+    is_busy_at : (t : ℕ) → t ≤ length items → (d : Task) (k : P) → (his t).control ≡ At d k →
+        process_at (state r t) i ≡ process_of a (record { control = At d k; variables = (his t).variables; auxiliary = (his t).auxiliary })
     is_busy_at t le d k e =
         embed.process_at_is a items fits does t i le one
         ∙ ap (λ (p : Control P). process_of a (record { control = p; variables = (his t).variables; auxiliary = (his t).auxiliary })) e
 
     -- the counts after a step of the process
-    collects_next : (c t : ℕ) (d : Task) (k : P) → c ≤ t → t ≤ length items → steps i (item_at items t) ≡ true → outcome r (suc t) ≡ Stepped → (his t).control ≡ At d k →
+    collects_next : (c t : ℕ) (d : Task) (k : P) → c ≤ t → t ≤ length items → steps i (item_at items t) ≡ true → outcome r (suc t) ≡ Stepped →
+        (his t).control ≡ At d k →
         double_collects r i c (suc t) ≡ double_collects r i c t + a.tests k
     collects_next c t d k le short steps_is out_is at =
         let line : line_in r.source (process_at (before r (suc t)) i).status ≡ instr_at a.source.lines (a.number k) =
@@ -181,13 +187,15 @@ module _ {V P M : Type 0} (a : Algorithm V P M) where
     round_to true round t h = omega arith
     round_to false round t h = omega arith
 
-    tested_next : (again : Bool) (round t tested : ℕ) → tested ≡ double_collects r i round (suc t) → (if again then 0 else tested) ≡ double_collects r i (if again then suc t else round) (suc t)
+    tested_next : (again : Bool) (round t tested : ℕ) → tested ≡ double_collects r i round (suc t) →
+        (if again then 0 else tested) ≡ double_collects r i (if again then suc t else round) (suc t)
     tested_next true round t tested h = sym (count_none (ends_double_collect r i) (suc t) (suc t) (omega arith))
     tested_next false round t tested h = h
 
     -- a step of the process that stays in the scan
     step_goes : (link : Option ℕ) (c e t : ℕ) (v : Move V P M) (d : Task) (k : P) → Scan r i link c e → c ≤ t → suc t < e → item_at items t ≡ Step i →
-        (his t).control ≡ At d k → Inside link d → a.move i d (typed_state a items t).memory (his t).variables k ≡ v → Stays link k (his t).variables v → Goes link c t → Goes link c (suc t)
+        (his t).control ≡ At d k → Inside link d → a.move i d (memory t) (his t).variables k ≡ v → Stays link k (his t).variables v → Goes link c t →
+        Goes link c (suc t)
     step_goes link c e t v d k scan le lt is at inside is_v stays g =
         let x = typed_state a items t in
         let short : t < length items = (let last : e ≤ length items = scan.last in omega arith) in
@@ -200,13 +208,16 @@ module _ {V P M : Type 0} (a : Algorithm V P M) where
         let steps_is : steps i (item_at items t) ≡ true = ap (steps i) is ∙ same_number i in
         stepped_goes link c e t d k scan le lt short is at g v state_becomes out_is steps_is stays
       where
-        stepped_goes : (link : Option ℕ) (c e t : ℕ) (d : Task) (k : P) → Scan r i link c e → c ≤ t → suc t < e → t < length items → item_at items t ≡ Step i →
+        stepped_goes : (link : Option ℕ) (c e t : ℕ) (d : Task) (k : P) → Scan r i link c e → c ≤ t → suc t < e → t < length items →
+            item_at items t ≡ Step i →
             (his t).control ≡ At d k → Goes link c t → (v : Move V P M) →
-            typed_state a items (suc t) ≡ changed (typed_state a items t) i (by_move a (suc t) (typed_state a items t).memory (his t) k v) →
-            outcome r (suc t) ≡ outcome_of (by_move a (suc t) (typed_state a items t).memory (his t) k v) → steps i (item_at items t) ≡ true → Stays link k (his t).variables v → Goes link c (suc t)
+            typed_state a items (suc t) ≡ changed (typed_state a items t) i (by_move a (suc t) (memory t) (his t) k v) →
+            outcome r (suc t) ≡ outcome_of (by_move a (suc t) (memory t) (his t) k v) → steps i (item_at items t) ≡ true →
+            Stays link k (his t).variables v → Goes link c (suc t)
         stepped_goes link c e t d k scan le lt short is at g (To d' m' p' k') state_becomes out_is steps_is (inl inside) =
-            let q' : TypedProcess V P M = record { control = At d' k'; variables = p'; auxiliary = stepped_auxiliary a k (suc t) (his t).auxiliary } in
-            let new : his (suc t) ≡ q' = ap (λ (y : TypedState V P M). typed_at a y i) state_becomes ∙ embed.own_process a (typed_state a items t) i m' q' Stepped (embed.count a items t) one in
+            let q' : TypedProcess V P M =
+            record { control = At d' k'; variables = p'; auxiliary = stepped_auxiliary a k (suc t) (his t).auxiliary } in
+            let new : his (suc t) ≡ q' = embed.process_next a items t i m' q' Stepped one state_becomes in
             record {
               task = d';
               counter = k';
@@ -238,12 +249,14 @@ module _ {V P M : Type 0} (a : Algorithm V P M) where
         stepped_goes link c e t d k scan le lt short is at g Finish state_becomes out_is steps_is h = absurd h
 
     -- the item of the process in its scan: a step, or a call that is skipped
-    item_goes : (link : Option ℕ) (c e t : ℕ) (y : Item) → Scan r i link c e → c ≤ t → suc t < e → item_at items t ≡ y → who y ≡ i → Goes link c t → Goes link c (suc t)
+    item_goes : (link : Option ℕ) (c e t : ℕ) (y : Item) → Scan r i link c e → c ≤ t → suc t < e → item_at items t ≡ y → who y ≡ i → Goes link c t →
+        Goes link c (suc t)
     item_goes link c e t (Step k) scan le lt is w g =
         let is2 : item_at items t ≡ Step i = is ∙ ap (λ u. Step u) w in
         let short : t < length items = (let last : e ≤ length items = scan.last in omega arith) in
-        let law : Lawful i g.task (typed_state a items t).memory (his t).variables g.counter = subst (LawfulAt i (typed_state a items t).memory (his t).variables) g.control (lawful t i short one) in
-        step_goes link c e t (a.move i g.task (typed_state a items t).memory (his t).variables g.counter) g.task g.counter scan le lt is2 g.control g.inside refl (law.stays link g.inside) g
+        let law : Lawful i g.task (memory t) (his t).variables g.counter =
+        subst (LawfulAt i (memory t) (his t).variables) g.control (lawful t i short one) in
+        step_goes link c e t (a.move i g.task (memory t) (his t).variables g.counter) g.task g.counter scan le lt is2 g.control g.inside refl (law.stays link g.inside) g
     item_goes link c e t (Call k op) scan le lt is w g =
         let x = typed_state a items t in
         let is2 : item_at items t ≡ Call i op = is ∙ ap (λ u. Call u op) w in
@@ -269,15 +282,18 @@ module _ {V P M : Type 0} (a : Algorithm V P M) where
         let item_is_change : by_item a (suc c) x (item_at items c) ≡ by_call a (suc c) x.memory i ScanOp (his c) (his c).control = ap (by_item a (suc c) x) is in
         let state_becomes : typed_state a items (suc c) ≡ changed x i (by_call a (suc c) x.memory i ScanOp (his c) (his c).control) =
         ap (λ (y : Item). changed x (who y) (by_item a (suc c) x (item_at items c))) is ∙ ap (changed x i) item_is_change in
-        let out_is : outcome_of (by_call a (suc c) x.memory i ScanOp (his c) (his c).control) ≡ Called = sym (ap outcome_of item_is_change) ∙ sym (embed.outcome_is a items fits does c short) ∙ out in
+        let out_is : outcome_of (by_call a (suc c) x.memory i ScanOp (his c) (his c).control) ≡ Called =
+        sym (ap outcome_of item_is_change) ∙ sym (embed.outcome_is a items fits does c short) ∙ out in
         from_control c (his c).control state_becomes out_is
       where
-        from_control : (c : ℕ) (control : Control P) → typed_state a items (suc c) ≡ changed (typed_state a items c) i (by_call a (suc c) (typed_state a items c).memory i ScanOp (his c) control) →
-            outcome_of (by_call a (suc c) (typed_state a items c).memory i ScanOp (his c) control) ≡ Called → Goes None (suc c) (suc c)
+        from_control : (c : ℕ) (control : Control P) →
+            typed_state a items (suc c) ≡ changed (typed_state a items c) i (by_call a (suc c) (memory c) i ScanOp (his c) control) →
+            outcome_of (by_call a (suc c) (memory c) i ScanOp (his c) control) ≡ Called → Goes None (suc c) (suc c)
         from_control c Idle state_becomes out_is =
             let x = typed_state a items c in
-            let q' : TypedProcess V P M = record { control = At (task_of ScanOp) (a.counter ScanOp); variables = (his c).variables; auxiliary = called_auxiliary (suc c) ScanOp (his c).auxiliary } in
-            let new : his (suc c) ≡ q' = ap (λ (y : TypedState V P M). typed_at a y i) state_becomes ∙ embed.own_process a x i x.memory q' Called (embed.count a items c) one in
+            let q' : TypedProcess V P M =
+            record { control = At (task_of ScanOp) (a.counter ScanOp); variables = (his c).variables; auxiliary = called_auxiliary (suc c) ScanOp (his c).auxiliary } in
+            let new : his (suc c) ≡ q' = embed.process_next a items c i x.memory q' Called one state_becomes in
             record {
               task = task_of ScanOp;
               counter = a.counter ScanOp;
@@ -285,7 +301,8 @@ module _ {V P M : Type 0} (a : Algorithm V P M) where
               inside = (link_is a.back ScanOp, op_is ScanOp);
               since = ap (λ (q : TypedProcess V P M). q.auxiliary.since) new;
               own = ap (λ (q : TypedProcess V P M). q.auxiliary.own) new ∙ sym (count_none (takes_step r i) (suc c) (suc c) (omega arith));
-              collects = ap (λ (q : TypedProcess V P M). q.auxiliary.collects) new ∙ sym (count_none (ends_double_collect r i) (suc c) (suc c) (omega arith));
+              collects = ap (λ (q : TypedProcess V P M). q.auxiliary.collects) new
+                  ∙ sym (count_none (ends_double_collect r i) (suc c) (suc c) (omega arith));
               round_after = subst (λ (q : TypedProcess V P M). suc c ≤ q.auxiliary.round) (sym new) (omega arith);
               round_before = subst (λ (q : TypedProcess V P M). q.auxiliary.round ≤ suc c) (sym new) (omega arith);
               tested = subst (λ (q : TypedProcess V P M). q.auxiliary.tested ≡ double_collects r i q.auxiliary.round (suc c)) (sym new)
@@ -294,7 +311,8 @@ module _ {V P M : Type 0} (a : Algorithm V P M) where
         from_control c (At d k) state_becomes out_is = absurd (cc)
 
     -- the item that starts an embedded scan
-    begun_goes : (l c : ℕ) → c < length items → item_at items c ≡ Step i → IsCallLine (line_in r.source (process_at (state r c) i).status) → outcome r (suc c) ≡ Stepped →
+    begun_goes : (l c : ℕ) → c < length items → item_at items c ≡ Step i → IsCallLine (line_in r.source (process_at (state r c) i).status) →
+        outcome r (suc c) ≡ Stepped →
         link_in (process_at (state r (suc c)) i).status ≡ Some l → Goes (Some l) (suc c) (suc c)
     begun_goes l c short is call out link =
         let x = typed_state a items c in
@@ -302,7 +320,8 @@ module _ {V P M : Type 0} (a : Algorithm V P M) where
         let item_is_change : by_item a (suc c) x (item_at items c) ≡ by_step a (suc c) x.memory i (his c) (his c).control = ap (by_item a (suc c) x) is in
         let state_becomes : typed_state a items (suc c) ≡ changed x i (by_step a (suc c) x.memory i (his c) (his c).control) =
         ap (λ (y : Item). changed x (who y) (by_item a (suc c) x (item_at items c))) is ∙ ap (changed x i) item_is_change in
-        let out_is : outcome_of (by_step a (suc c) x.memory i (his c) (his c).control) ≡ Stepped = sym (ap outcome_of item_is_change) ∙ sym (embed.outcome_is a items fits does c short) ∙ out in
+        let out_is : outcome_of (by_step a (suc c) x.memory i (his c) (his c).control) ≡ Stepped =
+        sym (ap outcome_of item_is_change) ∙ sym (embed.outcome_is a items fits does c short) ∙ out in
         let call_is : IsCallLine (line_in a.source (status_of a (his c).control)) =
         subst (λ (y : Process). IsCallLine (line_in a.source y.status)) (embed.process_at_is a items fits does c i (omega arith) one) call in
         let link_is : link_in (status_of a (his (suc c)).control) ≡ Some l =
@@ -310,14 +329,14 @@ module _ {V P M : Type 0} (a : Algorithm V P M) where
         from_control l c (his c).control state_becomes out_is call_is link_is law
       where
         from_move : (l c : ℕ) (d : Task) (k : P) (v : Move V P M) → NotTo v →
-            typed_state a items (suc c) ≡ changed (typed_state a items c) i (by_move a (suc c) (typed_state a items c).memory (his c) k v) →
-            outcome_of (by_move a (suc c) (typed_state a items c).memory (his c) k v) ≡ Stepped →
+            typed_state a items (suc c) ≡ changed (typed_state a items c) i (by_move a (suc c) (memory c) (his c) k v) →
+            outcome_of (by_move a (suc c) (memory c) (his c) k v) ≡ Stepped →
             link_in (status_of a (his (suc c)).control) ≡ Some l → Goes (Some l) (suc c) (suc c)
         from_move l c d k (To d' m' p' k') not_to state_becomes out_is link_is = absurd not_to
         from_move l c d k (Begin d' p' k') not_to state_becomes out_is link_is =
             let x = typed_state a items c in
             let q' : TypedProcess V P M = record { control = At d' k'; variables = p'; auxiliary = begun_auxiliary a k (suc c) (his c).auxiliary } in
-            let new : his (suc c) ≡ q' = ap (λ (y : TypedState V P M). typed_at a y i) state_becomes ∙ embed.own_process a x i x.memory q' Stepped (embed.count a items c) one in
+            let new : his (suc c) ≡ q' = embed.process_next a items c i x.memory q' Stepped one state_becomes in
             record {
               task = d';
               counter = k';
@@ -325,7 +344,8 @@ module _ {V P M : Type 0} (a : Algorithm V P M) where
               inside = sym (ap (λ (q : TypedProcess V P M). link_in (status_of a q.control)) new) ∙ link_is;
               since = ap (λ (q : TypedProcess V P M). q.auxiliary.since) new;
               own = ap (λ (q : TypedProcess V P M). q.auxiliary.own) new ∙ sym (count_none (takes_step r i) (suc c) (suc c) (omega arith));
-              collects = ap (λ (q : TypedProcess V P M). q.auxiliary.collects) new ∙ sym (count_none (ends_double_collect r i) (suc c) (suc c) (omega arith));
+              collects = ap (λ (q : TypedProcess V P M). q.auxiliary.collects) new
+                  ∙ sym (count_none (ends_double_collect r i) (suc c) (suc c) (omega arith));
               round_after = subst (λ (q : TypedProcess V P M). suc c ≤ q.auxiliary.round) (sym new) (omega arith);
               round_before = subst (λ (q : TypedProcess V P M). q.auxiliary.round ≤ suc c) (sym new) (omega arith);
               tested = subst (λ (q : TypedProcess V P M). q.auxiliary.tested ≡ double_collects r i q.auxiliary.round (suc c)) (sym new)
@@ -334,12 +354,13 @@ module _ {V P M : Type 0} (a : Algorithm V P M) where
         from_move l c d k (Answer v) not_to state_becomes out_is link_is = absurd (cc)
         from_move l c d k Finish not_to state_becomes out_is link_is = absurd (cc)
 
-        from_control : (l c : ℕ) (control : Control P) → typed_state a items (suc c) ≡ changed (typed_state a items c) i (by_step a (suc c) (typed_state a items c).memory i (his c) control) →
-            outcome_of (by_step a (suc c) (typed_state a items c).memory i (his c) control) ≡ Stepped → IsCallLine (line_in a.source (status_of a control)) →
-            link_in (status_of a (his (suc c)).control) ≡ Some l → LawfulAt i (typed_state a items c).memory (his c).variables control → Goes (Some l) (suc c) (suc c)
+        from_control : (l c : ℕ) (control : Control P) →
+            typed_state a items (suc c) ≡ changed (typed_state a items c) i (by_step a (suc c) (memory c) i (his c) control) →
+            outcome_of (by_step a (suc c) (memory c) i (his c) control) ≡ Stepped → IsCallLine (line_in a.source (status_of a control)) →
+            link_in (status_of a (his (suc c)).control) ≡ Some l → LawfulAt i (memory c) (his c).variables control → Goes (Some l) (suc c) (suc c)
         from_control l c Idle state_becomes out_is call link law = absurd call
         from_control l c (At d k) state_becomes out_is call link law =
-            from_move l c d k (a.move i d (typed_state a items c).memory (his c).variables k) (law.calls call) state_becomes out_is link
+            from_move l c d k (a.move i d (memory c) (his c).variables k) (law.calls call) state_becomes out_is link
 
     start_goes : (link : Option ℕ) (c : ℕ) → c < length items → Starts r i (suc c) link → Goes link (suc c) (suc c)
     start_goes None c short h = called_goes c short h.0 h.1
@@ -382,7 +403,8 @@ module _ {V P M : Type 0} (a : Algorithm V P M) where
         subst (λ y. y ≤ own_steps r i c t + 1) (sym (count_next (takes_step r i) c t le))
         (one_more (steps i (item r (suc t)) && is_not_skipped (outcome r (suc t))) (own_steps r i c t))
 
-    pub last_collects : (c t : ℕ) (d : Task) (k : P) → c ≤ t → t ≤ length items → (his t).control ≡ At d k → double_collects r i c (suc t) ≤ double_collects r i c t + a.tests k
+    pub last_collects : (c t : ℕ) (d : Task) (k : P) → c ≤ t → t ≤ length items → (his t).control ≡ At d k →
+        double_collects r i c (suc t) ≤ double_collects r i c t + a.tests k
     last_collects c t d k le short at =
         let status = line_in r.source (process_at (before r (suc t)) i).status in
         let line : status ≡ instr_at a.source.lines (a.number k) = ap (λ (y : Process). line_in r.source y.status) (is_busy_at t short d k at) in

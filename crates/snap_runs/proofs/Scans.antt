@@ -24,7 +24,8 @@ module _ {V P M : Type 0} (a : Algorithm V P M) (lines : Lines V P M) where
     -- a `call` line begins a scan
     pub calls : (me : ℕ) (d : Task) (m : M) (p : V) (k : P) → IsCallLine (instr_at a.source.lines (a.number k)) → span.NotTo a (a.move me d m p k)
     -- a line that returns a view returns the answer, and the lines that return are these
-    pub returns : (p : V) (k : P) (v : List ℕ) → Returns (instr_at a.source.lines (a.number k)) (a.locals_of p) v → lines.IsReturn k × (lines.answer p ≡ v)
+    pub returns : (p : V) (k : P) (v : List ℕ) → Returns (instr_at a.source.lines (a.number k)) (a.locals_of p) v →
+        lines.IsReturn k × (lines.answer p ≡ v)
     pub answers : (p : V) (k : P) → lines.IsReturn k → Returns (instr_at a.source.lines (a.number k)) (a.locals_of p) (lines.answer p)
 
   abbrev pub FlowsAt : ℕ → M → V → Control P → Type 0
@@ -53,7 +54,8 @@ module _ {V P M : Type 0} (a : Algorithm V P M) (lines : Lines V P M) where
 
     pub lawful : (t i : ℕ) → t < length items → IsOneOf a.shape.n i →
         span.LawfulAt a i (typed_state a items t).memory (typed_at a (typed_state a items t) i).variables (typed_at a (typed_state a items t) i).control
-    lawful t i h one = lawful_at i (typed_state a items t).memory (typed_at a (typed_state a items t) i).variables (typed_at a (typed_state a items t) i).control (flows t i h one)
+    lawful t i h one =
+        lawful_at i (typed_state a items t).memory (typed_at a (typed_state a items t) i).variables (typed_at a (typed_state a items t) i).control (flows t i h one)
 
     module _ (i : ℕ) (one : IsOneOf a.shape.n i) where
       abbrev pub his : ℕ → TypedProcess V P M
@@ -72,12 +74,14 @@ module _ {V P M : Type 0} (a : Algorithm V P M) (lines : Lines V P M) where
         pub at_return : lines.IsReturn goes_on.counter
         pub answers : lines.answer (his t).variables ≡ view
 
-      embedded_ending : (l c t : ℕ) (view : List ℕ) → t < length items → Goes (Some l) c t → Ends (embed.run_of a items) i (suc t) (Some l) view → Ending (Some l) c t view
+      embedded_ending : (l c t : ℕ) (view : List ℕ) → t < length items → Goes (Some l) c t → Ends (embed.run_of a items) i (suc t) (Some l) view →
+          Ending (Some l) c t view
       embedded_ending l c t view short g ends =
           let busy : process_at (state (embed.run_of a items) t) i ≡ process_of a (record { control = At g.task g.counter; variables = (his t).variables; auxiliary = (his t).auxiliary }) =
           embed.process_at_is a items fits does t i (omega arith) one
           ∙ ap (λ (p : Control P). process_of a (record { control = p; variables = (his t).variables; auxiliary = (his t).auxiliary })) g.control in
-          let returned = listed.returns (his t).variables g.counter view (subst (λ (p : Process). Returns (line_in a.source p.status) p.locals view) busy ends.1) in
+          let returned =
+          listed.returns (his t).variables g.counter view (subst (λ (p : Process). Returns (line_in a.source p.status) p.locals view) busy ends.1) in
           record { goes_on = g; at_return = returned.0; answers = returned.1 }
 
       called_ending : (c t : ℕ) (view : List ℕ) → t < length items → Goes None c t → (y : Item) → item_at items t ≡ y → who y ≡ i →
@@ -95,7 +99,8 @@ module _ {V P M : Type 0} (a : Algorithm V P M) (lines : Lines V P M) where
           ap (λ (y : Item). outcome_of (by_item a (suc t) (typed_state a items t) y)) is2
           ∙ ap (λ (p : Control P). outcome_of (by_step a (suc t) m i (his t) p)) g.control in
           let v = a.move i g.task m (his t).variables g.counter in
-          let flows_on : flow.Flows lines a g.task m (his t).variables g.counter v = subst (FlowsAt i m (his t).variables) g.control (flows t i short one) in
+          let flows_on : flow.Flows lines a g.task m (his t).variables g.counter v =
+          subst (FlowsAt i m (his t).variables) g.control (flows t i short one) in
           let returned = answered (suc t) m (his t) g.counter v view (sym e ∙ sym (embed.outcome_is a items fits does t short) ∙ out)
           (flow.answers_at lines a g.task m (his t).variables g.counter v flows_on) in
           record { goes_on = g; at_return = returned.0; answers = returned.1 }

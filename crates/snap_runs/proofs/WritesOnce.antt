@@ -48,7 +48,8 @@ module _ {V P M : Type 0} (a : Algorithm V P M) (lines : Lines V P M) (line : �
     most_once (Updating x y) k w word value e h = let most : lines.written k + a.writes k ≤ 1 = once.most k in omega arith
 
     -- where an update is done it has written
-    once_done : (t : ℕ) (m : M) (q : TypedProcess V P M) (d : Task) (k : P) (v : Move V P M) (w word value : ℕ) → outcome_of (by_move a t m q k v) ≡ Done →
+    once_done : (t : ℕ) (m : M) (q : TypedProcess V P M) (d : Task) (k : P) (v : Move V P M) (w word value : ℕ) →
+        outcome_of (by_move a t m q k v) ≡ Done →
         op_of d ≡ Update word value → flow.Flows lines a d m q.variables k v → flow.HasWritten lines (At d k) w → (w ≡ 1) × (a.writes k ≡ 0)
     once_done t m q d k (To d' m' p k') w word value out e h is = absurd (cc)
     once_done t m q d k (Begin d' p k') w word value out e h is = absurd (cc)
@@ -74,7 +75,8 @@ module _ {V P M : Type 0} (a : Algorithm V P M) (lines : Lines V P M) (line : �
         let e : outcome_of (by_item a (suc t) (typed_state a items t) (item_at items t)) ≡ outcome_of (by_step a (suc t) m i (his t) (At g.task g.counter)) =
         ap (λ (y : Item). outcome_of (by_item a (suc t) (typed_state a items t) y)) is2
         ∙ ap (λ (p : Control P). outcome_of (by_step a (suc t) m i (his t) p)) g.control in
-        let written : flow.HasWritten lines (At g.task g.counter) (his t).auxiliary.wrote = subst (λ (p : Control P). flow.HasWritten lines p (his t).auxiliary.wrote) g.control (wrote t i (omega arith) one) in
+        let written : flow.HasWritten lines (At g.task g.counter) (his t).auxiliary.wrote =
+        subst (λ (p : Control P). flow.HasWritten lines p (his t).auxiliary.wrote) g.control (wrote t i (omega arith) one) in
         let ended = once_done (suc t) m (his t) g.task g.counter (a.move i g.task m (his t).variables g.counter) (his t).auxiliary.wrote word value
         (sym e ∙ sym (embed.outcome_is a items fits does t short) ∙ out) g.op (flows_at t g.task g.counter short g.control) written in
         let one_write : (his t).auxiliary.wrote ≡ 1 = ended.0 in
@@ -95,8 +97,10 @@ module _ {V P M : Type 0} (a : Algorithm V P M) (lines : Lines V P M) (line : �
               (omega arith, λ lt done. absurd (omega arith)))
           | inr more ↦ (
               let g = called.going a line once.writes_is items fits does i one silent word value c (suc t) t up (omega arith) (omega arith) in
-              let written : flow.HasWritten lines (At g.task g.counter) (his t).auxiliary.wrote = subst (λ (p : Control P). flow.HasWritten lines p (his t).auxiliary.wrote) g.control (wrote t i (omega arith) one) in
-              let most : (his t).auxiliary.wrote + a.writes g.counter ≤ 1 = most_once g.task g.counter (his t).auxiliary.wrote word value g.op written in
+              let written : flow.HasWritten lines (At g.task g.counter) (his t).auxiliary.wrote =
+              subst (λ (p : Control P). flow.HasWritten lines p (his t).auxiliary.wrote) g.control (wrote t i (omega arith) one) in
+              let most : (his t).auxiliary.wrote + a.writes g.counter ≤ 1 =
+              most_once g.task g.counter (his t).auxiliary.wrote word value g.op written in
               let is : (his t).auxiliary.wrote ≡ count (executes r i line) c t = g.wrote in
               let next : count (executes r i line) c (suc t) ≤ count (executes r i line) c t + a.writes g.counter =
               called.line_at_most a line once.writes_is items fits does i one silent t c g.task g.counter (omega arith) (omega arith) g.control in

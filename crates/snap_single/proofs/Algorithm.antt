@@ -122,10 +122,14 @@ at_limit p k = nat_eq (moved_at p k) limit
 abbrev pub next_to : ℕ → Task → Words → Variables → ProgramCounter → ProgramCounter → Move
 next_to n d m p back on = if nat_lt p.j n then To d m (record p { j = p.j + 1 }) back else To d m (record p { j = 1 }) on
 
+-- the line that borrows a view
+abbrev pub borrows : ProgramCounter
+borrows = L23
+
 -- line 18
 abbrev pub first_to : Task → Words → Variables → Option ℕ → Move
 first_to d m p None = To d m p L19
-first_to d m p (Some k) = To d m (record p { j = k }) L23
+first_to d m p (Some k) = To d m (record p { j = k }) borrows
 
 -- lines 22 and 24
 abbrev pub return_to : Task → Words → Variables → Move
@@ -138,6 +142,10 @@ abbrev pub embed_to : Task → Words → Variables → Move
 embed_to Scanning m p = Finish
 embed_to (Embedded word value) m p = Finish
 embed_to (Updating word value) m p = Begin (Embedded word value) p L10
+
+-- the word that line 32 puts
+abbrev pub word_put : Task → Variables → Word
+word_put d p = record { datum = value_of d; seq = p.c; id = 0; toggle = 0; hands = []; view = p.s }
 
 -- what each line does to process `me` of n
 abbrev pub move : ℕ → ℕ → Task → Words → Variables → ProgramCounter → Move
@@ -157,7 +165,7 @@ move n me d m p L23 = To d m (record p { s = (word_at p.b p.j).view }) L24
 move n me d m p L24 = return_to d m p
 move n me d m p L30 = embed_to d m p
 move n me d m p L31 = To d m (record p { c = p.c + 1 }) L32
-move n me d m p L32 = To d (slice_set m (me - 1) (record { datum = value_of d; seq = p.c; id = 0; toggle = 0; hands = []; view = p.s })) p L33
+move n me d m p L32 = To d (slice_set m (me - 1) (word_put d p)) p L33
 move n me d m p L33 = Finish
 
 -- where an operation begins, and the line to which its embedded scan leads back

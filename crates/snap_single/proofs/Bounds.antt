@@ -17,7 +17,7 @@ use Rattle.snap_single.proofs.Count.{Count, InScanLine, collects_le, own_le}
 use Rattle.snap_single.proofs.Flows.{line_listed}
 use Rattle.snap_single.proofs.Invariant.{CountAt}
 use Rattle.snap_single.proofs.Preserve.{few_moves}
-use Rattle.snap_single.proofs.Runs.{words_at, process_after, own, all_do, lawful, Goes, goes, stage_of}
+use Rattle.snap_single.proofs.Runs.{words_at, process_after, invariant_of, all_do, lawful, Goes, goes, stage_of}
 
 -- a scan is at one of its lines
 not_update : (me : ℕ) (d : Task) → IsInScan d → IsUpdate me d → ⊥
@@ -50,14 +50,18 @@ module _ (n : ℕ) (items : List Item) (fits : Fits (run_of n items)) where
       (double_collects (run_of n items) i c t + tests g.counter ≤ n) × (own_steps (run_of n items) i c t + 1 ≤ 4 * (n * n) + 8 * n + 7)
   limits link i c t one le g =
       let q = process_after n items t i in
-      let o = own n items fits t i le one in
+      let o = invariant_of n items fits t i le one in
       let w : ControlWell n i q.variables (At g.task g.counter) = subst (ControlWell n i q.variables) g.control o.well in
       let stage = stage_of n items fits t i g.task g.counter le one g.control in
-      let counts : Count n q.variables q.auxiliary.own q.auxiliary.collects q.auxiliary.tested g.counter = subst (λ (p : Control). CountAt n q.variables q.auxiliary.own q.auxiliary.collects q.auxiliary.tested p) g.control o.counts in
+      let counts : Count n q.variables q.auxiliary.own q.auxiliary.collects q.auxiliary.tested g.counter =
+      subst (λ (p : Control). CountAt n q.variables q.auxiliary.own q.auxiliary.collects q.auxiliary.tested p) g.control o.counts in
       let inside = scan_line i g.task g.counter (flow.in_scan lines (algorithm n) link g.task g.inside) w.0 in
-      let sharp = few_moves n i (words_at n items) t q.auxiliary.since q.auxiliary.round (words_at n items t) g.task q.variables g.counter one w.0 w.1 (λ inside. o.self (subst InScan (sym g.control) inside)) stage in
-      let few : q.auxiliary.collects + tests g.counter ≤ n = collects_le n q.variables g.counter q.auxiliary.own q.auxiliary.collects q.auxiliary.tested (omega arith) w.1 sharp counts inside in
-      let short : q.auxiliary.own + 1 ≤ 4 * (n * n) + 8 * n + 7 = own_le n q.variables g.counter q.auxiliary.own q.auxiliary.collects q.auxiliary.tested w.1 counts (omega arith) inside in
+      let sharp =
+      few_moves n i (words_at n items) t q.auxiliary.since q.auxiliary.round (words_at n items t) g.task q.variables g.counter one w.0 w.1 (λ inside. o.self (subst InScan (sym g.control) inside)) stage in
+      let few : q.auxiliary.collects + tests g.counter ≤ n =
+      collects_le n q.variables g.counter q.auxiliary.own q.auxiliary.collects q.auxiliary.tested (omega arith) w.1 sharp counts inside in
+      let short : q.auxiliary.own + 1 ≤ 4 * (n * n) + 8 * n + 7 =
+      own_le n q.variables g.counter q.auxiliary.own q.auxiliary.collects q.auxiliary.tested w.1 counts (omega arith) inside in
       (subst (λ y. y + tests g.counter ≤ n) g.collects few, subst (λ y. y + 1 ≤ 4 * (n * n) + 8 * n + 7) g.own short)
 
   pub bounds : (i : ℕ) (link : Option ℕ) (c e : ℕ) → Scan (run_of n items) i link c e →
@@ -68,12 +72,15 @@ module _ (n : ℕ) (items : List Item) (fits : Fits (run_of n items)) where
       let last : suc t ≤ length items = scan.last in
       elim (eq-or-lt_of_le scan.order) [
         | inl same ↦ (let a = span.started_collects (algorithm n) (λ k. (line_listed k).tested) items fits (all_do n items fits) (lawful n items fits) i one c (suc t) (omega arith) in
-            let b = span.started_own (algorithm n) (λ k. (line_listed k).tested) items fits (all_do n items fits) (lawful n items fits) i one c (suc t) (omega arith) in
+            let b =
+            span.started_own (algorithm n) (λ k. (line_listed k).tested) items fits (all_do n items fits) (lawful n items fits) i one c (suc t) (omega arith) in
             (omega arith, omega arith))
         | inr more ↦ (let g = goes n items fits i one link c (suc t) t scan (omega arith) (omega arith) in
             let l = limits link i c t one (omega arith) g in
-            let a = span.last_collects (algorithm n) (λ k. (line_listed k).tested) items fits (all_do n items fits) (lawful n items fits) i one c t g.task g.counter (omega arith) (omega arith) g.control in
-            let b = span.last_own (algorithm n) (λ k. (line_listed k).tested) items fits (all_do n items fits) (lawful n items fits) i one c t (omega arith) in
+            let a =
+            span.last_collects (algorithm n) (λ k. (line_listed k).tested) items fits (all_do n items fits) (lawful n items fits) i one c t g.task g.counter (omega arith) (omega arith) g.control in
+            let b =
+            span.last_own (algorithm n) (λ k. (line_listed k).tested) items fits (all_do n items fits) (lawful n items fits) i one c t (omega arith) in
             (omega arith, omega arith))
       ]
 
@@ -81,7 +88,8 @@ pub sharp_collects_lem : SharpCollects
 sharp_collects_lem n items fits i link c e scan = (bounds n items fits i link c e scan).0
 
 pub few_collects_lem : FewCollects
-few_collects_lem n items fits i link c e scan = let h : double_collects (run_of n items) i c e ≤ n = sharp_collects_lem n items fits i link c e scan in omega arith
+few_collects_lem n items fits i link c e scan =
+    let h : double_collects (run_of n items) i c e ≤ n = sharp_collects_lem n items fits i link c e scan in omega arith
 
 pub few_steps_lem : FewSteps
 few_steps_lem n items fits i link c e scan = (bounds n items fits i link c e scan).1

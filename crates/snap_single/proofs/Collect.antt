@@ -61,7 +61,8 @@ pub record Gained (n : ℕ) (history : ℕ → Words) (t since : ℕ) (words : W
   pub views : (k : ℕ) → IsOneOf n k → seq_at (history since) k + 2 ≤ seq_at b k → Held history t since (word_at b k).view
 
 -- a first copy has the same word and the same number of moves
-same_copy : (base opening : Words) (moved : List ℕ) (x y now : Words) (k : ℕ) → word_at x k ≡ word_at y k → FirstCopy base opening moved x now k → FirstCopy base opening moved y now k
+same_copy : (base opening : Words) (moved : List ℕ) (x y now : Words) (k : ℕ) → word_at x k ≡ word_at y k → FirstCopy base opening moved x now k →
+    FirstCopy base opening moved y now k
 same_copy base opening moved x y now k e h = record {
   moves = subst (λ (w : Word). floor base moved k ≤ w.seq) e h.moves;
   fresh = subst (λ (w : Word). seq_at opening k ≤ w.seq) e h.fresh;
@@ -95,8 +96,10 @@ second_starts n history t since round words moved a b now le h =
     (t, le, omega arith, subst P (sym now) here)
 
 -- line 14 reads one more word
-pub second_more : (n : ℕ) (history : ℕ → Words) (t since round : ℕ) (words : Words) (moved : List ℕ) (a b : Words) (j : ℕ) → IsOneOf n j → n ≤ length b →
-    Viewed n history t since words → Between n history t since round words moved a b j → Between n history t since round words moved a (slice_set b (j - 1) (word_at words j)) (j + 1)
+pub second_more : (n : ℕ) (history : ℕ → Words) (t since round : ℕ) (words : Words) (moved : List ℕ) (a b : Words) (j : ℕ) → IsOneOf n j →
+    n ≤ length b →
+    Viewed n history t since words → Between n history t since round words moved a b j →
+    Between n history t since round words moved a (slice_set b (j - 1) (word_at words j)) (j + 1)
 second_more n history t since round words moved a b j i len v h =
     let s : Second n history t since round words moved a b j (history h.0) = h.3 in (
       h.0,
@@ -123,8 +126,10 @@ second_more n history t since round words moved a b j i len v h =
     )
 
 -- a passed test: the second collect is the words between the collects
-pub passed : (n : ℕ) (history : ℕ → Words) (t since round : ℕ) (words : Words) (p : Variables) → ((u : ℕ) → u ≤ t → length (history u) ≡ n) → n ≤ length p.b →
-    Between n history t since round words p.moved p.a p.b (n + 1) → all_true (map (agree p) (places_to n)) ≡ true → Held history t since (data_of (take n p.b))
+pub passed : (n : ℕ) (history : ℕ → Words) (t since round : ℕ) (words : Words) (p : Variables) → ((u : ℕ) → u ≤ t → length (history u) ≡ n) →
+    n ≤ length p.b →
+    Between n history t since round words p.moved p.a p.b (n + 1) → all_true (map (agree p) (places_to n)) ≡ true →
+    Held history t since (data_of (take n p.b))
 passed n history t since round words p lengths len h test =
     let s : Second n history t since round words p.moved p.a p.b (n + 1) (history h.0) = h.3 in (
       h.0,

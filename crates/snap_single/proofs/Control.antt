@@ -25,23 +25,23 @@ abbrev pub WithinLimit : ℕ → Variables → Type 0
 WithinLimit n p = (k : ℕ) → IsOneOf n k → moved_at p k ≤ limit
 
 -- At each line j is a place and the moves are within the limit, where the line asks for it.
-abbrev pub Keeps : ℕ → Variables → ProgramCounter → Type 0
-Keeps n p L11 = BelowLimit n p
-Keeps n p L12 = IsOneOf n p.j × BelowLimit n p
-Keeps n p L13 = IsOneOf n p.j × BelowLimit n p
-Keeps n p L14 = IsOneOf n p.j × BelowLimit n p
-Keeps n p L15 = IsOneOf n p.j × BelowLimit n p
-Keeps n p L16 = (p.j ≡ 1) × BelowLimit n p
-Keeps n p L17 = (p.j ≡ 1) × BelowLimit n p
-Keeps n p L18 = (p.j ≡ 1) × WithinLimit n p
-Keeps n p L19 = (p.j ≡ 1) × BelowLimit n p
-Keeps n p L23 = IsOneOf n p.j
-Keeps n p _ = Unit {0}
+abbrev pub VariablesAt : ℕ → Variables → ProgramCounter → Type 0
+VariablesAt n p L11 = BelowLimit n p
+VariablesAt n p L12 = IsOneOf n p.j × BelowLimit n p
+VariablesAt n p L13 = IsOneOf n p.j × BelowLimit n p
+VariablesAt n p L14 = IsOneOf n p.j × BelowLimit n p
+VariablesAt n p L15 = IsOneOf n p.j × BelowLimit n p
+VariablesAt n p L16 = (p.j ≡ 1) × BelowLimit n p
+VariablesAt n p L17 = (p.j ≡ 1) × BelowLimit n p
+VariablesAt n p L18 = (p.j ≡ 1) × WithinLimit n p
+VariablesAt n p L19 = (p.j ≡ 1) × BelowLimit n p
+VariablesAt n p L23 = IsOneOf n p.j
+VariablesAt n p _ = Unit {0}
 
 -- What a line leaves is at a line of its task, with the variables that it asks for, and has kept the operation.
 abbrev pub MoveWell : Op → ℕ → ℕ → Move → Type 0
-MoveWell op n me (To d m p k) = IsLineOf me d k × Keeps n p k × (op_of d ≡ op)
-MoveWell op n me (Begin d p k) = IsLineOf me d k × Keeps n p k × (op_of d ≡ op)
+MoveWell op n me (To d m p k) = IsLineOf me d k × VariablesAt n p k × (op_of d ≡ op)
+MoveWell op n me (Begin d p k) = IsLineOf me d k × VariablesAt n p k × (op_of d ≡ op)
 MoveWell op n me (Answer v) = Unit {0}
 MoveWell op n me Finish = Unit {0}
 
@@ -52,7 +52,8 @@ within false x most h = omega arith
 below : (x most : ℕ) → x ≤ most → nat_eq x most ≡ false → x < most
 below x most h e = grind (arith, common_steps)
 
-pub move_well : (n me : ℕ) (d : Task) (m : Words) (p : Variables) (k : ProgramCounter) → IsOneOf n me → IsLineOf me d k → Keeps n p k → MoveWell (op_of d) n me (move n me d m p k)
+pub move_well : (n me : ℕ) (d : Task) (m : Words) (p : Variables) (k : ProgramCounter) → IsOneOf n me → IsLineOf me d k → VariablesAt n p k →
+    MoveWell (op_of d) n me (move n me d m p k)
 move_well n me d m p L10 i s h = (s, λ k e. rw (for_each_at n (λ k. 0) p.moved k e) (omega arith), refl)
 move_well n me d m p L11 i s h = (s, ((omega arith, omega arith), h), refl)
 move_well n me d m p L12 i s h = (s, h, refl)
@@ -63,8 +64,10 @@ move_well n me d m p L14 i s h = (s, h, refl)
 move_well n me d m p L15 i s h =
     either (MoveWell (op_of d) n me) (nat_lt p.j n) _ _ (λ b. let j : p.j < n = lt_from p.j n b in (s, ((omega arith, omega arith), h.1), refl))
     (λ b. (s, (refl, h.1), refl))
-move_well n me d m p L16 i s h = either (MoveWell (op_of d) n me) (all_true (map (agree p) (places_to n))) _ _ (λ b. (s, tt, refl)) (λ b. (s, h, refl))
-move_well n me d m p L17 i s h = (s, (h.0, λ k e. rw (for_each_at n (counted p) p.moved k e) (within (agree p k) (moved_at p k) limit (h.1 k e))), refl)
+move_well n me d m p L16 i s h =
+    either (MoveWell (op_of d) n me) (all_true (map (agree p) (places_to n))) _ _ (λ b. (s, tt, refl)) (λ b. (s, h, refl))
+move_well n me d m p L17 i s h =
+    (s, (h.0, λ k e. rw (for_each_at n (counted p) p.moved k e) (within (agree p k) (moved_at p k) limit (h.1 k e))), refl)
 move_well n me d m p L18 i s h =
     whether (MoveWell (op_of d) n me) (first_to d m p) (first_true 1 (map (at_limit p) (places_to n)))
     (λ e. (s, (h.0, λ k o. below (moved_at p k) limit (h.1 k o) (first_none 1 n (at_limit p) e k (omega arith) (omega arith))), refl))
@@ -86,7 +89,7 @@ move_well n me d m p L32 i s h = (s, tt, refl)
 move_well n me d m p L33 i s h = tt
 
 -- what a line needs is kept; the number that line 31 raises is at most the number of items
-needs : (n time me : ℕ) (p : Variables) (k : ProgramCounter) → IsOneOf n me → p.c ≤ time → time < 2 ^ 60 → Keeps n p k → Needs n me p k
+needs : (n time me : ℕ) (p : Variables) (k : ProgramCounter) → IsOneOf n me → p.c ≤ time → time < 2 ^ 60 → VariablesAt n p k → Needs n me p k
 needs n time me p L10 i c b h = tt
 needs n time me p L11 i c b h = tt
 needs n time me p L12 i c b h = h.0
@@ -118,9 +121,10 @@ own_word n i word value h = same_from word i (own_then (nat_lt 0 word && nat_le 
 -- A busy process is at a line of its task, with the variables that the line asks for.
 abbrev pub ControlWell : ℕ → ℕ → Variables → Control → Type 0
 ControlWell n me p Idle = Unit {0}
-ControlWell n me p (At d k) = IsLineOf me d k × Keeps n p k
+ControlWell n me p (At d k) = IsLineOf me d k × VariablesAt n p k
 
-pub called_well : (n me : ℕ) (p : Variables) (op : Op) → call_skip kind.Seq (square n) me op ≡ None → ControlWell n me p (At (task_of op) (counter op))
+pub called_well : (n me : ℕ) (p : Variables) (op : Op) → call_skip kind.Seq (square n) me op ≡ None →
+    ControlWell n me p (At (task_of op) (counter op))
 called_well n me p Scan e = (tt, tt)
 called_well n me p (Update word value) e = (own_word n me word value e, tt)
 

@@ -9,7 +9,7 @@ use Rattle.snap_runs.proofs.Places.{for_each, for_each_at, some_fails}
 use Rattle.snap_runs.proofs.Totals.{total, total_le, total_less, total_more}
 use Rattle.snap_words.specs.Shape.{IsOneOf}
 use Rattle.snap_single.proofs.Algorithm.{Words, Move, Variables, ProgramCounter, L10, L11, L12, L13, L14, L15, L16, L17, L18, L19, L21, L22, L23, L24, L30, L31, L32, L33, move, first_to, agree, limit, moved_at, counted, at_limit, tests, restarts}
-use Rattle.snap_single.proofs.Control.{BelowLimit, Keeps}
+use Rattle.snap_single.proofs.Control.{BelowLimit, VariablesAt}
 
 -- the own steps of c failed double collects
 pub budget : ℕ → ℕ → ℕ
@@ -105,7 +105,8 @@ raised_more false v h = omega arith
 abbrev pub counted_row : ℕ → Variables → Variables
 counted_row n p = record p { moved = for_each n (counted p) p.moved }
 
-after_count : (n : ℕ) (p : Variables) → all_true (map (agree p) (places_to n)) ≡ false → (p' : Variables) → ((k : ℕ) → IsOneOf n k → moved_at p' k ≡ counted p k) → moves n p < moves n p'
+after_count : (n : ℕ) (p : Variables) → all_true (map (agree p) (places_to n)) ≡ false → (p' : Variables) →
+    ((k : ℕ) → IsOneOf n k → moved_at p' k ≡ counted p k) → moves n p < moves n p'
 after_count n p failed p' is =
     let some = some_fails (agree p) 1 n failed in
     let k = some.0 in
@@ -116,18 +117,20 @@ after_count n p failed p' is =
 
 -- each line keeps the counts: c' and recent' are the double collects with its own
 pub count_move : (n me : ℕ) (d : Task) (words : Words) (p : Variables) (k : ProgramCounter) (own c c' recent recent' : ℕ) → c' ≡ c + tests k →
-    recent' ≡ (if restarts k then 0 else recent + tests k) → Keeps n p k → ((k ≡ L16) → moves n p < n) →
+    recent' ≡ (if restarts k then 0 else recent + tests k) → VariablesAt n p k → ((k ≡ L16) → moves n p < n) →
     Count n p own c recent k → CountMove n (suc own) c' recent' (move n me d words p k)
 count_move n me d words p L10 own c c' recent recent' e f keeps sharp h = (omega arith, omega arith, omega arith)
 count_move n me d words p L11 own c c' recent recent' e f keeps sharp h =
     let b : budget n c' ≡ budget n 0 = ap (budget n) (let f : c' ≡ 0 = omega arith in f) in
     let two : budget n 0 ≡ 2 = budget_zero n in
     (omega arith, omega arith, omega arith)
-count_move n me d words p L12 own c c' recent recent' e f keeps sharp h = let b : budget n c' ≡ budget n c = same_budget n c c' e in (omega arith, omega arith, omega arith)
+count_move n me d words p L12 own c c' recent recent' e f keeps sharp h =
+    let b : budget n c' ≡ budget n c = same_budget n c c' e in (omega arith, omega arith, omega arith)
 count_move n me d words p L13 own c c' recent recent' e f keeps sharp h =
     let b : budget n c' ≡ budget n c = same_budget n c c' e in
     either (CountMove n (suc own) c' recent') (nat_lt p.j n) _ _ (λ t. (omega arith, omega arith, omega arith)) (λ t. let ge : n ≤ p.j = not_lt p.j n t in (omega arith, omega arith, omega arith))
-count_move n me d words p L14 own c c' recent recent' e f keeps sharp h = let b : budget n c' ≡ budget n c = same_budget n c c' e in (omega arith, omega arith, omega arith)
+count_move n me d words p L14 own c c' recent recent' e f keeps sharp h =
+    let b : budget n c' ≡ budget n c = same_budget n c c' e in (omega arith, omega arith, omega arith)
 count_move n me d words p L15 own c c' recent recent' e f keeps sharp h =
     let b : budget n c' ≡ budget n c = same_budget n c c' e in
     either (CountMove n (suc own) c' recent') (nat_lt p.j n) _ _ (λ t. (omega arith, omega arith, omega arith)) (λ t. let ge : n ≤ p.j = not_lt p.j n t in (omega arith, omega arith, omega arith))
@@ -143,12 +146,15 @@ count_move n me d words p L17 own c c' recent recent' e f keeps sharp h =
 count_move n me d words p L18 own c c' recent recent' e f keeps sharp h =
     let b : budget n c' ≡ budget n c = same_budget n c c' e in
     whether (CountMove n (suc own) c' recent') (first_to d words p) (first_true 1 (map (at_limit p) (places_to n))) (λ none. (omega arith, omega arith)) (λ k found. (omega arith, omega arith))
-count_move n me d words p L19 own c c' recent recent' e f keeps sharp h = let b : budget n c' ≡ budget n c = same_budget n c c' e in (omega arith, omega arith, omega arith)
-count_move n me d words p L21 own c c' recent recent' e f keeps sharp h = let b : budget n c' ≡ budget n c = same_budget n c c' e in (omega arith, omega arith)
+count_move n me d words p L19 own c c' recent recent' e f keeps sharp h =
+    let b : budget n c' ≡ budget n c = same_budget n c c' e in (omega arith, omega arith, omega arith)
+count_move n me d words p L21 own c c' recent recent' e f keeps sharp h =
+    let b : budget n c' ≡ budget n c = same_budget n c c' e in (omega arith, omega arith)
 count_move n me Scanning words p L22 own c c' recent recent' e f keeps sharp h = tt
 count_move n me (Embedded w x) words p L22 own c c' recent recent' e f keeps sharp h = tt
 count_move n me (Updating w x) words p L22 own c c' recent recent' e f keeps sharp h = tt
-count_move n me d words p L23 own c c' recent recent' e f keeps sharp h = let b : budget n c' ≡ budget n c = same_budget n c c' e in (omega arith, omega arith)
+count_move n me d words p L23 own c c' recent recent' e f keeps sharp h =
+    let b : budget n c' ≡ budget n c = same_budget n c c' e in (omega arith, omega arith)
 count_move n me Scanning words p L24 own c c' recent recent' e f keeps sharp h = tt
 count_move n me (Embedded w x) words p L24 own c c' recent recent' e f keeps sharp h = tt
 count_move n me (Updating w x) words p L24 own c c' recent recent' e f keeps sharp h = tt
@@ -167,7 +173,8 @@ InScanLine L33 = ⊥
 InScanLine _ = Unit {0}
 
 -- the bounds at each line of a scan
-pub collects_le : (n : ℕ) (p : Variables) (k : ProgramCounter) (own c recent : ℕ) → 0 < n → Keeps n p k → ((k ≡ L16) → moves n p < n) → Count n p own c recent k → InScanLine k → c + tests k ≤ n
+pub collects_le : (n : ℕ) (p : Variables) (k : ProgramCounter) (own c recent : ℕ) → 0 < n → VariablesAt n p k → ((k ≡ L16) → moves n p < n) →
+    Count n p own c recent k → InScanLine k → c + tests k ≤ n
 collects_le n p L10 own c recent pos keeps sharp h s = omega arith
 collects_le n p L11 own c recent pos keeps sharp h s = omega arith
 collects_le n p L12 own c recent pos keeps sharp h s = let t : moves n p ≤ n = moves_le n p keeps.1 in omega arith
@@ -190,7 +197,8 @@ collects_le n p L33 own c recent pos keeps sharp h s = absurd s
 own_all : (n c own : ℕ) → c ≤ n → own ≤ budget n c + 4 * n → own + 1 ≤ 4 * (n * n) + 8 * n + 7
 own_all n c own le h = let b : budget n c ≤ 4 * (n * n) + 4 * n + 2 = budget_le n c le in omega arith
 
-pub own_le : (n : ℕ) (p : Variables) (k : ProgramCounter) (own c recent : ℕ) → Keeps n p k → Count n p own c recent k → c ≤ n → InScanLine k → own + 1 ≤ 4 * (n * n) + 8 * n + 7
+pub own_le : (n : ℕ) (p : Variables) (k : ProgramCounter) (own c recent : ℕ) → VariablesAt n p k → Count n p own c recent k → c ≤ n → InScanLine k →
+    own + 1 ≤ 4 * (n * n) + 8 * n + 7
 own_le n p L10 own c recent keeps h le s = omega arith
 own_le n p L11 own c recent keeps h le s = omega arith
 own_le n p L12 own c recent keeps h le s = own_all n c own le (omega arith)

@@ -33,24 +33,24 @@ on : (n me : ℕ) (d : Task) (m : Words) (p p' : Variables) (k k' : ProgramCount
 on n me d m p p' k k' s quiet = flow.within lines (algorithm n) d m m p p' k k' (in_scan me d s) quiet refl
 
 pub flows : (n me : ℕ) (d : Task) (m : Words) (p : Variables) (k : ProgramCounter) → IsLineOf me d k → Flows n d m p k (move n me d m p k)
-flows n me d m p L10 s = on n me d m p _ L10 L11 s refl
-flows n me d m p L11 s = on n me d m p _ L11 L12 s refl
-flows n me d m p L12 s = on n me d m p _ L12 L13 s refl
-flows n me d m p L13 s = either (Flows n d m p L13) (nat_lt p.j n) _ _ (λ b. on n me d m p _ L13 L12 s refl) (λ b. on n me d m p _ L13 L14 s refl)
-flows n me d m p L14 s = on n me d m p _ L14 L15 s refl
-flows n me d m p L15 s = either (Flows n d m p L15) (nat_lt p.j n) _ _ (λ b. on n me d m p _ L15 L14 s refl) (λ b. on n me d m p _ L15 L16 s refl)
+flows n me d m p L10 s = on n me d m p _ L10 _ s refl
+flows n me d m p L11 s = on n me d m p _ L11 _ s refl
+flows n me d m p L12 s = on n me d m p _ L12 _ s refl
+flows n me d m p L13 s = either (Flows n d m p L13) (nat_lt p.j n) _ _ (λ b. on n me d m p _ L13 _ s refl) (λ b. on n me d m p _ L13 _ s refl)
+flows n me d m p L14 s = on n me d m p _ L14 _ s refl
+flows n me d m p L15 s = either (Flows n d m p L15) (nat_lt p.j n) _ _ (λ b. on n me d m p _ L15 _ s refl) (λ b. on n me d m p _ L15 _ s refl)
 flows n me d m p L16 s =
-    either (Flows n d m p L16) (all_true (map (agree p) (places_to n))) _ _ (λ b. on n me d m p p L16 L21 s refl) (λ b. on n me d m p p L16 L17 s refl)
-flows n me d m p L17 s = on n me d m p _ L17 L18 s refl
+    either (Flows n d m p L16) (all_true (map (agree p) (places_to n))) _ _ (λ b. on n me d m p _ L16 _ s refl) (λ b. on n me d m p _ L16 _ s refl)
+flows n me d m p L17 s = on n me d m p _ L17 _ s refl
 flows n me d m p L18 s =
     whether (Flows n d m p L18) (first_to d m p) (first_true 1 (map (at_limit p) (places_to n)))
-    (λ e. on n me d m p p L18 L19 s refl) (λ k e. on n me d m p _ L18 L23 s refl)
-flows n me d m p L19 s = on n me d m p p L19 L12 s refl
-flows n me d m p L21 s = on n me d m p _ L21 L22 s refl
+    (λ e. on n me d m p _ L18 _ s refl) (λ k e. on n me d m p _ L18 _ s refl)
+flows n me d m p L19 s = on n me d m p _ L19 _ s refl
+flows n me d m p L21 s = on n me d m p _ L21 _ s refl
 flows n me Scanning m p L22 s = (inl refl, refl)
 flows n me (Embedded word value) m p L22 s = (refl, refl, inr (refl, inl refl, refl))
 flows n me (Updating word value) m p L22 s = absurd s
-flows n me d m p L23 s = on n me d m p _ L23 L24 s refl
+flows n me d m p L23 s = on n me d m p _ L23 _ s refl
 flows n me Scanning m p L24 s = (inr refl, refl)
 flows n me (Embedded word value) m p L24 s = (refl, refl, inr (refl, inr refl, refl))
 flows n me (Updating word value) m p L24 s = absurd s

@@ -1,5 +1,5 @@
 -- Each line of listing U does its move.
-use Rattle.std.specs.Prelude.{◌≡◌, ℕ, ◌+◌, ◌-◌, ◌^◌, ◌<◌, ◌≤◌, max, Bool, true, false, [], map, Option, Some, None, Result, Ok, nat_eq, nat_lt, if◌then◌else◌, slice_set, refl}
+use Rattle.std.specs.Prelude.{◌≡◌, ℕ, ◌+◌, ◌-◌, ◌^◌, ◌<◌, ◌≤◌, max, Bool, true, false, map, Option, Some, None, Result, Ok, nat_eq, nat_lt, if◌then◌else◌, slice_set, refl}
 use Rattle.std.proofs.Common.{arith}
 use Rattle.snap_words.specs.Shape.{Counts, IsOneOf}
 use Rattle.snap_semantics.specs.Source.{instr_at, following}
@@ -11,14 +11,14 @@ use Rattle.snap_semantics.specs.declared.process.Activity.{Activity}
 use Rattle.snap_semantics.specs.declared.process.Cause.{Cause}
 use Rattle.snap_semantics.specs.declared.process.Cause.TheVariants.{Owner}
 use Rattle.snap_semantics.specs.declared.process.Op.{Op}
-use Rattle.snap_runs.proofs.Algorithm.{Task, Scanning, Embedded, Updating, op_of, link_of, value_of, To, shown}
+use Rattle.snap_runs.proofs.Algorithm.{Task, Scanning, Embedded, Updating, op_of, link_of, To, shown}
 use Rattle.snap_runs.proofs.Computing.{same_number}
 use Rattle.snap_runs.proofs.Held.{word_at}
 use Rattle.snap_runs.proofs.Places.{bind_ok, place_ok, each_ok, sum_ok, owned_ok}
 use Rattle.snap_single.specs.ListingU as u
 use Rattle.snap_single.specs.ListingU.{listing_u}
 use Rattle.snap_single.specs.Promises.{square}
-use Rattle.snap_single.proofs.Algorithm.{Words, Move, Variables, ProgramCounter, L10, L11, L12, L13, L14, L15, L16, L17, L18, L19, L21, L22, L23, L24, L30, L31, L32, L33, number, back, real, locals_of, compared, agree, limit, moved_at, counted, at_limit, move, first_to, algorithm, IsLineOf}
+use Rattle.snap_single.proofs.Algorithm.{Words, Move, Variables, ProgramCounter, L10, L11, L12, L13, L14, L15, L16, L17, L18, L19, L21, L22, L23, L24, L30, L31, L32, L33, number, back, real, locals_of, compared, agree, limit, moved_at, counted, at_limit, borrows, first_to, word_put, move, algorithm, IsLineOf}
 
 -- what a line needs so that it does not trap
 abbrev pub Needs : ℕ → ℕ → Variables → ProgramCounter → Type 0
@@ -40,7 +40,8 @@ activity op link line = record { op = op; line = line; link = link }
 abbrev pub at_line : Counts → ℕ → Op → Words → Option ℕ → ℕ → Variables → Result Effect Cause
 at_line shape me op m link line p = effect_at listing_u (context_of shape me op p) (real m) (activity op link line) (instr_at listing_u.lines line)
 
-shown_if : (n : ℕ) (m : Words) (t : Bool) (x y : Move) → (if t then shown (algorithm n) m x else shown (algorithm n) m y) ≡ shown (algorithm n) m (if t then x else y)
+shown_if : (n : ℕ) (m : Words) (t : Bool) (x y : Move) →
+    (if t then shown (algorithm n) m x else shown (algorithm n) m y) ≡ shown (algorithm n) m (if t then x else y)
 shown_if n m true x y = refl
 shown_if n m false x y = refl
 
@@ -52,17 +53,19 @@ in_range n k low high = (omega arith, omega arith)
 abbrev pub at_k : ℕ → ℕ → Task → Variables → ℕ → Context
 at_k n me d p k = at_place (context_of (square n) me (op_of d) p) k
 
-compared_a : (n me : ℕ) (d : Task) (p : Variables) (k : ℕ) → IsOneOf (max n n) k → term_value (at_k n me d p k) u.seq_a ≡ Ok (compared (word_at p.a k))
+compared_a : (n me : ℕ) (d : Task) (p : Variables) (k : ℕ) → IsOneOf (max n n) k →
+    term_value (at_k n me d p k) u.seq_a ≡ Ok (compared (word_at p.a k))
 compared_a n me d p k h = bind_ok _ _ _ _ (place_ok (max n n) k h) refl
 
-compared_b : (n me : ℕ) (d : Task) (p : Variables) (k : ℕ) → IsOneOf (max n n) k → term_value (at_k n me d p k) u.seq_b ≡ Ok (compared (word_at p.b k))
+compared_b : (n me : ℕ) (d : Task) (p : Variables) (k : ℕ) → IsOneOf (max n n) k →
+    term_value (at_k n me d p k) u.seq_b ≡ Ok (compared (word_at p.b k))
 compared_b n me d p k h = bind_ok _ _ _ _ (place_ok (max n n) k h) refl
 
 row_moved : (n me : ℕ) (d : Task) (p : Variables) (k : ℕ) → IsOneOf (max n n) k → term_value (at_k n me d p k) (Row u.moved Place) ≡ Ok (moved_at p k)
 row_moved n me d p k h = bind_ok _ _ _ _ (place_ok (max n n) k h) refl
 
 first_shown : (n : ℕ) (d : Task) (m : Words) (p : Variables) (o : Option ℕ) →
-    first_goes listing_u (activity (op_of d) (link_of (number back) d) 18) (real m) (locals_of p) u.j 23 o ≡ shown (algorithm n) m (first_to d m p o)
+    first_goes listing_u (activity (op_of d) (link_of (number back) d) 18) (real m) (locals_of p) u.j (number borrows) o ≡ shown (algorithm n) m (first_to d m p o)
 first_shown n d m p None = refl
 first_shown n d m p (Some k) = refl
 
@@ -108,8 +111,8 @@ each_line n me Scanning m p L32 s h = absurd s
 each_line n me (Embedded word value) m p L32 s h = absurd s
 each_line n me (Updating word value) m p L32 s h =
     bind_ok _ _ _ _ (place_ok n me h)
-    (owned_ok (nat_eq me me) (record { datum = value_of (Updating word value); seq = p.c; id = 0; toggle = 0; hands = []; view = p.s }) Owner
-    (λ y. on (following listing_u.lines 32) (Goes (real (slice_set m (me - 1) y)) (locals_of p) None)) (same_number me))
+    (owned_ok (nat_eq me me) (word_put (Updating word value) p) Owner
+    (λ y. on (following listing_u.lines (number L32)) (Goes (real (slice_set m (me - 1) y)) (locals_of p) None)) (same_number me))
 each_line n me Scanning m p L33 s h = absurd s
 each_line n me (Embedded word value) m p L33 s h = absurd s
 each_line n me (Updating word value) m p L33 s h = refl

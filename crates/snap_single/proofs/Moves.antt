@@ -1,5 +1,5 @@
 -- The moves that a scan of U sees are writes since its previous double collect.
-use Rattle.std.specs.Prelude.{◌≡◌, ℕ, zero, suc, ◌+◌, ◌-◌, ◌<◌, ◌≤◌, Bool, true, false, not, List, [], length, Option, slice_set, if◌then◌else◌, refl}
+use Rattle.std.specs.Prelude.{◌≡◌, ℕ, zero, suc, ◌+◌, ◌-◌, ◌<◌, ◌≤◌, Bool, true, false, not, List, length, Option, slice_set, if◌then◌else◌, refl}
 use Rattle.std.proofs.Common.{sym, ◌∙◌, ap, subst, arith, inl, inr}
 use Rattle.std.proofs.lemmas.Bool.{cases_eq}
 use Rattle.std.proofs.lemmas.List.{get_or-set_other}
@@ -15,7 +15,7 @@ use Rattle.snap_runs.specs.Run.{Fits, state, item}
 use Rattle.snap_runs.specs.Scan.{Scan, steps, ends_double_collect, double_collects}
 use Rattle.snap_runs.specs.Update.{is_at, executes}
 use Rattle.snap_runs.specs.Promises.{row_place, ObservedMove, RecentWrite}
-use Rattle.snap_runs.proofs.Algorithm.{Task, value_of, At, typed_at, by_step, changed, item_at, happens, status_of, stepped_auxiliary}
+use Rattle.snap_runs.proofs.Algorithm.{Task, At, typed_at, by_step, changed, item_at, happens, status_of, stepped_auxiliary}
 use Rattle.snap_runs.proofs.Computing.{both, differs}
 use Rattle.snap_runs.proofs.Embedding as embed
 use Rattle.snap_runs.proofs.Held.{word_at, seq_at, before_seq}
@@ -23,12 +23,12 @@ use Rattle.snap_runs.proofs.Places.{for_each_at}
 use Rattle.snap_runs.proofs.ScanSpan as span
 use Rattle.snap_single.specs.ListingU as u
 use Rattle.snap_single.specs.Promises.{run_of, MovesAreWrites}
-use Rattle.snap_single.proofs.Algorithm.{Words, Control, Process, State, Variables, L17, L18, L32, agree, moved_at, counted, algorithm}
+use Rattle.snap_single.proofs.Algorithm.{Words, Control, Process, State, Variables, L17, L18, L32, agree, moved_at, counted, word_put, algorithm}
 use Rattle.snap_single.proofs.Collect.{Second, Between}
 use Rattle.snap_single.proofs.Count.{Count, counted_row}
 use Rattle.snap_single.proofs.Flows.{line_listed}
 use Rattle.snap_single.proofs.Invariant.{CountAt}
-use Rattle.snap_single.proofs.Runs.{state_at, words_at, process_after, one_at, own, all_do, lawful, goes, stage_of, words_change}
+use Rattle.snap_single.proofs.Runs.{state_at, words_at, process_after, one_at, invariant_of, all_do, lawful, goes, stage_of, words_change}
 use Rattle.snap_single.proofs.Stage.{copies_grow}
 use Rattle.snap_single.proofs.Updates.{step_of, busy_at, write_executes}
 
@@ -46,7 +46,7 @@ module _ (n : ℕ) (items : List Item) (fits : Fits (run_of n items)) where
       seq_at (words_at n items (suc v)) j ≡ seq_at (words_at n items v) j
   other_word v i j d h one other is at32 =
       let his_one : IsOneOf n i = subst (λ y. IsOneOf n (who y)) is (one_at n items fits v h) in
-      let word : Word = record { datum = value_of d; seq = (at v i).variables.c; id = 0; toggle = 0; hands = []; view = (at v i).variables.s } in
+      let word : Word = word_put d (at v i).variables in
       let memory_is : words_at n items (suc v) ≡ slice_set (words_at n items v) (i - 1) word =
       ap (λ (y : Item). (happens (algorithm n) (suc v) (state_at n items v) y).memory) is
       ∙ ap (λ (p : Control). (changed (state_at n items v) i (by_step (algorithm n) (suc v) (words_at n items v) i (at v i) p)).memory) at32 in
@@ -71,7 +71,8 @@ module _ (n : ℕ) (items : List Item) (fits : Fits (run_of n items)) where
         ]
       ]
     where
-      earlier : (x : ℕ) × (u < x) × (x ≤ v) × (executes (run_of n items) j 32 x ≡ true) → (x : ℕ) × (u < x) × (x ≤ suc v) × (executes (run_of n items) j 32 x ≡ true)
+      earlier : (x : ℕ) × (u < x) × (x ≤ v) × (executes (run_of n items) j 32 x ≡ true) →
+          (x : ℕ) × (u < x) × (x ≤ suc v) × (executes (run_of n items) j 32 x ≡ true)
       earlier w = (w.0, w.1, omega arith, w.3)
 
   -- line 17 counts the places where the copies differ
@@ -80,16 +81,20 @@ module _ (n : ℕ) (items : List Item) (fits : Fits (run_of n items)) where
   row_after t i d one is at17 =
       let x = state_at n items t in
       let q = at t i in
-      let q' : Process = record { control = At d L18; variables = counted_row n q.variables; auxiliary = stepped_auxiliary (algorithm n) L17 (suc t) q.auxiliary } in
+      let q' : Process =
+      record { control = At d L18; variables = counted_row n q.variables; auxiliary = stepped_auxiliary (algorithm n) L17 (suc t) q.auxiliary } in
       let state_becomes : state_at n items (suc t) ≡ changed x i (by_step (algorithm n) (suc t) x.memory i q (At d L17)) =
       ap (happens (algorithm n) (suc t) x) is ∙ ap (λ (p : Control). changed x i (by_step (algorithm n) (suc t) x.memory i q p)) at17 in
       ap (λ (y : State). (typed_at (algorithm n) y i).variables) state_becomes
       ∙ ap (λ (y : Process). y.variables) (embed.own_process (algorithm n) x i x.memory q' Stepped (embed.count (algorithm n) items t) one)
 
-  row_is : (t i j : ℕ) → IsOneOf n i → t ≤ length items → row_place (process_at (state (run_of n items) t) i).locals u.moved j ≡ moved_at (at t i).variables j
-  row_is t i j one short = ap (λ (p : NamedProcess). row_place p.locals u.moved j) (embed.process_at_is (algorithm n) items fits (all_do n items fits) t i short one)
+  row_is : (t i j : ℕ) → IsOneOf n i → t ≤ length items →
+      row_place (process_at (state (run_of n items) t) i).locals u.moved j ≡ moved_at (at t i).variables j
+  row_is t i j one short =
+      ap (λ (p : NamedProcess). row_place p.locals u.moved j) (embed.process_at_is (algorithm n) items fits (all_do n items fits) t i short one)
 
-  pub move_is_write : (i j : ℕ) (link : Option ℕ) (c t : ℕ) → Scan (run_of n items) i link c (suc t) → c ≤ t → ObservedMove (run_of n items) 17 u.moved i j (suc t) →
+  pub move_is_write : (i j : ℕ) (link : Option ℕ) (c t : ℕ) → Scan (run_of n items) i link c (suc t) → c ≤ t →
+      ObservedMove (run_of n items) 17 u.moved i j (suc t) →
       RecentWrite (run_of n items) 32 i j c (suc t)
   move_is_write i j link c t scan le move =
       let r = run_of n items in
@@ -98,7 +103,8 @@ module _ (n : ℕ) (items : List Item) (fits : Fits (run_of n items)) where
       let parts = both (steps i (item r (suc t))) (is_at 17 (process_at (state r t) i).status) move.executed in
       let is : item_at items t ≡ Step i = step_of i (item_at items t) parts.0 in
       let stands : is_at 17 (status_of (algorithm n) (at t i).control) ≡ true =
-      sym (ap (λ (p : NamedProcess). is_at 17 p.status) (embed.process_at_is (algorithm n) items fits (all_do n items fits) t i (omega arith) one)) ∙ parts.1 in
+      sym (ap (λ (p : NamedProcess). is_at 17 p.status) (embed.process_at_is (algorithm n) items fits (all_do n items fits) t i (omega arith) one))
+      ∙ parts.1 in
       let busy = busy_at n 17 L17 (at t i).control refl stands in
       let g = goes n items fits i one link c (suc t) t scan le (omega arith) in
       let p = (at t i).variables in
@@ -119,12 +125,13 @@ module _ (n : ℕ) (items : List Item) (fits : Fits (run_of n items)) where
       let write = grew j move.process round t g.round_before (omega arith) (omega arith) in
       let after : c ≤ round = g.round_after in
       let counts : Count n p (at t i).auxiliary.own (at t i).auxiliary.collects (at t i).auxiliary.tested L17 =
-      subst (λ (y : Control). CountAt n p (at t i).auxiliary.own (at t i).auxiliary.collects (at t i).auxiliary.tested y) busy.1 (own n items fits t i (omega arith) one).counts in
+      subst (λ (y : Control). CountAt n p (at t i).auxiliary.own (at t i).auxiliary.collects (at t i).auxiliary.tested y) busy.1 (invariant_of n items fits t i (omega arith) one).counts in
       let few : (at t i).auxiliary.tested ≤ 1 = counts.3 in
       let tested : (at t i).auxiliary.tested ≡ double_collects r i round t = g.tested in
       let last : double_collects r i round (suc t) ≤ double_collects r i round t + 0 =
       span.last_collects (algorithm n) (λ k. (line_listed k).tested) items fits (all_do n items fits) (lawful n items fits) i one round t busy.0 L17 g.round_before (omega arith) busy.1 in
-      let fewer : double_collects r i write.0 (suc t) ≤ double_collects r i round (suc t) = span.count_later (ends_double_collect r i) round write.0 (suc t) (omega arith) in
+      let fewer : double_collects r i write.0 (suc t) ≤ double_collects r i round (suc t) =
+      span.count_later (ends_double_collect r i) round write.0 (suc t) (omega arith) in
       record {
         item = write.0;
         after_start = omega arith;

@@ -20,10 +20,10 @@ use Rattle.snap_runs.proofs.Held.{seq_at}
 use Rattle.snap_single.specs.Promises.{square}
 use Rattle.snap_single.proofs.Algorithm.{number, written, Words, Move, Control, Process, State, Variables, ProgramCounter, L10, L16, L30, L32, move, IsLineOf, lines, tests, restarts, writes, algorithm}
 use Rattle.snap_single.proofs.Collect.{Low, floor}
-use Rattle.snap_single.proofs.Control.{BelowLimit, Keeps, MoveWell, ControlWell, move_well, called_well}
+use Rattle.snap_single.proofs.Control.{BelowLimit, VariablesAt, MoveWell, ControlWell, move_well, called_well}
 use Rattle.snap_single.proofs.Count.{Count, CountMove, count_move, moves, moves_less}
 use Rattle.snap_single.proofs.Flows.{Making, HasWritten, in_scan, flows, line_listed, at_number}
-use Rattle.snap_single.proofs.Invariant.{Own, Inv, StageAt, CountAt, pending, inv_later, put_inv, write_inv}
+use Rattle.snap_single.proofs.Invariant.{ProcessInvariant, Invariant, StageAt, CountAt, pending, time_passes, process_changes, line_32_writes}
 use Rattle.snap_single.proofs.Stage.{Stage, StageMove, stage_move, Sized, SizedMove, sized_move}
 
 -- process i
@@ -31,14 +31,16 @@ abbrev pub at : ℕ → State → ℕ → Process
 at n x i = typed_at (algorithm n) x i
 
 -- no process sees itself move, so the test at line 16 comes after fewer than n moves
-unmoved : (n i : ℕ) (base m : Words) (p : Variables) → IsOneOf n i → Low n base m p.moved → BelowLimit n p → seq_at base i ≡ seq_at m i → moves n p < n
+unmoved : (n i : ℕ) (base m : Words) (p : Variables) → IsOneOf n i → Low n base m p.moved → BelowLimit n p → seq_at base i ≡ seq_at m i →
+    moves n p < n
 unmoved n i base m p one low below self =
     moves_less n i p one (let l : floor base p.moved i ≤ seq_at m i = low i one in omega arith) below
 
-pub few_moves : (n me : ℕ) (history : ℕ → Words) (t since round : ℕ) (m : Words) (d : Task) (p : Variables) (k : ProgramCounter) → IsOneOf n me → IsLineOf me d k → Keeps n p k →
+pub few_moves : (n me : ℕ) (history : ℕ → Words) (t since round : ℕ) (m : Words) (d : Task) (p : Variables) (k : ProgramCounter) → IsOneOf n me →
+    IsLineOf me d k → VariablesAt n p k →
     (IsInScan d → seq_at (history since) me ≡ seq_at m me) → Stage n history t since round m p k → k ≡ L16 → moves n p < n
 few_moves n me history t since round m d p k one line keeps self stage e =
-    unmoved n me (history since) m p one (subst (Stage n history t since round m p) e stage).0 (subst (Keeps n p) e keeps).1
+    unmoved n me (history since) m p one (subst (Stage n history t since round m p) e stage).0 (subst (VariablesAt n p) e keeps).1
     (self (in_scan me d (subst (IsLineOf me d) e line)))
 
 writes_le : (k : ProgramCounter) → writes k ≤ 1
@@ -52,7 +54,8 @@ pub at_least_now : (history : ℕ → Words) (words : Words) (t : ℕ) → histo
 at_least_now history words t now k = let e : seq_at (history t) k ≡ seq_at words k = ap (λ w. seq_at w k) now in omega arith
 
 -- before a line that keeps the words, c is the sequence number of the process's word
-is_seq : (n t : ℕ) (history : ℕ → Words) (x : State) (i : ℕ) (d : Task) (k : ProgramCounter) → IsOneOf n i → Inv n t history x → (at n x i).control ≡ At d k → writes k ≡ 0 →
+is_seq : (n t : ℕ) (history : ℕ → Words) (x : State) (i : ℕ) (d : Task) (k : ProgramCounter) → IsOneOf n i → Invariant n t history x →
+    (at n x i).control ≡ At d k → writes k ≡ 0 →
     (at n x i).variables.c ≡ seq_at x.memory i + 0
 is_seq n t history x i d k one h is quiet =
     (h.each i one).seq ∙ ap (λ (y : Control). seq_at x.memory i + pending y) is ∙ ap (λ y. seq_at x.memory i + y) quiet
@@ -65,8 +68,10 @@ opened_next n history words true t round now h k i = at_most_now history words t
 opened_next n history words false t round now h k i = h k i
 
 -- a process whose operation has ended
-idle_own : (n t : ℕ) (history : ℕ → Words) (words : Words) (i : ℕ) (q : Process) (k : ProgramCounter) → q.variables.c ≡ seq_at words i + 0 → history t ≡ words → q.variables.c < t →
-    Own n t history words i q → Own n t history words i (record { control = Idle; variables = q.variables; auxiliary = stepped_auxiliary (algorithm n) k t q.auxiliary })
+idle_own : (n t : ℕ) (history : ℕ → Words) (words : Words) (i : ℕ) (q : Process) (k : ProgramCounter) → q.variables.c ≡ seq_at words i + 0 →
+    history t ≡ words → q.variables.c < t →
+    ProcessInvariant n t history words i q →
+    ProcessInvariant n t history words i (record { control = Idle; variables = q.variables; auxiliary = stepped_auxiliary (algorithm n) k t q.auxiliary })
 idle_own n t history words i q k seq now c own = record {
   well = tt;
   length_a = own.length_a;
@@ -84,7 +89,7 @@ idle_own n t history words i q k seq now c own = record {
 }
 
 -- what the move v of a process at line k owes; t is the item's number
-record Owes (n t : ℕ) (history : ℕ → Words) (x : State) (i : ℕ) (d : Task) (k : ProgramCounter) (v : Move) : Type 0 where
+record MoveOwes (n t : ℕ) (history : ℕ → Words) (x : State) (i : ℕ) (d : Task) (k : ProgramCounter) (v : Move) : Type 0 where
   pub words : flow.KeepsMemory lines x.memory v
   pub well : MoveWell (op_of d) n i v
   pub stage : StageMove n history t (at n x i).auxiliary.since (if restarts k then t else (at n x i).auxiliary.round) v
@@ -96,17 +101,18 @@ record Owes (n t : ℕ) (history : ℕ → Words) (x : State) (i : ℕ) (d : Tas
   pub wrote : flow.CountsWrites lines ((at n x i).auxiliary.wrote + writes k) v
 
 -- a line that keeps the words
-quiet_inv : (n t : ℕ) (history : ℕ → Words) (x : State) (i : ℕ) (d : Task) (k : ProgramCounter) (v : Move) →
-    length x.processes ≡ n → IsOneOf n i → history t ≡ x.memory → Inv n t history x → (at n x i).control ≡ At d k → (at n x i).variables.c < t → writes k ≡ 0 →
-    Owes n t history x i d k v → Inv n t history (changed x i (by_move (algorithm n) t x.memory (at n x i) k v))
-quiet_inv n t history x i d k (To d' m' p k') count one now h is c quiet owes =
+line_keeps : (n t : ℕ) (history : ℕ → Words) (x : State) (i : ℕ) (d : Task) (k : ProgramCounter) (v : Move) →
+    length x.processes ≡ n → IsOneOf n i → history t ≡ x.memory → Invariant n t history x → (at n x i).control ≡ At d k → (at n x i).variables.c < t →
+    writes k ≡ 0 →
+    MoveOwes n t history x i d k v → Invariant n t history (changed x i (by_move (algorithm n) t x.memory (at n x i) k v))
+line_keeps n t history x i d k (To d' m' p k') count one now h is c quiet owes =
     let q = at n x i in
-    let own : Own n t history x.memory i q = h.each i one in
+    let own : ProcessInvariant n t history x.memory i q = h.each i one in
     let q' : Process = record { control = At d' k'; variables = p; auxiliary = stepped_auxiliary (algorithm n) k t q.auxiliary } in
     let seq_q : q.variables.c ≡ seq_at x.memory i + writes k = own.seq ∙ ap (λ (y : Control). seq_at x.memory i + pending y) is in
     let sized : Sized n (seq_at x.memory i) p k' = owes.sized in
-    subst (λ w. Inv n t history (changed x i (New w q' Stepped))) (sym owes.words)
-    (put_inv n t history x i q' Stepped count one now h
+    subst (λ w. Invariant n t history (changed x i (New w q' Stepped))) (sym owes.words)
+    (process_changes n t history x i q' Stepped count one now h
     (record {
       well = (owes.well.0, owes.well.1);
       length_a = sized.0;
@@ -123,12 +129,12 @@ quiet_inv n t history x i d k (To d' m' p k') count one now h is c quiet owes =
       wrote = owes.wrote;
     })
     (λ m. inr (subst Making (sym is) (owes.making m), refl)) (inr refl))
-quiet_inv n t history x i d k (Begin d' p k') count one now h is c quiet owes =
+line_keeps n t history x i d k (Begin d' p k') count one now h is c quiet owes =
     let q = at n x i in
-    let own : Own n t history x.memory i q = h.each i one in
+    let own : ProcessInvariant n t history x.memory i q = h.each i one in
     let seq_q : q.variables.c ≡ seq_at x.memory i + writes k = own.seq ∙ ap (λ (y : Control). seq_at x.memory i + pending y) is in
     let sized : Sized n (seq_at x.memory i) p k' = owes.sized in
-    put_inv n t history x i (record { control = At d' k'; variables = p; auxiliary = begun_auxiliary (algorithm n) k t q.auxiliary }) Stepped count one now h
+    process_changes n t history x i (record { control = At d' k'; variables = p; auxiliary = begun_auxiliary (algorithm n) k t q.auxiliary }) Stepped count one now h
     (record {
       well = (owes.well.0, owes.well.1);
       length_a = sized.0;
@@ -145,24 +151,24 @@ quiet_inv n t history x i d k (Begin d' p k') count one now h is c quiet owes =
       wrote = owes.wrote;
     })
     (λ m. inl refl) (inl refl)
-quiet_inv n t history x i d k (Answer v) count one now h is c quiet owes =
+line_keeps n t history x i d k (Answer v) count one now h is c quiet owes =
     let q = at n x i in
-    put_inv n t history x i (record { control = Idle; variables = q.variables; auxiliary = stepped_auxiliary (algorithm n) k t q.auxiliary }) (Answered v) count one now h
+    process_changes n t history x i (record { control = Idle; variables = q.variables; auxiliary = stepped_auxiliary (algorithm n) k t q.auxiliary }) (Answered v) count one now h
     (idle_own n t history x.memory i q k (is_seq n t history x i d k one h is quiet) now c (h.each i one)) (λ m. absurd m) (inr refl)
-quiet_inv n t history x i d k Finish count one now h is c quiet owes =
+line_keeps n t history x i d k Finish count one now h is c quiet owes =
     let q = at n x i in
-    put_inv n t history x i (record { control = Idle; variables = q.variables; auxiliary = stepped_auxiliary (algorithm n) k t q.auxiliary }) Finished count one now h
+    process_changes n t history x i (record { control = Idle; variables = q.variables; auxiliary = stepped_auxiliary (algorithm n) k t q.auxiliary }) Finished count one now h
     (idle_own n t history x.memory i q k (is_seq n t history x i d k one h is quiet) now c (h.each i one)) (λ m. absurd m) (inr refl)
 
-call_inv : (n t : ℕ) (history : ℕ → Words) (x : State) (i : ℕ) (op : Op) (o : Option Reason) → call_skip kind.Seq (square n) i op ≡ o →
-    length x.processes ≡ n → IsOneOf n i → Inv n t history x → (at n x i).control ≡ Idle →
+admission_keeps : (n t : ℕ) (history : ℕ → Words) (x : State) (i : ℕ) (op : Op) (o : Option Reason) → call_skip kind.Seq (square n) i op ≡ o →
+    length x.processes ≡ n → IsOneOf n i → Invariant n t history x → (at n x i).control ≡ Idle →
     history t ≡ (changed x i (by_admission (algorithm n) t x.memory (at n x i) op o)).memory →
-    Inv n t history (changed x i (by_admission (algorithm n) t x.memory (at n x i) op o))
-call_inv n t history x i op (Some why) e count one h is now = h
-call_inv n t history x i Scan None e count one h is now =
+    Invariant n t history (changed x i (by_admission (algorithm n) t x.memory (at n x i) op o))
+admission_keeps n t history x i op (Some why) e count one h is now = h
+admission_keeps n t history x i Scan None e count one h is now =
     let q = at n x i in
-    let own : Own n t history x.memory i q = h.each i one in
-    put_inv n t history x i (record { control = At Scanning L10; variables = q.variables; auxiliary = called_auxiliary t Scan q.auxiliary }) Called count one now h
+    let own : ProcessInvariant n t history x.memory i q = h.each i one in
+    process_changes n t history x i (record { control = At Scanning L10; variables = q.variables; auxiliary = called_auxiliary t Scan q.auxiliary }) Called count one now h
     (record {
       well = called_well n i q.variables Scan e;
       length_a = own.length_a;
@@ -179,10 +185,10 @@ call_inv n t history x i Scan None e count one h is now =
       wrote = tt;
     })
     (λ m. absurd m) (inl refl)
-call_inv n t history x i (Update word value) None e count one h is now =
+admission_keeps n t history x i (Update word value) None e count one h is now =
     let q = at n x i in
-    let own : Own n t history x.memory i q = h.each i one in
-    put_inv n t history x i (record { control = At (Updating word value) L30; variables = q.variables; auxiliary = called_auxiliary t (Update word value) q.auxiliary }) Called count one now h
+    let own : ProcessInvariant n t history x.memory i q = h.each i one in
+    process_changes n t history x i (record { control = At (Updating word value) L30; variables = q.variables; auxiliary = called_auxiliary t (Update word value) q.auxiliary }) Called count one now h
     (record {
       well = called_well n i q.variables (Update word value) e;
       length_a = own.length_a;
@@ -200,12 +206,12 @@ call_inv n t history x i (Update word value) None e count one h is now =
     })
     (λ m. absurd m) (inr refl)
 
-pub keeps_then : (n t : ℕ) (x : State) (i : ℕ) (k : ProgramCounter) (v : Move) → flow.KeepsMemory lines x.memory v →
+pub words_then : (n t : ℕ) (x : State) (i : ℕ) (k : ProgramCounter) (v : Move) → flow.KeepsMemory lines x.memory v →
     (changed x i (by_move (algorithm n) t x.memory (at n x i) k v)).memory ≡ x.memory
-keeps_then n t x i k (To d m p k') h = h
-keeps_then n t x i k (Begin d p k') h = refl
-keeps_then n t x i k (Answer v) h = refl
-keeps_then n t x i k Finish h = refl
+words_then n t x i k (To d m p k') h = h
+words_then n t x i k (Begin d p k') h = refl
+words_then n t x i k (Answer v) h = refl
+words_then n t x i k Finish h = refl
 
 -- a line writes, or it is no line 32
 is_32_or_quiet : (k : ProgramCounter) → (k ≡ L32) ⊎ (writes k ≡ 0)
@@ -215,23 +221,24 @@ is_32_or_quiet k =
       | inr other ↦ inr (sym (line_listed k).wrote ∙ ap (λ b. if b then 1 else 0) (other_number (number k) 32 other))
     ]
 
-line32_inv : (n t : ℕ) (history : ℕ → Words) (x : State) (i : ℕ) (d : Task) → length x.processes ≡ n → IsOneOf n i → Inv n t history x →
-    (at n x i).control ≡ At d L32 → Inv n (suc t) history (changed x i (by_step (algorithm n) (suc t) x.memory i (at n x i) (At d L32)))
-line32_inv n t history x i d count one h is =
+line_32_keeps : (n t : ℕ) (history : ℕ → Words) (x : State) (i : ℕ) (d : Task) → length x.processes ≡ n → IsOneOf n i → Invariant n t history x →
+    (at n x i).control ≡ At d L32 → Invariant n (suc t) history (changed x i (by_step (algorithm n) (suc t) x.memory i (at n x i) (At d L32)))
+line_32_keeps n t history x i d count one h is =
     let well : ControlWell n i (at n x i).variables (At d L32) = subst (ControlWell n i (at n x i).variables) is (h.each i one).well in
-    write_inv n t history x i d _ Stepped count one h is well.0 refl
+    line_32_writes n t history x i d _ Stepped count one h is well.0 refl
 
 -- one step of a process
-step_inv : (n t : ℕ) (history : ℕ → Words) (x : State) (i : ℕ) (control : Control) → ((u : ℕ) → u ≤ t → length (history u) ≡ n) → length x.processes ≡ n → IsOneOf n i →
-    Inv n t history x → (at n x i).control ≡ control →
+step_keeps : (n t : ℕ) (history : ℕ → Words) (x : State) (i : ℕ) (control : Control) → ((u : ℕ) → u ≤ t → length (history u) ≡ n) →
+    length x.processes ≡ n → IsOneOf n i →
+    Invariant n t history x → (at n x i).control ≡ control →
     history (suc t) ≡ (changed x i (by_step (algorithm n) (suc t) x.memory i (at n x i) control)).memory →
-    Inv n (suc t) history (changed x i (by_step (algorithm n) (suc t) x.memory i (at n x i) control))
-step_inv n t history x i Idle lengths count one h is now = inv_later n t history x h
-step_inv n t history x i (At d k) lengths count one h is now =
+    Invariant n (suc t) history (changed x i (by_step (algorithm n) (suc t) x.memory i (at n x i) control))
+step_keeps n t history x i Idle lengths count one h is now = time_passes n t history x h
+step_keeps n t history x i (At d k) lengths count one h is now =
     let q = at n x i in
     let words = x.memory in
-    let later : Inv n (suc t) history x = inv_later n t history x h in
-    let own : Own n (suc t) history words i q = later.each i one in
+    let later : Invariant n (suc t) history x = time_passes n t history x h in
+    let own : ProcessInvariant n (suc t) history words i q = later.each i one in
     let well : ControlWell n i q.variables (At d k) = subst (ControlWell n i q.variables) is own.well in
     let stage : Stage n history (suc t) q.auxiliary.since q.auxiliary.round words q.variables k =
     subst (λ (p : Control). StageAt n history (suc t) q.auxiliary.since q.auxiliary.round words q.variables p) is own.stage in
@@ -239,11 +246,11 @@ step_inv n t history x i (At d k) lengths count one h is now =
     let fresh : q.variables.c ≤ t = (h.each i one).fresh in
     let passes = flows n i d words q.variables k well.0 in
     elim (is_32_or_quiet k) [
-      | inl e ↦ subst (λ y. Inv n (suc t) history (changed x i (by_step (algorithm n) (suc t) words i q (At d y)))) (sym e)
-          (line32_inv n t history x i d count one h (is ∙ ap (λ y. At d y) e))
+      | inl e ↦ subst (λ y. Invariant n (suc t) history (changed x i (by_step (algorithm n) (suc t) words i q (At d y)))) (sym e)
+          (line_32_keeps n t history x i d count one h (is ∙ ap (λ y. At d y) e))
       | inr zeroed ↦ elim (flow.keeps_memory lines (algorithm n) d words q.variables k (move n i d words q.variables k) passes) [
-        | inl keeps ↦ (let same : history (suc t) ≡ words = now ∙ keeps_then n (suc t) x i k (move n i d words q.variables k) keeps in
-            quiet_inv n (suc t) history x i d k (move n i d words q.variables k) count one same later is (omega arith) zeroed
+        | inl keeps ↦ (let same : history (suc t) ≡ words = now ∙ words_then n (suc t) x i k (move n i d words q.variables k) keeps in
+            line_keeps n (suc t) history x i d k (move n i d words q.variables k) count one same later is (omega arith) zeroed
             (record {
               words = keeps;
               well = move_well n i d words q.variables k one well.0 well.1;
@@ -261,7 +268,8 @@ step_inv n t history x i (At d k) lengths count one h is now =
                     keeps = well.1;
                   })
                   stage;
-              sized = subst (λ s. SizedMove n s (move n i d words q.variables k)) (let z : seq_at words i + writes k ≡ seq_at words i = omega arith in z)
+              sized =
+                  subst (λ s. SizedMove n s (move n i d words q.variables k)) (let z : seq_at words i + writes k ≡ seq_at words i = omega arith in z)
                   (sized_move n i (seq_at words i) d words q.variables k well.0 (own.length_a, own.length_b, seq));
               making = flow.makes_no_more lines (algorithm n) d words q.variables k (move n i d words q.variables k) passes;
               scan = flow.keeps_out lines (algorithm n) d words q.variables k (move n i d words q.variables k) passes;
@@ -271,20 +279,22 @@ step_inv n t history x i (At d k) lengths count one h is now =
                   (subst (λ (y : Control). CountAt n q.variables q.auxiliary.own q.auxiliary.collects q.auxiliary.tested y) is own.counts);
               wrote = flow.counts_writes lines (algorithm n) d words q.variables k (move n i d words q.variables k) q.auxiliary.wrote passes (subst (λ (y : Control). HasWritten y q.auxiliary.wrote) is own.wrote);
             }))
-        | inr e ↦ subst (λ y. Inv n (suc t) history (changed x i (by_step (algorithm n) (suc t) words i q (At d y)))) (sym e)
-            (line32_inv n t history x i d count one h (is ∙ ap (λ y. At d y) e))
+        | inr e ↦ subst (λ y. Invariant n (suc t) history (changed x i (by_step (algorithm n) (suc t) words i q (At d y)))) (sym e)
+            (line_32_keeps n t history x i d count one h (is ∙ ap (λ y. At d y) e))
       ]
     ]
 
-asked_inv : (n t : ℕ) (history : ℕ → Words) (x : State) (i : ℕ) (op : Op) (control : Control) → length x.processes ≡ n → IsOneOf n i →
-    Inv n t history x → (at n x i).control ≡ control →
+call_keeps : (n t : ℕ) (history : ℕ → Words) (x : State) (i : ℕ) (op : Op) (control : Control) → length x.processes ≡ n → IsOneOf n i →
+    Invariant n t history x → (at n x i).control ≡ control →
     history (suc t) ≡ (changed x i (by_call (algorithm n) (suc t) x.memory i op (at n x i) control)).memory →
-    Inv n (suc t) history (changed x i (by_call (algorithm n) (suc t) x.memory i op (at n x i) control))
-asked_inv n t history x i op Idle count one h is now =
-    call_inv n (suc t) history x i op (call_skip kind.Seq (square n) i op) refl count one (inv_later n t history x h) is now
-asked_inv n t history x i op (At d k) count one h is now = inv_later n t history x h
+    Invariant n (suc t) history (changed x i (by_call (algorithm n) (suc t) x.memory i op (at n x i) control))
+call_keeps n t history x i op Idle count one h is now =
+    admission_keeps n (suc t) history x i op (call_skip kind.Seq (square n) i op) refl count one (time_passes n t history x h) is now
+call_keeps n t history x i op (At d k) count one h is now = time_passes n t history x h
 
-pub happens_inv : (n t : ℕ) (history : ℕ → Words) (x : State) (y : Item) → ((u : ℕ) → u ≤ t → length (history u) ≡ n) → length x.processes ≡ n → IsOneOf n (who y) →
-    Inv n t history x → history (suc t) ≡ (happens (algorithm n) (suc t) x y).memory → Inv n (suc t) history (happens (algorithm n) (suc t) x y)
-happens_inv n t history x (Step i) lengths count one h now = step_inv n t history x i (at n x i).control lengths count one h refl now
-happens_inv n t history x (Call i op) lengths count one h now = asked_inv n t history x i op (at n x i).control count one h refl now
+pub item_keeps : (n t : ℕ) (history : ℕ → Words) (x : State) (y : Item) → ((u : ℕ) → u ≤ t → length (history u) ≡ n) → length x.processes ≡ n →
+    IsOneOf n (who y) →
+    Invariant n t history x → history (suc t) ≡ (happens (algorithm n) (suc t) x y).memory →
+    Invariant n (suc t) history (happens (algorithm n) (suc t) x y)
+item_keeps n t history x (Step i) lengths count one h now = step_keeps n t history x i (at n x i).control lengths count one h refl now
+item_keeps n t history x (Call i op) lengths count one h now = call_keeps n t history x i op (at n x i).control count one h refl now

@@ -25,8 +25,8 @@ use Rattle.snap_single.specs.Promises.{square, run_of, NeverTraps}
 use Rattle.snap_single.proofs.Algorithm.{Words, Control, Process, State, Variables, ProgramCounter, L32, move, first_word, lines, algorithm}
 use Rattle.snap_single.proofs.Control.{ControlWell, does}
 use Rattle.snap_single.proofs.Flows.{flows, listed}
-use Rattle.snap_single.proofs.Invariant.{Own, Inv, Pair, StageAt}
-use Rattle.snap_single.proofs.Preserve.{at_most_now, keeps_then, happens_inv}
+use Rattle.snap_single.proofs.Invariant.{ProcessInvariant, Invariant, PairInvariant, StageAt}
+use Rattle.snap_single.proofs.Preserve.{at_most_now, words_then, item_keeps}
 use Rattle.snap_single.proofs.Stage.{Stage}
 
 -- the state after t items, and its words
@@ -48,8 +48,9 @@ one_at n items fits t h = embed.all_index (λ y. IsOneOf n (who y)) items t (Ste
 zero_at : (n k : ℕ) → IsOneOf n k → word_at (replicate n (first_word n)) k ≡ first_word n
 zero_at n k h = get_or-replicate n (k - 1) (first_word n) no_word (omega arith)
 
-own0 : (n : ℕ) (history : ℕ → Words) (i : ℕ) → IsOneOf n i → history 0 ≡ replicate n (first_word n) → Own n 0 history (replicate n (first_word n)) i (first_process (algorithm n))
-own0 n history i h now =
+process_at_the_start : (n : ℕ) (history : ℕ → Words) (i : ℕ) → IsOneOf n i → history 0 ≡ replicate n (first_word n) →
+    ProcessInvariant n 0 history (replicate n (first_word n)) i (first_process (algorithm n))
+process_at_the_start n history i h now =
     let z : (k : ℕ) → IsOneOf n k → seq_at (replicate n (first_word n)) k ≡ 0 = λ k j. ap (λ (y : Word). y.seq) (zero_at n k j) in
     record {
       well = tt;
@@ -67,24 +68,25 @@ own0 n history i h now =
       wrote = tt;
     }
 
-inv0 : (n : ℕ) (history : ℕ → Words) → history 0 ≡ replicate n (first_word n) → Inv n 0 history (first_state (algorithm n))
-inv0 n history now =
-    let at : (i : ℕ) → IsOneOf n i → typed_at (algorithm n) (first_state (algorithm n)) i ≡ first_process (algorithm n) = λ i h. get_or-replicate n (i - 1) (first_process (algorithm n)) (first_process (algorithm n)) (omega arith) in
+at_the_start : (n : ℕ) (history : ℕ → Words) → history 0 ≡ replicate n (first_word n) → Invariant n 0 history (first_state (algorithm n))
+at_the_start n history now =
+    let at : (i : ℕ) → IsOneOf n i → typed_at (algorithm n) (first_state (algorithm n)) i ≡ first_process (algorithm n) =
+    λ i h. get_or-replicate n (i - 1) (first_process (algorithm n)) (first_process (algorithm n)) (omega arith) in
     record {
       size = length-replicate n (first_word n);
-      each = λ i h. subst (λ (q : Process). Own n 0 history (replicate n (first_word n)) i q) (sym (at i h)) (own0 n history i h now);
-      start = λ i k h j. subst (λ (q : Process). Pair history (replicate n (first_word n)) (typed_at (algorithm n) (first_state (algorithm n)) i) q k) (sym (at k j)) (λ making lt. absurd making);
+      each = λ i h. subst (λ (q : Process). ProcessInvariant n 0 history (replicate n (first_word n)) i q) (sym (at i h)) (process_at_the_start n history i h now);
+      start = λ i k h j. subst (λ (q : Process). PairInvariant history (replicate n (first_word n)) (typed_at (algorithm n) (first_state (algorithm n)) i) q k) (sym (at k j)) (λ making lt. absurd making);
     }
 
 -- the invariant at state t, and the number of words up to there
-inv_and_sizes : (n : ℕ) (items : List Item) → Fits (run_of n items) → (t : ℕ) → t ≤ length items →
-    Inv n t (words_at n items) (state_at n items t) × ((u : ℕ) → u ≤ t → length (words_at n items u) ≡ n)
-inv_and_sizes n items fits zero h =
-    (inv0 n (words_at n items) refl, λ u le. ap (λ y. length (words_at n items y)) (let z : u ≡ 0 = omega arith in z) ∙ length-replicate n (first_word n))
-inv_and_sizes n items fits (suc t) h =
-    let past = inv_and_sizes n items fits t (omega arith) in
-    let now : Inv n (suc t) (words_at n items) (state_at n items (suc t)) =
-    happens_inv n t (words_at n items) (state_at n items t) (item_at items t) past.1 (embed.count (algorithm n) items t) (one_at n items fits t (omega arith)) past.0 refl in (
+invariant_and_sizes : (n : ℕ) (items : List Item) → Fits (run_of n items) → (t : ℕ) → t ≤ length items →
+    Invariant n t (words_at n items) (state_at n items t) × ((u : ℕ) → u ≤ t → length (words_at n items u) ≡ n)
+invariant_and_sizes n items fits zero h =
+    (at_the_start n (words_at n items) refl, λ u le. ap (λ y. length (words_at n items y)) (let z : u ≡ 0 = omega arith in z) ∙ length-replicate n (first_word n))
+invariant_and_sizes n items fits (suc t) h =
+    let past = invariant_and_sizes n items fits t (omega arith) in
+    let now : Invariant n (suc t) (words_at n items) (state_at n items (suc t)) =
+    item_keeps n t (words_at n items) (state_at n items t) (item_at items t) past.1 (embed.count (algorithm n) items t) (one_at n items fits t (omega arith)) past.0 refl in (
       now,
       λ u le. elim (eq-or-lt_of_le le) [
         | inl last ↦ ap (λ y. length (words_at n items y)) last ∙ now.size
@@ -92,15 +94,17 @@ inv_and_sizes n items fits (suc t) h =
       ],
     )
 
-pub inv : (n : ℕ) (items : List Item) → Fits (run_of n items) → (t : ℕ) → t ≤ length items → Inv n t (words_at n items) (state_at n items t)
-inv n items fits t h = (inv_and_sizes n items fits t h).0
+pub invariant : (n : ℕ) (items : List Item) → Fits (run_of n items) → (t : ℕ) → t ≤ length items →
+    Invariant n t (words_at n items) (state_at n items t)
+invariant n items fits t h = (invariant_and_sizes n items fits t h).0
 
-pub own : (n : ℕ) (items : List Item) → Fits (run_of n items) → (t i : ℕ) → t ≤ length items → IsOneOf n i → Own n t (words_at n items) (words_at n items t) i (process_after n items t i)
-own n items fits t i h one = (inv n items fits t h).each i one
+pub invariant_of : (n : ℕ) (items : List Item) → Fits (run_of n items) → (t i : ℕ) → t ≤ length items → IsOneOf n i →
+    ProcessInvariant n t (words_at n items) (words_at n items t) i (process_after n items t i)
+invariant_of n items fits t i h one = (invariant n items fits t h).each i one
 
 pub all_do : (n : ℕ) (items : List Item) → Fits (run_of n items) → embed.AllDo (algorithm n) items
 all_do n items fits t i h one =
-    let o = own n items fits t i (omega arith) one in
+    let o = invariant_of n items fits t i (omega arith) one in
     let few : length items ≤ 1000000 = fits.few in
     does n t i (words_at n items t) (process_after n items t i).variables (process_after n items t i).control one o.fresh (omega arith) o.well
 
@@ -118,15 +122,18 @@ flows_at n i m p Idle h = tt
 flows_at n i m p (At d k) h = flows n i d m p k h.0
 
 pub all_flow : (n : ℕ) (items : List Item) → Fits (run_of n items) → scans.AllFlow (algorithm n) lines items
-all_flow n items fits t i h one = flows_at n i (words_at n items t) (process_after n items t i).variables (process_after n items t i).control (own n items fits t i (omega arith) one).well
+all_flow n items fits t i h one =
+    flows_at n i (words_at n items t) (process_after n items t i).variables (process_after n items t i).control (invariant_of n items fits t i (omega arith) one).well
 
 -- at state t the scan that process i started at item c goes on
 abbrev pub Goes : (n : ℕ) (items : List Item) → Fits (run_of n items) → (i : ℕ) → IsOneOf n i → Option ℕ → ℕ → ℕ → Type 0
 Goes n items fits i one link c t = scans.Goes (algorithm n) lines (listed n) items fits (all_do n items fits) (all_flow n items fits) i one link c t
 
-pub goes : (n : ℕ) (items : List Item) (fits : Fits (run_of n items)) (i : ℕ) (one : IsOneOf n i) (link : Option ℕ) (c e t : ℕ) → Scan (run_of n items) i link c e → c ≤ t → t < e →
+pub goes : (n : ℕ) (items : List Item) (fits : Fits (run_of n items)) (i : ℕ) (one : IsOneOf n i) (link : Option ℕ) (c e t : ℕ) →
+    Scan (run_of n items) i link c e → c ≤ t → t < e →
     Goes n items fits i one link c t
-goes n items fits i one link c e t scan le lt = scans.goes (algorithm n) lines (listed n) items fits (all_do n items fits) (all_flow n items fits) i one link c e t scan le lt
+goes n items fits i one link c e t scan le lt =
+    scans.goes (algorithm n) lines (listed n) items fits (all_do n items fits) (all_flow n items fits) i one link c e t scan le lt
 
 pub lawful : (n : ℕ) (items : List Item) → Fits (run_of n items) → (t i : ℕ) → t < length items → IsOneOf n i →
     span.LawfulAt (algorithm n) i (words_at n items t) (process_after n items t i).variables (process_after n items t i).control
@@ -138,34 +145,39 @@ pub stage_of : (n : ℕ) (items : List Item) → Fits (run_of n items) → (t i 
     Stage n (words_at n items) t (process_after n items t i).auxiliary.since (process_after n items t i).auxiliary.round (words_at n items t) (process_after n items t i).variables k
 stage_of n items fits t i d k le one e =
     let q = process_after n items t i in
-    subst (λ (p : Control). StageAt n (words_at n items) t q.auxiliary.since q.auxiliary.round (words_at n items t) q.variables p) e (own n items fits t i le one).stage
+    subst (λ (p : Control). StageAt n (words_at n items) t q.auxiliary.since q.auxiliary.round (words_at n items t) q.variables p) e (invariant_of n items fits t i le one).stage
 
 -- an item changes the words only at line 32
 abbrev pub Writes : ℕ → State → Item → Type 0
 Writes n x y = (i : ℕ) × (d : Task) × (y ≡ Step i) × ((typed_at (algorithm n) x i).control ≡ At d L32)
 
-step_same : (n t : ℕ) (x : State) (i : ℕ) (control : Control) → (typed_at (algorithm n) x i).control ≡ control → ControlWell n i (typed_at (algorithm n) x i).variables control →
+step_writes : (n t : ℕ) (x : State) (i : ℕ) (control : Control) → (typed_at (algorithm n) x i).control ≡ control →
+    ControlWell n i (typed_at (algorithm n) x i).variables control →
     ((changed x i (by_step (algorithm n) t x.memory i (typed_at (algorithm n) x i) control)).memory ≡ x.memory) ⊎ Writes n x (Step i)
-step_same n t x i Idle is well = inl refl
-step_same n t x i (At d k) is well =
+step_writes n t x i Idle is well = inl refl
+step_writes n t x i (At d k) is well =
     let p = (typed_at (algorithm n) x i).variables in
     elim (flow.keeps_memory lines (algorithm n) d x.memory p k (move n i d x.memory p k) (flows n i d x.memory p k well.0)) [
-      | inl keeps ↦ inl (keeps_then n t x i k (move n i d x.memory p k) keeps)
+      | inl keeps ↦ inl (words_then n t x i k (move n i d x.memory p k) keeps)
       | inr e ↦ inr (i, d, refl, is ∙ ap (λ y. At d y) e)
     ]
 
-admit_same : (n t : ℕ) (x : State) (i : ℕ) (op : Op) (o : Option Reason) → (changed x i (by_admission (algorithm n) t x.memory (typed_at (algorithm n) x i) op o)).memory ≡ x.memory
-admit_same n t x i op (Some why) = refl
-admit_same n t x i op None = refl
+admission_keeps_words : (n t : ℕ) (x : State) (i : ℕ) (op : Op) (o : Option Reason) →
+    (changed x i (by_admission (algorithm n) t x.memory (typed_at (algorithm n) x i) op o)).memory ≡ x.memory
+admission_keeps_words n t x i op (Some why) = refl
+admission_keeps_words n t x i op None = refl
 
-call_same : (n t : ℕ) (x : State) (i : ℕ) (op : Op) (control : Control) → (changed x i (by_call (algorithm n) t x.memory i op (typed_at (algorithm n) x i) control)).memory ≡ x.memory
-call_same n t x i op Idle = admit_same n t x i op (call_skip kind.Seq (square n) i op)
-call_same n t x i op (At d k) = refl
+call_keeps_words : (n t : ℕ) (x : State) (i : ℕ) (op : Op) (control : Control) →
+    (changed x i (by_call (algorithm n) t x.memory i op (typed_at (algorithm n) x i) control)).memory ≡ x.memory
+call_keeps_words n t x i op Idle = admission_keeps_words n t x i op (call_skip kind.Seq (square n) i op)
+call_keeps_words n t x i op (At d k) = refl
 
-happens_same : (n t : ℕ) (history : ℕ → Words) (x : State) (y : Item) → IsOneOf n (who y) → Inv n t history x → ((happens (algorithm n) (suc t) x y).memory ≡ x.memory) ⊎ Writes n x y
-happens_same n t history x (Step i) one h = step_same n (suc t) x i (typed_at (algorithm n) x i).control refl (h.each i one).well
-happens_same n t history x (Call i op) one h = inl (call_same n (suc t) x i op (typed_at (algorithm n) x i).control)
+item_writes : (n t : ℕ) (history : ℕ → Words) (x : State) (y : Item) → IsOneOf n (who y) → Invariant n t history x →
+    ((happens (algorithm n) (suc t) x y).memory ≡ x.memory) ⊎ Writes n x y
+item_writes n t history x (Step i) one h = step_writes n (suc t) x i (typed_at (algorithm n) x i).control refl (h.each i one).well
+item_writes n t history x (Call i op) one h = inl (call_keeps_words n (suc t) x i op (typed_at (algorithm n) x i).control)
 
 pub words_change : (n : ℕ) (items : List Item) → Fits (run_of n items) → (t : ℕ) → t < length items →
     (words_at n items (suc t) ≡ words_at n items t) ⊎ Writes n (state_at n items t) (item_at items t)
-words_change n items fits t h = happens_same n t (words_at n items) (state_at n items t) (item_at items t) (one_at n items fits t h) (inv n items fits t (omega arith))
+words_change n items fits t h =
+    item_writes n t (words_at n items) (state_at n items t) (item_at items t) (one_at n items fits t h) (invariant n items fits t (omega arith))

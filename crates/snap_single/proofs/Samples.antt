@@ -62,7 +62,8 @@ undisturbed_point = (1, omega arith, omega arith, refl)
 -- Process 2 updates twice while process 1 scans: both double collects fail, and the scan borrows the view that the second
 -- update has put beside its value.
 abbrev pub scan_borrows : List Item
-scan_borrows = Call 1 ScanOp ∷ (times 6 1 ++ (Call 2 (Update 2 5) ∷ (times 17 2 ++ (times 8 1 ++ (times 4 1 ++ (Call 2 (Update 2 6) ∷ (times 17 2 ++ times 9 1)))))))
+scan_borrows =
+    Call 1 ScanOp ∷ (times 6 1 ++ (Call 2 (Update 2 5) ∷ (times 17 2 ++ (times 8 1 ++ (times 4 1 ++ (Call 2 (Update 2 6) ∷ (times 17 2 ++ times 9 1)))))))
 
 borrows_values : (values (state (run_of 2 scan_borrows) 23) ≡ 0 ∷ 0 ∷ []) × (values (state (run_of 2 scan_borrows) 24) ≡ 0 ∷ 5 ∷ [])
     × (values (state (run_of 2 scan_borrows) 53) ≡ 0 ∷ 5 ∷ []) × (values (state (run_of 2 scan_borrows) 54) ≡ 0 ∷ 6 ∷ [])

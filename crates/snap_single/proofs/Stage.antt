@@ -10,7 +10,7 @@ use Rattle.snap_runs.proofs.Places.{for_each_at, first_found}
 use Rattle.snap_words.specs.Shape.{IsOneOf}
 use Rattle.snap_single.proofs.Algorithm.{Words, Move, Variables, ProgramCounter, L10, L11, L12, L13, L14, L15, L16, L17, L18, L19, L21, L22, L23, L24, L30, L31, L32, L33, move, first_to, agree, limit, moved_at, counted, at_limit, IsLineOf, restarts, writes}
 use Rattle.snap_single.proofs.Collect.{floor, Low, First, Viewed, Second, Between, Gained, first_more, second_starts, second_more, passed, gained_at}
-use Rattle.snap_single.proofs.Control.{Keeps}
+use Rattle.snap_single.proofs.Control.{VariablesAt}
 
 -- At each line a scan has come so far.
 abbrev pub Stage : ℕ → (ℕ → Words) → ℕ → ℕ → ℕ → Words → Variables → ProgramCounter → Type 0
@@ -51,10 +51,11 @@ pub record Known (n me : ℕ) (history : ℕ → Words) (t since round : ℕ) (w
   pub opened : (k : ℕ) → IsOneOf n k → seq_at (history round) k ≤ seq_at words k
   pub views : Viewed n history t since words
   pub line : IsLineOf me d k
-  pub keeps : Keeps n p k
+  pub keeps : VariablesAt n p k
 
 -- between the collects a process has written no less than the first copy says, and no more than the second one
-pub copies_grow : (n : ℕ) (history : ℕ → Words) (t since round : ℕ) (words : Words) (p : Variables) → Between n history t since round words p.moved p.a p.b (n + 1) →
+pub copies_grow : (n : ℕ) (history : ℕ → Words) (t since round : ℕ) (words : Words) (p : Variables) →
+    Between n history t since round words p.moved p.a p.b (n + 1) →
     (k : ℕ) → IsOneOf n k → seq_at p.a k ≤ seq_at p.b k
 copies_grow n history t since round words p h k i =
     let s : Second n history t since round words p.moved p.a p.b (n + 1) (history h.0) = h.3 in
@@ -141,7 +142,8 @@ first_kept n base opening words words' moved a j g h k i lt = record {
   before = before_trans (word_at a k) (word_at words k) (word_at words' k) (h k i lt).before (g k i);
 }
 
-pub between_kept : (n : ℕ) (history : ℕ → Words) (t t' since round : ℕ) (words words' : Words) (moved : List ℕ) (a b : Words) (j : ℕ) → t ≤ t' → Grows n words words' →
+pub between_kept : (n : ℕ) (history : ℕ → Words) (t t' since round : ℕ) (words words' : Words) (moved : List ℕ) (a b : Words) (j : ℕ) → t ≤ t' →
+    Grows n words words' →
     Between n history t since round words moved a b j → Between n history t' since round words' moved a b j
 between_kept n history t t' since round words words' moved a b j le g h =
     let s : Second n history t since round words moved a b j (history h.0) = h.3 in (
@@ -164,16 +166,23 @@ gained_kept n history t t' since words words' moved b le g h = record {
   views = λ k i more. held_wider history t t' since since (word_at b k).view le (omega arith) (h.views k i more);
 }
 
-pub stage_kept : (n : ℕ) (history : ℕ → Words) (t t' since round : ℕ) (words words' : Words) (p : Variables) (k : ProgramCounter) → t ≤ t' → Grows n words words' →
+pub stage_kept : (n : ℕ) (history : ℕ → Words) (t t' since round : ℕ) (words words' : Words) (p : Variables) (k : ProgramCounter) → t ≤ t' →
+    Grows n words words' →
     Stage n history t since round words p k → Stage n history t' since round words' p k
 stage_kept n history t t' since round words words' p L10 le g h = tt
 stage_kept n history t t' since round words words' p L11 le g h = low_kept n (history since) words words' p.moved g h
-stage_kept n history t t' since round words words' p L12 le g h = (low_kept n (history since) words words' p.moved g h.0, first_kept n (history since) (history round) words words' p.moved p.a p.j g h.1)
-stage_kept n history t t' since round words words' p L13 le g h = (low_kept n (history since) words words' p.moved g h.0, first_kept n (history since) (history round) words words' p.moved p.a (p.j + 1) g h.1)
-stage_kept n history t t' since round words words' p L14 le g h = (low_kept n (history since) words words' p.moved g h.0, between_kept n history t t' since round words words' p.moved p.a p.b p.j le g h.1)
-stage_kept n history t t' since round words words' p L15 le g h = (low_kept n (history since) words words' p.moved g h.0, between_kept n history t t' since round words words' p.moved p.a p.b (p.j + 1) le g h.1)
-stage_kept n history t t' since round words words' p L16 le g h = (low_kept n (history since) words words' p.moved g h.0, between_kept n history t t' since round words words' p.moved p.a p.b (n + 1) le g h.1)
-stage_kept n history t t' since round words words' p L17 le g h = (low_kept n (history since) words words' p.moved g h.0, between_kept n history t t' since round words words' p.moved p.a p.b (n + 1) le g h.1)
+stage_kept n history t t' since round words words' p L12 le g h =
+    (low_kept n (history since) words words' p.moved g h.0, first_kept n (history since) (history round) words words' p.moved p.a p.j g h.1)
+stage_kept n history t t' since round words words' p L13 le g h =
+    (low_kept n (history since) words words' p.moved g h.0, first_kept n (history since) (history round) words words' p.moved p.a (p.j + 1) g h.1)
+stage_kept n history t t' since round words words' p L14 le g h =
+    (low_kept n (history since) words words' p.moved g h.0, between_kept n history t t' since round words words' p.moved p.a p.b p.j le g h.1)
+stage_kept n history t t' since round words words' p L15 le g h =
+    (low_kept n (history since) words words' p.moved g h.0, between_kept n history t t' since round words words' p.moved p.a p.b (p.j + 1) le g h.1)
+stage_kept n history t t' since round words words' p L16 le g h =
+    (low_kept n (history since) words words' p.moved g h.0, between_kept n history t t' since round words words' p.moved p.a p.b (n + 1) le g h.1)
+stage_kept n history t t' since round words words' p L17 le g h =
+    (low_kept n (history since) words words' p.moved g h.0, between_kept n history t t' since round words words' p.moved p.a p.b (n + 1) le g h.1)
 stage_kept n history t t' since round words words' p L18 le g h = gained_kept n history t t' since words words' p.moved p.b le g h
 stage_kept n history t t' since round words words' p L19 le g h = low_kept n (history since) words words' p.moved g h
 stage_kept n history t t' since round words words' p L21 le g h = held_wider history t t' since since (data_of (take n p.b)) le (omega arith) h
@@ -195,16 +204,19 @@ SizedMove n s (Begin d p k) = Sized n s p k
 SizedMove n s (Answer v) = Unit {0}
 SizedMove n s Finish = Unit {0}
 
-pub sized_move : (n me s : ℕ) (d : Task) (m : Words) (p : Variables) (k : ProgramCounter) → IsLineOf me d k → Sized n s p k → SizedMove n (s + writes k) (move n me d m p k)
+pub sized_move : (n me s : ℕ) (d : Task) (m : Words) (p : Variables) (k : ProgramCounter) → IsLineOf me d k → Sized n s p k →
+    SizedMove n (s + writes k) (move n me d m p k)
 sized_move n me s d m p L10 doable h = (h.0, h.1, omega arith)
 sized_move n me s d m p L11 doable h = (h.0, h.1, omega arith)
 sized_move n me s d m p L12 doable h = (length-set p.a (p.j - 1) (word_at m p.j) ∙ h.0, h.1, omega arith)
 sized_move n me s d m p L13 doable h = either (SizedMove n (s + 0)) (nat_lt p.j n) _ _ (λ b. (h.0, h.1, omega arith)) (λ b. (h.0, h.1, omega arith))
 sized_move n me s d m p L14 doable h = (h.0, length-set p.b (p.j - 1) (word_at m p.j) ∙ h.1, omega arith)
 sized_move n me s d m p L15 doable h = either (SizedMove n (s + 0)) (nat_lt p.j n) _ _ (λ b. (h.0, h.1, omega arith)) (λ b. (h.0, h.1, omega arith))
-sized_move n me s d m p L16 doable h = either (SizedMove n (s + 0)) (all_true (map (agree p) (places_to n))) _ _ (λ b. (h.0, h.1, omega arith)) (λ b. (h.0, h.1, omega arith))
+sized_move n me s d m p L16 doable h =
+    either (SizedMove n (s + 0)) (all_true (map (agree p) (places_to n))) _ _ (λ b. (h.0, h.1, omega arith)) (λ b. (h.0, h.1, omega arith))
 sized_move n me s d m p L17 doable h = (h.0, h.1, omega arith)
-sized_move n me s d m p L18 doable h = whether (SizedMove n (s + 0)) (first_to d m p) (first_true 1 (map (at_limit p) (places_to n))) (λ e. (h.0, h.1, omega arith)) (λ k e. (h.0, h.1, omega arith))
+sized_move n me s d m p L18 doable h =
+    whether (SizedMove n (s + 0)) (first_to d m p) (first_true 1 (map (at_limit p) (places_to n))) (λ e. (h.0, h.1, omega arith)) (λ k e. (h.0, h.1, omega arith))
 sized_move n me s d m p L19 doable h = (h.0, h.1, omega arith)
 sized_move n me s d m p L21 doable h = (h.0, h.1, omega arith)
 sized_move n me s Scanning m p L22 doable h = tt

@@ -1,4 +1,4 @@
--- The processes of B by its own lines and locals.
+-- Listing B in its own words: its lines, its variables, and what each line does.
 use Rattle.std.specs.Prelude.{◌≡◌, ℕ, ◌+◌, ◌-◌, ◌⊎◌, max, Bool, true, false, not, ◌&&◌, List, [], ◌∷◌, take, map, Option, Some, None, nat_eq, nat_lt, if◌then◌else◌, slice_index, slice_set, replicate, refl}
 use Rattle.std.proofs.Common.{ap}
 use Rattle.snap_words.specs.Kind.{initial_word}
@@ -18,6 +18,7 @@ use Rattle.snap_bounded.specs.ListingB as listing
 use Rattle.snap_bounded.specs.ListingB.{listing_b}
 use Rattle.snap_bounded.specs.Promises.{square}
 
+-- the line at which a process stands
 pub data ProgramCounter : Type 0 where
   L10 : ProgramCounter
   L11 : ProgramCounter
@@ -175,21 +176,25 @@ embed_to Scanning m p = Finish
 embed_to (Embedded word value) m p = Finish
 embed_to (Updating word value) m p = Begin (Embedded word value) p L10
 
+-- the line that borrows a view
+abbrev pub borrows : ProgramCounter
+borrows = L27
+
 -- line 22
 abbrev pub first_to : Task → Registers → Variables → Option ℕ → Move
 first_to d m p None = To d m p L23
-first_to d m p (Some k) = To d m (record p { j = k }) L27
+first_to d m p (Some k) = To d m (record p { j = k }) borrows
 
 -- the word that line 46 writes
-abbrev pub new_word : ℕ → ℕ → Task → Registers → Variables → Word
-new_word n me d m p = record { datum = value_of d; seq = seq_at m.words me + 1; id = 0; toggle = p.t; hands = take n p.f; view = p.s }
+abbrev pub word_put : ℕ → ℕ → Task → Registers → Variables → Word
+word_put n me d m p = record { datum = value_of d; seq = seq_at m.words me + 1; id = 0; toggle = p.t; hands = take n p.f; view = p.s }
 
 -- the registers after lines 14 and 46
 abbrev pub with_put : ℕ → Registers → Variables → Registers
 with_put me m p = record { words = m.words; q = with_bit_at m.q (me - 1) (p.j - 1) (place p.g p.j) }
 
 abbrev pub with_written : ℕ → ℕ → Task → Registers → Variables → Registers
-with_written n me d m p = record { words = slice_set m.words (me - 1) (new_word n me d m p); q = m.q }
+with_written n me d m p = record { words = slice_set m.words (me - 1) (word_put n me d m p); q = m.q }
 
 -- what each line does to process `me` of n
 abbrev pub move : ℕ → ℕ → Task → Registers → Variables → ProgramCounter → Move

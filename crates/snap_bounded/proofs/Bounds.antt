@@ -17,7 +17,7 @@ use Rattle.snap_bounded.proofs.Count.{Count, InScanLine, collects_le, own_le}
 use Rattle.snap_bounded.proofs.Flows.{line_listed}
 use Rattle.snap_bounded.proofs.Invariant.{CountAt}
 use Rattle.snap_bounded.proofs.Preserve.{few_moves}
-use Rattle.snap_bounded.proofs.Runs.{words_at, process_after, own, all_do, lawful, Goes, goes, stage_of}
+use Rattle.snap_bounded.proofs.Runs.{words_at, process_after, invariant_of, all_do, lawful, Goes, goes, stage_of}
 
 -- a scan is at one of its lines
 not_update : (me : ℕ) (d : Task) → IsInScan d → IsUpdate me d → ⊥
@@ -58,7 +58,7 @@ module _ (n : ℕ) (items : List Item) (fits : Fits (run_of n items)) where
       (double_collects (run_of n items) i c t + tests g.counter ≤ n) × (own_steps (run_of n items) i c t + 1 ≤ 8 * (n * n) + 12 * n + 7)
   limits link i c t one le g =
       let q = process_after n items t i in
-      let o = own n items fits t i le one in
+      let o = invariant_of n items fits t i le one in
       let w : ControlWell n i q.variables (At g.task g.counter) = subst (ControlWell n i q.variables) g.control o.well in
       let stage = stage_of n items fits t i g.task g.counter le one g.control in
       let counts : Count n i q.variables q.auxiliary.own q.auxiliary.collects q.auxiliary.tested g.counter = subst (λ (p : Control). CountAt n i q.variables q.auxiliary.own q.auxiliary.collects q.auxiliary.tested p) g.control o.counts in

@@ -35,30 +35,30 @@ abbrev pub Sized : ℕ → Variables → Type 0
 Sized n p = (length p.a ≡ max n n) × (length p.b ≡ max n n) × (length p.g ≡ max n n) × (length p.f ≡ max n n) × (length p.marks ≡ max n n)
 
 -- At each line j is a place, the moves are within the limit, and what will be put is a bit, where the line asks for it.
-abbrev pub Keeps : ℕ → ℕ → Variables → ProgramCounter → Type 0
-Keeps n me p L11 = BelowLimit n p
-Keeps n me p L12 = IsOneOf n p.j × BelowLimit n p
-Keeps n me p L13 = IsOneOf n p.j × BelowLimit n p × (hand_at (word_at p.a p.j) me ≤ 1)
-Keeps n me p L14 = IsOneOf n p.j × BelowLimit n p × (place p.g p.j ≤ 1)
-Keeps n me p L15 = IsOneOf n p.j × BelowLimit n p
-Keeps n me p L16 = IsOneOf n p.j × BelowLimit n p
-Keeps n me p L17 = IsOneOf n p.j × BelowLimit n p
-Keeps n me p L18 = IsOneOf n p.j × BelowLimit n p
-Keeps n me p L19 = IsOneOf n p.j × BelowLimit n p
-Keeps n me p L20 = (p.j ≡ 1) × BelowLimit n p
-Keeps n me p L21 = (p.j ≡ 1) × BelowLimit n p
-Keeps n me p L22 = (p.j ≡ 1) × WithinLimit n p
-Keeps n me p L23 = (p.j ≡ 1) × BelowLimit n p
-Keeps n me p L27 = IsOneOf n p.j
-Keeps n me p L41 = IsOneOf n p.j
-Keeps n me p L42 = IsOneOf n p.j
-Keeps n me p L43 = IsOneOf n p.j
-Keeps n me p L46 = p.t ≤ 1
-Keeps n me p _ = Unit {0}
+abbrev pub VariablesAt : ℕ → ℕ → Variables → ProgramCounter → Type 0
+VariablesAt n me p L11 = BelowLimit n p
+VariablesAt n me p L12 = IsOneOf n p.j × BelowLimit n p
+VariablesAt n me p L13 = IsOneOf n p.j × BelowLimit n p × (hand_at (word_at p.a p.j) me ≤ 1)
+VariablesAt n me p L14 = IsOneOf n p.j × BelowLimit n p × (place p.g p.j ≤ 1)
+VariablesAt n me p L15 = IsOneOf n p.j × BelowLimit n p
+VariablesAt n me p L16 = IsOneOf n p.j × BelowLimit n p
+VariablesAt n me p L17 = IsOneOf n p.j × BelowLimit n p
+VariablesAt n me p L18 = IsOneOf n p.j × BelowLimit n p
+VariablesAt n me p L19 = IsOneOf n p.j × BelowLimit n p
+VariablesAt n me p L20 = (p.j ≡ 1) × BelowLimit n p
+VariablesAt n me p L21 = (p.j ≡ 1) × BelowLimit n p
+VariablesAt n me p L22 = (p.j ≡ 1) × WithinLimit n p
+VariablesAt n me p L23 = (p.j ≡ 1) × BelowLimit n p
+VariablesAt n me p L27 = IsOneOf n p.j
+VariablesAt n me p L41 = IsOneOf n p.j
+VariablesAt n me p L42 = IsOneOf n p.j
+VariablesAt n me p L43 = IsOneOf n p.j
+VariablesAt n me p L46 = p.t ≤ 1
+VariablesAt n me p _ = Unit {0}
 
 abbrev pub MoveWell : Op → ℕ → ℕ → Move → Type 0
-MoveWell op n me (To d m p k) = IsLineOf me d k × Keeps n me p k × (op_of d ≡ op)
-MoveWell op n me (Begin d p k) = IsLineOf me d k × Keeps n me p k × (op_of d ≡ op)
+MoveWell op n me (To d m p k) = IsLineOf me d k × VariablesAt n me p k × (op_of d ≡ op)
+MoveWell op n me (Begin d p k) = IsLineOf me d k × VariablesAt n me p k × (op_of d ≡ op)
 MoveWell op n me (Answer v) = Unit {0}
 MoveWell op n me Finish = Unit {0}
 
@@ -80,7 +80,7 @@ put_place row j v pos le = get_or-set_at row (j - 1) (j - 1) v 0 refl (omega ari
 pub put_word : (ws : Words) (j : ℕ) (w : Word) → 0 < j → j ≤ length ws → word_at (slice_set ws (j - 1) w) j ≡ w
 put_word ws j w pos le = get_or-set_at ws (j - 1) (j - 1) w no_word refl (omega arith)
 
-pub move_well : (n me : ℕ) (d : Task) (m : Registers) (p : Variables) (k : ProgramCounter) → IsOneOf n me → BitWords n m.words → Sized n p → IsLineOf me d k → Keeps n me p k →
+pub move_well : (n me : ℕ) (d : Task) (m : Registers) (p : Variables) (k : ProgramCounter) → IsOneOf n me → BitWords n m.words → Sized n p → IsLineOf me d k → VariablesAt n me p k →
     MoveWell (op_of d) n me (move n me d m p k)
 move_well n me d m p L10 i bits sized s h = (s, λ k e. rw (for_each_at n (λ k. 0) p.moved k e) (omega arith), refl)
 move_well n me d m p L11 i bits sized s h = (s, ((omega arith, omega arith), h), refl)
@@ -128,7 +128,7 @@ move_well n me d m p L46 i bits sized s h = (s, tt, refl)
 move_well n me d m p L47 i bits sized s h = tt
 
 -- what a line needs is kept
-pub needs : (n me : ℕ) (p : Variables) (k : ProgramCounter) → Bits n p.f → Keeps n me p k → Needs n p k
+pub needs : (n me : ℕ) (p : Variables) (k : ProgramCounter) → Bits n p.f → VariablesAt n me p k → Needs n p k
 needs n me p L10 f h = tt
 needs n me p L11 f h = tt
 needs n me p L12 f h = h.0
@@ -167,7 +167,7 @@ own_word n i word value h = same_from word i (own_then (nat_lt 0 word && nat_le 
 
 abbrev pub ControlWell : ℕ → ℕ → Variables → Control → Type 0
 ControlWell n me p Idle = Unit {0}
-ControlWell n me p (At d k) = IsLineOf me d k × Keeps n me p k
+ControlWell n me p (At d k) = IsLineOf me d k × VariablesAt n me p k
 
 pub called_well : (n me : ℕ) (p : Variables) (op : Op) → call_skip kind.Bits (square n) me op ≡ None → ControlWell n me p (At (task_of op) (counter op))
 called_well n me p Scan e = (tt, tt)

@@ -9,7 +9,7 @@ use Rattle.snap_runs.proofs.Computing.{not_lt, either, whether}
 use Rattle.snap_runs.proofs.Places.{for_each, for_each_at, some_fails}
 use Rattle.snap_runs.proofs.Totals.{total, total_le, total_less, total_more}
 use Rattle.snap_bounded.proofs.Algorithm.{Registers, Move, Variables, ProgramCounter, L10, L11, L12, L13, L14, L15, L16, L17, L18, L19, L20, L21, L22, L23, L25, L26, L27, L28, L40, L41, L42, L43, L44, L45, L46, L47, move, first_to, agree, limit, moved_at, counted, at_limit, tests, restarts}
-use Rattle.snap_bounded.proofs.Control.{BelowLimit, Keeps}
+use Rattle.snap_bounded.proofs.Control.{BelowLimit, VariablesAt}
 
 -- the own steps of c failed double collects
 pub budget : ℕ → ℕ → ℕ
@@ -124,7 +124,7 @@ after_count n me p failed p' is =
 
 -- each line keeps the counts: c' and recent' are the double collects with its own
 pub count_move : (n me : ℕ) (d : Task) (m : Registers) (p : Variables) (k : ProgramCounter) (own c c' recent recent' : ℕ) → c' ≡ c + tests k →
-    recent' ≡ (if restarts k then 0 else recent + tests k) → Keeps n me p k → ((k ≡ L20) → moves n p < n) →
+    recent' ≡ (if restarts k then 0 else recent + tests k) → VariablesAt n me p k → ((k ≡ L20) → moves n p < n) →
     Count n me p own c recent k → CountMove n me (suc own) c' recent' (move n me d m p k)
 count_move n me d m p L10 own c c' recent recent' e f keeps sharp h = (omega arith, omega arith, omega arith)
 count_move n me d m p L11 own c c' recent recent' e f keeps sharp h =
@@ -189,7 +189,7 @@ InScanLine L47 = ⊥
 InScanLine _ = Unit {0}
 
 -- the bounds at each line of a scan
-pub collects_le : (n me : ℕ) (p : Variables) (k : ProgramCounter) (own c recent : ℕ) → 0 < n → Keeps n me p k → ((k ≡ L20) → moves n p < n) → Count n me p own c recent k → InScanLine k → c + tests k ≤ n
+pub collects_le : (n me : ℕ) (p : Variables) (k : ProgramCounter) (own c recent : ℕ) → 0 < n → VariablesAt n me p k → ((k ≡ L20) → moves n p < n) → Count n me p own c recent k → InScanLine k → c + tests k ≤ n
 collects_le n me p L10 own c recent pos keeps sharp h s = omega arith
 collects_le n me p L11 own c recent pos keeps sharp h s = omega arith
 collects_le n me p L12 own c recent pos keeps sharp h s = let t : moves n p ≤ n = moves_le n p keeps.1 in omega arith
@@ -220,7 +220,7 @@ collects_le n me p L47 own c recent pos keeps sharp h s = absurd s
 own_all : (n c own : ℕ) → c ≤ n → own ≤ budget n c + 8 * n → own + 1 ≤ 8 * (n * n) + 12 * n + 7
 own_all n c own le h = let b : budget n c ≤ 8 * (n * n) + 4 * n + 2 = budget_le n c le in omega arith
 
-pub own_le : (n me : ℕ) (p : Variables) (k : ProgramCounter) (own c recent : ℕ) → Keeps n me p k → Count n me p own c recent k → c ≤ n → InScanLine k → own + 1 ≤ 8 * (n * n) + 12 * n + 7
+pub own_le : (n me : ℕ) (p : Variables) (k : ProgramCounter) (own c recent : ℕ) → VariablesAt n me p k → Count n me p own c recent k → c ≤ n → InScanLine k → own + 1 ≤ 8 * (n * n) + 12 * n + 7
 own_le n me p L10 own c recent keeps h le s = omega arith
 own_le n me p L11 own c recent keeps h le s = omega arith
 own_le n me p L12 own c recent keeps h le s = own_all n c own le (omega arith)

@@ -10,7 +10,7 @@ use Rattle.snap_runs.proofs.Algorithm.{Task, Scanning, Embedded, Updating, To, B
 use Rattle.snap_runs.proofs.Computing.{not_lt, either, whether}
 use Rattle.snap_runs.proofs.Held.{seq_at}
 use Rattle.snap_bounded.proofs.Algorithm.{Registers, Move, Variables, ProgramCounter, L10, L11, L12, L13, L14, L15, L16, L17, L18, L19, L20, L21, L22, L23, L25, L26, L27, L28, L40, L41, L42, L43, L44, L45, L46, L47, move, first_to, return_to, place, bit_for, opposite, agree, at_limit, IsUpdate, IsLineOf}
-use Rattle.snap_bounded.proofs.Control.{Keeps, Sized}
+use Rattle.snap_bounded.proofs.Control.{VariablesAt, Sized}
 use Rattle.snap_bounded.proofs.Collect.{place_set, place_kept}
 use Rattle.snap_bounded.proofs.Stage.{reach, opposite_differs}
 
@@ -68,7 +68,7 @@ BitsMove n i m p r (Begin d p' k') = k' ≡ L10
 BitsMove n i m p r (Answer v) = Unit {0}
 BitsMove n i m p r Finish = Unit {0}
 
-pub bits_move : (n i : ℕ) (d : Task) (m : Registers) (p : Variables) (k : ProgramCounter) → IsOneOf n i → Square n m.q → Sized n p → IsLineOf i d k → Keeps n i p k →
+pub bits_move : (n i : ℕ) (d : Task) (m : Registers) (p : Variables) (k : ProgramCounter) → IsOneOf n i → Square n m.q → Sized n p → IsLineOf i d k → VariablesAt n i p k →
     BitsMove n i m p (reach n p k) (move n i d m p k)
 bits_move n i d m p L10 one square sized s h = λ k ik lt. absurd (omega arith)
 bits_move n i d m p L11 one square sized s h = λ k ik lt. absurd (omega arith)
@@ -205,7 +205,7 @@ all_said me said bit (Embedded word value) s h = h
 all_said me said bit (Updating word value) s h = h
 
 -- a process's lines keep what it will say, while the bit stands
-pub answers_move : (n me i bit : ℕ) (d : Task) (m : Registers) (p : Variables) (k : ProgramCounter) → IsOneOf n i → Sized n p → IsLineOf me d k → Keeps n me p k → bit_for m.q i me ≡ bit →
+pub answers_move : (n me i bit : ℕ) (d : Task) (m : Registers) (p : Variables) (k : ProgramCounter) → IsOneOf n i → Sized n p → IsLineOf me d k → VariablesAt n me p k → bit_for m.q i me ≡ bit →
     Answers i bit d p k → AnswersMove i bit (move n me d m p k)
 answers_move n me i bit d m p L10 one sized s keeps put h = h
 answers_move n me i bit d m p L11 one sized s keeps put h = h

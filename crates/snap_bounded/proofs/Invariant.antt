@@ -10,7 +10,7 @@ use Rattle.snap_runs.proofs.Algorithm.{Task, Scanning, Embedded, Updating, Idle,
 use Rattle.snap_runs.proofs.Embedding as embed
 use Rattle.snap_runs.proofs.Flow.{IsInScan, InScan}
 use Rattle.snap_runs.proofs.Held.{word_at, Held, held_wider, seq_at}
-use Rattle.snap_bounded.proofs.Algorithm.{Words, Registers, Change, Control, Process, State, Variables, L46, L47, place, hand_at, bit_for, new_word, with_written, IsUpdate, algorithm}
+use Rattle.snap_bounded.proofs.Algorithm.{Words, Registers, Change, Control, Process, State, Variables, L46, L47, place, hand_at, bit_for, word_put, with_written, IsUpdate, algorithm}
 use Rattle.snap_bounded.proofs.Control.{BitWords, Sized, ControlWell}
 use Rattle.snap_bounded.proofs.Lines.{Bits}
 use Rattle.snap_bounded.proofs.Follow.{Follows, follows_seq, Grows}
@@ -42,7 +42,7 @@ CountAt n i p own c recent Idle = Unit {0}
 CountAt n i p own c recent (At d k) = Count n i p own c recent k
 
 -- What holds of process i, at whichever line it stands, with these registers.
-pub record Own (n t : ℕ) (history : ℕ → Words) (m : Registers) (i : ℕ) (q : Process) : Type 0 where
+pub record ProcessInvariant (n t : ℕ) (history : ℕ → Words) (m : Registers) (i : ℕ) (q : Process) : Type 0 where
   -- it stands at a line of its task, with the variables that the line asks for
   pub well : ControlWell n i q.variables q.control
   -- its copies and rows have all places, and what it says to the others are bits
@@ -70,21 +70,21 @@ pub record Own (n t : ℕ) (history : ℕ → Words) (m : Registers) (i : ℕ) (
 
 -- A view that process v makes after its word, b, was written since u's last scan started, is made by a scan that started no
 -- earlier than u's.
-abbrev pub Pair : (ℕ → Words) → Words → Process → Process → ℕ → Type 0
-Pair history words u v b = Making v.control → seq_at (history u.auxiliary.since) b < seq_at words b → u.auxiliary.since ≤ v.auxiliary.since
+abbrev pub PairInvariant : (ℕ → Words) → Words → Process → Process → ℕ → Type 0
+PairInvariant history words u v b = Making v.control → seq_at (history u.auxiliary.since) b < seq_at words b → u.auxiliary.since ≤ v.auxiliary.since
 
 -- where process b has written since process i put its bit for b, b will say another bit to i in its next word
 abbrev pub Answered : ℕ → Words → ℕ → Process → ℕ → Process → Type 0
 Answered n words i u b v =
     b < reach_at n u.variables u.control → place u.variables.marks b < seq_at words b → AnswersAt i (place u.variables.g b) v.variables v.control
 
-pub record Inv (n t : ℕ) (history : ℕ → Words) (x : State) : Type 0 where
+pub record Invariant (n t : ℕ) (history : ℕ → Words) (x : State) : Type 0 where
   pub size : length x.memory.words ≡ n
   pub square : Square n x.memory.q
   -- what the words say are bits
   pub bits : BitWords n x.memory.words
-  pub each : (i : ℕ) → IsOneOf n i → Own n t history x.memory i (typed_at (algorithm n) x i)
-  pub start : (i k : ℕ) → IsOneOf n i → IsOneOf n k → Pair history x.memory.words (typed_at (algorithm n) x i) (typed_at (algorithm n) x k) k
+  pub each : (i : ℕ) → IsOneOf n i → ProcessInvariant n t history x.memory i (typed_at (algorithm n) x i)
+  pub start : (i k : ℕ) → IsOneOf n i → IsOneOf n k → PairInvariant history x.memory.words (typed_at (algorithm n) x i) (typed_at (algorithm n) x k) k
   pub answered : (i k : ℕ) → IsOneOf n i → IsOneOf n k → Answered n x.memory.words i (typed_at (algorithm n) x i) k (typed_at (algorithm n) x k)
 
 stage_at_kept : (n i : ℕ) (history : ℕ → Words) (t t' since round : ℕ) (words words' : Words) (p : Variables) (control : Control) → t ≤ t' → Grows n words words' → ControlWell n i p control →
@@ -94,10 +94,10 @@ stage_at_kept n i history t t' since round words words' p (At d k) le g well h =
     stage_kept n i history t t' since round words words' p k le g (line_place n i p k well.1) h
 
 -- other processes act
-pub own_kept : (n t t' : ℕ) (history : ℕ → Words) (m m' : Registers) (i : ℕ) (q : Process) → t ≤ t' → Grows n m.words m'.words → word_at m'.words i ≡ word_at m.words i →
+pub others_act : (n t t' : ℕ) (history : ℕ → Words) (m m' : Registers) (i : ℕ) (q : Process) → t ≤ t' → Grows n m.words m'.words → word_at m'.words i ≡ word_at m.words i →
     ((k : ℕ) → IsOneOf n k → bit_for m'.q i k ≡ bit_for m.q i k) → Late n m'.words q.variables.g q.variables.marks i (reach_at n q.variables q.control) →
-    Viewed n history t' q.auxiliary.since m'.words → Own n t history m i q → Own n t' history m' i q
-own_kept n t t' history m m' i q le g same put late v h = record {
+    Viewed n history t' q.auxiliary.since m'.words → ProcessInvariant n t history m i q → ProcessInvariant n t' history m' i q
+others_act n t t' history m m' i q le g same put late v h = record {
   well = h.well;
   sized = h.sized;
   bits = h.bits;
@@ -116,23 +116,23 @@ own_kept n t t' history m m' i q le g same put late v h = record {
   wrote = h.wrote;
 }
 
-pub inv_later : (n t : ℕ) (history : ℕ → Words) (x : State) → Inv n t history x → Inv n (suc t) history x
-inv_later n t history x h = record {
+pub time_passes : (n t : ℕ) (history : ℕ → Words) (x : State) → Invariant n t history x → Invariant n (suc t) history x
+time_passes n t history x h = record {
   size = h.size;
   square = h.square;
   bits = h.bits;
-  each = λ i e. own_kept n t (suc t) history x.memory x.memory i (typed_at (algorithm n) x i) (omega arith) (λ k j. inr refl) refl (λ k j. refl) (h.each i e).late
+  each = λ i e. others_act n t (suc t) history x.memory x.memory i (typed_at (algorithm n) x i) (omega arith) (λ k j. inr refl) refl (λ k j. refl) (h.each i e).late
       (λ k j more. held_wider history t (suc t) _ _ _ (omega arith) (omega arith) ((h.each i e).views k j more)) (h.each i e);
   start = h.start;
   answered = h.answered;
 }
 
 -- One process changes, and perhaps a bit that it puts; the words stay.
-pub record OneChange (n t : ℕ) (history : ℕ → Words) (x : State) (i : ℕ) (m' : Registers) (q' : Process) : Type 0 where
+pub record ProcessChange (n t : ℕ) (history : ℕ → Words) (x : State) (i : ℕ) (m' : Registers) (q' : Process) : Type 0 where
   pub words : m'.words ≡ x.memory.words
   pub square : Square n m'.q
   pub rows : (u k : ℕ) → IsOneOf n u → IsOneOf n k → (u ≡ i → ⊥) → bit_for m'.q u k ≡ bit_for x.memory.q u k
-  pub own : Own n t history m' i q'
+  pub own : ProcessInvariant n t history m' i q'
   pub making : Making q'.control → (q'.auxiliary.since ≡ t) ⊎ (Making (typed_at (algorithm n) x i).control × (q'.auxiliary.since ≡ (typed_at (algorithm n) x i).auxiliary.since))
   pub since : (q'.auxiliary.since ≡ t) ⊎ (q'.auxiliary.since ≡ (typed_at (algorithm n) x i).auxiliary.since)
   -- as the process that asks: where there was a write since it put its bit, it had asked before
@@ -144,9 +144,9 @@ pub record OneChange (n t : ℕ) (history : ℕ → Words) (x : State) (i : ℕ)
   pub answers : (u bit : ℕ) → IsOneOf n u → bit_for x.memory.q u i ≡ bit → AnswersAt u bit (typed_at (algorithm n) x i).variables (typed_at (algorithm n) x i).control →
       AnswersAt u bit q'.variables q'.control
 
-pub put_inv : (n t : ℕ) (history : ℕ → Words) (x : State) (i : ℕ) (m' : Registers) (q' : Process) (o : Outcome) → length x.processes ≡ n → IsOneOf n i → history t ≡ x.memory.words → Inv n t history x →
-    OneChange n t history x i m' q' → Inv n t history (changed x i (New m' q' o))
-put_inv n t history x i m' q' o count one now h change =
+pub process_changes : (n t : ℕ) (history : ℕ → Words) (x : State) (i : ℕ) (m' : Registers) (q' : Process) (o : Outcome) → length x.processes ≡ n → IsOneOf n i → history t ≡ x.memory.words → Invariant n t history x →
+    ProcessChange n t history x i m' q' → Invariant n t history (changed x i (New m' q' o))
+process_changes n t history x i m' q' o count one now h change =
     let c : Change = New m' q' o in
     let a = algorithm n in
     let words = x.memory.words in
@@ -163,20 +163,20 @@ put_inv n t history x i m' q' o count one now h change =
       square = change.square;
       bits = ws (BitWords n) h.bits;
       each = λ k j. elim (cases_eq k i) [
-        | inl same ↦ subst (λ (p : Process). Own n t history m' k p) (sym (at_i k same)) (subst (λ y. Own n t history m' y q') (sym same) change.own)
-        | inr other ↦ subst (λ (p : Process). Own n t history m' k p) (sym (off_i k j other))
-            (own_kept n t t history x.memory m' k (typed_at a x k) (omega arith) (ws (Grows n words) (λ u ju. inr refl)) (ap (λ w. word_at w k) change.words)
+        | inl same ↦ subst (λ (p : Process). ProcessInvariant n t history m' k p) (sym (at_i k same)) (subst (λ y. ProcessInvariant n t history m' y q') (sym same) change.own)
+        | inr other ↦ subst (λ (p : Process). ProcessInvariant n t history m' k p) (sym (off_i k j other))
+            (others_act n t t history x.memory m' k (typed_at a x k) (omega arith) (ws (Grows n words) (λ u ju. inr refl)) (ap (λ w. word_at w k) change.words)
             (λ u ju. change.rows k u j ju other)
             (ws (λ w. Late n w (typed_at a x k).variables.g (typed_at a x k).variables.marks k (reach_at n (typed_at a x k).variables (typed_at a x k).control)) (h.each k j).late)
             (ws (Viewed n history t (typed_at a x k).auxiliary.since) (h.each k j).views) (h.each k j))
       ];
-      start = λ u b ju jb. ws (λ w. Pair history w (typed_at a (changed x i c) u) (typed_at a (changed x i c) b) b)
+      start = λ u b ju jb. ws (λ w. PairInvariant history w (typed_at a (changed x i c) u) (typed_at a (changed x i c) b) b)
           (elim (cases_eq u i) [
             | inl su ↦ elim (cases_eq b i) [
-              | inl sb ↦ subst (λ (p : Process). Pair history words p (typed_at a (changed x i c) b) b) (sym (at_i u su))
-                  (subst (λ (p : Process). Pair history words q' p b) (sym (at_i b sb)) (λ making lt. omega arith))
-              | inr ob ↦ subst (λ (p : Process). Pair history words p (typed_at a (changed x i c) b) b) (sym (at_i u su))
-                  (subst (λ (p : Process). Pair history words q' p b) (sym (off_i b jb ob))
+              | inl sb ↦ subst (λ (p : Process). PairInvariant history words p (typed_at a (changed x i c) b) b) (sym (at_i u su))
+                  (subst (λ (p : Process). PairInvariant history words q' p b) (sym (at_i b sb)) (λ making lt. omega arith))
+              | inr ob ↦ subst (λ (p : Process). PairInvariant history words p (typed_at a (changed x i c) b) b) (sym (at_i u su))
+                  (subst (λ (p : Process). PairInvariant history words q' p b) (sym (off_i b jb ob))
                   (λ making lt. elim change.since [
                     | inl fresh ↦ absurd (let e : seq_at (history q'.auxiliary.since) b ≡ seq_at words b = ap (λ s. seq_at (history s) b) fresh ∙ ap (λ w. seq_at w b) now in omega arith)
                     | inr old ↦ subst (λ s. s ≤ (typed_at a x b).auxiliary.since) (sym old)
@@ -184,15 +184,15 @@ put_inv n t history x i m' q' o count one now h change =
                   ]))
             ]
             | inr ou ↦ elim (cases_eq b i) [
-              | inl sb ↦ subst (λ (p : Process). Pair history words p (typed_at a (changed x i c) b) b) (sym (off_i u ju ou))
-                  (subst (λ (p : Process). Pair history words (typed_at a x u) p b) (sym (at_i b sb))
+              | inl sb ↦ subst (λ (p : Process). PairInvariant history words p (typed_at a (changed x i c) b) b) (sym (off_i u ju ou))
+                  (subst (λ (p : Process). PairInvariant history words (typed_at a x u) p b) (sym (at_i b sb))
                   (λ making lt. elim (change.making making) [
                     | inl now ↦ (let le : (typed_at a x u).auxiliary.since ≤ t = (h.each u ju).since_le in omega arith)
                     | inr old ↦ subst (λ s. (typed_at a x u).auxiliary.since ≤ s) (sym old.1)
                         (h.start u i ju one old.0 (subst (λ y. seq_at (history (typed_at a x u).auxiliary.since) y < seq_at words y) sb lt))
                   ]))
-              | inr ob ↦ subst (λ (p : Process). Pair history words p (typed_at a (changed x i c) b) b) (sym (off_i u ju ou))
-                  (subst (λ (p : Process). Pair history words (typed_at a x u) p b) (sym (off_i b jb ob)) (h.start u b ju jb))
+              | inr ob ↦ subst (λ (p : Process). PairInvariant history words p (typed_at a (changed x i c) b) b) (sym (off_i u ju ou))
+                  (subst (λ (p : Process). PairInvariant history words (typed_at a x u) p b) (sym (off_i b jb ob)) (h.start u b ju jb))
             ]
           ]);
       answered = λ u b ju jb. ws (λ w. Answered n w u (typed_at a (changed x i c) u) b (typed_at a (changed x i c) b))
@@ -219,32 +219,32 @@ put_inv n t history x i m' q' o count one now h change =
     }
 
 -- line 46
-pub write_inv : (n t : ℕ) (history : ℕ → Words) (x : State) (i : ℕ) (d : Task) (q' : Process) (o : Outcome) → length x.processes ≡ n → IsOneOf n i →
-    Inv n t history x → (typed_at (algorithm n) x i).control ≡ At d L46 → IsUpdate i d →
+pub line_46_writes : (n t : ℕ) (history : ℕ → Words) (x : State) (i : ℕ) (d : Task) (q' : Process) (o : Outcome) → length x.processes ≡ n → IsOneOf n i →
+    Invariant n t history x → (typed_at (algorithm n) x i).control ≡ At d L46 → IsUpdate i d →
     q' ≡ record { control = At d L47; variables = (typed_at (algorithm n) x i).variables; auxiliary = stepped_auxiliary (algorithm n) L46 (suc t) (typed_at (algorithm n) x i).auxiliary } →
-    Inv n (suc t) history (changed x i (New (with_written n i d x.memory (typed_at (algorithm n) x i).variables) q' o))
-write_inv n t history x i d q' o count one h at up is =
+    Invariant n (suc t) history (changed x i (New (with_written n i d x.memory (typed_at (algorithm n) x i).variables) q' o))
+line_46_writes n t history x i d q' o count one h at up is =
     let a = algorithm n in
     let words = x.memory.words in
     let q = typed_at a x i in
-    let w = new_word n i d x.memory q.variables in
+    let w = word_put n i d x.memory q.variables in
     let m' : Registers = with_written n i d x.memory q.variables in
     let words' = slice_set words (i - 1) w in
     let c : Change = New m' q' o in
-    let ownq : Own n t history x.memory i q = h.each i one in
+    let ownq : ProcessInvariant n t history x.memory i q = h.each i one in
     let len : length words ≡ n = h.size in
     let toggle : q.variables.t ≡ (word_at words i).toggle → ⊥ = subst (λ (p : Control). ToggledAt (word_at words i).toggle q.variables p) at ownq.toggle in
     let held : Held history t q.auxiliary.since q.variables.s = subst (λ (p : Control). StageAt n i history t q.auxiliary.since q.auxiliary.round words q.variables p) at ownq.stage in
     let making : Making q.control = subst Making (sym at) (late i d up) in
-    let new_word : (k : ℕ) → k ≡ i → word_at words' k ≡ w = λ k e. word_set words i k w one.0 (omega arith) e in
+    let word_put : (k : ℕ) → k ≡ i → word_at words' k ≡ w = λ k e. word_set words i k w one.0 (omega arith) e in
     let old_word : (k : ℕ) → IsOneOf n k → k ≢ i → word_at words' k ≡ word_at words k = λ k j ne. word_kept words i k w one.0 j.0 ne in
     let grows : Grows n words words' = λ k j. elim (cases_eq k i) [
-      | inl same ↦ subst (λ (y : Word). Follows (word_at words k) y) (sym (new_word k same))
+      | inl same ↦ subst (λ (y : Word). Follows (word_at words k) y) (sym (word_put k same))
           (subst (λ y. Follows (word_at words y) w) (sym same) (inl (omega arith, λ e. absurd (toggle (sym e)))))
       | inr other ↦ inr (sym (old_word k j other))
     ] in
     let viewed : (u : ℕ) → IsOneOf n u → Viewed n history (suc t) (typed_at a x u).auxiliary.since words' = λ u ju k j. elim (cases_eq k i) [
-      | inl same ↦ subst (λ (y : Word). seq_at (history (typed_at a x u).auxiliary.since) k + 2 ≤ y.seq → Held history (suc t) (typed_at a x u).auxiliary.since y.view) (sym (new_word k same))
+      | inl same ↦ subst (λ (y : Word). seq_at (history (typed_at a x u).auxiliary.since) k + 2 ≤ y.seq → Held history (suc t) (typed_at a x u).auxiliary.since y.view) (sym (word_put k same))
           (λ more. held_wider history t (suc t) q.auxiliary.since (typed_at a x u).auxiliary.since q.variables.s (omega arith)
           (h.start u i ju one making (let e : seq_at (history (typed_at a x u).auxiliary.since) k ≡ seq_at (history (typed_at a x u).auxiliary.since) i = ap (seq_at (history (typed_at a x u).auxiliary.since)) same in
           let more2 : seq_at (history (typed_at a x u).auxiliary.since) k + 2 ≤ seq_at words i + 1 = more in omega arith)) held)
@@ -254,7 +254,7 @@ write_inv n t history x i d q' o count one h at up is =
     let says : (u : ℕ) → IsOneOf n u → hand_at w u ≡ place q.variables.f u = λ u ju. get_or-take n q.variables.f (u - 1) 0 (omega arith) in
     let shows : (u : ℕ) → IsOneOf n u → Late n words' (typed_at a x u).variables.g (typed_at a x u).variables.marks u (reach_at n (typed_at a x u).variables (typed_at a x u).control) =
     λ u ju k j lt. elim (cases_eq k i) [
-      | inl same ↦ subst (λ (y : Word). place (typed_at a x u).variables.marks k + 2 ≤ y.seq → hand_at y u ≡ place (typed_at a x u).variables.g k → ⊥) (sym (new_word k same))
+      | inl same ↦ subst (λ (y : Word). place (typed_at a x u).variables.marks k + 2 ≤ y.seq → hand_at y u ≡ place (typed_at a x u).variables.g k → ⊥) (sym (word_put k same))
           (subst (λ y. place (typed_at a x u).variables.marks y + 2 ≤ w.seq → hand_at w u ≡ place (typed_at a x u).variables.g y → ⊥) (sym same)
           (λ more hand. says_other u (place q.variables.f u) (place (typed_at a x u).variables.g i) d up
           (subst (λ (p : Control). AnswersAt u (place (typed_at a x u).variables.g i) q.variables p) at
@@ -263,12 +263,12 @@ write_inv n t history x i d q' o count one h at up is =
       | inr other ↦ subst (λ (y : Word). place (typed_at a x u).variables.marks k + 2 ≤ y.seq → hand_at y u ≡ place (typed_at a x u).variables.g k → ⊥) (sym (old_word k j other))
           ((h.each u ju).late k j lt)
     ] in
-    let own_new : Own n (suc t) history m' i q' =
-    subst (λ (r : Process). Own n (suc t) history m' i r) (sym is) (record {
+    let own_new : ProcessInvariant n (suc t) history m' i q' =
+    subst (λ (r : Process). ProcessInvariant n (suc t) history m' i r) (sym is) (record {
       well = (up, tt);
       sized = ownq.sized;
       bits = ownq.bits;
-      toggle = sym (ap (λ (y : Word). y.toggle) (new_word i refl));
+      toggle = sym (ap (λ (y : Word). y.toggle) (word_put i refl));
       since_le = (let f : q.auxiliary.since ≤ t = ownq.since_le in omega arith);
       low = λ k j. (let l : seq_at (history q.auxiliary.since) k ≤ seq_at words k = ownq.low k j in
           let s : seq_at words k ≤ seq_at words' k = follows_seq (word_at words k) (word_at words' k) (grows k j) in omega arith);
@@ -289,21 +289,21 @@ write_inv n t history x i d q' o count one h at up is =
       size = length-set words (i - 1) w ∙ len;
       square = h.square;
       bits = λ k u jk ju. elim (cases_eq k i) [
-        | inl same ↦ subst (λ (y : Word). hand_at y u ≤ 1) (sym (new_word k same)) (let e : hand_at w u ≡ place q.variables.f u = says u ju in let b : place q.variables.f u ≤ 1 = ownq.bits u ju in omega arith)
+        | inl same ↦ subst (λ (y : Word). hand_at y u ≤ 1) (sym (word_put k same)) (let e : hand_at w u ≡ place q.variables.f u = says u ju in let b : place q.variables.f u ≤ 1 = ownq.bits u ju in omega arith)
         | inr other ↦ subst (λ (y : Word). hand_at y u ≤ 1) (sym (old_word k jk other)) (h.bits k u jk ju)
       ];
       each = λ k j. elim (cases_eq k i) [
-        | inl same ↦ subst (λ (r : Process). Own n (suc t) history m' k r) (sym (at_i k same)) (subst (λ y. Own n (suc t) history m' y q') (sym same) own_new)
-        | inr other ↦ subst (λ (r : Process). Own n (suc t) history m' k r) (sym (off_i k j other))
-            (own_kept n t (suc t) history x.memory m' k (typed_at a x k) (omega arith) grows (old_word k j other) (λ u ju. refl) (shows k j) (viewed k j) (h.each k j))
+        | inl same ↦ subst (λ (r : Process). ProcessInvariant n (suc t) history m' k r) (sym (at_i k same)) (subst (λ y. ProcessInvariant n (suc t) history m' y q') (sym same) own_new)
+        | inr other ↦ subst (λ (r : Process). ProcessInvariant n (suc t) history m' k r) (sym (off_i k j other))
+            (others_act n t (suc t) history x.memory m' k (typed_at a x k) (omega arith) grows (old_word k j other) (λ u ju. refl) (shows k j) (viewed k j) (h.each k j))
       ];
       start = λ u b ju jb. elim (cases_eq b i) [
-        | inl sb ↦ subst (λ (r : Process). Pair history words' (typed_at a (changed x i c) u) r b) (sym (at_i b sb ∙ is)) (λ made lt. absurd (not_late i d up made))
-        | inr ob ↦ subst (λ (r : Process). Pair history words' (typed_at a (changed x i c) u) r b) (sym (off_i b jb ob))
-            (let past : Pair history words' (typed_at a x u) (typed_at a x b) b = λ made lt. h.start u b ju jb made (subst (λ (y : Word). seq_at (history (typed_at a x u).auxiliary.since) b < y.seq) (old_word b jb ob) lt) in
+        | inl sb ↦ subst (λ (r : Process). PairInvariant history words' (typed_at a (changed x i c) u) r b) (sym (at_i b sb ∙ is)) (λ made lt. absurd (not_late i d up made))
+        | inr ob ↦ subst (λ (r : Process). PairInvariant history words' (typed_at a (changed x i c) u) r b) (sym (off_i b jb ob))
+            (let past : PairInvariant history words' (typed_at a x u) (typed_at a x b) b = λ made lt. h.start u b ju jb made (subst (λ (y : Word). seq_at (history (typed_at a x u).auxiliary.since) b < y.seq) (old_word b jb ob) lt) in
             elim (cases_eq u i) [
-              | inl su ↦ subst (λ (r : Process). Pair history words' r (typed_at a x b) b) (sym (at_i u su ∙ is)) (subst (λ y. Pair history words' (typed_at a x y) (typed_at a x b) b) su past)
-              | inr ou ↦ subst (λ (r : Process). Pair history words' r (typed_at a x b) b) (sym (off_i u ju ou)) past
+              | inl su ↦ subst (λ (r : Process). PairInvariant history words' r (typed_at a x b) b) (sym (at_i u su ∙ is)) (subst (λ y. PairInvariant history words' (typed_at a x y) (typed_at a x b) b) su past)
+              | inr ou ↦ subst (λ (r : Process). PairInvariant history words' r (typed_at a x b) b) (sym (off_i u ju ou)) past
             ])
       ];
       answered = λ u b ju jb. elim (cases_eq b i) [

@@ -10,7 +10,7 @@ use Rattle.snap_semantics.specs.Answers.{◌>>=◌}
 use Rattle.snap_semantics.specs.Source.{instr_at}
 use Rattle.snap_semantics.specs.State.{Memory, Named}
 use Rattle.snap_semantics.specs.Table.{places_to, Goes, Effect, effect_at, all_true, first_true, first_goes, is_bit, bit_value, with_bits, with_bit_at}
-use Rattle.snap_semantics.specs.Value.{Context, at_place, place_in, term_value}
+use Rattle.snap_semantics.specs.Value.{Context, at_place, place_in, term_value, condition_holds}
 use Rattle.snap_semantics.specs.declared.instr.Index.TheVariants.{Place}
 use Rattle.snap_semantics.specs.declared.instr.Term.TheVariants.{Row}
 use Rattle.snap_semantics.specs.declared.process.Activity.{Activity}
@@ -24,7 +24,7 @@ use Rattle.snap_runs.proofs.Places.{bind_ok, place_ok, each_ok, sum_ok}
 use Rattle.snap_bounded.specs.ListingB as listing
 use Rattle.snap_bounded.specs.ListingB.{listing_b}
 use Rattle.snap_bounded.specs.Promises.{square}
-use Rattle.snap_bounded.proofs.Algorithm.{Words, Registers, Move, Variables, ProgramCounter, L10, L11, L12, L13, L14, L15, L16, L17, L18, L19, L20, L21, L22, L23, L25, L26, L27, L28, L40, L41, L42, L43, L44, L45, L46, L47, number, back, plain, real, locals_of, place, hand_at, agree, limit, moved_at, counted, at_limit, new_word, move, first_to, algorithm, IsLineOf}
+use Rattle.snap_bounded.proofs.Algorithm.{Words, Registers, Move, Variables, ProgramCounter, L10, L11, L12, L13, L14, L15, L16, L17, L18, L19, L20, L21, L22, L23, L25, L26, L27, L28, L40, L41, L42, L43, L44, L45, L46, L47, number, back, plain, real, locals_of, place, hand_at, agree, limit, moved_at, counted, at_limit, word_put, move, first_to, algorithm, IsLineOf}
 
 -- a row of bits
 abbrev pub Bits : ℕ → List ℕ → Type 0
@@ -142,6 +142,21 @@ disagree true true z = refl
 disagree true false z = refl
 disagree false y z = refl
 
+-- lines 20 and 21 compare the copies at a place
+agree_ok : (n me : ℕ) (d : Task) (p : Variables) (k : ℕ) → IsOneOf (max n n) k → IsOneOf n me → condition_holds (at_k n me d p k) listing.agree ≡ Ok (agree me p k)
+agree_ok n me d p k i one =
+    bind_ok _ _ _ _ (bind_ok _ _ _ _ (hand_a n me d p k i one) (bind_ok _ _ _ _ (bit_ok n me d p k i) refl))
+    (bind_ok _ _ _ _ (bind_ok _ _ _ _ (hand_b n me d p k i one) (bind_ok _ _ _ _ (bit_ok n me d p k i) refl))
+    (bind_ok _ _ _ _ (bind_ok _ _ _ _ (toggle_a n me d p k i) (bind_ok _ _ _ _ (toggle_b n me d p k i) refl)) refl))
+
+differ_ok : (n me : ℕ) (d : Task) (p : Variables) (k : ℕ) → IsOneOf (max n n) k → IsOneOf n me → condition_holds (at_k n me d p k) listing.differ ≡ Ok (not (agree me p k))
+differ_ok n me d p k i one =
+    bind_ok _ _ _ _ (bind_ok _ _ _ _ (hand_a n me d p k i one) (bind_ok _ _ _ _ (bit_ok n me d p k i) refl))
+    (bind_ok _ _ _ _ (bind_ok _ _ _ _ (hand_b n me d p k i one) (bind_ok _ _ _ _ (bit_ok n me d p k i) refl))
+    (bind_ok _ _ _ _ (bind_ok _ _ _ _ (toggle_a n me d p k i) (bind_ok _ _ _ _ (toggle_b n me d p k i) refl))
+    (ap (λ b. let r : Result Bool Cause = Ok b in r)
+    (disagree (nat_eq (hand_at (word_at p.a k) me) (place p.g k)) (nat_eq (hand_at (word_at p.b k) me) (place p.g k)) (nat_eq (word_at p.a k).toggle (word_at p.b k).toggle)))))
+
 first_shown : (n : ℕ) (d : Task) (m : Registers) (p : Variables) (o : Option ℕ) →
     first_goes listing_b (activity (op_of d) (link_of (number back) d) 22) (real m) (locals_of p) listing.j 27 o ≡ shown (algorithm n) m (first_to d m p o)
 first_shown n d m p None = refl
@@ -186,12 +201,7 @@ each_line n me d m p L18 one s h =
     (ap (λ (ws : Words). left_words m p d 19 ((listing.a, map plain p.a) ∷ (listing.b, ws) ∷ [])) (plain_copied p.b m.words (p.j - 1) (p.j - 1))))
 each_line n me d m p L19 one s h = shown_if n m (nat_lt p.j n) (To d m (record p { j = p.j + 1 }) L18) (To d m (record p { j = 1 }) L20)
 each_line n me d m p L20 one s h =
-    bind_ok _ _ _ _
-    (each_ok _ (agree me p) 1 n (λ k low high.
-    let i : IsOneOf (max n n) k = in_range n k low high in
-    bind_ok _ _ _ _ (bind_ok _ _ _ _ (hand_a n me d p k i one) (bind_ok _ _ _ _ (bit_ok n me d p k i) refl))
-    (bind_ok _ _ _ _ (bind_ok _ _ _ _ (hand_b n me d p k i one) (bind_ok _ _ _ _ (bit_ok n me d p k i) refl))
-    (bind_ok _ _ _ _ (bind_ok _ _ _ _ (toggle_a n me d p k i) (bind_ok _ _ _ _ (toggle_b n me d p k i) refl)) refl))))
+    bind_ok _ _ _ _ (each_ok _ (agree me p) 1 n (λ k low high. agree_ok n me d p k (in_range n k low high) one))
     (shown_if n m (all_true (map (agree me p) (places_to n))) (To d m p L25) (To d m p L21))
 each_line n me d m p L21 one s h =
     bind_ok _ _ _ _
@@ -199,12 +209,7 @@ each_line n me d m p L21 one s h =
     let i : IsOneOf (max n n) k = in_range n k low high in
     let few : moved_at p k < limit = h k (omega arith, omega arith) in
     bind_ok _ _ _ _ (bind_ok _ _ _ _ (row_ok n me d p k i) (sum_ok (moved_at p k) 1 (omega arith)))
-    (bind_ok _ _ _ _
-    (bind_ok _ _ _ _ (bind_ok _ _ _ _ (hand_a n me d p k i one) (bind_ok _ _ _ _ (bit_ok n me d p k i) refl))
-    (bind_ok _ _ _ _ (bind_ok _ _ _ _ (hand_b n me d p k i one) (bind_ok _ _ _ _ (bit_ok n me d p k i) refl))
-    (bind_ok _ _ _ _ (bind_ok _ _ _ _ (toggle_a n me d p k i) (bind_ok _ _ _ _ (toggle_b n me d p k i) refl)) refl)))
-    (ap (λ b. let r : Result ℕ Cause = Ok (if b then moved_at p k + 1 else moved_at p k) in r)
-    (disagree (nat_eq (hand_at (word_at p.a k) me) (place p.g k)) (nat_eq (hand_at (word_at p.b k) me) (place p.g k)) (nat_eq (word_at p.a k).toggle (word_at p.b k).toggle))))))
+    (bind_ok _ _ _ _ (differ_ok n me d p k i one) refl)))
     refl
 each_line n me d m p L22 one s h =
     bind_ok _ _ _ _
@@ -231,10 +236,10 @@ each_line n me Scanning m p L46 one s h = absurd s
 each_line n me (Embedded w x) m p L46 one s h = absurd s
 each_line n me (Updating w x) m p L46 one s h =
     bind_ok _ _ _ _ (place_ok n me one)
-    (bind_ok _ _ _ _ (bits_ok (plain (new_word n me (Updating w x) m p)) h.0 (bits_taken n p.f h.1))
-    (owned_ok (nat_eq me me) (plain (new_word n me (Updating w x) m p)) Owner
+    (bind_ok _ _ _ _ (bits_ok (plain (word_put n me (Updating w x) m p)) h.0 (bits_taken n p.f h.1))
+    (owned_ok (nat_eq me me) (plain (word_put n me (Updating w x) m p)) Owner
     (λ y. Ok (Goes (real_with m (slice_set (map plain m.words) (me - 1) y)) (locals_of p) None 47)) (same_number me)
-    ∙ ap (λ (ws : Words). let r : Result Effect Cause = Ok (Goes (real_with m ws) (locals_of p) None 47) in r) (sym (map-set plain m.words (me - 1) (new_word n me (Updating w x) m p)))))
+    ∙ ap (λ (ws : Words). let r : Result Effect Cause = Ok (Goes (real_with m ws) (locals_of p) None 47) in r) (sym (map-set plain m.words (me - 1) (word_put n me (Updating w x) m p)))))
 each_line n me Scanning m p L47 one s h = absurd s
 each_line n me (Embedded w x) m p L47 one s h = absurd s
 each_line n me (Updating w x) m p L47 one s h = refl

@@ -23,13 +23,13 @@ use Rattle.snap_runs.proofs.Places.{for_each_at}
 use Rattle.snap_runs.proofs.ScanSpan as span
 use Rattle.snap_bounded.specs.ListingB as listing
 use Rattle.snap_bounded.specs.Promises.{run_of, MovesAreWrites}
-use Rattle.snap_bounded.proofs.Algorithm.{Words, Control, Process, State, Variables, L21, L22, L46, new_word, agree, moved_at, counted, algorithm}
+use Rattle.snap_bounded.proofs.Algorithm.{Words, Control, Process, State, Variables, L21, L22, L46, word_put, agree, moved_at, counted, algorithm}
 use Rattle.snap_bounded.proofs.Collect.{Second, Between, moved_since}
 use Rattle.snap_bounded.proofs.Count.{Count, counted_row}
 use Rattle.snap_bounded.proofs.Flows.{line_listed}
 use Rattle.snap_bounded.proofs.Follow.{follows_seq}
 use Rattle.snap_bounded.proofs.Invariant.{CountAt}
-use Rattle.snap_bounded.proofs.Runs.{state_at, words_at, registers_at, process_after, one_at, own, all_do, lawful, goes, stage_of, words_change}
+use Rattle.snap_bounded.proofs.Runs.{state_at, words_at, registers_at, process_after, one_at, invariant_of, all_do, lawful, goes, stage_of, words_change}
 use Rattle.snap_bounded.proofs.Updates.{step_of, busy_at, write_executes}
 
 -- a place that grows is one where the copies differ
@@ -46,7 +46,7 @@ module _ (n : ℕ) (items : List Item) (fits : Fits (run_of n items)) where
       seq_at (words_at n items (suc v)) j ≡ seq_at (words_at n items v) j
   other_word v i j d h one other is at46 =
       let his_one : IsOneOf n i = subst (λ y. IsOneOf n (who y)) is (one_at n items fits v h) in
-      let word : Word = new_word n i d (registers_at n items v) (at v i).variables in
+      let word : Word = word_put n i d (registers_at n items v) (at v i).variables in
       let memory_is : words_at n items (suc v) ≡ slice_set (words_at n items v) (i - 1) word =
       ap (λ (y : Item). (happens (algorithm n) (suc v) (state_at n items v) y).memory.words) is
       ∙ ap (λ (p : Control). (changed (state_at n items v) i (by_step (algorithm n) (suc v) (registers_at n items v) i (at v i) p)).memory.words) at46 in
@@ -118,7 +118,7 @@ module _ (n : ℕ) (items : List Item) (fits : Fits (run_of n items)) where
       let write = grew j move.process round t g.round_before (omega arith) (omega arith) in
       let after : c ≤ round = g.round_after in
       let counts : Count n i p (at t i).auxiliary.own (at t i).auxiliary.collects (at t i).auxiliary.tested L21 =
-      subst (λ (y : Control). CountAt n i p (at t i).auxiliary.own (at t i).auxiliary.collects (at t i).auxiliary.tested y) busy.1 (own n items fits t i (omega arith) one).counts in
+      subst (λ (y : Control). CountAt n i p (at t i).auxiliary.own (at t i).auxiliary.collects (at t i).auxiliary.tested y) busy.1 (invariant_of n items fits t i (omega arith) one).counts in
       let few : (at t i).auxiliary.tested ≤ 1 = counts.3 in
       let tested : (at t i).auxiliary.tested ≡ double_collects r i round t = g.tested in
       let last : double_collects r i round (suc t) ≤ double_collects r i round t + 0 =

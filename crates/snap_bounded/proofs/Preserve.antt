@@ -22,11 +22,11 @@ use Rattle.snap_runs.proofs.Held.{word_at, seq_at}
 use Rattle.snap_bounded.specs.Promises.{square}
 use Rattle.snap_bounded.proofs.Algorithm.{number, Words, Registers, Move, Control, Process, State, Variables, ProgramCounter, L10, L20, L40, L46, place, hand_at, bit_for, move, IsLineOf, lines, tests, restarts, writes, algorithm}
 use Rattle.snap_bounded.proofs.Collect.{Low, Late, Viewed, floor}
-use Rattle.snap_bounded.proofs.Control.{BelowLimit, Keeps, MoveWell, ControlWell, move_well, called_well}
+use Rattle.snap_bounded.proofs.Control.{BelowLimit, VariablesAt, MoveWell, ControlWell, move_well, called_well}
 use Rattle.snap_bounded.proofs.Count.{Count, CountMove, count_move, moves, moves_less}
 use Rattle.snap_bounded.proofs.Flows.{Making, HasWritten, in_scan, flows, line_listed, at_number}
 use Rattle.snap_bounded.proofs.Handshake.{Asked, Answers, KeepsBit, BitsMove, bits_move, PutsMove, puts_move, square_kept, rows_kept, AnswersMove, answers_move}
-use Rattle.snap_bounded.proofs.Invariant.{Own, Inv, OneChange, StageAt, CountAt, ToggledAt, AnswersAt, reach_at, inv_later, put_inv, write_inv}
+use Rattle.snap_bounded.proofs.Invariant.{ProcessInvariant, Invariant, ProcessChange, StageAt, CountAt, ToggledAt, AnswersAt, reach_at, time_passes, process_changes, line_46_writes}
 use Rattle.snap_bounded.proofs.Stage.{reach, Stage, StageMove, stage_move, IsToggle, Toggled, Fit, FitMove, fit_move}
 
 -- process i
@@ -39,12 +39,12 @@ unmoved : (n i : ℕ) (base opening words : Words) (p : Variables) → IsOneOf n
 unmoved n i base opening words p one low opened below self =
     moves_less n i p one (let l : floor base p.moved i ≤ seq_at opening i = low i one in omega arith) below
 
-pub few_moves : (n me : ℕ) (history : ℕ → Words) (t since round : ℕ) (words : Words) (d : Task) (p : Variables) (k : ProgramCounter) → IsOneOf n me → IsLineOf me d k → Keeps n me p k →
+pub few_moves : (n me : ℕ) (history : ℕ → Words) (t since round : ℕ) (words : Words) (d : Task) (p : Variables) (k : ProgramCounter) → IsOneOf n me → IsLineOf me d k → VariablesAt n me p k →
     ((k : ℕ) → IsOneOf n k → seq_at (history round) k ≤ seq_at words k) → (IsInScan d → seq_at (history since) me ≡ seq_at words me) →
     Stage n me history t since round words p k → k ≡ L20 → moves n p < n
 few_moves n me history t since round words d p k one line keeps opened self stage e =
     unmoved n me (history since) (history round) words p one (subst (Stage n me history t since round words p) e stage).0 (opened me one)
-    (subst (Keeps n me p) e keeps).1 (self (in_scan me d (subst (IsLineOf me d) e line)))
+    (subst (VariablesAt n me p) e keeps).1 (self (in_scan me d (subst (IsLineOf me d) e line)))
 
 -- the words at item t are the words now
 pub at_most_now : (history : ℕ → Words) (words : Words) (t : ℕ) → history t ≡ words → (k : ℕ) → seq_at (history t) k ≤ seq_at words k
@@ -62,7 +62,7 @@ opened_next n history words false t round now h k i = h k i
 
 -- a process whose operation has ended
 idle_own : (n t : ℕ) (history : ℕ → Words) (m : Registers) (i : ℕ) (q : Process) (d : Task) (k : ProgramCounter) → q.control ≡ At d k → writes k ≡ 0 → history t ≡ m.words →
-    Own n t history m i q → Own n t history m i (record { control = Idle; variables = q.variables; auxiliary = stepped_auxiliary (algorithm n) k t q.auxiliary })
+    ProcessInvariant n t history m i q → ProcessInvariant n t history m i (record { control = Idle; variables = q.variables; auxiliary = stepped_auxiliary (algorithm n) k t q.auxiliary })
 idle_own n t history m i q d k is quiet now own = record {
   well = tt;
   sized = own.sized;
@@ -81,7 +81,7 @@ idle_own n t history m i q d k is quiet now own = record {
 }
 
 -- what the move v of a process at line k owes; t is the item's number
-record Owes (n t : ℕ) (history : ℕ → Words) (x : State) (i : ℕ) (d : Task) (k : ProgramCounter) (v : Move) : Type 0 where
+record MoveOwes (n t : ℕ) (history : ℕ → Words) (x : State) (i : ℕ) (d : Task) (k : ProgramCounter) (v : Move) : Type 0 where
   pub words : flow.KeepsMemory lines x.memory v
   pub puts : PutsMove i x.memory (at n x i).variables v
   pub well : MoveWell (op_of d) n i v
@@ -111,12 +111,12 @@ asks_next i m m' p p' r k (inl kept) more = (kept.0, (let e : place p'.marks k �
 asks_next i m m' p p' r k (inr put) more = absurd (let e : place p'.marks k ≡ seq_at m.words k = put.0 in omega arith)
 
 -- a line that ends the operation
-ended_inv : (n t : ℕ) (history : ℕ → Words) (x : State) (i : ℕ) (d : Task) (k : ProgramCounter) → length x.processes ≡ n → IsOneOf n i → history t ≡ x.memory.words → Inv n t history x →
+end_keeps : (n t : ℕ) (history : ℕ → Words) (x : State) (i : ℕ) (d : Task) (k : ProgramCounter) → length x.processes ≡ n → IsOneOf n i → history t ≡ x.memory.words → Invariant n t history x →
     (at n x i).control ≡ At d k → writes k ≡ 0 → (o : Outcome) →
-    Inv n t history (changed x i (New x.memory (record { control = Idle; variables = (at n x i).variables; auxiliary = stepped_auxiliary (algorithm n) k t (at n x i).auxiliary }) o))
-ended_inv n t history x i d k count one now h is quiet o =
+    Invariant n t history (changed x i (New x.memory (record { control = Idle; variables = (at n x i).variables; auxiliary = stepped_auxiliary (algorithm n) k t (at n x i).auxiliary }) o))
+end_keeps n t history x i d k count one now h is quiet o =
     let q = at n x i in
-    put_inv n t history x i x.memory (record { control = Idle; variables = q.variables; auxiliary = stepped_auxiliary (algorithm n) k t q.auxiliary }) o count one now h (record {
+    process_changes n t history x i x.memory (record { control = Idle; variables = q.variables; auxiliary = stepped_auxiliary (algorithm n) k t q.auxiliary }) o count one now h (record {
       words = refl;
       square = h.square;
       rows = λ u b ju jb other. refl;
@@ -128,20 +128,20 @@ ended_inv n t history x i d k count one now h is quiet o =
     })
 
 -- a line that keeps the words
-quiet_inv : (n t : ℕ) (history : ℕ → Words) (x : State) (i : ℕ) (d : Task) (k : ProgramCounter) (v : Move) →
-    length x.processes ≡ n → IsOneOf n i → history t ≡ x.memory.words → Inv n t history x → (at n x i).control ≡ At d k → writes k ≡ 0 →
-    Owes n t history x i d k v → Inv n t history (changed x i (by_move (algorithm n) t x.memory (at n x i) k v))
-quiet_inv n t history x i d k (To d' m' p k') count one now h is quiet owes =
+line_keeps : (n t : ℕ) (history : ℕ → Words) (x : State) (i : ℕ) (d : Task) (k : ProgramCounter) (v : Move) →
+    length x.processes ≡ n → IsOneOf n i → history t ≡ x.memory.words → Invariant n t history x → (at n x i).control ≡ At d k → writes k ≡ 0 →
+    MoveOwes n t history x i d k v → Invariant n t history (changed x i (by_move (algorithm n) t x.memory (at n x i) k v))
+line_keeps n t history x i d k (To d' m' p k') count one now h is quiet owes =
     let q = at n x i in
     let m = x.memory in
-    let own : Own n t history m i q = h.each i one in
+    let own : ProcessInvariant n t history m i q = h.each i one in
     let q' : Process = record { control = At d' k'; variables = p; auxiliary = stepped_auxiliary (algorithm n) k t q.auxiliary } in
     let fit : Fit n (word_at m.words i).toggle p k' = owes.fit in
     let ws : (P : Words → Type 0) → P m.words → P m'.words = λ P. subst P (sym owes.words) in
     let asked : Asked n m.q q.variables.g i (reach n q.variables k) = subst (λ (c : Control). Asked n m.q q.variables.g i (reach_at n q.variables c)) is own.asked in
     let late : Late n m.words q.variables.g q.variables.marks i (reach n q.variables k) = subst (λ (c : Control). Late n m.words q.variables.g q.variables.marks i (reach_at n q.variables c)) is own.late in
     let bits : (u : ℕ) → IsOneOf n u → u < reach n p k' → KeepsBit i m q.variables (reach n q.variables k) m' p u = owes.bits in
-    put_inv n t history x i m' q' Stepped count one now h (record {
+    process_changes n t history x i m' q' Stepped count one now h (record {
       words = owes.words;
       square = square_kept n i m q.variables m'.q h.square one owes.puts;
       rows = λ u b ju jb other. rows_kept n i u b m q.variables m'.q one.0 ju.0 other owes.puts;
@@ -169,12 +169,12 @@ quiet_inv n t history x i d k (To d' m' p k') count one now h is quiet owes =
           (subst (λ (c : Control). u < reach_at n q.variables c) (sym is) r.0, r.1, r.2);
       answers = λ u bit ju put said. owes.answers u bit ju put (subst (AnswersAt u bit q.variables) is said);
     })
-quiet_inv n t history x i d k (Begin d' p k') count one now h is quiet owes =
+line_keeps n t history x i d k (Begin d' p k') count one now h is quiet owes =
     let q = at n x i in
     let m = x.memory in
-    let own : Own n t history m i q = h.each i one in
+    let own : ProcessInvariant n t history m i q = h.each i one in
     let fit : Fit n (word_at m.words i).toggle p k' = owes.fit in
-    put_inv n t history x i m (record { control = At d' k'; variables = p; auxiliary = begun_auxiliary (algorithm n) k t q.auxiliary }) Stepped count one now h (record {
+    process_changes n t history x i m (record { control = At d' k'; variables = p; auxiliary = begun_auxiliary (algorithm n) k t q.auxiliary }) Stepped count one now h (record {
       words = refl;
       square = h.square;
       rows = λ u b ju jb other. refl;
@@ -199,22 +199,22 @@ quiet_inv n t history x i d k (Begin d' p k') count one now h is quiet owes =
       asks = λ u ju lt more. absurd (let none : u < reach n p L10 = subst (λ y. u < reach n p y) owes.bits lt in omega arith);
       answers = λ u bit ju put said. owes.answers u bit ju put (subst (AnswersAt u bit q.variables) is said);
     })
-quiet_inv n t history x i d k (Answer v) count one now h is quiet owes =
-    ended_inv n t history x i d k count one now h is quiet (Answered v)
-quiet_inv n t history x i d k Finish count one now h is quiet owes =
-    ended_inv n t history x i d k count one now h is quiet Finished
+line_keeps n t history x i d k (Answer v) count one now h is quiet owes =
+    end_keeps n t history x i d k count one now h is quiet (Answered v)
+line_keeps n t history x i d k Finish count one now h is quiet owes =
+    end_keeps n t history x i d k count one now h is quiet Finished
 
 -- a called process stands at the first line of its operation
-call_inv : (n t : ℕ) (history : ℕ → Words) (x : State) (i : ℕ) (op : Op) (o : Option Reason) → call_skip kind.Bits (square n) i op ≡ o →
-    length x.processes ≡ n → IsOneOf n i → Inv n t history x → (at n x i).control ≡ Idle →
+admission_keeps : (n t : ℕ) (history : ℕ → Words) (x : State) (i : ℕ) (op : Op) (o : Option Reason) → call_skip kind.Bits (square n) i op ≡ o →
+    length x.processes ≡ n → IsOneOf n i → Invariant n t history x → (at n x i).control ≡ Idle →
     history t ≡ (changed x i (by_admission (algorithm n) t x.memory (at n x i) op o)).memory.words →
-    Inv n t history (changed x i (by_admission (algorithm n) t x.memory (at n x i) op o))
-call_inv n t history x i op (Some why) e count one h is now = h
-call_inv n t history x i Scan None e count one h is now =
+    Invariant n t history (changed x i (by_admission (algorithm n) t x.memory (at n x i) op o))
+admission_keeps n t history x i op (Some why) e count one h is now = h
+admission_keeps n t history x i Scan None e count one h is now =
     let q = at n x i in
     let m = x.memory in
-    let own : Own n t history m i q = h.each i one in
-    put_inv n t history x i m (record { control = At Scanning L10; variables = q.variables; auxiliary = called_auxiliary t Scan q.auxiliary }) Called count one now h (record {
+    let own : ProcessInvariant n t history m i q = h.each i one in
+    process_changes n t history x i m (record { control = At Scanning L10; variables = q.variables; auxiliary = called_auxiliary t Scan q.auxiliary }) Called count one now h (record {
       words = refl;
       square = h.square;
       rows = λ u b ju jb other. refl;
@@ -239,11 +239,11 @@ call_inv n t history x i Scan None e count one h is now =
       asks = λ u ju lt more. absurd (omega arith);
       answers = λ u bit ju put said. tt;
     })
-call_inv n t history x i (Update word value) None e count one h is now =
+admission_keeps n t history x i (Update word value) None e count one h is now =
     let q = at n x i in
     let m = x.memory in
-    let own : Own n t history m i q = h.each i one in
-    put_inv n t history x i m (record { control = At (Updating word value) L40; variables = q.variables; auxiliary = called_auxiliary t (Update word value) q.auxiliary }) Called count one now h (record {
+    let own : ProcessInvariant n t history m i q = h.each i one in
+    process_changes n t history x i m (record { control = At (Updating word value) L40; variables = q.variables; auxiliary = called_auxiliary t (Update word value) q.auxiliary }) Called count one now h (record {
       words = refl;
       square = h.square;
       rows = λ u b ju jb other. refl;
@@ -269,12 +269,12 @@ call_inv n t history x i (Update word value) None e count one h is now =
       answers = λ u bit ju put said. tt;
     })
 
-pub keeps_then : (n t : ℕ) (x : State) (i : ℕ) (k : ProgramCounter) (v : Move) → flow.KeepsMemory lines x.memory v →
+pub words_then : (n t : ℕ) (x : State) (i : ℕ) (k : ProgramCounter) (v : Move) → flow.KeepsMemory lines x.memory v →
     (changed x i (by_move (algorithm n) t x.memory (at n x i) k v)).memory.words ≡ x.memory.words
-keeps_then n t x i k (To d m p k') h = h
-keeps_then n t x i k (Begin d p k') h = refl
-keeps_then n t x i k (Answer v) h = refl
-keeps_then n t x i k Finish h = refl
+words_then n t x i k (To d m p k') h = h
+words_then n t x i k (Begin d p k') h = refl
+words_then n t x i k (Answer v) h = refl
+words_then n t x i k Finish h = refl
 
 -- a line writes, or it is no line 46
 is_46_or_quiet : (k : ProgramCounter) → (k ≡ L46) ⊎ (writes k ≡ 0)
@@ -284,34 +284,34 @@ is_46_or_quiet k =
       | inr other ↦ inr (sym (line_listed k).wrote ∙ ap (λ b. if b then 1 else 0) (other_number (number k) 46 other))
     ]
 
-line46_inv : (n t : ℕ) (history : ℕ → Words) (x : State) (i : ℕ) (d : Task) → length x.processes ≡ n → IsOneOf n i → Inv n t history x →
-    (at n x i).control ≡ At d L46 → Inv n (suc t) history (changed x i (by_step (algorithm n) (suc t) x.memory i (at n x i) (At d L46)))
-line46_inv n t history x i d count one h is =
+line_46_keeps : (n t : ℕ) (history : ℕ → Words) (x : State) (i : ℕ) (d : Task) → length x.processes ≡ n → IsOneOf n i → Invariant n t history x →
+    (at n x i).control ≡ At d L46 → Invariant n (suc t) history (changed x i (by_step (algorithm n) (suc t) x.memory i (at n x i) (At d L46)))
+line_46_keeps n t history x i d count one h is =
     let well : ControlWell n i (at n x i).variables (At d L46) = subst (ControlWell n i (at n x i).variables) is (h.each i one).well in
-    write_inv n t history x i d _ Stepped count one h is well.0 refl
+    line_46_writes n t history x i d _ Stepped count one h is well.0 refl
 
 -- one step of a process
-step_inv : (n t : ℕ) (history : ℕ → Words) (x : State) (i : ℕ) (control : Control) → ((u : ℕ) → u ≤ t → length (history u) ≡ n) → length x.processes ≡ n → IsOneOf n i →
-    Inv n t history x → (at n x i).control ≡ control →
+step_keeps : (n t : ℕ) (history : ℕ → Words) (x : State) (i : ℕ) (control : Control) → ((u : ℕ) → u ≤ t → length (history u) ≡ n) → length x.processes ≡ n → IsOneOf n i →
+    Invariant n t history x → (at n x i).control ≡ control →
     history (suc t) ≡ (changed x i (by_step (algorithm n) (suc t) x.memory i (at n x i) control)).memory.words →
-    Inv n (suc t) history (changed x i (by_step (algorithm n) (suc t) x.memory i (at n x i) control))
-step_inv n t history x i Idle lengths count one h is now = inv_later n t history x h
-step_inv n t history x i (At d k) lengths count one h is now =
+    Invariant n (suc t) history (changed x i (by_step (algorithm n) (suc t) x.memory i (at n x i) control))
+step_keeps n t history x i Idle lengths count one h is now = time_passes n t history x h
+step_keeps n t history x i (At d k) lengths count one h is now =
     let q = at n x i in
     let m = x.memory in
     let p = q.variables in
-    let later : Inv n (suc t) history x = inv_later n t history x h in
-    let own : Own n (suc t) history m i q = later.each i one in
+    let later : Invariant n (suc t) history x = time_passes n t history x h in
+    let own : ProcessInvariant n (suc t) history m i q = later.each i one in
     let well : ControlWell n i p (At d k) = subst (ControlWell n i p) is own.well in
     let stage : Stage n i history (suc t) q.auxiliary.since q.auxiliary.round m.words p k =
     subst (λ (c : Control). StageAt n i history (suc t) q.auxiliary.since q.auxiliary.round m.words p c) is own.stage in
     let passes = flows n i d m p k well.0 in
     elim (is_46_or_quiet k) [
-      | inl e ↦ subst (λ y. Inv n (suc t) history (changed x i (by_step (algorithm n) (suc t) m i q (At d y)))) (sym e)
-          (line46_inv n t history x i d count one h (is ∙ ap (λ y. At d y) e))
+      | inl e ↦ subst (λ y. Invariant n (suc t) history (changed x i (by_step (algorithm n) (suc t) m i q (At d y)))) (sym e)
+          (line_46_keeps n t history x i d count one h (is ∙ ap (λ y. At d y) e))
       | inr quiet ↦ elim (flow.keeps_memory lines (algorithm n) d m p k (move n i d m p k) passes) [
-        | inl keeps ↦ (let same : history (suc t) ≡ m.words = now ∙ keeps_then n (suc t) x i k (move n i d m p k) keeps in
-            quiet_inv n (suc t) history x i d k (move n i d m p k) count one same later is quiet
+        | inl keeps ↦ (let same : history (suc t) ≡ m.words = now ∙ words_then n (suc t) x i k (move n i d m p k) keeps in
+            line_keeps n (suc t) history x i d k (move n i d m p k) count one same later is quiet
             (record {
               words = keeps;
               puts = puts_move n i d m p k;
@@ -341,20 +341,20 @@ step_inv n t history x i (At d k) lengths count one h is now =
                   (subst (λ (y : Control). CountAt n i p q.auxiliary.own q.auxiliary.collects q.auxiliary.tested y) is own.counts);
               wrote = flow.counts_writes lines (algorithm n) d m p k (move n i d m p k) q.auxiliary.wrote passes (subst (λ (y : Control). HasWritten y q.auxiliary.wrote) is own.wrote);
             }))
-        | inr e ↦ subst (λ y. Inv n (suc t) history (changed x i (by_step (algorithm n) (suc t) m i q (At d y)))) (sym e)
-            (line46_inv n t history x i d count one h (is ∙ ap (λ y. At d y) e))
+        | inr e ↦ subst (λ y. Invariant n (suc t) history (changed x i (by_step (algorithm n) (suc t) m i q (At d y)))) (sym e)
+            (line_46_keeps n t history x i d count one h (is ∙ ap (λ y. At d y) e))
       ]
     ]
 
-asked_inv : (n t : ℕ) (history : ℕ → Words) (x : State) (i : ℕ) (op : Op) (control : Control) → length x.processes ≡ n → IsOneOf n i →
-    Inv n t history x → (at n x i).control ≡ control →
+call_keeps : (n t : ℕ) (history : ℕ → Words) (x : State) (i : ℕ) (op : Op) (control : Control) → length x.processes ≡ n → IsOneOf n i →
+    Invariant n t history x → (at n x i).control ≡ control →
     history (suc t) ≡ (changed x i (by_call (algorithm n) (suc t) x.memory i op (at n x i) control)).memory.words →
-    Inv n (suc t) history (changed x i (by_call (algorithm n) (suc t) x.memory i op (at n x i) control))
-asked_inv n t history x i op Idle count one h is now =
-    call_inv n (suc t) history x i op (call_skip kind.Bits (square n) i op) refl count one (inv_later n t history x h) is now
-asked_inv n t history x i op (At d k) count one h is now = inv_later n t history x h
+    Invariant n (suc t) history (changed x i (by_call (algorithm n) (suc t) x.memory i op (at n x i) control))
+call_keeps n t history x i op Idle count one h is now =
+    admission_keeps n (suc t) history x i op (call_skip kind.Bits (square n) i op) refl count one (time_passes n t history x h) is now
+call_keeps n t history x i op (At d k) count one h is now = time_passes n t history x h
 
-pub happens_inv : (n t : ℕ) (history : ℕ → Words) (x : State) (y : Item) → ((u : ℕ) → u ≤ t → length (history u) ≡ n) → length x.processes ≡ n → IsOneOf n (who y) →
-    Inv n t history x → history (suc t) ≡ (happens (algorithm n) (suc t) x y).memory.words → Inv n (suc t) history (happens (algorithm n) (suc t) x y)
-happens_inv n t history x (Step i) lengths count one h now = step_inv n t history x i (at n x i).control lengths count one h refl now
-happens_inv n t history x (Call i op) lengths count one h now = asked_inv n t history x i op (at n x i).control count one h refl now
+pub item_keeps : (n t : ℕ) (history : ℕ → Words) (x : State) (y : Item) → ((u : ℕ) → u ≤ t → length (history u) ≡ n) → length x.processes ≡ n → IsOneOf n (who y) →
+    Invariant n t history x → history (suc t) ≡ (happens (algorithm n) (suc t) x y).memory.words → Invariant n (suc t) history (happens (algorithm n) (suc t) x y)
+item_keeps n t history x (Step i) lengths count one h now = step_keeps n t history x i (at n x i).control lengths count one h refl now
+item_keeps n t history x (Call i op) lengths count one h now = call_keeps n t history x i op (at n x i).control count one h refl now

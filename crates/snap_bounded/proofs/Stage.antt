@@ -11,7 +11,7 @@ use Rattle.snap_runs.proofs.Computing.{not_lt, same_from, either, whether}
 use Rattle.snap_runs.proofs.Held.{word_at, Held, held_wider, data_of, seq_at}
 use Rattle.snap_runs.proofs.Places.{for_each_at, first_found}
 use Rattle.snap_bounded.proofs.Algorithm.{Words, Registers, Move, Variables, ProgramCounter, L10, L11, L12, L13, L14, L15, L16, L17, L18, L19, L20, L21, L22, L23, L25, L26, L27, L28, L40, L41, L42, L43, L44, L45, L46, L47, move, first_to, place, hand_at, opposite, agree, limit, moved_at, counted, at_limit, IsLineOf, restarts, writes}
-use Rattle.snap_bounded.proofs.Control.{Keeps, Sized, opposite_bit}
+use Rattle.snap_bounded.proofs.Control.{VariablesAt, Sized, opposite_bit}
 use Rattle.snap_bounded.proofs.Lines.{Bits}
 use Rattle.snap_bounded.proofs.Follow.{Follows, follows_trans, follows_seq, Grows}
 use Rattle.snap_bounded.proofs.Collect.{floor, Low, Drawn, Put, PutTo, Late, FirstCopy, First, Viewed, SecondCopy, Second, Between, Gained, word_set, place_set, place_kept, put_drawn, just_drawn, put_more, first_more, second_starts, second_more, copies_follow, passed, moved_since, gained_at}
@@ -80,7 +80,7 @@ pub record Known (n i : ℕ) (history : ℕ → Words) (t since round : ℕ) (wo
   pub views : Viewed n history t since words
   pub late : Late n words p.g p.marks i (reach n p k)
   pub line : IsLineOf i d k
-  pub keeps : Keeps n i p k
+  pub keeps : VariablesAt n i p k
 
 -- each line takes the scan on; a line that starts another double collect does so at item t
 pub stage_move : (n i : ℕ) (history : ℕ → Words) (t since round : ℕ) (d : Task) (m : Registers) (p : Variables) (k : ProgramCounter) →
@@ -243,7 +243,7 @@ IsLinePlace n p L13 = IsOneOf n p.j
 IsLinePlace n p L14 = IsOneOf n p.j
 IsLinePlace n p _ = Unit {0}
 
-pub line_place : (n i : ℕ) (p : Variables) (k : ProgramCounter) → Keeps n i p k → IsLinePlace n p k
+pub line_place : (n i : ℕ) (p : Variables) (k : ProgramCounter) → VariablesAt n i p k → IsLinePlace n p k
 line_place n i p L10 h = tt
 line_place n i p L11 h = tt
 line_place n i p L12 h = tt
@@ -330,7 +330,7 @@ opposite_differs x e = elim (nat_eq x 0) as (λ b. nat_eq x 0 ≡ b → (if b th
   | false ↦ λ is none. absurd (let z : nat_eq 0 0 ≡ false = subst (λ y. nat_eq y 0 ≡ false) (sym none) is in cc)
 ] refl e
 
-pub fit_move : (n i toggle : ℕ) (d : Task) (m : Registers) (p : Variables) (k : ProgramCounter) → IsLineOf i d k → Keeps n i p k → writes k ≡ 0 → Fit n toggle p k → FitMove n toggle (move n i d m p k)
+pub fit_move : (n i toggle : ℕ) (d : Task) (m : Registers) (p : Variables) (k : ProgramCounter) → IsLineOf i d k → VariablesAt n i p k → writes k ≡ 0 → Fit n toggle p k → FitMove n toggle (move n i d m p k)
 fit_move n i toggle d m p L10 s keeps quiet h = h
 fit_move n i toggle d m p L11 s keeps quiet h = h
 fit_move n i toggle d m p L12 s keeps quiet h = ((length-set p.a (p.j - 1) (word_at m.words p.j) ∙ h.0.0, h.0.1, h.0.2, h.0.3, h.0.4), h.1, h.2)

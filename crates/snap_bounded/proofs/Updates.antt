@@ -20,11 +20,11 @@ use Rattle.snap_runs.proofs.Held.{data_of}
 use Rattle.snap_runs.proofs.UpdateSpan as called
 use Rattle.snap_runs.proofs.WritesOnce as writes_once
 use Rattle.snap_bounded.specs.Promises.{run_of, ChangesOnlyAt46, WritesItsUpdate, WritesOnce}
-use Rattle.snap_bounded.proofs.Algorithm.{Control, Process, ProgramCounter, L46, new_word, move, IsUpdate, lines, algorithm}
+use Rattle.snap_bounded.proofs.Algorithm.{Control, Process, ProgramCounter, L46, word_put, move, IsUpdate, lines, algorithm}
 use Rattle.snap_bounded.proofs.Control.{ControlWell}
 use Rattle.snap_bounded.proofs.Flows.{counter_with, at_number, once}
 use Rattle.snap_bounded.proofs.Lines.{plain_data}
-use Rattle.snap_bounded.proofs.Runs.{state_at, words_at, registers_at, process_after, own, all_do, all_flow, words_change}
+use Rattle.snap_bounded.proofs.Runs.{state_at, words_at, registers_at, process_after, invariant_of, all_do, all_flow, words_change}
 
 pub step_of : (i : ℕ) (y : Item) → steps i y ≡ true → y ≡ Step i
 step_of i (Step k) h = ap (λ u. Step u) (same_from k i h)
@@ -43,7 +43,7 @@ update_of i (Updating word value) u = (value, ap (λ y. Updating y value) u)
 
 has_written : (n : ℕ) (items : List Item) → Fits (run_of n items) → (t i : ℕ) → t ≤ length items → IsOneOf n i →
     flow.HasWritten lines (process_after n items t i).control (process_after n items t i).auxiliary.wrote
-has_written n items fits t i h one = (own n items fits t i h one).wrote
+has_written n items fits t i h one = (invariant_of n items fits t i h one).wrote
 
 module _ (n : ℕ) (items : List Item) (fits : Fits (run_of n items)) where
   abbrev pub at : ℕ → ℕ → Process
@@ -82,7 +82,7 @@ module _ (n : ℕ) (items : List Item) (fits : Fits (run_of n items)) where
       let stands : is_at 46 (status_of (algorithm n) (at t i).control) ≡ true =
       sym (ap (λ (p : NamedProcess). is_at 46 p.status) (embed.process_at_is (algorithm n) items fits (all_do n items fits) t i (omega arith) one)) ∙ parts.1 in
       let busy = busy_at n 46 L46 (at t i).control refl stands in
-      let well : ControlWell n i (at t i).variables (At busy.0 L46) = subst (ControlWell n i (at t i).variables) busy.1 (own n items fits t i (omega arith) one).well in
+      let well : ControlWell n i (at t i).variables (At busy.0 L46) = subst (ControlWell n i (at t i).variables) busy.1 (invariant_of n items fits t i (omega arith) one).well in
       let up = update_of i busy.0 well.0 in
       let value = up.0 in
       let control : (at t i).control ≡ At (Updating i value) L46 = busy.1 ∙ ap (λ d. At d L46) up.1 in
@@ -91,7 +91,7 @@ module _ (n : ℕ) (items : List Item) (fits : Fits (run_of n items)) where
       subst (called.UnderAt (algorithm n) 46 (once n).writes_is items fits (all_do n items fits) i one (quiet i one) t (at t i)) control
       (called.under (algorithm n) 46 (once n).writes_is items fits (all_do n items fits) i one (quiet i one) t (omega arith)) in
       let order : c ≤ t = under.order in
-      let memory_is : words_at n items (suc t) ≡ slice_set (words_at n items t) (i - 1) (new_word n i (Updating i value) (registers_at n items t) (at t i).variables) =
+      let memory_is : words_at n items (suc t) ≡ slice_set (words_at n items t) (i - 1) (word_put n i (Updating i value) (registers_at n items t) (at t i).variables) =
       ap (λ (y : Item). (happens (algorithm n) (suc t) (state_at n items t) y).memory.words) is
       ∙ ap (λ (p : Control). (changed (state_at n items t) i (by_step (algorithm n) (suc t) (registers_at n items t) i (at t i) p)).memory.words) control in (
         i,
@@ -109,7 +109,7 @@ module _ (n : ℕ) (items : List Item) (fits : Fits (run_of n items)) where
         omega arith,
         one,
         values_is (suc t) (omega arith) ∙ ap data_of memory_is
-            ∙ map-set (λ (y : Word). y.datum) (words_at n items t) (i - 1) (new_word n i (Updating i value) (registers_at n items t) (at t i).variables)
+            ∙ map-set (λ (y : Word). y.datum) (words_at n items t) (i - 1) (word_put n i (Updating i value) (registers_at n items t) (at t i).variables)
             ∙ ap (λ v. slice_set v (i - 1) value) (sym (values_is t (omega arith))),
       )
 

@@ -10,8 +10,10 @@ use Rattle.snap_semantics.specs.Answers.{◌>>=◌}
 use Rattle.snap_semantics.specs.Source.{instr_at}
 use Rattle.snap_semantics.specs.State.{Memory, Named}
 use Rattle.snap_semantics.specs.Table.{places_to, Goes, Effect, effect_at, all_true, first_true, first_goes, is_bit, bit_value, with_bits, with_bit_at}
-use Rattle.snap_semantics.specs.Value.{Context, at_place, place_in, term_value, condition_holds}
+use Rattle.snap_semantics.specs.Value.{Context, at_place, place_in, term_value, relates, comparison_holds, condition_holds}
 use Rattle.snap_semantics.specs.declared.instr.Index.TheVariants.{Place}
+use Rattle.snap_semantics.specs.declared.instr.Relation.{Relation}
+use Rattle.snap_semantics.specs.declared.instr.Relation.TheVariants.{Equal, Different}
 use Rattle.snap_semantics.specs.declared.instr.Term.TheVariants.{Row}
 use Rattle.snap_semantics.specs.declared.process.Activity.{Activity}
 use Rattle.snap_semantics.specs.declared.process.Cause.{Cause}
@@ -136,26 +138,45 @@ bits_taken (suc n) (x ∷ row) h =
 bits_ok : (w : Word) → w.toggle ≤ 1 → list_all is_bit w.hands ≡ true → with_bits w ≡ Ok w
 bits_ok w h e = if_true _ _ _ (both_true (is_bit w.toggle) (list_all is_bit w.hands) (le_true w.toggle 1 h) e)
 
--- the copies do not agree where one of the comparisons of line 21 holds
-disagree : (x y z : Bool) → (not x || (not y || not z)) ≡ not (x && (y && z))
-disagree true true z = refl
-disagree true false z = refl
-disagree false y z = refl
+-- one comparison of the two copies at a place
+hands_a : (n me : ℕ) (d : Task) (p : Variables) (k : ℕ) (r : Relation) → IsOneOf (max n n) k → IsOneOf n me →
+    comparison_holds (at_k n me d p k) (listing.compare listing.hand_a r listing.bit) ≡ Ok (relates r (hand_at (word_at p.a k) me) (place p.g k))
+hands_a n me d p k r i one = bind_ok _ _ _ _ (hand_a n me d p k i one) (bind_ok _ _ _ _ (bit_ok n me d p k i) refl)
 
--- lines 20 and 21 compare the copies at a place
-agree_ok : (n me : ℕ) (d : Task) (p : Variables) (k : ℕ) → IsOneOf (max n n) k → IsOneOf n me → condition_holds (at_k n me d p k) listing.agree ≡ Ok (agree me p k)
+hands_b : (n me : ℕ) (d : Task) (p : Variables) (k : ℕ) (r : Relation) → IsOneOf (max n n) k → IsOneOf n me →
+    comparison_holds (at_k n me d p k) (listing.compare listing.hand_b r listing.bit) ≡ Ok (relates r (hand_at (word_at p.b k) me) (place p.g k))
+hands_b n me d p k r i one = bind_ok _ _ _ _ (hand_b n me d p k i one) (bind_ok _ _ _ _ (bit_ok n me d p k i) refl)
+
+toggles : (n me : ℕ) (d : Task) (p : Variables) (k : ℕ) (r : Relation) → IsOneOf (max n n) k →
+    comparison_holds (at_k n me d p k) (listing.compare listing.toggle_a r listing.toggle_b) ≡ Ok (relates r (word_at p.a k).toggle (word_at p.b k).toggle)
+toggles n me d p k r i = bind_ok _ _ _ _ (toggle_a n me d p k i) (bind_ok _ _ _ _ (toggle_b n me d p k i) refl)
+
+-- all of them, at line 20
+agree_ok : (n me : ℕ) (d : Task) (p : Variables) (k : ℕ) → IsOneOf (max n n) k → IsOneOf n me →
+    condition_holds (at_k n me d p k) listing.agree ≡ Ok (agree me p k)
 agree_ok n me d p k i one =
-    bind_ok _ _ _ _ (bind_ok _ _ _ _ (hand_a n me d p k i one) (bind_ok _ _ _ _ (bit_ok n me d p k i) refl))
-    (bind_ok _ _ _ _ (bind_ok _ _ _ _ (hand_b n me d p k i one) (bind_ok _ _ _ _ (bit_ok n me d p k i) refl))
-    (bind_ok _ _ _ _ (bind_ok _ _ _ _ (toggle_a n me d p k i) (bind_ok _ _ _ _ (toggle_b n me d p k i) refl)) refl))
+    bind_ok _ _ _ _ (hands_a n me d p k Equal i one)
+    (bind_ok _ _ _ _ (hands_b n me d p k Equal i one)
+    (bind_ok _ _ _ _ (toggles n me d p k Equal i) refl))
 
-differ_ok : (n me : ℕ) (d : Task) (p : Variables) (k : ℕ) → IsOneOf (max n n) k → IsOneOf n me → condition_holds (at_k n me d p k) listing.differ ≡ Ok (not (agree me p k))
+-- line 21 asks whether one of them differs
+disagree : (x y : Bool) → (not x || not y) ≡ not (x && y)
+disagree true y = refl
+disagree false y = refl
+
+some_differ : (x y z : Bool) → (not x || (not y || not z)) ≡ not (x && (y && z))
+some_differ x y z = ap (λ b. not x || b) (disagree y z) ∙ disagree x (y && z)
+
+differ_ok : (n me : ℕ) (d : Task) (p : Variables) (k : ℕ) → IsOneOf (max n n) k → IsOneOf n me →
+    condition_holds (at_k n me d p k) listing.differ ≡ Ok (not (agree me p k))
 differ_ok n me d p k i one =
-    bind_ok _ _ _ _ (bind_ok _ _ _ _ (hand_a n me d p k i one) (bind_ok _ _ _ _ (bit_ok n me d p k i) refl))
-    (bind_ok _ _ _ _ (bind_ok _ _ _ _ (hand_b n me d p k i one) (bind_ok _ _ _ _ (bit_ok n me d p k i) refl))
-    (bind_ok _ _ _ _ (bind_ok _ _ _ _ (toggle_a n me d p k i) (bind_ok _ _ _ _ (toggle_b n me d p k i) refl))
-    (ap (λ b. let r : Result Bool Cause = Ok b in r)
-    (disagree (nat_eq (hand_at (word_at p.a k) me) (place p.g k)) (nat_eq (hand_at (word_at p.b k) me) (place p.g k)) (nat_eq (word_at p.a k).toggle (word_at p.b k).toggle)))))
+    let same_a = nat_eq (hand_at (word_at p.a k) me) (place p.g k) in
+    let same_b = nat_eq (hand_at (word_at p.b k) me) (place p.g k) in
+    let same_toggle = nat_eq (word_at p.a k).toggle (word_at p.b k).toggle in
+    bind_ok _ _ _ _ (hands_a n me d p k Different i one)
+    (bind_ok _ _ _ _ (hands_b n me d p k Different i one)
+    (bind_ok _ _ _ _ (toggles n me d p k Different i)
+    (ap (λ b. let r : Result Bool Cause = Ok b in r) (some_differ same_a same_b same_toggle))))
 
 first_shown : (n : ℕ) (d : Task) (m : Registers) (p : Variables) (o : Option ℕ) →
     first_goes listing_b (activity (op_of d) (link_of (number back) d) 22) (real m) (locals_of p) listing.j 27 o ≡ shown (algorithm n) m (first_to d m p o)

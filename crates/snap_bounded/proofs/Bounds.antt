@@ -61,11 +61,14 @@ module _ (n : ℕ) (items : List Item) (fits : Fits (run_of n items)) where
       let o = invariant_of n items fits t i le one in
       let w : ControlWell n i q.variables (At g.task g.counter) = subst (ControlWell n i q.variables) g.control o.well in
       let stage = stage_of n items fits t i g.task g.counter le one g.control in
-      let counts : Count n i q.variables q.auxiliary.own q.auxiliary.collects q.auxiliary.tested g.counter = subst (λ (p : Control). CountAt n i q.variables q.auxiliary.own q.auxiliary.collects q.auxiliary.tested p) g.control o.counts in
+      let counts : Count n i q.variables q.auxiliary.own q.auxiliary.collects q.auxiliary.tested g.counter =
+      subst (λ (p : Control). CountAt n i q.variables q.auxiliary.own q.auxiliary.collects q.auxiliary.tested p) g.control o.counts in
       let inside = scan_line i g.task g.counter (flow.in_scan lines (algorithm n) link g.task g.inside) w.0 in
       let sharp = few_moves n i (words_at n items) t q.auxiliary.since q.auxiliary.round (words_at n items t) g.task q.variables g.counter one w.0 w.1 o.opened (λ inside. o.self (subst InScan (sym g.control) inside)) stage in
-      let few : q.auxiliary.collects + tests g.counter ≤ n = collects_le n i q.variables g.counter q.auxiliary.own q.auxiliary.collects q.auxiliary.tested (omega arith) w.1 sharp counts inside in
-      let short : q.auxiliary.own + 1 ≤ 8 * (n * n) + 12 * n + 7 = own_le n i q.variables g.counter q.auxiliary.own q.auxiliary.collects q.auxiliary.tested w.1 counts (omega arith) inside in
+      let few : q.auxiliary.collects + tests g.counter ≤ n =
+      collects_le n i q.variables g.counter q.auxiliary.own q.auxiliary.collects q.auxiliary.tested (omega arith) w.1 sharp counts inside in
+      let short : q.auxiliary.own + 1 ≤ 8 * (n * n) + 12 * n + 7 =
+      own_le n i q.variables g.counter q.auxiliary.own q.auxiliary.collects q.auxiliary.tested w.1 counts (omega arith) inside in
       (subst (λ y. y + tests g.counter ≤ n) g.collects few, subst (λ y. y + 1 ≤ 8 * (n * n) + 12 * n + 7) g.own short)
 
   pub bounds : (i : ℕ) (link : Option ℕ) (c e : ℕ) → Scan (run_of n items) i link c e →
@@ -89,7 +92,8 @@ pub sharp_collects_lem : SharpCollects
 sharp_collects_lem n items fits i link c e scan = (bounds n items fits i link c e scan).0
 
 pub few_collects_lem : FewCollects
-few_collects_lem n items fits i link c e scan = let h : double_collects (run_of n items) i c e ≤ n = sharp_collects_lem n items fits i link c e scan in omega arith
+few_collects_lem n items fits i link c e scan =
+    let h : double_collects (run_of n items) i c e ≤ n = sharp_collects_lem n items fits i link c e scan in omega arith
 
 pub few_steps_lem : FewSteps
 few_steps_lem n items fits i link c e scan = (bounds n items fits i link c e scan).1

@@ -107,7 +107,8 @@ pub place_kept : (row : List ℕ) (j k v : ℕ) → 0 < j → 0 < k → (k ≡ j
 place_kept row j k v pj pk other = get_or-set_other row (j - 1) (k - 1) v 0 (λ same. other (omega arith))
 
 -- line 13 draws a bit for one more process
-pub put_drawn : (n : ℕ) (opening words : Words) (g marks : List ℕ) (i j v : ℕ) → IsOneOf n j → PutTo n opening words g marks i j → PutTo n opening words (slice_set g (j - 1) v) marks i j
+pub put_drawn : (n : ℕ) (opening words : Words) (g marks : List ℕ) (i j v : ℕ) → IsOneOf n j → PutTo n opening words g marks i j →
+    PutTo n opening words (slice_set g (j - 1) v) marks i j
 put_drawn n opening words g marks i j v one h k ik lt =
     let old : Put opening words g marks i k = h k ik lt in
     record {
@@ -121,13 +122,15 @@ put_drawn n opening words g marks i j v one h k ik lt =
       before = old.before;
     }
 
-pub just_drawn : (n : ℕ) (opening words : Words) (g : List ℕ) (a : Words) (i j : ℕ) → IsOneOf n j → n ≤ length g → seq_at opening j ≤ seq_at a j → Follows (word_at a j) (word_at words j) →
+pub just_drawn : (n : ℕ) (opening words : Words) (g : List ℕ) (a : Words) (i j : ℕ) → IsOneOf n j → n ≤ length g → seq_at opening j ≤ seq_at a j →
+    Follows (word_at a j) (word_at words j) →
     Drawn opening words (slice_set g (j - 1) (hand_at (word_at a j) i)) i j
 just_drawn n opening words g a i j one len fresh before =
     record { word = word_at a j; fresh = fresh; before = before; says = place_set g j j (hand_at (word_at a j) i) one.0 (omega arith) refl }
 
 -- line 14 puts it
-pub put_more : (n : ℕ) (opening words : Words) (g marks : List ℕ) (i j : ℕ) → IsOneOf n j → n ≤ length marks → seq_at opening j ≤ seq_at words j → Drawn opening words g i j →
+pub put_more : (n : ℕ) (opening words : Words) (g marks : List ℕ) (i j : ℕ) → IsOneOf n j → n ≤ length marks → seq_at opening j ≤ seq_at words j →
+    Drawn opening words g i j →
     PutTo n opening words g marks i j → PutTo n opening words g (slice_set marks (j - 1) (seq_at words j)) i (j + 1)
 put_more n opening words g marks i j one len opened drawn h k ik lt =
     let P : ℕ → ℕ → Type 0 = λ m u. (seq_at opening u ≤ m) × (m ≤ seq_at words u) in
@@ -143,7 +146,8 @@ put_more n opening words g marks i j one len opened drawn h k ik lt =
     ]
 
 -- a first copy has the same word
-same_copy : (opening : Words) (marks : List ℕ) (x y now : Words) (k : ℕ) → word_at x k ≡ word_at y k → FirstCopy opening marks x now k → FirstCopy opening marks y now k
+same_copy : (opening : Words) (marks : List ℕ) (x y now : Words) (k : ℕ) → word_at x k ≡ word_at y k → FirstCopy opening marks x now k →
+    FirstCopy opening marks y now k
 same_copy opening marks x y now k e h = record {
   fresh = h.fresh;
   marked = subst (λ (w : Word). place marks k ≤ w.seq) e h.marked;
@@ -151,7 +155,8 @@ same_copy opening marks x y now k e h = record {
 }
 
 -- line 16 reads one more word
-pub first_more : (n : ℕ) (opening words : Words) (g marks : List ℕ) (i : ℕ) (a : Words) (j : ℕ) → IsOneOf n j → n ≤ length a → PutTo n opening words g marks i (n + 1) →
+pub first_more : (n : ℕ) (opening words : Words) (g marks : List ℕ) (i : ℕ) (a : Words) (j : ℕ) → IsOneOf n j → n ≤ length a →
+    PutTo n opening words g marks i (n + 1) →
     First n opening words marks a j → First n opening words marks (slice_set a (j - 1) (word_at words j)) (j + 1)
 first_more n opening words g marks i a j one len shaken h k ik lt =
     let put : Put opening words g marks i k = shaken k ik (omega arith) in
@@ -164,7 +169,8 @@ first_more n opening words g marks i a j one len shaken h k ik lt =
     ]
 
 -- when the first collect is done, the words of now stand between the collects
-pub second_starts : (n i : ℕ) (history : ℕ → Words) (t since round : ℕ) (words : Words) (g marks : List ℕ) (a b : Words) → history t ≡ words → since ≤ t →
+pub second_starts : (n i : ℕ) (history : ℕ → Words) (t since round : ℕ) (words : Words) (g marks : List ℕ) (a b : Words) → history t ≡ words →
+    since ≤ t →
     First n (history round) words marks a (n + 1) → Between n i history t since round words g marks a b 1
 second_starts n i history t since round words g marks a b now le h =
     let P : Words → Type 0 = λ between. Second n i history t since round words g marks a b 1 between in
@@ -177,15 +183,18 @@ second_starts n i history t since round words g marks a b now le h =
     (t, le, omega arith, subst P (sym now) here)
 
 -- with no write since the double collect's start the word says the bit that was drawn
-still_says : (opening words : Words) (g : List ℕ) (i k : ℕ) → Drawn opening words g i k → seq_at words k ≤ seq_at opening k → hand_at (word_at words k) i ≡ place g k
+still_says : (opening words : Words) (g : List ℕ) (i k : ℕ) → Drawn opening words g i k → seq_at words k ≤ seq_at opening k →
+    hand_at (word_at words k) i ≡ place g k
 still_says opening words g i k d le =
     let fresh : seq_at opening k ≤ d.word.seq = d.fresh in
     sym (d.says ∙ ap (λ (w : Word). hand_at w i) (same_word d.word (word_at words k) d.before (omega arith)))
 
 -- line 18 reads one more word
-pub second_more : (n i : ℕ) (history : ℕ → Words) (t since round : ℕ) (words : Words) (g marks : List ℕ) (a b : Words) (j : ℕ) → IsOneOf n j → n ≤ length b →
+pub second_more : (n i : ℕ) (history : ℕ → Words) (t since round : ℕ) (words : Words) (g marks : List ℕ) (a b : Words) (j : ℕ) → IsOneOf n j →
+    n ≤ length b →
     Viewed n history t since words → PutTo n (history round) words g marks i (n + 1) → Late n words g marks i (n + 1) →
-    Between n i history t since round words g marks a b j → Between n i history t since round words g marks a (slice_set b (j - 1) (word_at words j)) (j + 1)
+    Between n i history t since round words g marks a b j →
+        Between n i history t since round words g marks a (slice_set b (j - 1) (word_at words j)) (j + 1)
 second_more n i history t since round words g marks a b j one len v shaken late h =
     let s : Second n i history t since round words g marks a b j (history h.0) = h.3 in (
       h.0,
@@ -216,14 +225,16 @@ second_more n i history t since round words g marks a b j one len v shaken late 
     )
 
 -- the two copies stand after one another
-pub copies_follow : (n i : ℕ) (history : ℕ → Words) (t since round : ℕ) (words : Words) (p : Variables) → Between n i history t since round words p.g p.marks p.a p.b (n + 1) →
+pub copies_follow : (n i : ℕ) (history : ℕ → Words) (t since round : ℕ) (words : Words) (p : Variables) →
+    Between n i history t since round words p.g p.marks p.a p.b (n + 1) →
     (k : ℕ) → IsOneOf n k → Follows (word_at p.a k) (word_at p.b k)
 copies_follow n i history t since round words p h k ik =
     let s : Second n i history t since round words p.g p.marks p.a p.b (n + 1) (history h.0) = h.3 in
     follows_trans (word_at p.a k) (word_at (history h.0) k) (word_at p.b k) (s.first k ik).before (s.read k ik (omega arith)).after
 
 -- copies that agree have equal counts
-agreed : (a b : Word) (mark bit i : ℕ) → Follows a b → mark ≤ a.seq → (mark + 2 ≤ b.seq → hand_at b i ≡ bit → ⊥) → hand_at b i ≡ bit → a.toggle ≡ b.toggle → b.seq ≤ a.seq
+agreed : (a b : Word) (mark bit i : ℕ) → Follows a b → mark ≤ a.seq → (mark + 2 ≤ b.seq → hand_at b i ≡ bit → ⊥) → hand_at b i ≡ bit →
+    a.toggle ≡ b.toggle → b.seq ≤ a.seq
 agreed a b mark bit i f marked late hand toggle =
     elim (cases_lt a.seq b.seq) [
       | inl lt ↦ absurd (late (let two : a.seq + 2 ≤ b.seq = toggled a b f lt toggle in omega arith) hand)
@@ -231,8 +242,10 @@ agreed a b mark bit i f marked late hand toggle =
     ]
 
 -- a passed test: the second collect is the words between the collects
-pub passed : (n i : ℕ) (history : ℕ → Words) (t since round : ℕ) (words : Words) (p : Variables) → ((u : ℕ) → u ≤ t → length (history u) ≡ n) → n ≤ length p.b →
-    Between n i history t since round words p.g p.marks p.a p.b (n + 1) → all_true (map (agree i p) (places_to n)) ≡ true → Held history t since (data_of (take n p.b))
+pub passed : (n i : ℕ) (history : ℕ → Words) (t since round : ℕ) (words : Words) (p : Variables) → ((u : ℕ) → u ≤ t → length (history u) ≡ n) →
+    n ≤ length p.b →
+    Between n i history t since round words p.g p.marks p.a p.b (n + 1) → all_true (map (agree i p) (places_to n)) ≡ true →
+        Held history t since (data_of (take n p.b))
 passed n i history t since round words p lengths len h test =
     let s : Second n i history t since round words p.g p.marks p.a p.b (n + 1) (history h.0) = h.3 in (
       h.0,
@@ -251,11 +264,14 @@ passed n i history t since round words p lengths len h test =
 equal : (x y : ℕ) → x ≡ y → nat_eq x y ≡ true
 equal x y e = ap (λ z. nat_eq x z) (sym e) ∙ same_number x
 
-pub agree_if : (i : ℕ) (p : Variables) (k : ℕ) → hand_at (word_at p.a k) i ≡ place p.g k → hand_at (word_at p.b k) i ≡ place p.g k → (word_at p.a k).toggle ≡ (word_at p.b k).toggle → agree i p k ≡ true
-agree_if i p k e f h = rw (equal (hand_at (word_at p.a k) i) (place p.g k) e, equal (hand_at (word_at p.b k) i) (place p.g k) f, equal (word_at p.a k).toggle (word_at p.b k).toggle h) refl
+pub agree_if : (i : ℕ) (p : Variables) (k : ℕ) → hand_at (word_at p.a k) i ≡ place p.g k → hand_at (word_at p.b k) i ≡ place p.g k →
+    (word_at p.a k).toggle ≡ (word_at p.b k).toggle → agree i p k ≡ true
+agree_if i p k e f h =
+    rw (equal (hand_at (word_at p.a k) i) (place p.g k) e, equal (hand_at (word_at p.b k) i) (place p.g k) f, equal (word_at p.a k).toggle (word_at p.b k).toggle h) refl
 
 -- where the copies do not agree, there was a write since the double collect's start
-pub moved_since : (n i : ℕ) (history : ℕ → Words) (t since round : ℕ) (words : Words) (p : Variables) → Between n i history t since round words p.g p.marks p.a p.b (n + 1) →
+pub moved_since : (n i : ℕ) (history : ℕ → Words) (t since round : ℕ) (words : Words) (p : Variables) →
+    Between n i history t since round words p.g p.marks p.a p.b (n + 1) →
     (k : ℕ) → IsOneOf n k → agree i p k ≡ false → seq_at (history round) k < seq_at p.b k
 moved_since n i history t since round words p h k ik differ =
     elim (cases_lt (seq_at (history round) k) (seq_at p.b k)) [
@@ -264,13 +280,15 @@ moved_since n i history t since round words p h k ik differ =
           let s : Second n i history t since round words p.g p.marks p.a p.b (n + 1) (history h.0) = h.3 in
           let fresh : seq_at (history round) k ≤ place p.marks k = (s.first k ik).fresh in
           let marked : place p.marks k ≤ seq_at p.a k = (s.first k ik).marked in
-          let one : word_at p.a k ≡ word_at p.b k = same_word (word_at p.a k) (word_at p.b k) (copies_follow n i history t since round words p h k ik) (omega arith) in
+          let one : word_at p.a k ≡ word_at p.b k =
+          same_word (word_at p.a k) (word_at p.b k) (copies_follow n i history t since round words p h k ik) (omega arith) in
           let says : hand_at (word_at p.b k) i ≡ place p.g k = (s.read k ik (omega arith)).same le in
           let yes : agree i p k ≡ true = agree_if i p k (ap (λ (w : Word). hand_at w i) one ∙ says) says (ap (λ (w : Word). w.toggle) one) in
           let e : true ≡ false = sym yes ∙ differ in cc)
     ]
 
 -- a failed test counted: a process that is seen to move has written
-pub gained_at : (start opening x v : ℕ) (b : Bool) → start + v ≤ opening → opening ≤ x → (b ≡ false → opening < x) → start + (if not b then v + 1 else v) ≤ x
+pub gained_at : (start opening x v : ℕ) (b : Bool) → start + v ≤ opening → opening ≤ x → (b ≡ false → opening < x) →
+    start + (if not b then v + 1 else v) ≤ x
 gained_at start opening x v true low le more = omega arith
 gained_at start opening x v false low le more = let lt : opening < x = more refl in omega arith

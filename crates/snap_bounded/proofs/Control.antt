@@ -80,7 +80,8 @@ put_place row j v pos le = get_or-set_at row (j - 1) (j - 1) v 0 refl (omega ari
 pub put_word : (ws : Words) (j : ℕ) (w : Word) → 0 < j → j ≤ length ws → word_at (slice_set ws (j - 1) w) j ≡ w
 put_word ws j w pos le = get_or-set_at ws (j - 1) (j - 1) w no_word refl (omega arith)
 
-pub move_well : (n me : ℕ) (d : Task) (m : Registers) (p : Variables) (k : ProgramCounter) → IsOneOf n me → BitWords n m.words → Sized n p → IsLineOf me d k → VariablesAt n me p k →
+pub move_well : (n me : ℕ) (d : Task) (m : Registers) (p : Variables) (k : ProgramCounter) → IsOneOf n me → BitWords n m.words → Sized n p →
+    IsLineOf me d k → VariablesAt n me p k →
     MoveWell (op_of d) n me (move n me d m p k)
 move_well n me d m p L10 i bits sized s h = (s, λ k e. rw (for_each_at n (λ k. 0) p.moved k e) (omega arith), refl)
 move_well n me d m p L11 i bits sized s h = (s, ((omega arith, omega arith), h), refl)
@@ -101,7 +102,8 @@ move_well n me d m p L19 i bits sized s h =
     either (MoveWell (op_of d) n me) (nat_lt p.j n) _ _ (λ b. let j : p.j < n = lt_from p.j n b in (s, ((omega arith, omega arith), h.1), refl)) (λ b. (s, (refl, h.1), refl))
 move_well n me d m p L20 i bits sized s h =
     either (MoveWell (op_of d) n me) (all_true (map (agree me p) (places_to n))) _ _ (λ b. (s, tt, refl)) (λ b. (s, h, refl))
-move_well n me d m p L21 i bits sized s h = (s, (h.0, λ k e. rw (for_each_at n (counted me p) p.moved k e) (within (agree me p k) (moved_at p k) limit (h.1 k e))), refl)
+move_well n me d m p L21 i bits sized s h =
+    (s, (h.0, λ k e. rw (for_each_at n (counted me p) p.moved k e) (within (agree me p k) (moved_at p k) limit (h.1 k e))), refl)
 move_well n me d m p L22 i bits sized s h =
     whether (MoveWell (op_of d) n me) (first_to d m p) (first_true 1 (map (at_limit p) (places_to n)))
     (λ e. (s, (h.0, λ k o. below (moved_at p k) limit (h.1 k o) (first_none 1 n (at_limit p) e k (omega arith) (omega arith))), refl))
@@ -169,7 +171,8 @@ abbrev pub ControlWell : ℕ → ℕ → Variables → Control → Type 0
 ControlWell n me p Idle = Unit {0}
 ControlWell n me p (At d k) = IsLineOf me d k × VariablesAt n me p k
 
-pub called_well : (n me : ℕ) (p : Variables) (op : Op) → call_skip kind.Bits (square n) me op ≡ None → ControlWell n me p (At (task_of op) (counter op))
+pub called_well : (n me : ℕ) (p : Variables) (op : Op) → call_skip kind.Bits (square n) me op ≡ None →
+    ControlWell n me p (At (task_of op) (counter op))
 called_well n me p Scan e = (tt, tt)
 called_well n me p (Update word value) e = (own_word n me word value e, tt)
 
@@ -180,7 +183,8 @@ same_op n me d (Answer v) h = tt
 same_op n me d Finish h = tt
 
 -- no line traps: each does its move
-pub does : (n me : ℕ) (m : Registers) (p : Variables) (control : Control) → IsOneOf n me → BitWords n m.words → Sized n p → Bits n p.f → ControlWell n me p control →
+pub does : (n me : ℕ) (m : Registers) (p : Variables) (control : Control) → IsOneOf n me → BitWords n m.words → Sized n p → Bits n p.f →
+    ControlWell n me p control →
     embed.Does (algorithm n) me m p control
 does n me m p Idle i bits sized f h = tt
 does n me m p (At d k) i bits sized f h =

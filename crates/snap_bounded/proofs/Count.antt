@@ -113,7 +113,8 @@ raised_more false v h = omega arith
 abbrev pub counted_row : ℕ → ℕ → Variables → Variables
 counted_row n me p = record p { moved = for_each n (counted me p) p.moved }
 
-after_count : (n me : ℕ) (p : Variables) → all_true (map (agree me p) (places_to n)) ≡ false → (p' : Variables) → ((k : ℕ) → IsOneOf n k → moved_at p' k ≡ counted me p k) → moves n p < moves n p'
+after_count : (n me : ℕ) (p : Variables) → all_true (map (agree me p) (places_to n)) ≡ false → (p' : Variables) →
+    ((k : ℕ) → IsOneOf n k → moved_at p' k ≡ counted me p k) → moves n p < moves n p'
 after_count n me p failed p' is =
     let some = some_fails (agree me p) 1 n failed in
     let k = some.0 in
@@ -131,17 +132,22 @@ count_move n me d m p L11 own c c' recent recent' e f keeps sharp h =
     let b : budget n c' ≡ budget n 0 = ap (budget n) (let f : c' ≡ 0 = omega arith in f) in
     let two : budget n 0 ≡ 2 = budget_zero n in
     (omega arith, omega arith, omega arith)
-count_move n me d m p L12 own c c' recent recent' e f keeps sharp h = let b : budget n c' ≡ budget n c = same_budget n c c' e in (omega arith, omega arith, omega arith)
-count_move n me d m p L13 own c c' recent recent' e f keeps sharp h = let b : budget n c' ≡ budget n c = same_budget n c c' e in (omega arith, omega arith, omega arith)
-count_move n me d m p L14 own c c' recent recent' e f keeps sharp h = let b : budget n c' ≡ budget n c = same_budget n c c' e in (omega arith, omega arith, omega arith)
+count_move n me d m p L12 own c c' recent recent' e f keeps sharp h =
+    let b : budget n c' ≡ budget n c = same_budget n c c' e in (omega arith, omega arith, omega arith)
+count_move n me d m p L13 own c c' recent recent' e f keeps sharp h =
+    let b : budget n c' ≡ budget n c = same_budget n c c' e in (omega arith, omega arith, omega arith)
+count_move n me d m p L14 own c c' recent recent' e f keeps sharp h =
+    let b : budget n c' ≡ budget n c = same_budget n c c' e in (omega arith, omega arith, omega arith)
 count_move n me d m p L15 own c c' recent recent' e f keeps sharp h =
     let b : budget n c' ≡ budget n c = same_budget n c c' e in
     either (CountMove n me (suc own) c' recent') (nat_lt p.j n) _ _ (λ t. (omega arith, omega arith, omega arith)) (λ t. let ge : n ≤ p.j = not_lt p.j n t in (omega arith, omega arith, omega arith))
-count_move n me d m p L16 own c c' recent recent' e f keeps sharp h = let b : budget n c' ≡ budget n c = same_budget n c c' e in (omega arith, omega arith, omega arith)
+count_move n me d m p L16 own c c' recent recent' e f keeps sharp h =
+    let b : budget n c' ≡ budget n c = same_budget n c c' e in (omega arith, omega arith, omega arith)
 count_move n me d m p L17 own c c' recent recent' e f keeps sharp h =
     let b : budget n c' ≡ budget n c = same_budget n c c' e in
     either (CountMove n me (suc own) c' recent') (nat_lt p.j n) _ _ (λ t. (omega arith, omega arith, omega arith)) (λ t. let ge : n ≤ p.j = not_lt p.j n t in (omega arith, omega arith, omega arith))
-count_move n me d m p L18 own c c' recent recent' e f keeps sharp h = let b : budget n c' ≡ budget n c = same_budget n c c' e in (omega arith, omega arith, omega arith)
+count_move n me d m p L18 own c c' recent recent' e f keeps sharp h =
+    let b : budget n c' ≡ budget n c = same_budget n c c' e in (omega arith, omega arith, omega arith)
 count_move n me d m p L19 own c c' recent recent' e f keeps sharp h =
     let b : budget n c' ≡ budget n c = same_budget n c c' e in
     either (CountMove n me (suc own) c' recent') (nat_lt p.j n) _ _ (λ t. (omega arith, omega arith, omega arith)) (λ t. let ge : n ≤ p.j = not_lt p.j n t in (omega arith, omega arith, omega arith))
@@ -152,24 +158,29 @@ count_move n me d m p L20 own c c' recent recent' e f keeps sharp h =
     (λ t. (omega arith, omega arith, omega arith, omega arith, t))
 count_move n me d m p L21 own c c' recent recent' e f keeps sharp h =
     let b : budget n c' ≡ budget n c = same_budget n c c' e in
-    let more : moves n p < moves n (counted_row n me p) = after_count n me p h.4 (counted_row n me p) (λ k i. for_each_at n (counted me p) p.moved k i) in
+    let more : moves n p < moves n (counted_row n me p) =
+    after_count n me p h.4 (counted_row n me p) (λ k i. for_each_at n (counted me p) p.moved k i) in
     (omega arith, omega arith, omega arith)
 count_move n me d m p L22 own c c' recent recent' e f keeps sharp h =
     let b : budget n c' ≡ budget n c = same_budget n c c' e in
     whether (CountMove n me (suc own) c' recent') (first_to d m p) (first_true 1 (map (at_limit p) (places_to n))) (λ none. (omega arith, omega arith)) (λ k found. (omega arith, omega arith))
-count_move n me d m p L23 own c c' recent recent' e f keeps sharp h = let b : budget n c' ≡ budget n c = same_budget n c c' e in (omega arith, omega arith, omega arith)
-count_move n me d m p L25 own c c' recent recent' e f keeps sharp h = let b : budget n c' ≡ budget n c = same_budget n c c' e in (omega arith, omega arith)
+count_move n me d m p L23 own c c' recent recent' e f keeps sharp h =
+    let b : budget n c' ≡ budget n c = same_budget n c c' e in (omega arith, omega arith, omega arith)
+count_move n me d m p L25 own c c' recent recent' e f keeps sharp h =
+    let b : budget n c' ≡ budget n c = same_budget n c c' e in (omega arith, omega arith)
 count_move n me Scanning m p L26 own c c' recent recent' e f keeps sharp h = tt
 count_move n me (Embedded word value) m p L26 own c c' recent recent' e f keeps sharp h = tt
 count_move n me (Updating word value) m p L26 own c c' recent recent' e f keeps sharp h = tt
-count_move n me d m p L27 own c c' recent recent' e f keeps sharp h = let b : budget n c' ≡ budget n c = same_budget n c c' e in (omega arith, omega arith)
+count_move n me d m p L27 own c c' recent recent' e f keeps sharp h =
+    let b : budget n c' ≡ budget n c = same_budget n c c' e in (omega arith, omega arith)
 count_move n me Scanning m p L28 own c c' recent recent' e f keeps sharp h = tt
 count_move n me (Embedded word value) m p L28 own c c' recent recent' e f keeps sharp h = tt
 count_move n me (Updating word value) m p L28 own c c' recent recent' e f keeps sharp h = tt
 count_move n me d m p L40 own c c' recent recent' e f keeps sharp h = tt
 count_move n me d m p L41 own c c' recent recent' e f keeps sharp h = tt
 count_move n me d m p L42 own c c' recent recent' e f keeps sharp h = tt
-count_move n me d m p L43 own c c' recent recent' e f keeps sharp h = either (CountMove n me (suc own) c' recent') (nat_lt p.j n) _ _ (λ t. tt) (λ t. tt)
+count_move n me d m p L43 own c c' recent recent' e f keeps sharp h =
+    either (CountMove n me (suc own) c' recent') (nat_lt p.j n) _ _ (λ t. tt) (λ t. tt)
 count_move n me Scanning m p L44 own c c' recent recent' e f keeps sharp h = tt
 count_move n me (Embedded word value) m p L44 own c c' recent recent' e f keeps sharp h = tt
 count_move n me (Updating word value) m p L44 own c c' recent recent' e f keeps sharp h = tt
@@ -189,7 +200,8 @@ InScanLine L47 = ⊥
 InScanLine _ = Unit {0}
 
 -- the bounds at each line of a scan
-pub collects_le : (n me : ℕ) (p : Variables) (k : ProgramCounter) (own c recent : ℕ) → 0 < n → VariablesAt n me p k → ((k ≡ L20) → moves n p < n) → Count n me p own c recent k → InScanLine k → c + tests k ≤ n
+pub collects_le : (n me : ℕ) (p : Variables) (k : ProgramCounter) (own c recent : ℕ) → 0 < n → VariablesAt n me p k → ((k ≡ L20) → moves n p < n) →
+    Count n me p own c recent k → InScanLine k → c + tests k ≤ n
 collects_le n me p L10 own c recent pos keeps sharp h s = omega arith
 collects_le n me p L11 own c recent pos keeps sharp h s = omega arith
 collects_le n me p L12 own c recent pos keeps sharp h s = let t : moves n p ≤ n = moves_le n p keeps.1 in omega arith
@@ -220,7 +232,8 @@ collects_le n me p L47 own c recent pos keeps sharp h s = absurd s
 own_all : (n c own : ℕ) → c ≤ n → own ≤ budget n c + 8 * n → own + 1 ≤ 8 * (n * n) + 12 * n + 7
 own_all n c own le h = let b : budget n c ≤ 8 * (n * n) + 4 * n + 2 = budget_le n c le in omega arith
 
-pub own_le : (n me : ℕ) (p : Variables) (k : ProgramCounter) (own c recent : ℕ) → VariablesAt n me p k → Count n me p own c recent k → c ≤ n → InScanLine k → own + 1 ≤ 8 * (n * n) + 12 * n + 7
+pub own_le : (n me : ℕ) (p : Variables) (k : ProgramCounter) (own c recent : ℕ) → VariablesAt n me p k → Count n me p own c recent k → c ≤ n →
+    InScanLine k → own + 1 ≤ 8 * (n * n) + 12 * n + 7
 own_le n me p L10 own c recent keeps h le s = omega arith
 own_le n me p L11 own c recent keeps h le s = omega arith
 own_le n me p L12 own c recent keeps h le s = own_all n c own le (omega arith)

@@ -29,11 +29,13 @@ abbrev pub Flows : ℕ → Task → Registers → Variables → ProgramCounter �
 Flows n = flow.Flows lines (algorithm n)
 
 -- a line of a scan that goes on
-on : (n me : ℕ) (d : Task) (m m' : Registers) (p p' : Variables) (k k' : ProgramCounter) → IsScan me d → writes k ≡ 0 → m'.words ≡ m.words → Flows n d m p k (To d m' p' k')
+on : (n me : ℕ) (d : Task) (m m' : Registers) (p p' : Variables) (k k' : ProgramCounter) → IsScan me d → writes k ≡ 0 → m'.words ≡ m.words →
+    Flows n d m p k (To d m' p' k')
 on n me d m m' p p' k k' s quiet kept = flow.within lines (algorithm n) d m m' p p' k k' (in_scan me d s) quiet kept
 
 -- a line of an update that goes on and does not write, before its scan
-before : (n me : ℕ) (d : Task) (m : Registers) (p p' : Variables) (k k' : ProgramCounter) → IsUpdate me d → written k ≡ 0 → writes k ≡ 0 → written k' ≡ 0 → (IsLate k' → ⊥) → Flows n d m p k (To d m p' k')
+before : (n me : ℕ) (d : Task) (m : Registers) (p p' : Variables) (k k' : ProgramCounter) → IsUpdate me d → written k ≡ 0 → writes k ≡ 0 →
+    written k' ≡ 0 → (IsLate k' → ⊥) → Flows n d m p k (To d m p' k')
 before n me Scanning m p p' k k' s past now next early = absurd s
 before n me (Embedded word value) m p p' k k' s past now next early = absurd s
 before n me (Updating word value) m p p' k k' s past now next early = (inl refl, refl, (omega arith), λ late. absurd (early late))
@@ -44,11 +46,14 @@ flows n me d m p L11 s = on n me d m _ p _ L11 L12 s refl refl
 flows n me d m p L12 s = on n me d m _ p _ L12 L13 s refl refl
 flows n me d m p L13 s = on n me d m _ p _ L13 L14 s refl refl
 flows n me d m p L14 s = on n me d m _ p _ L14 L15 s refl refl
-flows n me d m p L15 s = either (Flows n d m p L15) (nat_lt p.j n) _ _ (λ b. on n me d m m p _ L15 L12 s refl refl) (λ b. on n me d m m p _ L15 L16 s refl refl)
+flows n me d m p L15 s =
+    either (Flows n d m p L15) (nat_lt p.j n) _ _ (λ b. on n me d m m p _ L15 L12 s refl refl) (λ b. on n me d m m p _ L15 L16 s refl refl)
 flows n me d m p L16 s = on n me d m _ p _ L16 L17 s refl refl
-flows n me d m p L17 s = either (Flows n d m p L17) (nat_lt p.j n) _ _ (λ b. on n me d m m p _ L17 L16 s refl refl) (λ b. on n me d m m p _ L17 L18 s refl refl)
+flows n me d m p L17 s =
+    either (Flows n d m p L17) (nat_lt p.j n) _ _ (λ b. on n me d m m p _ L17 L16 s refl refl) (λ b. on n me d m m p _ L17 L18 s refl refl)
 flows n me d m p L18 s = on n me d m _ p _ L18 L19 s refl refl
-flows n me d m p L19 s = either (Flows n d m p L19) (nat_lt p.j n) _ _ (λ b. on n me d m m p _ L19 L18 s refl refl) (λ b. on n me d m m p _ L19 L20 s refl refl)
+flows n me d m p L19 s =
+    either (Flows n d m p L19) (nat_lt p.j n) _ _ (λ b. on n me d m m p _ L19 L18 s refl refl) (λ b. on n me d m m p _ L19 L20 s refl refl)
 flows n me d m p L20 s =
     either (Flows n d m p L20) (all_true (map (agree me p) (places_to n))) _ _ (λ b. on n me d m m p p L20 L25 s refl refl) (λ b. on n me d m m p p L20 L21 s refl refl)
 flows n me d m p L21 s = on n me d m _ p _ L21 L22 s refl refl

@@ -24,14 +24,16 @@ pub record Square (n : ℕ) (q : List (List ℕ)) : Type 0 where
   pub bits : (i : ℕ) → IsOneOf n i → length (row_of q i) ≡ n
 
 -- line 14 sets one bit
-pub bit_set : (n : ℕ) (q : List (List ℕ)) (i j k v : ℕ) → Square n q → IsOneOf n i → IsOneOf n j → k ≡ j → bit_for (with_bit_at q (i - 1) (j - 1) v) i k ≡ v
+pub bit_set : (n : ℕ) (q : List (List ℕ)) (i j k v : ℕ) → Square n q → IsOneOf n i → IsOneOf n j → k ≡ j →
+    bit_for (with_bit_at q (i - 1) (j - 1) v) i k ≡ v
 bit_set n q i j k v h one jn e =
     let rows : length q ≡ n = h.rows in
     let bits : length (row_of q i) ≡ n = h.bits i one in
     ap (λ row. slice_index row (k - 1)) (get_or-set_at q (i - 1) (i - 1) (slice_set (row_of q i) (j - 1) v) [] refl (omega arith))
     ∙ place_set (row_of q i) j k v jn.0 (omega arith) e
 
-pub bit_kept : (n : ℕ) (q : List (List ℕ)) (i j k v : ℕ) → Square n q → IsOneOf n i → IsOneOf n j → IsOneOf n k → (k ≡ j → ⊥) → bit_for (with_bit_at q (i - 1) (j - 1) v) i k ≡ bit_for q i k
+pub bit_kept : (n : ℕ) (q : List (List ℕ)) (i j k v : ℕ) → Square n q → IsOneOf n i → IsOneOf n j → IsOneOf n k → (k ≡ j → ⊥) →
+    bit_for (with_bit_at q (i - 1) (j - 1) v) i k ≡ bit_for q i k
 bit_kept n q i j k v h one jn kn other =
     let rows : length q ≡ n = h.rows in
     ap (λ row. slice_index row (k - 1)) (get_or-set_at q (i - 1) (i - 1) (slice_set (row_of q i) (j - 1) v) [] refl (omega arith))
@@ -68,7 +70,8 @@ BitsMove n i m p r (Begin d p' k') = k' ≡ L10
 BitsMove n i m p r (Answer v) = Unit {0}
 BitsMove n i m p r Finish = Unit {0}
 
-pub bits_move : (n i : ℕ) (d : Task) (m : Registers) (p : Variables) (k : ProgramCounter) → IsOneOf n i → Square n m.q → Sized n p → IsLineOf i d k → VariablesAt n i p k →
+pub bits_move : (n i : ℕ) (d : Task) (m : Registers) (p : Variables) (k : ProgramCounter) → IsOneOf n i → Square n m.q → Sized n p → IsLineOf i d k →
+    VariablesAt n i p k →
     BitsMove n i m p (reach n p k) (move n i d m p k)
 bits_move n i d m p L10 one square sized s h = λ k ik lt. absurd (omega arith)
 bits_move n i d m p L11 one square sized s h = λ k ik lt. absurd (omega arith)
@@ -89,13 +92,17 @@ bits_move n i d m p L14 one square sized s h = λ k ik lt.
           bit_kept n m.q i p.j k (place p.g p.j) square one jn ik other,
         )
     ]
-bits_move n i d m p L15 one square sized s h = either (BitsMove n i m p (reach n p L15)) (nat_lt p.j n) _ _ (λ b. λ k ik lt. inl (omega arith, refl, refl, refl))
+bits_move n i d m p L15 one square sized s h =
+    either (BitsMove n i m p (reach n p L15)) (nat_lt p.j n) _ _ (λ b. λ k ik lt. inl (omega arith, refl, refl, refl))
     (λ b. let ge : n ≤ p.j = not_lt p.j n b in λ k ik lt. inl (omega arith, refl, refl, refl))
 bits_move n i d m p L16 one square sized s h = λ k ik lt. inl (omega arith, refl, refl, refl)
-bits_move n i d m p L17 one square sized s h = either (BitsMove n i m p (reach n p L17)) (nat_lt p.j n) _ _ (λ b. λ k ik lt. inl (omega arith, refl, refl, refl)) (λ b. λ k ik lt. inl (omega arith, refl, refl, refl))
+bits_move n i d m p L17 one square sized s h =
+    either (BitsMove n i m p (reach n p L17)) (nat_lt p.j n) _ _ (λ b. λ k ik lt. inl (omega arith, refl, refl, refl)) (λ b. λ k ik lt. inl (omega arith, refl, refl, refl))
 bits_move n i d m p L18 one square sized s h = λ k ik lt. inl (omega arith, refl, refl, refl)
-bits_move n i d m p L19 one square sized s h = either (BitsMove n i m p (reach n p L19)) (nat_lt p.j n) _ _ (λ b. λ k ik lt. inl (omega arith, refl, refl, refl)) (λ b. λ k ik lt. inl (omega arith, refl, refl, refl))
-bits_move n i d m p L20 one square sized s h = either (BitsMove n i m p (reach n p L20)) (all_true (map (agree i p) (places_to n))) _ _ (λ b. λ k ik lt. absurd (omega arith)) (λ b. λ k ik lt. inl (omega arith, refl, refl, refl))
+bits_move n i d m p L19 one square sized s h =
+    either (BitsMove n i m p (reach n p L19)) (nat_lt p.j n) _ _ (λ b. λ k ik lt. inl (omega arith, refl, refl, refl)) (λ b. λ k ik lt. inl (omega arith, refl, refl, refl))
+bits_move n i d m p L20 one square sized s h =
+    either (BitsMove n i m p (reach n p L20)) (all_true (map (agree i p) (places_to n))) _ _ (λ b. λ k ik lt. absurd (omega arith)) (λ b. λ k ik lt. inl (omega arith, refl, refl, refl))
 bits_move n i d m p L21 one square sized s h = λ k ik lt. absurd (omega arith)
 bits_move n i d m p L22 one square sized s h =
     whether (BitsMove n i m p (reach n p L22)) (first_to d m p) (first_true 1 (map (at_limit p) (places_to n)))
@@ -112,7 +119,8 @@ bits_move n i (Updating word value) m p L28 one square sized s h = absurd s
 bits_move n i d m p L40 one square sized s h = λ k ik lt. absurd (omega arith)
 bits_move n i d m p L41 one square sized s h = λ k ik lt. absurd (omega arith)
 bits_move n i d m p L42 one square sized s h = λ k ik lt. absurd (omega arith)
-bits_move n i d m p L43 one square sized s h = either (BitsMove n i m p (reach n p L43)) (nat_lt p.j n) _ _ (λ b. λ k ik lt. absurd (omega arith)) (λ b. λ k ik lt. absurd (omega arith))
+bits_move n i d m p L43 one square sized s h =
+    either (BitsMove n i m p (reach n p L43)) (nat_lt p.j n) _ _ (λ b. λ k ik lt. absurd (omega arith)) (λ b. λ k ik lt. absurd (omega arith))
 bits_move n i Scanning m p L44 one square sized s h = absurd s
 bits_move n i (Embedded word value) m p L44 one square sized s h = absurd s
 bits_move n i (Updating word value) m p L44 one square sized s h = refl
@@ -205,7 +213,8 @@ all_said me said bit (Embedded word value) s h = h
 all_said me said bit (Updating word value) s h = h
 
 -- a process's lines keep what it will say, while the bit stands
-pub answers_move : (n me i bit : ℕ) (d : Task) (m : Registers) (p : Variables) (k : ProgramCounter) → IsOneOf n i → Sized n p → IsLineOf me d k → VariablesAt n me p k → bit_for m.q i me ≡ bit →
+pub answers_move : (n me i bit : ℕ) (d : Task) (m : Registers) (p : Variables) (k : ProgramCounter) → IsOneOf n i → Sized n p → IsLineOf me d k →
+    VariablesAt n me p k → bit_for m.q i me ≡ bit →
     Answers i bit d p k → AnswersMove i bit (move n me d m p k)
 answers_move n me i bit d m p L10 one sized s keeps put h = h
 answers_move n me i bit d m p L11 one sized s keeps put h = h
@@ -217,9 +226,11 @@ answers_move n me i bit d m p L16 one sized s keeps put h = h
 answers_move n me i bit d m p L17 one sized s keeps put h = either (AnswersMove i bit) (nat_lt p.j n) _ _ (λ b. h) (λ b. h)
 answers_move n me i bit d m p L18 one sized s keeps put h = h
 answers_move n me i bit d m p L19 one sized s keeps put h = either (AnswersMove i bit) (nat_lt p.j n) _ _ (λ b. h) (λ b. h)
-answers_move n me i bit d m p L20 one sized s keeps put h = either (AnswersMove i bit) (all_true (map (agree me p) (places_to n))) _ _ (λ b. h) (λ b. h)
+answers_move n me i bit d m p L20 one sized s keeps put h =
+    either (AnswersMove i bit) (all_true (map (agree me p) (places_to n))) _ _ (λ b. h) (λ b. h)
 answers_move n me i bit d m p L21 one sized s keeps put h = h
-answers_move n me i bit d m p L22 one sized s keeps put h = whether (AnswersMove i bit) (first_to d m p) (first_true 1 (map (at_limit p) (places_to n))) (λ e. h) (λ k e. h)
+answers_move n me i bit d m p L22 one sized s keeps put h =
+    whether (AnswersMove i bit) (first_to d m p) (first_true 1 (map (at_limit p) (places_to n))) (λ e. h) (λ k e. h)
 answers_move n me i bit d m p L23 one sized s keeps put h = h
 answers_move n me i bit d m p L25 one sized s keeps put h = h
 answers_move n me i bit d m p L26 one sized s keeps put h = answers_return i bit d m p h

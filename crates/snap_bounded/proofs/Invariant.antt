@@ -87,15 +87,18 @@ pub record Invariant (n t : ℕ) (history : ℕ → Words) (x : State) : Type 0 
   pub start : (i k : ℕ) → IsOneOf n i → IsOneOf n k → PairInvariant history x.memory.words (typed_at (algorithm n) x i) (typed_at (algorithm n) x k) k
   pub answered : (i k : ℕ) → IsOneOf n i → IsOneOf n k → Answered n x.memory.words i (typed_at (algorithm n) x i) k (typed_at (algorithm n) x k)
 
-stage_at_kept : (n i : ℕ) (history : ℕ → Words) (t t' since round : ℕ) (words words' : Words) (p : Variables) (control : Control) → t ≤ t' → Grows n words words' → ControlWell n i p control →
+stage_at_kept : (n i : ℕ) (history : ℕ → Words) (t t' since round : ℕ) (words words' : Words) (p : Variables) (control : Control) → t ≤ t' →
+    Grows n words words' → ControlWell n i p control →
     StageAt n i history t since round words p control → StageAt n i history t' since round words' p control
 stage_at_kept n i history t t' since round words words' p Idle le g well h = tt
 stage_at_kept n i history t t' since round words words' p (At d k) le g well h =
     stage_kept n i history t t' since round words words' p k le g (line_place n i p k well.1) h
 
 -- other processes act
-pub others_act : (n t t' : ℕ) (history : ℕ → Words) (m m' : Registers) (i : ℕ) (q : Process) → t ≤ t' → Grows n m.words m'.words → word_at m'.words i ≡ word_at m.words i →
-    ((k : ℕ) → IsOneOf n k → bit_for m'.q i k ≡ bit_for m.q i k) → Late n m'.words q.variables.g q.variables.marks i (reach_at n q.variables q.control) →
+pub others_act : (n t t' : ℕ) (history : ℕ → Words) (m m' : Registers) (i : ℕ) (q : Process) → t ≤ t' → Grows n m.words m'.words →
+    word_at m'.words i ≡ word_at m.words i →
+    ((k : ℕ) → IsOneOf n k → bit_for m'.q i k ≡ bit_for m.q i k) →
+        Late n m'.words q.variables.g q.variables.marks i (reach_at n q.variables q.control) →
     Viewed n history t' q.auxiliary.since m'.words → ProcessInvariant n t history m i q → ProcessInvariant n t' history m' i q
 others_act n t t' history m m' i q le g same put late v h = record {
   well = h.well;
@@ -141,10 +144,12 @@ pub record ProcessChange (n t : ℕ) (history : ℕ → Words) (x : State) (i : 
       × (place (typed_at (algorithm n) x i).variables.marks k < seq_at x.memory.words k)
       × (place (typed_at (algorithm n) x i).variables.g k ≡ place q'.variables.g k)
   -- as the process that answers
-  pub answers : (u bit : ℕ) → IsOneOf n u → bit_for x.memory.q u i ≡ bit → AnswersAt u bit (typed_at (algorithm n) x i).variables (typed_at (algorithm n) x i).control →
+  pub answers : (u bit : ℕ) → IsOneOf n u → bit_for x.memory.q u i ≡ bit →
+      AnswersAt u bit (typed_at (algorithm n) x i).variables (typed_at (algorithm n) x i).control →
       AnswersAt u bit q'.variables q'.control
 
-pub process_changes : (n t : ℕ) (history : ℕ → Words) (x : State) (i : ℕ) (m' : Registers) (q' : Process) (o : Outcome) → length x.processes ≡ n → IsOneOf n i → history t ≡ x.memory.words → Invariant n t history x →
+pub process_changes : (n t : ℕ) (history : ℕ → Words) (x : State) (i : ℕ) (m' : Registers) (q' : Process) (o : Outcome) → length x.processes ≡ n →
+    IsOneOf n i → history t ≡ x.memory.words → Invariant n t history x →
     ProcessChange n t history x i m' q' → Invariant n t history (changed x i (New m' q' o))
 process_changes n t history x i m' q' o count one now h change =
     let c : Change = New m' q' o in
@@ -153,7 +158,8 @@ process_changes n t history x i m' q' o count one now h change =
     let q = typed_at a x i in
     let new : typed_at a (changed x i c) i ≡ q' = embed.own_process a x i m' q' o count one in
     let at_i : (k : ℕ) → k ≡ i → typed_at a (changed x i c) k ≡ q' = λ k e. ap (typed_at a (changed x i c)) e ∙ new in
-    let off_i : (k : ℕ) → IsOneOf n k → k ≢ i → typed_at a (changed x i c) k ≡ typed_at a x k = λ k j ne. embed.other_process a x i k c one.0 j.0 ne in
+    let off_i : (k : ℕ) → IsOneOf n k → k ≢ i → typed_at a (changed x i c) k ≡ typed_at a x k =
+    λ k j ne. embed.other_process a x i k c one.0 j.0 ne in
     let ws : (P : Words → Type 0) → P words → P m'.words = λ P. subst P (sym change.words) in
     let asked_then : (b : ℕ) → IsOneOf n b → b < reach_at n q'.variables q'.control → place q'.variables.marks b < seq_at words b → AnswersAt i (place q'.variables.g b) (typed_at a x b).variables (typed_at a x b).control =
     λ b jb lt more. let r = change.asks b jb lt more in
@@ -219,7 +225,8 @@ process_changes n t history x i m' q' o count one now h change =
     }
 
 -- line 46
-pub line_46_writes : (n t : ℕ) (history : ℕ → Words) (x : State) (i : ℕ) (d : Task) (q' : Process) (o : Outcome) → length x.processes ≡ n → IsOneOf n i →
+pub line_46_writes : (n t : ℕ) (history : ℕ → Words) (x : State) (i : ℕ) (d : Task) (q' : Process) (o : Outcome) → length x.processes ≡ n →
+    IsOneOf n i →
     Invariant n t history x → (typed_at (algorithm n) x i).control ≡ At d L46 → IsUpdate i d →
     q' ≡ record { control = At d L47; variables = (typed_at (algorithm n) x i).variables; auxiliary = stepped_auxiliary (algorithm n) L46 (suc t) (typed_at (algorithm n) x i).auxiliary } →
     Invariant n (suc t) history (changed x i (New (with_written n i d x.memory (typed_at (algorithm n) x i).variables) q' o))
@@ -233,8 +240,10 @@ line_46_writes n t history x i d q' o count one h at up is =
     let c : Change = New m' q' o in
     let ownq : ProcessInvariant n t history x.memory i q = h.each i one in
     let len : length words ≡ n = h.size in
-    let toggle : q.variables.t ≡ (word_at words i).toggle → ⊥ = subst (λ (p : Control). ToggledAt (word_at words i).toggle q.variables p) at ownq.toggle in
-    let held : Held history t q.auxiliary.since q.variables.s = subst (λ (p : Control). StageAt n i history t q.auxiliary.since q.auxiliary.round words q.variables p) at ownq.stage in
+    let toggle : q.variables.t ≡ (word_at words i).toggle → ⊥ =
+    subst (λ (p : Control). ToggledAt (word_at words i).toggle q.variables p) at ownq.toggle in
+    let held : Held history t q.auxiliary.since q.variables.s =
+    subst (λ (p : Control). StageAt n i history t q.auxiliary.since q.auxiliary.round words q.variables p) at ownq.stage in
     let making : Making q.control = subst Making (sym at) (late i d up) in
     let word_put : (k : ℕ) → k ≡ i → word_at words' k ≡ w = λ k e. word_set words i k w one.0 (omega arith) e in
     let old_word : (k : ℕ) → IsOneOf n k → k ≢ i → word_at words' k ≡ word_at words k = λ k j ne. word_kept words i k w one.0 j.0 ne in
@@ -284,7 +293,8 @@ line_46_writes n t history x i d q' o count one h at up is =
     }) in
     let new : typed_at a (changed x i c) i ≡ q' = embed.own_process a x i m' q' o count one in
     let at_i : (k : ℕ) → k ≡ i → typed_at a (changed x i c) k ≡ q' = λ k e. ap (typed_at a (changed x i c)) e ∙ new in
-    let off_i : (k : ℕ) → IsOneOf n k → k ≢ i → typed_at a (changed x i c) k ≡ typed_at a x k = λ k j ne. embed.other_process a x i k c one.0 j.0 ne in
+    let off_i : (k : ℕ) → IsOneOf n k → k ≢ i → typed_at a (changed x i c) k ≡ typed_at a x k =
+    λ k j ne. embed.other_process a x i k c one.0 j.0 ne in
     record {
       size = length-set words (i - 1) w ∙ len;
       square = h.square;

@@ -57,7 +57,8 @@ abbrev pub at_line : Counts → ℕ → Op → Registers → Option ℕ → ℕ 
 at_line shape me op m link line p =
     effect_at listing_b (context_of shape me op p) (real m) (activity op link line) (instr_at listing_b.lines line)
 
-shown_if : (n : ℕ) (m : Registers) (t : Bool) (x y : Move) → (if t then shown (algorithm n) m x else shown (algorithm n) m y) ≡ shown (algorithm n) m (if t then x else y)
+shown_if : (n : ℕ) (m : Registers) (t : Bool) (x y : Move) →
+    (if t then shown (algorithm n) m x else shown (algorithm n) m y) ≡ shown (algorithm n) m (if t then x else y)
 shown_if n m true x y = refl
 shown_if n m false x y = refl
 
@@ -76,7 +77,8 @@ at_k n me d p k = at_place (context_of (square n) me (op_of d) p) k
 plain_at : (ws : Words) (k : ℕ) → slice_index_or (map plain ws) k no_word ≡ plain (slice_index_or ws k no_word)
 plain_at ws k = get_or-map plain ws k no_word
 
-plain_copied : (a ws : Words) (k r : ℕ) → slice_set (map plain a) k (slice_index_or (map plain ws) r no_word) ≡ map plain (slice_set a k (slice_index_or ws r no_word))
+plain_copied : (a ws : Words) (k r : ℕ) →
+    slice_set (map plain a) k (slice_index_or (map plain ws) r no_word) ≡ map plain (slice_set a k (slice_index_or ws r no_word))
 plain_copied a ws k r = ap (slice_set (map plain a) k) (plain_at ws r) ∙ sym (map-set plain a k (slice_index_or ws r no_word))
 
 pub plain_data : (ws : Words) → map (λ (r : Word). r.datum) (map plain ws) ≡ map (λ (r : Word). r.datum) ws
@@ -95,25 +97,31 @@ hand_ok n me d p k ws h one =
     bind_ok _ _ _ _ (place_ok (max n n) k h)
     (bind_ok _ _ _ _ (place_ok n me one) (ap (λ (w : Word). let r : Result ℕ Cause = Ok (slice_index w.hands (me - 1)) in r) (plain_at ws (k - 1))))
 
-hand_a : (n me : ℕ) (d : Task) (p : Variables) (k : ℕ) → IsOneOf (max n n) k → IsOneOf n me → term_value (at_k n me d p k) listing.hand_a ≡ Ok (hand_at (word_at p.a k) me)
+hand_a : (n me : ℕ) (d : Task) (p : Variables) (k : ℕ) → IsOneOf (max n n) k → IsOneOf n me →
+    term_value (at_k n me d p k) listing.hand_a ≡ Ok (hand_at (word_at p.a k) me)
 hand_a n me d p k h one = hand_ok n me d p k p.a h one
 
-hand_b : (n me : ℕ) (d : Task) (p : Variables) (k : ℕ) → IsOneOf (max n n) k → IsOneOf n me → term_value (at_k n me d p k) listing.hand_b ≡ Ok (hand_at (word_at p.b k) me)
+hand_b : (n me : ℕ) (d : Task) (p : Variables) (k : ℕ) → IsOneOf (max n n) k → IsOneOf n me →
+    term_value (at_k n me d p k) listing.hand_b ≡ Ok (hand_at (word_at p.b k) me)
 hand_b n me d p k h one = hand_ok n me d p k p.b h one
 
-toggle_a : (n me : ℕ) (d : Task) (p : Variables) (k : ℕ) → IsOneOf (max n n) k → term_value (at_k n me d p k) listing.toggle_a ≡ Ok (word_at p.a k).toggle
+toggle_a : (n me : ℕ) (d : Task) (p : Variables) (k : ℕ) → IsOneOf (max n n) k →
+    term_value (at_k n me d p k) listing.toggle_a ≡ Ok (word_at p.a k).toggle
 toggle_a n me d p k h = bind_ok _ _ _ _ (place_ok (max n n) k h) (ap (λ (w : Word). let r : Result ℕ Cause = Ok w.toggle in r) (plain_at p.a (k - 1)))
 
-toggle_b : (n me : ℕ) (d : Task) (p : Variables) (k : ℕ) → IsOneOf (max n n) k → term_value (at_k n me d p k) listing.toggle_b ≡ Ok (word_at p.b k).toggle
+toggle_b : (n me : ℕ) (d : Task) (p : Variables) (k : ℕ) → IsOneOf (max n n) k →
+    term_value (at_k n me d p k) listing.toggle_b ≡ Ok (word_at p.b k).toggle
 toggle_b n me d p k h = bind_ok _ _ _ _ (place_ok (max n n) k h) (ap (λ (w : Word). let r : Result ℕ Cause = Ok w.toggle in r) (plain_at p.b (k - 1)))
 
-row_ok : (n me : ℕ) (d : Task) (p : Variables) (k : ℕ) → IsOneOf (max n n) k → term_value (at_k n me d p k) (Row listing.moved Place) ≡ Ok (moved_at p k)
+row_ok : (n me : ℕ) (d : Task) (p : Variables) (k : ℕ) → IsOneOf (max n n) k →
+    term_value (at_k n me d p k) (Row listing.moved Place) ≡ Ok (moved_at p k)
 row_ok n me d p k h = bind_ok _ _ _ _ (place_ok (max n n) k h) refl
 
 bit_ok : (n me : ℕ) (d : Task) (p : Variables) (k : ℕ) → IsOneOf (max n n) k → term_value (at_k n me d p k) listing.bit ≡ Ok (place p.g k)
 bit_ok n me d p k h = bind_ok _ _ _ _ (place_ok (max n n) k h) refl
 
-owned_ok : {A : Type 0} (own : Bool) (word : A) (cause : Cause) (f : A → Result Effect Cause) → own ≡ true → ((if own then Ok word else Err cause) >>= f) ≡ f word
+owned_ok : {A : Type 0} (own : Bool) (word : A) (cause : Cause) (f : A → Result Effect Cause) → own ≡ true →
+    ((if own then Ok word else Err cause) >>= f) ≡ f word
 owned_ok own word cause f h = ap (λ b. (if b then Ok word else Err cause) >>= f) h
 
 -- bits
@@ -185,7 +193,8 @@ first_shown n d m p (Some k) = refl
 
 -- what a line leaves: these words among the locals, this view, these words or this bit among the registers
 abbrev pub left_words : Registers → Variables → Task → ℕ → Named Words → Result Effect Cause
-left_words m p d line ws = Ok (Goes (real m) (record { scalars = (locals_of p).scalars; rows = (locals_of p).rows; words = ws; views = (locals_of p).views }) (link_of (number back) d) line)
+left_words m p d line ws =
+    Ok (Goes (real m) (record { scalars = (locals_of p).scalars; rows = (locals_of p).rows; words = ws; views = (locals_of p).views }) (link_of (number back) d) line)
 
 abbrev pub left_view : Registers → Variables → Task → ℕ → List ℕ → Result Effect Cause
 left_view m p d line v = Ok (Goes (real m) (locals_of (record p { s = v })) (link_of (number back) d) line)
@@ -241,7 +250,8 @@ each_line n me d m p L25 one s h = ap (left_view m p d 26) (plain_taken n p.b)
 each_line n me Scanning m p L26 one s h = refl
 each_line n me (Embedded w x) m p L26 one s h = refl
 each_line n me (Updating w x) m p L26 one s h = absurd s
-each_line n me d m p L27 one s h = bind_ok _ _ _ _ (place_ok (max n n) p.j (in_places n p.j h)) (ap (λ (w : Word). left_view m p d 28 w.view) (plain_at p.b (p.j - 1)))
+each_line n me d m p L27 one s h =
+    bind_ok _ _ _ _ (place_ok (max n n) p.j (in_places n p.j h)) (ap (λ (w : Word). left_view m p d 28 w.view) (plain_at p.b (p.j - 1)))
 each_line n me Scanning m p L28 one s h = refl
 each_line n me (Embedded w x) m p L28 one s h = refl
 each_line n me (Updating w x) m p L28 one s h = absurd s

@@ -71,7 +71,8 @@ module _ (n : ℕ) (items : List Item) (fits : Fits (run_of n items)) where
         ]
       ]
     where
-      earlier : (x : ℕ) × (u < x) × (x ≤ v) × (executes (run_of n items) j 46 x ≡ true) → (x : ℕ) × (u < x) × (x ≤ suc v) × (executes (run_of n items) j 46 x ≡ true)
+      earlier : (x : ℕ) × (u < x) × (x ≤ v) × (executes (run_of n items) j 46 x ≡ true) →
+          (x : ℕ) × (u < x) × (x ≤ suc v) × (executes (run_of n items) j 46 x ≡ true)
       earlier w = (w.0, w.1, omega arith, w.3)
 
   -- line 21 counts the places where the copies differ
@@ -80,16 +81,20 @@ module _ (n : ℕ) (items : List Item) (fits : Fits (run_of n items)) where
   row_after t i d one is at21 =
       let x = state_at n items t in
       let q = at t i in
-      let q' : Process = record { control = At d L22; variables = counted_row n i q.variables; auxiliary = stepped_auxiliary (algorithm n) L21 (suc t) q.auxiliary } in
+      let q' : Process =
+      record { control = At d L22; variables = counted_row n i q.variables; auxiliary = stepped_auxiliary (algorithm n) L21 (suc t) q.auxiliary } in
       let state_becomes : state_at n items (suc t) ≡ changed x i (by_step (algorithm n) (suc t) x.memory i q (At d L21)) =
       ap (happens (algorithm n) (suc t) x) is ∙ ap (λ (p : Control). changed x i (by_step (algorithm n) (suc t) x.memory i q p)) at21 in
       ap (λ (y : State). (typed_at (algorithm n) y i).variables) state_becomes
       ∙ ap (λ (y : Process). y.variables) (embed.own_process (algorithm n) x i x.memory q' Stepped (embed.count (algorithm n) items t) one)
 
-  row_is : (t i j : ℕ) → IsOneOf n i → t ≤ length items → row_place (process_at (state (run_of n items) t) i).locals listing.moved j ≡ moved_at (at t i).variables j
-  row_is t i j one short = ap (λ (p : NamedProcess). row_place p.locals listing.moved j) (embed.process_at_is (algorithm n) items fits (all_do n items fits) t i short one)
+  row_is : (t i j : ℕ) → IsOneOf n i → t ≤ length items →
+      row_place (process_at (state (run_of n items) t) i).locals listing.moved j ≡ moved_at (at t i).variables j
+  row_is t i j one short =
+      ap (λ (p : NamedProcess). row_place p.locals listing.moved j) (embed.process_at_is (algorithm n) items fits (all_do n items fits) t i short one)
 
-  pub move_is_write : (i j : ℕ) (link : Option ℕ) (c t : ℕ) → Scan (run_of n items) i link c (suc t) → c ≤ t → ObservedMove (run_of n items) 21 listing.moved i j (suc t) →
+  pub move_is_write : (i j : ℕ) (link : Option ℕ) (c t : ℕ) → Scan (run_of n items) i link c (suc t) → c ≤ t →
+      ObservedMove (run_of n items) 21 listing.moved i j (suc t) →
       RecentWrite (run_of n items) 46 i j c (suc t)
   move_is_write i j link c t scan le move =
       let r = run_of n items in
@@ -105,7 +110,8 @@ module _ (n : ℕ) (items : List Item) (fits : Fits (run_of n items)) where
       let round = (at t i).auxiliary.round in
       let stage = stage_of n items fits t i busy.0 L21 (omega arith) one busy.1 in
       let between : Between n i (words_at n items) t (at t i).auxiliary.since round (words_at n items t) p.g p.marks p.a p.b (n + 1) = stage.1 in
-      let second : Second n i (words_at n items) t (at t i).auxiliary.since round (words_at n items t) p.g p.marks p.a p.b (n + 1) (words_at n items between.0) = between.3 in
+      let second : Second n i (words_at n items) t (at t i).auxiliary.since round (words_at n items t) p.g p.marks p.a p.b (n + 1) (words_at n items between.0) =
+      between.3 in
       let grows : moved_at p j < counted i p j =
       subst (λ y. y < counted i p j) (row_is t i j one (omega arith))
       (subst (λ y. row_place (process_at (state r t) i).locals listing.moved j < y)
@@ -123,7 +129,8 @@ module _ (n : ℕ) (items : List Item) (fits : Fits (run_of n items)) where
       let tested : (at t i).auxiliary.tested ≡ double_collects r i round t = g.tested in
       let last : double_collects r i round (suc t) ≤ double_collects r i round t + 0 =
       span.last_collects (algorithm n) (λ k. (line_listed k).tested) items fits (all_do n items fits) (lawful n items fits) i one round t busy.0 L21 g.round_before (omega arith) busy.1 in
-      let fewer : double_collects r i write.0 (suc t) ≤ double_collects r i round (suc t) = span.count_later (ends_double_collect r i) round write.0 (suc t) (omega arith) in
+      let fewer : double_collects r i write.0 (suc t) ≤ double_collects r i round (suc t) =
+      span.count_later (ends_double_collect r i) round write.0 (suc t) (omega arith) in
       record {
         item = write.0;
         after_start = omega arith;

@@ -34,12 +34,14 @@ abbrev pub at : ℕ → State → ℕ → Process
 at n x i = typed_at (algorithm n) x i
 
 -- no process sees itself move, so the test at line 20 comes after fewer than n moves
-unmoved : (n i : ℕ) (base opening words : Words) (p : Variables) → IsOneOf n i → Low n base opening p.moved → seq_at opening i ≤ seq_at words i → BelowLimit n p →
+unmoved : (n i : ℕ) (base opening words : Words) (p : Variables) → IsOneOf n i → Low n base opening p.moved → seq_at opening i ≤ seq_at words i →
+    BelowLimit n p →
     seq_at base i ≡ seq_at words i → moves n p < n
 unmoved n i base opening words p one low opened below self =
     moves_less n i p one (let l : floor base p.moved i ≤ seq_at opening i = low i one in omega arith) below
 
-pub few_moves : (n me : ℕ) (history : ℕ → Words) (t since round : ℕ) (words : Words) (d : Task) (p : Variables) (k : ProgramCounter) → IsOneOf n me → IsLineOf me d k → VariablesAt n me p k →
+pub few_moves : (n me : ℕ) (history : ℕ → Words) (t since round : ℕ) (words : Words) (d : Task) (p : Variables) (k : ProgramCounter) → IsOneOf n me →
+    IsLineOf me d k → VariablesAt n me p k →
     ((k : ℕ) → IsOneOf n k → seq_at (history round) k ≤ seq_at words k) → (IsInScan d → seq_at (history since) me ≡ seq_at words me) →
     Stage n me history t since round words p k → k ≡ L20 → moves n p < n
 few_moves n me history t since round words d p k one line keeps opened self stage e =
@@ -61,7 +63,8 @@ opened_next n history words true t round now h k i = at_most_now history words t
 opened_next n history words false t round now h k i = h k i
 
 -- a process whose operation has ended
-idle_own : (n t : ℕ) (history : ℕ → Words) (m : Registers) (i : ℕ) (q : Process) (d : Task) (k : ProgramCounter) → q.control ≡ At d k → writes k ≡ 0 → history t ≡ m.words →
+idle_own : (n t : ℕ) (history : ℕ → Words) (m : Registers) (i : ℕ) (q : Process) (d : Task) (k : ProgramCounter) → q.control ≡ At d k → writes k ≡ 0 →
+    history t ≡ m.words →
     ProcessInvariant n t history m i q → ProcessInvariant n t history m i (record { control = Idle; variables = q.variables; auxiliary = stepped_auxiliary (algorithm n) k t q.auxiliary })
 idle_own n t history m i q d k is quiet now own = record {
   well = tt;
@@ -96,11 +99,13 @@ record MoveOwes (n t : ℕ) (history : ℕ → Words) (x : State) (i : ℕ) (d :
   pub wrote : flow.CountsWrites lines ((at n x i).auxiliary.wrote + writes k) v
 
 -- what the handshake owes after a line that goes on
-asked_next : (i : ℕ) (m m' : Registers) (p p' : Variables) (r k : ℕ) → (k < r → bit_for m.q i k ≡ place p.g k) → KeepsBit i m p r m' p' k → bit_for m'.q i k ≡ place p'.g k
+asked_next : (i : ℕ) (m m' : Registers) (p p' : Variables) (r k : ℕ) → (k < r → bit_for m.q i k ≡ place p.g k) → KeepsBit i m p r m' p' k →
+    bit_for m'.q i k ≡ place p'.g k
 asked_next i m m' p p' r k h (inl kept) = kept.3 ∙ h kept.0 ∙ sym kept.1
 asked_next i m m' p p' r k h (inr put) = put.1
 
-late_next : (i : ℕ) (m m' : Registers) (p p' : Variables) (r k : ℕ) → (k < r → place p.marks k + 2 ≤ seq_at m.words k → hand_at (word_at m.words k) i ≡ place p.g k → ⊥) →
+late_next : (i : ℕ) (m m' : Registers) (p p' : Variables) (r k : ℕ) →
+    (k < r → place p.marks k + 2 ≤ seq_at m.words k → hand_at (word_at m.words k) i ≡ place p.g k → ⊥) →
     KeepsBit i m p r m' p' k → place p'.marks k + 2 ≤ seq_at m.words k → hand_at (word_at m.words k) i ≡ place p'.g k → ⊥
 late_next i m m' p p' r k h (inl kept) more says = h kept.0 (let e : place p'.marks k ≡ place p.marks k = kept.2 in omega arith) (says ∙ kept.1)
 late_next i m m' p p' r k h (inr put) more says = absurd (let e : place p'.marks k ≡ seq_at m.words k = put.0 in omega arith)
@@ -111,7 +116,8 @@ asks_next i m m' p p' r k (inl kept) more = (kept.0, (let e : place p'.marks k �
 asks_next i m m' p p' r k (inr put) more = absurd (let e : place p'.marks k ≡ seq_at m.words k = put.0 in omega arith)
 
 -- a line that ends the operation
-end_keeps : (n t : ℕ) (history : ℕ → Words) (x : State) (i : ℕ) (d : Task) (k : ProgramCounter) → length x.processes ≡ n → IsOneOf n i → history t ≡ x.memory.words → Invariant n t history x →
+end_keeps : (n t : ℕ) (history : ℕ → Words) (x : State) (i : ℕ) (d : Task) (k : ProgramCounter) → length x.processes ≡ n → IsOneOf n i →
+    history t ≡ x.memory.words → Invariant n t history x →
     (at n x i).control ≡ At d k → writes k ≡ 0 → (o : Outcome) →
     Invariant n t history (changed x i (New x.memory (record { control = Idle; variables = (at n x i).variables; auxiliary = stepped_auxiliary (algorithm n) k t (at n x i).auxiliary }) o))
 end_keeps n t history x i d k count one now h is quiet o =
@@ -138,8 +144,10 @@ line_keeps n t history x i d k (To d' m' p k') count one now h is quiet owes =
     let q' : Process = record { control = At d' k'; variables = p; auxiliary = stepped_auxiliary (algorithm n) k t q.auxiliary } in
     let fit : Fit n (word_at m.words i).toggle p k' = owes.fit in
     let ws : (P : Words → Type 0) → P m.words → P m'.words = λ P. subst P (sym owes.words) in
-    let asked : Asked n m.q q.variables.g i (reach n q.variables k) = subst (λ (c : Control). Asked n m.q q.variables.g i (reach_at n q.variables c)) is own.asked in
-    let late : Late n m.words q.variables.g q.variables.marks i (reach n q.variables k) = subst (λ (c : Control). Late n m.words q.variables.g q.variables.marks i (reach_at n q.variables c)) is own.late in
+    let asked : Asked n m.q q.variables.g i (reach n q.variables k) =
+    subst (λ (c : Control). Asked n m.q q.variables.g i (reach_at n q.variables c)) is own.asked in
+    let late : Late n m.words q.variables.g q.variables.marks i (reach n q.variables k) =
+    subst (λ (c : Control). Late n m.words q.variables.g q.variables.marks i (reach_at n q.variables c)) is own.late in
     let bits : (u : ℕ) → IsOneOf n u → u < reach n p k' → KeepsBit i m q.variables (reach n q.variables k) m' p u = owes.bits in
     process_changes n t history x i m' q' Stepped count one now h (record {
       words = owes.words;
@@ -291,7 +299,8 @@ line_46_keeps n t history x i d count one h is =
     line_46_writes n t history x i d _ Stepped count one h is well.0 refl
 
 -- one step of a process
-step_keeps : (n t : ℕ) (history : ℕ → Words) (x : State) (i : ℕ) (control : Control) → ((u : ℕ) → u ≤ t → length (history u) ≡ n) → length x.processes ≡ n → IsOneOf n i →
+step_keeps : (n t : ℕ) (history : ℕ → Words) (x : State) (i : ℕ) (control : Control) → ((u : ℕ) → u ≤ t → length (history u) ≡ n) →
+    length x.processes ≡ n → IsOneOf n i →
     Invariant n t history x → (at n x i).control ≡ control →
     history (suc t) ≡ (changed x i (by_step (algorithm n) (suc t) x.memory i (at n x i) control)).memory.words →
     Invariant n (suc t) history (changed x i (by_step (algorithm n) (suc t) x.memory i (at n x i) control))
@@ -354,7 +363,9 @@ call_keeps n t history x i op Idle count one h is now =
     admission_keeps n (suc t) history x i op (call_skip kind.Bits (square n) i op) refl count one (time_passes n t history x h) is now
 call_keeps n t history x i op (At d k) count one h is now = time_passes n t history x h
 
-pub item_keeps : (n t : ℕ) (history : ℕ → Words) (x : State) (y : Item) → ((u : ℕ) → u ≤ t → length (history u) ≡ n) → length x.processes ≡ n → IsOneOf n (who y) →
-    Invariant n t history x → history (suc t) ≡ (happens (algorithm n) (suc t) x y).memory.words → Invariant n (suc t) history (happens (algorithm n) (suc t) x y)
+pub item_keeps : (n t : ℕ) (history : ℕ → Words) (x : State) (y : Item) → ((u : ℕ) → u ≤ t → length (history u) ≡ n) → length x.processes ≡ n →
+    IsOneOf n (who y) →
+    Invariant n t history x → history (suc t) ≡ (happens (algorithm n) (suc t) x y).memory.words →
+        Invariant n (suc t) history (happens (algorithm n) (suc t) x y)
 item_keeps n t history x (Step i) lengths count one h now = step_keeps n t history x i (at n x i).control lengths count one h refl now
 item_keeps n t history x (Call i op) lengths count one h now = call_keeps n t history x i op (at n x i).control count one h refl now

@@ -58,7 +58,8 @@ zero_row n i h = get_or-replicate n (i - 1) (replicate n 0) [] (omega arith)
 zero_bit : (n k count : ℕ) → IsOneOf n k → n ≤ count → place (replicate count 0) k ≤ 1
 zero_bit n k count h le = let z : place (replicate count 0) k ≡ 0 = get_or-replicate count (k - 1) 0 0 (omega arith) in omega arith
 
-process_at_the_start : (n : ℕ) (history : ℕ → Words) (i : ℕ) → IsOneOf n i → history 0 ≡ first_words n n → ProcessInvariant n 0 history (first_registers n) i (first_process (algorithm n))
+process_at_the_start : (n : ℕ) (history : ℕ → Words) (i : ℕ) → IsOneOf n i → history 0 ≡ first_words n n →
+    ProcessInvariant n 0 history (first_registers n) i (first_process (algorithm n))
 process_at_the_start n history i h now =
     let z : (k : ℕ) → IsOneOf n k → seq_at (first_words n n) k ≡ 0 = λ k j. ap (λ (y : Word). y.seq) (zero_at n k j) in
     record {
@@ -86,7 +87,8 @@ process_at_the_start n history i h now =
 
 at_the_start : (n : ℕ) (history : ℕ → Words) → history 0 ≡ first_words n n → Invariant n 0 history (first_state (algorithm n))
 at_the_start n history now =
-    let at : (i : ℕ) → IsOneOf n i → typed_at (algorithm n) (first_state (algorithm n)) i ≡ first_process (algorithm n) = λ i h. get_or-replicate n (i - 1) (first_process (algorithm n)) (first_process (algorithm n)) (omega arith) in
+    let at : (i : ℕ) → IsOneOf n i → typed_at (algorithm n) (first_state (algorithm n)) i ≡ first_process (algorithm n) =
+    λ i h. get_or-replicate n (i - 1) (first_process (algorithm n)) (first_process (algorithm n)) (omega arith) in
     record {
       size = length-replicate n (first_word n);
       square = record { rows = length-replicate n (replicate n 0); bits = λ i h. ap length (zero_row n i h) ∙ length-replicate n 0 };
@@ -112,10 +114,12 @@ invariant_and_sizes n items fits (suc t) h =
       ],
     )
 
-pub invariant : (n : ℕ) (items : List Item) → Fits (run_of n items) → (t : ℕ) → t ≤ length items → Invariant n t (words_at n items) (state_at n items t)
+pub invariant : (n : ℕ) (items : List Item) → Fits (run_of n items) → (t : ℕ) → t ≤ length items →
+    Invariant n t (words_at n items) (state_at n items t)
 invariant n items fits t h = (invariant_and_sizes n items fits t h).0
 
-pub invariant_of : (n : ℕ) (items : List Item) → Fits (run_of n items) → (t i : ℕ) → t ≤ length items → IsOneOf n i → ProcessInvariant n t (words_at n items) (registers_at n items t) i (process_after n items t i)
+pub invariant_of : (n : ℕ) (items : List Item) → Fits (run_of n items) → (t i : ℕ) → t ≤ length items → IsOneOf n i →
+    ProcessInvariant n t (words_at n items) (registers_at n items t) i (process_after n items t i)
 invariant_of n items fits t i h one = (invariant n items fits t h).each i one
 
 pub all_do : (n : ℕ) (items : List Item) → Fits (run_of n items) → embed.AllDo (algorithm n) items
@@ -137,15 +141,18 @@ flows_at n i m p Idle h = tt
 flows_at n i m p (At d k) h = flows n i d m p k h.0
 
 pub all_flow : (n : ℕ) (items : List Item) → Fits (run_of n items) → scans.AllFlow (algorithm n) lines items
-all_flow n items fits t i h one = flows_at n i (registers_at n items t) (process_after n items t i).variables (process_after n items t i).control (invariant_of n items fits t i (omega arith) one).well
+all_flow n items fits t i h one =
+    flows_at n i (registers_at n items t) (process_after n items t i).variables (process_after n items t i).control (invariant_of n items fits t i (omega arith) one).well
 
 -- at state t the scan that process i started at item c goes on
 abbrev pub Goes : (n : ℕ) (items : List Item) → Fits (run_of n items) → (i : ℕ) → IsOneOf n i → Option ℕ → ℕ → ℕ → Type 0
 Goes n items fits i one link c t = scans.Goes (algorithm n) lines (listed n) items fits (all_do n items fits) (all_flow n items fits) i one link c t
 
-pub goes : (n : ℕ) (items : List Item) (fits : Fits (run_of n items)) (i : ℕ) (one : IsOneOf n i) (link : Option ℕ) (c e t : ℕ) → Scan (run_of n items) i link c e → c ≤ t → t < e →
+pub goes : (n : ℕ) (items : List Item) (fits : Fits (run_of n items)) (i : ℕ) (one : IsOneOf n i) (link : Option ℕ) (c e t : ℕ) →
+    Scan (run_of n items) i link c e → c ≤ t → t < e →
     Goes n items fits i one link c t
-goes n items fits i one link c e t scan le lt = scans.goes (algorithm n) lines (listed n) items fits (all_do n items fits) (all_flow n items fits) i one link c e t scan le lt
+goes n items fits i one link c e t scan le lt =
+    scans.goes (algorithm n) lines (listed n) items fits (all_do n items fits) (all_flow n items fits) i one link c e t scan le lt
 
 pub lawful : (n : ℕ) (items : List Item) → Fits (run_of n items) → (t i : ℕ) → t < length items → IsOneOf n i →
     span.LawfulAt (algorithm n) i (registers_at n items t) (process_after n items t i).variables (process_after n items t i).control
@@ -163,7 +170,8 @@ stage_of n items fits t i d k le one e =
 abbrev pub Writes : ℕ → State → Item → Type 0
 Writes n x y = (i : ℕ) × (d : Task) × (y ≡ Step i) × ((typed_at (algorithm n) x i).control ≡ At d L46)
 
-step_writes : (n t : ℕ) (x : State) (i : ℕ) (control : Control) → (typed_at (algorithm n) x i).control ≡ control → ControlWell n i (typed_at (algorithm n) x i).variables control →
+step_writes : (n t : ℕ) (x : State) (i : ℕ) (control : Control) → (typed_at (algorithm n) x i).control ≡ control →
+    ControlWell n i (typed_at (algorithm n) x i).variables control →
     ((changed x i (by_step (algorithm n) t x.memory i (typed_at (algorithm n) x i) control)).memory.words ≡ x.memory.words) ⊎ Writes n x (Step i)
 step_writes n t x i Idle is well = inl refl
 step_writes n t x i (At d k) is well =
@@ -173,18 +181,22 @@ step_writes n t x i (At d k) is well =
       | inr e ↦ inr (i, d, refl, is ∙ ap (λ y. At d y) e)
     ]
 
-admission_keeps_words : (n t : ℕ) (x : State) (i : ℕ) (op : Op) (o : Option Reason) → (changed x i (by_admission (algorithm n) t x.memory (typed_at (algorithm n) x i) op o)).memory.words ≡ x.memory.words
+admission_keeps_words : (n t : ℕ) (x : State) (i : ℕ) (op : Op) (o : Option Reason) →
+    (changed x i (by_admission (algorithm n) t x.memory (typed_at (algorithm n) x i) op o)).memory.words ≡ x.memory.words
 admission_keeps_words n t x i op (Some why) = refl
 admission_keeps_words n t x i op None = refl
 
-call_keeps_words : (n t : ℕ) (x : State) (i : ℕ) (op : Op) (control : Control) → (changed x i (by_call (algorithm n) t x.memory i op (typed_at (algorithm n) x i) control)).memory.words ≡ x.memory.words
+call_keeps_words : (n t : ℕ) (x : State) (i : ℕ) (op : Op) (control : Control) →
+    (changed x i (by_call (algorithm n) t x.memory i op (typed_at (algorithm n) x i) control)).memory.words ≡ x.memory.words
 call_keeps_words n t x i op Idle = admission_keeps_words n t x i op (call_skip kind.Bits (square n) i op)
 call_keeps_words n t x i op (At d k) = refl
 
-item_writes : (n t : ℕ) (history : ℕ → Words) (x : State) (y : Item) → IsOneOf n (who y) → Invariant n t history x → ((happens (algorithm n) (suc t) x y).memory.words ≡ x.memory.words) ⊎ Writes n x y
+item_writes : (n t : ℕ) (history : ℕ → Words) (x : State) (y : Item) → IsOneOf n (who y) → Invariant n t history x →
+    ((happens (algorithm n) (suc t) x y).memory.words ≡ x.memory.words) ⊎ Writes n x y
 item_writes n t history x (Step i) one h = step_writes n (suc t) x i (typed_at (algorithm n) x i).control refl (h.each i one).well
 item_writes n t history x (Call i op) one h = inl (call_keeps_words n (suc t) x i op (typed_at (algorithm n) x i).control)
 
 pub words_change : (n : ℕ) (items : List Item) → Fits (run_of n items) → (t : ℕ) → t < length items →
     (words_at n items (suc t) ≡ words_at n items t) ⊎ Writes n (state_at n items t) (item_at items t)
-words_change n items fits t h = item_writes n t (words_at n items) (state_at n items t) (item_at items t) (one_at n items fits t h) (invariant n items fits t (omega arith))
+words_change n items fits t h =
+    item_writes n t (words_at n items) (state_at n items t) (item_at items t) (one_at n items fits t h) (invariant n items fits t (omega arith))

@@ -92,7 +92,8 @@ stage_move n i history t since round d m p L11 known h = (h, λ k ik lt. absurd 
 stage_move n i history t since round d m p L12 known h =
     let len : length p.a ≡ max n n = known.sized.0 in
     let one : IsOneOf n p.j = known.keeps.0 in
-    let set : word_at (slice_set p.a (p.j - 1) (word_at m.words p.j)) p.j ≡ word_at m.words p.j = word_set p.a p.j p.j (word_at m.words p.j) one.0 (omega arith) refl in
+    let set : word_at (slice_set p.a (p.j - 1) (word_at m.words p.j)) p.j ≡ word_at m.words p.j =
+    word_set p.a p.j p.j (word_at m.words p.j) one.0 (omega arith) refl in
     (h.0, h.1, subst (λ (w : Word). (seq_at (history round) p.j ≤ w.seq) × Follows w (word_at m.words p.j)) (sym set) (known.opened p.j one, inr refl))
 stage_move n i history t since round d m p L13 known h =
     let len : length p.g ≡ max n n = known.sized.2 in
@@ -141,7 +142,8 @@ stage_move n i history t since round d m p L21 known h =
           let first = s.first k ik in
           let fresh : seq_at (history round) k ≤ place p.marks k = first.fresh in
           let marked : place p.marks k ≤ seq_at p.a k = first.marked in
-          let le : seq_at p.a k ≤ seq_at p.b k = follows_seq (word_at p.a k) (word_at p.b k) (copies_follow n i history t since round m.words p h.1 k ik) in
+          let le : seq_at p.a k ≤ seq_at p.b k =
+          follows_seq (word_at p.a k) (word_at p.b k) (copies_follow n i history t since round m.words p h.1 k ik) in
           rw (for_each_at n (counted i p) p.moved k ik)
           (gained_at (seq_at (history since) k) (seq_at (history round) k) (seq_at p.b k) (moved_at p k) (agree i p k) (h.0 k ik) (omega arith)
           (moved_since n i history t since round m.words p h.1 k ik));
@@ -183,7 +185,8 @@ low_kept n base words words' moved g h k ik =
     let l : floor base moved k ≤ seq_at words k = h k ik in
     let le : seq_at words k ≤ seq_at words' k = follows_seq (word_at words k) (word_at words' k) (g k ik) in omega arith
 
-drawn_kept : (n : ℕ) (opening words words' : Words) (g : List ℕ) (i k : ℕ) → IsOneOf n k → Grows n words words' → Drawn opening words g i k → Drawn opening words' g i k
+drawn_kept : (n : ℕ) (opening words words' : Words) (g : List ℕ) (i k : ℕ) → IsOneOf n k → Grows n words words' → Drawn opening words g i k →
+    Drawn opening words' g i k
 drawn_kept n opening words words' g i k ik grows h = record {
   word = h.word;
   fresh = h.fresh;
@@ -191,7 +194,8 @@ drawn_kept n opening words words' g i k ik grows h = record {
   says = h.says;
 }
 
-put_kept : (n : ℕ) (opening words words' : Words) (g marks : List ℕ) (i j : ℕ) → Grows n words words' → PutTo n opening words g marks i j → PutTo n opening words' g marks i j
+put_kept : (n : ℕ) (opening words words' : Words) (g marks : List ℕ) (i j : ℕ) → Grows n words words' → PutTo n opening words g marks i j →
+    PutTo n opening words' g marks i j
 put_kept n opening words words' g marks i j grows h k ik lt =
     let old : Put opening words g marks i k = h k ik lt in
     record {
@@ -209,7 +213,8 @@ first_kept n opening words words' marks a j grows h k ik lt = record {
   before = follows_trans (word_at a k) (word_at words k) (word_at words' k) (h k ik lt).before (grows k ik);
 }
 
-between_kept : (n i : ℕ) (history : ℕ → Words) (t t' since round : ℕ) (words words' : Words) (g marks : List ℕ) (a b : Words) (j : ℕ) → t ≤ t' → Grows n words words' →
+between_kept : (n i : ℕ) (history : ℕ → Words) (t t' since round : ℕ) (words words' : Words) (g marks : List ℕ) (a b : Words) (j : ℕ) → t ≤ t' →
+    Grows n words words' →
     Between n i history t since round words g marks a b j → Between n i history t' since round words' g marks a b j
 between_kept n i history t t' since round words words' g marks a b j le grows h =
     let s : Second n i history t since round words g marks a b j (history h.0) = h.3 in (
@@ -271,20 +276,29 @@ line_place n i p L45 h = tt
 line_place n i p L46 h = tt
 line_place n i p L47 h = tt
 
-pub stage_kept : (n i : ℕ) (history : ℕ → Words) (t t' since round : ℕ) (words words' : Words) (p : Variables) (k : ProgramCounter) → t ≤ t' → Grows n words words' → IsLinePlace n p k →
+pub stage_kept : (n i : ℕ) (history : ℕ → Words) (t t' since round : ℕ) (words words' : Words) (p : Variables) (k : ProgramCounter) → t ≤ t' →
+    Grows n words words' → IsLinePlace n p k →
     Stage n i history t since round words p k → Stage n i history t' since round words' p k
 stage_kept n i history t t' since round words words' p L10 le g one h = h
 stage_kept n i history t t' since round words words' p L11 le g one h = h
 stage_kept n i history t t' since round words words' p L12 le g one h = (h.0, put_kept n (history round) words words' p.g p.marks i p.j g h.1)
-stage_kept n i history t t' since round words words' p L13 le g one h = (h.0, put_kept n (history round) words words' p.g p.marks i p.j g h.1, (h.2.0, follows_trans (word_at p.a p.j) (word_at words p.j) (word_at words' p.j) h.2.1 (g p.j one)))
-stage_kept n i history t t' since round words words' p L14 le g one h = (h.0, put_kept n (history round) words words' p.g p.marks i p.j g h.1, drawn_kept n (history round) words words' p.g i p.j one g h.2)
+stage_kept n i history t t' since round words words' p L13 le g one h =
+    (h.0, put_kept n (history round) words words' p.g p.marks i p.j g h.1, (h.2.0, follows_trans (word_at p.a p.j) (word_at words p.j) (word_at words' p.j) h.2.1 (g p.j one)))
+stage_kept n i history t t' since round words words' p L14 le g one h =
+    (h.0, put_kept n (history round) words words' p.g p.marks i p.j g h.1, drawn_kept n (history round) words words' p.g i p.j one g h.2)
 stage_kept n i history t t' since round words words' p L15 le g one h = (h.0, put_kept n (history round) words words' p.g p.marks i (p.j + 1) g h.1)
-stage_kept n i history t t' since round words words' p L16 le g one h = (h.0, put_kept n (history round) words words' p.g p.marks i (n + 1) g h.1, first_kept n (history round) words words' p.marks p.a p.j g h.2)
-stage_kept n i history t t' since round words words' p L17 le g one h = (h.0, put_kept n (history round) words words' p.g p.marks i (n + 1) g h.1, first_kept n (history round) words words' p.marks p.a (p.j + 1) g h.2)
-stage_kept n i history t t' since round words words' p L18 le g one h = (h.0, put_kept n (history round) words words' p.g p.marks i (n + 1) g h.1, between_kept n i history t t' since round words words' p.g p.marks p.a p.b p.j le g h.2)
-stage_kept n i history t t' since round words words' p L19 le g one h = (h.0, put_kept n (history round) words words' p.g p.marks i (n + 1) g h.1, between_kept n i history t t' since round words words' p.g p.marks p.a p.b (p.j + 1) le g h.2)
-stage_kept n i history t t' since round words words' p L20 le g one h = (h.0, between_kept n i history t t' since round words words' p.g p.marks p.a p.b (n + 1) le g h.1)
-stage_kept n i history t t' since round words words' p L21 le g one h = (h.0, between_kept n i history t t' since round words words' p.g p.marks p.a p.b (n + 1) le g h.1)
+stage_kept n i history t t' since round words words' p L16 le g one h =
+    (h.0, put_kept n (history round) words words' p.g p.marks i (n + 1) g h.1, first_kept n (history round) words words' p.marks p.a p.j g h.2)
+stage_kept n i history t t' since round words words' p L17 le g one h =
+    (h.0, put_kept n (history round) words words' p.g p.marks i (n + 1) g h.1, first_kept n (history round) words words' p.marks p.a (p.j + 1) g h.2)
+stage_kept n i history t t' since round words words' p L18 le g one h =
+    (h.0, put_kept n (history round) words words' p.g p.marks i (n + 1) g h.1, between_kept n i history t t' since round words words' p.g p.marks p.a p.b p.j le g h.2)
+stage_kept n i history t t' since round words words' p L19 le g one h =
+    (h.0, put_kept n (history round) words words' p.g p.marks i (n + 1) g h.1, between_kept n i history t t' since round words words' p.g p.marks p.a p.b (p.j + 1) le g h.2)
+stage_kept n i history t t' since round words words' p L20 le g one h =
+    (h.0, between_kept n i history t t' since round words words' p.g p.marks p.a p.b (n + 1) le g h.1)
+stage_kept n i history t t' since round words words' p L21 le g one h =
+    (h.0, between_kept n i history t t' since round words words' p.g p.marks p.a p.b (n + 1) le g h.1)
 stage_kept n i history t t' since round words words' p L22 le g one h = gained_kept n history t t' since words words' p.moved p.b le g h
 stage_kept n i history t t' since round words words' p L23 le g one h = low_kept n (history since) words words' p.moved g h
 stage_kept n i history t t' since round words words' p L25 le g one h = held_wider history t t' since since (data_of (take n p.b)) le (omega arith) h
@@ -330,11 +344,13 @@ opposite_differs x e = elim (nat_eq x 0) as (λ b. nat_eq x 0 ≡ b → (if b th
   | false ↦ λ is none. absurd (let z : nat_eq 0 0 ≡ false = subst (λ y. nat_eq y 0 ≡ false) (sym none) is in cc)
 ] refl e
 
-pub fit_move : (n i toggle : ℕ) (d : Task) (m : Registers) (p : Variables) (k : ProgramCounter) → IsLineOf i d k → VariablesAt n i p k → writes k ≡ 0 → Fit n toggle p k → FitMove n toggle (move n i d m p k)
+pub fit_move : (n i toggle : ℕ) (d : Task) (m : Registers) (p : Variables) (k : ProgramCounter) → IsLineOf i d k → VariablesAt n i p k →
+    writes k ≡ 0 → Fit n toggle p k → FitMove n toggle (move n i d m p k)
 fit_move n i toggle d m p L10 s keeps quiet h = h
 fit_move n i toggle d m p L11 s keeps quiet h = h
 fit_move n i toggle d m p L12 s keeps quiet h = ((length-set p.a (p.j - 1) (word_at m.words p.j) ∙ h.0.0, h.0.1, h.0.2, h.0.3, h.0.4), h.1, h.2)
-fit_move n i toggle d m p L13 s keeps quiet h = ((h.0.0, h.0.1, length-set p.g (p.j - 1) (hand_at (word_at p.a p.j) i) ∙ h.0.2, h.0.3, h.0.4), h.1, h.2)
+fit_move n i toggle d m p L13 s keeps quiet h =
+    ((h.0.0, h.0.1, length-set p.g (p.j - 1) (hand_at (word_at p.a p.j) i) ∙ h.0.2, h.0.3, h.0.4), h.1, h.2)
 fit_move n i toggle d m p L14 s keeps quiet h = ((h.0.0, h.0.1, h.0.2, h.0.3, length-set p.marks (p.j - 1) (seq_at m.words p.j) ∙ h.0.4), h.1, h.2)
 fit_move n i toggle d m p L15 s keeps quiet h = either (FitMove n toggle) (nat_lt p.j n) _ _ (λ b. h) (λ b. h)
 fit_move n i toggle d m p L16 s keeps quiet h = ((length-set p.a (p.j - 1) (word_at m.words p.j) ∙ h.0.0, h.0.1, h.0.2, h.0.3, h.0.4), h.1, h.2)
@@ -343,7 +359,8 @@ fit_move n i toggle d m p L18 s keeps quiet h = ((h.0.0, length-set p.b (p.j - 1
 fit_move n i toggle d m p L19 s keeps quiet h = either (FitMove n toggle) (nat_lt p.j n) _ _ (λ b. h) (λ b. h)
 fit_move n i toggle d m p L20 s keeps quiet h = either (FitMove n toggle) (all_true (map (agree i p) (places_to n))) _ _ (λ b. h) (λ b. h)
 fit_move n i toggle d m p L21 s keeps quiet h = h
-fit_move n i toggle d m p L22 s keeps quiet h = whether (FitMove n toggle) (first_to d m p) (first_true 1 (map (at_limit p) (places_to n))) (λ e. h) (λ k e. h)
+fit_move n i toggle d m p L22 s keeps quiet h =
+    whether (FitMove n toggle) (first_to d m p) (first_true 1 (map (at_limit p) (places_to n))) (λ e. h) (λ k e. h)
 fit_move n i toggle d m p L23 s keeps quiet h = h
 fit_move n i toggle d m p L25 s keeps quiet h = h
 fit_move n i toggle Scanning m p L26 s keeps quiet h = tt

@@ -31,7 +31,8 @@ step_of i (Step k) h = ap (λ u. Step u) (same_from k i h)
 step_of i (Call k op) h = absurd (cc)
 
 -- a process at a line stands at its program counter
-pub busy_at : (n line : ℕ) (there : ProgramCounter) (control : Control) → counter_with line ≡ Some there → is_at line (status_of (algorithm n) control) ≡ true →
+pub busy_at : (n line : ℕ) (there : ProgramCounter) (control : Control) → counter_with line ≡ Some there →
+    is_at line (status_of (algorithm n) control) ≡ true →
     (d : Task) × (control ≡ At d there)
 busy_at n line there Idle is h = absurd (cc)
 busy_at n line there (At d k) is h = (d, ap (λ y. At d y) (at_number k line there is h))
@@ -52,7 +53,8 @@ module _ (n : ℕ) (items : List Item) (fits : Fits (run_of n items)) where
   values_is : (t : ℕ) → t ≤ length items → values (state (run_of n items) t) ≡ data_of (words_at n items t)
   values_is t h = ap values (embed.state_is (algorithm n) items fits (all_do n items fits) t h) ∙ plain_data (words_at n items t)
 
-  pub write_executes : (t i : ℕ) (d : Task) → t < length items → item_at items t ≡ Step i → (at t i).control ≡ At d L46 → executes (run_of n items) i 46 (suc t) ≡ true
+  pub write_executes : (t i : ℕ) (d : Task) → t < length items → item_at items t ≡ Step i → (at t i).control ≡ At d L46 →
+      executes (run_of n items) i 46 (suc t) ≡ true
   write_executes t i d h is at46 =
       let one : IsOneOf n i = subst (λ y. IsOneOf n (who y)) is (embed.one_at (algorithm n) items fits (all_do n items fits) t h) in
       let stands : is_at 46 (process_at (state (run_of n items) t) i).status ≡ true =
@@ -69,9 +71,11 @@ module _ (n : ℕ) (items : List Item) (fits : Fits (run_of n items)) where
         | inr w ↦ inr (subst (λ (y : Item). executes (run_of n items) (who y) 46 (suc t) ≡ true) (sym w.2) (write_executes t w.0 w.1 h w.2 w.3))
       ]
 
-  quiet : (i : ℕ) → IsOneOf n i → (t : ℕ) → t < length items → (d : Task) (k : ProgramCounter) → (at t i).control ≡ At d k → (word value : ℕ) → op_of d ≡ Update word value →
+  quiet : (i : ℕ) → IsOneOf n i → (t : ℕ) → t < length items → (d : Task) (k : ProgramCounter) → (at t i).control ≡ At d k → (word value : ℕ) →
+      op_of d ≡ Update word value →
       called.NoAnswer (algorithm n) (move n i d (registers_at n items t) (at t i).variables k)
-  quiet i one = writes_once.silent (algorithm n) lines 46 (once n) items fits (all_do n items fits) (all_flow n items fits) (has_written n items fits) i one
+  quiet i one =
+      writes_once.silent (algorithm n) lines 46 (once n) items fits (all_do n items fits) (all_flow n items fits) (has_written n items fits) i one
 
   pub writes_its_update : (i t : ℕ) → IsOneOf n i → t < length items → executes (run_of n items) i 46 (suc t) ≡ true →
       (word : ℕ) × (value : ℕ) × (c : ℕ) × UpdateOf (run_of n items) i word value c (suc t) × (c < suc t) × IsOneOf n word
@@ -82,7 +86,8 @@ module _ (n : ℕ) (items : List Item) (fits : Fits (run_of n items)) where
       let stands : is_at 46 (status_of (algorithm n) (at t i).control) ≡ true =
       sym (ap (λ (p : NamedProcess). is_at 46 p.status) (embed.process_at_is (algorithm n) items fits (all_do n items fits) t i (omega arith) one)) ∙ parts.1 in
       let busy = busy_at n 46 L46 (at t i).control refl stands in
-      let well : ControlWell n i (at t i).variables (At busy.0 L46) = subst (ControlWell n i (at t i).variables) busy.1 (invariant_of n items fits t i (omega arith) one).well in
+      let well : ControlWell n i (at t i).variables (At busy.0 L46) =
+      subst (ControlWell n i (at t i).variables) busy.1 (invariant_of n items fits t i (omega arith) one).well in
       let up = update_of i busy.0 well.0 in
       let value = up.0 in
       let control : (at t i).control ≡ At (Updating i value) L46 = busy.1 ∙ ap (λ d. At d L46) up.1 in

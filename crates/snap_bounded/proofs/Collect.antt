@@ -10,7 +10,7 @@ use Rattle.snap_semantics.specs.Table.{places_to, all_true}
 use Rattle.snap_runs.proofs.Computing.{same_number, same_from, both}
 use Rattle.snap_runs.proofs.Held.{word_at, Held, data_of, seq_at, same_data}
 use Rattle.snap_runs.proofs.Places.{all_pass}
-use Rattle.snap_bounded.proofs.Algorithm.{Words, Variables, place, hand_at, agree, moved_at}
+use Rattle.snap_bounded.proofs.Algorithm.{Words, Variables, place, hand_at, agree}
 use Rattle.snap_bounded.proofs.Follow.{Follows, follows_trans, same_word, toggled, squeezed}
 
 -- In all that follows `history u` are the words after u items, t is the number of items so far and `words` the words now;
@@ -194,7 +194,7 @@ pub second_more : (n i : ℕ) (history : ℕ → Words) (t since round : ℕ) (w
     n ≤ length b →
     Viewed n history t since words → PutTo n (history round) words g marks i (n + 1) → Late n words g marks i (n + 1) →
     Between n i history t since round words g marks a b j →
-        Between n i history t since round words g marks a (slice_set b (j - 1) (word_at words j)) (j + 1)
+    Between n i history t since round words g marks a (slice_set b (j - 1) (word_at words j)) (j + 1)
 second_more n i history t since round words g marks a b j one len v shaken late h =
     let s : Second n i history t since round words g marks a b j (history h.0) = h.3 in (
       h.0,
@@ -245,7 +245,7 @@ agreed a b mark bit i f marked late hand toggle =
 pub passed : (n i : ℕ) (history : ℕ → Words) (t since round : ℕ) (words : Words) (p : Variables) → ((u : ℕ) → u ≤ t → length (history u) ≡ n) →
     n ≤ length p.b →
     Between n i history t since round words p.g p.marks p.a p.b (n + 1) → all_true (map (agree i p) (places_to n)) ≡ true →
-        Held history t since (data_of (take n p.b))
+    Held history t since (data_of (take n p.b))
 passed n i history t since round words p lengths len h test =
     let s : Second n i history t since round words p.g p.marks p.a p.b (n + 1) (history h.0) = h.3 in (
       h.0,

@@ -1,5 +1,5 @@
 -- The handshake of B: the bits that a scan has put, and what the other processes answer in their next words.
-use Rattle.std.specs.Prelude.{◌≡◌, ◌≢◌, ℕ, ◌+◌, ◌-◌, ◌<◌, ◌≤◌, ◌⊎◌, max, Bool, true, false, List, [], length, map, nat_eq, nat_lt, if◌then◌else◌, slice_index, slice_index_or, slice_set, refl}
+use Rattle.std.specs.Prelude.{◌≡◌, ◌≢◌, ℕ, ◌+◌, ◌-◌, ◌<◌, ◌≤◌, ◌⊎◌, max, List, [], length, map, nat_lt, slice_index, slice_index_or, slice_set, refl}
 use Rattle.std.proofs.Common.{sym, ◌∙◌, ap, subst, arith, inl, inr}
 use Rattle.std.proofs.lemmas.Bool.{cases_eq}
 use Rattle.std.proofs.lemmas.Grind.{get_or-set_at}
@@ -82,15 +82,15 @@ bits_move n i d m p L14 one square sized s h = λ k ik lt.
     let jn : IsOneOf n p.j = h.0 in
     elim (cases_eq k p.j) [
       | inl e ↦ inr (
-          place_set p.marks p.j k (seq_at m.words p.j) jn.0 (omega arith) e ∙ ap (seq_at m.words) (sym e),
-          bit_set n m.q i p.j k (place p.g p.j) square one jn e ∙ ap (place p.g) (sym e),
-        )
+        place_set p.marks p.j k (seq_at m.words p.j) jn.0 (omega arith) e ∙ ap (seq_at m.words) (sym e),
+        bit_set n m.q i p.j k (place p.g p.j) square one jn e ∙ ap (place p.g) (sym e),
+      )
       | inr other ↦ inl (
-          omega arith,
-          refl,
-          place_kept p.marks p.j k (seq_at m.words p.j) jn.0 ik.0 other,
-          bit_kept n m.q i p.j k (place p.g p.j) square one jn ik other,
-        )
+        omega arith,
+        refl,
+        place_kept p.marks p.j k (seq_at m.words p.j) jn.0 ik.0 other,
+        bit_kept n m.q i p.j k (place p.g p.j) square one jn ik other,
+      )
     ]
 bits_move n i d m p L15 one square sized s h =
     either (BitsMove n i m p (reach n p L15)) (nat_lt p.j n) _ _ (λ b. λ k ik lt. inl (omega arith, refl, refl, refl))

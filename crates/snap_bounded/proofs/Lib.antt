@@ -8,6 +8,7 @@ pub mod Stage
 pub mod Handshake
 pub mod Count
 pub mod Invariant
+pub mod Change
 pub mod Preserve
 pub mod Runs
 pub mod Points

@@ -4,7 +4,6 @@ use Rattle.std.proofs.Common.{sym, ◌∙◌, ap, subst, arith, inl, inr}
 use Rattle.std.proofs.Math.Nat.{eq-or-lt_of_le}
 use Rattle.std.proofs.lemmas.Bool.{cases_eq}
 use Rattle.snap_words.specs.Shape.{IsOneOf}
-use Rattle.snap_words.specs.Word.{Word}
 use Rattle.snap_words.specs.declared.kind.KindTag.TheVariants as kind
 use Rattle.snap_semantics.specs.Table.{call_skip, who}
 use Rattle.snap_semantics.specs.declared.process.Item.{Item}
@@ -21,12 +20,13 @@ use Rattle.snap_runs.proofs.Flow.{IsInScan, InScan}
 use Rattle.snap_runs.proofs.Held.{word_at, seq_at}
 use Rattle.snap_bounded.specs.Promises.{square}
 use Rattle.snap_bounded.proofs.Algorithm.{number, Words, Registers, Move, Control, Process, State, Variables, ProgramCounter, L10, L20, L40, L46, place, hand_at, bit_for, move, IsLineOf, lines, tests, restarts, writes, algorithm}
+use Rattle.snap_bounded.proofs.Change.{process_changes, line_46_writes}
 use Rattle.snap_bounded.proofs.Collect.{Low, Late, Viewed, floor}
 use Rattle.snap_bounded.proofs.Control.{BelowLimit, VariablesAt, MoveWell, ControlWell, move_well, called_well}
 use Rattle.snap_bounded.proofs.Count.{Count, CountMove, count_move, moves, moves_less}
 use Rattle.snap_bounded.proofs.Flows.{Making, HasWritten, in_scan, flows, line_listed, at_number}
 use Rattle.snap_bounded.proofs.Handshake.{Asked, Answers, KeepsBit, BitsMove, bits_move, PutsMove, puts_move, square_kept, rows_kept, AnswersMove, answers_move}
-use Rattle.snap_bounded.proofs.Invariant.{ProcessInvariant, Invariant, ProcessChange, StageAt, CountAt, ToggledAt, AnswersAt, reach_at, time_passes, process_changes, line_46_writes}
+use Rattle.snap_bounded.proofs.Invariant.{ProcessInvariant, Invariant, StageAt, CountAt, ToggledAt, AnswersAt, reach_at, time_passes}
 use Rattle.snap_bounded.proofs.Stage.{reach, Stage, StageMove, stage_move, IsToggle, Toggled, Fit, FitMove, fit_move}
 
 -- process i
@@ -296,7 +296,7 @@ line_46_keeps : (n t : ℕ) (history : ℕ → Words) (x : State) (i : ℕ) (d :
     (at n x i).control ≡ At d L46 → Invariant n (suc t) history (changed x i (by_step (algorithm n) (suc t) x.memory i (at n x i) (At d L46)))
 line_46_keeps n t history x i d count one h is =
     let well : ControlWell n i (at n x i).variables (At d L46) = subst (ControlWell n i (at n x i).variables) is (h.each i one).well in
-    line_46_writes n t history x i d _ Stepped count one h is well.0 refl
+    line_46_writes n t history x i d one h is well.0 Stepped count
 
 -- one step of a process
 step_keeps : (n t : ℕ) (history : ℕ → Words) (x : State) (i : ℕ) (control : Control) → ((u : ℕ) → u ≤ t → length (history u) ≡ n) →
@@ -366,6 +366,6 @@ call_keeps n t history x i op (At d k) count one h is now = time_passes n t hist
 pub item_keeps : (n t : ℕ) (history : ℕ → Words) (x : State) (y : Item) → ((u : ℕ) → u ≤ t → length (history u) ≡ n) → length x.processes ≡ n →
     IsOneOf n (who y) →
     Invariant n t history x → history (suc t) ≡ (happens (algorithm n) (suc t) x y).memory.words →
-        Invariant n (suc t) history (happens (algorithm n) (suc t) x y)
+    Invariant n (suc t) history (happens (algorithm n) (suc t) x y)
 item_keeps n t history x (Step i) lengths count one h now = step_keeps n t history x i (at n x i).control lengths count one h refl now
 item_keeps n t history x (Call i op) lengths count one h now = call_keeps n t history x i op (at n x i).control count one h refl now

@@ -1,5 +1,5 @@
 -- How far a scan of B has come at each line, and that each line takes it on.
-use Rattle.std.specs.Prelude.{◌≡◌, ℕ, zero, suc, ◌+◌, ◌-◌, ◌<◌, ◌≤◌, max, Bool, true, false, not, List, take, length, map, nat_eq, nat_lt, if◌then◌else◌, slice_set, refl}
+use Rattle.std.specs.Prelude.{◌≡◌, ℕ, zero, suc, ◌+◌, ◌-◌, ◌≤◌, max, true, false, List, take, length, map, nat_eq, nat_lt, if◌then◌else◌, slice_set, refl}
 use Rattle.std.proofs.Common.{sym, ◌∙◌, subst, arith, inl, inr}
 use Rattle.std.proofs.lemmas.Bool.{cases_eq}
 use Rattle.std.proofs.lemmas.List.{length-set}
@@ -14,7 +14,7 @@ use Rattle.snap_bounded.proofs.Algorithm.{Words, Registers, Move, Variables, Pro
 use Rattle.snap_bounded.proofs.Control.{VariablesAt, Sized, opposite_bit}
 use Rattle.snap_bounded.proofs.Lines.{Bits}
 use Rattle.snap_bounded.proofs.Follow.{Follows, follows_trans, follows_seq, Grows}
-use Rattle.snap_bounded.proofs.Collect.{floor, Low, Drawn, Put, PutTo, Late, FirstCopy, First, Viewed, SecondCopy, Second, Between, Gained, word_set, place_set, place_kept, put_drawn, just_drawn, put_more, first_more, second_starts, second_more, copies_follow, passed, moved_since, gained_at}
+use Rattle.snap_bounded.proofs.Collect.{floor, Low, Drawn, Put, PutTo, Late, First, Viewed, Second, Between, Gained, word_set, place_set, place_kept, put_drawn, just_drawn, put_more, first_more, second_starts, second_more, copies_follow, passed, moved_since, gained_at}
 
 -- The copy of the word at place j was read since the double collect's start.
 abbrev pub Copied : Words → Words → Words → ℕ → Type 0

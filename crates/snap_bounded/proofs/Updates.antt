@@ -1,5 +1,5 @@
 -- The writes of B: line 46 alone, once in each update that is done, with the update's value.
-use Rattle.std.specs.Prelude.{◌≡◌, ℕ, suc, ◌-◌, ◌<◌, ◌≤◌, ◌⊎◌, true, ◌&&◌, List, [], length, Some, slice_set, refl}
+use Rattle.std.specs.Prelude.{◌≡◌, ℕ, suc, ◌-◌, ◌<◌, ◌≤◌, ◌⊎◌, true, ◌&&◌, List, length, Some, slice_set, refl}
 use Rattle.std.proofs.Common.{sym, ◌∙◌, ap, subst, arith, inl, inr}
 use Rattle.std.proofs.lemmas.List.{map-set}
 use Rattle.snap_words.specs.Shape.{IsOneOf}

@@ -1,0 +1,262 @@
+-- The double collects and own steps of a scan of B.
+use Rattle.std.specs.Prelude.{◌≡◌, ℕ, zero, suc, ◌+◌, ◌-◌, ◌*◌, ◌<◌, ◌≤◌, Bool, true, false, not, map, nat_lt, if◌then◌else◌, refl}
+use Rattle.std.proofs.Common.{sym, ap, subst, arith}
+use Rattle.std.proofs.Math.Nat.{mul-add, mul_left_comm}
+use Rattle.snap_words.specs.Shape.{IsOneOf}
+use Rattle.snap_semantics.specs.Table.{places_to, all_true, first_true}
+use Rattle.snap_runs.proofs.Algorithm.{Task, Scanning, Embedded, Updating, To, Begin, Answer, Finish}
+use Rattle.snap_runs.proofs.Computing.{not_lt, either, whether}
+use Rattle.snap_runs.proofs.Places.{for_each, for_each_at, some_fails}
+use Rattle.snap_runs.proofs.Totals.{total, total_le, total_less, total_more}
+use Rattle.snap_bounded.proofs.Algorithm.{Registers, Move, Variables, ProgramCounter, L10, L11, L12, L13, L14, L15, L16, L17, L18, L19, L20, L21, L22, L23, L25, L26, L27, L28, L40, L41, L42, L43, L44, L45, L46, L47, move, first_to, agree, limit, moved_at, counted, at_limit, tests, restarts}
+use Rattle.snap_bounded.proofs.Control.{BelowLimit, VariablesAt}
+
+-- the own steps of c failed double collects
+pub budget : ℕ → ℕ → ℕ
+budget n zero = 2
+budget n (suc c) = budget n c + (8 * n + 4)
+
+pub budget_zero : (n : ℕ) → budget n 0 ≡ 2
+unfolding budget
+budget_zero n = refl
+
+pub same_budget : (n c c' : ℕ) → c' ≡ c + 0 → budget n c' ≡ budget n c
+same_budget n c c' e = ap (budget n) (let f : c' ≡ c = omega arith in f)
+
+pub next_budget : (n c c' : ℕ) → c' ≡ c + 1 → budget n c' ≡ budget n c + (8 * n + 4)
+unfolding budget
+next_budget n c c' e = ap (budget n) (let f : c' ≡ suc c = omega arith in f)
+
+budget_mono : (n c more : ℕ) → budget n c ≤ budget n (c + more)
+unfolding budget
+budget_mono n c zero = (let e : budget n (c + 0) ≡ budget n c = ap (budget n) (let f : c + 0 ≡ c = omega arith in f) in omega arith)
+budget_mono n c (suc more) =
+    let e : budget n (c + suc more) ≡ budget n (c + more) + (8 * n + 4) = ap (budget n) (let f : c + suc more ≡ suc (c + more) = omega arith in f) in
+    let rest : budget n c ≤ budget n (c + more) = budget_mono n c more in omega arith
+
+budget_is : (n c : ℕ) → budget n c ≡ c * (8 * n + 4) + 2
+unfolding budget
+budget_is n zero = omega arith
+budget_is n (suc c) =
+    let rest : budget n c ≡ c * (8 * n + 4) + 2 = budget_is n c in
+    let e : suc c * (8 * n + 4) ≡ c * (8 * n + 4) + (8 * n + 4) = grind arith in omega arith
+
+budget_all : (n : ℕ) → budget n n ≡ 8 * (n * n) + 4 * n + 2
+budget_all n =
+    let a : budget n n ≡ n * (8 * n + 4) + 2 = budget_is n n in
+    let b : n * (8 * n + 4) ≡ n * (8 * n) + n * 4 = mul-add n (8 * n) 4 in
+    let c : n * (8 * n) ≡ 8 * (n * n) = mul_left_comm n 8 n in omega arith
+
+pub budget_le : (n c : ℕ) → c ≤ n → budget n c ≤ 8 * (n * n) + 4 * n + 2
+budget_le n c h =
+    let a : budget n c ≤ budget n (c + (n - c)) = budget_mono n c (n - c) in
+    let e : budget n (c + (n - c)) ≡ budget n n = ap (budget n) (let f : c + (n - c) ≡ n = omega arith in f) in
+    let b : budget n n ≡ 8 * (n * n) + 4 * n + 2 = budget_all n in omega arith
+
+-- the moves that a scan has counted
+abbrev pub moves : ℕ → Variables → ℕ
+moves n p = total (moved_at p) n
+
+moves_le : (n : ℕ) (p : Variables) → BelowLimit n p → moves n p ≤ n
+moves_le n p below =
+    let all : moves n p ≤ n * 1 = total_le 1 (moved_at p) n (λ k i. let less : moved_at p k < limit = below k i in omega arith) in omega arith
+
+-- they are fewer where one process has not been seen to move
+pub moves_less : (n i : ℕ) (p : Variables) → IsOneOf n i → moved_at p i ≡ 0 → BelowLimit n p → moves n p < n
+moves_less n i p one zeroed below =
+    let all : moves n p + 1 ≤ n * 1 = total_less 1 (moved_at p) n i one zeroed (λ k e. let less : moved_at p k < limit = below k e in omega arith) in omega arith
+
+-- Where a scan of process me stands at a line, with this many own steps and ended double collects since its start, and
+-- `recent` ended double collects since its current one was started.
+abbrev pub Count : ℕ → ℕ → Variables → ℕ → ℕ → ℕ → ProgramCounter → Type 0
+Count n me p own c recent L10 = (own ≡ 0) × (c ≡ 0) × (recent ≡ 0)
+Count n me p own c recent L11 = (own ≤ 1) × (c ≡ 0) × (recent ≡ 0)
+Count n me p own c recent L12 = (own + 4 ≤ budget n c + 4 * p.j) × (c ≤ moves n p) × (recent ≡ 0)
+Count n me p own c recent L13 = (own + 3 ≤ budget n c + 4 * p.j) × (c ≤ moves n p) × (recent ≡ 0)
+Count n me p own c recent L14 = (own + 2 ≤ budget n c + 4 * p.j) × (c ≤ moves n p) × (recent ≡ 0)
+Count n me p own c recent L15 = (own + 1 ≤ budget n c + 4 * p.j) × (c ≤ moves n p) × (recent ≡ 0)
+Count n me p own c recent L16 = (own + 2 ≤ budget n c + 4 * n + 2 * p.j) × (c ≤ moves n p) × (recent ≡ 0)
+Count n me p own c recent L17 = (own + 1 ≤ budget n c + 4 * n + 2 * p.j) × (c ≤ moves n p) × (recent ≡ 0)
+Count n me p own c recent L18 = (own + 2 ≤ budget n c + 6 * n + 2 * p.j) × (c ≤ moves n p) × (recent ≡ 0)
+Count n me p own c recent L19 = (own + 1 ≤ budget n c + 6 * n + 2 * p.j) × (c ≤ moves n p) × (recent ≡ 0)
+Count n me p own c recent L20 = (own ≤ budget n c + 8 * n) × (c ≤ moves n p) × (recent ≡ 0)
+Count n me p own c recent L21 = (own + 3 ≤ budget n c) × (c ≤ moves n p + 1) × (c ≤ n) × (recent ≤ 1) × (all_true (map (agree me p) (places_to n)) ≡ false)
+Count n me p own c recent L22 = (own + 2 ≤ budget n c) × (c ≤ moves n p) × (c ≤ n)
+Count n me p own c recent L23 = (own + 1 ≤ budget n c) × (c ≤ moves n p)
+Count n me p own c recent L25 = (own + 3 ≤ budget n c) × (c ≤ n)
+Count n me p own c recent L26 = (own + 2 ≤ budget n c) × (c ≤ n)
+Count n me p own c recent L27 = (own + 1 ≤ budget n c) × (c ≤ n)
+Count n me p own c recent L28 = (own ≤ budget n c) × (c ≤ n)
+Count n me p own c recent L40 = Unit {0}
+Count n me p own c recent L41 = Unit {0}
+Count n me p own c recent L42 = Unit {0}
+Count n me p own c recent L43 = Unit {0}
+Count n me p own c recent L44 = Unit {0}
+Count n me p own c recent L45 = Unit {0}
+Count n me p own c recent L46 = Unit {0}
+Count n me p own c recent L47 = Unit {0}
+
+abbrev pub CountMove : ℕ → ℕ → ℕ → ℕ → ℕ → Move → Type 0
+CountMove n me own c recent (To d m p k) = Count n me p own c recent k
+CountMove n me own c recent (Begin d p k) = Unit {0}
+CountMove n me own c recent (Answer v) = Unit {0}
+CountMove n me own c recent Finish = Unit {0}
+
+raised : (b : Bool) (v : ℕ) → v ≤ (if not b then v + 1 else v)
+raised true v = omega arith
+raised false v = omega arith
+
+raised_more : (b : Bool) (v : ℕ) → b ≡ false → v < (if not b then v + 1 else v)
+raised_more true v h = absurd (cc)
+raised_more false v h = omega arith
+
+abbrev pub counted_row : ℕ → ℕ → Variables → Variables
+counted_row n me p = record p { moved = for_each n (counted me p) p.moved }
+
+after_count : (n me : ℕ) (p : Variables) → all_true (map (agree me p) (places_to n)) ≡ false → (p' : Variables) →
+    ((k : ℕ) → IsOneOf n k → moved_at p' k ≡ counted me p k) → moves n p < moves n p'
+after_count n me p failed p' is =
+    let some = some_fails (agree me p) 1 n failed in
+    let k = some.0 in
+    let i : IsOneOf n k = (omega arith, omega arith) in
+    total_more (moved_at p) (moved_at p') n k i
+    (subst (λ y. moved_at p k < y) (sym (is k i)) (raised_more (agree me p k) (moved_at p k) some.3))
+    (λ u j. subst (λ y. moved_at p u ≤ y) (sym (is u j)) (raised (agree me p u) (moved_at p u)))
+
+-- each line keeps the counts: c' and recent' are the double collects with its own
+pub count_move : (n me : ℕ) (d : Task) (m : Registers) (p : Variables) (k : ProgramCounter) (own c c' recent recent' : ℕ) → c' ≡ c + tests k →
+    recent' ≡ (if restarts k then 0 else recent + tests k) → VariablesAt n me p k → ((k ≡ L20) → moves n p < n) →
+    Count n me p own c recent k → CountMove n me (suc own) c' recent' (move n me d m p k)
+count_move n me d m p L10 own c c' recent recent' e f keeps sharp h = (omega arith, omega arith, omega arith)
+count_move n me d m p L11 own c c' recent recent' e f keeps sharp h =
+    let b : budget n c' ≡ budget n 0 = ap (budget n) (let f : c' ≡ 0 = omega arith in f) in
+    let two : budget n 0 ≡ 2 = budget_zero n in
+    (omega arith, omega arith, omega arith)
+count_move n me d m p L12 own c c' recent recent' e f keeps sharp h =
+    let b : budget n c' ≡ budget n c = same_budget n c c' e in (omega arith, omega arith, omega arith)
+count_move n me d m p L13 own c c' recent recent' e f keeps sharp h =
+    let b : budget n c' ≡ budget n c = same_budget n c c' e in (omega arith, omega arith, omega arith)
+count_move n me d m p L14 own c c' recent recent' e f keeps sharp h =
+    let b : budget n c' ≡ budget n c = same_budget n c c' e in (omega arith, omega arith, omega arith)
+count_move n me d m p L15 own c c' recent recent' e f keeps sharp h =
+    let b : budget n c' ≡ budget n c = same_budget n c c' e in
+    either (CountMove n me (suc own) c' recent') (nat_lt p.j n) _ _ (λ t. (omega arith, omega arith, omega arith)) (λ t. let ge : n ≤ p.j = not_lt p.j n t in (omega arith, omega arith, omega arith))
+count_move n me d m p L16 own c c' recent recent' e f keeps sharp h =
+    let b : budget n c' ≡ budget n c = same_budget n c c' e in (omega arith, omega arith, omega arith)
+count_move n me d m p L17 own c c' recent recent' e f keeps sharp h =
+    let b : budget n c' ≡ budget n c = same_budget n c c' e in
+    either (CountMove n me (suc own) c' recent') (nat_lt p.j n) _ _ (λ t. (omega arith, omega arith, omega arith)) (λ t. let ge : n ≤ p.j = not_lt p.j n t in (omega arith, omega arith, omega arith))
+count_move n me d m p L18 own c c' recent recent' e f keeps sharp h =
+    let b : budget n c' ≡ budget n c = same_budget n c c' e in (omega arith, omega arith, omega arith)
+count_move n me d m p L19 own c c' recent recent' e f keeps sharp h =
+    let b : budget n c' ≡ budget n c = same_budget n c c' e in
+    either (CountMove n me (suc own) c' recent') (nat_lt p.j n) _ _ (λ t. (omega arith, omega arith, omega arith)) (λ t. let ge : n ≤ p.j = not_lt p.j n t in (omega arith, omega arith, omega arith))
+count_move n me d m p L20 own c c' recent recent' e f keeps sharp h =
+    let b : budget n c' ≡ budget n c + (8 * n + 4) = next_budget n c c' e in
+    let less : moves n p < n = sharp refl in
+    either (CountMove n me (suc own) c' recent') (all_true (map (agree me p) (places_to n))) _ _ (λ t. (omega arith, omega arith))
+    (λ t. (omega arith, omega arith, omega arith, omega arith, t))
+count_move n me d m p L21 own c c' recent recent' e f keeps sharp h =
+    let b : budget n c' ≡ budget n c = same_budget n c c' e in
+    let more : moves n p < moves n (counted_row n me p) =
+    after_count n me p h.4 (counted_row n me p) (λ k i. for_each_at n (counted me p) p.moved k i) in
+    (omega arith, omega arith, omega arith)
+count_move n me d m p L22 own c c' recent recent' e f keeps sharp h =
+    let b : budget n c' ≡ budget n c = same_budget n c c' e in
+    whether (CountMove n me (suc own) c' recent') (first_to d m p) (first_true 1 (map (at_limit p) (places_to n))) (λ none. (omega arith, omega arith)) (λ k found. (omega arith, omega arith))
+count_move n me d m p L23 own c c' recent recent' e f keeps sharp h =
+    let b : budget n c' ≡ budget n c = same_budget n c c' e in (omega arith, omega arith, omega arith)
+count_move n me d m p L25 own c c' recent recent' e f keeps sharp h =
+    let b : budget n c' ≡ budget n c = same_budget n c c' e in (omega arith, omega arith)
+count_move n me Scanning m p L26 own c c' recent recent' e f keeps sharp h = tt
+count_move n me (Embedded word value) m p L26 own c c' recent recent' e f keeps sharp h = tt
+count_move n me (Updating word value) m p L26 own c c' recent recent' e f keeps sharp h = tt
+count_move n me d m p L27 own c c' recent recent' e f keeps sharp h =
+    let b : budget n c' ≡ budget n c = same_budget n c c' e in (omega arith, omega arith)
+count_move n me Scanning m p L28 own c c' recent recent' e f keeps sharp h = tt
+count_move n me (Embedded word value) m p L28 own c c' recent recent' e f keeps sharp h = tt
+count_move n me (Updating word value) m p L28 own c c' recent recent' e f keeps sharp h = tt
+count_move n me d m p L40 own c c' recent recent' e f keeps sharp h = tt
+count_move n me d m p L41 own c c' recent recent' e f keeps sharp h = tt
+count_move n me d m p L42 own c c' recent recent' e f keeps sharp h = tt
+count_move n me d m p L43 own c c' recent recent' e f keeps sharp h =
+    either (CountMove n me (suc own) c' recent') (nat_lt p.j n) _ _ (λ t. tt) (λ t. tt)
+count_move n me Scanning m p L44 own c c' recent recent' e f keeps sharp h = tt
+count_move n me (Embedded word value) m p L44 own c c' recent recent' e f keeps sharp h = tt
+count_move n me (Updating word value) m p L44 own c c' recent recent' e f keeps sharp h = tt
+count_move n me d m p L45 own c c' recent recent' e f keeps sharp h = tt
+count_move n me d m p L46 own c c' recent recent' e f keeps sharp h = tt
+count_move n me d m p L47 own c c' recent recent' e f keeps sharp h = tt
+
+abbrev pub InScanLine : ProgramCounter → Type 0
+InScanLine L40 = ⊥
+InScanLine L41 = ⊥
+InScanLine L42 = ⊥
+InScanLine L43 = ⊥
+InScanLine L44 = ⊥
+InScanLine L45 = ⊥
+InScanLine L46 = ⊥
+InScanLine L47 = ⊥
+InScanLine _ = Unit {0}
+
+-- the bounds at each line of a scan
+pub collects_le : (n me : ℕ) (p : Variables) (k : ProgramCounter) (own c recent : ℕ) → 0 < n → VariablesAt n me p k → ((k ≡ L20) → moves n p < n) →
+    Count n me p own c recent k → InScanLine k → c + tests k ≤ n
+collects_le n me p L10 own c recent pos keeps sharp h s = omega arith
+collects_le n me p L11 own c recent pos keeps sharp h s = omega arith
+collects_le n me p L12 own c recent pos keeps sharp h s = let t : moves n p ≤ n = moves_le n p keeps.1 in omega arith
+collects_le n me p L13 own c recent pos keeps sharp h s = let t : moves n p ≤ n = moves_le n p keeps.1 in omega arith
+collects_le n me p L14 own c recent pos keeps sharp h s = let t : moves n p ≤ n = moves_le n p keeps.1 in omega arith
+collects_le n me p L15 own c recent pos keeps sharp h s = let t : moves n p ≤ n = moves_le n p keeps.1 in omega arith
+collects_le n me p L16 own c recent pos keeps sharp h s = let t : moves n p ≤ n = moves_le n p keeps.1 in omega arith
+collects_le n me p L17 own c recent pos keeps sharp h s = let t : moves n p ≤ n = moves_le n p keeps.1 in omega arith
+collects_le n me p L18 own c recent pos keeps sharp h s = let t : moves n p ≤ n = moves_le n p keeps.1 in omega arith
+collects_le n me p L19 own c recent pos keeps sharp h s = let t : moves n p ≤ n = moves_le n p keeps.1 in omega arith
+collects_le n me p L20 own c recent pos keeps sharp h s = let t : moves n p < n = sharp refl in omega arith
+collects_le n me p L21 own c recent pos keeps sharp h s = omega arith
+collects_le n me p L22 own c recent pos keeps sharp h s = omega arith
+collects_le n me p L23 own c recent pos keeps sharp h s = let t : moves n p ≤ n = moves_le n p keeps.1 in omega arith
+collects_le n me p L25 own c recent pos keeps sharp h s = omega arith
+collects_le n me p L26 own c recent pos keeps sharp h s = omega arith
+collects_le n me p L27 own c recent pos keeps sharp h s = omega arith
+collects_le n me p L28 own c recent pos keeps sharp h s = omega arith
+collects_le n me p L40 own c recent pos keeps sharp h s = absurd s
+collects_le n me p L41 own c recent pos keeps sharp h s = absurd s
+collects_le n me p L42 own c recent pos keeps sharp h s = absurd s
+collects_le n me p L43 own c recent pos keeps sharp h s = absurd s
+collects_le n me p L44 own c recent pos keeps sharp h s = absurd s
+collects_le n me p L45 own c recent pos keeps sharp h s = absurd s
+collects_le n me p L46 own c recent pos keeps sharp h s = absurd s
+collects_le n me p L47 own c recent pos keeps sharp h s = absurd s
+
+own_all : (n c own : ℕ) → c ≤ n → own ≤ budget n c + 8 * n → own + 1 ≤ 8 * (n * n) + 12 * n + 7
+own_all n c own le h = let b : budget n c ≤ 8 * (n * n) + 4 * n + 2 = budget_le n c le in omega arith
+
+pub own_le : (n me : ℕ) (p : Variables) (k : ProgramCounter) (own c recent : ℕ) → VariablesAt n me p k → Count n me p own c recent k → c ≤ n →
+    InScanLine k → own + 1 ≤ 8 * (n * n) + 12 * n + 7
+own_le n me p L10 own c recent keeps h le s = omega arith
+own_le n me p L11 own c recent keeps h le s = omega arith
+own_le n me p L12 own c recent keeps h le s = own_all n c own le (omega arith)
+own_le n me p L13 own c recent keeps h le s = own_all n c own le (omega arith)
+own_le n me p L14 own c recent keeps h le s = own_all n c own le (omega arith)
+own_le n me p L15 own c recent keeps h le s = own_all n c own le (omega arith)
+own_le n me p L16 own c recent keeps h le s = own_all n c own le (omega arith)
+own_le n me p L17 own c recent keeps h le s = own_all n c own le (omega arith)
+own_le n me p L18 own c recent keeps h le s = own_all n c own le (omega arith)
+own_le n me p L19 own c recent keeps h le s = own_all n c own le (omega arith)
+own_le n me p L20 own c recent keeps h le s = own_all n c own le (omega arith)
+own_le n me p L21 own c recent keeps h le s = own_all n c own le (omega arith)
+own_le n me p L22 own c recent keeps h le s = own_all n c own le (omega arith)
+own_le n me p L23 own c recent keeps h le s = own_all n c own le (omega arith)
+own_le n me p L25 own c recent keeps h le s = own_all n c own le (omega arith)
+own_le n me p L26 own c recent keeps h le s = own_all n c own le (omega arith)
+own_le n me p L27 own c recent keeps h le s = own_all n c own le (omega arith)
+own_le n me p L28 own c recent keeps h le s = own_all n c own le (omega arith)
+own_le n me p L40 own c recent keeps h le s = absurd s
+own_le n me p L41 own c recent keeps h le s = absurd s
+own_le n me p L42 own c recent keeps h le s = absurd s
+own_le n me p L43 own c recent keeps h le s = absurd s
+own_le n me p L44 own c recent keeps h le s = absurd s
+own_le n me p L45 own c recent keeps h le s = absurd s
+own_le n me p L46 own c recent keeps h le s = absurd s
+own_le n me p L47 own c recent keeps h le s = absurd s

@@ -9,7 +9,8 @@ use Rattle.snap_words.specs.Word.{Word, no_word}
 use Rattle.snap_semantics.specs.Answers.{◌>>=◌}
 use Rattle.snap_semantics.specs.Source.{instr_at}
 use Rattle.snap_semantics.specs.State.{Memory, Named}
-use Rattle.snap_semantics.specs.Table.{places_to, Goes, Effect, effect_at, all_true, first_true, first_goes, is_bit, bit_value, with_bits, with_bit_at}
+use Rattle.snap_semantics.specs.Table.{places_to, Goes, Effect, effect_at, all_true, first_true, first_goes, bit_value, with_bits, with_bit_at}
+use Rattle.snap_words.specs.Kind.{is_bit}
 use Rattle.snap_semantics.specs.Value.{Context, at_place, place_in, term_value, relates, comparison_holds, condition_holds}
 use Rattle.snap_semantics.specs.declared.instr.Index.TheVariants.{Place}
 use Rattle.snap_semantics.specs.declared.instr.Relation.{Relation}

@@ -4,7 +4,6 @@ pub mod Totals
 pub mod Held
 pub mod Algorithm
 pub mod Embedding
-pub mod Changing
 pub mod ScanSpan
 pub mod UpdateSpan
 pub mod Flow

@@ -1,5 +1,5 @@
 -- From the start of a scan to its end: what the proof remembers of a process is what its items say.
-use Rattle.std.specs.Prelude.{◌≡◌, ◌≢◌, ℕ, zero, suc, ◌+◌, ◌<◌, ◌≤◌, ◌⊎◌, Bool, true, false, ◌&&◌, List, length, Option, Some, None, nat_lt, if◌then◌else◌, refl}
+use Rattle.std.specs.Prelude.{◌≡◌, ◌≢◌, ℕ, zero, suc, ◌+◌, ◌<◌, ◌≤◌, ◌⊎◌, Bool, true, false, ◌&&◌, List, length, Option, Some, None, if◌then◌else◌, refl}
 use Rattle.std.proofs.Common.{sym, ◌∙◌, ap, subst, arith, inl, inr}
 use Rattle.std.proofs.lemmas.Bool.{cases_eq}
 use Rattle.std.proofs.Math.Nat.{eq-or-lt_of_le}
@@ -14,39 +14,13 @@ use Rattle.snap_semantics.specs.State.{process_at}
 use Rattle.snap_semantics.specs.Table.{who}
 use Rattle.snap_words.specs.Shape.{IsOneOf}
 use Rattle.snap_runs.specs.Run.{Run, Fits, state, before, item, outcome}
-use Rattle.snap_runs.specs.Scan.{line_in, link_in, IsCallLine, Returns, Starts, Scan, count, steps, is_if_all, is_stepped, is_not_skipped, ends_double_collect, takes_step, double_collects, own_steps}
+use Rattle.snap_runs.specs.Scan.{line_in, link_in, IsCallLine, Returns, Starts, Scan, steps, is_if_all, is_stepped, is_not_skipped, ends_double_collect, takes_step, double_collects, own_steps}
 use Rattle.snap_runs.proofs.Algorithm.{Task, op_of, link_of, task_of, op_is, link_is, Control, Idle, At, Move, To, Begin, Answer, Finish, TypedProcess, TypedState, Algorithm, by_move, by_step, by_call, typed_at, by_item, changed, outcome_of, happens, item_at, typed_state, status_of, process_of, stepped_auxiliary, begun_auxiliary, called_auxiliary}
-use Rattle.snap_runs.proofs.Computing.{lt_true, lt_false, lt_from, same_number, other_number}
+use Rattle.snap_runs.proofs.Counting.{count_none, count_next, count_not}
+use Rattle.snap_runs.proofs.Computing.{same_number, other_number}
 use Rattle.snap_runs.proofs.Embedding as embed
 
--- counting
-pub count_none : (test : ℕ → Bool) (c e : ℕ) → e ≤ c → count test c e ≡ 0
-count_none test c zero h = refl
-count_none test c (suc e) h =
-    ap (λ b. if b && test (suc e) then suc (count test c e) else count test c e) (lt_false c (suc e) h) ∙ count_none test c e (omega arith)
-
-pub count_next : (test : ℕ → Bool) (c e : ℕ) → c ≤ e → count test c (suc e) ≡ (if test (suc e) then suc (count test c e) else count test c e)
-count_next test c e h = ap (λ b. if b && test (suc e) then suc (count test c e) else count test c e) (lt_true c (suc e) (omega arith))
-
--- fewer from a later item on
-pub count_later : (test : ℕ → Bool) (c c' e : ℕ) → c ≤ c' → count test c' e ≤ count test c e
-count_later test c c' zero h = omega arith
-count_later test c c' (suc e) h =
-    both_more (nat_lt c' (suc e)) (nat_lt c (suc e)) (test (suc e)) (count test c' e) (count test c e)
-    (λ is. let lt : c' < suc e = lt_from c' (suc e) is in lt_true c (suc e) (omega arith)) (count_later test c c' e h)
-  where
-    both_more : (later sooner passes : Bool) (x y : ℕ) → (later ≡ true → sooner ≡ true) → x ≤ y →
-        (if later && passes then suc x else x) ≤ (if sooner && passes then suc y else y)
-    both_more true true true x y f h = omega arith
-    both_more true true false x y f h = h
-    both_more true false passes x y f h = absurd (let e : false ≡ true = f refl in cc)
-    both_more false true true x y f h = omega arith
-    both_more false true false x y f h = h
-    both_more false false passes x y f h = h
-
-pub count_not : (test : ℕ → Bool) (c e : ℕ) → c ≤ e → test (suc e) ≡ false → count test c (suc e) ≡ count test c e
-count_not test c e h n = count_next test c e h ∙ ap (λ b. if b then suc (count test c e) else count test c e) n
-
+-- another process's item is no step of process i
 pub not_his : (i : ℕ) (y : Item) → who y ≢ i → steps i y ≡ false
 not_his i (Step k) h = other_number k i h
 not_his i (Call k op) h = refl
@@ -57,10 +31,12 @@ module _ {V P M : Type 0} (a : Algorithm V P M) where
   Inside None d = (link_of a.back d ≡ None) × (op_of d ≡ ScanOp)
   Inside (Some l) d = link_of a.back d ≡ Some l
 
+  -- an embedded scan is at a line that returns
   abbrev pub ReturnsAt : Option ℕ → P → V → Type 0
   ReturnsAt None k p = ⊥
   ReturnsAt (Some l) k p = (v : List ℕ) × Returns (instr_at a.source.lines (a.number k)) (a.locals_of p) v
 
+  -- a scan that was called
   abbrev pub IsTop : Option ℕ → Type 0
   IsTop None = Unit {0}
   IsTop (Some l) = ⊥
@@ -72,6 +48,7 @@ module _ {V P M : Type 0} (a : Algorithm V P M) where
   Stays link k p (Answer v) = IsTop link
   Stays link k p Finish = ⊥
 
+  -- a move that does not merely go on
   abbrev pub NotTo : Move V P M → Type 0
   NotTo (To d m p k) = ⊥
   NotTo (Begin d p k) = Unit {0}
@@ -83,6 +60,7 @@ module _ {V P M : Type 0} (a : Algorithm V P M) where
     pub stays : (link : Option ℕ) → Inside link d → Stays link k p (a.move me d m p k)
     pub calls : IsCallLine (instr_at a.source.lines (a.number k)) → NotTo (a.move me d m p k)
 
+  -- the line at which a process stands is so
   abbrev pub LawfulAt : ℕ → M → V → Control P → Type 0
   LawfulAt me m p Idle = Unit {0}
   LawfulAt me m p (At d k) = Lawful me d m p k
@@ -102,15 +80,20 @@ module _ {V P M : Type 0} (a : Algorithm V P M) where
 
     -- at state t the scan that started at item c goes on
     pub record Goes (link : Option ℕ) (c t : ℕ) : Type 0 where
+      -- the process is busy at a line of the scan
       pub task : Task
       pub counter : P
       pub control : (his t).control ≡ At task counter
       pub inside : Inside link task
+      -- item c started its last scan
       pub since : (his t).auxiliary.since ≡ c
+      -- its steps and double collects since are those of the run
       pub own : (his t).auxiliary.own ≡ own_steps r i c t
       pub collects : (his t).auxiliary.collects ≡ double_collects r i c t
+      -- its last double collect was started in this scan
       pub round_after : c ≤ (his t).auxiliary.round
       pub round_before : (his t).auxiliary.round ≤ t
+      -- the double collects that have ended since are those of the run
       pub tested : (his t).auxiliary.tested ≡ double_collects r i (his t).auxiliary.round t
 
     -- the counts after an item that is no step of the process

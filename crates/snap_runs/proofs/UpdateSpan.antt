@@ -19,7 +19,8 @@ use Rattle.snap_runs.specs.Update.{is_at, executes, IsDone, Updating}
 use Rattle.snap_runs.proofs.Algorithm.{Task, op_of, task_of, op_is, Control, Idle, At, Move, To, Begin, Answer, Finish, Auxiliary, TypedProcess, TypedState, Algorithm, by_move, by_step, by_admission, by_call, typed_at, by_item, changed, outcome_of, happens, item_at, typed_state, status_of, stepped_auxiliary, begun_auxiliary, called_auxiliary, SameOp}
 use Rattle.snap_runs.proofs.Computing.{same_number}
 use Rattle.snap_runs.proofs.Embedding as embed
-use Rattle.snap_runs.proofs.ScanSpan.{count_none, count_next, count_not, not_his}
+use Rattle.snap_runs.proofs.Counting.{count_none, count_next, count_not}
+use Rattle.snap_runs.proofs.ScanSpan.{not_his}
 
 add_one : (b : Bool) (x : ℕ) → (if b then suc x else x) ≡ x + (if b then 1 else 0)
 add_one true x = omega arith

@@ -23,7 +23,8 @@ use Rattle.snap_single.proofs.Collect.{Low, floor}
 use Rattle.snap_single.proofs.Control.{BelowLimit, VariablesAt, MoveWell, ControlWell, move_well, called_well}
 use Rattle.snap_single.proofs.Count.{Count, CountMove, count_move, moves, moves_less}
 use Rattle.snap_single.proofs.Flows.{Making, HasWritten, in_scan, flows, line_listed, at_number}
-use Rattle.snap_single.proofs.Invariant.{ProcessInvariant, Invariant, StageAt, CountAt, pending, time_passes, process_changes, line_32_writes}
+use Rattle.snap_single.proofs.Invariant.{ProcessInvariant, Invariant, StageAt, CountAt, pending, time_passes, process_changes}
+use Rattle.snap_single.proofs.Write.{line_32_writes}
 use Rattle.snap_single.proofs.Stage.{Stage, StageMove, stage_move, Sized, SizedMove, sized_move}
 
 -- process i
@@ -90,12 +91,18 @@ idle_own n t history words i q k seq now c own = record {
 
 -- what the move v of a process at line k owes; t is the item's number
 record MoveOwes (n t : ℕ) (history : ℕ → Words) (x : State) (i : ℕ) (d : Task) (k : ProgramCounter) (v : Move) : Type 0 where
+  -- it keeps the words
   pub words : flow.KeepsMemory lines x.memory v
+  -- it leads to a line of its task, with the variables that this line asks for
   pub well : MoveWell (op_of d) n i v
+  -- it takes the scan to the stage of that line
   pub stage : StageMove n history t (at n x i).auxiliary.since (if restarts k then t else (at n x i).auxiliary.round) v
+  -- it keeps the lengths of the copies, and c as it should be
   pub sized : SizedMove n (seq_at x.memory i) v
+  -- it begins to make no view, and leads into no scan
   pub making : flow.MakesNoMore lines d k v
   pub scan : flow.KeepsOut lines d v
+  -- it keeps the counts within their bounds
   pub counts : CountMove n (suc (at n x i).auxiliary.own) ((at n x i).auxiliary.collects + tests k)
       (if restarts k then 0 else (at n x i).auxiliary.tested + tests k) v
   pub wrote : flow.CountsWrites lines ((at n x i).auxiliary.wrote + writes k) v
@@ -128,7 +135,7 @@ line_keeps n t history x i d k (To d' m' p k') count one now h is c quiet owes =
       counts = owes.counts;
       wrote = owes.wrote;
     })
-    (λ m. inr (subst Making (sym is) (owes.making m), refl)) (inr refl))
+    (λ m. inr (subst Making (sym is) (owes.making m))) (inr refl))
 line_keeps n t history x i d k (Begin d' p k') count one now h is c quiet owes =
     let q = at n x i in
     let own : ProcessInvariant n t history x.memory i q = h.each i one in
@@ -225,7 +232,7 @@ line_32_keeps : (n t : ℕ) (history : ℕ → Words) (x : State) (i : ℕ) (d :
     (at n x i).control ≡ At d L32 → Invariant n (suc t) history (changed x i (by_step (algorithm n) (suc t) x.memory i (at n x i) (At d L32)))
 line_32_keeps n t history x i d count one h is =
     let well : ControlWell n i (at n x i).variables (At d L32) = subst (ControlWell n i (at n x i).variables) is (h.each i one).well in
-    line_32_writes n t history x i d _ Stepped count one h is well.0 refl
+    line_32_writes n t history x i d one h is well.0 Stepped count
 
 -- one step of a process
 step_keeps : (n t : ℕ) (history : ℕ → Words) (x : State) (i : ℕ) (control : Control) → ((u : ℕ) → u ≤ t → length (history u) ≡ n) →

@@ -12,22 +12,31 @@ use Rattle.snap_single.proofs.Algorithm.{Words, Move, Variables, ProgramCounter,
 use Rattle.snap_single.proofs.Collect.{floor, Low, First, Viewed, Second, Between, Gained, first_more, second_starts, second_more, passed, gained_at}
 use Rattle.snap_single.proofs.Control.{VariablesAt}
 
--- At each line a scan has come so far.
+-- How far a scan has come at each line. Nothing is known at line 10; from line 11 to 17 and at line 19 every move that it has
+-- seen is a write since its start (Low).
 abbrev pub Stage : ℕ → (ℕ → Words) → ℕ → ℕ → ℕ → Words → Variables → ProgramCounter → Type 0
 Stage n history t since round words p L10 = Unit {0}
 Stage n history t since round words p L11 = Low n (history since) words p.moved
+-- the first collect has come to place j, and goes on
 Stage n history t since round words p L12 = Low n (history since) words p.moved × First n (history since) (history round) words p.moved p.a p.j
 Stage n history t since round words p L13 = Low n (history since) words p.moved × First n (history since) (history round) words p.moved p.a (p.j + 1)
+-- the second collect has come to place j, and goes on; there is a state between the two collects
 Stage n history t since round words p L14 = Low n (history since) words p.moved × Between n history t since round words p.moved p.a p.b p.j
 Stage n history t since round words p L15 = Low n (history since) words p.moved × Between n history t since round words p.moved p.a p.b (p.j + 1)
+-- both collects are done
 Stage n history t since round words p L16 = Low n (history since) words p.moved × Between n history t since round words p.moved p.a p.b (n + 1)
 Stage n history t since round words p L17 = Low n (history since) words p.moved × Between n history t since round words p.moved p.a p.b (n + 1)
+-- the double collect has failed, and its moves are counted
 Stage n history t since round words p L18 = Gained n history t since words p.moved p.b
+-- no process has moved up to the limit
 Stage n history t since round words p L19 = Low n (history since) words p.moved
+-- the double collect has passed: the second copies were the values at some state since the scan's start; then so is s
 Stage n history t since round words p L21 = Held history t since (data_of (take n p.b))
 Stage n history t since round words p L22 = Held history t since p.s
+-- process j has moved up to the limit, so that the view beside its second write will do; then so does s
 Stage n history t since round words p L23 = Gained n history t since words p.moved p.b × (moved_at p p.j ≡ limit)
 Stage n history t since round words p L24 = Held history t since p.s
+-- an update has no view yet, then that of its embedded scan, until it has written it
 Stage n history t since round words p L30 = Unit {0}
 Stage n history t since round words p L31 = Held history t since p.s
 Stage n history t since round words p L32 = Held history t since p.s
@@ -42,8 +51,10 @@ StageMove n history t since round Finish = Unit {0}
 
 -- what is known of every process, at whichever line it stands
 pub record Known (n me : ℕ) (history : ℕ → Words) (t since round : ℕ) (words : Words) (d : Task) (p : Variables) (k : ProgramCounter) : Type 0 where
+  -- there are n words at every state, and those of state t are the words now
   pub lengths : (u : ℕ) → u ≤ t → length (history u) ≡ n
   pub now : history t ≡ words
+  -- its clauses of the invariant
   pub since_le : since ≤ t
   pub length_a : length p.a ≡ max n n
   pub length_b : length p.b ≡ max n n

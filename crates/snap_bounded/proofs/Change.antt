@@ -1,22 +1,33 @@
--- What keeps the invariant of B: a line that changes one process and no word, and line 46.
-use Rattle.std.specs.Prelude.{◌≡◌, ◌≢◌, ℕ, suc, ◌+◌, ◌-◌, ◌<◌, ◌≤◌, ◌⊎◌, length, refl}
+-- One process of B changes, and no word.
+use Rattle.std.specs.Prelude.{◌≡◌, ◌≢◌, ℕ, ◌+◌, ◌<◌, ◌≤◌, ◌⊎◌, length, refl}
 use Rattle.std.proofs.Common.{sym, ◌∙◌, ap, subst, arith, inl, inr}
-use Rattle.std.proofs.lemmas.Bool.{cases_eq}
-use Rattle.std.proofs.lemmas.List.{length-set, get_or-take}
 use Rattle.snap_words.specs.Shape.{IsOneOf}
-use Rattle.snap_words.specs.Word.{Word}
 use Rattle.snap_semantics.specs.declared.process.Outcome.{Outcome}
-use Rattle.snap_runs.proofs.Algorithm.{Task, Scanning, Embedded, Updating, At, New, typed_at, changed, stepped_auxiliary}
-use Rattle.snap_runs.proofs.Changing as changing
-use Rattle.snap_runs.proofs.Flow.{IsInScan}
-use Rattle.snap_runs.proofs.Held.{word_at, Held, held_wider, seq_at}
-use Rattle.snap_bounded.proofs.Algorithm.{Words, Registers, Control, Process, State, L46, L47, place, hand_at, bit_for, word_put, with_written, IsUpdate, algorithm}
+use Rattle.snap_runs.proofs.Algorithm.{New, typed_at, changed}
+use Rattle.snap_runs.proofs.Frame as frame
+use Rattle.snap_runs.proofs.Held.{word_at, seq_at}
+use Rattle.snap_bounded.proofs.Algorithm.{Words, Registers, Process, State, place, bit_for, algorithm}
+use Rattle.snap_bounded.proofs.Collect.{Late, Viewed}
 use Rattle.snap_bounded.proofs.Control.{BitWords}
-use Rattle.snap_bounded.proofs.Follow.{Follows, follows_seq, Grows}
-use Rattle.snap_bounded.proofs.Collect.{Late, Viewed, word_set, word_kept}
-use Rattle.snap_bounded.proofs.Flows.{Making, HasWritten}
-use Rattle.snap_bounded.proofs.Handshake.{Square, Says}
-use Rattle.snap_bounded.proofs.Invariant.{ProcessInvariant, PairInvariant, Invariant, Answered, StageAt, ToggledAt, AnswersAt, reach_at, others_act}
+use Rattle.snap_bounded.proofs.Flows.{Making}
+use Rattle.snap_bounded.proofs.Follow.{Grows}
+use Rattle.snap_bounded.proofs.Handshake.{Square}
+use Rattle.snap_bounded.proofs.Invariant.{ProcessInvariant, PairInvariant, Invariant, Answered, AnswersAt, reach_at, others_act}
+
+-- what holds of the changed process and went on holding of the others holds of each pair
+pub each_pair : (n : ℕ) (x : State) (i : ℕ) (m : Registers) (q : Process) (o : Outcome) → length x.processes ≡ n → IsOneOf n i →
+    (R : ℕ → Process → ℕ → Process → Type 0) → R i q i q →
+    ((k : ℕ) → IsOneOf n k → k ≢ i → R i q k (typed_at (algorithm n) x k)) →
+    ((k : ℕ) → IsOneOf n k → k ≢ i → R k (typed_at (algorithm n) x k) i q) →
+    ((u v : ℕ) → IsOneOf n u → IsOneOf n v → v ≢ i → R u (typed_at (algorithm n) x u) v (typed_at (algorithm n) x v)) →
+    (u v : ℕ) → IsOneOf n u → IsOneOf n v →
+    R u (typed_at (algorithm n) (changed x i (New m q o)) u) v (typed_at (algorithm n) (changed x i (New m q o)) v)
+each_pair n x i m q o count one R both first second neither u v iu iv =
+    let each : (E : ℕ → Process → Type 0) → E i q → ((k : ℕ) → IsOneOf n k → k ≢ i → E k (typed_at (algorithm n) x k)) →
+    (k : ℕ) → IsOneOf n k → E k (typed_at (algorithm n) (changed x i (New m q o)) k) =
+    frame.each_next (algorithm n) x i m q o count one in
+    each (λ k p. R k p v (typed_at (algorithm n) (changed x i (New m q o)) v)) (each (R i q) both first v iv)
+    (λ k ik other. each (R k (typed_at (algorithm n) x k)) (second k ik other) (λ y iy another. neither k y ik iy another) v iv) u iu
 
 -- One process changes, and perhaps a bit that it puts; the words stay.
 pub record ProcessChange (n t : ℕ) (history : ℕ → Words) (x : State) (i : ℕ) (q : Process) (m' : Registers) (q' : Process) : Type 0 where
@@ -87,150 +98,13 @@ module _ (n t : ℕ) (history : ℕ → Words) (x : State) (i : ℕ) (m' : Regis
     size = ap length change.words ∙ h.size;
     square = change.square;
     bits = after (BitWords n) h.bits;
-    each = changing.each_process (algorithm n) x i m' q' o count one (ProcessInvariant n t history m') change.own others;
+    each = frame.each_next (algorithm n) x i m' q' o count one (ProcessInvariant n t history m') change.own others;
     start = after
         (λ w. (u v : ℕ) → IsOneOf n u → IsOneOf n v → PairInvariant history w (typed_at (algorithm n) (changed x i (New m' q' o)) u) (typed_at (algorithm n) (changed x i (New m' q' o)) v) v)
-        (changing.each_pair (algorithm n) x i m' q' o count one (λ u p v r. PairInvariant history x.memory.words p r v) (λ making lt. omega arith)
+        (each_pair n x i m' q' o count one (λ u p v r. PairInvariant history x.memory.words p r v) (λ making lt. omega arith)
         (λ k ik other. starts_first k ik) (λ k ik other. makes_later k ik) (λ u v iu iv other. h.start u v iu iv));
     answered = after
         (λ w. (u v : ℕ) → IsOneOf n u → IsOneOf n v → Answered n w u (typed_at (algorithm n) (changed x i (New m' q' o)) u) v (typed_at (algorithm n) (changed x i (New m' q' o)) v))
-        (changing.each_pair (algorithm n) x i m' q' o count one (Answered n x.memory.words) itself (λ k ik other. asked k ik) (λ k ik other. answers k ik)
+        (each_pair n x i m' q' o count one (Answered n x.memory.words) itself (λ k ik other. asked k ik) (λ k ik other. answers k ik)
         (λ u v iu iv other. h.answered u v iu iv));
-  }
-
--- line 46
-module _ (n t : ℕ) (history : ℕ → Words) (x : State) (i : ℕ) (d : Task) (one : IsOneOf n i) (h : Invariant n t history x)
-    (at : (typed_at (algorithm n) x i).control ≡ At d L46) (up : IsUpdate i d) where
-  abbrev pub before : ℕ → Process
-  before k = typed_at (algorithm n) x k
-
-  abbrev pub word_46 : Word
-  word_46 = word_put n i d x.memory (before i).variables
-
-  abbrev pub written : Registers
-  written = with_written n i d x.memory (before i).variables
-
-  new_word : (k : ℕ) → k ≡ i → word_at written.words k ≡ word_46
-  new_word k same = let size : length x.memory.words ≡ n = h.size in word_set x.memory.words i k word_46 one.0 (omega arith) same
-
-  old_word : (k : ℕ) → IsOneOf n k → k ≢ i → word_at written.words k ≡ word_at x.memory.words k
-  old_word k ik other = word_kept x.memory.words i k word_46 one.0 ik.0 other
-
-  -- what holds of the new word and of the others
-  each_word : (R : ℕ → Word → Type 0) → R i word_46 → ((k : ℕ) → IsOneOf n k → R k (word_at x.memory.words k)) →
-      (k : ℕ) → IsOneOf n k → R k (word_at written.words k)
-  each_word R own others k ik =
-      elim (cases_eq k i) [
-        | inl same ↦ subst (R k) (sym (new_word k same)) (subst (λ y. R y word_46) (sym same) own)
-        | inr other ↦ subst (R k) (sym (old_word k ik other)) (others k ik)
-      ]
-
-  -- the toggle of the new word is the other one
-  grows : Grows n x.memory.words written.words
-  grows =
-      let toggle : (before i).variables.t ≡ (word_at x.memory.words i).toggle → ⊥ =
-      subst (λ (p : Control). ToggledAt (word_at x.memory.words i).toggle (before i).variables p) at (h.each i one).toggle in
-      each_word (λ k w. Follows (word_at x.memory.words k) w) (inl (omega arith, λ e. absurd (toggle (sym e)))) (λ k ik. inr refl)
-
-  not_less : (base : Words) → ((k : ℕ) → IsOneOf n k → seq_at base k ≤ seq_at x.memory.words k) → (k : ℕ) → IsOneOf n k → seq_at base k ≤ seq_at written.words k
-  not_less base low k ik =
-      let l : seq_at base k ≤ seq_at x.memory.words k = low k ik in
-      let s : seq_at x.memory.words k ≤ seq_at written.words k = follows_seq (word_at x.memory.words k) (word_at written.words k) (grows k ik) in omega arith
-
-  making : Making (before i).control
-  making = subst Making (sym at) (late d up)
-    where
-      late : (d : Task) → IsUpdate i d → Making (At d L46)
-      late Scanning u = absurd u
-      late (Embedded word value) u = absurd u
-      late (Updating word value) u = tt
-
-  -- the view beside the new word was the values since the scan that made it, which is no older than a scan that finds it the
-  -- second write
-  viewed : (u : ℕ) → IsOneOf n u → Viewed n history (suc t) (before u).auxiliary.since written.words
-  viewed u iu =
-      let since = (before u).auxiliary.since in
-      let held : Held history t (before i).auxiliary.since (before i).variables.s =
-      subst (λ (p : Control). StageAt n i history t (before i).auxiliary.since (before i).auxiliary.round x.memory.words (before i).variables p) at (h.each i one).stage in
-      each_word (λ k w. seq_at (history since) k + 2 ≤ w.seq → Held history (suc t) since w.view)
-      (λ more. held_wider history t (suc t) (before i).auxiliary.since since (before i).variables.s (omega arith) (h.start u i iu one making (omega arith)) held)
-      (λ k ik more. held_wider history t (suc t) since since _ (omega arith) (omega arith) ((h.each u iu).views k ik more))
-
-  says : (u : ℕ) → IsOneOf n u → hand_at word_46 u ≡ place (before i).variables.f u
-  says u iu = get_or-take n (before i).variables.f (u - 1) 0 (omega arith)
-
-  says_another : (said bit : ℕ) (d : Task) → IsUpdate i d → Says said bit d → said ≡ bit → ⊥
-  says_another said bit Scanning u other same = u
-  says_another said bit (Embedded word value) u other same = other same
-  says_another said bit (Updating word value) u other same = other same
-
-  -- where this is the second write since process u put its bit, the new word says another bit to u
-  shows : (u : ℕ) → IsOneOf n u → Late n written.words (before u).variables.g (before u).variables.marks u (reach_at n (before u).variables (before u).control)
-  shows u iu =
-      let p = (before u).variables in
-      let r = reach_at n p (before u).control in
-      each_word (λ k w. k < r → place p.marks k + 2 ≤ w.seq → hand_at w u ≡ place p.g k → ⊥)
-      (λ lt more same. says_another (place (before i).variables.f u) (place p.g i) d up
-      (subst (λ (c : Control). AnswersAt u (place p.g i) (before i).variables c) at (h.answered u i iu one lt (omega arith)))
-      (sym (says u iu) ∙ same))
-      (λ k ik. (h.each u iu).late k ik)
-
-  -- the process after it
-  abbrev pub after_46 : Process
-  after_46 = record { control = At d L47; variables = (before i).variables; auxiliary = stepped_auxiliary (algorithm n) L46 (suc t) (before i).auxiliary }
-
-  own : ProcessInvariant n (suc t) history written i after_46
-  own =
-      let q = before i in
-      let past : ProcessInvariant n t history x.memory i q = h.each i one in
-      record {
-        well = (up, tt);
-        sized = past.sized;
-        bits = past.bits;
-        toggle = sym (ap (λ (y : Word). y.toggle) (new_word i refl));
-        since_le = (let f : q.auxiliary.since ≤ t = past.since_le in omega arith);
-        low = not_less (history q.auxiliary.since) past.low;
-        opened = not_less (history q.auxiliary.round) past.opened;
-        views = viewed i one;
-        asked = λ k ik lt. absurd (omega arith);
-        late = λ k ik lt. absurd (omega arith);
-        stage = tt;
-        self = λ scan. absurd (not_scan d up scan);
-        counts = tt;
-        wrote = wrote_once d up (subst (λ (p : Control). HasWritten p q.auxiliary.wrote) at past.wrote);
-      }
-    where
-      not_scan : (d : Task) → IsUpdate i d → IsInScan d → ⊥
-      not_scan Scanning u inside = u
-      not_scan (Embedded word value) u inside = u
-      not_scan (Updating word value) u inside = inside
-
-      wrote_once : (d : Task) → IsUpdate i d → HasWritten (At d L46) (before i).auxiliary.wrote → HasWritten (At d L47) ((before i).auxiliary.wrote + 1)
-      wrote_once Scanning u w = tt
-      wrote_once (Embedded word value) u w = absurd u
-      wrote_once (Updating word value) u w = omega arith
-
-  not_making : (d : Task) → IsUpdate i d → Making (At d L47) → ⊥
-  not_making Scanning u made = made
-  not_making (Embedded word value) u made = u
-  not_making (Updating word value) u made = made
-
-  pub line_46_writes : (o : Outcome) → length x.processes ≡ n → Invariant n (suc t) history (changed x i (New written after_46 o))
-  line_46_writes o count = record {
-    size = length-set x.memory.words (i - 1) word_46 ∙ h.size;
-    square = h.square;
-    bits = λ k u ik iu. each_word (λ k w. hand_at w u ≤ 1)
-        (let e : hand_at word_46 u ≡ place (before i).variables.f u = says u iu in let b : place (before i).variables.f u ≤ 1 = (h.each i one).bits u iu in omega arith)
-        (λ k ik. h.bits k u ik iu) k ik;
-    each = changing.each_process (algorithm n) x i written after_46 o count one (ProcessInvariant n (suc t) history written) own
-        (λ k ik other. others_act n t (suc t) history x.memory written k (before k) (omega arith) grows (old_word k ik other) (λ u iu. refl)
-        (shows k ik) (viewed k ik) (h.each k ik));
-    start = changing.each_pair (algorithm n) x i written after_46 o count one (λ u p v r. PairInvariant history written.words p r v)
-        (λ made lt. absurd (not_making d up made))
-        (λ k ik other made lt. h.start i k one ik made (subst (λ (w : Word). seq_at (history (before i).auxiliary.since) k < w.seq) (old_word k ik other) lt))
-        (λ k ik other made lt. absurd (not_making d up made))
-        (λ u v iu iv other made lt. h.start u v iu iv made (subst (λ (w : Word). seq_at (history (before u).auxiliary.since) v < w.seq) (old_word v iv other) lt));
-    answered = changing.each_pair (algorithm n) x i written after_46 o count one (Answered n written.words)
-        (λ lt more. tt) (λ k ik other lt more. absurd (omega arith)) (λ k ik other lt more. tt)
-        (λ u v iu iv other lt more. h.answered u v iu iv lt (subst (λ (w : Word). place (before u).variables.marks v < w.seq) (old_word v iv other) more));
   }

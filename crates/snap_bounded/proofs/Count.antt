@@ -69,8 +69,11 @@ moves_less n i p one zeroed below =
 -- Where a scan of process me stands at a line, with this many own steps and ended double collects since its start, and
 -- `recent` ended double collects since its current one was started.
 abbrev pub Count : ℕ → ℕ → Variables → ℕ → ℕ → ℕ → ProgramCounter → Type 0
+-- none yet
 Count n me p own c recent L10 = (own ≡ 0) × (c ≡ 0) × (recent ≡ 0)
 Count n me p own c recent L11 = (own ≤ 1) × (c ≡ 0) × (recent ≡ 0)
+-- every failed double collect has raised a move; the steps since the last one are four for each place of the handshake and two for each
+-- place that a collect has done
 Count n me p own c recent L12 = (own + 4 ≤ budget n c + 4 * p.j) × (c ≤ moves n p) × (recent ≡ 0)
 Count n me p own c recent L13 = (own + 3 ≤ budget n c + 4 * p.j) × (c ≤ moves n p) × (recent ≡ 0)
 Count n me p own c recent L14 = (own + 2 ≤ budget n c + 4 * p.j) × (c ≤ moves n p) × (recent ≡ 0)
@@ -80,13 +83,16 @@ Count n me p own c recent L17 = (own + 1 ≤ budget n c + 4 * n + 2 * p.j) × (c
 Count n me p own c recent L18 = (own + 2 ≤ budget n c + 6 * n + 2 * p.j) × (c ≤ moves n p) × (recent ≡ 0)
 Count n me p own c recent L19 = (own + 1 ≤ budget n c + 6 * n + 2 * p.j) × (c ≤ moves n p) × (recent ≡ 0)
 Count n me p own c recent L20 = (own ≤ budget n c + 8 * n) × (c ≤ moves n p) × (recent ≡ 0)
+-- one more has failed: it is within the bound, since a process does not see itself move; its moves are to be counted
 Count n me p own c recent L21 = (own + 3 ≤ budget n c) × (c ≤ moves n p + 1) × (c ≤ n) × (recent ≤ 1) × (all_true (map (agree me p) (places_to n)) ≡ false)
+-- its moves are counted; then as before, or the scan ends
 Count n me p own c recent L22 = (own + 2 ≤ budget n c) × (c ≤ moves n p) × (c ≤ n)
 Count n me p own c recent L23 = (own + 1 ≤ budget n c) × (c ≤ moves n p)
 Count n me p own c recent L25 = (own + 3 ≤ budget n c) × (c ≤ n)
 Count n me p own c recent L26 = (own + 2 ≤ budget n c) × (c ≤ n)
 Count n me p own c recent L27 = (own + 1 ≤ budget n c) × (c ≤ n)
 Count n me p own c recent L28 = (own ≤ budget n c) × (c ≤ n)
+-- an update outside its scan
 Count n me p own c recent L40 = Unit {0}
 Count n me p own c recent L41 = Unit {0}
 Count n me p own c recent L42 = Unit {0}

@@ -9,6 +9,7 @@ pub mod Handshake
 pub mod Count
 pub mod Invariant
 pub mod Change
+pub mod Write
 pub mod Preserve
 pub mod Runs
 pub mod Points

@@ -17,6 +17,7 @@ use Rattle.snap_runs.specs.Update.{is_at, executes}
 use Rattle.snap_runs.specs.Promises.{row_place, ObservedMove, RecentWrite}
 use Rattle.snap_runs.proofs.Algorithm.{Task, At, typed_at, by_step, changed, item_at, happens, status_of, stepped_auxiliary}
 use Rattle.snap_runs.proofs.Computing.{both}
+use Rattle.snap_runs.proofs.Counting.{count_later}
 use Rattle.snap_runs.proofs.Embedding as embed
 use Rattle.snap_runs.proofs.Held.{word_at, seq_at}
 use Rattle.snap_runs.proofs.Places.{for_each_at}
@@ -130,7 +131,7 @@ module _ (n : ℕ) (items : List Item) (fits : Fits (run_of n items)) where
       let last : double_collects r i round (suc t) ≤ double_collects r i round t + 0 =
       span.last_collects (algorithm n) (λ k. (line_listed k).tested) items fits (all_do n items fits) (lawful n items fits) i one round t busy.0 L21 g.round_before (omega arith) busy.1 in
       let fewer : double_collects r i write.0 (suc t) ≤ double_collects r i round (suc t) =
-      span.count_later (ends_double_collect r i) round write.0 (suc t) (omega arith) in
+      count_later (ends_double_collect r i) round write.0 (suc t) (omega arith) in
       record {
         item = write.0;
         after_start = omega arith;

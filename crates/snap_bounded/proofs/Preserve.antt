@@ -20,7 +20,7 @@ use Rattle.snap_runs.proofs.Flow.{IsInScan, InScan}
 use Rattle.snap_runs.proofs.Held.{word_at, seq_at}
 use Rattle.snap_bounded.specs.Promises.{square}
 use Rattle.snap_bounded.proofs.Algorithm.{number, Words, Registers, Move, Control, Process, State, Variables, ProgramCounter, L10, L20, L40, L46, place, hand_at, bit_for, move, IsLineOf, lines, tests, restarts, writes, algorithm}
-use Rattle.snap_bounded.proofs.Change.{process_changes, line_46_writes}
+use Rattle.snap_bounded.proofs.Change.{process_changes}
 use Rattle.snap_bounded.proofs.Collect.{Low, Late, Viewed, floor}
 use Rattle.snap_bounded.proofs.Control.{BelowLimit, VariablesAt, MoveWell, ControlWell, move_well, called_well}
 use Rattle.snap_bounded.proofs.Count.{Count, CountMove, count_move, moves, moves_less}
@@ -28,6 +28,7 @@ use Rattle.snap_bounded.proofs.Flows.{Making, HasWritten, in_scan, flows, line_l
 use Rattle.snap_bounded.proofs.Handshake.{Asked, Answers, KeepsBit, BitsMove, bits_move, PutsMove, puts_move, square_kept, rows_kept, AnswersMove, answers_move}
 use Rattle.snap_bounded.proofs.Invariant.{ProcessInvariant, Invariant, StageAt, CountAt, ToggledAt, AnswersAt, reach_at, time_passes}
 use Rattle.snap_bounded.proofs.Stage.{reach, Stage, StageMove, stage_move, IsToggle, Toggled, Fit, FitMove, fit_move}
+use Rattle.snap_bounded.proofs.Write.{line_46_writes}
 
 -- process i
 abbrev pub at : ℕ → State → ℕ → Process

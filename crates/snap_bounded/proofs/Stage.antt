@@ -34,25 +34,47 @@ reach n p L20 = n + 1
 reach n p L21 = n + 1
 reach n p _ = 0
 
+-- How far a scan has come at each line.
 abbrev pub Stage : ℕ → ℕ → (ℕ → Words) → ℕ → ℕ → ℕ → Words → Variables → ProgramCounter → Type 0
+-- a double collect starts no earlier than its scan
 Stage n i history t since round words p L10 = (k : ℕ) → IsOneOf n k → seq_at (history since) k ≤ seq_at (history round) k
+-- every move that the scan has seen is a write between its start and the start of this double collect (Low), up to line 21
 Stage n i history t since round words p L11 = Low n (history since) (history round) p.moved
-Stage n i history t since round words p L12 = Low n (history since) (history round) p.moved × PutTo n (history round) words p.g p.marks i p.j
-Stage n i history t since round words p L13 = Low n (history since) (history round) p.moved × PutTo n (history round) words p.g p.marks i p.j × Copied (history round) words p.a p.j
-Stage n i history t since round words p L14 = Low n (history since) (history round) p.moved × PutTo n (history round) words p.g p.marks i p.j × Drawn (history round) words p.g i p.j
-Stage n i history t since round words p L15 = Low n (history since) (history round) p.moved × PutTo n (history round) words p.g p.marks i (p.j + 1)
-Stage n i history t since round words p L16 = Low n (history since) (history round) p.moved × PutTo n (history round) words p.g p.marks i (n + 1) × First n (history round) words p.marks p.a p.j
-Stage n i history t since round words p L17 = Low n (history since) (history round) p.moved × PutTo n (history round) words p.g p.marks i (n + 1) × First n (history round) words p.marks p.a (p.j + 1)
-Stage n i history t since round words p L18 = Low n (history since) (history round) p.moved × PutTo n (history round) words p.g p.marks i (n + 1) × Between n i history t since round words p.g p.marks p.a p.b p.j
-Stage n i history t since round words p L19 = Low n (history since) (history round) p.moved × PutTo n (history round) words p.g p.marks i (n + 1) × Between n i history t since round words p.g p.marks p.a p.b (p.j + 1)
-Stage n i history t since round words p L20 = Low n (history since) (history round) p.moved × Between n i history t since round words p.g p.marks p.a p.b (n + 1)
-Stage n i history t since round words p L21 = Low n (history since) (history round) p.moved × Between n i history t since round words p.g p.marks p.a p.b (n + 1)
+-- the bits for the places below j are put; the copy of word j is read, its bit drawn, then put
+Stage n i history t since round words p L12 =
+    Low n (history since) (history round) p.moved × PutTo n (history round) words p.g p.marks i p.j
+Stage n i history t since round words p L13 =
+    Low n (history since) (history round) p.moved × PutTo n (history round) words p.g p.marks i p.j × Copied (history round) words p.a p.j
+Stage n i history t since round words p L14 =
+    Low n (history since) (history round) p.moved × PutTo n (history round) words p.g p.marks i p.j × Drawn (history round) words p.g i p.j
+Stage n i history t since round words p L15 =
+    Low n (history since) (history round) p.moved × PutTo n (history round) words p.g p.marks i (p.j + 1)
+-- all bits are put; the first collect has come to place j, and goes on
+Stage n i history t since round words p L16 =
+    Low n (history since) (history round) p.moved × PutTo n (history round) words p.g p.marks i (n + 1) × First n (history round) words p.marks p.a p.j
+Stage n i history t since round words p L17 =
+    Low n (history since) (history round) p.moved × PutTo n (history round) words p.g p.marks i (n + 1) × First n (history round) words p.marks p.a (p.j + 1)
+-- the second collect has come to place j, and goes on; there is a state between the two collects
+Stage n i history t since round words p L18 =
+    Low n (history since) (history round) p.moved × PutTo n (history round) words p.g p.marks i (n + 1) × Between n i history t since round words p.g p.marks p.a p.b p.j
+Stage n i history t since round words p L19 =
+    Low n (history since) (history round) p.moved × PutTo n (history round) words p.g p.marks i (n + 1) × Between n i history t since round words p.g p.marks p.a p.b (p.j + 1)
+-- both collects are done
+Stage n i history t since round words p L20 =
+    Low n (history since) (history round) p.moved × Between n i history t since round words p.g p.marks p.a p.b (n + 1)
+Stage n i history t since round words p L21 =
+    Low n (history since) (history round) p.moved × Between n i history t since round words p.g p.marks p.a p.b (n + 1)
+-- the double collect has failed, and its moves are counted
 Stage n i history t since round words p L22 = Gained n history t since words p.moved p.b
+-- no process has moved up to the limit
 Stage n i history t since round words p L23 = Low n (history since) words p.moved
+-- the double collect has passed: the second copies were the values at some state since the scan's start; then so is s
 Stage n i history t since round words p L25 = Held history t since (data_of (take n p.b))
 Stage n i history t since round words p L26 = Held history t since p.s
+-- process j has moved up to the limit, so that the view beside its second write will do; then so does s
 Stage n i history t since round words p L27 = Gained n history t since words p.moved p.b × (moved_at p p.j ≡ limit)
 Stage n i history t since round words p L28 = Held history t since p.s
+-- an update has no view yet, then that of its embedded scan, until it has written it
 Stage n i history t since round words p L40 = Unit {0}
 Stage n i history t since round words p L41 = Unit {0}
 Stage n i history t since round words p L42 = Unit {0}
@@ -71,8 +93,10 @@ StageMove n i history t since round Finish = Unit {0}
 
 -- what is known of every process, at whichever line it stands
 pub record Known (n i : ℕ) (history : ℕ → Words) (t since round : ℕ) (words : Words) (d : Task) (p : Variables) (k : ProgramCounter) : Type 0 where
+  -- there are n words at every state, and those of state t are the words now
   pub lengths : (u : ℕ) → u ≤ t → length (history u) ≡ n
   pub now : history t ≡ words
+  -- its clauses of the invariant
   pub since_le : since ≤ t
   pub sized : Sized n p
   pub low : (k : ℕ) → IsOneOf n k → seq_at (history since) k ≤ seq_at words k

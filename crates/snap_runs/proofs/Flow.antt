@@ -84,13 +84,6 @@ module _ {V P M : Type 0} (lines : Lines V P M) where
   AnswersAt p k (Answer v) = lines.IsReturn k × (v ≡ lines.answer p)
   AnswersAt p k Finish = Unit {0}
 
-  -- an update is done at its last line alone
-  abbrev pub FinishesAt : P → Move V P M → Type 0
-  FinishesAt k (To d m p k') = Unit {0}
-  FinishesAt k (Begin d p k') = Unit {0}
-  FinishesAt k (Answer v) = Unit {0}
-  FinishesAt k Finish = lines.IsLast k
-
   module _ (a : Algorithm V P M) where
     -- what a line does to the task of a process
     abbrev pub Flows : Task → M → V → P → Move V P M → Type 0
@@ -180,14 +173,6 @@ module _ {V P M : Type 0} (lines : Lines V P M) where
     never_answers (Embedded x y) m p k (Answer v) word value is h = absurd h
     never_answers (Updating x y) m p k (Answer v) word value is h = absurd h
     never_answers d m p k Finish word value is h = tt
-
-    pub finishes_at : (d : Task) (m : M) (p : V) (k : P) (v : Move V P M) → Flows d m p k v → FinishesAt k v
-    finishes_at d m p k (To d' m' p' k') h = tt
-    finishes_at d m p k (Begin d' p' k') h = tt
-    finishes_at d m p k (Answer v) h = tt
-    finishes_at Scanning m p k Finish h = absurd h
-    finishes_at (Embedded word value) m p k Finish h = absurd h
-    finishes_at (Updating word value) m p k Finish h = h
 
     -- a scan stays in itself or returns
     pub in_scan : (link : Option ℕ) (d : Task) → span.Inside a link d → IsInScan d

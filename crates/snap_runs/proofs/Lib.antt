@@ -5,7 +5,7 @@ pub mod Totals
 pub mod Held
 pub mod Algorithm
 pub mod Embedding
-pub mod Changing
+pub mod Frame
 pub mod ScanSpan
 pub mod UpdateSpan
 pub mod Flow

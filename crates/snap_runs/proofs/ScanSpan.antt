@@ -1,5 +1,5 @@
 -- From the start of a scan to its end: what the proof remembers of a process is what its items say.
-use Rattle.std.specs.Prelude.{◌≡◌, ◌≢◌, ℕ, zero, suc, ◌+◌, ◌<◌, ◌≤◌, ◌⊎◌, Bool, true, false, ◌&&◌, List, length, Option, Some, None, nat_lt, if◌then◌else◌, refl}
+use Rattle.std.specs.Prelude.{◌≡◌, ◌≢◌, ℕ, zero, suc, ◌+◌, ◌<◌, ◌≤◌, ◌⊎◌, Bool, true, false, ◌&&◌, List, length, Option, Some, None, if◌then◌else◌, refl}
 use Rattle.std.proofs.Common.{sym, ◌∙◌, ap, subst, arith, inl, inr}
 use Rattle.std.proofs.lemmas.Bool.{cases_eq}
 use Rattle.std.proofs.Math.Nat.{eq-or-lt_of_le}
@@ -14,10 +14,10 @@ use Rattle.snap_semantics.specs.State.{process_at}
 use Rattle.snap_semantics.specs.Table.{who}
 use Rattle.snap_words.specs.Shape.{IsOneOf}
 use Rattle.snap_runs.specs.Run.{Run, Fits, state, before, item, outcome}
-use Rattle.snap_runs.specs.Scan.{line_in, link_in, IsCallLine, Returns, Starts, Scan, count, steps, is_if_all, is_stepped, is_not_skipped, ends_double_collect, takes_step, double_collects, own_steps}
+use Rattle.snap_runs.specs.Scan.{line_in, link_in, IsCallLine, Returns, Starts, Scan, steps, is_if_all, is_stepped, is_not_skipped, ends_double_collect, takes_step, double_collects, own_steps}
 use Rattle.snap_runs.proofs.Algorithm.{Task, op_of, link_of, task_of, op_is, link_is, Control, Idle, At, Move, To, Begin, Answer, Finish, TypedProcess, TypedState, Algorithm, by_move, by_step, by_call, typed_at, by_item, changed, outcome_of, happens, item_at, typed_state, status_of, process_of, stepped_auxiliary, begun_auxiliary, called_auxiliary}
 use Rattle.snap_runs.proofs.Counting.{count_none, count_next, count_not}
-use Rattle.snap_runs.proofs.Computing.{lt_true, lt_false, lt_from, same_number, other_number}
+use Rattle.snap_runs.proofs.Computing.{same_number, other_number}
 use Rattle.snap_runs.proofs.Embedding as embed
 
 -- another process's item is no step of process i

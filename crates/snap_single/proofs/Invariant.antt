@@ -1,18 +1,13 @@
 -- The invariant of U: what holds in every state of every run.
-use Rattle.std.specs.Prelude.{◌≡◌, ◌≢◌, ℕ, suc, ◌+◌, ◌-◌, ◌<◌, ◌≤◌, ◌⊎◌, max, length, slice_set, refl}
+use Rattle.std.specs.Prelude.{◌≡◌, ℕ, suc, ◌+◌, ◌<◌, ◌≤◌, ◌⊎◌, max, length, refl}
 use Rattle.std.proofs.Common.{sym, ◌∙◌, ap, subst, arith, inl, inr}
-use Rattle.std.proofs.lemmas.Bool.{cases_eq}
-use Rattle.std.proofs.lemmas.Grind.{get_or-set_at}
-use Rattle.std.proofs.lemmas.List.{length-set, get_or-set_other}
 use Rattle.snap_semantics.specs.declared.process.Outcome.{Outcome}
-use Rattle.snap_words.specs.Word.{Word}
-use Rattle.snap_words.specs.Word.{no_word}
-use Rattle.snap_runs.proofs.Algorithm.{Task, Scanning, Embedded, Updating, Idle, At, New, typed_at, changed, stepped_auxiliary}
-use Rattle.snap_runs.proofs.Embedding as embed
-use Rattle.snap_runs.proofs.Flow.{IsInScan, InScan}
-use Rattle.snap_runs.proofs.Held.{word_at, Held, held_wider, seq_at, WordBefore, before_seq, Grows}
+use Rattle.snap_runs.proofs.Algorithm.{Idle, At, New, typed_at, changed}
+use Rattle.snap_runs.proofs.Frame as frame
+use Rattle.snap_runs.proofs.Flow.{InScan}
+use Rattle.snap_runs.proofs.Held.{word_at, held_wider, seq_at, before_seq, Grows}
 use Rattle.snap_words.specs.Shape.{IsOneOf}
-use Rattle.snap_single.proofs.Algorithm.{Words, Change, Control, Process, State, Variables, L32, L33, IsUpdate, word_put, writes, algorithm}
+use Rattle.snap_single.proofs.Algorithm.{Words, Control, Process, State, Variables, writes, algorithm}
 use Rattle.snap_single.proofs.Collect.{Viewed}
 use Rattle.snap_single.proofs.Control.{ControlWell}
 use Rattle.snap_single.proofs.Count.{Count}
@@ -111,144 +106,33 @@ time_passes n t history x h = record {
   start = h.start;
 }
 
--- one process changes and the words stay
+-- one process changes and the words stay: its scan goes on, or it starts one at item t
 pub process_changes : (n t : ℕ) (history : ℕ → Words) (x : State) (i : ℕ) (q' : Process) (o : Outcome) → length x.processes ≡ n → IsOneOf n i →
-    history t ≡ x.memory → Invariant n t history x →
-    ProcessInvariant n t history x.memory i q' →
-    (Making q'.control → (q'.auxiliary.since ≡ t) ⊎ (Making (typed_at (algorithm n) x i).control × (q'.auxiliary.since ≡ (typed_at (algorithm n) x i).auxiliary.since))) →
+    history t ≡ x.memory → Invariant n t history x → ProcessInvariant n t history x.memory i q' →
+    (Making q'.control → (q'.auxiliary.since ≡ t) ⊎ Making (typed_at (algorithm n) x i).control) →
     ((q'.auxiliary.since ≡ t) ⊎ (q'.auxiliary.since ≡ (typed_at (algorithm n) x i).auxiliary.since)) →
     Invariant n t history (changed x i (New x.memory q' o))
-process_changes n t history x i q' o count one now h own r1 r2 =
-    let c : Change = New x.memory q' o in
-    let a = algorithm n in
-    let new : typed_at a (changed x i c) i ≡ q' = embed.own_process a x i x.memory q' o count one in
-    let at_i : (k : ℕ) → k ≡ i → typed_at a (changed x i c) k ≡ q' = λ k e. ap (typed_at a (changed x i c)) e ∙ new in
-    let off_i : (k : ℕ) → IsOneOf n k → k ≢ i → typed_at a (changed x i c) k ≡ typed_at a x k =
-    λ k j ne. embed.other_process a x i k c one.0 j.0 ne in
-    record {
-      size = h.size;
-      each = λ k j. elim (cases_eq k i) [
-        | inl same ↦ subst (λ (q : Process). ProcessInvariant n t history x.memory k q) (sym (at_i k same)) (subst (λ y. ProcessInvariant n t history x.memory y q') (sym same) own)
-        | inr other ↦ subst (λ (q : Process). ProcessInvariant n t history x.memory k q) (sym (off_i k j other)) (h.each k j)
-      ];
-      start = λ u b ju jb.
-          let words = x.memory in
-          elim (cases_eq u i) [
-            | inl su ↦ elim (cases_eq b i) [
-              | inl sb ↦ subst (λ (q : Process). PairInvariant history words q (typed_at a (changed x i c) b) b) (sym (at_i u su))
-                  (subst (λ (q : Process). PairInvariant history words q' q b) (sym (at_i b sb)) (λ making lt. omega arith))
-              | inr ob ↦ subst (λ (q : Process). PairInvariant history words q (typed_at a (changed x i c) b) b) (sym (at_i u su))
-                  (subst (λ (q : Process). PairInvariant history words q' q b) (sym (off_i b jb ob))
-                  (λ making lt. elim r2 [
-                    | inl fresh ↦ absurd (let e : seq_at (history q'.auxiliary.since) b ≡ seq_at words b = ap (λ s. seq_at (history s) b) fresh ∙ ap (λ w. seq_at w b) now in omega arith)
-                    | inr old ↦ subst (λ s. s ≤ (typed_at a x b).auxiliary.since) (sym old)
-                        (h.start i b one jb making (subst (λ s. seq_at (history s) b < seq_at words b) old lt))
-                  ]))
-            ]
-            | inr ou ↦ elim (cases_eq b i) [
-              | inl sb ↦ subst (λ (q : Process). PairInvariant history words q (typed_at a (changed x i c) b) b) (sym (off_i u ju ou))
-                  (subst (λ (q : Process). PairInvariant history words (typed_at a x u) q b) (sym (at_i b sb))
-                  (λ making lt. elim (r1 making) [
-                    | inl now ↦ (let le : (typed_at a x u).auxiliary.since ≤ t = (h.each u ju).since_le in omega arith)
-                    | inr old ↦ subst (λ s. (typed_at a x u).auxiliary.since ≤ s) (sym old.1)
-                        (h.start u i ju one old.0 (subst (λ y. seq_at (history (typed_at a x u).auxiliary.since) y < seq_at words y) sb lt))
-                  ]))
-              | inr ob ↦ subst (λ (q : Process). PairInvariant history words q (typed_at a (changed x i c) b) b) (sym (off_i u ju ou))
-                  (subst (λ (q : Process). PairInvariant history words (typed_at a x u) q b) (sym (off_i b jb ob)) (h.start u b ju jb))
-            ]
-          ];
-    }
-
--- line 32 writes: the new word's view was held since a scan that started after each scan that saw the word before
-pub line_32_writes : (n t : ℕ) (history : ℕ → Words) (x : State) (i : ℕ) (d : Task) (q' : Process) (o : Outcome) → length x.processes ≡ n →
-    IsOneOf n i →
-    Invariant n t history x → (typed_at (algorithm n) x i).control ≡ At d L32 → IsUpdate i d →
-    q' ≡ record { control = At d L33; variables = (typed_at (algorithm n) x i).variables; auxiliary = stepped_auxiliary (algorithm n) L32 (suc t) (typed_at (algorithm n) x i).auxiliary } →
-    Invariant n (suc t) history (changed x i (New (slice_set x.memory (i - 1) (word_put d (typed_at (algorithm n) x i).variables)) q' o))
-line_32_writes n t history x i d q' o count one h at up is =
+process_changes n t history x i q' o count one now h own made scan =
     let a = algorithm n in
     let words = x.memory in
-    let q = typed_at a x i in
-    let w = word_put d q.variables in
-    let words' = slice_set words (i - 1) w in
-    let c : Change = New words' q' o in
-    let ownq : ProcessInvariant n t history words i q = h.each i one in
-    let len : length words ≡ n = h.size in
-    let one_more : q.variables.c ≡ seq_at words i + 1 = ownq.seq ∙ ap (λ (p : Control). seq_at words i + pending p) at in
-    let held : Held history t q.auxiliary.since q.variables.s =
-    subst (λ (p : Control). StageAt n history t q.auxiliary.since q.auxiliary.round words q.variables p) at ownq.stage in
-    let making : Making q.control = subst Making (sym at) (late i d up) in
-    let new_word : (k : ℕ) → k ≡ i → word_at words' k ≡ w = λ k e. get_or-set_at words (i - 1) (k - 1) w no_word (ap (λ y. y - 1) e) (omega arith) in
-    let old_word : (k : ℕ) → IsOneOf n k → k ≢ i → word_at words' k ≡ word_at words k =
-    λ k j ne. get_or-set_other words (i - 1) (k - 1) w no_word (λ same. ne (omega arith)) in
-    let grows : Grows n words words' = λ k j. elim (cases_eq k i) [
-      | inl same ↦ subst (λ (y : Word). WordBefore (word_at words k) y) (sym (new_word k same)) (inl (subst (λ y. seq_at words y < q.variables.c) (sym same) (omega arith)))
-      | inr other ↦ inr (sym (old_word k j other))
-    ] in
-    let viewed : (u : ℕ) → IsOneOf n u → Viewed n history (suc t) (typed_at a x u).auxiliary.since words' = λ u ju k j. elim (cases_eq k i) [
-      | inl same ↦ subst (λ (y : Word). seq_at (history (typed_at a x u).auxiliary.since) k + 2 ≤ y.seq → Held history (suc t) (typed_at a x u).auxiliary.since y.view) (sym (new_word k same))
-          (λ more. held_wider history t (suc t) q.auxiliary.since (typed_at a x u).auxiliary.since q.variables.s (omega arith)
-          (h.start u i ju one making (let e : seq_at (history (typed_at a x u).auxiliary.since) k ≡ seq_at (history (typed_at a x u).auxiliary.since) i = ap (seq_at (history (typed_at a x u).auxiliary.since)) same in
-          let more2 : seq_at (history (typed_at a x u).auxiliary.since) k + 2 ≤ q.variables.c = more in omega arith)) held)
-      | inr other ↦ subst (λ (y : Word). seq_at (history (typed_at a x u).auxiliary.since) k + 2 ≤ y.seq → Held history (suc t) (typed_at a x u).auxiliary.since y.view) (sym (old_word k j other))
-          (λ more. held_wider history t (suc t) _ _ _ (omega arith) (omega arith) ((h.each u ju).views k j more))
-    ] in
-    let own_new : ProcessInvariant n (suc t) history words' i q' =
-    subst (λ (r : Process). ProcessInvariant n (suc t) history words' i r) (sym is) (record {
-      well = (up, tt);
-      length_a = ownq.length_a;
-      length_b = ownq.length_b;
-      seq = (let e : seq_at words' i ≡ q.variables.c = ap (λ (y : Word). y.seq) (new_word i refl) in omega arith);
-      fresh = (let f : q.variables.c ≤ t = ownq.fresh in omega arith);
-      since_le = (let f : q.auxiliary.since ≤ t = ownq.since_le in omega arith);
-      low = λ k j. (let l : seq_at (history q.auxiliary.since) k ≤ seq_at words k = ownq.low k j in
-          let s : seq_at words k ≤ seq_at words' k = before_seq (word_at words k) (word_at words' k) (grows k j) in omega arith);
-      opened = λ k j. (let l : seq_at (history q.auxiliary.round) k ≤ seq_at words k = ownq.opened k j in
-          let s : seq_at words k ≤ seq_at words' k = before_seq (word_at words k) (word_at words' k) (grows k j) in omega arith);
-      views = viewed i one;
-      stage = tt;
-      self = λ scan. absurd (not_scan i d up scan);
-      counts = tt;
-      wrote = wrote33 i d q.auxiliary.wrote up (subst (λ (p : Control). HasWritten p q.auxiliary.wrote) at ownq.wrote);
-    }) in
-    let new : typed_at a (changed x i c) i ≡ q' = embed.own_process a x i words' q' o count one in
-    let at_i : (k : ℕ) → k ≡ i → typed_at a (changed x i c) k ≡ q' = λ k e. ap (typed_at a (changed x i c)) e ∙ new in
-    let off_i : (k : ℕ) → IsOneOf n k → k ≢ i → typed_at a (changed x i c) k ≡ typed_at a x k =
-    λ k j ne. embed.other_process a x i k c one.0 j.0 ne in
     record {
-      size = length-set words (i - 1) w ∙ len;
-      each = λ k j. elim (cases_eq k i) [
-        | inl same ↦ subst (λ (r : Process). ProcessInvariant n (suc t) history words' k r) (sym (at_i k same)) (subst (λ y. ProcessInvariant n (suc t) history words' y q') (sym same) own_new)
-        | inr other ↦ subst (λ (r : Process). ProcessInvariant n (suc t) history words' k r) (sym (off_i k j other))
-            (others_act n t (suc t) history words words' k (typed_at a x k) (omega arith) grows (ap (λ (y : Word). y.seq) (old_word k j other)) (viewed k j) (h.each k j))
-      ];
-      start = λ u b ju jb. elim (cases_eq b i) [
-        | inl sb ↦ subst (λ (r : Process). PairInvariant history words' (typed_at a (changed x i c) u) r b) (sym (at_i b sb ∙ is)) (λ made lt. absurd (not_late i d up made))
-        | inr ob ↦ subst (λ (r : Process). PairInvariant history words' (typed_at a (changed x i c) u) r b) (sym (off_i b jb ob))
-            (let past : PairInvariant history words' (typed_at a x u) (typed_at a x b) b = λ made lt. h.start u b ju jb made (subst (λ (y : Word). seq_at (history (typed_at a x u).auxiliary.since) b < y.seq) (old_word b jb ob) lt) in
-            elim (cases_eq u i) [
-              | inl su ↦ subst (λ (r : Process). PairInvariant history words' r (typed_at a x b) b) (sym (at_i u su ∙ is)) (subst (λ y. PairInvariant history words' (typed_at a x y) (typed_at a x b) b) su past)
-              | inr ou ↦ subst (λ (r : Process). PairInvariant history words' r (typed_at a x b) b) (sym (off_i u ju ou)) past
-            ])
-      ];
+      size = h.size;
+      each = frame.each_next a x i words q' o count one (ProcessInvariant n t history words) own (λ k j other. h.each k j);
+      start = frame.pairs_next a x i words q' o count one (PairInvariant history words) (record {
+        own = λ making more. omega arith;
+        first = λ k j other making more. elim scan [
+          | inl fresh ↦ absurd (let e : seq_at (history q'.auxiliary.since) k ≡ seq_at words k = ap (λ s. seq_at (history s) k) fresh ∙ ap (λ w. seq_at w k) now in omega arith)
+          | inr same ↦ subst (λ s. s ≤ (typed_at a x k).auxiliary.since) (sym same) (h.start i k one j making (subst (λ s. seq_at (history s) k < seq_at words k) same more))
+        ];
+        second = λ k j other making more.
+            let started : (typed_at a x k).auxiliary.since ≤ t = (h.each k j).since_le in
+            elim scan [
+              | inl fresh ↦ omega arith
+              | inr same ↦ elim (made making) [
+                | inl fresh ↦ omega arith
+                | inr before ↦ subst (λ s. (typed_at a x k).auxiliary.since ≤ s) (sym same) (h.start k i j one before more)
+              ]
+            ];
+        others = λ k l jk jl other away. h.start k l jk jl;
+      });
     }
-  where
-    late : (i : ℕ) (d : Task) → IsUpdate i d → Making (At d L32)
-    late i Scanning u = absurd u
-    late i (Embedded w x) u = absurd u
-    late i (Updating w x) u = tt
-
-    not_late : (i : ℕ) (d : Task) → IsUpdate i d → Making (At d L33) → ⊥
-    not_late i Scanning u h = h
-    not_late i (Embedded w x) u h = u
-    not_late i (Updating w x) u h = h
-
-    not_scan : (i : ℕ) (d : Task) → IsUpdate i d → IsInScan d → ⊥
-    not_scan i Scanning u h = u
-    not_scan i (Embedded w x) u h = u
-    not_scan i (Updating w x) u h = h
-
-    wrote33 : (i : ℕ) (d : Task) (w : ℕ) → IsUpdate i d → HasWritten (At d L32) w → HasWritten (At d L33) (w + 1)
-    wrote33 i Scanning w u h = tt
-    wrote33 i (Embedded word arg) w u h = absurd u
-    wrote33 i (Updating word arg) w u h = omega arith

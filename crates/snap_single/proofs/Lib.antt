@@ -6,6 +6,7 @@ pub mod Collect
 pub mod Stage
 pub mod Count
 pub mod Invariant
+pub mod Write
 pub mod Preserve
 pub mod Runs
 pub mod Points

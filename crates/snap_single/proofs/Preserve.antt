@@ -23,7 +23,8 @@ use Rattle.snap_single.proofs.Collect.{Low, floor}
 use Rattle.snap_single.proofs.Control.{BelowLimit, VariablesAt, MoveWell, ControlWell, move_well, called_well}
 use Rattle.snap_single.proofs.Count.{Count, CountMove, count_move, moves, moves_less}
 use Rattle.snap_single.proofs.Flows.{Making, HasWritten, in_scan, flows, line_listed, at_number}
-use Rattle.snap_single.proofs.Invariant.{ProcessInvariant, Invariant, StageAt, CountAt, pending, time_passes, process_changes, line_32_writes}
+use Rattle.snap_single.proofs.Invariant.{ProcessInvariant, Invariant, StageAt, CountAt, pending, time_passes, process_changes}
+use Rattle.snap_single.proofs.Write.{line_32_writes}
 use Rattle.snap_single.proofs.Stage.{Stage, StageMove, stage_move, Sized, SizedMove, sized_move}
 
 -- process i
@@ -134,7 +135,7 @@ line_keeps n t history x i d k (To d' m' p k') count one now h is c quiet owes =
       counts = owes.counts;
       wrote = owes.wrote;
     })
-    (λ m. inr (subst Making (sym is) (owes.making m), refl)) (inr refl))
+    (λ m. inr (subst Making (sym is) (owes.making m))) (inr refl))
 line_keeps n t history x i d k (Begin d' p k') count one now h is c quiet owes =
     let q = at n x i in
     let own : ProcessInvariant n t history x.memory i q = h.each i one in
@@ -231,7 +232,7 @@ line_32_keeps : (n t : ℕ) (history : ℕ → Words) (x : State) (i : ℕ) (d :
     (at n x i).control ≡ At d L32 → Invariant n (suc t) history (changed x i (by_step (algorithm n) (suc t) x.memory i (at n x i) (At d L32)))
 line_32_keeps n t history x i d count one h is =
     let well : ControlWell n i (at n x i).variables (At d L32) = subst (ControlWell n i (at n x i).variables) is (h.each i one).well in
-    line_32_writes n t history x i d _ Stepped count one h is well.0 refl
+    line_32_writes n t history x i d one h is well.0 Stepped count
 
 -- one step of a process
 step_keeps : (n t : ℕ) (history : ℕ → Words) (x : State) (i : ℕ) (control : Control) → ((u : ℕ) → u ≤ t → length (history u) ≡ n) →

@@ -1,5 +1,5 @@
 -- Facts about numbers, rows, bits and quantifiers that have nothing of M in them.
-use Rattle.std.specs.Prelude.{◌≡◌, ◌≢◌, ℕ, zero, suc, ◌+◌, ◌-◌, ◌^◌, ◌<◌, ◌≤◌, Bool, true, false, ◌&&◌, List, [], ◌∷◌, length, drop, map, Some, None, Result, Ok, slice_index, slice_index_or, slice_set, nat_eq, nat_lt, nat_le, if◌then◌else◌, refl}
+use Rattle.std.specs.Prelude.{◌≡◌, ◌≢◌, ℕ, zero, suc, ◌+◌, ◌-◌, ◌^◌, ◌<◌, ◌≤◌, ◌⊎◌, Bool, true, false, ◌&&◌, List, [], ◌∷◌, length, drop, map, Some, None, Result, Ok, slice_index, slice_index_or, slice_set, nat_eq, nat_lt, nat_le, if◌then◌else◌, refl}
 use Rattle.std.proofs.Common.{sym, ◌∙◌, ap, arith, inl, inr}
 use Rattle.std.proofs.Math.Nat.{eq-or-lt_of_le}
 use Rattle.std.proofs.lemmas.Bool.{cases_eq}
@@ -38,6 +38,9 @@ le_from x y h = grind (arith, common_steps)
 
 pub not_lt : (x y : ℕ) → nat_lt x y ≡ false → y ≤ x
 not_lt x y h = grind (arith, common_steps)
+
+pub less_or_not : (x y : ℕ) → (x < y) ⊎ (y ≤ x)
+less_or_not x y = elim (nat_lt x y) as (λ b. nat_lt x y ≡ b → (x < y) ⊎ (y ≤ x)) [ true ↦ λ e. inl (lt_from x y e) | false ↦ λ e. inr (not_lt x y e) ] refl
 
 pub same_from : (x y : ℕ) → nat_eq x y ≡ true → x ≡ y
 same_from x y h = grind (arith, common_steps)

@@ -1,3 +1,6 @@
 pub mod Algorithm
 pub mod Basics
 pub mod Lines
+pub mod History
+pub mod Control
+pub mod Collect

@@ -129,6 +129,12 @@ module _ (n w me : ℕ) (history : ℕ → Registers) (from : ℕ) where
         lates = λ c o lt. read_until history x.ended t (suc t) me c (place h c) (omega arith) (x.lates c o lt);
       }
 
+  pub ended_kept : (t : ℕ) (g : List ℕ) (a b : Words) (h : List ℕ) (asked first second late : ℕ) →
+      (same : (c : ℕ) → IsOneOf n c → bit (history (suc t)).q me c ≡ bit (history t).q me c) →
+      (x : Collected n w me history from t g a b h asked first second late) → (collected_kept t g a b h asked first second late same x).ended ≡ x.ended
+  unfolding collected_kept
+  ended_kept t g a b h asked first second late same x = refl
+
   -- line 14 keeps the bit that was read for process j
   pub asked_row : (t : ℕ) (g : List ℕ) (a b : Words) (h : List ℕ) (j x first second late : ℕ) → IsOneOf n j →
       Collected n w me history from t g a b h j first second late → Collected n w me history from t (slice_set g (j - 1) x) a b h j first second late

@@ -4,3 +4,4 @@ pub mod Lines
 pub mod History
 pub mod Control
 pub mod Collect
+pub mod Stage

@@ -4,14 +4,13 @@ use Rattle.std.proofs.Common.{sym, ◌∙◌, ap, subst, arith, inl, inr}
 use Rattle.std.proofs.lemmas.Bool.{cases_eq}
 use Rattle.snap_words.specs.Shape.{IsOneOf}
 use Rattle.snap_words.specs.Word.{Word}
-use Rattle.snap_semantics.specs.Table.{places_to, all_true, first_true}
 use Rattle.snap_runs.proofs.Algorithm.{To, Begin, Answer, Finish}
-use Rattle.snap_runs.proofs.Held.{word_at, Held, held_wider, data_of}
+use Rattle.snap_runs.proofs.Held.{word_at, Held, held_wider}
 use Rattle.snap_multi.proofs.Algorithm.{Words, Registers, Move, Variables, Task, Scanning, Embedded, Updating, ProgramCounter, L10, L11, L12, L13, L14, L15, L16, L17, L18, L19, L20, L21, L22, L23, L24, L25, L26, L27, L28, L29, L30, L31, L32, L33, L34, L35, L36, L37, L50, L51, L52, L53, L54, L55, L56, L57, L58, plain, place, bit, view_at, move, first_to, same_at, marked, counted, all_still, third_move, restarts, IsLineOf}
-use Rattle.snap_multi.proofs.Basics.{eq_true, eq_false, other_from, same_from, not_lt, for_each_at, first_found, all_at, set_here, set_there}
+use Rattle.snap_multi.proofs.Basics.{eq_false, other_from, same_from, not_lt, for_each_at, first_found, all_at, set_here, set_there}
 use Rattle.snap_multi.proofs.Control.{Keeps, Long}
 use Rattle.snap_multi.proofs.History.{words_of, Since, Laws}
-use Rattle.snap_multi.proofs.Collect.{events, ReadBit, Collected, collected_starts, collected_as, collected_kept, asked_row, asked_more, first_more, second_more, late_more, seen_by_words, seen_by_bits, passed, plain_data, borrowed}
+use Rattle.snap_multi.proofs.Collect.{events, ReadBit, Collected, collected_starts, collected_as, collected_kept, ended_kept, asked_row, asked_more, first_more, second_more, late_more, seen_by_words, seen_by_bits, passed, plain_data, borrowed}
 
 -- The moves that the scan has seen are events since its start: up to its last double collect's start, and up to now.
 abbrev pub Low : ℕ → ℕ → (ℕ → Registers) → ℕ → ℕ → List ℕ → Type 0
@@ -188,9 +187,9 @@ row_same n w me history round t g h d a b k same r = record {
 }
 
 -- line 28 marks the writer of a word that differs
-row_marks : (n w me : ℕ) (history : ℕ → Registers) (round t : ℕ) (g h d : List ℕ) (a b : Words) (k x : ℕ) → IsOneOf n x → n ≤ length d → x ≡ (word_at b k).id →
+row_marks : (n w me : ℕ) (history : ℕ → Registers) (round t : ℕ) (g h d : List ℕ) (a b : Words) (k x : ℕ) → IsOneOf n x → n ≤ length d → x ≡ (word_at b k).id → ((y : ℕ) → IsOneOf w y → same_at a b y ≡ false → IsOneOf n (word_at b y).id) →
     events (history round) x me < events (history t) x me → Row n w me history round t g h d a b k → Row n w me history round t g h (slice_set d (x - 1) 1) a b (k + 1)
-row_marks n w me history round t g h d a b k x one len is event r =
+row_marks n w me history round t g h d a b k x one len is named event r =
     let row = slice_set d (x - 1) 1 in
     let here : (c : ℕ) → c ≡ x → place row c ≡ 1 = λ c e. ap (place row) e ∙ set_here d x 1 one.0 (let le : x ≤ n = one.1 in omega arith) in
     let there : (c : ℕ) → 0 < c → c ≢ x → place row c ≡ place d c = λ c pos other. set_there d x c 1 one.0 pos other in
@@ -208,7 +207,7 @@ row_marks n w me history round t g h d a b k x one len is event r =
         | inl same ↦ here (word_at b y).id same
         | inr other ↦ elim (cases_eq y k) [
           | inl e ↦ absurd (other (ap (λ v. (word_at b v).id) e ∙ sym is))
-          | inr less ↦ at_other (word_at b y).id other (r.words y o (omega arith) differ)
+          | inr less ↦ stays (word_at b y).id (named y o differ) (r.words y o (omega arith) differ)
         ]
       ];
       moved = λ c o e. elim (cases_eq c x) [
@@ -216,15 +215,6 @@ row_marks n w me history round t g h d a b k x one len is event r =
         | inr other ↦ r.moved c o (sym (there c o.0 other) ∙ e)
       ];
     }
-  where
-    at_other : (c : ℕ) → c ≢ x → place d c ≡ 1 → place (slice_set d (x - 1) 1) c ≡ 1
-    at_other c other e = elim (cases_eq c 0) [
-      | inl zero ↦ elim (cases_eq x 1) [
-        | inl first ↦ absurd (omega arith)
-        | inr later ↦ absurd (omega arith)
-      ]
-      | inr some ↦ set_there d x c 1 one.0 (omega arith) other ∙ e
-    ]
 
 -- where nothing is marked, no late bit and no word differs
 still_bits : (n w me : ℕ) (history : ℕ → Registers) (round t : ℕ) (p : Variables) (k : ℕ) → Marks n w me history round t p k → all_still n p ≡ true →
@@ -323,7 +313,7 @@ stage_move n w me history t since round m d p L28 e h =
     let named : IsOneOf n p.x = subst (IsOneOf n) (sym h.4) seen.0 in
     let wrote : (history round).writes p.x < (history t).writes p.x = subst (λ y. (history round).writes y < (history t).writes y) (sym h.4) seen.1 in
     let answers : (history round).answers p.x me ≤ (history t).answers p.x me = ((e.laws t (omega arith)).since round e.round_le).answers p.x me named e.one in
-    (h.0, h.1, row_marks n w me history round t p.g p.h p.d p.a p.b p.k p.x named long.d h.4 (omega arith) h.2)
+    (h.0, h.1, row_marks n w me history round t p.g p.h p.d p.a p.b p.k p.x named long.d h.4 (λ y o differ. (seen_by_words n w me history round t p.g p.a p.b p.h e.one e.laws h.1 y o differ).0) (omega arith) h.2)
 stage_move n w me history t since round m d p L29 e h =
     stage_if n w me history t since round (nat_lt p.k w) _ _ (λ b. h)
     (λ b. let ge : w ≤ p.k = not_lt p.k w b in
@@ -418,7 +408,7 @@ stage_kept n w me history t since round p L18 i s o h = (h.0, collected_kept n w
 stage_kept n w me history t since round p L19 i s o h = (h.0, collected_kept n w me history round t p.g p.a p.b p.h (n + 1) (w + 1) p.k 1 o.asks h.1)
 stage_kept n w me history t since round p L20 i s o h = (h.0, collected_kept n w me history round t p.g p.a p.b p.h (n + 1) (w + 1) (p.k + 1) 1 o.asks h.1)
 stage_kept n w me history t since round p L21 i s o h = (h.0, collected_kept n w me history round t p.g p.a p.b p.h (n + 1) (w + 1) (w + 1) p.j o.asks h.1)
-stage_kept n w me history t since round p L22 i s o h = (h.0, collected_kept n w me history round t p.g p.a p.b p.h (n + 1) (w + 1) (w + 1) p.j o.asks h.1, sight_kept history h.1.ended t me p.j p.x h.2)
+stage_kept n w me history t since round p L22 i s o h = (h.0, collected_kept n w me history round t p.g p.a p.b p.h (n + 1) (w + 1) (w + 1) p.j o.asks h.1, subst (λ y. ReadBit history y (suc t) me p.j p.x) (sym (ended_kept n w me history round t p.g p.a p.b p.h (n + 1) (w + 1) (w + 1) p.j o.asks h.1)) (sight_kept history h.1.ended t me p.j p.x h.2))
 stage_kept n w me history t since round p L23 i s o h = (h.0, collected_kept n w me history round t p.g p.a p.b p.h (n + 1) (w + 1) (w + 1) (p.j + 1) o.asks h.1)
 stage_kept n w me history t since round p L24 i s o h = (h.0, collected_kept n w me history round t p.g p.a p.b p.h (n + 1) (w + 1) (w + 1) (n + 1) o.asks h.1)
 stage_kept n w me history t since round p L25 i s o h = (h.0, collected_kept n w me history round t p.g p.a p.b p.h (n + 1) (w + 1) (w + 1) (n + 1) o.asks h.1, h.2)

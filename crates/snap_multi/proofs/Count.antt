@@ -1,13 +1,12 @@
 -- The double collects and own steps of a scan of M.
-use Rattle.std.specs.Prelude.{◌≡◌, ℕ, zero, suc, ◌+◌, ◌-◌, ◌*◌, ◌<◌, ◌≤◌, Bool, true, false, map, Option, Some, None, nat_eq, nat_lt, if◌then◌else◌, refl}
+use Rattle.std.specs.Prelude.{◌≡◌, ℕ, zero, suc, ◌+◌, ◌-◌, ◌*◌, ◌<◌, ◌≤◌, Bool, true, false, Option, Some, None, nat_eq, nat_lt, if◌then◌else◌, refl}
 use Rattle.std.proofs.Common.{sym, ◌∙◌, ap, subst, arith, inl, inr}
 use Rattle.std.proofs.lemmas.Bool.{cases_eq}
 use Rattle.std.proofs.lemmas.Grind.{common_steps}
-use Rattle.std.proofs.Math.Nat.{mul-add, mul_left_comm}
 use Rattle.snap_words.specs.Shape.{IsOneOf}
 use Rattle.snap_runs.proofs.Algorithm.{To, Begin, Answer, Finish}
 use Rattle.snap_multi.proofs.Algorithm.{Registers, restarts, Move, Variables, Task, Scanning, Embedded, Updating, ProgramCounter, L10, L11, L12, L13, L14, L15, L16, L17, L18, L19, L20, L21, L22, L23, L24, L25, L26, L27, L28, L29, L30, L31, L32, L33, L34, L35, L36, L37, L50, L51, L52, L53, L54, L55, L56, L57, L58, move, first_to, place, same_at, for_each, counted, all_still, third_move, tests}
-use Rattle.snap_multi.proofs.Basics.{eq_true, for_each_at, not_lt, not_all, other_from}
+use Rattle.snap_multi.proofs.Basics.{for_each_at, not_lt, not_all, other_from}
 use Rattle.snap_multi.proofs.Control.{Keeps}
 
 -- sums over places 1..n

@@ -5,3 +5,4 @@ pub mod History
 pub mod Control
 pub mod Collect
 pub mod Stage
+pub mod Count

@@ -1,5 +1,5 @@
 -- The invariant of M: what holds in every state of every run.
-use Rattle.std.specs.Prelude.{◌≡◌, ◌≢◌, ℕ, suc, ◌+◌, ◌-◌, ◌<◌, ◌≤◌, max, Bool, true, false, Option, Some, None, List, [], length, nat_eq, nat_lt, if◌then◌else◌, slice_set, refl}
+use Rattle.std.specs.Prelude.{◌≡◌, ◌≢◌, ℕ, suc, ◌+◌, ◌-◌, ◌<◌, ◌≤◌, max, Bool, true, false, Option, Some, None, List, length, nat_eq, nat_lt, if◌then◌else◌, slice_set, refl}
 use Rattle.std.proofs.Common.{sym, ◌∙◌, ap, subst, arith, inl, inr}
 use Rattle.std.proofs.lemmas.Bool.{cases_eq}
 use Rattle.std.proofs.lemmas.Grind.{common_steps}
@@ -7,7 +7,7 @@ use Rattle.snap_words.specs.Shape.{IsOneOf}
 use Rattle.snap_semantics.specs.declared.process.Outcome.{Outcome}
 use Rattle.snap_runs.proofs.Algorithm.{Idle, At, To, Begin, Answer, Finish, New, typed_at, changed}
 use Rattle.snap_runs.proofs.Embedding as embed
-use Rattle.snap_multi.proofs.Algorithm.{Registers, Change, Control, Process, State, Move, Variables, Task, Scanning, Embedded, Updating, ProgramCounter, L10, L11, L12, L13, L14, L15, L16, L17, L18, L19, L20, L21, L22, L23, L24, L25, L26, L27, L28, L29, L30, L31, L32, L33, L34, L35, L36, L37, L50, L51, L52, L53, L54, L55, L56, L57, L58, place, bit, flip, writes, word_of, move, first_to, return_to, embed_to, same_at, all_still, third_move, IsScan, IsUpdate, IsLineOf, algorithm}
+use Rattle.snap_multi.proofs.Algorithm.{Registers, Change, Control, Process, State, Move, Variables, Task, Scanning, Embedded, Updating, ProgramCounter, L10, L11, L12, L13, L14, L15, L16, L17, L18, L19, L20, L21, L22, L23, L24, L25, L26, L27, L28, L29, L30, L31, L32, L33, L34, L35, L36, L37, L50, L51, L52, L53, L54, L55, L56, L57, L58, place, bit, flip, writes, move, first_to, return_to, embed_to, same_at, all_still, third_move, IsScan, IsUpdate, IsLineOf, algorithm}
 use Rattle.snap_multi.proofs.Basics.{lt_true, not_lt, eq_true, eq_false, set_here, set_there}
 use Rattle.snap_multi.proofs.Control.{ControlWell, Long}
 use Rattle.snap_multi.proofs.History.{Since, Laws}

@@ -6,3 +6,4 @@ pub mod Control
 pub mod Collect
 pub mod Stage
 pub mod Count
+pub mod Invariant

@@ -7,3 +7,5 @@ pub mod Collect
 pub mod Stage
 pub mod Count
 pub mod Invariant
+pub mod Writes
+pub mod Keep

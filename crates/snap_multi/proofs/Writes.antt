@@ -1,5 +1,5 @@
 -- The four lines of M that write registers: what each does to the laws, and that it leaves what other processes own.
-use Rattle.std.specs.Prelude.{◌≡◌, ◌≢◌, ℕ, suc, ◌+◌, ◌-◌, ◌<◌, ◌≤◌, ◌⊎◌, Bool, true, false, ◌&&◌, [], length, nat_eq, if◌then◌else◌, slice_index, slice_index_or, slice_set, refl}
+use Rattle.std.specs.Prelude.{◌≡◌, ◌≢◌, ℕ, ◌+◌, ◌-◌, ◌<◌, ◌≤◌, ◌⊎◌, Bool, true, false, ◌&&◌, [], length, nat_eq, if◌then◌else◌, slice_index, slice_index_or, refl}
 use Rattle.std.proofs.Common.{sym, ◌∙◌, ap, subst, arith, inl, inr}
 use Rattle.std.proofs.lemmas.Bool.{cases_eq}
 use Rattle.std.proofs.lemmas.Grind.{get_or-set_at}
@@ -7,14 +7,14 @@ use Rattle.std.proofs.lemmas.List.{length-set, get_or-set_other}
 use Rattle.snap_words.specs.Shape.{IsOneOf}
 use Rattle.snap_words.specs.Word.{Word, no_word}
 use Rattle.snap_runs.proofs.Held.{word_at, seq_at, Held, held_wider}
-use Rattle.snap_multi.proofs.Algorithm.{Registers, Variables, Task, Updating, L52, L55, L57, place, word_of, bit, with_bit, view_at, flip, raised, raised_at, with_at, written, after_15, after_52, after_55, after_57}
-use Rattle.snap_multi.proofs.Basics.{eq_true, eq_false, flip_bit, flip_other, less_or_not, bit_here, bit_elsewhere, row_elsewhere, Square, square_kept}
+use Rattle.snap_multi.proofs.Algorithm.{Registers, Variables, Task, Updating, place, word_of, bit, view_at, flip, raised, raised_at, with_at, written, after_15, after_52, after_55, after_57}
+use Rattle.snap_multi.proofs.Basics.{eq_true, eq_false, flip_bit, flip_other, less_or_not, bit_here, bit_elsewhere, row_elsewhere, square_kept}
 use Rattle.snap_multi.proofs.History.{words_of, id_at, toggle_at, Now, Laws, Rewritten, Answer, Put, Acts}
 use Rattle.snap_multi.proofs.Stage.{Seen}
-use Rattle.snap_multi.proofs.Invariant.{Books, Untouched}
+use Rattle.snap_multi.proofs.Invariant.{Untouched}
 
 -- counters that are raised
-raised_here : (f : ℕ → ℕ) (i : ℕ) → raised f i i ≡ f i + 1
+pub raised_here : (f : ℕ → ℕ) (i : ℕ) → raised f i i ≡ f i + 1
 raised_here f i = ap (λ b. if b then f i + 1 else f i) (eq_true i)
 
 raised_there : (f : ℕ → ℕ) (i y : ℕ) → y ≢ i → raised f i y ≡ f y
@@ -28,23 +28,23 @@ and_false : (b : Bool) → (b && false) ≡ false
 and_false true = refl
 and_false false = refl
 
-raised_at_here : (f : ℕ → ℕ → ℕ) (i j : ℕ) → raised_at f i j i j ≡ f i j + 1
+pub raised_at_here : (f : ℕ → ℕ → ℕ) (i j : ℕ) → raised_at f i j i j ≡ f i j + 1
 raised_at_here f i j = ap (λ b. if b && nat_eq j j then f i j + 1 else f i j) (eq_true i) ∙ ap (λ b. if b then f i j + 1 else f i j) (eq_true j)
 
 raised_at_there : (f : ℕ → ℕ → ℕ) (i j y z : ℕ) → y ≢ i → raised_at f i j y z ≡ f y z
 raised_at_there f i j y z other = ap (λ b. if b && nat_eq z j then f y z + 1 else f y z) (eq_false y i other)
 
-raised_at_elsewhere : (f : ℕ → ℕ → ℕ) (i j y z : ℕ) → z ≢ j → raised_at f i j y z ≡ f y z
+pub raised_at_elsewhere : (f : ℕ → ℕ → ℕ) (i j y z : ℕ) → z ≢ j → raised_at f i j y z ≡ f y z
 raised_at_elsewhere f i j y z other =
     ap (λ b. if nat_eq y i && b then f y z + 1 else f y z) (eq_false z j other) ∙ ap (λ b. if b then f y z + 1 else f y z) (and_false (nat_eq y i))
 
-with_at_here : (f : ℕ → ℕ → ℕ) (i k x : ℕ) → with_at f i k x i k ≡ x
+pub with_at_here : (f : ℕ → ℕ → ℕ) (i k x : ℕ) → with_at f i k x i k ≡ x
 with_at_here f i k x = ap (λ b. if b && nat_eq k k then x else f i k) (eq_true i) ∙ ap (λ b. if b then x else f i k) (eq_true k)
 
 with_at_there : (f : ℕ → ℕ → ℕ) (i k x y z : ℕ) → y ≢ i → with_at f i k x y z ≡ f y z
 with_at_there f i k x y z other = ap (λ b. if b && nat_eq z k then x else f y z) (eq_false y i other)
 
-with_at_elsewhere : (f : ℕ → ℕ → ℕ) (i k x y z : ℕ) → z ≢ k → with_at f i k x y z ≡ f y z
+pub with_at_elsewhere : (f : ℕ → ℕ → ℕ) (i k x y z : ℕ) → z ≢ k → with_at f i k x y z ≡ f y z
 with_at_elsewhere f i k x y z other =
     ap (λ b. if nat_eq y i && b then x else f y z) (eq_false z k other) ∙ ap (λ b. if b then x else f y z) (and_false (nat_eq y i))
 

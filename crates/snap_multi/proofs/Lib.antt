@@ -9,3 +9,4 @@ pub mod Count
 pub mod Invariant
 pub mod Writes
 pub mod Keep
+pub mod Runs

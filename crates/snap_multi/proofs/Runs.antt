@@ -1,5 +1,5 @@
 -- Whole runs of M: the invariant at each state, no traps, each finished scan's point, and the bounds of each scan.
-use Rattle.std.specs.Prelude.{◌≡◌, ℕ, zero, suc, ◌+◌, ◌-◌, ◌*◌, ◌<◌, ◌≤◌, max, Bool, true, false, List, [], ◌∷◌, length, map, Option, Some, None, nat_eq, nat_lt, replicate, if◌then◌else◌, slice_index, slice_index_or, refl}
+use Rattle.std.specs.Prelude.{◌≡◌, ℕ, zero, suc, ◌+◌, ◌-◌, ◌*◌, ◌<◌, ◌≤◌, max, Bool, true, false, List, [], ◌∷◌, length, map, Option, Some, None, nat_lt, replicate, if◌then◌else◌, slice_index, refl}
 use Rattle.std.proofs.Common.{sym, ◌∙◌, ap, subst, arith, inl, inr}
 use Rattle.std.proofs.Math.Nat.{eq-or-lt_of_le}
 use Rattle.std.proofs.lemmas.List.{get_or-replicate, length-replicate}
@@ -21,9 +21,9 @@ use Rattle.snap_runs.proofs.ScanSpan as span
 use Rattle.snap_runs.proofs.Held.{word_at, seq_at, Held, data_of}
 use Rattle.snap_multi.specs.ListingM.{listing_m}
 use Rattle.snap_multi.specs.Promises.{run_of, NeverTraps, HavePoints, FewCollects, FewSteps, SharpCollects}
-use Rattle.snap_multi.proofs.Algorithm.{Words, Registers, Bits, Process, plain, first_word, first_memory, Control, Move, State, Variables, Task, Scanning, Embedded, Updating, ProgramCounter, L10, L11, L12, L13, L14, L15, L16, L17, L18, L19, L20, L21, L22, L23, L24, L25, L26, L27, L28, L29, L30, L31, L32, L33, L34, L35, L36, L37, L50, L51, L52, L53, L54, L55, L56, L57, L58, number, locals_of, bit, move, first_to, return_to, embed_to, same_at, all_still, third_move, IsLineOf, IsUpdate, tests, algorithm}
+use Rattle.snap_multi.proofs.Algorithm.{Words, Registers, Process, plain, first_word, first_memory, Control, Move, State, Variables, Task, Scanning, Embedded, Updating, ProgramCounter, L10, L11, L12, L13, L14, L15, L16, L17, L18, L19, L20, L21, L22, L23, L24, L25, L26, L27, L28, L29, L30, L31, L32, L33, L34, L35, L36, L37, L50, L51, L52, L53, L54, L55, L56, L57, L58, number, locals_of, bit, move, first_to, return_to, embed_to, same_at, all_still, third_move, IsLineOf, IsUpdate, tests, algorithm}
 use Rattle.snap_multi.proofs.Basics.{Square}
-use Rattle.snap_multi.proofs.Control.{ControlWell, NamedAt28, Ground, does}
+use Rattle.snap_multi.proofs.Control.{ControlWell, NamedAt28, does}
 use Rattle.snap_multi.proofs.History.{words_of, Now, Since, Laws, since_itself}
 use Rattle.snap_multi.proofs.Collect.{seen_by_words}
 use Rattle.snap_multi.proofs.Stage.{Stage}
@@ -83,7 +83,7 @@ own0 n w items i = record {
     g = length-replicate (max n w) 0;
     h = length-replicate (max n w) 0;
     tog = length-replicate (max n w) 0;
-    d = (let e : length (replicate (max n w) 0) ≡ max n w = length-replicate (max n w) 0 in omega arith);
+    d = subst (λ v. n ≤ v) (sym (length-replicate (max n w) 0)) (let le : n ≤ max n w = omega arith in le);
   };
   opened = omega arith;
   round_le = omega arith;

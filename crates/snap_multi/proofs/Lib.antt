@@ -10,3 +10,5 @@ pub mod Invariant
 pub mod Writes
 pub mod Keep
 pub mod Runs
+pub mod Updates
+pub mod Moves

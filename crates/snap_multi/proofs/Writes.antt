@@ -17,7 +17,7 @@ use Rattle.snap_multi.proofs.Invariant.{Untouched}
 pub raised_here : (f : ℕ → ℕ) (i : ℕ) → raised f i i ≡ f i + 1
 raised_here f i = ap (λ b. if b then f i + 1 else f i) (eq_true i)
 
-raised_there : (f : ℕ → ℕ) (i y : ℕ) → y ≢ i → raised f i y ≡ f y
+pub raised_there : (f : ℕ → ℕ) (i y : ℕ) → y ≢ i → raised f i y ≡ f y
 raised_there f i y other = ap (λ b. if b then f y + 1 else f y) (eq_false y i other)
 
 more_or_same : (b : Bool) (v : ℕ) → v ≤ (if b then v + 1 else v)
@@ -31,7 +31,7 @@ and_false false = refl
 pub raised_at_here : (f : ℕ → ℕ → ℕ) (i j : ℕ) → raised_at f i j i j ≡ f i j + 1
 raised_at_here f i j = ap (λ b. if b && nat_eq j j then f i j + 1 else f i j) (eq_true i) ∙ ap (λ b. if b then f i j + 1 else f i j) (eq_true j)
 
-raised_at_there : (f : ℕ → ℕ → ℕ) (i j y z : ℕ) → y ≢ i → raised_at f i j y z ≡ f y z
+pub raised_at_there : (f : ℕ → ℕ → ℕ) (i j y z : ℕ) → y ≢ i → raised_at f i j y z ≡ f y z
 raised_at_there f i j y z other = ap (λ b. if b && nat_eq z j then f y z + 1 else f y z) (eq_false y i other)
 
 pub raised_at_elsewhere : (f : ℕ → ℕ → ℕ) (i j y z : ℕ) → z ≢ j → raised_at f i j y z ≡ f y z

@@ -1,5 +1,5 @@
 -- An algorithm in its own words: typed variables, one move for each line; and the runs of its processes.
-use Rattle.std.specs.Prelude.{◌≡◌, ℕ, zero, suc, ◌+◌, ◌-◌, Bool, if◌then◌else◌, List, map, Option, Some, None, Result, Ok, slice_index_or, slice_set, replicate}
+use Rattle.std.specs.Prelude.{◌≡◌, ℕ, zero, suc, ◌+◌, ◌-◌, Bool, if◌then◌else◌, List, map, Option, Some, None, Result, Ok, slice_index_or, slice_set, replicate, refl}
 use Rattle.snap_words.specs.Shape.{Counts}
 use Rattle.snap_semantics.specs.declared.process.Cause.{Cause}
 use Rattle.snap_semantics.specs.declared.process.Item.{Item}
@@ -16,20 +16,57 @@ use Rattle.snap_semantics.specs.Source.{Source}
 use Rattle.snap_semantics.specs.State.{Locals, Memory, Process, State, initial_memory, initial_process}
 use Rattle.snap_semantics.specs.Table.{Effect, Goes, Answers, Finishes, call_skip, entry, who}
 
--- In all that follows T are the tasks of a busy process, V its variables, P the program counters, and M the memory, which
--- may carry counters beside the registers.
+-- In all that follows V are the variables of a process, P the program counters, and M the memory, which may carry counters
+-- beside the registers.
+
+-- what a busy process is asked: a scan, a scan embedded in an update, or an update outside its scan
+pub data Task : Type 0 where
+  Scanning : Task
+  Embedded : (word value : ℕ) → Task
+  Updating : (word value : ℕ) → Task
+
+-- its operation
+abbrev pub op_of : Task → Op
+op_of Scanning = Scan
+op_of (Embedded word value) = Update word value
+op_of (Updating word value) = Update word value
+
+-- its link, where an embedded scan leads back to this line
+abbrev pub link_of : ℕ → Task → Option ℕ
+link_of back Scanning = None
+link_of back (Embedded word value) = Some back
+link_of back (Updating word value) = None
+
+-- the value of an update, and 0 in a scan
+abbrev pub value_of : Task → ℕ
+value_of Scanning = 0
+value_of (Embedded word value) = value
+value_of (Updating word value) = value
+
+-- the task with which an operation begins
+abbrev pub task_of : Op → Task
+task_of Scan = Scanning
+task_of (Update word value) = Updating word value
+
+pub op_is : (op : Op) → op_of (task_of op) ≡ op
+op_is Scan = refl
+op_is (Update word value) = refl
+
+pub link_is : (back : ℕ) (op : Op) → link_of back (task_of op) ≡ None
+link_is back Scan = refl
+link_is back (Update word value) = refl
 
 -- where a process stands
-pub data Control (T P : Type 0) : Type 0 where
-  Idle : Control T P
-  At : (task : T) → (counter : P) → Control T P
+pub data Control (P : Type 0) : Type 0 where
+  Idle : Control P
+  At : (task : Task) → (counter : P) → Control P
 
 -- what a line does: it goes on, begins an embedded scan, answers a scan, or finishes an update
-pub data Move (T V P M : Type 0) : Type 0 where
-  To : (task : T) → (memory : M) → (variables : V) → (counter : P) → Move T V P M
-  Begin : (task : T) → (variables : V) → (counter : P) → Move T V P M
-  Answer : (view : List ℕ) → Move T V P M
-  Finish : Move T V P M
+pub data Move (V P M : Type 0) : Type 0 where
+  To : (task : Task) → (memory : M) → (variables : V) → (counter : P) → Move V P M
+  Begin : (task : Task) → (variables : V) → (counter : P) → Move V P M
+  Answer : (view : List ℕ) → Move V P M
+  Finish : Move V P M
 
 -- what the proof remembers of a process, in numbers of items and counts
 pub record Auxiliary : Type 0 where
@@ -45,28 +82,27 @@ pub record Auxiliary : Type 0 where
   pub called : ℕ
   pub wrote : ℕ
 
-pub record TypedProcess (T V P M : Type 0) : Type 0 where
-  pub control : Control T P
+pub record TypedProcess (V P M : Type 0) : Type 0 where
+  pub control : Control P
   pub variables : V
   pub auxiliary : Auxiliary
 
-pub record TypedState (T V P M : Type 0) : Type 0 where
+pub record TypedState (V P M : Type 0) : Type 0 where
   pub memory : M
-  pub processes : List (TypedProcess T V P M)
+  pub processes : List (TypedProcess V P M)
 
-pub record Algorithm (T V P M : Type 0) : Type 0 where
+pub record Algorithm (V P M : Type 0) : Type 0 where
   pub source : Source
   pub shape : Counts
   -- what stands for what in the listing
   pub real : M → Memory
   pub locals_of : V → Locals
   pub number : P → ℕ
-  pub op_of : T → Op
-  pub link_of : T → Option ℕ
+  -- the line to which an embedded scan leads back
+  pub back : ℕ
   -- what a line does to a process with this number
-  pub move : ℕ → T → M → V → P → Move T V P M
+  pub move : ℕ → Task → M → V → P → Move V P M
   -- where an operation begins
-  pub task : Op → T
   pub counter : Op → P
   -- 1 for a line that ends a double collect, else 0; whether a line goes back to start another one
   pub tests : P → ℕ
@@ -77,12 +113,10 @@ pub record Algorithm (T V P M : Type 0) : Type 0 where
   pub first_memory : M
   pub variables_is : locals_of first_variables ≡ (initial_process source shape).locals
   pub memory_is : real first_memory ≡ initial_memory source.kind shape
-  pub op_is : (op : Op) → op_of (task op) ≡ op
-  pub link_is : (op : Op) → link_of (task op) ≡ None
   pub entry_is : (op : Op) → number (counter op) ≡ entry source op
 
 -- after a line that goes on or ends the operation
-abbrev pub stepped_auxiliary : {T V P M : Type 0} → Algorithm T V P M → P → ℕ → Auxiliary → Auxiliary
+abbrev pub stepped_auxiliary : {V P M : Type 0} → Algorithm V P M → P → ℕ → Auxiliary → Auxiliary
 stepped_auxiliary a k time g = record {
   since = g.since;
   own = suc g.own;
@@ -94,64 +128,67 @@ stepped_auxiliary a k time g = record {
 }
 
 -- after a line that begins an embedded scan
-abbrev pub begun_auxiliary : {T V P M : Type 0} → Algorithm T V P M → P → ℕ → Auxiliary → Auxiliary
+abbrev pub begun_auxiliary : {V P M : Type 0} → Algorithm V P M → P → ℕ → Auxiliary → Auxiliary
 begun_auxiliary a k time g = record { since = time; own = 0; collects = 0; round = time; tested = 0; called = g.called; wrote = g.wrote + a.writes k }
 
 -- after a call
 abbrev pub called_auxiliary : ℕ → Op → Auxiliary → Auxiliary
 called_auxiliary time Scan g = record { since = time; own = 0; collects = 0; round = time; tested = 0; called = time; wrote = 0 }
-called_auxiliary time (Update word value) g = record { since = g.since; own = g.own; collects = g.collects; round = g.round; tested = g.tested; called = time; wrote = 0 }
+called_auxiliary time (Update word value) g =
+    record { since = g.since; own = g.own; collects = g.collects; round = g.round; tested = g.tested; called = time; wrote = 0 }
 
 -- what an item does: nothing, or another memory and another process
-pub data Change (T V P M : Type 0) : Type 0 where
-  Same : (why : Reason) → Change T V P M
-  New : (memory : M) → (process : TypedProcess T V P M) → (outcome : Outcome) → Change T V P M
+pub data Change (V P M : Type 0) : Type 0 where
+  Same : (why : Reason) → Change V P M
+  New : (memory : M) → (process : TypedProcess V P M) → (outcome : Outcome) → Change V P M
 
-abbrev pub by_move : {T V P M : Type 0} → Algorithm T V P M → ℕ → M → TypedProcess T V P M → P → Move T V P M → Change T V P M
+abbrev pub by_move : {V P M : Type 0} → Algorithm V P M → ℕ → M → TypedProcess V P M → P → Move V P M → Change V P M
 by_move a time m q k (To d m' p k') = New m' (record { control = At d k'; variables = p; auxiliary = stepped_auxiliary a k time q.auxiliary }) Stepped
 by_move a time m q k (Begin d p k') = New m (record { control = At d k'; variables = p; auxiliary = begun_auxiliary a k time q.auxiliary }) Stepped
-by_move a time m q k (Answer v) = New m (record { control = Idle; variables = q.variables; auxiliary = stepped_auxiliary a k time q.auxiliary }) (Answered v)
+by_move a time m q k (Answer v) =
+    New m (record { control = Idle; variables = q.variables; auxiliary = stepped_auxiliary a k time q.auxiliary }) (Answered v)
 by_move a time m q k Finish = New m (record { control = Idle; variables = q.variables; auxiliary = stepped_auxiliary a k time q.auxiliary }) Finished
 
-abbrev pub by_step : {T V P M : Type 0} → Algorithm T V P M → ℕ → M → ℕ → TypedProcess T V P M → Control T P → Change T V P M
+abbrev pub by_step : {V P M : Type 0} → Algorithm V P M → ℕ → M → ℕ → TypedProcess V P M → Control P → Change V P M
 by_step a time m i q Idle = Same reason.Idle
 by_step a time m i q (At d k) = by_move a time m q k (a.move i d m q.variables k)
 
-abbrev pub by_admission : {T V P M : Type 0} → Algorithm T V P M → ℕ → M → TypedProcess T V P M → Op → Option Reason → Change T V P M
+abbrev pub by_admission : {V P M : Type 0} → Algorithm V P M → ℕ → M → TypedProcess V P M → Op → Option Reason → Change V P M
 by_admission a time m q op (Some why) = Same why
-by_admission a time m q op None = New m (record { control = At (a.task op) (a.counter op); variables = q.variables; auxiliary = called_auxiliary time op q.auxiliary }) Called
+by_admission a time m q op None =
+    New m (record { control = At (task_of op) (a.counter op); variables = q.variables; auxiliary = called_auxiliary time op q.auxiliary }) Called
 
-abbrev pub by_call : {T V P M : Type 0} → Algorithm T V P M → ℕ → M → ℕ → Op → TypedProcess T V P M → Control T P → Change T V P M
+abbrev pub by_call : {V P M : Type 0} → Algorithm V P M → ℕ → M → ℕ → Op → TypedProcess V P M → Control P → Change V P M
 by_call a time m i op q Idle = by_admission a time m q op (call_skip a.source.kind a.shape i op)
 by_call a time m i op q (At d k) = Same reason.Busy
 
-abbrev pub first_process : {T V P M : Type 0} → Algorithm T V P M → TypedProcess T V P M
+abbrev pub first_process : {V P M : Type 0} → Algorithm V P M → TypedProcess V P M
 first_process a = record {
   control = Idle;
   variables = a.first_variables;
   auxiliary = record { since = 0; own = 0; collects = 0; round = 0; tested = 0; called = 0; wrote = 0 };
 }
 
-abbrev pub first_state : {T V P M : Type 0} → Algorithm T V P M → TypedState T V P M
+abbrev pub first_state : {V P M : Type 0} → Algorithm V P M → TypedState V P M
 first_state a = record { memory = a.first_memory; processes = replicate a.shape.n (first_process a) }
 
 -- process i, counted from 1
-abbrev pub typed_at : {T V P M : Type 0} → Algorithm T V P M → TypedState T V P M → ℕ → TypedProcess T V P M
+abbrev pub typed_at : {V P M : Type 0} → Algorithm V P M → TypedState V P M → ℕ → TypedProcess V P M
 typed_at a x i = slice_index_or x.processes (i - 1) (first_process a)
 
-abbrev pub by_item : {T V P M : Type 0} → Algorithm T V P M → ℕ → TypedState T V P M → Item → Change T V P M
+abbrev pub by_item : {V P M : Type 0} → Algorithm V P M → ℕ → TypedState V P M → Item → Change V P M
 by_item a time x (Step i) = by_step a time x.memory i (typed_at a x i) (typed_at a x i).control
 by_item a time x (Call i op) = by_call a time x.memory i op (typed_at a x i) (typed_at a x i).control
 
-abbrev pub changed : {T V P M : Type 0} → TypedState T V P M → ℕ → Change T V P M → TypedState T V P M
+abbrev pub changed : {V P M : Type 0} → TypedState V P M → ℕ → Change V P M → TypedState V P M
 changed x i (Same why) = x
 changed x i (New m q o) = record { memory = m; processes = slice_set x.processes (i - 1) q }
 
-abbrev pub outcome_of : {T V P M : Type 0} → Change T V P M → Outcome
+abbrev pub outcome_of : {V P M : Type 0} → Change V P M → Outcome
 outcome_of (Same why) = Skipped why
 outcome_of (New m q o) = o
 
-abbrev pub happens : {T V P M : Type 0} → Algorithm T V P M → ℕ → TypedState T V P M → Item → TypedState T V P M
+abbrev pub happens : {V P M : Type 0} → Algorithm V P M → ℕ → TypedState V P M → Item → TypedState V P M
 happens a time x item = changed x (who item) (by_item a time x item)
 
 -- the item after t items
@@ -159,30 +196,30 @@ abbrev pub item_at : List Item → ℕ → Item
 item_at items t = slice_index_or items t (Step 0)
 
 -- the state after t items
-abbrev pub typed_state : {T V P M : Type 0} → Algorithm T V P M → List Item → ℕ → TypedState T V P M
+abbrev pub typed_state : {V P M : Type 0} → Algorithm V P M → List Item → ℕ → TypedState V P M
 typed_state a items zero = first_state a
 typed_state a items (suc t) = happens a (suc t) (typed_state a items t) (item_at items t)
 
 -- The same in the words of the machine.
-abbrev pub status_of : {T V P M : Type 0} → Algorithm T V P M → Control T P → Status
+abbrev pub status_of : {V P M : Type 0} → Algorithm V P M → Control P → Status
 status_of a Idle = status.Idle
-status_of a (At d k) = status.Busy (record { op = a.op_of d; line = a.number k; link = a.link_of d })
+status_of a (At d k) = status.Busy (record { op = op_of d; line = a.number k; link = link_of a.back d })
 
-abbrev pub process_of : {T V P M : Type 0} → Algorithm T V P M → TypedProcess T V P M → Process
+abbrev pub process_of : {V P M : Type 0} → Algorithm V P M → TypedProcess V P M → Process
 process_of a q = record { status = status_of a q.control; locals = a.locals_of q.variables }
 
-abbrev pub state_of : {T V P M : Type 0} → Algorithm T V P M → TypedState T V P M → State
+abbrev pub state_of : {V P M : Type 0} → Algorithm V P M → TypedState V P M → State
 state_of a x = record { memory = a.real x.memory; processes = map (process_of a) x.processes }
 
-abbrev pub shown : {T V P M : Type 0} → Algorithm T V P M → M → Move T V P M → Result Effect Cause
-shown a m (To d m' p k) = Ok (Goes (a.real m') (a.locals_of p) (a.link_of d) (a.number k))
-shown a m (Begin d p k) = Ok (Goes (a.real m) (a.locals_of p) (a.link_of d) (a.number k))
+abbrev pub shown : {V P M : Type 0} → Algorithm V P M → M → Move V P M → Result Effect Cause
+shown a m (To d m' p k) = Ok (Goes (a.real m') (a.locals_of p) (link_of a.back d) (a.number k))
+shown a m (Begin d p k) = Ok (Goes (a.real m) (a.locals_of p) (link_of a.back d) (a.number k))
 shown a m (Answer v) = Ok (Answers v)
 shown a m Finish = Ok Finishes
 
 -- a move keeps the operation
-abbrev pub SameOp : {T V P M : Type 0} → Algorithm T V P M → T → Move T V P M → Type 0
-SameOp a d (To d' m p k) = a.op_of d' ≡ a.op_of d
-SameOp a d (Begin d' p k) = a.op_of d' ≡ a.op_of d
+abbrev pub SameOp : {V P M : Type 0} → Algorithm V P M → Task → Move V P M → Type 0
+SameOp a d (To d' m p k) = op_of d' ≡ op_of d
+SameOp a d (Begin d' p k) = op_of d' ≡ op_of d
 SameOp a d (Answer v) = Unit {0}
 SameOp a d Finish = Unit {0}

@@ -1,5 +1,5 @@
 -- Values that the words had at some state of a run, and words that stand after one another.
-use Rattle.std.specs.Prelude.{◌≡◌, ℕ, ◌+◌, ◌-◌, ◌<◌, ◌≤◌, ◌⊎◌, List, take, length, map, slice_index_or, refl}
+use Rattle.std.specs.Prelude.{◌≡◌, ℕ, ◌+◌, ◌-◌, ◌<◌, ◌≤◌, ◌⊎◌, List, take, length, map, slice_index_or}
 use Rattle.std.proofs.Common.{sym, ◌∙◌, ap, subst, arith, inl, inr}
 use Rattle.std.proofs.lemmas.List.{get_or-take, ext_get_or, length-take-le}
 use Rattle.snap_words.specs.Shape.{IsOneOf}
@@ -21,9 +21,6 @@ Held history t lo v = (u : ℕ) × (lo ≤ u) × (u ≤ t) × (data_of (history 
 
 pub held_wider : (history : ℕ → List Word) (t t' lo lo' : ℕ) (v : List ℕ) → t ≤ t' → lo' ≤ lo → Held history t lo v → Held history t' lo' v
 held_wider history t t' lo lo' v e f h = (h.0, omega arith, omega arith, h.3)
-
-pub held_now : (history : ℕ → List Word) (t lo : ℕ) → lo ≤ t → Held history t lo (data_of (history t))
-held_now history t lo e = (t, e, omega arith, refl)
 
 -- y is x, or a later word of the same register
 abbrev pub WordBefore : Word → Word → Type 0
@@ -49,7 +46,8 @@ squeezed a mid b (inr p) (inr q) e = q
 abbrev pub Grows : ℕ → List Word → List Word → Type 0
 Grows n m m' = (k : ℕ) → IsOneOf n k → WordBefore (word_at m k) (word_at m' k)
 
-pub same_data : (n : ℕ) (m b : List Word) → length m ≡ n → n ≤ length b → ((k : ℕ) → IsOneOf n k → word_at m k ≡ word_at b k) → data_of m ≡ data_of (take n b)
+pub same_data : (n : ℕ) (m b : List Word) → length m ≡ n → n ≤ length b → ((k : ℕ) → IsOneOf n k → word_at m k ≡ word_at b k) →
+    data_of m ≡ data_of (take n b)
 same_data n m b len more h =
     let len_b : length (take n b) ≡ n = length-take-le n b more in
     ap data_of (ext_get_or no_word m (take n b) (len ∙ sym len_b) (λ i lt.

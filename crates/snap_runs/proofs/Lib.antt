@@ -1,5 +1,13 @@
+pub mod Computing
+pub mod Counting
+pub mod Places
+pub mod Totals
+pub mod Held
 pub mod Algorithm
 pub mod Embedding
-pub mod Held
+pub mod Frame
 pub mod ScanSpan
 pub mod UpdateSpan
+pub mod Flow
+pub mod Scans
+pub mod WritesOnce

@@ -1,8 +1,7 @@
 -- From the start of a scan to its end: what the proof remembers of a process is what its items say.
-use Rattle.std.specs.Prelude.{◌≡◌, ◌≢◌, ℕ, zero, suc, ◌+◌, ◌<◌, ◌≤◌, ◌⊎◌, Bool, true, false, ◌&&◌, List, length, Option, Some, None, nat_eq, nat_lt, if◌then◌else◌, refl}
+use Rattle.std.specs.Prelude.{◌≡◌, ◌≢◌, ℕ, zero, suc, ◌+◌, ◌<◌, ◌≤◌, ◌⊎◌, Bool, true, false, ◌&&◌, List, length, Option, Some, None, if◌then◌else◌, refl}
 use Rattle.std.proofs.Common.{sym, ◌∙◌, ap, subst, arith, inl, inr}
 use Rattle.std.proofs.lemmas.Bool.{cases_eq}
-use Rattle.std.proofs.lemmas.Grind.{common_steps}
 use Rattle.std.proofs.Math.Nat.{eq-or-lt_of_le}
 use Rattle.snap_semantics.specs.Source.{instr_at}
 use Rattle.snap_semantics.specs.declared.process.Op.TheVariants.{Scan as ScanOp}
@@ -15,90 +14,54 @@ use Rattle.snap_semantics.specs.State.{process_at}
 use Rattle.snap_semantics.specs.Table.{who}
 use Rattle.snap_words.specs.Shape.{IsOneOf}
 use Rattle.snap_runs.specs.Run.{Run, Fits, state, before, item, outcome}
-use Rattle.snap_runs.specs.Scan.{line_in, link_in, IsCallLine, Returns, Starts, Scan, count, steps, is_if_all, is_stepped, is_not_skipped, ends_double_collect, takes_step, double_collects, own_steps}
-use Rattle.snap_runs.proofs.Algorithm.{Control, Idle, At, Move, To, Begin, Answer, Finish, TypedProcess, TypedState, Algorithm, by_move, by_step, by_call, typed_at, by_item, changed, outcome_of, happens, item_at, typed_state, status_of, process_of, stepped_auxiliary, begun_auxiliary, called_auxiliary}
+use Rattle.snap_runs.specs.Scan.{line_in, link_in, IsCallLine, Returns, Starts, Scan, steps, is_if_all, is_stepped, is_not_skipped, ends_double_collect, takes_step, double_collects, own_steps}
+use Rattle.snap_runs.proofs.Algorithm.{Task, op_of, link_of, task_of, op_is, link_is, Control, Idle, At, Move, To, Begin, Answer, Finish, TypedProcess, TypedState, Algorithm, by_move, by_step, by_call, typed_at, by_item, changed, outcome_of, happens, item_at, typed_state, status_of, process_of, stepped_auxiliary, begun_auxiliary, called_auxiliary}
+use Rattle.snap_runs.proofs.Counting.{count_none, count_next, count_not}
+use Rattle.snap_runs.proofs.Computing.{same_number, other_number}
 use Rattle.snap_runs.proofs.Embedding as embed
 
--- counting
-not_below : (x y : ℕ) → y ≤ x → nat_lt x y ≡ false
-not_below x y h = grind (arith, common_steps)
-
-below : (x y : ℕ) → x < y → nat_lt x y ≡ true
-below x y h = grind (arith, common_steps)
-
-pub count_none : (test : ℕ → Bool) (c e : ℕ) → e ≤ c → count test c e ≡ 0
-count_none test c zero h = refl
-count_none test c (suc e) h =
-    ap (λ b. if b && test (suc e) then suc (count test c e) else count test c e) (not_below c (suc e) h) ∙ count_none test c e (omega arith)
-
-pub count_next : (test : ℕ → Bool) (c e : ℕ) → c ≤ e → count test c (suc e) ≡ (if test (suc e) then suc (count test c e) else count test c e)
-count_next test c e h = ap (λ b. if b && test (suc e) then suc (count test c e) else count test c e) (below c (suc e) (omega arith))
-
-below_from : (x y : ℕ) → nat_lt x y ≡ true → x < y
-below_from x y h = grind (arith, common_steps)
-
--- fewer from a later item on
-pub count_later : (test : ℕ → Bool) (c c' e : ℕ) → c ≤ c' → count test c' e ≤ count test c e
-count_later test c c' zero h = omega arith
-count_later test c c' (suc e) h =
-    both_more (nat_lt c' (suc e)) (nat_lt c (suc e)) (test (suc e)) (count test c' e) (count test c e)
-    (λ is. let lt : c' < suc e = below_from c' (suc e) is in below c (suc e) (omega arith)) (count_later test c c' e h)
-  where
-    both_more : (later sooner passes : Bool) (x y : ℕ) → (later ≡ true → sooner ≡ true) → x ≤ y →
-        (if later && passes then suc x else x) ≤ (if sooner && passes then suc y else y)
-    both_more true true true x y f h = omega arith
-    both_more true true false x y f h = h
-    both_more true false passes x y f h = absurd (let e : false ≡ true = f refl in cc)
-    both_more false true true x y f h = omega arith
-    both_more false true false x y f h = h
-    both_more false false passes x y f h = h
-
-pub count_not : (test : ℕ → Bool) (c e : ℕ) → c ≤ e → test (suc e) ≡ false → count test c (suc e) ≡ count test c e
-count_not test c e h n = count_next test c e h ∙ ap (λ b. if b then suc (count test c e) else count test c e) n
-
-same_number : (x : ℕ) → nat_eq x x ≡ true
-same_number x = grind (arith, common_steps)
-
-other_number : (x y : ℕ) → x ≢ y → nat_eq x y ≡ false
-other_number x y h = grind (arith, common_steps)
-
+-- another process's item is no step of process i
 pub not_his : (i : ℕ) (y : Item) → who y ≢ i → steps i y ≡ false
 not_his i (Step k) h = other_number k i h
 not_his i (Call k op) h = refl
 
-module _ {T V P M : Type 0} (a : Algorithm T V P M) where
+module _ {V P M : Type 0} (a : Algorithm V P M) where
   -- in a scan with this link
-  abbrev pub Inside : Option ℕ → T → Type 0
-  Inside None d = (a.link_of d ≡ None) × (a.op_of d ≡ ScanOp)
-  Inside (Some l) d = a.link_of d ≡ Some l
+  abbrev pub Inside : Option ℕ → Task → Type 0
+  Inside None d = (link_of a.back d ≡ None) × (op_of d ≡ ScanOp)
+  Inside (Some l) d = link_of a.back d ≡ Some l
 
+  -- an embedded scan is at a line that returns
   abbrev pub ReturnsAt : Option ℕ → P → V → Type 0
   ReturnsAt None k p = ⊥
   ReturnsAt (Some l) k p = (v : List ℕ) × Returns (instr_at a.source.lines (a.number k)) (a.locals_of p) v
 
+  -- a scan that was called
   abbrev pub IsTop : Option ℕ → Type 0
   IsTop None = Unit {0}
   IsTop (Some l) = ⊥
 
   -- a line of a scan stays in it, or returns
-  abbrev pub Stays : Option ℕ → P → V → Move T V P M → Type 0
+  abbrev pub Stays : Option ℕ → P → V → Move V P M → Type 0
   Stays link k p (To d' m' p' k') = Inside link d' ⊎ ReturnsAt link k p
   Stays link k p (Begin d' p' k') = ⊥
   Stays link k p (Answer v) = IsTop link
   Stays link k p Finish = ⊥
 
-  abbrev pub NotTo : Move T V P M → Type 0
+  -- a move that does not merely go on
+  abbrev pub NotTo : Move V P M → Type 0
   NotTo (To d m p k) = ⊥
   NotTo (Begin d p k) = Unit {0}
   NotTo (Answer v) = Unit {0}
   NotTo Finish = Unit {0}
 
   -- what a line owes: in a scan it stays or returns, and a `call` line begins a scan
-  pub record Lawful (me : ℕ) (d : T) (m : M) (p : V) (k : P) : Type 0 where
+  pub record Lawful (me : ℕ) (d : Task) (m : M) (p : V) (k : P) : Type 0 where
     pub stays : (link : Option ℕ) → Inside link d → Stays link k p (a.move me d m p k)
     pub calls : IsCallLine (instr_at a.source.lines (a.number k)) → NotTo (a.move me d m p k)
 
-  abbrev pub LawfulAt : ℕ → M → V → Control T P → Type 0
+  -- the line at which a process stands is so
+  abbrev pub LawfulAt : ℕ → M → V → Control P → Type 0
   LawfulAt me m p Idle = Unit {0}
   LawfulAt me m p (At d k) = Lawful me d m p k
 
@@ -109,20 +72,28 @@ module _ {T V P M : Type 0} (a : Algorithm T V P M) where
     abbrev pub r : Run
     r = embed.run_of a items
 
-    abbrev pub his : ℕ → TypedProcess T V P M
+    abbrev pub his : ℕ → TypedProcess V P M
     his t = typed_at a (typed_state a items t) i
+
+    abbrev pub memory : ℕ → M
+    memory t = (typed_state a items t).memory
 
     -- at state t the scan that started at item c goes on
     pub record Goes (link : Option ℕ) (c t : ℕ) : Type 0 where
-      pub task : T
+      -- the process is busy at a line of the scan
+      pub task : Task
       pub counter : P
       pub control : (his t).control ≡ At task counter
       pub inside : Inside link task
+      -- item c started its last scan
       pub since : (his t).auxiliary.since ≡ c
+      -- its steps and double collects since are those of the run
       pub own : (his t).auxiliary.own ≡ own_steps r i c t
       pub collects : (his t).auxiliary.collects ≡ double_collects r i c t
+      -- its last double collect was started in this scan
       pub round_after : c ≤ (his t).auxiliary.round
       pub round_before : (his t).auxiliary.round ≤ t
+      -- the double collects that have ended since are those of the run
       pub tested : (his t).auxiliary.tested ≡ double_collects r i (his t).auxiliary.round t
 
     -- the counts after an item that is no step of the process
@@ -135,21 +106,22 @@ module _ {T V P M : Type 0} (a : Algorithm T V P M) where
     own_same c t le none = count_not (takes_step r i) c t le (ap (λ b. b && is_not_skipped (outcome r (suc t))) none)
 
     -- another process's item, and what changes nothing
-    same_goes : (link : Option ℕ) (c t : ℕ) → c ≤ t → his (suc t) ≡ his t → ((who (item_at items t) ≡ i → ⊥) ⊎ (steps i (item_at items t) ≡ false)) → Goes link c t → Goes link c (suc t)
+    same_goes : (link : Option ℕ) (c t : ℕ) → c ≤ t → his (suc t) ≡ his t → ((who (item_at items t) ≡ i → ⊥) ⊎ (steps i (item_at items t) ≡ false)) →
+        Goes link c t → Goes link c (suc t)
     same_goes link c t le same why g =
         let none : steps i (item_at items t) ≡ false = elim why [ inl other ↦ not_his i (item_at items t) other | inr unstepped ↦ unstepped ] in
         record {
           task = g.task;
           counter = g.counter;
-          control = ap (λ (q : TypedProcess T V P M). q.control) same ∙ g.control;
+          control = ap (λ (q : TypedProcess V P M). q.control) same ∙ g.control;
           inside = g.inside;
-          since = ap (λ (q : TypedProcess T V P M). q.auxiliary.since) same ∙ g.since;
-          own = ap (λ (q : TypedProcess T V P M). q.auxiliary.own) same ∙ g.own
+          since = ap (λ (q : TypedProcess V P M). q.auxiliary.since) same ∙ g.since;
+          own = ap (λ (q : TypedProcess V P M). q.auxiliary.own) same ∙ g.own
               ∙ sym (own_same c t le none);
-          collects = ap (λ (q : TypedProcess T V P M). q.auxiliary.collects) same ∙ g.collects ∙ sym (collects_same c t le none);
-          round_after = subst (λ (q : TypedProcess T V P M). c ≤ q.auxiliary.round) (sym same) g.round_after;
-          round_before = subst (λ (q : TypedProcess T V P M). q.auxiliary.round ≤ suc t) (sym same) (let le2 : (his t).auxiliary.round ≤ t = g.round_before in omega arith);
-          tested = subst (λ (q : TypedProcess T V P M). q.auxiliary.tested ≡ double_collects r i q.auxiliary.round (suc t)) (sym same)
+          collects = ap (λ (q : TypedProcess V P M). q.auxiliary.collects) same ∙ g.collects ∙ sym (collects_same c t le none);
+          round_after = subst (λ (q : TypedProcess V P M). c ≤ q.auxiliary.round) (sym same) g.round_after;
+          round_before = subst (λ (q : TypedProcess V P M). q.auxiliary.round ≤ suc t) (sym same) (let le2 : (his t).auxiliary.round ≤ t = g.round_before in omega arith);
+          tested = subst (λ (q : TypedProcess V P M). q.auxiliary.tested ≡ double_collects r i q.auxiliary.round (suc t)) (sym same)
               (g.tested ∙ sym (collects_same (his t).auxiliary.round t g.round_before none));
         }
 
@@ -161,13 +133,15 @@ module _ {T V P M : Type 0} (a : Algorithm T V P M) where
     and_true true = refl
     and_true false = refl
 
-    is_busy_at : (t : ℕ) → t ≤ length items → (d : T) (k : P) → (his t).control ≡ At d k → process_at (state r t) i ≡ process_of a (record { control = At d k; variables = (his t).variables; auxiliary = (his t).auxiliary })
+    is_busy_at : (t : ℕ) → t ≤ length items → (d : Task) (k : P) → (his t).control ≡ At d k →
+        process_at (state r t) i ≡ process_of a (record { control = At d k; variables = (his t).variables; auxiliary = (his t).auxiliary })
     is_busy_at t le d k e =
         embed.process_at_is a items fits does t i le one
-        ∙ ap (λ (p : Control T P). process_of a (record { control = p; variables = (his t).variables; auxiliary = (his t).auxiliary })) e
+        ∙ ap (λ (p : Control P). process_of a (record { control = p; variables = (his t).variables; auxiliary = (his t).auxiliary })) e
 
     -- the counts after a step of the process
-    collects_next : (c t : ℕ) (d : T) (k : P) → c ≤ t → t ≤ length items → steps i (item_at items t) ≡ true → outcome r (suc t) ≡ Stepped → (his t).control ≡ At d k →
+    collects_next : (c t : ℕ) (d : Task) (k : P) → c ≤ t → t ≤ length items → steps i (item_at items t) ≡ true → outcome r (suc t) ≡ Stepped →
+        (his t).control ≡ At d k →
         double_collects r i c (suc t) ≡ double_collects r i c t + a.tests k
     collects_next c t d k le short steps_is out_is at =
         let line : line_in r.source (process_at (before r (suc t)) i).status ≡ instr_at a.source.lines (a.number k) =
@@ -196,13 +170,15 @@ module _ {T V P M : Type 0} (a : Algorithm T V P M) where
     round_to true round t h = omega arith
     round_to false round t h = omega arith
 
-    tested_next : (again : Bool) (round t tested : ℕ) → tested ≡ double_collects r i round (suc t) → (if again then 0 else tested) ≡ double_collects r i (if again then suc t else round) (suc t)
+    tested_next : (again : Bool) (round t tested : ℕ) → tested ≡ double_collects r i round (suc t) →
+        (if again then 0 else tested) ≡ double_collects r i (if again then suc t else round) (suc t)
     tested_next true round t tested h = sym (count_none (ends_double_collect r i) (suc t) (suc t) (omega arith))
     tested_next false round t tested h = h
 
     -- a step of the process that stays in the scan
-    step_goes : (link : Option ℕ) (c e t : ℕ) (v : Move T V P M) (d : T) (k : P) → Scan r i link c e → c ≤ t → suc t < e → item_at items t ≡ Step i →
-        (his t).control ≡ At d k → Inside link d → a.move i d (typed_state a items t).memory (his t).variables k ≡ v → Stays link k (his t).variables v → Goes link c t → Goes link c (suc t)
+    step_goes : (link : Option ℕ) (c e t : ℕ) (v : Move V P M) (d : Task) (k : P) → Scan r i link c e → c ≤ t → suc t < e → item_at items t ≡ Step i →
+        (his t).control ≡ At d k → Inside link d → a.move i d (memory t) (his t).variables k ≡ v → Stays link k (his t).variables v → Goes link c t →
+        Goes link c (suc t)
     step_goes link c e t v d k scan le lt is at inside is_v stays g =
         let x = typed_state a items t in
         let short : t < length items = (let last : e ≤ length items = scan.last in omega arith) in
@@ -215,32 +191,35 @@ module _ {T V P M : Type 0} (a : Algorithm T V P M) where
         let steps_is : steps i (item_at items t) ≡ true = ap (steps i) is ∙ same_number i in
         stepped_goes link c e t d k scan le lt short is at g v state_becomes out_is steps_is stays
       where
-        stepped_goes : (link : Option ℕ) (c e t : ℕ) (d : T) (k : P) → Scan r i link c e → c ≤ t → suc t < e → t < length items → item_at items t ≡ Step i →
-            (his t).control ≡ At d k → Goes link c t → (v : Move T V P M) →
-            typed_state a items (suc t) ≡ changed (typed_state a items t) i (by_move a (suc t) (typed_state a items t).memory (his t) k v) →
-            outcome r (suc t) ≡ outcome_of (by_move a (suc t) (typed_state a items t).memory (his t) k v) → steps i (item_at items t) ≡ true → Stays link k (his t).variables v → Goes link c (suc t)
+        stepped_goes : (link : Option ℕ) (c e t : ℕ) (d : Task) (k : P) → Scan r i link c e → c ≤ t → suc t < e → t < length items →
+            item_at items t ≡ Step i →
+            (his t).control ≡ At d k → Goes link c t → (v : Move V P M) →
+            typed_state a items (suc t) ≡ changed (typed_state a items t) i (by_move a (suc t) (memory t) (his t) k v) →
+            outcome r (suc t) ≡ outcome_of (by_move a (suc t) (memory t) (his t) k v) → steps i (item_at items t) ≡ true →
+            Stays link k (his t).variables v → Goes link c (suc t)
         stepped_goes link c e t d k scan le lt short is at g (To d' m' p' k') state_becomes out_is steps_is (inl inside) =
-            let q' : TypedProcess T V P M = record { control = At d' k'; variables = p'; auxiliary = stepped_auxiliary a k (suc t) (his t).auxiliary } in
-            let new : his (suc t) ≡ q' = ap (λ (y : TypedState T V P M). typed_at a y i) state_becomes ∙ embed.own_process a (typed_state a items t) i m' q' Stepped (embed.count a items t) one in
+            let q' : TypedProcess V P M =
+            record { control = At d' k'; variables = p'; auxiliary = stepped_auxiliary a k (suc t) (his t).auxiliary } in
+            let new : his (suc t) ≡ q' = embed.process_next a items t i m' q' Stepped one state_becomes in
             record {
               task = d';
               counter = k';
-              control = ap (λ (q : TypedProcess T V P M). q.control) new;
+              control = ap (λ (q : TypedProcess V P M). q.control) new;
               inside = inside;
-              since = ap (λ (q : TypedProcess T V P M). q.auxiliary.since) new ∙ g.since;
-              own = ap (λ (q : TypedProcess T V P M). q.auxiliary.own) new ∙ ap suc g.own ∙ sym (own_next c t le steps_is out_is);
-              collects = ap (λ (q : TypedProcess T V P M). q.auxiliary.collects) new ∙ ap (λ y. y + a.tests k) g.collects
+              since = ap (λ (q : TypedProcess V P M). q.auxiliary.since) new ∙ g.since;
+              own = ap (λ (q : TypedProcess V P M). q.auxiliary.own) new ∙ ap suc g.own ∙ sym (own_next c t le steps_is out_is);
+              collects = ap (λ (q : TypedProcess V P M). q.auxiliary.collects) new ∙ ap (λ y. y + a.tests k) g.collects
                   ∙ sym (collects_next c t d k le (omega arith) steps_is out_is at);
-              round_after = subst (λ (q : TypedProcess T V P M). c ≤ q.auxiliary.round) (sym new) (round_from (a.restarts k) c (his t).auxiliary.round t g.round_after le);
-              round_before = subst (λ (q : TypedProcess T V P M). q.auxiliary.round ≤ suc t) (sym new) (round_to (a.restarts k) (his t).auxiliary.round t g.round_before);
-              tested = subst (λ (q : TypedProcess T V P M). q.auxiliary.tested ≡ double_collects r i q.auxiliary.round (suc t)) (sym new)
+              round_after = subst (λ (q : TypedProcess V P M). c ≤ q.auxiliary.round) (sym new) (round_from (a.restarts k) c (his t).auxiliary.round t g.round_after le);
+              round_before = subst (λ (q : TypedProcess V P M). q.auxiliary.round ≤ suc t) (sym new) (round_to (a.restarts k) (his t).auxiliary.round t g.round_before);
+              tested = subst (λ (q : TypedProcess V P M). q.auxiliary.tested ≡ double_collects r i q.auxiliary.round (suc t)) (sym new)
                   (tested_next (a.restarts k) (his t).auxiliary.round t ((his t).auxiliary.tested + a.tests k)
                   (ap (λ y. y + a.tests k) g.tested ∙ sym (collects_next (his t).auxiliary.round t d k g.round_before (omega arith) steps_is out_is at)));
             }
         stepped_goes None c e t d k scan le lt short is at g (To d' m' p' k') state_becomes out_is steps_is (inr h) = absurd h
         stepped_goes (Some l) c e t d k scan le lt short is at g (To d' m' p' k') state_becomes out_is steps_is (inr h) =
             let busy = is_busy_at t (omega arith) d k at in
-            let inside : a.link_of g.task ≡ Some l = g.inside in
+            let inside : link_of a.back g.task ≡ Some l = g.inside in
             absurd (scan.goes_on (suc t) h.0 (omega arith) lt (
               is,
               subst (λ (y : Process). Returns (line_in r.source y.status) y.locals h.0) (sym busy) h.1,
@@ -253,18 +232,20 @@ module _ {T V P M : Type 0} (a : Algorithm T V P M) where
         stepped_goes link c e t d k scan le lt short is at g Finish state_becomes out_is steps_is h = absurd h
 
     -- the item of the process in its scan: a step, or a call that is skipped
-    item_goes : (link : Option ℕ) (c e t : ℕ) (y : Item) → Scan r i link c e → c ≤ t → suc t < e → item_at items t ≡ y → who y ≡ i → Goes link c t → Goes link c (suc t)
+    item_goes : (link : Option ℕ) (c e t : ℕ) (y : Item) → Scan r i link c e → c ≤ t → suc t < e → item_at items t ≡ y → who y ≡ i → Goes link c t →
+        Goes link c (suc t)
     item_goes link c e t (Step k) scan le lt is w g =
         let is2 : item_at items t ≡ Step i = is ∙ ap (λ u. Step u) w in
         let short : t < length items = (let last : e ≤ length items = scan.last in omega arith) in
-        let law : Lawful i g.task (typed_state a items t).memory (his t).variables g.counter = subst (LawfulAt i (typed_state a items t).memory (his t).variables) g.control (lawful t i short one) in
-        step_goes link c e t (a.move i g.task (typed_state a items t).memory (his t).variables g.counter) g.task g.counter scan le lt is2 g.control g.inside refl (law.stays link g.inside) g
+        let law : Lawful i g.task (memory t) (his t).variables g.counter =
+        subst (LawfulAt i (memory t) (his t).variables) g.control (lawful t i short one) in
+        step_goes link c e t (a.move i g.task (memory t) (his t).variables g.counter) g.task g.counter scan le lt is2 g.control g.inside refl (law.stays link g.inside) g
     item_goes link c e t (Call k op) scan le lt is w g =
         let x = typed_state a items t in
         let is2 : item_at items t ≡ Call i op = is ∙ ap (λ u. Call u op) w in
         let state_becomes : typed_state a items (suc t) ≡ x =
-        ap (happens a (suc t) x) is2 ∙ ap (λ (p : Control T P). changed x i (by_call a (suc t) x.memory i op (his t) p)) g.control in
-        same_goes link c t le (ap (λ (y : TypedState T V P M). typed_at a y i) state_becomes) (inr (ap (steps i) is2)) g
+        ap (happens a (suc t) x) is2 ∙ ap (λ (p : Control P). changed x i (by_call a (suc t) x.memory i op (his t) p)) g.control in
+        same_goes link c t le (ap (λ (y : TypedState V P M). typed_at a y i) state_becomes) (inr (ap (steps i) is2)) g
 
     next_goes : (link : Option ℕ) (c e t : ℕ) → Scan r i link c e → c ≤ t → suc t < e → Goes link c t → Goes link c (suc t)
     next_goes link c e t scan le lt g =
@@ -284,32 +265,37 @@ module _ {T V P M : Type 0} (a : Algorithm T V P M) where
         let item_is_change : by_item a (suc c) x (item_at items c) ≡ by_call a (suc c) x.memory i ScanOp (his c) (his c).control = ap (by_item a (suc c) x) is in
         let state_becomes : typed_state a items (suc c) ≡ changed x i (by_call a (suc c) x.memory i ScanOp (his c) (his c).control) =
         ap (λ (y : Item). changed x (who y) (by_item a (suc c) x (item_at items c))) is ∙ ap (changed x i) item_is_change in
-        let out_is : outcome_of (by_call a (suc c) x.memory i ScanOp (his c) (his c).control) ≡ Called = sym (ap outcome_of item_is_change) ∙ sym (embed.outcome_is a items fits does c short) ∙ out in
+        let out_is : outcome_of (by_call a (suc c) x.memory i ScanOp (his c) (his c).control) ≡ Called =
+        sym (ap outcome_of item_is_change) ∙ sym (embed.outcome_is a items fits does c short) ∙ out in
         from_control c (his c).control state_becomes out_is
       where
-        from_control : (c : ℕ) (control : Control T P) → typed_state a items (suc c) ≡ changed (typed_state a items c) i (by_call a (suc c) (typed_state a items c).memory i ScanOp (his c) control) →
-            outcome_of (by_call a (suc c) (typed_state a items c).memory i ScanOp (his c) control) ≡ Called → Goes None (suc c) (suc c)
+        from_control : (c : ℕ) (control : Control P) →
+            typed_state a items (suc c) ≡ changed (typed_state a items c) i (by_call a (suc c) (memory c) i ScanOp (his c) control) →
+            outcome_of (by_call a (suc c) (memory c) i ScanOp (his c) control) ≡ Called → Goes None (suc c) (suc c)
         from_control c Idle state_becomes out_is =
             let x = typed_state a items c in
-            let q' : TypedProcess T V P M = record { control = At (a.task ScanOp) (a.counter ScanOp); variables = (his c).variables; auxiliary = called_auxiliary (suc c) ScanOp (his c).auxiliary } in
-            let new : his (suc c) ≡ q' = ap (λ (y : TypedState T V P M). typed_at a y i) state_becomes ∙ embed.own_process a x i x.memory q' Called (embed.count a items c) one in
+            let q' : TypedProcess V P M =
+            record { control = At (task_of ScanOp) (a.counter ScanOp); variables = (his c).variables; auxiliary = called_auxiliary (suc c) ScanOp (his c).auxiliary } in
+            let new : his (suc c) ≡ q' = embed.process_next a items c i x.memory q' Called one state_becomes in
             record {
-              task = a.task ScanOp;
+              task = task_of ScanOp;
               counter = a.counter ScanOp;
-              control = ap (λ (q : TypedProcess T V P M). q.control) new;
-              inside = (a.link_is ScanOp, a.op_is ScanOp);
-              since = ap (λ (q : TypedProcess T V P M). q.auxiliary.since) new;
-              own = ap (λ (q : TypedProcess T V P M). q.auxiliary.own) new ∙ sym (count_none (takes_step r i) (suc c) (suc c) (omega arith));
-              collects = ap (λ (q : TypedProcess T V P M). q.auxiliary.collects) new ∙ sym (count_none (ends_double_collect r i) (suc c) (suc c) (omega arith));
-              round_after = subst (λ (q : TypedProcess T V P M). suc c ≤ q.auxiliary.round) (sym new) (omega arith);
-              round_before = subst (λ (q : TypedProcess T V P M). q.auxiliary.round ≤ suc c) (sym new) (omega arith);
-              tested = subst (λ (q : TypedProcess T V P M). q.auxiliary.tested ≡ double_collects r i q.auxiliary.round (suc c)) (sym new)
+              control = ap (λ (q : TypedProcess V P M). q.control) new;
+              inside = (link_is a.back ScanOp, op_is ScanOp);
+              since = ap (λ (q : TypedProcess V P M). q.auxiliary.since) new;
+              own = ap (λ (q : TypedProcess V P M). q.auxiliary.own) new ∙ sym (count_none (takes_step r i) (suc c) (suc c) (omega arith));
+              collects = ap (λ (q : TypedProcess V P M). q.auxiliary.collects) new
+                  ∙ sym (count_none (ends_double_collect r i) (suc c) (suc c) (omega arith));
+              round_after = subst (λ (q : TypedProcess V P M). suc c ≤ q.auxiliary.round) (sym new) (omega arith);
+              round_before = subst (λ (q : TypedProcess V P M). q.auxiliary.round ≤ suc c) (sym new) (omega arith);
+              tested = subst (λ (q : TypedProcess V P M). q.auxiliary.tested ≡ double_collects r i q.auxiliary.round (suc c)) (sym new)
                   (sym (count_none (ends_double_collect r i) (suc c) (suc c) (omega arith)));
             }
         from_control c (At d k) state_becomes out_is = absurd (cc)
 
     -- the item that starts an embedded scan
-    begun_goes : (l c : ℕ) → c < length items → item_at items c ≡ Step i → IsCallLine (line_in r.source (process_at (state r c) i).status) → outcome r (suc c) ≡ Stepped →
+    begun_goes : (l c : ℕ) → c < length items → item_at items c ≡ Step i → IsCallLine (line_in r.source (process_at (state r c) i).status) →
+        outcome r (suc c) ≡ Stepped →
         link_in (process_at (state r (suc c)) i).status ≡ Some l → Goes (Some l) (suc c) (suc c)
     begun_goes l c short is call out link =
         let x = typed_state a items c in
@@ -317,44 +303,47 @@ module _ {T V P M : Type 0} (a : Algorithm T V P M) where
         let item_is_change : by_item a (suc c) x (item_at items c) ≡ by_step a (suc c) x.memory i (his c) (his c).control = ap (by_item a (suc c) x) is in
         let state_becomes : typed_state a items (suc c) ≡ changed x i (by_step a (suc c) x.memory i (his c) (his c).control) =
         ap (λ (y : Item). changed x (who y) (by_item a (suc c) x (item_at items c))) is ∙ ap (changed x i) item_is_change in
-        let out_is : outcome_of (by_step a (suc c) x.memory i (his c) (his c).control) ≡ Stepped = sym (ap outcome_of item_is_change) ∙ sym (embed.outcome_is a items fits does c short) ∙ out in
+        let out_is : outcome_of (by_step a (suc c) x.memory i (his c) (his c).control) ≡ Stepped =
+        sym (ap outcome_of item_is_change) ∙ sym (embed.outcome_is a items fits does c short) ∙ out in
         let call_is : IsCallLine (line_in a.source (status_of a (his c).control)) =
         subst (λ (y : Process). IsCallLine (line_in a.source y.status)) (embed.process_at_is a items fits does c i (omega arith) one) call in
         let link_is : link_in (status_of a (his (suc c)).control) ≡ Some l =
         sym (ap (λ (y : Process). link_in y.status) (embed.process_at_is a items fits does (suc c) i (omega arith) one)) ∙ link in
         from_control l c (his c).control state_becomes out_is call_is link_is law
       where
-        from_move : (l c : ℕ) (d : T) (k : P) (v : Move T V P M) → NotTo v →
-            typed_state a items (suc c) ≡ changed (typed_state a items c) i (by_move a (suc c) (typed_state a items c).memory (his c) k v) →
-            outcome_of (by_move a (suc c) (typed_state a items c).memory (his c) k v) ≡ Stepped →
+        from_move : (l c : ℕ) (d : Task) (k : P) (v : Move V P M) → NotTo v →
+            typed_state a items (suc c) ≡ changed (typed_state a items c) i (by_move a (suc c) (memory c) (his c) k v) →
+            outcome_of (by_move a (suc c) (memory c) (his c) k v) ≡ Stepped →
             link_in (status_of a (his (suc c)).control) ≡ Some l → Goes (Some l) (suc c) (suc c)
         from_move l c d k (To d' m' p' k') not_to state_becomes out_is link_is = absurd not_to
         from_move l c d k (Begin d' p' k') not_to state_becomes out_is link_is =
             let x = typed_state a items c in
-            let q' : TypedProcess T V P M = record { control = At d' k'; variables = p'; auxiliary = begun_auxiliary a k (suc c) (his c).auxiliary } in
-            let new : his (suc c) ≡ q' = ap (λ (y : TypedState T V P M). typed_at a y i) state_becomes ∙ embed.own_process a x i x.memory q' Stepped (embed.count a items c) one in
+            let q' : TypedProcess V P M = record { control = At d' k'; variables = p'; auxiliary = begun_auxiliary a k (suc c) (his c).auxiliary } in
+            let new : his (suc c) ≡ q' = embed.process_next a items c i x.memory q' Stepped one state_becomes in
             record {
               task = d';
               counter = k';
-              control = ap (λ (q : TypedProcess T V P M). q.control) new;
-              inside = sym (ap (λ (q : TypedProcess T V P M). link_in (status_of a q.control)) new) ∙ link_is;
-              since = ap (λ (q : TypedProcess T V P M). q.auxiliary.since) new;
-              own = ap (λ (q : TypedProcess T V P M). q.auxiliary.own) new ∙ sym (count_none (takes_step r i) (suc c) (suc c) (omega arith));
-              collects = ap (λ (q : TypedProcess T V P M). q.auxiliary.collects) new ∙ sym (count_none (ends_double_collect r i) (suc c) (suc c) (omega arith));
-              round_after = subst (λ (q : TypedProcess T V P M). suc c ≤ q.auxiliary.round) (sym new) (omega arith);
-              round_before = subst (λ (q : TypedProcess T V P M). q.auxiliary.round ≤ suc c) (sym new) (omega arith);
-              tested = subst (λ (q : TypedProcess T V P M). q.auxiliary.tested ≡ double_collects r i q.auxiliary.round (suc c)) (sym new)
+              control = ap (λ (q : TypedProcess V P M). q.control) new;
+              inside = sym (ap (λ (q : TypedProcess V P M). link_in (status_of a q.control)) new) ∙ link_is;
+              since = ap (λ (q : TypedProcess V P M). q.auxiliary.since) new;
+              own = ap (λ (q : TypedProcess V P M). q.auxiliary.own) new ∙ sym (count_none (takes_step r i) (suc c) (suc c) (omega arith));
+              collects = ap (λ (q : TypedProcess V P M). q.auxiliary.collects) new
+                  ∙ sym (count_none (ends_double_collect r i) (suc c) (suc c) (omega arith));
+              round_after = subst (λ (q : TypedProcess V P M). suc c ≤ q.auxiliary.round) (sym new) (omega arith);
+              round_before = subst (λ (q : TypedProcess V P M). q.auxiliary.round ≤ suc c) (sym new) (omega arith);
+              tested = subst (λ (q : TypedProcess V P M). q.auxiliary.tested ≡ double_collects r i q.auxiliary.round (suc c)) (sym new)
                   (sym (count_none (ends_double_collect r i) (suc c) (suc c) (omega arith)));
             }
         from_move l c d k (Answer v) not_to state_becomes out_is link_is = absurd (cc)
         from_move l c d k Finish not_to state_becomes out_is link_is = absurd (cc)
 
-        from_control : (l c : ℕ) (control : Control T P) → typed_state a items (suc c) ≡ changed (typed_state a items c) i (by_step a (suc c) (typed_state a items c).memory i (his c) control) →
-            outcome_of (by_step a (suc c) (typed_state a items c).memory i (his c) control) ≡ Stepped → IsCallLine (line_in a.source (status_of a control)) →
-            link_in (status_of a (his (suc c)).control) ≡ Some l → LawfulAt i (typed_state a items c).memory (his c).variables control → Goes (Some l) (suc c) (suc c)
+        from_control : (l c : ℕ) (control : Control P) →
+            typed_state a items (suc c) ≡ changed (typed_state a items c) i (by_step a (suc c) (memory c) i (his c) control) →
+            outcome_of (by_step a (suc c) (memory c) i (his c) control) ≡ Stepped → IsCallLine (line_in a.source (status_of a control)) →
+            link_in (status_of a (his (suc c)).control) ≡ Some l → LawfulAt i (memory c) (his c).variables control → Goes (Some l) (suc c) (suc c)
         from_control l c Idle state_becomes out_is call link law = absurd call
         from_control l c (At d k) state_becomes out_is call link law =
-            from_move l c d k (a.move i d (typed_state a items c).memory (his c).variables k) (law.calls call) state_becomes out_is link
+            from_move l c d k (a.move i d (memory c) (his c).variables k) (law.calls call) state_becomes out_is link
 
     start_goes : (link : Option ℕ) (c : ℕ) → c < length items → Starts r i (suc c) link → Goes link (suc c) (suc c)
     start_goes None c short h = called_goes c short h.0 h.1
@@ -397,7 +386,8 @@ module _ {T V P M : Type 0} (a : Algorithm T V P M) where
         subst (λ y. y ≤ own_steps r i c t + 1) (sym (count_next (takes_step r i) c t le))
         (one_more (steps i (item r (suc t)) && is_not_skipped (outcome r (suc t))) (own_steps r i c t))
 
-    pub last_collects : (c t : ℕ) (d : T) (k : P) → c ≤ t → t ≤ length items → (his t).control ≡ At d k → double_collects r i c (suc t) ≤ double_collects r i c t + a.tests k
+    pub last_collects : (c t : ℕ) (d : Task) (k : P) → c ≤ t → t ≤ length items → (his t).control ≡ At d k →
+        double_collects r i c (suc t) ≤ double_collects r i c t + a.tests k
     last_collects c t d k le short at =
         let status = line_in r.source (process_at (before r (suc t)) i).status in
         let line : status ≡ instr_at a.source.lines (a.number k) = ap (λ (y : Process). line_in r.source y.status) (is_busy_at t short d k at) in

@@ -2,7 +2,6 @@
 use Rattle.std.specs.Prelude.{◌≡◌, ◌≢◌, ℕ, zero, suc, ◌+◌, ◌<◌, ◌≤◌, Bool, true, false, ◌&&◌, List, length, Option, Some, None, nat_eq, if◌then◌else◌, refl}
 use Rattle.std.proofs.Common.{sym, ◌∙◌, ap, subst, arith, inl, inr}
 use Rattle.std.proofs.lemmas.Bool.{cases_eq}
-use Rattle.std.proofs.lemmas.Grind.{common_steps}
 use Rattle.std.proofs.Math.Nat.{eq-or-lt_of_le}
 use Rattle.snap_semantics.specs.declared.process.Op.{Op}
 use Rattle.snap_semantics.specs.declared.process.Op.TheVariants.{Scan as ScanOp, Update}
@@ -17,20 +16,19 @@ use Rattle.snap_words.specs.Shape.{IsOneOf}
 use Rattle.snap_runs.specs.Run.{Run, Fits, before, item, outcome}
 use Rattle.snap_runs.specs.Scan.{count, steps}
 use Rattle.snap_runs.specs.Update.{is_at, executes, IsDone, Updating}
-use Rattle.snap_runs.proofs.Algorithm.{Control, Idle, At, Move, To, Begin, Answer, Finish, Auxiliary, TypedProcess, TypedState, Algorithm, by_move, by_step, by_admission, by_call, typed_at, by_item, changed, outcome_of, happens, item_at, typed_state, status_of, stepped_auxiliary, begun_auxiliary, called_auxiliary, SameOp}
+use Rattle.snap_runs.proofs.Algorithm.{Task, op_of, task_of, op_is, Control, Idle, At, Move, To, Begin, Answer, Finish, Auxiliary, TypedProcess, TypedState, Algorithm, by_move, by_step, by_admission, by_call, typed_at, by_item, changed, outcome_of, happens, item_at, typed_state, status_of, stepped_auxiliary, begun_auxiliary, called_auxiliary, SameOp}
+use Rattle.snap_runs.proofs.Computing.{same_number}
 use Rattle.snap_runs.proofs.Embedding as embed
-use Rattle.snap_runs.proofs.ScanSpan.{count_none, count_next, count_not, not_his}
-
-same_number : (x : ℕ) → nat_eq x x ≡ true
-same_number x = grind (arith, common_steps)
+use Rattle.snap_runs.proofs.Counting.{count_none, count_next, count_not}
+use Rattle.snap_runs.proofs.ScanSpan.{not_his}
 
 add_one : (b : Bool) (x : ℕ) → (if b then suc x else x) ≡ x + (if b then 1 else 0)
 add_one true x = omega arith
 add_one false x = omega arith
 
-module _ {T V P M : Type 0} (a : Algorithm T V P M) where
+module _ {V P M : Type 0} (a : Algorithm V P M) where
   -- an update never answers
-  abbrev pub NoAnswer : Move T V P M → Type 0
+  abbrev pub NoAnswer : Move V P M → Type 0
   NoAnswer (To d m p k) = Unit {0}
   NoAnswer (Begin d p k) = Unit {0}
   NoAnswer (Answer v) = ⊥
@@ -39,13 +37,16 @@ module _ {T V P M : Type 0} (a : Algorithm T V P M) where
   module _ (line : ℕ) (writes_is : (k : P) → (if nat_eq (a.number k) line then 1 else 0) ≡ a.writes k)
       (items : List Item) (fits : Fits (embed.run_of a items)) (does : embed.AllDo a items)
       (i : ℕ) (one : IsOneOf a.shape.n i)
-      (silent : (t : ℕ) → t < length items → (d : T) (k : P) → (typed_at a (typed_state a items t) i).control ≡ At d k → (word value : ℕ) → a.op_of d ≡ Update word value →
+      (silent : (t : ℕ) → t < length items → (d : Task) (k : P) → (typed_at a (typed_state a items t) i).control ≡ At d k → (word value : ℕ) → op_of d ≡ Update word value →
       NoAnswer (a.move i d (typed_state a items t).memory (typed_at a (typed_state a items t) i).variables k)) where
     abbrev pub r : Run
     r = embed.run_of a items
 
-    abbrev pub his : ℕ → TypedProcess T V P M
+    abbrev pub his : ℕ → TypedProcess V P M
     his t = typed_at a (typed_state a items t) i
+
+    abbrev pub memory : ℕ → M
+    memory t = (typed_state a items t).memory
 
     -- item c called this operation, and it is not done up to item t
     pub record Under (op : Op) (c t : ℕ) : Type 0 where
@@ -55,9 +56,9 @@ module _ {T V P M : Type 0} (a : Algorithm T V P M) where
       pub order : c ≤ t
       pub open_still : (u : ℕ) → c < u → u ≤ t → IsDone r i u → ⊥
 
-    abbrev pub UnderAt : ℕ → TypedProcess T V P M → Control T P → Type 0
+    abbrev pub UnderAt : ℕ → TypedProcess V P M → Control P → Type 0
     UnderAt t q Idle = Unit {0}
-    UnderAt t q (At d k) = Under (a.op_of d) q.auxiliary.called t
+    UnderAt t q (At d k) = Under (op_of d) q.auxiliary.called t
 
     longer : (op : Op) (c t : ℕ) → (IsDone r i (suc t) → ⊥) → Under op c t → Under op c (suc t)
     longer op c t not_done h = record {
@@ -71,59 +72,65 @@ module _ {T V P M : Type 0} (a : Algorithm T V P M) where
       ];
     }
 
-    longer_at : (t : ℕ) (q : TypedProcess T V P M) (control : Control T P) → (IsDone r i (suc t) → ⊥) → UnderAt t q control → UnderAt (suc t) q control
+    longer_at : (t : ℕ) (q : TypedProcess V P M) (control : Control P) → (IsDone r i (suc t) → ⊥) → UnderAt t q control → UnderAt (suc t) q control
     longer_at t q Idle not_done h = tt
-    longer_at t q (At d k) not_done h = longer (a.op_of d) q.auxiliary.called t not_done h
+    longer_at t q (At d k) not_done h = longer (op_of d) q.auxiliary.called t not_done h
 
     -- the worker stays
-    same_under : (t : ℕ) → his (suc t) ≡ his t → (IsDone r i (suc t) → ⊥) → UnderAt t (his t) (his t).control → UnderAt (suc t) (his (suc t)) (his (suc t)).control
-    same_under t same not_done h = subst (λ (q : TypedProcess T V P M). UnderAt (suc t) q q.control) (sym same) (longer_at t (his t) (his t).control not_done h)
+    same_under : (t : ℕ) → his (suc t) ≡ his t → (IsDone r i (suc t) → ⊥) → UnderAt t (his t) (his t).control →
+        UnderAt (suc t) (his (suc t)) (his (suc t)).control
+    same_under t same not_done h =
+        subst (λ (q : TypedProcess V P M). UnderAt (suc t) q q.control) (sym same) (longer_at t (his t) (his t).control not_done h)
 
-    stepped_under : (t : ℕ) (d : T) (k : P) (v : Move T V P M) → SameOp a d v → (his t).control ≡ At d k →
-        typed_state a items (suc t) ≡ changed (typed_state a items t) i (by_move a (suc t) (typed_state a items t).memory (his t) k v) →
-        outcome r (suc t) ≡ outcome_of (by_move a (suc t) (typed_state a items t).memory (his t) k v) →
+    stepped_under : (t : ℕ) (d : Task) (k : P) (v : Move V P M) → SameOp a d v → (his t).control ≡ At d k →
+        typed_state a items (suc t) ≡ changed (typed_state a items t) i (by_move a (suc t) (memory t) (his t) k v) →
+        outcome r (suc t) ≡ outcome_of (by_move a (suc t) (memory t) (his t) k v) →
         UnderAt t (his t) (At d k) → UnderAt (suc t) (his (suc t)) (his (suc t)).control
     stepped_under t d k (To d' m' p' k') same at state_becomes out_is h =
-        let q' : TypedProcess T V P M = record { control = At d' k'; variables = p'; auxiliary = stepped_auxiliary a k (suc t) (his t).auxiliary } in
-        let new : his (suc t) ≡ q' = ap (λ (y : TypedState T V P M). typed_at a y i) state_becomes ∙ embed.own_process a (typed_state a items t) i m' q' Stepped (embed.count a items t) one in
-        subst (λ (q : TypedProcess T V P M). UnderAt (suc t) q q.control) (sym new)
-        (subst (λ (op : Op). Under op (his t).auxiliary.called (suc t)) (sym same) (longer (a.op_of d) (his t).auxiliary.called t (λ done. absurd (let e = sym done.1 ∙ out_is in cc)) h))
+        let q' : TypedProcess V P M = record { control = At d' k'; variables = p'; auxiliary = stepped_auxiliary a k (suc t) (his t).auxiliary } in
+        let new : his (suc t) ≡ q' = embed.process_next a items t i m' q' Stepped one state_becomes in
+        subst (λ (q : TypedProcess V P M). UnderAt (suc t) q q.control) (sym new)
+        (subst (λ (op : Op). Under op (his t).auxiliary.called (suc t)) (sym same) (longer (op_of d) (his t).auxiliary.called t (λ done. absurd (let e = sym done.1 ∙ out_is in cc)) h))
     stepped_under t d k (Begin d' p' k') same at state_becomes out_is h =
-        let q' : TypedProcess T V P M = record { control = At d' k'; variables = p'; auxiliary = begun_auxiliary a k (suc t) (his t).auxiliary } in
-        let new : his (suc t) ≡ q' = ap (λ (y : TypedState T V P M). typed_at a y i) state_becomes ∙ embed.own_process a (typed_state a items t) i (typed_state a items t).memory q' Stepped (embed.count a items t) one in
-        subst (λ (q : TypedProcess T V P M). UnderAt (suc t) q q.control) (sym new)
-        (subst (λ (op : Op). Under op (his t).auxiliary.called (suc t)) (sym same) (longer (a.op_of d) (his t).auxiliary.called t (λ done. absurd (let e = sym done.1 ∙ out_is in cc)) h))
+        let q' : TypedProcess V P M = record { control = At d' k'; variables = p'; auxiliary = begun_auxiliary a k (suc t) (his t).auxiliary } in
+        let new : his (suc t) ≡ q' = embed.process_next a items t i (memory t) q' Stepped one state_becomes in
+        subst (λ (q : TypedProcess V P M). UnderAt (suc t) q q.control) (sym new)
+        (subst (λ (op : Op). Under op (his t).auxiliary.called (suc t)) (sym same) (longer (op_of d) (his t).auxiliary.called t (λ done. absurd (let e = sym done.1 ∙ out_is in cc)) h))
     stepped_under t d k (Answer v) same at state_becomes out_is h =
-        let q' : TypedProcess T V P M = record { control = Idle; variables = (his t).variables; auxiliary = stepped_auxiliary a k (suc t) (his t).auxiliary } in
-        let new : his (suc t) ≡ q' = ap (λ (y : TypedState T V P M). typed_at a y i) state_becomes ∙ embed.own_process a (typed_state a items t) i (typed_state a items t).memory q' (Answered v) (embed.count a items t) one in
-        subst (λ (q : TypedProcess T V P M). UnderAt (suc t) q q.control) (sym new) tt
+        let q' : TypedProcess V P M =
+        record { control = Idle; variables = (his t).variables; auxiliary = stepped_auxiliary a k (suc t) (his t).auxiliary } in
+        let new : his (suc t) ≡ q' = embed.process_next a items t i (memory t) q' (Answered v) one state_becomes in
+        subst (λ (q : TypedProcess V P M). UnderAt (suc t) q q.control) (sym new) tt
     stepped_under t d k Finish same at state_becomes out_is h =
-        let q' : TypedProcess T V P M = record { control = Idle; variables = (his t).variables; auxiliary = stepped_auxiliary a k (suc t) (his t).auxiliary } in
-        let new : his (suc t) ≡ q' = ap (λ (y : TypedState T V P M). typed_at a y i) state_becomes ∙ embed.own_process a (typed_state a items t) i (typed_state a items t).memory q' Done (embed.count a items t) one in
-        subst (λ (q : TypedProcess T V P M). UnderAt (suc t) q q.control) (sym new) tt
+        let q' : TypedProcess V P M =
+        record { control = Idle; variables = (his t).variables; auxiliary = stepped_auxiliary a k (suc t) (his t).auxiliary } in
+        let new : his (suc t) ≡ q' = embed.process_next a items t i (memory t) q' Done one state_becomes in
+        subst (λ (q : TypedProcess V P M). UnderAt (suc t) q q.control) (sym new) tt
 
-    stepping_under : (t : ℕ) (control : Control T P) → t < length items → item_at items t ≡ Step i → (his t).control ≡ control →
-        typed_state a items (suc t) ≡ changed (typed_state a items t) i (by_step a (suc t) (typed_state a items t).memory i (his t) control) →
-        outcome r (suc t) ≡ outcome_of (by_step a (suc t) (typed_state a items t).memory i (his t) control) →
+    stepping_under : (t : ℕ) (control : Control P) → t < length items → item_at items t ≡ Step i → (his t).control ≡ control →
+        typed_state a items (suc t) ≡ changed (typed_state a items t) i (by_step a (suc t) (memory t) i (his t) control) →
+        outcome r (suc t) ≡ outcome_of (by_step a (suc t) (memory t) i (his t) control) →
         UnderAt t (his t) (his t).control → UnderAt (suc t) (his (suc t)) (his (suc t)).control
     stepping_under t Idle short is at state_becomes out_is h =
-        same_under t (ap (λ (y : TypedState T V P M). typed_at a y i) state_becomes) (λ done. absurd (let e = sym done.1 ∙ out_is in cc)) h
+        same_under t (ap (λ (y : TypedState V P M). typed_at a y i) state_becomes) (λ done. absurd (let e = sym done.1 ∙ out_is in cc)) h
     stepping_under t (At d k) short is at state_becomes out_is h =
-        let done : embed.Does a i (typed_state a items t).memory (his t).variables (At d k) = subst (embed.Does a i (typed_state a items t).memory (his t).variables) at (does t i short one) in
-        stepped_under t d k (a.move i d (typed_state a items t).memory (his t).variables k) done.1 at state_becomes out_is (subst (UnderAt t (his t)) at h)
+        let done : embed.Does a i (memory t) (his t).variables (At d k) =
+        subst (embed.Does a i (memory t) (his t).variables) at (does t i short one) in
+        stepped_under t d k (a.move i d (memory t) (his t).variables k) done.1 at state_becomes out_is (subst (UnderAt t (his t)) at h)
 
     admitted_under : (t : ℕ) (op : Op) (o : Option Reason) → item_at items t ≡ Call i op →
-        typed_state a items (suc t) ≡ changed (typed_state a items t) i (by_admission a (suc t) (typed_state a items t).memory (his t) op o) →
-        outcome r (suc t) ≡ outcome_of (by_admission a (suc t) (typed_state a items t).memory (his t) op o) →
+        typed_state a items (suc t) ≡ changed (typed_state a items t) i (by_admission a (suc t) (memory t) (his t) op o) →
+        outcome r (suc t) ≡ outcome_of (by_admission a (suc t) (memory t) (his t) op o) →
         UnderAt t (his t) (his t).control → UnderAt (suc t) (his (suc t)) (his (suc t)).control
     admitted_under t op (Some why) is state_becomes out_is h =
-        same_under t (ap (λ (y : TypedState T V P M). typed_at a y i) state_becomes) (λ done. absurd (let e = sym done.1 ∙ out_is in cc)) h
+        same_under t (ap (λ (y : TypedState V P M). typed_at a y i) state_becomes) (λ done. absurd (let e = sym done.1 ∙ out_is in cc)) h
     admitted_under t op None is state_becomes out_is h =
-        let q' : TypedProcess T V P M = record { control = At (a.task op) (a.counter op); variables = (his t).variables; auxiliary = called_auxiliary (suc t) op (his t).auxiliary } in
-        let new : his (suc t) ≡ q' = ap (λ (y : TypedState T V P M). typed_at a y i) state_becomes ∙ embed.own_process a (typed_state a items t) i (typed_state a items t).memory q' Called (embed.count a items t) one in
-        subst (λ (q : TypedProcess T V P M). UnderAt (suc t) q q.control) (sym new)
-        (subst (λ c. Under (a.op_of (a.task op)) c (suc t)) (sym (called_at (suc t) op (his t).auxiliary)) (record {
-          call = is ∙ ap (λ (y : Op). Call i y) (sym (a.op_is op));
+        let q' : TypedProcess V P M =
+        record { control = At (task_of op) (a.counter op); variables = (his t).variables; auxiliary = called_auxiliary (suc t) op (his t).auxiliary } in
+        let new : his (suc t) ≡ q' = embed.process_next a items t i (memory t) q' Called one state_becomes in
+        subst (λ (q : TypedProcess V P M). UnderAt (suc t) q q.control) (sym new)
+        (subst (λ c. Under (op_of (task_of op)) c (suc t)) (sym (called_at (suc t) op (his t).auxiliary)) (record {
+          call = is ∙ ap (λ (y : Op). Call i y) (sym (op_is op));
           called = out_is;
           first = omega arith;
           order = omega arith;
@@ -134,15 +141,16 @@ module _ {T V P M : Type 0} (a : Algorithm T V P M) where
         called_at t ScanOp g = refl
         called_at t (Update word value) g = refl
 
-    calling_under : (t : ℕ) (op : Op) (control : Control T P) → item_at items t ≡ Call i op → (his t).control ≡ control →
-        typed_state a items (suc t) ≡ changed (typed_state a items t) i (by_call a (suc t) (typed_state a items t).memory i op (his t) control) →
-        outcome r (suc t) ≡ outcome_of (by_call a (suc t) (typed_state a items t).memory i op (his t) control) →
+    calling_under : (t : ℕ) (op : Op) (control : Control P) → item_at items t ≡ Call i op → (his t).control ≡ control →
+        typed_state a items (suc t) ≡ changed (typed_state a items t) i (by_call a (suc t) (memory t) i op (his t) control) →
+        outcome r (suc t) ≡ outcome_of (by_call a (suc t) (memory t) i op (his t) control) →
         UnderAt t (his t) (his t).control → UnderAt (suc t) (his (suc t)) (his (suc t)).control
     calling_under t op Idle is at state_becomes out_is h = admitted_under t op (call_skip a.source.kind a.shape i op) is state_becomes out_is h
     calling_under t op (At d k) is at state_becomes out_is h =
-        same_under t (ap (λ (y : TypedState T V P M). typed_at a y i) state_becomes) (λ done. absurd (let e = sym done.1 ∙ out_is in cc)) h
+        same_under t (ap (λ (y : TypedState V P M). typed_at a y i) state_becomes) (λ done. absurd (let e = sym done.1 ∙ out_is in cc)) h
 
-    item_under : (t : ℕ) (y : Item) → t < length items → item_at items t ≡ y → who y ≡ i → UnderAt t (his t) (his t).control → UnderAt (suc t) (his (suc t)) (his (suc t)).control
+    item_under : (t : ℕ) (y : Item) → t < length items → item_at items t ≡ y → who y ≡ i → UnderAt t (his t) (his t).control →
+        UnderAt (suc t) (his (suc t)) (his (suc t)).control
     item_under t (Step k) short is w h =
         let is2 : item_at items t ≡ Step i = is ∙ ap (λ u. Step u) w in
         stepping_under t (his t).control short is2 refl (ap (happens a (suc t) (typed_state a items t)) is2)
@@ -158,7 +166,7 @@ module _ {T V P M : Type 0} (a : Algorithm T V P M) where
         embed.other_process a (typed_state a items t) (who (item_at items t)) i (by_item a (suc t) (typed_state a items t) (item_at items t)) his_one.0 one.0 (λ same. other (sym same))
 
     at_zero : UnderAt 0 (his 0) (his 0).control
-    at_zero = subst (λ (q : TypedProcess T V P M). UnderAt 0 q q.control) (sym (embed.first_process_is a i one)) tt
+    at_zero = subst (λ (q : TypedProcess V P M). UnderAt 0 q q.control) (sym (embed.first_process_is a i one)) tt
 
     -- a busy process is under the operation of its last call
     pub under : (t : ℕ) → t ≤ length items → UnderAt t (his t) (his t).control
@@ -171,97 +179,107 @@ module _ {T V P M : Type 0} (a : Algorithm T V P M) where
 
     -- at state t the update that was called at item c goes on
     pub record Going (word value c t : ℕ) : Type 0 where
-      pub task : T
+      pub task : Task
       pub counter : P
       pub control : (his t).control ≡ At task counter
-      pub op : a.op_of task ≡ Update word value
+      pub op : op_of task ≡ Update word value
       pub wrote : (his t).auxiliary.wrote ≡ count (executes r i line) c t
 
-    same_going : (word value c t : ℕ) → c ≤ t → his (suc t) ≡ his t → steps i (item_at items t) ≡ false → Going word value c t → Going word value c (suc t)
+    same_going : (word value c t : ℕ) → c ≤ t → his (suc t) ≡ his t → steps i (item_at items t) ≡ false → Going word value c t →
+        Going word value c (suc t)
     same_going word value c t le same none g = record {
       task = g.task;
       counter = g.counter;
-      control = ap (λ (q : TypedProcess T V P M). q.control) same ∙ g.control;
+      control = ap (λ (q : TypedProcess V P M). q.control) same ∙ g.control;
       op = g.op;
-      wrote = ap (λ (q : TypedProcess T V P M). q.auxiliary.wrote) same ∙ g.wrote
+      wrote = ap (λ (q : TypedProcess V P M). q.auxiliary.wrote) same ∙ g.wrote
           ∙ sym (count_not (executes r i line) c t le (ap (λ b. b && is_at line (process_at (before r (suc t)) i).status) none));
     }
 
     -- one more item of the process at a line
-    pub line_counts : (t c : ℕ) (d : T) (k : P) → c ≤ t → t ≤ length items → item_at items t ≡ Step i → (his t).control ≡ At d k →
+    pub line_counts : (t c : ℕ) (d : Task) (k : P) → c ≤ t → t ≤ length items → item_at items t ≡ Step i → (his t).control ≡ At d k →
         count (executes r i line) c (suc t) ≡ count (executes r i line) c t + a.writes k
     line_counts t c d k le short is at =
         let stands : is_at line (process_at (before r (suc t)) i).status ≡ nat_eq (a.number k) line =
-        ap (λ (p : Process). is_at line p.status) (embed.process_at_is a items fits does t i short one) ∙ ap (λ (p : Control T P). is_at line (status_of a p)) at in
+        ap (λ (p : Process). is_at line p.status) (embed.process_at_is a items fits does t i short one)
+        ∙ ap (λ (p : Control P). is_at line (status_of a p)) at in
         count_next (executes r i line) c t le
         ∙ ap (λ b. if b && is_at line (process_at (before r (suc t)) i).status then suc (count (executes r i line) c t) else count (executes r i line) c t) (ap (steps i) is ∙ same_number i)
         ∙ ap (λ b. if b then suc (count (executes r i line) c t) else count (executes r i line) c t) stands
         ∙ add_one (nat_eq (a.number k) line) (count (executes r i line) c t)
         ∙ ap (λ y. count (executes r i line) c t + y) (writes_is k)
 
-    stepped_going : (word value c e t : ℕ) (d : T) (k : P) (v : Move T V P M) → Updating r i word value c e → c ≤ t → suc t < e → t < length items → item_at items t ≡ Step i →
-        SameOp a d v → NoAnswer v → (his t).control ≡ At d k → a.op_of d ≡ Update word value →
-        typed_state a items (suc t) ≡ changed (typed_state a items t) i (by_move a (suc t) (typed_state a items t).memory (his t) k v) →
-        outcome r (suc t) ≡ outcome_of (by_move a (suc t) (typed_state a items t).memory (his t) k v) → Going word value c t → Going word value c (suc t)
+    stepped_going : (word value c e t : ℕ) (d : Task) (k : P) (v : Move V P M) → Updating r i word value c e → c ≤ t → suc t < e → t < length items →
+        item_at items t ≡ Step i →
+        SameOp a d v → NoAnswer v → (his t).control ≡ At d k → op_of d ≡ Update word value →
+        typed_state a items (suc t) ≡ changed (typed_state a items t) i (by_move a (suc t) (memory t) (his t) k v) →
+        outcome r (suc t) ≡ outcome_of (by_move a (suc t) (memory t) (his t) k v) → Going word value c t → Going word value c (suc t)
     stepped_going word value c e t d k (To d' m' p' k') up le lt short is same silence at op state_becomes out_is g =
-        let q' : TypedProcess T V P M = record { control = At d' k'; variables = p'; auxiliary = stepped_auxiliary a k (suc t) (his t).auxiliary } in
-        let new : his (suc t) ≡ q' = ap (λ (y : TypedState T V P M). typed_at a y i) state_becomes ∙ embed.own_process a (typed_state a items t) i m' q' Stepped (embed.count a items t) one in
+        let q' : TypedProcess V P M = record { control = At d' k'; variables = p'; auxiliary = stepped_auxiliary a k (suc t) (his t).auxiliary } in
+        let new : his (suc t) ≡ q' = embed.process_next a items t i m' q' Stepped one state_becomes in
         record {
           task = d';
           counter = k';
-          control = ap (λ (q : TypedProcess T V P M). q.control) new;
+          control = ap (λ (q : TypedProcess V P M). q.control) new;
           op = same ∙ op;
-          wrote = ap (λ (q : TypedProcess T V P M). q.auxiliary.wrote) new ∙ ap (λ y. y + a.writes k) g.wrote ∙ sym (line_counts t c d k le (omega arith) is at);
+          wrote = ap (λ (q : TypedProcess V P M). q.auxiliary.wrote) new ∙ ap (λ y. y + a.writes k) g.wrote
+              ∙ sym (line_counts t c d k le (omega arith) is at);
         }
     stepped_going word value c e t d k (Begin d' p' k') up le lt short is same silence at op state_becomes out_is g =
-        let q' : TypedProcess T V P M = record { control = At d' k'; variables = p'; auxiliary = begun_auxiliary a k (suc t) (his t).auxiliary } in
-        let new : his (suc t) ≡ q' = ap (λ (y : TypedState T V P M). typed_at a y i) state_becomes ∙ embed.own_process a (typed_state a items t) i (typed_state a items t).memory q' Stepped (embed.count a items t) one in
+        let q' : TypedProcess V P M = record { control = At d' k'; variables = p'; auxiliary = begun_auxiliary a k (suc t) (his t).auxiliary } in
+        let new : his (suc t) ≡ q' = embed.process_next a items t i (memory t) q' Stepped one state_becomes in
         record {
           task = d';
           counter = k';
-          control = ap (λ (q : TypedProcess T V P M). q.control) new;
+          control = ap (λ (q : TypedProcess V P M). q.control) new;
           op = same ∙ op;
-          wrote = ap (λ (q : TypedProcess T V P M). q.auxiliary.wrote) new ∙ ap (λ y. y + a.writes k) g.wrote ∙ sym (line_counts t c d k le (omega arith) is at);
+          wrote = ap (λ (q : TypedProcess V P M). q.auxiliary.wrote) new ∙ ap (λ y. y + a.writes k) g.wrote
+              ∙ sym (line_counts t c d k le (omega arith) is at);
         }
     stepped_going word value c e t d k (Answer v) up le lt short is same silence at op state_becomes out_is g = absurd silence
     stepped_going word value c e t d k Finish up le lt short is same silence at op state_becomes out_is g =
         absurd (up.goes_on (suc t) (omega arith) lt (ap who is, out_is))
 
-    item_going : (word value c e t : ℕ) (y : Item) → Updating r i word value c e → c ≤ t → suc t < e → item_at items t ≡ y → who y ≡ i → Going word value c t → Going word value c (suc t)
+    item_going : (word value c e t : ℕ) (y : Item) → Updating r i word value c e → c ≤ t → suc t < e → item_at items t ≡ y → who y ≡ i →
+        Going word value c t → Going word value c (suc t)
     item_going word value c e t (Step k) up le lt is w g =
         let is2 : item_at items t ≡ Step i = is ∙ ap (λ u. Step u) w in
         let short : t < length items = (let last : e ≤ length items = up.last in omega arith) in
         let x = typed_state a items t in
-        let done : embed.Does a i x.memory (his t).variables (At g.task g.counter) = subst (embed.Does a i x.memory (his t).variables) g.control (does t i short one) in
+        let done : embed.Does a i x.memory (his t).variables (At g.task g.counter) =
+        subst (embed.Does a i x.memory (his t).variables) g.control (does t i short one) in
         stepped_going word value c e t g.task g.counter (a.move i g.task x.memory (his t).variables g.counter) up le lt short is2 done.1
         (silent t short g.task g.counter g.control word value g.op) g.control g.op
-        (ap (happens a (suc t) x) is2 ∙ ap (λ (p : Control T P). changed x i (by_step a (suc t) x.memory i (his t) p)) g.control)
+        (ap (happens a (suc t) x) is2 ∙ ap (λ (p : Control P). changed x i (by_step a (suc t) x.memory i (his t) p)) g.control)
         (embed.outcome_is a items fits does t short ∙ ap (λ (y : Item). outcome_of (by_item a (suc t) x y)) is2
-        ∙ ap (λ (p : Control T P). outcome_of (by_step a (suc t) x.memory i (his t) p)) g.control) g
+        ∙ ap (λ (p : Control P). outcome_of (by_step a (suc t) x.memory i (his t) p)) g.control) g
     item_going word value c e t (Call k op) up le lt is w g =
         let is2 : item_at items t ≡ Call i op = is ∙ ap (λ u. Call u op) w in
         let x = typed_state a items t in
-        same_going word value c t le (ap (λ (y : TypedState T V P M). typed_at a y i) (ap (happens a (suc t) x) is2 ∙ ap (λ (p : Control T P). changed x i (by_call a (suc t) x.memory i op (his t) p)) g.control))
+        same_going word value c t le (ap (λ (y : TypedState V P M). typed_at a y i) (ap (happens a (suc t) x) is2 ∙ ap (λ (p : Control P). changed x i (by_call a (suc t) x.memory i op (his t) p)) g.control))
         (ap (steps i) is2) g
 
-    called_going : (word value c : ℕ) (control : Control T P) →
-        typed_state a items (suc c) ≡ changed (typed_state a items c) i (by_call a (suc c) (typed_state a items c).memory i (Update word value) (his c) control) →
-        outcome_of (by_call a (suc c) (typed_state a items c).memory i (Update word value) (his c) control) ≡ Called → Going word value (suc c) (suc c)
-    called_going word value c Idle state_becomes out_is = from_reason word value c (call_skip a.source.kind a.shape i (Update word value)) state_becomes out_is
+    called_going : (word value c : ℕ) (control : Control P) →
+        typed_state a items (suc c) ≡ changed (typed_state a items c) i (by_call a (suc c) (memory c) i (Update word value) (his c) control) →
+        outcome_of (by_call a (suc c) (memory c) i (Update word value) (his c) control) ≡ Called → Going word value (suc c) (suc c)
+    called_going word value c Idle state_becomes out_is =
+        from_reason word value c (call_skip a.source.kind a.shape i (Update word value)) state_becomes out_is
       where
-        from_reason : (word value c : ℕ) (o : Option Reason) → typed_state a items (suc c) ≡ changed (typed_state a items c) i (by_admission a (suc c) (typed_state a items c).memory (his c) (Update word value) o) →
-            outcome_of (by_admission a (suc c) (typed_state a items c).memory (his c) (Update word value) o) ≡ Called → Going word value (suc c) (suc c)
+        from_reason : (word value c : ℕ) (o : Option Reason) →
+            typed_state a items (suc c) ≡ changed (typed_state a items c) i (by_admission a (suc c) (memory c) (his c) (Update word value) o) →
+            outcome_of (by_admission a (suc c) (memory c) (his c) (Update word value) o) ≡ Called → Going word value (suc c) (suc c)
         from_reason word value c (Some why) state_becomes out_is = absurd (cc)
         from_reason word value c None state_becomes out_is =
             let x = typed_state a items c in
-            let q' : TypedProcess T V P M = record { control = At (a.task (Update word value)) (a.counter (Update word value)); variables = (his c).variables; auxiliary = called_auxiliary (suc c) (Update word value) (his c).auxiliary } in
-            let new : his (suc c) ≡ q' = ap (λ (y : TypedState T V P M). typed_at a y i) state_becomes ∙ embed.own_process a x i x.memory q' Called (embed.count a items c) one in
+            let q' : TypedProcess V P M =
+            record { control = At (task_of (Update word value)) (a.counter (Update word value)); variables = (his c).variables; auxiliary = called_auxiliary (suc c) (Update word value) (his c).auxiliary } in
+            let new : his (suc c) ≡ q' = embed.process_next a items c i x.memory q' Called one state_becomes in
             record {
-              task = a.task (Update word value);
+              task = task_of (Update word value);
               counter = a.counter (Update word value);
-              control = ap (λ (q : TypedProcess T V P M). q.control) new;
-              op = a.op_is (Update word value);
-              wrote = ap (λ (q : TypedProcess T V P M). q.auxiliary.wrote) new ∙ sym (count_none (executes r i line) (suc c) (suc c) (omega arith));
+              control = ap (λ (q : TypedProcess V P M). q.control) new;
+              op = op_is (Update word value);
+              wrote = ap (λ (q : TypedProcess V P M). q.auxiliary.wrote) new ∙ sym (count_none (executes r i line) (suc c) (suc c) (omega arith));
             }
     called_going word value c (At d k) state_becomes out_is = absurd (cc)
 
@@ -290,12 +308,13 @@ module _ {T V P M : Type 0} (a : Algorithm T V P M) where
     inner_more false true x = omega arith
     inner_more false false x = omega arith
 
-    pub line_at_most : (t c : ℕ) (d : T) (k : P) → c ≤ t → t ≤ length items → (his t).control ≡ At d k →
+    pub line_at_most : (t c : ℕ) (d : Task) (k : P) → c ≤ t → t ≤ length items → (his t).control ≡ At d k →
         count (executes r i line) c (suc t) ≤ count (executes r i line) c t + a.writes k
     line_at_most t c d k le short at =
         let b = is_at line (process_at (before r (suc t)) i).status in
         let stands : b ≡ nat_eq (a.number k) line =
-        ap (λ (p : Process). is_at line p.status) (embed.process_at_is a items fits does t i short one) ∙ ap (λ (p : Control T P). is_at line (status_of a p)) at in
+        ap (λ (p : Process). is_at line p.status) (embed.process_at_is a items fits does t i short one)
+        ∙ ap (λ (p : Control P). is_at line (status_of a p)) at in
         let one_if : (if b then 1 else 0) ≡ a.writes k = ap (λ y. if y then 1 else 0) stands ∙ writes_is k in
         subst (λ y. y ≤ count (executes r i line) c t + a.writes k) (sym (count_next (executes r i line) c t le))
         (subst (λ y. (if steps i (item r (suc t)) && b then suc (count (executes r i line) c t) else count (executes r i line) c t) ≤ count (executes r i line) c t + y) one_if

@@ -2,7 +2,7 @@
 use Rattle.std.specs.Prelude.{◌≡◌, ℕ, suc, ◌-◌, ◌<◌, ◌≤◌, ◌⊎◌, true, List, [], length, Option, slice_index, slice_set}
 use Rattle.snap_words.specs.Shape.{IsOneOf}
 use Rattle.snap_semantics.specs.declared.process.Status.{Status}
-use Rattle.snap_semantics.specs.declared.process.Status.TheVariants.{Idle, Busy, Trapped}
+use Rattle.snap_semantics.specs.declared.process.Status.TheVariants.{Trapped}
 use Rattle.snap_semantics.specs.Source.{Name}
 use Rattle.snap_semantics.specs.State.{Locals, value_at, process_at, values}
 use Rattle.snap_semantics.specs.Table.{who}
@@ -12,9 +12,8 @@ use Rattle.snap_runs.specs.Update.{executes, IsDone, Updating}
 
 -- a process that has trapped
 abbrev pub HasTrapped : Status → Type 0
-HasTrapped Idle = ⊥
-HasTrapped (Busy a) = ⊥
 HasTrapped (Trapped cause a) = Unit {0}
+HasTrapped _ = ⊥
 
 -- No process ever traps.
 abbrev pub NeverTraps : Run → Type 0

@@ -9,7 +9,7 @@ use Rattle.snap_semantics.specs.declared.process.Op.TheVariants as op
 use Rattle.snap_semantics.specs.declared.process.Outcome.{Outcome}
 use Rattle.snap_semantics.specs.declared.process.Outcome.TheVariants as outcome
 use Rattle.snap_semantics.specs.declared.process.Status.{Status}
-use Rattle.snap_semantics.specs.declared.process.Status.TheVariants.{Idle, Busy, Trapped}
+use Rattle.snap_semantics.specs.declared.process.Status.TheVariants.{Busy}
 use Rattle.snap_semantics.specs.Source.{Source, instr_at}
 use Rattle.snap_semantics.specs.State.{Locals, value_at, process_at, values}
 use Rattle.snap_semantics.specs.Table.{who}
@@ -17,15 +17,13 @@ use Rattle.snap_runs.specs.Run.{Run, state, before, item, outcome as outcome_at}
 
 -- the line at which a busy process stands
 abbrev pub line_in : Source → Status → Option Instr
-line_in s Idle = None
 line_in s (Busy a) = instr_at s.lines a.line
-line_in s (Trapped cause a) = None
+line_in s _ = None
 
 -- the link of a busy process
 abbrev pub link_in : Status → Option ℕ
-link_in Idle = None
 link_in (Busy a) = a.link
-link_in (Trapped cause a) = None
+link_in _ = None
 
 -- a line `call N`
 abbrev pub IsCallLine : Option Instr → Type 0
@@ -78,7 +76,7 @@ count test c (suc e) = if nat_lt c (suc e) && test (suc e) then suc (count test 
 -- a step of process i
 abbrev pub steps : ℕ → Item → Bool
 steps i (Step k) = nat_eq k i
-steps i (Call k op) = false
+steps i _ = false
 
 -- a line `if all G: C goto N`
 abbrev pub is_if_all : Option Instr → Bool

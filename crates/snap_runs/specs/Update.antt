@@ -5,7 +5,7 @@ use Rattle.snap_semantics.specs.declared.process.Item.TheVariants.{Call}
 use Rattle.snap_semantics.specs.declared.process.Op.TheVariants.{Update}
 use Rattle.snap_semantics.specs.declared.process.Outcome.TheVariants.{Called, Finished}
 use Rattle.snap_semantics.specs.declared.process.Status.{Status}
-use Rattle.snap_semantics.specs.declared.process.Status.TheVariants.{Idle, Busy, Trapped}
+use Rattle.snap_semantics.specs.declared.process.Status.TheVariants.{Busy}
 use Rattle.snap_semantics.specs.State.{process_at}
 use Rattle.snap_semantics.specs.Table.{who}
 use Rattle.snap_runs.specs.Run.{Run, before, item, outcome}
@@ -13,9 +13,8 @@ use Rattle.snap_runs.specs.Scan.{steps}
 
 -- busy at the line with this number
 abbrev pub is_at : ℕ → Status → Bool
-is_at line Idle = false
 is_at line (Busy a) = nat_eq a.line line
-is_at line (Trapped cause a) = false
+is_at line _ = false
 
 -- process i executes this line at item t
 abbrev pub executes : Run → ℕ → ℕ → ℕ → Bool

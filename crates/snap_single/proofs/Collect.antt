@@ -1,17 +1,16 @@
 -- The two collects of a double collect of U, and what a scan learns of them.
-use Rattle.std.specs.Prelude.{◌≡◌, ℕ, ◌+◌, ◌-◌, ◌<◌, ◌≤◌, Bool, true, false, not, ◌&&◌, List, take, length, map, slice_index, slice_set, nat_eq, if◌then◌else◌, zero, suc, refl}
+use Rattle.std.specs.Prelude.{◌≡◌, ℕ, ◌+◌, ◌-◌, ◌<◌, ◌≤◌, Bool, true, false, not, List, take, length, map, slice_index, slice_set, nat_eq, if◌then◌else◌, refl}
 use Rattle.std.proofs.Common.{sym, ◌∙◌, ap, subst, arith, inl, inr}
 use Rattle.std.proofs.lemmas.Bool.{cases_eq}
-use Rattle.std.proofs.lemmas.Grind.{common_steps, get_or-set_at}
+use Rattle.std.proofs.lemmas.Grind.{get_or-set_at}
 use Rattle.std.proofs.lemmas.List.{get_or-set_other}
-use Rattle.std.proofs.Math.Nat.{eq-or-lt_of_le}
-use Rattle.std.specs.List.{range_with_len}
 use Rattle.snap_words.specs.Shape.{IsOneOf}
 use Rattle.snap_words.specs.Word.{Word, no_word}
 use Rattle.snap_semantics.specs.Table.{places_to, all_true}
 use Rattle.snap_runs.proofs.Held.{word_at, Held, data_of, seq_at, WordBefore, squeezed, same_data}
-use Rattle.snap_single.proofs.Algorithm.{Words, Variables, same_seq}
-use Rattle.snap_single.proofs.Control.{same_from}
+use Rattle.snap_runs.proofs.Computing.{same_from, differs}
+use Rattle.snap_runs.proofs.Places.{all_pass}
+use Rattle.snap_single.proofs.Algorithm.{Words, Variables, compared, agree}
 
 -- In all that follows `history u` are the words after u items, t is the number of items so far and `words` the words now;
 -- `since` is the item that started the scan, and `round` the item that started its double collect.
@@ -62,7 +61,8 @@ pub record Gained (n : ℕ) (history : ℕ → Words) (t since : ℕ) (words : W
   pub views : (k : ℕ) → IsOneOf n k → seq_at (history since) k + 2 ≤ seq_at b k → Held history t since (word_at b k).view
 
 -- a first copy has the same word and the same number of moves
-same_copy : (base opening : Words) (moved : List ℕ) (x y now : Words) (k : ℕ) → word_at x k ≡ word_at y k → FirstCopy base opening moved x now k → FirstCopy base opening moved y now k
+same_copy : (base opening : Words) (moved : List ℕ) (x y now : Words) (k : ℕ) → word_at x k ≡ word_at y k → FirstCopy base opening moved x now k →
+    FirstCopy base opening moved y now k
 same_copy base opening moved x y now k e h = record {
   moves = subst (λ (w : Word). floor base moved k ≤ w.seq) e h.moves;
   fresh = subst (λ (w : Word). seq_at opening k ≤ w.seq) e h.fresh;
@@ -96,8 +96,10 @@ second_starts n history t since round words moved a b now le h =
     (t, le, omega arith, subst P (sym now) here)
 
 -- line 14 reads one more word
-pub second_more : (n : ℕ) (history : ℕ → Words) (t since round : ℕ) (words : Words) (moved : List ℕ) (a b : Words) (j : ℕ) → IsOneOf n j → n ≤ length b →
-    Viewed n history t since words → Between n history t since round words moved a b j → Between n history t since round words moved a (slice_set b (j - 1) (word_at words j)) (j + 1)
+pub second_more : (n : ℕ) (history : ℕ → Words) (t since round : ℕ) (words : Words) (moved : List ℕ) (a b : Words) (j : ℕ) → IsOneOf n j →
+    n ≤ length b →
+    Viewed n history t since words → Between n history t since round words moved a b j →
+    Between n history t since round words moved a (slice_set b (j - 1) (word_at words j)) (j + 1)
 second_more n history t since round words moved a b j i len v h =
     let s : Second n history t since round words moved a b j (history h.0) = h.3 in (
       h.0,
@@ -123,34 +125,20 @@ second_more n history t since round words moved a b j i len v h =
       },
     )
 
-and_parts : (x y : Bool) → (x && y) ≡ true → (x ≡ true) × (y ≡ true)
-and_parts true y h = (refl, h)
-and_parts false y h = absurd cc
-
-pub all_at : (f : ℕ → Bool) (from count : ℕ) → all_true (map f (range_with_len from count)) ≡ true → (k : ℕ) → from ≤ k → k < from + count → f k ≡ true
-all_at f from zero h k low high = absurd (omega arith)
-all_at f from (suc count) h k low high =
-    let r = and_parts (f from) (all_true (map f (range_with_len (from + 1) count))) h in
-    elim (eq-or-lt_of_le low) [
-      | inl same ↦ ap f (sym same) ∙ r.0
-      | inr more ↦ all_at f (from + 1) count r.1 k (omega arith) (omega arith)
-    ]
-
 -- a passed test: the second collect is the words between the collects
-pub passed : (n : ℕ) (history : ℕ → Words) (t since round : ℕ) (words : Words) (p : Variables) → ((u : ℕ) → length (history u) ≡ n) → n ≤ length p.b →
-    Between n history t since round words p.moved p.a p.b (n + 1) → all_true (map (same_seq p) (places_to n)) ≡ true → Held history t since (data_of (take n p.b))
+pub passed : (n : ℕ) (history : ℕ → Words) (t since round : ℕ) (words : Words) (p : Variables) → ((u : ℕ) → u ≤ t → length (history u) ≡ n) →
+    n ≤ length p.b →
+    Between n history t since round words p.moved p.a p.b (n + 1) → all_true (map (agree p) (places_to n)) ≡ true →
+    Held history t since (data_of (take n p.b))
 passed n history t since round words p lengths len h test =
     let s : Second n history t since round words p.moved p.a p.b (n + 1) (history h.0) = h.3 in (
       h.0,
       h.1,
       h.2,
-      same_data n (history h.0) p.b (lengths h.0) len (λ k i.
+      same_data n (history h.0) p.b (lengths h.0 h.2) len (λ k i.
           squeezed (word_at p.a k) (word_at (history h.0) k) (word_at p.b k) (s.first k i).before (s.read k i (omega arith)).0
-          (same_from (word_at p.a k).seq (word_at p.b k).seq (all_at (same_seq p) 1 n test k (omega arith) (omega arith)))),
+          (same_from (compared (word_at p.a k)) (compared (word_at p.b k)) (all_pass (agree p) 1 n test k (omega arith) (omega arith)))),
     )
-
-pub differs : (x y : ℕ) → nat_eq x y ≡ false → x ≤ y → x < y
-differs x y h e = grind (arith, common_steps)
 
 -- a failed test counted: a process that is seen to move has written
 pub gained_at : (f x y : ℕ) (b : Bool) (v : ℕ) → nat_eq x y ≡ b → f + v ≤ x → x ≤ y → f + (if not b then v + 1 else v) ≤ y

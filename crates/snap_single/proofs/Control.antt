@@ -1,177 +1,142 @@
--- The places of U: which locals a process has at each line, and that no line traps.
-use Rattle.snap_words.specs.declared.kind.KindTag.TheVariants as kind
-use Rattle.std.specs.Prelude.{◌≡◌, ℕ, zero, suc, ◌+◌, ◌-◌, ◌^◌, ◌<◌, ◌≤◌, Bool, true, false, not, ◌&&◌, List, drop, map, Option, Some, None, nat_eq, nat_lt, nat_le, if◌then◌else◌, slice_index, refl}
-use Rattle.std.proofs.Common.{sym, ◌∙◌, ap, arith, inl, inr}
-use Rattle.std.proofs.Math.Nat.{eq-or-lt_of_le}
+-- Which variables a process of U has at each line, and that no line traps.
+use Rattle.std.specs.Prelude.{◌≡◌, ℕ, ◌+◌, ◌^◌, ◌<◌, ◌≤◌, Bool, true, false, not, ◌&&◌, map, Some, None, nat_eq, nat_lt, nat_le, if◌then◌else◌, refl}
+use Rattle.std.proofs.Common.{arith}
 use Rattle.std.proofs.lemmas.Grind.{common_steps}
-use Rattle.std.proofs.lemmas.List.{get_or_append_left}
-use Rattle.std.proofs.lemmas.List.FromFn.{get_or-map-range_with_len, length-map-range_with_len}
+use Rattle.snap_words.specs.Shape.{IsOneOf}
+use Rattle.snap_words.specs.declared.kind.KindTag.TheVariants as kind
+use Rattle.snap_semantics.specs.Table.{places_to, all_true, first_true, call_skip}
 use Rattle.snap_semantics.specs.declared.process.Op.{Op}
 use Rattle.snap_semantics.specs.declared.process.Op.TheVariants.{Scan, Update}
 use Rattle.snap_semantics.specs.declared.process.Reason.{Reason}
 use Rattle.snap_semantics.specs.declared.process.Reason.TheVariants.{NoSuchWord, NotOwner}
-use Rattle.snap_words.specs.Word.{Word}
-use Rattle.std.specs.List.{range_with_len}
-use Rattle.snap_semantics.specs.Table.{places_to, all_true, first_true, call_skip}
-use Rattle.snap_single.specs.Promises.{square}
-use Rattle.snap_runs.proofs.Algorithm.{Idle, At, To, Begin, Answer, Finish, SameOp}
+use Rattle.snap_runs.proofs.Algorithm.{Task, Scanning, Embedded, Updating, task_of, op_of, Idle, At, To, Begin, Answer, Finish, SameOp}
+use Rattle.snap_runs.proofs.Computing.{lt_from, same_from, either, whether}
 use Rattle.snap_runs.proofs.Embedding as embed
-use Rattle.snap_words.specs.Shape.{IsOneOf}
-use Rattle.snap_single.proofs.Algorithm.{Control, Move, Variables, Task, Scanning, Embedded, Updating, ProgramCounter, L10, L11, L12, L13, L14, L15, L16, L17, L18, L19, L21, L22, L23, L24, L30, L31, L32, L33, op_of, move, first_to, same_seq, moved_at, for_each, Needs, IsLineOf, IsScan, algorithm, task, counter}
-use Rattle.snap_single.proofs.Lines.{lines}
+use Rattle.snap_runs.proofs.Places.{for_each_at, first_found, first_none}
+use Rattle.snap_single.specs.Promises.{square}
+use Rattle.snap_single.proofs.Algorithm.{Words, Move, Control, Variables, ProgramCounter, L10, L11, L12, L13, L14, L15, L16, L17, L18, L19, L21, L22, L23, L24, L30, L31, L32, L33, agree, limit, moved_at, counted, at_limit, move, first_to, counter, algorithm, IsLineOf}
+use Rattle.snap_single.proofs.Lines.{Needs, each_line}
 
-abbrev pub Small : ℕ → ℕ → Variables → Type 0
-Small n most p = (k : ℕ) → IsOneOf n k → moved_at p k ≤ most
+-- no process has been seen to move up to the limit, or none beyond it
+abbrev pub BelowLimit : ℕ → Variables → Type 0
+BelowLimit n p = (k : ℕ) → IsOneOf n k → moved_at p k < limit
 
-abbrev pub Keeps : ℕ → Variables → ProgramCounter → Type 0
-Keeps n p L10 = Unit {0}
-Keeps n p L11 = Small n 1 p
-Keeps n p L12 = IsOneOf n p.j × Small n 1 p
-Keeps n p L13 = IsOneOf n p.j × Small n 1 p
-Keeps n p L14 = IsOneOf n p.j × Small n 1 p
-Keeps n p L15 = IsOneOf n p.j × Small n 1 p
-Keeps n p L16 = (p.j ≡ 1) × Small n 1 p
-Keeps n p L17 = (p.j ≡ 1) × Small n 1 p
-Keeps n p L18 = (p.j ≡ 1) × Small n 2 p
-Keeps n p L19 = (p.j ≡ 1) × Small n 1 p
-Keeps n p L23 = IsOneOf n p.j
-Keeps n p _ = Unit {0}
+abbrev pub WithinLimit : ℕ → Variables → Type 0
+WithinLimit n p = (k : ℕ) → IsOneOf n k → moved_at p k ≤ limit
 
+-- At each line j is a place and the moves are within the limit, where the line asks for it.
+abbrev pub VariablesAt : ℕ → Variables → ProgramCounter → Type 0
+VariablesAt n p L11 = BelowLimit n p
+VariablesAt n p L12 = IsOneOf n p.j × BelowLimit n p
+VariablesAt n p L13 = IsOneOf n p.j × BelowLimit n p
+VariablesAt n p L14 = IsOneOf n p.j × BelowLimit n p
+VariablesAt n p L15 = IsOneOf n p.j × BelowLimit n p
+VariablesAt n p L16 = (p.j ≡ 1) × BelowLimit n p
+VariablesAt n p L17 = (p.j ≡ 1) × BelowLimit n p
+VariablesAt n p L18 = (p.j ≡ 1) × WithinLimit n p
+VariablesAt n p L19 = (p.j ≡ 1) × BelowLimit n p
+VariablesAt n p L23 = IsOneOf n p.j
+VariablesAt n p _ = Unit {0}
+
+-- What a line leaves is at a line of its task, with the variables that it asks for, and has kept the operation.
 abbrev pub MoveWell : Op → ℕ → ℕ → Move → Type 0
-MoveWell op n me (To d m p k) = IsLineOf me d k × Keeps n p k × (op_of d ≡ op)
-MoveWell op n me (Begin d p k) = IsLineOf me d k × Keeps n p k × (op_of d ≡ op)
+MoveWell op n me (To d m p k) = IsLineOf me d k × VariablesAt n p k × (op_of d ≡ op)
+MoveWell op n me (Begin d p k) = IsLineOf me d k × VariablesAt n p k × (op_of d ≡ op)
 MoveWell op n me (Answer v) = Unit {0}
 MoveWell op n me Finish = Unit {0}
 
--- a choice keeps what both sides keep
-pub well_if : (op : Op) (n me : ℕ) (b : Bool) (x y : Move) → (b ≡ true → MoveWell op n me x) → (b ≡ false → MoveWell op n me y) → MoveWell op n me (if b then x else y)
-well_if op n me true x y f g = f refl
-well_if op n me false x y f g = g refl
+within : (b : Bool) (x most : ℕ) → x < most → (if not b then x + 1 else x) ≤ most
+within true x most h = omega arith
+within false x most h = omega arith
 
-pub lt_from : (x y : ℕ) → nat_lt x y ≡ true → x < y
-lt_from x y h = grind (arith, common_steps)
+below : (x most : ℕ) → x ≤ most → nat_eq x most ≡ false → x < most
+below x most h e = grind (arith, common_steps)
 
-pub for_each_at : (n : ℕ) (f : ℕ → ℕ) (old : List ℕ) (k : ℕ) → IsOneOf n k → slice_index (for_each n f old) (k - 1) ≡ f k
-for_each_at n f old k h =
-    get_or_append_left (map f (places_to n)) (drop n old) 0 (k - 1) (omega (arith, length-map-range_with_len f 1 n))
-    ∙ get_or-map-range_with_len f 1 n (k - 1) k 0 (omega arith) (omega arith)
-
-pub not_lt : (x y : ℕ) → nat_lt x y ≡ false → y ≤ x
-not_lt x y h = grind (arith, common_steps)
-
-pub same_from : (x y : ℕ) → nat_eq x y ≡ true → x ≡ y
-same_from x y h = grind (arith, common_steps)
-
-pub first_found : (from count : ℕ) (f : ℕ → Bool) (k : ℕ) → first_true from (map f (range_with_len from count)) ≡ Some k → (from ≤ k) × (k < from + count) × (f k ≡ true)
-first_found from zero f k h = absurd (cc)
-first_found from (suc count) f k h =
-    elim (f from) as (λ b. f from ≡ b → (if b then Some from else first_true (from + 1) (map f (range_with_len (from + 1) count))) ≡ Some k → (from ≤ k) × (k < from + suc count) × (f k ≡ true)) [
-      | true ↦ λ is e. let same : from ≡ k = cc in (omega arith, omega arith, ap f (sym same) ∙ is)
-      | false ↦ λ is e. let r = first_found (from + 1) count f k e in (omega arith, omega arith, r.2)
-    ] refl h
-
-pub first_none : (from count : ℕ) (f : ℕ → Bool) → first_true from (map f (range_with_len from count)) ≡ None → (k : ℕ) → from ≤ k → k < from + count → f k ≡ false
-first_none from zero f h k low high = absurd (omega arith)
-first_none from (suc count) f h k low high =
-    elim (f from) as (λ b. f from ≡ b → (if b then Some from else first_true (from + 1) (map f (range_with_len (from + 1) count))) ≡ None → f k ≡ false) [
-      | true ↦ λ is e. absurd (cc)
-      | false ↦ λ is e. elim (eq-or-lt_of_le low) [
-        | inl same ↦ ap f (sym same) ∙ is
-        | inr more ↦ first_none (from + 1) count f e k (omega arith) (omega arith)
-      ]
-    ] refl h
-
-pub bump : (b : Bool) (x : ℕ) → x ≤ 1 → (if not b then x + 1 else x) ≤ 2
-bump true x h = omega arith
-bump false x h = omega arith
-
-pub less_two : (x : ℕ) → x ≤ 2 → nat_eq x 2 ≡ false → x ≤ 1
-less_two x h e = grind (arith, common_steps)
-
-pub first_well : (n me : ℕ) (d : Task) (m : List Word) (p : Variables) (o : Option ℕ) → IsScan me d → p.j ≡ 1 →
-    ((k : ℕ) → o ≡ Some k → IsOneOf n k) → (o ≡ None → Small n 1 p) → MoveWell (op_of d) n me (first_to d m p o)
-first_well n me d m p None s j f g = (s, (j, g refl), refl)
-first_well n me d m p (Some k) s j f g = (s, f k refl, refl)
-
-pub move_well : (n me : ℕ) (d : Task) (m : List Word) (p : Variables) (k : ProgramCounter) → IsOneOf n me → IsLineOf me d k → Keeps n p k → MoveWell (op_of d) n me (move n me d m p k)
+pub move_well : (n me : ℕ) (d : Task) (m : Words) (p : Variables) (k : ProgramCounter) → IsOneOf n me → IsLineOf me d k → VariablesAt n p k →
+    MoveWell (op_of d) n me (move n me d m p k)
 move_well n me d m p L10 i s h = (s, λ k e. rw (for_each_at n (λ k. 0) p.moved k e) (omega arith), refl)
 move_well n me d m p L11 i s h = (s, ((omega arith, omega arith), h), refl)
 move_well n me d m p L12 i s h = (s, h, refl)
 move_well n me d m p L13 i s h =
-    well_if _ _ _ (nat_lt p.j n) _ _ (λ b. let j : p.j < n = lt_from p.j n b in (s, ((omega arith, omega arith), h.1), refl)) (λ b. (s, ((omega arith, omega arith), h.1), refl))
+    either (MoveWell (op_of d) n me) (nat_lt p.j n) _ _ (λ b. let j : p.j < n = lt_from p.j n b in (s, ((omega arith, omega arith), h.1), refl))
+    (λ b. (s, ((omega arith, omega arith), h.1), refl))
 move_well n me d m p L14 i s h = (s, h, refl)
 move_well n me d m p L15 i s h =
-    well_if _ _ _ (nat_lt p.j n) _ _ (λ b. let j : p.j < n = lt_from p.j n b in (s, ((omega arith, omega arith), h.1), refl)) (λ b. (s, (refl, h.1), refl))
+    either (MoveWell (op_of d) n me) (nat_lt p.j n) _ _ (λ b. let j : p.j < n = lt_from p.j n b in (s, ((omega arith, omega arith), h.1), refl))
+    (λ b. (s, (refl, h.1), refl))
 move_well n me d m p L16 i s h =
-    well_if _ _ _ (all_true (map (same_seq p) (places_to n))) _ _ (λ b. (s, tt, refl)) (λ b. (s, h, refl))
-move_well n me d m p L17 i s h = (s, (h.0, λ k e. rw (for_each_at n (λ k. if not (same_seq p k) then moved_at p k + 1 else moved_at p k) p.moved k e) (bump (same_seq p k) (moved_at p k) (h.1 k e))), refl)
+    either (MoveWell (op_of d) n me) (all_true (map (agree p) (places_to n))) _ _ (λ b. (s, tt, refl)) (λ b. (s, h, refl))
+move_well n me d m p L17 i s h =
+    (s, (h.0, λ k e. rw (for_each_at n (counted p) p.moved k e) (within (agree p k) (moved_at p k) limit (h.1 k e))), refl)
 move_well n me d m p L18 i s h =
-    first_well n me d m p (first_true 1 (map (λ k. nat_eq (moved_at p k) 2) (places_to n))) s h.0
-    (λ k e. let r = first_found 1 n (λ k. nat_eq (moved_at p k) 2) k e in (omega arith, omega arith))
-    (λ e k o. less_two (moved_at p k) (h.1 k o) (first_none 1 n (λ k. nat_eq (moved_at p k) 2) e k (omega arith) (omega arith)))
+    whether (MoveWell (op_of d) n me) (first_to d m p) (first_true 1 (map (at_limit p) (places_to n)))
+    (λ e. (s, (h.0, λ k o. below (moved_at p k) limit (h.1 k o) (first_none 1 n (at_limit p) e k (omega arith) (omega arith))), refl))
+    (λ k e. let r = first_found 1 n (at_limit p) k e in (s, (omega arith, omega arith), refl))
 move_well n me d m p L19 i s h = (s, ((omega arith, omega arith), h.1), refl)
 move_well n me d m p L21 i s h = (s, tt, refl)
 move_well n me Scanning m p L22 i s h = tt
-move_well n me (Embedded w x) m p L22 i s h = (s, tt, refl)
-move_well n me (Updating w x) m p L22 i s h = absurd s
+move_well n me (Embedded word value) m p L22 i s h = (s, tt, refl)
+move_well n me (Updating word value) m p L22 i s h = absurd s
 move_well n me d m p L23 i s h = (s, tt, refl)
 move_well n me Scanning m p L24 i s h = tt
-move_well n me (Embedded w x) m p L24 i s h = (s, tt, refl)
-move_well n me (Updating w x) m p L24 i s h = absurd s
+move_well n me (Embedded word value) m p L24 i s h = (s, tt, refl)
+move_well n me (Updating word value) m p L24 i s h = absurd s
 move_well n me Scanning m p L30 i s h = absurd s
-move_well n me (Embedded w x) m p L30 i s h = absurd s
-move_well n me (Updating w x) m p L30 i s h = (s, tt, refl)
+move_well n me (Embedded word value) m p L30 i s h = absurd s
+move_well n me (Updating word value) m p L30 i s h = (s, tt, refl)
 move_well n me d m p L31 i s h = (s, tt, refl)
 move_well n me d m p L32 i s h = (s, tt, refl)
 move_well n me d m p L33 i s h = tt
 
--- what a line needs is kept
-pub needs : (n time me : ℕ) (d : Task) (p : Variables) (k : ProgramCounter) → IsOneOf n me → p.c ≤ time → time < 2 ^ 60 → IsLineOf me d k → Keeps n p k → Needs n me p k
-needs n time me d p L12 i c b s h = h.0
-needs n time me d p L14 i c b s h = h.0
-needs n time me d p L17 i c b s h = h.1
-needs n time me d p L23 i c b s h = h
-needs n time me d p L31 i c b s h = omega arith
-needs n time me d p L32 i c b s h = i
-needs n time me d p L10 i c b s h = tt
-needs n time me d p L11 i c b s h = tt
-needs n time me d p L13 i c b s h = tt
-needs n time me d p L15 i c b s h = tt
-needs n time me d p L16 i c b s h = tt
-needs n time me d p L18 i c b s h = tt
-needs n time me d p L19 i c b s h = tt
-needs n time me d p L21 i c b s h = tt
-needs n time me d p L22 i c b s h = tt
-needs n time me d p L24 i c b s h = tt
-needs n time me d p L30 i c b s h = tt
-needs n time me d p L33 i c b s h = tt
+-- what a line needs is kept; the number that line 31 raises is at most the number of items
+needs : (n time me : ℕ) (p : Variables) (k : ProgramCounter) → IsOneOf n me → p.c ≤ time → time < 2 ^ 60 → VariablesAt n p k → Needs n me p k
+needs n time me p L10 i c b h = tt
+needs n time me p L11 i c b h = tt
+needs n time me p L12 i c b h = h.0
+needs n time me p L13 i c b h = tt
+needs n time me p L14 i c b h = h.0
+needs n time me p L15 i c b h = tt
+needs n time me p L16 i c b h = tt
+needs n time me p L17 i c b h = h.1
+needs n time me p L18 i c b h = tt
+needs n time me p L19 i c b h = tt
+needs n time me p L21 i c b h = tt
+needs n time me p L22 i c b h = tt
+needs n time me p L23 i c b h = h
+needs n time me p L24 i c b h = tt
+needs n time me p L30 i c b h = tt
+needs n time me p L31 i c b h = omega arith
+needs n time me p L32 i c b h = i
+needs n time me p L33 i c b h = tt
 
 -- an update that is not skipped is of the caller's own word
-pub own_then : (x y : Bool) (s t : Reason) → (if x then (if y then None else Some t) else Some s) ≡ None → y ≡ true
+own_then : (x y : Bool) (s t : Reason) → (if x then (if y then None else Some t) else Some s) ≡ None → y ≡ true
 own_then true true s t h = refl
 own_then true false s t h = absurd (cc)
 own_then false y s t h = absurd (cc)
 
-pub allowed_own : (n i word arg : ℕ) → call_skip kind.Seq (square n) i (Update word arg) ≡ None → word ≡ i
-allowed_own n i word arg h = same_from word i (own_then (nat_lt 0 word && nat_le word n) (nat_eq word i) NoSuchWord NotOwner h)
+own_word : (n i word value : ℕ) → call_skip kind.Seq (square n) i (Update word value) ≡ None → word ≡ i
+own_word n i word value h = same_from word i (own_then (nat_lt 0 word && nat_le word n) (nat_eq word i) NoSuchWord NotOwner h)
 
+-- A busy process is at a line of its task, with the variables that the line asks for.
 abbrev pub ControlWell : ℕ → ℕ → Variables → Control → Type 0
 ControlWell n me p Idle = Unit {0}
-ControlWell n me p (At d k) = IsLineOf me d k × Keeps n p k
+ControlWell n me p (At d k) = IsLineOf me d k × VariablesAt n p k
 
-pub called_well : (n me : ℕ) (p : Variables) (op : Op) → call_skip kind.Seq (square n) me op ≡ None → ControlWell n me p (At (task op) (counter op))
+pub called_well : (n me : ℕ) (p : Variables) (op : Op) → call_skip kind.Seq (square n) me op ≡ None →
+    ControlWell n me p (At (task_of op) (counter op))
 called_well n me p Scan e = (tt, tt)
-called_well n me p (Update word arg) e = (allowed_own n me word arg e, tt)
+called_well n me p (Update word value) e = (own_word n me word value e, tt)
 
-pub same_op : (n me : ℕ) (d : Task) (v : Move) → MoveWell (op_of d) n me v → SameOp (algorithm n) d v
+same_op : (n me : ℕ) (d : Task) (v : Move) → MoveWell (op_of d) n me v → SameOp (algorithm n) d v
 same_op n me d (To d' m p k) h = h.2
 same_op n me d (Begin d' p k) h = h.2
 same_op n me d (Answer v) h = tt
 same_op n me d Finish h = tt
 
 -- no line traps: each does its move
-pub does : (n time me : ℕ) (m : List Word) (p : Variables) (control : Control) → IsOneOf n me → p.c ≤ time → time < 2 ^ 60 → ControlWell n me p control →
+pub does : (n time me : ℕ) (m : Words) (p : Variables) (control : Control) → IsOneOf n me → p.c ≤ time → time < 2 ^ 60 → ControlWell n me p control →
     embed.Does (algorithm n) me m p control
 does n time me m p Idle i c b h = tt
 does n time me m p (At d k) i c b h =
-    (lines n me d m p k h.0 (needs n time me d p k i c b h.0 h.1), same_op n me d (move n me d m p k) (move_well n me d m p k i h.0 h.1))
+    (each_line n me d m p k h.0 (needs n time me p k i c b h.1), same_op n me d (move n me d m p k) (move_well n me d m p k i h.0 h.1))

@@ -1,55 +1,15 @@
 -- The double collects and own steps of a scan of U.
-use Rattle.std.specs.Prelude.{◌≡◌, ℕ, zero, suc, ◌+◌, ◌-◌, ◌*◌, ◌<◌, ◌≤◌, Bool, true, false, not, ◌&&◌, map, Option, Some, None, nat_eq, nat_lt, if◌then◌else◌, refl}
-use Rattle.std.proofs.Common.{sym, ◌∙◌, ap, subst, arith, inl, inr}
-use Rattle.std.proofs.lemmas.Bool.{cases_eq}
+use Rattle.std.specs.Prelude.{◌≡◌, ℕ, zero, suc, ◌+◌, ◌-◌, ◌*◌, ◌<◌, ◌≤◌, Bool, true, false, not, map, nat_lt, if◌then◌else◌, refl}
+use Rattle.std.proofs.Common.{sym, ap, subst, arith}
 use Rattle.std.proofs.Math.Nat.{mul-add, mul_left_comm}
-use Rattle.std.specs.List.{range_with_len}
 use Rattle.snap_semantics.specs.Table.{places_to, all_true, first_true}
-use Rattle.snap_runs.proofs.Algorithm.{To, Begin, Answer, Finish}
+use Rattle.snap_runs.proofs.Algorithm.{Task, Scanning, Embedded, Updating, To, Begin, Answer, Finish}
+use Rattle.snap_runs.proofs.Computing.{not_lt, either, whether}
+use Rattle.snap_runs.proofs.Places.{for_each, for_each_at, some_fails}
+use Rattle.snap_runs.proofs.Totals.{total, total_le, total_less, total_more}
 use Rattle.snap_words.specs.Shape.{IsOneOf}
-use Rattle.snap_single.proofs.Algorithm.{Words, restarts, Move, Variables, Task, Scanning, Embedded, Updating, ProgramCounter, L10, L11, L12, L13, L14, L15, L16, L17, L18, L19, L21, L22, L23, L24, L30, L31, L32, L33, move, first_to, same_seq, moved_at, for_each, tests}
-use Rattle.snap_single.proofs.Control.{Keeps, for_each_at, not_lt}
-
--- sums over places 1..n
-pub total : (ℕ → ℕ) → ℕ → ℕ
-total f zero = 0
-total f (suc n) = total f n + f (suc n)
-
-pub total_le : (f : ℕ → ℕ) (n : ℕ) → ((k : ℕ) → IsOneOf n k → f k ≤ 1) → total f n ≤ n
-unfolding total
-total_le f zero h = omega arith
-total_le f (suc n) h =
-    let rest : total f n ≤ n = total_le f n (λ k i. h k (i.0, omega arith)) in
-    let last : f (suc n) ≤ 1 = h (suc n) (omega arith, omega arith) in omega arith
-
-pub total_less : (f : ℕ → ℕ) (n i : ℕ) → IsOneOf n i → f i ≡ 0 → ((k : ℕ) → IsOneOf n k → f k ≤ 1) → total f n < n
-unfolding total
-total_less f zero i one z h = absurd (omega arith)
-total_less f (suc n) i one z h =
-    elim (cases_eq i (suc n)) [
-      | inl same ↦ (let rest : total f n ≤ n = total_le f n (λ k e. h k (e.0, omega arith)) in
-          let last : f (suc n) ≡ 0 = ap f (sym same) ∙ z in omega arith)
-      | inr other ↦ (let rest : total f n < n = total_less f n i (one.0, omega arith) z (λ k e. h k (e.0, omega arith)) in
-          let last : f (suc n) ≤ 1 = h (suc n) (omega arith, omega arith) in omega arith)
-    ]
-
-pub total_mono : (f g : ℕ → ℕ) (n : ℕ) → ((k : ℕ) → IsOneOf n k → f k ≤ g k) → total f n ≤ total g n
-unfolding total
-total_mono f g zero h = omega arith
-total_mono f g (suc n) h =
-    let rest : total f n ≤ total g n = total_mono f g n (λ k i. h k (i.0, omega arith)) in
-    let last : f (suc n) ≤ g (suc n) = h (suc n) (omega arith, omega arith) in omega arith
-
-pub total_more : (f g : ℕ → ℕ) (n i : ℕ) → IsOneOf n i → f i < g i → ((k : ℕ) → IsOneOf n k → f k ≤ g k) → total f n < total g n
-unfolding total
-total_more f g zero i one lt h = absurd (omega arith)
-total_more f g (suc n) i one lt h =
-    elim (cases_eq i (suc n)) [
-      | inl same ↦ (let rest : total f n ≤ total g n = total_mono f g n (λ k e. h k (e.0, omega arith)) in
-          let last : f (suc n) < g (suc n) = subst (λ x. f x < g x) same lt in omega arith)
-      | inr other ↦ (let rest : total f n < total g n = total_more f g n i (one.0, omega arith) lt (λ k e. h k (e.0, omega arith)) in
-          let last : f (suc n) ≤ g (suc n) = h (suc n) (omega arith, omega arith) in omega arith)
-    ]
+use Rattle.snap_single.proofs.Algorithm.{Words, Move, Variables, ProgramCounter, L10, L11, L12, L13, L14, L15, L16, L17, L18, L19, L21, L22, L23, L24, L30, L31, L32, L33, move, first_to, agree, limit, moved_at, counted, at_limit, tests, restarts}
+use Rattle.snap_single.proofs.Control.{BelowLimit, VariablesAt}
 
 -- the own steps of c failed double collects
 pub budget : ℕ → ℕ → ℕ
@@ -93,26 +53,41 @@ budget_le n c h =
     let e : budget n (c + (n - c)) ≡ budget n n = ap (budget n) (let f : c + (n - c) ≡ n = omega arith in f) in
     let b : budget n n ≡ 4 * (n * n) + 4 * n + 2 = budget_all n in omega arith
 
+-- the moves that a scan has counted
 abbrev pub moves : ℕ → Variables → ℕ
 moves n p = total (moved_at p) n
+
+moves_le : (n : ℕ) (p : Variables) → BelowLimit n p → moves n p ≤ n
+moves_le n p below =
+    let all : moves n p ≤ n * 1 = total_le 1 (moved_at p) n (λ k i. let less : moved_at p k < limit = below k i in omega arith) in omega arith
+
+-- they are fewer where one process has not been seen to move
+pub moves_less : (n i : ℕ) (p : Variables) → IsOneOf n i → moved_at p i ≡ 0 → BelowLimit n p → moves n p < n
+moves_less n i p one zeroed below =
+    let all : moves n p + 1 ≤ n * 1 = total_less 1 (moved_at p) n i one zeroed (λ k e. let less : moved_at p k < limit = below k e in omega arith) in omega arith
 
 -- Where a scan stands at a line, with this many own steps and ended double collects since its start, and `recent` ended
 -- double collects since its current one was started.
 abbrev pub Count : ℕ → Variables → ℕ → ℕ → ℕ → ProgramCounter → Type 0
+-- none yet
 Count n p own c recent L10 = (own ≡ 0) × (c ≡ 0) × (recent ≡ 0)
 Count n p own c recent L11 = (own ≤ 1) × (c ≡ 0) × (recent ≡ 0)
+-- every failed double collect has raised a move; the steps since the last one are two for each place that a collect has done
 Count n p own c recent L12 = (own + 2 ≤ budget n c + 2 * p.j) × (c ≤ moves n p) × (recent ≡ 0)
 Count n p own c recent L13 = (own + 1 ≤ budget n c + 2 * p.j) × (c ≤ moves n p) × (recent ≡ 0)
 Count n p own c recent L14 = (own + 2 ≤ budget n c + 2 * n + 2 * p.j) × (c ≤ moves n p) × (recent ≡ 0)
 Count n p own c recent L15 = (own + 1 ≤ budget n c + 2 * n + 2 * p.j) × (c ≤ moves n p) × (recent ≡ 0)
 Count n p own c recent L16 = (own ≤ budget n c + 4 * n) × (c ≤ moves n p) × (recent ≡ 0)
-Count n p own c recent L17 = (own + 3 ≤ budget n c) × (c ≤ moves n p + 1) × (c ≤ n) × (recent ≤ 1) × (all_true (map (same_seq p) (places_to n)) ≡ false)
+-- one more has failed: it is within the bound, since a process does not see itself move; its moves are to be counted
+Count n p own c recent L17 = (own + 3 ≤ budget n c) × (c ≤ moves n p + 1) × (c ≤ n) × (recent ≤ 1) × (all_true (map (agree p) (places_to n)) ≡ false)
+-- its moves are counted; then as before, or the scan ends
 Count n p own c recent L18 = (own + 2 ≤ budget n c) × (c ≤ moves n p) × (c ≤ n)
 Count n p own c recent L19 = (own + 1 ≤ budget n c) × (c ≤ moves n p)
 Count n p own c recent L21 = (own + 3 ≤ budget n c) × (c ≤ n)
 Count n p own c recent L22 = (own + 2 ≤ budget n c) × (c ≤ n)
 Count n p own c recent L23 = (own + 1 ≤ budget n c) × (c ≤ n)
 Count n p own c recent L24 = (own ≤ budget n c) × (c ≤ n)
+-- an update outside its scan
 Count n p own c recent L30 = Unit {0}
 Count n p own c recent L31 = Unit {0}
 Count n p own c recent L32 = Unit {0}
@@ -124,23 +99,6 @@ CountMove n own c recent (Begin d p k) = Unit {0}
 CountMove n own c recent (Answer v) = Unit {0}
 CountMove n own c recent Finish = Unit {0}
 
-count_if : (n own c recent : ℕ) (b : Bool) (x y : Move) → (b ≡ true → CountMove n own c recent x) → (b ≡ false → CountMove n own c recent y) → CountMove n own c recent (if b then x else y)
-count_if n own c recent true x y f g = f refl
-count_if n own c recent false x y f g = g refl
-
-count_first : (n own c recent : ℕ) (d : Task) (words : Words) (p : Variables) (o : Option ℕ) → own + 1 ≤ budget n c → c ≤ moves n p → c ≤ n → CountMove n own c recent (first_to d words p o)
-count_first n own c recent d words p None a b e = (a, b)
-count_first n own c recent d words p (Some k) a b e = (a, e)
-
--- a test that fails at some place
-not_all : (f : ℕ → Bool) (from count : ℕ) → all_true (map f (range_with_len from count)) ≡ false → (k : ℕ) × (from ≤ k) × (k < from + count) × (f k ≡ false)
-not_all f from zero h = absurd (cc)
-not_all f from (suc count) h =
-    elim (f from) as (λ b. f from ≡ b → (b && all_true (map f (range_with_len (from + 1) count))) ≡ false → (k : ℕ) × (from ≤ k) × (k < from + suc count) × (f k ≡ false)) [
-      | true ↦ λ is e. let r = not_all f (from + 1) count e in (r.0, omega arith, omega arith, r.3)
-      | false ↦ λ is e. (from, omega arith, omega arith, is)
-    ] refl h
-
 raised : (b : Bool) (v : ℕ) → v ≤ (if not b then v + 1 else v)
 raised true v = omega arith
 raised false v = omega arith
@@ -149,42 +107,42 @@ raised_more : (b : Bool) (v : ℕ) → b ≡ false → v < (if not b then v + 1 
 raised_more true v h = absurd (cc)
 raised_more false v h = omega arith
 
-abbrev pub counted : Variables → ℕ → ℕ
-counted p k = if not (same_seq p k) then moved_at p k + 1 else moved_at p k
-
 abbrev pub counted_row : ℕ → Variables → Variables
 counted_row n p = record p { moved = for_each n (counted p) p.moved }
 
-after_count : (n : ℕ) (p : Variables) → all_true (map (same_seq p) (places_to n)) ≡ false → (p' : Variables) → ((k : ℕ) → IsOneOf n k → moved_at p' k ≡ counted p k) → moves n p < moves n p'
+after_count : (n : ℕ) (p : Variables) → all_true (map (agree p) (places_to n)) ≡ false → (p' : Variables) →
+    ((k : ℕ) → IsOneOf n k → moved_at p' k ≡ counted p k) → moves n p < moves n p'
 after_count n p failed p' is =
-    let some = not_all (same_seq p) 1 n failed in
+    let some = some_fails (agree p) 1 n failed in
     let k = some.0 in
     let i : IsOneOf n k = (omega arith, omega arith) in
     total_more (moved_at p) (moved_at p') n k i
-    (subst (λ y. moved_at p k < y) (sym (is k i)) (raised_more (same_seq p k) (moved_at p k) some.3))
-    (λ u j. subst (λ y. moved_at p u ≤ y) (sym (is u j)) (raised (same_seq p u) (moved_at p u)))
+    (subst (λ y. moved_at p k < y) (sym (is k i)) (raised_more (agree p k) (moved_at p k) some.3))
+    (λ u j. subst (λ y. moved_at p u ≤ y) (sym (is u j)) (raised (agree p u) (moved_at p u)))
 
 -- each line keeps the counts: c' and recent' are the double collects with its own
 pub count_move : (n me : ℕ) (d : Task) (words : Words) (p : Variables) (k : ProgramCounter) (own c c' recent recent' : ℕ) → c' ≡ c + tests k →
-    recent' ≡ (if restarts k then 0 else recent + tests k) → Keeps n p k → ((k ≡ L16) → moves n p < n) →
+    recent' ≡ (if restarts k then 0 else recent + tests k) → VariablesAt n p k → ((k ≡ L16) → moves n p < n) →
     Count n p own c recent k → CountMove n (suc own) c' recent' (move n me d words p k)
 count_move n me d words p L10 own c c' recent recent' e f keeps sharp h = (omega arith, omega arith, omega arith)
 count_move n me d words p L11 own c c' recent recent' e f keeps sharp h =
     let b : budget n c' ≡ budget n 0 = ap (budget n) (let f : c' ≡ 0 = omega arith in f) in
     let two : budget n 0 ≡ 2 = budget_zero n in
     (omega arith, omega arith, omega arith)
-count_move n me d words p L12 own c c' recent recent' e f keeps sharp h = let b : budget n c' ≡ budget n c = same_budget n c c' e in (omega arith, omega arith, omega arith)
+count_move n me d words p L12 own c c' recent recent' e f keeps sharp h =
+    let b : budget n c' ≡ budget n c = same_budget n c c' e in (omega arith, omega arith, omega arith)
 count_move n me d words p L13 own c c' recent recent' e f keeps sharp h =
     let b : budget n c' ≡ budget n c = same_budget n c c' e in
-    count_if n (suc own) c' recent' (nat_lt p.j n) _ _ (λ t. (omega arith, omega arith, omega arith)) (λ t. let ge : n ≤ p.j = not_lt p.j n t in (omega arith, omega arith, omega arith))
-count_move n me d words p L14 own c c' recent recent' e f keeps sharp h = let b : budget n c' ≡ budget n c = same_budget n c c' e in (omega arith, omega arith, omega arith)
+    either (CountMove n (suc own) c' recent') (nat_lt p.j n) _ _ (λ t. (omega arith, omega arith, omega arith)) (λ t. let ge : n ≤ p.j = not_lt p.j n t in (omega arith, omega arith, omega arith))
+count_move n me d words p L14 own c c' recent recent' e f keeps sharp h =
+    let b : budget n c' ≡ budget n c = same_budget n c c' e in (omega arith, omega arith, omega arith)
 count_move n me d words p L15 own c c' recent recent' e f keeps sharp h =
     let b : budget n c' ≡ budget n c = same_budget n c c' e in
-    count_if n (suc own) c' recent' (nat_lt p.j n) _ _ (λ t. (omega arith, omega arith, omega arith)) (λ t. let ge : n ≤ p.j = not_lt p.j n t in (omega arith, omega arith, omega arith))
+    either (CountMove n (suc own) c' recent') (nat_lt p.j n) _ _ (λ t. (omega arith, omega arith, omega arith)) (λ t. let ge : n ≤ p.j = not_lt p.j n t in (omega arith, omega arith, omega arith))
 count_move n me d words p L16 own c c' recent recent' e f keeps sharp h =
     let b : budget n c' ≡ budget n c + (4 * n + 4) = next_budget n c c' e in
     let less : moves n p < n = sharp refl in
-    count_if n (suc own) c' recent' (all_true (map (same_seq p) (places_to n))) _ _ (λ t. (omega arith, omega arith))
+    either (CountMove n (suc own) c' recent') (all_true (map (agree p) (places_to n))) _ _ (λ t. (omega arith, omega arith))
     (λ t. (omega arith, omega arith, omega arith, omega arith, t))
 count_move n me d words p L17 own c c' recent recent' e f keeps sharp h =
     let b : budget n c' ≡ budget n c = same_budget n c c' e in
@@ -192,13 +150,16 @@ count_move n me d words p L17 own c c' recent recent' e f keeps sharp h =
     (omega arith, omega arith, omega arith)
 count_move n me d words p L18 own c c' recent recent' e f keeps sharp h =
     let b : budget n c' ≡ budget n c = same_budget n c c' e in
-    count_first n (suc own) c' recent' d words p (first_true 1 (map (λ k. nat_eq (moved_at p k) 2) (places_to n))) (omega arith) (omega arith) (omega arith)
-count_move n me d words p L19 own c c' recent recent' e f keeps sharp h = let b : budget n c' ≡ budget n c = same_budget n c c' e in (omega arith, omega arith, omega arith)
-count_move n me d words p L21 own c c' recent recent' e f keeps sharp h = let b : budget n c' ≡ budget n c = same_budget n c c' e in (omega arith, omega arith)
+    whether (CountMove n (suc own) c' recent') (first_to d words p) (first_true 1 (map (at_limit p) (places_to n))) (λ none. (omega arith, omega arith)) (λ k found. (omega arith, omega arith))
+count_move n me d words p L19 own c c' recent recent' e f keeps sharp h =
+    let b : budget n c' ≡ budget n c = same_budget n c c' e in (omega arith, omega arith, omega arith)
+count_move n me d words p L21 own c c' recent recent' e f keeps sharp h =
+    let b : budget n c' ≡ budget n c = same_budget n c c' e in (omega arith, omega arith)
 count_move n me Scanning words p L22 own c c' recent recent' e f keeps sharp h = tt
 count_move n me (Embedded w x) words p L22 own c c' recent recent' e f keeps sharp h = tt
 count_move n me (Updating w x) words p L22 own c c' recent recent' e f keeps sharp h = tt
-count_move n me d words p L23 own c c' recent recent' e f keeps sharp h = let b : budget n c' ≡ budget n c = same_budget n c c' e in (omega arith, omega arith)
+count_move n me d words p L23 own c c' recent recent' e f keeps sharp h =
+    let b : budget n c' ≡ budget n c = same_budget n c c' e in (omega arith, omega arith)
 count_move n me Scanning words p L24 own c c' recent recent' e f keeps sharp h = tt
 count_move n me (Embedded w x) words p L24 own c c' recent recent' e f keeps sharp h = tt
 count_move n me (Updating w x) words p L24 own c c' recent recent' e f keeps sharp h = tt
@@ -217,17 +178,18 @@ InScanLine L33 = ⊥
 InScanLine _ = Unit {0}
 
 -- the bounds at each line of a scan
-pub collects_le : (n : ℕ) (p : Variables) (k : ProgramCounter) (own c recent : ℕ) → 0 < n → Keeps n p k → ((k ≡ L16) → moves n p < n) → Count n p own c recent k → InScanLine k → c + tests k ≤ n
+pub collects_le : (n : ℕ) (p : Variables) (k : ProgramCounter) (own c recent : ℕ) → 0 < n → VariablesAt n p k → ((k ≡ L16) → moves n p < n) →
+    Count n p own c recent k → InScanLine k → c + tests k ≤ n
 collects_le n p L10 own c recent pos keeps sharp h s = omega arith
 collects_le n p L11 own c recent pos keeps sharp h s = omega arith
-collects_le n p L12 own c recent pos keeps sharp h s = let t : moves n p ≤ n = total_le (moved_at p) n keeps.1 in omega arith
-collects_le n p L13 own c recent pos keeps sharp h s = let t : moves n p ≤ n = total_le (moved_at p) n keeps.1 in omega arith
-collects_le n p L14 own c recent pos keeps sharp h s = let t : moves n p ≤ n = total_le (moved_at p) n keeps.1 in omega arith
-collects_le n p L15 own c recent pos keeps sharp h s = let t : moves n p ≤ n = total_le (moved_at p) n keeps.1 in omega arith
+collects_le n p L12 own c recent pos keeps sharp h s = let t : moves n p ≤ n = moves_le n p keeps.1 in omega arith
+collects_le n p L13 own c recent pos keeps sharp h s = let t : moves n p ≤ n = moves_le n p keeps.1 in omega arith
+collects_le n p L14 own c recent pos keeps sharp h s = let t : moves n p ≤ n = moves_le n p keeps.1 in omega arith
+collects_le n p L15 own c recent pos keeps sharp h s = let t : moves n p ≤ n = moves_le n p keeps.1 in omega arith
 collects_le n p L16 own c recent pos keeps sharp h s = let t : moves n p < n = sharp refl in omega arith
 collects_le n p L17 own c recent pos keeps sharp h s = omega arith
 collects_le n p L18 own c recent pos keeps sharp h s = omega arith
-collects_le n p L19 own c recent pos keeps sharp h s = let t : moves n p ≤ n = total_le (moved_at p) n keeps.1 in omega arith
+collects_le n p L19 own c recent pos keeps sharp h s = let t : moves n p ≤ n = moves_le n p keeps.1 in omega arith
 collects_le n p L21 own c recent pos keeps sharp h s = omega arith
 collects_le n p L22 own c recent pos keeps sharp h s = omega arith
 collects_le n p L23 own c recent pos keeps sharp h s = omega arith
@@ -240,7 +202,8 @@ collects_le n p L33 own c recent pos keeps sharp h s = absurd s
 own_all : (n c own : ℕ) → c ≤ n → own ≤ budget n c + 4 * n → own + 1 ≤ 4 * (n * n) + 8 * n + 7
 own_all n c own le h = let b : budget n c ≤ 4 * (n * n) + 4 * n + 2 = budget_le n c le in omega arith
 
-pub own_le : (n : ℕ) (p : Variables) (k : ProgramCounter) (own c recent : ℕ) → Keeps n p k → Count n p own c recent k → c ≤ n → InScanLine k → own + 1 ≤ 4 * (n * n) + 8 * n + 7
+pub own_le : (n : ℕ) (p : Variables) (k : ProgramCounter) (own c recent : ℕ) → VariablesAt n p k → Count n p own c recent k → c ≤ n → InScanLine k →
+    own + 1 ≤ 4 * (n * n) + 8 * n + 7
 own_le n p L10 own c recent keeps h le s = omega arith
 own_le n p L11 own c recent keeps h le s = omega arith
 own_le n p L12 own c recent keeps h le s = own_all n c own le (omega arith)

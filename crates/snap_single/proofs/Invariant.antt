@@ -1,86 +1,52 @@
 -- The invariant of U: what holds in every state of every run.
-use Rattle.std.specs.Prelude.{◌≡◌, ◌≢◌, ℕ, suc, ◌+◌, ◌-◌, ◌<◌, ◌≤◌, ◌⊎◌, max, [], length, slice_set, refl}
+use Rattle.std.specs.Prelude.{◌≡◌, ℕ, suc, ◌+◌, ◌<◌, ◌≤◌, ◌⊎◌, max, length, refl}
 use Rattle.std.proofs.Common.{sym, ◌∙◌, ap, subst, arith, inl, inr}
-use Rattle.std.proofs.lemmas.Bool.{cases_eq}
-use Rattle.std.proofs.lemmas.Grind.{get_or-set_at}
-use Rattle.std.proofs.lemmas.List.{length-set, get_or-set_other}
 use Rattle.snap_semantics.specs.declared.process.Outcome.{Outcome}
-use Rattle.snap_words.specs.Word.{Word}
-use Rattle.snap_words.specs.Word.{no_word}
-use Rattle.snap_runs.proofs.Algorithm.{Idle, At, New, typed_at, changed, stepped_auxiliary}
-use Rattle.snap_runs.proofs.Embedding as embed
-use Rattle.snap_single.proofs.Algorithm.{Words, Change, Control, Process, State, Variables, Task, Scanning, Embedded, Updating, ProgramCounter, L31, L32, L33, value_of, IsUpdate, writes, algorithm}
-use Rattle.snap_single.proofs.Control.{ControlWell}
+use Rattle.snap_runs.proofs.Algorithm.{Idle, At, New, typed_at, changed}
+use Rattle.snap_runs.proofs.Frame as frame
+use Rattle.snap_runs.proofs.Flow.{InScan}
+use Rattle.snap_runs.proofs.Held.{word_at, held_wider, seq_at, before_seq, Grows}
 use Rattle.snap_words.specs.Shape.{IsOneOf}
-use Rattle.snap_runs.proofs.Held.{word_at, Held, held_wider, seq_at, WordBefore, before_seq, Grows}
+use Rattle.snap_single.proofs.Algorithm.{Words, Control, Process, State, Variables, writes, algorithm}
 use Rattle.snap_single.proofs.Collect.{Viewed}
-use Rattle.snap_single.proofs.Stage.{Stage, stage_kept}
+use Rattle.snap_single.proofs.Control.{ControlWell}
 use Rattle.snap_single.proofs.Count.{Count}
+use Rattle.snap_single.proofs.Flows.{Making, HasWritten}
+use Rattle.snap_single.proofs.Stage.{Stage, stage_kept}
 
+-- the number that c is ahead: 1 just before the write
 abbrev pub pending : Control → ℕ
 pending Idle = 0
 pending (At d k) = writes k
-
--- an update whose view is being made or waits to be written
-abbrev pub Late : ProgramCounter → Type 0
-Late L31 = Unit {0}
-Late L32 = Unit {0}
-Late _ = ⊥
-
-abbrev pub MakingAt : Task → ProgramCounter → Type 0
-MakingAt Scanning k = ⊥
-MakingAt (Embedded word arg) k = Unit {0}
-MakingAt (Updating word arg) k = Late k
-
-abbrev pub Making : Control → Type 0
-Making Idle = ⊥
-Making (At d k) = MakingAt d k
 
 -- a busy process is at the stage of its line
 abbrev pub StageAt : ℕ → (ℕ → Words) → ℕ → ℕ → ℕ → Words → Variables → Control → Type 0
 StageAt n history t since round words p Idle = Unit {0}
 StageAt n history t since round words p (At d k) = Stage n history t since round words p k
 
--- in a scan, top-level or embedded
-abbrev pub IsInScan : Task → Type 0
-IsInScan Scanning = Unit {0}
-IsInScan (Embedded word arg) = Unit {0}
-IsInScan (Updating word arg) = ⊥
-
-abbrev pub InScan : Control → Type 0
-InScan Idle = ⊥
-InScan (At d k) = IsInScan d
-
+-- and its counts are those of its line
 abbrev pub CountAt : ℕ → Variables → ℕ → ℕ → ℕ → Control → Type 0
 CountAt n p own c recent Idle = Unit {0}
 CountAt n p own c recent (At d k) = Count n p own c recent k
 
--- the writes of an update so far
-abbrev pub written_at : ProgramCounter → ℕ
-written_at L33 = 1
-written_at _ = 0
-
-abbrev pub WroteAt : Control → ℕ → Type 0
-WroteAt Idle w = Unit {0}
-WroteAt (At Scanning k) w = Unit {0}
-WroteAt (At (Embedded word arg) k) w = w ≡ 0
-WroteAt (At (Updating word arg) k) w = w ≡ written_at k
-
 -- What holds of process i, at whichever line it stands, with these words.
-pub record Own (n t : ℕ) (history : ℕ → Words) (words : Words) (i : ℕ) (q : Process) : Type 0 where
+pub record ProcessInvariant (n t : ℕ) (history : ℕ → Words) (words : Words) (i : ℕ) (q : Process) : Type 0 where
   -- it stands at a line of its task, with the variables that the line asks for
   pub well : ControlWell n i q.variables q.control
   -- its copies have all places
   pub length_a : length q.variables.a ≡ max n n
   pub length_b : length q.variables.b ≡ max n n
-  -- c is the sequence number of its word, and one more just before the write; it is at most the number of items
+  -- c is the sequence number of its own word, and one more just before the write
   pub seq : q.variables.c ≡ seq_at words i + pending q.control
+  -- c is at most the number of items
   pub fresh : q.variables.c ≤ t
-  -- its last scan and that scan's last double collect have started
+  -- its last scan has started
   pub since_le : q.auxiliary.since ≤ t
+  -- no word is older than at the start of that scan
   pub low : (k : ℕ) → IsOneOf n k → seq_at (history q.auxiliary.since) k ≤ seq_at words k
+  -- nor than at the start of that scan's last double collect
   pub opened : (k : ℕ) → IsOneOf n k → seq_at (history q.auxiliary.round) k ≤ seq_at words k
-  -- the view beside a second write since its last scan's start was the values since
+  -- the view beside the second or a later write since that scan's start was the values at some state since
   pub views : Viewed n history t q.auxiliary.since words
   -- it has come as far as its line says
   pub stage : StageAt n history t q.auxiliary.since q.auxiliary.round words q.variables q.control
@@ -89,26 +55,31 @@ pub record Own (n t : ℕ) (history : ℕ → Words) (words : Words) (i : ℕ) (
   -- the scan's double collects and steps are within their bounds
   pub counts : CountAt n q.variables q.auxiliary.own q.auxiliary.collects q.auxiliary.tested q.control
   -- an update has written once at line 33, and not before
-  pub wrote : WroteAt q.control q.auxiliary.wrote
+  pub wrote : HasWritten q.control q.auxiliary.wrote
 
--- a view that is made after a write since the start of u's scan is made by a later scan
-abbrev pub Pair : (ℕ → Words) → Words → Process → Process → ℕ → Type 0
-Pair history words u v b = Making v.control → seq_at (history u.auxiliary.since) b < seq_at words b → u.auxiliary.since ≤ v.auxiliary.since
+-- A view that process v makes after its word, b, was written since u's last scan started, is made by a scan that started no
+-- earlier than u's.
+abbrev pub PairInvariant : (ℕ → Words) → Words → Process → Process → ℕ → Type 0
+PairInvariant history words u v b = Making v.control → seq_at (history u.auxiliary.since) b < seq_at words b → u.auxiliary.since ≤ v.auxiliary.since
 
-pub record Inv (n t : ℕ) (history : ℕ → Words) (x : State) : Type 0 where
+-- What holds in every state of a run: the words, each process, and each pair of processes.
+pub record Invariant (n t : ℕ) (history : ℕ → Words) (x : State) : Type 0 where
+  -- there is a word for each process
   pub size : length x.memory ≡ n
-  pub each : (i : ℕ) → IsOneOf n i → Own n t history x.memory i (typed_at (algorithm n) x i)
-  pub start : (i k : ℕ) → IsOneOf n i → IsOneOf n k → Pair history x.memory (typed_at (algorithm n) x i) (typed_at (algorithm n) x k) k
+  pub each : (i : ℕ) → IsOneOf n i → ProcessInvariant n t history x.memory i (typed_at (algorithm n) x i)
+  pub start : (i k : ℕ) → IsOneOf n i → IsOneOf n k → PairInvariant history x.memory (typed_at (algorithm n) x i) (typed_at (algorithm n) x k) k
 
-stage_at_kept : (n : ℕ) (history : ℕ → Words) (t t' since round : ℕ) (words words' : Words) (p : Variables) (control : Control) → t ≤ t' → Grows n words words' →
+stage_at_kept : (n : ℕ) (history : ℕ → Words) (t t' since round : ℕ) (words words' : Words) (p : Variables) (control : Control) → t ≤ t' →
+    Grows n words words' →
     StageAt n history t since round words p control → StageAt n history t' since round words' p control
 stage_at_kept n history t t' since round words words' p Idle le g h = tt
 stage_at_kept n history t t' since round words words' p (At d k) le g h = stage_kept n history t t' since round words words' p k le g h
 
 -- other processes act
-pub own_kept : (n t t' : ℕ) (history : ℕ → Words) (words words' : Words) (i : ℕ) (q : Process) → t ≤ t' → Grows n words words' → seq_at words' i ≡ seq_at words i →
-    Viewed n history t' q.auxiliary.since words' → Own n t history words i q → Own n t' history words' i q
-own_kept n t t' history words words' i q le g same v h = record {
+pub others_act : (n t t' : ℕ) (history : ℕ → Words) (words words' : Words) (i : ℕ) (q : Process) → t ≤ t' → Grows n words words' →
+    seq_at words' i ≡ seq_at words i →
+    Viewed n history t' q.auxiliary.since words' → ProcessInvariant n t history words i q → ProcessInvariant n t' history words' i q
+others_act n t t' history words words' i q le g same v h = record {
   well = h.well;
   length_a = h.length_a;
   length_b = h.length_b;
@@ -126,149 +97,42 @@ own_kept n t t' history words words' i q le g same v h = record {
   wrote = h.wrote;
 }
 
-pub inv_later : (n t : ℕ) (history : ℕ → Words) (x : State) → Inv n t history x → Inv n (suc t) history x
-inv_later n t history x h = record {
+-- one more item, and nothing changes
+pub time_passes : (n t : ℕ) (history : ℕ → Words) (x : State) → Invariant n t history x → Invariant n (suc t) history x
+time_passes n t history x h = record {
   size = h.size;
-  each = λ i e. own_kept n t (suc t) history x.memory x.memory i (typed_at (algorithm n) x i) (omega arith) (λ k j. inr refl) refl
+  each = λ i e. others_act n t (suc t) history x.memory x.memory i (typed_at (algorithm n) x i) (omega arith) (λ k j. inr refl) refl
       (λ k j more. held_wider history t (suc t) _ _ _ (omega arith) (omega arith) ((h.each i e).views k j more)) (h.each i e);
   start = h.start;
 }
 
--- one process changes and the words stay
-pub put_inv : (n t : ℕ) (history : ℕ → Words) (x : State) (i : ℕ) (q' : Process) (o : Outcome) → length x.processes ≡ n → IsOneOf n i → history t ≡ x.memory → Inv n t history x →
-    Own n t history x.memory i q' →
-    (Making q'.control → (q'.auxiliary.since ≡ t) ⊎ (Making (typed_at (algorithm n) x i).control × (q'.auxiliary.since ≡ (typed_at (algorithm n) x i).auxiliary.since))) →
+-- one process changes and the words stay: its scan goes on, or it starts one at item t
+pub process_changes : (n t : ℕ) (history : ℕ → Words) (x : State) (i : ℕ) (q' : Process) (o : Outcome) → length x.processes ≡ n → IsOneOf n i →
+    history t ≡ x.memory → Invariant n t history x → ProcessInvariant n t history x.memory i q' →
+    (Making q'.control → (q'.auxiliary.since ≡ t) ⊎ Making (typed_at (algorithm n) x i).control) →
     ((q'.auxiliary.since ≡ t) ⊎ (q'.auxiliary.since ≡ (typed_at (algorithm n) x i).auxiliary.since)) →
-    Inv n t history (changed x i (New x.memory q' o))
-put_inv n t history x i q' o count one now h own r1 r2 =
-    let c : Change = New x.memory q' o in
-    let a = algorithm n in
-    let new : typed_at a (changed x i c) i ≡ q' = embed.own_process a x i x.memory q' o count one in
-    let at_i : (k : ℕ) → k ≡ i → typed_at a (changed x i c) k ≡ q' = λ k e. ap (typed_at a (changed x i c)) e ∙ new in
-    let off_i : (k : ℕ) → IsOneOf n k → k ≢ i → typed_at a (changed x i c) k ≡ typed_at a x k = λ k j ne. embed.other_process a x i k c one.0 j.0 ne in
-    record {
-      size = h.size;
-      each = λ k j. elim (cases_eq k i) [
-        | inl same ↦ subst (λ (q : Process). Own n t history x.memory k q) (sym (at_i k same)) (subst (λ y. Own n t history x.memory y q') (sym same) own)
-        | inr other ↦ subst (λ (q : Process). Own n t history x.memory k q) (sym (off_i k j other)) (h.each k j)
-      ];
-      start = λ u b ju jb.
-          let words = x.memory in
-          elim (cases_eq u i) [
-            | inl su ↦ elim (cases_eq b i) [
-              | inl sb ↦ subst (λ (q : Process). Pair history words q (typed_at a (changed x i c) b) b) (sym (at_i u su))
-                  (subst (λ (q : Process). Pair history words q' q b) (sym (at_i b sb)) (λ making lt. omega arith))
-              | inr ob ↦ subst (λ (q : Process). Pair history words q (typed_at a (changed x i c) b) b) (sym (at_i u su))
-                  (subst (λ (q : Process). Pair history words q' q b) (sym (off_i b jb ob))
-                  (λ making lt. elim r2 [
-                    | inl fresh ↦ absurd (let e : seq_at (history q'.auxiliary.since) b ≡ seq_at words b = ap (λ s. seq_at (history s) b) fresh ∙ ap (λ w. seq_at w b) now in omega arith)
-                    | inr old ↦ subst (λ s. s ≤ (typed_at a x b).auxiliary.since) (sym old)
-                        (h.start i b one jb making (subst (λ s. seq_at (history s) b < seq_at words b) old lt))
-                  ]))
-            ]
-            | inr ou ↦ elim (cases_eq b i) [
-              | inl sb ↦ subst (λ (q : Process). Pair history words q (typed_at a (changed x i c) b) b) (sym (off_i u ju ou))
-                  (subst (λ (q : Process). Pair history words (typed_at a x u) q b) (sym (at_i b sb))
-                  (λ making lt. elim (r1 making) [
-                    | inl now ↦ (let le : (typed_at a x u).auxiliary.since ≤ t = (h.each u ju).since_le in omega arith)
-                    | inr old ↦ subst (λ s. (typed_at a x u).auxiliary.since ≤ s) (sym old.1)
-                        (h.start u i ju one old.0 (subst (λ y. seq_at (history (typed_at a x u).auxiliary.since) y < seq_at words y) sb lt))
-                  ]))
-              | inr ob ↦ subst (λ (q : Process). Pair history words q (typed_at a (changed x i c) b) b) (sym (off_i u ju ou))
-                  (subst (λ (q : Process). Pair history words (typed_at a x u) q b) (sym (off_i b jb ob)) (h.start u b ju jb))
-            ]
-          ];
-    }
-
--- line 32
-abbrev pub written : ℕ → Task → Variables → Word
-written me d p = record { datum = value_of d; seq = p.c; id = 0; toggle = 0; hands = []; view = p.s }
-
-pub write_inv : (n t : ℕ) (history : ℕ → Words) (x : State) (i : ℕ) (d : Task) (q' : Process) (o : Outcome) → length x.processes ≡ n → IsOneOf n i →
-    Inv n t history x → (typed_at (algorithm n) x i).control ≡ At d L32 → IsUpdate i d →
-    q' ≡ record { control = At d L33; variables = (typed_at (algorithm n) x i).variables; auxiliary = stepped_auxiliary (algorithm n) L32 (suc t) (typed_at (algorithm n) x i).auxiliary } →
-    Inv n (suc t) history (changed x i (New (slice_set x.memory (i - 1) (written i d (typed_at (algorithm n) x i).variables)) q' o))
-write_inv n t history x i d q' o count one h at up is =
+    Invariant n t history (changed x i (New x.memory q' o))
+process_changes n t history x i q' o count one now h own made scan =
     let a = algorithm n in
     let words = x.memory in
-    let q = typed_at a x i in
-    let w = written i d q.variables in
-    let words' = slice_set words (i - 1) w in
-    let c : Change = New words' q' o in
-    let ownq : Own n t history words i q = h.each i one in
-    let len : length words ≡ n = h.size in
-    let one_more : q.variables.c ≡ seq_at words i + 1 = ownq.seq ∙ ap (λ (p : Control). seq_at words i + pending p) at in
-    let held : Held history t q.auxiliary.since q.variables.s = subst (λ (p : Control). StageAt n history t q.auxiliary.since q.auxiliary.round words q.variables p) at ownq.stage in
-    let making : Making q.control = subst Making (sym at) (late i d up) in
-    let new_word : (k : ℕ) → k ≡ i → word_at words' k ≡ w = λ k e. get_or-set_at words (i - 1) (k - 1) w no_word (ap (λ y. y - 1) e) (omega arith) in
-    let old_word : (k : ℕ) → IsOneOf n k → k ≢ i → word_at words' k ≡ word_at words k = λ k j ne. get_or-set_other words (i - 1) (k - 1) w no_word (λ same. ne (omega arith)) in
-    let grows : Grows n words words' = λ k j. elim (cases_eq k i) [
-      | inl same ↦ subst (λ (y : Word). WordBefore (word_at words k) y) (sym (new_word k same)) (inl (subst (λ y. seq_at words y < q.variables.c) (sym same) (omega arith)))
-      | inr other ↦ inr (sym (old_word k j other))
-    ] in
-    let viewed : (u : ℕ) → IsOneOf n u → Viewed n history (suc t) (typed_at a x u).auxiliary.since words' = λ u ju k j. elim (cases_eq k i) [
-      | inl same ↦ subst (λ (y : Word). seq_at (history (typed_at a x u).auxiliary.since) k + 2 ≤ y.seq → Held history (suc t) (typed_at a x u).auxiliary.since y.view) (sym (new_word k same))
-          (λ more. held_wider history t (suc t) q.auxiliary.since (typed_at a x u).auxiliary.since q.variables.s (omega arith)
-          (h.start u i ju one making (let e : seq_at (history (typed_at a x u).auxiliary.since) k ≡ seq_at (history (typed_at a x u).auxiliary.since) i = ap (seq_at (history (typed_at a x u).auxiliary.since)) same in
-          let more2 : seq_at (history (typed_at a x u).auxiliary.since) k + 2 ≤ q.variables.c = more in omega arith)) held)
-      | inr other ↦ subst (λ (y : Word). seq_at (history (typed_at a x u).auxiliary.since) k + 2 ≤ y.seq → Held history (suc t) (typed_at a x u).auxiliary.since y.view) (sym (old_word k j other))
-          (λ more. held_wider history t (suc t) _ _ _ (omega arith) (omega arith) ((h.each u ju).views k j more))
-    ] in
-    let own_new : Own n (suc t) history words' i q' =
-    subst (λ (r : Process). Own n (suc t) history words' i r) (sym is) (record {
-      well = (up, tt);
-      length_a = ownq.length_a;
-      length_b = ownq.length_b;
-      seq = (let e : seq_at words' i ≡ q.variables.c = ap (λ (y : Word). y.seq) (new_word i refl) in omega arith);
-      fresh = (let f : q.variables.c ≤ t = ownq.fresh in omega arith);
-      since_le = (let f : q.auxiliary.since ≤ t = ownq.since_le in omega arith);
-      low = λ k j. (let l : seq_at (history q.auxiliary.since) k ≤ seq_at words k = ownq.low k j in
-          let s : seq_at words k ≤ seq_at words' k = before_seq (word_at words k) (word_at words' k) (grows k j) in omega arith);
-      opened = λ k j. (let l : seq_at (history q.auxiliary.round) k ≤ seq_at words k = ownq.opened k j in
-          let s : seq_at words k ≤ seq_at words' k = before_seq (word_at words k) (word_at words' k) (grows k j) in omega arith);
-      views = viewed i one;
-      stage = tt;
-      self = λ scan. absurd (not_scan i d up scan);
-      counts = tt;
-      wrote = wrote33 i d q.auxiliary.wrote up (subst (λ (p : Control). WroteAt p q.auxiliary.wrote) at ownq.wrote);
-    }) in
-    let new : typed_at a (changed x i c) i ≡ q' = embed.own_process a x i words' q' o count one in
-    let at_i : (k : ℕ) → k ≡ i → typed_at a (changed x i c) k ≡ q' = λ k e. ap (typed_at a (changed x i c)) e ∙ new in
-    let off_i : (k : ℕ) → IsOneOf n k → k ≢ i → typed_at a (changed x i c) k ≡ typed_at a x k = λ k j ne. embed.other_process a x i k c one.0 j.0 ne in
     record {
-      size = length-set words (i - 1) w ∙ len;
-      each = λ k j. elim (cases_eq k i) [
-        | inl same ↦ subst (λ (r : Process). Own n (suc t) history words' k r) (sym (at_i k same)) (subst (λ y. Own n (suc t) history words' y q') (sym same) own_new)
-        | inr other ↦ subst (λ (r : Process). Own n (suc t) history words' k r) (sym (off_i k j other))
-            (own_kept n t (suc t) history words words' k (typed_at a x k) (omega arith) grows (ap (λ (y : Word). y.seq) (old_word k j other)) (viewed k j) (h.each k j))
-      ];
-      start = λ u b ju jb. elim (cases_eq b i) [
-        | inl sb ↦ subst (λ (r : Process). Pair history words' (typed_at a (changed x i c) u) r b) (sym (at_i b sb ∙ is)) (λ made lt. absurd (not_late i d up made))
-        | inr ob ↦ subst (λ (r : Process). Pair history words' (typed_at a (changed x i c) u) r b) (sym (off_i b jb ob))
-            (let past : Pair history words' (typed_at a x u) (typed_at a x b) b = λ made lt. h.start u b ju jb made (subst (λ (y : Word). seq_at (history (typed_at a x u).auxiliary.since) b < y.seq) (old_word b jb ob) lt) in
-            elim (cases_eq u i) [
-              | inl su ↦ subst (λ (r : Process). Pair history words' r (typed_at a x b) b) (sym (at_i u su ∙ is)) (subst (λ y. Pair history words' (typed_at a x y) (typed_at a x b) b) su past)
-              | inr ou ↦ subst (λ (r : Process). Pair history words' r (typed_at a x b) b) (sym (off_i u ju ou)) past
-            ])
-      ];
+      size = h.size;
+      each = frame.each_next a x i words q' o count one (ProcessInvariant n t history words) own (λ k j other. h.each k j);
+      start = frame.pairs_next a x i words q' o count one (PairInvariant history words) (record {
+        own = λ making more. omega arith;
+        first = λ k j other making more. elim scan [
+          | inl fresh ↦ absurd (let e : seq_at (history q'.auxiliary.since) k ≡ seq_at words k = ap (λ s. seq_at (history s) k) fresh ∙ ap (λ w. seq_at w k) now in omega arith)
+          | inr same ↦ subst (λ s. s ≤ (typed_at a x k).auxiliary.since) (sym same) (h.start i k one j making (subst (λ s. seq_at (history s) k < seq_at words k) same more))
+        ];
+        second = λ k j other making more.
+            let started : (typed_at a x k).auxiliary.since ≤ t = (h.each k j).since_le in
+            elim scan [
+              | inl fresh ↦ omega arith
+              | inr same ↦ elim (made making) [
+                | inl fresh ↦ omega arith
+                | inr before ↦ subst (λ s. (typed_at a x k).auxiliary.since ≤ s) (sym same) (h.start k i j one before more)
+              ]
+            ];
+        others = λ k l jk jl other away. h.start k l jk jl;
+      });
     }
-  where
-    late : (i : ℕ) (d : Task) → IsUpdate i d → MakingAt d L32
-    late i Scanning u = absurd u
-    late i (Embedded w x) u = absurd u
-    late i (Updating w x) u = tt
-
-    not_late : (i : ℕ) (d : Task) → IsUpdate i d → MakingAt d L33 → ⊥
-    not_late i Scanning u h = h
-    not_late i (Embedded w x) u h = u
-    not_late i (Updating w x) u h = h
-
-    not_scan : (i : ℕ) (d : Task) → IsUpdate i d → IsInScan d → ⊥
-    not_scan i Scanning u h = u
-    not_scan i (Embedded w x) u h = u
-    not_scan i (Updating w x) u h = h
-
-    wrote33 : (i : ℕ) (d : Task) (w : ℕ) → IsUpdate i d → WroteAt (At d L32) w → WroteAt (At d L33) (w + 1)
-    wrote33 i Scanning w u h = tt
-    wrote33 i (Embedded word arg) w u h = absurd u
-    wrote33 i (Updating word arg) w u h = omega arith

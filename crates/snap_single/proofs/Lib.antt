@@ -1,11 +1,16 @@
 pub mod Algorithm
 pub mod Lines
 pub mod Control
+pub mod Flows
 pub mod Collect
 pub mod Stage
 pub mod Count
 pub mod Invariant
-pub mod Keep
+pub mod Write
+pub mod Preserve
 pub mod Runs
+pub mod Points
+pub mod Bounds
 pub mod Updates
 pub mod Moves
+pub mod Samples

@@ -42,10 +42,10 @@ FewCollects = (n : ℕ) (items : List Item) → promises.CollectsAtMost (n + 1) 
 abbrev pub FewSteps : Type 0
 FewSteps = (n : ℕ) (items : List Item) → promises.StepsAtMost (4 * (n * n) + 8 * n + 7) (run_of n items)
 
--- Every scan has at most n double collects.
-abbrev pub SharpCollects : Type 0
-SharpCollects = (n : ℕ) (items : List Item) → promises.CollectsAtMost n (run_of n items)
-
 -- A move that a scan sees at line 17 is a write since its previous double collect, or since its start where there is none.
 abbrev pub MovesAreWrites : Type 0
 MovesAreWrites = (n : ℕ) (items : List Item) → promises.MovesAreWrites 17 moved 32 (run_of n items)
+
+-- The sharp bound: no process sees itself move, so that every scan has at most n double collects.
+abbrev pub SharpCollects : Type 0
+SharpCollects = (n : ℕ) (items : List Item) → promises.CollectsAtMost n (run_of n items)

@@ -1,7 +1,7 @@
 //! Listing U, and what every run of it keeps.
 #![tactic(auto)]
 
-ghost use Rattle.snap_single.specs.Promises.{NeverTraps, ChangesOnlyAt32, WritesItsUpdate, WritesOnce, HavePoints, FewCollects, FewSteps, SharpCollects, MovesAreWrites};
+ghost use Rattle.snap_single.specs.Promises.{NeverTraps, ChangesOnlyAt32, WritesItsUpdate, WritesOnce, HavePoints, FewCollects, FewSteps, MovesAreWrites, SharpCollects};
 
 /// No process ever traps.
 pub fn never_traps()
@@ -38,13 +38,13 @@ pub fn few_steps()
     ensures { FewSteps }
 {}
 
-/// No process sees itself move: every scan has at most n double collects.
-pub fn sharp_collects()
-    ensures { SharpCollects }
-{}
-
 /// Where a scan sees a process move, that process has written since the scan's previous double collect, or since the
 /// scan's start where there is none.
 pub fn moves_are_writes()
     ensures { MovesAreWrites }
+{}
+
+/// No process sees itself move: every scan has at most n double collects.
+pub fn sharp_collects()
+    ensures { SharpCollects }
 {}

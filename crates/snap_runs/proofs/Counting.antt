@@ -1,0 +1,34 @@
+-- Counts of the items that pass a test.
+use Rattle.std.specs.Prelude.{◌≡◌, ℕ, zero, suc, ◌<◌, ◌≤◌, Bool, true, false, ◌&&◌, nat_lt, if◌then◌else◌, refl}
+use Rattle.std.proofs.Common.{◌∙◌, ap, arith}
+use Rattle.snap_runs.specs.Scan.{count}
+use Rattle.snap_runs.proofs.Computing.{lt_true, lt_false, lt_from}
+
+-- none where there are no items
+pub count_none : (test : ℕ → Bool) (c e : ℕ) → e ≤ c → count test c e ≡ 0
+count_none test c zero h = refl
+count_none test c (suc e) h =
+    ap (λ b. if b && test (suc e) then suc (count test c e) else count test c e) (lt_false c (suc e) h) ∙ count_none test c e (omega arith)
+
+-- one more item
+pub count_next : (test : ℕ → Bool) (c e : ℕ) → c ≤ e → count test c (suc e) ≡ (if test (suc e) then suc (count test c e) else count test c e)
+count_next test c e h = ap (λ b. if b && test (suc e) then suc (count test c e) else count test c e) (lt_true c (suc e) (omega arith))
+
+-- fewer from a later item on
+pub count_later : (test : ℕ → Bool) (c c' e : ℕ) → c ≤ c' → count test c' e ≤ count test c e
+count_later test c c' zero h = omega arith
+count_later test c c' (suc e) h =
+    both_more (nat_lt c' (suc e)) (nat_lt c (suc e)) (test (suc e)) (count test c' e) (count test c e)
+    (λ is. let lt : c' < suc e = lt_from c' (suc e) is in lt_true c (suc e) (omega arith)) (count_later test c c' e h)
+  where
+    both_more : (later sooner passes : Bool) (x y : ℕ) → (later ≡ true → sooner ≡ true) → x ≤ y →
+        (if later && passes then suc x else x) ≤ (if sooner && passes then suc y else y)
+    both_more true true true x y f h = omega arith
+    both_more true true false x y f h = h
+    both_more true false passes x y f h = absurd (let e : false ≡ true = f refl in cc)
+    both_more false true true x y f h = omega arith
+    both_more false true false x y f h = h
+    both_more false false passes x y f h = h
+
+pub count_not : (test : ℕ → Bool) (c e : ℕ) → c ≤ e → test (suc e) ≡ false → count test c (suc e) ≡ count test c e
+count_not test c e h n = count_next test c e h ∙ ap (λ b. if b then suc (count test c e) else count test c e) n

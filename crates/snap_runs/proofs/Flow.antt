@@ -1,0 +1,201 @@
+-- How control passes from line to line: a scan stays a scan until it returns, and an update writes once.
+use Rattle.std.specs.Prelude.{◌≡◌, ℕ, ◌+◌, ◌⊎◌, List, Option, Some, None, refl}
+use Rattle.std.proofs.Common.{sym, ◌∙◌, ap, subst, arith, inl, inr}
+use Rattle.snap_semantics.specs.declared.process.Op.TheVariants.{Scan as ScanOp, Update}
+use Rattle.snap_semantics.specs.Source.{instr_at}
+use Rattle.snap_runs.specs.Scan.{Returns}
+use Rattle.snap_runs.proofs.Algorithm.{Task, Scanning, Embedded, Updating, op_of, Control, Idle, At, Move, To, Begin, Answer, Finish, Algorithm}
+use Rattle.snap_runs.proofs.ScanSpan as span
+use Rattle.snap_runs.proofs.UpdateSpan as called
+
+-- in a scan, called or embedded
+abbrev pub IsInScan : Task → Type 0
+IsInScan Scanning = Unit {0}
+IsInScan (Embedded word value) = Unit {0}
+IsInScan (Updating word value) = ⊥
+
+abbrev pub InScan : {P : Type 0} → Control P → Type 0
+InScan Idle = ⊥
+InScan (At d k) = IsInScan d
+
+-- what the lines of a listing are for
+pub record Lines (V P M : Type 0) : Type 1 where
+  -- what each line but those that write keeps of the memory
+  pub Kept : M → M → Type 0
+  -- a line that returns a view, the view, a line that writes, and the last line of an update
+  pub IsReturn : P → Type 0
+  pub answer : V → List ℕ
+  pub IsWrite : P → Type 0
+  pub IsLast : P → Type 0
+  -- a line of an update at which its view is made and not yet written
+  pub IsLate : P → Type 0
+  -- the writes of an update before a line
+  pub written : P → ℕ
+
+module _ {V P M : Type 0} (lines : Lines V P M) where
+  -- each line but those that write keeps the memory
+  abbrev pub KeepsMemory : M → Move V P M → Type 0
+  KeepsMemory m (To d m' p k) = lines.Kept m m'
+  KeepsMemory m (Begin d p k) = Unit {0}
+  KeepsMemory m (Answer v) = Unit {0}
+  KeepsMemory m Finish = Unit {0}
+
+  -- no line but `call` leads into a scan
+  abbrev pub KeepsOut : Task → Move V P M → Type 0
+  KeepsOut d (To d' m p k') = IsInScan d' → IsInScan d
+  KeepsOut d (Begin d' p k') = Unit {0}
+  KeepsOut d (Answer v) = Unit {0}
+  KeepsOut d Finish = Unit {0}
+
+  -- a process makes a view from the call of its embedded scan until it has written
+  abbrev pub IsMaking : Task → P → Type 0
+  IsMaking Scanning k = ⊥
+  IsMaking (Embedded word value) k = Unit {0}
+  IsMaking (Updating word value) k = lines.IsLate k
+
+  abbrev pub Making : Control P → Type 0
+  Making Idle = ⊥
+  Making (At d k) = IsMaking d k
+
+  -- no line but `call` begins to make a view
+  abbrev pub MakesNoMore : Task → P → Move V P M → Type 0
+  MakesNoMore d k (To d' m' p k') = IsMaking d' k' → IsMaking d k
+  MakesNoMore d k (Begin d' p k') = Unit {0}
+  MakesNoMore d k (Answer v) = Unit {0}
+  MakesNoMore d k Finish = Unit {0}
+
+  -- the writes of an update so far
+  abbrev pub HasWritten : Control P → ℕ → Type 0
+  HasWritten Idle w = Unit {0}
+  HasWritten (At Scanning k) w = Unit {0}
+  HasWritten (At (Embedded word value) k) w = w ≡ 0
+  HasWritten (At (Updating word value) k) w = w ≡ lines.written k
+
+  abbrev pub CountsWrites : ℕ → Move V P M → Type 0
+  CountsWrites w (To d m p k) = HasWritten (At d k) w
+  CountsWrites w (Begin d p k) = HasWritten (At d k) w
+  CountsWrites w (Answer v) = Unit {0}
+  CountsWrites w Finish = Unit {0}
+
+  -- an answer is that of a line that returns
+  abbrev pub AnswersAt : V → P → Move V P M → Type 0
+  AnswersAt p k (To d m p' k') = Unit {0}
+  AnswersAt p k (Begin d p' k') = Unit {0}
+  AnswersAt p k (Answer v) = lines.IsReturn k × (v ≡ lines.answer p)
+  AnswersAt p k Finish = Unit {0}
+
+  module _ (a : Algorithm V P M) where
+    -- what a line does to the task of a process
+    abbrev pub Flows : Task → M → V → P → Move V P M → Type 0
+    Flows Scanning m p k (To d' m' p' k') = (d' ≡ Scanning) × lines.Kept m m'
+    Flows Scanning m p k (Begin d' p' k') = ⊥
+    Flows Scanning m p k (Answer v) = lines.IsReturn k × (v ≡ lines.answer p)
+    Flows Scanning m p k Finish = ⊥
+    Flows (Embedded word value) m p k (To d' m' p' k') =
+        lines.Kept m m' × (a.writes k ≡ 0) × ((d' ≡ Embedded word value) ⊎ ((d' ≡ Updating word value) × lines.IsReturn k × (lines.written k' ≡ 0)))
+    Flows (Embedded word value) m p k (Begin d' p' k') = ⊥
+    Flows (Embedded word value) m p k (Answer v) = ⊥
+    Flows (Embedded word value) m p k Finish = ⊥
+    Flows (Updating word value) m p k (To d' m' p' k') =
+        (lines.Kept m m' ⊎ lines.IsWrite k) × (d' ≡ Updating word value) × (lines.written k' ≡ lines.written k + a.writes k) × (lines.IsLate k' → lines.IsLate k)
+    Flows (Updating word value) m p k (Begin d' p' k') = (d' ≡ Embedded word value) × (lines.written k + a.writes k ≡ 0)
+    Flows (Updating word value) m p k (Answer v) = ⊥
+    Flows (Updating word value) m p k Finish = lines.IsLast k
+
+    -- a line of a scan that goes on
+    pub within : (d : Task) (m m' : M) (p p' : V) (k k' : P) → IsInScan d → a.writes k ≡ 0 → lines.Kept m m' → Flows d m p k (To d m' p' k')
+    within Scanning m m' p p' k k' inside quiet kept = (refl, kept)
+    within (Embedded word value) m m' p p' k k' inside quiet kept = (kept, quiet, inl refl)
+    within (Updating word value) m m' p p' k k' inside quiet kept = absurd inside
+
+    pub keeps_memory : (d : Task) (m : M) (p : V) (k : P) (v : Move V P M) → Flows d m p k v → KeepsMemory m v ⊎ lines.IsWrite k
+    keeps_memory Scanning m p k (To d' m' p' k') h = inl h.1
+    keeps_memory Scanning m p k (Begin d' p' k') h = absurd h
+    keeps_memory Scanning m p k (Answer v) h = inl tt
+    keeps_memory Scanning m p k Finish h = absurd h
+    keeps_memory (Embedded word value) m p k (To d' m' p' k') h = inl h.0
+    keeps_memory (Embedded word value) m p k (Begin d' p' k') h = absurd h
+    keeps_memory (Embedded word value) m p k (Answer v) h = absurd h
+    keeps_memory (Embedded word value) m p k Finish h = absurd h
+    keeps_memory (Updating word value) m p k (To d' m' p' k') h = h.0
+    keeps_memory (Updating word value) m p k (Begin d' p' k') h = inl tt
+    keeps_memory (Updating word value) m p k (Answer v) h = absurd h
+    keeps_memory (Updating word value) m p k Finish h = inl tt
+
+    pub keeps_out : (d : Task) (m : M) (p : V) (k : P) (v : Move V P M) → Flows d m p k v → KeepsOut d v
+    keeps_out Scanning m p k (To d' m' p' k') h = λ inside. tt
+    keeps_out (Embedded word value) m p k (To d' m' p' k') h = λ inside. tt
+    keeps_out (Updating word value) m p k (To d' m' p' k') h = λ inside. subst IsInScan h.1 inside
+    keeps_out d m p k (Begin d' p' k') h = tt
+    keeps_out d m p k (Answer v) h = tt
+    keeps_out d m p k Finish h = tt
+
+    pub makes_no_more : (d : Task) (m : M) (p : V) (k : P) (v : Move V P M) → Flows d m p k v → MakesNoMore d k v
+    makes_no_more Scanning m p k (To d' m' p' k') h = subst (λ x. IsMaking x k' → ⊥) (sym h.0) (λ made. made)
+    makes_no_more (Embedded word value) m p k (To d' m' p' k') h = λ made. tt
+    makes_no_more (Updating word value) m p k (To d' m' p' k') h = subst (λ x. IsMaking x k' → lines.IsLate k) (sym h.1) h.3
+    makes_no_more d m p k (Begin d' p' k') h = tt
+    makes_no_more d m p k (Answer v) h = tt
+    makes_no_more d m p k Finish h = tt
+
+    pub counts_writes : (d : Task) (m : M) (p : V) (k : P) (v : Move V P M) (w : ℕ) → Flows d m p k v → HasWritten (At d k) w →
+        CountsWrites (w + a.writes k) v
+    counts_writes Scanning m p k (To d' m' p' k') w h is = subst (λ x. HasWritten (At x k') (w + a.writes k)) (sym h.0) tt
+    counts_writes Scanning m p k (Begin d' p' k') w h is = absurd h
+    counts_writes (Embedded word value) m p k (To d' m' p' k') w h is =
+        let none : w + a.writes k ≡ 0 = (let q : a.writes k ≡ 0 = h.1 in omega arith) in
+        elim h.2 [
+          | inl same ↦ subst (λ x. HasWritten (At x k') (w + a.writes k)) (sym same) none
+          | inr back ↦ subst (λ x. HasWritten (At x k') (w + a.writes k)) (sym back.0) (none ∙ sym back.2)
+        ]
+    counts_writes (Embedded word value) m p k (Begin d' p' k') w h is = absurd h
+    counts_writes (Updating word value) m p k (To d' m' p' k') w h is =
+        subst (λ x. HasWritten (At x k') (w + a.writes k)) (sym h.1) (ap (λ y. y + a.writes k) is ∙ sym h.2)
+    counts_writes (Updating word value) m p k (Begin d' p' k') w h is =
+        subst (λ x. HasWritten (At x k') (w + a.writes k)) (sym h.0) (ap (λ y. y + a.writes k) is ∙ h.1)
+    counts_writes d m p k (Answer v) w h is = tt
+    counts_writes d m p k Finish w h is = tt
+
+    pub answers_at : (d : Task) (m : M) (p : V) (k : P) (v : Move V P M) → Flows d m p k v → AnswersAt p k v
+    answers_at d m p k (To d' m' p' k') h = tt
+    answers_at d m p k (Begin d' p' k') h = tt
+    answers_at Scanning m p k (Answer v) h = h
+    answers_at (Embedded word value) m p k (Answer v) h = absurd h
+    answers_at (Updating word value) m p k (Answer v) h = absurd h
+    answers_at d m p k Finish h = tt
+
+    -- an update never answers
+    pub never_answers : (d : Task) (m : M) (p : V) (k : P) (v : Move V P M) (word value : ℕ) → op_of d ≡ Update word value → Flows d m p k v →
+        called.NoAnswer a v
+    never_answers d m p k (To d' m' p' k') word value is h = tt
+    never_answers d m p k (Begin d' p' k') word value is h = tt
+    never_answers Scanning m p k (Answer v) word value is h = absurd (cc)
+    never_answers (Embedded x y) m p k (Answer v) word value is h = absurd h
+    never_answers (Updating x y) m p k (Answer v) word value is h = absurd h
+    never_answers d m p k Finish word value is h = tt
+
+    -- a scan stays in itself or returns
+    pub in_scan : (link : Option ℕ) (d : Task) → span.Inside a link d → IsInScan d
+    in_scan link Scanning h = tt
+    in_scan link (Embedded word value) h = tt
+    in_scan None (Updating word value) h = absurd (let e : Update word value ≡ ScanOp = h.1 in cc)
+    in_scan (Some l) (Updating word value) h = absurd (let e : ◌≡◌ {A = Option ℕ} None (Some l) = h in cc)
+
+    pub stays : (link : Option ℕ) (d : Task) (m : M) (p : V) (k : P) (v : Move V P M) →
+        (lines.IsReturn k → Returns (instr_at a.source.lines (a.number k)) (a.locals_of p) (lines.answer p)) → Flows d m p k v →
+        span.Inside a link d → span.Stays a link k p v
+    stays link Scanning m p k (To d' m' p' k') returns h inside = inl (subst (span.Inside a link) (sym h.0) inside)
+    stays link Scanning m p k (Begin d' p' k') returns h inside = absurd h
+    stays None Scanning m p k (Answer v) returns h inside = tt
+    stays (Some l) Scanning m p k (Answer v) returns h inside = absurd (let e : ◌≡◌ {A = Option ℕ} None (Some l) = inside in cc)
+    stays link Scanning m p k Finish returns h inside = absurd h
+    stays None (Embedded word value) m p k v returns h inside = absurd (let e : Update word value ≡ ScanOp = inside.1 in cc)
+    stays (Some l) (Embedded word value) m p k (To d' m' p' k') returns h inside =
+        elim h.2 [
+          | inl same ↦ inl (subst (span.Inside a (Some l)) (sym same) inside)
+          | inr back ↦ inr (lines.answer p, returns back.1)
+        ]
+    stays (Some l) (Embedded word value) m p k (Begin d' p' k') returns h inside = absurd h
+    stays (Some l) (Embedded word value) m p k (Answer v) returns h inside = absurd h
+    stays (Some l) (Embedded word value) m p k Finish returns h inside = absurd h
+    stays link (Updating word value) m p k v returns h inside = absurd (in_scan link (Updating word value) inside)

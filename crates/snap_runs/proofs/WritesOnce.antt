@@ -1,0 +1,108 @@
+-- An update writes at most once, and exactly once if it is done.
+use Rattle.std.specs.Prelude.{◌≡◌, ℕ, zero, suc, ◌+◌, ◌<◌, ◌≤◌, List, length, nat_eq, if◌then◌else◌, refl}
+use Rattle.std.proofs.Common.{sym, ◌∙◌, ap, subst, arith, inl, inr}
+use Rattle.std.proofs.Math.Nat.{eq-or-lt_of_le}
+use Rattle.snap_words.specs.Shape.{IsOneOf}
+use Rattle.snap_semantics.specs.Table.{who}
+use Rattle.snap_semantics.specs.declared.process.Item.{Item}
+use Rattle.snap_semantics.specs.declared.process.Item.TheVariants.{Step, Call}
+use Rattle.snap_semantics.specs.declared.process.Op.TheVariants.{Update}
+use Rattle.snap_semantics.specs.declared.process.Outcome.TheVariants.{Finished as Done}
+use Rattle.snap_runs.specs.Run.{Fits, outcome}
+use Rattle.snap_runs.specs.Scan.{count}
+use Rattle.snap_runs.specs.Update.{executes, IsDone, Updating as UpdateOf}
+use Rattle.snap_runs.proofs.Algorithm.{Task, Scanning, Embedded, Updating, op_of, Control, At, Move, To, Begin, Answer, Finish, TypedProcess, Algorithm, by_move, by_step, by_call, typed_at, by_item, outcome_of, item_at, typed_state}
+use Rattle.snap_runs.proofs.Embedding as embed
+use Rattle.snap_runs.proofs.Flow.{Lines}
+use Rattle.snap_runs.proofs.Flow as flow
+use Rattle.snap_runs.proofs.Scans as scans
+use Rattle.snap_runs.proofs.UpdateSpan as called
+
+module _ {V P M : Type 0} (a : Algorithm V P M) (lines : Lines V P M) (line : ℕ) where
+  -- what the listing says of the line that writes
+  pub record Once : Type 0 where
+    pub writes_is : (k : P) → (if nat_eq (a.number k) line then 1 else 0) ≡ a.writes k
+    -- an update writes at most once up to the end of a line
+    pub most : (k : P) → lines.written k + a.writes k ≤ 1
+    -- at its last line it has written
+    pub last : (k : P) → lines.IsLast k → (lines.written k ≡ 1) × (a.writes k ≡ 0)
+
+  module _ (once : Once) (items : List Item) (fits : Fits (embed.run_of a items)) (does : embed.AllDo a items) (flows : scans.AllFlow a lines items)
+      (wrote : (t i : ℕ) → t ≤ length items → IsOneOf a.shape.n i → flow.HasWritten lines (typed_at a (typed_state a items t) i).control (typed_at a (typed_state a items t) i).auxiliary.wrote)
+      (i : ℕ) (one : IsOneOf a.shape.n i) where
+    abbrev pub his : ℕ → TypedProcess V P M
+    his t = typed_at a (typed_state a items t) i
+
+    flows_at : (t : ℕ) (d : Task) (k : P) → t < length items → (his t).control ≡ At d k →
+        flow.Flows lines a d (typed_state a items t).memory (his t).variables k (a.move i d (typed_state a items t).memory (his t).variables k)
+    flows_at t d k h is = subst (scans.FlowsAt a lines i (typed_state a items t).memory (his t).variables) is (flows t i h one)
+
+    pub silent : (t : ℕ) → t < length items → (d : Task) (k : P) → (his t).control ≡ At d k → (word value : ℕ) → op_of d ≡ Update word value →
+        called.NoAnswer a (a.move i d (typed_state a items t).memory (his t).variables k)
+    silent t h d k is word value e =
+        flow.never_answers lines a d (typed_state a items t).memory (his t).variables k (a.move i d (typed_state a items t).memory (his t).variables k) word value e (flows_at t d k h is)
+
+    most_once : (d : Task) (k : P) (w word value : ℕ) → op_of d ≡ Update word value → flow.HasWritten lines (At d k) w → w + a.writes k ≤ 1
+    most_once Scanning k w word value e h = absurd (cc)
+    most_once (Embedded x y) k w word value e h = let most : lines.written k + a.writes k ≤ 1 = once.most k in omega arith
+    most_once (Updating x y) k w word value e h = let most : lines.written k + a.writes k ≤ 1 = once.most k in omega arith
+
+    -- where an update is done it has written
+    once_done : (t : ℕ) (m : M) (q : TypedProcess V P M) (d : Task) (k : P) (v : Move V P M) (w word value : ℕ) →
+        outcome_of (by_move a t m q k v) ≡ Done →
+        op_of d ≡ Update word value → flow.Flows lines a d m q.variables k v → flow.HasWritten lines (At d k) w → (w ≡ 1) × (a.writes k ≡ 0)
+    once_done t m q d k (To d' m' p k') w word value out e h is = absurd (cc)
+    once_done t m q d k (Begin d' p k') w word value out e h is = absurd (cc)
+    once_done t m q d k (Answer v) w word value out e h is = absurd (cc)
+    once_done t m q Scanning k Finish w word value out e h is = absurd h
+    once_done t m q (Embedded x y) k Finish w word value out e h is = absurd h
+    once_done t m q (Updating x y) k Finish w word value out e h is = let last = once.last k h in (is ∙ last.0, last.1)
+
+    abbrev pub Going : (word value c t : ℕ) → Type 0
+    Going word value c t = called.Going a line once.writes_is items fits does i one silent word value c t
+
+    done_once : (word value c t : ℕ) → c ≤ t → t < length items → Going word value c t → (y : Item) → item_at items t ≡ y → who y ≡ i →
+        outcome (embed.run_of a items) (suc t) ≡ Done → count (executes (embed.run_of a items) i line) c (suc t) ≡ 1
+    done_once word value c t le short g (Call k op) is w out =
+        let is2 : item_at items t ≡ Call i op = is ∙ ap (λ u. Call u op) w in
+        let e : outcome_of (by_item a (suc t) (typed_state a items t) (item_at items t)) ≡ outcome_of (by_call a (suc t) (typed_state a items t).memory i op (his t) (At g.task g.counter)) =
+        ap (λ (y : Item). outcome_of (by_item a (suc t) (typed_state a items t) y)) is2
+        ∙ ap (λ (p : Control P). outcome_of (by_call a (suc t) (typed_state a items t).memory i op (his t) p)) g.control in
+        absurd (let f = sym out ∙ embed.outcome_is a items fits does t short ∙ e in cc)
+    done_once word value c t le short g (Step k) is w out =
+        let is2 : item_at items t ≡ Step i = is ∙ ap (λ u. Step u) w in
+        let m = (typed_state a items t).memory in
+        let e : outcome_of (by_item a (suc t) (typed_state a items t) (item_at items t)) ≡ outcome_of (by_step a (suc t) m i (his t) (At g.task g.counter)) =
+        ap (λ (y : Item). outcome_of (by_item a (suc t) (typed_state a items t) y)) is2
+        ∙ ap (λ (p : Control P). outcome_of (by_step a (suc t) m i (his t) p)) g.control in
+        let written : flow.HasWritten lines (At g.task g.counter) (his t).auxiliary.wrote =
+        subst (λ (p : Control P). flow.HasWritten lines p (his t).auxiliary.wrote) g.control (wrote t i (omega arith) one) in
+        let ended = once_done (suc t) m (his t) g.task g.counter (a.move i g.task m (his t).variables g.counter) (his t).auxiliary.wrote word value
+        (sym e ∙ sym (embed.outcome_is a items fits does t short) ∙ out) g.op (flows_at t g.task g.counter short g.control) written in
+        let one_write : (his t).auxiliary.wrote ≡ 1 = ended.0 in
+        let none_more : a.writes g.counter ≡ 0 = ended.1 in
+        let is_count : (his t).auxiliary.wrote ≡ count (executes (embed.run_of a items) i line) c t = g.wrote in
+        let next : count (executes (embed.run_of a items) i line) c (suc t) ≡ count (executes (embed.run_of a items) i line) c t + a.writes g.counter =
+        called.line_counts a line once.writes_is items fits does i one silent t c g.task g.counter le (omega arith) is2 g.control in
+        omega arith
+
+    pub writes_once : (word value c e : ℕ) → UpdateOf (embed.run_of a items) i word value c e →
+        (count (executes (embed.run_of a items) i line) c e ≤ 1) × (c < e → IsDone (embed.run_of a items) i e → count (executes (embed.run_of a items) i line) c e ≡ 1)
+    writes_once word value c zero up = (omega arith, λ lt done. absurd (omega arith))
+    writes_once word value c (suc t) up =
+        let r = embed.run_of a items in
+        let last : suc t ≤ length items = up.last in
+        elim (eq-or-lt_of_le up.order) [
+          | inl same ↦ (let none : count (executes r i line) c (suc t) ≡ 0 = called.none_yet a line once.writes_is items fits does i one silent c (suc t) (omega arith) in
+              (omega arith, λ lt done. absurd (omega arith)))
+          | inr more ↦ (
+              let g = called.going a line once.writes_is items fits does i one silent word value c (suc t) t up (omega arith) (omega arith) in
+              let written : flow.HasWritten lines (At g.task g.counter) (his t).auxiliary.wrote =
+              subst (λ (p : Control P). flow.HasWritten lines p (his t).auxiliary.wrote) g.control (wrote t i (omega arith) one) in
+              let most : (his t).auxiliary.wrote + a.writes g.counter ≤ 1 =
+              most_once g.task g.counter (his t).auxiliary.wrote word value g.op written in
+              let is : (his t).auxiliary.wrote ≡ count (executes r i line) c t = g.wrote in
+              let next : count (executes r i line) c (suc t) ≤ count (executes r i line) c t + a.writes g.counter =
+              called.line_at_most a line once.writes_is items fits does i one silent t c g.task g.counter (omega arith) (omega arith) g.control in
+              (omega arith, λ lt done. done_once word value c t (omega arith) (omega arith) g (item_at items t) refl done.0 done.1))
+        ]

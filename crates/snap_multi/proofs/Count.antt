@@ -1,0 +1,362 @@
+-- The double collects and own steps of a scan of M.
+use Rattle.std.specs.Prelude.{◌≡◌, ℕ, zero, suc, ◌+◌, ◌-◌, ◌*◌, ◌<◌, ◌≤◌, Bool, true, false, Option, Some, None, nat_eq, nat_lt, if◌then◌else◌, refl}
+use Rattle.std.proofs.Common.{sym, ◌∙◌, ap, subst, arith, inl, inr}
+use Rattle.std.proofs.lemmas.Bool.{cases_eq}
+use Rattle.std.proofs.lemmas.Grind.{common_steps}
+use Rattle.snap_words.specs.Shape.{IsOneOf}
+use Rattle.snap_runs.proofs.Algorithm.{To, Begin, Answer, Finish}
+use Rattle.snap_multi.proofs.Algorithm.{Registers, restarts, Move, Variables, Task, Scanning, Embedded, Updating, ProgramCounter, L10, L11, L12, L13, L14, L15, L16, L17, L18, L19, L20, L21, L22, L23, L24, L25, L26, L27, L28, L29, L30, L31, L32, L33, L34, L35, L36, L37, L50, L51, L52, L53, L54, L55, L56, L57, L58, move, first_to, place, same_at, for_each, counted, all_still, third_move, tests}
+use Rattle.snap_multi.proofs.Basics.{for_each_at, not_lt, not_all, other_from}
+use Rattle.snap_multi.proofs.Control.{Keeps}
+
+-- sums over places 1..n
+pub total : (ℕ → ℕ) → ℕ → ℕ
+total f zero = 0
+total f (suc n) = total f n + f (suc n)
+
+pub total_le : (f : ℕ → ℕ) (n : ℕ) → ((k : ℕ) → IsOneOf n k → f k ≤ 2) → total f n ≤ 2 * n
+unfolding total
+total_le f zero h = omega arith
+total_le f (suc n) h =
+    let rest : total f n ≤ 2 * n = total_le f n (λ k i. h k (i.0, omega arith)) in
+    let last : f (suc n) ≤ 2 = h (suc n) (omega arith, omega arith) in omega arith
+
+-- less by two where one place has none
+pub total_less : (f : ℕ → ℕ) (n i : ℕ) → IsOneOf n i → f i ≡ 0 → ((k : ℕ) → IsOneOf n k → f k ≤ 2) → total f n + 2 ≤ 2 * n
+unfolding total
+total_less f zero i one z h = absurd (omega arith)
+total_less f (suc n) i one z h =
+    elim (cases_eq i (suc n)) [
+      | inl same ↦ (let rest : total f n ≤ 2 * n = total_le f n (λ k e. h k (e.0, omega arith)) in
+          let last : f (suc n) ≡ 0 = ap f (sym same) ∙ z in omega arith)
+      | inr other ↦ (let rest : total f n + 2 ≤ 2 * n = total_less f n i (one.0, omega arith) z (λ k e. h k (e.0, omega arith)) in
+          let last : f (suc n) ≤ 2 = h (suc n) (omega arith, omega arith) in omega arith)
+    ]
+
+pub total_mono : (f g : ℕ → ℕ) (n : ℕ) → ((k : ℕ) → IsOneOf n k → f k ≤ g k) → total f n ≤ total g n
+unfolding total
+total_mono f g zero h = omega arith
+total_mono f g (suc n) h =
+    let rest : total f n ≤ total g n = total_mono f g n (λ k i. h k (i.0, omega arith)) in
+    let last : f (suc n) ≤ g (suc n) = h (suc n) (omega arith, omega arith) in omega arith
+
+pub total_more : (f g : ℕ → ℕ) (n i : ℕ) → IsOneOf n i → f i < g i → ((k : ℕ) → IsOneOf n k → f k ≤ g k) → total f n < total g n
+unfolding total
+total_more f g zero i one lt h = absurd (omega arith)
+total_more f g (suc n) i one lt h =
+    elim (cases_eq i (suc n)) [
+      | inl same ↦ (let rest : total f n ≤ total g n = total_mono f g n (λ k e. h k (e.0, omega arith)) in
+          let last : f (suc n) < g (suc n) = subst (λ x. f x < g x) same lt in omega arith)
+      | inr other ↦ (let rest : total f n < total g n = total_more f g n i (one.0, omega arith) lt (λ k e. h k (e.0, omega arith)) in
+          let last : f (suc n) ≤ g (suc n) = h (suc n) (omega arith, omega arith) in omega arith)
+    ]
+
+-- the own steps of c failed double collects
+pub budget : ℕ → ℕ → ℕ → ℕ
+budget n w zero = 3
+budget n w (suc c) = budget n w c + (7 * n + 8 * w + 6)
+
+pub budget_zero : (n w : ℕ) → budget n w 0 ≡ 3
+unfolding budget
+budget_zero n w = refl
+
+pub same_budget : (n w c c' : ℕ) → c' ≡ c + 0 → budget n w c' ≡ budget n w c
+same_budget n w c c' e = ap (budget n w) (let f : c' ≡ c = omega arith in f)
+
+pub next_budget : (n w c c' : ℕ) → c' ≡ c + 1 → budget n w c' ≡ budget n w c + (7 * n + 8 * w + 6)
+unfolding budget
+next_budget n w c c' e = ap (budget n w) (let f : c' ≡ suc c = omega arith in f)
+
+budget_mono : (n w c more : ℕ) → budget n w c ≤ budget n w (c + more)
+unfolding budget
+budget_mono n w c zero = (let e : budget n w (c + 0) ≡ budget n w c = ap (budget n w) (let f : c + 0 ≡ c = omega arith in f) in omega arith)
+budget_mono n w c (suc more) =
+    let e : budget n w (c + suc more) ≡ budget n w (c + more) + (7 * n + 8 * w + 6) = ap (budget n w) (let f : c + suc more ≡ suc (c + more) = omega arith in f) in
+    let rest : budget n w c ≤ budget n w (c + more) = budget_mono n w c more in omega arith
+
+budget_is : (n w c : ℕ) → budget n w c ≡ c * (7 * n + 8 * w + 6) + 3
+unfolding budget
+budget_is n w zero = omega arith
+budget_is n w (suc c) =
+    let rest : budget n w c ≡ c * (7 * n + 8 * w + 6) + 3 = budget_is n w c in
+    let e : suc c * (7 * n + 8 * w + 6) ≡ c * (7 * n + 8 * w + 6) + (7 * n + 8 * w + 6) = grind arith in omega arith
+
+budget_all : (n w : ℕ) → budget n w (2 * n) ≡ 14 * (n * n) + 16 * (n * w) + 12 * n + 3
+budget_all n w =
+    let a : budget n w (2 * n) ≡ (2 * n) * (7 * n + 8 * w + 6) + 3 = budget_is n w (2 * n) in
+    let b : (2 * n) * (7 * n + 8 * w + 6) ≡ 14 * (n * n) + 16 * (n * w) + 12 * n = grind arith in omega arith
+
+budget_le : (n w c : ℕ) → c + 1 ≤ 2 * n → budget n w c + (7 * n + 8 * w + 6) ≤ 14 * (n * n) + 16 * (n * w) + 12 * n + 3
+budget_le n w c h =
+    let next : budget n w (c + 1) ≡ budget n w c + (7 * n + 8 * w + 6) = next_budget n w c (c + 1) refl in
+    let a : budget n w (c + 1) ≤ budget n w (c + 1 + (2 * n - (c + 1))) = budget_mono n w (c + 1) (2 * n - (c + 1)) in
+    let e : budget n w (c + 1 + (2 * n - (c + 1))) ≡ budget n w (2 * n) = ap (budget n w) (let f : c + 1 + (2 * n - (c + 1)) ≡ 2 * n = omega arith in f) in
+    let b : budget n w (2 * n) ≡ 14 * (n * n) + 16 * (n * w) + 12 * n + 3 = budget_all n w in omega arith
+
+abbrev pub moves : ℕ → Variables → ℕ
+moves n p = total (place p.moved) n
+
+-- Where a scan stands at a line, with this many own steps and ended double collects since its start, and `recent` ended
+-- double collects since its current one was started.
+abbrev pub Count : ℕ → ℕ → Variables → ℕ → ℕ → ℕ → ProgramCounter → Type 0
+Count n w p own c recent L10 = (own ≡ 0) × (c ≡ 0) × (recent ≡ 0)
+Count n w p own c recent L11 = (own ≤ 1) × (c ≡ 0) × (recent ≡ 0)
+Count n w p own c recent L12 = (own ≤ 2) × (c ≡ 0) × (recent ≡ 0)
+Count n w p own c recent L13 = (own + 4 ≤ budget n w c + 4 * p.j) × (c ≤ moves n p) × (c + 1 ≤ 2 * n) × (recent ≡ 0)
+Count n w p own c recent L14 = (own + 3 ≤ budget n w c + 4 * p.j) × (c ≤ moves n p) × (c + 1 ≤ 2 * n) × (recent ≡ 0)
+Count n w p own c recent L15 = (own + 2 ≤ budget n w c + 4 * p.j) × (c ≤ moves n p) × (c + 1 ≤ 2 * n) × (recent ≡ 0)
+Count n w p own c recent L16 = (own + 1 ≤ budget n w c + 4 * p.j) × (c ≤ moves n p) × (c + 1 ≤ 2 * n) × (recent ≡ 0)
+Count n w p own c recent L17 = (own + 2 ≤ budget n w c + 4 * n + 2 * p.k) × (c ≤ moves n p) × (c + 1 ≤ 2 * n) × (recent ≡ 0)
+Count n w p own c recent L18 = (own + 1 ≤ budget n w c + 4 * n + 2 * p.k) × (c ≤ moves n p) × (c + 1 ≤ 2 * n) × (recent ≡ 0)
+Count n w p own c recent L19 = (own + 2 ≤ budget n w c + 4 * n + 2 * w + 2 * p.k) × (c ≤ moves n p) × (c + 1 ≤ 2 * n) × (recent ≡ 0)
+Count n w p own c recent L20 = (own + 1 ≤ budget n w c + 4 * n + 2 * w + 2 * p.k) × (c ≤ moves n p) × (c + 1 ≤ 2 * n) × (recent ≡ 0)
+Count n w p own c recent L21 = (own + 3 ≤ budget n w c + 4 * n + 4 * w + 3 * p.j) × (c ≤ moves n p) × (c + 1 ≤ 2 * n) × (recent ≡ 0)
+Count n w p own c recent L22 = (own + 2 ≤ budget n w c + 4 * n + 4 * w + 3 * p.j) × (c ≤ moves n p) × (c + 1 ≤ 2 * n) × (recent ≡ 0)
+Count n w p own c recent L23 = (own + 1 ≤ budget n w c + 4 * n + 4 * w + 3 * p.j) × (c ≤ moves n p) × (c + 1 ≤ 2 * n) × (recent ≡ 0)
+Count n w p own c recent L24 = (own ≤ budget n w c + 7 * n + 4 * w) × (c ≤ moves n p) × (c + 1 ≤ 2 * n) × (recent ≡ 0)
+Count n w p own c recent L25 = (own ≤ budget n w c + 7 * n + 4 * w + 1) × (c ≤ moves n p) × (c + 1 ≤ 2 * n) × (recent ≡ 0)
+Count n w p own c recent L26 = (own + 2 ≤ budget n w c + 7 * n + 4 * w + 4 * p.k) × (c ≤ moves n p) × (c + 1 ≤ 2 * n) × (recent ≡ 0)
+Count n w p own c recent L27 = (own + 1 ≤ budget n w c + 7 * n + 4 * w + 4 * p.k) × (c ≤ moves n p) × (c + 1 ≤ 2 * n) × (recent ≡ 0)
+Count n w p own c recent L28 = (own ≤ budget n w c + 7 * n + 4 * w + 4 * p.k) × (c ≤ moves n p) × (c + 1 ≤ 2 * n) × (recent ≡ 0)
+Count n w p own c recent L29 = (own ≤ budget n w c + 7 * n + 4 * w + 4 * p.k + 1) × (c ≤ moves n p) × (c + 1 ≤ 2 * n) × (recent ≡ 0)
+Count n w p own c recent L30 = (own ≤ budget n w c + 7 * n + 8 * w + 2) × (c ≤ moves n p) × (c + 1 ≤ 2 * n) × (recent ≡ 0)
+Count n w p own c recent L31 = (own + 3 ≤ budget n w c) × (c ≤ moves n p + 1) × (c + 1 ≤ 2 * n) × (recent ≤ 1) × (all_still n p ≡ false)
+Count n w p own c recent L32 = (own + 2 ≤ budget n w c) × (c ≤ moves n p) × (c + 1 ≤ 2 * n)
+Count n w p own c recent L33 = (own + 1 ≤ budget n w c) × (c ≤ moves n p) × (c + 1 ≤ 2 * n)
+Count n w p own c recent L34 = (own + 3 ≤ budget n w c) × (c + 1 ≤ 2 * n)
+Count n w p own c recent L35 = (own + 2 ≤ budget n w c) × (c + 1 ≤ 2 * n)
+Count n w p own c recent L36 = (own + 1 ≤ budget n w c) × (c + 1 ≤ 2 * n)
+Count n w p own c recent L37 = (own ≤ budget n w c) × (c + 1 ≤ 2 * n)
+Count n w p own c recent L50 = Unit {0}
+Count n w p own c recent L51 = Unit {0}
+Count n w p own c recent L52 = Unit {0}
+Count n w p own c recent L53 = Unit {0}
+Count n w p own c recent L54 = Unit {0}
+Count n w p own c recent L55 = Unit {0}
+Count n w p own c recent L56 = Unit {0}
+Count n w p own c recent L57 = Unit {0}
+Count n w p own c recent L58 = Unit {0}
+
+abbrev pub CountMove : ℕ → ℕ → ℕ → ℕ → ℕ → Move → Type 0
+CountMove n w own c recent (To d m p k) = Count n w p own c recent k
+CountMove n w own c recent (Begin d p k) = Unit {0}
+CountMove n w own c recent (Answer v) = Unit {0}
+CountMove n w own c recent Finish = Unit {0}
+
+count_if : (n w own c recent : ℕ) (b : Bool) (x y : Move) → (b ≡ true → CountMove n w own c recent x) → (b ≡ false → CountMove n w own c recent y) → CountMove n w own c recent (if b then x else y)
+count_if n w own c recent true x y f g = f refl
+count_if n w own c recent false x y f g = g refl
+
+count_first : (n w own c recent : ℕ) (d : Task) (m : Registers) (p : Variables) (o : Option ℕ) → own + 1 ≤ budget n w c → c ≤ moves n p → c + 1 ≤ 2 * n → CountMove n w own c recent (first_to d m p o)
+count_first n w own c recent d m p None a b e = (a, b, e)
+count_first n w own c recent d m p (Some k) a b e = (a, e)
+
+counted_from : (b : Bool) (v : ℕ) → v ≤ (if b then v + 1 else v)
+counted_from true v = omega arith
+counted_from false v = omega arith
+
+abbrev pub counted_row : ℕ → Variables → Variables
+counted_row n p = record p { moved = for_each n (counted p) p.moved }
+
+-- where something is marked a move is counted
+after_count : (n : ℕ) (p : Variables) → all_still n p ≡ false → ((c : ℕ) → IsOneOf n c → place p.d c ≤ 1) → (p' : Variables) →
+    ((k : ℕ) → IsOneOf n k → place p'.moved k ≡ counted p k) → moves n p < moves n p'
+after_count n p failed bits p' is =
+    let some = not_all (λ c. nat_eq (place p.d c) 0) 1 n failed in
+    let k = some.0 in
+    let i : IsOneOf n k = (omega arith, omega arith) in
+    let one : place p.d k ≡ 1 = (let le : place p.d k ≤ 1 = bits k i in grind (arith, common_steps, other_from (place p.d k) 0 some.3)) in
+    let more : counted p k ≡ place p.moved k + 1 = ap (λ v. if nat_eq v 1 then place p.moved k + 1 else place p.moved k) one in
+    total_more (place p.moved) (place p'.moved) n k i
+    (subst (λ y. place p.moved k < y) (sym (is k i)) (omega arith))
+    (λ u j. subst (λ y. place p.moved u ≤ y) (sym (is u j)) (counted_from (nat_eq (place p.d u) 1) (place p.moved u)))
+
+-- each line keeps the counts: c' and recent' are the double collects with its own
+pub count_move : (n w me : ℕ) (d : Task) (m : Registers) (p : Variables) (k : ProgramCounter) (own c c' recent recent' : ℕ) → 0 < n → c' ≡ c + tests k →
+    recent' ≡ (if restarts k then 0 else recent + tests k) → Keeps n w d p k → (k ≡ L30 → moves n p + 2 ≤ 2 * n) → (k ≡ L31 → (c : ℕ) → IsOneOf n c → place p.d c ≤ 1) →
+    Count n w p own c recent k → CountMove n w (suc own) c' recent' (move n w me d m p k)
+count_move n w me d m p L10 own c c' recent recent' pos e f keeps sharp bits h = (omega arith, omega arith, omega arith)
+count_move n w me d m p L11 own c c' recent recent' pos e f keeps sharp bits h = (omega arith, omega arith, omega arith)
+count_move n w me d m p L12 own c c' recent recent' pos e f keeps sharp bits h =
+    let b : budget n w c' ≡ budget n w 0 = ap (budget n w) (let z : c' ≡ 0 = omega arith in z) in
+    let three : budget n w 0 ≡ 3 = budget_zero n w in
+    let first : p.j ≡ 1 = keeps.0 in
+    (omega arith, omega arith, omega arith, omega arith)
+count_move n w me d m p L13 own c c' recent recent' pos e f keeps sharp bits h = let b : budget n w c' ≡ budget n w c = same_budget n w c c' e in (omega arith, omega arith, omega arith, omega arith)
+count_move n w me d m p L14 own c c' recent recent' pos e f keeps sharp bits h = let b : budget n w c' ≡ budget n w c = same_budget n w c c' e in (omega arith, omega arith, omega arith, omega arith)
+count_move n w me d m p L15 own c c' recent recent' pos e f keeps sharp bits h = let b : budget n w c' ≡ budget n w c = same_budget n w c c' e in (omega arith, omega arith, omega arith, omega arith)
+count_move n w me d m p L16 own c c' recent recent' pos e f keeps sharp bits h =
+    let b : budget n w c' ≡ budget n w c = same_budget n w c c' e in
+    let inside : IsOneOf n p.j = keeps.0 in let first : p.k ≡ 1 = keeps.1 in count_if n w (suc own) c' recent' (nat_lt p.j n) _ _ (λ t. (omega arith, omega arith, omega arith, omega arith)) (λ t. let ge : n ≤ p.j = not_lt p.j n t in (omega arith, omega arith, omega arith, omega arith))
+count_move n w me d m p L17 own c c' recent recent' pos e f keeps sharp bits h = let b : budget n w c' ≡ budget n w c = same_budget n w c c' e in (omega arith, omega arith, omega arith, omega arith)
+count_move n w me d m p L18 own c c' recent recent' pos e f keeps sharp bits h =
+    let b : budget n w c' ≡ budget n w c = same_budget n w c c' e in
+    let inside : IsOneOf w p.k = keeps.1 in let first : p.j ≡ 1 = keeps.0 in count_if n w (suc own) c' recent' (nat_lt p.k w) _ _ (λ t. (omega arith, omega arith, omega arith, omega arith)) (λ t. let ge : w ≤ p.k = not_lt p.k w t in (omega arith, omega arith, omega arith, omega arith))
+count_move n w me d m p L19 own c c' recent recent' pos e f keeps sharp bits h = let b : budget n w c' ≡ budget n w c = same_budget n w c c' e in (omega arith, omega arith, omega arith, omega arith)
+count_move n w me d m p L20 own c c' recent recent' pos e f keeps sharp bits h =
+    let b : budget n w c' ≡ budget n w c = same_budget n w c c' e in
+    let inside : IsOneOf w p.k = keeps.1 in let first : p.j ≡ 1 = keeps.0 in count_if n w (suc own) c' recent' (nat_lt p.k w) _ _ (λ t. (omega arith, omega arith, omega arith, omega arith)) (λ t. let ge : w ≤ p.k = not_lt p.k w t in (omega arith, omega arith, omega arith, omega arith))
+count_move n w me d m p L21 own c c' recent recent' pos e f keeps sharp bits h = let b : budget n w c' ≡ budget n w c = same_budget n w c c' e in (omega arith, omega arith, omega arith, omega arith)
+count_move n w me d m p L22 own c c' recent recent' pos e f keeps sharp bits h = let b : budget n w c' ≡ budget n w c = same_budget n w c c' e in (omega arith, omega arith, omega arith, omega arith)
+count_move n w me d m p L23 own c c' recent recent' pos e f keeps sharp bits h =
+    let b : budget n w c' ≡ budget n w c = same_budget n w c c' e in
+    let inside : IsOneOf n p.j = keeps.0 in let first : p.k ≡ 1 = keeps.1 in count_if n w (suc own) c' recent' (nat_lt p.j n) _ _ (λ t. (omega arith, omega arith, omega arith, omega arith)) (λ t. let ge : n ≤ p.j = not_lt p.j n t in (omega arith, omega arith, omega arith, omega arith))
+count_move n w me d m p L24 own c c' recent recent' pos e f keeps sharp bits h = let b : budget n w c' ≡ budget n w c = same_budget n w c c' e in (omega arith, omega arith, omega arith, omega arith)
+count_move n w me d m p L25 own c c' recent recent' pos e f keeps sharp bits h = let k : p.k ≡ 1 = keeps.1 in let b : budget n w c' ≡ budget n w c = same_budget n w c c' e in (omega arith, omega arith, omega arith, omega arith)
+count_move n w me d m p L26 own c c' recent recent' pos e f keeps sharp bits h = let b : budget n w c' ≡ budget n w c = same_budget n w c c' e in count_if n w (suc own) c' recent' (same_at p.a p.b p.k) _ _ (λ t. (omega arith, omega arith, omega arith, omega arith)) (λ t. (omega arith, omega arith, omega arith, omega arith))
+count_move n w me d m p L27 own c c' recent recent' pos e f keeps sharp bits h = let b : budget n w c' ≡ budget n w c = same_budget n w c c' e in (omega arith, omega arith, omega arith, omega arith)
+count_move n w me d m p L28 own c c' recent recent' pos e f keeps sharp bits h = let b : budget n w c' ≡ budget n w c = same_budget n w c c' e in (omega arith, omega arith, omega arith, omega arith)
+count_move n w me d m p L29 own c c' recent recent' pos e f keeps sharp bits h =
+    let b : budget n w c' ≡ budget n w c = same_budget n w c c' e in
+    let inside : IsOneOf w p.k = keeps.1 in let first : p.j ≡ 1 = keeps.0 in count_if n w (suc own) c' recent' (nat_lt p.k w) _ _ (λ t. (omega arith, omega arith, omega arith, omega arith)) (λ t. let ge : w ≤ p.k = not_lt p.k w t in (omega arith, omega arith, omega arith, omega arith))
+count_move n w me d m p L30 own c c' recent recent' pos e f keeps sharp bits h =
+    let b : budget n w c' ≡ budget n w c + (7 * n + 8 * w + 6) = next_budget n w c c' e in
+    let less : moves n p + 2 ≤ 2 * n = sharp refl in
+    count_if n w (suc own) c' recent' (all_still n p) _ _ (λ t. (omega arith, omega arith)) (λ t. (omega arith, omega arith, omega arith, omega arith, t))
+count_move n w me d m p L31 own c c' recent recent' pos e f keeps sharp bits h =
+    let b : budget n w c' ≡ budget n w c = same_budget n w c c' e in
+    let more : moves n p < moves n (counted_row n p) = after_count n p h.4 (bits refl) (counted_row n p) (λ k i. for_each_at n (counted p) p.moved k i) in
+    (omega arith, omega arith, omega arith)
+count_move n w me d m p L32 own c c' recent recent' pos e f keeps sharp bits h = let b : budget n w c' ≡ budget n w c = same_budget n w c c' e in count_first n w (suc own) c' recent' d m p (third_move n p) (omega arith) (omega arith) (omega arith)
+count_move n w me d m p L33 own c c' recent recent' pos e f keeps sharp bits h = let first : p.j ≡ 1 = keeps.0 in let b : budget n w c' ≡ budget n w c = same_budget n w c c' e in (omega arith, omega arith, omega arith, omega arith)
+count_move n w me d m p L34 own c c' recent recent' pos e f keeps sharp bits h = let b : budget n w c' ≡ budget n w c = same_budget n w c c' e in (omega arith, omega arith)
+count_move n w me Scanning m p L35 own c c' recent recent' pos e f keeps sharp bits h = tt
+count_move n w me (Embedded y z) m p L35 own c c' recent recent' pos e f keeps sharp bits h = tt
+count_move n w me (Updating y z) m p L35 own c c' recent recent' pos e f keeps sharp bits h = tt
+count_move n w me d m p L36 own c c' recent recent' pos e f keeps sharp bits h = let b : budget n w c' ≡ budget n w c = same_budget n w c c' e in (omega arith, omega arith)
+count_move n w me Scanning m p L37 own c c' recent recent' pos e f keeps sharp bits h = tt
+count_move n w me (Embedded y z) m p L37 own c c' recent recent' pos e f keeps sharp bits h = tt
+count_move n w me (Updating y z) m p L37 own c c' recent recent' pos e f keeps sharp bits h = tt
+count_move n w me d m p L50 own c c' recent recent' pos e f keeps sharp bits h = tt
+count_move n w me d m p L51 own c c' recent recent' pos e f keeps sharp bits h = tt
+count_move n w me d m p L52 own c c' recent recent' pos e f keeps sharp bits h = tt
+count_move n w me d m p L53 own c c' recent recent' pos e f keeps sharp bits h = count_if n w (suc own) c' recent' (nat_lt p.j n) _ _ (λ t. tt) (λ t. tt)
+count_move n w me Scanning m p L54 own c c' recent recent' pos e f keeps sharp bits h = tt
+count_move n w me (Embedded y z) m p L54 own c c' recent recent' pos e f keeps sharp bits h = tt
+count_move n w me (Updating y z) m p L54 own c c' recent recent' pos e f keeps sharp bits h = tt
+count_move n w me d m p L55 own c c' recent recent' pos e f keeps sharp bits h = tt
+count_move n w me d m p L56 own c c' recent recent' pos e f keeps sharp bits h = tt
+count_move n w me d m p L57 own c c' recent recent' pos e f keeps sharp bits h = tt
+count_move n w me d m p L58 own c c' recent recent' pos e f keeps sharp bits h = tt
+
+abbrev pub InScanLine : ProgramCounter → Type 0
+InScanLine L10 = Unit {0}
+InScanLine L11 = Unit {0}
+InScanLine L12 = Unit {0}
+InScanLine L13 = Unit {0}
+InScanLine L14 = Unit {0}
+InScanLine L15 = Unit {0}
+InScanLine L16 = Unit {0}
+InScanLine L17 = Unit {0}
+InScanLine L18 = Unit {0}
+InScanLine L19 = Unit {0}
+InScanLine L20 = Unit {0}
+InScanLine L21 = Unit {0}
+InScanLine L22 = Unit {0}
+InScanLine L23 = Unit {0}
+InScanLine L24 = Unit {0}
+InScanLine L25 = Unit {0}
+InScanLine L26 = Unit {0}
+InScanLine L27 = Unit {0}
+InScanLine L28 = Unit {0}
+InScanLine L29 = Unit {0}
+InScanLine L30 = Unit {0}
+InScanLine L31 = Unit {0}
+InScanLine L32 = Unit {0}
+InScanLine L33 = Unit {0}
+InScanLine L34 = Unit {0}
+InScanLine L35 = Unit {0}
+InScanLine L36 = Unit {0}
+InScanLine L37 = Unit {0}
+InScanLine L50 = ⊥
+InScanLine L51 = ⊥
+InScanLine L52 = ⊥
+InScanLine L53 = ⊥
+InScanLine L54 = ⊥
+InScanLine L55 = ⊥
+InScanLine L56 = ⊥
+InScanLine L57 = ⊥
+InScanLine L58 = ⊥
+
+-- the bounds at each line of a scan
+pub collects_le : (n w : ℕ) (p : Variables) (k : ProgramCounter) (own c recent : ℕ) → 0 < n → (k ≡ L30 → moves n p + 2 ≤ 2 * n) → Count n w p own c recent k → InScanLine k → c + tests k ≤ 2 * n - 1
+collects_le n w p L10 own c recent pos sharp h s = omega arith
+collects_le n w p L11 own c recent pos sharp h s = omega arith
+collects_le n w p L12 own c recent pos sharp h s = omega arith
+collects_le n w p L13 own c recent pos sharp h s = omega arith
+collects_le n w p L14 own c recent pos sharp h s = omega arith
+collects_le n w p L15 own c recent pos sharp h s = omega arith
+collects_le n w p L16 own c recent pos sharp h s = omega arith
+collects_le n w p L17 own c recent pos sharp h s = omega arith
+collects_le n w p L18 own c recent pos sharp h s = omega arith
+collects_le n w p L19 own c recent pos sharp h s = omega arith
+collects_le n w p L20 own c recent pos sharp h s = omega arith
+collects_le n w p L21 own c recent pos sharp h s = omega arith
+collects_le n w p L22 own c recent pos sharp h s = omega arith
+collects_le n w p L23 own c recent pos sharp h s = omega arith
+collects_le n w p L24 own c recent pos sharp h s = omega arith
+collects_le n w p L25 own c recent pos sharp h s = omega arith
+collects_le n w p L26 own c recent pos sharp h s = omega arith
+collects_le n w p L27 own c recent pos sharp h s = omega arith
+collects_le n w p L28 own c recent pos sharp h s = omega arith
+collects_le n w p L29 own c recent pos sharp h s = omega arith
+collects_le n w p L30 own c recent pos sharp h s = let less : moves n p + 2 ≤ 2 * n = sharp refl in omega arith
+collects_le n w p L31 own c recent pos sharp h s = omega arith
+collects_le n w p L32 own c recent pos sharp h s = omega arith
+collects_le n w p L33 own c recent pos sharp h s = omega arith
+collects_le n w p L34 own c recent pos sharp h s = omega arith
+collects_le n w p L35 own c recent pos sharp h s = omega arith
+collects_le n w p L36 own c recent pos sharp h s = omega arith
+collects_le n w p L37 own c recent pos sharp h s = omega arith
+collects_le n w p L50 own c recent pos sharp h s = absurd s
+collects_le n w p L51 own c recent pos sharp h s = absurd s
+collects_le n w p L52 own c recent pos sharp h s = absurd s
+collects_le n w p L53 own c recent pos sharp h s = absurd s
+collects_le n w p L54 own c recent pos sharp h s = absurd s
+collects_le n w p L55 own c recent pos sharp h s = absurd s
+collects_le n w p L56 own c recent pos sharp h s = absurd s
+collects_le n w p L57 own c recent pos sharp h s = absurd s
+collects_le n w p L58 own c recent pos sharp h s = absurd s
+
+own_all : (n w c own : ℕ) → c + 1 ≤ 2 * n → own ≤ budget n w c + (7 * n + 8 * w + 6) → own + 1 ≤ 14 * (n * n) + 16 * (n * w) + 19 * n + 8 * w + 10
+own_all n w c own le h = let b : budget n w c + (7 * n + 8 * w + 6) ≤ 14 * (n * n) + 16 * (n * w) + 12 * n + 3 = budget_le n w c le in omega arith
+
+pub own_le : (n w : ℕ) (d : Task) (p : Variables) (k : ProgramCounter) (own c recent : ℕ) → Keeps n w d p k → Count n w p own c recent k → InScanLine k →
+    own + 1 ≤ 14 * (n * n) + 16 * (n * w) + 19 * n + 8 * w + 10
+own_le n w d p L10 own c recent keeps h s = omega arith
+own_le n w d p L11 own c recent keeps h s = omega arith
+own_le n w d p L12 own c recent keeps h s = omega arith
+own_le n w d p L13 own c recent keeps h s = let inside : IsOneOf n p.j = keeps.0 in own_all n w c own (omega arith) (omega arith)
+own_le n w d p L14 own c recent keeps h s = let inside : IsOneOf n p.j = keeps.0 in own_all n w c own (omega arith) (omega arith)
+own_le n w d p L15 own c recent keeps h s = let inside : IsOneOf n p.j = keeps.0 in own_all n w c own (omega arith) (omega arith)
+own_le n w d p L16 own c recent keeps h s = let inside : IsOneOf n p.j = keeps.0 in own_all n w c own (omega arith) (omega arith)
+own_le n w d p L17 own c recent keeps h s = let inside : IsOneOf w p.k = keeps.1 in own_all n w c own (omega arith) (omega arith)
+own_le n w d p L18 own c recent keeps h s = let inside : IsOneOf w p.k = keeps.1 in own_all n w c own (omega arith) (omega arith)
+own_le n w d p L19 own c recent keeps h s = let inside : IsOneOf w p.k = keeps.1 in own_all n w c own (omega arith) (omega arith)
+own_le n w d p L20 own c recent keeps h s = let inside : IsOneOf w p.k = keeps.1 in own_all n w c own (omega arith) (omega arith)
+own_le n w d p L21 own c recent keeps h s = let inside : IsOneOf n p.j = keeps.0 in own_all n w c own (omega arith) (omega arith)
+own_le n w d p L22 own c recent keeps h s = let inside : IsOneOf n p.j = keeps.0 in own_all n w c own (omega arith) (omega arith)
+own_le n w d p L23 own c recent keeps h s = let inside : IsOneOf n p.j = keeps.0 in own_all n w c own (omega arith) (omega arith)
+own_le n w d p L24 own c recent keeps h s = own_all n w c own (omega arith) (omega arith)
+own_le n w d p L25 own c recent keeps h s = own_all n w c own (omega arith) (omega arith)
+own_le n w d p L26 own c recent keeps h s = let inside : IsOneOf w p.k = keeps.1 in own_all n w c own (omega arith) (omega arith)
+own_le n w d p L27 own c recent keeps h s = let inside : IsOneOf w p.k = keeps.1 in own_all n w c own (omega arith) (omega arith)
+own_le n w d p L28 own c recent keeps h s = let inside : IsOneOf w p.k = keeps.1 in own_all n w c own (omega arith) (omega arith)
+own_le n w d p L29 own c recent keeps h s = let inside : IsOneOf w p.k = keeps.1 in own_all n w c own (omega arith) (omega arith)
+own_le n w d p L30 own c recent keeps h s = own_all n w c own (omega arith) (omega arith)
+own_le n w d p L31 own c recent keeps h s = own_all n w c own (omega arith) (omega arith)
+own_le n w d p L32 own c recent keeps h s = own_all n w c own (omega arith) (omega arith)
+own_le n w d p L33 own c recent keeps h s = own_all n w c own (omega arith) (omega arith)
+own_le n w d p L34 own c recent keeps h s = own_all n w c own (omega arith) (omega arith)
+own_le n w d p L35 own c recent keeps h s = own_all n w c own (omega arith) (omega arith)
+own_le n w d p L36 own c recent keeps h s = own_all n w c own (omega arith) (omega arith)
+own_le n w d p L37 own c recent keeps h s = own_all n w c own (omega arith) (omega arith)
+own_le n w d p L50 own c recent keeps h s = absurd s
+own_le n w d p L51 own c recent keeps h s = absurd s
+own_le n w d p L52 own c recent keeps h s = absurd s
+own_le n w d p L53 own c recent keeps h s = absurd s
+own_le n w d p L54 own c recent keeps h s = absurd s
+own_le n w d p L55 own c recent keeps h s = absurd s
+own_le n w d p L56 own c recent keeps h s = absurd s
+own_le n w d p L57 own c recent keeps h s = absurd s
+own_le n w d p L58 own c recent keeps h s = absurd s

@@ -1,0 +1,14 @@
+pub mod Algorithm
+pub mod Basics
+pub mod Lines
+pub mod History
+pub mod Control
+pub mod Collect
+pub mod Stage
+pub mod Count
+pub mod Invariant
+pub mod Writes
+pub mod Keep
+pub mod Runs
+pub mod Updates
+pub mod Moves

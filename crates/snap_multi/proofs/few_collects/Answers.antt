@@ -1,0 +1,5 @@
+use Rattle.snap_multi.proofs.Runs.{few_collects_lem}
+use Rattle.snap_multi.proofs.few_collects.Goals as goal
+
+pub returns : goal.returns
+returns c = few_collects_lem

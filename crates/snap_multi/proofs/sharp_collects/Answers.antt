@@ -1,0 +1,5 @@
+use Rattle.snap_multi.proofs.Runs.{sharp_collects_lem}
+use Rattle.snap_multi.proofs.sharp_collects.Goals as goal
+
+pub returns : goal.returns
+returns c = sharp_collects_lem

@@ -1,5 +1,5 @@
 -- What holds of words of any kind by their definitions: new words and kept parts are sized, and are kept again.
-use Rattle.std.proofs.Common.{◌≡◌, ◌∙◌, ℕ, Bool, true, ◌&&◌, List, length, replicate, refl, ap, eq-eqb}
+use Rattle.std.proofs.Common.{◌≡◌, ◌∙◌, ℕ, Bool, true, ◌&&◌, length, replicate, refl, ap, eq-eqb}
 use Rattle.std.proofs.lemmas.List.{length-replicate}
 use Rattle.std.specs.Prelude.{zero, suc, nat_eq}
 use Rattle.std.specs.List.{list_all}

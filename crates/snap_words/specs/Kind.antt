@@ -1,5 +1,5 @@
 -- The kinds of registers: which shapes fit, how a word begins, and who may write what.
-use Rattle.std.specs.Prelude.{ℕ, ◌-◌, Bool, true, false, ◌&&◌, List, [], ◌∷◌, length, Option, Some, None, nat_eq, nat_lt, nat_le, replicate, slice_get, if◌then◌else◌}
+use Rattle.std.specs.Prelude.{ℕ, ◌-◌, Bool, true, false, ◌&&◌, List, [], length, Option, Some, None, nat_eq, nat_lt, nat_le, replicate, slice_get, if◌then◌else◌}
 use Rattle.std.specs.List.{list_all}
 use Rattle.snap_words.specs.Shape.{Counts}
 use Rattle.snap_words.specs.Word.{Word}

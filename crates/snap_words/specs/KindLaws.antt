@@ -1,5 +1,5 @@
 -- The laws of the kinds: a word is its parts, and its bits are bits.
-use Rattle.std.specs.Prelude.{◌≡◌, Bool, true, ◌&&◌, refl}
+use Rattle.std.specs.Prelude.{◌≡◌, Bool, true, ◌&&◌}
 use Rattle.std.specs.List.{list_all}
 use Rattle.std.proofs.Common.{ap}
 use mathlib.Core.Bool.{Bool-set}

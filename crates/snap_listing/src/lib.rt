@@ -8,6 +8,8 @@ mod header;
 mod listing;
 mod reader;
 mod terms;
+#[cfg(test)]
+mod tests;
 mod uses;
 
 pub use fault::ListingFault;

@@ -1,0 +1,20 @@
+//! What the program does between a source of bytes and a sink: whole runs, from texts to a report.
+#![tactic(auto)]
+
+mod fault;
+mod fault_text;
+mod parts;
+mod reading;
+mod standard;
+mod writing;
+
+pub use fault::Fault;
+pub use fault_text::fault_line;
+pub use parts::split_parts;
+pub use reading::Source;
+pub use standard::Std;
+pub use writing::Sink;
+
+/// The device failed.
+#[derive(Clone, Copy, Debug)]
+pub struct Failed;

@@ -1,0 +1,48 @@
+-- Tokens as they are seen, and what rules find.
+use Rattle.std.specs.Prelude.{◌≡◌, ℕ, ◌+◌, Bool, true, false, List, [], ◌∷◌, map, Option, Some, None, nat_eq, if◌then◌else◌}
+use Rattle.snap_semantics.specs.declared.text.Mark.{Mark}
+use Rattle.snap_semantics.specs.declared.text.Mark.TheVariants as mark
+use Rattle.snap_semantics.specs.Token.{Token, Word, Number, Sign, is_run_byte, mark_of}
+use Rattle.snap_text.specs.declared.lexer.Token.{Token as Given}
+use Rattle.snap_text.specs.declared.lexer.Token.TheVariants as given
+
+abbrev pub view_token : Given → Token
+view_token (given.Word w) = Word w.now
+view_token (given.Number k) = Number k
+view_token (given.Sign m) = Sign m
+
+abbrev pub view_tokens : List Given → List Token
+view_tokens ts = map view_token ts
+
+-- What a rule found, seen by `view`, is what the definition finds. It goes by cases on what was found, so that a rule
+-- that is made of others by `?` follows from theirs once it is unfolded: no proof file is needed.
+abbrev pub Finds : {X Y : Type 0} → (X → Y) → Option X → Option Y → Type 0
+Finds view None found = found ≡ None
+Finds view (Some x) found = found ≡ Some (view x)
+
+-- how many letters and digits stand at the front
+abbrev pub run_len : List ℕ → ℕ
+run_len [] = 0
+run_len (b ∷ bs) = if is_run_byte b then run_len bs + 1 else 0
+
+abbrev pub marked : List ℕ → Option Mark → Option (Mark × List ℕ)
+marked bs None = None
+marked bs (Some m) = Some (m, bs)
+
+abbrev pub different : List ℕ → Option (Mark × List ℕ)
+different [] = None
+different (b ∷ bs) = if nat_eq b 61 then Some (mark.Different, bs) else None
+
+-- the mark at the front, and what stands behind it
+abbrev pub front_mark : List ℕ → Option (Mark × List ℕ)
+front_mark [] = None
+front_mark (b ∷ bs) = if nat_eq b 33 then different bs else marked bs (mark_of b)
+
+abbrev pub is_some_token : List Token → Bool
+is_some_token [] = false
+is_some_token (t ∷ ts) = true
+
+-- whether a line is more than space
+abbrev pub has_tokens : Option (List Token) → Bool
+has_tokens None = true
+has_tokens (Some ts) = is_some_token ts

@@ -1,0 +1,107 @@
+//! The lines of a text.
+ghost use Rattle.std.specs.Prelude.{◌≡◌, ◌<◌, ℕ, length, IfOk, OnErr, option_map, IsTrue, ◌↔◌, ◌∷◌};
+ghost use Rattle.snap_semantics.specs.Token.{TextLine, lines_of, numbered, text_lines};
+ghost use Rattle.snap_text.specs.Tokens.{view_tokens, has_tokens};
+ghost use Rattle.snap_text.specs.Lines.{IsNext};
+
+use crate::lexer::{Token, tokens};
+use std::alloc::{AllocError, Global};
+use std::marker::Model;
+
+/// A line that has tokens: its number, and its tokens, or none where a byte begins no token.
+#[derive(Debug, Drop)]
+pub struct TokenLine<'a> {
+    pub number: u64,
+    pub tokens: Option<Vec<Token<'a>>>,
+}
+
+/// Goes through the lines of a text that have tokens; seen as the list of those that are left.
+#[derive(Debug)]
+pub struct TextLines<'a> {
+    number: u64,
+    rest: &'a [u8],
+}
+
+impl<'a> Model for TextLines<'a> {
+    ghost use Rattle.std.specs.Prelude.{List, ◌+◌, ◌<◌, ◌^◌, length};
+    ghost use Rattle.snap_semantics.specs.Token.{TextLine, lines_of, numbered};
+
+    ghost Value = { List TextLine };
+
+    ghost view = { λ c. numbered c.number (lines_of c.rest.now) };
+
+    ghost invariant = { λ c. c.number + length c.rest.now < 2 ^ 64 };
+}
+
+/// The first line, without its line feed, and the lines behind it.
+fn split_line(bytes: &[u8]) -> (&[u8], &[u8])
+    requires { 0 < length bytes.now }
+    ensures lines { lines_of bytes.now ≡ result.0.now ∷ lines_of result.1.now }
+    ensures shorter { length result.1.now < length bytes.now }
+{
+    let mut len = 0;
+    while len < bytes.len() {
+        if bytes[len] == b'\n' {
+            return (&bytes[..len], &bytes[len + 1..]);
+        }
+        len += 1;
+    }
+    (bytes, &bytes[bytes.len()..])
+}
+
+/// Whether a line is more than space.
+fn has_tokens(found: &Option<Vec<Token<'_>>>) -> bool
+    ensures { result ≡ has_tokens (option_map (λ ts. view_tokens ts.items) found.now) }
+{
+    match found {
+        Some(tokens) => !tokens.is_empty(),
+        None => true,
+    }
+}
+
+impl<'a> TextLines<'a> {
+    /// Before the first line of a text.
+    pub fn new(text: &'a [u8]) -> TextLines<'a>
+        ensures { result ≡ text_lines text.now }
+    {
+        TextLines {
+            number: 1,
+            rest: text,
+        }
+    }
+
+    /// Takes the next line that has tokens.
+    pub fn next_line(&mut self, alloc: Global) -> Result<Option<TokenLine<'a>>, AllocError>
+        ensures next { IfOk result (λ line. IsNext line self.old self.new) }
+        ensures unchanged { OnErr result (self.new ≡ self.old) }
+    {
+        while !self.rest.is_empty() {
+            let (line, after) = split_line(self.rest);
+            let found = tokens(alloc, line)?;
+            let number = self.number;
+            self.rest = after;
+            self.number = number + 1;
+            if has_tokens(&found) {
+                return Ok(Some(TokenLine {
+                    number,
+                    tokens: found,
+                }));
+            }
+        }
+        Ok(None)
+    }
+}
+
+/// How many lines a text has; a last one without line feed counts.
+pub fn line_count(text: &[u8]) -> u64
+    ensures { result ≡ length (lines_of text.now) }
+{
+    let mut count = 0;
+    let mut rest = text;
+    while !rest.is_empty() {
+        let (_, after) = split_line(rest);
+        count += 1;
+        rest = after;
+    }
+    count
+}

@@ -1,8 +1,9 @@
 //! Why the program did not write its output.
 ghost use Rattle.std.specs.Prelude.{◌≡◌};
+ghost use Rattle.snap_semantics.specs.declared.refusal.Refusal.TheVariants as refusal;
 ghost use Rattle.snap_program.specs.declared.fault.Fault.TheVariants.{Memory, Refused};
 
-use snap_semantics::Refusal;
+use snap_semantics::{CommandRefusal, Refusal};
 use std::alloc::{AllocError, AllocFailed};
 use thiserror::Error;
 
@@ -41,5 +42,13 @@ impl<T: Drop> From<AllocFailed<T>> for Fault {
 
     fn from(_error: AllocFailed<T>) -> Fault {
         Fault::Memory
+    }
+}
+
+impl From<CommandRefusal> for Fault {
+    ghost from_gives = { λ found fault. fault ≡ Refused (refusal.Commands found) };
+
+    fn from(refusal: CommandRefusal) -> Fault {
+        Fault::Refused(Refusal::Commands(refusal))
     }
 }

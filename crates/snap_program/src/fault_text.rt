@@ -11,8 +11,8 @@ ghost use Rattle.snap_program.specs.FaultText.{
 };
 
 use crate::fault::Fault;
-use itoa::Buffer;
 use snap_semantics::{CommandRefusal, ListingRefusal, Refusal, ScheduleRefusal};
+use snap_text::{push_number, push_text};
 use snap_words::WordFault;
 use std::alloc::{AllocError, Global};
 
@@ -20,17 +20,16 @@ use std::alloc::{AllocError, Global};
 fn push_numbered(out: &mut Vec<u8>, name: &[u8], number: u64) -> Result<(), AllocError>
     ensures { OnOk result (out.new.items ≡ out.old.items ++ numbered name.now number) }
 {
-    let mut buffer = Buffer::new();
-    out.extend_from_slice(name)?;
-    out.extend_from_slice(b" ")?;
-    out.extend_from_slice(buffer.format(number).as_bytes())
+    push_text(out, name)?;
+    push_text(out, b" ")?;
+    push_number(out, number)
 }
 
 fn push_listing_refusal(out: &mut Vec<u8>, refusal: &ListingRefusal) -> Result<(), AllocError>
     ensures { OnOk result (out.new.items ≡ out.old.items ++ listing_refusal_text refusal.now) }
 {
     match refusal {
-        ListingRefusal::TooLong => out.extend_from_slice(b"L1 TooLong"),
+        ListingRefusal::TooLong => push_text(out, b"L1 TooLong"),
         ListingRefusal::BadHeader(line) => push_numbered(out, b"L2 BadHeader", *line),
         ListingRefusal::BadLine(line) => push_numbered(out, b"L3 BadLine", *line),
         ListingRefusal::NumberNotRising(line) => push_numbered(out, b"L4 NumberNotRising", *line),
@@ -47,8 +46,8 @@ fn push_schedule_refusal(out: &mut Vec<u8>, refusal: &ScheduleRefusal) -> Result
     ensures { OnOk result (out.new.items ≡ out.old.items ++ schedule_refusal_text refusal.now) }
 {
     match refusal {
-        ScheduleRefusal::TooLong => out.extend_from_slice(b"S1 TooLong"),
-        ScheduleRefusal::BadShape => out.extend_from_slice(b"S2 BadShape"),
+        ScheduleRefusal::TooLong => push_text(out, b"S1 TooLong"),
+        ScheduleRefusal::BadShape => push_text(out, b"S2 BadShape"),
         ScheduleRefusal::BadItem(line) => push_numbered(out, b"S3 BadItem", *line),
         ScheduleRefusal::TooManyItems(line) => push_numbered(out, b"S4 TooManyItems", *line),
         ScheduleRefusal::NoSuchProcess(line) => push_numbered(out, b"S5 NoSuchProcess", *line),
@@ -60,7 +59,7 @@ fn push_command_refusal(out: &mut Vec<u8>, refusal: &CommandRefusal) -> Result<(
 {
     match refusal {
         CommandRefusal::BadCommand(line) => push_numbered(out, b"G1 BadCommand", *line),
-        CommandRefusal::TooLong => out.extend_from_slice(b"G7 TooLong"),
+        CommandRefusal::TooLong => push_text(out, b"G7 TooLong"),
     }
 }
 
@@ -68,7 +67,7 @@ fn push_word_fault(out: &mut Vec<u8>, fault: &WordFault) -> Result<(), AllocErro
     ensures { OnOk result (out.new.items ≡ out.old.items ++ word_fault_text fault.now) }
 {
     match fault {
-        WordFault::BadShape => out.extend_from_slice(b"W1 BadShape"),
+        WordFault::BadShape => push_text(out, b"W1 BadShape"),
     }
 }
 
@@ -76,7 +75,7 @@ fn push_refusal(out: &mut Vec<u8>, refusal: &Refusal) -> Result<(), AllocError>
     ensures { OnOk result (out.new.items ≡ out.old.items ++ refusal_text refusal.now) }
 {
     match refusal {
-        Refusal::InputTooLong => out.extend_from_slice(b"P1 InputTooLong"),
+        Refusal::InputTooLong => push_text(out, b"P1 InputTooLong"),
         Refusal::WrongParts(found) => push_numbered(out, b"P2 WrongParts", *found),
         Refusal::Listing(refusal) => push_listing_refusal(out, refusal),
         Refusal::Schedule(refusal) => push_schedule_refusal(out, refusal),
@@ -91,12 +90,12 @@ pub fn fault_line(alloc: Global, fault: &Fault) -> Result<Vec<u8>, AllocError>
 {
     let mut line = Vec::new(alloc);
     match fault {
-        Fault::Memory => line.extend_from_slice(b"refused: Memory")?,
+        Fault::Memory => push_text(&mut line, b"refused: Memory")?,
         Fault::Refused(refusal) => {
-            line.extend_from_slice(b"refused: ")?;
+            push_text(&mut line, b"refused: ")?;
             push_refusal(&mut line, refusal)?;
         }
-        Fault::Read => line.extend_from_slice(b"read fault")?,
+        Fault::Read => push_text(&mut line, b"read fault")?,
         Fault::Write(count) => push_numbered(&mut line, b"write fault after", *count)?,
     }
     line.push(b'\n')?;

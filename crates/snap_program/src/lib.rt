@@ -1,6 +1,7 @@
 //! What the program does between a source of bytes and a sink: whole runs, from texts to a report.
 #![tactic(auto)]
 
+mod commands;
 mod fault;
 mod fault_text;
 mod parts;

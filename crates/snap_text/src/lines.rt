@@ -16,7 +16,7 @@ pub struct TokenLine<'a> {
 }
 
 /// Goes through the lines of a text that have tokens; seen as the list of those that are left.
-#[derive(Debug)]
+#[derive(Debug, Drop)]
 pub struct TextLines<'a> {
     number: u64,
     rest: &'a [u8],

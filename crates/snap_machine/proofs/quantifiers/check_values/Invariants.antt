@@ -1,0 +1,13 @@
+use Rattle.std.proofs.Common.{◌≡◌, Ok}
+use Rattle.snap_semantics.specs.Answers.{◌>>=◌}
+use Rattle.snap_semantics.specs.Table.{each_value}
+use Rattle.snap_semantics.specs.Value.{at_place}
+use Rattle.snap_machine.specs.Quantifiers.{checked_values}
+use Rattle.snap_machine.specs.Seen.{seen_context}
+use Rattle.snap_machine.proofs.Places.{left_of}
+use Rattle.snap_machine.proofs.quantifiers.check_values.Given as goal
+
+abbrev pub invariant-loop-passed : goal.invariant-loop-passed
+invariant-loop-passed l =
+    (left_of (λ p. each_value (at_place (seen_context l.listing l.turn l.process) p) l.name l.expr l.condition) l.passed l.count >>= λ vs. Ok tt)
+    ≡ checked_values (seen_context l.listing l.turn l.process) l.count l.name l.expr l.condition

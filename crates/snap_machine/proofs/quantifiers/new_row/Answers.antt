@@ -1,0 +1,46 @@
+use Rattle.std.proofs.Common.{◌≡◌, ℕ, ◌+◌, List, [], ◌∷◌, ◌++◌, drop, Ok, Err, sym, ap, ◌∙◌, arith, append_assoc}
+use Rattle.std.proofs.lemmas.Result.{err_from_is_err_and}
+use Rattle.snap_semantics.specs.Table.{each_value}
+use Rattle.snap_semantics.specs.Value.{Context, at_place}
+use Rattle.snap_machine.specs.declared.value.Turn.{Turn}
+use Rattle.snap_machine.specs.Seen.{seen_context}
+use Rattle.snap_machine.proofs.Places.{next_place, trap_place}
+use Rattle.snap_machine.proofs.quantifiers.new_row.Goals as goal
+
+pub returns-in_err-value : goal.returns-in_err-value
+returns-in_err-value c =
+    let s = c.args.listing.now in
+    let p = c.args.process.now in
+    let x = c.args.name in
+    let v = c.args.expr.now in
+    let k = c.args.condition.now in
+    let passed = c.loop-passed.passed in
+    let context : Context = seen_context s c.args.turn.now p in
+    let rest : List ℕ = drop c.args.count c.row-old.result.now in
+    let whole : List ℕ → List ℕ = λ vs. c.loop-passed.values.items ++ (vs ++ rest) in
+    let is : each_value (at_place context (passed + 1)) x v k ≡ Err c.in_err-value.field-0.0 =
+    ap (λ (t : Turn). each_value (seen_context s t p) x v k) (sym c.at.ensures) ∙ sym c.row_value.ensures ∙ c.in_err-value.was in
+    let e = err_from_is_err_and c.from_residual-in_err-value.result c.from_residual-in_err-value.ensures.1 in
+    rw (e.1, e.2) (sym (trap_place (λ q. each_value (at_place context q) x v k) whole passed c.args.count c.in_err-value.field-0.0 (omega arith) is) ∙ c.loop-passed.invariant)
+
+pub loop-passed-preserved : goal.loop-passed-preserved
+loop-passed-preserved c =
+    let s = c.args.listing.now in
+    let p = c.args.process.now in
+    let x = c.args.name in
+    let v = c.args.expr.now in
+    let k = c.args.condition.now in
+    let passed = c.loop-passed.passed in
+    let context : Context = seen_context s c.args.turn.now p in
+    let rest : List ℕ = drop c.args.count c.row-old.result.now in
+    let before = c.loop-passed.values.items in
+    let after = c.push.new.row.items in
+    let whole : List ℕ → List ℕ = λ vs. before ++ (vs ++ rest) in
+    let whole' : List ℕ → List ℕ = λ vs. after ++ (vs ++ rest) in
+    let y = c.in_ok-value.value in
+    let is : each_value (at_place context (passed + 1)) x v k ≡ Ok y =
+    ap (λ (t : Turn). each_value (seen_context s t p) x v k) (sym c.at.ensures) ∙ sym c.row_value.ensures ∙ c.in_ok-value.was in
+    let pushed : after ≡ before ++ y ∷ [] = c.in_ok-push.ensures in
+    sym (next_place (λ q. each_value (at_place context q) x v k) whole whole' passed c.args.count y (omega arith) is
+    (λ vs. sym (append_assoc before (y ∷ []) (vs ++ rest)) ∙ ap (λ (ys : List ℕ). ys ++ (vs ++ rest)) (sym pushed)))
+    ∙ c.loop-passed.invariant

@@ -1,0 +1,4 @@
+pub mod Lines
+pub mod Quantifiers
+pub mod Seen
+pub mod Slot

@@ -1,0 +1,15 @@
+//! A machine: processes that run a listing over registers of kind seq, one schedule item at a time.
+#![tactic(auto)]
+
+mod control_lines;
+mod lines;
+mod local_lines;
+mod locals;
+mod process;
+mod quantifiers;
+mod register_lines;
+mod step;
+mod value;
+mod word;
+
+pub use word::Word;

@@ -1,0 +1,62 @@
+//! What running a line comes to.
+ghost use Rattle.std.specs.Prelude.{◌≡◌};
+ghost use Rattle.snap_semantics.specs.Source.{following};
+ghost use Rattle.snap_machine.specs.Lines.{next_line};
+ghost use Rattle.snap_machine.specs.declared.lines.Halt.TheVariants.{Trap, NoMemory};
+
+use crate::value::Turn;
+use snap_listing::Listing;
+use snap_semantics::Cause;
+use snap_words::View;
+use std::alloc::AllocError;
+
+/// Where a process goes on, or how its operation ends.
+#[derive(Drop)]
+pub enum Next {
+    Line { line: u64, link: Option<u64> },
+    Answer(View),
+    Finish,
+}
+
+/// Why a line was not run.
+#[derive(Drop)]
+pub enum Halt {
+    Trap(Cause),
+    NoMemory(AllocError),
+}
+
+impl From<Cause> for Halt {
+    ghost from_gives = { λ cause halt. halt ≡ Trap cause };
+
+    fn from(cause: Cause) -> Halt {
+        Halt::Trap(cause)
+    }
+}
+
+impl From<AllocError> for Halt {
+    ghost from_gives = { λ e halt. halt ≡ NoMemory e };
+
+    fn from(e: AllocError) -> Halt {
+        Halt::NoMemory(e)
+    }
+}
+
+/// The line after this one.
+pub fn next_line(listing: &Listing, turn: &Turn) -> Result<Next, Cause>
+    ensures { result ≡ next_line turn.now.activity (following listing.now.lines turn.now.activity.line) }
+{
+    match listing.following(turn.activity.line) {
+        Some(line) => Ok(goto(turn, line)),
+        None => Err(Cause::OffEnd),
+    }
+}
+
+/// A line, with the same link.
+pub fn goto(turn: &Turn, line: u64) -> Next
+    ensures { result ≡ Next.Line line turn.now.activity.link }
+{
+    Next::Line {
+        line,
+        link: turn.activity.link,
+    }
+}

@@ -12,4 +12,5 @@ mod step;
 mod value;
 mod word;
 
+pub use process::Process;
 pub use word::Word;

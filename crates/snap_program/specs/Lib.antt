@@ -1,3 +1,4 @@
 pub mod Answers
 pub mod CommandsInTurn
 pub mod FaultText
+pub mod ReportLines

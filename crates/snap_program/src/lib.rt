@@ -5,7 +5,9 @@ mod commands;
 mod fault;
 mod fault_text;
 mod parts;
+mod process_text;
 mod reading;
+mod report;
 mod standard;
 mod writing;
 

@@ -2,3 +2,4 @@ pub mod Slots
 pub mod Hands
 pub mod Places
 pub mod Data
+pub mod Steps

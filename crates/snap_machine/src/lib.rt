@@ -1,10 +1,12 @@
 //! A machine: processes that run a listing over registers of kind seq, one schedule item at a time.
 #![tactic(auto)]
 
+mod call;
 mod control_lines;
 mod lines;
 mod local_lines;
 mod locals;
+mod machine;
 mod process;
 mod quantifiers;
 mod register_lines;
@@ -12,5 +14,5 @@ mod step;
 mod value;
 mod word;
 
-pub use process::Process;
+pub use machine::Machine;
 pub use word::Word;

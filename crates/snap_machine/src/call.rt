@@ -1,0 +1,83 @@
+//! A call of a process.
+ghost use Rattle.std.specs.Prelude.{◌≡◌, length};
+ghost use Rattle.snap_words.specs.Shape.{IsOneOf};
+ghost use Rattle.snap_semantics.specs.Table.{call_skip, done, entry, owner_skip};
+ghost use Rattle.snap_semantics.specs.declared.process.Item.TheVariants as item;
+ghost use Rattle.snap_machine.specs.Seen.{seen_state};
+
+use crate::process::Process;
+use crate::word::Word;
+use snap_listing::Listing;
+use snap_semantics::{Activity, Op, Outcome, Reason, Status};
+use snap_words::{KindTag, Shape};
+
+/// A call of process i.
+pub fn call(
+    listing: &Listing,
+    shape: Shape,
+    registers: &[Word],
+    processes: &mut [Process],
+    i: u32,
+    op: Op,
+) -> Outcome
+    requires { IsOneOf (length processes.old) i }
+    ensures { done listing.now shape (seen_state listing.now registers.now processes.old) (item.Call i op)
+        ≡ (seen_state listing.now registers.now processes.new, result) }
+{
+    let k = (i - 1) as usize;
+    let process = &mut processes[k];
+    match process.status {
+        Status::Trapped(_, _) => Outcome::Skipped(Reason::Trapped),
+        Status::Busy(_) => Outcome::Skipped(Reason::Busy),
+        Status::Idle => match call_skip(listing.kind(), shape, u64::from(i), op) {
+            Some(reason) => Outcome::Skipped(reason),
+            None => {
+                let line = entry(listing, op);
+                process.status = Status::Busy(Activity {
+                    op,
+                    line,
+                    link: None,
+                });
+                Outcome::Called
+            }
+        },
+    }
+}
+
+/// Why an idle process is not asked for an operation.
+fn call_skip(kind: KindTag, shape: Shape, i: u64, op: Op) -> Option<Reason>
+    ensures { result ≡ call_skip kind shape i op }
+{
+    match op {
+        Op::Scan => None,
+        Op::Update { word, .. } => if 0 < word && word <= shape.w() {
+            owner_skip(kind, i, word)
+        } else {
+            Some(Reason::NoSuchWord)
+        },
+    }
+}
+
+/// Single-writer kinds let a process update its own word alone.
+fn owner_skip(kind: KindTag, i: u64, word: u64) -> Option<Reason>
+    ensures { result ≡ owner_skip kind i word }
+{
+    match kind {
+        KindTag::Seq | KindTag::Bits => if word == i {
+            None
+        } else {
+            Some(Reason::NotOwner)
+        },
+        KindTag::Multi => None,
+    }
+}
+
+/// The line at which an operation begins.
+fn entry(listing: &Listing, op: Op) -> u64
+    ensures { result ≡ entry listing.now op }
+{
+    match op {
+        Op::Scan => listing.scan(),
+        Op::Update { .. } => listing.update(),
+    }
+}

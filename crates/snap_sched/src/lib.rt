@@ -2,7 +2,12 @@
 #![tactic(auto)]
 
 mod fault;
+mod forms;
 mod items;
+mod reading;
+mod schedule;
 
 pub use fault::ScheduleFault;
 pub use items::{Items, Run};
+pub use reading::read;
+pub use schedule::{MAX_BYTES, MAX_ITEMS, Schedule};

@@ -1,0 +1,125 @@
+-- The items of lines, one line after another.
+use Rattle.std.proofs.Common.{◌≡◌, ℕ, zero, suc, ◌+◌, ◌-◌, ◌<◌, ◌≤◌, Bool, true, false, not, ◌&&◌, List, [], ◌∷◌, ◌++◌, length, map, replicate, Option, Some, None, Result, Ok, Err, nat_eq, nat_le, nat_lt, if◌then◌else◌, refl, sym, ap, ◌∙◌, arith, append_assoc, append-nil, subst}
+use Rattle.std.proofs.lemmas.Bool.{leb-true, ltb-false, and_parts}
+use Rattle.std.proofs.lemmas.List.{length-append, length-replicate}
+use Rattle.std.specs.List.{AllByRecursion}
+use Rattle.snap_words.specs.Shape.{Counts, IsOneOf}
+use Rattle.snap_semantics.specs.declared.process.Item.{Item}
+use Rattle.snap_semantics.specs.declared.process.Item.TheVariants as item
+use Rattle.snap_semantics.specs.declared.process.Op.{Op}
+use Rattle.snap_semantics.specs.declared.refusal.ScheduleRefusal.{ScheduleRefusal}
+use Rattle.snap_semantics.specs.declared.refusal.ScheduleRefusal.TheVariants as refusal
+use Rattle.snap_semantics.specs.Answers.{◌>>=◌}
+use Rattle.snap_semantics.specs.Schedule.{Schedule, form_or, found_or, admitted, items_of, schedule_of_lines, form_process, form_count, form_items}
+use Rattle.snap_semantics.specs.ScheduleForms.{Form, Steps, Calls, item_form, shape_form}
+use Rattle.snap_semantics.specs.Table.{who}
+use Rattle.snap_semantics.specs.Token.{TextLine}
+use Rattle.snap_text.specs.declared.lines.TokenLine.{TokenLine}
+use Rattle.snap_text.specs.Lines.{IsNext, view_line}
+use Rattle.snap_sched.specs.Reading.{line_form, shape_then, first_shape}
+
+-- items before those that were read
+abbrev pub prefixed : List Item → Result (List Item) ScheduleRefusal → Result (List Item) ScheduleRefusal
+prefixed xs (Ok ys) = Ok (xs ++ ys)
+prefixed xs (Err e) = Err e
+
+-- the rule for the rest, once the first line is read
+abbrev pub rest_of : ℕ → ℕ → List TextLine → Form → Result (List Item) ScheduleRefusal
+rest_of n left lines f = items_of n (left - form_count f) lines >>= λ items. Ok (form_items f ++ items)
+
+pub bind_assoc : {A B C : Type 0} (r : Result A ScheduleRefusal) (f : A → Result B ScheduleRefusal) (g : B → Result C ScheduleRefusal) →
+    (r >>= λ x. f x >>= g) ≡ ((r >>= f) >>= g)
+bind_assoc (Ok x) f g = refl
+bind_assoc (Err e) f g = refl
+
+pub first_line : (n left : ℕ) (line : TextLine) (lines : List TextLine) →
+    items_of n left (line ∷ lines) ≡ (line_form n left line >>= rest_of n left lines)
+first_line n left line lines = bind_assoc (form_or (refusal.BadItem line.number) item_form line.tokens) (admitted n left line.number) (rest_of n left lines)
+
+pub length_items : (f : Form) → length (form_items f) ≡ form_count f
+length_items (Steps i count) = length-replicate count (item.Step i)
+length_items (Calls i op) = refl
+
+prefixed_more : (xs ys : List Item) (r : Result (List Item) ScheduleRefusal) → prefixed (xs ++ ys) r ≡ prefixed xs (r >>= λ items. Ok (ys ++ items))
+prefixed_more xs ys (Ok zs) = ap (λ (items : List Item). let r : Result (List Item) ScheduleRefusal = Ok items in r) (append_assoc xs ys zs)
+prefixed_more xs ys (Err e) = refl
+
+-- a line that is read
+pub turn : (n : ℕ) (lines rest : List TextLine) (line : TextLine) (items more : List Item) (f : Form) →
+    lines ≡ line ∷ rest → line_form n (1000000 - length items) line ≡ Ok f → more ≡ items ++ form_items f →
+    prefixed more (items_of n (1000000 - length more) rest) ≡ prefixed items (items_of n (1000000 - length items) lines)
+turn n lines rest line items more f is found added =
+    let longer : length more ≡ length items + form_count f = ap length added ∙ length-append items (form_items f) ∙ ap (λ (k : ℕ). length items + k) (length_items f) in
+    let left : 1000000 - length more ≡ 1000000 - length items - form_count f = omega (arith, longer) in
+    ap (λ (k : ℕ). prefixed more (items_of n k rest)) left
+    ∙ ap (λ (xs : List Item). prefixed xs (items_of n (1000000 - length items - form_count f) rest)) added
+    ∙ prefixed_more items (form_items f) (items_of n (1000000 - length items - form_count f) rest)
+    ∙ ap (λ (r : Result Form ScheduleRefusal). prefixed items (r >>= rest_of n (1000000 - length items) rest)) (sym found)
+    ∙ ap (prefixed items) (sym (first_line n (1000000 - length items) line rest))
+    ∙ ap (λ (ls : List TextLine). prefixed items (items_of n (1000000 - length items) ls)) (sym is)
+
+-- a line that is refused
+pub stop : (n : ℕ) (lines rest : List TextLine) (line : TextLine) (items : List Item) (e : ScheduleRefusal) →
+    lines ≡ line ∷ rest → line_form n (1000000 - length items) line ≡ Err e → prefixed items (items_of n (1000000 - length items) lines) ≡ Err e
+stop n lines rest line items e is found =
+    ap (λ (ls : List TextLine). prefixed items (items_of n (1000000 - length items) ls)) is
+    ∙ ap (prefixed items) (first_line n (1000000 - length items) line rest)
+    ∙ ap (λ (r : Result Form ScheduleRefusal). prefixed items (r >>= rest_of n (1000000 - length items) rest)) found
+
+-- no line is left
+pub whole : (n : ℕ) (lines : List TextLine) (items : List Item) → lines ≡ [] → prefixed items (items_of n (1000000 - length items) lines) ≡ Ok items
+whole n lines items none =
+    ap (λ (ls : List TextLine). prefixed items (items_of n (1000000 - length items) ls)) none
+    ∙ ap (λ (xs : List Item). let r : Result (List Item) ScheduleRefusal = Ok xs in r) (append-nil items)
+
+-- what was admitted
+abbrev pub IsAdmitted : ℕ → ℕ → Form → Type 0
+IsAdmitted n left f = IsOneOf n (form_process f) × (form_count f ≤ left)
+
+admitted_by : (n left line : ℕ) (form f : Form) (there many : Bool) → (nat_le 1 (form_process form) && nat_le (form_process form) n) ≡ there → nat_lt left (form_count form) ≡ many →
+    (let r : Result Form ScheduleRefusal = if not there then Err (refusal.NoSuchProcess line) else if many then Err (refusal.TooManyItems line) else Ok form in r) ≡ Ok f → IsAdmitted n left f
+admitted_by n left line form f false many e d h = absurd cc
+admitted_by n left line form f true true e d h = absurd cc
+admitted_by n left line form f true false e d h =
+    let parts = and_parts (nat_le 1 (form_process form)) (nat_le (form_process form) n) e in
+    let some = leb-true 1 (form_process form) parts.0 in
+    let within = leb-true (form_process form) n parts.1 in
+    let few = ltb-false left (form_count form) d in
+    let same : form ≡ f = cc in
+    subst (λ (x : Form). IsAdmitted n left x) same ((omega (arith, some), within), few)
+
+pub is_admitted : (n left line : ℕ) (form f : Form) → admitted n left line form ≡ Ok f → IsAdmitted n left f
+is_admitted n left line form f e = admitted_by n left line form f (nat_le 1 (form_process form) && nat_le (form_process form) n) (nat_lt left (form_count form)) refl refl e
+
+line_admitted_by : (n left line : ℕ) (r : Result Form ScheduleRefusal) (f : Form) → (r >>= admitted n left line) ≡ Ok f → IsAdmitted n left f
+line_admitted_by n left line (Ok form) f e = is_admitted n left line form f e
+line_admitted_by n left line (Err d) f e = absurd cc
+
+pub line_admitted : (n left : ℕ) (line : TextLine) (f : Form) → line_form n left line ≡ Ok f → IsAdmitted n left f
+line_admitted n left line f e = line_admitted_by n left line.number (form_or (refusal.BadItem line.number) item_form line.tokens) f e
+
+-- what holds of the process of a form holds of those of its items
+pub all_more : (P : ℕ → Type 0) (xs ys : List Item) → AllByRecursion (λ x. P (who x)) xs → AllByRecursion (λ x. P (who x)) ys → AllByRecursion (λ x. P (who x)) (xs ++ ys)
+all_more P [] ys h g = g
+all_more P (x ∷ xs) ys h g = (h.0, all_more P xs ys h.1 g)
+
+all_steps : (P : ℕ → Type 0) (count i : ℕ) → P i → AllByRecursion (λ x. P (who x)) (replicate count (item.Step i))
+all_steps P zero i h = tt
+all_steps P (suc count) i h = (h, all_steps P count i h)
+
+pub all_form : (P : ℕ → Type 0) (f : Form) → P (form_process f) → AllByRecursion (λ x. P (who x)) (form_items f)
+all_form P (Steps i count) h = all_steps P count i h
+all_form P (Calls i op) h = (h, tt)
+
+-- the items are of processes that are there, and few
+pub kept : (n : ℕ) (line : TextLine) (items more : List Item) (f : Form) → line_form n (1000000 - length items) line ≡ Ok f → more ≡ items ++ form_items f →
+    length items ≤ 1000000 → AllByRecursion (λ x. IsOneOf n (who x)) items → (length more ≤ 1000000) × AllByRecursion (λ x. IsOneOf n (who x)) more
+kept n line items more f found added few h =
+    let ok = line_admitted n (1000000 - length items) line f found in
+    let longer : length more ≡ length items + form_count f = ap length added ∙ length-append items (form_items f) ∙ ap (λ (k : ℕ). length items + k) (length_items f) in
+    (omega (arith, ok.1, longer, few),
+     subst (λ (xs : List Item). AllByRecursion (λ x. IsOneOf n (who x)) xs) (sym added) (all_more (λ i. IsOneOf n i) items (form_items f) h (all_form (λ i. IsOneOf n i) f ok.0)))
+
+-- the next line, where there is one
+pub next_is : (o : Option TokenLine) (line : TokenLine) (old new : List TextLine) → IsNext o old new → o ≡ Some line → old ≡ view_line line ∷ new
+next_is o line old new h is = subst (λ (x : Option TokenLine). IsNext x old new) is h

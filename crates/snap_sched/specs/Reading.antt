@@ -1,0 +1,32 @@
+-- What is read, line by line.
+use Rattle.std.specs.Prelude.{ℕ, ◌&&◌, List, [], ◌∷◌, Option, Some, None, Result, Ok, Err, if◌then◌else◌}
+use Rattle.snap_words.specs.Shape.{Counts}
+use Rattle.snap_semantics.specs.declared.refusal.ScheduleRefusal.{ScheduleRefusal}
+use Rattle.snap_semantics.specs.declared.refusal.ScheduleRefusal.TheVariants as refusal
+use Rattle.snap_semantics.specs.Answers.{◌>>=◌}
+use Rattle.snap_semantics.specs.Schedule.{form_or, admitted}
+use Rattle.snap_semantics.specs.ScheduleForms.{Form, Steps, Calls, is_count, shape_form, item_form}
+use Rattle.snap_semantics.specs.Token.{TextLine}
+use Rattle.snap_sched.specs.declared.forms.Form.{Form as Given}
+use Rattle.snap_sched.specs.declared.forms.Form.TheVariants as given
+
+abbrev pub view_form : Given → Form
+view_form (given.Steps i count) = Steps i count
+view_form (given.Call i op) = Calls i op
+
+-- the shape of these counts, where both are 1 to 16
+abbrev pub shape_of : ℕ → ℕ → Option Counts
+shape_of n w = if is_count n && is_count w then Some (record { n = n; w = w }) else None
+
+-- the form of a line, of which so many items may still come
+abbrev pub line_form : ℕ → ℕ → TextLine → Result Form ScheduleRefusal
+line_form n left line = form_or (refusal.BadItem line.number) item_form line.tokens >>= λ form. admitted n left line.number form
+
+abbrev pub shape_then : List TextLine → Result Counts ScheduleRefusal → Result (Counts × List TextLine) ScheduleRefusal
+shape_then lines (Ok s) = Ok (s, lines)
+shape_then lines (Err e) = Err e
+
+-- the shape that the first line is, and the lines behind it
+abbrev pub first_shape : List TextLine → Result (Counts × List TextLine) ScheduleRefusal
+first_shape [] = Err refusal.BadShape
+first_shape (line ∷ lines) = shape_then lines (form_or refusal.BadShape shape_form line.tokens)

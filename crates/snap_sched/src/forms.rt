@@ -1,0 +1,107 @@
+//! The forms of the lines of a schedule.
+ghost use Rattle.std.specs.Prelude.{◌≡◌};
+ghost use Rattle.snap_semantics.specs.ScheduleForms.{shape_form, step_form, steps_form, scan_form, update_form, item_form};
+ghost use Rattle.snap_text.specs.Tokens.{Finds, view_tokens};
+ghost use Rattle.snap_sched.specs.Reading.{view_form, shape_of};
+
+use snap_semantics::{Mark, Op};
+use snap_text::{Token, end_at, keyword_at, mark_at, number_at};
+use snap_words::Shape;
+
+/// What a line asks for, whether or not its process is there.
+#[derive(Clone, Copy, Debug)]
+pub enum Form {
+    Steps { process: u64, count: u64 },
+    Call { process: u64, op: Op },
+}
+
+/// The shape of these counts, where both are 1 to 16.
+fn shape_of(n: u64, w: u64) -> Option<Shape>
+    ensures { Finds (λ s. s) result (shape_of n w) }
+{
+    Shape::new(n, w).ok()
+}
+
+/// `shape N W`.
+#[tactic(auto, unfolding(snap_semantics::specs::ScheduleForms::shape_form))]
+pub fn shape_form(tokens: &[Token<'_>]) -> Option<Shape>
+    ensures { Finds (λ s. s) result (shape_form (view_tokens tokens.now)) }
+{
+    let rest = keyword_at(b"shape", tokens)?;
+    let (n, rest) = number_at(rest)?;
+    let (w, rest) = number_at(rest)?;
+    end_at(rest)?;
+    shape_of(n, w)
+}
+
+/// `I`.
+#[tactic(auto, unfolding(snap_semantics::specs::ScheduleForms::step_form))]
+fn step_form(tokens: &[Token<'_>]) -> Option<Form>
+    ensures { Finds view_form result (step_form (view_tokens tokens.now)) }
+{
+    let (process, rest) = number_at(tokens)?;
+    end_at(rest)?;
+    Some(Form::Steps { process, count: 1 })
+}
+
+/// `I*K`.
+#[tactic(auto, unfolding(snap_semantics::specs::ScheduleForms::steps_form))]
+fn steps_form(tokens: &[Token<'_>]) -> Option<Form>
+    ensures { Finds view_form result (steps_form (view_tokens tokens.now)) }
+{
+    let (process, rest) = number_at(tokens)?;
+    let rest = mark_at(Mark::Star, rest)?;
+    let (count, rest) = number_at(rest)?;
+    end_at(rest)?;
+    if count == 0 {
+        return None;
+    }
+    Some(Form::Steps { process, count })
+}
+
+/// `I scan`.
+#[tactic(auto, unfolding(snap_semantics::specs::ScheduleForms::scan_form))]
+fn scan_form(tokens: &[Token<'_>]) -> Option<Form>
+    ensures { Finds view_form result (scan_form (view_tokens tokens.now)) }
+{
+    let (process, rest) = number_at(tokens)?;
+    let rest = keyword_at(b"scan", rest)?;
+    end_at(rest)?;
+    Some(Form::Call {
+        process,
+        op: Op::Scan,
+    })
+}
+
+/// `I update K X`.
+#[tactic(auto, unfolding(snap_semantics::specs::ScheduleForms::update_form))]
+fn update_form(tokens: &[Token<'_>]) -> Option<Form>
+    ensures { Finds view_form result (update_form (view_tokens tokens.now)) }
+{
+    let (process, rest) = number_at(tokens)?;
+    let rest = keyword_at(b"update", rest)?;
+    let (word, rest) = number_at(rest)?;
+    let (value, rest) = number_at(rest)?;
+    end_at(rest)?;
+    Some(Form::Call {
+        process,
+        op: Op::Update { word, value },
+    })
+}
+
+/// The form that a line is.
+#[tactic(auto, unfolding(snap_semantics::specs::ScheduleForms::item_form))]
+pub fn item_form(tokens: &[Token<'_>]) -> Option<Form>
+    ensures { Finds view_form result (item_form (view_tokens tokens.now)) }
+{
+    if let Some(form) = step_form(tokens) {
+        return Some(form);
+    }
+    if let Some(form) = steps_form(tokens) {
+        return Some(form);
+    }
+    if let Some(form) = scan_form(tokens) {
+        return Some(form);
+    }
+    update_form(tokens)
+}

@@ -1,0 +1,57 @@
+//! Schedules.
+ghost use Rattle.std.specs.Prelude.{◌≡◌};
+ghost use Rattle.snap_semantics.specs.ScheduleText.{IsSchedule};
+
+use crate::items::Items;
+use snap_words::Shape;
+use std::marker::Model;
+
+/// The most items of a schedule.
+pub const MAX_ITEMS: u64 = 1_000_000;
+
+/// The most bytes of the text of a schedule.
+pub const MAX_BYTES: usize = 4_194_304;
+
+/// A shape, and the items in order. Its processes are there, and there are at most `MAX_ITEMS` items.
+#[derive(Debug, Drop)]
+pub struct Schedule {
+    shape: Shape,
+    items: Items,
+}
+
+impl Model for Schedule {
+    ghost use Rattle.snap_semantics.specs.Schedule.{Schedule as Seen};
+    ghost use Rattle.snap_semantics.specs.ScheduleText.{IsSchedule};
+
+    ghost Value = { Seen };
+
+    ghost view = { λ s. record { shape = s.shape; items = s.items } };
+
+    ghost invariant = { λ s. IsSchedule (record { shape = s.shape; items = s.items }) };
+}
+
+impl Schedule {
+    /// The schedule of these items.
+    pub fn new(shape: Shape, items: Items) -> Schedule
+        requires { IsSchedule (record { shape = shape; items = items }) }
+        ensures { result ≡ record { shape = shape; items = items } }
+    {
+        Schedule { shape, items }
+    }
+
+    /// The numbers of processes and of words.
+    pub fn shape(&self) -> Shape
+        ensures shape { result ≡ self.now.shape }
+        ensures schedule { IsSchedule self.now }
+    {
+        self.shape
+    }
+
+    /// The items in order.
+    pub fn items(&self) -> &Items
+        ensures items { result.now ≡ self.now.items }
+        ensures schedule { IsSchedule self.now }
+    {
+        &self.items
+    }
+}

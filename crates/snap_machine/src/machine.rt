@@ -1,5 +1,5 @@
 //! The machine.
-ghost use Rattle.std.specs.Prelude.{◌≡◌, IfOk, IsTrue, OnErr, map, vec_len};
+ghost use Rattle.std.specs.Prelude.{length, ◌≡◌, IfOk, IsTrue, OnErr, map, vec_len};
 ghost use Rattle.snap_words.specs.Shape.{IsOneOf};
 ghost use Rattle.snap_semantics.specs.Memory.{may_grow};
 ghost use Rattle.snap_semantics.specs.Readers.{activity_of, line_of, link_of, operation_of};
@@ -79,7 +79,8 @@ impl Machine {
 
     /// The numbers of processes and of words.
     pub fn shape(&self) -> Shape
-        ensures { result ≡ self.now.shape }
+        ensures shape { result ≡ self.now.shape }
+        ensures processes { length self.now.state.processes ≡ self.now.shape.n }
     {
         self.shape
     }

@@ -3,3 +3,4 @@ pub mod Hands
 pub mod Places
 pub mod Data
 pub mod Steps
+pub mod Replicas

@@ -3,6 +3,7 @@
 
 mod call;
 mod control_lines;
+mod fresh;
 mod lines;
 mod local_lines;
 mod locals;

@@ -1,18 +1,21 @@
 //! The machine.
-ghost use Rattle.std.specs.Prelude.{length, ◌≡◌, IfOk, IsTrue, OnErr, map, vec_len};
+ghost use Rattle.std.specs.Prelude.{◌≡◌, IfOk, IsTrue, OnErr, length, map, vec_items, zip};
 ghost use Rattle.snap_words.specs.Shape.{IsOneOf};
 ghost use Rattle.snap_semantics.specs.Memory.{may_grow};
 ghost use Rattle.snap_semantics.specs.Readers.{activity_of, line_of, link_of, operation_of};
-ghost use Rattle.snap_semantics.specs.State.{process_at};
+ghost use Rattle.snap_semantics.specs.State.{initial, process_at, values};
 ghost use Rattle.snap_semantics.specs.Table.{done, who};
+ghost use Rattle.snap_machine.specs.Seen.{seen_memory, seq_word, seq_words};
 
 use crate::call::call;
+use crate::fresh::{new_processes, new_words};
+use crate::local_lines::data_of;
 use crate::process::Process;
 use crate::step::step;
 use crate::word::Word;
 use snap_listing::Listing;
 use snap_semantics::{Item, Op, Outcome, Status};
-use snap_words::Shape;
+use snap_words::{Shape, View};
 use std::alloc::{AllocError, Global};
 use std::marker::Model;
 
@@ -27,7 +30,7 @@ pub struct Machine {
 }
 
 impl Model for Machine {
-    ghost use Rattle.std.specs.Prelude.{◌≡◌, vec_len};
+    ghost use Rattle.std.specs.Prelude.{◌≡◌, length};
     ghost use Rattle.snap_machine.specs.Standing.{Standing};
 
     ghost Value = { Standing };
@@ -36,10 +39,28 @@ impl Model for Machine {
 
     ghost view = { λ m. record { source = m.listing; shape = m.shape; state = seen_state m.listing m.registers.items m.processes.items } };
 
-    ghost invariant = { λ m. (vec_len m.registers ≡ m.shape.w) × (vec_len m.processes ≡ m.shape.n) };
+    ghost invariant = { λ m. (length m.registers.items ≡ m.shape.w) × (length m.processes.items ≡ m.shape.n) };
 }
 
 impl Machine {
+    /// A machine in the initial state.
+    pub fn new(alloc: Global, listing: &Listing, shape: Shape) -> Result<Machine, AllocError>
+        ensures { IfOk result (λ m.
+            m ≡ record { source = listing.now; shape = shape; state = initial listing.now shape }) }
+    {
+        let _kind = listing.kind();
+        let registers = new_words(alloc, shape, shape.w())?;
+        let processes = new_processes(alloc, listing, shape)?;
+        let listing = listing.copy(alloc)?;
+        Ok(Machine {
+            alloc,
+            listing,
+            shape,
+            registers,
+            processes,
+        })
+    }
+
     /// One item of a schedule. Where there is no memory for it, everything is as before.
     pub fn apply(&mut self, item: Item) -> Result<Outcome, AllocError>
         requires { IsOneOf self.old.shape.n (who item) }
@@ -127,5 +148,53 @@ impl Machine {
             Status::Busy(activity) => activity.link,
             Status::Trapped(_, activity) => activity.link,
         }
+    }
+
+    /// The words of the registers, which kind seq has alone.
+    pub fn words(&self) -> &[Word]
+        ensures words { map seq_word result.now ≡ self.now.state.memory.words }
+        ensures alone { self.now.state.memory ≡ seen_memory result.now }
+    {
+        self.registers.as_slice()
+    }
+
+    /// The values of the words.
+    pub fn values(&self) -> Result<View, AllocError>
+        ensures { IfOk result (λ v. v ≡ values self.now.state) }
+    {
+        data_of(self.alloc, self.registers.as_slice(), self.shape.w())
+    }
+
+    /// The numbers of the scalars of a process, in the order of declaration.
+    pub fn local_scalars(&self, i: u32) -> &[u64]
+        requires { IsOneOf self.now.shape.n i }
+        ensures { (process_at self.now.state i).locals.scalars ≡ zip self.now.source.scalars result.now }
+    {
+        self.processes[(i - 1) as usize].scalars.as_slice()
+    }
+
+    /// The rows of a process, in the order of declaration.
+    pub fn local_rows(&self, i: u32) -> &[Vec<u64>]
+        requires { IsOneOf self.now.shape.n i }
+        ensures { (process_at self.now.state i).locals.rows ≡ zip self.now.source.rows (map vec_items result.now) }
+    {
+        self.processes[(i - 1) as usize].rows.as_slice()
+    }
+
+    /// The `words` locals of a process, in the order of declaration.
+    pub fn local_words(&self, i: u32) -> &[Vec<Word>]
+        requires { IsOneOf self.now.shape.n i }
+        ensures { (process_at self.now.state i).locals.words
+            ≡ zip self.now.source.words (map (λ xs. seq_words xs.items) result.now) }
+    {
+        self.processes[(i - 1) as usize].words.as_slice()
+    }
+
+    /// The views of a process, in the order of declaration.
+    pub fn local_views(&self, i: u32) -> &[View]
+        requires { IsOneOf self.now.shape.n i }
+        ensures { (process_at self.now.state i).locals.views ≡ zip self.now.source.views result.now }
+    {
+        self.processes[(i - 1) as usize].views.as_slice()
     }
 }

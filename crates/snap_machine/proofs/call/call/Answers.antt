@@ -1,4 +1,4 @@
-use Rattle.std.proofs.Common.{◌≡◌, arith, slice_index_or, ◌-◌, Option, None, ap, sym, ◌∙◌}
+use Rattle.std.proofs.Common.{◌≡◌, arith, slice_index_or, ◌-◌, None}
 use Rattle.std.proofs.lemmas.List.{get_or_default}
 use Rattle.snap_semantics.specs.Table.{call_skip}
 use Rattle.snap_machine.proofs.Steps.{called_is}

@@ -1,5 +1,4 @@
-use Rattle.std.proofs.Common.{◌≡◌, ℕ, ◌+◌, Bool, List, Option, Some, None, Ok, Err, if◌then◌else◌, sym, ap, ◌∙◌, arith}
-use Rattle.snap_semantics.specs.declared.process.Cause.{Cause}
+use Rattle.std.proofs.Common.{◌≡◌, ℕ, ◌+◌, Bool, List, Option, Ok, Err, sym, ap, ◌∙◌, arith}
 use Rattle.snap_semantics.specs.Readers.{or_else}
 use Rattle.snap_semantics.specs.Table.{first_true}
 use Rattle.snap_semantics.specs.Value.{Context, at_place, condition_holds}

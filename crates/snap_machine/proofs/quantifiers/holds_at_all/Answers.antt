@@ -1,5 +1,4 @@
-use Rattle.std.proofs.Common.{◌≡◌, ℕ, ◌+◌, Bool, List, ◌&&◌, Ok, Err, sym, ap, ◌∙◌, arith}
-use Rattle.snap_semantics.specs.declared.process.Cause.{Cause}
+use Rattle.std.proofs.Common.{◌≡◌, ◌+◌, Bool, List, ◌&&◌, Ok, Err, sym, ap, ◌∙◌, arith}
 use Rattle.snap_semantics.specs.Table.{all_true}
 use Rattle.snap_semantics.specs.Value.{Context, at_place, condition_holds}
 use Rattle.snap_machine.specs.declared.value.Turn.{Turn}

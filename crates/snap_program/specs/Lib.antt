@@ -2,3 +2,4 @@ pub mod Answers
 pub mod CommandsInTurn
 pub mod FaultText
 pub mod ReportLines
+pub mod Courses

@@ -2,6 +2,7 @@
 #![tactic(auto)]
 
 mod commands;
+mod course;
 mod fault;
 mod fault_text;
 mod parts;

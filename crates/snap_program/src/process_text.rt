@@ -1,6 +1,8 @@
 //! The printed texts of processes and their locals.
 ghost use Rattle.std.specs.Prelude.{◌≡◌, ◌++◌, OnOk, zip, map, vec_items};
 ghost use Rattle.snap_words.specs.declared.kind.KindTag.TheVariants.{Seq};
+ghost use Rattle.snap_words.specs.Shape.{IsOneOf};
+ghost use Rattle.snap_semantics.specs.State.{process_at};
 ghost use Rattle.snap_semantics.specs.Report.{
   cause_text,
   link_text,
@@ -15,12 +17,11 @@ ghost use Rattle.snap_semantics.specs.Report.{
   process_lines,
   processes_lines,
 };
-ghost use Rattle.snap_machine.specs.Seen.{seq_word, seq_words, seen_locals, seen_process};
+ghost use Rattle.snap_machine.specs.Seen.{seq_word, seq_words};
 ghost use Rattle.snap_program.specs.ReportLines.{place_text};
 
 use crate::report::{op_text, word_text};
-use snap_listing::Listing;
-use snap_machine::{Process, Word};
+use snap_machine::{Machine, Word};
 use snap_semantics::{Cause, Name, Status};
 use snap_text::{push_number, push_numbers, push_text};
 use snap_words::View;
@@ -199,43 +200,36 @@ fn view_lines(out: &mut Vec<u8>, names: &[Name], views: &[View]) -> Result<(), A
     Ok(())
 }
 
-/// The locals of a process, sort by sort.
+/// The locals of process i, sort by sort.
 #[tactic(auto, using(snap_text::proofs::Texts::joined))]
-fn locals_text(out: &mut Vec<u8>, listing: &Listing, process: &Process) -> Result<(), AllocError>
-    ensures { OnOk result (out.new.items ≡ out.old.items ++ locals_text Seq (seen_locals listing.now process.now)) }
+fn locals_text(out: &mut Vec<u8>, machine: &Machine, i: u32) -> Result<(), AllocError>
+    requires { IsOneOf machine.now.shape.n i }
+    ensures { OnOk result (out.new.items ≡ out.old.items ++ locals_text Seq (process_at machine.now.state i).locals) }
 {
-    scalar_lines(out, listing.scalars(), process.scalars.as_slice())?;
-    row_lines(out, listing.rows(), process.rows.as_slice())?;
-    words_lines(out, listing.words(), process.words.as_slice())?;
-    view_lines(out, listing.views(), process.views.as_slice())
+    let listing = machine.listing();
+    scalar_lines(out, listing.scalars(), machine.local_scalars(i))?;
+    row_lines(out, listing.rows(), machine.local_rows(i))?;
+    words_lines(out, listing.words(), machine.local_words(i))?;
+    view_lines(out, listing.views(), machine.local_views(i))
 }
 
-/// The lines of a process.
+/// The lines of process i.
 #[tactic(auto, using(snap_text::proofs::Texts::joined))]
-fn process_lines(
-    out: &mut Vec<u8>,
-    listing: &Listing,
-    number: u64,
-    process: &Process,
-) -> Result<(), AllocError>
-    ensures { OnOk result (out.new.items ≡ out.old.items ++ process_lines Seq number (seen_process listing.now process.now)) }
+fn process_lines(out: &mut Vec<u8>, machine: &Machine, i: u32) -> Result<(), AllocError>
+    requires { IsOneOf machine.now.shape.n i }
+    ensures { OnOk result (out.new.items ≡ out.old.items ++ process_lines Seq i (process_at machine.now.state i)) }
 {
-    head_line(out, number, &process.status)?;
-    locals_text(out, listing, process)
+    head_line(out, u64::from(i), &machine.status(i))?;
+    locals_text(out, machine, i)
 }
 
 /// The lines of the processes, from process 1 on.
-pub fn processes_lines(
-    out: &mut Vec<u8>,
-    listing: &Listing,
-    processes: &[Process],
-) -> Result<(), AllocError>
-    ensures { OnOk result (out.new.items ≡ out.old.items ++ processes_lines Seq 1 (map (seen_process listing.now) processes.now)) }
+pub fn processes_lines(out: &mut Vec<u8>, machine: &Machine) -> Result<(), AllocError>
+    ensures { OnOk result (out.new.items ≡ out.old.items ++ processes_lines Seq 1 machine.now.state.processes) }
 {
-    let mut k = 0;
-    while k < processes.len() {
-        process_lines(out, listing, k as u64 + 1, &processes[k])?;
-        k += 1;
+    let shape = machine.shape();
+    for k in 0..shape.n() {
+        process_lines(out, machine, k as u32 + 1)?;
     }
     Ok(())
 }

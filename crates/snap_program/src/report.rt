@@ -13,11 +13,13 @@ ghost use Rattle.snap_semantics.specs.Report.{
   happening_text,
   event_line,
   event_lines,
+  report_text,
 };
 ghost use Rattle.snap_machine.specs.Seen.{seq_word, seq_words};
 ghost use Rattle.snap_program.specs.ReportLines.{first_line};
 
-use snap_machine::Word;
+use crate::process_text::processes_lines;
+use snap_machine::{Machine, Word};
 use snap_semantics::{Event, Happening, Op};
 use snap_text::{push_number, push_numbers, push_text};
 use std::alloc::AllocError;
@@ -156,4 +158,25 @@ pub fn event_lines(out: &mut Vec<u8>, events: &[Event]) -> Result<(), AllocError
         event_line(out, event)?;
     }
     Ok(())
+}
+
+/// The report of the state that a machine is in after so many of all items, and of the events up to it.
+#[tactic(auto, using(snap_text::proofs::Texts::joined))]
+pub fn report(
+    out: &mut Vec<u8>,
+    machine: &Machine,
+    events: &[Event],
+    position: u64,
+    total: u64,
+) -> Result<(), AllocError>
+    ensures { OnOk result (out.new.items ≡ out.old.items
+        ++ report_text machine.now.source.kind machine.now.state events.now position total) }
+{
+    let _kind = machine.listing().kind();
+    let words = machine.words();
+    first_line(out, position, total)?;
+    values_line(out, words)?;
+    word_lines(out, words)?;
+    processes_lines(out, machine)?;
+    event_lines(out, events)
 }

@@ -1,1 +1,4 @@
+pub mod Checks
 pub mod Fields
+pub mod Reading
+pub mod Rules

@@ -88,6 +88,15 @@ admitted_by n left line form f true false e d h =
     let same : form ≡ f = cc in
     subst (λ (x : Form). IsAdmitted n left x) same ((omega (arith, some), within), few)
 
+admitted_same : (line : ℕ) (form f : Form) (there many : Bool) →
+    (let r : Result Form ScheduleRefusal = if not there then Err (refusal.NoSuchProcess line) else if many then Err (refusal.TooManyItems line) else Ok form in r) ≡ Ok f → form ≡ f
+admitted_same line form f false many h = absurd cc
+admitted_same line form f true true h = absurd cc
+admitted_same line form f true false h = cc
+
+pub admitted_is : (n left line : ℕ) (form f : Form) → admitted n left line form ≡ Ok f → form ≡ f
+admitted_is n left line form f e = admitted_same line form f (nat_le 1 (form_process form) && nat_le (form_process form) n) (nat_lt left (form_count form)) e
+
 pub is_admitted : (n left line : ℕ) (form f : Form) → admitted n left line form ≡ Ok f → IsAdmitted n left f
 is_admitted n left line form f e = admitted_by n left line form f (nat_le 1 (form_process form) && nat_le (form_process form) n) (nat_lt left (form_count form)) refl refl e
 

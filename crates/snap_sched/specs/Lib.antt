@@ -1,3 +1,6 @@
 pub mod Fault
 pub mod Runs
 pub mod Reading
+pub mod Printing
+pub mod Spelling
+pub mod Laws

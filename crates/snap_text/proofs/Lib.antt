@@ -1,3 +1,5 @@
+pub mod Before
+pub mod Decimals
 pub mod Runs
 pub mod Splits
 pub mod Texts

@@ -1,0 +1,12 @@
+use Rattle.std.proofs.Common.{◌≡◌, length}
+use Rattle.snap_semantics.specs.Listing.{numbered_lines}
+use Rattle.snap_listing.specs.Fields.{header_source}
+use Rattle.snap_listing.specs.Reading.{onto}
+use Rattle.snap_listing.proofs.reader.numbered_lines.Given as goal
+
+-- the lines that are left follow those that were read
+abbrev pub invariant-loop-text : goal.invariant-loop-text
+invariant-loop-text l = onto l.lines.items (numbered_lines (header_source l.header) l.last (length l.lines.items) l.texts) ≡ numbered_lines (header_source l.header) 0 0 l.fn.texts
+
+abbrev pub decreases-loop-text : goal.decreases-loop-text
+decreases-loop-text l = length l.texts

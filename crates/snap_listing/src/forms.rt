@@ -1,0 +1,346 @@
+//! The instructions of a listing. A form begins behind the instruction's first word, and goes to the end of the line.
+ghost use Rattle.std.specs.Prelude.{◌≡◌};
+ghost use Rattle.snap_semantics.specs.Forms.{or_else};
+ghost use Rattle.snap_semantics.specs.ListingForms.{let_form, let_place_form, get_form, seq_tuple_at, put_form, view_data_form, view_of_form, each_form, first_form, next_form, if_form, if_all_form, goto_form, call_form, return_form, finish_form, form_of_word, is_line_number, line_form};
+ghost use Rattle.snap_text.specs.Tokens.{Finds, view_tokens};
+
+use crate::conditions::{condition_at, expr_at, range_at, target_at, where_at};
+use crate::terms::{name_at, named_place_at, place_at};
+use snap_semantics::{Instr, Line, Mark, Tuple};
+use snap_text::{Token, end_at, keyword_at, mark_at, number_at, word_at};
+
+/// `let X = E`.
+#[tactic(auto, unfolding(snap_semantics::specs::ListingForms::let_form))]
+fn let_form(tokens: &[Token<'_>]) -> Option<Instr>
+    ensures { Finds (λ x. x) result (let_form (view_tokens tokens.now)) }
+{
+    let Some((scalar, rest)) = name_at(tokens) else {
+        return None;
+    };
+    let rest = mark_at(Mark::Equal, rest)?;
+    let Some((value, rest)) = expr_at(false, rest) else {
+        return None;
+    };
+    end_at(rest)?;
+    Some(Instr::Let(scalar, value))
+}
+
+/// `let R[I] = E`.
+#[tactic(auto, unfolding(snap_semantics::specs::ListingForms::let_place_form))]
+fn let_place_form(tokens: &[Token<'_>]) -> Option<Instr>
+    ensures { Finds (λ x. x) result (let_place_form (view_tokens tokens.now)) }
+{
+    let Some(((row, place), rest)) = named_place_at(false, tokens) else {
+        return None;
+    };
+    let rest = mark_at(Mark::Equal, rest)?;
+    let Some((value, rest)) = expr_at(false, rest) else {
+        return None;
+    };
+    end_at(rest)?;
+    Some(Instr::LetPlace(row, place, value))
+}
+
+/// `get W[I] = r[J]`.
+#[tactic(auto, unfolding(snap_semantics::specs::ListingForms::get_form))]
+fn get_form(tokens: &[Token<'_>]) -> Option<Instr>
+    ensures { Finds (λ x. x) result (get_form (view_tokens tokens.now)) }
+{
+    let Some(((words, place), rest)) = named_place_at(false, tokens) else {
+        return None;
+    };
+    let rest = mark_at(Mark::Equal, rest)?;
+    let rest = keyword_at(b"r", rest)?;
+    let Some((register, rest)) = place_at(false, rest) else {
+        return None;
+    };
+    end_at(rest)?;
+    Some(Instr::Get(words, place, register))
+}
+
+/// `(E, E, S)`.
+#[tactic(auto, unfolding(snap_semantics::specs::ListingForms::seq_tuple_at))]
+fn seq_tuple_at<'a, 'b>(tokens: &'a [Token<'b>]) -> Option<(Tuple, &'a [Token<'b>])>
+    ensures { Finds (λ x. (x.0, view_tokens x.1.now)) result (seq_tuple_at (view_tokens tokens.now)) }
+{
+    let rest = mark_at(Mark::OpenParenthesis, tokens)?;
+    let Some((datum, rest)) = expr_at(false, rest) else {
+        return None;
+    };
+    let rest = mark_at(Mark::Comma, rest)?;
+    let Some((seq, rest)) = expr_at(false, rest) else {
+        return None;
+    };
+    let rest = mark_at(Mark::Comma, rest)?;
+    let Some((view, rest)) = name_at(rest) else {
+        return None;
+    };
+    let rest = mark_at(Mark::CloseParenthesis, rest)?;
+    Some((Tuple::Seq(datum, seq, view), rest))
+}
+
+/// `put r[I] = (E, E, S)`.
+#[tactic(auto, unfolding(snap_semantics::specs::ListingForms::put_form))]
+fn put_form(tokens: &[Token<'_>]) -> Option<Instr>
+    ensures { Finds (λ x. x) result (put_form (view_tokens tokens.now)) }
+{
+    let rest = keyword_at(b"r", tokens)?;
+    let Some((register, rest)) = place_at(false, rest) else {
+        return None;
+    };
+    let rest = mark_at(Mark::Equal, rest)?;
+    let Some((tuple, rest)) = seq_tuple_at(rest) else {
+        return None;
+    };
+    end_at(rest)?;
+    Some(Instr::Put(register, tuple))
+}
+
+/// `view S = data(W)`.
+#[tactic(auto, unfolding(snap_semantics::specs::ListingForms::view_data_form))]
+fn view_data_form(tokens: &[Token<'_>]) -> Option<Instr>
+    ensures { Finds (λ x. x) result (view_data_form (view_tokens tokens.now)) }
+{
+    let Some((view, rest)) = name_at(tokens) else {
+        return None;
+    };
+    let rest = mark_at(Mark::Equal, rest)?;
+    let rest = keyword_at(b"data", rest)?;
+    let rest = mark_at(Mark::OpenParenthesis, rest)?;
+    let Some((words, rest)) = name_at(rest) else {
+        return None;
+    };
+    let rest = mark_at(Mark::CloseParenthesis, rest)?;
+    end_at(rest)?;
+    Some(Instr::ViewData(view, words))
+}
+
+/// `view S = view(W[I])`.
+#[tactic(auto, unfolding(snap_semantics::specs::ListingForms::view_of_form))]
+fn view_of_form(tokens: &[Token<'_>]) -> Option<Instr>
+    ensures { Finds (λ x. x) result (view_of_form (view_tokens tokens.now)) }
+{
+    let Some((view, rest)) = name_at(tokens) else {
+        return None;
+    };
+    let rest = mark_at(Mark::Equal, rest)?;
+    let rest = keyword_at(b"view", rest)?;
+    let rest = mark_at(Mark::OpenParenthesis, rest)?;
+    let Some(((words, place), rest)) = named_place_at(false, rest) else {
+        return None;
+    };
+    let rest = mark_at(Mark::CloseParenthesis, rest)?;
+    end_at(rest)?;
+    Some(Instr::ViewOf(view, words, place))
+}
+
+/// `each G: R[@] = E where C`.
+#[tactic(auto, unfolding(snap_semantics::specs::ListingForms::each_form))]
+fn each_form(tokens: &[Token<'_>]) -> Option<Instr>
+    ensures { Finds (λ x. x) result (each_form (view_tokens tokens.now)) }
+{
+    let (range, rest) = range_at(tokens)?;
+    let rest = mark_at(Mark::Colon, rest)?;
+    let Some((row, rest)) = name_at(rest) else {
+        return None;
+    };
+    let rest = mark_at(Mark::OpenBracket, rest)?;
+    let rest = mark_at(Mark::At, rest)?;
+    let rest = mark_at(Mark::CloseBracket, rest)?;
+    let rest = mark_at(Mark::Equal, rest)?;
+    let Some((value, rest)) = expr_at(true, rest) else {
+        return None;
+    };
+    let (condition, rest) = where_at(rest);
+    end_at(rest)?;
+    Some(Instr::Each(range, row, value, condition))
+}
+
+/// `first X G: C goto N`.
+#[tactic(auto, unfolding(snap_semantics::specs::ListingForms::first_form))]
+fn first_form(tokens: &[Token<'_>]) -> Option<Instr>
+    ensures { Finds (λ x. x) result (first_form (view_tokens tokens.now)) }
+{
+    let Some((scalar, rest)) = name_at(tokens) else {
+        return None;
+    };
+    let (range, rest) = range_at(rest)?;
+    let rest = mark_at(Mark::Colon, rest)?;
+    let Some((condition, rest)) = condition_at(true, rest) else {
+        return None;
+    };
+    let (target, rest) = target_at(rest)?;
+    end_at(rest)?;
+    Some(Instr::First(scalar, range, condition, target))
+}
+
+/// `next X G goto N`.
+#[tactic(auto, unfolding(snap_semantics::specs::ListingForms::next_form))]
+fn next_form(tokens: &[Token<'_>]) -> Option<Instr>
+    ensures { Finds (λ x. x) result (next_form (view_tokens tokens.now)) }
+{
+    let Some((scalar, rest)) = name_at(tokens) else {
+        return None;
+    };
+    let (range, rest) = range_at(rest)?;
+    let (target, rest) = target_at(rest)?;
+    end_at(rest)?;
+    Some(Instr::Next(scalar, range, target))
+}
+
+/// `if C goto N`.
+#[tactic(auto, unfolding(snap_semantics::specs::ListingForms::if_form))]
+fn if_form(tokens: &[Token<'_>]) -> Option<Instr>
+    ensures { Finds (λ x. x) result (if_form (view_tokens tokens.now)) }
+{
+    let Some((condition, rest)) = condition_at(false, tokens) else {
+        return None;
+    };
+    let (target, rest) = target_at(rest)?;
+    end_at(rest)?;
+    Some(Instr::If(condition, target))
+}
+
+/// `if all G: C goto N`.
+#[tactic(auto, unfolding(snap_semantics::specs::ListingForms::if_all_form))]
+fn if_all_form(tokens: &[Token<'_>]) -> Option<Instr>
+    ensures { Finds (λ x. x) result (if_all_form (view_tokens tokens.now)) }
+{
+    let rest = keyword_at(b"all", tokens)?;
+    let (range, rest) = range_at(rest)?;
+    let rest = mark_at(Mark::Colon, rest)?;
+    let Some((condition, rest)) = condition_at(true, rest) else {
+        return None;
+    };
+    let (target, rest) = target_at(rest)?;
+    end_at(rest)?;
+    Some(Instr::IfAll(range, condition, target))
+}
+
+/// `goto N`.
+#[tactic(auto, unfolding(snap_semantics::specs::ListingForms::goto_form))]
+fn goto_form(tokens: &[Token<'_>]) -> Option<Instr>
+    ensures { Finds (λ x. x) result (goto_form (view_tokens tokens.now)) }
+{
+    let (target, rest) = number_at(tokens)?;
+    end_at(rest)?;
+    Some(Instr::Goto(target))
+}
+
+/// `call N`.
+#[tactic(auto, unfolding(snap_semantics::specs::ListingForms::call_form))]
+fn call_form(tokens: &[Token<'_>]) -> Option<Instr>
+    ensures { Finds (λ x. x) result (call_form (view_tokens tokens.now)) }
+{
+    let (target, rest) = number_at(tokens)?;
+    end_at(rest)?;
+    Some(Instr::Call(target))
+}
+
+/// `return S`.
+#[tactic(auto, unfolding(snap_semantics::specs::ListingForms::return_form))]
+fn return_form(tokens: &[Token<'_>]) -> Option<Instr>
+    ensures { Finds (λ x. x) result (return_form (view_tokens tokens.now)) }
+{
+    let Some((view, rest)) = name_at(tokens) else {
+        return None;
+    };
+    end_at(rest)?;
+    Some(Instr::Return(view))
+}
+
+/// `finish`.
+#[tactic(auto, unfolding(snap_semantics::specs::ListingForms::finish_form))]
+fn finish_form(tokens: &[Token<'_>]) -> Option<Instr>
+    ensures { Finds (λ x. x) result (finish_form (view_tokens tokens.now)) }
+{
+    end_at(tokens)?;
+    Some(Instr::Finish)
+}
+
+/// The forms that begin with `let`.
+fn let_forms(tokens: &[Token<'_>]) -> Option<Instr>
+    ensures { Finds (λ x. x) result (or_else (let_form (view_tokens tokens.now)) (let_place_form (view_tokens tokens.now))) }
+{
+    if let Some(instr) = let_form(tokens) {
+        return Some(instr);
+    }
+    let_place_form(tokens)
+}
+
+/// The forms that begin with `view`.
+fn view_forms(tokens: &[Token<'_>]) -> Option<Instr>
+    ensures { Finds (λ x. x) result (or_else (view_data_form (view_tokens tokens.now)) (view_of_form (view_tokens tokens.now))) }
+{
+    if let Some(instr) = view_data_form(tokens) {
+        return Some(instr);
+    }
+    view_of_form(tokens)
+}
+
+/// The forms that begin with `if`.
+fn if_forms(tokens: &[Token<'_>]) -> Option<Instr>
+    ensures { Finds (λ x. x) result (or_else (if_form (view_tokens tokens.now)) (if_all_form (view_tokens tokens.now))) }
+{
+    if let Some(instr) = if_form(tokens) {
+        return Some(instr);
+    }
+    if_all_form(tokens)
+}
+
+/// The instruction that begins with this word.
+#[tactic(auto, unfolding(snap_semantics::specs::ListingForms::form_of_word))]
+fn form_of_word(word: &[u8], tokens: &[Token<'_>]) -> Option<Instr>
+    ensures { Finds (λ x. x) result (form_of_word word.now (view_tokens tokens.now)) }
+{
+    if word == b"let".as_slice() {
+        let_forms(tokens)
+    } else if word == b"get".as_slice() {
+        get_form(tokens)
+    } else if word == b"put".as_slice() {
+        put_form(tokens)
+    } else if word == b"view".as_slice() {
+        view_forms(tokens)
+    } else if word == b"each".as_slice() {
+        each_form(tokens)
+    } else if word == b"first".as_slice() {
+        first_form(tokens)
+    } else if word == b"next".as_slice() {
+        next_form(tokens)
+    } else if word == b"if".as_slice() {
+        if_forms(tokens)
+    } else if word == b"goto".as_slice() {
+        goto_form(tokens)
+    } else if word == b"call".as_slice() {
+        call_form(tokens)
+    } else if word == b"return".as_slice() {
+        return_form(tokens)
+    } else if word == b"finish".as_slice() {
+        finish_form(tokens)
+    } else {
+        None
+    }
+}
+
+/// Whether a line may have this number.
+pub fn is_line_number(number: u64) -> bool
+    ensures { result ≡ is_line_number number }
+{
+    1 <= number && number <= 999
+}
+
+/// `N: instruction`.
+#[tactic(auto, unfolding(snap_semantics::specs::ListingForms::line_form))]
+pub fn line_form(tokens: &[Token<'_>]) -> Option<Line>
+    ensures { Finds (λ x. x) result (line_form (view_tokens tokens.now)) }
+{
+    let (number, rest) = number_at(tokens)?;
+    let rest = mark_at(Mark::Colon, rest)?;
+    let (word, rest) = word_at(rest)?;
+    let instr = form_of_word(word, rest)?;
+    if is_line_number(number) {
+        Some(Line { number, instr })
+    } else {
+        None
+    }
+}

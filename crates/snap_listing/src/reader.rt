@@ -1,0 +1,140 @@
+//! Reads listings.
+ghost use Rattle.std.specs.Prelude.{◌≡◌, Some, None, length};
+ghost use Rattle.snap_semantics.specs.Answers.{Answers};
+ghost use Rattle.snap_semantics.specs.Listing.{numbered_lines, instr_targets, has_line, checked_targets, line_targets, listing_of_lines, listing_of};
+ghost use Rattle.snap_listing.specs.Fields.{header_source};
+ghost use Rattle.snap_listing.specs.Reading.{refusal_in, numbered_line, target_list, checked_target};
+ghost use Rattle.snap_text.specs.Lines.{view_line};
+
+use crate::fault::ListingFault;
+use crate::forms::line_form;
+use crate::header::{Header, header_of};
+use crate::listing::Listing;
+use crate::uses::checked_uses;
+use snap_semantics::{Instr, Line, ListingRefusal};
+use snap_text::{TextLines, TokenLine, line_count};
+use std::alloc::Global;
+
+/// The most bytes of a listing's text.
+const MOST_BYTES: usize = 65_536;
+
+/// The most numbered lines.
+const MOST_LINES: usize = 200;
+
+/// The numbered line that a text line is, behind line number `last`, with so many lines before it.
+fn numbered_line(
+    header: &Header,
+    last: u64,
+    count: usize,
+    text: &TokenLine<'_>,
+) -> Result<Line, ListingRefusal>
+    ensures { result ≡ numbered_line (header_source header.now) last count (view_line text.now) }
+{
+    let Some(tokens) = &text.tokens else {
+        return Err(ListingRefusal::BadLine(text.number));
+    };
+    let Some(line) = line_form(tokens.as_slice()) else {
+        return Err(ListingRefusal::BadLine(text.number));
+    };
+    if line.number <= last {
+        return Err(ListingRefusal::NumberNotRising(text.number));
+    }
+    if count >= MOST_LINES {
+        return Err(ListingRefusal::TooMany(text.number));
+    }
+    checked_uses(header, text.number, &line.instr)?;
+    Ok(line)
+}
+
+/// The numbered lines behind the header.
+fn numbered_lines(
+    alloc: Global,
+    header: &Header,
+    texts: &mut TextLines<'_>,
+) -> Result<Vec<Line>, ListingFault>
+    ensures { Answers refusal_in (λ lines. lines.items) result (numbered_lines (header_source header.now) 0 0 texts.old) }
+{
+    let mut lines = Vec::new(alloc);
+    let mut last = 0;
+    while let Some(text) = texts.next_line(alloc)? {
+        let line = numbered_line(header, last, lines.len(), &text)?;
+        last = line.number;
+        lines.push(line)?;
+    }
+    Ok(lines)
+}
+
+/// The line to which an instruction may lead.
+fn instr_target(instr: &Instr) -> Option<u64>
+    ensures { instr_targets instr.now ≡ target_list result }
+{
+    match instr {
+        Instr::First(_, _, _, target) => Some(*target),
+        Instr::Next(_, _, target) => Some(*target),
+        Instr::If(_, target) => Some(*target),
+        Instr::IfAll(_, _, target) => Some(*target),
+        Instr::Goto(target) => Some(*target),
+        Instr::Call(target) => Some(*target),
+        _ => None,
+    }
+}
+
+/// Whether there is a line with this number.
+fn has_line(lines: &[Line], number: u64) -> bool
+    ensures { result ≡ has_line lines.now number }
+{
+    lines.iter().any(|line| line.number == number)
+}
+
+/// A target has to be a line.
+fn checked_target(lines: &[Line], target: u64) -> Result<(), ListingRefusal>
+    ensures { result ≡ checked_target lines.now target }
+{
+    if has_line(lines, target) {
+        Ok(())
+    } else {
+        Err(ListingRefusal::NoSuchLine(target))
+    }
+}
+
+/// The targets of all lines.
+fn checked_targets(lines: &[Line]) -> Result<(), ListingRefusal>
+    ensures { result ≡ checked_targets lines.now (line_targets lines.now) }
+{
+    for line in lines {
+        if let Some(target) = instr_target(&line.instr) {
+            checked_target(lines, target)?;
+        }
+    }
+    Ok(())
+}
+
+/// The listing that the lines of a text are. Where they are used up, the line behind them is line `after`.
+#[tactic(auto, unfolding(snap_semantics::specs::Listing::listing_of_lines))]
+fn listing_of_lines(
+    alloc: Global,
+    after: u64,
+    texts: &mut TextLines<'_>,
+) -> Result<Listing, ListingFault>
+    ensures { Answers refusal_in (λ l. l) result (listing_of_lines after texts.old) }
+{
+    let header = header_of(alloc, after, texts)?;
+    let lines = numbered_lines(alloc, &header, texts)?;
+    checked_target(lines.as_slice(), header.scan)?;
+    checked_target(lines.as_slice(), header.update)?;
+    checked_targets(lines.as_slice())?;
+    Ok(Listing::of(header, lines))
+}
+
+/// The listing that a text is, or the first reason why it is none.
+#[tactic(auto, unfolding(snap_semantics::specs::Listing::listing_of))]
+pub fn read(alloc: Global, text: &[u8]) -> Result<Listing, ListingFault>
+    ensures { Answers refusal_in (λ l. l) result (listing_of text.now) }
+{
+    if text.len() > MOST_BYTES {
+        return Err(ListingFault::Refused(ListingRefusal::TooLong));
+    }
+    let after = line_count(text) + 1;
+    let mut texts = TextLines::new(text);
+    listing_of_lines(alloc, after, &mut texts)
+}

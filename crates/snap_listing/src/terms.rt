@@ -1,0 +1,224 @@
+//! Names, indices and terms at the front of the tokens of a line.
+ghost use Rattle.std.specs.Prelude.{◌≡◌, bytes_eq};
+ghost use Rattle.std.specs.List.{list_any};
+ghost use Rattle.snap_semantics.specs.ListingForms.{is_reserved, name_of_word, name_at, index_of_word, number_index, place_index, word_index, index_at, place_at, named_place_at, arg_term, row_term, field_of_word, field_term, index_term, term_at};
+ghost use Rattle.snap_text.specs.Tokens.{Finds, view_tokens};
+
+use snap_semantics::{Index, Mark, Name, Term};
+use snap_text::{Token, keyword_at, mark_at, number_at, word_at};
+use snap_words::Field;
+
+/// The words that are no names.
+const RESERVED_WORDS: [&[u8]; 40] = [
+    b"kind", b"seq", b"bit", b"multi", b"scalar", b"row", b"words", b"view", b"scan", b"update",
+    b"let", b"get", b"look", b"put", b"each", b"first", b"next", b"if", b"all", b"goto", b"call",
+    b"return", b"finish", b"where", b"and", b"or", b"not", b"n", b"w", b"me", b"word", b"arg",
+    b"r", b"q", b"p", b"v", b"data", b"hand", b"toggle", b"id",
+];
+
+/// Whether a word is one of these.
+fn is_one_of(word: &[u8], words: &[&[u8]]) -> bool
+    ensures { result ≡ list_any (λ w. bytes_eq word.now w.now) words.now }
+{
+    words.iter().any(|w| word == *w)
+}
+
+/// Whether a word is no name.
+pub fn is_reserved(word: &[u8]) -> bool
+    ensures { result ≡ is_reserved word.now }
+{
+    is_one_of(word, &RESERVED_WORDS)
+}
+
+/// A word in a name's place; of a long one the first nine letters.
+pub fn name_of_word(word: &[u8]) -> Option<Name>
+    ensures { result ≡ name_of_word word.now }
+{
+    if is_reserved(word) {
+        None
+    } else if word.len() <= 9 {
+        Some(Name::of(word))
+    } else {
+        Some(Name::of(&word[..9]))
+    }
+}
+
+/// A name.
+#[tactic(auto, unfolding(snap_semantics::specs::ListingForms::name_at))]
+pub fn name_at<'a, 'b>(tokens: &'a [Token<'b>]) -> Option<(Name, &'a [Token<'b>])>
+    ensures { Finds (λ x. (x.0, view_tokens x.1.now)) result (name_at (view_tokens tokens.now)) }
+{
+    let (word, rest) = word_at(tokens)?;
+    let name = name_of_word(word)?;
+    Some((name, rest))
+}
+
+/// The index that a word is.
+pub fn index_of_word(word: &[u8]) -> Option<Index>
+    ensures { result ≡ index_of_word word.now }
+{
+    if word == b"n".as_slice() {
+        Some(Index::Processes)
+    } else if word == b"w".as_slice() {
+        Some(Index::Words)
+    } else if word == b"me".as_slice() {
+        Some(Index::Me)
+    } else if word == b"word".as_slice() {
+        Some(Index::Word)
+    } else {
+        let name = name_of_word(word)?;
+        Some(Index::Scalar(name))
+    }
+}
+
+/// A number as an index.
+#[tactic(auto, unfolding(snap_semantics::specs::ListingForms::number_index))]
+pub fn number_index<'a, 'b>(tokens: &'a [Token<'b>]) -> Option<(Index, &'a [Token<'b>])>
+    ensures { Finds (λ x. (x.0, view_tokens x.1.now)) result (number_index (view_tokens tokens.now)) }
+{
+    let (number, rest) = number_at(tokens)?;
+    Some((Index::Number(number), rest))
+}
+
+/// `@`, where it may stand.
+#[tactic(auto, unfolding(snap_semantics::specs::ListingForms::place_index))]
+pub fn place_index<'a, 'b>(in_quantifier: bool, tokens: &'a [Token<'b>]) -> Option<(Index, &'a [Token<'b>])>
+    ensures { Finds (λ x. (x.0, view_tokens x.1.now)) result (place_index in_quantifier (view_tokens tokens.now)) }
+{
+    let rest = mark_at(Mark::At, tokens)?;
+    if in_quantifier {
+        Some((Index::Place, rest))
+    } else {
+        None
+    }
+}
+
+/// A word as an index.
+#[tactic(auto, unfolding(snap_semantics::specs::ListingForms::word_index))]
+pub fn word_index<'a, 'b>(tokens: &'a [Token<'b>]) -> Option<(Index, &'a [Token<'b>])>
+    ensures { Finds (λ x. (x.0, view_tokens x.1.now)) result (word_index (view_tokens tokens.now)) }
+{
+    let (word, rest) = word_at(tokens)?;
+    let index = index_of_word(word)?;
+    Some((index, rest))
+}
+
+/// An index.
+#[tactic(auto, unfolding(snap_semantics::specs::ListingForms::index_at))]
+pub fn index_at<'a, 'b>(in_quantifier: bool, tokens: &'a [Token<'b>]) -> Option<(Index, &'a [Token<'b>])>
+    ensures { Finds (λ x. (x.0, view_tokens x.1.now)) result (index_at in_quantifier (view_tokens tokens.now)) }
+{
+    if let Some(found) = number_index(tokens) {
+        return Some(found);
+    }
+    if let Some(found) = place_index(in_quantifier, tokens) {
+        return Some(found);
+    }
+    word_index(tokens)
+}
+
+/// `[I]`.
+#[tactic(auto, unfolding(snap_semantics::specs::ListingForms::place_at))]
+pub fn place_at<'a, 'b>(in_quantifier: bool, tokens: &'a [Token<'b>]) -> Option<(Index, &'a [Token<'b>])>
+    ensures { Finds (λ x. (x.0, view_tokens x.1.now)) result (place_at in_quantifier (view_tokens tokens.now)) }
+{
+    let rest = mark_at(Mark::OpenBracket, tokens)?;
+    let Some((index, rest)) = index_at(in_quantifier, rest) else {
+        return None;
+    };
+    let rest = mark_at(Mark::CloseBracket, rest)?;
+    Some((index, rest))
+}
+
+/// A local's name and `[I]`.
+#[tactic(auto, unfolding(snap_semantics::specs::ListingForms::named_place_at))]
+pub fn named_place_at<'a, 'b>(
+    in_quantifier: bool,
+    tokens: &'a [Token<'b>],
+) -> Option<((Name, Index), &'a [Token<'b>])>
+    ensures { Finds (λ x. (x.0, view_tokens x.1.now)) result (named_place_at in_quantifier (view_tokens tokens.now)) }
+{
+    let Some((name, rest)) = name_at(tokens) else {
+        return None;
+    };
+    let Some((index, rest)) = place_at(in_quantifier, rest) else {
+        return None;
+    };
+    Some(((name, index), rest))
+}
+
+/// `arg`.
+#[tactic(auto, unfolding(snap_semantics::specs::ListingForms::arg_term))]
+pub fn arg_term<'a, 'b>(tokens: &'a [Token<'b>]) -> Option<(Term, &'a [Token<'b>])>
+    ensures { Finds (λ x. (x.0, view_tokens x.1.now)) result (arg_term (view_tokens tokens.now)) }
+{
+    let rest = keyword_at(b"arg", tokens)?;
+    Some((Term::Arg, rest))
+}
+
+/// `R[I]`.
+#[tactic(auto, unfolding(snap_semantics::specs::ListingForms::row_term))]
+pub fn row_term<'a, 'b>(in_quantifier: bool, tokens: &'a [Token<'b>]) -> Option<(Term, &'a [Token<'b>])>
+    ensures { Finds (λ x. (x.0, view_tokens x.1.now)) result (row_term in_quantifier (view_tokens tokens.now)) }
+{
+    let Some(((name, index), rest)) = named_place_at(in_quantifier, tokens) else {
+        return None;
+    };
+    Some((Term::Row(name, index), rest))
+}
+
+/// The field of a word of kind seq that a word names.
+pub fn field_of_word(word: &[u8]) -> Option<Field>
+    ensures { result ≡ field_of_word word.now }
+{
+    if word == b"seq".as_slice() {
+        Some(Field::Seq)
+    } else if word == b"data".as_slice() {
+        Some(Field::Datum)
+    } else {
+        None
+    }
+}
+
+/// `seq(W[I])` or `data(W[I])`.
+#[tactic(auto, unfolding(snap_semantics::specs::ListingForms::field_term))]
+pub fn field_term<'a, 'b>(in_quantifier: bool, tokens: &'a [Token<'b>]) -> Option<(Term, &'a [Token<'b>])>
+    ensures { Finds (λ x. (x.0, view_tokens x.1.now)) result (field_term in_quantifier (view_tokens tokens.now)) }
+{
+    let (word, rest) = word_at(tokens)?;
+    let field = field_of_word(word)?;
+    let rest = mark_at(Mark::OpenParenthesis, rest)?;
+    let Some(((name, index), rest)) = named_place_at(in_quantifier, rest) else {
+        return None;
+    };
+    let rest = mark_at(Mark::CloseParenthesis, rest)?;
+    Some((Term::Field(field, name, index), rest))
+}
+
+/// An index as a term.
+#[tactic(auto, unfolding(snap_semantics::specs::ListingForms::index_term))]
+pub fn index_term<'a, 'b>(in_quantifier: bool, tokens: &'a [Token<'b>]) -> Option<(Term, &'a [Token<'b>])>
+    ensures { Finds (λ x. (x.0, view_tokens x.1.now)) result (index_term in_quantifier (view_tokens tokens.now)) }
+{
+    let Some((index, rest)) = index_at(in_quantifier, tokens) else {
+        return None;
+    };
+    Some((Term::Index(index), rest))
+}
+
+/// A term.
+#[tactic(auto, unfolding(snap_semantics::specs::ListingForms::term_at))]
+pub fn term_at<'a, 'b>(in_quantifier: bool, tokens: &'a [Token<'b>]) -> Option<(Term, &'a [Token<'b>])>
+    ensures { Finds (λ x. (x.0, view_tokens x.1.now)) result (term_at in_quantifier (view_tokens tokens.now)) }
+{
+    if let Some(found) = arg_term(tokens) {
+        return Some(found);
+    }
+    if let Some(found) = row_term(in_quantifier, tokens) {
+        return Some(found);
+    }
+    if let Some(found) = field_term(in_quantifier, tokens) {
+        return Some(found);
+    }
+    index_term(in_quantifier, tokens)
+}

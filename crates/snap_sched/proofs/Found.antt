@@ -1,0 +1,176 @@
+-- What is read is spelled so.
+use Rattle.std.proofs.Common.{◌≡◌, ℕ, zero, suc, ◌+◌, ◌-◌, ◌<◌, ◌≤◌, Bool, true, false, not, ◌&&◌, List, [], ◌∷◌, ◌++◌, length, map, Option, Some, None, Result, Ok, Err, nat_eq, nat_le, nat_lt, bytes_eq, codes, if◌then◌else◌, refl, sym, ap, ◌∙◌, arith, subst, ◌⊎◌, inl, inr}
+use Rattle.std.proofs.lemmas.Bool.{leb-true, ltb-true, ltb-false, and_parts}
+use Rattle.std.proofs.lemmas.List.{length-append}
+use Rattle.std.specs.Cmp.Lexicographic.{same_text}
+use Rattle.std.specs.List.{AllByRecursion, flat_map}
+use Rattle.snap_words.specs.Shape.{Counts, IsOneOf, IsShape}
+use Rattle.snap_semantics.specs.declared.process.Item.{Item}
+use Rattle.snap_semantics.specs.declared.process.Op.{Op}
+use Rattle.snap_semantics.specs.declared.process.Op.TheVariants as op
+use Rattle.snap_semantics.specs.declared.refusal.ScheduleRefusal.{ScheduleRefusal}
+use Rattle.snap_semantics.specs.declared.refusal.ScheduleRefusal.TheVariants as refusal
+use Rattle.snap_semantics.specs.declared.text.Mark.{Mark}
+use Rattle.snap_semantics.specs.declared.text.Mark.TheVariants as mark
+use Rattle.snap_semantics.specs.Forms.{◌>>=◌, or_else, Found, number_at, keyword_at, mark_at, end_at}
+use Rattle.snap_semantics.specs.Schedule.{Schedule, form_or, found_or, admitted, items_of, schedule_of_lines, schedule_of, form_process, form_count, form_items}
+use Rattle.snap_semantics.specs.ScheduleForms.{Form, Steps, Calls, spelled_shape, spelled_steps, spelled_call, is_count, shape_form, step_form, steps_form, scan_form, update_form, item_form}
+use Rattle.snap_semantics.specs.ScheduleText.{IsSchedule}
+use Rattle.snap_semantics.specs.Table.{who}
+use Rattle.snap_semantics.specs.Token.{Token, Word, Number, Sign, TextLine, same_mark, text_lines}
+use Rattle.snap_sched.specs.Spelling.{IsSpelling, IsLineOf, AreLinesOf, IsSpelled, line_tokens}
+
+-- what was found first, and what was found behind it
+pub bind_found : {A B : Type 0} (o : Option A) (f : A → Option B) (y : B) → (o >>= f) ≡ Some y → (x : A) × (o ≡ Some x) × (f x ≡ Some y)
+bind_found (Some x) f y e = (x, refl, e)
+bind_found None f y e = absurd cc
+
+-- what is spelled behind a number
+abbrev number_back : Found ℕ → List Token
+number_back (Some x) = Number x.0 ∷ x.1
+number_back None = []
+
+pub number_found : (ts : List Token) (x : ℕ × List Token) → number_at ts ≡ Some x → ts ≡ Number x.0 ∷ x.1
+number_found [] x e = absurd cc
+number_found (Number k ∷ ts) x e = ap number_back e
+number_found (Word w ∷ ts) x e = absurd cc
+number_found (Sign m ∷ ts) x e = absurd cc
+
+pub end_found : (ts : List Token) (x : Unit {0}) → end_at ts ≡ Some x → ts ≡ []
+end_found [] x e = refl
+end_found (t ∷ ts) x e = absurd cc
+
+keyword_by : (w x : List ℕ) (ts us : List Token) (b : Bool) → bytes_eq w x ≡ b → (let r : Option (List Token) = if b then Some ts else None in r) ≡ Some us → Word w ∷ ts ≡ Word x ∷ us
+keyword_by w x ts us true s e = let p : w ≡ x = same_text w x (sym s) in let q : ts ≡ us = cc in cc
+keyword_by w x ts us false s e = absurd cc
+
+pub keyword_found : (x : List ℕ) (ts us : List Token) → keyword_at x ts ≡ Some us → ts ≡ Word x ∷ us
+keyword_found x [] us e = absurd cc
+keyword_found x (Number k ∷ ts) us e = absurd cc
+keyword_found x (Word w ∷ ts) us e = keyword_by w x ts us (bytes_eq w x) refl e
+keyword_found x (Sign m ∷ ts) us e = absurd cc
+
+star_by : (m : Mark) (ts us : List Token) → (let r : Option (List Token) = if same_mark m mark.Star then Some ts else None in r) ≡ Some us → Sign m ∷ ts ≡ Sign mark.Star ∷ us
+star_by mark.Colon ts us e = absurd cc
+star_by mark.Equal ts us e = absurd cc
+star_by mark.Different ts us e = absurd cc
+star_by mark.Less ts us e = absurd cc
+star_by mark.Plus ts us e = absurd cc
+star_by mark.Comma ts us e = absurd cc
+star_by mark.OpenParenthesis ts us e = absurd cc
+star_by mark.CloseParenthesis ts us e = absurd cc
+star_by mark.OpenBracket ts us e = absurd cc
+star_by mark.CloseBracket ts us e = absurd cc
+star_by mark.At ts us e = absurd cc
+star_by mark.Star ts us e = let q : ts ≡ us = cc in cc
+
+pub star_found : (ts us : List Token) → mark_at mark.Star ts ≡ Some us → ts ≡ Sign mark.Star ∷ us
+star_found [] us e = absurd cc
+star_found (Number k ∷ ts) us e = absurd cc
+star_found (Word w ∷ ts) us e = absurd cc
+star_found (Sign m ∷ ts) us e = star_by m ts us e
+
+count_is : (k : ℕ) → is_count k ≡ true → IsOneOf 16 k
+count_is k e = let p = and_parts (nat_le 1 k) (nat_le k 16) e in let low = leb-true 1 k p.0 in let high = leb-true k 16 p.1 in (omega (arith, low), high)
+
+shape_if : (n w : ℕ) (s : Counts) (b : Bool) → (is_count n && is_count w) ≡ b →
+    (let r : Option Counts = if b then Some (record { n = n; w = w }) else None in r) ≡ Some s → (s ≡ record { n = n; w = w }) × IsShape n w
+shape_if n w s true b e = let p = and_parts (is_count n) (is_count w) b in (cc, (count_is n p.0, count_is w p.1))
+shape_if n w s false b e = absurd cc
+
+pub shape_found : (ts : List Token) (s : Counts) → shape_form ts ≡ Some s → (ts ≡ spelled_shape s) × IsShape s.n s.w
+unfolding shape_form
+shape_found ts s e =
+    let a = bind_found (keyword_at (codes "shape") ts) _ s e in
+    let n = bind_found (number_at a.0) _ s a.2 in
+    let w = bind_found (number_at n.0.1) _ s n.2 in
+    let z = bind_found (end_at w.0.1) _ s w.2 in
+    let h = shape_if n.0.0 w.0.0 s (is_count n.0.0 && is_count w.0.0) refl z.2 in
+    (keyword_found (codes "shape") ts a.0 a.1
+     ∙ ap (λ (t : List Token). Word (codes "shape") ∷ t) (number_found a.0 n.0 n.1)
+     ∙ ap (λ (t : List Token). Word (codes "shape") ∷ Number n.0.0 ∷ t) (number_found n.0.1 w.0 w.1)
+     ∙ ap (λ (t : List Token). Word (codes "shape") ∷ Number n.0.0 ∷ Number w.0.0 ∷ t) (end_found w.0.1 z.0 z.1)
+     ∙ ap spelled_shape (sym h.0),
+     subst (λ (c : Counts). IsShape c.n c.w) (sym h.0) h.1)
+
+some_is : (x f : Form) → (let r : Option Form = Some x in r) ≡ Some f → x ≡ f
+some_is x f e = cc
+
+is_spelling : (ts : List Token) (x f : Form) → IsSpelling x ts → x ≡ f → IsSpelling f ts
+is_spelling ts x f h e = subst (λ (y : Form). IsSpelling y ts) e h
+
+step_found : (ts : List Token) (f : Form) → step_form ts ≡ Some f → IsSpelling f ts
+unfolding step_form
+step_found ts f e =
+    let i = bind_found (number_at ts) _ f e in
+    let z = bind_found (end_at i.0.1) _ f i.2 in
+    is_spelling ts (Steps i.0.0 1) f
+      (omega arith, inl (number_found ts i.0 i.1 ∙ ap (λ (t : List Token). Number i.0.0 ∷ t) (end_found i.0.1 z.0 z.1)))
+      (some_is (Steps i.0.0 1) f z.2)
+
+steps_if : (i count : ℕ) (f : Form) (b : Bool) → nat_lt 0 count ≡ b → (let r : Option Form = if b then Some (Steps i count) else None in r) ≡ Some f → (Steps i count ≡ f) × (0 < count)
+steps_if i count f true b e = (some_is (Steps i count) f e, ltb-true 0 count b)
+steps_if i count f false b e = absurd cc
+
+steps_found : (ts : List Token) (f : Form) → steps_form ts ≡ Some f → IsSpelling f ts
+unfolding steps_form
+steps_found ts f e =
+    let i = bind_found (number_at ts) _ f e in
+    let m = bind_found (mark_at mark.Star i.0.1) _ f i.2 in
+    let k = bind_found (number_at m.0) _ f m.2 in
+    let z = bind_found (end_at k.0.1) _ f k.2 in
+    let h = steps_if i.0.0 k.0.0 f (nat_lt 0 k.0.0) refl z.2 in
+    is_spelling ts (Steps i.0.0 k.0.0) f
+      (h.1, inr (number_found ts i.0 i.1
+        ∙ ap (λ (t : List Token). Number i.0.0 ∷ t) (star_found i.0.1 m.0 m.1)
+        ∙ ap (λ (t : List Token). Number i.0.0 ∷ Sign mark.Star ∷ t) (number_found m.0 k.0 k.1)
+        ∙ ap (λ (t : List Token). Number i.0.0 ∷ Sign mark.Star ∷ Number k.0.0 ∷ t) (end_found k.0.1 z.0 z.1)))
+      h.0
+
+scan_found : (ts : List Token) (f : Form) → scan_form ts ≡ Some f → IsSpelling f ts
+unfolding scan_form
+scan_found ts f e =
+    let i = bind_found (number_at ts) _ f e in
+    let a = bind_found (keyword_at (codes "scan") i.0.1) _ f i.2 in
+    let z = bind_found (end_at a.0) _ f a.2 in
+    is_spelling ts (Calls i.0.0 op.Scan) f
+      (number_found ts i.0 i.1
+        ∙ ap (λ (t : List Token). Number i.0.0 ∷ t) (keyword_found (codes "scan") i.0.1 a.0 a.1)
+        ∙ ap (λ (t : List Token). Number i.0.0 ∷ Word (codes "scan") ∷ t) (end_found a.0 z.0 z.1))
+      (some_is (Calls i.0.0 op.Scan) f z.2)
+
+update_found : (ts : List Token) (f : Form) → update_form ts ≡ Some f → IsSpelling f ts
+unfolding update_form
+update_found ts f e =
+    let i = bind_found (number_at ts) _ f e in
+    let a = bind_found (keyword_at (codes "update") i.0.1) _ f i.2 in
+    let k = bind_found (number_at a.0) _ f a.2 in
+    let x = bind_found (number_at k.0.1) _ f k.2 in
+    let z = bind_found (end_at x.0.1) _ f x.2 in
+    is_spelling ts (Calls i.0.0 (op.Update k.0.0 x.0.0)) f
+      (number_found ts i.0 i.1
+        ∙ ap (λ (t : List Token). Number i.0.0 ∷ t) (keyword_found (codes "update") i.0.1 a.0 a.1)
+        ∙ ap (λ (t : List Token). Number i.0.0 ∷ Word (codes "update") ∷ t) (number_found a.0 k.0 k.1)
+        ∙ ap (λ (t : List Token). Number i.0.0 ∷ Word (codes "update") ∷ Number k.0.0 ∷ t) (number_found k.0.1 x.0 x.1)
+        ∙ ap (λ (t : List Token). Number i.0.0 ∷ Word (codes "update") ∷ Number k.0.0 ∷ Number x.0.0 ∷ t) (end_found x.0.1 z.0 z.1))
+      (some_is (Calls i.0.0 (op.Update k.0.0 x.0.0)) f z.2)
+
+first_found : (o p : Option Form) (f : Form) → or_else o p ≡ Some f → (o ≡ Some f) ⊎ (p ≡ Some f)
+first_found None p f e = inr e
+first_found (Some x) p f e = inl e
+
+item_by3 : (ts : List Token) (f : Form) → (scan_form ts ≡ Some f) ⊎ (update_form ts ≡ Some f) → IsSpelling f ts
+item_by3 ts f (inl e) = scan_found ts f e
+item_by3 ts f (inr e) = update_found ts f e
+
+item_by2 : (ts : List Token) (f : Form) → (steps_form ts ≡ Some f) ⊎ (or_else (scan_form ts) (update_form ts) ≡ Some f) → IsSpelling f ts
+item_by2 ts f (inl e) = steps_found ts f e
+item_by2 ts f (inr e) = item_by3 ts f (first_found (scan_form ts) (update_form ts) f e)
+
+item_by1 : (ts : List Token) (f : Form) → (step_form ts ≡ Some f) ⊎ (or_else (steps_form ts) (or_else (scan_form ts) (update_form ts)) ≡ Some f) → IsSpelling f ts
+item_by1 ts f (inl e) = step_found ts f e
+item_by1 ts f (inr e) = item_by2 ts f (first_found (steps_form ts) (or_else (scan_form ts) (update_form ts)) f e)
+
+pub item_found : (ts : List Token) (f : Form) → item_form ts ≡ Some f → IsSpelling f ts
+unfolding item_form
+item_found ts f e = item_by1 ts f (first_found (step_form ts) (or_else (steps_form ts) (or_else (scan_form ts) (update_form ts))) f e)

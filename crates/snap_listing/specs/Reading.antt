@@ -57,3 +57,7 @@ target_list (Some k) = k ∷ []
 
 abbrev pub checked_target : List Line → ℕ → Result (Unit {0}) ListingRefusal
 checked_target lines k = if has_line lines k then Ok tt else Err (refusal.NoSuchLine k)
+
+-- the number of the next line, and the lines with it
+abbrev pub added_line : Source → ℕ → List Line → TextLine → Result (ℕ × List Line) ListingRefusal
+added_line s last lines text = numbered_line s last (length lines) text >>= λ line. Ok (line.number, lines ++ line ∷ [])

@@ -1,9 +1,9 @@
 //! Reads listings.
-ghost use Rattle.std.specs.Prelude.{◌≡◌, Some, None, length};
+ghost use Rattle.std.specs.Prelude.{◌≡◌, [], ◌∷◌, ◌++◌, OnOk};
 ghost use Rattle.snap_semantics.specs.Answers.{Answers};
 ghost use Rattle.snap_semantics.specs.Listing.{numbered_lines, instr_targets, has_line, checked_targets, line_targets, listing_of_lines, listing_of};
 ghost use Rattle.snap_listing.specs.Fields.{header_source};
-ghost use Rattle.snap_listing.specs.Reading.{refusal_in, numbered_line, target_list, checked_target};
+ghost use Rattle.snap_listing.specs.Reading.{refusal_in, numbered_line, added_line, target_list, checked_target};
 ghost use Rattle.snap_text.specs.Lines.{view_line};
 
 use crate::fault::ListingFault;
@@ -13,7 +13,8 @@ use crate::listing::Listing;
 use crate::uses::checked_uses;
 use snap_semantics::{Instr, Line, ListingRefusal};
 use snap_text::{TextLines, TokenLine, line_count};
-use std::alloc::Global;
+use std::alloc::{AllocError, Global};
+use std::slice;
 
 /// The most bytes of a listing's text.
 const MOST_BYTES: usize = 65_536;
@@ -46,6 +47,30 @@ fn numbered_line(
     Ok(line)
 }
 
+fn push_line(lines: &mut Vec<Line>, line: &Line) -> Result<(), AllocError>
+    ensures { OnOk result (lines.new.items ≡ lines.old.items ++ line.now ∷ []) }
+{
+    lines.extend_from_slice(slice::from_ref(line))
+}
+
+/// Adds the numbered line that a text line is, and gives its number.
+fn add_line(
+    header: &Header,
+    last: u64,
+    lines: &mut Vec<Line>,
+    text: &TokenLine<'_>,
+) -> Result<u64, ListingFault>
+    ensures { Answers refusal_in (λ number. (number, lines.new.items)) result (added_line (header_source header.now) last lines.old.items (view_line text.now)) }
+{
+    match numbered_line(header, last, lines.len(), text) {
+        Ok(line) => {
+            push_line(lines, &line)?;
+            Ok(line.number)
+        }
+        Err(refusal) => Err(ListingFault::Refused(refusal)),
+    }
+}
+
 /// The numbered lines behind the header.
 fn numbered_lines(
     alloc: Global,
@@ -57,9 +82,7 @@ fn numbered_lines(
     let mut lines = Vec::new(alloc);
     let mut last = 0;
     while let Some(text) = texts.next_line(alloc)? {
-        let line = numbered_line(header, last, lines.len(), &text)?;
-        last = line.number;
-        lines.push(line)?;
+        last = add_line(header, last, &mut lines, &text)?;
     }
     Ok(lines)
 }

@@ -5,8 +5,8 @@ use Rattle.snap_listing.specs.Reading.{onto}
 use Rattle.snap_listing.proofs.reader.numbered_lines.Given as goal
 
 -- the lines that are left follow those that were read
-abbrev pub invariant-loop-text : goal.invariant-loop-text
-invariant-loop-text l = onto l.lines.items (numbered_lines (header_source l.header) l.last (length l.lines.items) l.texts) ≡ numbered_lines (header_source l.header) 0 0 l.fn.texts
+abbrev pub invariant-loop-lines : goal.invariant-loop-lines
+invariant-loop-lines l = onto l.lines.items (numbered_lines (header_source l.header) l.last (length l.lines.items) l.texts) ≡ numbered_lines (header_source l.header) 0 0 l.fn.texts
 
-abbrev pub decreases-loop-text : goal.decreases-loop-text
-decreases-loop-text l = length l.texts
+abbrev pub decreases-loop-lines : goal.decreases-loop-lines
+decreases-loop-lines l = length l.texts

@@ -1,8 +1,11 @@
 //! Why the program did not write its output.
 ghost use Rattle.std.specs.Prelude.{◌≡◌};
 ghost use Rattle.snap_semantics.specs.declared.refusal.Refusal.TheVariants as refusal;
+ghost use Rattle.snap_program.specs.Faults.{of_listing, of_schedule};
 ghost use Rattle.snap_program.specs.declared.fault.Fault.TheVariants.{Memory, Refused};
 
+use snap_listing::ListingFault;
+use snap_sched::ScheduleFault;
 use snap_semantics::{CommandRefusal, Refusal};
 use std::alloc::{AllocError, AllocFailed};
 use thiserror::Error;
@@ -50,5 +53,27 @@ impl From<CommandRefusal> for Fault {
 
     fn from(refusal: CommandRefusal) -> Fault {
         Fault::Refused(Refusal::Commands(refusal))
+    }
+}
+
+impl From<ListingFault> for Fault {
+    ghost from_gives = { λ found fault. fault ≡ of_listing found };
+
+    fn from(fault: ListingFault) -> Fault {
+        match fault {
+            ListingFault::Memory => Fault::Memory,
+            ListingFault::Refused(refusal) => Fault::Refused(Refusal::Listing(refusal)),
+        }
+    }
+}
+
+impl From<ScheduleFault> for Fault {
+    ghost from_gives = { λ found fault. fault ≡ of_schedule found };
+
+    fn from(fault: ScheduleFault) -> Fault {
+        match fault {
+            ScheduleFault::Memory => Fault::Memory,
+            ScheduleFault::Refused(refusal) => Fault::Refused(Refusal::Schedule(refusal)),
+        }
     }
 }

@@ -88,7 +88,7 @@ condition_checks s line (Three j k l m) =
 condition_checks s line (Four j k l m o) =
     both s line (comparison_uses k) (comparison_uses l ++ (comparison_uses m ++ comparison_uses o)) _ _ (comparison_checks s line k)
     (both s line (comparison_uses l) (comparison_uses m ++ comparison_uses o) _ _ (comparison_checks s line l)
-      (both s line (comparison_uses m) (comparison_uses o) _ _ (comparison_checks s line m) (comparison_checks s line o)))
+    (both s line (comparison_uses m) (comparison_uses o) _ _ (comparison_checks s line m) (comparison_checks s line o)))
 
 where_checks : (s : Source) (line : ℕ) (k : Option Condition) → checked_where s line k ≡ checked_uses s line (where_uses k)
 where_checks s line None = refl
@@ -101,7 +101,7 @@ tuple_checks s line (tuple.Seq d q x) =
 tuple_checks s line (tuple.Bits d h t x) =
     both s line (expr_uses d) (used sort.Row h ∷ (expr_uses t ++ view x ∷ [])) _ _ (expr_checks s line d)
     (first_then s line (used sort.Row h) (expr_uses t ++ view x ∷ []) _
-      (both s line (expr_uses t) (view x ∷ []) _ _ (expr_checks s line t) (alone s line (view x))))
+    (both s line (expr_uses t) (view x ∷ []) _ _ (expr_checks s line t) (alone s line (view x))))
 tuple_checks s line (tuple.Multi d i t) =
     both s line (expr_uses d) (expr_uses i ++ expr_uses t) _ _ (expr_checks s line d)
     (both s line (expr_uses i) (expr_uses t) _ _ (expr_checks s line i) (expr_checks s line t))

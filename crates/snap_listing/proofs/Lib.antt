@@ -1,3 +1,6 @@
 pub mod Checks
+pub mod HasForms
 pub mod Lines
 pub mod Names
+pub mod SeqSources
+pub mod TextLength

@@ -18,7 +18,6 @@ use Rattle.snap_text.specs.Lines.{IsNext, view_line}
 abbrev pub Lines : Type 0
 Lines = Result (List Line) ListingRefusal
 
-
 regrouped : (r : Result Line ListingRefusal) (f : Line → Result Line ListingRefusal) (g : Line → Lines) →
     (r >>= λ x. f x >>= g) ≡ ((r >>= f) >>= g)
 regrouped (Ok x) f g = refl
@@ -74,7 +73,7 @@ pub line_refused : (s : Source) (last : ℕ) (lines : List Line) (text : TextLin
 line_refused s last lines text texts e h =
     ap (λ (r : Lines). onto lines r) (lines_on s last (length lines) text texts)
     ∙ ap (λ (r : Result Line ListingRefusal). onto lines (r >>= λ x. numbered_lines s x.number (length lines + 1) texts >>= λ xs. Ok (x ∷ xs)))
-      (refused_by lines e (numbered_line s last (length lines) text) h)
+    (refused_by lines e (numbered_line s last (length lines) text) h)
 
 pub next_is : (o : Option TokenLine) (line : TokenLine) (old new : List TextLine) → o ≡ Some line → IsNext o old new → old ≡ view_line line ∷ new
 next_is o line old new e h = let P : Option TokenLine → Type 0 = λ x. IsNext x old new in let q : IsNext (Some line) old new = subst P e h in q

@@ -21,7 +21,10 @@ fn not_expr<'a, 'b>(in_quantifier: bool, tokens: &'a [Token<'b>]) -> Option<(Exp
 }
 
 /// `+` and a term.
-fn plus_term<'a, 'b>(in_quantifier: bool, tokens: &'a [Token<'b>]) -> Option<(Term, &'a [Token<'b>])>
+fn plus_term<'a, 'b>(
+    in_quantifier: bool,
+    tokens: &'a [Token<'b>],
+) -> Option<(Term, &'a [Token<'b>])>
     ensures { Finds (λ x. (x.0, view_tokens x.1.now)) result (plus_term in_quantifier (view_tokens tokens.now)) }
 {
     let rest = mark_at(Mark::Plus, tokens)?;
@@ -45,7 +48,10 @@ fn sum_on<'a, 'b>(
 
 /// A term, or a sum of two.
 #[tactic(auto, unfolding(snap_semantics::specs::ListingForms::term_expr))]
-fn term_expr<'a, 'b>(in_quantifier: bool, tokens: &'a [Token<'b>]) -> Option<(Expr, &'a [Token<'b>])>
+fn term_expr<'a, 'b>(
+    in_quantifier: bool,
+    tokens: &'a [Token<'b>],
+) -> Option<(Expr, &'a [Token<'b>])>
     ensures { Finds (λ x. (x.0, view_tokens x.1.now)) result (term_expr in_quantifier (view_tokens tokens.now)) }
 {
     let Some((term, rest)) = term_at(in_quantifier, tokens) else {
@@ -56,7 +62,10 @@ fn term_expr<'a, 'b>(in_quantifier: bool, tokens: &'a [Token<'b>]) -> Option<(Ex
 
 /// An expression.
 #[tactic(auto, unfolding(snap_semantics::specs::ListingForms::expr_at))]
-pub fn expr_at<'a, 'b>(in_quantifier: bool, tokens: &'a [Token<'b>]) -> Option<(Expr, &'a [Token<'b>])>
+pub fn expr_at<'a, 'b>(
+    in_quantifier: bool,
+    tokens: &'a [Token<'b>],
+) -> Option<(Expr, &'a [Token<'b>])>
     ensures { Finds (λ x. (x.0, view_tokens x.1.now)) result (expr_at in_quantifier (view_tokens tokens.now)) }
 {
     if let Some(found) = not_expr(in_quantifier, tokens) {

@@ -59,11 +59,7 @@ fn are_words(tokens: &[Token<'_>]) -> bool
 }
 
 /// A keyword and words: the words.
-#[tactic(
-    auto,
-    using(crate::proofs::Names::words_found, crate::proofs::Names::words_missed),
-    unfolding(snap_semantics::specs::HeaderForms::names_form)
-)]
+#[tactic(auto, using(crate::proofs::Names::words_found, crate::proofs::Names::words_missed), unfolding(snap_semantics::specs::HeaderForms::names_form))]
 fn names_form<'a, 'b>(keyword: &[u8], tokens: &'a [Token<'b>]) -> Option<&'a [Token<'b>]>
     ensures { Finds (λ words. map letters_of words.now) result (names_form keyword.now (view_tokens tokens.now)) }
 {

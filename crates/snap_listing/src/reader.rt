@@ -150,7 +150,7 @@ fn listing_of_lines(
 }
 
 /// The listing that a text is, or the first reason why it is none.
-#[tactic(auto, unfolding(snap_semantics::specs::Listing::listing_of))]
+#[tactic(auto, using(crate::proofs::TextLength::few_lines), unfolding(snap_semantics::specs::Listing::listing_of))]
 pub fn read(alloc: Global, text: &[u8]) -> Result<Listing, ListingFault>
     ensures { Answers refusal_in (λ l. l) result (listing_of text.now) }
 {

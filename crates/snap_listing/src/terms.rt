@@ -82,7 +82,10 @@ pub fn number_index<'a, 'b>(tokens: &'a [Token<'b>]) -> Option<(Index, &'a [Toke
 
 /// `@`, where it may stand.
 #[tactic(auto, unfolding(snap_semantics::specs::ListingForms::place_index))]
-pub fn place_index<'a, 'b>(in_quantifier: bool, tokens: &'a [Token<'b>]) -> Option<(Index, &'a [Token<'b>])>
+pub fn place_index<'a, 'b>(
+    in_quantifier: bool,
+    tokens: &'a [Token<'b>],
+) -> Option<(Index, &'a [Token<'b>])>
     ensures { Finds (λ x. (x.0, view_tokens x.1.now)) result (place_index in_quantifier (view_tokens tokens.now)) }
 {
     let rest = mark_at(Mark::At, tokens)?;
@@ -105,7 +108,10 @@ pub fn word_index<'a, 'b>(tokens: &'a [Token<'b>]) -> Option<(Index, &'a [Token<
 
 /// An index.
 #[tactic(auto, unfolding(snap_semantics::specs::ListingForms::index_at))]
-pub fn index_at<'a, 'b>(in_quantifier: bool, tokens: &'a [Token<'b>]) -> Option<(Index, &'a [Token<'b>])>
+pub fn index_at<'a, 'b>(
+    in_quantifier: bool,
+    tokens: &'a [Token<'b>],
+) -> Option<(Index, &'a [Token<'b>])>
     ensures { Finds (λ x. (x.0, view_tokens x.1.now)) result (index_at in_quantifier (view_tokens tokens.now)) }
 {
     if let Some(found) = number_index(tokens) {
@@ -119,7 +125,10 @@ pub fn index_at<'a, 'b>(in_quantifier: bool, tokens: &'a [Token<'b>]) -> Option<
 
 /// `[I]`.
 #[tactic(auto, unfolding(snap_semantics::specs::ListingForms::place_at))]
-pub fn place_at<'a, 'b>(in_quantifier: bool, tokens: &'a [Token<'b>]) -> Option<(Index, &'a [Token<'b>])>
+pub fn place_at<'a, 'b>(
+    in_quantifier: bool,
+    tokens: &'a [Token<'b>],
+) -> Option<(Index, &'a [Token<'b>])>
     ensures { Finds (λ x. (x.0, view_tokens x.1.now)) result (place_at in_quantifier (view_tokens tokens.now)) }
 {
     let rest = mark_at(Mark::OpenBracket, tokens)?;
@@ -158,7 +167,10 @@ pub fn arg_term<'a, 'b>(tokens: &'a [Token<'b>]) -> Option<(Term, &'a [Token<'b>
 
 /// `R[I]`.
 #[tactic(auto, unfolding(snap_semantics::specs::ListingForms::row_term))]
-pub fn row_term<'a, 'b>(in_quantifier: bool, tokens: &'a [Token<'b>]) -> Option<(Term, &'a [Token<'b>])>
+pub fn row_term<'a, 'b>(
+    in_quantifier: bool,
+    tokens: &'a [Token<'b>],
+) -> Option<(Term, &'a [Token<'b>])>
     ensures { Finds (λ x. (x.0, view_tokens x.1.now)) result (row_term in_quantifier (view_tokens tokens.now)) }
 {
     let Some(((name, index), rest)) = named_place_at(in_quantifier, tokens) else {
@@ -182,7 +194,10 @@ pub fn field_of_word(word: &[u8]) -> Option<Field>
 
 /// `seq(W[I])` or `data(W[I])`.
 #[tactic(auto, unfolding(snap_semantics::specs::ListingForms::field_term))]
-pub fn field_term<'a, 'b>(in_quantifier: bool, tokens: &'a [Token<'b>]) -> Option<(Term, &'a [Token<'b>])>
+pub fn field_term<'a, 'b>(
+    in_quantifier: bool,
+    tokens: &'a [Token<'b>],
+) -> Option<(Term, &'a [Token<'b>])>
     ensures { Finds (λ x. (x.0, view_tokens x.1.now)) result (field_term in_quantifier (view_tokens tokens.now)) }
 {
     let (word, rest) = word_at(tokens)?;
@@ -197,7 +212,10 @@ pub fn field_term<'a, 'b>(in_quantifier: bool, tokens: &'a [Token<'b>]) -> Optio
 
 /// An index as a term.
 #[tactic(auto, unfolding(snap_semantics::specs::ListingForms::index_term))]
-pub fn index_term<'a, 'b>(in_quantifier: bool, tokens: &'a [Token<'b>]) -> Option<(Term, &'a [Token<'b>])>
+pub fn index_term<'a, 'b>(
+    in_quantifier: bool,
+    tokens: &'a [Token<'b>],
+) -> Option<(Term, &'a [Token<'b>])>
     ensures { Finds (λ x. (x.0, view_tokens x.1.now)) result (index_term in_quantifier (view_tokens tokens.now)) }
 {
     let Some((index, rest)) = index_at(in_quantifier, tokens) else {
@@ -208,7 +226,10 @@ pub fn index_term<'a, 'b>(in_quantifier: bool, tokens: &'a [Token<'b>]) -> Optio
 
 /// A term.
 #[tactic(auto, unfolding(snap_semantics::specs::ListingForms::term_at))]
-pub fn term_at<'a, 'b>(in_quantifier: bool, tokens: &'a [Token<'b>]) -> Option<(Term, &'a [Token<'b>])>
+pub fn term_at<'a, 'b>(
+    in_quantifier: bool,
+    tokens: &'a [Token<'b>],
+) -> Option<(Term, &'a [Token<'b>])>
     ensures { Finds (λ x. (x.0, view_tokens x.1.now)) result (term_at in_quantifier (view_tokens tokens.now)) }
 {
     if let Some(found) = arg_term(tokens) {

@@ -5,7 +5,9 @@ ghost use Rattle.snap_listing.specs.Checks.{checked_use, checked_index, checked_
 ghost use Rattle.snap_listing.specs.Fields.{header_source};
 
 use crate::header::{Header, is_among};
-use snap_semantics::{Comparison, Condition, Expr, Index, Instr, ListingRefusal, Name, Sort, Term, Tuple};
+use snap_semantics::{
+    Comparison, Condition, Expr, Index, Instr, ListingRefusal, Name, Sort, Term, Tuple,
+};
 
 /// The sort of a declared name.
 fn sort_of(header: &Header, name: &Name) -> Option<Sort>

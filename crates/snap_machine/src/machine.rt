@@ -1,5 +1,5 @@
 //! The machine.
-ghost use Rattle.std.specs.Prelude.{◌≡◌, IfOk, IsTrue, MatchResult, OnErr, map, option_map, vec_items, zip};
+ghost use Rattle.std.specs.Prelude.{◌≡◌, IfOk, IsTrue, MatchResult, OnErr, length, map, option_map, vec_items, zip};
 ghost use Rattle.snap_words.specs.Shape.{IsOneOf};
 ghost use Rattle.snap_semantics.specs.Memory.{may_grow};
 ghost use Rattle.snap_semantics.specs.Readers.{
@@ -113,7 +113,8 @@ impl Machine {
 
     /// The numbers of processes and of words.
     pub fn shape(&self) -> Shape
-        ensures { result ≡ self.now.shape }
+        ensures shape { result ≡ self.now.shape }
+        ensures processes { length self.now.state.processes ≡ self.now.shape.n }
     {
         self.shape
     }

@@ -1,6 +1,6 @@
 //! Texts put together.
 ghost use Rattle.std.specs.Prelude.{◌≡◌, ◌++◌, OnOk, decimal};
-ghost use Rattle.snap_text.specs.Texts.{numbers_text};
+ghost use Rattle.snap_semantics.specs.Report.{numbers_text};
 
 use itoa::Buffer;
 use std::alloc::AllocError;

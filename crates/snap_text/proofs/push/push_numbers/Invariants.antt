@@ -1,5 +1,5 @@
 use Rattle.std.proofs.Common.{◌≡◌, ◌++◌, drop}
-use Rattle.snap_text.specs.Texts.{numbers_text}
+use Rattle.snap_semantics.specs.Report.{numbers_text}
 use Rattle.snap_text.proofs.push.push_numbers.Given as goal
 
 abbrev pub invariant-loop-number : goal.invariant-loop-number

@@ -1,0 +1,4 @@
+pub mod Courses
+pub mod Lines
+pub mod Runs
+pub mod Splits

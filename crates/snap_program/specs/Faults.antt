@@ -1,0 +1,16 @@
+-- The faults of what is read, as the program's.
+use Rattle.snap_semantics.specs.declared.refusal.Refusal.TheVariants as refusal
+use Rattle.snap_listing.specs.declared.fault.ListingFault.{ListingFault}
+use Rattle.snap_listing.specs.declared.fault.ListingFault.TheVariants as listing
+use Rattle.snap_sched.specs.declared.fault.ScheduleFault.{ScheduleFault}
+use Rattle.snap_sched.specs.declared.fault.ScheduleFault.TheVariants as schedule
+use Rattle.snap_program.specs.declared.fault.Fault.{Fault}
+use Rattle.snap_program.specs.declared.fault.Fault.TheVariants as fault
+
+abbrev pub of_listing : ListingFault → Fault
+of_listing listing.Memory = fault.Memory
+of_listing (listing.Refused r) = fault.Refused (refusal.Listing r)
+
+abbrev pub of_schedule : ScheduleFault → Fault
+of_schedule schedule.Memory = fault.Memory
+of_schedule (schedule.Refused r) = fault.Refused (refusal.Schedule r)

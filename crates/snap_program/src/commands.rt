@@ -1,0 +1,78 @@
+//! Debugger commands, read.
+ghost use Rattle.std.specs.Prelude.{◌≡◌};
+ghost use Rattle.snap_semantics.specs.Answers.{refused_as};
+ghost use Rattle.snap_semantics.specs.CommandForms.{run_form, command_form};
+ghost use Rattle.snap_semantics.specs.Commands.{command_at, commands_of};
+ghost use Rattle.snap_semantics.specs.declared.refusal.Refusal.TheVariants as refusal;
+ghost use Rattle.snap_text.specs.Lines.{view_line};
+ghost use Rattle.snap_text.specs.Tokens.{Finds, view_tokens};
+ghost use Rattle.snap_program.specs.Answers.{Gives};
+ghost use Rattle.snap_program.specs.CommandsInTurn.{admitted_at};
+
+use crate::fault::Fault;
+use snap_semantics::{Command, CommandRefusal};
+use snap_text::{TextLines, Token, TokenLine, end_at, keyword_at};
+use std::alloc::Global;
+
+/// The most bytes that a text of commands may have.
+const MAX_BYTES: usize = 1_048_576;
+
+/// The most commands that a text may have.
+const MAX_COMMANDS: usize = 10_000;
+
+/// `run`.
+#[tactic(auto, unfolding(snap_semantics::specs::CommandForms::run_form))]
+fn run_form(tokens: &[Token<'_>]) -> Option<Command>
+    ensures { Finds (λ command. command) result (run_form (view_tokens tokens.now)) }
+{
+    let rest = keyword_at(b"run", tokens)?;
+    end_at(rest)?;
+    Some(Command::Run)
+}
+
+/// The command that tokens spell.
+#[tactic(auto, unfolding(snap_semantics::specs::CommandForms::command_form))]
+fn command_form(tokens: &[Token<'_>]) -> Option<Command>
+    ensures { Finds (λ command. command) result (command_form (view_tokens tokens.now)) }
+{
+    run_form(tokens)
+}
+
+/// What a line asks for.
+fn command_at(line: &TokenLine<'_>) -> Result<Command, CommandRefusal>
+    ensures { result ≡ command_at (view_line line.now).number (view_line line.now).tokens }
+{
+    match &line.tokens {
+        Some(tokens) => match command_form(tokens.as_slice()) {
+            Some(command) => Ok(command),
+            None => Err(CommandRefusal::BadCommand(line.number)),
+        },
+        None => Err(CommandRefusal::BadCommand(line.number)),
+    }
+}
+
+/// What a line asks for, behind so many commands.
+fn admitted_at(count: usize, line: &TokenLine<'_>) -> Result<Command, CommandRefusal>
+    ensures { result ≡ admitted_at count (view_line line.now) }
+{
+    if count >= MAX_COMMANDS {
+        return Err(CommandRefusal::TooLong);
+    }
+    command_at(line)
+}
+
+/// Reads commands.
+pub fn read_commands(alloc: Global, text: &[u8]) -> Result<Vec<Command>, Fault>
+    ensures { Gives (λ commands. commands.items) result (refused_as refusal.Commands (commands_of text.now)) }
+{
+    if text.len() > MAX_BYTES {
+        return Err(Fault::from(CommandRefusal::TooLong));
+    }
+    let mut commands = Vec::new(alloc);
+    let mut lines = TextLines::new(text);
+    while let Some(line) = lines.next_line(alloc)? {
+        let command = admitted_at(commands.len(), &line)?;
+        commands.push(command)?;
+    }
+    Ok(commands)
+}

@@ -1,0 +1,66 @@
+//! A whole run of the program.
+ghost use Rattle.std.specs.Prelude.{◌≡◌, ◌≤◌, ◌<◌, ◌++◌, ◌⊎◌, ℕ, List, [], true, false, length, take, IfOk, IfErr, OnOk, OnErr, MatchResult};
+ghost use Rattle.std.specs.Io.KnownBytes.{Consumes, Appends, IsAtEnd};
+ghost use Rattle.snap_semantics.specs.Output.{output_of};
+ghost use Rattle.snap_program.specs.Conducts.{Reads, Sends, Conducts};
+
+use crate::fault::Fault;
+use crate::output::{MAX_INPUT, output};
+use crate::reading::Source;
+use crate::writing::Sink;
+use snap_semantics::Task;
+use std::alloc::Global;
+
+/// The bytes of one read.
+const CHUNK: usize = 4096;
+
+/// Reads all there is, or one byte more than is allowed.
+fn read_all<R: Source>(alloc: Global, source: &mut R) -> Result<Vec<u8>, Fault>
+    requires { R.has_failed source.old ≡ false }
+    ensures { Reads result (R.left source.old) (R.left source.new) (R.has_failed source.new) }
+{
+    let mut input = Vec::new(alloc);
+    let mut buffer = [0u8; CHUNK];
+    while input.len() <= MAX_INPUT {
+        let room = CHUNK.min(MAX_INPUT + 1 - input.len());
+        match source.read(&mut buffer[..room]) {
+            Ok(0) => break,
+            Ok(count) => input.extend_from_slice(&buffer[..count])?,
+            Err(_) => return Err(Fault::Read),
+        }
+    }
+    Ok(input)
+}
+
+/// Writes all of a text.
+fn write_all<W: Sink>(sink: &mut W, text: &[u8]) -> Result<(), Fault>
+    requires { W.has_failed sink.old ≡ false }
+    ensures { Sends result text.now (W.taken sink.old) (W.taken sink.new) (W.has_failed sink.new) (W.is_stalled sink.new) }
+{
+    let mut sent = 0;
+    while sent < text.len() {
+        match sink.write(&text[sent..]) {
+            Ok(0) => return Err(Fault::Write(sent as u64)),
+            Ok(count) => sent += count,
+            Err(_) => return Err(Fault::Write(sent as u64)),
+        }
+    }
+    Ok(())
+}
+
+/// Reads the input, and then writes its whole output and nothing else.
+pub fn conduct<R: Source, W: Sink>(
+    alloc: Global,
+    task: &Task,
+    source: &mut R,
+    sink: &mut W,
+) -> Result<(), Fault>
+    requires source { R.has_failed source.old ≡ false }
+    requires sink { W.has_failed sink.old ≡ false }
+    ensures { Conducts result task.now (R.left source.old) (R.left source.new) (W.taken sink.old) (W.taken sink.new)
+        (R.has_failed source.new) (W.has_failed sink.new) (W.is_stalled sink.new) }
+{
+    let input = read_all(alloc, source)?;
+    let text = output(alloc, task, input.as_slice())?;
+    write_all(sink, text.as_slice())
+}

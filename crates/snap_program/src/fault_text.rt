@@ -1,0 +1,103 @@
+//! The texts of faults.
+ghost use Rattle.std.specs.Prelude.{◌≡◌, ◌++◌, codes, OnOk, IfOk, decimal};
+ghost use Rattle.snap_program.specs.FaultText.{
+  numbered,
+  listing_refusal_text,
+  schedule_refusal_text,
+  command_refusal_text,
+  word_fault_text,
+  refusal_text,
+  fault_text,
+};
+
+use crate::fault::Fault;
+use snap_semantics::{CommandRefusal, ListingRefusal, Refusal, ScheduleRefusal};
+use snap_text::{push_number, push_text};
+use snap_words::WordFault;
+use std::alloc::{AllocError, Global};
+
+/// Adds a name and a number behind a space.
+fn push_numbered(out: &mut Vec<u8>, name: &[u8], number: u64) -> Result<(), AllocError>
+    ensures { OnOk result (out.new.items ≡ out.old.items ++ numbered name.now number) }
+{
+    push_text(out, name)?;
+    push_text(out, b" ")?;
+    push_number(out, number)
+}
+
+fn push_listing_refusal(out: &mut Vec<u8>, refusal: &ListingRefusal) -> Result<(), AllocError>
+    ensures { OnOk result (out.new.items ≡ out.old.items ++ listing_refusal_text refusal.now) }
+{
+    match refusal {
+        ListingRefusal::TooLong => push_text(out, b"L1 TooLong"),
+        ListingRefusal::BadHeader(line) => push_numbered(out, b"L2 BadHeader", *line),
+        ListingRefusal::BadLine(line) => push_numbered(out, b"L3 BadLine", *line),
+        ListingRefusal::NumberNotRising(line) => push_numbered(out, b"L4 NumberNotRising", *line),
+        ListingRefusal::UnknownName(line) => push_numbered(out, b"L5 UnknownName", *line),
+        ListingRefusal::NameTwice(line) => push_numbered(out, b"L6 NameTwice", *line),
+        ListingRefusal::WrongKind(line) => push_numbered(out, b"L7 WrongKind", *line),
+        ListingRefusal::NoSuchLine(target) => push_numbered(out, b"L8 NoSuchLine", *target),
+        ListingRefusal::TooMany(line) => push_numbered(out, b"L9 TooMany", *line),
+        ListingRefusal::BadName(line) => push_numbered(out, b"L10 BadName", *line),
+    }
+}
+
+fn push_schedule_refusal(out: &mut Vec<u8>, refusal: &ScheduleRefusal) -> Result<(), AllocError>
+    ensures { OnOk result (out.new.items ≡ out.old.items ++ schedule_refusal_text refusal.now) }
+{
+    match refusal {
+        ScheduleRefusal::TooLong => push_text(out, b"S1 TooLong"),
+        ScheduleRefusal::BadShape => push_text(out, b"S2 BadShape"),
+        ScheduleRefusal::BadItem(line) => push_numbered(out, b"S3 BadItem", *line),
+        ScheduleRefusal::TooManyItems(line) => push_numbered(out, b"S4 TooManyItems", *line),
+        ScheduleRefusal::NoSuchProcess(line) => push_numbered(out, b"S5 NoSuchProcess", *line),
+    }
+}
+
+fn push_command_refusal(out: &mut Vec<u8>, refusal: &CommandRefusal) -> Result<(), AllocError>
+    ensures { OnOk result (out.new.items ≡ out.old.items ++ command_refusal_text refusal.now) }
+{
+    match refusal {
+        CommandRefusal::BadCommand(line) => push_numbered(out, b"G1 BadCommand", *line),
+        CommandRefusal::TooLong => push_text(out, b"G7 TooLong"),
+    }
+}
+
+fn push_word_fault(out: &mut Vec<u8>, fault: &WordFault) -> Result<(), AllocError>
+    ensures { OnOk result (out.new.items ≡ out.old.items ++ word_fault_text fault.now) }
+{
+    match fault {
+        WordFault::BadShape => push_text(out, b"W1 BadShape"),
+    }
+}
+
+fn push_refusal(out: &mut Vec<u8>, refusal: &Refusal) -> Result<(), AllocError>
+    ensures { OnOk result (out.new.items ≡ out.old.items ++ refusal_text refusal.now) }
+{
+    match refusal {
+        Refusal::InputTooLong => push_text(out, b"P1 InputTooLong"),
+        Refusal::WrongParts(found) => push_numbered(out, b"P2 WrongParts", *found),
+        Refusal::Listing(refusal) => push_listing_refusal(out, refusal),
+        Refusal::Schedule(refusal) => push_schedule_refusal(out, refusal),
+        Refusal::Words(fault) => push_word_fault(out, fault),
+        Refusal::Commands(refusal) => push_command_refusal(out, refusal),
+    }
+}
+
+/// The line that says why the program did not write its output.
+pub fn fault_line(alloc: Global, fault: &Fault) -> Result<Vec<u8>, AllocError>
+    ensures { IfOk result (λ line. line.items ≡ fault_text fault.now ++ codes "\n") }
+{
+    let mut line = Vec::new(alloc);
+    match fault {
+        Fault::Memory => push_text(&mut line, b"refused: Memory")?,
+        Fault::Refused(refusal) => {
+            push_text(&mut line, b"refused: ")?;
+            push_refusal(&mut line, refusal)?;
+        }
+        Fault::Read => push_text(&mut line, b"read fault")?,
+        Fault::Write(count) => push_numbered(&mut line, b"write fault after", *count)?,
+    }
+    line.push(b'\n')?;
+    Ok(line)
+}

@@ -1,0 +1,32 @@
+//! What the program does between a source of bytes and a sink: whole runs, from texts to a report.
+#![tactic(auto)]
+
+mod commands;
+mod conducting;
+mod course;
+mod fault;
+mod fault_text;
+mod output;
+mod parts;
+mod performing;
+mod process_text;
+mod reading;
+mod report;
+mod standard;
+mod writing;
+
+pub use conducting::conduct;
+pub use fault::Fault;
+pub use fault_text::fault_line;
+pub use parts::split_parts;
+pub use performing::perform;
+pub use reading::Source;
+pub use standard::Std;
+pub use writing::Sink;
+
+/// The device failed.
+#[derive(Clone, Copy, Debug)]
+pub struct Failed;
+
+#[cfg(test)]
+mod tests;

@@ -1,0 +1,37 @@
+//! What the program writes for an input.
+ghost use Rattle.snap_semantics.specs.Output.{run_of, of_sub, output_of};
+ghost use Rattle.snap_program.specs.Answers.{Gives};
+
+use crate::fault::Fault;
+use crate::parts::split_parts;
+use crate::performing::perform;
+use snap_semantics::{Refusal, Sub, Task};
+use std::alloc::Global;
+
+/// The most bytes that an input may have.
+pub const MAX_INPUT: usize = 16_777_216;
+
+/// Runs a listing under a schedule.
+#[tactic(auto, unfolding(snap_semantics::specs::Output::run_of))]
+fn run(alloc: Global, input: &[u8]) -> Result<Vec<u8>, Fault>
+    ensures { Gives (λ out. out.items) result (run_of input.now) }
+{
+    let parts = split_parts(alloc, input)?;
+    if parts.len() != 2 {
+        return Err(Fault::Refused(Refusal::WrongParts(parts.len() as u64)));
+    }
+    perform(alloc, parts[0], parts[1], b"run\n")
+}
+
+/// The whole output for an input, or why there is none.
+#[tactic(auto, unfolding(snap_semantics::specs::Output::output_of))]
+pub fn output(alloc: Global, task: &Task, input: &[u8]) -> Result<Vec<u8>, Fault>
+    ensures { Gives (λ out. out.items) result (output_of task.now input.now) }
+{
+    if input.len() > MAX_INPUT {
+        return Err(Fault::Refused(Refusal::InputTooLong));
+    }
+    match task.sub {
+        Sub::Run => run(alloc, input),
+    }
+}

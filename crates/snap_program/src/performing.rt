@@ -1,0 +1,169 @@
+//! A listing under a schedule, with debugger commands.
+ghost use Rattle.std.specs.Prelude.{◌≡◌, ◌++◌, IfOk, OnOk};
+ghost use Rattle.snap_words.specs.Kind.{fits};
+ghost use Rattle.snap_semantics.specs.Answers.{refused_as};
+ghost use Rattle.snap_semantics.specs.Listing.{listing_of};
+ghost use Rattle.snap_semantics.specs.Perform.{
+  command_text,
+  fitting,
+  perform_of,
+  performance,
+  position_after,
+  reached,
+  replies_text,
+  reply_text,
+};
+ghost use Rattle.snap_semantics.specs.Schedule.{schedule_of};
+ghost use Rattle.snap_semantics.specs.declared.refusal.Refusal.TheVariants as refusal;
+ghost use Rattle.snap_program.specs.Answers.{Gives};
+ghost use Rattle.snap_program.specs.Replies.{command_reply};
+
+use crate::commands::read_commands;
+use crate::course::Course;
+use crate::fault::Fault;
+use crate::report::{position_line, report};
+use snap_listing::Listing;
+use snap_sched::Schedule;
+use snap_semantics::{Command, Refusal};
+use snap_text::push_text;
+use snap_words::{KindTag, Shape, WordFault};
+use std::alloc::{AllocError, Global};
+
+/// Reads a listing.
+fn read_listing(alloc: Global, text: &[u8]) -> Result<Listing, Fault>
+    ensures { Gives (λ l. l) result (refused_as refusal.Listing (listing_of text.now)) }
+{
+    Ok(snap_listing::read(alloc, text)?)
+}
+
+/// Reads a schedule.
+fn read_schedule(alloc: Global, text: &[u8]) -> Result<Schedule, Fault>
+    ensures { Gives (λ s. s) result (refused_as refusal.Schedule (schedule_of text.now)) }
+{
+    Ok(snap_sched::read(alloc, text)?)
+}
+
+/// Whether a shape fits a kind of registers.
+fn fits(kind: KindTag, shape: Shape) -> bool
+    ensures { result ≡ fits kind shape }
+{
+    match kind {
+        KindTag::Seq | KindTag::Bits => shape.w() == shape.n(),
+        KindTag::Multi => true,
+    }
+}
+
+/// Sees that the shape of a schedule fits the kind of a listing.
+fn check_fit(listing: &Listing, schedule: &Schedule) -> Result<(), Fault>
+    ensures { Gives (λ done. schedule.now) result (fitting listing.now schedule.now) }
+{
+    if fits(listing.kind(), schedule.shape()) {
+        Ok(())
+    } else {
+        Err(Fault::Refused(Refusal::Words(WordFault::BadShape)))
+    }
+}
+
+/// The position that a command leads to.
+fn position_after(total: u64, position: u64, command: Command) -> u64
+    ensures { result ≡ position_after total position command }
+{
+    let _before = position;
+    match command {
+        Command::Run => total,
+    }
+}
+
+/// A command.
+fn command_text(out: &mut Vec<u8>, command: Command) -> Result<(), AllocError>
+    ensures { OnOk result (out.new.items ≡ out.old.items ++ command_text command) }
+{
+    match command {
+        Command::Run => push_text(out, b"run"),
+    }
+}
+
+/// What a command at a position is answered.
+fn reply_text(
+    out: &mut Vec<u8>,
+    total: u64,
+    position: u64,
+    command: Command,
+) -> Result<(), AllocError>
+    ensures { OnOk result (out.new.items ≡ out.old.items ++ reply_text total position command) }
+{
+    match command {
+        Command::Run => position_line(out, position_after(total, position, command), total),
+    }
+}
+
+/// A command behind `> `, and what it is answered.
+#[tactic(auto, using(snap_text::proofs::Texts::joined))]
+fn command_reply(
+    out: &mut Vec<u8>,
+    total: u64,
+    position: u64,
+    command: Command,
+) -> Result<(), AllocError>
+    ensures { OnOk result (out.new.items ≡ out.old.items ++ command_reply total position command) }
+{
+    push_text(out, b"> ")?;
+    command_text(out, command)?;
+    push_text(out, b"\n")?;
+    reply_text(out, total, position, command)
+}
+
+/// The replies, and the position to which the commands lead.
+fn replies_text(out: &mut Vec<u8>, total: u64, commands: &[Command]) -> Result<u64, AllocError>
+    ensures replies { OnOk result (out.new.items ≡ out.old.items ++ replies_text total 0 commands.now) }
+    ensures position { IfOk result (λ position. position ≡ reached total 0 commands.now) }
+{
+    let mut position = 0;
+    for command in commands {
+        command_reply(out, total, position, *command)?;
+        position = position_after(total, position, *command);
+    }
+    Ok(position)
+}
+
+/// What a listing does under a schedule, as commands ask for it.
+fn performance(
+    alloc: Global,
+    listing: &Listing,
+    schedule: &Schedule,
+    commands: &[Command],
+) -> Result<Vec<u8>, AllocError>
+    ensures { IfOk result (λ out. out.items ≡ performance listing.now schedule.now commands.now) }
+{
+    let items = schedule.items();
+    let total = items.len();
+    let mut out = Vec::new(alloc);
+    let position = replies_text(&mut out, total, commands)?;
+    let mut course = Course::new(alloc, listing, schedule.shape())?;
+    course.apply_first(items, position)?;
+    report(
+        &mut out,
+        &course.machine,
+        course.events.as_slice(),
+        position,
+        total,
+    )?;
+    Ok(out)
+}
+
+/// What commands are answered on a listing under a schedule, and the report of the position reached, as text.
+#[tactic(auto, unfolding(snap_semantics::specs::Perform::perform_of))]
+pub fn perform(
+    alloc: Global,
+    listing: &[u8],
+    schedule: &[u8],
+    commands: &[u8],
+) -> Result<Vec<u8>, Fault>
+    ensures { Gives (λ out. out.items) result (perform_of listing.now schedule.now commands.now) }
+{
+    let listing = read_listing(alloc, listing)?;
+    let schedule = read_schedule(alloc, schedule)?;
+    check_fit(&listing, &schedule)?;
+    let commands = read_commands(alloc, commands)?;
+    Ok(performance(alloc, &listing, &schedule, commands.as_slice())?)
+}

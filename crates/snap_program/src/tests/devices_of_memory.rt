@@ -1,0 +1,90 @@
+//! Devices that lie in memory, and fail when they are told to.
+
+ghost use Rattle.std.specs.Prelude.{◌≡◌, [], false, true, Some, ◌==◌};
+
+use crate::{Failed, Sink, Source};
+use std::alloc::Global;
+
+/// Gives one byte a call, and fails after so many calls.
+#[derive(Drop)]
+pub struct Trickle<'a> {
+    rest: &'a [u8],
+    calls: u64,
+    failed: bool,
+}
+
+impl<'a> Trickle<'a> {
+    pub fn new(bytes: &'a [u8], calls: u64) -> Trickle<'a>
+        ensures { result.failed ≡ false }
+    {
+        Trickle {
+            rest: bytes,
+            calls,
+            failed: false,
+        }
+    }
+}
+
+impl Source for Trickle<'_> {
+    ghost left = { λ s. Some s.rest.now };
+
+    ghost has_failed = { λ s. s.failed };
+
+    fn read(&mut self, buffer: &mut [u8]) -> Result<usize, Failed> {
+        if self.calls == 0 {
+            self.failed = true;
+            return Err(Failed);
+        }
+        self.calls -= 1;
+        if self.rest.is_empty() || buffer.is_empty() {
+            return Ok(0);
+        }
+        let (first, others) = self.rest.split_at(1);
+        buffer[0] = first[0];
+        self.rest = others;
+        Ok(1)
+    }
+}
+
+/// Takes so many bytes a call, and fails after so many calls.
+#[derive(Drop)]
+pub struct Narrow {
+    pub taken: Vec<u8>,
+    step: usize,
+    calls: u64,
+    failed: bool,
+    stalled: bool,
+}
+
+impl Narrow {
+    pub fn new(alloc: Global, step: usize, calls: u64) -> Narrow
+        ensures { result.failed ≡ false }
+    {
+        Narrow {
+            taken: Vec::new(alloc),
+            step,
+            calls,
+            failed: false,
+            stalled: false,
+        }
+    }
+}
+
+impl Sink for Narrow {
+    ghost taken = { λ s. Some s.taken.items };
+
+    ghost has_failed = { λ s. s.failed };
+
+    ghost is_stalled = { λ s. s.stalled };
+
+    fn write(&mut self, bytes: &[u8]) -> Result<usize, Failed> {
+        let count = self.step.min(bytes.len());
+        if self.calls == 0 || self.taken.extend_from_slice(&bytes[..count]).is_err() {
+            self.failed = true;
+            return Err(Failed);
+        }
+        self.calls -= 1;
+        self.stalled = count == 0;
+        Ok(count)
+    }
+}

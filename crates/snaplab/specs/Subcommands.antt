@@ -1,0 +1,8 @@
+-- The names of subcommands.
+use Rattle.std.specs.Prelude.{ℕ, List, Option, Some, None, bytes_eq, codes, if◌then◌else◌}
+use Rattle.snap_semantics.specs.declared.text.Sub.{Sub}
+use Rattle.snap_semantics.specs.declared.text.Sub.TheVariants as sub
+
+-- the subcommand of this name
+abbrev pub sub_of : List ℕ → Option Sub
+sub_of name = if bytes_eq name (codes "run") then Some sub.Run else None

@@ -42,6 +42,7 @@ command_refusal_text commands.TooLong = codes "G7 TooLong"
 
 abbrev pub word_fault_text : WordFault → List ℕ
 word_fault_text words.BadShape = codes "W1 BadShape"
+word_fault_text words.NotABit = codes "W2 NotABit"
 
 abbrev pub refusal_text : Refusal → List ℕ
 refusal_text refusal.InputTooLong = codes "P1 InputTooLong"

@@ -68,6 +68,7 @@ fn push_word_fault(out: &mut Vec<u8>, fault: &WordFault) -> Result<(), AllocErro
 {
     match fault {
         WordFault::BadShape => push_text(out, b"W1 BadShape"),
+        WordFault::NotABit => push_text(out, b"W2 NotABit"),
     }
 }
 

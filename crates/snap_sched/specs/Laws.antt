@@ -10,15 +10,7 @@ use Rattle.snap_semantics.specs.ScheduleText.{IsSchedule, schedule_text}
 use Rattle.snap_semantics.specs.Token.{text_lines}
 use Rattle.snap_sched.specs.Spelling.{IsSpelled, line_tokens}
 
--- what is read is a schedule, and the text spells it
-abbrev pub ReadsOnlySpelled : Type 0
-ReadsOnlySpelled = (text : List ℕ) (s : Schedule) → schedule_of text ≡ Ok s →
-    (length text ≤ 4194304) × IsSchedule s × IsSpelled s (line_tokens (text_lines text))
-
--- every schedule is read from every text that spells it
-abbrev pub ReadsAllSpelled : Type 0
-ReadsAllSpelled = (text : List ℕ) (s : Schedule) → length text ≤ 4194304 → IsSchedule s → IsSpelled s (line_tokens (text_lines text)) → schedule_of text ≡ Ok s
-
+-- its numbers have 64 bits
 abbrev pub FitsWords : Op → Type 0
 FitsWords op.Scan = ⊤
 FitsWords (op.Update word value) = (word < 2 ^ 64) × (value < 2 ^ 64)
@@ -27,6 +19,15 @@ FitsWords (op.Update word value) = (word < 2 ^ 64) × (value < 2 ^ 64)
 abbrev pub FitsItem : Item → Type 0
 FitsItem (item.Step i) = ⊤
 FitsItem (item.Call i op) = FitsWords op
+
+-- what is read is a schedule with numbers of 64 bits, and the text spells it
+abbrev pub ReadsOnlySpelled : Type 0
+ReadsOnlySpelled = (text : List ℕ) (s : Schedule) → schedule_of text ≡ Ok s →
+    (length text ≤ 4194304) × IsSchedule s × AllByRecursion FitsItem s.items × IsSpelled s (line_tokens (text_lines text))
+
+-- every schedule is read from every text that spells it
+abbrev pub ReadsAllSpelled : Type 0
+ReadsAllSpelled = (text : List ℕ) (s : Schedule) → length text ≤ 4194304 → IsSchedule s → IsSpelled s (line_tokens (text_lines text)) → schedule_of text ≡ Ok s
 
 -- what is printed of a schedule is read as that schedule
 abbrev pub PrintsAgain : Type 0

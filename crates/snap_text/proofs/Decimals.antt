@@ -1,12 +1,12 @@
 -- The digits of a number are its token.
-use Rattle.std.proofs.Common.{◌≡◌, ℕ, zero, suc, ◌+◌, ◌-◌, ◌*◌, ◌/◌, ◌%◌, ◌^◌, ◌<◌, ◌≤◌, Bool, true, false, ◌&&◌, ◌||◌, List, [], ◌∷◌, ◌++◌, length, get_or, Option, Some, None, nat_eq, nat_le, nat_lt, decimal, if◌then◌else◌, refl, sym, ap, ◌∙◌, arith, subst, ◌⊎◌, inl, inr}
+use Rattle.std.proofs.Common.{◌≡◌, ℕ, ◌+◌, ◌-◌, ◌*◌, ◌/◌, ◌%◌, ◌^◌, ◌<◌, ◌≤◌, Bool, true, false, ◌||◌, List, [], ◌∷◌, ◌++◌, length, get_or, Option, Some, None, nat_le, nat_lt, decimal, if◌then◌else◌, refl, ap, ◌∙◌, arith, ◌⊎◌, inl, inr}
 use Rattle.std.proofs.lemmas.Bool.{le-leb, lt-leb, le-ltb, leb-true, ne_eqb, and_from, and_left, and_parts, cases_lt}
 use Rattle.std.proofs.lemmas.Fmt.{decimal_by_steps, decimal_digit, first_decimal}
 use Rattle.std.proofs.lemmas.List.{length-append}
 use Rattle.std.proofs.lemmas.List.Folds.{list_all-append}
 use Rattle.std.specs.List.{list_all}
 use Rattle.snap_semantics.specs.Forms.{◌>>=◌}
-use Rattle.snap_semantics.specs.Token.{Token, Word, Number, is_letter, is_digit, is_run_byte, number_of, number_token, has_leading_zero, run_token}
+use Rattle.snap_semantics.specs.Token.{Word, Number, is_letter, is_digit, is_run_byte, number_of, number_token, has_leading_zero, run_token}
 
 is_digit_of : (d : ℕ) → d < 10 → is_digit (48 + d) ≡ true
 is_digit_of d small = and_from (nat_le 48 (48 + d)) (nat_le (48 + d) 57) (le-leb 48 (48 + d) (omega arith)) (le-leb (48 + d) 57 (omega arith))
@@ -97,7 +97,7 @@ pub decimal_token : (n : ℕ) → n < 2 ^ 64 → run_token (decimal n) ≡ Some 
 decimal_token n fits =
     let h = decimal_numeral n fits in
     run_number_by (decimal n) (list_all is_letter (decimal n)) (has_leading_zero (decimal n)) (number_of 0 (decimal n))
-      (not_letters (decimal n) h.some h.digits) (no_leading_zero n fits (cases_lt n 10))
+    (not_letters (decimal n) h.some h.digits) (no_leading_zero n fits (cases_lt n 10))
     ∙ ap number_token h.value
 
 pub decimal_digits : (n : ℕ) → n < 2 ^ 64 → list_all is_digit (decimal n) ≡ true

@@ -1,5 +1,5 @@
-use Rattle.snap_sched.proofs.Spelled.{read_is_spelled}
+use Rattle.snap_sched.proofs.Fitting.{read_is_spelled_and_fits}
 use Rattle.snap_sched.proofs.laws.reads_only_spelled.Goals as goal
 
 pub returns : goal.returns
-returns c = read_is_spelled
+returns c = read_is_spelled_and_fits

@@ -93,13 +93,18 @@ move_well n me d m p L13 i bits sized s h =
     (s, (h.0, h.1, subst (λ x. x ≤ 1) (sym (put_place p.g p.j (hand_at (word_at p.a p.j) me) (omega arith) (omega arith))) h.2), refl)
 move_well n me d m p L14 i bits sized s h = (s, (h.0, h.1), refl)
 move_well n me d m p L15 i bits sized s h =
-    either (MoveWell (op_of d) n me) (nat_lt p.j n) _ _ (λ b. let j : p.j < n = lt_from p.j n b in (s, ((omega arith, omega arith), h.1), refl)) (λ b. (s, ((omega arith, omega arith), h.1), refl))
+    either (MoveWell (op_of d) n me) (nat_lt p.j n) _ _
+    (λ b. let j : p.j < n = lt_from p.j n b in (s, ((omega arith, omega arith), h.1), refl))
+    (λ b. (s, ((omega arith, omega arith), h.1), refl))
 move_well n me d m p L16 i bits sized s h = (s, h, refl)
 move_well n me d m p L17 i bits sized s h =
-    either (MoveWell (op_of d) n me) (nat_lt p.j n) _ _ (λ b. let j : p.j < n = lt_from p.j n b in (s, ((omega arith, omega arith), h.1), refl)) (λ b. (s, ((omega arith, omega arith), h.1), refl))
+    either (MoveWell (op_of d) n me) (nat_lt p.j n) _ _
+    (λ b. let j : p.j < n = lt_from p.j n b in (s, ((omega arith, omega arith), h.1), refl))
+    (λ b. (s, ((omega arith, omega arith), h.1), refl))
 move_well n me d m p L18 i bits sized s h = (s, h, refl)
 move_well n me d m p L19 i bits sized s h =
-    either (MoveWell (op_of d) n me) (nat_lt p.j n) _ _ (λ b. let j : p.j < n = lt_from p.j n b in (s, ((omega arith, omega arith), h.1), refl)) (λ b. (s, (refl, h.1), refl))
+    either (MoveWell (op_of d) n me) (nat_lt p.j n) _ _
+    (λ b. let j : p.j < n = lt_from p.j n b in (s, ((omega arith, omega arith), h.1), refl)) (λ b. (s, (refl, h.1), refl))
 move_well n me d m p L20 i bits sized s h =
     either (MoveWell (op_of d) n me) (all_true (map (agree me p) (places_to n))) _ _ (λ b. (s, tt, refl)) (λ b. (s, h, refl))
 move_well n me d m p L21 i bits sized s h =
@@ -121,7 +126,8 @@ move_well n me d m p L40 i bits sized s h = (s, (omega arith, omega arith), refl
 move_well n me d m p L41 i bits sized s h = (s, h, refl)
 move_well n me d m p L42 i bits sized s h = (s, h, refl)
 move_well n me d m p L43 i bits sized s h =
-    either (MoveWell (op_of d) n me) (nat_lt p.j n) _ _ (λ b. let j : p.j < n = lt_from p.j n b in (s, (omega arith, omega arith), refl)) (λ b. (s, tt, refl))
+    either (MoveWell (op_of d) n me) (nat_lt p.j n) _ _
+    (λ b. let j : p.j < n = lt_from p.j n b in (s, (omega arith, omega arith), refl)) (λ b. (s, tt, refl))
 move_well n me Scanning m p L44 i bits sized s h = absurd s
 move_well n me (Embedded word value) m p L44 i bits sized s h = absurd s
 move_well n me (Updating word value) m p L44 i bits sized s h = (s, tt, refl)

@@ -97,12 +97,15 @@ bits_move n i d m p L15 one square sized s h =
     (λ b. let ge : n ≤ p.j = not_lt p.j n b in λ k ik lt. inl (omega arith, refl, refl, refl))
 bits_move n i d m p L16 one square sized s h = λ k ik lt. inl (omega arith, refl, refl, refl)
 bits_move n i d m p L17 one square sized s h =
-    either (BitsMove n i m p (reach n p L17)) (nat_lt p.j n) _ _ (λ b. λ k ik lt. inl (omega arith, refl, refl, refl)) (λ b. λ k ik lt. inl (omega arith, refl, refl, refl))
+    either (BitsMove n i m p (reach n p L17)) (nat_lt p.j n) _ _
+    (λ b. λ k ik lt. inl (omega arith, refl, refl, refl)) (λ b. λ k ik lt. inl (omega arith, refl, refl, refl))
 bits_move n i d m p L18 one square sized s h = λ k ik lt. inl (omega arith, refl, refl, refl)
 bits_move n i d m p L19 one square sized s h =
-    either (BitsMove n i m p (reach n p L19)) (nat_lt p.j n) _ _ (λ b. λ k ik lt. inl (omega arith, refl, refl, refl)) (λ b. λ k ik lt. inl (omega arith, refl, refl, refl))
+    either (BitsMove n i m p (reach n p L19)) (nat_lt p.j n) _ _
+    (λ b. λ k ik lt. inl (omega arith, refl, refl, refl)) (λ b. λ k ik lt. inl (omega arith, refl, refl, refl))
 bits_move n i d m p L20 one square sized s h =
-    either (BitsMove n i m p (reach n p L20)) (all_true (map (agree i p) (places_to n))) _ _ (λ b. λ k ik lt. absurd (omega arith)) (λ b. λ k ik lt. inl (omega arith, refl, refl, refl))
+    either (BitsMove n i m p (reach n p L20)) (all_true (map (agree i p) (places_to n))) _ _
+    (λ b. λ k ik lt. absurd (omega arith)) (λ b. λ k ik lt. inl (omega arith, refl, refl, refl))
 bits_move n i d m p L21 one square sized s h = λ k ik lt. absurd (omega arith)
 bits_move n i d m p L22 one square sized s h =
     whether (BitsMove n i m p (reach n p L22)) (first_to d m p) (first_true 1 (map (at_limit p) (places_to n)))

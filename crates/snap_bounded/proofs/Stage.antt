@@ -51,14 +51,18 @@ Stage n i history t since round words p L15 =
     Low n (history since) (history round) p.moved × PutTo n (history round) words p.g p.marks i (p.j + 1)
 -- all bits are put; the first collect has come to place j, and goes on
 Stage n i history t since round words p L16 =
-    Low n (history since) (history round) p.moved × PutTo n (history round) words p.g p.marks i (n + 1) × First n (history round) words p.marks p.a p.j
+    Low n (history since) (history round) p.moved × PutTo n (history round) words p.g p.marks i (n + 1)
+    × First n (history round) words p.marks p.a p.j
 Stage n i history t since round words p L17 =
-    Low n (history since) (history round) p.moved × PutTo n (history round) words p.g p.marks i (n + 1) × First n (history round) words p.marks p.a (p.j + 1)
+    Low n (history since) (history round) p.moved × PutTo n (history round) words p.g p.marks i (n + 1)
+    × First n (history round) words p.marks p.a (p.j + 1)
 -- the second collect has come to place j, and goes on; there is a state between the two collects
 Stage n i history t since round words p L18 =
-    Low n (history since) (history round) p.moved × PutTo n (history round) words p.g p.marks i (n + 1) × Between n i history t since round words p.g p.marks p.a p.b p.j
+    Low n (history since) (history round) p.moved × PutTo n (history round) words p.g p.marks i (n + 1)
+    × Between n i history t since round words p.g p.marks p.a p.b p.j
 Stage n i history t since round words p L19 =
-    Low n (history since) (history round) p.moved × PutTo n (history round) words p.g p.marks i (n + 1) × Between n i history t since round words p.g p.marks p.a p.b (p.j + 1)
+    Low n (history since) (history round) p.moved × PutTo n (history round) words p.g p.marks i (n + 1)
+    × Between n i history t since round words p.g p.marks p.a p.b (p.j + 1)
 -- both collects are done
 Stage n i history t since round words p L20 =
     Low n (history since) (history round) p.moved × Between n i history t since round words p.g p.marks p.a p.b (n + 1)
@@ -315,10 +319,16 @@ stage_kept n i history t t' since round words words' p L16 le g one h =
     (h.0, put_kept n (history round) words words' p.g p.marks i (n + 1) g h.1, first_kept n (history round) words words' p.marks p.a p.j g h.2)
 stage_kept n i history t t' since round words words' p L17 le g one h =
     (h.0, put_kept n (history round) words words' p.g p.marks i (n + 1) g h.1, first_kept n (history round) words words' p.marks p.a (p.j + 1) g h.2)
-stage_kept n i history t t' since round words words' p L18 le g one h =
-    (h.0, put_kept n (history round) words words' p.g p.marks i (n + 1) g h.1, between_kept n i history t t' since round words words' p.g p.marks p.a p.b p.j le g h.2)
-stage_kept n i history t t' since round words words' p L19 le g one h =
-    (h.0, put_kept n (history round) words words' p.g p.marks i (n + 1) g h.1, between_kept n i history t t' since round words words' p.g p.marks p.a p.b (p.j + 1) le g h.2)
+stage_kept n i history t t' since round words words' p L18 le g one h = (
+  h.0,
+  put_kept n (history round) words words' p.g p.marks i (n + 1) g h.1,
+  between_kept n i history t t' since round words words' p.g p.marks p.a p.b p.j le g h.2,
+)
+stage_kept n i history t t' since round words words' p L19 le g one h = (
+  h.0,
+  put_kept n (history round) words words' p.g p.marks i (n + 1) g h.1,
+  between_kept n i history t t' since round words words' p.g p.marks p.a p.b (p.j + 1) le g h.2,
+)
 stage_kept n i history t t' since round words words' p L20 le g one h =
     (h.0, between_kept n i history t t' since round words words' p.g p.marks p.a p.b (n + 1) le g h.1)
 stage_kept n i history t t' since round words words' p L21 le g one h =

@@ -140,6 +140,13 @@ bit_for q i k = bit_at q (i - 1) (k - 1)
 abbrev pub opposite : ℕ → ℕ
 opposite x = if nat_eq x 0 then 1 else 0
 
+-- what line 42 answers to a bit, and what line 45 makes of a toggle
+abbrev pub answer : ℕ → ℕ
+answer x = opposite x
+
+abbrev pub flipped : ℕ → ℕ
+flipped t = opposite t
+
 -- both copies of the word at place k say the bit that process `me` drew, and their toggles are equal
 abbrev pub agree : ℕ → Variables → ℕ → Bool
 agree me p k =
@@ -218,10 +225,10 @@ move n me d m p L27 = To d m (record p { s = (word_at p.b p.j).view }) L28
 move n me d m p L28 = return_to d m p
 move n me d m p L40 = To d m (record p { j = 1 }) L41
 move n me d m p L41 = To d m (record p { x = bit_for m.q p.j me }) L42
-move n me d m p L42 = To d m (record p { f = slice_set p.f (p.j - 1) (opposite p.x) }) L43
+move n me d m p L42 = To d m (record p { f = slice_set p.f (p.j - 1) (answer p.x) }) L43
 move n me d m p L43 = next_to n d m p L41 L44
 move n me d m p L44 = embed_to d m p
-move n me d m p L45 = To d m (record p { t = opposite p.t }) L46
+move n me d m p L45 = To d m (record p { t = flipped p.t }) L46
 move n me d m p L46 = To d (with_written n me d m p) p L47
 move n me d m p L47 = Finish
 

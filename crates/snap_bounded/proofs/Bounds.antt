@@ -64,7 +64,8 @@ module _ (n : ℕ) (items : List Item) (fits : Fits (run_of n items)) where
       let counts : Count n i q.variables q.auxiliary.own q.auxiliary.collects q.auxiliary.tested g.counter =
       subst (λ (p : Control). CountAt n i q.variables q.auxiliary.own q.auxiliary.collects q.auxiliary.tested p) g.control o.counts in
       let inside = scan_line i g.task g.counter (flow.in_scan lines (algorithm n) link g.task g.inside) w.0 in
-      let sharp = few_moves n i (words_at n items) t q.auxiliary.since q.auxiliary.round (words_at n items t) g.task q.variables g.counter one w.0 w.1 o.opened (λ inside. o.self (subst InScan (sym g.control) inside)) stage in
+      let sharp =
+      few_moves n i (words_at n items) t q.auxiliary.since q.auxiliary.round (words_at n items t) g.task q.variables g.counter one w.0 w.1 o.opened (λ inside. o.self (subst InScan (sym g.control) inside)) stage in
       let few : q.auxiliary.collects + tests g.counter ≤ n =
       collects_le n i q.variables g.counter q.auxiliary.own q.auxiliary.collects q.auxiliary.tested (omega arith) w.1 sharp counts inside in
       let short : q.auxiliary.own + 1 ≤ 8 * (n * n) + 12 * n + 7 =
@@ -79,12 +80,15 @@ module _ (n : ℕ) (items : List Item) (fits : Fits (run_of n items)) where
       let last : suc t ≤ length items = scan.last in
       elim (eq-or-lt_of_le scan.order) [
         | inl same ↦ (let a = span.started_collects (algorithm n) (λ k. (line_listed k).tested) items fits (all_do n items fits) (lawful n items fits) i one c (suc t) (omega arith) in
-            let b = span.started_own (algorithm n) (λ k. (line_listed k).tested) items fits (all_do n items fits) (lawful n items fits) i one c (suc t) (omega arith) in
+            let b =
+            span.started_own (algorithm n) (λ k. (line_listed k).tested) items fits (all_do n items fits) (lawful n items fits) i one c (suc t) (omega arith) in
             (omega arith, omega arith))
         | inr more ↦ (let g = goes n items fits i one link c (suc t) t scan (omega arith) (omega arith) in
             let l = limits link i c t one (omega arith) g in
-            let a = span.last_collects (algorithm n) (λ k. (line_listed k).tested) items fits (all_do n items fits) (lawful n items fits) i one c t g.task g.counter (omega arith) (omega arith) g.control in
-            let b = span.last_own (algorithm n) (λ k. (line_listed k).tested) items fits (all_do n items fits) (lawful n items fits) i one c t (omega arith) in
+            let a =
+            span.last_collects (algorithm n) (λ k. (line_listed k).tested) items fits (all_do n items fits) (lawful n items fits) i one c t g.task g.counter (omega arith) (omega arith) g.control in
+            let b =
+            span.last_own (algorithm n) (λ k. (line_listed k).tested) items fits (all_do n items fits) (lawful n items fits) i one c t (omega arith) in
             (omega arith, omega arith))
       ]
 

@@ -1,5 +1,5 @@
 -- One process of B changes, and no word.
-use Rattle.std.specs.Prelude.{◌≡◌, ◌≢◌, ℕ, ◌+◌, ◌<◌, ◌≤◌, ◌⊎◌, length, refl}
+use Rattle.std.specs.Prelude.{◌≡◌, ◌≢◌, ℕ, ◌<◌, ◌≤◌, ◌⊎◌, length, refl}
 use Rattle.std.proofs.Common.{sym, ◌∙◌, ap, subst, arith, inl, inr}
 use Rattle.snap_words.specs.Shape.{IsOneOf}
 use Rattle.snap_semantics.specs.declared.process.Outcome.{Outcome}
@@ -49,6 +49,9 @@ module _ (n t : ℕ) (history : ℕ → Words) (x : State) (i : ℕ) (m' : Regis
     (change : ProcessChange n t history x i (typed_at (algorithm n) x i) m' q') where
   abbrev pub old : ℕ → Process
   old k = typed_at (algorithm n) x k
+
+  abbrev pub next : ℕ → Process
+  next k = typed_at (algorithm n) (changed x i (New m' q' o)) k
 
   -- what holds of the words before holds of them after
   abbrev pub after : (P : Words → Type 0) → P x.memory.words → P m'.words
@@ -100,11 +103,11 @@ module _ (n t : ℕ) (history : ℕ → Words) (x : State) (i : ℕ) (m' : Regis
     bits = after (BitWords n) h.bits;
     each = frame.each_next (algorithm n) x i m' q' o count one (ProcessInvariant n t history m') change.own others;
     start = after
-        (λ w. (u v : ℕ) → IsOneOf n u → IsOneOf n v → PairInvariant history w (typed_at (algorithm n) (changed x i (New m' q' o)) u) (typed_at (algorithm n) (changed x i (New m' q' o)) v) v)
+        (λ w. (u v : ℕ) → IsOneOf n u → IsOneOf n v → PairInvariant history w (next u) (next v) v)
         (each_pair n x i m' q' o count one (λ u p v r. PairInvariant history x.memory.words p r v) (λ making lt. omega arith)
         (λ k ik other. starts_first k ik) (λ k ik other. makes_later k ik) (λ u v iu iv other. h.start u v iu iv));
     answered = after
-        (λ w. (u v : ℕ) → IsOneOf n u → IsOneOf n v → Answered n w u (typed_at (algorithm n) (changed x i (New m' q' o)) u) v (typed_at (algorithm n) (changed x i (New m' q' o)) v))
+        (λ w. (u v : ℕ) → IsOneOf n u → IsOneOf n v → Answered n w u (next u) v (next v))
         (each_pair n x i m' q' o count one (Answered n x.memory.words) itself (λ k ik other. asked k ik) (λ k ik other. answers k ik)
         (λ u v iu iv other. h.answered u v iu iv));
   }

@@ -16,8 +16,8 @@ use Rattle.snap_runs.proofs.Embedding as embed
 use Rattle.snap_runs.proofs.Held.{word_at}
 use Rattle.snap_runs.proofs.Places.{for_each_at, first_found, first_none}
 use Rattle.snap_bounded.specs.Promises.{square}
-use Rattle.snap_bounded.proofs.Algorithm.{Words, Registers, Move, Control, Variables, ProgramCounter, L10, L11, L12, L13, L14, L15, L16, L17, L18, L19, L20, L21, L22, L23, L25, L26, L27, L28, L40, L41, L42, L43, L44, L45, L46, L47, place, hand_at, opposite, agree, limit, moved_at, counted, at_limit, move, first_to, counter, algorithm, IsLineOf}
-use Rattle.snap_bounded.proofs.Lines.{Bits, Needs, each_line}
+use Rattle.snap_bounded.proofs.Algorithm.{Words, Registers, Move, Control, Variables, ProgramCounter, L10, L11, L12, L13, L14, L15, L16, L17, L18, L19, L20, L21, L22, L23, L25, L26, L27, L28, L40, L41, L42, L43, L44, L45, L46, L47, place, hand_at, agree, limit, moved_at, counted, at_limit, move, first_to, counter, algorithm, IsLineOf}
+use Rattle.snap_bounded.proofs.Lines.{SaysBits, Needs, each_line}
 
 -- no process has been seen to move up to the limit, or none beyond it
 abbrev pub BelowLimit : ℕ → Variables → Type 0
@@ -53,7 +53,6 @@ VariablesAt n me p L27 = IsOneOf n p.j
 VariablesAt n me p L41 = IsOneOf n p.j
 VariablesAt n me p L42 = IsOneOf n p.j
 VariablesAt n me p L43 = IsOneOf n p.j
-VariablesAt n me p L46 = p.t ≤ 1
 VariablesAt n me p _ = Unit {0}
 
 abbrev pub MoveWell : Op → ℕ → ℕ → Move → Type 0
@@ -68,10 +67,6 @@ within false x most h = omega arith
 
 below : (x most : ℕ) → x ≤ most → nat_eq x most ≡ false → x < most
 below x most h e = grind (arith, common_steps)
-
--- a bit's opposite is another bit
-pub opposite_bit : (x : ℕ) → opposite x ≤ 1
-opposite_bit x = either (λ v. v ≤ 1) (nat_eq x 0) 1 0 (λ b. omega arith) (λ b. omega arith)
 
 -- what a line puts at place j of a row or of the copies
 pub put_place : (row : List ℕ) (j v : ℕ) → 0 < j → j ≤ length row → place (slice_set row (j - 1) v) j ≡ v
@@ -93,13 +88,18 @@ move_well n me d m p L13 i bits sized s h =
     (s, (h.0, h.1, subst (λ x. x ≤ 1) (sym (put_place p.g p.j (hand_at (word_at p.a p.j) me) (omega arith) (omega arith))) h.2), refl)
 move_well n me d m p L14 i bits sized s h = (s, (h.0, h.1), refl)
 move_well n me d m p L15 i bits sized s h =
-    either (MoveWell (op_of d) n me) (nat_lt p.j n) _ _ (λ b. let j : p.j < n = lt_from p.j n b in (s, ((omega arith, omega arith), h.1), refl)) (λ b. (s, ((omega arith, omega arith), h.1), refl))
+    either (MoveWell (op_of d) n me) (nat_lt p.j n) _ _
+    (λ b. let j : p.j < n = lt_from p.j n b in (s, ((omega arith, omega arith), h.1), refl))
+    (λ b. (s, ((omega arith, omega arith), h.1), refl))
 move_well n me d m p L16 i bits sized s h = (s, h, refl)
 move_well n me d m p L17 i bits sized s h =
-    either (MoveWell (op_of d) n me) (nat_lt p.j n) _ _ (λ b. let j : p.j < n = lt_from p.j n b in (s, ((omega arith, omega arith), h.1), refl)) (λ b. (s, ((omega arith, omega arith), h.1), refl))
+    either (MoveWell (op_of d) n me) (nat_lt p.j n) _ _
+    (λ b. let j : p.j < n = lt_from p.j n b in (s, ((omega arith, omega arith), h.1), refl))
+    (λ b. (s, ((omega arith, omega arith), h.1), refl))
 move_well n me d m p L18 i bits sized s h = (s, h, refl)
 move_well n me d m p L19 i bits sized s h =
-    either (MoveWell (op_of d) n me) (nat_lt p.j n) _ _ (λ b. let j : p.j < n = lt_from p.j n b in (s, ((omega arith, omega arith), h.1), refl)) (λ b. (s, (refl, h.1), refl))
+    either (MoveWell (op_of d) n me) (nat_lt p.j n) _ _
+    (λ b. let j : p.j < n = lt_from p.j n b in (s, ((omega arith, omega arith), h.1), refl)) (λ b. (s, (refl, h.1), refl))
 move_well n me d m p L20 i bits sized s h =
     either (MoveWell (op_of d) n me) (all_true (map (agree me p) (places_to n))) _ _ (λ b. (s, tt, refl)) (λ b. (s, h, refl))
 move_well n me d m p L21 i bits sized s h =
@@ -121,16 +121,17 @@ move_well n me d m p L40 i bits sized s h = (s, (omega arith, omega arith), refl
 move_well n me d m p L41 i bits sized s h = (s, h, refl)
 move_well n me d m p L42 i bits sized s h = (s, h, refl)
 move_well n me d m p L43 i bits sized s h =
-    either (MoveWell (op_of d) n me) (nat_lt p.j n) _ _ (λ b. let j : p.j < n = lt_from p.j n b in (s, (omega arith, omega arith), refl)) (λ b. (s, tt, refl))
+    either (MoveWell (op_of d) n me) (nat_lt p.j n) _ _
+    (λ b. let j : p.j < n = lt_from p.j n b in (s, (omega arith, omega arith), refl)) (λ b. (s, tt, refl))
 move_well n me Scanning m p L44 i bits sized s h = absurd s
 move_well n me (Embedded word value) m p L44 i bits sized s h = absurd s
 move_well n me (Updating word value) m p L44 i bits sized s h = (s, tt, refl)
-move_well n me d m p L45 i bits sized s h = (s, opposite_bit p.t, refl)
+move_well n me d m p L45 i bits sized s h = (s, tt, refl)
 move_well n me d m p L46 i bits sized s h = (s, tt, refl)
 move_well n me d m p L47 i bits sized s h = tt
 
 -- what a line needs is kept
-pub needs : (n me : ℕ) (p : Variables) (k : ProgramCounter) → Bits n p.f → VariablesAt n me p k → Needs n p k
+pub needs : (n me : ℕ) (p : Variables) (k : ProgramCounter) → SaysBits n p → VariablesAt n me p k → Needs n p k
 needs n me p L10 f h = tt
 needs n me p L11 f h = tt
 needs n me p L12 f h = h.0
@@ -155,7 +156,7 @@ needs n me p L42 f h = h
 needs n me p L43 f h = tt
 needs n me p L44 f h = tt
 needs n me p L45 f h = tt
-needs n me p L46 f h = (h, f)
+needs n me p L46 f h = f
 needs n me p L47 f h = tt
 
 -- an update that is not skipped is of the caller's own word
@@ -183,7 +184,7 @@ same_op n me d (Answer v) h = tt
 same_op n me d Finish h = tt
 
 -- no line traps: each does its move
-pub does : (n me : ℕ) (m : Registers) (p : Variables) (control : Control) → IsOneOf n me → BitWords n m.words → Sized n p → Bits n p.f →
+pub does : (n me : ℕ) (m : Registers) (p : Variables) (control : Control) → IsOneOf n me → BitWords n m.words → Sized n p → SaysBits n p →
     ControlWell n me p control →
     embed.Does (algorithm n) me m p control
 does n me m p Idle i bits sized f h = tt

@@ -146,17 +146,23 @@ count_move n me d m p L14 own c c' recent recent' e f keeps sharp h =
     let b : budget n c' ≡ budget n c = same_budget n c c' e in (omega arith, omega arith, omega arith)
 count_move n me d m p L15 own c c' recent recent' e f keeps sharp h =
     let b : budget n c' ≡ budget n c = same_budget n c c' e in
-    either (CountMove n me (suc own) c' recent') (nat_lt p.j n) _ _ (λ t. (omega arith, omega arith, omega arith)) (λ t. let ge : n ≤ p.j = not_lt p.j n t in (omega arith, omega arith, omega arith))
+    either (CountMove n me (suc own) c' recent') (nat_lt p.j n) _ _
+    (λ t. (omega arith, omega arith, omega arith))
+    (λ t. let ge : n ≤ p.j = not_lt p.j n t in (omega arith, omega arith, omega arith))
 count_move n me d m p L16 own c c' recent recent' e f keeps sharp h =
     let b : budget n c' ≡ budget n c = same_budget n c c' e in (omega arith, omega arith, omega arith)
 count_move n me d m p L17 own c c' recent recent' e f keeps sharp h =
     let b : budget n c' ≡ budget n c = same_budget n c c' e in
-    either (CountMove n me (suc own) c' recent') (nat_lt p.j n) _ _ (λ t. (omega arith, omega arith, omega arith)) (λ t. let ge : n ≤ p.j = not_lt p.j n t in (omega arith, omega arith, omega arith))
+    either (CountMove n me (suc own) c' recent') (nat_lt p.j n) _ _
+    (λ t. (omega arith, omega arith, omega arith))
+    (λ t. let ge : n ≤ p.j = not_lt p.j n t in (omega arith, omega arith, omega arith))
 count_move n me d m p L18 own c c' recent recent' e f keeps sharp h =
     let b : budget n c' ≡ budget n c = same_budget n c c' e in (omega arith, omega arith, omega arith)
 count_move n me d m p L19 own c c' recent recent' e f keeps sharp h =
     let b : budget n c' ≡ budget n c = same_budget n c c' e in
-    either (CountMove n me (suc own) c' recent') (nat_lt p.j n) _ _ (λ t. (omega arith, omega arith, omega arith)) (λ t. let ge : n ≤ p.j = not_lt p.j n t in (omega arith, omega arith, omega arith))
+    either (CountMove n me (suc own) c' recent') (nat_lt p.j n) _ _
+    (λ t. (omega arith, omega arith, omega arith))
+    (λ t. let ge : n ≤ p.j = not_lt p.j n t in (omega arith, omega arith, omega arith))
 count_move n me d m p L20 own c c' recent recent' e f keeps sharp h =
     let b : budget n c' ≡ budget n c + (8 * n + 4) = next_budget n c c' e in
     let less : moves n p < n = sharp refl in
@@ -169,7 +175,8 @@ count_move n me d m p L21 own c c' recent recent' e f keeps sharp h =
     (omega arith, omega arith, omega arith)
 count_move n me d m p L22 own c c' recent recent' e f keeps sharp h =
     let b : budget n c' ≡ budget n c = same_budget n c c' e in
-    whether (CountMove n me (suc own) c' recent') (first_to d m p) (first_true 1 (map (at_limit p) (places_to n))) (λ none. (omega arith, omega arith)) (λ k found. (omega arith, omega arith))
+    whether (CountMove n me (suc own) c' recent') (first_to d m p) (first_true 1 (map (at_limit p) (places_to n)))
+    (λ none. (omega arith, omega arith)) (λ k found. (omega arith, omega arith))
 count_move n me d m p L23 own c c' recent recent' e f keeps sharp h =
     let b : budget n c' ≡ budget n c = same_budget n c c' e in (omega arith, omega arith, omega arith)
 count_move n me d m p L25 own c c' recent recent' e f keeps sharp h =

@@ -55,7 +55,8 @@ flows n me d m p L18 s = on n me d m _ p _ L18 L19 s refl refl
 flows n me d m p L19 s =
     either (Flows n d m p L19) (nat_lt p.j n) _ _ (λ b. on n me d m m p _ L19 L18 s refl refl) (λ b. on n me d m m p _ L19 L20 s refl refl)
 flows n me d m p L20 s =
-    either (Flows n d m p L20) (all_true (map (agree me p) (places_to n))) _ _ (λ b. on n me d m m p p L20 L25 s refl refl) (λ b. on n me d m m p p L20 L21 s refl refl)
+    either (Flows n d m p L20) (all_true (map (agree me p) (places_to n))) _ _
+    (λ b. on n me d m m p p L20 L25 s refl refl) (λ b. on n me d m m p p L20 L21 s refl refl)
 flows n me d m p L21 s = on n me d m _ p _ L21 L22 s refl refl
 flows n me d m p L22 s =
     whether (Flows n d m p L22) (first_to d m p) (first_true 1 (map (at_limit p) (places_to n)))
@@ -73,7 +74,8 @@ flows n me d m p L40 s = before n me d m p _ L40 L41 s refl refl refl (λ h. h)
 flows n me d m p L41 s = before n me d m p _ L41 L42 s refl refl refl (λ h. h)
 flows n me d m p L42 s = before n me d m p _ L42 L43 s refl refl refl (λ h. h)
 flows n me d m p L43 s =
-    either (Flows n d m p L43) (nat_lt p.j n) _ _ (λ b. before n me d m p _ L43 L41 s refl refl refl (λ h. h)) (λ b. before n me d m p _ L43 L44 s refl refl refl (λ h. h))
+    either (Flows n d m p L43) (nat_lt p.j n) _ _
+    (λ b. before n me d m p _ L43 L41 s refl refl refl (λ h. h)) (λ b. before n me d m p _ L43 L44 s refl refl refl (λ h. h))
 flows n me Scanning m p L44 s = absurd s
 flows n me (Embedded word value) m p L44 s = absurd s
 flows n me (Updating word value) m p L44 s = (refl, refl)

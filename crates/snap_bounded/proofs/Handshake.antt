@@ -9,10 +9,10 @@ use Rattle.snap_semantics.specs.Table.{places_to, all_true, first_true, with_bit
 use Rattle.snap_runs.proofs.Algorithm.{Task, Scanning, Embedded, Updating, To, Begin, Answer, Finish}
 use Rattle.snap_runs.proofs.Computing.{not_lt, either, whether}
 use Rattle.snap_runs.proofs.Held.{seq_at}
-use Rattle.snap_bounded.proofs.Algorithm.{Registers, Move, Variables, ProgramCounter, L10, L11, L12, L13, L14, L15, L16, L17, L18, L19, L20, L21, L22, L23, L25, L26, L27, L28, L40, L41, L42, L43, L44, L45, L46, L47, move, first_to, return_to, place, bit_for, opposite, agree, at_limit, IsUpdate, IsLineOf}
+use Rattle.snap_bounded.proofs.Algorithm.{Registers, Move, Variables, ProgramCounter, L10, L11, L12, L13, L14, L15, L16, L17, L18, L19, L20, L21, L22, L23, L25, L26, L27, L28, L40, L41, L42, L43, L44, L45, L46, L47, move, first_to, return_to, place, bit_for, answer, agree, at_limit, IsUpdate, IsLineOf}
 use Rattle.snap_bounded.proofs.Control.{VariablesAt, Sized}
 use Rattle.snap_bounded.proofs.Collect.{place_set, place_kept}
-use Rattle.snap_bounded.proofs.Stage.{reach, opposite_differs}
+use Rattle.snap_bounded.proofs.Stage.{reach, answer_differs}
 
 -- the bits by process that puts them
 abbrev pub row_of : List (List ℕ) → ℕ → List ℕ
@@ -97,12 +97,15 @@ bits_move n i d m p L15 one square sized s h =
     (λ b. let ge : n ≤ p.j = not_lt p.j n b in λ k ik lt. inl (omega arith, refl, refl, refl))
 bits_move n i d m p L16 one square sized s h = λ k ik lt. inl (omega arith, refl, refl, refl)
 bits_move n i d m p L17 one square sized s h =
-    either (BitsMove n i m p (reach n p L17)) (nat_lt p.j n) _ _ (λ b. λ k ik lt. inl (omega arith, refl, refl, refl)) (λ b. λ k ik lt. inl (omega arith, refl, refl, refl))
+    either (BitsMove n i m p (reach n p L17)) (nat_lt p.j n) _ _
+    (λ b. λ k ik lt. inl (omega arith, refl, refl, refl)) (λ b. λ k ik lt. inl (omega arith, refl, refl, refl))
 bits_move n i d m p L18 one square sized s h = λ k ik lt. inl (omega arith, refl, refl, refl)
 bits_move n i d m p L19 one square sized s h =
-    either (BitsMove n i m p (reach n p L19)) (nat_lt p.j n) _ _ (λ b. λ k ik lt. inl (omega arith, refl, refl, refl)) (λ b. λ k ik lt. inl (omega arith, refl, refl, refl))
+    either (BitsMove n i m p (reach n p L19)) (nat_lt p.j n) _ _
+    (λ b. λ k ik lt. inl (omega arith, refl, refl, refl)) (λ b. λ k ik lt. inl (omega arith, refl, refl, refl))
 bits_move n i d m p L20 one square sized s h =
-    either (BitsMove n i m p (reach n p L20)) (all_true (map (agree i p) (places_to n))) _ _ (λ b. λ k ik lt. absurd (omega arith)) (λ b. λ k ik lt. inl (omega arith, refl, refl, refl))
+    either (BitsMove n i m p (reach n p L20)) (all_true (map (agree i p) (places_to n))) _ _
+    (λ b. λ k ik lt. absurd (omega arith)) (λ b. λ k ik lt. inl (omega arith, refl, refl, refl))
 bits_move n i d m p L21 one square sized s h = λ k ik lt. absurd (omega arith)
 bits_move n i d m p L22 one square sized s h =
     whether (BitsMove n i m p (reach n p L22)) (first_to d m p) (first_true 1 (map (at_limit p) (places_to n)))
@@ -241,8 +244,8 @@ answers_move n me i bit d m p L41 one sized s keeps put h = (h, λ e. subst (λ 
 answers_move n me i bit d m p L42 one sized s keeps put h = λ lt said.
     let len : length p.f ≡ max n n = sized.3 in
     elim (cases_eq i p.j) [
-      | inl e ↦ opposite_differs p.x (sym (place_set p.f p.j i (opposite p.x) keeps.0 (omega arith) e) ∙ said ∙ sym (h.1 e))
-      | inr other ↦ h.0 (omega arith) (sym (place_kept p.f p.j i (opposite p.x) keeps.0 one.0 other) ∙ said)
+      | inl e ↦ answer_differs p.x (sym (place_set p.f p.j i (answer p.x) keeps.0 (omega arith) e) ∙ said ∙ sym (h.1 e))
+      | inr other ↦ h.0 (omega arith) (sym (place_kept p.f p.j i (answer p.x) keeps.0 one.0 other) ∙ said)
     ]
 answers_move n me i bit d m p L43 one sized s keeps put h =
     either (AnswersMove i bit) (nat_lt p.j n) _ _ (λ b. h)

@@ -8,7 +8,7 @@ use Rattle.snap_runs.proofs.Flow.{InScan}
 use Rattle.snap_runs.proofs.Held.{word_at, held_wider, seq_at}
 use Rattle.snap_bounded.proofs.Algorithm.{Words, Registers, Control, Process, State, Variables, place, bit_for, algorithm}
 use Rattle.snap_bounded.proofs.Control.{BitWords, Sized, ControlWell}
-use Rattle.snap_bounded.proofs.Lines.{Bits}
+use Rattle.snap_bounded.proofs.Lines.{SaysBits}
 use Rattle.snap_bounded.proofs.Follow.{follows_seq, Grows}
 use Rattle.snap_bounded.proofs.Collect.{Late, Viewed}
 use Rattle.snap_bounded.proofs.Flows.{Making, HasWritten}
@@ -43,7 +43,7 @@ pub record ProcessInvariant (n t : ℕ) (history : ℕ → Words) (m : Registers
   pub well : ControlWell n i q.variables q.control
   -- its copies and rows have all places, and what it says to the others are bits
   pub sized : Sized n q.variables
-  pub bits : Bits n q.variables.f
+  pub bits : SaysBits n q.variables
   -- its toggle is its word's, and the other one just before the write
   pub toggle : ToggledAt (word_at m.words i).toggle q.variables q.control
   -- its last scan and that scan's last double collect have started

@@ -33,6 +33,10 @@ use Rattle.snap_bounded.proofs.Algorithm.{Words, Registers, Move, Variables, Pro
 abbrev pub Bits : ℕ → List ℕ → Type 0
 Bits n row = (k : ℕ) → IsOneOf n k → place row k ≤ 1
 
+-- what a process says to the others are bits
+abbrev pub SaysBits : ℕ → Variables → Type 0
+SaysBits n p = (p.t ≤ 1) × Bits n p.f
+
 -- what a line needs so that it does not trap
 abbrev pub Needs : ℕ → Variables → ProgramCounter → Type 0
 Needs n p L12 = IsOneOf n p.j
@@ -44,7 +48,7 @@ Needs n p L21 = (k : ℕ) → IsOneOf n k → moved_at p k < limit
 Needs n p L27 = IsOneOf n p.j
 Needs n p L41 = IsOneOf n p.j
 Needs n p L42 = IsOneOf n p.j
-Needs n p L46 = (p.t ≤ 1) × Bits n p.f
+Needs n p L46 = SaysBits n p
 Needs n p _ = Unit {0}
 
 abbrev pub context_of : Counts → ℕ → Op → Variables → Context

@@ -66,7 +66,8 @@ opened_next n history words false t round now h k i = h k i
 -- a process whose operation has ended
 idle_own : (n t : ℕ) (history : ℕ → Words) (m : Registers) (i : ℕ) (q : Process) (d : Task) (k : ProgramCounter) → q.control ≡ At d k → writes k ≡ 0 →
     history t ≡ m.words →
-    ProcessInvariant n t history m i q → ProcessInvariant n t history m i (record { control = Idle; variables = q.variables; auxiliary = stepped_auxiliary (algorithm n) k t q.auxiliary })
+    ProcessInvariant n t history m i q →
+    ProcessInvariant n t history m i (record { control = Idle; variables = q.variables; auxiliary = stepped_auxiliary (algorithm n) k t q.auxiliary })
 idle_own n t history m i q d k is quiet now own = record {
   well = tt;
   sized = own.sized;
@@ -123,7 +124,8 @@ end_keeps : (n t : ℕ) (history : ℕ → Words) (x : State) (i : ℕ) (d : Tas
     Invariant n t history (changed x i (New x.memory (record { control = Idle; variables = (at n x i).variables; auxiliary = stepped_auxiliary (algorithm n) k t (at n x i).auxiliary }) o))
 end_keeps n t history x i d k count one now h is quiet o =
     let q = at n x i in
-    process_changes n t history x i x.memory (record { control = Idle; variables = q.variables; auxiliary = stepped_auxiliary (algorithm n) k t q.auxiliary }) o count one now h (record {
+    let q' : Process = record { control = Idle; variables = q.variables; auxiliary = stepped_auxiliary (algorithm n) k t q.auxiliary } in
+    process_changes n t history x i x.memory q' o count one now h (record {
       words = refl;
       square = h.square;
       rows = λ u b ju jb other. refl;
@@ -183,7 +185,8 @@ line_keeps n t history x i d k (Begin d' p k') count one now h is quiet owes =
     let m = x.memory in
     let own : ProcessInvariant n t history m i q = h.each i one in
     let fit : Fit n (word_at m.words i).toggle p k' = owes.fit in
-    process_changes n t history x i m (record { control = At d' k'; variables = p; auxiliary = begun_auxiliary (algorithm n) k t q.auxiliary }) Stepped count one now h (record {
+    let q' : Process = record { control = At d' k'; variables = p; auxiliary = begun_auxiliary (algorithm n) k t q.auxiliary } in
+    process_changes n t history x i m q' Stepped count one now h (record {
       words = refl;
       square = h.square;
       rows = λ u b ju jb other. refl;
@@ -223,7 +226,8 @@ admission_keeps n t history x i Scan None e count one h is now =
     let q = at n x i in
     let m = x.memory in
     let own : ProcessInvariant n t history m i q = h.each i one in
-    process_changes n t history x i m (record { control = At Scanning L10; variables = q.variables; auxiliary = called_auxiliary t Scan q.auxiliary }) Called count one now h (record {
+    let q' : Process = record { control = At Scanning L10; variables = q.variables; auxiliary = called_auxiliary t Scan q.auxiliary } in
+    process_changes n t history x i m q' Called count one now h (record {
       words = refl;
       square = h.square;
       rows = λ u b ju jb other. refl;
@@ -252,7 +256,9 @@ admission_keeps n t history x i (Update word value) None e count one h is now =
     let q = at n x i in
     let m = x.memory in
     let own : ProcessInvariant n t history m i q = h.each i one in
-    process_changes n t history x i m (record { control = At (Updating word value) L40; variables = q.variables; auxiliary = called_auxiliary t (Update word value) q.auxiliary }) Called count one now h (record {
+    let q' : Process =
+    record { control = At (Updating word value) L40; variables = q.variables; auxiliary = called_auxiliary t (Update word value) q.auxiliary } in
+    process_changes n t history x i m q' Called count one now h (record {
       words = refl;
       square = h.square;
       rows = λ u b ju jb other. refl;

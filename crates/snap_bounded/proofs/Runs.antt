@@ -71,7 +71,7 @@ process_at_the_start n history i h now =
         length-replicate (max n n) 0,
         length-replicate (max n n) 0,
       );
-      bits = λ k j. zero_bit n k (max n n) j (omega arith);
+      bits = (omega arith, λ k j. zero_bit n k (max n n) j (omega arith));
       toggle = sym (ap (λ (y : Word). y.toggle) (zero_at n i h));
       since_le = omega arith;
       low = λ k j. at_most_now history (first_words n n) 0 now k;

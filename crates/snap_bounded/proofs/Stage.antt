@@ -10,9 +10,9 @@ use Rattle.snap_runs.proofs.Algorithm.{Task, Scanning, Embedded, Updating, To, B
 use Rattle.snap_runs.proofs.Computing.{not_lt, same_from, either, whether}
 use Rattle.snap_runs.proofs.Held.{word_at, Held, held_wider, data_of, seq_at}
 use Rattle.snap_runs.proofs.Places.{for_each_at, first_found}
-use Rattle.snap_bounded.proofs.Algorithm.{Words, Registers, Move, Variables, ProgramCounter, L10, L11, L12, L13, L14, L15, L16, L17, L18, L19, L20, L21, L22, L23, L25, L26, L27, L28, L40, L41, L42, L43, L44, L45, L46, L47, move, first_to, place, hand_at, opposite, agree, limit, moved_at, counted, at_limit, IsLineOf, restarts, writes}
-use Rattle.snap_bounded.proofs.Control.{VariablesAt, Sized, opposite_bit}
-use Rattle.snap_bounded.proofs.Lines.{Bits}
+use Rattle.snap_bounded.proofs.Algorithm.{Words, Registers, Move, Variables, ProgramCounter, L10, L11, L12, L13, L14, L15, L16, L17, L18, L19, L20, L21, L22, L23, L25, L26, L27, L28, L40, L41, L42, L43, L44, L45, L46, L47, move, first_to, place, hand_at, answer, flipped, agree, limit, moved_at, counted, at_limit, IsLineOf, restarts, writes}
+use Rattle.snap_bounded.proofs.Control.{VariablesAt, Sized}
+use Rattle.snap_bounded.proofs.Lines.{Bits, SaysBits}
 use Rattle.snap_bounded.proofs.Follow.{Follows, follows_trans, follows_seq, Grows}
 use Rattle.snap_bounded.proofs.Collect.{floor, Low, Drawn, Put, PutTo, Late, First, Viewed, Second, Between, Gained, word_set, place_set, place_kept, put_drawn, just_drawn, put_more, first_more, second_starts, second_more, copies_follow, passed, moved_since, gained_at}
 
@@ -51,14 +51,18 @@ Stage n i history t since round words p L15 =
     Low n (history since) (history round) p.moved × PutTo n (history round) words p.g p.marks i (p.j + 1)
 -- all bits are put; the first collect has come to place j, and goes on
 Stage n i history t since round words p L16 =
-    Low n (history since) (history round) p.moved × PutTo n (history round) words p.g p.marks i (n + 1) × First n (history round) words p.marks p.a p.j
+    Low n (history since) (history round) p.moved × PutTo n (history round) words p.g p.marks i (n + 1)
+    × First n (history round) words p.marks p.a p.j
 Stage n i history t since round words p L17 =
-    Low n (history since) (history round) p.moved × PutTo n (history round) words p.g p.marks i (n + 1) × First n (history round) words p.marks p.a (p.j + 1)
+    Low n (history since) (history round) p.moved × PutTo n (history round) words p.g p.marks i (n + 1)
+    × First n (history round) words p.marks p.a (p.j + 1)
 -- the second collect has come to place j, and goes on; there is a state between the two collects
 Stage n i history t since round words p L18 =
-    Low n (history since) (history round) p.moved × PutTo n (history round) words p.g p.marks i (n + 1) × Between n i history t since round words p.g p.marks p.a p.b p.j
+    Low n (history since) (history round) p.moved × PutTo n (history round) words p.g p.marks i (n + 1)
+    × Between n i history t since round words p.g p.marks p.a p.b p.j
 Stage n i history t since round words p L19 =
-    Low n (history since) (history round) p.moved × PutTo n (history round) words p.g p.marks i (n + 1) × Between n i history t since round words p.g p.marks p.a p.b (p.j + 1)
+    Low n (history since) (history round) p.moved × PutTo n (history round) words p.g p.marks i (n + 1)
+    × Between n i history t since round words p.g p.marks p.a p.b (p.j + 1)
 -- both collects are done
 Stage n i history t since round words p L20 =
     Low n (history since) (history round) p.moved × Between n i history t since round words p.g p.marks p.a p.b (n + 1)
@@ -315,10 +319,16 @@ stage_kept n i history t t' since round words words' p L16 le g one h =
     (h.0, put_kept n (history round) words words' p.g p.marks i (n + 1) g h.1, first_kept n (history round) words words' p.marks p.a p.j g h.2)
 stage_kept n i history t t' since round words words' p L17 le g one h =
     (h.0, put_kept n (history round) words words' p.g p.marks i (n + 1) g h.1, first_kept n (history round) words words' p.marks p.a (p.j + 1) g h.2)
-stage_kept n i history t t' since round words words' p L18 le g one h =
-    (h.0, put_kept n (history round) words words' p.g p.marks i (n + 1) g h.1, between_kept n i history t t' since round words words' p.g p.marks p.a p.b p.j le g h.2)
-stage_kept n i history t t' since round words words' p L19 le g one h =
-    (h.0, put_kept n (history round) words words' p.g p.marks i (n + 1) g h.1, between_kept n i history t t' since round words words' p.g p.marks p.a p.b (p.j + 1) le g h.2)
+stage_kept n i history t t' since round words words' p L18 le g one h = (
+  h.0,
+  put_kept n (history round) words words' p.g p.marks i (n + 1) g h.1,
+  between_kept n i history t t' since round words words' p.g p.marks p.a p.b p.j le g h.2,
+)
+stage_kept n i history t t' since round words words' p L19 le g one h = (
+  h.0,
+  put_kept n (history round) words words' p.g p.marks i (n + 1) g h.1,
+  between_kept n i history t t' since round words words' p.g p.marks p.a p.b (p.j + 1) le g h.2,
+)
 stage_kept n i history t t' since round words words' p L20 le g one h =
     (h.0, between_kept n i history t t' since round words words' p.g p.marks p.a p.b (n + 1) le g h.1)
 stage_kept n i history t t' since round words words' p L21 le g one h =
@@ -347,7 +357,7 @@ abbrev pub Toggled : ℕ → Variables → ProgramCounter → Type 0
 Toggled toggle p k = IsToggle (writes k) toggle p.t
 
 abbrev pub Fit : ℕ → ℕ → Variables → ProgramCounter → Type 0
-Fit n toggle p k = Sized n p × Bits n p.f × Toggled toggle p k
+Fit n toggle p k = Sized n p × SaysBits n p × Toggled toggle p k
 
 abbrev pub FitMove : ℕ → ℕ → Move → Type 0
 FitMove n toggle (To d m p k) = Fit n toggle p k
@@ -362,11 +372,26 @@ bits_set n row j v one len bit h k ik =
       | inr other ↦ subst (λ x. x ≤ 1) (sym (place_kept row j k v one.0 ik.0 other)) (h k ik)
     ]
 
-pub opposite_differs : (x : ℕ) → opposite x ≡ x → ⊥
-opposite_differs x e = elim (nat_eq x 0) as (λ b. nat_eq x 0 ≡ b → (if b then 1 else 0) ≡ x → ⊥) [
+-- the answer to a bit is another bit
+answer_bit : (x : ℕ) → answer x ≤ 1
+answer_bit x = either (λ v. v ≤ 1) (nat_eq x 0) 1 0 (λ b. omega arith) (λ b. omega arith)
+
+pub answer_differs : (x : ℕ) → answer x ≡ x → ⊥
+answer_differs x e = elim (nat_eq x 0) as (λ b. nat_eq x 0 ≡ b → (if b then 1 else 0) ≡ x → ⊥) [
   | true ↦ λ is one. let z : x ≡ 0 = same_from x 0 is in absurd (omega arith)
   | false ↦ λ is none. absurd (let z : nat_eq 0 0 ≡ false = subst (λ y. nat_eq y 0 ≡ false) (sym none) is in cc)
 ] refl e
+
+-- a toggle that is flipped is the other one
+flipped_bit : (t : ℕ) → t ≤ 1 → flipped t ≤ 1
+flipped_bit zero h = omega arith
+flipped_bit (suc zero) h = omega arith
+flipped_bit (suc (suc t)) h = absurd (omega arith)
+
+flipped_differs : (t : ℕ) → t ≤ 1 → flipped t ≡ t → ⊥
+flipped_differs zero h e = absurd (omega arith)
+flipped_differs (suc zero) h e = absurd (omega arith)
+flipped_differs (suc (suc t)) h e = absurd (omega arith)
 
 pub fit_move : (n i toggle : ℕ) (d : Task) (m : Registers) (p : Variables) (k : ProgramCounter) → IsLineOf i d k → VariablesAt n i p k →
     writes k ≡ 0 → Fit n toggle p k → FitMove n toggle (move n i d m p k)
@@ -398,11 +423,12 @@ fit_move n i toggle d m p L40 s keeps quiet h = h
 fit_move n i toggle d m p L41 s keeps quiet h = h
 fit_move n i toggle d m p L42 s keeps quiet h =
     let len : length p.f ≡ max n n = h.0.3 in
-    ((h.0.0, h.0.1, h.0.2, length-set p.f (p.j - 1) (opposite p.x) ∙ h.0.3, h.0.4), bits_set n p.f p.j (opposite p.x) keeps (omega arith) (opposite_bit p.x) h.1, h.2)
+    ((h.0.0, h.0.1, h.0.2, length-set p.f (p.j - 1) (answer p.x) ∙ h.0.3, h.0.4), (h.1.0, bits_set n p.f p.j (answer p.x) keeps (omega arith) (answer_bit p.x) h.1.1), h.2)
 fit_move n i toggle d m p L43 s keeps quiet h = either (FitMove n toggle) (nat_lt p.j n) _ _ (λ b. h) (λ b. h)
 fit_move n i toggle Scanning m p L44 s keeps quiet h = absurd s
 fit_move n i toggle (Embedded word value) m p L44 s keeps quiet h = absurd s
 fit_move n i toggle (Updating word value) m p L44 s keeps quiet h = h
-fit_move n i toggle d m p L45 s keeps quiet h = (h.0, h.1, λ e. opposite_differs p.t (e ∙ sym h.2))
+fit_move n i toggle d m p L45 s keeps quiet h =
+    (h.0, (flipped_bit p.t h.1.0, h.1.1), λ e. flipped_differs p.t h.1.0 (e ∙ sym h.2))
 fit_move n i toggle d m p L46 s keeps quiet h = absurd (omega arith)
 fit_move n i toggle d m p L47 s keeps quiet h = tt

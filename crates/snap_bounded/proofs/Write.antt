@@ -1,5 +1,5 @@
 -- Line 46, the only line of B that changes a word.
-use Rattle.std.specs.Prelude.{◌≡◌, ◌≢◌, ℕ, suc, ◌+◌, ◌-◌, ◌<◌, ◌≤◌, length, slice_set, refl}
+use Rattle.std.specs.Prelude.{◌≡◌, ◌≢◌, ℕ, suc, ◌+◌, ◌-◌, ◌<◌, ◌≤◌, length, refl}
 use Rattle.std.proofs.Common.{sym, ◌∙◌, ap, subst, arith, inl, inr}
 use Rattle.std.proofs.lemmas.Bool.{cases_eq}
 use Rattle.std.proofs.lemmas.List.{length-set, get_or-take}
@@ -139,7 +139,7 @@ module _ (n t : ℕ) (history : ℕ → Words) (x : State) (i : ℕ) (d : Task) 
     size = length-set x.memory.words (i - 1) word ∙ h.size;
     square = h.square;
     bits = λ k u ik iu. each_word (λ k w. hand_at w u ≤ 1)
-        (let e : hand_at word u ≡ place (at i).variables.f u = says u iu in let b : place (at i).variables.f u ≤ 1 = (h.each i one).bits u iu in omega arith)
+        (let e : hand_at word u ≡ place (at i).variables.f u = says u iu in let b : place (at i).variables.f u ≤ 1 = (h.each i one).bits.1 u iu in omega arith)
         (λ k ik. h.bits k u ik iu) k ik;
     each = frame.each_next (algorithm n) x i after writer o count one (ProcessInvariant n (suc t) history after) own
         (λ k ik other. others_act n t (suc t) history x.memory after k (at k) (omega arith) grows (old_word k ik other) (λ u iu. refl)

@@ -1,9 +1,9 @@
 -- The handshake and the two collects of a double collect of M, and what a scan learns of them.
-use Rattle.snap_runs.proofs.Computing.{both, same_number, same_from}
-use Rattle.std.specs.Prelude.{◌≡◌, ◌≢◌, ℕ, zero, suc, ◌+◌, ◌-◌, ◌<◌, ◌≤◌, true, false, ◌&&◌, nat_eq, List, [], ◌∷◌, take, length, map, slice_set, refl}
+use Rattle.snap_runs.proofs.Computing.{both, same_from}
+use Rattle.std.specs.Prelude.{◌≡◌, ◌≢◌, ℕ, zero, suc, ◌+◌, ◌-◌, ◌<◌, ◌≤◌, true, false, List, [], ◌∷◌, take, length, map, slice_set, refl}
 use Rattle.std.proofs.Common.{sym, ◌∙◌, ap, subst, arith, inl, inr}
 use Rattle.std.proofs.lemmas.Bool.{cases_eq}
-use Rattle.std.proofs.lemmas.Grind.{get_or-set_at}
+use Rattle.std.proofs.lemmas.Grind.{common_steps, get_or-set_at}
 use Rattle.std.proofs.lemmas.List.{get_or-set_other}
 use Rattle.std.proofs.Math.Nat.{eq-or-lt_of_le}
 use Rattle.snap_words.specs.Shape.{IsOneOf}
@@ -275,7 +275,7 @@ module _ (n w me : ℕ) (history : ℕ → Registers) (from : ℕ) where
   }
 
 same_self : (x : Word) → same_words x x ≡ true
-same_self x = ap (λ b. b && nat_eq x.toggle x.toggle) (same_number x.id) ∙ same_number x.toggle
+same_self x = grind (arith, common_steps)
 
 -- A whole double collect.
 module _ (n w me : ℕ) (history : ℕ → Registers) (from t : ℕ) (g : List ℕ) (a b : Words) (h : List ℕ) (one : IsOneOf n me)

@@ -1,5 +1,5 @@
 -- The processes of M by its own lines and locals, over a memory that counts what is done.
-use Rattle.std.specs.Prelude.{◌≡◌, ℕ, ◌+◌, ◌-◌, ◌≤◌, max, Bool, true, false, not, ◌&&◌, List, [], ◌∷◌, ◌++◌, take, drop, map, Option, Some, None, nat_eq, nat_lt, if◌then◌else◌, slice_index, slice_index_or, slice_set, replicate, refl}
+use Rattle.std.specs.Prelude.{◌≡◌, ◌<◌, ◌⊎◌, ℕ, ◌+◌, ◌-◌, ◌≤◌, max, Bool, true, false, not, ◌&&◌, List, [], ◌∷◌, take, map, Option, Some, None, nat_eq, nat_lt, if◌then◌else◌, slice_index, slice_index_or, slice_set, replicate, refl}
 use Rattle.std.proofs.Common.{ap}
 use Rattle.snap_words.specs.Kind.{initial_word}
 use Rattle.snap_words.specs.Shape.{Counts, IsOneOf}
@@ -12,7 +12,9 @@ use Rattle.snap_semantics.specs.Value.{Context}
 use Rattle.snap_semantics.specs.Table.{places_to, all_true, first_true, bit_at, with_bit_at, entry}
 use Rattle.snap_runs.proofs.Held.{word_at, seq_at}
 use Rattle.snap_runs.proofs.Algorithm as typed
-use Rattle.snap_runs.proofs.Algorithm.{To, Begin, Answer, Finish, Algorithm}
+use Rattle.snap_runs.proofs.Algorithm.{Task, Scanning, Embedded, Updating, value_of, To, Begin, Answer, Finish, Algorithm}
+use Rattle.snap_runs.proofs.Flow.{Lines}
+use Rattle.snap_runs.proofs.Places.{for_each}
 use Rattle.snap_runs.proofs.Embedding.{map_same}
 use Rattle.snap_multi.specs.ListingM as names
 use Rattle.snap_multi.specs.ListingM.{listing_m}
@@ -148,27 +150,7 @@ locals_of p = record {
 abbrev pub context_of : Counts → ℕ → Op → Variables → Context
 context_of shape me op p = record { shape = shape; me = me; op = op; locals = locals_of p; place = 0 }
 
--- what a busy process is asked: a scan, a scan inside an update, or an update outside its scan
-pub data Task : Type 0 where
-  Scanning : Task
-  Embedded : (word arg : ℕ) → Task
-  Updating : (word arg : ℕ) → Task
-
-abbrev pub op_of : Task → Op
-op_of Scanning = Scan
-op_of (Embedded word arg) = Update word arg
-op_of (Updating word arg) = Update word arg
-
-abbrev pub link_of : Task → Option ℕ
-link_of Scanning = None
-link_of (Embedded word arg) = Some 55
-link_of (Updating word arg) = None
-
-abbrev pub value_of : Task → ℕ
-value_of Scanning = 0
-value_of (Embedded word arg) = arg
-value_of (Updating word arg) = arg
-
+-- the word of an update, and 0 in a scan
 abbrev pub word_of : Task → ℕ
 word_of Scanning = 0
 word_of (Embedded word arg) = word
@@ -176,19 +158,19 @@ word_of (Updating word arg) = word
 
 -- the algorithm's types
 abbrev pub Move : Type 0
-Move = typed.Move Task Variables ProgramCounter Registers
+Move = typed.Move Variables ProgramCounter Registers
 
 abbrev pub Control : Type 0
-Control = typed.Control Task ProgramCounter
+Control = typed.Control ProgramCounter
 
 abbrev pub Process : Type 0
-Process = typed.TypedProcess Task Variables ProgramCounter Registers
+Process = typed.TypedProcess Variables ProgramCounter Registers
 
 abbrev pub State : Type 0
-State = typed.TypedState Task Variables ProgramCounter Registers
+State = typed.TypedState Variables ProgramCounter Registers
 
 abbrev pub Change : Type 0
-Change = typed.Change Task Variables ProgramCounter Registers
+Change = typed.Change Variables ProgramCounter Registers
 
 -- place k of a row, the bit of two processes, and the view of one
 abbrev pub place : List ℕ → ℕ → ℕ
@@ -223,43 +205,53 @@ same_words x y = nat_eq x.id y.id && nat_eq x.toggle y.toggle
 abbrev pub same_at : Words → Words → ℕ → Bool
 same_at a b k = same_words (word_at a k) (word_at b k)
 
--- the row after `each`
-abbrev pub for_each : ℕ → (ℕ → ℕ) → List ℕ → List ℕ
-for_each n f old = map f (places_to n) ++ drop n old
-
+-- lines 16, 23 and 53, and lines 18, 20 and 29
 abbrev pub next_j : ℕ → Task → Registers → Variables → ProgramCounter → ProgramCounter → Move
 next_j n d m p back on = if nat_lt p.j n then To d m (record p { j = p.j + 1 }) back else To d m (record p { j = 1 }) on
 
 abbrev pub next_k : ℕ → Task → Registers → Variables → ProgramCounter → ProgramCounter → Move
 next_k w d m p back on = if nat_lt p.k w then To d m (record p { k = p.k + 1 }) back else To d m (record p { k = 1 }) on
 
+-- lines 35 and 37
 abbrev pub return_to : Task → Registers → Variables → Move
 return_to Scanning m p = Answer p.s
 return_to (Embedded word arg) m p = To (Updating word arg) m p L55
 return_to (Updating word arg) m p = Finish
 
+-- line 54
 abbrev pub embed_to : Task → Registers → Variables → Move
 embed_to Scanning m p = Finish
 embed_to (Embedded word arg) m p = Finish
 embed_to (Updating word arg) m p = Begin (Embedded word arg) p L10
 
+-- so many moves of one process has a scan to see before it borrows a view, and the line that borrows it
+abbrev pub limit : ℕ
+limit = 3
+
+abbrev pub borrows : ProgramCounter
+borrows = L36
+
+-- line 32
 abbrev pub first_to : Task → Registers → Variables → Option ℕ → Move
 first_to d m p None = To d m p L33
-first_to d m p (Some k) = To d m (record p { j = k }) L36
+first_to d m p (Some k) = To d m (record p { j = k }) borrows
 
--- a row where the bit that was read late differs is marked
+-- what line 25 leaves at place c of row d: 1 where the bit that was read late differs
 abbrev pub marked : Variables → ℕ → ℕ
 marked p c = if not (nat_eq (place p.h c) (place p.g c)) then 1 else place p.d c
 
--- the moves after they are counted
+-- the moves of process c once line 31 has counted them
 abbrev pub counted : Variables → ℕ → ℕ
 counted p c = if nat_eq (place p.d c) 1 then place p.moved c + 1 else place p.moved c
 
 abbrev pub all_still : ℕ → Variables → Bool
 all_still n p = all_true (map (λ c. nat_eq (place p.d c) 0) (places_to n))
 
+abbrev pub at_limit : Variables → ℕ → Bool
+at_limit p c = nat_eq (place p.moved c) limit
+
 abbrev pub third_move : ℕ → Variables → Option ℕ
-third_move n p = first_true 1 (map (λ c. nat_eq (place p.moved c) 3) (places_to n))
+third_move n p = first_true 1 (map (at_limit p) (places_to n))
 
 -- what an update writes: its value with the process's number and toggle
 abbrev pub written : ℕ → Task → Registers → Variables → Word
@@ -334,73 +326,26 @@ IsUpdate w (Updating word arg) = IsOneOf w word
 
 -- what a line needs so that it does not trap
 abbrev pub Needs : ℕ → ℕ → ℕ → Task → Variables → ProgramCounter → Type 0
-Needs n w me d p L10 = Unit {0}
-Needs n w me d p L11 = Unit {0}
-Needs n w me d p L12 = Unit {0}
 Needs n w me d p L13 = IsOneOf n p.j × IsOneOf n me
 Needs n w me d p L14 = IsOneOf n p.j
 Needs n w me d p L15 = IsOneOf n p.j × IsOneOf n me × (p.x ≤ 1)
-Needs n w me d p L16 = Unit {0}
 Needs n w me d p L17 = IsOneOf w p.k
-Needs n w me d p L18 = Unit {0}
 Needs n w me d p L19 = IsOneOf w p.k
-Needs n w me d p L20 = Unit {0}
 Needs n w me d p L21 = IsOneOf n p.j × IsOneOf n me
 Needs n w me d p L22 = IsOneOf n p.j
-Needs n w me d p L23 = Unit {0}
-Needs n w me d p L24 = Unit {0}
-Needs n w me d p L25 = Unit {0}
 Needs n w me d p L26 = IsOneOf w p.k
 Needs n w me d p L27 = IsOneOf w p.k
 Needs n w me d p L28 = IsOneOf n p.x
-Needs n w me d p L29 = Unit {0}
-Needs n w me d p L30 = Unit {0}
-Needs n w me d p L31 = (c : ℕ) → IsOneOf n c → place p.moved c ≤ 2
-Needs n w me d p L32 = Unit {0}
-Needs n w me d p L33 = Unit {0}
-Needs n w me d p L34 = Unit {0}
-Needs n w me d p L35 = Unit {0}
+Needs n w me d p L31 = (c : ℕ) → IsOneOf n c → place p.moved c < limit
 Needs n w me d p L36 = IsOneOf n p.j
-Needs n w me d p L37 = Unit {0}
-Needs n w me d p L50 = Unit {0}
 Needs n w me d p L51 = IsOneOf n p.j × IsOneOf n me
 Needs n w me d p L52 = IsOneOf n p.j × IsOneOf n me
-Needs n w me d p L53 = Unit {0}
-Needs n w me d p L54 = Unit {0}
 Needs n w me d p L55 = IsOneOf n me
 Needs n w me d p L56 = IsOneOf w (word_of d)
 Needs n w me d p L57 = IsOneOf w (word_of d) × (place p.tog (word_of d) ≤ 1)
-Needs n w me d p L58 = Unit {0}
+Needs n w me d p _ = Unit {0}
 
 abbrev pub IsLineOf : ℕ → Task → ProgramCounter → Type 0
-IsLineOf w d L10 = IsScan w d
-IsLineOf w d L11 = IsScan w d
-IsLineOf w d L12 = IsScan w d
-IsLineOf w d L13 = IsScan w d
-IsLineOf w d L14 = IsScan w d
-IsLineOf w d L15 = IsScan w d
-IsLineOf w d L16 = IsScan w d
-IsLineOf w d L17 = IsScan w d
-IsLineOf w d L18 = IsScan w d
-IsLineOf w d L19 = IsScan w d
-IsLineOf w d L20 = IsScan w d
-IsLineOf w d L21 = IsScan w d
-IsLineOf w d L22 = IsScan w d
-IsLineOf w d L23 = IsScan w d
-IsLineOf w d L24 = IsScan w d
-IsLineOf w d L25 = IsScan w d
-IsLineOf w d L26 = IsScan w d
-IsLineOf w d L27 = IsScan w d
-IsLineOf w d L28 = IsScan w d
-IsLineOf w d L29 = IsScan w d
-IsLineOf w d L30 = IsScan w d
-IsLineOf w d L31 = IsScan w d
-IsLineOf w d L32 = IsScan w d
-IsLineOf w d L33 = IsScan w d
-IsLineOf w d L34 = IsScan w d
-IsLineOf w d L35 = IsScan w d
-IsLineOf w d L36 = IsScan w d
-IsLineOf w d L37 = IsScan w d
 IsLineOf w d L50 = IsUpdate w d
 IsLineOf w d L51 = IsUpdate w d
 IsLineOf w d L52 = IsUpdate w d
@@ -410,16 +355,17 @@ IsLineOf w d L55 = IsUpdate w d
 IsLineOf w d L56 = IsUpdate w d
 IsLineOf w d L57 = IsUpdate w d
 IsLineOf w d L58 = IsUpdate w d
+IsLineOf w d _ = IsScan w d
 
--- the algorithm for n processes and w words
-abbrev pub task : Op → Task
-task Scan = Scanning
-task (Update word arg) = Updating word arg
-
+-- where an operation begins, and the line to which its embedded scan leads back
 abbrev pub counter : Op → ProgramCounter
 counter Scan = L10
 counter (Update word arg) = L50
 
+abbrev pub back : ProgramCounter
+back = L55
+
+-- line 30 ends a double collect, line 33 starts another one, and line 57 writes
 abbrev pub tests : ProgramCounter → ℕ
 tests L30 = 1
 tests _ = 0
@@ -431,14 +377,6 @@ restarts _ = false
 abbrev pub writes : ProgramCounter → ℕ
 writes L57 = 1
 writes _ = 0
-
-abbrev pub op_is : (op : Op) → op_of (task op) ≡ op
-op_is Scan = refl
-op_is (Update word arg) = refl
-
-abbrev pub link_is : (op : Op) → link_of (task op) ≡ None
-link_is Scan = refl
-link_is (Update word arg) = refl
 
 abbrev pub entry_is : (op : Op) → number (counter op) ≡ entry listing_m op
 entry_is Scan = refl
@@ -488,17 +426,16 @@ locals_with n w copies =
 abbrev pub memory_with : ℕ → ℕ → Words → Memory
 memory_with n w words = record { words = words; q = replicate n (replicate n 0); p = replicate n (replicate n 0); views = replicate n (replicate w 0) }
 
-abbrev pub algorithm : ℕ → ℕ → Algorithm Task Variables ProgramCounter Registers
+-- the algorithm for n processes and w words
+abbrev pub algorithm : ℕ → ℕ → Algorithm Variables ProgramCounter Registers
 algorithm n w = record {
   source = listing_m;
   shape = counts n w;
   real = real;
   locals_of = locals_of;
   number = number;
-  op_of = op_of;
-  link_of = link_of;
+  back = number back;
   move = move n w;
-  task = task;
   counter = counter;
   tests = tests;
   restarts = restarts;
@@ -507,7 +444,28 @@ algorithm n w = record {
   first_memory = first_memory n w;
   variables_is = ap (λ (ws : Words). locals_with n w ws) (map_same plain (max n w) first_word);
   memory_is = ap (λ (ws : Words). memory_with n w ws) (map_same plain w first_word);
-  op_is = op_is;
-  link_is = link_is;
   entry_is = entry_is;
+}
+
+-- What the lines are for.
+
+-- the view is made and not yet put
+abbrev pub IsLate : ProgramCounter → Type 0
+IsLate L55 = Unit {0}
+IsLate _ = ⊥
+
+-- the writes of an update before a line
+abbrev pub written_at : ProgramCounter → ℕ
+written_at L58 = 1
+written_at _ = 0
+
+abbrev pub lines : Lines Variables ProgramCounter Registers
+lines = record {
+  Kept = λ m m'. m'.words ≡ m.words;
+  IsReturn = λ k. (k ≡ L35) ⊎ (k ≡ L37);
+  answer = λ p. p.s;
+  IsWrite = λ k. k ≡ L57;
+  IsLast = λ k. k ≡ L58;
+  IsLate = IsLate;
+  written = written_at;
 }

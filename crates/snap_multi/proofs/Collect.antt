@@ -1,15 +1,16 @@
 -- The handshake and the two collects of a double collect of M, and what a scan learns of them.
-use Rattle.std.specs.Prelude.{◌≡◌, ◌≢◌, ℕ, zero, suc, ◌+◌, ◌-◌, ◌<◌, ◌≤◌, true, false, ◌&&◌, nat_eq, List, [], ◌∷◌, take, length, map, slice_set, refl}
+use Rattle.snap_runs.proofs.Computing.{both, same_from}
+use Rattle.std.specs.Prelude.{◌≡◌, ◌≢◌, ℕ, zero, suc, ◌+◌, ◌-◌, ◌<◌, ◌≤◌, true, false, List, [], ◌∷◌, take, length, map, slice_set, refl}
 use Rattle.std.proofs.Common.{sym, ◌∙◌, ap, subst, arith, inl, inr}
 use Rattle.std.proofs.lemmas.Bool.{cases_eq}
-use Rattle.std.proofs.lemmas.Grind.{get_or-set_at}
+use Rattle.std.proofs.lemmas.Grind.{common_steps, get_or-set_at}
 use Rattle.std.proofs.lemmas.List.{get_or-set_other}
 use Rattle.std.proofs.Math.Nat.{eq-or-lt_of_le}
 use Rattle.snap_words.specs.Shape.{IsOneOf}
 use Rattle.snap_words.specs.Word.{Word, no_word}
 use Rattle.snap_runs.proofs.Held.{word_at, seq_at, Held, data_of, WordBefore, squeezed, same_data}
 use Rattle.snap_multi.proofs.Algorithm.{Words, Registers, plain, place, bit, same_words, same_at, view_at}
-use Rattle.snap_multi.proofs.Basics.{both, less_or_not, eq_true, same_from, set_here, set_there}
+use Rattle.snap_multi.proofs.Basics.{less_or_not, set_here, set_there}
 use Rattle.snap_multi.proofs.History.{words_of, id_at, Laws}
 
 -- In all that follows `history u` are the registers after u items, t is the number of items so far, and `me` the process.
@@ -274,7 +275,7 @@ module _ (n w me : ℕ) (history : ℕ → Registers) (from : ℕ) where
   }
 
 same_self : (x : Word) → same_words x x ≡ true
-same_self x = ap (λ b. b && nat_eq x.toggle x.toggle) (eq_true x.id) ∙ eq_true x.toggle
+same_self x = grind (arith, common_steps)
 
 -- A whole double collect.
 module _ (n w me : ℕ) (history : ℕ → Registers) (from t : ℕ) (g : List ℕ) (a b : Words) (h : List ℕ) (one : IsOneOf n me)

@@ -1,4 +1,6 @@
 -- The places of M: which locals a process has at each line, and that no line traps.
+use Rattle.snap_runs.proofs.Computing.{lt_from, both}
+use Rattle.snap_runs.proofs.Places.{for_each, for_each_at, first_found, first_none}
 use Rattle.std.specs.Prelude.{◌≡◌, ℕ, ◌+◌, ◌-◌, ◌<◌, ◌≤◌, max, Bool, true, false, ◌&&◌, List, drop, length, map, Option, Some, None, nat_eq, nat_lt, nat_le, if◌then◌else◌, slice_set, refl}
 use Rattle.std.proofs.Common.{sym, ◌∙◌, subst, arith}
 use Rattle.std.proofs.lemmas.Grind.{common_steps}
@@ -11,55 +13,52 @@ use Rattle.snap_semantics.specs.declared.process.Op.TheVariants.{Scan, Update}
 use Rattle.snap_semantics.specs.declared.process.Reason.{Reason}
 use Rattle.snap_semantics.specs.declared.process.Reason.TheVariants.{NoSuchWord}
 use Rattle.snap_semantics.specs.Table.{places_to, call_skip}
-use Rattle.snap_runs.proofs.Algorithm.{Idle, At, To, Begin, Answer, Finish, SameOp}
+use Rattle.snap_runs.proofs.Algorithm.{task_of, Idle, At, To, Begin, Answer, Finish, SameOp, Task, Scanning, Embedded, Updating, op_of}
 use Rattle.snap_runs.proofs.Embedding as embed
 use Rattle.snap_runs.proofs.Held.{word_at}
 use Rattle.snap_multi.specs.Promises.{counts}
-use Rattle.snap_multi.proofs.Algorithm.{Registers, Control, Move, Variables, Task, Scanning, Embedded, Updating, ProgramCounter, L10, L11, L12, L13, L14, L15, L16, L17, L18, L19, L20, L21, L22, L23, L24, L25, L26, L27, L28, L29, L30, L31, L32, L33, L34, L35, L36, L37, L50, L51, L52, L53, L54, L55, L56, L57, L58, op_of, word_of, move, first_to, place, bit, flip, same_at, for_each, marked, counted, all_still, third_move, Needs, IsLineOf, IsScan, IsUpdate, algorithm, task, counter}
-use Rattle.snap_multi.proofs.Basics.{lt_from, le_from, both, flip_bit, for_each_at, first_found, first_none, set_here}
+use Rattle.snap_multi.proofs.Algorithm.{Registers, Control, Move, Variables, ProgramCounter, L10, L11, L12, L13, L14, L15, L16, L17, L18, L19, L20, L21, L22, L23, L24, L25, L26, L27, L28, L29, L30, L31, L32, L33, L34, L35, L36, L37, L50, L51, L52, L53, L54, L55, L56, L57, L58, word_of, move, first_to, place, bit, flip, same_at, marked, counted, all_still, third_move, Needs, IsLineOf, IsScan, IsUpdate, algorithm, counter, limit, at_limit}
+use Rattle.snap_multi.proofs.Basics.{le_from, flip_bit, set_here}
 use Rattle.snap_multi.proofs.Lines.{lines}
 
-abbrev pub Small : ℕ → ℕ → Variables → Type 0
-Small n most p = (c : ℕ) → IsOneOf n c → place p.moved c ≤ most
+-- no process has been seen to move up to the limit, or none beyond it
+abbrev pub BelowLimit : ℕ → Variables → Type 0
+BelowLimit n p = (c : ℕ) → IsOneOf n c → place p.moved c < limit
 
+abbrev pub WithinLimit : ℕ → Variables → Type 0
+WithinLimit n p = (c : ℕ) → IsOneOf n c → place p.moved c ≤ limit
+
+-- At each line j and k are places and the moves are within the limit, where the line asks for it.
 abbrev pub Keeps : ℕ → ℕ → Task → Variables → ProgramCounter → Type 0
-Keeps n w d p L10 = Unit {0}
-Keeps n w d p L11 = Small n 2 p
-Keeps n w d p L12 = (p.j ≡ 1) × Small n 2 p
-Keeps n w d p L13 = IsOneOf n p.j × (p.k ≡ 1) × Small n 2 p
-Keeps n w d p L14 = IsOneOf n p.j × (p.k ≡ 1) × Small n 2 p × (p.x ≤ 1)
-Keeps n w d p L15 = IsOneOf n p.j × (p.k ≡ 1) × Small n 2 p × (p.x ≤ 1)
-Keeps n w d p L16 = IsOneOf n p.j × (p.k ≡ 1) × Small n 2 p
-Keeps n w d p L17 = (p.j ≡ 1) × IsOneOf w p.k × Small n 2 p
-Keeps n w d p L18 = (p.j ≡ 1) × IsOneOf w p.k × Small n 2 p
-Keeps n w d p L19 = (p.j ≡ 1) × IsOneOf w p.k × Small n 2 p
-Keeps n w d p L20 = (p.j ≡ 1) × IsOneOf w p.k × Small n 2 p
-Keeps n w d p L21 = IsOneOf n p.j × (p.k ≡ 1) × Small n 2 p
-Keeps n w d p L22 = IsOneOf n p.j × (p.k ≡ 1) × Small n 2 p
-Keeps n w d p L23 = IsOneOf n p.j × (p.k ≡ 1) × Small n 2 p
-Keeps n w d p L24 = (p.j ≡ 1) × (p.k ≡ 1) × Small n 2 p
-Keeps n w d p L25 = (p.j ≡ 1) × (p.k ≡ 1) × Small n 2 p
-Keeps n w d p L26 = (p.j ≡ 1) × IsOneOf w p.k × Small n 2 p
-Keeps n w d p L27 = (p.j ≡ 1) × IsOneOf w p.k × Small n 2 p
-Keeps n w d p L28 = (p.j ≡ 1) × IsOneOf w p.k × Small n 2 p
-Keeps n w d p L29 = (p.j ≡ 1) × IsOneOf w p.k × Small n 2 p
-Keeps n w d p L30 = (p.j ≡ 1) × (p.k ≡ 1) × Small n 2 p
-Keeps n w d p L31 = (p.j ≡ 1) × (p.k ≡ 1) × Small n 2 p
-Keeps n w d p L32 = (p.j ≡ 1) × (p.k ≡ 1) × Small n 3 p
-Keeps n w d p L33 = (p.j ≡ 1) × (p.k ≡ 1) × Small n 2 p
-Keeps n w d p L34 = Unit {0}
-Keeps n w d p L35 = Unit {0}
+Keeps n w d p L11 = BelowLimit n p
+Keeps n w d p L12 = (p.j ≡ 1) × BelowLimit n p
+Keeps n w d p L13 = IsOneOf n p.j × (p.k ≡ 1) × BelowLimit n p
+Keeps n w d p L14 = IsOneOf n p.j × (p.k ≡ 1) × BelowLimit n p × (p.x ≤ 1)
+Keeps n w d p L15 = IsOneOf n p.j × (p.k ≡ 1) × BelowLimit n p × (p.x ≤ 1)
+Keeps n w d p L16 = IsOneOf n p.j × (p.k ≡ 1) × BelowLimit n p
+Keeps n w d p L17 = (p.j ≡ 1) × IsOneOf w p.k × BelowLimit n p
+Keeps n w d p L18 = (p.j ≡ 1) × IsOneOf w p.k × BelowLimit n p
+Keeps n w d p L19 = (p.j ≡ 1) × IsOneOf w p.k × BelowLimit n p
+Keeps n w d p L20 = (p.j ≡ 1) × IsOneOf w p.k × BelowLimit n p
+Keeps n w d p L21 = IsOneOf n p.j × (p.k ≡ 1) × BelowLimit n p
+Keeps n w d p L22 = IsOneOf n p.j × (p.k ≡ 1) × BelowLimit n p
+Keeps n w d p L23 = IsOneOf n p.j × (p.k ≡ 1) × BelowLimit n p
+Keeps n w d p L24 = (p.j ≡ 1) × (p.k ≡ 1) × BelowLimit n p
+Keeps n w d p L25 = (p.j ≡ 1) × (p.k ≡ 1) × BelowLimit n p
+Keeps n w d p L26 = (p.j ≡ 1) × IsOneOf w p.k × BelowLimit n p
+Keeps n w d p L27 = (p.j ≡ 1) × IsOneOf w p.k × BelowLimit n p
+Keeps n w d p L28 = (p.j ≡ 1) × IsOneOf w p.k × BelowLimit n p
+Keeps n w d p L29 = (p.j ≡ 1) × IsOneOf w p.k × BelowLimit n p
+Keeps n w d p L30 = (p.j ≡ 1) × (p.k ≡ 1) × BelowLimit n p
+Keeps n w d p L31 = (p.j ≡ 1) × (p.k ≡ 1) × BelowLimit n p
+Keeps n w d p L32 = (p.j ≡ 1) × (p.k ≡ 1) × WithinLimit n p
+Keeps n w d p L33 = (p.j ≡ 1) × (p.k ≡ 1) × BelowLimit n p
 Keeps n w d p L36 = IsOneOf n p.j
-Keeps n w d p L37 = Unit {0}
-Keeps n w d p L50 = Unit {0}
 Keeps n w d p L51 = IsOneOf n p.j
 Keeps n w d p L52 = IsOneOf n p.j
 Keeps n w d p L53 = IsOneOf n p.j
-Keeps n w d p L54 = Unit {0}
-Keeps n w d p L55 = Unit {0}
-Keeps n w d p L56 = Unit {0}
 Keeps n w d p L57 = place p.tog (word_of d) ≤ 1
-Keeps n w d p L58 = Unit {0}
+Keeps n w d p _ = Unit {0}
 
 -- The locals have all places.
 pub record Long (n w : ℕ) (p : Variables) : Type 0 where
@@ -145,15 +144,15 @@ pub well_if : (op : Op) (n w : ℕ) (b : Bool) (x y : Move) → (b ≡ true → 
 well_if op n w true x y f g = f refl
 well_if op n w false x y f g = g refl
 
-bump : (b : Bool) (x : ℕ) → x ≤ 2 → (if b then x + 1 else x) ≤ 3
+bump : (b : Bool) (x : ℕ) → x < limit → (if b then x + 1 else x) ≤ limit
 bump true x h = omega arith
 bump false x h = omega arith
 
-less_three : (x : ℕ) → x ≤ 3 → nat_eq x 3 ≡ false → x ≤ 2
-less_three x h e = grind (arith, common_steps)
+below : (x y : ℕ) → x ≤ y → nat_eq x y ≡ false → x < y
+below x y h e = grind (arith, common_steps)
 
 first_well : (n w : ℕ) (d : Task) (m : Registers) (p : Variables) (o : Option ℕ) → IsScan w d → (p.j ≡ 1) × (p.k ≡ 1) →
-    ((k : ℕ) → o ≡ Some k → IsOneOf n k) → (o ≡ None → Small n 2 p) → MoveWell (op_of d) n w (first_to d m p o)
+    ((k : ℕ) → o ≡ Some k → IsOneOf n k) → (o ≡ None → BelowLimit n p) → MoveWell (op_of d) n w (first_to d m p o)
 first_well n w d m p None s h f g = (s, (h.0, h.1, g refl), refl)
 first_well n w d m p (Some k) s h f g = (s, f k refl, refl)
 
@@ -195,8 +194,8 @@ move_well n w me d m p L30 e s h = well_if _ _ _ (all_still n p) _ _ (λ b. (s, 
 move_well n w me d m p L31 e s h = (s, (h.0, h.1, λ c i. rw (for_each_at n (counted p) p.moved c i) (bump (nat_eq (place p.d c) 1) (place p.moved c) (h.2 c i))), refl)
 move_well n w me d m p L32 e s h =
     first_well n w d m p (third_move n p) s (h.0, h.1)
-    (λ k f. let r = first_found 1 n (λ c. nat_eq (place p.moved c) 3) k f in (omega arith, omega arith))
-    (λ f k o. less_three (place p.moved k) (h.2 k o) (first_none 1 n (λ c. nat_eq (place p.moved c) 3) f k (omega arith) (omega arith)))
+    (λ k f. let r = first_found 1 n (at_limit p) k f in (omega arith, omega arith))
+    (λ f k o. below (place p.moved k) limit (h.2 k o) (first_none 1 n (at_limit p) f k (omega arith) (omega arith)))
 move_well n w me d m p L33 e s h = let one : IsOneOf n me = e.one in (s, ((omega arith, omega arith), h.1, h.2), refl)
 move_well n w me d m p L34 e s h = (s, tt, refl)
 move_well n w me Scanning m p L35 e s h = tt
@@ -283,7 +282,7 @@ abbrev pub ControlWell : ℕ → ℕ → Variables → Control → Type 0
 ControlWell n w p Idle = Unit {0}
 ControlWell n w p (At d k) = IsLineOf w d k × Keeps n w d p k
 
-pub called_well : (n w me : ℕ) (p : Variables) (op : Op) → call_skip kind.Multi (counts n w) me op ≡ None → ControlWell n w p (At (task op) (counter op))
+pub called_well : (n w me : ℕ) (p : Variables) (op : Op) → call_skip kind.Multi (counts n w) me op ≡ None → ControlWell n w p (At (task_of op) (counter op))
 called_well n w me p Scan e = (tt, tt)
 called_well n w me p (Update word arg) e = (allowed_word n w me word arg e, tt)
 

@@ -1,55 +1,15 @@
 -- The double collects and own steps of a scan of M.
+use Rattle.snap_runs.proofs.Computing.{not_lt}
+use Rattle.snap_runs.proofs.Totals.{total, total_more}
+use Rattle.snap_runs.proofs.Places.{for_each, for_each_at, some_fails}
 use Rattle.std.specs.Prelude.{◌≡◌, ℕ, zero, suc, ◌+◌, ◌-◌, ◌*◌, ◌<◌, ◌≤◌, Bool, true, false, Option, Some, None, nat_eq, nat_lt, if◌then◌else◌, refl}
-use Rattle.std.proofs.Common.{sym, ◌∙◌, ap, subst, arith, inl, inr}
-use Rattle.std.proofs.lemmas.Bool.{cases_eq}
+use Rattle.std.proofs.Common.{sym, ap, subst, arith}
 use Rattle.std.proofs.lemmas.Grind.{common_steps}
 use Rattle.snap_words.specs.Shape.{IsOneOf}
-use Rattle.snap_runs.proofs.Algorithm.{To, Begin, Answer, Finish}
-use Rattle.snap_multi.proofs.Algorithm.{Registers, restarts, Move, Variables, Task, Scanning, Embedded, Updating, ProgramCounter, L10, L11, L12, L13, L14, L15, L16, L17, L18, L19, L20, L21, L22, L23, L24, L25, L26, L27, L28, L29, L30, L31, L32, L33, L34, L35, L36, L37, L50, L51, L52, L53, L54, L55, L56, L57, L58, move, first_to, place, same_at, for_each, counted, all_still, third_move, tests}
-use Rattle.snap_multi.proofs.Basics.{for_each_at, not_lt, not_all, other_from}
+use Rattle.snap_runs.proofs.Algorithm.{To, Begin, Answer, Finish, Task, Scanning, Embedded, Updating}
+use Rattle.snap_multi.proofs.Algorithm.{Registers, restarts, Move, Variables, ProgramCounter, L10, L11, L12, L13, L14, L15, L16, L17, L18, L19, L20, L21, L22, L23, L24, L25, L26, L27, L28, L29, L30, L31, L32, L33, L34, L35, L36, L37, L50, L51, L52, L53, L54, L55, L56, L57, L58, move, first_to, place, same_at, counted, all_still, third_move, tests}
+use Rattle.snap_multi.proofs.Basics.{other_from}
 use Rattle.snap_multi.proofs.Control.{Keeps}
-
--- sums over places 1..n
-pub total : (ℕ → ℕ) → ℕ → ℕ
-total f zero = 0
-total f (suc n) = total f n + f (suc n)
-
-pub total_le : (f : ℕ → ℕ) (n : ℕ) → ((k : ℕ) → IsOneOf n k → f k ≤ 2) → total f n ≤ 2 * n
-unfolding total
-total_le f zero h = omega arith
-total_le f (suc n) h =
-    let rest : total f n ≤ 2 * n = total_le f n (λ k i. h k (i.0, omega arith)) in
-    let last : f (suc n) ≤ 2 = h (suc n) (omega arith, omega arith) in omega arith
-
--- less by two where one place has none
-pub total_less : (f : ℕ → ℕ) (n i : ℕ) → IsOneOf n i → f i ≡ 0 → ((k : ℕ) → IsOneOf n k → f k ≤ 2) → total f n + 2 ≤ 2 * n
-unfolding total
-total_less f zero i one z h = absurd (omega arith)
-total_less f (suc n) i one z h =
-    elim (cases_eq i (suc n)) [
-      | inl same ↦ (let rest : total f n ≤ 2 * n = total_le f n (λ k e. h k (e.0, omega arith)) in
-          let last : f (suc n) ≡ 0 = ap f (sym same) ∙ z in omega arith)
-      | inr other ↦ (let rest : total f n + 2 ≤ 2 * n = total_less f n i (one.0, omega arith) z (λ k e. h k (e.0, omega arith)) in
-          let last : f (suc n) ≤ 2 = h (suc n) (omega arith, omega arith) in omega arith)
-    ]
-
-pub total_mono : (f g : ℕ → ℕ) (n : ℕ) → ((k : ℕ) → IsOneOf n k → f k ≤ g k) → total f n ≤ total g n
-unfolding total
-total_mono f g zero h = omega arith
-total_mono f g (suc n) h =
-    let rest : total f n ≤ total g n = total_mono f g n (λ k i. h k (i.0, omega arith)) in
-    let last : f (suc n) ≤ g (suc n) = h (suc n) (omega arith, omega arith) in omega arith
-
-pub total_more : (f g : ℕ → ℕ) (n i : ℕ) → IsOneOf n i → f i < g i → ((k : ℕ) → IsOneOf n k → f k ≤ g k) → total f n < total g n
-unfolding total
-total_more f g zero i one lt h = absurd (omega arith)
-total_more f g (suc n) i one lt h =
-    elim (cases_eq i (suc n)) [
-      | inl same ↦ (let rest : total f n ≤ total g n = total_mono f g n (λ k e. h k (e.0, omega arith)) in
-          let last : f (suc n) < g (suc n) = subst (λ x. f x < g x) same lt in omega arith)
-      | inr other ↦ (let rest : total f n < total g n = total_more f g n i (one.0, omega arith) lt (λ k e. h k (e.0, omega arith)) in
-          let last : f (suc n) ≤ g (suc n) = h (suc n) (omega arith, omega arith) in omega arith)
-    ]
 
 -- the own steps of c failed double collects
 pub budget : ℕ → ℕ → ℕ → ℕ
@@ -93,6 +53,7 @@ budget_le n w c h =
     let e : budget n w (c + 1 + (2 * n - (c + 1))) ≡ budget n w (2 * n) = ap (budget n w) (let f : c + 1 + (2 * n - (c + 1)) ≡ 2 * n = omega arith in f) in
     let b : budget n w (2 * n) ≡ 14 * (n * n) + 16 * (n * w) + 12 * n + 3 = budget_all n w in omega arith
 
+-- the moves of all processes that a scan has seen
 abbrev pub moves : ℕ → Variables → ℕ
 moves n p = total (place p.moved) n
 
@@ -127,15 +88,7 @@ Count n w p own c recent L34 = (own + 3 ≤ budget n w c) × (c + 1 ≤ 2 * n)
 Count n w p own c recent L35 = (own + 2 ≤ budget n w c) × (c + 1 ≤ 2 * n)
 Count n w p own c recent L36 = (own + 1 ≤ budget n w c) × (c + 1 ≤ 2 * n)
 Count n w p own c recent L37 = (own ≤ budget n w c) × (c + 1 ≤ 2 * n)
-Count n w p own c recent L50 = Unit {0}
-Count n w p own c recent L51 = Unit {0}
-Count n w p own c recent L52 = Unit {0}
-Count n w p own c recent L53 = Unit {0}
-Count n w p own c recent L54 = Unit {0}
-Count n w p own c recent L55 = Unit {0}
-Count n w p own c recent L56 = Unit {0}
-Count n w p own c recent L57 = Unit {0}
-Count n w p own c recent L58 = Unit {0}
+Count n w p own c recent _ = Unit {0}
 
 abbrev pub CountMove : ℕ → ℕ → ℕ → ℕ → ℕ → Move → Type 0
 CountMove n w own c recent (To d m p k) = Count n w p own c recent k
@@ -162,7 +115,7 @@ counted_row n p = record p { moved = for_each n (counted p) p.moved }
 after_count : (n : ℕ) (p : Variables) → all_still n p ≡ false → ((c : ℕ) → IsOneOf n c → place p.d c ≤ 1) → (p' : Variables) →
     ((k : ℕ) → IsOneOf n k → place p'.moved k ≡ counted p k) → moves n p < moves n p'
 after_count n p failed bits p' is =
-    let some = not_all (λ c. nat_eq (place p.d c) 0) 1 n failed in
+    let some = some_fails (λ c. nat_eq (place p.d c) 0) 1 n failed in
     let k = some.0 in
     let i : IsOneOf n k = (omega arith, omega arith) in
     let one : place p.d k ≡ 1 = (let le : place p.d k ≤ 1 = bits k i in grind (arith, common_steps, other_from (place p.d k) 0 some.3)) in
@@ -240,34 +193,6 @@ count_move n w me d m p L57 own c c' recent recent' pos e f keeps sharp bits h =
 count_move n w me d m p L58 own c c' recent recent' pos e f keeps sharp bits h = tt
 
 abbrev pub InScanLine : ProgramCounter → Type 0
-InScanLine L10 = Unit {0}
-InScanLine L11 = Unit {0}
-InScanLine L12 = Unit {0}
-InScanLine L13 = Unit {0}
-InScanLine L14 = Unit {0}
-InScanLine L15 = Unit {0}
-InScanLine L16 = Unit {0}
-InScanLine L17 = Unit {0}
-InScanLine L18 = Unit {0}
-InScanLine L19 = Unit {0}
-InScanLine L20 = Unit {0}
-InScanLine L21 = Unit {0}
-InScanLine L22 = Unit {0}
-InScanLine L23 = Unit {0}
-InScanLine L24 = Unit {0}
-InScanLine L25 = Unit {0}
-InScanLine L26 = Unit {0}
-InScanLine L27 = Unit {0}
-InScanLine L28 = Unit {0}
-InScanLine L29 = Unit {0}
-InScanLine L30 = Unit {0}
-InScanLine L31 = Unit {0}
-InScanLine L32 = Unit {0}
-InScanLine L33 = Unit {0}
-InScanLine L34 = Unit {0}
-InScanLine L35 = Unit {0}
-InScanLine L36 = Unit {0}
-InScanLine L37 = Unit {0}
 InScanLine L50 = ⊥
 InScanLine L51 = ⊥
 InScanLine L52 = ⊥
@@ -277,6 +202,7 @@ InScanLine L55 = ⊥
 InScanLine L56 = ⊥
 InScanLine L57 = ⊥
 InScanLine L58 = ⊥
+InScanLine _ = Unit {0}
 
 -- the bounds at each line of a scan
 pub collects_le : (n w : ℕ) (p : Variables) (k : ProgramCounter) (own c recent : ℕ) → 0 < n → (k ≡ L30 → moves n p + 2 ≤ 2 * n) → Count n w p own c recent k → InScanLine k → c + tests k ≤ 2 * n - 1

@@ -1,14 +1,17 @@
 -- The invariant of M: what holds in every state of every run.
+use Rattle.snap_runs.proofs.Computing.{lt_true, not_lt, same_number, other_number}
 use Rattle.std.specs.Prelude.{◌≡◌, ◌≢◌, ℕ, suc, ◌+◌, ◌-◌, ◌<◌, ◌≤◌, max, Bool, true, false, Option, Some, None, List, length, nat_eq, nat_lt, if◌then◌else◌, slice_set, refl}
 use Rattle.std.proofs.Common.{sym, ◌∙◌, ap, subst, arith, inl, inr}
 use Rattle.std.proofs.lemmas.Bool.{cases_eq}
 use Rattle.std.proofs.lemmas.Grind.{common_steps}
 use Rattle.snap_words.specs.Shape.{IsOneOf}
 use Rattle.snap_semantics.specs.declared.process.Outcome.{Outcome}
-use Rattle.snap_runs.proofs.Algorithm.{Idle, At, To, Begin, Answer, Finish, New, typed_at, changed}
+use Rattle.snap_runs.proofs.Algorithm.{Idle, At, To, Begin, Answer, Finish, New, typed_at, changed, Task, Scanning, Embedded, Updating}
 use Rattle.snap_runs.proofs.Embedding as embed
-use Rattle.snap_multi.proofs.Algorithm.{Registers, Change, Control, Process, State, Move, Variables, Task, Scanning, Embedded, Updating, ProgramCounter, L10, L11, L12, L13, L14, L15, L16, L17, L18, L19, L20, L21, L22, L23, L24, L25, L26, L27, L28, L29, L30, L31, L32, L33, L34, L35, L36, L37, L50, L51, L52, L53, L54, L55, L56, L57, L58, place, bit, flip, writes, move, first_to, return_to, embed_to, same_at, all_still, third_move, IsScan, IsUpdate, IsLineOf, algorithm}
-use Rattle.snap_multi.proofs.Basics.{lt_true, not_lt, eq_true, eq_false, set_here, set_there}
+use Rattle.snap_runs.proofs.Flow as flow
+use Rattle.snap_runs.proofs.Flow.{IsInScan}
+use Rattle.snap_multi.proofs.Algorithm.{IsLate, lines, Registers, Change, Control, Process, State, Move, Variables, ProgramCounter, L10, L11, L12, L13, L14, L15, L16, L17, L18, L19, L20, L21, L22, L23, L24, L25, L26, L27, L28, L29, L30, L31, L32, L33, L34, L35, L36, L37, L50, L51, L52, L53, L54, L55, L56, L57, L58, place, bit, flip, move, first_to, return_to, embed_to, same_at, all_still, third_move, IsScan, IsUpdate, IsLineOf, algorithm}
+use Rattle.snap_multi.proofs.Basics.{set_here, set_there}
 use Rattle.snap_multi.proofs.Control.{ControlWell, Long}
 use Rattle.snap_multi.proofs.History.{Since, Laws}
 use Rattle.snap_multi.proofs.Collect.{events}
@@ -18,35 +21,6 @@ use Rattle.snap_multi.proofs.Count.{Count}
 -- In an update: whether process c is answered, how many views are put, and whether the toggle of word y is turned, that are not
 -- yet followed by the write of the word.
 abbrev pub answered_in : ProgramCounter → Variables → ℕ → Bool
-answered_in L10 p c = false
-answered_in L11 p c = false
-answered_in L12 p c = false
-answered_in L13 p c = false
-answered_in L14 p c = false
-answered_in L15 p c = false
-answered_in L16 p c = false
-answered_in L17 p c = false
-answered_in L18 p c = false
-answered_in L19 p c = false
-answered_in L20 p c = false
-answered_in L21 p c = false
-answered_in L22 p c = false
-answered_in L23 p c = false
-answered_in L24 p c = false
-answered_in L25 p c = false
-answered_in L26 p c = false
-answered_in L27 p c = false
-answered_in L28 p c = false
-answered_in L29 p c = false
-answered_in L30 p c = false
-answered_in L31 p c = false
-answered_in L32 p c = false
-answered_in L33 p c = false
-answered_in L34 p c = false
-answered_in L35 p c = false
-answered_in L36 p c = false
-answered_in L37 p c = false
-answered_in L50 p c = false
 answered_in L51 p c = nat_lt c p.j
 answered_in L52 p c = nat_lt c p.j
 answered_in L53 p c = nat_lt c (p.j + 1)
@@ -54,7 +28,7 @@ answered_in L54 p c = true
 answered_in L55 p c = true
 answered_in L56 p c = true
 answered_in L57 p c = true
-answered_in L58 p c = false
+answered_in _ p c = false
 
 abbrev pub answered_at : Task → ProgramCounter → Variables → ℕ → Bool
 answered_at Scanning k p c = false
@@ -72,74 +46,19 @@ put_at (Embedded word arg) k = 0
 put_at (Updating word arg) k = put_in k
 
 abbrev pub turned_in : ℕ → ProgramCounter → ℕ → Bool
-turned_in word L10 y = false
-turned_in word L11 y = false
-turned_in word L12 y = false
-turned_in word L13 y = false
-turned_in word L14 y = false
-turned_in word L15 y = false
-turned_in word L16 y = false
-turned_in word L17 y = false
-turned_in word L18 y = false
-turned_in word L19 y = false
-turned_in word L20 y = false
-turned_in word L21 y = false
-turned_in word L22 y = false
-turned_in word L23 y = false
-turned_in word L24 y = false
-turned_in word L25 y = false
-turned_in word L26 y = false
-turned_in word L27 y = false
-turned_in word L28 y = false
-turned_in word L29 y = false
-turned_in word L30 y = false
-turned_in word L31 y = false
-turned_in word L32 y = false
-turned_in word L33 y = false
-turned_in word L34 y = false
-turned_in word L35 y = false
-turned_in word L36 y = false
-turned_in word L37 y = false
-turned_in word L50 y = false
-turned_in word L51 y = false
-turned_in word L52 y = false
-turned_in word L53 y = false
-turned_in word L54 y = false
-turned_in word L55 y = false
-turned_in word L56 y = false
 turned_in word L57 y = nat_eq y word
-turned_in word L58 y = false
+turned_in word _ y = false
 
 abbrev pub turned_at : Task → ProgramCounter → ℕ → Bool
 turned_at Scanning k y = false
 turned_at (Embedded word arg) k y = false
 turned_at (Updating word arg) k y = turned_in word k y
 
--- an update whose view is being made or waits to be put
-abbrev pub Late : ProgramCounter → Type 0
-Late L55 = Unit {0}
-Late _ = ⊥
+abbrev pub IsMaking : Task → ProgramCounter → Type 0
+IsMaking = flow.IsMaking lines
 
-abbrev pub MakingAt : Task → ProgramCounter → Type 0
-MakingAt Scanning k = ⊥
-MakingAt (Embedded word arg) k = Unit {0}
-MakingAt (Updating word arg) k = Late k
-
--- in a scan, top-level or embedded
-abbrev pub IsInScan : Task → Type 0
-IsInScan Scanning = Unit {0}
-IsInScan (Embedded word arg) = Unit {0}
-IsInScan (Updating word arg) = ⊥
-
--- the writes of an update so far
-abbrev pub written_at : ProgramCounter → ℕ
-written_at L58 = 1
-written_at _ = 0
-
-abbrev pub WroteAt : Task → ProgramCounter → ℕ → Type 0
-WroteAt Scanning k w = Unit {0}
-WroteAt (Embedded word arg) k w = w ≡ 0
-WroteAt (Updating word arg) k w = w ≡ written_at k
+abbrev pub HasWritten : Control → ℕ → Type 0
+HasWritten = flow.HasWritten lines
 
 -- what the counters of a process say of one another
 pub record Settled (n w me : ℕ) (m : Registers) (tog : List ℕ) (answers put : ℕ → ℕ) (turns : ℕ → Bool) : Type 0 where
@@ -148,75 +67,69 @@ pub record Settled (n w me : ℕ) (m : Registers) (tog : List ℕ) (answers put 
   pub toggles_are : (y : ℕ) → IsOneOf w y → place tog y ≡ (if turns y then flip (m.toggles me y) else m.toggles me y)
 
 -- What is so of the counters of a process at each line; `base` are the registers at the start of its last scan.
-pub record Books (n w me : ℕ) (base m : Registers) (wrote : ℕ) (d : Task) (p : Variables) (k : ProgramCounter) : Type 0 where
+pub record Books (n w me : ℕ) (base m : Registers) (d : Task) (p : Variables) (k : ProgramCounter) : Type 0 where
   pub settled : Settled n w me m p.tog (λ c. if answered_at d k p c then 1 else 0) (λ z. put_at d k) (λ y. turned_at d k y)
   -- a view is made by a scan that started when all handshakes had been answered
-  pub made : MakingAt d k → (c : ℕ) → IsOneOf n c → m.writes me + 1 ≤ base.answers me c
+  pub made : IsMaking d k → (c : ℕ) → IsOneOf n c → m.writes me + 1 ≤ base.answers me c
   -- in a scan the process has no events
   pub self : IsInScan d → events base me me ≡ events m me me
-  -- an update has written once at line 58, and not before
-  pub wrote_is : WroteAt d k wrote
 
 -- between its operations
 abbrev pub Rest : ℕ → ℕ → ℕ → Registers → List ℕ → Type 0
 Rest n w me m tog = Settled n w me m tog (λ c. 0) (λ z. 0) (λ y. false)
 
-abbrev pub BooksAt : ℕ → ℕ → ℕ → Registers → Registers → ℕ → Variables → Control → Type 0
-BooksAt n w me base m wrote p Idle = Rest n w me m p.tog
-BooksAt n w me base m wrote p (At d k) = Books n w me base m wrote d p k
+abbrev pub BooksAt : ℕ → ℕ → ℕ → Registers → Registers → Variables → Control → Type 0
+BooksAt n w me base m p Idle = Rest n w me m p.tog
+BooksAt n w me base m p (At d k) = Books n w me base m d p k
 
 -- what a line leaves, where it writes no register
-abbrev pub BooksMove : ℕ → ℕ → ℕ → Registers → Registers → ℕ → List ℕ → Move → Type 0
-BooksMove n w me base m wrote tog (To d m' p k) = Books n w me base m wrote d p k
-BooksMove n w me base m wrote tog (Begin d p k) = Books n w me m m wrote d p k
-BooksMove n w me base m wrote tog (Answer v) = Rest n w me m tog
-BooksMove n w me base m wrote tog Finish = Rest n w me m tog
+abbrev pub BooksMove : ℕ → ℕ → ℕ → Registers → Registers → List ℕ → Move → Type 0
+BooksMove n w me base m tog (To d m' p k) = Books n w me base m d p k
+BooksMove n w me base m tog (Begin d p k) = Books n w me m m d p k
+BooksMove n w me base m tog (Answer v) = Rest n w me m tog
+BooksMove n w me base m tog Finish = Rest n w me m tog
 
-books_if : (n w me : ℕ) (base m : Registers) (wrote : ℕ) (tog : List ℕ) (b : Bool) (x y : Move) →
-    (b ≡ true → BooksMove n w me base m wrote tog x) → (b ≡ false → BooksMove n w me base m wrote tog y) → BooksMove n w me base m wrote tog (if b then x else y)
-books_if n w me base m wrote tog true x y f g = f refl
-books_if n w me base m wrote tog false x y f g = g refl
+books_if : (n w me : ℕ) (base m : Registers) (tog : List ℕ) (b : Bool) (x y : Move) →
+    (b ≡ true → BooksMove n w me base m tog x) → (b ≡ false → BooksMove n w me base m tog y) → BooksMove n w me base m tog (if b then x else y)
+books_if n w me base m tog true x y f g = f refl
+books_if n w me base m tog false x y f g = g refl
 
 -- the lines of a scan
-pub books_scan : (n w me : ℕ) (base m : Registers) (wrote : ℕ) (d : Task) (p p' : Variables) (k k' : ProgramCounter) → IsScan w d → p'.tog ≡ p.tog →
-    Books n w me base m wrote d p k → Books n w me base m (wrote + 0) d p' k'
-books_scan n w me base m wrote Scanning p p' k k' s same h = record {
+pub books_scan : (n w me : ℕ) (base m : Registers) (d : Task) (p p' : Variables) (k k' : ProgramCounter) → IsScan w d → p'.tog ≡ p.tog →
+    Books n w me base m d p k → Books n w me base m d p' k'
+books_scan n w me base m Scanning p p' k k' s same h = record {
   settled = (let old = h.settled in record { answers_are = old.answers_are; puts_are = old.puts_are; toggles_are = λ y o. ap (λ r. place r y) same ∙ old.toggles_are y o });
   made = h.made;
   self = h.self;
-  wrote_is = tt;
 }
-books_scan n w me base m wrote (Embedded y z) p p' k k' s same h = record {
+books_scan n w me base m (Embedded y z) p p' k k' s same h = record {
   settled = (let old = h.settled in record { answers_are = old.answers_are; puts_are = old.puts_are; toggles_are = λ y o. ap (λ r. place r y) same ∙ old.toggles_are y o });
   made = h.made;
   self = h.self;
-  wrote_is = (let zero : wrote ≡ 0 = h.wrote_is in omega arith);
 }
-books_scan n w me base m wrote (Updating y z) p p' k k' s same h = absurd s
+books_scan n w me base m (Updating y z) p p' k k' s same h = absurd s
 
-books_first : (n w me : ℕ) (base m m' : Registers) (wrote : ℕ) (d : Task) (p : Variables) (o : Option ℕ) → IsScan w d →
-    Books n w me base m wrote d p L32 → BooksMove n w me base m (wrote + 0) p.tog (first_to d m' p o)
-books_first n w me base m m' wrote d p None s h = books_scan n w me base m wrote d p p L32 L33 s refl h
-books_first n w me base m m' wrote d p (Some k) s h = books_scan n w me base m wrote d p (record p { j = k }) L32 L36 s refl h
+books_first : (n w me : ℕ) (base m m' : Registers) (d : Task) (p : Variables) (o : Option ℕ) → IsScan w d →
+    Books n w me base m d p L32 → BooksMove n w me base m p.tog (first_to d m' p o)
+books_first n w me base m m' d p None s h = books_scan n w me base m d p p L32 L33 s refl h
+books_first n w me base m m' d p (Some k) s h = books_scan n w me base m d p (record p { j = k }) L32 L36 s refl h
 
 -- a scan returns
-books_return : (n w me : ℕ) (base m m' : Registers) (wrote : ℕ) (d : Task) (p : Variables) (k : ProgramCounter) → IsScan w d →
-    Books n w me base m wrote d p k → BooksMove n w me base m (wrote + 0) p.tog (return_to d m' p)
-books_return n w me base m m' wrote Scanning p k s h =
+books_return : (n w me : ℕ) (base m m' : Registers) (d : Task) (p : Variables) (k : ProgramCounter) → IsScan w d →
+    Books n w me base m d p k → BooksMove n w me base m p.tog (return_to d m' p)
+books_return n w me base m m' Scanning p k s h =
     let old = h.settled in record { answers_are = old.answers_are; puts_are = old.puts_are; toggles_are = old.toggles_are }
-books_return n w me base m m' wrote (Embedded y z) p k s h = record {
+books_return n w me base m m' (Embedded y z) p k s h = record {
   settled = (let old = h.settled in record { answers_are = old.answers_are; puts_are = old.puts_are; toggles_are = old.toggles_are });
   made = h.made;
   self = λ inside. absurd inside;
-  wrote_is = (let zero : wrote ≡ 0 = h.wrote_is in omega arith);
 }
-books_return n w me base m m' wrote (Updating y z) p k s h = absurd s
+books_return n w me base m m' (Updating y z) p k s h = absurd s
 
 -- a line of an update that makes nothing and has written as often as the one before
-books_update : (n w me word arg : ℕ) (base m : Registers) (wrote : ℕ) (p p' : Variables) (k k' : ProgramCounter) →
-    ((c : ℕ) → IsOneOf n c → answered_in k' p' c ≡ answered_in k p c) → put_in k' ≡ put_in k → ((y : ℕ) → turned_in word k' y ≡ turned_in word k y) → (Late k' → ⊥) →
-    written_at k' ≡ written_at k → p'.tog ≡ p.tog → Books n w me base m wrote (Updating word arg) p k → Books n w me base m (wrote + 0) (Updating word arg) p' k'
-books_update n w me word arg base m wrote p p' k k' answered put turned late written same h = record {
+books_update : (n w me word arg : ℕ) (base m : Registers) (p p' : Variables) (k k' : ProgramCounter) →
+    ((c : ℕ) → IsOneOf n c → answered_in k' p' c ≡ answered_in k p c) → put_in k' ≡ put_in k → ((y : ℕ) → turned_in word k' y ≡ turned_in word k y) → (IsLate k' → ⊥) → p'.tog ≡ p.tog → Books n w me base m (Updating word arg) p k → Books n w me base m (Updating word arg) p' k'
+books_update n w me word arg base m p p' k k' answered put turned late same h = record {
   settled = (let old = h.settled in record {
     answers_are = λ c o. old.answers_are c o ∙ ap (λ b. m.writes me + (if b then 1 else 0)) (sym (answered c o));
     puts_are = old.puts_are ∙ ap (λ v. m.writes me + v) (sym put);
@@ -224,13 +137,12 @@ books_update n w me word arg base m wrote p p' k k' answered put turned late wri
   });
   made = λ making. absurd (late making);
   self = λ inside. absurd inside;
-  wrote_is = (let e : wrote ≡ written_at k = h.wrote_is in omega arith);
 }
 
 -- line 56 turns the toggle of its word
-books_56 : (n w me word arg : ℕ) (base m : Registers) (wrote : ℕ) (p : Variables) → IsOneOf w word → Long n w p → Books n w me base m wrote (Updating word arg) p L56 →
-    Books n w me base m (wrote + 0) (Updating word arg) (record p { tog = slice_set p.tog (word - 1) (flip (place p.tog word)) }) L57
-books_56 n w me word arg base m wrote p one long h =
+books_56 : (n w me word arg : ℕ) (base m : Registers) (p : Variables) → IsOneOf w word → Long n w p → Books n w me base m (Updating word arg) p L56 →
+    Books n w me base m (Updating word arg) (record p { tog = slice_set p.tog (word - 1) (flip (place p.tog word)) }) L57
+books_56 n w me word arg base m p one long h =
     let old = h.settled in
     let len : length p.tog ≡ max n w = long.tog in
     record {
@@ -240,83 +152,81 @@ books_56 n w me word arg base m wrote p one long h =
         toggles_are = λ y o. elim (cases_eq y word) [
           | inl same ↦ ap (place (slice_set p.tog (word - 1) (flip (place p.tog word)))) same
               ∙ set_here p.tog word (flip (place p.tog word)) one.0 (omega arith) ∙ ap flip (old.toggles_are word one) ∙ ap (λ v. flip (m.toggles me v)) (sym same)
-              ∙ sym (ap (λ b. if b then flip (m.toggles me y) else m.toggles me y) (ap (nat_eq y) (sym same) ∙ eq_true y))
+              ∙ sym (ap (λ b. if b then flip (m.toggles me y) else m.toggles me y) (ap (nat_eq y) (sym same) ∙ same_number y))
           | inr other ↦ set_there p.tog word y (flip (place p.tog word)) one.0 o.0 other ∙ old.toggles_are y o
-              ∙ sym (ap (λ b. if b then flip (m.toggles me y) else m.toggles me y) (eq_false y word other))
+              ∙ sym (ap (λ b. if b then flip (m.toggles me y) else m.toggles me y) (other_number y word other))
         ];
       };
       made = λ making. absurd making;
       self = λ inside. absurd inside;
-      wrote_is = (let e : wrote ≡ 0 = h.wrote_is in omega arith);
     }
 
-books_embed : (n w me : ℕ) (base m m' : Registers) (wrote : ℕ) (d : Task) (p : Variables) → IsUpdate w d →
-    Books n w me base m wrote d p L54 → BooksMove n w me base m (wrote + 0) p.tog (embed_to d m' p)
-books_embed n w me base m m' wrote Scanning p s h = absurd s
-books_embed n w me base m m' wrote (Embedded y z) p s h = absurd s
-books_embed n w me base m m' wrote (Updating y z) p s h =
+books_embed : (n w me : ℕ) (base m m' : Registers) (d : Task) (p : Variables) → IsUpdate w d →
+    Books n w me base m d p L54 → BooksMove n w me base m p.tog (embed_to d m' p)
+books_embed n w me base m m' Scanning p s h = absurd s
+books_embed n w me base m m' (Embedded y z) p s h = absurd s
+books_embed n w me base m m' (Updating y z) p s h =
     let old = h.settled in
     record {
       settled = record { answers_are = old.answers_are; puts_are = old.puts_are; toggles_are = old.toggles_are };
       made = λ making c o. (let e : m.answers me c ≡ m.writes me + 1 = old.answers_are c o in omega arith);
       self = λ inside. refl;
-      wrote_is = (let e : wrote ≡ 0 = h.wrote_is in omega arith);
     }
 
 none_before : (c : ℕ) → 0 < c → nat_lt c 1 ≡ false
 none_before c pos = grind (arith, common_steps)
 
-pub books_move : (n w me : ℕ) (base m m' : Registers) (wrote : ℕ) (d : Task) (p : Variables) (k : ProgramCounter) → IsLineOf w d k → IsQuiet k → Long n w p →
-    Books n w me base m wrote d p k → BooksMove n w me base m (wrote + writes k) p.tog (move n w me d m' p k)
-books_move n w me base m m' wrote d p L10 s quiet long h = books_scan n w me base m wrote d p _ L10 L11 s refl h
-books_move n w me base m m' wrote d p L11 s quiet long h = books_scan n w me base m wrote d p _ L11 L12 s refl h
-books_move n w me base m m' wrote d p L12 s quiet long h = books_scan n w me base m wrote d p _ L12 L13 s refl h
-books_move n w me base m m' wrote d p L13 s quiet long h = books_scan n w me base m wrote d p _ L13 L14 s refl h
-books_move n w me base m m' wrote d p L14 s quiet long h = books_scan n w me base m wrote d p _ L14 L15 s refl h
-books_move n w me base m m' wrote d p L15 s quiet long h = absurd quiet
-books_move n w me base m m' wrote d p L16 s quiet long h = books_if n w me base m (wrote + 0) p.tog (nat_lt p.j n) _ _ (λ t. books_scan n w me base m wrote d p _ L16 L13 s refl h) (λ t. books_scan n w me base m wrote d p _ L16 L17 s refl h)
-books_move n w me base m m' wrote d p L17 s quiet long h = books_scan n w me base m wrote d p _ L17 L18 s refl h
-books_move n w me base m m' wrote d p L18 s quiet long h = books_if n w me base m (wrote + 0) p.tog (nat_lt p.k w) _ _ (λ t. books_scan n w me base m wrote d p _ L18 L17 s refl h) (λ t. books_scan n w me base m wrote d p _ L18 L19 s refl h)
-books_move n w me base m m' wrote d p L19 s quiet long h = books_scan n w me base m wrote d p _ L19 L20 s refl h
-books_move n w me base m m' wrote d p L20 s quiet long h = books_if n w me base m (wrote + 0) p.tog (nat_lt p.k w) _ _ (λ t. books_scan n w me base m wrote d p _ L20 L19 s refl h) (λ t. books_scan n w me base m wrote d p _ L20 L21 s refl h)
-books_move n w me base m m' wrote d p L21 s quiet long h = books_scan n w me base m wrote d p _ L21 L22 s refl h
-books_move n w me base m m' wrote d p L22 s quiet long h = books_scan n w me base m wrote d p _ L22 L23 s refl h
-books_move n w me base m m' wrote d p L23 s quiet long h = books_if n w me base m (wrote + 0) p.tog (nat_lt p.j n) _ _ (λ t. books_scan n w me base m wrote d p _ L23 L21 s refl h) (λ t. books_scan n w me base m wrote d p _ L23 L24 s refl h)
-books_move n w me base m m' wrote d p L24 s quiet long h = books_scan n w me base m wrote d p _ L24 L25 s refl h
-books_move n w me base m m' wrote d p L25 s quiet long h = books_scan n w me base m wrote d p _ L25 L26 s refl h
-books_move n w me base m m' wrote d p L26 s quiet long h = books_if n w me base m (wrote + 0) p.tog (same_at p.a p.b p.k) _ _ (λ t. books_scan n w me base m wrote d p _ L26 L29 s refl h) (λ t. books_scan n w me base m wrote d p _ L26 L27 s refl h)
-books_move n w me base m m' wrote d p L27 s quiet long h = books_scan n w me base m wrote d p _ L27 L28 s refl h
-books_move n w me base m m' wrote d p L28 s quiet long h = books_scan n w me base m wrote d p _ L28 L29 s refl h
-books_move n w me base m m' wrote d p L29 s quiet long h = books_if n w me base m (wrote + 0) p.tog (nat_lt p.k w) _ _ (λ t. books_scan n w me base m wrote d p _ L29 L26 s refl h) (λ t. books_scan n w me base m wrote d p _ L29 L30 s refl h)
-books_move n w me base m m' wrote d p L30 s quiet long h = books_if n w me base m (wrote + 0) p.tog (all_still n p) _ _ (λ t. books_scan n w me base m wrote d p _ L30 L34 s refl h) (λ t. books_scan n w me base m wrote d p _ L30 L31 s refl h)
-books_move n w me base m m' wrote d p L31 s quiet long h = books_scan n w me base m wrote d p _ L31 L32 s refl h
-books_move n w me base m m' wrote d p L32 s quiet long h = books_first n w me base m m' wrote d p (third_move n p) s h
-books_move n w me base m m' wrote d p L33 s quiet long h = books_scan n w me base m wrote d p _ L33 L13 s refl h
-books_move n w me base m m' wrote d p L34 s quiet long h = books_scan n w me base m wrote d p _ L34 L35 s refl h
-books_move n w me base m m' wrote d p L35 s quiet long h = books_return n w me base m m' wrote d p L35 s h
-books_move n w me base m m' wrote d p L36 s quiet long h = books_scan n w me base m wrote d p _ L36 L37 s refl h
-books_move n w me base m m' wrote d p L37 s quiet long h = books_return n w me base m m' wrote d p L37 s h
-books_move n w me base m m' wrote Scanning p L50 s quiet long h = absurd s
-books_move n w me base m m' wrote (Embedded y z) p L50 s quiet long h = absurd s
-books_move n w me base m m' wrote (Updating y z) p L50 s quiet long h = books_update n w me y z base m wrote p _ L50 L51 (λ c o. none_before c o.0) refl (λ v. refl) (λ l. l) refl refl h
-books_move n w me base m m' wrote Scanning p L51 s quiet long h = absurd s
-books_move n w me base m m' wrote (Embedded y z) p L51 s quiet long h = absurd s
-books_move n w me base m m' wrote (Updating y z) p L51 s quiet long h = books_update n w me y z base m wrote p _ L51 L52 (λ c o. refl) refl (λ v. refl) (λ l. l) refl refl h
-books_move n w me base m m' wrote d p L52 s quiet long h = absurd quiet
-books_move n w me base m m' wrote Scanning p L53 s quiet long h = absurd s
-books_move n w me base m m' wrote (Embedded y z) p L53 s quiet long h = absurd s
-books_move n w me base m m' wrote (Updating y z) p L53 s quiet long h =
-    books_if n w me base m (wrote + 0) p.tog (nat_lt p.j n) _ _ (λ t. books_update n w me y z base m wrote p _ L53 L51 (λ c o. refl) refl (λ v. refl) (λ l. l) refl refl h)
-    (λ t. let ge : n ≤ p.j = not_lt p.j n t in books_update n w me y z base m wrote p _ L53 L54 (λ c o. sym (lt_true c (p.j + 1) (let le : c ≤ n = o.1 in omega arith))) refl (λ v. refl) (λ l. l) refl refl h)
-books_move n w me base m m' wrote d p L54 s quiet long h = books_embed n w me base m m' wrote d p s h
-books_move n w me base m m' wrote d p L55 s quiet long h = absurd quiet
-books_move n w me base m m' wrote Scanning p L56 s quiet long h = absurd s
-books_move n w me base m m' wrote (Embedded y z) p L56 s quiet long h = absurd s
-books_move n w me base m m' wrote (Updating y z) p L56 s quiet long h = books_56 n w me y z base m wrote p s long h
-books_move n w me base m m' wrote d p L57 s quiet long h = absurd quiet
-books_move n w me base m m' wrote Scanning p L58 s quiet long h = absurd s
-books_move n w me base m m' wrote (Embedded y z) p L58 s quiet long h = absurd s
-books_move n w me base m m' wrote (Updating y z) p L58 s quiet long h = let old = h.settled in record { answers_are = λ c o. old.answers_are c o; puts_are = old.puts_are; toggles_are = old.toggles_are }
+pub books_move : (n w me : ℕ) (base m m' : Registers) (d : Task) (p : Variables) (k : ProgramCounter) → IsLineOf w d k → IsQuiet k → Long n w p →
+    Books n w me base m d p k → BooksMove n w me base m p.tog (move n w me d m' p k)
+books_move n w me base m m' d p L10 s quiet long h = books_scan n w me base m d p _ L10 _ s refl h
+books_move n w me base m m' d p L11 s quiet long h = books_scan n w me base m d p _ L11 _ s refl h
+books_move n w me base m m' d p L12 s quiet long h = books_scan n w me base m d p _ L12 _ s refl h
+books_move n w me base m m' d p L13 s quiet long h = books_scan n w me base m d p _ L13 _ s refl h
+books_move n w me base m m' d p L14 s quiet long h = books_scan n w me base m d p _ L14 _ s refl h
+books_move n w me base m m' d p L15 s quiet long h = absurd quiet
+books_move n w me base m m' d p L16 s quiet long h = books_if n w me base m p.tog (nat_lt p.j n) _ _ (λ t. books_scan n w me base m d p _ L16 _ s refl h) (λ t. books_scan n w me base m d p _ L16 _ s refl h)
+books_move n w me base m m' d p L17 s quiet long h = books_scan n w me base m d p _ L17 _ s refl h
+books_move n w me base m m' d p L18 s quiet long h = books_if n w me base m p.tog (nat_lt p.k w) _ _ (λ t. books_scan n w me base m d p _ L18 _ s refl h) (λ t. books_scan n w me base m d p _ L18 _ s refl h)
+books_move n w me base m m' d p L19 s quiet long h = books_scan n w me base m d p _ L19 _ s refl h
+books_move n w me base m m' d p L20 s quiet long h = books_if n w me base m p.tog (nat_lt p.k w) _ _ (λ t. books_scan n w me base m d p _ L20 _ s refl h) (λ t. books_scan n w me base m d p _ L20 _ s refl h)
+books_move n w me base m m' d p L21 s quiet long h = books_scan n w me base m d p _ L21 _ s refl h
+books_move n w me base m m' d p L22 s quiet long h = books_scan n w me base m d p _ L22 _ s refl h
+books_move n w me base m m' d p L23 s quiet long h = books_if n w me base m p.tog (nat_lt p.j n) _ _ (λ t. books_scan n w me base m d p _ L23 _ s refl h) (λ t. books_scan n w me base m d p _ L23 _ s refl h)
+books_move n w me base m m' d p L24 s quiet long h = books_scan n w me base m d p _ L24 _ s refl h
+books_move n w me base m m' d p L25 s quiet long h = books_scan n w me base m d p _ L25 _ s refl h
+books_move n w me base m m' d p L26 s quiet long h = books_if n w me base m p.tog (same_at p.a p.b p.k) _ _ (λ t. books_scan n w me base m d p _ L26 _ s refl h) (λ t. books_scan n w me base m d p _ L26 _ s refl h)
+books_move n w me base m m' d p L27 s quiet long h = books_scan n w me base m d p _ L27 _ s refl h
+books_move n w me base m m' d p L28 s quiet long h = books_scan n w me base m d p _ L28 _ s refl h
+books_move n w me base m m' d p L29 s quiet long h = books_if n w me base m p.tog (nat_lt p.k w) _ _ (λ t. books_scan n w me base m d p _ L29 _ s refl h) (λ t. books_scan n w me base m d p _ L29 _ s refl h)
+books_move n w me base m m' d p L30 s quiet long h = books_if n w me base m p.tog (all_still n p) _ _ (λ t. books_scan n w me base m d p _ L30 _ s refl h) (λ t. books_scan n w me base m d p _ L30 _ s refl h)
+books_move n w me base m m' d p L31 s quiet long h = books_scan n w me base m d p _ L31 _ s refl h
+books_move n w me base m m' d p L32 s quiet long h = books_first n w me base m m' d p (third_move n p) s h
+books_move n w me base m m' d p L33 s quiet long h = books_scan n w me base m d p _ L33 _ s refl h
+books_move n w me base m m' d p L34 s quiet long h = books_scan n w me base m d p _ L34 _ s refl h
+books_move n w me base m m' d p L35 s quiet long h = books_return n w me base m m' d p L35 s h
+books_move n w me base m m' d p L36 s quiet long h = books_scan n w me base m d p _ L36 _ s refl h
+books_move n w me base m m' d p L37 s quiet long h = books_return n w me base m m' d p L37 s h
+books_move n w me base m m' Scanning p L50 s quiet long h = absurd s
+books_move n w me base m m' (Embedded y z) p L50 s quiet long h = absurd s
+books_move n w me base m m' (Updating y z) p L50 s quiet long h = books_update n w me y z base m p _ L50 L51 (λ c o. none_before c o.0) refl (λ v. refl) (λ l. l) refl h
+books_move n w me base m m' Scanning p L51 s quiet long h = absurd s
+books_move n w me base m m' (Embedded y z) p L51 s quiet long h = absurd s
+books_move n w me base m m' (Updating y z) p L51 s quiet long h = books_update n w me y z base m p _ L51 L52 (λ c o. refl) refl (λ v. refl) (λ l. l) refl h
+books_move n w me base m m' d p L52 s quiet long h = absurd quiet
+books_move n w me base m m' Scanning p L53 s quiet long h = absurd s
+books_move n w me base m m' (Embedded y z) p L53 s quiet long h = absurd s
+books_move n w me base m m' (Updating y z) p L53 s quiet long h =
+    books_if n w me base m p.tog (nat_lt p.j n) _ _ (λ t. books_update n w me y z base m p _ L53 L51 (λ c o. refl) refl (λ v. refl) (λ l. l) refl h)
+    (λ t. let ge : n ≤ p.j = not_lt p.j n t in books_update n w me y z base m p _ L53 L54 (λ c o. sym (lt_true c (p.j + 1) (let le : c ≤ n = o.1 in omega arith))) refl (λ v. refl) (λ l. l) refl h)
+books_move n w me base m m' d p L54 s quiet long h = books_embed n w me base m m' d p s h
+books_move n w me base m m' d p L55 s quiet long h = absurd quiet
+books_move n w me base m m' Scanning p L56 s quiet long h = absurd s
+books_move n w me base m m' (Embedded y z) p L56 s quiet long h = absurd s
+books_move n w me base m m' (Updating y z) p L56 s quiet long h = books_56 n w me y z base m p s long h
+books_move n w me base m m' d p L57 s quiet long h = absurd quiet
+books_move n w me base m m' Scanning p L58 s quiet long h = absurd s
+books_move n w me base m m' (Embedded y z) p L58 s quiet long h = absurd s
+books_move n w me base m m' (Updating y z) p L58 s quiet long h = let old = h.settled in record { answers_are = λ c o. old.answers_are c o; puts_are = old.puts_are; toggles_are = old.toggles_are }
 
 -- the process's own registers and counters stay
 pub record Untouched (n w me : ℕ) (m m' : Registers) : Type 0 where
@@ -343,20 +253,19 @@ settled_kept n w me m m' tog answers put turns u h = record {
   toggles_are = λ y o. h.toggles_are y o ∙ ap (λ v. if turns y then flip v else v) (sym (u.toggles y o));
 }
 
-pub books_kept : (n w me : ℕ) (base m m' : Registers) (wrote : ℕ) (d : Task) (p : Variables) (k : ProgramCounter) → IsOneOf n me → Untouched n w me m m' →
-    Books n w me base m wrote d p k → Books n w me base m' wrote d p k
-books_kept n w me base m m' wrote d p k one u h = record {
+pub books_kept : (n w me : ℕ) (base m m' : Registers) (d : Task) (p : Variables) (k : ProgramCounter) → IsOneOf n me → Untouched n w me m m' →
+    Books n w me base m d p k → Books n w me base m' d p k
+books_kept n w me base m m' d p k one u h = record {
   settled = settled_kept n w me m m' p.tog _ _ _ u h.settled;
   made = λ making c o. (let le : m.writes me + 1 ≤ base.answers me c = h.made making c o in let e : m'.writes me ≡ m.writes me = u.writes in omega arith);
   self = λ inside. (let e : events base me me ≡ events m me me = h.self inside in
       let f : m'.writes me ≡ m.writes me = u.writes in let g : m'.answers me me ≡ m.answers me me = u.answers me one in omega arith);
-  wrote_is = h.wrote_is;
 }
 
-books_at_kept : (n w me : ℕ) (base m m' : Registers) (wrote : ℕ) (p : Variables) (control : Control) → IsOneOf n me → Untouched n w me m m' →
-    BooksAt n w me base m wrote p control → BooksAt n w me base m' wrote p control
-books_at_kept n w me base m m' wrote p Idle one u h = settled_kept n w me m m' p.tog _ _ _ u h
-books_at_kept n w me base m m' wrote p (At d k) one u h = books_kept n w me base m m' wrote d p k one u h
+books_at_kept : (n w me : ℕ) (base m m' : Registers) (p : Variables) (control : Control) → IsOneOf n me → Untouched n w me m m' →
+    BooksAt n w me base m p control → BooksAt n w me base m' p control
+books_at_kept n w me base m m' p Idle one u h = settled_kept n w me m m' p.tog _ _ _ u h
+books_at_kept n w me base m m' p (At d k) one u h = books_kept n w me base m m' d p k one u h
 
 -- a busy process is at the stage of its line
 abbrev pub StageAt : ℕ → ℕ → ℕ → (ℕ → Registers) → ℕ → ℕ → ℕ → Variables → Control → Type 0
@@ -379,8 +288,10 @@ pub record Own (n w t : ℕ) (history : ℕ → Registers) (i : ℕ) (q : Proces
   pub stage : StageAt n w i history t q.auxiliary.since q.auxiliary.round q.variables q.control
   -- the scan's double collects and steps are within their bounds
   pub counts : CountAt n w q.variables q.auxiliary.own q.auxiliary.collects q.auxiliary.tested q.control
+  -- an update has written once at line 58, and not before
+  pub wrote : HasWritten q.control q.auxiliary.wrote
   -- its counters are as its line says
-  pub books : BooksAt n w i (history q.auxiliary.since) (history t) q.auxiliary.wrote q.variables q.control
+  pub books : BooksAt n w i (history q.auxiliary.since) (history t) q.variables q.control
 
 pub record Inv (n w t : ℕ) (history : ℕ → Registers) (x : State) : Type 0 where
   pub laws : (u : ℕ) → u ≤ t → Laws n w history u
@@ -401,7 +312,8 @@ own_kept n w t history i q one s u h = record {
   round_le = (let le : q.auxiliary.round ≤ t = h.round_le in omega arith);
   stage = stage_at_kept n w i history t q.auxiliary.since q.auxiliary.round q.variables q.control one s (record { asks = u.asks; writes = u.writes }) h.stage;
   counts = h.counts;
-  books = books_at_kept n w i (history q.auxiliary.since) (history t) (history (suc t)) q.auxiliary.wrote q.variables q.control one u h.books;
+  wrote = h.wrote;
+  books = books_at_kept n w i (history q.auxiliary.since) (history t) (history (suc t)) q.variables q.control one u h.books;
 }
 
 -- nothing happens

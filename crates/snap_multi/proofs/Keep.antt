@@ -1,4 +1,7 @@
 -- Every state of a run of M keeps the invariant.
+use Rattle.snap_runs.proofs.Flow.{IsInScan}
+use Rattle.snap_runs.proofs.Totals.{total_less}
+use Rattle.snap_runs.proofs.Computing.{lt_true, same_number, other_number}
 use Rattle.std.specs.Prelude.{◌≡◌, ◌≢◌, ℕ, suc, ◌+◌, ◌*◌, ◌<◌, ◌≤◌, Bool, true, false, length, Option, Some, None, nat_lt, if◌then◌else◌, refl}
 use Rattle.std.proofs.Common.{sym, ◌∙◌, ap, subst, arith, inl, inr}
 use Rattle.std.proofs.lemmas.Bool.{cases_eq}
@@ -12,17 +15,19 @@ use Rattle.snap_semantics.specs.declared.process.Item.{Item}
 use Rattle.snap_semantics.specs.declared.process.Item.TheVariants.{Step, Call}
 use Rattle.snap_semantics.specs.declared.process.Outcome.TheVariants.{Called, Stepped, Answered, Finished}
 use Rattle.snap_semantics.specs.Table.{call_skip, who}
-use Rattle.snap_runs.proofs.Algorithm.{Idle, At, To, Begin, Answer, Finish, New, by_move, by_step, by_admission, by_call, typed_at, changed, happens, stepped_auxiliary, begun_auxiliary, called_auxiliary}
+use Rattle.snap_runs.proofs.Algorithm.{Idle, At, To, Begin, Answer, Finish, New, by_move, by_step, by_admission, by_call, typed_at, changed, happens, stepped_auxiliary, begun_auxiliary, called_auxiliary, Task, Scanning, Embedded, Updating, op_of}
+use Rattle.snap_runs.proofs.Flow as flow
 use Rattle.snap_runs.proofs.Held.{Held}
 use Rattle.snap_multi.specs.Promises.{counts}
-use Rattle.snap_multi.proofs.Algorithm.{Registers, restarts, Process, Control, Move, State, Variables, Task, Scanning, Embedded, Updating, ProgramCounter, L10, L11, L12, L13, L14, L15, L16, L17, L18, L19, L20, L21, L22, L23, L24, L25, L26, L27, L28, L29, L30, L31, L32, L33, L34, L35, L36, L37, L50, L51, L52, L53, L54, L55, L56, L57, L58, op_of, place, bit, flip, move, first_to, return_to, embed_to, same_at, all_still, third_move, after_15, after_52, after_55, after_57, IsLineOf, IsScan, tests, writes, algorithm}
-use Rattle.snap_multi.proofs.Basics.{lt_true, eq_true, eq_false, less_or_not}
-use Rattle.snap_multi.proofs.Control.{Keeps, Small, LongMove, long_move, MoveWell, ControlWell, Ground, move_well, called_well}
+use Rattle.snap_multi.proofs.Algorithm.{limit, lines, Registers, restarts, Process, Control, Move, State, Variables, ProgramCounter, L10, L11, L12, L13, L14, L15, L16, L17, L18, L19, L20, L21, L22, L23, L24, L25, L26, L27, L28, L29, L30, L31, L32, L33, L34, L35, L36, L37, L50, L51, L52, L53, L54, L55, L56, L57, L58, place, bit, flip, move, first_to, return_to, embed_to, same_at, all_still, third_move, after_15, after_52, after_55, after_57, IsLineOf, IsScan, tests, writes, algorithm}
+use Rattle.snap_multi.proofs.Basics.{less_or_not}
+use Rattle.snap_multi.proofs.Control.{Keeps, BelowLimit, LongMove, long_move, MoveWell, ControlWell, Ground, move_well, called_well}
+use Rattle.snap_multi.proofs.Flows.{in_scan, flows}
 use Rattle.snap_multi.proofs.History.{words_of, Now, Since, Laws, acts_nothing, laws_next, laws_up_to}
 use Rattle.snap_multi.proofs.Collect.{events}
 use Rattle.snap_multi.proofs.Stage.{Stage, StageMove, IsQuiet, Low, Row, events_le, stage_move, stage_15}
-use Rattle.snap_multi.proofs.Count.{Count, CountMove, count_move, moves, total_less}
-use Rattle.snap_multi.proofs.Invariant.{Own, Inv, Books, BooksAt, BooksMove, Rest, IsInScan, StageAt, CountAt, Untouched, untouched_same, books_move, books_scan, own_kept, inv_later, put_inv}
+use Rattle.snap_multi.proofs.Count.{Count, CountMove, count_move, moves}
+use Rattle.snap_multi.proofs.Invariant.{HasWritten, Own, Inv, Books, BooksAt, BooksMove, Rest, StageAt, CountAt, Untouched, untouched_same, books_move, books_scan, own_kept, inv_later, put_inv}
 use Rattle.snap_multi.proofs.Writes.{acts_15, now_15, untouched_15, asks_there, asks_here, acts_52, now_52, untouched_52, acts_55, now_55, untouched_55, acts_57, now_57, untouched_57, raised_here, raised_at_here, raised_at_elsewhere, with_at_here, with_at_elsewhere}
 
 abbrev pub KeepsMemory : Registers → Move → Type 0
@@ -110,26 +115,22 @@ round_to true round t h = omega arith
 round_to false round t h = h
 
 -- No process sees itself move.
-scan_of : (w : ℕ) (d : Task) → IsScan w d → IsInScan d
-scan_of w Scanning s = tt
-scan_of w (Embedded y z) s = tt
-scan_of w (Updating y z) s = s
-
-unmoved : (n w i : ℕ) (history : ℕ → Registers) (t since round : ℕ) (p : Variables) → IsOneOf n i → Since n w history round t → Low n i history since round p.moved → Small n 2 p →
+unmoved : (n w i : ℕ) (history : ℕ → Registers) (t since round : ℕ) (p : Variables) → IsOneOf n i → Since n w history round t → Low n i history since round p.moved → BelowLimit n p →
     events (history since) i i ≡ events (history t) i i → moves n p + 2 ≤ 2 * n
 unmoved n w i history t since round p one s low small self =
-    total_less (place p.moved) n i one
+    let less : moves n p + 2 ≤ n * 2 =
+    total_less 2 (place p.moved) n i one
     (let l : events (history since) i i + place p.moved i ≤ events (history round) i i = low i one in
     let le : events (history round) i i ≤ events (history t) i i = events_le n w i round t history s one i one in
     let z : place p.moved i ≡ 0 = omega arith in z)
-    small
+    (λ k e. let below : place p.moved k < limit = small k e in omega arith) in omega arith
 
-pub sharp_at : (n w i : ℕ) (history : ℕ → Registers) (t since round : ℕ) (wrote : ℕ) (d : Task) (p : Variables) (k : ProgramCounter) → IsOneOf n i → Since n w history round t → IsLineOf w d k → Keeps n w d p k →
-    Books n w i (history since) (history t) wrote d p k → Stage n w i history t since round p k → k ≡ L30 → moves n p + 2 ≤ 2 * n
-sharp_at n w i history t since round wrote d p k one s line keeps books stage e =
+pub sharp_at : (n w i : ℕ) (history : ℕ → Registers) (t since round : ℕ) (d : Task) (p : Variables) (k : ProgramCounter) → IsOneOf n i → Since n w history round t → IsLineOf w d k → Keeps n w d p k →
+    Books n w i (history since) (history t) d p k → Stage n w i history t since round p k → k ≡ L30 → moves n p + 2 ≤ 2 * n
+sharp_at n w i history t since round d p k one s line keeps books stage e =
     let keeps30 : Keeps n w d p L30 = subst (Keeps n w d p) e keeps in
     unmoved n w i history t since round p one s (subst (Stage n w i history t since round p) e stage).0 keeps30.2
-    (books.self (scan_of w d (subst (IsLineOf w d) e line)))
+    (books.self (in_scan w d (subst (IsLineOf w d) e line)))
 
 pub bits_at : (n w i : ℕ) (history : ℕ → Registers) (t since round : ℕ) (p : Variables) (k : ProgramCounter) → Stage n w i history t since round p k → k ≡ L31 →
     (c : ℕ) → IsOneOf n c → place p.d c ≤ 1
@@ -143,7 +144,8 @@ record Owes (n w t : ℕ) (history : ℕ → Registers) (q : Process) (i : ℕ) 
   pub long : LongMove n w v
   pub stage : StageMove n w i history t q.auxiliary.since (if restarts k then t else q.auxiliary.round) v
   pub counts_are : CountMove n w (suc q.auxiliary.own) (q.auxiliary.collects + tests k) (if restarts k then 0 else q.auxiliary.tested + tests k) v
-  pub books : BooksMove n w i (history q.auxiliary.since) (history t) (q.auxiliary.wrote + writes k) q.variables.tog v
+  pub wrote : flow.CountsWrites lines (q.auxiliary.wrote + writes k) v
+  pub books : BooksMove n w i (history q.auxiliary.since) (history t) q.variables.tog v
 
 -- the process whose operation has ended
 idle_own : (n w t : ℕ) (history : ℕ → Registers) (i : ℕ) (q : Process) (k : ProgramCounter) → Own n w t history i q → Rest n w i (history t) q.variables.tog →
@@ -155,6 +157,7 @@ idle_own n w t history i q k own rest = record {
   round_le = round_to (restarts k) q.auxiliary.round t own.round_le;
   stage = tt;
   counts = tt;
+  wrote = tt;
   books = rest;
 }
 
@@ -173,6 +176,7 @@ quiet_put n w t history x i d k (To d' m' p k') count one laws same h own owes =
       round_le = round_to (restarts k) q.auxiliary.round (suc t) own.round_le;
       stage = owes.stage;
       counts = owes.counts_are;
+      wrote = owes.wrote;
       books = owes.books;
     })
 quiet_put n w t history x i d k (Begin d' p k') count one laws same h own owes =
@@ -186,6 +190,7 @@ quiet_put n w t history x i d k (Begin d' p k') count one laws same h own owes =
       round_le = omega arith;
       stage = subst (λ y. Stage n w i history (suc t) (suc t) (suc t) p y) (sym owes.stage) tt;
       counts = subst (λ y. Count n w p 0 0 0 y) (sym owes.stage) (refl, refl, refl);
+      wrote = owes.wrote;
       books = owes.books;
     })
 quiet_put n w t history x i d k (Answer v) count one laws same h own owes =
@@ -226,7 +231,7 @@ quiet_inv n w t history x i d k quiet some count one now h is next =
     own_kept n w t history i q one (here.since t (omega arith)) (untouched_same n w i (history t) (history (suc t)) same) (h.each i one) in
     let well : ControlWell n w p (At d k) = subst (ControlWell n w p) is own.well in
     let stage : Stage n w i history (suc t) q.auxiliary.since q.auxiliary.round p k = subst (StageAt n w i history (suc t) q.auxiliary.since q.auxiliary.round p) is own.stage in
-    let books : Books n w i (history q.auxiliary.since) (history (suc t)) q.auxiliary.wrote d p k = subst (BooksAt n w i (history q.auxiliary.since) (history (suc t)) q.auxiliary.wrote p) is own.books in
+    let books : Books n w i (history q.auxiliary.since) (history (suc t)) d p k = subst (BooksAt n w i (history q.auxiliary.since) (history (suc t)) p) is own.books in
     quiet_put n w t history x i d k (move n w i d m p k) count one laws same h own
     (record {
       well = move_well n w i d m p k (ground n w (suc t) history i m q one some here.now stays own) well.0 well.1;
@@ -247,10 +252,12 @@ quiet_inv n w t history x i d k quiet some count one now h is next =
           stage;
       counts_are = count_move n w i d m p k q.auxiliary.own q.auxiliary.collects (q.auxiliary.collects + tests k) q.auxiliary.tested
           (if restarts k then 0 else q.auxiliary.tested + tests k) (omega arith) refl refl well.1
-          (sharp_at n w i history (suc t) q.auxiliary.since q.auxiliary.round q.auxiliary.wrote d p k one (here.since q.auxiliary.round own.round_le) well.0 well.1 books stage)
+          (sharp_at n w i history (suc t) q.auxiliary.since q.auxiliary.round d p k one (here.since q.auxiliary.round own.round_le) well.0 well.1 books stage)
           (bits_at n w i history (suc t) q.auxiliary.since q.auxiliary.round p k stage)
           (subst (CountAt n w p q.auxiliary.own q.auxiliary.collects q.auxiliary.tested) is own.counts);
-      books = books_move n w i (history q.auxiliary.since) (history (suc t)) m q.auxiliary.wrote d p k well.0 quiet own.long books;
+      wrote = flow.counts_writes lines (algorithm n w) d m p k (move n w i d m p k) q.auxiliary.wrote (flows n w i d m p k well.0)
+          (subst (λ (y : Control). HasWritten y q.auxiliary.wrote) is own.wrote);
+      books = books_move n w i (history q.auxiliary.since) (history (suc t)) m d p k well.0 quiet own.long books;
     })
 
 -- a line that writes registers and goes on
@@ -259,9 +266,10 @@ written_put : (n w t : ℕ) (history : ℕ → Registers) (x : State) (i : ℕ) 
     IsLineOf w d k' → Keeps n w d (at n w x i).variables k' →
     Stage n w i history (suc t) (at n w x i).auxiliary.since (at n w x i).auxiliary.round (at n w x i).variables k' →
     Count n w (at n w x i).variables (suc (at n w x i).auxiliary.own) ((at n w x i).auxiliary.collects + tests k) ((at n w x i).auxiliary.tested + tests k) k' →
-    Books n w i (history (at n w x i).auxiliary.since) (history (suc t)) ((at n w x i).auxiliary.wrote + writes k) d (at n w x i).variables k' →
+    HasWritten (At d k') ((at n w x i).auxiliary.wrote + writes k) →
+    Books n w i (history (at n w x i).auxiliary.since) (history (suc t)) d (at n w x i).variables k' →
     Inv n w (suc t) history (changed x i (New m' (record { control = At d k'; variables = (at n w x i).variables; auxiliary = stepped_auxiliary (algorithm n w) k (suc t) (at n w x i).auxiliary }) Stepped))
-written_put n w t history x i d k k' m' count one again laws untouched h line keeps stage counts_are books =
+written_put n w t history x i d k k' m' count one again laws untouched h line keeps stage counts_are wrote books =
     let q = at n w x i in
     let own : Own n w t history i q = h.each i one in
     let g = q.auxiliary in
@@ -286,18 +294,18 @@ written_put n w t history x i d k k' m' count one again laws untouched h line ke
       round_le = (let le : g.round ≤ t = own.round_le in omega arith);
       stage = stage;
       counts = counts_are;
+      wrote = wrote;
       books = books;
     }))
 
-books_15 : (n w i : ℕ) (base m : Registers) (wrote : ℕ) (d : Task) (p : Variables) → IsScan w d → Books n w i base m wrote d p L15 → Books n w i base (after_15 i m p) (wrote + 0) d p L16
-books_15 n w i base m wrote d p s h =
-    let next = books_scan n w i base m wrote d p p L15 L16 s refl h in
+books_15 : (n w i : ℕ) (base m : Registers) (d : Task) (p : Variables) → IsScan w d → Books n w i base m d p L15 → Books n w i base (after_15 i m p) d p L16
+books_15 n w i base m d p s h =
+    let next = books_scan n w i base m d p p L15 L16 s refl h in
     let old = next.settled in
     record {
       settled = record { answers_are = old.answers_are; puts_are = old.puts_are; toggles_are = old.toggles_are };
       made = next.made;
       self = next.self;
-      wrote_is = next.wrote_is;
     }
 
 line15_inv : (n w t : ℕ) (history : ℕ → Registers) (x : State) (i : ℕ) (d : Task) → 0 < w → length x.processes ≡ n → IsOneOf n i → history t ≡ x.memory →
@@ -310,7 +318,7 @@ line15_inv n w t history x i d some count one now h is next =
     let well : ControlWell n w p (At d L15) = subst (ControlWell n w p) is own.well in
     let inside : IsOneOf n p.j = well.1.0 in
     let stage : Stage n w i history t q.auxiliary.since q.auxiliary.round p L15 = subst (StageAt n w i history t q.auxiliary.since q.auxiliary.round p) is own.stage in
-    let books : Books n w i (history q.auxiliary.since) (history t) q.auxiliary.wrote d p L15 = subst (BooksAt n w i (history q.auxiliary.since) (history t) q.auxiliary.wrote p) is own.books in
+    let books : Books n w i (history q.auxiliary.since) (history t) d p L15 = subst (BooksAt n w i (history q.auxiliary.since) (history t) p) is own.books in
     let becomes : history (suc t) ≡ after_15 i (history t) p = next ∙ ap (λ m. after_15 i m p) (sym now) in
     let back : after_15 i (history t) p ≡ history (suc t) = sym becomes in
     let old : Now n w (history t) = (h.laws t (omega arith)).now in
@@ -323,7 +331,9 @@ line15_inv n w t history x i d some count one now h is next =
     (ap (λ (m : Registers). bit m.q i p.j) becomes ∙ asks_here n w i (history t) p one inside old) stage)
     (count_move n w i d x.memory p L15 q.auxiliary.own q.auxiliary.collects (q.auxiliary.collects + 0) q.auxiliary.tested (q.auxiliary.tested + 0) (omega arith) refl refl well.1
     (λ e. absurd (cc)) (λ e. absurd (cc)) (subst (CountAt n w p q.auxiliary.own q.auxiliary.collects q.auxiliary.tested) is own.counts))
-    (subst (λ m. Books n w i (history q.auxiliary.since) m (q.auxiliary.wrote + 0) d p L16) back (books_15 n w i (history q.auxiliary.since) (history t) q.auxiliary.wrote d p well.0 books))
+    (flow.counts_writes lines (algorithm n w) d x.memory p L15 (move n w i d x.memory p L15) q.auxiliary.wrote (flows n w i d x.memory p L15 well.0)
+    (subst (λ (y : Control). HasWritten y q.auxiliary.wrote) is own.wrote))
+    (subst (λ m. Books n w i (history q.auxiliary.since) m d p L16) back (books_15 n w i (history q.auxiliary.since) (history t) d p well.0 books))
 
 -- line 52 answers one more process
 more_or_same : (c j : ℕ) → c ≢ j → nat_lt c (j + 1) ≡ nat_lt c j
@@ -339,21 +349,21 @@ not_self : (x : ℕ) → nat_lt x x ≡ false
 not_self x = grind (arith, common_steps)
 
 -- before line 52 the process has not yet answered process j
-not_yet : (n w i y z : ℕ) (base m : Registers) (wrote : ℕ) (p : Variables) → IsOneOf n p.j → Books n w i base m wrote (Updating y z) p L52 → m.answers i p.j ≡ m.writes i
-not_yet n w i y z base m wrote p inside h =
+not_yet : (n w i y z : ℕ) (base m : Registers) (p : Variables) → IsOneOf n p.j → Books n w i base m (Updating y z) p L52 → m.answers i p.j ≡ m.writes i
+not_yet n w i y z base m p inside h =
     let old = h.settled in
     let e : m.answers i p.j ≡ m.writes i + (if nat_lt p.j p.j then 1 else 0) = old.answers_are p.j inside in
     let f : m.writes i + (if nat_lt p.j p.j then 1 else 0) ≡ m.writes i + 0 = ap (λ b. m.writes i + (if b then 1 else 0)) (not_self p.j) in omega arith
 
-books_52 : (n w i y z : ℕ) (base m : Registers) (wrote : ℕ) (p : Variables) → IsOneOf n p.j → Books n w i base m wrote (Updating y z) p L52 →
-    Books n w i base (after_52 i m p) (wrote + 0) (Updating y z) p L53
-books_52 n w i y z base m wrote p inside h =
+books_52 : (n w i y z : ℕ) (base m : Registers) (p : Variables) → IsOneOf n p.j → Books n w i base m (Updating y z) p L52 →
+    Books n w i base (after_52 i m p) (Updating y z) p L53
+books_52 n w i y z base m p inside h =
     let old = h.settled in
     record {
       settled = record {
         answers_are = λ c o. elim (cases_eq c p.j) [
           | inl same ↦ subst (λ v. (after_52 i m p).answers i v ≡ m.writes i + (if nat_lt v (p.j + 1) then 1 else 0)) (sym same)
-              (raised_at_here m.answers i p.j ∙ ap (λ v. v + 1) (not_yet n w i y z base m wrote p inside h)
+              (raised_at_here m.answers i p.j ∙ ap (λ v. v + 1) (not_yet n w i y z base m p inside h)
               ∙ ap (λ b. m.writes i + (if b then 1 else 0)) (sym (lt_true p.j (p.j + 1) (omega arith))))
           | inr other ↦ raised_at_elsewhere m.answers i p.j i c other ∙ old.answers_are c o ∙ ap (λ b. m.writes i + (if b then 1 else 0)) (sym (more_or_same c p.j other))
         ];
@@ -362,7 +372,6 @@ books_52 n w i y z base m wrote p inside h =
       };
       made = λ making. absurd making;
       self = λ inside. absurd inside;
-      wrote_is = (let e : wrote ≡ 0 = h.wrote_is in omega arith);
     }
 
 line52_inv : (n w t : ℕ) (history : ℕ → Registers) (x : State) (i y z : ℕ) → 0 < w → length x.processes ≡ n → IsOneOf n i → history t ≡ x.memory →
@@ -375,22 +384,24 @@ line52_inv n w t history x i y z some count one now h is next =
     let well : ControlWell n w p (At (Updating y z) L52) = subst (ControlWell n w p) is own.well in
     let inside : IsOneOf n p.j = well.1 in
     let stage : Stage n w i history t q.auxiliary.since q.auxiliary.round p L52 = subst (StageAt n w i history t q.auxiliary.since q.auxiliary.round p) is own.stage in
-    let books : Books n w i (history q.auxiliary.since) (history t) q.auxiliary.wrote (Updating y z) p L52 = subst (BooksAt n w i (history q.auxiliary.since) (history t) q.auxiliary.wrote p) is own.books in
+    let books : Books n w i (history q.auxiliary.since) (history t) (Updating y z) p L52 = subst (BooksAt n w i (history q.auxiliary.since) (history t) p) is own.books in
     let becomes : history (suc t) ≡ after_52 i (history t) p = next ∙ ap (λ m. after_52 i m p) (sym now) in
     let back : after_52 i (history t) p ≡ history (suc t) = sym becomes in
     let old : Now n w (history t) = (h.laws t (omega arith)).now in
-    let first : (history t).answers i p.j ≡ (history t).writes i = not_yet n w i y z (history q.auxiliary.since) (history t) q.auxiliary.wrote p inside books in
+    let first : (history t).answers i p.j ≡ (history t).writes i = not_yet n w i y z (history q.auxiliary.since) (history t) p inside books in
     let laws = laws_up_to n w history t h.laws (laws_next n w history t (after_52 i (history t) p) becomes
     (acts_52 n w i history t p one inside old stage first) h.laws (now_52 n w i history t p one inside old stage first)) in
     written_put n w t history x i (Updating y z) L52 L53 (after_52 i x.memory p) count one refl laws
     (λ j o other. subst (Untouched n w j (history t)) back (untouched_52 n w i j (history t) p other)) h well.0 well.1 tt tt
-    (subst (λ m. Books n w i (history q.auxiliary.since) m (q.auxiliary.wrote + 0) (Updating y z) p L53) back
-    (books_52 n w i y z (history q.auxiliary.since) (history t) q.auxiliary.wrote p inside books))
+    (flow.counts_writes lines (algorithm n w) (Updating y z) x.memory p L52 (move n w i (Updating y z) x.memory p L52) q.auxiliary.wrote (flows n w i (Updating y z) x.memory p L52 well.0)
+    (subst (λ (y : Control). HasWritten y q.auxiliary.wrote) is own.wrote))
+    (subst (λ m. Books n w i (history q.auxiliary.since) m (Updating y z) p L53) back
+    (books_52 n w i y z (history q.auxiliary.since) (history t) p inside books))
 
 -- line 55 puts the view
-books_55 : (n w i y z : ℕ) (base m : Registers) (wrote : ℕ) (p : Variables) → Books n w i base m wrote (Updating y z) p L55 →
-    Books n w i base (after_55 i m p) (wrote + 0) (Updating y z) p L56
-books_55 n w i y z base m wrote p h =
+books_55 : (n w i y z : ℕ) (base m : Registers) (p : Variables) → Books n w i base m (Updating y z) p L55 →
+    Books n w i base (after_55 i m p) (Updating y z) p L56
+books_55 n w i y z base m p h =
     let old = h.settled in
     record {
       settled = record {
@@ -400,7 +411,6 @@ books_55 n w i y z base m wrote p h =
       };
       made = λ making. absurd making;
       self = λ inside. absurd inside;
-      wrote_is = (let e : wrote ≡ 0 = h.wrote_is in omega arith);
     }
 
 line55_inv : (n w t : ℕ) (history : ℕ → Registers) (x : State) (i y z : ℕ) → 0 < w → length x.processes ≡ n → IsOneOf n i → history t ≡ x.memory →
@@ -412,7 +422,7 @@ line55_inv n w t history x i y z some count one now h is next =
     let own : Own n w t history i q = h.each i one in
     let well : ControlWell n w p (At (Updating y z) L55) = subst (ControlWell n w p) is own.well in
     let stage : Held (words_of history) t q.auxiliary.since p.s = subst (StageAt n w i history t q.auxiliary.since q.auxiliary.round p) is own.stage in
-    let books : Books n w i (history q.auxiliary.since) (history t) q.auxiliary.wrote (Updating y z) p L55 = subst (BooksAt n w i (history q.auxiliary.since) (history t) q.auxiliary.wrote p) is own.books in
+    let books : Books n w i (history q.auxiliary.since) (history t) (Updating y z) p L55 = subst (BooksAt n w i (history q.auxiliary.since) (history t) p) is own.books in
     let becomes : history (suc t) ≡ after_55 i (history t) p = next ∙ ap (λ m. after_55 i m p) (sym now) in
     let back : after_55 i (history t) p ≡ history (suc t) = sym becomes in
     let settled = books.settled in
@@ -423,13 +433,15 @@ line55_inv n w t history x i y z some count one now h is next =
     (now_55 n w i history t q.auxiliary.since p one h.laws stage settled.answers_are puts (books.made tt) before)) in
     written_put n w t history x i (Updating y z) L55 L56 (after_55 i x.memory p) count one refl laws
     (λ j o other. subst (Untouched n w j (history t)) back (untouched_55 n w i j (history t) p other)) h well.0 tt tt tt
-    (subst (λ m. Books n w i (history q.auxiliary.since) m (q.auxiliary.wrote + 0) (Updating y z) p L56) back
-    (books_55 n w i y z (history q.auxiliary.since) (history t) q.auxiliary.wrote p books))
+    (flow.counts_writes lines (algorithm n w) (Updating y z) x.memory p L55 (move n w i (Updating y z) x.memory p L55) q.auxiliary.wrote (flows n w i (Updating y z) x.memory p L55 well.0)
+    (subst (λ (y : Control). HasWritten y q.auxiliary.wrote) is own.wrote))
+    (subst (λ m. Books n w i (history q.auxiliary.since) m (Updating y z) p L56) back
+    (books_55 n w i y z (history q.auxiliary.since) (history t) p books))
 
 -- line 57 writes the word
-books_57 : (n w i y z : ℕ) (base m : Registers) (wrote : ℕ) (p : Variables) → Books n w i base m wrote (Updating y z) p L57 →
-    Books n w i base (after_57 i (Updating y z) m p) (wrote + 1) (Updating y z) p L58
-books_57 n w i y z base m wrote p h =
+books_57 : (n w i y z : ℕ) (base m : Registers) (p : Variables) → Books n w i base m (Updating y z) p L57 →
+    Books n w i base (after_57 i (Updating y z) m p) (Updating y z) p L58
+books_57 n w i y z base m p h =
     let old = h.settled in
     let m' = after_57 i (Updating y z) m p in
     let more : m'.writes i ≡ m.writes i + 1 = raised_here m.writes i in
@@ -439,13 +451,12 @@ books_57 n w i y z base m wrote p h =
         puts_are = (let e : m.puts i ≡ m.writes i + 1 = old.puts_are in omega arith);
         toggles_are = λ v o. elim (cases_eq v y) [
           | inl same ↦ subst (λ u. place p.tog u ≡ m'.toggles i u) (sym same) (sym (with_at_here m.toggles i y (place p.tog y)))
-          | inr other ↦ old.toggles_are v o ∙ ap (λ b. if b then flip (m.toggles i v) else m.toggles i v) (eq_false v y other)
+          | inr other ↦ old.toggles_are v o ∙ ap (λ b. if b then flip (m.toggles i v) else m.toggles i v) (other_number v y other)
               ∙ sym (with_at_elsewhere m.toggles i y (place p.tog y) i v other)
         ];
       };
       made = λ making. absurd making;
       self = λ inside. absurd inside;
-      wrote_is = (let e : wrote ≡ 0 = h.wrote_is in omega arith);
     }
 
 line57_inv : (n w t : ℕ) (history : ℕ → Registers) (x : State) (i y z : ℕ) → 0 < w → length x.processes ≡ n → IsOneOf n i → history t ≡ x.memory →
@@ -457,20 +468,22 @@ line57_inv n w t history x i y z some count one now h is next =
     let own : Own n w t history i q = h.each i one in
     let well : ControlWell n w p (At (Updating y z) L57) = subst (ControlWell n w p) is own.well in
     let there : IsOneOf w y = well.0 in
-    let books : Books n w i (history q.auxiliary.since) (history t) q.auxiliary.wrote (Updating y z) p L57 = subst (BooksAt n w i (history q.auxiliary.since) (history t) q.auxiliary.wrote p) is own.books in
+    let books : Books n w i (history q.auxiliary.since) (history t) (Updating y z) p L57 = subst (BooksAt n w i (history q.auxiliary.since) (history t) p) is own.books in
     let becomes : history (suc t) ≡ after_57 i (Updating y z) (history t) p = next ∙ ap (λ m. after_57 i (Updating y z) m p) (sym now) in
     let back : after_57 i (Updating y z) (history t) p ≡ history (suc t) = sym becomes in
     let settled = books.settled in
     let old : Now n w (history t) = (h.laws t (omega arith)).now in
     let turned : place p.tog y ≡ flip ((history t).toggles i y) =
-    settled.toggles_are y there ∙ ap (λ b. if b then flip ((history t).toggles i y) else (history t).toggles i y) (eq_true y) in
+    settled.toggles_are y there ∙ ap (λ b. if b then flip ((history t).toggles i y) else (history t).toggles i y) (same_number y) in
     let laws = laws_up_to n w history t h.laws (laws_next n w history t (after_57 i (Updating y z) (history t) p) becomes
     (acts_57 n w i y z history t p one there old settled.answers_are settled.puts_are turned) h.laws
     (now_57 n w i y z history t p one there old settled.answers_are settled.puts_are turned)) in
     written_put n w t history x i (Updating y z) L57 L58 (after_57 i (Updating y z) x.memory p) count one refl laws
     (λ j o other. subst (Untouched n w j (history t)) back (untouched_57 n w i j (Updating y z) (history t) p other)) h well.0 tt tt tt
-    (subst (λ m. Books n w i (history q.auxiliary.since) m (q.auxiliary.wrote + 1) (Updating y z) p L58) back
-    (books_57 n w i y z (history q.auxiliary.since) (history t) q.auxiliary.wrote p books))
+    (flow.counts_writes lines (algorithm n w) (Updating y z) x.memory p L57 (move n w i (Updating y z) x.memory p L57) q.auxiliary.wrote (flows n w i (Updating y z) x.memory p L57 well.0)
+    (subst (λ (y : Control). HasWritten y q.auxiliary.wrote) is own.wrote))
+    (subst (λ m. Books n w i (history q.auxiliary.since) m (Updating y z) p L58) back
+    (books_57 n w i y z (history q.auxiliary.since) (history t) p books))
 
 -- each line
 line_inv : (n w t : ℕ) (history : ℕ → Registers) (x : State) (i : ℕ) (d : Task) (k : ProgramCounter) → IsLineOf w d k → 0 < w → length x.processes ≡ n → IsOneOf n i → history t ≡ x.memory →
@@ -540,7 +553,7 @@ admit_inv n w t history x i Scan None e count one same laws h is =
     let q = at n w x i in
     let own : Own n w (suc t) history i q =
     own_kept n w t history i q one ((laws (suc t) (omega arith)).since t (omega arith)) (untouched_same n w i (history t) (history (suc t)) same) (h.each i one) in
-    let rest : Rest n w i (history (suc t)) q.variables.tog = subst (BooksAt n w i (history q.auxiliary.since) (history (suc t)) q.auxiliary.wrote q.variables) is own.books in
+    let rest : Rest n w i (history (suc t)) q.variables.tog = subst (BooksAt n w i (history q.auxiliary.since) (history (suc t)) q.variables) is own.books in
     put_inv n w t history x i x.memory (record { control = At Scanning L10; variables = q.variables; auxiliary = called_auxiliary (suc t) Scan q.auxiliary }) Called count one laws
     (λ j o other. untouched_same n w j (history t) (history (suc t)) same) h
     (record {
@@ -550,18 +563,18 @@ admit_inv n w t history x i Scan None e count one same laws h is =
       round_le = omega arith;
       stage = tt;
       counts = (refl, refl, refl);
+      wrote = tt;
       books = record {
         settled = record { answers_are = rest.answers_are; puts_are = rest.puts_are; toggles_are = rest.toggles_are };
         made = λ making. absurd making;
         self = λ inside. refl;
-        wrote_is = tt;
       };
     })
 admit_inv n w t history x i (Update word value) None e count one same laws h is =
     let q = at n w x i in
     let own : Own n w (suc t) history i q =
     own_kept n w t history i q one ((laws (suc t) (omega arith)).since t (omega arith)) (untouched_same n w i (history t) (history (suc t)) same) (h.each i one) in
-    let rest : Rest n w i (history (suc t)) q.variables.tog = subst (BooksAt n w i (history q.auxiliary.since) (history (suc t)) q.auxiliary.wrote q.variables) is own.books in
+    let rest : Rest n w i (history (suc t)) q.variables.tog = subst (BooksAt n w i (history q.auxiliary.since) (history (suc t)) q.variables) is own.books in
     put_inv n w t history x i x.memory (record { control = At (Updating word value) L50; variables = q.variables; auxiliary = called_auxiliary (suc t) (Update word value) q.auxiliary }) Called count one laws
     (λ j o other. untouched_same n w j (history t) (history (suc t)) same) h
     (record {
@@ -571,11 +584,11 @@ admit_inv n w t history x i (Update word value) None e count one same laws h is 
       round_le = own.round_le;
       stage = tt;
       counts = tt;
+      wrote = refl;
       books = record {
         settled = record { answers_are = rest.answers_are; puts_are = rest.puts_are; toggles_are = rest.toggles_are };
         made = λ making. absurd making;
         self = λ inside. absurd inside;
-        wrote_is = refl;
       };
     })
 

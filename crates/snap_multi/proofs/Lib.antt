@@ -3,6 +3,7 @@ pub mod Basics
 pub mod Lines
 pub mod History
 pub mod Control
+pub mod Flows
 pub mod Collect
 pub mod Stage
 pub mod Count
@@ -10,5 +11,7 @@ pub mod Invariant
 pub mod Writes
 pub mod Keep
 pub mod Runs
+pub mod Points
+pub mod Bounds
 pub mod Updates
 pub mod Moves

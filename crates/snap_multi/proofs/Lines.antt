@@ -1,4 +1,6 @@
 -- What each line of M does.
+use Rattle.snap_runs.proofs.Places.{bind_ok, place_ok, each_ok, sum_ok}
+use Rattle.snap_runs.proofs.Computing.{if_true, le_true, same_number}
 use Rattle.std.specs.Prelude.{◌≡◌, ℕ, ◌+◌, ◌-◌, ◌<◌, ◌≤◌, max, Bool, true, false, ◌&&◌, [], ◌∷◌, map, Option, Some, None, Result, Ok, Err, slice_index_or, slice_set, nat_eq, nat_lt, nat_le, if◌then◌else◌, refl}
 use Rattle.std.proofs.Common.{sym, ◌∙◌, ap, arith}
 use Rattle.std.proofs.lemmas.List.{map-set}
@@ -15,13 +17,13 @@ use Rattle.snap_semantics.specs.Source.{Name, instr_at}
 use Rattle.snap_semantics.specs.State.{Locals, value_at}
 use Rattle.snap_semantics.specs.Value.{Context, at_place, term_value}
 use Rattle.snap_semantics.specs.Table.{Goes, Effect, effect_at, first_goes}
-use Rattle.snap_runs.proofs.Algorithm.{To, shown}
+use Rattle.snap_runs.proofs.Algorithm.{To, shown, Task, Scanning, Embedded, Updating, op_of, link_of}
 use Rattle.snap_runs.proofs.Held.{word_at}
 use Rattle.snap_multi.specs.ListingM as names
 use Rattle.snap_multi.specs.ListingM.{listing_m}
 use Rattle.snap_multi.specs.Promises.{counts}
-use Rattle.snap_multi.proofs.Algorithm.{Words, Registers, plain, real, Move, Variables, locals_of, context_of, Task, Scanning, Embedded, Updating, ProgramCounter, L10, L11, L12, L13, L14, L15, L16, L17, L18, L19, L20, L21, L22, L23, L24, L25, L26, L27, L28, L29, L30, L31, L32, L33, L34, L35, L36, L37, L50, L51, L52, L53, L54, L55, L56, L57, L58, number, op_of, link_of, move, first_to, algorithm, Needs, IsLineOf, place, flip, same_at, marked, counted, all_still, third_move, written}
-use Rattle.snap_multi.proofs.Basics.{if_true, le_true, eq_true, flip_bit, bind_ok, place_ok, each_ok, sum_ok, plain_at}
+use Rattle.snap_multi.proofs.Algorithm.{Words, Registers, plain, real, Move, Variables, locals_of, context_of, ProgramCounter, L10, L11, L12, L13, L14, L15, L16, L17, L18, L19, L20, L21, L22, L23, L24, L25, L26, L27, L28, L29, L30, L31, L32, L33, L34, L35, L36, L37, L50, L51, L52, L53, L54, L55, L56, L57, L58, number, move, first_to, algorithm, Needs, IsLineOf, place, flip, same_words, same_at, marked, counted, all_still, third_move, limit, at_limit, borrows, back, written}
+use Rattle.snap_multi.proofs.Basics.{flip_bit, plain_at}
 
 abbrev pub act : Op → Option ℕ → ℕ → Activity
 act op link line = record { op = op; line = line; link = link }
@@ -67,15 +69,13 @@ toggle_term xs k = ap (λ (x : Word). x.toggle) (plain_at xs (k - 1))
 owned_ok : {A : Type 0} (own : Bool) (x : A) (cause : Cause) (f : A → Result Effect Cause) → own ≡ true → ((if own then Ok x else Err cause) >>= f) ≡ f x
 owned_ok own x cause f h = ap (λ b. (if b then Ok x else Err cause) >>= f) h
 
-same_is : (xs ys : Words) (k : ℕ) →
-    (nat_eq (slice_index_or (map plain xs) (k - 1) no_word).id (slice_index_or (map plain ys) (k - 1) no_word).id
-    && nat_eq (slice_index_or (map plain xs) (k - 1) no_word).toggle (slice_index_or (map plain ys) (k - 1) no_word).toggle) ≡ same_at xs ys k
+same_is : (xs ys : Words) (k : ℕ) → same_words (slice_index_or (map plain xs) (k - 1) no_word) (slice_index_or (map plain ys) (k - 1) no_word) ≡ same_at xs ys k
 same_is xs ys k =
-    ap (λ (x : Word). nat_eq x.id (slice_index_or (map plain ys) (k - 1) no_word).id && nat_eq x.toggle (slice_index_or (map plain ys) (k - 1) no_word).toggle) (plain_at xs (k - 1))
-    ∙ ap (λ (y : Word). nat_eq (word_at xs k).id y.id && nat_eq (word_at xs k).toggle y.toggle) (plain_at ys (k - 1))
+    ap (λ (x : Word). same_words x (slice_index_or (map plain ys) (k - 1) no_word)) (plain_at xs (k - 1))
+    ∙ ap (λ (y : Word). same_words (word_at xs k) y) (plain_at ys (k - 1))
 
 first_shown : (n w : ℕ) (d : Task) (m : Registers) (p : Variables) (o : Option ℕ) →
-    first_goes listing_m (act (op_of d) (link_of d) 32) (real m) (locals_of p) names.j 36 o ≡ shown (algorithm n w) m (first_to d m p o)
+    first_goes listing_m (act (op_of d) (link_of (number back) d) 32) (real m) (locals_of p) names.j (number borrows) o ≡ shown (algorithm n w) m (first_to d m p o)
 first_shown n w d m p None = refl
 first_shown n w d m p (Some k) = refl
 
@@ -88,7 +88,7 @@ with_copies p a b = record {
 }
 
 pub lines : (n w me : ℕ) (d : Task) (m : Registers) (p : Variables) (k : ProgramCounter) → IsLineOf w d k → Needs n w me d p k →
-    at_line (counts n w) me (op_of d) m (link_of d) (number k) p ≡ shown (algorithm n w) m (move n w me d m p k)
+    at_line (counts n w) me (op_of d) m (link_of (number back) d) (number k) p ≡ shown (algorithm n w) m (move n w me d m p k)
 lines n w me d m p L10 s h = bind_ok _ _ _ _ (each_ok _ (λ c. 0) 1 n (λ c low high. refl)) refl
 lines n w me d m p L11 s h = refl
 lines n w me d m p L12 s h = refl
@@ -96,19 +96,19 @@ lines n w me d m p L13 s h = bind_ok _ _ _ _ (place_ok n p.j h.0) (bind_ok _ _ _
 lines n w me d m p L14 s h = bind_ok _ _ _ _ (place_ok (max n w) p.j (process_place n w p.j h)) refl
 lines n w me d m p L15 s h =
     bind_ok _ _ _ _ (place_ok n me h.1) (bind_ok _ _ _ _ (place_ok n p.j h.0)
-    (bind_ok _ _ _ _ (if_true (nat_le p.x 1) (Ok p.x) (Err NotABit) (le_true p.x 1 h.2)) (owned_ok (nat_eq me me) p.x Owner _ (eq_true me))))
-lines n w me d m p L16 s h = shown_if n w m (nat_lt p.j n) (To d m (record p { j = p.j + 1 }) L13) (To d m (record p { j = 1 }) L17)
+    (bind_ok _ _ _ _ (if_true (nat_le p.x 1) (Ok p.x) (Err NotABit) (le_true p.x 1 h.2)) (owned_ok (nat_eq me me) p.x Owner _ (same_number me))))
+lines n w me d m p L16 s h = shown_if n w m (nat_lt p.j n) _ _
 lines n w me d m p L17 s h =
     bind_ok _ _ _ _ (place_ok (max n w) p.k (word_place n w p.k h)) (bind_ok _ _ _ _ (place_ok w p.k h)
-    (ap (λ (xs : Words). Ok (Goes (real m) (with_copies p xs (map plain p.b)) (link_of d) 18)) (get_is p.a m.words p.k)))
-lines n w me d m p L18 s h = shown_if n w m (nat_lt p.k w) (To d m (record p { k = p.k + 1 }) L17) (To d m (record p { k = 1 }) L19)
+    (ap (λ (xs : Words). Ok (Goes (real m) (with_copies p xs (map plain p.b)) (link_of (number back) d) 18)) (get_is p.a m.words p.k)))
+lines n w me d m p L18 s h = shown_if n w m (nat_lt p.k w) _ _
 lines n w me d m p L19 s h =
     bind_ok _ _ _ _ (place_ok (max n w) p.k (word_place n w p.k h)) (bind_ok _ _ _ _ (place_ok w p.k h)
-    (ap (λ (xs : Words). Ok (Goes (real m) (with_copies p (map plain p.a) xs) (link_of d) 20)) (get_is p.b m.words p.k)))
-lines n w me d m p L20 s h = shown_if n w m (nat_lt p.k w) (To d m (record p { k = p.k + 1 }) L19) (To d m (record p { k = 1 }) L21)
+    (ap (λ (xs : Words). Ok (Goes (real m) (with_copies p (map plain p.a) xs) (link_of (number back) d) 20)) (get_is p.b m.words p.k)))
+lines n w me d m p L20 s h = shown_if n w m (nat_lt p.k w) _ _
 lines n w me d m p L21 s h = bind_ok _ _ _ _ (place_ok n p.j h.0) (bind_ok _ _ _ _ (place_ok n me h.1) refl)
 lines n w me d m p L22 s h = bind_ok _ _ _ _ (place_ok (max n w) p.j (process_place n w p.j h)) refl
-lines n w me d m p L23 s h = shown_if n w m (nat_lt p.j n) (To d m (record p { j = p.j + 1 }) L21) (To d m (record p { j = 1 }) L24)
+lines n w me d m p L23 s h = shown_if n w m (nat_lt p.j n) _ _
 lines n w me d m p L24 s h = bind_ok _ _ _ _ (each_ok _ (λ c. 0) 1 n (λ c low high. refl)) refl
 lines n w me d m p L25 s h =
     bind_ok _ _ _ _
@@ -118,8 +118,7 @@ lines n w me d m p L25 s h =
     refl
 lines n w me d m p L26 s h =
     let i : IsOneOf (max n w) p.k = word_place n w p.k h in
-    let test = nat_eq (slice_index_or (map plain p.a) (p.k - 1) no_word).id (slice_index_or (map plain p.b) (p.k - 1) no_word).id
-    && nat_eq (slice_index_or (map plain p.a) (p.k - 1) no_word).toggle (slice_index_or (map plain p.b) (p.k - 1) no_word).toggle in
+    let test = same_words (slice_index_or (map plain p.a) (p.k - 1) no_word) (slice_index_or (map plain p.b) (p.k - 1) no_word) in
     bind_ok _ _ test _
     (bind_ok _ _ _ _ (bind_ok _ _ _ _ (bind_ok _ _ _ _ (place_ok (max n w) p.k i) refl) (bind_ok _ _ _ _ (bind_ok _ _ _ _ (place_ok (max n w) p.k i) refl) refl))
     (bind_ok _ _ _ _ (bind_ok _ _ _ _ (bind_ok _ _ _ _ (place_ok (max n w) p.k i) refl) (bind_ok _ _ _ _ (bind_ok _ _ _ _ (place_ok (max n w) p.k i) refl) refl)) refl))
@@ -128,7 +127,7 @@ lines n w me d m p L26 s h =
 lines n w me d m p L27 s h =
     bind_ok _ _ (word_at p.b p.k).id _ (bind_ok _ _ _ _ (place_ok (max n w) p.k (word_place n w p.k h)) (ap (λ y. Ok y) (id_term p.b p.k))) refl
 lines n w me d m p L28 s h = bind_ok _ _ _ _ (place_ok (max n w) p.x (process_place n w p.x h)) refl
-lines n w me d m p L29 s h = shown_if n w m (nat_lt p.k w) (To d m (record p { k = p.k + 1 }) L26) (To d m (record p { k = 1 }) L30)
+lines n w me d m p L29 s h = shown_if n w m (nat_lt p.k w) _ _
 lines n w me d m p L30 s h =
     bind_ok _ _ _ _
     (each_ok _ (λ c. nat_eq (place p.d c) 0) 1 n (λ c low high. bind_ok _ _ _ _ (row_term n w me d p c names.d (in_range n w c low high)) refl))
@@ -137,13 +136,13 @@ lines n w me d m p L31 s h =
     bind_ok _ _ _ _
     (each_ok _ (counted p) 1 n (λ c low high.
     let i : IsOneOf (max n w) c = in_range n w c low high in
-    let few : place p.moved c ≤ 2 = h c (omega arith, omega arith) in
+    let few : place p.moved c < limit = h c (omega arith, omega arith) in
     bind_ok _ _ _ _ (bind_ok _ _ _ _ (row_term n w me d p c names.moved i) (sum_ok (place p.moved c) 1 (omega arith)))
     (bind_ok _ _ _ _ (bind_ok _ _ _ _ (row_term n w me d p c names.d i) refl) refl)))
     refl
 lines n w me d m p L32 s h =
     bind_ok _ _ _ _
-    (each_ok _ (λ c. nat_eq (place p.moved c) 3) 1 n (λ c low high. bind_ok _ _ _ _ (row_term n w me d p c names.moved (in_range n w c low high)) refl))
+    (each_ok _ (at_limit p) 1 n (λ c low high. bind_ok _ _ _ _ (row_term n w me d p c names.moved (in_range n w c low high)) refl))
     (first_shown n w d m p (third_move n p))
 lines n w me d m p L33 s h = refl
 lines n w me d m p L34 s h = refl
@@ -159,12 +158,12 @@ lines n w me d m p L51 s h = bind_ok _ _ _ _ (place_ok n p.j h.0) (bind_ok _ _ _
 lines n w me d m p L52 s h =
     bind_ok _ _ _ _ (place_ok n me h.1) (bind_ok _ _ _ _ (place_ok n p.j h.0)
     (bind_ok _ _ _ _ (if_true (nat_le (flip p.x) 1) (Ok (flip p.x)) (Err NotABit) (le_true (flip p.x) 1 (flip_bit p.x)))
-    (owned_ok (nat_eq me me) (flip p.x) Owner _ (eq_true me))))
-lines n w me d m p L53 s h = shown_if n w m (nat_lt p.j n) (To d m (record p { j = p.j + 1 }) L51) (To d m (record p { j = 1 }) L54)
+    (owned_ok (nat_eq me me) (flip p.x) Owner _ (same_number me))))
+lines n w me d m p L53 s h = shown_if n w m (nat_lt p.j n) _ _
 lines n w me Scanning m p L54 s h = absurd s
 lines n w me (Embedded y z) m p L54 s h = absurd s
 lines n w me (Updating y z) m p L54 s h = refl
-lines n w me d m p L55 s h = bind_ok _ _ _ _ (place_ok n me h) (owned_ok (nat_eq me me) p.s Owner _ (eq_true me))
+lines n w me d m p L55 s h = bind_ok _ _ _ _ (place_ok n me h) (owned_ok (nat_eq me me) p.s Owner _ (same_number me))
 lines n w me Scanning m p L56 s h = absurd s
 lines n w me (Embedded y z) m p L56 s h = absurd s
 lines n w me (Updating y z) m p L56 s h =

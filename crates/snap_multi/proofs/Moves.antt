@@ -1,4 +1,6 @@
 -- The moves that a scan of M sees are events since its previous double collect.
+use Rattle.snap_runs.proofs.Computing.{same_from}
+use Rattle.snap_runs.proofs.Places.{for_each_at}
 use Rattle.std.specs.Prelude.{◌≡◌, ℕ, zero, suc, ◌+◌, ◌<◌, ◌≤◌, ◌⊎◌, Bool, true, false, List, length, Option, Some, None, nat_eq, nat_lt, if◌then◌else◌, refl}
 use Rattle.std.proofs.Common.{sym, ◌∙◌, ap, subst, arith, inl, inr}
 use Rattle.std.proofs.lemmas.Bool.{cases_eq}
@@ -13,20 +15,21 @@ use Rattle.snap_runs.specs.Run.{Fits, state}
 use Rattle.snap_runs.specs.Scan.{Scan, ends_double_collect, double_collects}
 use Rattle.snap_runs.specs.Update.{executes}
 use Rattle.snap_runs.specs.Promises.{row_place, ObservedMove}
-use Rattle.snap_runs.proofs.Algorithm.{Idle, At, To, Begin, Answer, Finish, by_move, by_step, typed_at, changed, happens, item_at, stepped_auxiliary}
+use Rattle.snap_runs.proofs.Algorithm.{Idle, At, To, Begin, Answer, Finish, by_move, by_step, typed_at, changed, happens, item_at, stepped_auxiliary, Task, Scanning, Embedded, Updating}
 use Rattle.snap_runs.proofs.Embedding as embed
+use Rattle.snap_runs.proofs.Counting.{count_later}
 use Rattle.snap_runs.proofs.ScanSpan as span
 use Rattle.snap_multi.specs.ListingM as names
 use Rattle.snap_multi.specs.Promises.{run_of, IsEvent, RecentEvent, MovesAreEvents}
-use Rattle.snap_multi.proofs.Algorithm.{Registers, Process, Control, Move, State, Variables, Task, Scanning, Embedded, Updating, ProgramCounter, L10, L11, L12, L13, L14, L15, L16, L17, L18, L19, L20, L21, L22, L23, L24, L25, L26, L27, L28, L29, L30, L31, L32, L33, L34, L35, L36, L37, L50, L51, L52, L53, L54, L55, L56, L57, L58, place, move, first_to, return_to, embed_to, same_at, all_still, third_move, counted, after_52, algorithm}
-use Rattle.snap_multi.proofs.Basics.{for_each_at, same_from}
+use Rattle.snap_multi.proofs.Algorithm.{Registers, Process, Control, Move, State, Variables, ProgramCounter, L10, L11, L12, L13, L14, L15, L16, L17, L18, L19, L20, L21, L22, L23, L24, L25, L26, L27, L28, L29, L30, L31, L32, L33, L34, L35, L36, L37, L50, L51, L52, L53, L54, L55, L56, L57, L58, place, move, first_to, return_to, embed_to, same_at, all_still, third_move, counted, after_52, algorithm}
 use Rattle.snap_multi.proofs.Collect.{events}
 use Rattle.snap_multi.proofs.Stage.{Row}
 use Rattle.snap_multi.proofs.Count.{Count, counted_row}
 use Rattle.snap_multi.proofs.Invariant.{CountAt}
 use Rattle.snap_multi.proofs.Writes.{raised_there, raised_at_there, raised_at_elsewhere}
 use Rattle.snap_multi.proofs.Keep.{call_memory}
-use Rattle.snap_multi.proofs.Runs.{worlds, memories, own, all_do, tests_is, lawful, goes, stage_of}
+use Rattle.snap_multi.proofs.Flows.{line_listed}
+use Rattle.snap_multi.proofs.Runs.{worlds, memories, own, all_do, lawful, goes, stage_of}
 use Rattle.snap_multi.proofs.Updates.{line_executes, stands_at}
 
 -- Every line but 52 and 57 keeps the counters of writes and answers.
@@ -245,8 +248,8 @@ module _ (n w : ℕ) (items : List Item) (some : 0 < w) (fits : Fits (run_of n w
       let few : (at t i).auxiliary.tested ≤ 1 = counts.3 in
       let tested : (at t i).auxiliary.tested ≡ double_collects r i round t = g.tested in
       let last : double_collects r i round (suc t) ≤ double_collects r i round t + 0 =
-      span.last_collects (algorithm n w) tests_is items fits (all_do n w items some fits) (lawful n w items some fits) i one round t busy.0 L31 g.round_before (omega arith) busy.1 in
-      let fewer : double_collects r i event.0 (suc t) ≤ double_collects r i round (suc t) = span.count_later (ends_double_collect r i) round event.0 (suc t) (omega arith) in
+      span.last_collects (algorithm n w) (λ k. (line_listed k).tested) items fits (all_do n w items some fits) (lawful n w items some fits) i one round t busy.0 L31 g.round_before (omega arith) busy.1 in
+      let fewer : double_collects r i event.0 (suc t) ≤ double_collects r i round (suc t) = count_later (ends_double_collect r i) round event.0 (suc t) (omega arith) in
       record {
         item = event.0;
         after_start = omega arith;

@@ -1,13 +1,15 @@
 -- How far a scan of M has come at each line, and that each line takes it on.
+use Rattle.snap_runs.proofs.Places.{for_each_at, first_found, all_pass}
+use Rattle.snap_runs.proofs.Computing.{other_number, same_from, not_lt}
 use Rattle.std.specs.Prelude.{◌≡◌, ◌≢◌, ℕ, suc, ◌+◌, ◌-◌, ◌<◌, ◌≤◌, max, Bool, true, false, not, List, take, length, map, Option, Some, None, nat_eq, nat_lt, if◌then◌else◌, slice_set, refl}
 use Rattle.std.proofs.Common.{sym, ◌∙◌, ap, subst, arith, inl, inr}
 use Rattle.std.proofs.lemmas.Bool.{cases_eq}
 use Rattle.snap_words.specs.Shape.{IsOneOf}
 use Rattle.snap_words.specs.Word.{Word}
-use Rattle.snap_runs.proofs.Algorithm.{To, Begin, Answer, Finish}
+use Rattle.snap_runs.proofs.Algorithm.{To, Begin, Answer, Finish, Task, Scanning, Embedded, Updating}
 use Rattle.snap_runs.proofs.Held.{word_at, Held, held_wider}
-use Rattle.snap_multi.proofs.Algorithm.{Words, Registers, Move, Variables, Task, Scanning, Embedded, Updating, ProgramCounter, L10, L11, L12, L13, L14, L15, L16, L17, L18, L19, L20, L21, L22, L23, L24, L25, L26, L27, L28, L29, L30, L31, L32, L33, L34, L35, L36, L37, L50, L51, L52, L53, L54, L55, L56, L57, L58, plain, place, bit, view_at, move, first_to, same_at, marked, counted, all_still, third_move, restarts, IsLineOf}
-use Rattle.snap_multi.proofs.Basics.{eq_false, other_from, same_from, not_lt, for_each_at, first_found, all_at, set_here, set_there}
+use Rattle.snap_multi.proofs.Algorithm.{Words, Registers, Move, Variables, ProgramCounter, L10, L11, L12, L13, L14, L15, L16, L17, L18, L19, L20, L21, L22, L23, L24, L25, L26, L27, L28, L29, L30, L31, L32, L33, L34, L35, L36, L37, L50, L51, L52, L53, L54, L55, L56, L57, L58, plain, place, bit, view_at, move, first_to, same_at, marked, counted, all_still, third_move, limit, at_limit, restarts, IsLineOf}
+use Rattle.snap_multi.proofs.Basics.{other_from, set_here, set_there}
 use Rattle.snap_multi.proofs.Control.{Keeps, Long}
 use Rattle.snap_multi.proofs.History.{words_of, Since, Laws}
 use Rattle.snap_multi.proofs.Collect.{events, ReadBit, Collected, collected_starts, collected_as, collected_kept, ended_kept, asked_row, asked_more, first_more, second_more, late_more, seen_by_words, seen_by_bits, passed, plain_data, borrowed}
@@ -39,7 +41,6 @@ abbrev pub Marks : ℕ → ℕ → ℕ → (ℕ → Registers) → ℕ → ℕ �
 Marks n w me history round t p k = Row n w me history round t p.g p.h p.d p.a p.b k
 
 abbrev pub Stage : ℕ → ℕ → ℕ → (ℕ → Registers) → ℕ → ℕ → ℕ → Variables → ProgramCounter → Type 0
-Stage n w me history t since round p L10 = Unit {0}
 Stage n w me history t since round p L11 = Low n me history since round p.moved
 Stage n w me history t since round p L12 = Low n me history since round p.moved
 Stage n w me history t since round p L13 = Low n me history since round p.moved × Gathered n w me history round t p p.j 1 1 1
@@ -65,17 +66,11 @@ Stage n w me history t since round p L32 = Low n me history since t p.moved
 Stage n w me history t since round p L33 = Low n me history since t p.moved
 Stage n w me history t since round p L34 = Held (words_of history) t since (map (λ (r : Word). r.datum) (take w (map plain p.b)))
 Stage n w me history t since round p L35 = Held (words_of history) t since p.s
-Stage n w me history t since round p L36 = Low n me history since t p.moved × (place p.moved p.j ≡ 3)
+Stage n w me history t since round p L36 = Low n me history since t p.moved × (place p.moved p.j ≡ limit)
 Stage n w me history t since round p L37 = Held (words_of history) t since p.s
-Stage n w me history t since round p L50 = Unit {0}
-Stage n w me history t since round p L51 = Unit {0}
 Stage n w me history t since round p L52 = Seen history t me p
-Stage n w me history t since round p L53 = Unit {0}
-Stage n w me history t since round p L54 = Unit {0}
 Stage n w me history t since round p L55 = Held (words_of history) t since p.s
-Stage n w me history t since round p L56 = Unit {0}
-Stage n w me history t since round p L57 = Unit {0}
-Stage n w me history t since round p L58 = Unit {0}
+Stage n w me history t since round p _ = Unit {0}
 
 -- What a line leaves is the stage of the next one; a scan's answer was held since its start.
 abbrev pub StageMove : ℕ → ℕ → ℕ → (ℕ → Registers) → ℕ → ℕ → ℕ → Move → Type 0
@@ -86,43 +81,11 @@ StageMove n w me history t since round Finish = Unit {0}
 
 -- a line that writes no register
 abbrev pub IsQuiet : ProgramCounter → Type 0
-IsQuiet L10 = Unit {0}
-IsQuiet L11 = Unit {0}
-IsQuiet L12 = Unit {0}
-IsQuiet L13 = Unit {0}
-IsQuiet L14 = Unit {0}
 IsQuiet L15 = ⊥
-IsQuiet L16 = Unit {0}
-IsQuiet L17 = Unit {0}
-IsQuiet L18 = Unit {0}
-IsQuiet L19 = Unit {0}
-IsQuiet L20 = Unit {0}
-IsQuiet L21 = Unit {0}
-IsQuiet L22 = Unit {0}
-IsQuiet L23 = Unit {0}
-IsQuiet L24 = Unit {0}
-IsQuiet L25 = Unit {0}
-IsQuiet L26 = Unit {0}
-IsQuiet L27 = Unit {0}
-IsQuiet L28 = Unit {0}
-IsQuiet L29 = Unit {0}
-IsQuiet L30 = Unit {0}
-IsQuiet L31 = Unit {0}
-IsQuiet L32 = Unit {0}
-IsQuiet L33 = Unit {0}
-IsQuiet L34 = Unit {0}
-IsQuiet L35 = Unit {0}
-IsQuiet L36 = Unit {0}
-IsQuiet L37 = Unit {0}
-IsQuiet L50 = Unit {0}
-IsQuiet L51 = Unit {0}
 IsQuiet L52 = ⊥
-IsQuiet L53 = Unit {0}
-IsQuiet L54 = Unit {0}
 IsQuiet L55 = ⊥
-IsQuiet L56 = Unit {0}
 IsQuiet L57 = ⊥
-IsQuiet L58 = Unit {0}
+IsQuiet _ = Unit {0}
 
 -- what is known of every process, at whichever line it stands
 pub record Known (n w me : ℕ) (history : ℕ → Registers) (t since round : ℕ) (m : Registers) (d : Task) (p : Variables) (k : ProgramCounter) : Type 0 where
@@ -143,7 +106,7 @@ stage_if n w me history t since round true x y f g = f refl
 stage_if n w me history t since round false x y f g = g refl
 
 stage_first : (n w me : ℕ) (history : ℕ → Registers) (t since round : ℕ) (d : Task) (m : Registers) (p : Variables) (o : Option ℕ) →
-    Low n me history since t p.moved → ((k : ℕ) → o ≡ Some k → place p.moved k ≡ 3) → StageMove n w me history t since round (first_to d m p o)
+    Low n me history since t p.moved → ((k : ℕ) → o ≡ Some k → place p.moved k ≡ limit) → StageMove n w me history t since round (first_to d m p o)
 stage_first n w me history t since round d m p None h f = h
 stage_first n w me history t since round d m p (Some k) h f = (h, f k refl)
 
@@ -165,7 +128,7 @@ row_starts : (n w me : ℕ) (history : ℕ → Registers) (round t : ℕ) (p : V
     (row : List ℕ) → ((c : ℕ) → IsOneOf n c → place row c ≡ marked p c) → (k : ℕ) → k ≡ 1 → Row n w me history round t p.g p.h row p.a p.b k
 row_starts n w me history round t p one laws le x zero row is k first = record {
   bits = λ c o. subst (λ v. v ≤ 1) (sym (is c o)) (marked_le (nat_eq (place p.h c) (place p.g c)) (place p.d c) (zero c o));
-  shown = λ c o differ. is c o ∙ ap (λ b. if not b then 1 else place p.d c) (eq_false (place p.h c) (place p.g c) differ);
+  shown = λ c o differ. is c o ∙ ap (λ b. if not b then 1 else place p.d c) (other_number (place p.h c) (place p.g c) differ);
   words = λ y o lt. absurd (omega arith);
   moved = λ c o e.
       let differ : place p.h c ≢ place p.g c = other_from (place p.h c) (place p.g c) (marked_then (nat_eq (place p.h c) (place p.g c)) (place p.d c) (zero c o) (sym (is c o) ∙ e)) in
@@ -223,7 +186,7 @@ still_bits n w me history round t p k r still c o =
     elim (cases_eq (place p.h c) (place p.g c)) [
       | inl same ↦ same
       | inr differ ↦ absurd (
-          let zero : place p.d c ≡ 0 = same_from (place p.d c) 0 (all_at (λ c. nat_eq (place p.d c) 0) 1 n still c (omega arith) (omega arith)) in
+          let zero : place p.d c ≡ 0 = same_from (place p.d c) 0 (all_pass (λ c. nat_eq (place p.d c) 0) 1 n still c (omega arith) (omega arith)) in
           let one : place p.d c ≡ 1 = r.shown c o differ in omega arith)
     ]
 
@@ -235,7 +198,7 @@ still_words n w me history round t p one laws x r still y o =
       | true ↦ λ e. refl
       | false ↦ λ e. absurd (
           let c : IsOneOf n (word_at p.b y).id = (seen_by_words n w me history round t p.g p.a p.b p.h one laws x y o e).0 in
-          let zero : place p.d (word_at p.b y).id ≡ 0 = same_from (place p.d (word_at p.b y).id) 0 (all_at (λ c. nat_eq (place p.d c) 0) 1 n still (word_at p.b y).id (omega arith) (omega arith)) in
+          let zero : place p.d (word_at p.b y).id ≡ 0 = same_from (place p.d (word_at p.b y).id) 0 (all_pass (λ c. nat_eq (place p.d c) 0) 1 n still (word_at p.b y).id (omega arith) (omega arith)) in
           let marked_is : place p.d (word_at p.b y).id ≡ 1 = r.words y o (let le : y ≤ w = o.1 in omega arith) e in omega arith)
     ] refl
 
@@ -334,7 +297,7 @@ stage_move n w me history t since round m d p L31 e h =
     (events_le n w me round t history ((e.laws t (omega arith)).since round e.round_le) e.one c i) (r.moved c i))
 stage_move n w me history t since round m d p L32 e h =
     stage_first n w me history t since round d m p (third_move n p) h
-    (λ k f. same_from (place p.moved k) 3 (first_found 1 n (λ c. nat_eq (place p.moved c) 3) k f).2)
+    (λ k f. same_from (place p.moved k) limit (first_found 1 n (at_limit p) k f).2)
 stage_move n w me history t since round m d p L33 e h =
     let first : p.j ≡ 1 = e.keeps.0 in
     (h, collected_as n w me history t t p.g p.a p.b p.h 1 p.j 1 1 1 1 1 1 (λ c o lt. omega arith) (λ c o lt. lt) (λ c o lt. lt) (λ c o lt. lt) (collected_starts n w me history t t p.g p.a p.b p.h (omega arith)))
@@ -347,7 +310,7 @@ stage_move n w me history t since round m d p L36 e h =
     let closed : round ≤ t = e.round_le in
     subst (λ (x : Registers). Held (words_of history) t since (view_at x.views p.j)) e.now
     (borrowed n w me p.j since t history (e.laws since (omega arith)) (e.laws t (omega arith)) (omega arith) e.keeps e.one
-    (let three : place p.moved p.j ≡ 3 = h.1 in let low : events (history since) p.j me + place p.moved p.j ≤ events (history t) p.j me = h.0 p.j e.keeps in omega arith))
+    (let three : place p.moved p.j ≡ limit = h.1 in let low : events (history since) p.j me + place p.moved p.j ≤ events (history t) p.j me = h.0 p.j e.keeps in omega arith))
 stage_move n w me history t since round m Scanning p L37 e h = h
 stage_move n w me history t since round m (Embedded y z) p L37 e h = h
 stage_move n w me history t since round m (Updating y z) p L37 e h = absurd e.line

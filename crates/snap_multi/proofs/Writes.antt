@@ -1,4 +1,6 @@
 -- The four lines of M that write registers: what each does to the laws, and that it leaves what other processes own.
+use Rattle.snap_runs.proofs.Computing.{same_number, other_number}
+use Rattle.snap_runs.proofs.Algorithm.{Task, Updating}
 use Rattle.std.specs.Prelude.{◌≡◌, ◌≢◌, ℕ, ◌+◌, ◌-◌, ◌<◌, ◌≤◌, ◌⊎◌, Bool, true, false, ◌&&◌, [], length, nat_eq, if◌then◌else◌, slice_index, slice_index_or, refl}
 use Rattle.std.proofs.Common.{sym, ◌∙◌, ap, subst, arith, inl, inr}
 use Rattle.std.proofs.lemmas.Bool.{cases_eq}
@@ -7,18 +9,18 @@ use Rattle.std.proofs.lemmas.List.{length-set, get_or-set_other}
 use Rattle.snap_words.specs.Shape.{IsOneOf}
 use Rattle.snap_words.specs.Word.{Word, no_word}
 use Rattle.snap_runs.proofs.Held.{word_at, seq_at, Held, held_wider}
-use Rattle.snap_multi.proofs.Algorithm.{Registers, Variables, Task, Updating, place, word_of, bit, view_at, flip, raised, raised_at, with_at, written, after_15, after_52, after_55, after_57}
-use Rattle.snap_multi.proofs.Basics.{eq_true, eq_false, flip_bit, flip_other, less_or_not, bit_here, bit_elsewhere, row_elsewhere, square_kept}
+use Rattle.snap_multi.proofs.Algorithm.{Registers, Variables, place, word_of, bit, view_at, flip, raised, raised_at, with_at, written, after_15, after_52, after_55, after_57}
+use Rattle.snap_multi.proofs.Basics.{flip_bit, flip_other, less_or_not, bit_here, bit_elsewhere, row_elsewhere, square_kept}
 use Rattle.snap_multi.proofs.History.{words_of, id_at, toggle_at, Now, Laws, Rewritten, Answer, Put, Acts}
 use Rattle.snap_multi.proofs.Stage.{Seen}
 use Rattle.snap_multi.proofs.Invariant.{Untouched}
 
 -- counters that are raised
 pub raised_here : (f : ℕ → ℕ) (i : ℕ) → raised f i i ≡ f i + 1
-raised_here f i = ap (λ b. if b then f i + 1 else f i) (eq_true i)
+raised_here f i = ap (λ b. if b then f i + 1 else f i) (same_number i)
 
 pub raised_there : (f : ℕ → ℕ) (i y : ℕ) → y ≢ i → raised f i y ≡ f y
-raised_there f i y other = ap (λ b. if b then f y + 1 else f y) (eq_false y i other)
+raised_there f i y other = ap (λ b. if b then f y + 1 else f y) (other_number y i other)
 
 more_or_same : (b : Bool) (v : ℕ) → v ≤ (if b then v + 1 else v)
 more_or_same true v = omega arith
@@ -29,24 +31,24 @@ and_false true = refl
 and_false false = refl
 
 pub raised_at_here : (f : ℕ → ℕ → ℕ) (i j : ℕ) → raised_at f i j i j ≡ f i j + 1
-raised_at_here f i j = ap (λ b. if b && nat_eq j j then f i j + 1 else f i j) (eq_true i) ∙ ap (λ b. if b then f i j + 1 else f i j) (eq_true j)
+raised_at_here f i j = ap (λ b. if b && nat_eq j j then f i j + 1 else f i j) (same_number i) ∙ ap (λ b. if b then f i j + 1 else f i j) (same_number j)
 
 pub raised_at_there : (f : ℕ → ℕ → ℕ) (i j y z : ℕ) → y ≢ i → raised_at f i j y z ≡ f y z
-raised_at_there f i j y z other = ap (λ b. if b && nat_eq z j then f y z + 1 else f y z) (eq_false y i other)
+raised_at_there f i j y z other = ap (λ b. if b && nat_eq z j then f y z + 1 else f y z) (other_number y i other)
 
 pub raised_at_elsewhere : (f : ℕ → ℕ → ℕ) (i j y z : ℕ) → z ≢ j → raised_at f i j y z ≡ f y z
 raised_at_elsewhere f i j y z other =
-    ap (λ b. if nat_eq y i && b then f y z + 1 else f y z) (eq_false z j other) ∙ ap (λ b. if b then f y z + 1 else f y z) (and_false (nat_eq y i))
+    ap (λ b. if nat_eq y i && b then f y z + 1 else f y z) (other_number z j other) ∙ ap (λ b. if b then f y z + 1 else f y z) (and_false (nat_eq y i))
 
 pub with_at_here : (f : ℕ → ℕ → ℕ) (i k x : ℕ) → with_at f i k x i k ≡ x
-with_at_here f i k x = ap (λ b. if b && nat_eq k k then x else f i k) (eq_true i) ∙ ap (λ b. if b then x else f i k) (eq_true k)
+with_at_here f i k x = ap (λ b. if b && nat_eq k k then x else f i k) (same_number i) ∙ ap (λ b. if b then x else f i k) (same_number k)
 
 with_at_there : (f : ℕ → ℕ → ℕ) (i k x y z : ℕ) → y ≢ i → with_at f i k x y z ≡ f y z
-with_at_there f i k x y z other = ap (λ b. if b && nat_eq z k then x else f y z) (eq_false y i other)
+with_at_there f i k x y z other = ap (λ b. if b && nat_eq z k then x else f y z) (other_number y i other)
 
 pub with_at_elsewhere : (f : ℕ → ℕ → ℕ) (i k x y z : ℕ) → z ≢ k → with_at f i k x y z ≡ f y z
 with_at_elsewhere f i k x y z other =
-    ap (λ b. if nat_eq y i && b then x else f y z) (eq_false z k other) ∙ ap (λ b. if b then x else f y z) (and_false (nat_eq y i))
+    ap (λ b. if nat_eq y i && b then x else f y z) (other_number z k other) ∙ ap (λ b. if b then x else f y z) (and_false (nat_eq y i))
 
 -- line 15: the process asks process j
 pub acts_15 : (n w me : ℕ) (history : ℕ → Registers) (t : ℕ) (m : Registers) (p : Variables) → Acts n w history t m (after_15 me m p)

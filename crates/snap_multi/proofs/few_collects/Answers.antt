@@ -1,4 +1,4 @@
-use Rattle.snap_multi.proofs.Runs.{few_collects_lem}
+use Rattle.snap_multi.proofs.Bounds.{few_collects_lem}
 use Rattle.snap_multi.proofs.few_collects.Goals as goal
 
 pub returns : goal.returns

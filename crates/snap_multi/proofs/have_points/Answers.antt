@@ -1,4 +1,4 @@
-use Rattle.snap_multi.proofs.Runs.{have_points_lem}
+use Rattle.snap_multi.proofs.Points.{have_points_lem}
 use Rattle.snap_multi.proofs.have_points.Goals as goal
 
 pub returns : goal.returns

@@ -1,0 +1,218 @@
+-- How control passes from line to line of M, and what the listing says of each line.
+use Rattle.std.specs.Prelude.{◌≡◌, ℕ, ◌+◌, ◌≤◌, true, List, Option, Some, None, nat_eq, nat_lt, if◌then◌else◌, refl}
+use Rattle.std.proofs.Common.{sym, ◌∙◌, ap, subst, arith, inl, inr}
+use Rattle.snap_semantics.specs.Source.{instr_at}
+use Rattle.snap_runs.specs.Scan.{IsCallLine, Returns, is_if_all}
+use Rattle.snap_runs.proofs.Algorithm.{Task, Scanning, Embedded, Updating, To}
+use Rattle.snap_runs.proofs.Computing.{either, whether, same_from}
+use Rattle.snap_runs.proofs.Flow as flow
+use Rattle.snap_runs.proofs.Flow.{IsInScan}
+use Rattle.snap_runs.proofs.ScanSpan as span
+use Rattle.snap_runs.proofs.Scans as scans
+use Rattle.snap_runs.proofs.WritesOnce as writes_once
+use Rattle.snap_multi.specs.ListingM.{listing_m}
+use Rattle.snap_multi.proofs.Algorithm.{Registers, Move, Variables, ProgramCounter, L10, L11, L12, L13, L14, L15, L16, L17, L18, L19, L20, L21, L22, L23, L24, L25, L26, L27, L28, L29, L30, L31, L32, L33, L34, L35, L36, L37, L50, L51, L52, L53, L54, L55, L56, L57, L58, number, locals_of, same_at, all_still, third_move, move, first_to, embed_to, algorithm, IsScan, IsLineOf, tests, writes, written_at, lines}
+
+pub in_scan : (w : ℕ) (d : Task) → IsScan w d → IsInScan d
+in_scan w Scanning s = tt
+in_scan w (Embedded word value) s = tt
+in_scan w (Updating word value) s = s
+
+abbrev pub Flows : ℕ → ℕ → Task → Registers → Variables → ProgramCounter → Move → Type 0
+Flows n w = flow.Flows lines (algorithm n w)
+
+-- a line of a scan that goes on
+on : (n w : ℕ) (d : Task) (m m' : Registers) (p p' : Variables) (k k' : ProgramCounter) → IsScan w d → writes k ≡ 0 → m'.words ≡ m.words → Flows n w d m p k (To d m' p' k')
+on n w d m m' p p' k k' s quiet kept = flow.within lines (algorithm n w) d m m' p p' k k' (in_scan w d s) quiet kept
+
+pub flows : (n w me : ℕ) (d : Task) (m : Registers) (p : Variables) (k : ProgramCounter) → IsLineOf w d k → Flows n w d m p k (move n w me d m p k)
+flows n w me d m p L10 s = on n w d m _ p _ L10 _ s refl refl
+flows n w me d m p L11 s = on n w d m _ p _ L11 _ s refl refl
+flows n w me d m p L12 s = on n w d m _ p _ L12 _ s refl refl
+flows n w me d m p L13 s = on n w d m _ p _ L13 _ s refl refl
+flows n w me d m p L14 s = on n w d m _ p _ L14 _ s refl refl
+flows n w me d m p L15 s = on n w d m _ p _ L15 _ s refl refl
+flows n w me d m p L16 s = either (Flows n w d m p L16) (nat_lt p.j n) _ _ (λ b. on n w d m _ p _ L16 _ s refl refl) (λ b. on n w d m _ p _ L16 _ s refl refl)
+flows n w me d m p L17 s = on n w d m _ p _ L17 _ s refl refl
+flows n w me d m p L18 s = either (Flows n w d m p L18) (nat_lt p.k w) _ _ (λ b. on n w d m _ p _ L18 _ s refl refl) (λ b. on n w d m _ p _ L18 _ s refl refl)
+flows n w me d m p L19 s = on n w d m _ p _ L19 _ s refl refl
+flows n w me d m p L20 s = either (Flows n w d m p L20) (nat_lt p.k w) _ _ (λ b. on n w d m _ p _ L20 _ s refl refl) (λ b. on n w d m _ p _ L20 _ s refl refl)
+flows n w me d m p L21 s = on n w d m _ p _ L21 _ s refl refl
+flows n w me d m p L22 s = on n w d m _ p _ L22 _ s refl refl
+flows n w me d m p L23 s = either (Flows n w d m p L23) (nat_lt p.j n) _ _ (λ b. on n w d m _ p _ L23 _ s refl refl) (λ b. on n w d m _ p _ L23 _ s refl refl)
+flows n w me d m p L24 s = on n w d m _ p _ L24 _ s refl refl
+flows n w me d m p L25 s = on n w d m _ p _ L25 _ s refl refl
+flows n w me d m p L26 s = either (Flows n w d m p L26) (same_at p.a p.b p.k) _ _ (λ b. on n w d m _ p _ L26 _ s refl refl) (λ b. on n w d m _ p _ L26 _ s refl refl)
+flows n w me d m p L27 s = on n w d m _ p _ L27 _ s refl refl
+flows n w me d m p L28 s = on n w d m _ p _ L28 _ s refl refl
+flows n w me d m p L29 s = either (Flows n w d m p L29) (nat_lt p.k w) _ _ (λ b. on n w d m _ p _ L29 _ s refl refl) (λ b. on n w d m _ p _ L29 _ s refl refl)
+flows n w me d m p L30 s = either (Flows n w d m p L30) (all_still n p) _ _ (λ b. on n w d m _ p _ L30 _ s refl refl) (λ b. on n w d m _ p _ L30 _ s refl refl)
+flows n w me d m p L31 s = on n w d m _ p _ L31 _ s refl refl
+flows n w me d m p L32 s =
+    whether (Flows n w d m p L32) (first_to d m p) (third_move n p) (λ e. on n w d m _ p _ L32 _ s refl refl) (λ k e. on n w d m _ p _ L32 _ s refl refl)
+flows n w me d m p L33 s = on n w d m _ p _ L33 _ s refl refl
+flows n w me d m p L34 s = on n w d m _ p _ L34 _ s refl refl
+flows n w me Scanning m p L35 s = (inl refl, refl)
+flows n w me (Embedded word value) m p L35 s = (refl, refl, inr (refl, inl refl, refl))
+flows n w me (Updating word value) m p L35 s = absurd s
+flows n w me d m p L36 s = on n w d m _ p _ L36 _ s refl refl
+flows n w me Scanning m p L37 s = (inr refl, refl)
+flows n w me (Embedded word value) m p L37 s = (refl, refl, inr (refl, inr refl, refl))
+flows n w me (Updating word value) m p L37 s = absurd s
+flows n w me Scanning m p L50 s = absurd s
+flows n w me (Embedded word value) m p L50 s = absurd s
+flows n w me (Updating word value) m p L50 s = (inl refl, refl, refl, λ late. absurd late)
+flows n w me Scanning m p L51 s = absurd s
+flows n w me (Embedded word value) m p L51 s = absurd s
+flows n w me (Updating word value) m p L51 s = (inl refl, refl, refl, λ late. absurd late)
+flows n w me Scanning m p L52 s = absurd s
+flows n w me (Embedded word value) m p L52 s = absurd s
+flows n w me (Updating word value) m p L52 s = (inl refl, refl, refl, λ late. absurd late)
+flows n w me Scanning m p L53 s = absurd s
+flows n w me (Embedded word value) m p L53 s = absurd s
+flows n w me (Updating word value) m p L53 s =
+    either (Flows n w (Updating word value) m p L53) (nat_lt p.j n) _ _ (λ b. (inl refl, refl, refl, λ late. absurd late)) (λ b. (inl refl, refl, refl, λ late. absurd late))
+flows n w me Scanning m p L54 s = absurd s
+flows n w me (Embedded word value) m p L54 s = absurd s
+flows n w me (Updating word value) m p L54 s = (refl, refl)
+flows n w me Scanning m p L55 s = absurd s
+flows n w me (Embedded word value) m p L55 s = absurd s
+flows n w me (Updating word value) m p L55 s = (inl refl, refl, refl, λ late. absurd late)
+flows n w me Scanning m p L56 s = absurd s
+flows n w me (Embedded word value) m p L56 s = absurd s
+flows n w me (Updating word value) m p L56 s = (inl refl, refl, refl, λ late. absurd late)
+flows n w me Scanning m p L57 s = absurd s
+flows n w me (Embedded word value) m p L57 s = absurd s
+flows n w me (Updating word value) m p L57 s = (inr refl, refl, refl, λ late. absurd late)
+flows n w me Scanning m p L58 s = absurd s
+flows n w me (Embedded word value) m p L58 s = absurd s
+flows n w me (Updating word value) m p L58 s = refl
+
+-- the line with this number
+abbrev pub counter_with : ℕ → Option ProgramCounter
+counter_with k =
+    if nat_eq k 10 then Some L10
+    else if nat_eq k 11 then Some L11
+    else if nat_eq k 12 then Some L12
+    else if nat_eq k 13 then Some L13
+    else if nat_eq k 14 then Some L14
+    else if nat_eq k 15 then Some L15
+    else if nat_eq k 16 then Some L16
+    else if nat_eq k 17 then Some L17
+    else if nat_eq k 18 then Some L18
+    else if nat_eq k 19 then Some L19
+    else if nat_eq k 20 then Some L20
+    else if nat_eq k 21 then Some L21
+    else if nat_eq k 22 then Some L22
+    else if nat_eq k 23 then Some L23
+    else if nat_eq k 24 then Some L24
+    else if nat_eq k 25 then Some L25
+    else if nat_eq k 26 then Some L26
+    else if nat_eq k 27 then Some L27
+    else if nat_eq k 28 then Some L28
+    else if nat_eq k 29 then Some L29
+    else if nat_eq k 30 then Some L30
+    else if nat_eq k 31 then Some L31
+    else if nat_eq k 32 then Some L32
+    else if nat_eq k 33 then Some L33
+    else if nat_eq k 34 then Some L34
+    else if nat_eq k 35 then Some L35
+    else if nat_eq k 36 then Some L36
+    else if nat_eq k 37 then Some L37
+    else if nat_eq k 50 then Some L50
+    else if nat_eq k 51 then Some L51
+    else if nat_eq k 52 then Some L52
+    else if nat_eq k 53 then Some L53
+    else if nat_eq k 54 then Some L54
+    else if nat_eq k 55 then Some L55
+    else if nat_eq k 56 then Some L56
+    else if nat_eq k 57 then Some L57
+    else if nat_eq k 58 then Some L58
+    else None
+
+-- what the listing says of a line
+pub record LineListed (k : ProgramCounter) : Type 0 where
+  -- no other line has its number
+  pub alone : counter_with (number k) ≡ Some k
+  -- the `if all` line is the one that ends a double collect
+  pub tested : (if is_if_all (instr_at listing_m.lines (number k)) then 1 else 0) ≡ tests k
+  -- line 57 is the one that writes
+  pub wrote : (if nat_eq (number k) 57 then 1 else 0) ≡ writes k
+  -- a `call` line is line 54
+  pub calls : IsCallLine (instr_at listing_m.lines (number k)) → k ≡ L54
+  -- a line that returns a view returns s
+  pub returns : (p : Variables) (v : List ℕ) → Returns (instr_at listing_m.lines (number k)) (locals_of p) v → lines.IsReturn k × (p.s ≡ v)
+  -- an update writes at most once up to the end of a line
+  pub once : written_at k + writes k ≤ 1
+
+pub line_listed : (k : ProgramCounter) → LineListed k
+line_listed L10 = record { alone = refl; tested = refl; wrote = refl; calls = λ h. absurd h; returns = λ p v h. absurd h; once = omega arith }
+line_listed L11 = record { alone = refl; tested = refl; wrote = refl; calls = λ h. absurd h; returns = λ p v h. absurd h; once = omega arith }
+line_listed L12 = record { alone = refl; tested = refl; wrote = refl; calls = λ h. absurd h; returns = λ p v h. absurd h; once = omega arith }
+line_listed L13 = record { alone = refl; tested = refl; wrote = refl; calls = λ h. absurd h; returns = λ p v h. absurd h; once = omega arith }
+line_listed L14 = record { alone = refl; tested = refl; wrote = refl; calls = λ h. absurd h; returns = λ p v h. absurd h; once = omega arith }
+line_listed L15 = record { alone = refl; tested = refl; wrote = refl; calls = λ h. absurd h; returns = λ p v h. absurd h; once = omega arith }
+line_listed L16 = record { alone = refl; tested = refl; wrote = refl; calls = λ h. absurd h; returns = λ p v h. absurd h; once = omega arith }
+line_listed L17 = record { alone = refl; tested = refl; wrote = refl; calls = λ h. absurd h; returns = λ p v h. absurd h; once = omega arith }
+line_listed L18 = record { alone = refl; tested = refl; wrote = refl; calls = λ h. absurd h; returns = λ p v h. absurd h; once = omega arith }
+line_listed L19 = record { alone = refl; tested = refl; wrote = refl; calls = λ h. absurd h; returns = λ p v h. absurd h; once = omega arith }
+line_listed L20 = record { alone = refl; tested = refl; wrote = refl; calls = λ h. absurd h; returns = λ p v h. absurd h; once = omega arith }
+line_listed L21 = record { alone = refl; tested = refl; wrote = refl; calls = λ h. absurd h; returns = λ p v h. absurd h; once = omega arith }
+line_listed L22 = record { alone = refl; tested = refl; wrote = refl; calls = λ h. absurd h; returns = λ p v h. absurd h; once = omega arith }
+line_listed L23 = record { alone = refl; tested = refl; wrote = refl; calls = λ h. absurd h; returns = λ p v h. absurd h; once = omega arith }
+line_listed L24 = record { alone = refl; tested = refl; wrote = refl; calls = λ h. absurd h; returns = λ p v h. absurd h; once = omega arith }
+line_listed L25 = record { alone = refl; tested = refl; wrote = refl; calls = λ h. absurd h; returns = λ p v h. absurd h; once = omega arith }
+line_listed L26 = record { alone = refl; tested = refl; wrote = refl; calls = λ h. absurd h; returns = λ p v h. absurd h; once = omega arith }
+line_listed L27 = record { alone = refl; tested = refl; wrote = refl; calls = λ h. absurd h; returns = λ p v h. absurd h; once = omega arith }
+line_listed L28 = record { alone = refl; tested = refl; wrote = refl; calls = λ h. absurd h; returns = λ p v h. absurd h; once = omega arith }
+line_listed L29 = record { alone = refl; tested = refl; wrote = refl; calls = λ h. absurd h; returns = λ p v h. absurd h; once = omega arith }
+line_listed L30 = record { alone = refl; tested = refl; wrote = refl; calls = λ h. absurd h; returns = λ p v h. absurd h; once = omega arith }
+line_listed L31 = record { alone = refl; tested = refl; wrote = refl; calls = λ h. absurd h; returns = λ p v h. absurd h; once = omega arith }
+line_listed L32 = record { alone = refl; tested = refl; wrote = refl; calls = λ h. absurd h; returns = λ p v h. absurd h; once = omega arith }
+line_listed L33 = record { alone = refl; tested = refl; wrote = refl; calls = λ h. absurd h; returns = λ p v h. absurd h; once = omega arith }
+line_listed L34 = record { alone = refl; tested = refl; wrote = refl; calls = λ h. absurd h; returns = λ p v h. absurd h; once = omega arith }
+line_listed L35 = record { alone = refl; tested = refl; wrote = refl; calls = λ h. absurd h; returns = λ p v h. (inl refl, h); once = omega arith }
+line_listed L36 = record { alone = refl; tested = refl; wrote = refl; calls = λ h. absurd h; returns = λ p v h. absurd h; once = omega arith }
+line_listed L37 = record { alone = refl; tested = refl; wrote = refl; calls = λ h. absurd h; returns = λ p v h. (inr refl, h); once = omega arith }
+line_listed L50 = record { alone = refl; tested = refl; wrote = refl; calls = λ h. absurd h; returns = λ p v h. absurd h; once = omega arith }
+line_listed L51 = record { alone = refl; tested = refl; wrote = refl; calls = λ h. absurd h; returns = λ p v h. absurd h; once = omega arith }
+line_listed L52 = record { alone = refl; tested = refl; wrote = refl; calls = λ h. absurd h; returns = λ p v h. absurd h; once = omega arith }
+line_listed L53 = record { alone = refl; tested = refl; wrote = refl; calls = λ h. absurd h; returns = λ p v h. absurd h; once = omega arith }
+line_listed L54 = record { alone = refl; tested = refl; wrote = refl; calls = λ h. refl; returns = λ p v h. absurd h; once = omega arith }
+line_listed L55 = record { alone = refl; tested = refl; wrote = refl; calls = λ h. absurd h; returns = λ p v h. absurd h; once = omega arith }
+line_listed L56 = record { alone = refl; tested = refl; wrote = refl; calls = λ h. absurd h; returns = λ p v h. absurd h; once = omega arith }
+line_listed L57 = record { alone = refl; tested = refl; wrote = refl; calls = λ h. absurd h; returns = λ p v h. absurd h; once = omega arith }
+line_listed L58 = record { alone = refl; tested = refl; wrote = refl; calls = λ h. absurd h; returns = λ p v h. absurd h; once = omega arith }
+
+pub at_number : (k : ProgramCounter) (line : ℕ) (there : ProgramCounter) → counter_with line ≡ Some there → nat_eq (number k) line ≡ true → k ≡ there
+at_number k line there is same =
+    let e : Some k ≡ Some there = sym (line_listed k).alone ∙ ap counter_with (same_from (number k) line same) ∙ is in cc
+
+-- a `call` line begins a scan
+calls_embed : (n w : ℕ) (d : Task) (m : Registers) (p : Variables) → span.NotTo (algorithm n w) (embed_to d m p)
+calls_embed n w Scanning m p = tt
+calls_embed n w (Embedded word value) m p = tt
+calls_embed n w (Updating word value) m p = tt
+
+calls : (n w me : ℕ) (d : Task) (m : Registers) (p : Variables) (k : ProgramCounter) → k ≡ L54 → span.NotTo (algorithm n w) (move n w me d m p k)
+calls n w me d m p k is = subst (λ y. span.NotTo (algorithm n w) (move n w me d m p y)) (sym is) (calls_embed n w d m p)
+
+-- lines 35 and 37 return s
+answers : (p : Variables) (k : ProgramCounter) → lines.IsReturn k → Returns (instr_at listing_m.lines (number k)) (locals_of p) p.s
+answers p k (inl is) = subst (λ y. Returns (instr_at listing_m.lines (number y)) (locals_of p) p.s) (sym is) refl
+answers p k (inr is) = subst (λ y. Returns (instr_at listing_m.lines (number y)) (locals_of p) p.s) (sym is) refl
+
+pub listed : (n w : ℕ) → scans.Listed (algorithm n w) lines
+listed n w = record {
+  tested = λ k. (line_listed k).tested;
+  calls = λ me d m p k call. calls n w me d m p k ((line_listed k).calls call);
+  returns = λ p k v h. (line_listed k).returns p v h;
+  answers = answers;
+}
+
+pub once : (n w : ℕ) → writes_once.Once (algorithm n w) lines 57
+once n w = record {
+  writes_is = λ k. (line_listed k).wrote;
+  most = λ k. (line_listed k).once;
+  last = λ k is. (ap written_at is, ap writes is);
+}

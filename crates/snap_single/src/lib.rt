@@ -3,6 +3,10 @@
 
 ghost use Rattle.snap_single.specs.Promises.{NeverTraps, ChangesOnlyAt32, WritesItsUpdate, WritesOnce, HavePoints, FewCollects, FewSteps, MovesAreWrites, SharpCollects};
 
+mod text;
+
+pub use text::listing;
+
 /// No process ever traps.
 pub fn never_traps()
     ensures { NeverTraps }

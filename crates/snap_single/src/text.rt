@@ -1,0 +1,58 @@
+//! The listing as the program has it.
+ghost use Rattle.std.specs.Prelude.{◌≡◌, IfOk};
+ghost use Rattle.snap_single.specs.ListingU.{listing_u};
+
+use snap_listing::{Listing, ListingFault, read};
+use std::alloc::{AllocError, Global};
+
+/// The text of listing U.
+const TEXT: &[u8] = b"kind seq\n\
+scalar j c\n\
+row moved\n\
+words a b\n\
+view s\n\
+scan 10\n\
+update 30\n\
+10: each n: moved[@] = 0\n\
+11: let j = 1\n\
+12: get a[j] = r[j]\n\
+13: next j n goto 12\n\
+14: get b[j] = r[j]\n\
+15: next j n goto 14\n\
+16: if all n: seq(a[@]) = seq(b[@]) goto 21\n\
+17: each n: moved[@] = moved[@] + 1 where seq(a[@]) != seq(b[@])\n\
+18: first j n: moved[@] = 2 goto 23\n\
+19: goto 12\n\
+21: view s = data(b)\n\
+22: return s\n\
+23: view s = view(b[j])\n\
+24: return s\n\
+30: call 10\n\
+31: let c = c + 1\n\
+32: put r[me] = (arg, c, s)\n\
+33: finish\n";
+
+/// Listing U, read from its text.
+pub fn listing(alloc: Global) -> Result<Listing, AllocError>
+    ensures { IfOk result (λ l. l ≡ listing_u) }
+{
+    match read(alloc, TEXT) {
+        Ok(listing) => Ok(listing),
+        Err(ListingFault::Memory) => Err(AllocError),
+        Err(ListingFault::Refused(_)) => unreachable!(),
+    }
+}
+
+#[cfg(test)]
+mod tests {
+    use super::listing;
+    use std::test::Fail;
+
+    #[test]
+    fn reads(rt: HostRuntime) -> Result<(), Fail> {
+        let listing = listing(rt.alloc())?;
+        assert_eq!(rt; listing.lines().len(), 18);
+        assert_eq!(rt; listing.update(), 30);
+        Ok(())
+    }
+}

@@ -3,4 +3,5 @@ pub mod HasForms
 pub mod Lines
 pub mod Names
 pub mod SeqSources
+pub mod SpelledForms
 pub mod TextLength

@@ -4,4 +4,6 @@ pub mod Lines
 pub mod Names
 pub mod SeqSources
 pub mod SpelledForms
+pub mod SpelledHeader
+pub mod SpelledLines
 pub mod TextLength

@@ -1,5 +1,5 @@
 -- What is read is of kind seq.
-use Rattle.std.proofs.Common.{◌≡◌, ℕ, ◌+◌, ◌++◌, Bool, true, false, List, [], ◌∷◌, Option, Some, None, Result, Ok, Err, nat_eq, nat_le, codes, if◌then◌else◌, refl, sym, subst}
+use Rattle.std.proofs.Common.{◌≡◌, ℕ, ◌+◌, ◌++◌, Bool, true, false, List, [], ◌∷◌, Option, Some, None, Result, Ok, Err, nat_eq, nat_le, codes, if◌then◌else◌, refl, subst}
 use Rattle.std.specs.List.{AllByRecursion}
 use Rattle.snap_words.specs.declared.kind.KindTag.{KindTag}
 use Rattle.snap_words.specs.declared.kind.KindTag.TheVariants.{Seq}
@@ -9,12 +9,12 @@ use Rattle.snap_semantics.specs.declared.refusal.ListingRefusal.{ListingRefusal}
 use Rattle.snap_semantics.specs.declared.refusal.ListingRefusal.TheVariants as refusal
 use Rattle.snap_semantics.specs.Answers.{◌>>=◌}
 use Rattle.snap_semantics.specs.Forms.{keyword_at, end_at}
-use Rattle.snap_semantics.specs.HeaderForms.{kind_form, names_form, entry_form}
+use Rattle.snap_semantics.specs.HeaderForms.{kind_form, entry_form}
 use Rattle.snap_semantics.specs.IsListing.{HasForm}
 use Rattle.snap_semantics.specs.Listing.{found_or, form_or, header_line, names_line, checked_line, numbered_lines, header_of, with_lines}
 use Rattle.snap_semantics.specs.ListingForms.{line_form}
 use Rattle.snap_semantics.specs.SeqForm.{IsSeqForm, IsSeqSource}
-use Rattle.snap_semantics.specs.Source.{Name, Source, instr_at}
+use Rattle.snap_semantics.specs.Source.{Source, instr_at}
 use Rattle.snap_semantics.specs.Token.{Token, TextLine}
 use Rattle.snap_semantics.specs.Uses.{instr_uses, checked_uses}
 use Rattle.snap_listing.proofs.HasForms.{Holds, then_any, LineFound, line_has, seq_form}

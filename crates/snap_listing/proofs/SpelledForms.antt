@@ -1,40 +1,33 @@
 -- What rules find is spelled as they found it, where its names have at most eight letters.
-use Rattle.std.proofs.Common.{◌≡◌, ℕ, ◌≤◌, ◌++◌, length, take, take_all, sym, ◌∙◌, ap, append_assoc, arith, nat_eq, Bool, true, false, List, [], ◌∷◌, Option, Some, None, bytes_eq, codes, if◌then◌else◌, refl, subst}
+use Rattle.std.proofs.Common.{◌≡◌, ℕ, ◌≤◌, ◌++◌, length, take_all, sym, ◌∙◌, ap, append_assoc, arith, nat_eq, Bool, true, false, List, [], ◌∷◌, Option, Some, None, bytes_eq, codes, if◌then◌else◌, refl}
 use Rattle.snap_words.specs.declared.kind.Field.{Field}
-use Rattle.snap_words.specs.declared.kind.Field.TheVariants as field
 use Rattle.snap_semantics.specs.declared.instr.Comparison.{Comparison}
 use Rattle.snap_semantics.specs.declared.instr.Condition.{Condition}
-use Rattle.snap_semantics.specs.declared.instr.Condition.TheVariants.{One, Two, Three, Four}
 use Rattle.snap_semantics.specs.declared.instr.Expr.{Expr}
-use Rattle.snap_semantics.specs.declared.instr.Expr.TheVariants as expr
 use Rattle.snap_semantics.specs.declared.instr.Index.{Index}
 use Rattle.snap_semantics.specs.declared.instr.Index.TheVariants as index
 use Rattle.snap_semantics.specs.declared.instr.Instr.{Instr}
-use Rattle.snap_semantics.specs.declared.instr.Instr.TheVariants.{Let, LetPlace, Get, Bit, Look, Put, PutBit, PutView, ViewData, ViewOf, Each, First, Next, If, IfAll, Goto, Call, Return, Finish}
+use Rattle.snap_semantics.specs.declared.instr.Instr.TheVariants.{Goto, Call, Finish}
 use Rattle.snap_semantics.specs.declared.instr.Join.{Join}
 use Rattle.snap_semantics.specs.declared.instr.Join.TheVariants.{And, Or}
 use Rattle.snap_semantics.specs.declared.instr.Line.{Line}
 use Rattle.snap_semantics.specs.declared.instr.Term.{Term}
-use Rattle.snap_semantics.specs.declared.instr.Term.TheVariants as term
 use Rattle.snap_semantics.specs.declared.instr.Tuple.{Tuple}
-use Rattle.snap_semantics.specs.declared.instr.Tuple.TheVariants as tuple
 use Rattle.snap_semantics.specs.declared.text.Mark.TheVariants as mark
-use Rattle.snap_semantics.specs.Forms.{◌>>=◌, or_else, Found, number_at, word_at, keyword_at, mark_at, end_at}
+use Rattle.snap_semantics.specs.Forms.{◌>>=◌, number_at, word_at, keyword_at, mark_at, end_at}
 use Rattle.std.proofs.lemmas.Bool.{eqb-true}
 use Rattle.std.proofs.lemmas.List.{append-nil, length-take}
 use Rattle.std.specs.Cmp.Lexicographic.{same_text}
 use Rattle.std.specs.List.{AllByRecursion}
 use Rattle.snap_semantics.specs.declared.instr.Range.{Range}
-use Rattle.snap_semantics.specs.declared.instr.Range.TheVariants as range
 use Rattle.snap_semantics.specs.declared.instr.Relation.{Relation}
-use Rattle.snap_semantics.specs.declared.instr.Relation.TheVariants as relation
 use Rattle.snap_semantics.specs.declared.text.Mark.{Mark}
 use Rattle.snap_semantics.specs.ListingForms.{is_reserved, name_of_word, name_at, index_of_word, number_index, place_index, word_index, index_at, place_at, named_place_at, arg_term, row_term, field_of_word, field_term, index_term, term_at, not_expr, plus_expr, term_expr, expr_at, relation_at, comparison_at, join_word, joined_at, third_on, second_on, first_on, condition_at, where_at, range_at, target_at, let_form, let_place_form, get_form, seq_tuple_at, put_form, view_data_form, view_of_form, each_form, first_form, next_form, if_form, if_all_form, goto_form, call_form, return_form, finish_form, form_of_word, is_line_number, line_form}
 use Rattle.snap_semantics.specs.Source.{Name}
 use Rattle.snap_semantics.specs.Spelling.{in_parentheses, in_brackets, spelled_index, spelled_place, field_word, spelled_term, spelled_expr, spelled_relation, spelled_comparison, spelled_condition, spelled_where, spelled_range, spelled_target, spelled_tuple, spelled_instr, spelled_line}
-use Rattle.snap_semantics.specs.Token.{Token, Word, Number, Sign, mark_byte, same_mark, mark_of}
+use Rattle.snap_semantics.specs.Token.{Token, Word, Number, Sign, mark_byte, same_mark}
 use Rattle.snap_semantics.specs.Uses.{Use, view, index_uses, term_uses, expr_uses, comparison_uses, condition_uses, where_uses, tuple_uses, instr_uses}
-use Rattle.snap_listing.proofs.HasForms.{Holds, then_any, then_with, either, if_so}
+use Rattle.snap_listing.proofs.HasForms.{Holds, then_with, either, if_so}
 
 abbrev pub IsShort : Use → Type 0
 IsShort u = length u.name ≤ 8

@@ -1,16 +1,14 @@
 -- The header that is read has names as they have to be, and its lines are spelled as they were found.
-use Rattle.std.proofs.Common.{◌≡◌, ℕ, ◌+◌, ◌<◌, ◌≤◌, ◌||◌, ◌&&◌, ◌++◌, Bool, true, false, List, [], ◌∷◌, length, map, Option, Some, None, Result, Ok, Err, nat_le, bytes_eq, codes, if◌then◌else◌, refl, sym, ap, ◌∙◌, subst, append_assoc, arith}
+use Rattle.std.proofs.Common.{◌≡◌, ℕ, ◌+◌, ◌<◌, ◌≤◌, ◌||◌, ◌++◌, Bool, true, false, List, [], ◌∷◌, length, map, Option, Some, None, Result, nat_le, bytes_eq, codes, if◌then◌else◌, refl, sym, ap, ◌∙◌, subst, append_assoc, arith}
 use Rattle.std.proofs.lemmas.Bool.{leb-false}
 use Rattle.std.proofs.lemmas.List.{append-nil, length-append}
 use Rattle.std.proofs.lemmas.Slice.Eq.{bytes_eq-Decides}
 use Rattle.std.specs.Cmp.Lexicographic.{same_text}
-use Rattle.std.specs.List.{AllByRecursion, list_any}
+use Rattle.std.specs.List.{AllByRecursion}
 use Rattle.snap_words.specs.declared.kind.KindTag.{KindTag}
 use Rattle.snap_words.specs.declared.kind.KindTag.TheVariants as kind
 use Rattle.snap_semantics.specs.declared.refusal.ListingRefusal.{ListingRefusal}
 use Rattle.snap_semantics.specs.declared.refusal.ListingRefusal.TheVariants as refusal
-use Rattle.snap_semantics.specs.Answers.{◌>>=◌}
-use Rattle.snap_semantics.specs.Forms as forms
 use Rattle.snap_semantics.specs.Forms.{number_at, keyword_at, end_at}
 use Rattle.snap_semantics.specs.HeaderForms.{kind_form, words_form, names_form, entry_form}
 use Rattle.snap_semantics.specs.IsListing.{IsName, AreDistinct}
@@ -21,8 +19,8 @@ use Rattle.snap_semantics.specs.Spelling.{kind_word, spelled_names, spelled_entr
 use Rattle.snap_semantics.specs.Token.{Token, Word, Number, Sign, TextLine}
 use Rattle.snap_semantics.specs.Uses.{is_among}
 use Rattle.snap_listing.specs.Laws.{line_tokens}
-use Rattle.snap_listing.proofs.HasForms.{Holds, then_any, then_with}
-use Rattle.snap_listing.proofs.SeqSources.{HoldsOk, ok_any, ok_with, form_holds}
+use Rattle.snap_listing.proofs.HasForms.{Holds, then_with}
+use Rattle.snap_listing.proofs.SeqSources.{HoldsOk, ok_with}
 use Rattle.snap_listing.proofs.SpelledForms.{KeywordIs, keyword_is, NumberIs, number_is, EndIs, end_is}
 
 pub ok_when : {A : Type 0} (P : A → Type 0) (b : Bool) (r s : Result A ListingRefusal) → HoldsOk P r → (b ≡ false → HoldsOk P s) → HoldsOk P (if b then r else s)

@@ -1,5 +1,5 @@
 -- The lines that are read are as they have to be, and are spelled as they were found.
-use Rattle.std.proofs.Common.{◌≡◌, ℕ, ◌+◌, ◌<◌, ◌≤◌, ◌||◌, ◌++◌, Bool, true, false, List, [], ◌∷◌, length, map, Option, Some, None, Result, Ok, Err, nat_lt, nat_le, bytes_eq, codes, if◌then◌else◌, refl, sym, ap, ◌∙◌, subst, arith}
+use Rattle.std.proofs.Common.{◌≡◌, ℕ, ◌+◌, ◌<◌, ◌≤◌, ◌||◌, ◌++◌, Bool, true, false, List, [], ◌∷◌, length, map, Option, Some, None, Result, Ok, Err, nat_lt, nat_le, bytes_eq, codes, if◌then◌else◌, refl, sym, ap, ◌∙◌, arith}
 use Rattle.std.proofs.lemmas.Bool.{leb-false, ltb-false}
 use Rattle.std.specs.Cmp.Lexicographic.{same_text}
 use Rattle.std.specs.List.{AllByRecursion}
@@ -8,17 +8,16 @@ use Rattle.snap_semantics.specs.declared.refusal.ListingRefusal.{ListingRefusal}
 use Rattle.snap_semantics.specs.declared.refusal.ListingRefusal.TheVariants as refusal
 use Rattle.snap_semantics.specs.declared.text.Sort.{Sort}
 use Rattle.snap_semantics.specs.declared.text.Sort.TheVariants as sort
-use Rattle.snap_semantics.specs.Answers.{◌>>=◌}
-use Rattle.snap_semantics.specs.IsListing.{IsName, AreRising, IsDeclared, IsLine, IsListing, HasForm}
-use Rattle.snap_semantics.specs.Listing.{is_bad_name, found_or, form_or, checked_line, numbered_lines, has_line, checked_targets, line_targets, all_names, header_of, with_lines, listing_of_lines, listing_of}
-use Rattle.snap_semantics.specs.ListingForms.{is_reserved, is_line_number, line_form}
+use Rattle.snap_semantics.specs.IsListing.{IsName, AreRising, IsDeclared, IsLine, IsListing}
+use Rattle.snap_semantics.specs.Listing.{found_or, form_or, checked_line, numbered_lines, has_line, checked_targets, line_targets, all_names, header_of, with_lines, listing_of_lines, listing_of}
+use Rattle.snap_semantics.specs.ListingForms.{is_reserved, line_form}
 use Rattle.snap_semantics.specs.Source.{Name, Source}
 use Rattle.snap_semantics.specs.Spelling.{spelled_names, spelled_entry, spelled_line, spelled_source}
 use Rattle.snap_semantics.specs.Token.{Token, TextLine, text_lines, lines_of}
 use Rattle.snap_semantics.specs.Uses.{Use, instr_uses, is_among, sort_of, same_sort, use_of_sort, checked_uses}
 use Rattle.snap_listing.specs.Laws.{line_tokens, Spells}
 use Rattle.snap_listing.proofs.HasForms.{Holds, LineFound, line_has}
-use Rattle.snap_listing.proofs.SeqSources.{HoldsOk, holds_ok, ok_any, ok_with}
+use Rattle.snap_listing.proofs.SeqSources.{HoldsOk, holds_ok, ok_with}
 use Rattle.snap_listing.proofs.SpelledForms.{IsShort, Shorts, LineIs, line_is}
 use Rattle.snap_listing.proofs.SpelledHeader.{ok_when, or_left, spelled_kind, HeaderOk, header_ok}
 

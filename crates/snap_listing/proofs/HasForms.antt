@@ -1,12 +1,8 @@
 -- What rules find has a form of kind seq.
-use Rattle.std.proofs.Common.{◌≡◌, ℕ, Bool, true, false, List, [], ◌∷◌, Option, Some, None, bytes_eq, codes, if◌then◌else◌, refl, subst}
-use Rattle.snap_words.specs.declared.kind.Field.{Field}
-use Rattle.snap_words.specs.declared.kind.Field.TheVariants as field
+use Rattle.std.proofs.Common.{◌≡◌, ℕ, Bool, true, false, List, Option, Some, None, bytes_eq, codes, if◌then◌else◌, refl, subst}
 use Rattle.snap_semantics.specs.declared.instr.Comparison.{Comparison}
 use Rattle.snap_semantics.specs.declared.instr.Condition.{Condition}
-use Rattle.snap_semantics.specs.declared.instr.Condition.TheVariants.{One, Two, Three, Four}
 use Rattle.snap_semantics.specs.declared.instr.Expr.{Expr}
-use Rattle.snap_semantics.specs.declared.instr.Expr.TheVariants as expr
 use Rattle.snap_semantics.specs.declared.instr.Index.{Index}
 use Rattle.snap_semantics.specs.declared.instr.Index.TheVariants as index
 use Rattle.snap_semantics.specs.declared.instr.Instr.{Instr}
@@ -15,11 +11,10 @@ use Rattle.snap_semantics.specs.declared.instr.Join.{Join}
 use Rattle.snap_semantics.specs.declared.instr.Join.TheVariants.{And, Or}
 use Rattle.snap_semantics.specs.declared.instr.Line.{Line}
 use Rattle.snap_semantics.specs.declared.instr.Term.{Term}
-use Rattle.snap_semantics.specs.declared.instr.Term.TheVariants as term
 use Rattle.snap_semantics.specs.declared.instr.Tuple.{Tuple}
 use Rattle.snap_semantics.specs.declared.instr.Tuple.TheVariants as tuple
 use Rattle.snap_semantics.specs.declared.text.Mark.TheVariants as mark
-use Rattle.snap_semantics.specs.Forms.{◌>>=◌, or_else, Found, number_at, word_at, keyword_at, mark_at, end_at}
+use Rattle.snap_semantics.specs.Forms.{◌>>=◌, or_else, number_at, word_at, keyword_at, mark_at, end_at}
 use Rattle.snap_semantics.specs.IsListing.{HasIndex, IsSeqField, HasTerm, HasExpr, HasComparison, HasCondition, HasWhere, HasTuple, HasForm}
 use Rattle.snap_semantics.specs.ListingForms.{name_of_word, name_at, index_of_word, number_index, place_index, word_index, index_at, place_at, named_place_at, arg_term, row_term, field_of_word, field_term, index_term, term_at, not_expr, plus_expr, term_expr, expr_at, relation_at, comparison_at, join_word, joined_at, third_on, second_on, first_on, condition_at, where_at, range_at, target_at, let_form, let_place_form, get_form, seq_tuple_at, put_form, view_data_form, view_of_form, each_form, first_form, next_form, if_form, if_all_form, goto_form, call_form, return_form, finish_form, form_of_word, is_line_number, line_form}
 use Rattle.snap_semantics.specs.SeqForm.{IsSeqForm, IsSeqTuple}

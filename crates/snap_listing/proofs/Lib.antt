@@ -3,4 +3,7 @@ pub mod HasForms
 pub mod Lines
 pub mod Names
 pub mod SeqSources
+pub mod SpelledForms
+pub mod SpelledHeader
+pub mod SpelledLines
 pub mod TextLength

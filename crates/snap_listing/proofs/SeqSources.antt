@@ -1,5 +1,5 @@
 -- What is read is of kind seq.
-use Rattle.std.proofs.Common.{◌≡◌, ℕ, ◌+◌, ◌++◌, Bool, true, false, List, [], ◌∷◌, Option, Some, None, Result, Ok, Err, nat_eq, nat_le, codes, if◌then◌else◌, refl, sym, subst}
+use Rattle.std.proofs.Common.{◌≡◌, ℕ, ◌+◌, ◌++◌, Bool, true, false, List, [], ◌∷◌, Option, Some, None, Result, Ok, Err, nat_eq, nat_le, codes, if◌then◌else◌, refl, subst}
 use Rattle.std.specs.List.{AllByRecursion}
 use Rattle.snap_words.specs.declared.kind.KindTag.{KindTag}
 use Rattle.snap_words.specs.declared.kind.KindTag.TheVariants.{Seq}
@@ -9,12 +9,12 @@ use Rattle.snap_semantics.specs.declared.refusal.ListingRefusal.{ListingRefusal}
 use Rattle.snap_semantics.specs.declared.refusal.ListingRefusal.TheVariants as refusal
 use Rattle.snap_semantics.specs.Answers.{◌>>=◌}
 use Rattle.snap_semantics.specs.Forms.{keyword_at, end_at}
-use Rattle.snap_semantics.specs.HeaderForms.{kind_form, names_form, entry_form}
+use Rattle.snap_semantics.specs.HeaderForms.{kind_form, entry_form}
 use Rattle.snap_semantics.specs.IsListing.{HasForm}
 use Rattle.snap_semantics.specs.Listing.{found_or, form_or, header_line, names_line, checked_line, numbered_lines, header_of, with_lines}
 use Rattle.snap_semantics.specs.ListingForms.{line_form}
 use Rattle.snap_semantics.specs.SeqForm.{IsSeqForm, IsSeqSource}
-use Rattle.snap_semantics.specs.Source.{Name, Source, instr_at}
+use Rattle.snap_semantics.specs.Source.{Source, instr_at}
 use Rattle.snap_semantics.specs.Token.{Token, TextLine}
 use Rattle.snap_semantics.specs.Uses.{instr_uses, checked_uses}
 use Rattle.snap_listing.proofs.HasForms.{Holds, then_any, LineFound, line_has, seq_form}
@@ -24,11 +24,11 @@ abbrev pub HoldsOk : {A : Type 0} → (A → Type 0) → Result A ListingRefusal
 HoldsOk P (Ok x) = P x
 HoldsOk P (Err e) = Unit {0}
 
-ok_any : {A B : Type 0} (P : B → Type 0) (r : Result A ListingRefusal) (f : A → Result B ListingRefusal) → ((x : A) → HoldsOk P (f x)) → HoldsOk P (r >>= f)
+pub ok_any : {A B : Type 0} (P : B → Type 0) (r : Result A ListingRefusal) (f : A → Result B ListingRefusal) → ((x : A) → HoldsOk P (f x)) → HoldsOk P (r >>= f)
 ok_any P (Ok x) f h = h x
 ok_any P (Err e) f h = tt
 
-ok_with : {A B : Type 0} (Q : A → Type 0) (P : B → Type 0) (r : Result A ListingRefusal) (f : A → Result B ListingRefusal) →
+pub ok_with : {A B : Type 0} (Q : A → Type 0) (P : B → Type 0) (r : Result A ListingRefusal) (f : A → Result B ListingRefusal) →
     HoldsOk Q r → ((x : A) → Q x → HoldsOk P (f x)) → HoldsOk P (r >>= f)
 ok_with Q P (Ok x) f g h = h x g
 ok_with Q P (Err e) f g h = tt
@@ -37,16 +37,16 @@ pub holds_ok : {A : Type 0} (P : A → Type 0) (r : Result A ListingRefusal) (x 
 holds_ok P (Ok y) x h e = let p : y ≡ x = cc in subst P p h
 holds_ok P (Err d) x h e = absurd cc
 
-found_holds : {A : Type 0} (P : A → Type 0) (e : ListingRefusal) (o : Option A) → Holds P o → HoldsOk P (found_or e o)
+pub found_holds : {A : Type 0} (P : A → Type 0) (e : ListingRefusal) (o : Option A) → Holds P o → HoldsOk P (found_or e o)
 found_holds P e None h = tt
 found_holds P e (Some x) h = h
 
-form_holds : {A : Type 0} (P : A → Type 0) (e : ListingRefusal) (rule : List Token → Option A) (tokens : Option (List Token)) →
+pub form_holds : {A : Type 0} (P : A → Type 0) (e : ListingRefusal) (rule : List Token → Option A) (tokens : Option (List Token)) →
     ((ts : List Token) → Holds P (rule ts)) → HoldsOk P (form_or e rule tokens)
 form_holds P e rule None h = tt
 form_holds P e rule (Some ts) h = found_holds P e (rule ts) (h ts)
 
-ok_if : {A : Type 0} (P : A → Type 0) (b : Bool) (r s : Result A ListingRefusal) → HoldsOk P r → HoldsOk P s → HoldsOk P (if b then r else s)
+pub ok_if : {A : Type 0} (P : A → Type 0) (b : Bool) (r s : Result A ListingRefusal) → HoldsOk P r → HoldsOk P s → HoldsOk P (if b then r else s)
 ok_if P true r s g h = g
 ok_if P false r s g h = h
 

@@ -1,5 +1,5 @@
 -- A text has no more lines than bytes.
-use Rattle.std.proofs.Common.{◌≡◌, ℕ, ◌+◌, ◌≤◌, Bool, true, false, List, [], ◌∷◌, length, nat_eq, if◌then◌else◌, arith}
+use Rattle.std.proofs.Common.{ℕ, ◌+◌, ◌≤◌, Bool, true, false, List, [], ◌∷◌, length, nat_eq, if◌then◌else◌, arith}
 use Rattle.snap_semantics.specs.Token.{onto_line, lines_of}
 
 onto_few : (b : ℕ) (lines : List (List ℕ)) → length (onto_line b lines) ≤ length lines + 1

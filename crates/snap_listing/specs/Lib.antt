@@ -1,4 +1,5 @@
 pub mod Checks
 pub mod Fields
+pub mod Laws
 pub mod Reading
 pub mod Rules

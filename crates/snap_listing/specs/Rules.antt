@@ -1,5 +1,5 @@
 -- Rules that the code has and the grammar does not name.
-use Rattle.std.specs.Prelude.{Bool, List, Option, Some}
+use Rattle.std.specs.Prelude.{Bool, List, Some}
 use Rattle.snap_semantics.specs.declared.instr.Expr.{Expr}
 use Rattle.snap_semantics.specs.declared.instr.Expr.TheVariants as expr
 use Rattle.snap_semantics.specs.declared.instr.Term.{Term}

@@ -5,6 +5,7 @@ mod conditions;
 mod fault;
 mod forms;
 mod header;
+mod laws;
 mod listing;
 mod reader;
 mod terms;
@@ -13,5 +14,6 @@ mod tests;
 mod uses;
 
 pub use fault::ListingFault;
+pub use laws::what_is_read_is_spelled;
 pub use listing::Listing;
 pub use reader::read;

@@ -1,7 +1,6 @@
-use Rattle.std.proofs.Common.{◌≡◌, ◌++◌, ◌∷◌, [], ◌<◌, length, map, List, ℕ, Err, sym, ◌∙◌, arith}
+use Rattle.std.proofs.Common.{◌≡◌, ◌<◌, length, map, Err, sym, ◌∙◌, arith}
 use Rattle.std.proofs.lemmas.Grind.{common_steps}
 use Rattle.snap_semantics.specs.Listing.{new_names}
-use Rattle.snap_semantics.specs.Source.{Name}
 use Rattle.snap_listing.specs.Reading.{letters_of}
 use Rattle.snap_listing.proofs.Names.{names_step, names_stop, added_on}
 use Rattle.snap_listing.proofs.header.new_names.Goals as goal

@@ -1,8 +1,7 @@
-use Rattle.std.proofs.Common.{◌≡◌, List, ◌∷◌, arith}
+use Rattle.std.proofs.Common.{arith}
 use Rattle.std.proofs.lemmas.Grind.{common_steps}
 use Rattle.snap_semantics.specs.Answers.{IsRefusal}
 use Rattle.snap_semantics.specs.Listing.{numbered_lines}
-use Rattle.snap_semantics.specs.Token.{TextLine}
 use Rattle.snap_listing.specs.Fields.{header_source}
 use Rattle.snap_listing.specs.Reading.{refusal_in}
 use Rattle.snap_text.specs.Lines.{view_line}

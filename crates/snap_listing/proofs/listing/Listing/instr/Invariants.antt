@@ -1,4 +1,4 @@
-use Rattle.std.proofs.Common.{◌≡◌, ◌≤◌, ◌-◌, drop, length}
+use Rattle.std.proofs.Common.{◌≡◌, ◌-◌, drop, length}
 use Rattle.snap_semantics.specs.Source.{instr_at}
 use Rattle.snap_listing.proofs.listing.Listing.instr.Given as goal
 

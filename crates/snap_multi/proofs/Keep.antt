@@ -19,7 +19,7 @@ use Rattle.snap_runs.proofs.Algorithm.{Idle, At, To, Begin, Answer, Finish, New,
 use Rattle.snap_runs.proofs.Flow as flow
 use Rattle.snap_runs.proofs.Held.{Held}
 use Rattle.snap_multi.specs.Promises.{counts}
-use Rattle.snap_multi.proofs.Algorithm.{limit, lines, Registers, restarts, Process, Control, Move, State, Variables, ProgramCounter, L10, L11, L12, L13, L14, L15, L16, L17, L18, L19, L20, L21, L22, L23, L24, L25, L26, L27, L28, L29, L30, L31, L32, L33, L34, L35, L36, L37, L50, L51, L52, L53, L54, L55, L56, L57, L58, place, bit, flip, move, first_to, return_to, embed_to, same_at, all_still, third_move, after_15, after_52, after_55, after_57, IsLineOf, IsScan, tests, writes, algorithm}
+use Rattle.snap_multi.proofs.Algorithm.{counter, limit, lines, Registers, restarts, Process, Control, Move, State, Variables, ProgramCounter, L10, L11, L12, L13, L14, L15, L16, L17, L18, L19, L20, L21, L22, L23, L24, L25, L26, L27, L28, L29, L30, L31, L32, L33, L34, L35, L36, L37, L50, L51, L52, L53, L54, L55, L56, L57, L58, place, bit, flip, move, first_to, return_to, embed_to, same_at, all_still, third_move, after_15, after_52, after_55, after_57, IsLineOf, IsScan, tests, writes, algorithm}
 use Rattle.snap_multi.proofs.Basics.{less_or_not}
 use Rattle.snap_multi.proofs.Control.{Keeps, BelowLimit, LongMove, long_move, MoveWell, ControlWell, Ground, move_well, called_well}
 use Rattle.snap_multi.proofs.Flows.{in_scan, flows}
@@ -575,7 +575,7 @@ admit_inv n w t history x i (Update word value) None e count one same laws h is 
     let own : Own n w (suc t) history i q =
     own_kept n w t history i q one ((laws (suc t) (omega arith)).since t (omega arith)) (untouched_same n w i (history t) (history (suc t)) same) (h.each i one) in
     let rest : Rest n w i (history (suc t)) q.variables.tog = subst (BooksAt n w i (history q.auxiliary.since) (history (suc t)) q.variables) is own.books in
-    put_inv n w t history x i x.memory (record { control = At (Updating word value) L50; variables = q.variables; auxiliary = called_auxiliary (suc t) (Update word value) q.auxiliary }) Called count one laws
+    put_inv n w t history x i x.memory (record { control = At (Updating word value) (counter (Update word value)); variables = q.variables; auxiliary = called_auxiliary (suc t) (Update word value) q.auxiliary }) Called count one laws
     (λ j o other. untouched_same n w j (history t) (history (suc t)) same) h
     (record {
       well = called_well n w i q.variables (Update word value) e;

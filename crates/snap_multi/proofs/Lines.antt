@@ -171,7 +171,7 @@ lines n w me (Updating y z) m p L56 s h =
 lines n w me Scanning m p L57 s h = absurd s
 lines n w me (Embedded y z) m p L57 s h = absurd s
 lines n w me (Updating y z) m p L57 s h =
-    let word : Word = record { datum = z; seq = 0; id = me; toggle = place p.tog y; hands = []; view = [] } in
+    let word : Word = plain (written me (Updating y z) m p) in
     bind_ok _ _ _ _ (place_ok w y h.0)
     (bind_ok _ _ word _ (bind_ok _ _ _ _ (bind_ok _ _ _ _ (place_ok (max n w) y (word_place n w y h.0)) refl) refl)
     (bind_ok _ _ word _ (if_true (nat_le (place p.tog y) 1 && true) (Ok word) (Err NotABit) (ap (λ b. b && true) (le_true (place p.tog y) 1 h.1)))

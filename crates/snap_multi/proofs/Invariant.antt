@@ -1,5 +1,5 @@
 -- The invariant of M: what holds in every state of every run.
-use Rattle.snap_runs.proofs.Computing.{lt_true, not_lt, same_number, other_number}
+use Rattle.snap_runs.proofs.Computing.{either, lt_true, not_lt, same_number, other_number}
 use Rattle.std.specs.Prelude.{◌≡◌, ◌≢◌, ℕ, suc, ◌+◌, ◌-◌, ◌<◌, ◌≤◌, max, Bool, true, false, Option, Some, None, List, length, nat_eq, nat_lt, if◌then◌else◌, slice_set, refl}
 use Rattle.std.proofs.Common.{sym, ◌∙◌, ap, subst, arith, inl, inr}
 use Rattle.std.proofs.lemmas.Bool.{cases_eq}
@@ -7,10 +7,10 @@ use Rattle.std.proofs.lemmas.Grind.{common_steps}
 use Rattle.snap_words.specs.Shape.{IsOneOf}
 use Rattle.snap_semantics.specs.declared.process.Outcome.{Outcome}
 use Rattle.snap_runs.proofs.Algorithm.{Idle, At, To, Begin, Answer, Finish, New, typed_at, changed, Task, Scanning, Embedded, Updating}
-use Rattle.snap_runs.proofs.Embedding as embed
 use Rattle.snap_runs.proofs.Flow as flow
+use Rattle.snap_runs.proofs.Frame as frame
 use Rattle.snap_runs.proofs.Flow.{IsInScan}
-use Rattle.snap_multi.proofs.Algorithm.{IsLate, lines, Registers, Change, Control, Process, State, Move, Variables, ProgramCounter, L10, L11, L12, L13, L14, L15, L16, L17, L18, L19, L20, L21, L22, L23, L24, L25, L26, L27, L28, L29, L30, L31, L32, L33, L34, L35, L36, L37, L50, L51, L52, L53, L54, L55, L56, L57, L58, place, bit, flip, move, first_to, return_to, embed_to, same_at, all_still, third_move, IsScan, IsUpdate, IsLineOf, algorithm}
+use Rattle.snap_multi.proofs.Algorithm.{IsLate, lines, Registers, Control, Process, State, Move, Variables, ProgramCounter, L10, L11, L12, L13, L14, L15, L16, L17, L18, L19, L20, L21, L22, L23, L24, L25, L26, L27, L28, L29, L30, L31, L32, L33, L34, L35, L36, L37, L50, L51, L52, L53, L54, L55, L56, L57, L58, place, bit, flip, move, first_to, return_to, embed_to, same_at, all_still, third_move, IsScan, IsUpdate, IsLineOf, algorithm}
 use Rattle.snap_multi.proofs.Basics.{set_here, set_there}
 use Rattle.snap_multi.proofs.Control.{ControlWell, Long}
 use Rattle.snap_multi.proofs.History.{Since, Laws}
@@ -88,11 +88,6 @@ BooksMove n w me base m tog (To d m' p k) = Books n w me base m d p k
 BooksMove n w me base m tog (Begin d p k) = Books n w me m m d p k
 BooksMove n w me base m tog (Answer v) = Rest n w me m tog
 BooksMove n w me base m tog Finish = Rest n w me m tog
-
-books_if : (n w me : ℕ) (base m : Registers) (tog : List ℕ) (b : Bool) (x y : Move) →
-    (b ≡ true → BooksMove n w me base m tog x) → (b ≡ false → BooksMove n w me base m tog y) → BooksMove n w me base m tog (if b then x else y)
-books_if n w me base m tog true x y f g = f refl
-books_if n w me base m tog false x y f g = g refl
 
 -- the lines of a scan
 pub books_scan : (n w me : ℕ) (base m : Registers) (d : Task) (p p' : Variables) (k k' : ProgramCounter) → IsScan w d → p'.tog ≡ p.tog →
@@ -184,21 +179,21 @@ books_move n w me base m m' d p L12 s quiet long h = books_scan n w me base m d 
 books_move n w me base m m' d p L13 s quiet long h = books_scan n w me base m d p _ L13 _ s refl h
 books_move n w me base m m' d p L14 s quiet long h = books_scan n w me base m d p _ L14 _ s refl h
 books_move n w me base m m' d p L15 s quiet long h = absurd quiet
-books_move n w me base m m' d p L16 s quiet long h = books_if n w me base m p.tog (nat_lt p.j n) _ _ (λ t. books_scan n w me base m d p _ L16 _ s refl h) (λ t. books_scan n w me base m d p _ L16 _ s refl h)
+books_move n w me base m m' d p L16 s quiet long h = either (BooksMove n w me base m p.tog) (nat_lt p.j n) _ _ (λ t. books_scan n w me base m d p _ L16 _ s refl h) (λ t. books_scan n w me base m d p _ L16 _ s refl h)
 books_move n w me base m m' d p L17 s quiet long h = books_scan n w me base m d p _ L17 _ s refl h
-books_move n w me base m m' d p L18 s quiet long h = books_if n w me base m p.tog (nat_lt p.k w) _ _ (λ t. books_scan n w me base m d p _ L18 _ s refl h) (λ t. books_scan n w me base m d p _ L18 _ s refl h)
+books_move n w me base m m' d p L18 s quiet long h = either (BooksMove n w me base m p.tog) (nat_lt p.k w) _ _ (λ t. books_scan n w me base m d p _ L18 _ s refl h) (λ t. books_scan n w me base m d p _ L18 _ s refl h)
 books_move n w me base m m' d p L19 s quiet long h = books_scan n w me base m d p _ L19 _ s refl h
-books_move n w me base m m' d p L20 s quiet long h = books_if n w me base m p.tog (nat_lt p.k w) _ _ (λ t. books_scan n w me base m d p _ L20 _ s refl h) (λ t. books_scan n w me base m d p _ L20 _ s refl h)
+books_move n w me base m m' d p L20 s quiet long h = either (BooksMove n w me base m p.tog) (nat_lt p.k w) _ _ (λ t. books_scan n w me base m d p _ L20 _ s refl h) (λ t. books_scan n w me base m d p _ L20 _ s refl h)
 books_move n w me base m m' d p L21 s quiet long h = books_scan n w me base m d p _ L21 _ s refl h
 books_move n w me base m m' d p L22 s quiet long h = books_scan n w me base m d p _ L22 _ s refl h
-books_move n w me base m m' d p L23 s quiet long h = books_if n w me base m p.tog (nat_lt p.j n) _ _ (λ t. books_scan n w me base m d p _ L23 _ s refl h) (λ t. books_scan n w me base m d p _ L23 _ s refl h)
+books_move n w me base m m' d p L23 s quiet long h = either (BooksMove n w me base m p.tog) (nat_lt p.j n) _ _ (λ t. books_scan n w me base m d p _ L23 _ s refl h) (λ t. books_scan n w me base m d p _ L23 _ s refl h)
 books_move n w me base m m' d p L24 s quiet long h = books_scan n w me base m d p _ L24 _ s refl h
 books_move n w me base m m' d p L25 s quiet long h = books_scan n w me base m d p _ L25 _ s refl h
-books_move n w me base m m' d p L26 s quiet long h = books_if n w me base m p.tog (same_at p.a p.b p.k) _ _ (λ t. books_scan n w me base m d p _ L26 _ s refl h) (λ t. books_scan n w me base m d p _ L26 _ s refl h)
+books_move n w me base m m' d p L26 s quiet long h = either (BooksMove n w me base m p.tog) (same_at p.a p.b p.k) _ _ (λ t. books_scan n w me base m d p _ L26 _ s refl h) (λ t. books_scan n w me base m d p _ L26 _ s refl h)
 books_move n w me base m m' d p L27 s quiet long h = books_scan n w me base m d p _ L27 _ s refl h
 books_move n w me base m m' d p L28 s quiet long h = books_scan n w me base m d p _ L28 _ s refl h
-books_move n w me base m m' d p L29 s quiet long h = books_if n w me base m p.tog (nat_lt p.k w) _ _ (λ t. books_scan n w me base m d p _ L29 _ s refl h) (λ t. books_scan n w me base m d p _ L29 _ s refl h)
-books_move n w me base m m' d p L30 s quiet long h = books_if n w me base m p.tog (all_still n p) _ _ (λ t. books_scan n w me base m d p _ L30 _ s refl h) (λ t. books_scan n w me base m d p _ L30 _ s refl h)
+books_move n w me base m m' d p L29 s quiet long h = either (BooksMove n w me base m p.tog) (nat_lt p.k w) _ _ (λ t. books_scan n w me base m d p _ L29 _ s refl h) (λ t. books_scan n w me base m d p _ L29 _ s refl h)
+books_move n w me base m m' d p L30 s quiet long h = either (BooksMove n w me base m p.tog) (all_still n p) _ _ (λ t. books_scan n w me base m d p _ L30 _ s refl h) (λ t. books_scan n w me base m d p _ L30 _ s refl h)
 books_move n w me base m m' d p L31 s quiet long h = books_scan n w me base m d p _ L31 _ s refl h
 books_move n w me base m m' d p L32 s quiet long h = books_first n w me base m m' d p (third_move n p) s h
 books_move n w me base m m' d p L33 s quiet long h = books_scan n w me base m d p _ L33 _ s refl h
@@ -216,7 +211,7 @@ books_move n w me base m m' d p L52 s quiet long h = absurd quiet
 books_move n w me base m m' Scanning p L53 s quiet long h = absurd s
 books_move n w me base m m' (Embedded y z) p L53 s quiet long h = absurd s
 books_move n w me base m m' (Updating y z) p L53 s quiet long h =
-    books_if n w me base m p.tog (nat_lt p.j n) _ _ (λ t. books_update n w me y z base m p _ L53 L51 (λ c o. refl) refl (λ v. refl) (λ l. l) refl h)
+    either (BooksMove n w me base m p.tog) (nat_lt p.j n) _ _ (λ t. books_update n w me y z base m p _ L53 L51 (λ c o. refl) refl (λ v. refl) (λ l. l) refl h)
     (λ t. let ge : n ≤ p.j = not_lt p.j n t in books_update n w me y z base m p _ L53 L54 (λ c o. sym (lt_true c (p.j + 1) (let le : c ≤ n = o.1 in omega arith))) refl (λ v. refl) (λ l. l) refl h)
 books_move n w me base m m' d p L54 s quiet long h = books_embed n w me base m m' d p s h
 books_move n w me base m m' d p L55 s quiet long h = absurd quiet
@@ -329,15 +324,8 @@ pub put_inv : (n w t : ℕ) (history : ℕ → Registers) (x : State) (i : ℕ) 
     ((u : ℕ) → u ≤ suc t → Laws n w history u) → ((k : ℕ) → IsOneOf n k → k ≢ i → Untouched n w k (history t) (history (suc t))) → Inv n w t history x →
     Own n w (suc t) history i q' → Inv n w (suc t) history (changed x i (New m' q' o))
 put_inv n w t history x i m' q' o count one laws untouched h own =
-    let c : Change = New m' q' o in
-    let a = algorithm n w in
-    let new : typed_at a (changed x i c) i ≡ q' = embed.own_process a x i m' q' o count one in
     record {
       laws = laws;
-      each = λ k j. elim (cases_eq k i) [
-        | inl same ↦ subst (λ (q : Process). Own n w (suc t) history k q) (sym (ap (typed_at a (changed x i c)) same ∙ new))
-            (subst (λ y. Own n w (suc t) history y q') (sym same) own)
-        | inr other ↦ subst (λ (q : Process). Own n w (suc t) history k q) (sym (embed.other_process a x i k c one.0 j.0 other))
-            (own_kept n w t history k (typed_at a x k) j ((laws (suc t) (omega arith)).since t (omega arith)) (untouched k j other) (h.each k j))
-      ];
+      each = frame.each_next (algorithm n w) x i m' q' o count one (Own n w (suc t) history) own (λ k j other.
+          own_kept n w t history k (typed_at (algorithm n w) x k) j ((laws (suc t) (omega arith)).since t (omega arith)) (untouched k j other) (h.each k j));
     }

@@ -1,7 +1,7 @@
 -- Every state of a run of M keeps the invariant.
 use Rattle.snap_runs.proofs.Flow.{IsInScan}
 use Rattle.snap_runs.proofs.Totals.{total_less}
-use Rattle.snap_runs.proofs.Computing.{lt_true, same_number, other_number}
+use Rattle.snap_runs.proofs.Computing.{either, lt_true, same_number, other_number}
 use Rattle.std.specs.Prelude.{◌≡◌, ◌≢◌, ℕ, suc, ◌+◌, ◌*◌, ◌<◌, ◌≤◌, Bool, true, false, length, Option, Some, None, nat_lt, if◌then◌else◌, refl}
 use Rattle.std.proofs.Common.{sym, ◌∙◌, ap, subst, arith, inl, inr}
 use Rattle.std.proofs.lemmas.Bool.{cases_eq}
@@ -36,10 +36,6 @@ KeepsMemory m (Begin d p k) = Unit {0}
 KeepsMemory m (Answer v) = Unit {0}
 KeepsMemory m Finish = Unit {0}
 
-kept_if : (m : Registers) (b : Bool) (x y : Move) → KeepsMemory m x → KeepsMemory m y → KeepsMemory m (if b then x else y)
-kept_if m true x y f g = f
-kept_if m false x y f g = g
-
 kept_return : (d : Task) (m : Registers) (p : Variables) → KeepsMemory m (return_to d m p)
 kept_return Scanning m p = tt
 kept_return (Embedded word arg) m p = refl
@@ -62,21 +58,21 @@ kept n w me d m p L12 q = refl
 kept n w me d m p L13 q = refl
 kept n w me d m p L14 q = refl
 kept n w me d m p L15 q = absurd q
-kept n w me d m p L16 q = kept_if m (nat_lt p.j n) _ _ refl refl
+kept n w me d m p L16 q = either (KeepsMemory m) (nat_lt p.j n) _ _ (λ t. refl) (λ t. refl)
 kept n w me d m p L17 q = refl
-kept n w me d m p L18 q = kept_if m (nat_lt p.k w) _ _ refl refl
+kept n w me d m p L18 q = either (KeepsMemory m) (nat_lt p.k w) _ _ (λ t. refl) (λ t. refl)
 kept n w me d m p L19 q = refl
-kept n w me d m p L20 q = kept_if m (nat_lt p.k w) _ _ refl refl
+kept n w me d m p L20 q = either (KeepsMemory m) (nat_lt p.k w) _ _ (λ t. refl) (λ t. refl)
 kept n w me d m p L21 q = refl
 kept n w me d m p L22 q = refl
-kept n w me d m p L23 q = kept_if m (nat_lt p.j n) _ _ refl refl
+kept n w me d m p L23 q = either (KeepsMemory m) (nat_lt p.j n) _ _ (λ t. refl) (λ t. refl)
 kept n w me d m p L24 q = refl
 kept n w me d m p L25 q = refl
-kept n w me d m p L26 q = kept_if m (same_at p.a p.b p.k) _ _ refl refl
+kept n w me d m p L26 q = either (KeepsMemory m) (same_at p.a p.b p.k) _ _ (λ t. refl) (λ t. refl)
 kept n w me d m p L27 q = refl
 kept n w me d m p L28 q = refl
-kept n w me d m p L29 q = kept_if m (nat_lt p.k w) _ _ refl refl
-kept n w me d m p L30 q = kept_if m (all_still n p) _ _ refl refl
+kept n w me d m p L29 q = either (KeepsMemory m) (nat_lt p.k w) _ _ (λ t. refl) (λ t. refl)
+kept n w me d m p L30 q = either (KeepsMemory m) (all_still n p) _ _ (λ t. refl) (λ t. refl)
 kept n w me d m p L31 q = refl
 kept n w me d m p L32 q = kept_first d m p (third_move n p)
 kept n w me d m p L33 q = refl
@@ -87,7 +83,7 @@ kept n w me d m p L37 q = kept_return d m p
 kept n w me d m p L50 q = refl
 kept n w me d m p L51 q = refl
 kept n w me d m p L52 q = absurd q
-kept n w me d m p L53 q = kept_if m (nat_lt p.j n) _ _ refl refl
+kept n w me d m p L53 q = either (KeepsMemory m) (nat_lt p.j n) _ _ (λ t. refl) (λ t. refl)
 kept n w me d m p L54 q = kept_embed d m p
 kept n w me d m p L55 q = absurd q
 kept n w me d m p L56 q = refl

@@ -1,5 +1,5 @@
 -- The moves that a scan of M sees are events since its previous double collect.
-use Rattle.snap_runs.proofs.Computing.{same_from}
+use Rattle.snap_runs.proofs.Computing.{either, same_from}
 use Rattle.snap_runs.proofs.Places.{for_each_at}
 use Rattle.std.specs.Prelude.{◌≡◌, ℕ, zero, suc, ◌+◌, ◌<◌, ◌≤◌, ◌⊎◌, Bool, true, false, List, length, Option, Some, None, nat_eq, nat_lt, if◌then◌else◌, refl}
 use Rattle.std.proofs.Common.{sym, ◌∙◌, ap, subst, arith, inl, inr}
@@ -39,10 +39,6 @@ KeepsCounters m (Begin d p k) = Unit {0}
 KeepsCounters m (Answer v) = Unit {0}
 KeepsCounters m Finish = Unit {0}
 
-counters_if : (m : Registers) (b : Bool) (x y : Move) → KeepsCounters m x → KeepsCounters m y → KeepsCounters m (if b then x else y)
-counters_if m true x y f g = f
-counters_if m false x y f g = g
-
 counters_return : (d : Task) (m : Registers) (p : Variables) → KeepsCounters m (return_to d m p)
 counters_return Scanning m p = tt
 counters_return (Embedded y z) m p = (refl, refl)
@@ -64,21 +60,21 @@ counters_kept n w me d m p L12 = inl (refl, refl)
 counters_kept n w me d m p L13 = inl (refl, refl)
 counters_kept n w me d m p L14 = inl (refl, refl)
 counters_kept n w me d m p L15 = inl (refl, refl)
-counters_kept n w me d m p L16 = inl (counters_if m (nat_lt p.j n) _ _ (refl, refl) (refl, refl))
+counters_kept n w me d m p L16 = inl (either (KeepsCounters m) (nat_lt p.j n) _ _ (λ t. (refl, refl)) (λ t. (refl, refl)))
 counters_kept n w me d m p L17 = inl (refl, refl)
-counters_kept n w me d m p L18 = inl (counters_if m (nat_lt p.k w) _ _ (refl, refl) (refl, refl))
+counters_kept n w me d m p L18 = inl (either (KeepsCounters m) (nat_lt p.k w) _ _ (λ t. (refl, refl)) (λ t. (refl, refl)))
 counters_kept n w me d m p L19 = inl (refl, refl)
-counters_kept n w me d m p L20 = inl (counters_if m (nat_lt p.k w) _ _ (refl, refl) (refl, refl))
+counters_kept n w me d m p L20 = inl (either (KeepsCounters m) (nat_lt p.k w) _ _ (λ t. (refl, refl)) (λ t. (refl, refl)))
 counters_kept n w me d m p L21 = inl (refl, refl)
 counters_kept n w me d m p L22 = inl (refl, refl)
-counters_kept n w me d m p L23 = inl (counters_if m (nat_lt p.j n) _ _ (refl, refl) (refl, refl))
+counters_kept n w me d m p L23 = inl (either (KeepsCounters m) (nat_lt p.j n) _ _ (λ t. (refl, refl)) (λ t. (refl, refl)))
 counters_kept n w me d m p L24 = inl (refl, refl)
 counters_kept n w me d m p L25 = inl (refl, refl)
-counters_kept n w me d m p L26 = inl (counters_if m (same_at p.a p.b p.k) _ _ (refl, refl) (refl, refl))
+counters_kept n w me d m p L26 = inl (either (KeepsCounters m) (same_at p.a p.b p.k) _ _ (λ t. (refl, refl)) (λ t. (refl, refl)))
 counters_kept n w me d m p L27 = inl (refl, refl)
 counters_kept n w me d m p L28 = inl (refl, refl)
-counters_kept n w me d m p L29 = inl (counters_if m (nat_lt p.k w) _ _ (refl, refl) (refl, refl))
-counters_kept n w me d m p L30 = inl (counters_if m (all_still n p) _ _ (refl, refl) (refl, refl))
+counters_kept n w me d m p L29 = inl (either (KeepsCounters m) (nat_lt p.k w) _ _ (λ t. (refl, refl)) (λ t. (refl, refl)))
+counters_kept n w me d m p L30 = inl (either (KeepsCounters m) (all_still n p) _ _ (λ t. (refl, refl)) (λ t. (refl, refl)))
 counters_kept n w me d m p L31 = inl (refl, refl)
 counters_kept n w me d m p L32 = inl (counters_first d m p (third_move n p))
 counters_kept n w me d m p L33 = inl (refl, refl)
@@ -89,7 +85,7 @@ counters_kept n w me d m p L37 = inl (counters_return d m p)
 counters_kept n w me d m p L50 = inl (refl, refl)
 counters_kept n w me d m p L51 = inl (refl, refl)
 counters_kept n w me d m p L52 = inr (inl refl)
-counters_kept n w me d m p L53 = inl (counters_if m (nat_lt p.j n) _ _ (refl, refl) (refl, refl))
+counters_kept n w me d m p L53 = inl (either (KeepsCounters m) (nat_lt p.j n) _ _ (λ t. (refl, refl)) (λ t. (refl, refl)))
 counters_kept n w me d m p L54 = inl (counters_embed d m p)
 counters_kept n w me d m p L55 = inl (refl, refl)
 counters_kept n w me d m p L56 = inl (refl, refl)

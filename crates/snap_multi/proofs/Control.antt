@@ -220,7 +220,8 @@ word_is w (Embedded y z) h = absurd h
 word_is w (Updating y z) h = h
 
 -- what a line needs is kept
-pub needs : (n w me : ℕ) (d : Task) (p : Variables) (k : ProgramCounter) → IsOneOf n me → IsLineOf w d k → Keeps n w d p k → (k ≡ L28 → IsOneOf n p.x) → Needs n w me d p k
+pub needs : (n w me : ℕ) (d : Task) (p : Variables) (k : ProgramCounter) → IsOneOf n me → IsLineOf w d k → Keeps n w d p k →
+    (k ≡ L28 → IsOneOf n p.x) → Needs n w me d p k
 needs n w me d p L10 i s h x = tt
 needs n w me d p L11 i s h x = tt
 needs n w me d p L12 i s h x = tt
@@ -273,7 +274,8 @@ abbrev pub ControlWell : ℕ → ℕ → Variables → Control → Type 0
 ControlWell n w p Idle = Unit {0}
 ControlWell n w p (At d k) = IsLineOf w d k × Keeps n w d p k
 
-pub called_well : (n w me : ℕ) (p : Variables) (op : Op) → call_skip kind.Multi (counts n w) me op ≡ None → ControlWell n w p (At (task_of op) (counter op))
+pub called_well : (n w me : ℕ) (p : Variables) (op : Op) → call_skip kind.Multi (counts n w) me op ≡ None →
+    ControlWell n w p (At (task_of op) (counter op))
 called_well n w me p Scan e = (tt, tt)
 called_well n w me p (Update word arg) e = (allowed_word n w me word arg e, tt)
 

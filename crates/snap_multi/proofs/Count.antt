@@ -96,7 +96,8 @@ CountMove n w own c recent (Begin d p k) = Unit {0}
 CountMove n w own c recent (Answer v) = Unit {0}
 CountMove n w own c recent Finish = Unit {0}
 
-count_first : (n w own c recent : ℕ) (d : Task) (m : Registers) (p : Variables) (o : Option ℕ) → own + 1 ≤ budget n w c → c ≤ moves n p → c + 1 ≤ 2 * n → CountMove n w own c recent (first_to d m p o)
+count_first : (n w own c recent : ℕ) (d : Task) (m : Registers) (p : Variables) (o : Option ℕ) → own + 1 ≤ budget n w c → c ≤ moves n p →
+    c + 1 ≤ 2 * n → CountMove n w own c recent (first_to d m p o)
 count_first n w own c recent d m p None a b e = (a, b, e)
 count_first n w own c recent d m p (Some k) a b e = (a, e)
 
@@ -121,8 +122,10 @@ after_count n p failed bits p' is =
     (λ u j. subst (λ y. place p.moved u ≤ y) (sym (is u j)) (counted_from (nat_eq (place p.d u) 1) (place p.moved u)))
 
 -- each line keeps the counts: c' and recent' are the double collects with its own
-pub count_move : (n w me : ℕ) (d : Task) (m : Registers) (p : Variables) (k : ProgramCounter) (own c c' recent recent' : ℕ) → 0 < n → c' ≡ c + tests k →
-    recent' ≡ (if restarts k then 0 else recent + tests k) → Keeps n w d p k → (k ≡ L30 → moves n p + 2 ≤ 2 * n) → (k ≡ L31 → (c : ℕ) → IsOneOf n c → place p.d c ≤ 1) →
+pub count_move : (n w me : ℕ) (d : Task) (m : Registers) (p : Variables) (k : ProgramCounter) (own c c' recent recent' : ℕ) → 0 < n →
+    c' ≡ c + tests k →
+    recent' ≡ (if restarts k then 0 else recent + tests k) → Keeps n w d p k → (k ≡ L30 → moves n p + 2 ≤ 2 * n) →
+    (k ≡ L31 → (c : ℕ) → IsOneOf n c → place p.d c ≤ 1) →
     Count n w p own c recent k → CountMove n w (suc own) c' recent' (move n w me d m p k)
 count_move n w me d m p L10 own c c' recent recent' pos e f keeps sharp bits h = (omega arith, omega arith, omega arith)
 count_move n w me d m p L11 own c c' recent recent' pos e f keeps sharp bits h = (omega arith, omega arith, omega arith)
@@ -201,7 +204,8 @@ InScanLine L58 = ⊥
 InScanLine _ = Unit {0}
 
 -- the bounds at each line of a scan
-pub collects_le : (n w : ℕ) (p : Variables) (k : ProgramCounter) (own c recent : ℕ) → 0 < n → (k ≡ L30 → moves n p + 2 ≤ 2 * n) → Count n w p own c recent k → InScanLine k → c + tests k ≤ 2 * n - 1
+pub collects_le : (n w : ℕ) (p : Variables) (k : ProgramCounter) (own c recent : ℕ) → 0 < n → (k ≡ L30 → moves n p + 2 ≤ 2 * n) →
+    Count n w p own c recent k → InScanLine k → c + tests k ≤ 2 * n - 1
 collects_le n w p L10 own c recent pos sharp h s = omega arith
 collects_le n w p L11 own c recent pos sharp h s = omega arith
 collects_le n w p L12 own c recent pos sharp h s = omega arith
@@ -243,7 +247,8 @@ collects_le n w p L58 own c recent pos sharp h s = absurd s
 own_all : (n w c own : ℕ) → c + 1 ≤ 2 * n → own ≤ budget n w c + (7 * n + 8 * w + 6) → own + 1 ≤ 14 * (n * n) + 16 * (n * w) + 19 * n + 8 * w + 10
 own_all n w c own le h = let b : budget n w c + (7 * n + 8 * w + 6) ≤ 14 * (n * n) + 16 * (n * w) + 12 * n + 3 = budget_le n w c le in omega arith
 
-pub own_le : (n w : ℕ) (d : Task) (p : Variables) (k : ProgramCounter) (own c recent : ℕ) → Keeps n w d p k → Count n w p own c recent k → InScanLine k →
+pub own_le : (n w : ℕ) (d : Task) (p : Variables) (k : ProgramCounter) (own c recent : ℕ) → Keeps n w d p k → Count n w p own c recent k →
+    InScanLine k →
     own + 1 ≤ 14 * (n * n) + 16 * (n * w) + 19 * n + 8 * w + 10
 own_le n w d p L10 own c recent keeps h s = omega arith
 own_le n w d p L11 own c recent keeps h s = omega arith

@@ -123,7 +123,8 @@ books_return n w me base m m' (Updating y z) p k s h = absurd s
 
 -- a line of an update that makes nothing and has written as often as the one before
 books_update : (n w me word arg : ℕ) (base m : Registers) (p p' : Variables) (k k' : ProgramCounter) →
-    ((c : ℕ) → IsOneOf n c → answered_in k' p' c ≡ answered_in k p c) → put_in k' ≡ put_in k → ((y : ℕ) → turned_in word k' y ≡ turned_in word k y) → (IsLate k' → ⊥) → p'.tog ≡ p.tog → Books n w me base m (Updating word arg) p k → Books n w me base m (Updating word arg) p' k'
+    ((c : ℕ) → IsOneOf n c → answered_in k' p' c ≡ answered_in k p c) → put_in k' ≡ put_in k → ((y : ℕ) → turned_in word k' y ≡ turned_in word k y) →
+    (IsLate k' → ⊥) → p'.tog ≡ p.tog → Books n w me base m (Updating word arg) p k → Books n w me base m (Updating word arg) p' k'
 books_update n w me word arg base m p p' k k' answered put turned late same h = record {
   settled = (let old = h.settled in record {
     answers_are = λ c o. old.answers_are c o ∙ ap (λ b. m.writes me + (if b then 1 else 0)) (sym (answered c o));
@@ -292,13 +293,15 @@ pub record Inv (n w t : ℕ) (history : ℕ → Registers) (x : State) : Type 0 
   pub laws : (u : ℕ) → u ≤ t → Laws n w history u
   pub each : (i : ℕ) → IsOneOf n i → Own n w t history i (typed_at (algorithm n w) x i)
 
-stage_at_kept : (n w me : ℕ) (history : ℕ → Registers) (t since round : ℕ) (p : Variables) (control : Control) → IsOneOf n me → Since n w history t (suc t) →
+stage_at_kept : (n w me : ℕ) (history : ℕ → Registers) (t since round : ℕ) (p : Variables) (control : Control) → IsOneOf n me →
+    Since n w history t (suc t) →
     Apart n me (history t) (history (suc t)) → StageAt n w me history t since round p control → StageAt n w me history (suc t) since round p control
 stage_at_kept n w me history t since round p Idle i s o h = tt
 stage_at_kept n w me history t since round p (At d k) i s o h = stage_kept n w me history t since round p k i s o h
 
 -- time passes and other processes act
-pub own_kept : (n w t : ℕ) (history : ℕ → Registers) (i : ℕ) (q : Process) → IsOneOf n i → Since n w history t (suc t) → Untouched n w i (history t) (history (suc t)) →
+pub own_kept : (n w t : ℕ) (history : ℕ → Registers) (i : ℕ) (q : Process) → IsOneOf n i → Since n w history t (suc t) →
+    Untouched n w i (history t) (history (suc t)) →
     Own n w t history i q → Own n w (suc t) history i q
 own_kept n w t history i q one s u h = record {
   well = h.well;
@@ -320,8 +323,10 @@ inv_later n w t history x next same laws h = record {
 }
 
 -- one process changes
-pub put_inv : (n w t : ℕ) (history : ℕ → Registers) (x : State) (i : ℕ) (m' : Registers) (q' : Process) (o : Outcome) → length x.processes ≡ n → IsOneOf n i →
-    ((u : ℕ) → u ≤ suc t → Laws n w history u) → ((k : ℕ) → IsOneOf n k → k ≢ i → Untouched n w k (history t) (history (suc t))) → Inv n w t history x →
+pub put_inv : (n w t : ℕ) (history : ℕ → Registers) (x : State) (i : ℕ) (m' : Registers) (q' : Process) (o : Outcome) → length x.processes ≡ n →
+    IsOneOf n i →
+    ((u : ℕ) → u ≤ suc t → Laws n w history u) → ((k : ℕ) → IsOneOf n k → k ≢ i → Untouched n w k (history t) (history (suc t))) →
+    Inv n w t history x →
     Own n w (suc t) history i q' → Inv n w (suc t) history (changed x i (New m' q' o))
 put_inv n w t history x i m' q' o count one laws untouched h own =
     record {

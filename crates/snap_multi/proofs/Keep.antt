@@ -111,7 +111,8 @@ round_to true round t h = omega arith
 round_to false round t h = h
 
 -- No process sees itself move.
-unmoved : (n w i : ℕ) (history : ℕ → Registers) (t since round : ℕ) (p : Variables) → IsOneOf n i → Since n w history round t → Low n i history since round p.moved → BelowLimit n p →
+unmoved : (n w i : ℕ) (history : ℕ → Registers) (t since round : ℕ) (p : Variables) → IsOneOf n i → Since n w history round t →
+    Low n i history since round p.moved → BelowLimit n p →
     events (history since) i i ≡ events (history t) i i → moves n p + 2 ≤ 2 * n
 unmoved n w i history t since round p one s low small self =
     let less : moves n p + 2 ≤ n * 2 =
@@ -121,14 +122,16 @@ unmoved n w i history t since round p one s low small self =
     let z : place p.moved i ≡ 0 = omega arith in z)
     (λ k e. let below : place p.moved k < limit = small k e in omega arith) in omega arith
 
-pub sharp_at : (n w i : ℕ) (history : ℕ → Registers) (t since round : ℕ) (d : Task) (p : Variables) (k : ProgramCounter) → IsOneOf n i → Since n w history round t → IsLineOf w d k → Keeps n w d p k →
+pub sharp_at : (n w i : ℕ) (history : ℕ → Registers) (t since round : ℕ) (d : Task) (p : Variables) (k : ProgramCounter) → IsOneOf n i →
+    Since n w history round t → IsLineOf w d k → Keeps n w d p k →
     Books n w i (history since) (history t) d p k → Stage n w i history t since round p k → k ≡ L30 → moves n p + 2 ≤ 2 * n
 sharp_at n w i history t since round d p k one s line keeps books stage e =
     let keeps30 : Keeps n w d p L30 = subst (Keeps n w d p) e keeps in
     unmoved n w i history t since round p one s (subst (Stage n w i history t since round p) e stage).0 keeps30.2
     (books.self (in_scan w d (subst (IsLineOf w d) e line)))
 
-pub bits_at : (n w i : ℕ) (history : ℕ → Registers) (t since round : ℕ) (p : Variables) (k : ProgramCounter) → Stage n w i history t since round p k → k ≡ L31 →
+pub bits_at : (n w i : ℕ) (history : ℕ → Registers) (t since round : ℕ) (p : Variables) (k : ProgramCounter) → Stage n w i history t since round p k →
+    k ≡ L31 →
     (c : ℕ) → IsOneOf n c → place p.d c ≤ 1
 bits_at n w i history t since round p k stage e =
     let at31 : Stage n w i history t since round p L31 = subst (Stage n w i history t since round p) e stage in
@@ -144,7 +147,8 @@ record Owes (n w t : ℕ) (history : ℕ → Registers) (q : Process) (i : ℕ) 
   pub books : BooksMove n w i (history q.auxiliary.since) (history t) q.variables.tog v
 
 -- the process whose operation has ended
-idle_own : (n w t : ℕ) (history : ℕ → Registers) (i : ℕ) (q : Process) (k : ProgramCounter) → Own n w t history i q → Rest n w i (history t) q.variables.tog →
+idle_own : (n w t : ℕ) (history : ℕ → Registers) (i : ℕ) (q : Process) (k : ProgramCounter) → Own n w t history i q →
+    Rest n w i (history t) q.variables.tog →
     Own n w t history i (record { control = Idle; variables = q.variables; auxiliary = stepped_auxiliary (algorithm n w) k t q.auxiliary })
 idle_own n w t history i q k own rest = record {
   well = tt;
@@ -158,7 +162,8 @@ idle_own n w t history i q k own rest = record {
 }
 
 -- a line that writes no register; `own` is what held of the process when time had passed
-quiet_put : (n w t : ℕ) (history : ℕ → Registers) (x : State) (i : ℕ) (d : Task) (k : ProgramCounter) (v : Move) → length x.processes ≡ n → IsOneOf n i →
+quiet_put : (n w t : ℕ) (history : ℕ → Registers) (x : State) (i : ℕ) (d : Task) (k : ProgramCounter) (v : Move) → length x.processes ≡ n →
+    IsOneOf n i →
     ((u : ℕ) → u ≤ suc t → Laws n w history u) → history (suc t) ≡ history t → Inv n w t history x → Own n w (suc t) history i (at n w x i) →
     Owes n w (suc t) history (at n w x i) i d k v → Inv n w (suc t) history (changed x i (by_move (algorithm n w) (suc t) x.memory (at n w x i) k v))
 quiet_put n w t history x i d k (To d' m' p k') count one laws same h own owes =
@@ -199,12 +204,14 @@ quiet_put n w t history x i d k Finish count one laws same h own owes =
     (λ j o other. untouched_same n w j (history t) (history (suc t)) same) h (idle_own n w (suc t) history i q k own owes.books)
 
 -- the laws when nothing was written
-laws_same : (n w t : ℕ) (history : ℕ → Registers) → history (suc t) ≡ history t → ((u : ℕ) → u ≤ t → Laws n w history u) → (u : ℕ) → u ≤ suc t → Laws n w history u
+laws_same : (n w t : ℕ) (history : ℕ → Registers) → history (suc t) ≡ history t → ((u : ℕ) → u ≤ t → Laws n w history u) → (u : ℕ) → u ≤ suc t →
+    Laws n w history u
 laws_same n w t history same laws =
     laws_up_to n w history t laws
     (laws_next n w history t (history t) same (acts_nothing n w history t (history t)) laws (laws t (omega arith)).now)
 
-ground : (n w t : ℕ) (history : ℕ → Registers) (i : ℕ) (m : Registers) (q : Process) → IsOneOf n i → 0 < w → Now n w (history t) → history t ≡ m → Own n w t history i q → Ground n w i m q.variables
+ground : (n w t : ℕ) (history : ℕ → Registers) (i : ℕ) (m : Registers) (q : Process) → IsOneOf n i → 0 < w → Now n w (history t) → history t ≡ m →
+    Own n w t history i q → Ground n w i m q.variables
 ground n w t history i m q one some now is own = record {
   one = one;
   some = some;
@@ -212,8 +219,10 @@ ground n w t history i m q one some now is own = record {
   long = own.long;
 }
 
-quiet_inv : (n w t : ℕ) (history : ℕ → Registers) (x : State) (i : ℕ) (d : Task) (k : ProgramCounter) → IsQuiet k → 0 < w → length x.processes ≡ n → IsOneOf n i → history t ≡ x.memory →
-    Inv n w t history x → (at n w x i).control ≡ At d k → history (suc t) ≡ (changed x i (by_step (algorithm n w) (suc t) x.memory i (at n w x i) (At d k))).memory →
+quiet_inv : (n w t : ℕ) (history : ℕ → Registers) (x : State) (i : ℕ) (d : Task) (k : ProgramCounter) → IsQuiet k → 0 < w → length x.processes ≡ n →
+    IsOneOf n i → history t ≡ x.memory →
+    Inv n w t history x → (at n w x i).control ≡ At d k →
+    history (suc t) ≡ (changed x i (by_step (algorithm n w) (suc t) x.memory i (at n w x i) (At d k))).memory →
     Inv n w (suc t) history (changed x i (by_step (algorithm n w) (suc t) x.memory i (at n w x i) (At d k)))
 quiet_inv n w t history x i d k quiet some count one now h is next =
     let q = at n w x i in
@@ -257,8 +266,10 @@ quiet_inv n w t history x i d k quiet some count one now h is next =
     })
 
 -- a line that writes registers and goes on
-written_put : (n w t : ℕ) (history : ℕ → Registers) (x : State) (i : ℕ) (d : Task) (k k' : ProgramCounter) (m' : Registers) → length x.processes ≡ n → IsOneOf n i → restarts k ≡ false →
-    ((u : ℕ) → u ≤ suc t → Laws n w history u) → ((j : ℕ) → IsOneOf n j → j ≢ i → Untouched n w j (history t) (history (suc t))) → Inv n w t history x →
+written_put : (n w t : ℕ) (history : ℕ → Registers) (x : State) (i : ℕ) (d : Task) (k k' : ProgramCounter) (m' : Registers) → length x.processes ≡ n →
+    IsOneOf n i → restarts k ≡ false →
+    ((u : ℕ) → u ≤ suc t → Laws n w history u) → ((j : ℕ) → IsOneOf n j → j ≢ i → Untouched n w j (history t) (history (suc t))) →
+    Inv n w t history x →
     IsLineOf w d k' → Keeps n w d (at n w x i).variables k' →
     Stage n w i history (suc t) (at n w x i).auxiliary.since (at n w x i).auxiliary.round (at n w x i).variables k' →
     Count n w (at n w x i).variables (suc (at n w x i).auxiliary.own) ((at n w x i).auxiliary.collects + tests k) ((at n w x i).auxiliary.tested + tests k) k' →
@@ -294,7 +305,8 @@ written_put n w t history x i d k k' m' count one again laws untouched h line ke
       books = books;
     }))
 
-books_15 : (n w i : ℕ) (base m : Registers) (d : Task) (p : Variables) → IsScan w d → Books n w i base m d p L15 → Books n w i base (after_15 i m p) d p L16
+books_15 : (n w i : ℕ) (base m : Registers) (d : Task) (p : Variables) → IsScan w d → Books n w i base m d p L15 →
+    Books n w i base (after_15 i m p) d p L16
 books_15 n w i base m d p s h =
     let next = books_scan n w i base m d p p L15 L16 s refl h in
     let old = next.settled in
@@ -304,7 +316,8 @@ books_15 n w i base m d p s h =
       self = next.self;
     }
 
-line15_inv : (n w t : ℕ) (history : ℕ → Registers) (x : State) (i : ℕ) (d : Task) → 0 < w → length x.processes ≡ n → IsOneOf n i → history t ≡ x.memory →
+line15_inv : (n w t : ℕ) (history : ℕ → Registers) (x : State) (i : ℕ) (d : Task) → 0 < w → length x.processes ≡ n → IsOneOf n i →
+    history t ≡ x.memory →
     Inv n w t history x → (at n w x i).control ≡ At d L15 → history (suc t) ≡ after_15 i x.memory (at n w x i).variables →
     Inv n w (suc t) history (changed x i (by_step (algorithm n w) (suc t) x.memory i (at n w x i) (At d L15)))
 line15_inv n w t history x i d some count one now h is next =
@@ -345,7 +358,8 @@ not_self : (x : ℕ) → nat_lt x x ≡ false
 not_self x = grind (arith, common_steps)
 
 -- before line 52 the process has not yet answered process j
-not_yet : (n w i y z : ℕ) (base m : Registers) (p : Variables) → IsOneOf n p.j → Books n w i base m (Updating y z) p L52 → m.answers i p.j ≡ m.writes i
+not_yet : (n w i y z : ℕ) (base m : Registers) (p : Variables) → IsOneOf n p.j → Books n w i base m (Updating y z) p L52 →
+    m.answers i p.j ≡ m.writes i
 not_yet n w i y z base m p inside h =
     let old = h.settled in
     let e : m.answers i p.j ≡ m.writes i + (if nat_lt p.j p.j then 1 else 0) = old.answers_are p.j inside in
@@ -482,8 +496,10 @@ line57_inv n w t history x i y z some count one now h is next =
     (books_57 n w i y z (history q.auxiliary.since) (history t) p books))
 
 -- each line
-line_inv : (n w t : ℕ) (history : ℕ → Registers) (x : State) (i : ℕ) (d : Task) (k : ProgramCounter) → IsLineOf w d k → 0 < w → length x.processes ≡ n → IsOneOf n i → history t ≡ x.memory →
-    Inv n w t history x → (at n w x i).control ≡ At d k → history (suc t) ≡ (changed x i (by_step (algorithm n w) (suc t) x.memory i (at n w x i) (At d k))).memory →
+line_inv : (n w t : ℕ) (history : ℕ → Registers) (x : State) (i : ℕ) (d : Task) (k : ProgramCounter) → IsLineOf w d k → 0 < w →
+    length x.processes ≡ n → IsOneOf n i → history t ≡ x.memory →
+    Inv n w t history x → (at n w x i).control ≡ At d k →
+    history (suc t) ≡ (changed x i (by_step (algorithm n w) (suc t) x.memory i (at n w x i) (At d k))).memory →
     Inv n w (suc t) history (changed x i (by_step (algorithm n w) (suc t) x.memory i (at n w x i) (At d k)))
 line_inv n w t history x i d L10 s some count one now h is next = quiet_inv n w t history x i d L10 tt some count one now h is next
 line_inv n w t history x i d L11 s some count one now h is next = quiet_inv n w t history x i d L11 tt some count one now h is next
@@ -529,8 +545,10 @@ line_inv n w t history x i (Embedded y z) L57 s some count one now h is next = a
 line_inv n w t history x i (Updating y z) L57 s some count one now h is next = line57_inv n w t history x i y z some count one now h is next
 line_inv n w t history x i d L58 s some count one now h is next = quiet_inv n w t history x i d L58 tt some count one now h is next
 
-step_inv : (n w t : ℕ) (history : ℕ → Registers) (x : State) (i : ℕ) (control : Control) → 0 < w → length x.processes ≡ n → IsOneOf n i → history t ≡ x.memory →
-    Inv n w t history x → (at n w x i).control ≡ control → history (suc t) ≡ (changed x i (by_step (algorithm n w) (suc t) x.memory i (at n w x i) control)).memory →
+step_inv : (n w t : ℕ) (history : ℕ → Registers) (x : State) (i : ℕ) (control : Control) → 0 < w → length x.processes ≡ n → IsOneOf n i →
+    history t ≡ x.memory →
+    Inv n w t history x → (at n w x i).control ≡ control →
+    history (suc t) ≡ (changed x i (by_step (algorithm n w) (suc t) x.memory i (at n w x i) control)).memory →
     Inv n w (suc t) history (changed x i (by_step (algorithm n w) (suc t) x.memory i (at n w x i) control))
 step_inv n w t history x i Idle some count one now h is next =
     let same : history (suc t) ≡ history t = next ∙ sym now in
@@ -542,7 +560,8 @@ step_inv n w t history x i (At d k) some count one now h is next =
 
 -- a call
 admit_inv : (n w t : ℕ) (history : ℕ → Registers) (x : State) (i : ℕ) (op : Op) (o : Option Reason) → call_skip kind.Multi (counts n w) i op ≡ o →
-    length x.processes ≡ n → IsOneOf n i → history (suc t) ≡ history t → ((u : ℕ) → u ≤ suc t → Laws n w history u) → Inv n w t history x → (at n w x i).control ≡ Idle →
+    length x.processes ≡ n → IsOneOf n i → history (suc t) ≡ history t → ((u : ℕ) → u ≤ suc t → Laws n w history u) → Inv n w t history x →
+    (at n w x i).control ≡ Idle →
     Inv n w (suc t) history (changed x i (by_admission (algorithm n w) (suc t) x.memory (at n w x i) op o))
 admit_inv n w t history x i op (Some why) e count one same laws h is = inv_later n w t history x (laws (suc t) (omega arith)) same laws h
 admit_inv n w t history x i Scan None e count one same laws h is =
@@ -588,11 +607,13 @@ admit_inv n w t history x i (Update word value) None e count one same laws h is 
       };
     })
 
-pub admit_memory : (n w t : ℕ) (x : State) (i : ℕ) (op : Op) (o : Option Reason) → (changed x i (by_admission (algorithm n w) t x.memory (at n w x i) op o)).memory ≡ x.memory
+pub admit_memory : (n w t : ℕ) (x : State) (i : ℕ) (op : Op) (o : Option Reason) →
+    (changed x i (by_admission (algorithm n w) t x.memory (at n w x i) op o)).memory ≡ x.memory
 admit_memory n w t x i op (Some why) = refl
 admit_memory n w t x i op None = refl
 
-pub call_memory : (n w t : ℕ) (x : State) (i : ℕ) (op : Op) (control : Control) → (changed x i (by_call (algorithm n w) t x.memory i op (at n w x i) control)).memory ≡ x.memory
+pub call_memory : (n w t : ℕ) (x : State) (i : ℕ) (op : Op) (control : Control) →
+    (changed x i (by_call (algorithm n w) t x.memory i op (at n w x i) control)).memory ≡ x.memory
 call_memory n w t x i op Idle = admit_memory n w t x i op (call_skip kind.Multi (counts n w) i op)
 call_memory n w t x i op (At d k) = refl
 
@@ -602,8 +623,10 @@ asked_inv : (n w t : ℕ) (history : ℕ → Registers) (x : State) (i : ℕ) (o
 asked_inv n w t history x i op Idle count one same laws h is = admit_inv n w t history x i op (call_skip kind.Multi (counts n w) i op) refl count one same laws h is
 asked_inv n w t history x i op (At d k) count one same laws h is = inv_later n w t history x (laws (suc t) (omega arith)) same laws h
 
-pub happens_inv : (n w t : ℕ) (history : ℕ → Registers) (x : State) (y : Item) → 0 < w → length x.processes ≡ n → IsOneOf n (who y) → history t ≡ x.memory →
-    Inv n w t history x → history (suc t) ≡ (happens (algorithm n w) (suc t) x y).memory → Inv n w (suc t) history (happens (algorithm n w) (suc t) x y)
+pub happens_inv : (n w t : ℕ) (history : ℕ → Registers) (x : State) (y : Item) → 0 < w → length x.processes ≡ n → IsOneOf n (who y) →
+    history t ≡ x.memory →
+    Inv n w t history x → history (suc t) ≡ (happens (algorithm n w) (suc t) x y).memory →
+    Inv n w (suc t) history (happens (algorithm n w) (suc t) x y)
 happens_inv n w t history x (Step i) some count one now h next = step_inv n w t history x i (at n w x i).control some count one now h refl next
 happens_inv n w t history x (Call i op) some count one now h next =
     let same : history (suc t) ≡ history t = next ∙ call_memory n w (suc t) x i op (at n w x i).control ∙ sym now in

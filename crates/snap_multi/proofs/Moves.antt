@@ -53,7 +53,8 @@ counters_first : (d : Task) (m : Registers) (p : Variables) (o : Option ℕ) →
 counters_first d m p None = (refl, refl)
 counters_first d m p (Some k) = (refl, refl)
 
-counters_kept : (n w me : ℕ) (d : Task) (m : Registers) (p : Variables) (k : ProgramCounter) → KeepsCounters m (move n w me d m p k) ⊎ ((k ≡ L52) ⊎ (k ≡ L57))
+counters_kept : (n w me : ℕ) (d : Task) (m : Registers) (p : Variables) (k : ProgramCounter) →
+    KeepsCounters m (move n w me d m p k) ⊎ ((k ≡ L52) ⊎ (k ≡ L57))
 counters_kept n w me d m p L10 = inl (refl, refl)
 counters_kept n w me d m p L11 = inl (refl, refl)
 counters_kept n w me d m p L12 = inl (refl, refl)
@@ -175,7 +176,8 @@ module _ (n w : ℕ) (items : List Item) (some : 0 < w) (fits : Fits (run_of n w
         | inr other ↦ inr (ap (λ (x : Registers). events x j i) after ∙ ap (λ y. m.writes j + y) (raised_at_there m.answers a p.j j i other))
       ]
 
-  item_does : (v i j : ℕ) → v < length items → IsEvent (run_of n w items) i j (suc v) ⊎ (events (memories n w items (suc v)) j i ≡ events (memories n w items v) j i)
+  item_does : (v i j : ℕ) → v < length items →
+      IsEvent (run_of n w items) i j (suc v) ⊎ (events (memories n w items (suc v)) j i ≡ events (memories n w items v) j i)
   item_does v i j h =
       elim (happens_counters n w (suc v) (worlds n w items v) (item_at items v)) [
         | inl same ↦ inr (ap (λ (f : ℕ → ℕ). f j + (memories n w items (suc v)).answers j i) same.0 ∙ ap (λ (f : ℕ → ℕ → ℕ). (memories n w items v).writes j + f j i) same.1)
@@ -214,10 +216,12 @@ module _ (n w : ℕ) (items : List Item) (some : 0 < w) (fits : Fits (run_of n w
       ap (λ (y : State). (typed_at (algorithm n w) y i).variables) state_becomes
       ∙ ap (λ (y : Process). y.variables) (embed.own_process (algorithm n w) x i x.memory q' Stepped (embed.count (algorithm n w) items t) one)
 
-  row_is : (t i j : ℕ) → IsOneOf n i → t ≤ length items → row_place (process_at (state (run_of n w items) t) i).locals names.moved j ≡ place (at t i).variables.moved j
+  row_is : (t i j : ℕ) → IsOneOf n i → t ≤ length items →
+      row_place (process_at (state (run_of n w items) t) i).locals names.moved j ≡ place (at t i).variables.moved j
   row_is t i j one short = ap (λ (p : NamedProcess). row_place p.locals names.moved j) (embed.process_at_is (algorithm n w) items fits (all_do n w items some fits) t i short one)
 
-  pub move_is_event : (i j : ℕ) (link : Option ℕ) (c t : ℕ) → Scan (run_of n w items) i link c (suc t) → c ≤ t → ObservedMove (run_of n w items) 31 names.moved i j (suc t) →
+  pub move_is_event : (i j : ℕ) (link : Option ℕ) (c t : ℕ) → Scan (run_of n w items) i link c (suc t) → c ≤ t →
+      ObservedMove (run_of n w items) 31 names.moved i j (suc t) →
       RecentEvent (run_of n w items) i j c (suc t)
   move_is_event i j link c t scan le move =
       let r = run_of n w items in

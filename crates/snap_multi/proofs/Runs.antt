@@ -99,17 +99,20 @@ inv0 n w items = record {
   each = λ i h. subst (λ (q : Process). Own n w 0 (memories n w items) i q) (sym (embed.first_process_is (algorithm n w) i h)) (own0 n w items i);
 }
 
-pub inv : (n w : ℕ) (items : List Item) → 0 < w → Fits (run_of n w items) → (t : ℕ) → t ≤ length items → Inv n w t (memories n w items) (worlds n w items t)
+pub inv : (n w : ℕ) (items : List Item) → 0 < w → Fits (run_of n w items) → (t : ℕ) → t ≤ length items →
+    Inv n w t (memories n w items) (worlds n w items t)
 inv n w items some fits zero h = inv0 n w items
 inv n w items some fits (suc t) h =
     happens_inv n w t (memories n w items) (worlds n w items t) (item_at items t) some (embed.count (algorithm n w) items t)
     (embed.all_index (λ y. IsOneOf n (who y)) items t (Step 0) fits.all (omega arith)) refl (inv n w items some fits t (omega arith)) refl
 
-pub own : (n w : ℕ) (items : List Item) → 0 < w → Fits (run_of n w items) → (t i : ℕ) → t ≤ length items → IsOneOf n i → Own n w t (memories n w items) i (typed_at (algorithm n w) (worlds n w items t) i)
+pub own : (n w : ℕ) (items : List Item) → 0 < w → Fits (run_of n w items) → (t i : ℕ) → t ≤ length items → IsOneOf n i →
+    Own n w t (memories n w items) i (typed_at (algorithm n w) (worlds n w items t) i)
 own n w items some fits t i h one = (inv n w items some fits t h).each i one
 
 -- line 28 marks a process
-named_28 : (n w i : ℕ) (history : ℕ → Registers) (t since round : ℕ) (p : Variables) (control : Control) → IsOneOf n i → ((u : ℕ) → u ≤ t → Laws n w history u) →
+named_28 : (n w i : ℕ) (history : ℕ → Registers) (t since round : ℕ) (p : Variables) (control : Control) → IsOneOf n i →
+    ((u : ℕ) → u ≤ t → Laws n w history u) →
     ControlWell n w p control → StageAt n w i history t since round p control → NamedAt28 n p control
 named_28 n w i history t since round p Idle one laws well h = tt
 named_28 n w i history t since round p (At d k) one laws well h = λ e.
@@ -137,7 +140,8 @@ never_traps_lem n w items some fits i t one h trapped =
     (subst (λ (p : NamedProcess). HasTrapped p.status) (embed.process_at_is (algorithm n w) items fits (all_do n w items some fits) t i h one) trapped)
 
 -- how control passes
-flows_at : (n w i : ℕ) (m : Registers) (p : Variables) (control : Control) → ControlWell n w p control → scans.FlowsAt (algorithm n w) lines i m p control
+flows_at : (n w i : ℕ) (m : Registers) (p : Variables) (control : Control) → ControlWell n w p control →
+    scans.FlowsAt (algorithm n w) lines i m p control
 flows_at n w i m p Idle h = tt
 flows_at n w i m p (At d k) h = flows n w i d m p k h.0
 
@@ -154,7 +158,8 @@ lawful n w items some fits t i h one = scans.lawful (algorithm n w) lines (liste
 abbrev pub Goes : (n w : ℕ) (items : List Item) → 0 < w → Fits (run_of n w items) → (i : ℕ) → IsOneOf n i → Option ℕ → ℕ → ℕ → Type 0
 Goes n w items some fits i one link c t = scans.Goes (algorithm n w) lines (listed n w) items fits (all_do n w items some fits) (all_flow n w items some fits) i one link c t
 
-pub goes : (n w : ℕ) (items : List Item) (some : 0 < w) (fits : Fits (run_of n w items)) (i : ℕ) (one : IsOneOf n i) (link : Option ℕ) (c e t : ℕ) → Scan (run_of n w items) i link c e → c ≤ t → t < e →
+pub goes : (n w : ℕ) (items : List Item) (some : 0 < w) (fits : Fits (run_of n w items)) (i : ℕ) (one : IsOneOf n i) (link : Option ℕ) (c e t : ℕ) →
+    Scan (run_of n w items) i link c e → c ≤ t → t < e →
     Goes n w items some fits i one link c t
 goes n w items some fits i one link c e t scan le lt =
     scans.goes (algorithm n w) lines (listed n w) items fits (all_do n w items some fits) (all_flow n w items some fits) i one link c e t scan le lt
@@ -164,11 +169,13 @@ plain_values : (xs : Words) → map (λ (x : Word). x.datum) (map plain xs) ≡ 
 plain_values [] = refl
 plain_values (x ∷ xs) = ap (λ ys. x.datum ∷ ys) (plain_values xs)
 
-pub values_is : (n w : ℕ) (items : List Item) → 0 < w → Fits (run_of n w items) → (t : ℕ) → t ≤ length items → values (state (run_of n w items) t) ≡ data_of (memories n w items t).words
+pub values_is : (n w : ℕ) (items : List Item) → 0 < w → Fits (run_of n w items) → (t : ℕ) → t ≤ length items →
+    values (state (run_of n w items) t) ≡ data_of (memories n w items t).words
 values_is n w items some fits t h = ap values (embed.state_is (algorithm n w) items fits (all_do n w items some fits) t h) ∙ plain_values (memories n w items t).words
 
 -- a busy process is at the stage of its line
-pub stage_of : (n w : ℕ) (items : List Item) → 0 < w → Fits (run_of n w items) → (t i : ℕ) (d : Task) (k : ProgramCounter) → t ≤ length items → IsOneOf n i →
+pub stage_of : (n w : ℕ) (items : List Item) → 0 < w → Fits (run_of n w items) → (t i : ℕ) (d : Task) (k : ProgramCounter) → t ≤ length items →
+    IsOneOf n i →
     (typed_at (algorithm n w) (worlds n w items t) i).control ≡ At d k →
     Stage n w i (memories n w items) t (typed_at (algorithm n w) (worlds n w items t) i).auxiliary.since (typed_at (algorithm n w) (worlds n w items t) i).auxiliary.round (typed_at (algorithm n w) (worlds n w items t) i).variables k
 stage_of n w items some fits t i d k le one e =

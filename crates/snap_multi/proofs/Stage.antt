@@ -118,7 +118,8 @@ marked_then true v e f = absurd (omega arith)
 marked_then false v e f = refl
 
 -- line 25 marks the processes whose late bits differ
-row_starts : (n w me : ℕ) (history : ℕ → Registers) (round t : ℕ) (p : Variables) → IsOneOf n me → ((u : ℕ) → u ≤ t → Laws n w history u) → round ≤ t →
+row_starts : (n w me : ℕ) (history : ℕ → Registers) (round t : ℕ) (p : Variables) → IsOneOf n me → ((u : ℕ) → u ≤ t → Laws n w history u) →
+    round ≤ t →
     Gathered n w me history round t p (n + 1) (w + 1) (w + 1) (n + 1) → ((c : ℕ) → IsOneOf n c → place p.d c ≡ 0) →
     (row : List ℕ) → ((c : ℕ) → IsOneOf n c → place row c ≡ marked p c) → (k : ℕ) → k ≡ 1 → Row n w me history round t p.g p.h row p.a p.b k
 row_starts n w me history round t p one laws le x zero row is k first = record {
@@ -145,8 +146,10 @@ row_same n w me history round t g h d a b k same r = record {
 }
 
 -- line 28 marks the writer of a word that differs
-row_marks : (n w me : ℕ) (history : ℕ → Registers) (round t : ℕ) (g h d : List ℕ) (a b : Words) (k x : ℕ) → IsOneOf n x → n ≤ length d → x ≡ (word_at b k).id → ((y : ℕ) → IsOneOf w y → same_at a b y ≡ false → IsOneOf n (word_at b y).id) →
-    events (history round) x me < events (history t) x me → Row n w me history round t g h d a b k → Row n w me history round t g h (slice_set d (x - 1) 1) a b (k + 1)
+row_marks : (n w me : ℕ) (history : ℕ → Registers) (round t : ℕ) (g h d : List ℕ) (a b : Words) (k x : ℕ) → IsOneOf n x → n ≤ length d →
+    x ≡ (word_at b k).id → ((y : ℕ) → IsOneOf w y → same_at a b y ≡ false → IsOneOf n (word_at b y).id) →
+    events (history round) x me < events (history t) x me → Row n w me history round t g h d a b k →
+    Row n w me history round t g h (slice_set d (x - 1) 1) a b (k + 1)
 row_marks n w me history round t g h d a b k x one len is named event r =
     let row = slice_set d (x - 1) 1 in
     let here : (c : ℕ) → c ≡ x → place row c ≡ 1 = λ c e. ap (place row) e ∙ set_here d x 1 one.0 (let le : x ≤ n = one.1 in omega arith) in
@@ -206,7 +209,8 @@ counted_le v d low round t h le f =
     ] refl
 
 -- events do not become fewer
-pub events_le : (n w me u t : ℕ) (history : ℕ → Registers) → Since n w history u t → IsOneOf n me → (c : ℕ) → IsOneOf n c → events (history u) c me ≤ events (history t) c me
+pub events_le : (n w me u t : ℕ) (history : ℕ → Registers) → Since n w history u t → IsOneOf n me → (c : ℕ) → IsOneOf n c →
+    events (history u) c me ≤ events (history t) c me
 events_le n w me u t history s one c o =
     let a : (history u).writes c ≤ (history t).writes c = s.writes c o in
     let b : (history u).answers c me ≤ (history t).answers c me = s.answers c me o one in omega arith
@@ -342,7 +346,8 @@ row_kept n w me history round t g h d a b k one s r = record {
       let le : events (history t) c me ≤ events (history (suc t)) c me = events_le n w me t (suc t) history s one c o in omega arith;
 }
 
-high_kept : (n w me : ℕ) (history : ℕ → Registers) (since t : ℕ) (moved : List ℕ) → IsOneOf n me → Since n w history t (suc t) → Low n me history since t moved → Low n me history since (suc t) moved
+high_kept : (n w me : ℕ) (history : ℕ → Registers) (since t : ℕ) (moved : List ℕ) → IsOneOf n me → Since n w history t (suc t) →
+    Low n me history since t moved → Low n me history since (suc t) moved
 high_kept n w me history since t moved one s h c o =
     let lt : events (history since) c me + place moved c ≤ events (history t) c me = h c o in
     let le : events (history t) c me ≤ events (history (suc t)) c me = events_le n w me t (suc t) history s one c o in omega arith
@@ -352,7 +357,8 @@ pub record Apart (n me : ℕ) (m m' : Registers) : Type 0 where
   pub asks : (c : ℕ) → IsOneOf n c → bit m'.q me c ≡ bit m.q me c
   pub writes : m'.writes me ≡ m.writes me
 
-pub stage_kept : (n w me : ℕ) (history : ℕ → Registers) (t since round : ℕ) (p : Variables) (k : ProgramCounter) → IsOneOf n me → Since n w history t (suc t) → Apart n me (history t) (history (suc t)) →
+pub stage_kept : (n w me : ℕ) (history : ℕ → Registers) (t since round : ℕ) (p : Variables) (k : ProgramCounter) → IsOneOf n me →
+    Since n w history t (suc t) → Apart n me (history t) (history (suc t)) →
     Stage n w me history t since round p k → Stage n w me history (suc t) since round p k
 stage_kept n w me history t since round p L10 i s o h = tt
 stage_kept n w me history t since round p L11 i s o h = h

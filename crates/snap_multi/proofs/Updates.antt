@@ -52,7 +52,8 @@ pub step_of : (i : ℕ) (y : Item) → steps i y ≡ true → y ≡ Step i
 step_of i (Step k) h = ap (λ u. Step u) (same_from k i h)
 step_of i (Call k op) h = absurd (cc)
 
-pub busy_at : (n w line : ℕ) (there : ProgramCounter) (control : Control) → counter_with line ≡ Some there → is_at line (status_of (algorithm n w) control) ≡ true →
+pub busy_at : (n w line : ℕ) (there : ProgramCounter) (control : Control) → counter_with line ≡ Some there →
+    is_at line (status_of (algorithm n w) control) ≡ true →
     (d : Task) × (control ≡ At d there)
 busy_at n w line there Idle is h = absurd (cc)
 busy_at n w line there (At d k) is h = (d, ap (λ y. At d y) (at_number k line there is h))
@@ -71,7 +72,8 @@ module _ (n w : ℕ) (items : List Item) (some : 0 < w) (fits : Fits (run_of n w
   at t i = typed_at (algorithm n w) (worlds n w items t) i
 
   -- a step at a line executes it
-  pub line_executes : (t i line : ℕ) (d : Task) (k : ProgramCounter) → t < length items → item_at items t ≡ Step i → (at t i).control ≡ At d k → nat_eq (number k) line ≡ true →
+  pub line_executes : (t i line : ℕ) (d : Task) (k : ProgramCounter) → t < length items → item_at items t ≡ Step i → (at t i).control ≡ At d k →
+      nat_eq (number k) line ≡ true →
       executes (run_of n w items) i line (suc t) ≡ true
   line_executes t i line d k h is there same =
       let one : IsOneOf n i = subst (λ y. IsOneOf n (who y)) is (embed.one_at (algorithm n w) items fits (all_do n w items some fits) t h) in
@@ -82,7 +84,8 @@ module _ (n w : ℕ) (items : List Item) (some : 0 < w) (fits : Fits (run_of n w
       ∙ ap (λ b. b && is_at line (process_at (state (run_of n w items) t) i).status) (same_number i) ∙ stands
 
   -- and where a process executes a line, it stands there
-  pub stands_at : (t i line : ℕ) (there : ProgramCounter) → t < length items → IsOneOf n i → counter_with line ≡ Some there → executes (run_of n w items) i line (suc t) ≡ true →
+  pub stands_at : (t i line : ℕ) (there : ProgramCounter) → t < length items → IsOneOf n i → counter_with line ≡ Some there →
+      executes (run_of n w items) i line (suc t) ≡ true →
       (item_at items t ≡ Step i) × ((d : Task) × ((at t i).control ≡ At d there))
   stands_at t i line there h one is ex =
       let parts = both (steps i (item (run_of n w items) (suc t))) (is_at line (process_at (state (run_of n w items) t) i).status) ex in
@@ -103,7 +106,8 @@ module _ (n w : ℕ) (items : List Item) (some : 0 < w) (fits : Fits (run_of n w
         | inr x ↦ inr (subst (λ (y : Item). executes (run_of n w items) (who y) 57 (suc t) ≡ true) (sym x.2) (line_executes t x.0 57 x.1 L57 h x.2 x.3 refl))
       ]
 
-  quiet : (i : ℕ) → IsOneOf n i → (t : ℕ) → t < length items → (d : Task) (k : ProgramCounter) → (at t i).control ≡ At d k → (word value : ℕ) → op_of d ≡ Update word value →
+  quiet : (i : ℕ) → IsOneOf n i → (t : ℕ) → t < length items → (d : Task) (k : ProgramCounter) → (at t i).control ≡ At d k → (word value : ℕ) →
+      op_of d ≡ Update word value →
       called.NoAnswer (algorithm n w) (move n w i d (memories n w items t) (at t i).variables k)
   quiet i one =
       writes_once.silent (algorithm n w) lines 57 (once n w) items fits (all_do n w items some fits) (all_flow n w items some fits) (has_written n w items some fits) i one

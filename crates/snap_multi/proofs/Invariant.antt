@@ -273,7 +273,7 @@ CountAt n w p own c recent Idle = Unit {0}
 CountAt n w p own c recent (At d k) = Count n w p own c recent k
 
 -- What holds of process i, at whichever line it stands.
-pub record Own (n w t : ℕ) (history : ℕ → Registers) (i : ℕ) (q : Process) : Type 0 where
+pub record ProcessInvariant (n w t : ℕ) (history : ℕ → Registers) (i : ℕ) (q : Process) : Type 0 where
   -- it stands at a line of its task, with the variables that the line asks for
   pub well : ControlWell n w q.variables q.control
   pub long : Long n w q.variables
@@ -289,9 +289,9 @@ pub record Own (n w t : ℕ) (history : ℕ → Registers) (i : ℕ) (q : Proces
   -- its counters are as its line says
   pub books : BooksAt n w i (history q.auxiliary.since) (history t) q.variables q.control
 
-pub record Inv (n w t : ℕ) (history : ℕ → Registers) (x : State) : Type 0 where
+pub record Invariant (n w t : ℕ) (history : ℕ → Registers) (x : State) : Type 0 where
   pub laws : (u : ℕ) → u ≤ t → Laws n w history u
-  pub each : (i : ℕ) → IsOneOf n i → Own n w t history i (typed_at (algorithm n w) x i)
+  pub each : (i : ℕ) → IsOneOf n i → ProcessInvariant n w t history i (typed_at (algorithm n w) x i)
 
 stage_at_kept : (n w me : ℕ) (history : ℕ → Registers) (t since round : ℕ) (p : Variables) (control : Control) → IsOneOf n me →
     Since n w history t (suc t) →
@@ -302,7 +302,7 @@ stage_at_kept n w me history t since round p (At d k) i s o h = stage_kept n w m
 -- time passes and other processes act
 pub own_kept : (n w t : ℕ) (history : ℕ → Registers) (i : ℕ) (q : Process) → IsOneOf n i → Since n w history t (suc t) →
     Untouched n w i (history t) (history (suc t)) →
-    Own n w t history i q → Own n w (suc t) history i q
+    ProcessInvariant n w t history i q → ProcessInvariant n w (suc t) history i q
 own_kept n w t history i q one s u h = record {
   well = h.well;
   long = h.long;
@@ -316,7 +316,7 @@ own_kept n w t history i q one s u h = record {
 
 -- nothing happens
 pub inv_later : (n w t : ℕ) (history : ℕ → Registers) (x : State) → Laws n w history (suc t) → history (suc t) ≡ history t →
-    ((u : ℕ) → u ≤ suc t → Laws n w history u) → Inv n w t history x → Inv n w (suc t) history x
+    ((u : ℕ) → u ≤ suc t → Laws n w history u) → Invariant n w t history x → Invariant n w (suc t) history x
 inv_later n w t history x next same laws h = record {
   laws = laws;
   each = λ i one. own_kept n w t history i (typed_at (algorithm n w) x i) one (next.since t (omega arith)) (untouched_same n w i (history t) (history (suc t)) same) (h.each i one);
@@ -326,11 +326,11 @@ inv_later n w t history x next same laws h = record {
 pub put_inv : (n w t : ℕ) (history : ℕ → Registers) (x : State) (i : ℕ) (m' : Registers) (q' : Process) (o : Outcome) → length x.processes ≡ n →
     IsOneOf n i →
     ((u : ℕ) → u ≤ suc t → Laws n w history u) → ((k : ℕ) → IsOneOf n k → k ≢ i → Untouched n w k (history t) (history (suc t))) →
-    Inv n w t history x →
-    Own n w (suc t) history i q' → Inv n w (suc t) history (changed x i (New m' q' o))
+    Invariant n w t history x →
+    ProcessInvariant n w (suc t) history i q' → Invariant n w (suc t) history (changed x i (New m' q' o))
 put_inv n w t history x i m' q' o count one laws untouched h own =
     record {
       laws = laws;
-      each = frame.each_next (algorithm n w) x i m' q' o count one (Own n w (suc t) history) own (λ k j other.
+      each = frame.each_next (algorithm n w) x i m' q' o count one (ProcessInvariant n w (suc t) history) own (λ k j other.
           own_kept n w t history k (typed_at (algorithm n w) x k) j ((laws (suc t) (omega arith)).since t (omega arith)) (untouched k j other) (h.each k j));
     }

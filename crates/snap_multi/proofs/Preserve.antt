@@ -27,7 +27,7 @@ use Rattle.snap_multi.proofs.History.{words_of, Now, Since, Laws, acts_nothing, 
 use Rattle.snap_multi.proofs.Collect.{events}
 use Rattle.snap_multi.proofs.Stage.{Stage, StageMove, IsQuiet, Low, Row, events_le, stage_move, stage_15}
 use Rattle.snap_multi.proofs.Count.{Count, CountMove, count_move, moves}
-use Rattle.snap_multi.proofs.Invariant.{HasWritten, Own, Inv, Books, BooksAt, BooksMove, Rest, StageAt, CountAt, Untouched, untouched_same, books_move, books_scan, own_kept, inv_later, put_inv}
+use Rattle.snap_multi.proofs.Invariant.{HasWritten, ProcessInvariant, Invariant, Books, BooksAt, BooksMove, Rest, StageAt, CountAt, Untouched, untouched_same, books_move, books_scan, own_kept, inv_later, put_inv}
 use Rattle.snap_multi.proofs.Writes.{acts_15, now_15, untouched_15, asks_there, asks_here, acts_52, now_52, untouched_52, acts_55, now_55, untouched_55, acts_57, now_57, untouched_57, raised_here, raised_at_here, raised_at_elsewhere, with_at_here, with_at_elsewhere}
 
 abbrev pub KeepsMemory : Registers → Move → Type 0
@@ -147,9 +147,9 @@ record Owes (n w t : ℕ) (history : ℕ → Registers) (q : Process) (i : ℕ) 
   pub books : BooksMove n w i (history q.auxiliary.since) (history t) q.variables.tog v
 
 -- the process whose operation has ended
-idle_own : (n w t : ℕ) (history : ℕ → Registers) (i : ℕ) (q : Process) (k : ProgramCounter) → Own n w t history i q →
+idle_own : (n w t : ℕ) (history : ℕ → Registers) (i : ℕ) (q : Process) (k : ProgramCounter) → ProcessInvariant n w t history i q →
     Rest n w i (history t) q.variables.tog →
-    Own n w t history i (record { control = Idle; variables = q.variables; auxiliary = stepped_auxiliary (algorithm n w) k t q.auxiliary })
+    ProcessInvariant n w t history i (record { control = Idle; variables = q.variables; auxiliary = stepped_auxiliary (algorithm n w) k t q.auxiliary })
 idle_own n w t history i q k own rest = record {
   well = tt;
   long = own.long;
@@ -164,8 +164,8 @@ idle_own n w t history i q k own rest = record {
 -- a line that writes no register; `own` is what held of the process when time had passed
 quiet_put : (n w t : ℕ) (history : ℕ → Registers) (x : State) (i : ℕ) (d : Task) (k : ProgramCounter) (v : Move) → length x.processes ≡ n →
     IsOneOf n i →
-    ((u : ℕ) → u ≤ suc t → Laws n w history u) → history (suc t) ≡ history t → Inv n w t history x → Own n w (suc t) history i (at n w x i) →
-    Owes n w (suc t) history (at n w x i) i d k v → Inv n w (suc t) history (changed x i (by_move (algorithm n w) (suc t) x.memory (at n w x i) k v))
+    ((u : ℕ) → u ≤ suc t → Laws n w history u) → history (suc t) ≡ history t → Invariant n w t history x → ProcessInvariant n w (suc t) history i (at n w x i) →
+    Owes n w (suc t) history (at n w x i) i d k v → Invariant n w (suc t) history (changed x i (by_move (algorithm n w) (suc t) x.memory (at n w x i) k v))
 quiet_put n w t history x i d k (To d' m' p k') count one laws same h own owes =
     let q = at n w x i in
     put_inv n w t history x i m' (record { control = At d' k'; variables = p; auxiliary = stepped_auxiliary (algorithm n w) k (suc t) q.auxiliary }) Stepped count one laws
@@ -211,7 +211,7 @@ laws_same n w t history same laws =
     (laws_next n w history t (history t) same (acts_nothing n w history t (history t)) laws (laws t (omega arith)).now)
 
 ground : (n w t : ℕ) (history : ℕ → Registers) (i : ℕ) (m : Registers) (q : Process) → IsOneOf n i → 0 < w → Now n w (history t) → history t ≡ m →
-    Own n w t history i q → Ground n w i m q.variables
+    ProcessInvariant n w t history i q → Ground n w i m q.variables
 ground n w t history i m q one some now is own = record {
   one = one;
   some = some;
@@ -221,9 +221,9 @@ ground n w t history i m q one some now is own = record {
 
 quiet_inv : (n w t : ℕ) (history : ℕ → Registers) (x : State) (i : ℕ) (d : Task) (k : ProgramCounter) → IsQuiet k → 0 < w → length x.processes ≡ n →
     IsOneOf n i → history t ≡ x.memory →
-    Inv n w t history x → (at n w x i).control ≡ At d k →
+    Invariant n w t history x → (at n w x i).control ≡ At d k →
     history (suc t) ≡ (changed x i (by_step (algorithm n w) (suc t) x.memory i (at n w x i) (At d k))).memory →
-    Inv n w (suc t) history (changed x i (by_step (algorithm n w) (suc t) x.memory i (at n w x i) (At d k)))
+    Invariant n w (suc t) history (changed x i (by_step (algorithm n w) (suc t) x.memory i (at n w x i) (At d k)))
 quiet_inv n w t history x i d k quiet some count one now h is next =
     let q = at n w x i in
     let p = q.variables in
@@ -232,7 +232,7 @@ quiet_inv n w t history x i d k quiet some count one now h is next =
     let same : history (suc t) ≡ history t = stays ∙ sym now in
     let laws : (u : ℕ) → u ≤ suc t → Laws n w history u = laws_same n w t history same h.laws in
     let here : Laws n w history (suc t) = laws (suc t) (omega arith) in
-    let own : Own n w (suc t) history i q =
+    let own : ProcessInvariant n w (suc t) history i q =
     own_kept n w t history i q one (here.since t (omega arith)) (untouched_same n w i (history t) (history (suc t)) same) (h.each i one) in
     let well : ControlWell n w p (At d k) = subst (ControlWell n w p) is own.well in
     let stage : Stage n w i history (suc t) q.auxiliary.since q.auxiliary.round p k = subst (StageAt n w i history (suc t) q.auxiliary.since q.auxiliary.round p) is own.stage in
@@ -269,18 +269,18 @@ quiet_inv n w t history x i d k quiet some count one now h is next =
 written_put : (n w t : ℕ) (history : ℕ → Registers) (x : State) (i : ℕ) (d : Task) (k k' : ProgramCounter) (m' : Registers) → length x.processes ≡ n →
     IsOneOf n i → restarts k ≡ false →
     ((u : ℕ) → u ≤ suc t → Laws n w history u) → ((j : ℕ) → IsOneOf n j → j ≢ i → Untouched n w j (history t) (history (suc t))) →
-    Inv n w t history x →
+    Invariant n w t history x →
     IsLineOf w d k' → Keeps n w d (at n w x i).variables k' →
     Stage n w i history (suc t) (at n w x i).auxiliary.since (at n w x i).auxiliary.round (at n w x i).variables k' →
     Count n w (at n w x i).variables (suc (at n w x i).auxiliary.own) ((at n w x i).auxiliary.collects + tests k) ((at n w x i).auxiliary.tested + tests k) k' →
     HasWritten (At d k') ((at n w x i).auxiliary.wrote + writes k) →
     Books n w i (history (at n w x i).auxiliary.since) (history (suc t)) d (at n w x i).variables k' →
-    Inv n w (suc t) history (changed x i (New m' (record { control = At d k'; variables = (at n w x i).variables; auxiliary = stepped_auxiliary (algorithm n w) k (suc t) (at n w x i).auxiliary }) Stepped))
+    Invariant n w (suc t) history (changed x i (New m' (record { control = At d k'; variables = (at n w x i).variables; auxiliary = stepped_auxiliary (algorithm n w) k (suc t) (at n w x i).auxiliary }) Stepped))
 written_put n w t history x i d k k' m' count one again laws untouched h line keeps stage counts_are wrote books =
     let q = at n w x i in
-    let own : Own n w t history i q = h.each i one in
+    let own : ProcessInvariant n w t history i q = h.each i one in
     let g = q.auxiliary in
-    let Good : ℕ → ℕ → Type 0 = λ round tested. Own n w (suc t) history i (record {
+    let Good : ℕ → ℕ → Type 0 = λ round tested. ProcessInvariant n w (suc t) history i (record {
       control = At d k';
       variables = q.variables;
       auxiliary = record {
@@ -318,12 +318,12 @@ books_15 n w i base m d p s h =
 
 line15_inv : (n w t : ℕ) (history : ℕ → Registers) (x : State) (i : ℕ) (d : Task) → 0 < w → length x.processes ≡ n → IsOneOf n i →
     history t ≡ x.memory →
-    Inv n w t history x → (at n w x i).control ≡ At d L15 → history (suc t) ≡ after_15 i x.memory (at n w x i).variables →
-    Inv n w (suc t) history (changed x i (by_step (algorithm n w) (suc t) x.memory i (at n w x i) (At d L15)))
+    Invariant n w t history x → (at n w x i).control ≡ At d L15 → history (suc t) ≡ after_15 i x.memory (at n w x i).variables →
+    Invariant n w (suc t) history (changed x i (by_step (algorithm n w) (suc t) x.memory i (at n w x i) (At d L15)))
 line15_inv n w t history x i d some count one now h is next =
     let q = at n w x i in
     let p = q.variables in
-    let own : Own n w t history i q = h.each i one in
+    let own : ProcessInvariant n w t history i q = h.each i one in
     let well : ControlWell n w p (At d L15) = subst (ControlWell n w p) is own.well in
     let inside : IsOneOf n p.j = well.1.0 in
     let stage : Stage n w i history t q.auxiliary.since q.auxiliary.round p L15 = subst (StageAt n w i history t q.auxiliary.since q.auxiliary.round p) is own.stage in
@@ -385,12 +385,12 @@ books_52 n w i y z base m p inside h =
     }
 
 line52_inv : (n w t : ℕ) (history : ℕ → Registers) (x : State) (i y z : ℕ) → 0 < w → length x.processes ≡ n → IsOneOf n i → history t ≡ x.memory →
-    Inv n w t history x → (at n w x i).control ≡ At (Updating y z) L52 → history (suc t) ≡ after_52 i x.memory (at n w x i).variables →
-    Inv n w (suc t) history (changed x i (by_step (algorithm n w) (suc t) x.memory i (at n w x i) (At (Updating y z) L52)))
+    Invariant n w t history x → (at n w x i).control ≡ At (Updating y z) L52 → history (suc t) ≡ after_52 i x.memory (at n w x i).variables →
+    Invariant n w (suc t) history (changed x i (by_step (algorithm n w) (suc t) x.memory i (at n w x i) (At (Updating y z) L52)))
 line52_inv n w t history x i y z some count one now h is next =
     let q = at n w x i in
     let p = q.variables in
-    let own : Own n w t history i q = h.each i one in
+    let own : ProcessInvariant n w t history i q = h.each i one in
     let well : ControlWell n w p (At (Updating y z) L52) = subst (ControlWell n w p) is own.well in
     let inside : IsOneOf n p.j = well.1 in
     let stage : Stage n w i history t q.auxiliary.since q.auxiliary.round p L52 = subst (StageAt n w i history t q.auxiliary.since q.auxiliary.round p) is own.stage in
@@ -424,12 +424,12 @@ books_55 n w i y z base m p h =
     }
 
 line55_inv : (n w t : ℕ) (history : ℕ → Registers) (x : State) (i y z : ℕ) → 0 < w → length x.processes ≡ n → IsOneOf n i → history t ≡ x.memory →
-    Inv n w t history x → (at n w x i).control ≡ At (Updating y z) L55 → history (suc t) ≡ after_55 i x.memory (at n w x i).variables →
-    Inv n w (suc t) history (changed x i (by_step (algorithm n w) (suc t) x.memory i (at n w x i) (At (Updating y z) L55)))
+    Invariant n w t history x → (at n w x i).control ≡ At (Updating y z) L55 → history (suc t) ≡ after_55 i x.memory (at n w x i).variables →
+    Invariant n w (suc t) history (changed x i (by_step (algorithm n w) (suc t) x.memory i (at n w x i) (At (Updating y z) L55)))
 line55_inv n w t history x i y z some count one now h is next =
     let q = at n w x i in
     let p = q.variables in
-    let own : Own n w t history i q = h.each i one in
+    let own : ProcessInvariant n w t history i q = h.each i one in
     let well : ControlWell n w p (At (Updating y z) L55) = subst (ControlWell n w p) is own.well in
     let stage : Held (words_of history) t q.auxiliary.since p.s = subst (StageAt n w i history t q.auxiliary.since q.auxiliary.round p) is own.stage in
     let books : Books n w i (history q.auxiliary.since) (history t) (Updating y z) p L55 = subst (BooksAt n w i (history q.auxiliary.since) (history t) p) is own.books in
@@ -470,12 +470,12 @@ books_57 n w i y z base m p h =
     }
 
 line57_inv : (n w t : ℕ) (history : ℕ → Registers) (x : State) (i y z : ℕ) → 0 < w → length x.processes ≡ n → IsOneOf n i → history t ≡ x.memory →
-    Inv n w t history x → (at n w x i).control ≡ At (Updating y z) L57 → history (suc t) ≡ after_57 i (Updating y z) x.memory (at n w x i).variables →
-    Inv n w (suc t) history (changed x i (by_step (algorithm n w) (suc t) x.memory i (at n w x i) (At (Updating y z) L57)))
+    Invariant n w t history x → (at n w x i).control ≡ At (Updating y z) L57 → history (suc t) ≡ after_57 i (Updating y z) x.memory (at n w x i).variables →
+    Invariant n w (suc t) history (changed x i (by_step (algorithm n w) (suc t) x.memory i (at n w x i) (At (Updating y z) L57)))
 line57_inv n w t history x i y z some count one now h is next =
     let q = at n w x i in
     let p = q.variables in
-    let own : Own n w t history i q = h.each i one in
+    let own : ProcessInvariant n w t history i q = h.each i one in
     let well : ControlWell n w p (At (Updating y z) L57) = subst (ControlWell n w p) is own.well in
     let there : IsOneOf w y = well.0 in
     let books : Books n w i (history q.auxiliary.since) (history t) (Updating y z) p L57 = subst (BooksAt n w i (history q.auxiliary.since) (history t) p) is own.books in
@@ -498,9 +498,9 @@ line57_inv n w t history x i y z some count one now h is next =
 -- each line
 line_inv : (n w t : ℕ) (history : ℕ → Registers) (x : State) (i : ℕ) (d : Task) (k : ProgramCounter) → IsLineOf w d k → 0 < w →
     length x.processes ≡ n → IsOneOf n i → history t ≡ x.memory →
-    Inv n w t history x → (at n w x i).control ≡ At d k →
+    Invariant n w t history x → (at n w x i).control ≡ At d k →
     history (suc t) ≡ (changed x i (by_step (algorithm n w) (suc t) x.memory i (at n w x i) (At d k))).memory →
-    Inv n w (suc t) history (changed x i (by_step (algorithm n w) (suc t) x.memory i (at n w x i) (At d k)))
+    Invariant n w (suc t) history (changed x i (by_step (algorithm n w) (suc t) x.memory i (at n w x i) (At d k)))
 line_inv n w t history x i d L10 s some count one now h is next = quiet_inv n w t history x i d L10 tt some count one now h is next
 line_inv n w t history x i d L11 s some count one now h is next = quiet_inv n w t history x i d L11 tt some count one now h is next
 line_inv n w t history x i d L12 s some count one now h is next = quiet_inv n w t history x i d L12 tt some count one now h is next
@@ -547,9 +547,9 @@ line_inv n w t history x i d L58 s some count one now h is next = quiet_inv n w 
 
 step_inv : (n w t : ℕ) (history : ℕ → Registers) (x : State) (i : ℕ) (control : Control) → 0 < w → length x.processes ≡ n → IsOneOf n i →
     history t ≡ x.memory →
-    Inv n w t history x → (at n w x i).control ≡ control →
+    Invariant n w t history x → (at n w x i).control ≡ control →
     history (suc t) ≡ (changed x i (by_step (algorithm n w) (suc t) x.memory i (at n w x i) control)).memory →
-    Inv n w (suc t) history (changed x i (by_step (algorithm n w) (suc t) x.memory i (at n w x i) control))
+    Invariant n w (suc t) history (changed x i (by_step (algorithm n w) (suc t) x.memory i (at n w x i) control))
 step_inv n w t history x i Idle some count one now h is next =
     let same : history (suc t) ≡ history t = next ∙ sym now in
     let laws : (u : ℕ) → u ≤ suc t → Laws n w history u = laws_same n w t history same h.laws in
@@ -560,13 +560,13 @@ step_inv n w t history x i (At d k) some count one now h is next =
 
 -- a call
 admit_inv : (n w t : ℕ) (history : ℕ → Registers) (x : State) (i : ℕ) (op : Op) (o : Option Reason) → call_skip kind.Multi (counts n w) i op ≡ o →
-    length x.processes ≡ n → IsOneOf n i → history (suc t) ≡ history t → ((u : ℕ) → u ≤ suc t → Laws n w history u) → Inv n w t history x →
+    length x.processes ≡ n → IsOneOf n i → history (suc t) ≡ history t → ((u : ℕ) → u ≤ suc t → Laws n w history u) → Invariant n w t history x →
     (at n w x i).control ≡ Idle →
-    Inv n w (suc t) history (changed x i (by_admission (algorithm n w) (suc t) x.memory (at n w x i) op o))
+    Invariant n w (suc t) history (changed x i (by_admission (algorithm n w) (suc t) x.memory (at n w x i) op o))
 admit_inv n w t history x i op (Some why) e count one same laws h is = inv_later n w t history x (laws (suc t) (omega arith)) same laws h
 admit_inv n w t history x i Scan None e count one same laws h is =
     let q = at n w x i in
-    let own : Own n w (suc t) history i q =
+    let own : ProcessInvariant n w (suc t) history i q =
     own_kept n w t history i q one ((laws (suc t) (omega arith)).since t (omega arith)) (untouched_same n w i (history t) (history (suc t)) same) (h.each i one) in
     let rest : Rest n w i (history (suc t)) q.variables.tog = subst (BooksAt n w i (history q.auxiliary.since) (history (suc t)) q.variables) is own.books in
     put_inv n w t history x i x.memory (record { control = At Scanning L10; variables = q.variables; auxiliary = called_auxiliary (suc t) Scan q.auxiliary }) Called count one laws
@@ -587,7 +587,7 @@ admit_inv n w t history x i Scan None e count one same laws h is =
     })
 admit_inv n w t history x i (Update word value) None e count one same laws h is =
     let q = at n w x i in
-    let own : Own n w (suc t) history i q =
+    let own : ProcessInvariant n w (suc t) history i q =
     own_kept n w t history i q one ((laws (suc t) (omega arith)).since t (omega arith)) (untouched_same n w i (history t) (history (suc t)) same) (h.each i one) in
     let rest : Rest n w i (history (suc t)) q.variables.tog = subst (BooksAt n w i (history q.auxiliary.since) (history (suc t)) q.variables) is own.books in
     put_inv n w t history x i x.memory (record { control = At (Updating word value) (counter (Update word value)); variables = q.variables; auxiliary = called_auxiliary (suc t) (Update word value) q.auxiliary }) Called count one laws
@@ -618,15 +618,15 @@ call_memory n w t x i op Idle = admit_memory n w t x i op (call_skip kind.Multi 
 call_memory n w t x i op (At d k) = refl
 
 asked_inv : (n w t : ℕ) (history : ℕ → Registers) (x : State) (i : ℕ) (op : Op) (control : Control) → length x.processes ≡ n → IsOneOf n i →
-    history (suc t) ≡ history t → ((u : ℕ) → u ≤ suc t → Laws n w history u) → Inv n w t history x → (at n w x i).control ≡ control →
-    Inv n w (suc t) history (changed x i (by_call (algorithm n w) (suc t) x.memory i op (at n w x i) control))
+    history (suc t) ≡ history t → ((u : ℕ) → u ≤ suc t → Laws n w history u) → Invariant n w t history x → (at n w x i).control ≡ control →
+    Invariant n w (suc t) history (changed x i (by_call (algorithm n w) (suc t) x.memory i op (at n w x i) control))
 asked_inv n w t history x i op Idle count one same laws h is = admit_inv n w t history x i op (call_skip kind.Multi (counts n w) i op) refl count one same laws h is
 asked_inv n w t history x i op (At d k) count one same laws h is = inv_later n w t history x (laws (suc t) (omega arith)) same laws h
 
 pub happens_inv : (n w t : ℕ) (history : ℕ → Registers) (x : State) (y : Item) → 0 < w → length x.processes ≡ n → IsOneOf n (who y) →
     history t ≡ x.memory →
-    Inv n w t history x → history (suc t) ≡ (happens (algorithm n w) (suc t) x y).memory →
-    Inv n w (suc t) history (happens (algorithm n w) (suc t) x y)
+    Invariant n w t history x → history (suc t) ≡ (happens (algorithm n w) (suc t) x y).memory →
+    Invariant n w (suc t) history (happens (algorithm n w) (suc t) x y)
 happens_inv n w t history x (Step i) some count one now h next = step_inv n w t history x i (at n w x i).control some count one now h refl next
 happens_inv n w t history x (Call i op) some count one now h next =
     let same : history (suc t) ≡ history t = next ∙ call_memory n w (suc t) x i op (at n w x i).control ∙ sym now in

@@ -33,7 +33,8 @@ pub set_there : (row : List ℕ) (k c x : ℕ) → 0 < k → 0 < c → c ≢ k �
 set_there row k c x pos some other = get_or-set_other row (k - 1) (c - 1) x 0 (λ same. other (omega arith))
 
 -- bits
-pub bit_here : (rows : Bits) (i j x : ℕ) → 0 < i → 0 < j → i ≤ length rows → j ≤ length (slice_index_or rows (i - 1) []) → bit (with_bit rows i j x) i j ≡ x
+pub bit_here : (rows : Bits) (i j x : ℕ) → 0 < i → 0 < j → i ≤ length rows → j ≤ length (slice_index_or rows (i - 1) []) →
+    bit (with_bit rows i j x) i j ≡ x
 bit_here rows i j x pi pj li lj =
     let row = slice_index_or rows (i - 1) [] in
     ap (λ (r : List ℕ). slice_index r (j - 1)) (get_or-set_at rows (i - 1) (i - 1) (slice_set row (j - 1) x) [] refl (omega arith))
@@ -45,7 +46,8 @@ bit_elsewhere rows i j x c pi pj pc other li =
     ap (λ (r : List ℕ). slice_index r (c - 1)) (get_or-set_at rows (i - 1) (i - 1) (slice_set row (j - 1) x) [] refl (omega arith))
     ∙ get_or-set_other row (j - 1) (c - 1) x 0 (λ same. other (omega arith))
 
-pub row_elsewhere : (rows : Bits) (i j x u : ℕ) → 0 < i → 0 < u → u ≢ i → slice_index_or (with_bit rows i j x) (u - 1) [] ≡ slice_index_or rows (u - 1) []
+pub row_elsewhere : (rows : Bits) (i j x u : ℕ) → 0 < i → 0 < u → u ≢ i →
+    slice_index_or (with_bit rows i j x) (u - 1) [] ≡ slice_index_or rows (u - 1) []
 row_elsewhere rows i j x u pi pu other =
     get_or-set_other rows (i - 1) (u - 1) (slice_set (slice_index_or rows (i - 1) []) (j - 1) x) [] (λ same. other (omega arith))
 

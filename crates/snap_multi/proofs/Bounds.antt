@@ -16,8 +16,8 @@ use Rattle.snap_multi.proofs.Control.{ControlWell}
 use Rattle.snap_multi.proofs.Count.{Count, InScanLine, collects_le, own_le}
 use Rattle.snap_multi.proofs.Flows.{line_listed}
 use Rattle.snap_multi.proofs.Invariant.{Books, BooksAt, CountAt}
-use Rattle.snap_multi.proofs.Keep.{sharp_at}
-use Rattle.snap_multi.proofs.Runs.{worlds, memories, inv, all_do, lawful, Goes, goes, stage_of}
+use Rattle.snap_multi.proofs.Preserve.{sharp_at}
+use Rattle.snap_multi.proofs.Runs.{state_at, registers_at, inv, all_do, lawful, Goes, goes, stage_of}
 
 -- a scan is at one of its lines
 not_update : (w : ℕ) (d : Task) → IsInScan d → IsUpdate w d → ⊥
@@ -71,8 +71,8 @@ module _ (n w : ℕ) (items : List Item) (some : 0 < w) (fits : Fits (run_of n w
   limits : (link : Option ℕ) (i c t : ℕ) (one : IsOneOf n i) → t ≤ length items → (g : Goes n w items some fits i one link c t) →
       (double_collects (run_of n w items) i c t + tests g.counter ≤ 2 * n - 1) × (own_steps (run_of n w items) i c t + 1 ≤ most_steps n w)
   limits link i c t one le g =
-      let q = typed_at (algorithm n w) (worlds n w items t) i in
-      let history = memories n w items in
+      let q = typed_at (algorithm n w) (state_at n w items t) i in
+      let history = registers_at n w items in
       let v = inv n w items some fits t le in
       let o = v.each i one in
       let well : ControlWell n w q.variables (At g.task g.counter) = subst (ControlWell n w q.variables) g.control o.well in

@@ -57,7 +57,8 @@ pub record Collected (n w me : ℕ) (history : ℕ → Registers) (from t : ℕ)
   pub seconds : (k : ℕ) → IsOneOf w k → k < second → Copied history middle ended k (word_at b k)
   pub lates : (c : ℕ) → IsOneOf n c → c < late → ReadBit history ended t me c (place h c)
 
-read_until : (history : ℕ → Registers) (from to to' me c value : ℕ) → to ≤ to' → ReadBit history from to me c value → ReadBit history from to' me c value
+read_until : (history : ℕ → Registers) (from to to' me c value : ℕ) → to ≤ to' → ReadBit history from to me c value →
+    ReadBit history from to' me c value
 read_until history from to to' me c value le h = record { at = h.at; after = h.after; until = (let u : h.at ≤ to = h.until in omega arith); is = h.is }
 
 copied_until : (history : ℕ → Registers) (from to to' k : ℕ) (x : Word) → to ≤ to' → Copied history from to k x → Copied history from to' k x
@@ -132,7 +133,8 @@ module _ (n w me : ℕ) (history : ℕ → Registers) (from : ℕ) where
 
   pub ended_kept : (t : ℕ) (g : List ℕ) (a b : Words) (h : List ℕ) (asked first second late : ℕ) →
       (same : (c : ℕ) → IsOneOf n c → bit (history (suc t)).q me c ≡ bit (history t).q me c) →
-      (x : Collected n w me history from t g a b h asked first second late) → (collected_kept t g a b h asked first second late same x).ended ≡ x.ended
+      (x : Collected n w me history from t g a b h asked first second late) →
+      (collected_kept t g a b h asked first second late same x).ended ≡ x.ended
   unfolding collected_kept
   ended_kept t g a b h asked first second late same x = refl
 
@@ -156,7 +158,8 @@ module _ (n w me : ℕ) (history : ℕ → Registers) (from : ℕ) where
   -- line 15 asks process j
   pub asked_more : (t : ℕ) (g : List ℕ) (a b : Words) (h : List ℕ) (j : ℕ) → IsOneOf n j →
       ((c : ℕ) → IsOneOf n c → c ≢ j → bit (history (suc t)).q me c ≡ bit (history t).q me c) → bit (history (suc t)).q me j ≡ place g j →
-      ReadBit history from t me j (place g j) → Collected n w me history from t g a b h j 1 1 1 → Collected n w me history from (suc t) g a b h (j + 1) 1 1 1
+      ReadBit history from t me j (place g j) → Collected n w me history from t g a b h j 1 1 1 →
+      Collected n w me history from (suc t) g a b h (j + 1) 1 1 1
   asked_more t g a b h j one others his sight y =
       let now : y.ended ≤ t = y.now in
       let later : y.middle ≤ y.ended = y.later in
@@ -199,7 +202,8 @@ module _ (n w me : ℕ) (history : ℕ → Registers) (from : ℕ) where
   read_now t from' k m now le = record { at = t; after = le; until = omega arith; is = ap (λ (x : Registers). word_at x.words k) (sym now) }
 
   -- a copy of one more word
-  copy_more : (copies : Words) (m : Registers) (t from' to : ℕ) (k y : ℕ) → IsOneOf w k → IsOneOf w y → w ≤ length copies → history t ≡ m → from' ≤ t → to ≤ t → y < k + 1 →
+  copy_more : (copies : Words) (m : Registers) (t from' to : ℕ) (k y : ℕ) → IsOneOf w k → IsOneOf w y → w ≤ length copies → history t ≡ m →
+      from' ≤ t → to ≤ t → y < k + 1 →
       (y < k → Copied history from' to y (word_at copies y)) → Copied history from' t y (word_at (slice_set copies (k - 1) (word_at m.words k)) y)
   copy_more copies m t from' to k y one o len now le le2 lt old =
       elim (cases_eq y k) [
@@ -213,7 +217,8 @@ module _ (n w me : ℕ) (history : ℕ → Registers) (from : ℕ) where
 
   -- line 17 reads one more word
   pub first_more : (t : ℕ) (m : Registers) (g : List ℕ) (a b : Words) (h : List ℕ) (asked k : ℕ) → IsOneOf w k → w ≤ length a → history t ≡ m →
-      Collected n w me history from t g a b h asked k 1 1 → Collected n w me history from t g (slice_set a (k - 1) (word_at m.words k)) b h asked (k + 1) 1 1
+      Collected n w me history from t g a b h asked k 1 1 →
+      Collected n w me history from t g (slice_set a (k - 1) (word_at m.words k)) b h asked (k + 1) 1 1
   first_more t m g a b h asked k one len is x =
       let now : x.ended ≤ t = x.now in
       let later : x.middle ≤ x.ended = x.later in
@@ -234,7 +239,8 @@ module _ (n w me : ℕ) (history : ℕ → Registers) (from : ℕ) where
 
   -- line 19 reads one more word
   pub second_more : (t : ℕ) (m : Registers) (g : List ℕ) (a b : Words) (h : List ℕ) (asked first k : ℕ) → IsOneOf w k → w ≤ length b → history t ≡ m →
-      Collected n w me history from t g a b h asked first k 1 → Collected n w me history from t g a (slice_set b (k - 1) (word_at m.words k)) h asked first (k + 1) 1
+      Collected n w me history from t g a b h asked first k 1 →
+      Collected n w me history from t g a (slice_set b (k - 1) (word_at m.words k)) h asked first (k + 1) 1
   second_more t m g a b h asked first k one len is x =
       let now : x.ended ≤ t = x.now in
       let later : x.middle ≤ x.ended = x.later in
@@ -364,7 +370,8 @@ module _ (n w me : ℕ) (history : ℕ → Registers) (from t : ℕ) (g : List �
       (omega arith) (sym late.is ∙ still c named)
 
   -- where no late bit differs and no word either, the second copies are the words between the collects
-  pub unchanged : (k : ℕ) → IsOneOf w k → ((c : ℕ) → IsOneOf n c → place h c ≡ place g c) → same_at a b k ≡ true → word_at (history x.middle).words k ≡ word_at b k
+  pub unchanged : (k : ℕ) → IsOneOf w k → ((c : ℕ) → IsOneOf n c → place h c ≡ place g c) → same_at a b k ≡ true →
+      word_at (history x.middle).words k ≡ word_at b k
   unchanged k o still same =
       let now : x.ended ≤ t = x.now in
       let later : x.middle ≤ x.ended = x.later in
@@ -381,7 +388,8 @@ module _ (n w me : ℕ) (history : ℕ → Registers) (from t : ℕ) (g : List �
             ∙ sym second.is
       ]
 
-  pub passed : (since : ℕ) → since ≤ from → w ≤ length b → ((c : ℕ) → IsOneOf n c → place h c ≡ place g c) → ((k : ℕ) → IsOneOf w k → same_at a b k ≡ true) →
+  pub passed : (since : ℕ) → since ≤ from → w ≤ length b → ((c : ℕ) → IsOneOf n c → place h c ≡ place g c) →
+      ((k : ℕ) → IsOneOf w k → same_at a b k ≡ true) →
       Held (words_of history) t since (data_of (take w b))
   passed since le len still same =
       let now : x.ended ≤ t = x.now in
@@ -401,7 +409,8 @@ plain_data (suc w) [] = refl
 plain_data (suc w) (x ∷ xs) = ap (λ ys. x.datum ∷ ys) (plain_data w xs)
 
 -- Three events of one process since a scan's start: its view is the values at some state since.
-pub borrowed : (n w me c since t : ℕ) (history : ℕ → Registers) → Laws n w history since → Laws n w history t → since ≤ t → IsOneOf n c → IsOneOf n me →
+pub borrowed : (n w me c since t : ℕ) (history : ℕ → Registers) → Laws n w history since → Laws n w history t → since ≤ t → IsOneOf n c →
+    IsOneOf n me →
     events (history since) c me + 3 ≤ events (history t) c me → Held (words_of history) t since (view_at (history t).views c)
 borrowed n w me c since t history then now le one i three =
     let a : (history t).answers c me ≤ (history t).writes c + 1 = now.now.answers_to c me one i in

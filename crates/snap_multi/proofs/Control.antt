@@ -1,5 +1,5 @@
 -- The places of M: which locals a process has at each line, and that no line traps.
-use Rattle.snap_runs.proofs.Computing.{lt_from, both}
+use Rattle.snap_runs.proofs.Computing.{either, lt_from, both}
 use Rattle.snap_runs.proofs.Places.{for_each, for_each_at, first_found, first_none}
 use Rattle.std.specs.Prelude.{◌≡◌, ℕ, ◌+◌, ◌-◌, ◌<◌, ◌≤◌, max, Bool, true, false, ◌&&◌, List, drop, length, map, Option, Some, None, nat_eq, nat_lt, nat_le, if◌then◌else◌, slice_set, refl}
 use Rattle.std.proofs.Common.{sym, ◌∙◌, subst, arith}
@@ -75,10 +75,6 @@ LongMove n w (Begin d p k) = Long n w p
 LongMove n w (Answer v) = Unit {0}
 LongMove n w Finish = Unit {0}
 
-long_if : (n w : ℕ) (b : Bool) (x y : Move) → LongMove n w x → LongMove n w y → LongMove n w (if b then x else y)
-long_if n w true x y f g = f
-long_if n w false x y f g = g
-
 long_first : (n w : ℕ) (d : Task) (m : Registers) (p : Variables) (o : Option ℕ) → Long n w p → LongMove n w (first_to d m p o)
 long_first n w d m p None h = record { a = h.a; b = h.b; g = h.g; h = h.h; tog = h.tog; d = h.d }
 long_first n w d m p (Some k) h = record { a = h.a; b = h.b; g = h.g; h = h.h; tog = h.tog; d = h.d }
@@ -95,21 +91,21 @@ long_move n w me d m p L12 h = record { a = h.a; b = h.b; g = h.g; h = h.h; tog 
 long_move n w me d m p L13 h = record { a = h.a; b = h.b; g = h.g; h = h.h; tog = h.tog; d = h.d }
 long_move n w me d m p L14 h = record { a = h.a; b = h.b; g = length-set p.g (p.j - 1) p.x ∙ h.g; h = h.h; tog = h.tog; d = h.d }
 long_move n w me d m p L15 h = record { a = h.a; b = h.b; g = h.g; h = h.h; tog = h.tog; d = h.d }
-long_move n w me d m p L16 h = long_if n w (nat_lt p.j n) _ _ (record { a = h.a; b = h.b; g = h.g; h = h.h; tog = h.tog; d = h.d }) (record { a = h.a; b = h.b; g = h.g; h = h.h; tog = h.tog; d = h.d })
+long_move n w me d m p L16 h = either (LongMove n w) (nat_lt p.j n) _ _ (λ t. record { a = h.a; b = h.b; g = h.g; h = h.h; tog = h.tog; d = h.d }) (λ t. record { a = h.a; b = h.b; g = h.g; h = h.h; tog = h.tog; d = h.d })
 long_move n w me d m p L17 h = record { a = length-set p.a (p.k - 1) (word_at m.words p.k) ∙ h.a; b = h.b; g = h.g; h = h.h; tog = h.tog; d = h.d }
-long_move n w me d m p L18 h = long_if n w (nat_lt p.k w) _ _ (record { a = h.a; b = h.b; g = h.g; h = h.h; tog = h.tog; d = h.d }) (record { a = h.a; b = h.b; g = h.g; h = h.h; tog = h.tog; d = h.d })
+long_move n w me d m p L18 h = either (LongMove n w) (nat_lt p.k w) _ _ (λ t. record { a = h.a; b = h.b; g = h.g; h = h.h; tog = h.tog; d = h.d }) (λ t. record { a = h.a; b = h.b; g = h.g; h = h.h; tog = h.tog; d = h.d })
 long_move n w me d m p L19 h = record { a = h.a; b = length-set p.b (p.k - 1) (word_at m.words p.k) ∙ h.b; g = h.g; h = h.h; tog = h.tog; d = h.d }
-long_move n w me d m p L20 h = long_if n w (nat_lt p.k w) _ _ (record { a = h.a; b = h.b; g = h.g; h = h.h; tog = h.tog; d = h.d }) (record { a = h.a; b = h.b; g = h.g; h = h.h; tog = h.tog; d = h.d })
+long_move n w me d m p L20 h = either (LongMove n w) (nat_lt p.k w) _ _ (λ t. record { a = h.a; b = h.b; g = h.g; h = h.h; tog = h.tog; d = h.d }) (λ t. record { a = h.a; b = h.b; g = h.g; h = h.h; tog = h.tog; d = h.d })
 long_move n w me d m p L21 h = record { a = h.a; b = h.b; g = h.g; h = h.h; tog = h.tog; d = h.d }
 long_move n w me d m p L22 h = record { a = h.a; b = h.b; g = h.g; h = length-set p.h (p.j - 1) p.x ∙ h.h; tog = h.tog; d = h.d }
-long_move n w me d m p L23 h = long_if n w (nat_lt p.j n) _ _ (record { a = h.a; b = h.b; g = h.g; h = h.h; tog = h.tog; d = h.d }) (record { a = h.a; b = h.b; g = h.g; h = h.h; tog = h.tog; d = h.d })
+long_move n w me d m p L23 h = either (LongMove n w) (nat_lt p.j n) _ _ (λ t. record { a = h.a; b = h.b; g = h.g; h = h.h; tog = h.tog; d = h.d }) (λ t. record { a = h.a; b = h.b; g = h.g; h = h.h; tog = h.tog; d = h.d })
 long_move n w me d m p L24 h = record { a = h.a; b = h.b; g = h.g; h = h.h; tog = h.tog; d = for_each_long n (λ c. 0) p.d }
 long_move n w me d m p L25 h = record { a = h.a; b = h.b; g = h.g; h = h.h; tog = h.tog; d = for_each_long n (marked p) p.d }
-long_move n w me d m p L26 h = long_if n w (same_at p.a p.b p.k) _ _ (record { a = h.a; b = h.b; g = h.g; h = h.h; tog = h.tog; d = h.d }) (record { a = h.a; b = h.b; g = h.g; h = h.h; tog = h.tog; d = h.d })
+long_move n w me d m p L26 h = either (LongMove n w) (same_at p.a p.b p.k) _ _ (λ t. record { a = h.a; b = h.b; g = h.g; h = h.h; tog = h.tog; d = h.d }) (λ t. record { a = h.a; b = h.b; g = h.g; h = h.h; tog = h.tog; d = h.d })
 long_move n w me d m p L27 h = record { a = h.a; b = h.b; g = h.g; h = h.h; tog = h.tog; d = h.d }
 long_move n w me d m p L28 h = let e : length (slice_set p.d (p.x - 1) 1) ≡ length p.d = length-set p.d (p.x - 1) 1 in let le : n ≤ length p.d = h.d in record { a = h.a; b = h.b; g = h.g; h = h.h; tog = h.tog; d = omega arith }
-long_move n w me d m p L29 h = long_if n w (nat_lt p.k w) _ _ (record { a = h.a; b = h.b; g = h.g; h = h.h; tog = h.tog; d = h.d }) (record { a = h.a; b = h.b; g = h.g; h = h.h; tog = h.tog; d = h.d })
-long_move n w me d m p L30 h = long_if n w (all_still n p) _ _ (record { a = h.a; b = h.b; g = h.g; h = h.h; tog = h.tog; d = h.d }) (record { a = h.a; b = h.b; g = h.g; h = h.h; tog = h.tog; d = h.d })
+long_move n w me d m p L29 h = either (LongMove n w) (nat_lt p.k w) _ _ (λ t. record { a = h.a; b = h.b; g = h.g; h = h.h; tog = h.tog; d = h.d }) (λ t. record { a = h.a; b = h.b; g = h.g; h = h.h; tog = h.tog; d = h.d })
+long_move n w me d m p L30 h = either (LongMove n w) (all_still n p) _ _ (λ t. record { a = h.a; b = h.b; g = h.g; h = h.h; tog = h.tog; d = h.d }) (λ t. record { a = h.a; b = h.b; g = h.g; h = h.h; tog = h.tog; d = h.d })
 long_move n w me d m p L31 h = record { a = h.a; b = h.b; g = h.g; h = h.h; tog = h.tog; d = h.d }
 long_move n w me d m p L32 h = long_first n w d m p (third_move n p) h
 long_move n w me d m p L33 h = record { a = h.a; b = h.b; g = h.g; h = h.h; tog = h.tog; d = h.d }
@@ -124,7 +120,7 @@ long_move n w me (Updating y z) m p L37 h = tt
 long_move n w me d m p L50 h = record { a = h.a; b = h.b; g = h.g; h = h.h; tog = h.tog; d = h.d }
 long_move n w me d m p L51 h = record { a = h.a; b = h.b; g = h.g; h = h.h; tog = h.tog; d = h.d }
 long_move n w me d m p L52 h = record { a = h.a; b = h.b; g = h.g; h = h.h; tog = h.tog; d = h.d }
-long_move n w me d m p L53 h = long_if n w (nat_lt p.j n) _ _ (record { a = h.a; b = h.b; g = h.g; h = h.h; tog = h.tog; d = h.d }) (record { a = h.a; b = h.b; g = h.g; h = h.h; tog = h.tog; d = h.d })
+long_move n w me d m p L53 h = either (LongMove n w) (nat_lt p.j n) _ _ (λ t. record { a = h.a; b = h.b; g = h.g; h = h.h; tog = h.tog; d = h.d }) (λ t. record { a = h.a; b = h.b; g = h.g; h = h.h; tog = h.tog; d = h.d })
 long_move n w me Scanning m p L54 h = tt
 long_move n w me (Embedded y z) m p L54 h = tt
 long_move n w me (Updating y z) m p L54 h = record { a = h.a; b = h.b; g = h.g; h = h.h; tog = h.tog; d = h.d }
@@ -138,11 +134,6 @@ MoveWell op n w (To d m p k) = IsLineOf w d k × Keeps n w d p k × (op_of d ≡
 MoveWell op n w (Begin d p k) = IsLineOf w d k × Keeps n w d p k × (op_of d ≡ op)
 MoveWell op n w (Answer v) = Unit {0}
 MoveWell op n w Finish = Unit {0}
-
--- a choice keeps what both sides keep
-pub well_if : (op : Op) (n w : ℕ) (b : Bool) (x y : Move) → (b ≡ true → MoveWell op n w x) → (b ≡ false → MoveWell op n w y) → MoveWell op n w (if b then x else y)
-well_if op n w true x y f g = f refl
-well_if op n w false x y f g = g refl
 
 bump : (b : Bool) (x : ℕ) → x < limit → (if b then x + 1 else x) ≤ limit
 bump true x h = omega arith
@@ -172,25 +163,25 @@ move_well n w me d m p L13 e s h = (s, (h.0, h.1, h.2, e.bits p.j h.0), refl)
 move_well n w me d m p L14 e s h = (s, h, refl)
 move_well n w me d m p L15 e s h = (s, (h.0, h.1, h.2), refl)
 move_well n w me d m p L16 e s h =
-    let some : 0 < w = e.some in well_if _ _ _ (nat_lt p.j n) _ _ (λ b. let lt : p.j < n = lt_from p.j n b in (s, ((omega arith, omega arith), h.1, h.2), refl)) (λ b. (s, (refl, (omega arith, omega arith), h.2), refl))
+    let some : 0 < w = e.some in either (MoveWell (op_of d) n w) (nat_lt p.j n) _ _ (λ b. let lt : p.j < n = lt_from p.j n b in (s, ((omega arith, omega arith), h.1, h.2), refl)) (λ b. (s, (refl, (omega arith, omega arith), h.2), refl))
 move_well n w me d m p L17 e s h = (s, h, refl)
 move_well n w me d m p L18 e s h =
-    let some : 0 < w = e.some in well_if _ _ _ (nat_lt p.k w) _ _ (λ b. let lt : p.k < w = lt_from p.k w b in (s, (h.0, (omega arith, omega arith), h.2), refl)) (λ b. (s, (h.0, (omega arith, omega arith), h.2), refl))
+    let some : 0 < w = e.some in either (MoveWell (op_of d) n w) (nat_lt p.k w) _ _ (λ b. let lt : p.k < w = lt_from p.k w b in (s, (h.0, (omega arith, omega arith), h.2), refl)) (λ b. (s, (h.0, (omega arith, omega arith), h.2), refl))
 move_well n w me d m p L19 e s h = (s, h, refl)
 move_well n w me d m p L20 e s h =
-    let one : IsOneOf n me = e.one in well_if _ _ _ (nat_lt p.k w) _ _ (λ b. let lt : p.k < w = lt_from p.k w b in (s, (h.0, (omega arith, omega arith), h.2), refl)) (λ b. (s, ((omega arith, omega arith), refl, h.2), refl))
+    let one : IsOneOf n me = e.one in either (MoveWell (op_of d) n w) (nat_lt p.k w) _ _ (λ b. let lt : p.k < w = lt_from p.k w b in (s, (h.0, (omega arith, omega arith), h.2), refl)) (λ b. (s, ((omega arith, omega arith), refl, h.2), refl))
 move_well n w me d m p L21 e s h = (s, h, refl)
 move_well n w me d m p L22 e s h = (s, h, refl)
 move_well n w me d m p L23 e s h =
-    well_if _ _ _ (nat_lt p.j n) _ _ (λ b. let lt : p.j < n = lt_from p.j n b in (s, ((omega arith, omega arith), h.1, h.2), refl)) (λ b. (s, (refl, h.1, h.2), refl))
+    either (MoveWell (op_of d) n w) (nat_lt p.j n) _ _ (λ b. let lt : p.j < n = lt_from p.j n b in (s, ((omega arith, omega arith), h.1, h.2), refl)) (λ b. (s, (refl, h.1, h.2), refl))
 move_well n w me d m p L24 e s h = (s, h, refl)
 move_well n w me d m p L25 e s h = let some : 0 < w = e.some in (s, (h.0, (omega arith, omega arith), h.2), refl)
-move_well n w me d m p L26 e s h = well_if _ _ _ (same_at p.a p.b p.k) _ _ (λ b. (s, h, refl)) (λ b. (s, h, refl))
+move_well n w me d m p L26 e s h = either (MoveWell (op_of d) n w) (same_at p.a p.b p.k) _ _ (λ b. (s, h, refl)) (λ b. (s, h, refl))
 move_well n w me d m p L27 e s h = (s, h, refl)
 move_well n w me d m p L28 e s h = (s, h, refl)
 move_well n w me d m p L29 e s h =
-    well_if _ _ _ (nat_lt p.k w) _ _ (λ b. let lt : p.k < w = lt_from p.k w b in (s, (h.0, (omega arith, omega arith), h.2), refl)) (λ b. (s, (h.0, refl, h.2), refl))
-move_well n w me d m p L30 e s h = well_if _ _ _ (all_still n p) _ _ (λ b. (s, tt, refl)) (λ b. (s, h, refl))
+    either (MoveWell (op_of d) n w) (nat_lt p.k w) _ _ (λ b. let lt : p.k < w = lt_from p.k w b in (s, (h.0, (omega arith, omega arith), h.2), refl)) (λ b. (s, (h.0, refl, h.2), refl))
+move_well n w me d m p L30 e s h = either (MoveWell (op_of d) n w) (all_still n p) _ _ (λ b. (s, tt, refl)) (λ b. (s, h, refl))
 move_well n w me d m p L31 e s h = (s, (h.0, h.1, λ c i. rw (for_each_at n (counted p) p.moved c i) (bump (nat_eq (place p.d c) 1) (place p.moved c) (h.2 c i))), refl)
 move_well n w me d m p L32 e s h =
     first_well n w d m p (third_move n p) s (h.0, h.1)
@@ -209,7 +200,7 @@ move_well n w me d m p L50 e s h = let one : IsOneOf n me = e.one in (s, (omega 
 move_well n w me d m p L51 e s h = (s, h, refl)
 move_well n w me d m p L52 e s h = (s, h, refl)
 move_well n w me d m p L53 e s h =
-    well_if _ _ _ (nat_lt p.j n) _ _ (λ b. let lt : p.j < n = lt_from p.j n b in (s, (omega arith, omega arith), refl)) (λ b. (s, tt, refl))
+    either (MoveWell (op_of d) n w) (nat_lt p.j n) _ _ (λ b. let lt : p.j < n = lt_from p.j n b in (s, (omega arith, omega arith), refl)) (λ b. (s, tt, refl))
 move_well n w me Scanning m p L54 e s h = absurd s
 move_well n w me (Embedded y z) m p L54 e s h = absurd s
 move_well n w me (Updating y z) m p L54 e s h = (s, tt, refl)
@@ -229,7 +220,8 @@ word_is w (Embedded y z) h = absurd h
 word_is w (Updating y z) h = h
 
 -- what a line needs is kept
-pub needs : (n w me : ℕ) (d : Task) (p : Variables) (k : ProgramCounter) → IsOneOf n me → IsLineOf w d k → Keeps n w d p k → (k ≡ L28 → IsOneOf n p.x) → Needs n w me d p k
+pub needs : (n w me : ℕ) (d : Task) (p : Variables) (k : ProgramCounter) → IsOneOf n me → IsLineOf w d k → Keeps n w d p k →
+    (k ≡ L28 → IsOneOf n p.x) → Needs n w me d p k
 needs n w me d p L10 i s h x = tt
 needs n w me d p L11 i s h x = tt
 needs n w me d p L12 i s h x = tt
@@ -282,7 +274,8 @@ abbrev pub ControlWell : ℕ → ℕ → Variables → Control → Type 0
 ControlWell n w p Idle = Unit {0}
 ControlWell n w p (At d k) = IsLineOf w d k × Keeps n w d p k
 
-pub called_well : (n w me : ℕ) (p : Variables) (op : Op) → call_skip kind.Multi (counts n w) me op ≡ None → ControlWell n w p (At (task_of op) (counter op))
+pub called_well : (n w me : ℕ) (p : Variables) (op : Op) → call_skip kind.Multi (counts n w) me op ≡ None →
+    ControlWell n w p (At (task_of op) (counter op))
 called_well n w me p Scan e = (tt, tt)
 called_well n w me p (Update word arg) e = (allowed_word n w me word arg e, tt)
 

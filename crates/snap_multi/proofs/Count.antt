@@ -1,5 +1,5 @@
 -- The double collects and own steps of a scan of M.
-use Rattle.snap_runs.proofs.Computing.{not_lt}
+use Rattle.snap_runs.proofs.Computing.{either, not_lt}
 use Rattle.snap_runs.proofs.Totals.{total, total_more}
 use Rattle.snap_runs.proofs.Places.{for_each, for_each_at, some_fails}
 use Rattle.std.specs.Prelude.{◌≡◌, ℕ, zero, suc, ◌+◌, ◌-◌, ◌*◌, ◌<◌, ◌≤◌, Bool, true, false, Option, Some, None, nat_eq, nat_lt, if◌then◌else◌, refl}
@@ -96,11 +96,8 @@ CountMove n w own c recent (Begin d p k) = Unit {0}
 CountMove n w own c recent (Answer v) = Unit {0}
 CountMove n w own c recent Finish = Unit {0}
 
-count_if : (n w own c recent : ℕ) (b : Bool) (x y : Move) → (b ≡ true → CountMove n w own c recent x) → (b ≡ false → CountMove n w own c recent y) → CountMove n w own c recent (if b then x else y)
-count_if n w own c recent true x y f g = f refl
-count_if n w own c recent false x y f g = g refl
-
-count_first : (n w own c recent : ℕ) (d : Task) (m : Registers) (p : Variables) (o : Option ℕ) → own + 1 ≤ budget n w c → c ≤ moves n p → c + 1 ≤ 2 * n → CountMove n w own c recent (first_to d m p o)
+count_first : (n w own c recent : ℕ) (d : Task) (m : Registers) (p : Variables) (o : Option ℕ) → own + 1 ≤ budget n w c → c ≤ moves n p →
+    c + 1 ≤ 2 * n → CountMove n w own c recent (first_to d m p o)
 count_first n w own c recent d m p None a b e = (a, b, e)
 count_first n w own c recent d m p (Some k) a b e = (a, e)
 
@@ -125,8 +122,10 @@ after_count n p failed bits p' is =
     (λ u j. subst (λ y. place p.moved u ≤ y) (sym (is u j)) (counted_from (nat_eq (place p.d u) 1) (place p.moved u)))
 
 -- each line keeps the counts: c' and recent' are the double collects with its own
-pub count_move : (n w me : ℕ) (d : Task) (m : Registers) (p : Variables) (k : ProgramCounter) (own c c' recent recent' : ℕ) → 0 < n → c' ≡ c + tests k →
-    recent' ≡ (if restarts k then 0 else recent + tests k) → Keeps n w d p k → (k ≡ L30 → moves n p + 2 ≤ 2 * n) → (k ≡ L31 → (c : ℕ) → IsOneOf n c → place p.d c ≤ 1) →
+pub count_move : (n w me : ℕ) (d : Task) (m : Registers) (p : Variables) (k : ProgramCounter) (own c c' recent recent' : ℕ) → 0 < n →
+    c' ≡ c + tests k →
+    recent' ≡ (if restarts k then 0 else recent + tests k) → Keeps n w d p k → (k ≡ L30 → moves n p + 2 ≤ 2 * n) →
+    (k ≡ L31 → (c : ℕ) → IsOneOf n c → place p.d c ≤ 1) →
     Count n w p own c recent k → CountMove n w (suc own) c' recent' (move n w me d m p k)
 count_move n w me d m p L10 own c c' recent recent' pos e f keeps sharp bits h = (omega arith, omega arith, omega arith)
 count_move n w me d m p L11 own c c' recent recent' pos e f keeps sharp bits h = (omega arith, omega arith, omega arith)
@@ -140,32 +139,32 @@ count_move n w me d m p L14 own c c' recent recent' pos e f keeps sharp bits h =
 count_move n w me d m p L15 own c c' recent recent' pos e f keeps sharp bits h = let b : budget n w c' ≡ budget n w c = same_budget n w c c' e in (omega arith, omega arith, omega arith, omega arith)
 count_move n w me d m p L16 own c c' recent recent' pos e f keeps sharp bits h =
     let b : budget n w c' ≡ budget n w c = same_budget n w c c' e in
-    let inside : IsOneOf n p.j = keeps.0 in let first : p.k ≡ 1 = keeps.1 in count_if n w (suc own) c' recent' (nat_lt p.j n) _ _ (λ t. (omega arith, omega arith, omega arith, omega arith)) (λ t. let ge : n ≤ p.j = not_lt p.j n t in (omega arith, omega arith, omega arith, omega arith))
+    let inside : IsOneOf n p.j = keeps.0 in let first : p.k ≡ 1 = keeps.1 in either (CountMove n w (suc own) c' recent') (nat_lt p.j n) _ _ (λ t. (omega arith, omega arith, omega arith, omega arith)) (λ t. let ge : n ≤ p.j = not_lt p.j n t in (omega arith, omega arith, omega arith, omega arith))
 count_move n w me d m p L17 own c c' recent recent' pos e f keeps sharp bits h = let b : budget n w c' ≡ budget n w c = same_budget n w c c' e in (omega arith, omega arith, omega arith, omega arith)
 count_move n w me d m p L18 own c c' recent recent' pos e f keeps sharp bits h =
     let b : budget n w c' ≡ budget n w c = same_budget n w c c' e in
-    let inside : IsOneOf w p.k = keeps.1 in let first : p.j ≡ 1 = keeps.0 in count_if n w (suc own) c' recent' (nat_lt p.k w) _ _ (λ t. (omega arith, omega arith, omega arith, omega arith)) (λ t. let ge : w ≤ p.k = not_lt p.k w t in (omega arith, omega arith, omega arith, omega arith))
+    let inside : IsOneOf w p.k = keeps.1 in let first : p.j ≡ 1 = keeps.0 in either (CountMove n w (suc own) c' recent') (nat_lt p.k w) _ _ (λ t. (omega arith, omega arith, omega arith, omega arith)) (λ t. let ge : w ≤ p.k = not_lt p.k w t in (omega arith, omega arith, omega arith, omega arith))
 count_move n w me d m p L19 own c c' recent recent' pos e f keeps sharp bits h = let b : budget n w c' ≡ budget n w c = same_budget n w c c' e in (omega arith, omega arith, omega arith, omega arith)
 count_move n w me d m p L20 own c c' recent recent' pos e f keeps sharp bits h =
     let b : budget n w c' ≡ budget n w c = same_budget n w c c' e in
-    let inside : IsOneOf w p.k = keeps.1 in let first : p.j ≡ 1 = keeps.0 in count_if n w (suc own) c' recent' (nat_lt p.k w) _ _ (λ t. (omega arith, omega arith, omega arith, omega arith)) (λ t. let ge : w ≤ p.k = not_lt p.k w t in (omega arith, omega arith, omega arith, omega arith))
+    let inside : IsOneOf w p.k = keeps.1 in let first : p.j ≡ 1 = keeps.0 in either (CountMove n w (suc own) c' recent') (nat_lt p.k w) _ _ (λ t. (omega arith, omega arith, omega arith, omega arith)) (λ t. let ge : w ≤ p.k = not_lt p.k w t in (omega arith, omega arith, omega arith, omega arith))
 count_move n w me d m p L21 own c c' recent recent' pos e f keeps sharp bits h = let b : budget n w c' ≡ budget n w c = same_budget n w c c' e in (omega arith, omega arith, omega arith, omega arith)
 count_move n w me d m p L22 own c c' recent recent' pos e f keeps sharp bits h = let b : budget n w c' ≡ budget n w c = same_budget n w c c' e in (omega arith, omega arith, omega arith, omega arith)
 count_move n w me d m p L23 own c c' recent recent' pos e f keeps sharp bits h =
     let b : budget n w c' ≡ budget n w c = same_budget n w c c' e in
-    let inside : IsOneOf n p.j = keeps.0 in let first : p.k ≡ 1 = keeps.1 in count_if n w (suc own) c' recent' (nat_lt p.j n) _ _ (λ t. (omega arith, omega arith, omega arith, omega arith)) (λ t. let ge : n ≤ p.j = not_lt p.j n t in (omega arith, omega arith, omega arith, omega arith))
+    let inside : IsOneOf n p.j = keeps.0 in let first : p.k ≡ 1 = keeps.1 in either (CountMove n w (suc own) c' recent') (nat_lt p.j n) _ _ (λ t. (omega arith, omega arith, omega arith, omega arith)) (λ t. let ge : n ≤ p.j = not_lt p.j n t in (omega arith, omega arith, omega arith, omega arith))
 count_move n w me d m p L24 own c c' recent recent' pos e f keeps sharp bits h = let b : budget n w c' ≡ budget n w c = same_budget n w c c' e in (omega arith, omega arith, omega arith, omega arith)
 count_move n w me d m p L25 own c c' recent recent' pos e f keeps sharp bits h = let k : p.k ≡ 1 = keeps.1 in let b : budget n w c' ≡ budget n w c = same_budget n w c c' e in (omega arith, omega arith, omega arith, omega arith)
-count_move n w me d m p L26 own c c' recent recent' pos e f keeps sharp bits h = let b : budget n w c' ≡ budget n w c = same_budget n w c c' e in count_if n w (suc own) c' recent' (same_at p.a p.b p.k) _ _ (λ t. (omega arith, omega arith, omega arith, omega arith)) (λ t. (omega arith, omega arith, omega arith, omega arith))
+count_move n w me d m p L26 own c c' recent recent' pos e f keeps sharp bits h = let b : budget n w c' ≡ budget n w c = same_budget n w c c' e in either (CountMove n w (suc own) c' recent') (same_at p.a p.b p.k) _ _ (λ t. (omega arith, omega arith, omega arith, omega arith)) (λ t. (omega arith, omega arith, omega arith, omega arith))
 count_move n w me d m p L27 own c c' recent recent' pos e f keeps sharp bits h = let b : budget n w c' ≡ budget n w c = same_budget n w c c' e in (omega arith, omega arith, omega arith, omega arith)
 count_move n w me d m p L28 own c c' recent recent' pos e f keeps sharp bits h = let b : budget n w c' ≡ budget n w c = same_budget n w c c' e in (omega arith, omega arith, omega arith, omega arith)
 count_move n w me d m p L29 own c c' recent recent' pos e f keeps sharp bits h =
     let b : budget n w c' ≡ budget n w c = same_budget n w c c' e in
-    let inside : IsOneOf w p.k = keeps.1 in let first : p.j ≡ 1 = keeps.0 in count_if n w (suc own) c' recent' (nat_lt p.k w) _ _ (λ t. (omega arith, omega arith, omega arith, omega arith)) (λ t. let ge : w ≤ p.k = not_lt p.k w t in (omega arith, omega arith, omega arith, omega arith))
+    let inside : IsOneOf w p.k = keeps.1 in let first : p.j ≡ 1 = keeps.0 in either (CountMove n w (suc own) c' recent') (nat_lt p.k w) _ _ (λ t. (omega arith, omega arith, omega arith, omega arith)) (λ t. let ge : w ≤ p.k = not_lt p.k w t in (omega arith, omega arith, omega arith, omega arith))
 count_move n w me d m p L30 own c c' recent recent' pos e f keeps sharp bits h =
     let b : budget n w c' ≡ budget n w c + (7 * n + 8 * w + 6) = next_budget n w c c' e in
     let less : moves n p + 2 ≤ 2 * n = sharp refl in
-    count_if n w (suc own) c' recent' (all_still n p) _ _ (λ t. (omega arith, omega arith)) (λ t. (omega arith, omega arith, omega arith, omega arith, t))
+    either (CountMove n w (suc own) c' recent') (all_still n p) _ _ (λ t. (omega arith, omega arith)) (λ t. (omega arith, omega arith, omega arith, omega arith, t))
 count_move n w me d m p L31 own c c' recent recent' pos e f keeps sharp bits h =
     let b : budget n w c' ≡ budget n w c = same_budget n w c c' e in
     let more : moves n p < moves n (counted_row n p) = after_count n p h.4 (bits refl) (counted_row n p) (λ k i. for_each_at n (counted p) p.moved k i) in
@@ -183,7 +182,7 @@ count_move n w me (Updating y z) m p L37 own c c' recent recent' pos e f keeps s
 count_move n w me d m p L50 own c c' recent recent' pos e f keeps sharp bits h = tt
 count_move n w me d m p L51 own c c' recent recent' pos e f keeps sharp bits h = tt
 count_move n w me d m p L52 own c c' recent recent' pos e f keeps sharp bits h = tt
-count_move n w me d m p L53 own c c' recent recent' pos e f keeps sharp bits h = count_if n w (suc own) c' recent' (nat_lt p.j n) _ _ (λ t. tt) (λ t. tt)
+count_move n w me d m p L53 own c c' recent recent' pos e f keeps sharp bits h = either (CountMove n w (suc own) c' recent') (nat_lt p.j n) _ _ (λ t. tt) (λ t. tt)
 count_move n w me Scanning m p L54 own c c' recent recent' pos e f keeps sharp bits h = tt
 count_move n w me (Embedded y z) m p L54 own c c' recent recent' pos e f keeps sharp bits h = tt
 count_move n w me (Updating y z) m p L54 own c c' recent recent' pos e f keeps sharp bits h = tt
@@ -205,7 +204,8 @@ InScanLine L58 = ⊥
 InScanLine _ = Unit {0}
 
 -- the bounds at each line of a scan
-pub collects_le : (n w : ℕ) (p : Variables) (k : ProgramCounter) (own c recent : ℕ) → 0 < n → (k ≡ L30 → moves n p + 2 ≤ 2 * n) → Count n w p own c recent k → InScanLine k → c + tests k ≤ 2 * n - 1
+pub collects_le : (n w : ℕ) (p : Variables) (k : ProgramCounter) (own c recent : ℕ) → 0 < n → (k ≡ L30 → moves n p + 2 ≤ 2 * n) →
+    Count n w p own c recent k → InScanLine k → c + tests k ≤ 2 * n - 1
 collects_le n w p L10 own c recent pos sharp h s = omega arith
 collects_le n w p L11 own c recent pos sharp h s = omega arith
 collects_le n w p L12 own c recent pos sharp h s = omega arith
@@ -247,7 +247,8 @@ collects_le n w p L58 own c recent pos sharp h s = absurd s
 own_all : (n w c own : ℕ) → c + 1 ≤ 2 * n → own ≤ budget n w c + (7 * n + 8 * w + 6) → own + 1 ≤ 14 * (n * n) + 16 * (n * w) + 19 * n + 8 * w + 10
 own_all n w c own le h = let b : budget n w c + (7 * n + 8 * w + 6) ≤ 14 * (n * n) + 16 * (n * w) + 12 * n + 3 = budget_le n w c le in omega arith
 
-pub own_le : (n w : ℕ) (d : Task) (p : Variables) (k : ProgramCounter) (own c recent : ℕ) → Keeps n w d p k → Count n w p own c recent k → InScanLine k →
+pub own_le : (n w : ℕ) (d : Task) (p : Variables) (k : ProgramCounter) (own c recent : ℕ) → Keeps n w d p k → Count n w p own c recent k →
+    InScanLine k →
     own + 1 ≤ 14 * (n * n) + 16 * (n * w) + 19 * n + 8 * w + 10
 own_le n w d p L10 own c recent keeps h s = omega arith
 own_le n w d p L11 own c recent keeps h s = omega arith

@@ -22,7 +22,8 @@ abbrev pub Flows : ℕ → ℕ → Task → Registers → Variables → ProgramC
 Flows n w = flow.Flows lines (algorithm n w)
 
 -- a line of a scan that goes on
-on : (n w : ℕ) (d : Task) (m m' : Registers) (p p' : Variables) (k k' : ProgramCounter) → IsScan w d → writes k ≡ 0 → m'.words ≡ m.words → Flows n w d m p k (To d m' p' k')
+on : (n w : ℕ) (d : Task) (m m' : Registers) (p p' : Variables) (k k' : ProgramCounter) → IsScan w d → writes k ≡ 0 → m'.words ≡ m.words →
+    Flows n w d m p k (To d m' p' k')
 on n w d m m' p p' k k' s quiet kept = flow.within lines (algorithm n w) d m m' p p' k k' (in_scan w d s) quiet kept
 
 pub flows : (n w me : ℕ) (d : Task) (m : Registers) (p : Variables) (k : ProgramCounter) → IsLineOf w d k → Flows n w d m p k (move n w me d m p k)

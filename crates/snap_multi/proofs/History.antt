@@ -47,14 +47,17 @@ pub record Since (n w : ℕ) (history : ℕ → Registers) (u t : ℕ) : Type 0 
   pub newer : (k : ℕ) → IsOneOf w k → seq_at (history u).words k < seq_at (history t).words k →
       (history u).writes (id_at (history t) k) < (history t).writes (id_at (history t) k)
   -- a toggle turns by a write alone
-  pub turned : (c k : ℕ) → IsOneOf n c → IsOneOf w k → ((history u).toggles c k ≡ (history t).toggles c k) ⊎ ((history u).writes c < (history t).writes c)
+  pub turned : (c k : ℕ) → IsOneOf n c → IsOneOf w k →
+      ((history u).toggles c k ≡ (history t).toggles c k) ⊎ ((history u).writes c < (history t).writes c)
   -- a word that was written since and looks the same has a writer that has written twice since
   pub twice : (k : ℕ) → IsOneOf w k → seq_at (history u).words k < seq_at (history t).words k → id_at (history u) k ≡ id_at (history t) k →
       toggle_at (history u) k ≡ toggle_at (history t) k → (history u).writes (id_at (history t) k) + 2 ≤ (history t).writes (id_at (history t) k)
   -- a bit turns by an answer alone
-  pub signed : (c i : ℕ) → IsOneOf n c → IsOneOf n i → (bit (history u).p c i ≡ bit (history t).p c i) ⊎ ((history u).answers c i < (history t).answers c i)
+  pub signed : (c i : ℕ) → IsOneOf n c → IsOneOf n i →
+      (bit (history u).p c i ≡ bit (history t).p c i) ⊎ ((history u).answers c i < (history t).answers c i)
   -- a view that is put by more puts than there were answers at state u was the values since
-  pub viewed : (c i : ℕ) → IsOneOf n c → IsOneOf n i → (history u).answers c i < (history t).puts c → Held (words_of history) t u (view_at (history t).views c)
+  pub viewed : (c i : ℕ) → IsOneOf n c → IsOneOf n i → (history u).answers c i < (history t).puts c →
+      Held (words_of history) t u (view_at (history t).views c)
 
 -- Where process i asks one thing as soon as process c has written more than `low` times, c's second answer since is another.
 abbrev pub Answered : ℕ → (ℕ → Registers) → ℕ → Type 0
@@ -119,7 +122,8 @@ since_itself n w history t now = record {
 
 -- one item more
 module _ (n w : ℕ) (history : ℕ → Registers) (t : ℕ) (m' : Registers) (is : history (suc t) ≡ m') (acts : Acts n w history t (history t) m') where
-  word_next : (u k : ℕ) → IsOneOf w k → WordBefore (word_at (history u).words k) (word_at (history t).words k) → WordBefore (word_at (history u).words k) (word_at m'.words k)
+  word_next : (u k : ℕ) → IsOneOf w k → WordBefore (word_at (history u).words k) (word_at (history t).words k) →
+      WordBefore (word_at (history u).words k) (word_at m'.words k)
   word_next u k h before =
       elim (acts.words k h) [
         | inl same ↦ subst (λ (x : Word). WordBefore (word_at (history u).words k) x) (sym same) before
@@ -145,7 +149,8 @@ module _ (n w : ℕ) (history : ℕ → Registers) (t : ℕ) (m' : Registers) (i
             let last : (history t).writes (id_at m' k) < m'.writes (id_at m' k) = r.wrote in omega arith)
       ]
 
-  turned_next : (u c k : ℕ) → Since n w history u t → IsOneOf n c → IsOneOf w k → ((history u).toggles c k ≡ m'.toggles c k) ⊎ ((history u).writes c < m'.writes c)
+  turned_next : (u c k : ℕ) → Since n w history u t → IsOneOf n c → IsOneOf w k →
+      ((history u).toggles c k ≡ m'.toggles c k) ⊎ ((history u).writes c < m'.writes c)
   turned_next u c k old h i =
       let grows : (history t).writes c ≤ m'.writes c = acts.writes c h in
       let grew : (history u).writes c ≤ (history t).writes c = old.writes c h in
@@ -157,7 +162,8 @@ module _ (n w : ℕ) (history : ℕ → Registers) (t : ℕ) (m' : Registers) (i
         | inr lt ↦ inr (omega arith)
       ]
 
-  twice_next : (u k : ℕ) → Now n w (history u) → Since n w history u t → IsOneOf w k → IsOneOf n (id_at m' k) → seq_at (history u).words k < seq_at m'.words k →
+  twice_next : (u k : ℕ) → Now n w (history u) → Since n w history u t → IsOneOf w k → IsOneOf n (id_at m' k) →
+      seq_at (history u).words k < seq_at m'.words k →
       id_at (history u) k ≡ id_at m' k → toggle_at (history u) k ≡ toggle_at m' k → (history u).writes (id_at m' k) + 2 ≤ m'.writes (id_at m' k)
   twice_next u k now old h one lt same_id same_toggle =
       let c = id_at m' k in
@@ -175,7 +181,8 @@ module _ (n w : ℕ) (history : ℕ → Registers) (t : ℕ) (m' : Registers) (i
         ]
       ]
 
-  signed_next : (u c i : ℕ) → Since n w history u t → IsOneOf n c → IsOneOf n i → (bit (history u).p c i ≡ bit m'.p c i) ⊎ ((history u).answers c i < m'.answers c i)
+  signed_next : (u c i : ℕ) → Since n w history u t → IsOneOf n c → IsOneOf n i →
+      (bit (history u).p c i ≡ bit m'.p c i) ⊎ ((history u).answers c i < m'.answers c i)
   signed_next u c i old h j =
       let grew : (history u).answers c i ≤ (history t).answers c i = old.answers c i h j in
       elim (acts.bits c i h j) [
@@ -186,7 +193,8 @@ module _ (n w : ℕ) (history : ℕ → Registers) (t : ℕ) (m' : Registers) (i
         | inr r ↦ inr (let lt : (history t).answers c i < m'.answers c i = r.more in omega arith)
       ]
 
-  viewed_next : (u c i : ℕ) → u ≤ t → Since n w history u t → IsOneOf n c → IsOneOf n i → (history u).answers c i < m'.puts c → Held (words_of history) (suc t) u (view_at m'.views c)
+  viewed_next : (u c i : ℕ) → u ≤ t → Since n w history u t → IsOneOf n c → IsOneOf n i → (history u).answers c i < m'.puts c →
+      Held (words_of history) (suc t) u (view_at m'.views c)
   viewed_next u c i le old h j lt =
       elim (acts.views c h) [
         | inl same ↦ subst (Held (words_of history) (suc t) u) same.1
@@ -195,7 +203,8 @@ module _ (n w : ℕ) (history : ℕ → Registers) (t : ℕ) (m' : Registers) (i
         | inr put ↦ held_wider (words_of history) t (suc t) u u (view_at m'.views c) (omega arith) (omega arith) (put u i le j lt)
       ]
 
-  answered_next : Answered n history t → (c i low value : ℕ) → IsOneOf n c → IsOneOf n i → ((u : ℕ) → u ≤ suc t → low < (history u).writes c → bit (history u).q i c ≡ value) →
+  answered_next : Answered n history t → (c i low value : ℕ) → IsOneOf n c → IsOneOf n i →
+      ((u : ℕ) → u ≤ suc t → low < (history u).writes c → bit (history u).q i c ≡ value) →
       low + 2 ≤ m'.answers c i → bit m'.p c i ≢ value
   answered_next old c i low value h j asks more =
       elim (acts.bits c i h j) [
@@ -247,7 +256,8 @@ module _ (n w : ℕ) (history : ℕ → Registers) (t : ℕ) (m' : Registers) (i
       }
 
 -- the laws up to one item more
-pub laws_up_to : (n w : ℕ) (history : ℕ → Registers) (t : ℕ) → ((u : ℕ) → u ≤ t → Laws n w history u) → Laws n w history (suc t) → (u : ℕ) → u ≤ suc t → Laws n w history u
+pub laws_up_to : (n w : ℕ) (history : ℕ → Registers) (t : ℕ) → ((u : ℕ) → u ≤ t → Laws n w history u) → Laws n w history (suc t) → (u : ℕ) →
+    u ≤ suc t → Laws n w history u
 laws_up_to n w history t old new u le =
     elim (eq-or-lt_of_le le) [
       | inl same ↦ subst (Laws n w history) (sym same) new

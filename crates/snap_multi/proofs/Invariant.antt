@@ -1,5 +1,5 @@
 -- The invariant of M: what holds in every state of every run.
-use Rattle.snap_runs.proofs.Computing.{lt_true, not_lt, same_number, other_number}
+use Rattle.snap_runs.proofs.Computing.{either, lt_true, not_lt, same_number, other_number}
 use Rattle.std.specs.Prelude.{◌≡◌, ◌≢◌, ℕ, suc, ◌+◌, ◌-◌, ◌<◌, ◌≤◌, max, Bool, true, false, Option, Some, None, List, length, nat_eq, nat_lt, if◌then◌else◌, slice_set, refl}
 use Rattle.std.proofs.Common.{sym, ◌∙◌, ap, subst, arith, inl, inr}
 use Rattle.std.proofs.lemmas.Bool.{cases_eq}
@@ -7,10 +7,10 @@ use Rattle.std.proofs.lemmas.Grind.{common_steps}
 use Rattle.snap_words.specs.Shape.{IsOneOf}
 use Rattle.snap_semantics.specs.declared.process.Outcome.{Outcome}
 use Rattle.snap_runs.proofs.Algorithm.{Idle, At, To, Begin, Answer, Finish, New, typed_at, changed, Task, Scanning, Embedded, Updating}
-use Rattle.snap_runs.proofs.Embedding as embed
 use Rattle.snap_runs.proofs.Flow as flow
+use Rattle.snap_runs.proofs.Frame as frame
 use Rattle.snap_runs.proofs.Flow.{IsInScan}
-use Rattle.snap_multi.proofs.Algorithm.{IsLate, lines, Registers, Change, Control, Process, State, Move, Variables, ProgramCounter, L10, L11, L12, L13, L14, L15, L16, L17, L18, L19, L20, L21, L22, L23, L24, L25, L26, L27, L28, L29, L30, L31, L32, L33, L34, L35, L36, L37, L50, L51, L52, L53, L54, L55, L56, L57, L58, place, bit, flip, move, first_to, return_to, embed_to, same_at, all_still, third_move, IsScan, IsUpdate, IsLineOf, algorithm}
+use Rattle.snap_multi.proofs.Algorithm.{IsLate, lines, Registers, Control, Process, State, Move, Variables, ProgramCounter, L10, L11, L12, L13, L14, L15, L16, L17, L18, L19, L20, L21, L22, L23, L24, L25, L26, L27, L28, L29, L30, L31, L32, L33, L34, L35, L36, L37, L50, L51, L52, L53, L54, L55, L56, L57, L58, place, bit, flip, move, first_to, return_to, embed_to, same_at, all_still, third_move, IsScan, IsUpdate, IsLineOf, algorithm}
 use Rattle.snap_multi.proofs.Basics.{set_here, set_there}
 use Rattle.snap_multi.proofs.Control.{ControlWell, Long}
 use Rattle.snap_multi.proofs.History.{Since, Laws}
@@ -89,11 +89,6 @@ BooksMove n w me base m tog (Begin d p k) = Books n w me m m d p k
 BooksMove n w me base m tog (Answer v) = Rest n w me m tog
 BooksMove n w me base m tog Finish = Rest n w me m tog
 
-books_if : (n w me : ℕ) (base m : Registers) (tog : List ℕ) (b : Bool) (x y : Move) →
-    (b ≡ true → BooksMove n w me base m tog x) → (b ≡ false → BooksMove n w me base m tog y) → BooksMove n w me base m tog (if b then x else y)
-books_if n w me base m tog true x y f g = f refl
-books_if n w me base m tog false x y f g = g refl
-
 -- the lines of a scan
 pub books_scan : (n w me : ℕ) (base m : Registers) (d : Task) (p p' : Variables) (k k' : ProgramCounter) → IsScan w d → p'.tog ≡ p.tog →
     Books n w me base m d p k → Books n w me base m d p' k'
@@ -128,7 +123,8 @@ books_return n w me base m m' (Updating y z) p k s h = absurd s
 
 -- a line of an update that makes nothing and has written as often as the one before
 books_update : (n w me word arg : ℕ) (base m : Registers) (p p' : Variables) (k k' : ProgramCounter) →
-    ((c : ℕ) → IsOneOf n c → answered_in k' p' c ≡ answered_in k p c) → put_in k' ≡ put_in k → ((y : ℕ) → turned_in word k' y ≡ turned_in word k y) → (IsLate k' → ⊥) → p'.tog ≡ p.tog → Books n w me base m (Updating word arg) p k → Books n w me base m (Updating word arg) p' k'
+    ((c : ℕ) → IsOneOf n c → answered_in k' p' c ≡ answered_in k p c) → put_in k' ≡ put_in k → ((y : ℕ) → turned_in word k' y ≡ turned_in word k y) →
+    (IsLate k' → ⊥) → p'.tog ≡ p.tog → Books n w me base m (Updating word arg) p k → Books n w me base m (Updating word arg) p' k'
 books_update n w me word arg base m p p' k k' answered put turned late same h = record {
   settled = (let old = h.settled in record {
     answers_are = λ c o. old.answers_are c o ∙ ap (λ b. m.writes me + (if b then 1 else 0)) (sym (answered c o));
@@ -184,21 +180,21 @@ books_move n w me base m m' d p L12 s quiet long h = books_scan n w me base m d 
 books_move n w me base m m' d p L13 s quiet long h = books_scan n w me base m d p _ L13 _ s refl h
 books_move n w me base m m' d p L14 s quiet long h = books_scan n w me base m d p _ L14 _ s refl h
 books_move n w me base m m' d p L15 s quiet long h = absurd quiet
-books_move n w me base m m' d p L16 s quiet long h = books_if n w me base m p.tog (nat_lt p.j n) _ _ (λ t. books_scan n w me base m d p _ L16 _ s refl h) (λ t. books_scan n w me base m d p _ L16 _ s refl h)
+books_move n w me base m m' d p L16 s quiet long h = either (BooksMove n w me base m p.tog) (nat_lt p.j n) _ _ (λ t. books_scan n w me base m d p _ L16 _ s refl h) (λ t. books_scan n w me base m d p _ L16 _ s refl h)
 books_move n w me base m m' d p L17 s quiet long h = books_scan n w me base m d p _ L17 _ s refl h
-books_move n w me base m m' d p L18 s quiet long h = books_if n w me base m p.tog (nat_lt p.k w) _ _ (λ t. books_scan n w me base m d p _ L18 _ s refl h) (λ t. books_scan n w me base m d p _ L18 _ s refl h)
+books_move n w me base m m' d p L18 s quiet long h = either (BooksMove n w me base m p.tog) (nat_lt p.k w) _ _ (λ t. books_scan n w me base m d p _ L18 _ s refl h) (λ t. books_scan n w me base m d p _ L18 _ s refl h)
 books_move n w me base m m' d p L19 s quiet long h = books_scan n w me base m d p _ L19 _ s refl h
-books_move n w me base m m' d p L20 s quiet long h = books_if n w me base m p.tog (nat_lt p.k w) _ _ (λ t. books_scan n w me base m d p _ L20 _ s refl h) (λ t. books_scan n w me base m d p _ L20 _ s refl h)
+books_move n w me base m m' d p L20 s quiet long h = either (BooksMove n w me base m p.tog) (nat_lt p.k w) _ _ (λ t. books_scan n w me base m d p _ L20 _ s refl h) (λ t. books_scan n w me base m d p _ L20 _ s refl h)
 books_move n w me base m m' d p L21 s quiet long h = books_scan n w me base m d p _ L21 _ s refl h
 books_move n w me base m m' d p L22 s quiet long h = books_scan n w me base m d p _ L22 _ s refl h
-books_move n w me base m m' d p L23 s quiet long h = books_if n w me base m p.tog (nat_lt p.j n) _ _ (λ t. books_scan n w me base m d p _ L23 _ s refl h) (λ t. books_scan n w me base m d p _ L23 _ s refl h)
+books_move n w me base m m' d p L23 s quiet long h = either (BooksMove n w me base m p.tog) (nat_lt p.j n) _ _ (λ t. books_scan n w me base m d p _ L23 _ s refl h) (λ t. books_scan n w me base m d p _ L23 _ s refl h)
 books_move n w me base m m' d p L24 s quiet long h = books_scan n w me base m d p _ L24 _ s refl h
 books_move n w me base m m' d p L25 s quiet long h = books_scan n w me base m d p _ L25 _ s refl h
-books_move n w me base m m' d p L26 s quiet long h = books_if n w me base m p.tog (same_at p.a p.b p.k) _ _ (λ t. books_scan n w me base m d p _ L26 _ s refl h) (λ t. books_scan n w me base m d p _ L26 _ s refl h)
+books_move n w me base m m' d p L26 s quiet long h = either (BooksMove n w me base m p.tog) (same_at p.a p.b p.k) _ _ (λ t. books_scan n w me base m d p _ L26 _ s refl h) (λ t. books_scan n w me base m d p _ L26 _ s refl h)
 books_move n w me base m m' d p L27 s quiet long h = books_scan n w me base m d p _ L27 _ s refl h
 books_move n w me base m m' d p L28 s quiet long h = books_scan n w me base m d p _ L28 _ s refl h
-books_move n w me base m m' d p L29 s quiet long h = books_if n w me base m p.tog (nat_lt p.k w) _ _ (λ t. books_scan n w me base m d p _ L29 _ s refl h) (λ t. books_scan n w me base m d p _ L29 _ s refl h)
-books_move n w me base m m' d p L30 s quiet long h = books_if n w me base m p.tog (all_still n p) _ _ (λ t. books_scan n w me base m d p _ L30 _ s refl h) (λ t. books_scan n w me base m d p _ L30 _ s refl h)
+books_move n w me base m m' d p L29 s quiet long h = either (BooksMove n w me base m p.tog) (nat_lt p.k w) _ _ (λ t. books_scan n w me base m d p _ L29 _ s refl h) (λ t. books_scan n w me base m d p _ L29 _ s refl h)
+books_move n w me base m m' d p L30 s quiet long h = either (BooksMove n w me base m p.tog) (all_still n p) _ _ (λ t. books_scan n w me base m d p _ L30 _ s refl h) (λ t. books_scan n w me base m d p _ L30 _ s refl h)
 books_move n w me base m m' d p L31 s quiet long h = books_scan n w me base m d p _ L31 _ s refl h
 books_move n w me base m m' d p L32 s quiet long h = books_first n w me base m m' d p (third_move n p) s h
 books_move n w me base m m' d p L33 s quiet long h = books_scan n w me base m d p _ L33 _ s refl h
@@ -216,7 +212,7 @@ books_move n w me base m m' d p L52 s quiet long h = absurd quiet
 books_move n w me base m m' Scanning p L53 s quiet long h = absurd s
 books_move n w me base m m' (Embedded y z) p L53 s quiet long h = absurd s
 books_move n w me base m m' (Updating y z) p L53 s quiet long h =
-    books_if n w me base m p.tog (nat_lt p.j n) _ _ (λ t. books_update n w me y z base m p _ L53 L51 (λ c o. refl) refl (λ v. refl) (λ l. l) refl h)
+    either (BooksMove n w me base m p.tog) (nat_lt p.j n) _ _ (λ t. books_update n w me y z base m p _ L53 L51 (λ c o. refl) refl (λ v. refl) (λ l. l) refl h)
     (λ t. let ge : n ≤ p.j = not_lt p.j n t in books_update n w me y z base m p _ L53 L54 (λ c o. sym (lt_true c (p.j + 1) (let le : c ≤ n = o.1 in omega arith))) refl (λ v. refl) (λ l. l) refl h)
 books_move n w me base m m' d p L54 s quiet long h = books_embed n w me base m m' d p s h
 books_move n w me base m m' d p L55 s quiet long h = absurd quiet
@@ -277,7 +273,7 @@ CountAt n w p own c recent Idle = Unit {0}
 CountAt n w p own c recent (At d k) = Count n w p own c recent k
 
 -- What holds of process i, at whichever line it stands.
-pub record Own (n w t : ℕ) (history : ℕ → Registers) (i : ℕ) (q : Process) : Type 0 where
+pub record ProcessInvariant (n w t : ℕ) (history : ℕ → Registers) (i : ℕ) (q : Process) : Type 0 where
   -- it stands at a line of its task, with the variables that the line asks for
   pub well : ControlWell n w q.variables q.control
   pub long : Long n w q.variables
@@ -293,18 +289,20 @@ pub record Own (n w t : ℕ) (history : ℕ → Registers) (i : ℕ) (q : Proces
   -- its counters are as its line says
   pub books : BooksAt n w i (history q.auxiliary.since) (history t) q.variables q.control
 
-pub record Inv (n w t : ℕ) (history : ℕ → Registers) (x : State) : Type 0 where
+pub record Invariant (n w t : ℕ) (history : ℕ → Registers) (x : State) : Type 0 where
   pub laws : (u : ℕ) → u ≤ t → Laws n w history u
-  pub each : (i : ℕ) → IsOneOf n i → Own n w t history i (typed_at (algorithm n w) x i)
+  pub each : (i : ℕ) → IsOneOf n i → ProcessInvariant n w t history i (typed_at (algorithm n w) x i)
 
-stage_at_kept : (n w me : ℕ) (history : ℕ → Registers) (t since round : ℕ) (p : Variables) (control : Control) → IsOneOf n me → Since n w history t (suc t) →
+stage_at_kept : (n w me : ℕ) (history : ℕ → Registers) (t since round : ℕ) (p : Variables) (control : Control) → IsOneOf n me →
+    Since n w history t (suc t) →
     Apart n me (history t) (history (suc t)) → StageAt n w me history t since round p control → StageAt n w me history (suc t) since round p control
 stage_at_kept n w me history t since round p Idle i s o h = tt
 stage_at_kept n w me history t since round p (At d k) i s o h = stage_kept n w me history t since round p k i s o h
 
 -- time passes and other processes act
-pub own_kept : (n w t : ℕ) (history : ℕ → Registers) (i : ℕ) (q : Process) → IsOneOf n i → Since n w history t (suc t) → Untouched n w i (history t) (history (suc t)) →
-    Own n w t history i q → Own n w (suc t) history i q
+pub own_kept : (n w t : ℕ) (history : ℕ → Registers) (i : ℕ) (q : Process) → IsOneOf n i → Since n w history t (suc t) →
+    Untouched n w i (history t) (history (suc t)) →
+    ProcessInvariant n w t history i q → ProcessInvariant n w (suc t) history i q
 own_kept n w t history i q one s u h = record {
   well = h.well;
   long = h.long;
@@ -318,26 +316,21 @@ own_kept n w t history i q one s u h = record {
 
 -- nothing happens
 pub inv_later : (n w t : ℕ) (history : ℕ → Registers) (x : State) → Laws n w history (suc t) → history (suc t) ≡ history t →
-    ((u : ℕ) → u ≤ suc t → Laws n w history u) → Inv n w t history x → Inv n w (suc t) history x
+    ((u : ℕ) → u ≤ suc t → Laws n w history u) → Invariant n w t history x → Invariant n w (suc t) history x
 inv_later n w t history x next same laws h = record {
   laws = laws;
   each = λ i one. own_kept n w t history i (typed_at (algorithm n w) x i) one (next.since t (omega arith)) (untouched_same n w i (history t) (history (suc t)) same) (h.each i one);
 }
 
 -- one process changes
-pub put_inv : (n w t : ℕ) (history : ℕ → Registers) (x : State) (i : ℕ) (m' : Registers) (q' : Process) (o : Outcome) → length x.processes ≡ n → IsOneOf n i →
-    ((u : ℕ) → u ≤ suc t → Laws n w history u) → ((k : ℕ) → IsOneOf n k → k ≢ i → Untouched n w k (history t) (history (suc t))) → Inv n w t history x →
-    Own n w (suc t) history i q' → Inv n w (suc t) history (changed x i (New m' q' o))
+pub put_inv : (n w t : ℕ) (history : ℕ → Registers) (x : State) (i : ℕ) (m' : Registers) (q' : Process) (o : Outcome) → length x.processes ≡ n →
+    IsOneOf n i →
+    ((u : ℕ) → u ≤ suc t → Laws n w history u) → ((k : ℕ) → IsOneOf n k → k ≢ i → Untouched n w k (history t) (history (suc t))) →
+    Invariant n w t history x →
+    ProcessInvariant n w (suc t) history i q' → Invariant n w (suc t) history (changed x i (New m' q' o))
 put_inv n w t history x i m' q' o count one laws untouched h own =
-    let c : Change = New m' q' o in
-    let a = algorithm n w in
-    let new : typed_at a (changed x i c) i ≡ q' = embed.own_process a x i m' q' o count one in
     record {
       laws = laws;
-      each = λ k j. elim (cases_eq k i) [
-        | inl same ↦ subst (λ (q : Process). Own n w (suc t) history k q) (sym (ap (typed_at a (changed x i c)) same ∙ new))
-            (subst (λ y. Own n w (suc t) history y q') (sym same) own)
-        | inr other ↦ subst (λ (q : Process). Own n w (suc t) history k q) (sym (embed.other_process a x i k c one.0 j.0 other))
-            (own_kept n w t history k (typed_at a x k) j ((laws (suc t) (omega arith)).since t (omega arith)) (untouched k j other) (h.each k j))
-      ];
+      each = frame.each_next (algorithm n w) x i m' q' o count one (ProcessInvariant n w (suc t) history) own (λ k j other.
+          own_kept n w t history k (typed_at (algorithm n w) x k) j ((laws (suc t) (omega arith)).since t (omega arith)) (untouched k j other) (h.each k j));
     }

@@ -9,9 +9,10 @@ pub mod Stage
 pub mod Count
 pub mod Invariant
 pub mod Writes
-pub mod Keep
+pub mod Preserve
 pub mod Runs
 pub mod Points
 pub mod Bounds
 pub mod Updates
 pub mod Moves
+pub mod Samples

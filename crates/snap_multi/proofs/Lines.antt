@@ -33,7 +33,8 @@ abbrev pub at_line : Counts → ℕ → Op → Registers → Option ℕ → ℕ 
 at_line shape me op m link line p =
     effect_at listing_m (context_of shape me op p) (real m) (act op link line) (instr_at listing_m.lines line)
 
-shown_if : (n w : ℕ) (m : Registers) (t : Bool) (x y : Move) → (if t then shown (algorithm n w) m x else shown (algorithm n w) m y) ≡ shown (algorithm n w) m (if t then x else y)
+shown_if : (n w : ℕ) (m : Registers) (t : Bool) (x y : Move) →
+    (if t then shown (algorithm n w) m x else shown (algorithm n w) m y) ≡ shown (algorithm n w) m (if t then x else y)
 shown_if n w m true x y = refl
 shown_if n w m false x y = refl
 
@@ -55,7 +56,8 @@ row_term : (n w me : ℕ) (d : Task) (p : Variables) (k : ℕ) (row : Name) → 
 row_term n w me d p k row h = bind_ok _ _ _ _ (place_ok (max n w) k h) refl
 
 -- a word that is read
-get_is : (copies words : Words) (k : ℕ) → slice_set (map plain copies) (k - 1) (slice_index_or (map plain words) (k - 1) no_word) ≡ map plain (slice_set copies (k - 1) (word_at words k))
+get_is : (copies words : Words) (k : ℕ) →
+    slice_set (map plain copies) (k - 1) (slice_index_or (map plain words) (k - 1) no_word) ≡ map plain (slice_set copies (k - 1) (word_at words k))
 get_is copies words k =
     ap (slice_set (map plain copies) (k - 1)) (plain_at words (k - 1)) ∙ sym (map-set plain copies (k - 1) (word_at words k))
 
@@ -66,10 +68,12 @@ id_term xs k = ap (λ (x : Word). x.id) (plain_at xs (k - 1))
 toggle_term : (xs : Words) (k : ℕ) → (slice_index_or (map plain xs) (k - 1) no_word).toggle ≡ (word_at xs k).toggle
 toggle_term xs k = ap (λ (x : Word). x.toggle) (plain_at xs (k - 1))
 
-owned_ok : {A : Type 0} (own : Bool) (x : A) (cause : Cause) (f : A → Result Effect Cause) → own ≡ true → ((if own then Ok x else Err cause) >>= f) ≡ f x
+owned_ok : {A : Type 0} (own : Bool) (x : A) (cause : Cause) (f : A → Result Effect Cause) → own ≡ true →
+    ((if own then Ok x else Err cause) >>= f) ≡ f x
 owned_ok own x cause f h = ap (λ b. (if b then Ok x else Err cause) >>= f) h
 
-same_is : (xs ys : Words) (k : ℕ) → same_words (slice_index_or (map plain xs) (k - 1) no_word) (slice_index_or (map plain ys) (k - 1) no_word) ≡ same_at xs ys k
+same_is : (xs ys : Words) (k : ℕ) →
+    same_words (slice_index_or (map plain xs) (k - 1) no_word) (slice_index_or (map plain ys) (k - 1) no_word) ≡ same_at xs ys k
 same_is xs ys k =
     ap (λ (x : Word). same_words x (slice_index_or (map plain ys) (k - 1) no_word)) (plain_at xs (k - 1))
     ∙ ap (λ (y : Word). same_words (word_at xs k) y) (plain_at ys (k - 1))
@@ -171,7 +175,7 @@ lines n w me (Updating y z) m p L56 s h =
 lines n w me Scanning m p L57 s h = absurd s
 lines n w me (Embedded y z) m p L57 s h = absurd s
 lines n w me (Updating y z) m p L57 s h =
-    let word : Word = record { datum = z; seq = 0; id = me; toggle = place p.tog y; hands = []; view = [] } in
+    let word : Word = plain (written me (Updating y z) m p) in
     bind_ok _ _ _ _ (place_ok w y h.0)
     (bind_ok _ _ word _ (bind_ok _ _ _ _ (bind_ok _ _ _ _ (place_ok (max n w) y (word_place n w y h.0)) refl) refl)
     (bind_ok _ _ word _ (if_true (nat_le (place p.tog y) 1 && true) (Ok word) (Err NotABit) (ap (λ b. b && true) (le_true (place p.tog y) 1 h.1)))

@@ -1,5 +1,5 @@
 -- The moves that a scan of M sees are events since its previous double collect.
-use Rattle.snap_runs.proofs.Computing.{same_from}
+use Rattle.snap_runs.proofs.Computing.{either, same_from}
 use Rattle.snap_runs.proofs.Places.{for_each_at}
 use Rattle.std.specs.Prelude.{◌≡◌, ℕ, zero, suc, ◌+◌, ◌<◌, ◌≤◌, ◌⊎◌, Bool, true, false, List, length, Option, Some, None, nat_eq, nat_lt, if◌then◌else◌, refl}
 use Rattle.std.proofs.Common.{sym, ◌∙◌, ap, subst, arith, inl, inr}
@@ -27,9 +27,9 @@ use Rattle.snap_multi.proofs.Stage.{Row}
 use Rattle.snap_multi.proofs.Count.{Count, counted_row}
 use Rattle.snap_multi.proofs.Invariant.{CountAt}
 use Rattle.snap_multi.proofs.Writes.{raised_there, raised_at_there, raised_at_elsewhere}
-use Rattle.snap_multi.proofs.Keep.{call_memory}
+use Rattle.snap_multi.proofs.Preserve.{call_memory}
 use Rattle.snap_multi.proofs.Flows.{line_listed}
-use Rattle.snap_multi.proofs.Runs.{worlds, memories, own, all_do, lawful, goes, stage_of}
+use Rattle.snap_multi.proofs.Runs.{state_at, registers_at, own, all_do, lawful, goes, stage_of}
 use Rattle.snap_multi.proofs.Updates.{line_executes, stands_at}
 
 -- Every line but 52 and 57 keeps the counters of writes and answers.
@@ -38,10 +38,6 @@ KeepsCounters m (To d m' p k) = (m'.writes ≡ m.writes) × (m'.answers ≡ m.an
 KeepsCounters m (Begin d p k) = Unit {0}
 KeepsCounters m (Answer v) = Unit {0}
 KeepsCounters m Finish = Unit {0}
-
-counters_if : (m : Registers) (b : Bool) (x y : Move) → KeepsCounters m x → KeepsCounters m y → KeepsCounters m (if b then x else y)
-counters_if m true x y f g = f
-counters_if m false x y f g = g
 
 counters_return : (d : Task) (m : Registers) (p : Variables) → KeepsCounters m (return_to d m p)
 counters_return Scanning m p = tt
@@ -57,28 +53,29 @@ counters_first : (d : Task) (m : Registers) (p : Variables) (o : Option ℕ) →
 counters_first d m p None = (refl, refl)
 counters_first d m p (Some k) = (refl, refl)
 
-counters_kept : (n w me : ℕ) (d : Task) (m : Registers) (p : Variables) (k : ProgramCounter) → KeepsCounters m (move n w me d m p k) ⊎ ((k ≡ L52) ⊎ (k ≡ L57))
+counters_kept : (n w me : ℕ) (d : Task) (m : Registers) (p : Variables) (k : ProgramCounter) →
+    KeepsCounters m (move n w me d m p k) ⊎ ((k ≡ L52) ⊎ (k ≡ L57))
 counters_kept n w me d m p L10 = inl (refl, refl)
 counters_kept n w me d m p L11 = inl (refl, refl)
 counters_kept n w me d m p L12 = inl (refl, refl)
 counters_kept n w me d m p L13 = inl (refl, refl)
 counters_kept n w me d m p L14 = inl (refl, refl)
 counters_kept n w me d m p L15 = inl (refl, refl)
-counters_kept n w me d m p L16 = inl (counters_if m (nat_lt p.j n) _ _ (refl, refl) (refl, refl))
+counters_kept n w me d m p L16 = inl (either (KeepsCounters m) (nat_lt p.j n) _ _ (λ t. (refl, refl)) (λ t. (refl, refl)))
 counters_kept n w me d m p L17 = inl (refl, refl)
-counters_kept n w me d m p L18 = inl (counters_if m (nat_lt p.k w) _ _ (refl, refl) (refl, refl))
+counters_kept n w me d m p L18 = inl (either (KeepsCounters m) (nat_lt p.k w) _ _ (λ t. (refl, refl)) (λ t. (refl, refl)))
 counters_kept n w me d m p L19 = inl (refl, refl)
-counters_kept n w me d m p L20 = inl (counters_if m (nat_lt p.k w) _ _ (refl, refl) (refl, refl))
+counters_kept n w me d m p L20 = inl (either (KeepsCounters m) (nat_lt p.k w) _ _ (λ t. (refl, refl)) (λ t. (refl, refl)))
 counters_kept n w me d m p L21 = inl (refl, refl)
 counters_kept n w me d m p L22 = inl (refl, refl)
-counters_kept n w me d m p L23 = inl (counters_if m (nat_lt p.j n) _ _ (refl, refl) (refl, refl))
+counters_kept n w me d m p L23 = inl (either (KeepsCounters m) (nat_lt p.j n) _ _ (λ t. (refl, refl)) (λ t. (refl, refl)))
 counters_kept n w me d m p L24 = inl (refl, refl)
 counters_kept n w me d m p L25 = inl (refl, refl)
-counters_kept n w me d m p L26 = inl (counters_if m (same_at p.a p.b p.k) _ _ (refl, refl) (refl, refl))
+counters_kept n w me d m p L26 = inl (either (KeepsCounters m) (same_at p.a p.b p.k) _ _ (λ t. (refl, refl)) (λ t. (refl, refl)))
 counters_kept n w me d m p L27 = inl (refl, refl)
 counters_kept n w me d m p L28 = inl (refl, refl)
-counters_kept n w me d m p L29 = inl (counters_if m (nat_lt p.k w) _ _ (refl, refl) (refl, refl))
-counters_kept n w me d m p L30 = inl (counters_if m (all_still n p) _ _ (refl, refl) (refl, refl))
+counters_kept n w me d m p L29 = inl (either (KeepsCounters m) (nat_lt p.k w) _ _ (λ t. (refl, refl)) (λ t. (refl, refl)))
+counters_kept n w me d m p L30 = inl (either (KeepsCounters m) (all_still n p) _ _ (λ t. (refl, refl)) (λ t. (refl, refl)))
 counters_kept n w me d m p L31 = inl (refl, refl)
 counters_kept n w me d m p L32 = inl (counters_first d m p (third_move n p))
 counters_kept n w me d m p L33 = inl (refl, refl)
@@ -89,7 +86,7 @@ counters_kept n w me d m p L37 = inl (counters_return d m p)
 counters_kept n w me d m p L50 = inl (refl, refl)
 counters_kept n w me d m p L51 = inl (refl, refl)
 counters_kept n w me d m p L52 = inr (inl refl)
-counters_kept n w me d m p L53 = inl (counters_if m (nat_lt p.j n) _ _ (refl, refl) (refl, refl))
+counters_kept n w me d m p L53 = inl (either (KeepsCounters m) (nat_lt p.j n) _ _ (λ t. (refl, refl)) (λ t. (refl, refl)))
 counters_kept n w me d m p L54 = inl (counters_embed d m p)
 counters_kept n w me d m p L55 = inl (refl, refl)
 counters_kept n w me d m p L56 = inl (refl, refl)
@@ -140,34 +137,34 @@ counted_only false v h = absurd (omega arith)
 
 module _ (n w : ℕ) (items : List Item) (some : 0 < w) (fits : Fits (run_of n w items)) where
   abbrev pub at : ℕ → ℕ → Process
-  at t i = typed_at (algorithm n w) (worlds n w items t) i
+  at t i = typed_at (algorithm n w) (state_at n w items t) i
 
   one_of : (v a : ℕ) → v < length items → item_at items v ≡ Step a → IsOneOf n a
   one_of v a h is = subst (λ y. IsOneOf n (who y)) is (embed.one_at (algorithm n w) items fits (all_do n w items some fits) v h)
 
   -- the registers after a step at a line
   after_step : (v a : ℕ) (d : Task) (k : ProgramCounter) → item_at items v ≡ Step a → (at v a).control ≡ At d k →
-      memories n w items (suc v) ≡ (changed (worlds n w items v) a (by_step (algorithm n w) (suc v) (memories n w items v) a (at v a) (At d k))).memory
+      registers_at n w items (suc v) ≡ (changed (state_at n w items v) a (by_step (algorithm n w) (suc v) (registers_at n w items v) a (at v a) (At d k))).memory
   after_step v a d k is there =
-      ap (λ (y : Item). (happens (algorithm n w) (suc v) (worlds n w items v) y).memory) is
-      ∙ ap (λ (p : Control). (changed (worlds n w items v) a (by_step (algorithm n w) (suc v) (memories n w items v) a (at v a) p)).memory) there
+      ap (λ (y : Item). (happens (algorithm n w) (suc v) (state_at n w items v) y).memory) is
+      ∙ ap (λ (p : Control). (changed (state_at n w items v) a (by_step (algorithm n w) (suc v) (registers_at n w items v) a (at v a) p)).memory) there
 
   -- what process a does at line 52 or 57 is an event of process j that process i can see, or leaves j's events
   line_57 : (v a i j : ℕ) (d : Task) → v < length items → item_at items v ≡ Step a → (at v a).control ≡ At d L57 →
-      IsEvent (run_of n w items) i j (suc v) ⊎ (events (memories n w items (suc v)) j i ≡ events (memories n w items v) j i)
+      IsEvent (run_of n w items) i j (suc v) ⊎ (events (registers_at n w items (suc v)) j i ≡ events (registers_at n w items v) j i)
   line_57 v a i j d h is there =
       elim (cases_eq j a) [
         | inl same ↦ inl (inl (subst (λ y. executes (run_of n w items) y 57 (suc v) ≡ true) (sym same) (line_executes n w items some fits v a 57 d L57 h is there refl)))
         | inr other ↦ inr (ap (λ (m : Registers). events m j i) (after_step v a d L57 is there)
-            ∙ ap (λ x. x + (memories n w items v).answers j i) (raised_there (memories n w items v).writes a j other))
+            ∙ ap (λ x. x + (registers_at n w items v).answers j i) (raised_there (registers_at n w items v).writes a j other))
       ]
 
   line_52 : (v a i j : ℕ) (d : Task) → v < length items → item_at items v ≡ Step a → (at v a).control ≡ At d L52 →
-      IsEvent (run_of n w items) i j (suc v) ⊎ (events (memories n w items (suc v)) j i ≡ events (memories n w items v) j i)
+      IsEvent (run_of n w items) i j (suc v) ⊎ (events (registers_at n w items (suc v)) j i ≡ events (registers_at n w items v) j i)
   line_52 v a i j d h is there =
-      let m = memories n w items v in
+      let m = registers_at n w items v in
       let p = (at v a).variables in
-      let after : memories n w items (suc v) ≡ after_52 a m p = after_step v a d L52 is there in
+      let after : registers_at n w items (suc v) ≡ after_52 a m p = after_step v a d L52 is there in
       elim (cases_eq j a) [
         | inl same ↦ elim (cases_eq i p.j) [
           | inl his ↦ (let counter : value_at names.j (process_at (state (run_of n w items) v) a).locals.scalars 0 ≡ p.j =
@@ -179,10 +176,11 @@ module _ (n w : ℕ) (items : List Item) (some : 0 < w) (fits : Fits (run_of n w
         | inr other ↦ inr (ap (λ (x : Registers). events x j i) after ∙ ap (λ y. m.writes j + y) (raised_at_there m.answers a p.j j i other))
       ]
 
-  item_does : (v i j : ℕ) → v < length items → IsEvent (run_of n w items) i j (suc v) ⊎ (events (memories n w items (suc v)) j i ≡ events (memories n w items v) j i)
+  item_does : (v i j : ℕ) → v < length items →
+      IsEvent (run_of n w items) i j (suc v) ⊎ (events (registers_at n w items (suc v)) j i ≡ events (registers_at n w items v) j i)
   item_does v i j h =
-      elim (happens_counters n w (suc v) (worlds n w items v) (item_at items v)) [
-        | inl same ↦ inr (ap (λ (f : ℕ → ℕ). f j + (memories n w items (suc v)).answers j i) same.0 ∙ ap (λ (f : ℕ → ℕ → ℕ). (memories n w items v).writes j + f j i) same.1)
+      elim (happens_counters n w (suc v) (state_at n w items v) (item_at items v)) [
+        | inl same ↦ inr (ap (λ (f : ℕ → ℕ). f j + (registers_at n w items (suc v)).answers j i) same.0 ∙ ap (λ (f : ℕ → ℕ → ℕ). (registers_at n w items v).writes j + f j i) same.1)
         | inr r ↦ elim r.3 [
           | inl at52 ↦ line_52 v r.0 i j r.1 h r.2 at52
           | inr at57 ↦ line_57 v r.0 i j r.1 h r.2 at57
@@ -190,16 +188,16 @@ module _ (n w : ℕ) (items : List Item) (some : 0 < w) (fits : Fits (run_of n w
       ]
 
   -- where the events of process j have become more, there was one
-  grew : (i j u v : ℕ) → u ≤ v → v ≤ length items → events (memories n w items u) j i < events (memories n w items v) j i →
+  grew : (i j u v : ℕ) → u ≤ v → v ≤ length items → events (registers_at n w items u) j i < events (registers_at n w items v) j i →
       (x : ℕ) × (u < x) × (x ≤ v) × IsEvent (run_of n w items) i j x
   grew i j u zero le short lt =
-      absurd (let e : events (memories n w items u) j i ≡ events (memories n w items 0) j i = ap (λ y. events (memories n w items y) j i) (let z : u ≡ 0 = omega arith in z) in omega arith)
+      absurd (let e : events (registers_at n w items u) j i ≡ events (registers_at n w items 0) j i = ap (λ y. events (registers_at n w items y) j i) (let z : u ≡ 0 = omega arith in z) in omega arith)
   grew i j u (suc v) le short lt =
       elim (eq-or-lt_of_le le) [
-        | inl same ↦ absurd (let e : events (memories n w items u) j i ≡ events (memories n w items (suc v)) j i = ap (λ y. events (memories n w items y) j i) same in omega arith)
+        | inl same ↦ absurd (let e : events (registers_at n w items u) j i ≡ events (registers_at n w items (suc v)) j i = ap (λ y. events (registers_at n w items y) j i) same in omega arith)
         | inr less ↦ elim (item_does v i j (omega arith)) [
           | inl event ↦ (suc v, less, omega arith, event)
-          | inr same ↦ earlier (grew i j u v (omega arith) (omega arith) (subst (λ y. events (memories n w items u) j i < y) same lt))
+          | inr same ↦ earlier (grew i j u v (omega arith) (omega arith) (subst (λ y. events (registers_at n w items u) j i < y) same lt))
         ]
       ]
     where
@@ -210,18 +208,20 @@ module _ (n w : ℕ) (items : List Item) (some : 0 < w) (fits : Fits (run_of n w
   row_after : (t i : ℕ) (d : Task) → IsOneOf n i → item_at items t ≡ Step i → (at t i).control ≡ At d L31 →
       (at (suc t) i).variables ≡ counted_row n (at t i).variables
   row_after t i d one is at31 =
-      let x = worlds n w items t in
+      let x = state_at n w items t in
       let q = at t i in
       let q' : Process = record { control = At d L32; variables = counted_row n q.variables; auxiliary = stepped_auxiliary (algorithm n w) L31 (suc t) q.auxiliary } in
-      let state_becomes : worlds n w items (suc t) ≡ changed x i (by_step (algorithm n w) (suc t) x.memory i q (At d L31)) =
+      let state_becomes : state_at n w items (suc t) ≡ changed x i (by_step (algorithm n w) (suc t) x.memory i q (At d L31)) =
       ap (happens (algorithm n w) (suc t) x) is ∙ ap (λ (p : Control). changed x i (by_step (algorithm n w) (suc t) x.memory i q p)) at31 in
       ap (λ (y : State). (typed_at (algorithm n w) y i).variables) state_becomes
       ∙ ap (λ (y : Process). y.variables) (embed.own_process (algorithm n w) x i x.memory q' Stepped (embed.count (algorithm n w) items t) one)
 
-  row_is : (t i j : ℕ) → IsOneOf n i → t ≤ length items → row_place (process_at (state (run_of n w items) t) i).locals names.moved j ≡ place (at t i).variables.moved j
+  row_is : (t i j : ℕ) → IsOneOf n i → t ≤ length items →
+      row_place (process_at (state (run_of n w items) t) i).locals names.moved j ≡ place (at t i).variables.moved j
   row_is t i j one short = ap (λ (p : NamedProcess). row_place p.locals names.moved j) (embed.process_at_is (algorithm n w) items fits (all_do n w items some fits) t i short one)
 
-  pub move_is_event : (i j : ℕ) (link : Option ℕ) (c t : ℕ) → Scan (run_of n w items) i link c (suc t) → c ≤ t → ObservedMove (run_of n w items) 31 names.moved i j (suc t) →
+  pub move_is_event : (i j : ℕ) (link : Option ℕ) (c t : ℕ) → Scan (run_of n w items) i link c (suc t) → c ≤ t →
+      ObservedMove (run_of n w items) 31 names.moved i j (suc t) →
       RecentEvent (run_of n w items) i j c (suc t)
   move_is_event i j link c t scan le move =
       let r = run_of n w items in
@@ -234,7 +234,7 @@ module _ (n w : ℕ) (items : List Item) (some : 0 < w) (fits : Fits (run_of n w
       let p = (at t i).variables in
       let round = (at t i).auxiliary.round in
       let stage = stage_of n w items some fits t i busy.0 L31 (omega arith) one busy.1 in
-      let row : Row n w i (memories n w items) round t p.g p.h p.d p.a p.b (w + 1) = stage.2 in
+      let row : Row n w i (registers_at n w items) round t p.g p.h p.d p.a p.b (w + 1) = stage.2 in
       let grows : place p.moved j < counted p j =
       subst (λ y. y < counted p j) (row_is t i j one (omega arith))
       (subst (λ y. row_place (process_at (state r t) i).locals names.moved j < y)

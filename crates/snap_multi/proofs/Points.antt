@@ -11,7 +11,7 @@ use Rattle.snap_multi.specs.Promises.{run_of, HavePoints}
 use Rattle.snap_multi.proofs.Algorithm.{Registers, Variables, ProgramCounter, lines, algorithm}
 use Rattle.snap_multi.proofs.Flows.{listed}
 use Rattle.snap_multi.proofs.History.{words_of}
-use Rattle.snap_multi.proofs.Runs.{worlds, memories, all_do, all_flow, stage_of, values_is}
+use Rattle.snap_multi.proofs.Runs.{state_at, registers_at, all_do, all_flow, stage_of, values_is}
 use Rattle.snap_multi.proofs.Stage.{Stage}
 
 -- at a line that returns s, the values were s at some state since the scan's start
@@ -22,7 +22,7 @@ return_held n w i history t since round p k (inr is) h = subst (Stage n w i hist
 
 module _ (n w : ℕ) (items : List Item) (some : 0 < w) (fits : Fits (run_of n w items)) where
   -- what was held was the values
-  point_of : (c e t : ℕ) (v : List ℕ) → t ≤ length items → t ≤ e → Held (words_of (memories n w items)) t c v → HasPoint (run_of n w items) c e v
+  point_of : (c e t : ℕ) (v : List ℕ) → t ≤ length items → t ≤ e → Held (words_of (registers_at n w items)) t c v → HasPoint (run_of n w items) c e v
   point_of c e t v le more h = let u : h.0 ≤ t = h.2 in (h.0, h.1, omega arith, values_is n w items some fits h.0 (omega arith) ∙ h.3)
 
   pub point : (i : ℕ) (link : Option ℕ) (c e : ℕ) (v : List ℕ) → Finished (run_of n w items) i link c e v → HasPoint (run_of n w items) c e v
@@ -30,12 +30,12 @@ module _ (n w : ℕ) (items : List Item) (some : 0 < w) (fits : Fits (run_of n w
   point i link c (suc t) v h =
       let one = h.scan.process in
       let last : suc t ≤ length items = h.scan.last in
-      let q = typed_at (algorithm n w) (worlds n w items t) i in
+      let q = typed_at (algorithm n w) (state_at n w items t) i in
       let ending = scans.ending (algorithm n w) lines (listed n w) items fits (all_do n w items some fits) (all_flow n w items some fits) i one link c t v h in
       let g = ending.goes_on in
-      let history = words_of (memories n w items) in
+      let history = words_of (registers_at n w items) in
       let held : Held history t q.auxiliary.since q.variables.s =
-      return_held n w i (memories n w items) t q.auxiliary.since q.auxiliary.round q.variables g.counter ending.at_return
+      return_held n w i (registers_at n w items) t q.auxiliary.since q.auxiliary.round q.variables g.counter ending.at_return
       (stage_of n w items some fits t i g.task g.counter (omega arith) one g.control) in
       point_of c (suc t) t v (omega arith) (omega arith) (subst (Held history t c) ending.answers (subst (λ s. Held history t s q.variables.s) g.since held))
 

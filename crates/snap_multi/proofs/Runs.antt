@@ -24,14 +24,14 @@ use Rattle.snap_multi.proofs.Control.{ControlWell, NamedAt28, does}
 use Rattle.snap_multi.proofs.History.{Now, Since, Laws, since_itself}
 use Rattle.snap_multi.proofs.Collect.{seen_by_words}
 use Rattle.snap_multi.proofs.Stage.{Stage}
-use Rattle.snap_multi.proofs.Invariant.{Own, Inv, StageAt}
-use Rattle.snap_multi.proofs.Keep.{happens_inv}
+use Rattle.snap_multi.proofs.Invariant.{ProcessInvariant, Invariant, StageAt}
+use Rattle.snap_multi.proofs.Preserve.{happens_inv}
 
-abbrev pub worlds : ℕ → ℕ → List Item → ℕ → State
-worlds n w items t = typed_state (algorithm n w) items t
+abbrev pub state_at : ℕ → ℕ → List Item → ℕ → State
+state_at n w items t = typed_state (algorithm n w) items t
 
-abbrev pub memories : ℕ → ℕ → List Item → ℕ → Registers
-memories n w items t = (worlds n w items t).memory
+abbrev pub registers_at : ℕ → ℕ → List Item → ℕ → Registers
+registers_at n w items t = (state_at n w items t).memory
 
 -- the registers at the start
 first_word_at : (w k : ℕ) → IsOneOf w k → word_at (replicate w first_word) k ≡ first_word
@@ -63,14 +63,14 @@ now0 n w = record {
   puts_to = λ c i h j. omega arith;
 }
 
-laws0 : (n w : ℕ) (items : List Item) → Laws n w (memories n w items) 0
+laws0 : (n w : ℕ) (items : List Item) → Laws n w (registers_at n w items) 0
 laws0 n w items = record {
   now = now0 n w;
-  since = λ u le. subst (λ y. (Since n w (memories n w items) y 0)) (let e : 0 ≡ u = omega arith in e) (since_itself n w (memories n w items) 0 (now0 n w));
+  since = λ u le. subst (λ y. (Since n w (registers_at n w items) y 0)) (let e : 0 ≡ u = omega arith in e) (since_itself n w (registers_at n w items) 0 (now0 n w));
   answered = λ c i low value h j asks more. absurd (omega arith);
 }
 
-own0 : (n w : ℕ) (items : List Item) (i : ℕ) → Own n w 0 (memories n w items) i (first_process (algorithm n w))
+own0 : (n w : ℕ) (items : List Item) (i : ℕ) → ProcessInvariant n w 0 (registers_at n w items) i (first_process (algorithm n w))
 own0 n w items i = record {
   well = tt;
   long = record {
@@ -93,23 +93,26 @@ own0 n w items i = record {
   };
 }
 
-inv0 : (n w : ℕ) (items : List Item) → Inv n w 0 (memories n w items) (first_state (algorithm n w))
+inv0 : (n w : ℕ) (items : List Item) → Invariant n w 0 (registers_at n w items) (first_state (algorithm n w))
 inv0 n w items = record {
-  laws = λ u le. subst (Laws n w (memories n w items)) (let e : 0 ≡ u = omega arith in e) (laws0 n w items);
-  each = λ i h. subst (λ (q : Process). Own n w 0 (memories n w items) i q) (sym (embed.first_process_is (algorithm n w) i h)) (own0 n w items i);
+  laws = λ u le. subst (Laws n w (registers_at n w items)) (let e : 0 ≡ u = omega arith in e) (laws0 n w items);
+  each = λ i h. subst (λ (q : Process). ProcessInvariant n w 0 (registers_at n w items) i q) (sym (embed.first_process_is (algorithm n w) i h)) (own0 n w items i);
 }
 
-pub inv : (n w : ℕ) (items : List Item) → 0 < w → Fits (run_of n w items) → (t : ℕ) → t ≤ length items → Inv n w t (memories n w items) (worlds n w items t)
+pub inv : (n w : ℕ) (items : List Item) → 0 < w → Fits (run_of n w items) → (t : ℕ) → t ≤ length items →
+    Invariant n w t (registers_at n w items) (state_at n w items t)
 inv n w items some fits zero h = inv0 n w items
 inv n w items some fits (suc t) h =
-    happens_inv n w t (memories n w items) (worlds n w items t) (item_at items t) some (embed.count (algorithm n w) items t)
+    happens_inv n w t (registers_at n w items) (state_at n w items t) (item_at items t) some (embed.count (algorithm n w) items t)
     (embed.all_index (λ y. IsOneOf n (who y)) items t (Step 0) fits.all (omega arith)) refl (inv n w items some fits t (omega arith)) refl
 
-pub own : (n w : ℕ) (items : List Item) → 0 < w → Fits (run_of n w items) → (t i : ℕ) → t ≤ length items → IsOneOf n i → Own n w t (memories n w items) i (typed_at (algorithm n w) (worlds n w items t) i)
+pub own : (n w : ℕ) (items : List Item) → 0 < w → Fits (run_of n w items) → (t i : ℕ) → t ≤ length items → IsOneOf n i →
+    ProcessInvariant n w t (registers_at n w items) i (typed_at (algorithm n w) (state_at n w items t) i)
 own n w items some fits t i h one = (inv n w items some fits t h).each i one
 
 -- line 28 marks a process
-named_28 : (n w i : ℕ) (history : ℕ → Registers) (t since round : ℕ) (p : Variables) (control : Control) → IsOneOf n i → ((u : ℕ) → u ≤ t → Laws n w history u) →
+named_28 : (n w i : ℕ) (history : ℕ → Registers) (t since round : ℕ) (p : Variables) (control : Control) → IsOneOf n i →
+    ((u : ℕ) → u ≤ t → Laws n w history u) →
     ControlWell n w p control → StageAt n w i history t since round p control → NamedAt28 n p control
 named_28 n w i history t since round p Idle one laws well h = tt
 named_28 n w i history t since round p (At d k) one laws well h = λ e.
@@ -121,10 +124,10 @@ pub all_do : (n w : ℕ) (items : List Item) → 0 < w → Fits (run_of n w item
 all_do n w items some fits t i h one =
     let v = inv n w items some fits t (omega arith) in
     let o = v.each i one in
-    let q = typed_at (algorithm n w) (worlds n w items t) i in
-    does n w i (memories n w items t) q.variables q.control
+    let q = typed_at (algorithm n w) (state_at n w items t) i in
+    does n w i (registers_at n w items t) q.variables q.control
     (record { one = one; some = some; bits = λ c k. (v.laws t (omega arith)).now.bits c i k one; long = o.long }) o.well
-    (named_28 n w i (memories n w items) t q.auxiliary.since q.auxiliary.round q.variables q.control one v.laws o.well o.stage)
+    (named_28 n w i (registers_at n w items) t q.auxiliary.since q.auxiliary.round q.variables q.control one v.laws o.well o.stage)
 
 -- No process traps.
 not_trapped : (n w : ℕ) (control : Control) → HasTrapped (status_of (algorithm n w) control) → ⊥
@@ -133,28 +136,30 @@ not_trapped n w (At d k) h = h
 
 pub never_traps_lem : NeverTraps
 never_traps_lem n w items some fits i t one h trapped =
-    not_trapped n w (typed_at (algorithm n w) (worlds n w items t) i).control
+    not_trapped n w (typed_at (algorithm n w) (state_at n w items t) i).control
     (subst (λ (p : NamedProcess). HasTrapped p.status) (embed.process_at_is (algorithm n w) items fits (all_do n w items some fits) t i h one) trapped)
 
 -- how control passes
-flows_at : (n w i : ℕ) (m : Registers) (p : Variables) (control : Control) → ControlWell n w p control → scans.FlowsAt (algorithm n w) lines i m p control
+flows_at : (n w i : ℕ) (m : Registers) (p : Variables) (control : Control) → ControlWell n w p control →
+    scans.FlowsAt (algorithm n w) lines i m p control
 flows_at n w i m p Idle h = tt
 flows_at n w i m p (At d k) h = flows n w i d m p k h.0
 
 pub all_flow : (n w : ℕ) (items : List Item) → 0 < w → Fits (run_of n w items) → scans.AllFlow (algorithm n w) lines items
 all_flow n w items some fits t i h one =
-    flows_at n w i (memories n w items t) (typed_at (algorithm n w) (worlds n w items t) i).variables (typed_at (algorithm n w) (worlds n w items t) i).control
+    flows_at n w i (registers_at n w items t) (typed_at (algorithm n w) (state_at n w items t) i).variables (typed_at (algorithm n w) (state_at n w items t) i).control
     (own n w items some fits t i (omega arith) one).well
 
 pub lawful : (n w : ℕ) (items : List Item) → 0 < w → Fits (run_of n w items) → (t i : ℕ) → t < length items → IsOneOf n i →
-    span.LawfulAt (algorithm n w) i (memories n w items t) (typed_at (algorithm n w) (worlds n w items t) i).variables (typed_at (algorithm n w) (worlds n w items t) i).control
+    span.LawfulAt (algorithm n w) i (registers_at n w items t) (typed_at (algorithm n w) (state_at n w items t) i).variables (typed_at (algorithm n w) (state_at n w items t) i).control
 lawful n w items some fits t i h one = scans.lawful (algorithm n w) lines (listed n w) items fits (all_do n w items some fits) (all_flow n w items some fits) t i h one
 
 -- at state t the scan that process i started at item c goes on
 abbrev pub Goes : (n w : ℕ) (items : List Item) → 0 < w → Fits (run_of n w items) → (i : ℕ) → IsOneOf n i → Option ℕ → ℕ → ℕ → Type 0
 Goes n w items some fits i one link c t = scans.Goes (algorithm n w) lines (listed n w) items fits (all_do n w items some fits) (all_flow n w items some fits) i one link c t
 
-pub goes : (n w : ℕ) (items : List Item) (some : 0 < w) (fits : Fits (run_of n w items)) (i : ℕ) (one : IsOneOf n i) (link : Option ℕ) (c e t : ℕ) → Scan (run_of n w items) i link c e → c ≤ t → t < e →
+pub goes : (n w : ℕ) (items : List Item) (some : 0 < w) (fits : Fits (run_of n w items)) (i : ℕ) (one : IsOneOf n i) (link : Option ℕ) (c e t : ℕ) →
+    Scan (run_of n w items) i link c e → c ≤ t → t < e →
     Goes n w items some fits i one link c t
 goes n w items some fits i one link c e t scan le lt =
     scans.goes (algorithm n w) lines (listed n w) items fits (all_do n w items some fits) (all_flow n w items some fits) i one link c e t scan le lt
@@ -164,13 +169,15 @@ plain_values : (xs : Words) → map (λ (x : Word). x.datum) (map plain xs) ≡ 
 plain_values [] = refl
 plain_values (x ∷ xs) = ap (λ ys. x.datum ∷ ys) (plain_values xs)
 
-pub values_is : (n w : ℕ) (items : List Item) → 0 < w → Fits (run_of n w items) → (t : ℕ) → t ≤ length items → values (state (run_of n w items) t) ≡ data_of (memories n w items t).words
-values_is n w items some fits t h = ap values (embed.state_is (algorithm n w) items fits (all_do n w items some fits) t h) ∙ plain_values (memories n w items t).words
+pub values_is : (n w : ℕ) (items : List Item) → 0 < w → Fits (run_of n w items) → (t : ℕ) → t ≤ length items →
+    values (state (run_of n w items) t) ≡ data_of (registers_at n w items t).words
+values_is n w items some fits t h = ap values (embed.state_is (algorithm n w) items fits (all_do n w items some fits) t h) ∙ plain_values (registers_at n w items t).words
 
 -- a busy process is at the stage of its line
-pub stage_of : (n w : ℕ) (items : List Item) → 0 < w → Fits (run_of n w items) → (t i : ℕ) (d : Task) (k : ProgramCounter) → t ≤ length items → IsOneOf n i →
-    (typed_at (algorithm n w) (worlds n w items t) i).control ≡ At d k →
-    Stage n w i (memories n w items) t (typed_at (algorithm n w) (worlds n w items t) i).auxiliary.since (typed_at (algorithm n w) (worlds n w items t) i).auxiliary.round (typed_at (algorithm n w) (worlds n w items t) i).variables k
+pub stage_of : (n w : ℕ) (items : List Item) → 0 < w → Fits (run_of n w items) → (t i : ℕ) (d : Task) (k : ProgramCounter) → t ≤ length items →
+    IsOneOf n i →
+    (typed_at (algorithm n w) (state_at n w items t) i).control ≡ At d k →
+    Stage n w i (registers_at n w items) t (typed_at (algorithm n w) (state_at n w items t) i).auxiliary.since (typed_at (algorithm n w) (state_at n w items t) i).auxiliary.round (typed_at (algorithm n w) (state_at n w items t) i).variables k
 stage_of n w items some fits t i d k le one e =
-    let q = typed_at (algorithm n w) (worlds n w items t) i in
-    subst (StageAt n w i (memories n w items) t q.auxiliary.since q.auxiliary.round q.variables) e (own n w items some fits t i le one).stage
+    let q = typed_at (algorithm n w) (state_at n w items t) i in
+    subst (StageAt n w i (registers_at n w items) t q.auxiliary.since q.auxiliary.round q.variables) e (own n w items some fits t i le one).stage

@@ -1,6 +1,6 @@
 -- How far a scan of M has come at each line, and that each line takes it on.
 use Rattle.snap_runs.proofs.Places.{for_each_at, first_found, all_pass}
-use Rattle.snap_runs.proofs.Computing.{other_number, same_from, not_lt}
+use Rattle.snap_runs.proofs.Computing.{either, other_number, same_from, not_lt}
 use Rattle.std.specs.Prelude.{◌≡◌, ◌≢◌, ℕ, suc, ◌+◌, ◌-◌, ◌<◌, ◌≤◌, max, Bool, true, false, not, List, take, length, map, Option, Some, None, nat_eq, nat_lt, if◌then◌else◌, slice_set, refl}
 use Rattle.std.proofs.Common.{sym, ◌∙◌, ap, subst, arith, inl, inr}
 use Rattle.std.proofs.lemmas.Bool.{cases_eq}
@@ -100,11 +100,6 @@ pub record Known (n w me : ℕ) (history : ℕ → Registers) (t since round : �
   pub keeps : Keeps n w d p k
   pub quiet : IsQuiet k
 
-stage_if : (n w me : ℕ) (history : ℕ → Registers) (t since round : ℕ) (b : Bool) (x y : Move) →
-    (b ≡ true → StageMove n w me history t since round x) → (b ≡ false → StageMove n w me history t since round y) → StageMove n w me history t since round (if b then x else y)
-stage_if n w me history t since round true x y f g = f refl
-stage_if n w me history t since round false x y f g = g refl
-
 stage_first : (n w me : ℕ) (history : ℕ → Registers) (t since round : ℕ) (d : Task) (m : Registers) (p : Variables) (o : Option ℕ) →
     Low n me history since t p.moved → ((k : ℕ) → o ≡ Some k → place p.moved k ≡ limit) → StageMove n w me history t since round (first_to d m p o)
 stage_first n w me history t since round d m p None h f = h
@@ -123,7 +118,8 @@ marked_then true v e f = absurd (omega arith)
 marked_then false v e f = refl
 
 -- line 25 marks the processes whose late bits differ
-row_starts : (n w me : ℕ) (history : ℕ → Registers) (round t : ℕ) (p : Variables) → IsOneOf n me → ((u : ℕ) → u ≤ t → Laws n w history u) → round ≤ t →
+row_starts : (n w me : ℕ) (history : ℕ → Registers) (round t : ℕ) (p : Variables) → IsOneOf n me → ((u : ℕ) → u ≤ t → Laws n w history u) →
+    round ≤ t →
     Gathered n w me history round t p (n + 1) (w + 1) (w + 1) (n + 1) → ((c : ℕ) → IsOneOf n c → place p.d c ≡ 0) →
     (row : List ℕ) → ((c : ℕ) → IsOneOf n c → place row c ≡ marked p c) → (k : ℕ) → k ≡ 1 → Row n w me history round t p.g p.h row p.a p.b k
 row_starts n w me history round t p one laws le x zero row is k first = record {
@@ -150,8 +146,10 @@ row_same n w me history round t g h d a b k same r = record {
 }
 
 -- line 28 marks the writer of a word that differs
-row_marks : (n w me : ℕ) (history : ℕ → Registers) (round t : ℕ) (g h d : List ℕ) (a b : Words) (k x : ℕ) → IsOneOf n x → n ≤ length d → x ≡ (word_at b k).id → ((y : ℕ) → IsOneOf w y → same_at a b y ≡ false → IsOneOf n (word_at b y).id) →
-    events (history round) x me < events (history t) x me → Row n w me history round t g h d a b k → Row n w me history round t g h (slice_set d (x - 1) 1) a b (k + 1)
+row_marks : (n w me : ℕ) (history : ℕ → Registers) (round t : ℕ) (g h d : List ℕ) (a b : Words) (k x : ℕ) → IsOneOf n x → n ≤ length d →
+    x ≡ (word_at b k).id → ((y : ℕ) → IsOneOf w y → same_at a b y ≡ false → IsOneOf n (word_at b y).id) →
+    events (history round) x me < events (history t) x me → Row n w me history round t g h d a b k →
+    Row n w me history round t g h (slice_set d (x - 1) 1) a b (k + 1)
 row_marks n w me history round t g h d a b k x one len is named event r =
     let row = slice_set d (x - 1) 1 in
     let here : (c : ℕ) → c ≡ x → place row c ≡ 1 = λ c e. ap (place row) e ∙ set_here d x 1 one.0 (let le : x ≤ n = one.1 in omega arith) in
@@ -211,7 +209,8 @@ counted_le v d low round t h le f =
     ] refl
 
 -- events do not become fewer
-pub events_le : (n w me u t : ℕ) (history : ℕ → Registers) → Since n w history u t → IsOneOf n me → (c : ℕ) → IsOneOf n c → events (history u) c me ≤ events (history t) c me
+pub events_le : (n w me u t : ℕ) (history : ℕ → Registers) → Since n w history u t → IsOneOf n me → (c : ℕ) → IsOneOf n c →
+    events (history u) c me ≤ events (history t) c me
 events_le n w me u t history s one c o =
     let a : (history u).writes c ≤ (history t).writes c = s.writes c o in
     let b : (history u).answers c me ≤ (history t).answers c me = s.answers c me o one in omega arith
@@ -233,7 +232,7 @@ stage_move n w me history t since round m d p L14 e h =
     (h.0, asked_row n w me history round t p.g p.a p.b p.h p.j p.x 1 1 1 one h.1, h.2, set_here p.g p.j p.x one.0 (omega arith))
 stage_move n w me history t since round m d p L15 e h = absurd e.quiet
 stage_move n w me history t since round m d p L16 e h =
-    stage_if n w me history t since round (nat_lt p.j n) _ _ (λ b. h)
+    either (StageMove n w me history t since round) (nat_lt p.j n) _ _ (λ b. h)
     (λ b. let ge : n ≤ p.j = not_lt p.j n b in
     let k : p.k ≡ 1 = e.keeps.1 in
     (h.0, collected_as n w me history round t p.g p.a p.b p.h (p.j + 1) (n + 1) 1 p.k 1 1 1 1 (λ c o lt. omega arith) (λ c o lt. omega arith) (λ c o lt. lt) (λ c o lt. lt) h.1))
@@ -242,7 +241,7 @@ stage_move n w me history t since round m d p L17 e h =
     let len : length p.a ≡ max n w = long.a in
     (h.0, first_more n w me history round t m p.g p.a p.b p.h (n + 1) p.k e.keeps.1 (omega arith) e.now h.1)
 stage_move n w me history t since round m d p L18 e h =
-    stage_if n w me history t since round (nat_lt p.k w) _ _ (λ b. h)
+    either (StageMove n w me history t since round) (nat_lt p.k w) _ _ (λ b. h)
     (λ b. let ge : w ≤ p.k = not_lt p.k w b in
     (h.0, collected_as n w me history round t p.g p.a p.b p.h (n + 1) (n + 1) (p.k + 1) (w + 1) 1 1 1 1 (λ c o lt. lt) (λ c o lt. omega arith) (λ c o lt. lt) (λ c o lt. lt) h.1))
 stage_move n w me history t since round m d p L19 e h =
@@ -251,7 +250,7 @@ stage_move n w me history t since round m d p L19 e h =
     (h.0, second_more n w me history round t m p.g p.a p.b p.h (n + 1) (w + 1) p.k e.keeps.1 (omega arith) e.now h.1)
 stage_move n w me history t since round m d p L20 e h =
     let j : p.j ≡ 1 = e.keeps.0 in
-    stage_if n w me history t since round (nat_lt p.k w) _ _ (λ b. h)
+    either (StageMove n w me history t since round) (nat_lt p.k w) _ _ (λ b. h)
     (λ b. let ge : w ≤ p.k = not_lt p.k w b in
     (h.0, collected_as n w me history round t p.g p.a p.b p.h (n + 1) (n + 1) (w + 1) (w + 1) (p.k + 1) (w + 1) 1 p.j (λ c o lt. lt) (λ c o lt. lt) (λ c o lt. omega arith) (λ c o lt. omega arith) h.1))
 stage_move n w me history t since round m d p L21 e h =
@@ -261,13 +260,13 @@ stage_move n w me history t since round m d p L22 e h =
     let len : length p.h ≡ max n w = long.h in
     (h.0, late_more n w me history round t p.g p.a p.b p.h (n + 1) (w + 1) (w + 1) p.j p.x e.keeps.0 (omega arith) h.1 h.2)
 stage_move n w me history t since round m d p L23 e h =
-    stage_if n w me history t since round (nat_lt p.j n) _ _ (λ b. h)
+    either (StageMove n w me history t since round) (nat_lt p.j n) _ _ (λ b. h)
     (λ b. let ge : n ≤ p.j = not_lt p.j n b in
     (h.0, collected_as n w me history round t p.g p.a p.b p.h (n + 1) (n + 1) (w + 1) (w + 1) (w + 1) (w + 1) (p.j + 1) (n + 1) (λ c o lt. lt) (λ c o lt. lt) (λ c o lt. lt) (λ c o lt. omega arith) h.1))
 stage_move n w me history t since round m d p L24 e h = (h.0, h.1, λ c i. for_each_at n (λ c. 0) p.d c i)
 stage_move n w me history t since round m d p L25 e h = (h.0, h.1, row_starts n w me history round t p e.one e.laws e.round_le h.1 h.2 _ (λ c o. for_each_at n (marked p) p.d c o) p.k e.keeps.1)
 stage_move n w me history t since round m d p L26 e h =
-    stage_if n w me history t since round (same_at p.a p.b p.k) _ _
+    either (StageMove n w me history t since round) (same_at p.a p.b p.k) _ _
     (λ b. (h.0, h.1, row_same n w me history round t p.g p.h p.d p.a p.b p.k b h.2)) (λ b. (h.0, h.1, h.2, b))
 stage_move n w me history t since round m d p L27 e h = (h.0, h.1, h.2, h.3, refl)
 stage_move n w me history t since round m d p L28 e h =
@@ -278,14 +277,14 @@ stage_move n w me history t since round m d p L28 e h =
     let answers : (history round).answers p.x me ≤ (history t).answers p.x me = ((e.laws t (omega arith)).since round e.round_le).answers p.x me named e.one in
     (h.0, h.1, row_marks n w me history round t p.g p.h p.d p.a p.b p.k p.x named long.d h.4 (λ y o differ. (seen_by_words n w me history round t p.g p.a p.b p.h e.one e.laws h.1 y o differ).0) (omega arith) h.2)
 stage_move n w me history t since round m d p L29 e h =
-    stage_if n w me history t since round (nat_lt p.k w) _ _ (λ b. h)
+    either (StageMove n w me history t since round) (nat_lt p.k w) _ _ (λ b. h)
     (λ b. let ge : w ≤ p.k = not_lt p.k w b in
     let inside : IsOneOf w p.k = e.keeps.1 in
     (h.0, h.1, subst (λ y. Marks n w me history round t p (y + 1)) (let f : p.k ≡ w = omega arith in f) h.2))
 stage_move n w me history t since round m d p L30 e h =
     let long : Long n w p = e.long in
     let len : length p.b ≡ max n w = long.b in
-    stage_if n w me history t since round (all_still n p) _ _
+    either (StageMove n w me history t since round) (all_still n p) _ _
     (λ b. subst (Held (words_of history) t since) (sym (plain_data w p.b))
     (passed n w me history round t p.g p.a p.b p.h e.one e.laws h.1 since e.opened (omega arith)
     (still_bits n w me history round t p (w + 1) h.2 b) (still_words n w me history round t p e.one e.laws h.1 h.2 b)))
@@ -317,7 +316,7 @@ stage_move n w me history t since round m (Updating y z) p L37 e h = absurd e.li
 stage_move n w me history t since round m d p L50 e h = tt
 stage_move n w me history t since round m d p L51 e h = record { at = t; until = omega arith; is = ap (λ (x : Registers). bit x.q p.j me) (sym e.now); same = refl }
 stage_move n w me history t since round m d p L52 e h = absurd e.quiet
-stage_move n w me history t since round m d p L53 e h = stage_if n w me history t since round (nat_lt p.j n) _ _ (λ b. tt) (λ b. tt)
+stage_move n w me history t since round m d p L53 e h = either (StageMove n w me history t since round) (nat_lt p.j n) _ _ (λ b. tt) (λ b. tt)
 stage_move n w me history t since round m Scanning p L54 e h = absurd e.line
 stage_move n w me history t since round m (Embedded y z) p L54 e h = absurd e.line
 stage_move n w me history t since round m (Updating y z) p L54 e h = refl
@@ -347,7 +346,8 @@ row_kept n w me history round t g h d a b k one s r = record {
       let le : events (history t) c me ≤ events (history (suc t)) c me = events_le n w me t (suc t) history s one c o in omega arith;
 }
 
-high_kept : (n w me : ℕ) (history : ℕ → Registers) (since t : ℕ) (moved : List ℕ) → IsOneOf n me → Since n w history t (suc t) → Low n me history since t moved → Low n me history since (suc t) moved
+high_kept : (n w me : ℕ) (history : ℕ → Registers) (since t : ℕ) (moved : List ℕ) → IsOneOf n me → Since n w history t (suc t) →
+    Low n me history since t moved → Low n me history since (suc t) moved
 high_kept n w me history since t moved one s h c o =
     let lt : events (history since) c me + place moved c ≤ events (history t) c me = h c o in
     let le : events (history t) c me ≤ events (history (suc t)) c me = events_le n w me t (suc t) history s one c o in omega arith
@@ -357,7 +357,8 @@ pub record Apart (n me : ℕ) (m m' : Registers) : Type 0 where
   pub asks : (c : ℕ) → IsOneOf n c → bit m'.q me c ≡ bit m.q me c
   pub writes : m'.writes me ≡ m.writes me
 
-pub stage_kept : (n w me : ℕ) (history : ℕ → Registers) (t since round : ℕ) (p : Variables) (k : ProgramCounter) → IsOneOf n me → Since n w history t (suc t) → Apart n me (history t) (history (suc t)) →
+pub stage_kept : (n w me : ℕ) (history : ℕ → Registers) (t since round : ℕ) (p : Variables) (k : ProgramCounter) → IsOneOf n me →
+    Since n w history t (suc t) → Apart n me (history t) (history (suc t)) →
     Stage n w me history t since round p k → Stage n w me history (suc t) since round p k
 stage_kept n w me history t since round p L10 i s o h = tt
 stage_kept n w me history t since round p L11 i s o h = h

@@ -23,8 +23,8 @@ use Rattle.snap_multi.specs.Promises.{run_of, ChangesOnlyAt57, WritesItsUpdate, 
 use Rattle.snap_multi.proofs.Algorithm.{Registers, Process, Control, Move, State, ProgramCounter, L57, number, written, move, IsUpdate, lines, algorithm}
 use Rattle.snap_multi.proofs.Control.{ControlWell}
 use Rattle.snap_multi.proofs.Flows.{counter_with, at_number, flows, once}
-use Rattle.snap_multi.proofs.Keep.{call_memory}
-use Rattle.snap_multi.proofs.Runs.{worlds, memories, own, all_do, all_flow, values_is}
+use Rattle.snap_multi.proofs.Preserve.{call_memory}
+use Rattle.snap_multi.proofs.Runs.{state_at, registers_at, own, all_do, all_flow, values_is}
 
 words_then : (n w t : ℕ) (x : State) (i : ℕ) (k : ProgramCounter) (v : Move) → flow.KeepsMemory lines x.memory v →
     (changed x i (by_move (algorithm n w) t x.memory (typed_at (algorithm n w) x i) k v)).memory.words ≡ x.memory.words
@@ -52,7 +52,8 @@ pub step_of : (i : ℕ) (y : Item) → steps i y ≡ true → y ≡ Step i
 step_of i (Step k) h = ap (λ u. Step u) (same_from k i h)
 step_of i (Call k op) h = absurd (cc)
 
-pub busy_at : (n w line : ℕ) (there : ProgramCounter) (control : Control) → counter_with line ≡ Some there → is_at line (status_of (algorithm n w) control) ≡ true →
+pub busy_at : (n w line : ℕ) (there : ProgramCounter) (control : Control) → counter_with line ≡ Some there →
+    is_at line (status_of (algorithm n w) control) ≡ true →
     (d : Task) × (control ≡ At d there)
 busy_at n w line there Idle is h = absurd (cc)
 busy_at n w line there (At d k) is h = (d, ap (λ y. At d y) (at_number k line there is h))
@@ -63,15 +64,16 @@ update_of w (Embedded word arg) u = absurd u
 update_of w (Updating word arg) u = (word, arg, u, refl)
 
 has_written : (n w : ℕ) (items : List Item) → 0 < w → Fits (run_of n w items) → (t i : ℕ) → t ≤ length items → IsOneOf n i →
-    flow.HasWritten lines (typed_at (algorithm n w) (worlds n w items t) i).control (typed_at (algorithm n w) (worlds n w items t) i).auxiliary.wrote
+    flow.HasWritten lines (typed_at (algorithm n w) (state_at n w items t) i).control (typed_at (algorithm n w) (state_at n w items t) i).auxiliary.wrote
 has_written n w items some fits t i h one = (own n w items some fits t i h one).wrote
 
 module _ (n w : ℕ) (items : List Item) (some : 0 < w) (fits : Fits (run_of n w items)) where
   abbrev pub at : ℕ → ℕ → Process
-  at t i = typed_at (algorithm n w) (worlds n w items t) i
+  at t i = typed_at (algorithm n w) (state_at n w items t) i
 
   -- a step at a line executes it
-  pub line_executes : (t i line : ℕ) (d : Task) (k : ProgramCounter) → t < length items → item_at items t ≡ Step i → (at t i).control ≡ At d k → nat_eq (number k) line ≡ true →
+  pub line_executes : (t i line : ℕ) (d : Task) (k : ProgramCounter) → t < length items → item_at items t ≡ Step i → (at t i).control ≡ At d k →
+      nat_eq (number k) line ≡ true →
       executes (run_of n w items) i line (suc t) ≡ true
   line_executes t i line d k h is there same =
       let one : IsOneOf n i = subst (λ y. IsOneOf n (who y)) is (embed.one_at (algorithm n w) items fits (all_do n w items some fits) t h) in
@@ -82,7 +84,8 @@ module _ (n w : ℕ) (items : List Item) (some : 0 < w) (fits : Fits (run_of n w
       ∙ ap (λ b. b && is_at line (process_at (state (run_of n w items) t) i).status) (same_number i) ∙ stands
 
   -- and where a process executes a line, it stands there
-  pub stands_at : (t i line : ℕ) (there : ProgramCounter) → t < length items → IsOneOf n i → counter_with line ≡ Some there → executes (run_of n w items) i line (suc t) ≡ true →
+  pub stands_at : (t i line : ℕ) (there : ProgramCounter) → t < length items → IsOneOf n i → counter_with line ≡ Some there →
+      executes (run_of n w items) i line (suc t) ≡ true →
       (item_at items t ≡ Step i) × ((d : Task) × ((at t i).control ≡ At d there))
   stands_at t i line there h one is ex =
       let parts = both (steps i (item (run_of n w items) (suc t))) (is_at line (process_at (state (run_of n w items) t) i).status) ex in
@@ -91,9 +94,9 @@ module _ (n w : ℕ) (items : List Item) (some : 0 < w) (fits : Fits (run_of n w
       (step_of i (item_at items t) parts.0, busy_at n w line there (at t i).control is stands)
 
   item_same : (t : ℕ) (y : Item) → t < length items → IsOneOf n (who y) →
-      ((happens (algorithm n w) (suc t) (worlds n w items t) y).memory.words ≡ (memories n w items t).words) ⊎ Writes n w (worlds n w items t) y
-  item_same t (Step i) h one = step_same n w (suc t) (worlds n w items t) i (at t i).control refl (own n w items some fits t i (omega arith) one).well
-  item_same t (Call i op) h one = inl (ap (λ (m : Registers). m.words) (call_memory n w (suc t) (worlds n w items t) i op (at t i).control))
+      ((happens (algorithm n w) (suc t) (state_at n w items t) y).memory.words ≡ (registers_at n w items t).words) ⊎ Writes n w (state_at n w items t) y
+  item_same t (Step i) h one = step_same n w (suc t) (state_at n w items t) i (at t i).control refl (own n w items some fits t i (omega arith) one).well
+  item_same t (Call i op) h one = inl (ap (λ (m : Registers). m.words) (call_memory n w (suc t) (state_at n w items t) i op (at t i).control))
 
   pub changes_only_at_57 : (t : ℕ) → t < length items →
       (values (state (run_of n w items) (suc t)) ≡ values (state (run_of n w items) t)) ⊎ (executes (run_of n w items) (who (item (run_of n w items) (suc t))) 57 (suc t) ≡ true)
@@ -103,8 +106,9 @@ module _ (n w : ℕ) (items : List Item) (some : 0 < w) (fits : Fits (run_of n w
         | inr x ↦ inr (subst (λ (y : Item). executes (run_of n w items) (who y) 57 (suc t) ≡ true) (sym x.2) (line_executes t x.0 57 x.1 L57 h x.2 x.3 refl))
       ]
 
-  quiet : (i : ℕ) → IsOneOf n i → (t : ℕ) → t < length items → (d : Task) (k : ProgramCounter) → (at t i).control ≡ At d k → (word value : ℕ) → op_of d ≡ Update word value →
-      called.NoAnswer (algorithm n w) (move n w i d (memories n w items t) (at t i).variables k)
+  quiet : (i : ℕ) → IsOneOf n i → (t : ℕ) → t < length items → (d : Task) (k : ProgramCounter) → (at t i).control ≡ At d k → (word value : ℕ) →
+      op_of d ≡ Update word value →
+      called.NoAnswer (algorithm n w) (move n w i d (registers_at n w items t) (at t i).variables k)
   quiet i one =
       writes_once.silent (algorithm n w) lines 57 (once n w) items fits (all_do n w items some fits) (all_flow n w items some fits) (has_written n w items some fits) i one
 
@@ -125,10 +129,10 @@ module _ (n w : ℕ) (items : List Item) (some : 0 < w) (fits : Fits (run_of n w
       subst (called.UnderAt (algorithm n w) 57 (once n w).writes_is items fits (all_do n w items some fits) i one (quiet i one) t (at t i)) control
       (called.under (algorithm n w) 57 (once n w).writes_is items fits (all_do n w items some fits) i one (quiet i one) t (omega arith)) in
       let order : c ≤ t = under.order in
-      let new_word : Word = written i (Updating word arg) (memories n w items t) (at t i).variables in
-      let words_are : (memories n w items (suc t)).words ≡ slice_set (memories n w items t).words (word - 1) new_word =
-      ap (λ (y : Item). (happens (algorithm n w) (suc t) (worlds n w items t) y).memory.words) is
-      ∙ ap (λ (p : Control). (changed (worlds n w items t) i (by_step (algorithm n w) (suc t) (memories n w items t) i (at t i) p)).memory.words) control in (
+      let new_word : Word = written i (Updating word arg) (registers_at n w items t) (at t i).variables in
+      let words_are : (registers_at n w items (suc t)).words ≡ slice_set (registers_at n w items t).words (word - 1) new_word =
+      ap (λ (y : Item). (happens (algorithm n w) (suc t) (state_at n w items t) y).memory.words) is
+      ∙ ap (λ (p : Control). (changed (state_at n w items t) i (by_step (algorithm n w) (suc t) (registers_at n w items t) i (at t i) p)).memory.words) control in (
         word,
         arg,
         c,
@@ -144,7 +148,7 @@ module _ (n w : ℕ) (items : List Item) (some : 0 < w) (fits : Fits (run_of n w
         omega arith,
         up.2,
         values_is n w items some fits (suc t) (omega arith) ∙ ap data_of words_are
-            ∙ map-set (λ (y : Word). y.datum) (memories n w items t).words (word - 1) new_word
+            ∙ map-set (λ (y : Word). y.datum) (registers_at n w items t).words (word - 1) new_word
             ∙ ap (λ v. slice_set v (word - 1) arg) (sym (values_is n w items some fits t (omega arith))),
       )
 

@@ -85,7 +85,8 @@ untouched_15 n w me k m p one his other = record {
 }
 
 -- its row of q after line 15
-pub asks_there : (n w me c : ℕ) (m : Registers) (p : Variables) → IsOneOf n me → IsOneOf n p.j → Now n w m → IsOneOf n c → c ≢ p.j → bit (after_15 me m p).q me c ≡ bit m.q me c
+pub asks_there : (n w me c : ℕ) (m : Registers) (p : Variables) → IsOneOf n me → IsOneOf n p.j → Now n w m → IsOneOf n c → c ≢ p.j →
+    bit (after_15 me m p).q me c ≡ bit m.q me c
 asks_there n w me c m p one inside now o other =
     let len : length m.q ≡ n = now.square_q.0 in
     bit_elsewhere m.q me p.j p.x c one.0 inside.0 o.0 other (omega arith)

@@ -1,4 +1,5 @@
--- What every run of listing M keeps, for every number of processes and of words.
+-- What every run of listing M keeps, for every number of processes and of words. There is at least one word: with none line 17
+-- would have nothing to read.
 use Rattle.std.specs.Prelude.{◌≡◌, ℕ, ◌+◌, ◌-◌, ◌*◌, ◌<◌, ◌≤◌, ◌⊎◌, true, List, Option}
 use Rattle.snap_words.specs.Shape.{Counts}
 use Rattle.snap_semantics.specs.declared.process.Item.{Item}

@@ -1,7 +1,7 @@
 -- Every state of a run of M keeps the invariant.
 use Rattle.snap_runs.proofs.Flow.{IsInScan}
 use Rattle.snap_runs.proofs.Totals.{total_less}
-use Rattle.snap_runs.proofs.Computing.{lt_true, same_number, other_number}
+use Rattle.snap_runs.proofs.Computing.{either, lt_true, same_number, other_number}
 use Rattle.std.specs.Prelude.{◌≡◌, ◌≢◌, ℕ, suc, ◌+◌, ◌*◌, ◌<◌, ◌≤◌, Bool, true, false, length, Option, Some, None, nat_lt, if◌then◌else◌, refl}
 use Rattle.std.proofs.Common.{sym, ◌∙◌, ap, subst, arith, inl, inr}
 use Rattle.std.proofs.lemmas.Bool.{cases_eq}
@@ -19,7 +19,7 @@ use Rattle.snap_runs.proofs.Algorithm.{Idle, At, To, Begin, Answer, Finish, New,
 use Rattle.snap_runs.proofs.Flow as flow
 use Rattle.snap_runs.proofs.Held.{Held}
 use Rattle.snap_multi.specs.Promises.{counts}
-use Rattle.snap_multi.proofs.Algorithm.{limit, lines, Registers, restarts, Process, Control, Move, State, Variables, ProgramCounter, L10, L11, L12, L13, L14, L15, L16, L17, L18, L19, L20, L21, L22, L23, L24, L25, L26, L27, L28, L29, L30, L31, L32, L33, L34, L35, L36, L37, L50, L51, L52, L53, L54, L55, L56, L57, L58, place, bit, flip, move, first_to, return_to, embed_to, same_at, all_still, third_move, after_15, after_52, after_55, after_57, IsLineOf, IsScan, tests, writes, algorithm}
+use Rattle.snap_multi.proofs.Algorithm.{counter, limit, lines, Registers, restarts, Process, Control, Move, State, Variables, ProgramCounter, L10, L11, L12, L13, L14, L15, L16, L17, L18, L19, L20, L21, L22, L23, L24, L25, L26, L27, L28, L29, L30, L31, L32, L33, L34, L35, L36, L37, L50, L51, L52, L53, L54, L55, L56, L57, L58, place, bit, flip, move, first_to, return_to, embed_to, same_at, all_still, third_move, after_15, after_52, after_55, after_57, IsLineOf, IsScan, tests, writes, algorithm}
 use Rattle.snap_multi.proofs.Basics.{less_or_not}
 use Rattle.snap_multi.proofs.Control.{Keeps, BelowLimit, LongMove, long_move, MoveWell, ControlWell, Ground, move_well, called_well}
 use Rattle.snap_multi.proofs.Flows.{in_scan, flows}
@@ -27,7 +27,7 @@ use Rattle.snap_multi.proofs.History.{words_of, Now, Since, Laws, acts_nothing, 
 use Rattle.snap_multi.proofs.Collect.{events}
 use Rattle.snap_multi.proofs.Stage.{Stage, StageMove, IsQuiet, Low, Row, events_le, stage_move, stage_15}
 use Rattle.snap_multi.proofs.Count.{Count, CountMove, count_move, moves}
-use Rattle.snap_multi.proofs.Invariant.{HasWritten, Own, Inv, Books, BooksAt, BooksMove, Rest, StageAt, CountAt, Untouched, untouched_same, books_move, books_scan, own_kept, inv_later, put_inv}
+use Rattle.snap_multi.proofs.Invariant.{HasWritten, ProcessInvariant, Invariant, Books, BooksAt, BooksMove, Rest, StageAt, CountAt, Untouched, untouched_same, books_move, books_scan, own_kept, inv_later, put_inv}
 use Rattle.snap_multi.proofs.Writes.{acts_15, now_15, untouched_15, asks_there, asks_here, acts_52, now_52, untouched_52, acts_55, now_55, untouched_55, acts_57, now_57, untouched_57, raised_here, raised_at_here, raised_at_elsewhere, with_at_here, with_at_elsewhere}
 
 abbrev pub KeepsMemory : Registers → Move → Type 0
@@ -35,10 +35,6 @@ KeepsMemory m (To d m' p k) = m' ≡ m
 KeepsMemory m (Begin d p k) = Unit {0}
 KeepsMemory m (Answer v) = Unit {0}
 KeepsMemory m Finish = Unit {0}
-
-kept_if : (m : Registers) (b : Bool) (x y : Move) → KeepsMemory m x → KeepsMemory m y → KeepsMemory m (if b then x else y)
-kept_if m true x y f g = f
-kept_if m false x y f g = g
 
 kept_return : (d : Task) (m : Registers) (p : Variables) → KeepsMemory m (return_to d m p)
 kept_return Scanning m p = tt
@@ -62,21 +58,21 @@ kept n w me d m p L12 q = refl
 kept n w me d m p L13 q = refl
 kept n w me d m p L14 q = refl
 kept n w me d m p L15 q = absurd q
-kept n w me d m p L16 q = kept_if m (nat_lt p.j n) _ _ refl refl
+kept n w me d m p L16 q = either (KeepsMemory m) (nat_lt p.j n) _ _ (λ t. refl) (λ t. refl)
 kept n w me d m p L17 q = refl
-kept n w me d m p L18 q = kept_if m (nat_lt p.k w) _ _ refl refl
+kept n w me d m p L18 q = either (KeepsMemory m) (nat_lt p.k w) _ _ (λ t. refl) (λ t. refl)
 kept n w me d m p L19 q = refl
-kept n w me d m p L20 q = kept_if m (nat_lt p.k w) _ _ refl refl
+kept n w me d m p L20 q = either (KeepsMemory m) (nat_lt p.k w) _ _ (λ t. refl) (λ t. refl)
 kept n w me d m p L21 q = refl
 kept n w me d m p L22 q = refl
-kept n w me d m p L23 q = kept_if m (nat_lt p.j n) _ _ refl refl
+kept n w me d m p L23 q = either (KeepsMemory m) (nat_lt p.j n) _ _ (λ t. refl) (λ t. refl)
 kept n w me d m p L24 q = refl
 kept n w me d m p L25 q = refl
-kept n w me d m p L26 q = kept_if m (same_at p.a p.b p.k) _ _ refl refl
+kept n w me d m p L26 q = either (KeepsMemory m) (same_at p.a p.b p.k) _ _ (λ t. refl) (λ t. refl)
 kept n w me d m p L27 q = refl
 kept n w me d m p L28 q = refl
-kept n w me d m p L29 q = kept_if m (nat_lt p.k w) _ _ refl refl
-kept n w me d m p L30 q = kept_if m (all_still n p) _ _ refl refl
+kept n w me d m p L29 q = either (KeepsMemory m) (nat_lt p.k w) _ _ (λ t. refl) (λ t. refl)
+kept n w me d m p L30 q = either (KeepsMemory m) (all_still n p) _ _ (λ t. refl) (λ t. refl)
 kept n w me d m p L31 q = refl
 kept n w me d m p L32 q = kept_first d m p (third_move n p)
 kept n w me d m p L33 q = refl
@@ -87,7 +83,7 @@ kept n w me d m p L37 q = kept_return d m p
 kept n w me d m p L50 q = refl
 kept n w me d m p L51 q = refl
 kept n w me d m p L52 q = absurd q
-kept n w me d m p L53 q = kept_if m (nat_lt p.j n) _ _ refl refl
+kept n w me d m p L53 q = either (KeepsMemory m) (nat_lt p.j n) _ _ (λ t. refl) (λ t. refl)
 kept n w me d m p L54 q = kept_embed d m p
 kept n w me d m p L55 q = absurd q
 kept n w me d m p L56 q = refl
@@ -115,7 +111,8 @@ round_to true round t h = omega arith
 round_to false round t h = h
 
 -- No process sees itself move.
-unmoved : (n w i : ℕ) (history : ℕ → Registers) (t since round : ℕ) (p : Variables) → IsOneOf n i → Since n w history round t → Low n i history since round p.moved → BelowLimit n p →
+unmoved : (n w i : ℕ) (history : ℕ → Registers) (t since round : ℕ) (p : Variables) → IsOneOf n i → Since n w history round t →
+    Low n i history since round p.moved → BelowLimit n p →
     events (history since) i i ≡ events (history t) i i → moves n p + 2 ≤ 2 * n
 unmoved n w i history t since round p one s low small self =
     let less : moves n p + 2 ≤ n * 2 =
@@ -125,14 +122,16 @@ unmoved n w i history t since round p one s low small self =
     let z : place p.moved i ≡ 0 = omega arith in z)
     (λ k e. let below : place p.moved k < limit = small k e in omega arith) in omega arith
 
-pub sharp_at : (n w i : ℕ) (history : ℕ → Registers) (t since round : ℕ) (d : Task) (p : Variables) (k : ProgramCounter) → IsOneOf n i → Since n w history round t → IsLineOf w d k → Keeps n w d p k →
+pub sharp_at : (n w i : ℕ) (history : ℕ → Registers) (t since round : ℕ) (d : Task) (p : Variables) (k : ProgramCounter) → IsOneOf n i →
+    Since n w history round t → IsLineOf w d k → Keeps n w d p k →
     Books n w i (history since) (history t) d p k → Stage n w i history t since round p k → k ≡ L30 → moves n p + 2 ≤ 2 * n
 sharp_at n w i history t since round d p k one s line keeps books stage e =
     let keeps30 : Keeps n w d p L30 = subst (Keeps n w d p) e keeps in
     unmoved n w i history t since round p one s (subst (Stage n w i history t since round p) e stage).0 keeps30.2
     (books.self (in_scan w d (subst (IsLineOf w d) e line)))
 
-pub bits_at : (n w i : ℕ) (history : ℕ → Registers) (t since round : ℕ) (p : Variables) (k : ProgramCounter) → Stage n w i history t since round p k → k ≡ L31 →
+pub bits_at : (n w i : ℕ) (history : ℕ → Registers) (t since round : ℕ) (p : Variables) (k : ProgramCounter) → Stage n w i history t since round p k →
+    k ≡ L31 →
     (c : ℕ) → IsOneOf n c → place p.d c ≤ 1
 bits_at n w i history t since round p k stage e =
     let at31 : Stage n w i history t since round p L31 = subst (Stage n w i history t since round p) e stage in
@@ -148,8 +147,9 @@ record Owes (n w t : ℕ) (history : ℕ → Registers) (q : Process) (i : ℕ) 
   pub books : BooksMove n w i (history q.auxiliary.since) (history t) q.variables.tog v
 
 -- the process whose operation has ended
-idle_own : (n w t : ℕ) (history : ℕ → Registers) (i : ℕ) (q : Process) (k : ProgramCounter) → Own n w t history i q → Rest n w i (history t) q.variables.tog →
-    Own n w t history i (record { control = Idle; variables = q.variables; auxiliary = stepped_auxiliary (algorithm n w) k t q.auxiliary })
+idle_own : (n w t : ℕ) (history : ℕ → Registers) (i : ℕ) (q : Process) (k : ProgramCounter) → ProcessInvariant n w t history i q →
+    Rest n w i (history t) q.variables.tog →
+    ProcessInvariant n w t history i (record { control = Idle; variables = q.variables; auxiliary = stepped_auxiliary (algorithm n w) k t q.auxiliary })
 idle_own n w t history i q k own rest = record {
   well = tt;
   long = own.long;
@@ -162,9 +162,10 @@ idle_own n w t history i q k own rest = record {
 }
 
 -- a line that writes no register; `own` is what held of the process when time had passed
-quiet_put : (n w t : ℕ) (history : ℕ → Registers) (x : State) (i : ℕ) (d : Task) (k : ProgramCounter) (v : Move) → length x.processes ≡ n → IsOneOf n i →
-    ((u : ℕ) → u ≤ suc t → Laws n w history u) → history (suc t) ≡ history t → Inv n w t history x → Own n w (suc t) history i (at n w x i) →
-    Owes n w (suc t) history (at n w x i) i d k v → Inv n w (suc t) history (changed x i (by_move (algorithm n w) (suc t) x.memory (at n w x i) k v))
+quiet_put : (n w t : ℕ) (history : ℕ → Registers) (x : State) (i : ℕ) (d : Task) (k : ProgramCounter) (v : Move) → length x.processes ≡ n →
+    IsOneOf n i →
+    ((u : ℕ) → u ≤ suc t → Laws n w history u) → history (suc t) ≡ history t → Invariant n w t history x → ProcessInvariant n w (suc t) history i (at n w x i) →
+    Owes n w (suc t) history (at n w x i) i d k v → Invariant n w (suc t) history (changed x i (by_move (algorithm n w) (suc t) x.memory (at n w x i) k v))
 quiet_put n w t history x i d k (To d' m' p k') count one laws same h own owes =
     let q = at n w x i in
     put_inv n w t history x i m' (record { control = At d' k'; variables = p; auxiliary = stepped_auxiliary (algorithm n w) k (suc t) q.auxiliary }) Stepped count one laws
@@ -203,12 +204,14 @@ quiet_put n w t history x i d k Finish count one laws same h own owes =
     (λ j o other. untouched_same n w j (history t) (history (suc t)) same) h (idle_own n w (suc t) history i q k own owes.books)
 
 -- the laws when nothing was written
-laws_same : (n w t : ℕ) (history : ℕ → Registers) → history (suc t) ≡ history t → ((u : ℕ) → u ≤ t → Laws n w history u) → (u : ℕ) → u ≤ suc t → Laws n w history u
+laws_same : (n w t : ℕ) (history : ℕ → Registers) → history (suc t) ≡ history t → ((u : ℕ) → u ≤ t → Laws n w history u) → (u : ℕ) → u ≤ suc t →
+    Laws n w history u
 laws_same n w t history same laws =
     laws_up_to n w history t laws
     (laws_next n w history t (history t) same (acts_nothing n w history t (history t)) laws (laws t (omega arith)).now)
 
-ground : (n w t : ℕ) (history : ℕ → Registers) (i : ℕ) (m : Registers) (q : Process) → IsOneOf n i → 0 < w → Now n w (history t) → history t ≡ m → Own n w t history i q → Ground n w i m q.variables
+ground : (n w t : ℕ) (history : ℕ → Registers) (i : ℕ) (m : Registers) (q : Process) → IsOneOf n i → 0 < w → Now n w (history t) → history t ≡ m →
+    ProcessInvariant n w t history i q → Ground n w i m q.variables
 ground n w t history i m q one some now is own = record {
   one = one;
   some = some;
@@ -216,9 +219,11 @@ ground n w t history i m q one some now is own = record {
   long = own.long;
 }
 
-quiet_inv : (n w t : ℕ) (history : ℕ → Registers) (x : State) (i : ℕ) (d : Task) (k : ProgramCounter) → IsQuiet k → 0 < w → length x.processes ≡ n → IsOneOf n i → history t ≡ x.memory →
-    Inv n w t history x → (at n w x i).control ≡ At d k → history (suc t) ≡ (changed x i (by_step (algorithm n w) (suc t) x.memory i (at n w x i) (At d k))).memory →
-    Inv n w (suc t) history (changed x i (by_step (algorithm n w) (suc t) x.memory i (at n w x i) (At d k)))
+quiet_inv : (n w t : ℕ) (history : ℕ → Registers) (x : State) (i : ℕ) (d : Task) (k : ProgramCounter) → IsQuiet k → 0 < w → length x.processes ≡ n →
+    IsOneOf n i → history t ≡ x.memory →
+    Invariant n w t history x → (at n w x i).control ≡ At d k →
+    history (suc t) ≡ (changed x i (by_step (algorithm n w) (suc t) x.memory i (at n w x i) (At d k))).memory →
+    Invariant n w (suc t) history (changed x i (by_step (algorithm n w) (suc t) x.memory i (at n w x i) (At d k)))
 quiet_inv n w t history x i d k quiet some count one now h is next =
     let q = at n w x i in
     let p = q.variables in
@@ -227,7 +232,7 @@ quiet_inv n w t history x i d k quiet some count one now h is next =
     let same : history (suc t) ≡ history t = stays ∙ sym now in
     let laws : (u : ℕ) → u ≤ suc t → Laws n w history u = laws_same n w t history same h.laws in
     let here : Laws n w history (suc t) = laws (suc t) (omega arith) in
-    let own : Own n w (suc t) history i q =
+    let own : ProcessInvariant n w (suc t) history i q =
     own_kept n w t history i q one (here.since t (omega arith)) (untouched_same n w i (history t) (history (suc t)) same) (h.each i one) in
     let well : ControlWell n w p (At d k) = subst (ControlWell n w p) is own.well in
     let stage : Stage n w i history (suc t) q.auxiliary.since q.auxiliary.round p k = subst (StageAt n w i history (suc t) q.auxiliary.since q.auxiliary.round p) is own.stage in
@@ -261,19 +266,21 @@ quiet_inv n w t history x i d k quiet some count one now h is next =
     })
 
 -- a line that writes registers and goes on
-written_put : (n w t : ℕ) (history : ℕ → Registers) (x : State) (i : ℕ) (d : Task) (k k' : ProgramCounter) (m' : Registers) → length x.processes ≡ n → IsOneOf n i → restarts k ≡ false →
-    ((u : ℕ) → u ≤ suc t → Laws n w history u) → ((j : ℕ) → IsOneOf n j → j ≢ i → Untouched n w j (history t) (history (suc t))) → Inv n w t history x →
+written_put : (n w t : ℕ) (history : ℕ → Registers) (x : State) (i : ℕ) (d : Task) (k k' : ProgramCounter) (m' : Registers) → length x.processes ≡ n →
+    IsOneOf n i → restarts k ≡ false →
+    ((u : ℕ) → u ≤ suc t → Laws n w history u) → ((j : ℕ) → IsOneOf n j → j ≢ i → Untouched n w j (history t) (history (suc t))) →
+    Invariant n w t history x →
     IsLineOf w d k' → Keeps n w d (at n w x i).variables k' →
     Stage n w i history (suc t) (at n w x i).auxiliary.since (at n w x i).auxiliary.round (at n w x i).variables k' →
     Count n w (at n w x i).variables (suc (at n w x i).auxiliary.own) ((at n w x i).auxiliary.collects + tests k) ((at n w x i).auxiliary.tested + tests k) k' →
     HasWritten (At d k') ((at n w x i).auxiliary.wrote + writes k) →
     Books n w i (history (at n w x i).auxiliary.since) (history (suc t)) d (at n w x i).variables k' →
-    Inv n w (suc t) history (changed x i (New m' (record { control = At d k'; variables = (at n w x i).variables; auxiliary = stepped_auxiliary (algorithm n w) k (suc t) (at n w x i).auxiliary }) Stepped))
+    Invariant n w (suc t) history (changed x i (New m' (record { control = At d k'; variables = (at n w x i).variables; auxiliary = stepped_auxiliary (algorithm n w) k (suc t) (at n w x i).auxiliary }) Stepped))
 written_put n w t history x i d k k' m' count one again laws untouched h line keeps stage counts_are wrote books =
     let q = at n w x i in
-    let own : Own n w t history i q = h.each i one in
+    let own : ProcessInvariant n w t history i q = h.each i one in
     let g = q.auxiliary in
-    let Good : ℕ → ℕ → Type 0 = λ round tested. Own n w (suc t) history i (record {
+    let Good : ℕ → ℕ → Type 0 = λ round tested. ProcessInvariant n w (suc t) history i (record {
       control = At d k';
       variables = q.variables;
       auxiliary = record {
@@ -298,7 +305,8 @@ written_put n w t history x i d k k' m' count one again laws untouched h line ke
       books = books;
     }))
 
-books_15 : (n w i : ℕ) (base m : Registers) (d : Task) (p : Variables) → IsScan w d → Books n w i base m d p L15 → Books n w i base (after_15 i m p) d p L16
+books_15 : (n w i : ℕ) (base m : Registers) (d : Task) (p : Variables) → IsScan w d → Books n w i base m d p L15 →
+    Books n w i base (after_15 i m p) d p L16
 books_15 n w i base m d p s h =
     let next = books_scan n w i base m d p p L15 L16 s refl h in
     let old = next.settled in
@@ -308,13 +316,14 @@ books_15 n w i base m d p s h =
       self = next.self;
     }
 
-line15_inv : (n w t : ℕ) (history : ℕ → Registers) (x : State) (i : ℕ) (d : Task) → 0 < w → length x.processes ≡ n → IsOneOf n i → history t ≡ x.memory →
-    Inv n w t history x → (at n w x i).control ≡ At d L15 → history (suc t) ≡ after_15 i x.memory (at n w x i).variables →
-    Inv n w (suc t) history (changed x i (by_step (algorithm n w) (suc t) x.memory i (at n w x i) (At d L15)))
+line15_inv : (n w t : ℕ) (history : ℕ → Registers) (x : State) (i : ℕ) (d : Task) → 0 < w → length x.processes ≡ n → IsOneOf n i →
+    history t ≡ x.memory →
+    Invariant n w t history x → (at n w x i).control ≡ At d L15 → history (suc t) ≡ after_15 i x.memory (at n w x i).variables →
+    Invariant n w (suc t) history (changed x i (by_step (algorithm n w) (suc t) x.memory i (at n w x i) (At d L15)))
 line15_inv n w t history x i d some count one now h is next =
     let q = at n w x i in
     let p = q.variables in
-    let own : Own n w t history i q = h.each i one in
+    let own : ProcessInvariant n w t history i q = h.each i one in
     let well : ControlWell n w p (At d L15) = subst (ControlWell n w p) is own.well in
     let inside : IsOneOf n p.j = well.1.0 in
     let stage : Stage n w i history t q.auxiliary.since q.auxiliary.round p L15 = subst (StageAt n w i history t q.auxiliary.since q.auxiliary.round p) is own.stage in
@@ -349,7 +358,8 @@ not_self : (x : ℕ) → nat_lt x x ≡ false
 not_self x = grind (arith, common_steps)
 
 -- before line 52 the process has not yet answered process j
-not_yet : (n w i y z : ℕ) (base m : Registers) (p : Variables) → IsOneOf n p.j → Books n w i base m (Updating y z) p L52 → m.answers i p.j ≡ m.writes i
+not_yet : (n w i y z : ℕ) (base m : Registers) (p : Variables) → IsOneOf n p.j → Books n w i base m (Updating y z) p L52 →
+    m.answers i p.j ≡ m.writes i
 not_yet n w i y z base m p inside h =
     let old = h.settled in
     let e : m.answers i p.j ≡ m.writes i + (if nat_lt p.j p.j then 1 else 0) = old.answers_are p.j inside in
@@ -375,12 +385,12 @@ books_52 n w i y z base m p inside h =
     }
 
 line52_inv : (n w t : ℕ) (history : ℕ → Registers) (x : State) (i y z : ℕ) → 0 < w → length x.processes ≡ n → IsOneOf n i → history t ≡ x.memory →
-    Inv n w t history x → (at n w x i).control ≡ At (Updating y z) L52 → history (suc t) ≡ after_52 i x.memory (at n w x i).variables →
-    Inv n w (suc t) history (changed x i (by_step (algorithm n w) (suc t) x.memory i (at n w x i) (At (Updating y z) L52)))
+    Invariant n w t history x → (at n w x i).control ≡ At (Updating y z) L52 → history (suc t) ≡ after_52 i x.memory (at n w x i).variables →
+    Invariant n w (suc t) history (changed x i (by_step (algorithm n w) (suc t) x.memory i (at n w x i) (At (Updating y z) L52)))
 line52_inv n w t history x i y z some count one now h is next =
     let q = at n w x i in
     let p = q.variables in
-    let own : Own n w t history i q = h.each i one in
+    let own : ProcessInvariant n w t history i q = h.each i one in
     let well : ControlWell n w p (At (Updating y z) L52) = subst (ControlWell n w p) is own.well in
     let inside : IsOneOf n p.j = well.1 in
     let stage : Stage n w i history t q.auxiliary.since q.auxiliary.round p L52 = subst (StageAt n w i history t q.auxiliary.since q.auxiliary.round p) is own.stage in
@@ -414,12 +424,12 @@ books_55 n w i y z base m p h =
     }
 
 line55_inv : (n w t : ℕ) (history : ℕ → Registers) (x : State) (i y z : ℕ) → 0 < w → length x.processes ≡ n → IsOneOf n i → history t ≡ x.memory →
-    Inv n w t history x → (at n w x i).control ≡ At (Updating y z) L55 → history (suc t) ≡ after_55 i x.memory (at n w x i).variables →
-    Inv n w (suc t) history (changed x i (by_step (algorithm n w) (suc t) x.memory i (at n w x i) (At (Updating y z) L55)))
+    Invariant n w t history x → (at n w x i).control ≡ At (Updating y z) L55 → history (suc t) ≡ after_55 i x.memory (at n w x i).variables →
+    Invariant n w (suc t) history (changed x i (by_step (algorithm n w) (suc t) x.memory i (at n w x i) (At (Updating y z) L55)))
 line55_inv n w t history x i y z some count one now h is next =
     let q = at n w x i in
     let p = q.variables in
-    let own : Own n w t history i q = h.each i one in
+    let own : ProcessInvariant n w t history i q = h.each i one in
     let well : ControlWell n w p (At (Updating y z) L55) = subst (ControlWell n w p) is own.well in
     let stage : Held (words_of history) t q.auxiliary.since p.s = subst (StageAt n w i history t q.auxiliary.since q.auxiliary.round p) is own.stage in
     let books : Books n w i (history q.auxiliary.since) (history t) (Updating y z) p L55 = subst (BooksAt n w i (history q.auxiliary.since) (history t) p) is own.books in
@@ -460,12 +470,12 @@ books_57 n w i y z base m p h =
     }
 
 line57_inv : (n w t : ℕ) (history : ℕ → Registers) (x : State) (i y z : ℕ) → 0 < w → length x.processes ≡ n → IsOneOf n i → history t ≡ x.memory →
-    Inv n w t history x → (at n w x i).control ≡ At (Updating y z) L57 → history (suc t) ≡ after_57 i (Updating y z) x.memory (at n w x i).variables →
-    Inv n w (suc t) history (changed x i (by_step (algorithm n w) (suc t) x.memory i (at n w x i) (At (Updating y z) L57)))
+    Invariant n w t history x → (at n w x i).control ≡ At (Updating y z) L57 → history (suc t) ≡ after_57 i (Updating y z) x.memory (at n w x i).variables →
+    Invariant n w (suc t) history (changed x i (by_step (algorithm n w) (suc t) x.memory i (at n w x i) (At (Updating y z) L57)))
 line57_inv n w t history x i y z some count one now h is next =
     let q = at n w x i in
     let p = q.variables in
-    let own : Own n w t history i q = h.each i one in
+    let own : ProcessInvariant n w t history i q = h.each i one in
     let well : ControlWell n w p (At (Updating y z) L57) = subst (ControlWell n w p) is own.well in
     let there : IsOneOf w y = well.0 in
     let books : Books n w i (history q.auxiliary.since) (history t) (Updating y z) p L57 = subst (BooksAt n w i (history q.auxiliary.since) (history t) p) is own.books in
@@ -486,9 +496,11 @@ line57_inv n w t history x i y z some count one now h is next =
     (books_57 n w i y z (history q.auxiliary.since) (history t) p books))
 
 -- each line
-line_inv : (n w t : ℕ) (history : ℕ → Registers) (x : State) (i : ℕ) (d : Task) (k : ProgramCounter) → IsLineOf w d k → 0 < w → length x.processes ≡ n → IsOneOf n i → history t ≡ x.memory →
-    Inv n w t history x → (at n w x i).control ≡ At d k → history (suc t) ≡ (changed x i (by_step (algorithm n w) (suc t) x.memory i (at n w x i) (At d k))).memory →
-    Inv n w (suc t) history (changed x i (by_step (algorithm n w) (suc t) x.memory i (at n w x i) (At d k)))
+line_inv : (n w t : ℕ) (history : ℕ → Registers) (x : State) (i : ℕ) (d : Task) (k : ProgramCounter) → IsLineOf w d k → 0 < w →
+    length x.processes ≡ n → IsOneOf n i → history t ≡ x.memory →
+    Invariant n w t history x → (at n w x i).control ≡ At d k →
+    history (suc t) ≡ (changed x i (by_step (algorithm n w) (suc t) x.memory i (at n w x i) (At d k))).memory →
+    Invariant n w (suc t) history (changed x i (by_step (algorithm n w) (suc t) x.memory i (at n w x i) (At d k)))
 line_inv n w t history x i d L10 s some count one now h is next = quiet_inv n w t history x i d L10 tt some count one now h is next
 line_inv n w t history x i d L11 s some count one now h is next = quiet_inv n w t history x i d L11 tt some count one now h is next
 line_inv n w t history x i d L12 s some count one now h is next = quiet_inv n w t history x i d L12 tt some count one now h is next
@@ -533,9 +545,11 @@ line_inv n w t history x i (Embedded y z) L57 s some count one now h is next = a
 line_inv n w t history x i (Updating y z) L57 s some count one now h is next = line57_inv n w t history x i y z some count one now h is next
 line_inv n w t history x i d L58 s some count one now h is next = quiet_inv n w t history x i d L58 tt some count one now h is next
 
-step_inv : (n w t : ℕ) (history : ℕ → Registers) (x : State) (i : ℕ) (control : Control) → 0 < w → length x.processes ≡ n → IsOneOf n i → history t ≡ x.memory →
-    Inv n w t history x → (at n w x i).control ≡ control → history (suc t) ≡ (changed x i (by_step (algorithm n w) (suc t) x.memory i (at n w x i) control)).memory →
-    Inv n w (suc t) history (changed x i (by_step (algorithm n w) (suc t) x.memory i (at n w x i) control))
+step_inv : (n w t : ℕ) (history : ℕ → Registers) (x : State) (i : ℕ) (control : Control) → 0 < w → length x.processes ≡ n → IsOneOf n i →
+    history t ≡ x.memory →
+    Invariant n w t history x → (at n w x i).control ≡ control →
+    history (suc t) ≡ (changed x i (by_step (algorithm n w) (suc t) x.memory i (at n w x i) control)).memory →
+    Invariant n w (suc t) history (changed x i (by_step (algorithm n w) (suc t) x.memory i (at n w x i) control))
 step_inv n w t history x i Idle some count one now h is next =
     let same : history (suc t) ≡ history t = next ∙ sym now in
     let laws : (u : ℕ) → u ≤ suc t → Laws n w history u = laws_same n w t history same h.laws in
@@ -546,12 +560,13 @@ step_inv n w t history x i (At d k) some count one now h is next =
 
 -- a call
 admit_inv : (n w t : ℕ) (history : ℕ → Registers) (x : State) (i : ℕ) (op : Op) (o : Option Reason) → call_skip kind.Multi (counts n w) i op ≡ o →
-    length x.processes ≡ n → IsOneOf n i → history (suc t) ≡ history t → ((u : ℕ) → u ≤ suc t → Laws n w history u) → Inv n w t history x → (at n w x i).control ≡ Idle →
-    Inv n w (suc t) history (changed x i (by_admission (algorithm n w) (suc t) x.memory (at n w x i) op o))
+    length x.processes ≡ n → IsOneOf n i → history (suc t) ≡ history t → ((u : ℕ) → u ≤ suc t → Laws n w history u) → Invariant n w t history x →
+    (at n w x i).control ≡ Idle →
+    Invariant n w (suc t) history (changed x i (by_admission (algorithm n w) (suc t) x.memory (at n w x i) op o))
 admit_inv n w t history x i op (Some why) e count one same laws h is = inv_later n w t history x (laws (suc t) (omega arith)) same laws h
 admit_inv n w t history x i Scan None e count one same laws h is =
     let q = at n w x i in
-    let own : Own n w (suc t) history i q =
+    let own : ProcessInvariant n w (suc t) history i q =
     own_kept n w t history i q one ((laws (suc t) (omega arith)).since t (omega arith)) (untouched_same n w i (history t) (history (suc t)) same) (h.each i one) in
     let rest : Rest n w i (history (suc t)) q.variables.tog = subst (BooksAt n w i (history q.auxiliary.since) (history (suc t)) q.variables) is own.books in
     put_inv n w t history x i x.memory (record { control = At Scanning L10; variables = q.variables; auxiliary = called_auxiliary (suc t) Scan q.auxiliary }) Called count one laws
@@ -572,10 +587,10 @@ admit_inv n w t history x i Scan None e count one same laws h is =
     })
 admit_inv n w t history x i (Update word value) None e count one same laws h is =
     let q = at n w x i in
-    let own : Own n w (suc t) history i q =
+    let own : ProcessInvariant n w (suc t) history i q =
     own_kept n w t history i q one ((laws (suc t) (omega arith)).since t (omega arith)) (untouched_same n w i (history t) (history (suc t)) same) (h.each i one) in
     let rest : Rest n w i (history (suc t)) q.variables.tog = subst (BooksAt n w i (history q.auxiliary.since) (history (suc t)) q.variables) is own.books in
-    put_inv n w t history x i x.memory (record { control = At (Updating word value) L50; variables = q.variables; auxiliary = called_auxiliary (suc t) (Update word value) q.auxiliary }) Called count one laws
+    put_inv n w t history x i x.memory (record { control = At (Updating word value) (counter (Update word value)); variables = q.variables; auxiliary = called_auxiliary (suc t) (Update word value) q.auxiliary }) Called count one laws
     (λ j o other. untouched_same n w j (history t) (history (suc t)) same) h
     (record {
       well = called_well n w i q.variables (Update word value) e;
@@ -592,22 +607,26 @@ admit_inv n w t history x i (Update word value) None e count one same laws h is 
       };
     })
 
-pub admit_memory : (n w t : ℕ) (x : State) (i : ℕ) (op : Op) (o : Option Reason) → (changed x i (by_admission (algorithm n w) t x.memory (at n w x i) op o)).memory ≡ x.memory
+pub admit_memory : (n w t : ℕ) (x : State) (i : ℕ) (op : Op) (o : Option Reason) →
+    (changed x i (by_admission (algorithm n w) t x.memory (at n w x i) op o)).memory ≡ x.memory
 admit_memory n w t x i op (Some why) = refl
 admit_memory n w t x i op None = refl
 
-pub call_memory : (n w t : ℕ) (x : State) (i : ℕ) (op : Op) (control : Control) → (changed x i (by_call (algorithm n w) t x.memory i op (at n w x i) control)).memory ≡ x.memory
+pub call_memory : (n w t : ℕ) (x : State) (i : ℕ) (op : Op) (control : Control) →
+    (changed x i (by_call (algorithm n w) t x.memory i op (at n w x i) control)).memory ≡ x.memory
 call_memory n w t x i op Idle = admit_memory n w t x i op (call_skip kind.Multi (counts n w) i op)
 call_memory n w t x i op (At d k) = refl
 
 asked_inv : (n w t : ℕ) (history : ℕ → Registers) (x : State) (i : ℕ) (op : Op) (control : Control) → length x.processes ≡ n → IsOneOf n i →
-    history (suc t) ≡ history t → ((u : ℕ) → u ≤ suc t → Laws n w history u) → Inv n w t history x → (at n w x i).control ≡ control →
-    Inv n w (suc t) history (changed x i (by_call (algorithm n w) (suc t) x.memory i op (at n w x i) control))
+    history (suc t) ≡ history t → ((u : ℕ) → u ≤ suc t → Laws n w history u) → Invariant n w t history x → (at n w x i).control ≡ control →
+    Invariant n w (suc t) history (changed x i (by_call (algorithm n w) (suc t) x.memory i op (at n w x i) control))
 asked_inv n w t history x i op Idle count one same laws h is = admit_inv n w t history x i op (call_skip kind.Multi (counts n w) i op) refl count one same laws h is
 asked_inv n w t history x i op (At d k) count one same laws h is = inv_later n w t history x (laws (suc t) (omega arith)) same laws h
 
-pub happens_inv : (n w t : ℕ) (history : ℕ → Registers) (x : State) (y : Item) → 0 < w → length x.processes ≡ n → IsOneOf n (who y) → history t ≡ x.memory →
-    Inv n w t history x → history (suc t) ≡ (happens (algorithm n w) (suc t) x y).memory → Inv n w (suc t) history (happens (algorithm n w) (suc t) x y)
+pub happens_inv : (n w t : ℕ) (history : ℕ → Registers) (x : State) (y : Item) → 0 < w → length x.processes ≡ n → IsOneOf n (who y) →
+    history t ≡ x.memory →
+    Invariant n w t history x → history (suc t) ≡ (happens (algorithm n w) (suc t) x y).memory →
+    Invariant n w (suc t) history (happens (algorithm n w) (suc t) x y)
 happens_inv n w t history x (Step i) some count one now h next = step_inv n w t history x i (at n w x i).control some count one now h refl next
 happens_inv n w t history x (Call i op) some count one now h next =
     let same : history (suc t) ≡ history t = next ∙ call_memory n w (suc t) x i op (at n w x i).control ∙ sym now in

@@ -1,7 +1,10 @@
+pub mod AgainHeader
+pub mod AgainHeaderForms
 pub mod Checks
 pub mod HasForms
 pub mod Lines
 pub mod Names
+pub mod ReadsAll
 pub mod SeqSources
 pub mod SpelledForms
 pub mod SpelledHeader

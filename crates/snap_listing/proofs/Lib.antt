@@ -1,3 +1,5 @@
+pub mod AgainForms
+pub mod AgainTerms
 pub mod Checks
 pub mod HasForms
 pub mod Lines

@@ -1,5 +1,7 @@
+pub mod AgainForms
 pub mod AgainHeader
 pub mod AgainHeaderForms
+pub mod AgainTerms
 pub mod Checks
 pub mod HasForms
 pub mod Lines

@@ -1,7 +1,12 @@
+pub mod AgainForms
+pub mod AgainHeader
+pub mod AgainHeaderForms
+pub mod AgainTerms
 pub mod Checks
 pub mod HasForms
 pub mod Lines
 pub mod Names
+pub mod ReadsAll
 pub mod SeqSources
 pub mod SpelledForms
 pub mod SpelledHeader

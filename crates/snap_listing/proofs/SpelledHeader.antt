@@ -35,11 +35,11 @@ pub or_right : (a b : Bool) → (a || b) ≡ false → b ≡ false
 or_right true b e = absurd cc
 or_right false b e = e
 
-neither : (a b : Bool) → a ≡ false → b ≡ false → (a || b) ≡ false
+pub neither : (a b : Bool) → a ≡ false → b ≡ false → (a || b) ≡ false
 neither true b e f = e
 neither false b e f = f
 
-other_by : (x y : List ℕ) (b : Bool) → bytes_eq x y ≡ b → bytes_eq y x ≡ false → b ≡ false
+pub other_by : (x y : List ℕ) (b : Bool) → bytes_eq x y ≡ b → bytes_eq y x ≡ false → b ≡ false
 other_by x y true h e = let p : y ≡ x = sym (same_text x y (sym h)) in let q : bytes_eq y x ≡ true = (bytes_eq-Decides y x).1 p in cc (q, e)
 other_by x y false h e = refl
 

@@ -33,15 +33,15 @@ among_short : (x : Name) (ys : List Name) → AllByRecursion IsName ys → is_am
 among_short x [] h e = absurd cc
 among_short x (y ∷ ys) h e = among_by x y ys (bytes_eq x y) refl h.0 (among_short x ys h.1) e
 
-all_first : (xs ys : List Name) → AllByRecursion IsName (xs ++ ys) → AllByRecursion IsName xs
+pub all_first : (xs ys : List Name) → AllByRecursion IsName (xs ++ ys) → AllByRecursion IsName xs
 all_first [] ys h = tt
 all_first (x ∷ xs) ys h = (h.0, all_first xs ys h.1)
 
-all_rest : (xs ys : List Name) → AllByRecursion IsName (xs ++ ys) → AllByRecursion IsName ys
+pub all_rest : (xs ys : List Name) → AllByRecursion IsName (xs ++ ys) → AllByRecursion IsName ys
 all_rest [] ys h = h
 all_rest (x ∷ xs) ys h = all_rest xs ys h.1
 
-sort_by : (L : Type 0) (a b c d : Bool) (k : Sort) → (a ≡ true → L) → (b ≡ true → L) → (c ≡ true → L) → (d ≡ true → L) →
+pub sort_by : (L : Type 0) (a b c d : Bool) (k : Sort) → (a ≡ true → L) → (b ≡ true → L) → (c ≡ true → L) → (d ≡ true → L) →
     (if a then Some sort.Scalar else if b then Some sort.Row else if c then Some sort.Words else if d then Some sort.View else None) ≡ Some k → L
 sort_by L true b c d k f g h i e = f refl
 sort_by L false true c d k f g h i e = g refl
@@ -106,7 +106,7 @@ uses_ok s line (u ∷ us) =
     ok_same (WhenDone (AllByRecursion (IsDeclared s) us)) (WhenDone (AllByRecursion (IsDeclared s) (u ∷ us))) (checked_uses s line us) (uses_ok s line us)
     (λ x hs. (h, hs)))
 
-abbrev some_line : List Token → Option (List Token)
+abbrev pub some_line : List Token → Option (List Token)
 some_line ts = Some ts
 
 -- a line as it has to be, and its tokens
@@ -136,7 +136,7 @@ checked_ok s at last count tokens line h =
     ok_with (WhenDone (AllByRecursion (IsDeclared s) (instr_uses line.instr))) P (checked_uses s at (instr_uses line.instr)) _ (uses_ok s at (instr_uses line.instr)) (λ done g.
     record { found = h.0; spelled = h.1; rising = leb-false line.number last above; few = leb-false 200 count room; declared = g })))
 
-abbrev spelled_lines : List Line → List (Option (List Token))
+abbrev pub spelled_lines : List Line → List (Option (List Token))
 spelled_lines lines = map some_line (map spelled_line lines)
 
 record LinesOk (s : Source) (last count : ℕ) (texts : List TextLine) (lines : List Line) : Type 0 where

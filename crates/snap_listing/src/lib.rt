@@ -14,6 +14,6 @@ mod tests;
 mod uses;
 
 pub use fault::ListingFault;
-pub use laws::what_is_read_is_spelled;
+pub use laws::{what_is_read_is_spelled, what_is_spelled_is_read};
 pub use listing::Listing;
 pub use reader::read;

@@ -20,3 +20,6 @@ mod word;
 pub use machine::Machine;
 pub use reading::{Contents, Local, RegisterFault};
 pub use word::Word;
+
+#[cfg(test)]
+mod tests;

@@ -1,18 +1,25 @@
 -- The forms of the header lines of a listing.
-use Rattle.std.specs.Prelude.{ℕ, List, [], ◌∷◌, Option, Some, None, codes, if◌then◌else◌}
+use Rattle.std.specs.Prelude.{ℕ, List, [], ◌∷◌, Option, Some, None, codes, if◌then◌else◌, bytes_eq}
 use Rattle.snap_words.specs.declared.kind.KindTag.{KindTag}
 use Rattle.snap_words.specs.declared.kind.KindTag.TheVariants as kind
-use Rattle.snap_semantics.specs.Forms.{◌>>=◌, number_at, keyword_at, end_at}
+use Rattle.snap_semantics.specs.Forms.{◌>>=◌, number_at, word_at, keyword_at, end_at}
 use Rattle.snap_semantics.specs.ListingForms.{is_line_number}
 use Rattle.snap_semantics.specs.Token.{Token, Word, Number, Sign}
 
--- `kind seq`
+abbrev pub kind_of_word : List ℕ → Option KindTag
+kind_of_word w =
+    if bytes_eq w (codes "seq") then Some kind.Seq else
+    if bytes_eq w (codes "bit") then Some kind.Bits else
+    if bytes_eq w (codes "multi") then Some kind.Multi else None
+
+-- `kind seq`, and so `bit` and `multi`
 unfoldable pub kind_form : List Token → Option KindTag
 kind_form ts = do
   a ← keyword_at (codes "kind") ts
-  b ← keyword_at (codes "seq") a
-  end ← end_at b
-  Some kind.Seq
+  w ← word_at a
+  k ← kind_of_word w.0
+  end ← end_at w.1
+  Some k
 
 -- words alone
 abbrev pub words_form : List Token → Option (List (List ℕ))

@@ -7,7 +7,6 @@ pub mod Table
 pub mod Run
 pub mod Memory
 pub mod Readers
-pub mod SeqForm
 pub mod Token
 pub mod Forms
 pub mod ScheduleForms
@@ -16,9 +15,12 @@ pub mod ScheduleText
 pub mod ListingForms
 pub mod HeaderForms
 pub mod Uses
+pub mod RightUses
 pub mod Listing
 pub mod Spelling
 pub mod IsListing
+pub mod Layout
+pub mod CanonicalText
 pub mod Report
 pub mod CommandForms
 pub mod Commands

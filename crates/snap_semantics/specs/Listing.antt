@@ -58,7 +58,7 @@ checked_line s at last count line =
 abbrev pub numbered_lines : Source → ℕ → ℕ → List TextLine → Result (List Line) ListingRefusal
 numbered_lines s last count [] = Ok []
 numbered_lines s last count (text ∷ texts) =
-    form_or (refusal.BadLine text.number) line_form text.tokens >>= λ form. checked_line s text.number last count form >>= λ line.
+    form_or (refusal.BadLine text.number) (line_form s.kind) text.tokens >>= λ form. checked_line s text.number last count form >>= λ line.
     numbered_lines s line.number (count + 1) texts >>= λ lines. Ok (line ∷ lines)
 
 abbrev pub instr_targets : Instr → List ℕ

@@ -2,8 +2,12 @@
 -- by its first nine.
 use Rattle.std.specs.Prelude.{ℕ, Bool, true, false, ◌&&◌, List, [], ◌∷◌, take, Option, Some, None, nat_le, bytes_eq, codes, if◌then◌else◌}
 use Rattle.std.specs.List.{list_any}
+use Rattle.snap_words.specs.declared.kind.KindTag.{KindTag}
+use Rattle.snap_words.specs.declared.kind.KindTag.TheVariants as kind
 use Rattle.snap_words.specs.declared.kind.Field.{Field}
 use Rattle.snap_words.specs.declared.kind.Field.TheVariants as field
+use Rattle.snap_semantics.specs.declared.instr.BitBank.{BitBank}
+use Rattle.snap_semantics.specs.declared.instr.BitBank.TheVariants as bits
 use Rattle.snap_semantics.specs.declared.instr.Comparison.{Comparison}
 use Rattle.snap_semantics.specs.declared.instr.Condition.{Condition}
 use Rattle.snap_semantics.specs.declared.instr.Condition.TheVariants.{One, Two, Three, Four}
@@ -94,7 +98,7 @@ named_place_at q ts = do
   i ← place_at q x.1
   Some ((x.0, i.0), i.1)
 
--- A term: `arg`, `R[I]`, a field of a word, or an index.
+-- A term: `arg`, `R[I]`, a field or a hand of a word, or an index.
 unfoldable pub arg_term : List Token → Found Term
 arg_term ts = do
   rest ← keyword_at (codes "arg") ts
@@ -105,13 +109,15 @@ row_term q ts = do
   x ← named_place_at q ts
   Some (term.Row x.0.0 x.0.1, x.1)
 
--- the fields of kind seq that a term can name
+-- the fields of one number
 abbrev pub field_of_word : List ℕ → Option Field
 field_of_word w =
     if bytes_eq w (codes "seq") then Some field.Seq else
-    if bytes_eq w (codes "data") then Some field.Datum else None
+    if bytes_eq w (codes "data") then Some field.Datum else
+    if bytes_eq w (codes "toggle") then Some field.Toggle else
+    if bytes_eq w (codes "id") then Some field.Id else None
 
--- `seq(W[I])` or `data(W[I])`
+-- `seq(W[I])`, and so `data`, `toggle` and `id`
 unfoldable pub field_term : Bool → List Token → Found Term
 field_term q ts = do
   w ← word_at ts
@@ -121,13 +127,25 @@ field_term q ts = do
   b ← mark_at mark.CloseParenthesis x.1
   Some (term.Field f x.0.0 x.0.1, b)
 
+-- `hand(W[I],J)`
+unfoldable pub hand_term : Bool → List Token → Found Term
+hand_term q ts = do
+  a ← keyword_at (codes "hand") ts
+  b ← mark_at mark.OpenParenthesis a
+  x ← named_place_at q b
+  c ← mark_at mark.Comma x.1
+  j ← index_at q c
+  d ← mark_at mark.CloseParenthesis j.1
+  Some (term.Hand x.0.0 x.0.1 j.0, d)
+
 unfoldable pub index_term : Bool → List Token → Found Term
 index_term q ts = do
   i ← index_at q ts
   Some (term.Index i.0, i.1)
 
 unfoldable pub term_at : Bool → List Token → Found Term
-term_at q ts = or_else (arg_term ts) (or_else (row_term q ts) (or_else (field_term q ts) (index_term q ts)))
+term_at q ts =
+    or_else (arg_term ts) (or_else (row_term q ts) (or_else (field_term q ts) (or_else (hand_term q ts) (index_term q ts))))
 
 -- An expression: `not` term, term `+` term, or a term.
 unfoldable pub not_expr : Bool → List Token → Found Expr
@@ -234,6 +252,42 @@ get_form ts = do
   end ← end_at j.1
   Some (instr.Get x.0.0 x.0.1 j.0)
 
+-- `[I,J]`
+unfoldable pub pair_at : List Token → Found (Index × Index)
+pair_at ts = do
+  a ← mark_at mark.OpenBracket ts
+  i ← index_at false a
+  b ← mark_at mark.Comma i.1
+  j ← index_at false b
+  c ← mark_at mark.CloseBracket j.1
+  Some ((i.0, j.0), c)
+
+-- `q` or `p`
+unfoldable pub bit_bank_at : List Token → Found BitBank
+bit_bank_at ts =
+    or_else (keyword_at (codes "q") ts >>= λ rest. Some (bits.Q, rest))
+    (keyword_at (codes "p") ts >>= λ rest. Some (bits.P, rest))
+
+-- `bit X = q[I,J]`, and so `p`
+unfoldable pub bit_form : List Token → Option Instr
+bit_form ts = do
+  x ← name_at ts
+  a ← mark_at mark.Equal x.1
+  b ← bit_bank_at a
+  i ← pair_at b.1
+  end ← end_at i.1
+  Some (instr.Bit x.0 b.0 i.0.0 i.0.1)
+
+-- `look S = v[I]`
+unfoldable pub look_form : List Token → Option Instr
+look_form ts = do
+  x ← name_at ts
+  a ← mark_at mark.Equal x.1
+  b ← keyword_at (codes "v") a
+  i ← place_at false b
+  end ← end_at i.1
+  Some (instr.Look x.0 i.0)
+
 -- `(E, E, S)`
 unfoldable pub seq_tuple_at : List Token → Found Tuple
 seq_tuple_at ts = do
@@ -246,15 +300,71 @@ seq_tuple_at ts = do
   e ← mark_at mark.CloseParenthesis s.1
   Some (tuple.Seq d.0 q.0 s.0, e)
 
--- `put r[I] = (E, E, S)`
-unfoldable pub put_form : List Token → Option Instr
-put_form ts = do
+-- `(E, R, E, S)`
+unfoldable pub bits_tuple_at : List Token → Found Tuple
+bits_tuple_at ts = do
+  a ← mark_at mark.OpenParenthesis ts
+  d ← expr_at false a
+  b ← mark_at mark.Comma d.1
+  h ← name_at b
+  c ← mark_at mark.Comma h.1
+  t ← expr_at false c
+  f ← mark_at mark.Comma t.1
+  s ← name_at f
+  e ← mark_at mark.CloseParenthesis s.1
+  Some (tuple.Bits d.0 h.0 t.0 s.0, e)
+
+-- `(E, E, E)`
+unfoldable pub multi_tuple_at : List Token → Found Tuple
+multi_tuple_at ts = do
+  a ← mark_at mark.OpenParenthesis ts
+  d ← expr_at false a
+  b ← mark_at mark.Comma d.1
+  i ← expr_at false b
+  c ← mark_at mark.Comma i.1
+  t ← expr_at false c
+  e ← mark_at mark.CloseParenthesis t.1
+  Some (tuple.Multi d.0 i.0 t.0, e)
+
+-- A tuple of three that ends with a name alone is of kind seq where the listing is, and else of kind multi.
+unfoldable pub triple_at : KindTag → List Token → Found Tuple
+triple_at kind.Seq ts = or_else (seq_tuple_at ts) (multi_tuple_at ts)
+triple_at kind.Bits ts = multi_tuple_at ts
+triple_at kind.Multi ts = multi_tuple_at ts
+
+-- a tuple of any kind
+unfoldable pub tuple_at : KindTag → List Token → Found Tuple
+tuple_at k ts = or_else (bits_tuple_at ts) (triple_at k ts)
+
+-- `put r[I] = tuple`
+unfoldable pub put_form : KindTag → List Token → Option Instr
+put_form k ts = do
   a ← keyword_at (codes "r") ts
   i ← place_at false a
   b ← mark_at mark.Equal i.1
-  t ← seq_tuple_at b
+  t ← tuple_at k b
   end ← end_at t.1
   Some (instr.Put i.0 t.0)
+
+-- `put q[I,J] = E`, and so `p`
+unfoldable pub put_bit_form : List Token → Option Instr
+put_bit_form ts = do
+  b ← bit_bank_at ts
+  i ← pair_at b.1
+  a ← mark_at mark.Equal i.1
+  e ← expr_at false a
+  end ← end_at e.1
+  Some (instr.PutBit b.0 i.0.0 i.0.1 e.0)
+
+-- `put v[I] = S`
+unfoldable pub put_view_form : List Token → Option Instr
+put_view_form ts = do
+  a ← keyword_at (codes "v") ts
+  i ← place_at false a
+  b ← mark_at mark.Equal i.1
+  x ← name_at b
+  end ← end_at x.1
+  Some (instr.PutView i.0 x.0)
 
 -- `view S = data(W)`
 unfoldable pub view_data_form : List Token → Option Instr
@@ -367,11 +477,13 @@ finish_form ts = do
   Some instr.Finish
 
 -- the forms that begin with this word
-unfoldable pub form_of_word : List ℕ → List Token → Option Instr
-form_of_word w ts =
+unfoldable pub form_of_word : KindTag → List ℕ → List Token → Option Instr
+form_of_word k w ts =
     if bytes_eq w (codes "let") then or_else (let_form ts) (let_place_form ts) else
     if bytes_eq w (codes "get") then get_form ts else
-    if bytes_eq w (codes "put") then put_form ts else
+    if bytes_eq w (codes "bit") then bit_form ts else
+    if bytes_eq w (codes "look") then look_form ts else
+    if bytes_eq w (codes "put") then or_else (put_form k ts) (or_else (put_bit_form ts) (put_view_form ts)) else
     if bytes_eq w (codes "view") then or_else (view_data_form ts) (view_of_form ts) else
     if bytes_eq w (codes "each") then each_form ts else
     if bytes_eq w (codes "first") then first_form ts else
@@ -386,11 +498,11 @@ form_of_word w ts =
 abbrev pub is_line_number : ℕ → Bool
 is_line_number k = nat_le 1 k && nat_le k 999
 
--- `N: instruction`
-unfoldable pub line_form : List Token → Option Line
-line_form ts = do
+-- `N: instruction`, in a listing of this kind
+unfoldable pub line_form : KindTag → List Token → Option Line
+line_form g ts = do
   k ← number_at ts
   a ← mark_at mark.Colon k.1
   w ← word_at a
-  i ← form_of_word w.0 w.1
+  i ← form_of_word g w.0 w.1
   if is_line_number k.0 then Some (record { number = k.0; instr = i }) else None

@@ -13,7 +13,7 @@ use Rattle.snap_semantics.specs.declared.process.Op.TheVariants as op
 use Rattle.snap_semantics.specs.declared.process.Status.{Status}
 use Rattle.snap_semantics.specs.declared.process.Status.TheVariants.{Idle, Busy, Trapped}
 use Rattle.snap_semantics.specs.Source.{Name}
-use Rattle.snap_semantics.specs.State.{Locals, Named, Process, State, values}
+use Rattle.snap_semantics.specs.State.{Locals, Memory, Named, Process, State, values}
 
 -- each number behind a space
 abbrev pub numbers_text : List ℕ → List ℕ
@@ -41,6 +41,32 @@ word_line g k x = codes "r " ++ decimal k ++ codes " = " ++ word_text g x ++ cod
 abbrev pub word_lines : KindTag → ℕ → List Word → List ℕ
 word_lines g k [] = []
 word_lines g k (x ∷ xs) = word_line g k x ++ word_lines g (k + 1) xs
+
+-- the line of bit q[i,j] or p[i,j]
+abbrev pub bit_line : List ℕ → ℕ → ℕ → ℕ → List ℕ
+bit_line bank i j x = bank ++ codes " " ++ decimal i ++ codes " " ++ decimal j ++ codes " = " ++ decimal x ++ codes "\n"
+
+-- the lines of the bits of row i, the first of which is at place j
+abbrev pub row_lines : List ℕ → ℕ → ℕ → List ℕ → List ℕ
+row_lines bank i j [] = []
+row_lines bank i j (x ∷ xs) = bit_line bank i j x ++ row_lines bank i (j + 1) xs
+
+-- the lines of a bank of bits, the first of which is in row i
+abbrev pub bank_lines : List ℕ → ℕ → List (List ℕ) → List ℕ
+bank_lines bank i [] = []
+bank_lines bank i (row ∷ rows) = row_lines bank i 1 row ++ bank_lines bank (i + 1) rows
+
+-- the line of view v[i]
+abbrev pub view_line : ℕ → List ℕ → List ℕ
+view_line i view = codes "v " ++ decimal i ++ codes " =" ++ numbers_text view ++ codes "\n"
+
+abbrev pub view_lines : ℕ → List (List ℕ) → List ℕ
+view_lines i [] = []
+view_lines i (view ∷ views) = view_line i view ++ view_lines (i + 1) views
+
+-- the lines of the registers: words, bits and views
+abbrev pub register_lines : KindTag → Memory → List ℕ
+register_lines g m = word_lines g 1 m.words ++ bank_lines (codes "q") 1 m.q ++ bank_lines (codes "p") 1 m.p ++ view_lines 1 m.views
 
 abbrev pub cause_text : Cause → List ℕ
 cause_text cause.Index = codes "Index"
@@ -121,4 +147,4 @@ event_lines (e ∷ es) = event_line e ++ event_lines es
 abbrev pub report_text : KindTag → State → List Event → ℕ → ℕ → List ℕ
 report_text g s es t total =
     codes "report at " ++ decimal t ++ codes " of " ++ decimal total ++ codes "\n" ++ values_line (values s)
-    ++ word_lines g 1 s.memory.words ++ processes_lines g 1 s.processes ++ event_lines es
+    ++ register_lines g s.memory ++ processes_lines g 1 s.processes ++ event_lines es

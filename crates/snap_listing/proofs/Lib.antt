@@ -12,3 +12,4 @@ pub mod SpelledForms
 pub mod SpelledHeader
 pub mod SpelledLines
 pub mod TextLength
+pub mod RightLines

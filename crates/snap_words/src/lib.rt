@@ -2,6 +2,7 @@
 #![tactic(auto)]
 
 mod address;
+mod contents;
 mod kind;
 mod kinds;
 mod parts;
@@ -9,6 +10,7 @@ mod shape;
 mod view;
 
 pub use address::{Address, Bank};
+pub use contents::{field_of, hands_of, view_of};
 pub use kind::{Field, KindTag};
 pub use kinds::{Bits, BitsWord, Kind, Multi, MultiWord, Seq, SeqWord};
 pub use parts::Parts;

@@ -3,8 +3,6 @@ use Rattle.std.proofs.Common.{◌≡◌, ℕ, ◌+◌, ◌<◌, ◌≤◌, ◌++
 use Rattle.std.proofs.lemmas.Bool.{lt-leb}
 use Rattle.std.proofs.lemmas.List.{length-append}
 use Rattle.std.specs.List.{AllByRecursion}
-use Rattle.snap_words.specs.declared.kind.KindTag.{KindTag}
-use Rattle.snap_words.specs.declared.kind.KindTag.TheVariants as kind
 use Rattle.snap_semantics.specs.declared.refusal.ListingRefusal.{ListingRefusal}
 use Rattle.snap_semantics.specs.declared.refusal.ListingRefusal.TheVariants as refusal
 use Rattle.snap_semantics.specs.Answers.{◌>>=◌}
@@ -135,10 +133,9 @@ header_again after i j k l m n o lines s h ei ej ek el em en eo =
     let c = s.words in
     let d = s.views in
     let ok = sorts_ok a b c d h.names h.distinct h.few_names in
-    let done = read_header (record { kind = kind.Seq; scalars = a; rows = b; words = c; views = d; scan = s.scan; update = s.update; lines = [] }) lines in
-    let seq : i.tokens ≡ some_line (spelled_kind kind.Seq) = ei ∙ ap (λ (x : KindTag). some_line (spelled_kind x)) h.kind in
-    bind_by (header_line after kind_form (i ∷ j ∷ k ∷ l ∷ m ∷ n ∷ o ∷ lines)) (kind.Seq, i.number, j ∷ k ∷ l ∷ m ∷ n ∷ o ∷ lines) _ done
-    (line_says after kind_form i (j ∷ k ∷ l ∷ m ∷ n ∷ o ∷ lines) (spelled_kind kind.Seq) kind.Seq seq kind_again)
+    let done = read_header (record { kind = s.kind; scalars = a; rows = b; words = c; views = d; scan = s.scan; update = s.update; lines = [] }) lines in
+    bind_by (header_line after kind_form (i ∷ j ∷ k ∷ l ∷ m ∷ n ∷ o ∷ lines)) (s.kind, i.number, j ∷ k ∷ l ∷ m ∷ n ∷ o ∷ lines) _ done
+    (line_says after kind_form i (j ∷ k ∷ l ∷ m ∷ n ∷ o ∷ lines) (spelled_kind s.kind) s.kind ei (kind_again s.kind))
     (bind_by (names_line after (codes "scalar") [] (j ∷ k ∷ l ∷ m ∷ n ∷ o ∷ lines)) (a, k ∷ l ∷ m ∷ n ∷ o ∷ lines) _ done
     (names_say after (codes "scalar") [] j (k ∷ l ∷ m ∷ n ∷ o ∷ lines) a ej ok.named_scalars ok.distinct_scalars ok.few_scalars)
     (bind_by (names_line after (codes "row") a (k ∷ l ∷ m ∷ n ∷ o ∷ lines)) (b, l ∷ m ∷ n ∷ o ∷ lines) _ done
@@ -152,4 +149,3 @@ header_again after i j k l m n o lines s h ei ej ek el em en eo =
     (bind_by (header_line after (entry_form (codes "update")) (o ∷ lines)) (s.update, o.number, lines) _ done
     (line_says after (entry_form (codes "update")) o lines (spelled_entry (codes "update") s.update) s.update eo (entry_again (codes "update") s.update h.update))
     refl))))))
-    ∙ ap (λ (x : KindTag). read_header (record { kind = x; scalars = a; rows = b; words = c; views = d; scan = s.scan; update = s.update; lines = [] }) lines) (sym h.kind)

@@ -1,6 +1,7 @@
 -- The forms of header lines read what is spelled so.
 use Rattle.std.proofs.Common.{◌≡◌, ℕ, Bool, true, false, List, [], ◌∷◌, map, Option, Some, None, bytes_eq, if◌then◌else◌, refl, ap, ◌∙◌}
 use Rattle.std.proofs.lemmas.Slice.Eq.{bytes_eq-Decides}
+use Rattle.snap_words.specs.declared.kind.KindTag.{KindTag}
 use Rattle.snap_words.specs.declared.kind.KindTag.TheVariants as kind
 use Rattle.snap_semantics.specs.Forms.{◌>>=◌, keyword_at}
 use Rattle.snap_semantics.specs.HeaderForms.{kind_form, words_form, names_form, entry_form}
@@ -25,9 +26,11 @@ words_again : (ws : List (List ℕ)) → words_form (map (λ (x : List ℕ). Wor
 words_again [] = refl
 words_again (w ∷ ws) = then_by (words_form (map (λ (x : List ℕ). Word x) ws)) ws _ (Some (w ∷ ws)) (words_again ws) refl
 
-pub kind_again : kind_form (spelled_kind kind.Seq) ≡ Some kind.Seq
+pub kind_again : (k : KindTag) → kind_form (spelled_kind k) ≡ Some k
 unfolding kind_form
-kind_again = refl
+kind_again kind.Seq = refl
+kind_again kind.Bits = refl
+kind_again kind.Multi = refl
 
 pub names_again : (keyword : List ℕ) (names : List Name) → names_form keyword (spelled_names keyword names) ≡ Some names
 unfolding names_form

@@ -20,16 +20,24 @@ use Rattle.snap_semantics.specs.declared.instr.Term.{Term}
 use Rattle.snap_semantics.specs.declared.instr.Term.TheVariants as term
 use Rattle.snap_semantics.specs.declared.text.Mark.TheVariants as mark
 use Rattle.snap_semantics.specs.Forms.{◌>>=◌, or_else, keyword_at, mark_at}
-use Rattle.snap_semantics.specs.IsListing.{IsName, HasIndex, IsSeqField, HasTerm, HasExpr, HasComparison, HasCondition}
-use Rattle.snap_semantics.specs.ListingForms.{is_reserved, name_of_word, name_at, index_of_word, number_index, place_index, word_index, index_at, place_at, named_place_at, arg_term, row_term, field_of_word, field_term, index_term, term_at, not_expr, plus_expr, term_expr, expr_at, relation_at, comparison_at, join_word, joined_at, third_on, second_on, first_on, condition_at}
+use Rattle.snap_semantics.specs.IsListing.{IsName, HasIndex, HasTerm, HasExpr, HasComparison, HasCondition}
+use Rattle.snap_semantics.specs.ListingForms.{is_reserved, name_of_word, name_at, index_of_word, number_index, place_index, word_index, index_at, place_at, named_place_at, arg_term, row_term, field_of_word, field_term, hand_term, index_term, term_at, not_expr, plus_expr, term_expr, expr_at, relation_at, comparison_at, join_word, joined_at, third_on, second_on, first_on, condition_at}
 use Rattle.snap_semantics.specs.Source.{Name}
-use Rattle.snap_semantics.specs.Spelling.{in_brackets, spelled_index, spelled_place, spelled_term, spelled_expr, spelled_relation, spelled_comparison, spelled_condition}
+use Rattle.snap_semantics.specs.Spelling.{in_brackets, spelled_index, spelled_place, field_word, spelled_term, spelled_expr, spelled_relation, spelled_comparison, spelled_condition}
 use Rattle.snap_semantics.specs.Token.{Token, Word, Sign}
-use Rattle.snap_semantics.specs.Uses.{Use, index_uses, term_uses, expr_uses, comparison_uses, condition_uses}
+use Rattle.snap_semantics.specs.Uses.{Use, Named, BankUse, FieldUse, HandUse, ViewUse, TupleUse, index_uses, term_uses, expr_uses, comparison_uses, condition_uses}
 
--- what all uses name is a name
+-- what a use names is a name
+abbrev pub IsNamed : Use → Type 0
+IsNamed (Named wanted x) = IsName x
+IsNamed (BankUse b) = Unit {0}
+IsNamed (FieldUse f) = Unit {0}
+IsNamed HandUse = Unit {0}
+IsNamed ViewUse = Unit {0}
+IsNamed (TupleUse k) = Unit {0}
+
 abbrev pub Names : List Use → Type 0
-Names us = AllByRecursion (λ (u : Use). IsName u.name) us
+Names us = AllByRecursion IsNamed us
 
 pub names_first : (us vs : List Use) → Names (us ++ vs) → Names us
 names_first [] vs h = tt
@@ -153,11 +161,18 @@ no_row q x rest h e = then_none (named_place_at q (Word x ∷ rest)) _ (no_named
 
 no_field_word : (x : Name) → IsName x → field_of_word x ≡ None
 no_field_word x h =
-    if_not (bytes_eq x (codes "seq")) _ _ _ (no_word x (codes "seq") h refl) (if_not (bytes_eq x (codes "data")) _ _ _ (no_word x (codes "data") h refl) refl)
+    if_not (bytes_eq x (codes "seq")) _ _ _ (no_word x (codes "seq") h refl)
+    (if_not (bytes_eq x (codes "data")) _ _ _ (no_word x (codes "data") h refl)
+    (if_not (bytes_eq x (codes "toggle")) _ _ _ (no_word x (codes "toggle") h refl)
+    (if_not (bytes_eq x (codes "id")) _ _ _ (no_word x (codes "id") h refl) refl)))
 
 no_field : (q : Bool) (x : Name) (rest : List Token) → IsName x → field_term q (Word x ∷ rest) ≡ None
 unfolding field_term
 no_field q x rest h = then_none (field_of_word x) _ (no_field_word x h)
+
+no_hand : (q : Bool) (x : Name) (rest : List Token) → IsName x → hand_term q (Word x ∷ rest) ≡ None
+unfolding hand_term
+no_hand q x rest h = then_none (keyword_at (codes "hand") (Word x ∷ rest)) _ (no_keyword x (codes "hand") rest h refl)
 
 scalar_term : (q : Bool) (x : Name) (rest : List Token) → IsName x → NoBracket rest → term_at q (Word x ∷ rest) ≡ Some (term.Index (index.Scalar x), rest)
 unfolding term_at index_term
@@ -165,15 +180,16 @@ scalar_term q x rest h e =
     or_second (arg_term (Word x ∷ rest)) _ _ (no_arg x rest h)
     (or_second (row_term q (Word x ∷ rest)) _ _ (no_row q x rest h e)
     (or_second (field_term q (Word x ∷ rest)) _ _ (no_field q x rest h)
-    (then_is (index_at q (Word x ∷ rest)) (index.Scalar x, rest) _ _ (scalar_read q x rest h) refl)))
+    (or_second (hand_term q (Word x ∷ rest)) _ _ (no_hand q x rest h)
+    (then_is (index_at q (Word x ∷ rest)) (index.Scalar x, rest) _ _ (scalar_read q x rest h) refl))))
 
 place_term : (q : Bool) (rest : List Token) → q ≡ true → term_at q (Sign mark.At ∷ rest) ≡ Some (term.Index index.Place, rest)
-unfolding term_at arg_term row_term named_place_at name_at field_term index_term
+unfolding term_at arg_term row_term named_place_at name_at field_term hand_term index_term
 place_term q rest h = then_is (index_at q (Sign mark.At ∷ rest)) (index.Place, rest) _ _ (place_read q rest h) refl
 
 index_term_again : (q : Bool) (i : Index) (rest : List Token) → HasIndex q i → Names (index_uses i) → NoBracket rest →
     term_at q (spelled_index i ++ rest) ≡ Some (term.Index i, rest)
-unfolding term_at arg_term row_term named_place_at name_at field_term index_term index_at number_index place_index word_index
+unfolding term_at arg_term row_term named_place_at name_at field_term hand_term index_term index_at number_index place_index word_index
 index_term_again q (index.Number k) rest h names e = refl
 index_term_again q index.Processes rest h names e = refl
 index_term_again q index.Words rest h names e = refl
@@ -204,38 +220,91 @@ place_inside q x i rest h name names =
     ap (λ (ts : List Token). named_place_at q ts) (inside (spelled_place x i) rest) ∙ place_again q x i (Sign mark.CloseParenthesis ∷ rest) h name names
 
 -- a field's word begins no place
-data_row : (q : Bool) (rest : List Token) → row_term q (Word (codes "data") ∷ rest) ≡ None
+field_no_row : (q : Bool) (f : Field) (rest : List Token) → row_term q (Word (field_word f) ∷ rest) ≡ None
 unfolding row_term named_place_at name_at
-data_row q rest = refl
+field_no_row q field.Datum rest = refl
+field_no_row q field.Seq rest = refl
+field_no_row q field.Id rest = refl
+field_no_row q field.Toggle rest = refl
 
-seq_row : (q : Bool) (rest : List Token) → row_term q (Word (codes "seq") ∷ rest) ≡ None
-unfolding row_term named_place_at name_at
-seq_row q rest = refl
+field_no_arg : (f : Field) (rest : List Token) → arg_term (Word (field_word f) ∷ rest) ≡ None
+unfolding arg_term
+field_no_arg field.Datum rest = refl
+field_no_arg field.Seq rest = refl
+field_no_arg field.Id rest = refl
+field_no_arg field.Toggle rest = refl
 
-field_again : (q : Bool) (f : Field) (x : Name) (i : Index) (rest : List Token) → IsSeqField f → HasIndex q i → IsName x → Names (index_uses i) →
+field_word_again : (f : Field) → field_of_word (field_word f) ≡ Some f
+field_word_again field.Datum = refl
+field_word_again field.Seq = refl
+field_word_again field.Id = refl
+field_word_again field.Toggle = refl
+
+field_read : (q : Bool) (f : Field) (x : Name) (i : Index) (rest : List Token) → HasIndex q i → IsName x → Names (index_uses i) →
+    field_term q (spelled_term (term.Field f x i) ++ rest) ≡ Some (term.Field f x i, rest)
+unfolding field_term
+field_read q f x i rest h name names =
+    let ts : List Token = (spelled_place x i ++ Sign mark.CloseParenthesis ∷ []) ++ rest in
+    then_is (field_of_word (field_word f)) f _ _ (field_word_again f)
+    (then_is (named_place_at q ts) ((x, i), Sign mark.CloseParenthesis ∷ rest) _ _ (place_inside q x i rest h name names) refl)
+
+field_again : (q : Bool) (f : Field) (x : Name) (i : Index) (rest : List Token) → HasIndex q i → IsName x → Names (index_uses i) →
     term_at q (spelled_term (term.Field f x i) ++ rest) ≡ Some (term.Field f x i, rest)
-unfolding term_at arg_term field_term
-field_again q field.Datum x i rest s h name names =
-    let ts : List Token = (spelled_place x i ++ Sign mark.CloseParenthesis ∷ []) ++ rest in
-    let none = data_row q (Sign mark.OpenParenthesis ∷ ts) in
-    or_second (row_term q (Word (codes "data") ∷ Sign mark.OpenParenthesis ∷ ts)) _ _ none
-    (or_first (field_term q (Word (codes "data") ∷ Sign mark.OpenParenthesis ∷ ts)) _ _
-    (then_is (named_place_at q ts) ((x, i), Sign mark.CloseParenthesis ∷ rest) _ _ (place_inside q x i rest h name names) refl))
-field_again q field.Seq x i rest s h name names =
-    let ts : List Token = (spelled_place x i ++ Sign mark.CloseParenthesis ∷ []) ++ rest in
-    let none = seq_row q (Sign mark.OpenParenthesis ∷ ts) in
-    or_second (row_term q (Word (codes "seq") ∷ Sign mark.OpenParenthesis ∷ ts)) _ _ none
-    (or_first (field_term q (Word (codes "seq") ∷ Sign mark.OpenParenthesis ∷ ts)) _ _
-    (then_is (named_place_at q ts) ((x, i), Sign mark.CloseParenthesis ∷ rest) _ _ (place_inside q x i rest h name names) refl))
-field_again q field.Id x i rest s h name names = absurd s
-field_again q field.Toggle x i rest s h name names = absurd s
+unfolding term_at
+field_again q f x i rest h name names =
+    let behind : List Token = Sign mark.OpenParenthesis ∷ ((spelled_place x i ++ Sign mark.CloseParenthesis ∷ []) ++ rest) in
+    let ts : List Token = Word (field_word f) ∷ behind in
+    or_second (arg_term ts) _ _ (field_no_arg f behind)
+    (or_second (row_term q ts) _ _ (field_no_row q f behind) (or_first (field_term q ts) _ _ (field_read q f x i rest h name names)))
+
+-- two parts with a comma between them and a bracket behind, grouped as they are read
+pub pair_tokens : (a b : List Token) (close : Token) (rest : List Token) →
+    ((a ++ Sign mark.Comma ∷ b) ++ close ∷ []) ++ rest ≡ a ++ Sign mark.Comma ∷ (b ++ close ∷ rest)
+pair_tokens a b close rest =
+    append_assoc (a ++ Sign mark.Comma ∷ b) (close ∷ []) rest ∙ append_assoc a (Sign mark.Comma ∷ b) (close ∷ rest)
+
+hand_read : (q : Bool) (x : Name) (i j : Index) (rest : List Token) → HasIndex q i → HasIndex q j → IsName x → Names (index_uses i) → Names (index_uses j) →
+    hand_term q (spelled_term (term.Hand x i j) ++ rest) ≡ Some (term.Hand x i j, rest)
+unfolding hand_term
+hand_read q x i j rest g h name ni nj =
+    let close : Token = Sign mark.CloseParenthesis in
+    let place = spelled_place x i in
+    let last = spelled_index j in
+    let behind : List Token = Sign mark.Comma ∷ (last ++ close ∷ rest) in
+    then_is (named_place_at q (((place ++ Sign mark.Comma ∷ last) ++ close ∷ []) ++ rest)) ((x, i), behind) _ _
+    (ap (λ (ts : List Token). named_place_at q ts) (pair_tokens place last close rest) ∙ place_again q x i behind g name ni)
+    (then_is (index_at q (last ++ close ∷ rest)) (j, close ∷ rest) _ _ (index_again q j (close ∷ rest) h nj) refl)
+
+hand_no_arg : (rest : List Token) → arg_term (Word (codes "hand") ∷ rest) ≡ None
+unfolding arg_term
+hand_no_arg rest = refl
+
+hand_no_row : (q : Bool) (rest : List Token) → row_term q (Word (codes "hand") ∷ rest) ≡ None
+unfolding row_term named_place_at name_at
+hand_no_row q rest = refl
+
+hand_no_field : (q : Bool) (rest : List Token) → field_term q (Word (codes "hand") ∷ rest) ≡ None
+unfolding field_term
+hand_no_field q rest = refl
+
+hand_again : (q : Bool) (x : Name) (i j : Index) (rest : List Token) → HasIndex q i → HasIndex q j → IsName x → Names (index_uses i) → Names (index_uses j) →
+    term_at q (spelled_term (term.Hand x i j) ++ rest) ≡ Some (term.Hand x i j, rest)
+unfolding term_at
+hand_again q x i j rest g h name ni nj =
+    let inner : List Token = spelled_place x i ++ Sign mark.Comma ∷ spelled_index j in
+    let behind : List Token = Sign mark.OpenParenthesis ∷ ((inner ++ Sign mark.CloseParenthesis ∷ []) ++ rest) in
+    let ts : List Token = Word (codes "hand") ∷ behind in
+    or_second (arg_term ts) _ _ (hand_no_arg behind)
+    (or_second (row_term q ts) _ _ (hand_no_row q behind)
+    (or_second (field_term q ts) _ _ (hand_no_field q behind) (or_first (hand_term q ts) _ _ (hand_read q x i j rest g h name ni nj))))
 
 pub term_again : (q : Bool) (t : Term) (rest : List Token) → HasTerm q t → Names (term_uses t) → NoBracket rest → term_at q (spelled_term t ++ rest) ≡ Some (t, rest)
 term_again q (term.Index i) rest h names e = index_term_again q i rest h names e
 term_again q term.Arg rest h names e = arg_term_again q rest
 term_again q (term.Row x i) rest h names e = row_term_again q x i rest h names.0 names.1
-term_again q (term.Field f x i) rest h names e = field_again q f x i rest h.0 h.1 names.0 names.1
-term_again q (term.Hand x i j) rest h names e = absurd h
+term_again q (term.Field f x i) rest h names e = field_again q f x i rest h names.1.0 names.1.1
+term_again q (term.Hand x i j) rest h names e =
+    hand_again q x i j rest h.0 h.1 names.1.0 (names_first (index_uses i) (index_uses j) names.1.1) (names_rest (index_uses i) (index_uses j) names.1.1)
 
 -- what stands behind an expression is no `+` either
 abbrev pub NoPlus : List Token → Type 0
@@ -256,9 +325,9 @@ term_no_not q term.Arg rest h names = refl
 term_no_not q (term.Row x i) rest h names = no_keyword x (codes "not") (in_brackets (spelled_index i) ++ rest) names.0 refl
 term_no_not q (term.Field field.Datum x i) rest h names = refl
 term_no_not q (term.Field field.Seq x i) rest h names = refl
-term_no_not q (term.Field field.Id x i) rest h names = absurd h.0
-term_no_not q (term.Field field.Toggle x i) rest h names = absurd h.0
-term_no_not q (term.Hand x i j) rest h names = absurd h
+term_no_not q (term.Field field.Id x i) rest h names = refl
+term_no_not q (term.Field field.Toggle x i) rest h names = refl
+term_no_not q (term.Hand x i j) rest h names = refl
 
 no_not : (q : Bool) (ts : List Token) → keyword_at (codes "not") ts ≡ None → not_expr q ts ≡ None
 unfolding not_expr

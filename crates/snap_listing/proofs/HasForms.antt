@@ -1,23 +1,22 @@
--- What rules find has a form of kind seq.
-use Rattle.std.proofs.Common.{◌≡◌, ℕ, Bool, true, false, List, Option, Some, None, bytes_eq, codes, if◌then◌else◌, refl, subst}
+-- What rules find can be spelled.
+use Rattle.std.proofs.Common.{◌≡◌, ℕ, Bool, true, false, List, Option, Some, None, bytes_eq, codes, if◌then◌else◌, refl}
+use Rattle.snap_words.specs.declared.kind.KindTag.{KindTag}
+use Rattle.snap_words.specs.declared.kind.KindTag.TheVariants as kind
 use Rattle.snap_semantics.specs.declared.instr.Comparison.{Comparison}
 use Rattle.snap_semantics.specs.declared.instr.Condition.{Condition}
 use Rattle.snap_semantics.specs.declared.instr.Expr.{Expr}
 use Rattle.snap_semantics.specs.declared.instr.Index.{Index}
 use Rattle.snap_semantics.specs.declared.instr.Index.TheVariants as index
 use Rattle.snap_semantics.specs.declared.instr.Instr.{Instr}
-use Rattle.snap_semantics.specs.declared.instr.Instr.TheVariants.{Let, LetPlace, Get, Bit, Look, Put, PutBit, PutView, ViewData, ViewOf, Each, First, Next, If, IfAll, Goto, Call, Return, Finish}
 use Rattle.snap_semantics.specs.declared.instr.Join.{Join}
 use Rattle.snap_semantics.specs.declared.instr.Join.TheVariants.{And, Or}
 use Rattle.snap_semantics.specs.declared.instr.Line.{Line}
 use Rattle.snap_semantics.specs.declared.instr.Term.{Term}
 use Rattle.snap_semantics.specs.declared.instr.Tuple.{Tuple}
-use Rattle.snap_semantics.specs.declared.instr.Tuple.TheVariants as tuple
 use Rattle.snap_semantics.specs.declared.text.Mark.TheVariants as mark
 use Rattle.snap_semantics.specs.Forms.{◌>>=◌, or_else, number_at, word_at, keyword_at, mark_at, end_at}
-use Rattle.snap_semantics.specs.IsListing.{HasIndex, IsSeqField, HasTerm, HasExpr, HasComparison, HasCondition, HasWhere, HasTuple, HasForm}
-use Rattle.snap_semantics.specs.ListingForms.{name_of_word, name_at, index_of_word, number_index, place_index, word_index, index_at, place_at, named_place_at, arg_term, row_term, field_of_word, field_term, index_term, term_at, not_expr, plus_expr, term_expr, expr_at, relation_at, comparison_at, join_word, joined_at, third_on, second_on, first_on, condition_at, where_at, range_at, target_at, let_form, let_place_form, get_form, seq_tuple_at, put_form, view_data_form, view_of_form, each_form, first_form, next_form, if_form, if_all_form, goto_form, call_form, return_form, finish_form, form_of_word, is_line_number, line_form}
-use Rattle.snap_semantics.specs.SeqForm.{IsSeqForm, IsSeqTuple}
+use Rattle.snap_semantics.specs.IsListing.{HasIndex, HasTerm, HasExpr, HasComparison, HasCondition, HasWhere, HasTuple, HasForm}
+use Rattle.snap_semantics.specs.ListingForms.{name_of_word, name_at, index_of_word, number_index, place_index, word_index, index_at, place_at, named_place_at, arg_term, row_term, field_of_word, field_term, hand_term, index_term, term_at, not_expr, plus_expr, term_expr, expr_at, relation_at, comparison_at, join_word, joined_at, third_on, second_on, first_on, condition_at, where_at, range_at, target_at, let_form, let_place_form, get_form, pair_at, bit_bank_at, bit_form, look_form, seq_tuple_at, bits_tuple_at, multi_tuple_at, triple_at, tuple_at, put_form, put_bit_form, put_view_form, view_data_form, view_of_form, each_form, first_form, next_form, if_form, if_all_form, goto_form, call_form, return_form, finish_form, form_of_word, is_line_number, line_form}
 use Rattle.snap_semantics.specs.Source.{Name}
 use Rattle.snap_semantics.specs.Token.{Token}
 
@@ -25,10 +24,6 @@ use Rattle.snap_semantics.specs.Token.{Token}
 abbrev pub Holds : {A : Type 0} → (A → Type 0) → Option A → Type 0
 Holds P None = Unit {0}
 Holds P (Some x) = P x
-
-pub holds_of : {A : Type 0} (P : A → Type 0) (o : Option A) (x : A) → Holds P o → o ≡ Some x → P x
-holds_of P None x h e = absurd cc
-holds_of P (Some y) x h e = let p : y ≡ x = cc in subst P p h
 
 pub then_any : {A B : Type 0} (P : B → Type 0) (o : Option A) (f : A → Option B) → ((x : A) → Holds P (f x)) → Holds P (o >>= f)
 then_any P None f h = tt
@@ -85,20 +80,28 @@ named_place_has q ts =
 abbrev TermFound : Bool → (Term × List Token) → Type 0
 TermFound q x = HasTerm q x.0
 
-field_has : (w : List ℕ) → Holds IsSeqField (field_of_word w)
-field_has w = if_so IsSeqField (bytes_eq w (codes "seq")) _ _ tt (if_so IsSeqField (bytes_eq w (codes "data")) _ _ tt tt)
+field_has : (q : Bool) (ts : List Token) → Holds (TermFound q) (field_term q ts)
+unfolding field_term
+field_has q ts =
+    let T = TermFound q in
+    then_any T (word_at ts) _ (λ w. then_any T (field_of_word w.0) _ (λ f. then_any T (mark_at mark.OpenParenthesis w.1) _ (λ a.
+    then_with (PlaceFound q) T (named_place_at q a) _ (named_place_has q a) (λ x h. then_any T (mark_at mark.CloseParenthesis x.1) _ (λ b. h)))))
+
+hand_has : (q : Bool) (ts : List Token) → Holds (TermFound q) (hand_term q ts)
+unfolding hand_term
+hand_has q ts =
+    let T = TermFound q in
+    then_any T (keyword_at (codes "hand") ts) _ (λ a. then_any T (mark_at mark.OpenParenthesis a) _ (λ b.
+    then_with (PlaceFound q) T (named_place_at q b) _ (named_place_has q b) (λ x g. then_any T (mark_at mark.Comma x.1) _ (λ c.
+    then_with (IndexFound q) T (index_at q c) _ (index_has q c) (λ j h. then_any T (mark_at mark.CloseParenthesis j.1) _ (λ d. (g, h)))))))
 
 term_has : (q : Bool) (ts : List Token) → Holds (TermFound q) (term_at q ts)
-unfolding term_at arg_term row_term field_term index_term
+unfolding term_at arg_term row_term index_term
 term_has q ts =
     let T = TermFound q in
     either T _ _ (then_any T (keyword_at (codes "arg") ts) _ (λ rest. tt))
     (either T _ _ (then_with (PlaceFound q) T (named_place_at q ts) _ (named_place_has q ts) (λ x h. h))
-    (either T _ _
-    (then_any T (word_at ts) _ (λ w. then_with IsSeqField T (field_of_word w.0) _ (field_has w.0) (λ f g.
-    then_any T (mark_at mark.OpenParenthesis w.1) _ (λ a. then_with (PlaceFound q) T (named_place_at q a) _ (named_place_has q a) (λ x h.
-    then_any T (mark_at mark.CloseParenthesis x.1) _ (λ b. (g, h)))))))
-    (then_with (IndexFound q) T (index_at q ts) _ (index_has q ts) (λ i h. h))))
+    (either T _ _ (field_has q ts) (either T _ _ (hand_has q ts) (then_with (IndexFound q) T (index_at q ts) _ (index_has q ts) (λ i h. h)))))
 
 abbrev ExprFound : Bool → (Expr × List Token) → Type 0
 ExprFound q x = HasExpr q x.0
@@ -165,13 +168,41 @@ where_has ts =
 abbrev TupleFound : (Tuple × List Token) → Type 0
 TupleFound x = HasTuple x.0
 
-tuple_has : (ts : List Token) → Holds TupleFound (seq_tuple_at ts)
+seq_tuple_has : (ts : List Token) → Holds TupleFound (seq_tuple_at ts)
 unfolding seq_tuple_at
-tuple_has ts =
+seq_tuple_has ts =
     let T = TupleFound in
     then_any T (mark_at mark.OpenParenthesis ts) _ (λ a. then_with (ExprFound false) T (expr_at false a) _ (expr_has false a) (λ d g.
     then_any T (mark_at mark.Comma d.1) _ (λ b. then_with (ExprFound false) T (expr_at false b) _ (expr_has false b) (λ q h.
     then_any T (mark_at mark.Comma q.1) _ (λ c. then_any T (name_at c) _ (λ s. then_any T (mark_at mark.CloseParenthesis s.1) _ (λ e. (g, h))))))))
+
+bits_tuple_has : (ts : List Token) → Holds TupleFound (bits_tuple_at ts)
+unfolding bits_tuple_at
+bits_tuple_has ts =
+    let T = TupleFound in
+    then_any T (mark_at mark.OpenParenthesis ts) _ (λ a. then_with (ExprFound false) T (expr_at false a) _ (expr_has false a) (λ d g.
+    then_any T (mark_at mark.Comma d.1) _ (λ b. then_any T (name_at b) _ (λ x. then_any T (mark_at mark.Comma x.1) _ (λ c.
+    then_with (ExprFound false) T (expr_at false c) _ (expr_has false c) (λ t h.
+    then_any T (mark_at mark.Comma t.1) _ (λ f. then_any T (name_at f) _ (λ s. then_any T (mark_at mark.CloseParenthesis s.1) _ (λ e. (g, h))))))))))
+
+multi_tuple_has : (ts : List Token) → Holds TupleFound (multi_tuple_at ts)
+unfolding multi_tuple_at
+multi_tuple_has ts =
+    let T = TupleFound in
+    then_any T (mark_at mark.OpenParenthesis ts) _ (λ a. then_with (ExprFound false) T (expr_at false a) _ (expr_has false a) (λ d g.
+    then_any T (mark_at mark.Comma d.1) _ (λ b. then_with (ExprFound false) T (expr_at false b) _ (expr_has false b) (λ i h.
+    then_any T (mark_at mark.Comma i.1) _ (λ c. then_with (ExprFound false) T (expr_at false c) _ (expr_has false c) (λ t j.
+    then_any T (mark_at mark.CloseParenthesis t.1) _ (λ e. (g, h, j))))))))
+
+triple_has : (k : KindTag) (ts : List Token) → Holds TupleFound (triple_at k ts)
+unfolding triple_at
+triple_has kind.Seq ts = either TupleFound _ _ (seq_tuple_has ts) (multi_tuple_has ts)
+triple_has kind.Bits ts = multi_tuple_has ts
+triple_has kind.Multi ts = multi_tuple_has ts
+
+tuple_has : (k : KindTag) (ts : List Token) → Holds TupleFound (tuple_at k ts)
+unfolding tuple_at
+tuple_has k ts = either TupleFound _ _ (bits_tuple_has ts) (triple_has k ts)
 
 let_has : (ts : List Token) → Holds HasForm (let_form ts)
 unfolding let_form
@@ -192,12 +223,48 @@ get_has ts =
     then_any HasForm (keyword_at (codes "r") a) _ (λ b. then_with (IndexFound false) HasForm (place_at false b) _ (place_has false b) (λ j h.
     then_any HasForm (end_at j.1) _ (λ end. (g, h))))))
 
-put_has : (ts : List Token) → Holds HasForm (put_form ts)
+abbrev PairFound : ((Index × Index) × List Token) → Type 0
+PairFound x = HasIndex false x.0.0 × HasIndex false x.0.1
+
+pair_has : (ts : List Token) → Holds PairFound (pair_at ts)
+unfolding pair_at
+pair_has ts =
+    let P = PairFound in
+    then_any P (mark_at mark.OpenBracket ts) _ (λ a. then_with (IndexFound false) P (index_at false a) _ (index_has false a) (λ i g.
+    then_any P (mark_at mark.Comma i.1) _ (λ b. then_with (IndexFound false) P (index_at false b) _ (index_has false b) (λ j h.
+    then_any P (mark_at mark.CloseBracket j.1) _ (λ c. (g, h))))))
+
+bit_has : (ts : List Token) → Holds HasForm (bit_form ts)
+unfolding bit_form
+bit_has ts =
+    then_any HasForm (name_at ts) _ (λ x. then_any HasForm (mark_at mark.Equal x.1) _ (λ a. then_any HasForm (bit_bank_at a) _ (λ b.
+    then_with PairFound HasForm (pair_at b.1) _ (pair_has b.1) (λ i h. then_any HasForm (end_at i.1) _ (λ end. h)))))
+
+look_has : (ts : List Token) → Holds HasForm (look_form ts)
+unfolding look_form
+look_has ts =
+    then_any HasForm (name_at ts) _ (λ x. then_any HasForm (mark_at mark.Equal x.1) _ (λ a. then_any HasForm (keyword_at (codes "v") a) _ (λ b.
+    then_with (IndexFound false) HasForm (place_at false b) _ (place_has false b) (λ i h. then_any HasForm (end_at i.1) _ (λ end. h)))))
+
+put_has : (k : KindTag) (ts : List Token) → Holds HasForm (put_form k ts)
 unfolding put_form
-put_has ts =
+put_has k ts =
     then_any HasForm (keyword_at (codes "r") ts) _ (λ a. then_with (IndexFound false) HasForm (place_at false a) _ (place_has false a) (λ i g.
-    then_any HasForm (mark_at mark.Equal i.1) _ (λ b. then_with TupleFound HasForm (seq_tuple_at b) _ (tuple_has b) (λ t h.
+    then_any HasForm (mark_at mark.Equal i.1) _ (λ b. then_with TupleFound HasForm (tuple_at k b) _ (tuple_has k b) (λ t h.
     then_any HasForm (end_at t.1) _ (λ end. (g, h))))))
+
+put_bit_has : (ts : List Token) → Holds HasForm (put_bit_form ts)
+unfolding put_bit_form
+put_bit_has ts =
+    then_any HasForm (bit_bank_at ts) _ (λ b. then_with PairFound HasForm (pair_at b.1) _ (pair_has b.1) (λ i g.
+    then_any HasForm (mark_at mark.Equal i.1) _ (λ a. then_with (ExprFound false) HasForm (expr_at false a) _ (expr_has false a) (λ e h.
+    then_any HasForm (end_at e.1) _ (λ end. (g.0, g.1, h))))))
+
+put_view_has : (ts : List Token) → Holds HasForm (put_view_form ts)
+unfolding put_view_form
+put_view_has ts =
+    then_any HasForm (keyword_at (codes "v") ts) _ (λ a. then_with (IndexFound false) HasForm (place_at false a) _ (place_has false a) (λ i g.
+    then_any HasForm (mark_at mark.Equal i.1) _ (λ b. then_any HasForm (name_at b) _ (λ x. then_any HasForm (end_at x.1) _ (λ end. g)))))
 
 view_data_has : (ts : List Token) → Holds HasForm (view_data_form ts)
 unfolding view_data_form
@@ -263,13 +330,15 @@ finish_has : (ts : List Token) → Holds HasForm (finish_form ts)
 unfolding finish_form
 finish_has ts = then_any HasForm (end_at ts) _ (λ end. tt)
 
-form_has : (w : List ℕ) (ts : List Token) → Holds HasForm (form_of_word w ts)
+form_has : (k : KindTag) (w : List ℕ) (ts : List Token) → Holds HasForm (form_of_word k w ts)
 unfolding form_of_word
-form_has w ts =
+form_has k w ts =
     let F = HasForm in
     if_so F (bytes_eq w (codes "let")) _ _ (either F _ _ (let_has ts) (let_place_has ts))
     (if_so F (bytes_eq w (codes "get")) _ _ (get_has ts)
-    (if_so F (bytes_eq w (codes "put")) _ _ (put_has ts)
+    (if_so F (bytes_eq w (codes "bit")) _ _ (bit_has ts)
+    (if_so F (bytes_eq w (codes "look")) _ _ (look_has ts)
+    (if_so F (bytes_eq w (codes "put")) _ _ (either F _ _ (put_has k ts) (either F _ _ (put_bit_has ts) (put_view_has ts)))
     (if_so F (bytes_eq w (codes "view")) _ _ (either F _ _ (view_data_has ts) (view_of_has ts))
     (if_so F (bytes_eq w (codes "each")) _ _ (each_has ts)
     (if_so F (bytes_eq w (codes "first")) _ _ (first_form_has ts)
@@ -278,7 +347,7 @@ form_has w ts =
     (if_so F (bytes_eq w (codes "goto")) _ _ (goto_has ts)
     (if_so F (bytes_eq w (codes "call")) _ _ (call_has ts)
     (if_so F (bytes_eq w (codes "return")) _ _ (return_has ts)
-    (if_so F (bytes_eq w (codes "finish")) _ _ (finish_has ts) tt)))))))))))
+    (if_so F (bytes_eq w (codes "finish")) _ _ (finish_has ts) tt)))))))))))))
 
 abbrev pub LineFound : Line → Type 0
 LineFound line = (is_line_number line.number ≡ true) × HasForm line.instr
@@ -287,34 +356,8 @@ line_by : (k : ℕ) (i : Instr) (b : Bool) → is_line_number k ≡ b → HasFor
 line_by k i true e h = (e, h)
 line_by k i false e h = tt
 
-pub line_has : (ts : List Token) → Holds LineFound (line_form ts)
+pub line_has : (g : KindTag) (ts : List Token) → Holds LineFound (line_form g ts)
 unfolding line_form
-line_has ts =
+line_has g ts =
     then_any LineFound (number_at ts) _ (λ k. then_any LineFound (mark_at mark.Colon k.1) _ (λ a. then_any LineFound (word_at a) _ (λ w.
-    then_with HasForm LineFound (form_of_word w.0 w.1) _ (form_has w.0 w.1) (λ i h. line_by k.0 i (is_line_number k.0) refl h))))
-
-seq_tuple : (t : Tuple) → HasTuple t → IsSeqTuple t
-seq_tuple (tuple.Seq d q s) h = tt
-seq_tuple (tuple.Bits d x t s) h = h
-seq_tuple (tuple.Multi d i t) h = h
-
-pub seq_form : (i : Instr) → HasForm i → IsSeqForm i
-seq_form (Let x e) h = tt
-seq_form (LetPlace x i e) h = tt
-seq_form (Get x i j) h = tt
-seq_form (Bit x b i j) h = h
-seq_form (Look x i) h = h
-seq_form (Put i t) h = seq_tuple t h.1
-seq_form (PutBit b i j e) h = h
-seq_form (PutView i x) h = h
-seq_form (ViewData x y) h = tt
-seq_form (ViewOf x y i) h = tt
-seq_form (Each g x e k) h = tt
-seq_form (First x g k target) h = tt
-seq_form (Next x g target) h = tt
-seq_form (If k target) h = tt
-seq_form (IfAll g k target) h = tt
-seq_form (Goto target) h = tt
-seq_form (Call target) h = tt
-seq_form (Return x) h = tt
-seq_form Finish h = tt
+    then_with HasForm LineFound (form_of_word g w.0 w.1) _ (form_has g w.0 w.1) (λ i h. line_by k.0 i (is_line_number k.0) refl h))))

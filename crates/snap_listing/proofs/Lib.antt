@@ -4,12 +4,14 @@ pub mod AgainHeaderForms
 pub mod AgainTerms
 pub mod Checks
 pub mod HasForms
+pub mod Laid
 pub mod Lines
 pub mod Names
 pub mod ReadsAll
-pub mod SeqSources
+pub mod RightLines
+pub mod RightSources
 pub mod SpelledForms
 pub mod SpelledHeader
 pub mod SpelledLines
+pub mod SpelledTerms
 pub mod TextLength
-pub mod RightLines

@@ -27,7 +27,7 @@ regrouped (Err e) f g = refl
 lines_on : (s : Source) (last count : ℕ) (text : TextLine) (texts : List TextLine) →
     numbered_lines s last count (text ∷ texts) ≡ (numbered_line s last count text >>= λ line. numbered_lines s line.number (count + 1) texts >>= λ lines. Ok (line ∷ lines))
 lines_on s last count text texts =
-    regrouped (form_or (refusal.BadLine text.number) line_form text.tokens) (λ form. checked_line s text.number last count form)
+    regrouped (form_or (refusal.BadLine text.number) (line_form s.kind) text.tokens) (λ form. checked_line s text.number last count form)
     (λ line. numbered_lines s line.number (count + 1) texts >>= λ lines. Ok (line ∷ lines))
 
 onto_line : (lines : List Line) (line : Line) (more : Lines) → onto (lines ++ line ∷ []) more ≡ onto lines (more >>= λ xs. Ok (line ∷ xs))

@@ -8,22 +8,25 @@ use Rattle.snap_semantics.specs.declared.refusal.ListingRefusal.{ListingRefusal}
 use Rattle.snap_semantics.specs.declared.refusal.ListingRefusal.TheVariants as refusal
 use Rattle.snap_semantics.specs.declared.text.Sort.{Sort}
 use Rattle.snap_semantics.specs.declared.text.Sort.TheVariants as sort
-use Rattle.snap_semantics.specs.IsListing.{IsName, HasForm, AreRising, IsDeclared, IsLine, IsListing}
+use Rattle.snap_semantics.specs.IsListing.{IsName, HasForm, AreRising, IsLine, IsListing}
 use Rattle.snap_semantics.specs.Listing.{form_or, checked_line, numbered_lines, has_line, checked_targets, line_targets, all_names, header_of, with_lines, listing_of_lines, listing_of}
 use Rattle.snap_semantics.specs.ListingForms.{is_line_number, line_form}
+use Rattle.snap_semantics.specs.RightUses.{IsRight, HasRightUses}
 use Rattle.snap_semantics.specs.Source.{Name, Source}
 use Rattle.snap_semantics.specs.Spelling.{spelled_line, spelled_source}
 use Rattle.snap_semantics.specs.Token.{Token, TextLine, text_lines, lines_of}
-use Rattle.snap_semantics.specs.Uses.{Use, instr_uses, is_among, sort_of, use_of_sort, checked_uses}
+use Rattle.snap_semantics.specs.Uses.{Use, Named, BankUse, FieldUse, HandUse, ViewUse, TupleUse, instr_uses, is_among, kind_has, sort_of, use_of_sort, checked_use, checked_uses}
 use Rattle.snap_listing.specs.Checks.{Checked}
 use Rattle.snap_listing.specs.Laws.{line_tokens, ReadsAllSpelled}
 use Rattle.snap_listing.proofs.AgainHeader.{bind_by, pass_by, form_again, header_again}
+use Rattle.snap_listing.proofs.AgainTerms.{IsNamed, Names}
+use Rattle.snap_listing.proofs.RightSources.{relined_uses}
 use Rattle.snap_listing.proofs.SpelledLines.{all_first, all_rest, sort_by, some_line, spelled_lines}
 
 -- a line is read from its spelling
 abbrev pub LineAgain : Type 0
-LineAgain = (line : Line) → is_line_number line.number ≡ true → HasForm line.instr → AllByRecursion (λ (u : Use). IsName u.name) (instr_uses line.instr) →
-    line_form (spelled_line line) ≡ Some line
+LineAgain = (s : Source) (line : Line) → is_line_number line.number ≡ true → HasForm line.instr → HasRightUses s line.instr → Names (instr_uses line.instr) →
+    line_form s.kind (spelled_line line) ≡ Some line
 
 name_by : (x y : Name) (ys : List Name) (b : Bool) → bytes_eq x y ≡ b → IsName y → ((is_among x ys ≡ true) → IsName x) → (b || is_among x ys) ≡ true → IsName x
 name_by x y ys true h n g e = subst IsName (sym (same_text x y (sym h))) n
@@ -34,19 +37,27 @@ among_name x [] h e = absurd cc
 among_name x (y ∷ ys) h e = name_by x y ys (bytes_eq x y) refl h.0 (among_name x ys h.1) e
 
 -- what is declared is a name
-declared_name : (s : Source) (u : Use) → AllByRecursion IsName (all_names s) → IsDeclared s u → IsName u.name
-declared_name s u all e =
+declared_name : (s : Source) (wanted : Sort) (x : Name) → AllByRecursion IsName (all_names s) → sort_of s x ≡ Some wanted → IsName x
+declared_name s wanted x all e =
     let rows = all_rest s.scalars (s.rows ++ (s.words ++ s.views)) all in
     let words = all_rest s.rows (s.words ++ s.views) rows in
-    sort_by (IsName u.name) (is_among u.name s.scalars) (is_among u.name s.rows) (is_among u.name s.words) (is_among u.name s.views) u.sort
-    (among_name u.name s.scalars (all_first s.scalars (s.rows ++ (s.words ++ s.views)) all))
-    (among_name u.name s.rows (all_first s.rows (s.words ++ s.views) rows))
-    (among_name u.name s.words (all_first s.words s.views words))
-    (among_name u.name s.views (all_rest s.words s.views words)) e
+    sort_by (IsName x) (is_among x s.scalars) (is_among x s.rows) (is_among x s.words) (is_among x s.views) wanted
+    (among_name x s.scalars (all_first s.scalars (s.rows ++ (s.words ++ s.views)) all))
+    (among_name x s.rows (all_first s.rows (s.words ++ s.views) rows))
+    (among_name x s.words (all_first s.words s.views words))
+    (among_name x s.views (all_rest s.words s.views words)) e
 
-uses_named : (s : Source) (us : List Use) → AllByRecursion IsName (all_names s) → AllByRecursion (IsDeclared s) us → AllByRecursion (λ (u : Use). IsName u.name) us
+use_named : (s : Source) (u : Use) → AllByRecursion IsName (all_names s) → IsRight s u → IsNamed u
+use_named s (Named wanted x) all e = declared_name s wanted x all e
+use_named s (BankUse b) all e = tt
+use_named s (FieldUse f) all e = tt
+use_named s HandUse all e = tt
+use_named s ViewUse all e = tt
+use_named s (TupleUse k) all e = tt
+
+uses_named : (s : Source) (us : List Use) → AllByRecursion IsName (all_names s) → AllByRecursion (IsRight s) us → Names us
 uses_named s [] all h = tt
-uses_named s (u ∷ us) all h = (declared_name s u all h.0, uses_named s us all h.1)
+uses_named s (u ∷ us) all h = (use_named s u all h.0, uses_named s us all h.1)
 
 abbrev done : Checked
 done = Ok tt
@@ -57,12 +68,23 @@ sort_again line sort.Row = refl
 sort_again line sort.Words = refl
 sort_again line sort.View = refl
 
-uses_again : (s : Source) (line : ℕ) (us : List Use) → AllByRecursion (IsDeclared s) us → checked_uses s line us ≡ done
-uses_again s line [] h = refl
-uses_again s line (u ∷ us) h =
-    bind_by (use_of_sort line u.sort (sort_of s u.name)) tt _ done (ap (use_of_sort line u.sort) h.0 ∙ sort_again line u.sort) (uses_again s line us h.1)
+there_by : (b : Bool) (r : Checked) (e : ListingRefusal) → b ≡ true → r ≡ done → (if b then r else Err e) ≡ done
+there_by true r e p h = h
+there_by false r e p h = absurd cc
 
-checked_again : (s : Source) (at last count : ℕ) (line : Line) → last < line.number → count < 200 → AllByRecursion (IsDeclared s) (instr_uses line.instr) →
+use_again : (s : Source) (line : ℕ) (u : Use) → IsRight s u → checked_use s line u ≡ done
+use_again s line (Named wanted x) h = ap (use_of_sort line wanted) h ∙ sort_again line wanted
+use_again s line (BankUse b) h = there_by (kind_has s.kind (BankUse b)) done (refusal.WrongKind line) h refl
+use_again s line (FieldUse f) h = there_by (kind_has s.kind (FieldUse f)) done (refusal.WrongKind line) h refl
+use_again s line HandUse h = there_by (kind_has s.kind HandUse) done (refusal.WrongKind line) h refl
+use_again s line ViewUse h = there_by (kind_has s.kind ViewUse) done (refusal.WrongKind line) h refl
+use_again s line (TupleUse k) h = there_by (kind_has s.kind (TupleUse k)) done (refusal.WrongKind line) h refl
+
+uses_again : (s : Source) (line : ℕ) (us : List Use) → AllByRecursion (IsRight s) us → checked_uses s line us ≡ done
+uses_again s line [] h = refl
+uses_again s line (u ∷ us) h = bind_by (checked_use s line u) tt _ done (use_again s line u h.0) (uses_again s line us h.1)
+
+checked_again : (s : Source) (at last count : ℕ) (line : Line) → last < line.number → count < 200 → HasRightUses s line.instr →
     checked_line s at last count line ≡ Ok line
 checked_again s at last count line above room h =
     pass_by (nat_le line.number last) _ _ (Ok line) (lt-leb line.number last above) (pass_by (nat_le 200 count) _ _ (Ok line) (lt-leb 200 count room)
@@ -86,18 +108,14 @@ lines_again again s last count (text ∷ texts) [] all e h rising few = absurd c
 lines_again again s last count (text ∷ texts) (line ∷ lines) all e h rising few =
     let first = heads text.tokens (some_line (spelled_line line)) (line_tokens texts) (spelled_lines lines) e in
     let others = tails text.tokens (some_line (spelled_line line)) (line_tokens texts) (spelled_lines lines) e in
-    let form = again line h.0.number h.0.form (uses_named s (instr_uses line.instr) all h.0.names) in
+    let form = again s line h.0.number h.0.form h.0.uses (uses_named s (instr_uses line.instr) all h.0.uses) in
     let room : count < 200 = omega (arith, few) in
     let later : count + 1 + length lines ≤ 200 = omega (arith, few) in
-    bind_by (form_or (refusal.BadLine text.number) line_form text.tokens) line _ (Ok (line ∷ lines))
-    (form_again (refusal.BadLine text.number) line_form text.tokens (spelled_line line) line first form)
-    (bind_by (checked_line s text.number last count line) line _ (Ok (line ∷ lines)) (checked_again s text.number last count line rising.0 room h.0.names)
+    bind_by (form_or (refusal.BadLine text.number) (line_form s.kind) text.tokens) line _ (Ok (line ∷ lines))
+    (form_again (refusal.BadLine text.number) (line_form s.kind) text.tokens (spelled_line line) line first form)
+    (bind_by (checked_line s text.number last count line) line _ (Ok (line ∷ lines)) (checked_again s text.number last count line rising.0 room h.0.uses)
     (bind_by (numbered_lines s line.number (count + 1) texts) lines _ (Ok (line ∷ lines)) (lines_again again s line.number (count + 1) texts lines all others h.1 rising.1 later)
     refl))
-
-there_by : (b : Bool) (r : Checked) (e : ListingRefusal) → b ≡ true → r ≡ done → (if b then r else Err e) ≡ done
-there_by true r e p h = h
-there_by false r e p h = absurd cc
 
 targets_again : (lines : List Line) (ks : List ℕ) → AllByRecursion (λ (k : ℕ). has_line lines k ≡ true) ks → checked_targets lines ks ≡ done
 targets_again lines [] h = refl
@@ -105,7 +123,7 @@ targets_again lines (k ∷ ks) h = there_by (has_line lines k) (checked_targets 
 
 nameless : (s : Source) (lines : List Line) → AllByRecursion (IsLine s) lines → AllByRecursion (IsLine (with_lines [] s)) lines
 nameless s [] h = tt
-nameless s (line ∷ lines) h = (record { number = h.0.number; form = h.0.form; names = h.0.names }, nameless s lines h.1)
+nameless s (line ∷ lines) h = (record { number = h.0.number; form = h.0.form; uses = relined_uses s [] (instr_uses line.instr) h.0.uses }, nameless s lines h.1)
 
 -- the numbered lines behind the header
 body_again : LineAgain → (s : Source) (texts : List TextLine) → IsListing s → line_tokens texts ≡ spelled_lines s.lines →

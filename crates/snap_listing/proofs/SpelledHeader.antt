@@ -6,11 +6,10 @@ use Rattle.std.proofs.lemmas.Slice.Eq.{bytes_eq-Decides}
 use Rattle.std.specs.Cmp.Lexicographic.{same_text}
 use Rattle.std.specs.List.{AllByRecursion}
 use Rattle.snap_words.specs.declared.kind.KindTag.{KindTag}
-use Rattle.snap_words.specs.declared.kind.KindTag.TheVariants as kind
 use Rattle.snap_semantics.specs.declared.refusal.ListingRefusal.{ListingRefusal}
 use Rattle.snap_semantics.specs.declared.refusal.ListingRefusal.TheVariants as refusal
-use Rattle.snap_semantics.specs.Forms.{number_at, keyword_at, end_at}
-use Rattle.snap_semantics.specs.HeaderForms.{kind_form, words_form, names_form, entry_form}
+use Rattle.snap_semantics.specs.Forms.{number_at, word_at, keyword_at, end_at}
+use Rattle.snap_semantics.specs.HeaderForms.{kind_of_word, kind_form, words_form, names_form, entry_form}
 use Rattle.snap_semantics.specs.IsListing.{IsName, AreDistinct}
 use Rattle.snap_semantics.specs.Listing.{is_bad_name, found_or, form_or, header_line, new_names, names_line, header_of, all_names}
 use Rattle.snap_semantics.specs.ListingForms.{is_line_number}
@@ -20,8 +19,8 @@ use Rattle.snap_semantics.specs.Token.{Token, Word, Number, Sign, TextLine}
 use Rattle.snap_semantics.specs.Uses.{is_among}
 use Rattle.snap_listing.specs.Laws.{line_tokens}
 use Rattle.snap_listing.proofs.HasForms.{Holds, then_with}
-use Rattle.snap_listing.proofs.SeqSources.{HoldsOk, ok_with}
-use Rattle.snap_listing.proofs.SpelledForms.{KeywordIs, keyword_is, NumberIs, number_is, EndIs, end_is}
+use Rattle.snap_listing.proofs.RightSources.{HoldsOk, ok_with}
+use Rattle.snap_listing.proofs.SpelledTerms.{if_when, KeywordIs, keyword_is, WordIs, word_is, NumberIs, number_is, EndIs, end_is}
 
 pub ok_when : {A : Type 0} (P : A → Type 0) (b : Bool) (r s : Result A ListingRefusal) → HoldsOk P r → (b ≡ false → HoldsOk P s) → HoldsOk P (if b then r else s)
 ok_when P true r s g h = g
@@ -152,20 +151,29 @@ names_line_ok after keyword known lines =
 abbrev pub spelled_kind : KindTag → List Token
 spelled_kind k = Word (codes "kind") ∷ Word (kind_word k) ∷ []
 
-abbrev IsSeqKind : KindTag → Type 0
-IsSeqKind k = k ≡ kind.Seq
-
 abbrev KindSaid : List Token → KindTag → Type 0
-KindSaid ts k = (ts ≡ spelled_kind k) × IsSeqKind k
+KindSaid ts k = (ts ≡ spelled_kind k) × Unit {0}
+
+abbrev KindOf : List ℕ → KindTag → Type 0
+KindOf w k = w ≡ kind_word k
+
+kind_of : (w : List ℕ) → Holds (KindOf w) (kind_of_word w)
+kind_of w =
+    if_when (KindOf w) (bytes_eq w (codes "seq")) _ _ (λ e. same_text w (codes "seq") (sym e))
+    (if_when (KindOf w) (bytes_eq w (codes "bit")) _ _ (λ e. same_text w (codes "bit") (sym e))
+    (if_when (KindOf w) (bytes_eq w (codes "multi")) _ _ (λ e. same_text w (codes "multi") (sym e)) tt))
 
 kind_said : (ts : List Token) → Holds (KindSaid ts) (kind_form ts)
 unfolding kind_form
 kind_said ts =
     let K = KindSaid ts in
     then_with (KeywordIs (codes "kind") ts) K (keyword_at (codes "kind") ts) _ (keyword_is (codes "kind") ts) (λ a e.
-    then_with (KeywordIs (codes "seq") a) K (keyword_at (codes "seq") a) _ (keyword_is (codes "seq") a) (λ b f.
-    then_with (EndIs b) K (end_at b) _ (end_is b) (λ end z.
-    (e ∙ ap (λ (x : List Token). Word (codes "kind") ∷ x) f ∙ ap (λ (x : List Token). Word (codes "kind") ∷ Word (codes "seq") ∷ x) z, refl))))
+    then_with (WordIs a) K (word_at a) _ (word_is a) (λ w f. then_with (KindOf w.0) K (kind_of_word w.0) _ (kind_of w.0) (λ k g.
+    then_with (EndIs w.1) K (end_at w.1) _ (end_is w.1) (λ end z. (
+      e ∙ ap (λ (x : List Token). Word (codes "kind") ∷ x) f ∙ ap (λ (x : List Token). Word (codes "kind") ∷ Word w.0 ∷ x) z
+          ∙ ap (λ (x : List ℕ). let line : List Token = Word (codes "kind") ∷ Word x ∷ [] in line) g,
+      tt,
+    )))))
 
 abbrev IsNumbered : ℕ → Type 0
 IsNumbered k = is_line_number k ≡ true
@@ -196,7 +204,6 @@ all_append (x ∷ xs) ys h g = (h.0, all_append xs ys h.1 g)
 
 -- a header as it has to be, and its lines
 pub record HeaderOk (texts : List TextLine) (x : Source × List TextLine) : Type 0 where
-  pub kind : x.0.kind ≡ kind.Seq
   pub names : AllByRecursion IsName (all_names x.0)
   pub distinct : AreDistinct (all_names x.0)
   pub few : length (all_names x.0) ≤ 32
@@ -236,7 +243,7 @@ pub header_ok : (after : ℕ) (texts : List TextLine) → HoldsOk (HeaderOk text
 unfolding header_of
 header_ok after texts =
     let H = HeaderOk texts in
-    ok_with (SaysLine spelled_kind IsSeqKind texts) H (header_line after kind_form texts) _ (header_says spelled_kind IsSeqKind after kind_form texts kind_said) (λ k hk.
+    ok_with (SaysLine spelled_kind Anything texts) H (header_line after kind_form texts) _ (header_says spelled_kind Anything after kind_form texts kind_said) (λ k hk.
     ok_with (NamesLineOk (codes "scalar") [] k.2) H (names_line after (codes "scalar") [] k.2) _ (names_line_ok after (codes "scalar") [] k.2) (λ a ha.
     ok_with (NamesLineOk (codes "row") a.0 a.1) H (names_line after (codes "row") a.0 a.1) _ (names_line_ok after (codes "row") a.0 a.1) (λ b hb.
     ok_with (NamesLineOk (codes "words") (a.0 ++ b.0) b.1) H (names_line after (codes "words") (a.0 ++ b.0) b.1) _ (names_line_ok after (codes "words") (a.0 ++ b.0) b.1) (λ c hc.
@@ -247,7 +254,6 @@ header_ok after texts =
     ok_with (SaysLine (spelled_entry (codes "update")) IsNumbered e.2) H (header_line after (entry_form (codes "update")) e.2) _
     (header_says (spelled_entry (codes "update")) IsNumbered after (entry_form (codes "update")) e.2 (entry_said (codes "update"))) (λ f hf.
     record {
-      kind = hk.1;
       names = all_append a.0 (b.0 ++ (c.0 ++ d.0)) ha.named (all_append b.0 (c.0 ++ d.0) hb.named (all_append c.0 d.0 hc.named hd.named));
       distinct =
           subst AreDistinct (append_assoc a.0 (b.0 ++ c.0) d.0 ∙ ap (λ (xs : List Name). a.0 ++ xs) (append_assoc b.0 c.0 d.0))

@@ -3,22 +3,25 @@ use Rattle.std.proofs.Common.{◌≡◌, ℕ, ◌+◌, ◌<◌, ◌≤◌, ◌||
 use Rattle.std.proofs.lemmas.Bool.{leb-false, ltb-false}
 use Rattle.std.specs.Cmp.Lexicographic.{same_text}
 use Rattle.std.specs.List.{AllByRecursion}
+use Rattle.snap_words.specs.declared.kind.KindTag.{KindTag}
 use Rattle.snap_semantics.specs.declared.instr.Line.{Line}
 use Rattle.snap_semantics.specs.declared.refusal.ListingRefusal.{ListingRefusal}
 use Rattle.snap_semantics.specs.declared.refusal.ListingRefusal.TheVariants as refusal
 use Rattle.snap_semantics.specs.declared.text.Sort.{Sort}
 use Rattle.snap_semantics.specs.declared.text.Sort.TheVariants as sort
-use Rattle.snap_semantics.specs.IsListing.{IsName, AreRising, IsDeclared, IsLine, IsListing}
+use Rattle.snap_semantics.specs.IsListing.{IsName, AreRising, IsLine, IsListing}
 use Rattle.snap_semantics.specs.Listing.{found_or, form_or, checked_line, numbered_lines, has_line, checked_targets, line_targets, all_names, header_of, with_lines, listing_of_lines, listing_of}
 use Rattle.snap_semantics.specs.ListingForms.{is_reserved, line_form}
+use Rattle.snap_semantics.specs.RightUses.{IsRight, HasRightUses}
 use Rattle.snap_semantics.specs.Source.{Name, Source}
 use Rattle.snap_semantics.specs.Spelling.{spelled_names, spelled_entry, spelled_line, spelled_source}
 use Rattle.snap_semantics.specs.Token.{Token, TextLine, text_lines, lines_of}
-use Rattle.snap_semantics.specs.Uses.{Use, instr_uses, is_among, sort_of, same_sort, use_of_sort, checked_uses}
+use Rattle.snap_semantics.specs.Uses.{Use, Named, BankUse, FieldUse, HandUse, ViewUse, TupleUse, instr_uses, is_among, sort_of, checked_uses}
 use Rattle.snap_listing.specs.Laws.{line_tokens, Spells}
 use Rattle.snap_listing.proofs.HasForms.{Holds, LineFound, line_has}
-use Rattle.snap_listing.proofs.SeqSources.{HoldsOk, holds_ok, ok_with}
-use Rattle.snap_listing.proofs.SpelledForms.{IsShort, Shorts, LineIs, line_is}
+use Rattle.snap_listing.proofs.RightSources.{HoldsOk, holds_ok, ok_with, ok_same, WhenDone, uses_ok, relined_uses}
+use Rattle.snap_listing.proofs.SpelledForms.{LineIs, line_is}
+use Rattle.snap_listing.proofs.SpelledTerms.{IsShort, Shorts}
 use Rattle.snap_listing.proofs.SpelledHeader.{ok_when, or_left, spelled_kind, HeaderOk, header_ok}
 
 among_by : (x y : Name) (ys : List Name) (b : Bool) → bytes_eq x y ≡ b → IsName y → ((is_among x ys ≡ true) → length x ≤ 8) → (b || is_among x ys) ≡ true → length x ≤ 8
@@ -50,61 +53,27 @@ sort_by L false false false true k f g h i e = i refl
 sort_by L false false false false k f g h i e = absurd cc
 
 -- declared names are short
-declared_short : (s : Source) (u : Use) → AllByRecursion IsName (all_names s) → IsDeclared s u → IsShort u
-declared_short s u all e =
+declared_short : (s : Source) (wanted : Sort) (x : Name) → AllByRecursion IsName (all_names s) → sort_of s x ≡ Some wanted → length x ≤ 8
+declared_short s wanted x all e =
     let rows = all_rest s.scalars (s.rows ++ (s.words ++ s.views)) all in
     let words = all_rest s.rows (s.words ++ s.views) rows in
-    sort_by (IsShort u) (is_among u.name s.scalars) (is_among u.name s.rows) (is_among u.name s.words) (is_among u.name s.views) u.sort
-    (among_short u.name s.scalars (all_first s.scalars (s.rows ++ (s.words ++ s.views)) all))
-    (among_short u.name s.rows (all_first s.rows (s.words ++ s.views) rows))
-    (among_short u.name s.words (all_first s.words s.views words))
-    (among_short u.name s.views (all_rest s.words s.views words)) e
+    sort_by (length x ≤ 8) (is_among x s.scalars) (is_among x s.rows) (is_among x s.words) (is_among x s.views) wanted
+    (among_short x s.scalars (all_first s.scalars (s.rows ++ (s.words ++ s.views)) all))
+    (among_short x s.rows (all_first s.rows (s.words ++ s.views) rows))
+    (among_short x s.words (all_first s.words s.views words))
+    (among_short x s.views (all_rest s.words s.views words)) e
 
-all_short : (s : Source) (us : List Use) → AllByRecursion IsName (all_names s) → AllByRecursion (IsDeclared s) us → Shorts us
+use_short : (s : Source) (u : Use) → AllByRecursion IsName (all_names s) → IsRight s u → IsShort u
+use_short s (Named wanted x) all e = declared_short s wanted x all e
+use_short s (BankUse b) all e = tt
+use_short s (FieldUse f) all e = tt
+use_short s HandUse all e = tt
+use_short s ViewUse all e = tt
+use_short s (TupleUse k) all e = tt
+
+all_short : (s : Source) (us : List Use) → AllByRecursion IsName (all_names s) → AllByRecursion (IsRight s) us → Shorts us
 all_short s [] all h = tt
-all_short s (u ∷ us) all h = (declared_short s u all h.0, all_short s us all h.1)
-
-same_sorts : (a b : Sort) → same_sort a b ≡ true → b ≡ a
-same_sorts sort.Scalar sort.Scalar e = refl
-same_sorts sort.Scalar sort.Row e = absurd cc
-same_sorts sort.Scalar sort.Words e = absurd cc
-same_sorts sort.Scalar sort.View e = absurd cc
-same_sorts sort.Row sort.Scalar e = absurd cc
-same_sorts sort.Row sort.Row e = refl
-same_sorts sort.Row sort.Words e = absurd cc
-same_sorts sort.Row sort.View e = absurd cc
-same_sorts sort.Words sort.Scalar e = absurd cc
-same_sorts sort.Words sort.Row e = absurd cc
-same_sorts sort.Words sort.Words e = refl
-same_sorts sort.Words sort.View e = absurd cc
-same_sorts sort.View sort.Scalar e = absurd cc
-same_sorts sort.View sort.Row e = absurd cc
-same_sorts sort.View sort.Words e = absurd cc
-same_sorts sort.View sort.View e = refl
-
-abbrev WhenDone : Type 0 → Unit {0} → Type 0
-WhenDone P done = P
-
-use_by : (line : ℕ) (wanted found : Sort) (b : Bool) → same_sort wanted found ≡ b →
-    HoldsOk (WhenDone ((let o : Option Sort = Some found in o) ≡ Some wanted)) (if b then Ok tt else Err (refusal.WrongKind line))
-use_by line wanted found true e = ap (λ (k : Sort). let o : Option Sort = Some k in o) (same_sorts wanted found e)
-use_by line wanted found false e = tt
-
-use_ok : (line : ℕ) (wanted : Sort) (o : Option Sort) → HoldsOk (WhenDone (o ≡ Some wanted)) (use_of_sort line wanted o)
-use_ok line wanted None = tt
-use_ok line wanted (Some found) = use_by line wanted found (same_sort wanted found) refl
-
-ok_same : {A : Type 0} (Q P : A → Type 0) (r : Result A ListingRefusal) → HoldsOk Q r → ((x : A) → Q x → P x) → HoldsOk P r
-ok_same Q P (Ok x) h f = f x h
-ok_same Q P (Err e) h f = tt
-
-uses_ok : (s : Source) (line : ℕ) (us : List Use) → HoldsOk (WhenDone (AllByRecursion (IsDeclared s) us)) (checked_uses s line us)
-uses_ok s line [] = tt
-uses_ok s line (u ∷ us) =
-    ok_with (WhenDone (IsDeclared s u)) (WhenDone (AllByRecursion (IsDeclared s) (u ∷ us))) (use_of_sort line u.sort (sort_of s u.name)) _
-    (use_ok line u.sort (sort_of s u.name)) (λ done h.
-    ok_same (WhenDone (AllByRecursion (IsDeclared s) us)) (WhenDone (AllByRecursion (IsDeclared s) (u ∷ us))) (checked_uses s line us) (uses_ok s line us)
-    (λ x hs. (h, hs)))
+all_short s (u ∷ us) all h = (use_short s u all h.0, all_short s us all h.1)
 
 abbrev pub some_line : List Token → Option (List Token)
 some_line ts = Some ts
@@ -115,7 +84,7 @@ record LineOk (s : Source) (last count : ℕ) (tokens : Option (List Token)) (li
   spelled : Shorts (instr_uses line.instr) → tokens ≡ some_line (spelled_line line)
   rising : last < line.number
   few : count < 200
-  declared : AllByRecursion (IsDeclared s) (instr_uses line.instr)
+  right : HasRightUses s line.instr
 
 abbrev FormOk : Option (List Token) → Line → Type 0
 FormOk tokens line = LineFound line × (Shorts (instr_uses line.instr) → tokens ≡ some_line (spelled_line line))
@@ -124,17 +93,17 @@ form_by : (e : ListingRefusal) (ts : List Token) (o : Option Line) → Holds Lin
 form_by e ts None h g = tt
 form_by e ts (Some line) h g = (h, λ short. ap some_line (g short))
 
-form_ok : (e : ListingRefusal) (tokens : Option (List Token)) → HoldsOk (FormOk tokens) (form_or e line_form tokens)
-form_ok e None = tt
-form_ok e (Some ts) = form_by e ts (line_form ts) (line_has ts) (line_is ts)
+form_ok : (g : KindTag) (e : ListingRefusal) (tokens : Option (List Token)) → HoldsOk (FormOk tokens) (form_or e (line_form g) tokens)
+form_ok g e None = tt
+form_ok g e (Some ts) = form_by e ts (line_form g ts) (line_has g ts) (line_is g ts)
 
 checked_ok : (s : Source) (at last count : ℕ) (tokens : Option (List Token)) (line : Line) → FormOk tokens line →
     HoldsOk (LineOk s last count tokens) (checked_line s at last count line)
 checked_ok s at last count tokens line h =
     let P = LineOk s last count tokens in
     ok_when P (nat_le line.number last) _ _ tt (λ above. ok_when P (nat_le 200 count) _ _ tt (λ room.
-    ok_with (WhenDone (AllByRecursion (IsDeclared s) (instr_uses line.instr))) P (checked_uses s at (instr_uses line.instr)) _ (uses_ok s at (instr_uses line.instr)) (λ done g.
-    record { found = h.0; spelled = h.1; rising = leb-false line.number last above; few = leb-false 200 count room; declared = g })))
+    ok_with (WhenDone (HasRightUses s line.instr)) P (checked_uses s at (instr_uses line.instr)) _ (uses_ok s at (instr_uses line.instr)) (λ done g.
+    record { found = h.0; spelled = h.1; rising = leb-false line.number last above; few = leb-false 200 count room; right = g })))
 
 abbrev pub spelled_lines : List Line → List (Option (List Token))
 spelled_lines lines = map some_line (map spelled_line lines)
@@ -149,13 +118,13 @@ lines_ok : (s : Source) (last count : ℕ) (texts : List TextLine) → AllByRecu
 lines_ok s last count [] all = record { good = tt; rising = tt; few = λ h. omega arith; tokens = refl }
 lines_ok s last count (text ∷ texts) all =
     let P = LinesOk s last count (text ∷ texts) in
-    ok_with (FormOk text.tokens) P (form_or (refusal.BadLine text.number) line_form text.tokens) _ (form_ok (refusal.BadLine text.number) text.tokens) (λ form g.
+    ok_with (FormOk text.tokens) P (form_or (refusal.BadLine text.number) (line_form s.kind) text.tokens) _ (form_ok s.kind (refusal.BadLine text.number) text.tokens) (λ form g.
     ok_with (LineOk s last count text.tokens) P (checked_line s text.number last count form) _ (checked_ok s text.number last count text.tokens form g) (λ line h.
     ok_with (LinesOk s line.number (count + 1) texts) P (numbered_lines s line.number (count + 1) texts) _ (lines_ok s line.number (count + 1) texts all) (λ lines k.
     let room : count < 200 = h.few in
-    let token = h.spelled (all_short s (instr_uses line.instr) all h.declared) in
+    let token = h.spelled (all_short s (instr_uses line.instr) all h.right) in
     record {
-      good = (record { number = h.found.0; form = h.found.1; names = h.declared }, k.good);
+      good = (record { number = h.found.0; form = h.found.1; uses = h.right }, k.good);
       rising = (h.rising, k.rising);
       few = λ x. let later : count + 1 + length lines ≤ 200 = k.few (omega (arith, room)) in omega (arith, later);
       tokens = ap (λ (o : Option (List Token)). o ∷ line_tokens texts) token ∙ ap (λ (ls : List (Option (List Token))). some_line (spelled_line line) ∷ ls) k.tokens;
@@ -177,7 +146,7 @@ targets_ok lines (k ∷ ks) =
 
 relined : (s : Source) (all lines : List Line) → AllByRecursion (IsLine s) lines → AllByRecursion (IsLine (with_lines all s)) lines
 relined s all [] h = tt
-relined s all (line ∷ lines) h = (record { number = h.0.number; form = h.0.form; names = h.0.names }, relined s all lines h.1)
+relined s all (line ∷ lines) h = (record { number = h.0.number; form = h.0.form; uses = relined_uses s all (instr_uses line.instr) h.0.uses }, relined s all lines h.1)
 
 abbrev SpelledSource : List TextLine → Source → Type 0
 SpelledSource texts s = IsListing s × (line_tokens texts ≡ map some_line (spelled_source s))
@@ -199,7 +168,6 @@ listing_ok after texts =
     ok_with (WhenDone (AllByRecursion (λ (k : ℕ). has_line lines k ≡ true) ks)) S (checked_targets lines ks) _ (targets_ok lines ks) (λ done ht.
     let some : 0 + length lines ≤ 200 = hl.few (omega arith) in (
       record {
-        kind = hh.kind;
         names = hh.names;
         distinct = hh.distinct;
         few_names = hh.few;

@@ -49,7 +49,7 @@ onto xs (Err e) = Err e
 
 -- the numbered line that a text line is, behind line number `last`, with so many lines before it
 abbrev pub numbered_line : Source → ℕ → ℕ → TextLine → Result Line ListingRefusal
-numbered_line s last count text = form_or (refusal.BadLine text.number) line_form text.tokens >>= λ line. checked_line s text.number last count line
+numbered_line s last count text = form_or (refusal.BadLine text.number) (line_form s.kind) text.tokens >>= λ line. checked_line s text.number last count line
 
 abbrev pub target_list : Option ℕ → List ℕ
 target_list None = []

@@ -115,7 +115,7 @@ fn comparison_at<'a, 'b>(
 }
 
 /// The word that joins comparisons.
-fn join_word(join: Join) -> &'static [u8]
+pub fn join_word(join: Join) -> &'static [u8]
     ensures { result.now ≡ join_word join }
 {
     match join {

@@ -1,13 +1,15 @@
 //! The instructions of a listing. A form begins behind the instruction's first word, and goes to the end of the line.
 ghost use Rattle.std.specs.Prelude.{◌≡◌};
 ghost use Rattle.snap_semantics.specs.Forms.{or_else};
-ghost use Rattle.snap_semantics.specs.ListingForms.{let_form, let_place_form, get_form, seq_tuple_at, put_form, view_data_form, view_of_form, each_form, first_form, next_form, if_form, if_all_form, goto_form, call_form, return_form, finish_form, form_of_word, is_line_number, line_form};
+ghost use Rattle.snap_semantics.specs.ListingForms.{let_form, let_place_form, get_form, pair_at, bit_bank_at, bit_form, look_form, put_form, put_bit_form, put_view_form, view_data_form, view_of_form, each_form, first_form, next_form, if_form, if_all_form, goto_form, call_form, return_form, finish_form, form_of_word, is_line_number, line_form};
 ghost use Rattle.snap_text.specs.Tokens.{Finds, view_tokens};
 
 use crate::conditions::{condition_at, expr_at, range_at, target_at, where_at};
-use crate::terms::{name_at, named_place_at, place_at};
-use snap_semantics::{Instr, Line, Mark, Tuple};
+use crate::terms::{index_at, name_at, named_place_at, place_at};
+use crate::tuples::tuple_at;
+use snap_semantics::{BitBank, Index, Instr, Line, Mark};
 use snap_text::{Token, end_at, keyword_at, mark_at, number_at, word_at};
+use snap_words::KindTag;
 
 /// `let X = E`.
 #[tactic(auto, unfolding(snap_semantics::specs::ListingForms::let_form))]
@@ -58,42 +60,118 @@ fn get_form(tokens: &[Token<'_>]) -> Option<Instr>
     Some(Instr::Get(words, place, register))
 }
 
-/// `(E, E, S)`.
-#[tactic(auto, unfolding(snap_semantics::specs::ListingForms::seq_tuple_at))]
-fn seq_tuple_at<'a, 'b>(tokens: &'a [Token<'b>]) -> Option<(Tuple, &'a [Token<'b>])>
-    ensures { Finds (λ x. (x.0, view_tokens x.1.now)) result (seq_tuple_at (view_tokens tokens.now)) }
+/// `[I,J]`.
+#[tactic(auto, unfolding(snap_semantics::specs::ListingForms::pair_at))]
+fn pair_at<'a, 'b>(tokens: &'a [Token<'b>]) -> Option<((Index, Index), &'a [Token<'b>])>
+    ensures { Finds (λ x. (x.0, view_tokens x.1.now)) result (pair_at (view_tokens tokens.now)) }
 {
-    let rest = mark_at(Mark::OpenParenthesis, tokens)?;
-    let Some((datum, rest)) = expr_at(false, rest) else {
+    let rest = mark_at(Mark::OpenBracket, tokens)?;
+    let Some((first, rest)) = index_at(false, rest) else {
         return None;
     };
     let rest = mark_at(Mark::Comma, rest)?;
-    let Some((seq, rest)) = expr_at(false, rest) else {
+    let Some((second, rest)) = index_at(false, rest) else {
         return None;
     };
-    let rest = mark_at(Mark::Comma, rest)?;
-    let Some((view, rest)) = name_at(rest) else {
-        return None;
-    };
-    let rest = mark_at(Mark::CloseParenthesis, rest)?;
-    Some((Tuple::Seq(datum, seq, view), rest))
+    let rest = mark_at(Mark::CloseBracket, rest)?;
+    Some(((first, second), rest))
 }
 
-/// `put r[I] = (E, E, S)`.
+/// `q` or `p`.
+#[tactic(auto, unfolding(snap_semantics::specs::ListingForms::bit_bank_at))]
+fn bit_bank_at<'a, 'b>(tokens: &'a [Token<'b>]) -> Option<(BitBank, &'a [Token<'b>])>
+    ensures { Finds (λ x. (x.0, view_tokens x.1.now)) result (bit_bank_at (view_tokens tokens.now)) }
+{
+    if let Some(rest) = keyword_at(b"q", tokens) {
+        return Some((BitBank::Q, rest));
+    }
+    let rest = keyword_at(b"p", tokens)?;
+    Some((BitBank::P, rest))
+}
+
+/// `bit X = q[I,J]`, and so `p`.
+#[tactic(auto, unfolding(snap_semantics::specs::ListingForms::bit_form))]
+fn bit_form(tokens: &[Token<'_>]) -> Option<Instr>
+    ensures { Finds (λ x. x) result (bit_form (view_tokens tokens.now)) }
+{
+    let Some((scalar, rest)) = name_at(tokens) else {
+        return None;
+    };
+    let rest = mark_at(Mark::Equal, rest)?;
+    let (bank, rest) = bit_bank_at(rest)?;
+    let Some(((first, second), rest)) = pair_at(rest) else {
+        return None;
+    };
+    end_at(rest)?;
+    Some(Instr::Bit(scalar, bank, first, second))
+}
+
+/// `look S = v[I]`.
+#[tactic(auto, unfolding(snap_semantics::specs::ListingForms::look_form))]
+fn look_form(tokens: &[Token<'_>]) -> Option<Instr>
+    ensures { Finds (λ x. x) result (look_form (view_tokens tokens.now)) }
+{
+    let Some((view, rest)) = name_at(tokens) else {
+        return None;
+    };
+    let rest = mark_at(Mark::Equal, rest)?;
+    let rest = keyword_at(b"v", rest)?;
+    let Some((register, rest)) = place_at(false, rest) else {
+        return None;
+    };
+    end_at(rest)?;
+    Some(Instr::Look(view, register))
+}
+
+/// `put r[I] = tuple`.
 #[tactic(auto, unfolding(snap_semantics::specs::ListingForms::put_form))]
-fn put_form(tokens: &[Token<'_>]) -> Option<Instr>
-    ensures { Finds (λ x. x) result (put_form (view_tokens tokens.now)) }
+fn put_form(kind: KindTag, tokens: &[Token<'_>]) -> Option<Instr>
+    ensures { Finds (λ x. x) result (put_form kind (view_tokens tokens.now)) }
 {
     let rest = keyword_at(b"r", tokens)?;
     let Some((register, rest)) = place_at(false, rest) else {
         return None;
     };
     let rest = mark_at(Mark::Equal, rest)?;
-    let Some((tuple, rest)) = seq_tuple_at(rest) else {
+    let Some((tuple, rest)) = tuple_at(kind, rest) else {
         return None;
     };
     end_at(rest)?;
     Some(Instr::Put(register, tuple))
+}
+
+/// `put q[I,J] = E`, and so `p`.
+#[tactic(auto, unfolding(snap_semantics::specs::ListingForms::put_bit_form))]
+fn put_bit_form(tokens: &[Token<'_>]) -> Option<Instr>
+    ensures { Finds (λ x. x) result (put_bit_form (view_tokens tokens.now)) }
+{
+    let (bank, rest) = bit_bank_at(tokens)?;
+    let Some(((first, second), rest)) = pair_at(rest) else {
+        return None;
+    };
+    let rest = mark_at(Mark::Equal, rest)?;
+    let Some((value, rest)) = expr_at(false, rest) else {
+        return None;
+    };
+    end_at(rest)?;
+    Some(Instr::PutBit(bank, first, second, value))
+}
+
+/// `put v[I] = S`.
+#[tactic(auto, unfolding(snap_semantics::specs::ListingForms::put_view_form))]
+fn put_view_form(tokens: &[Token<'_>]) -> Option<Instr>
+    ensures { Finds (λ x. x) result (put_view_form (view_tokens tokens.now)) }
+{
+    let rest = keyword_at(b"v", tokens)?;
+    let Some((register, rest)) = place_at(false, rest) else {
+        return None;
+    };
+    let rest = mark_at(Mark::Equal, rest)?;
+    let Some((view, rest)) = name_at(rest) else {
+        return None;
+    };
+    end_at(rest)?;
+    Some(Instr::PutView(register, view))
 }
 
 /// `view S = data(W)`.
@@ -268,6 +346,20 @@ fn let_forms(tokens: &[Token<'_>]) -> Option<Instr>
     let_place_form(tokens)
 }
 
+/// The forms that begin with `put`.
+fn put_forms(kind: KindTag, tokens: &[Token<'_>]) -> Option<Instr>
+    ensures { Finds (λ x. x) result (or_else (put_form kind (view_tokens tokens.now))
+        (or_else (put_bit_form (view_tokens tokens.now)) (put_view_form (view_tokens tokens.now)))) }
+{
+    if let Some(instr) = put_form(kind, tokens) {
+        return Some(instr);
+    }
+    if let Some(instr) = put_bit_form(tokens) {
+        return Some(instr);
+    }
+    put_view_form(tokens)
+}
+
 /// The forms that begin with `view`.
 fn view_forms(tokens: &[Token<'_>]) -> Option<Instr>
     ensures { Finds (λ x. x) result (or_else (view_data_form (view_tokens tokens.now)) (view_of_form (view_tokens tokens.now))) }
@@ -290,15 +382,19 @@ fn if_forms(tokens: &[Token<'_>]) -> Option<Instr>
 
 /// The instruction that begins with this word.
 #[tactic(auto, unfolding(snap_semantics::specs::ListingForms::form_of_word))]
-fn form_of_word(word: &[u8], tokens: &[Token<'_>]) -> Option<Instr>
-    ensures { Finds (λ x. x) result (form_of_word word.now (view_tokens tokens.now)) }
+fn form_of_word(kind: KindTag, word: &[u8], tokens: &[Token<'_>]) -> Option<Instr>
+    ensures { Finds (λ x. x) result (form_of_word kind word.now (view_tokens tokens.now)) }
 {
     if word == b"let".as_slice() {
         let_forms(tokens)
     } else if word == b"get".as_slice() {
         get_form(tokens)
+    } else if word == b"bit".as_slice() {
+        bit_form(tokens)
+    } else if word == b"look".as_slice() {
+        look_form(tokens)
     } else if word == b"put".as_slice() {
-        put_form(tokens)
+        put_forms(kind, tokens)
     } else if word == b"view".as_slice() {
         view_forms(tokens)
     } else if word == b"each".as_slice() {
@@ -329,15 +425,15 @@ pub fn is_line_number(number: u64) -> bool
     1 <= number && number <= 999
 }
 
-/// `N: instruction`.
+/// `N: instruction`, in a listing of this kind.
 #[tactic(auto, unfolding(snap_semantics::specs::ListingForms::line_form))]
-pub fn line_form(tokens: &[Token<'_>]) -> Option<Line>
-    ensures { Finds (λ x. x) result (line_form (view_tokens tokens.now)) }
+pub fn line_form(kind: KindTag, tokens: &[Token<'_>]) -> Option<Line>
+    ensures { Finds (λ x. x) result (line_form kind (view_tokens tokens.now)) }
 {
     let (number, rest) = number_at(tokens)?;
     let rest = mark_at(Mark::Colon, rest)?;
     let (word, rest) = word_at(rest)?;
-    let instr = form_of_word(word, rest)?;
+    let instr = form_of_word(kind, word, rest)?;
     if is_line_number(number) {
         Some(Line { number, instr })
     } else {

@@ -2,7 +2,7 @@
 ghost use Rattle.std.specs.Prelude.{◌≡◌, ◌++◌, map, IfOk};
 ghost use Rattle.std.specs.List.{list_all};
 ghost use Rattle.snap_semantics.specs.Answers.{Answers};
-ghost use Rattle.snap_semantics.specs.HeaderForms.{kind_form, words_form, names_form, entry_form};
+ghost use Rattle.snap_semantics.specs.HeaderForms.{kind_of_word, kind_form, words_form, names_form, entry_form};
 ghost use Rattle.snap_semantics.specs.Listing.{header_line, is_bad_name, new_names, names_line, header_of};
 ghost use Rattle.snap_semantics.specs.Uses.{is_among};
 ghost use Rattle.snap_listing.specs.Fields.{header_source};
@@ -14,7 +14,7 @@ use crate::fault::ListingFault;
 use crate::forms::is_line_number;
 use crate::terms::is_reserved;
 use snap_semantics::{ListingRefusal, Name};
-use snap_text::{TextLines, Token, TokenLine, end_at, keyword_at, number_at};
+use snap_text::{TextLines, Token, TokenLine, end_at, keyword_at, number_at, word_at};
 use snap_words::KindTag;
 use std::alloc::Global;
 
@@ -30,15 +30,31 @@ pub struct Header {
     pub update: u64,
 }
 
-/// `kind seq`.
+/// The kind that a word names.
+fn kind_of_word(word: &[u8]) -> Option<KindTag>
+    ensures { result ≡ kind_of_word word.now }
+{
+    if word == b"seq".as_slice() {
+        Some(KindTag::Seq)
+    } else if word == b"bit".as_slice() {
+        Some(KindTag::Bits)
+    } else if word == b"multi".as_slice() {
+        Some(KindTag::Multi)
+    } else {
+        None
+    }
+}
+
+/// `kind seq`, and so `bit` and `multi`.
 #[tactic(auto, unfolding(snap_semantics::specs::HeaderForms::kind_form))]
 fn kind_form(tokens: &[Token<'_>]) -> Option<KindTag>
     ensures { Finds (λ x. x) result (kind_form (view_tokens tokens.now)) }
 {
     let rest = keyword_at(b"kind", tokens)?;
-    let rest = keyword_at(b"seq", rest)?;
+    let (word, rest) = word_at(rest)?;
+    let kind = kind_of_word(word)?;
     end_at(rest)?;
-    Some(KindTag::Seq)
+    Some(kind)
 }
 
 /// The letters of a word.

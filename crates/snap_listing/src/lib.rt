@@ -1,19 +1,28 @@
-//! Listings: their texts, read.
+//! Listings: their texts, read and printed.
 #![tactic(auto)]
 
 mod conditions;
 mod fault;
 mod forms;
 mod header;
+mod instructions;
 mod laws;
+mod layout;
 mod listing;
+mod printing;
 mod reader;
+mod spelling;
 mod terms;
 #[cfg(test)]
 mod tests;
+mod tuples;
 mod uses;
 
 pub use fault::ListingFault;
-pub use laws::{what_is_read_is_spelled, what_is_spelled_is_read};
+pub use laws::{
+    what_is_printed_is_read, what_is_printed_is_spelled, what_is_read_is_sound,
+    what_is_read_is_spelled, what_is_spelled_is_read,
+};
 pub use listing::Listing;
+pub use printing::print;
 pub use reader::read;

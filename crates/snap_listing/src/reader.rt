@@ -34,7 +34,7 @@ fn numbered_line(
     let Some(tokens) = &text.tokens else {
         return Err(ListingRefusal::BadLine(text.number));
     };
-    let Some(line) = line_form(tokens.as_slice()) else {
+    let Some(line) = line_form(header.kind, tokens.as_slice()) else {
         return Err(ListingRefusal::BadLine(text.number));
     };
     if line.number <= last {

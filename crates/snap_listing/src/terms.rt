@@ -1,7 +1,7 @@
 //! Names, indices and terms at the front of the tokens of a line.
 ghost use Rattle.std.specs.Prelude.{◌≡◌, bytes_eq};
 ghost use Rattle.std.specs.List.{list_any};
-ghost use Rattle.snap_semantics.specs.ListingForms.{is_reserved, name_of_word, name_at, index_of_word, number_index, place_index, word_index, index_at, place_at, named_place_at, arg_term, row_term, field_of_word, field_term, index_term, term_at};
+ghost use Rattle.snap_semantics.specs.ListingForms.{is_reserved, name_of_word, name_at, index_of_word, number_index, place_index, word_index, index_at, place_at, named_place_at, arg_term, row_term, field_of_word, field_term, hand_term, index_term, term_at};
 ghost use Rattle.snap_text.specs.Tokens.{Finds, view_tokens};
 
 use snap_semantics::{Index, Mark, Name, Term};
@@ -179,7 +179,7 @@ pub fn row_term<'a, 'b>(
     Some((Term::Row(name, index), rest))
 }
 
-/// The field of a word of kind seq that a word names.
+/// The field of one number that a word names.
 pub fn field_of_word(word: &[u8]) -> Option<Field>
     ensures { result ≡ field_of_word word.now }
 {
@@ -187,12 +187,16 @@ pub fn field_of_word(word: &[u8]) -> Option<Field>
         Some(Field::Seq)
     } else if word == b"data".as_slice() {
         Some(Field::Datum)
+    } else if word == b"toggle".as_slice() {
+        Some(Field::Toggle)
+    } else if word == b"id".as_slice() {
+        Some(Field::Id)
     } else {
         None
     }
 }
 
-/// `seq(W[I])` or `data(W[I])`.
+/// `seq(W[I])`, and so `data`, `toggle` and `id`.
 #[tactic(auto, unfolding(snap_semantics::specs::ListingForms::field_term))]
 pub fn field_term<'a, 'b>(
     in_quantifier: bool,
@@ -208,6 +212,27 @@ pub fn field_term<'a, 'b>(
     };
     let rest = mark_at(Mark::CloseParenthesis, rest)?;
     Some((Term::Field(field, name, index), rest))
+}
+
+/// `hand(W[I],J)`.
+#[tactic(auto, unfolding(snap_semantics::specs::ListingForms::hand_term))]
+pub fn hand_term<'a, 'b>(
+    in_quantifier: bool,
+    tokens: &'a [Token<'b>],
+) -> Option<(Term, &'a [Token<'b>])>
+    ensures { Finds (λ x. (x.0, view_tokens x.1.now)) result (hand_term in_quantifier (view_tokens tokens.now)) }
+{
+    let rest = keyword_at(b"hand", tokens)?;
+    let rest = mark_at(Mark::OpenParenthesis, rest)?;
+    let Some(((name, index), rest)) = named_place_at(in_quantifier, rest) else {
+        return None;
+    };
+    let rest = mark_at(Mark::Comma, rest)?;
+    let Some((hand, rest)) = index_at(in_quantifier, rest) else {
+        return None;
+    };
+    let rest = mark_at(Mark::CloseParenthesis, rest)?;
+    Some((Term::Hand(name, index, hand), rest))
 }
 
 /// An index as a term.
@@ -239,6 +264,9 @@ pub fn term_at<'a, 'b>(
         return Some(found);
     }
     if let Some(found) = field_term(in_quantifier, tokens) {
+        return Some(found);
+    }
+    if let Some(found) = hand_term(in_quantifier, tokens) {
         return Some(found);
     }
     index_term(in_quantifier, tokens)

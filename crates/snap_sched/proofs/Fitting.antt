@@ -9,7 +9,8 @@ use Rattle.snap_semantics.specs.Schedule.{Schedule, schedule_of, form_items}
 use Rattle.snap_semantics.specs.ScheduleForms.{Form, Steps, Calls, spelled_call}
 use Rattle.snap_semantics.specs.ScheduleText.{IsSchedule}
 use Rattle.snap_semantics.specs.Token.{Token, TextLine, text_lines}
-use Rattle.snap_text.proofs.Sized.{FitsToken, FitTokens, lines_fit}
+use Rattle.snap_text.specs.Tokens.{IsSound}
+use Rattle.snap_text.proofs.Sound.{AreSound, lines_sound}
 use Rattle.snap_sched.specs.Laws.{FitsWords, FitsItem}
 use Rattle.snap_sched.specs.Spelling.{IsSpelling, IsLineOf, AreLinesOf, IsSpelled, line_tokens}
 use Rattle.snap_sched.proofs.Spelled.{read_is_spelled}
@@ -22,25 +23,25 @@ steps_fit : (count i : ℕ) → AllByRecursion FitsItem (replicate count (item.S
 steps_fit zero i = tt
 steps_fit (suc count) i = (tt, steps_fit count i)
 
-call_fits : (i : ℕ) (o : Op) → AllByRecursion FitsToken (spelled_call i o) → FitsWords o
+call_fits : (i : ℕ) (o : Op) → AllByRecursion IsSound (spelled_call i o) → FitsWords o
 call_fits i op.Scan h = tt
 call_fits i (op.Update word value) h = (h.1.1.0, h.1.1.1.0)
 
-form_fits : (f : Form) (ts : List Token) → IsSpelling f ts → AllByRecursion FitsToken ts → AllByRecursion FitsItem (form_items f)
+form_fits : (f : Form) (ts : List Token) → IsSpelling f ts → AllByRecursion IsSound ts → AllByRecursion FitsItem (form_items f)
 form_fits (Steps i count) ts h g = steps_fit count i
-form_fits (Calls i o) ts h g = (call_fits i o (subst (AllByRecursion FitsToken) h g), tt)
+form_fits (Calls i o) ts h g = (call_fits i o (subst (AllByRecursion IsSound) h g), tt)
 
-line_fits : (f : Form) (line : Option (List Token)) → IsLineOf f line → FitTokens line → AllByRecursion FitsItem (form_items f)
+line_fits : (f : Form) (line : Option (List Token)) → IsLineOf f line → AreSound line → AllByRecursion FitsItem (form_items f)
 line_fits f None h g = absurd h
 line_fits f (Some ts) h g = form_fits f ts h g
 
-lines_are : (fs : List Form) (lines : List TextLine) → AreLinesOf fs (line_tokens lines) → AllByRecursion (λ line. FitTokens line.tokens) lines → AllByRecursion FitsItem (flat_map form_items fs)
+lines_are : (fs : List Form) (lines : List TextLine) → AreLinesOf fs (line_tokens lines) → AllByRecursion (λ line. AreSound line.tokens) lines → AllByRecursion FitsItem (flat_map form_items fs)
 lines_are [] [] h g = tt
 lines_are [] (line ∷ lines) h g = absurd h
 lines_are (f ∷ fs) [] h g = absurd h
 lines_are (f ∷ fs) (line ∷ lines) h g = joined_fit (form_items f) (flat_map form_items fs) (line_fits f line.tokens h.0 g.0) (lines_are fs lines h.1 g.1)
 
-spelled_fit : (s : Schedule) (lines : List TextLine) → IsSpelled s (line_tokens lines) → AllByRecursion (λ line. FitTokens line.tokens) lines → AllByRecursion FitsItem s.items
+spelled_fit : (s : Schedule) (lines : List TextLine) → IsSpelled s (line_tokens lines) → AllByRecursion (λ line. AreSound line.tokens) lines → AllByRecursion FitsItem s.items
 spelled_fit s [] h g = absurd h
 spelled_fit s (line ∷ lines) h g = subst (AllByRecursion FitsItem) h.1.2 (lines_are h.1.0 lines h.1.1 g.1)
 
@@ -48,4 +49,4 @@ pub read_is_spelled_and_fits : (text : List ℕ) (s : Schedule) → schedule_of 
     (length text ≤ 4194304) × IsSchedule s × AllByRecursion FitsItem s.items × IsSpelled s (line_tokens (text_lines text))
 read_is_spelled_and_fits text s e =
     let h = read_is_spelled text s e in
-    (h.0, h.1, spelled_fit s (text_lines text) h.2 (lines_fit text), h.2)
+    (h.0, h.1, spelled_fit s (text_lines text) h.2 (lines_sound text), h.2)

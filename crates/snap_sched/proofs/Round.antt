@@ -1,8 +1,7 @@
 -- What is printed of a schedule is read as that schedule.
-use Rattle.std.proofs.Common.{◌≡◌, ℕ, zero, suc, ◌+◌, ◌<◌, ◌≤◌, ◌^◌, Bool, true, false, not, List, [], ◌∷◌, ◌++◌, length, map, Option, Some, Ok, nat_eq, decimal, codes, nat_le, if◌then◌else◌, refl, sym, ap, ◌∙◌, arith, subst, append_assoc, inl}
-use Rattle.std.proofs.lemmas.Bool.{eqb-true, and_parts, and_from, ne_eqb, leb-true}
+use Rattle.std.proofs.Common.{◌≡◌, ℕ, zero, suc, ◌+◌, ◌<◌, ◌≤◌, ◌^◌, Bool, true, false, not, ◌||◌, List, [], ◌∷◌, ◌++◌, length, map, Option, Some, Ok, nat_eq, codes, if◌then◌else◌, refl, sym, ap, ◌∙◌, arith, subst, append_assoc, inl}
+use Rattle.std.proofs.lemmas.Bool.{eqb-true}
 use Rattle.std.proofs.lemmas.List.{length-append}
-use Rattle.std.proofs.lemmas.List.Folds.{list_all-append}
 use Rattle.std.specs.List.{AllByRecursion, flat_map, list_all}
 use Rattle.snap_words.specs.Shape.{Counts, IsOneOf, IsShape}
 use Rattle.snap_semantics.specs.declared.process.Item.{Item}
@@ -10,121 +9,84 @@ use Rattle.snap_semantics.specs.declared.process.Item.TheVariants as item
 use Rattle.snap_semantics.specs.declared.process.Op.TheVariants as op
 use Rattle.snap_semantics.specs.declared.text.Mark.{Mark}
 use Rattle.snap_semantics.specs.declared.text.Mark.TheVariants as mark
+use Rattle.snap_semantics.specs.Layout as layout
 use Rattle.snap_semantics.specs.Schedule.{Schedule, schedule_of, form_count, form_items}
 use Rattle.snap_semantics.specs.ScheduleForms.{Form, Steps, Calls, spelled_shape, spelled_steps, spelled_form}
 use Rattle.snap_semantics.specs.ScheduleText.{IsSchedule, step_onto, item_onto, forms_of, mark_text, token_text, is_sign, gap, behind, line_text, forms_text, schedule_text}
 use Rattle.snap_semantics.specs.Table.{who}
-use Rattle.snap_semantics.specs.Token.{Token, Word, Number, Sign, is_letter, is_digit, front_of, front_tokens, tokens_of, lines_of, numbered, text_lines}
-use Rattle.snap_text.proofs.Before.{number_before, word_before, space_before, sign_before, is_plain, line_before, numbered_before}
-use Rattle.snap_text.proofs.Decimals.{decimal_digits}
+use Rattle.snap_semantics.specs.Token.{Token, Word, Number, Sign, tokens_of, lines_of, numbered, text_lines}
+use Rattle.snap_text.specs.Tokens.{IsSound}
+use Rattle.snap_text.proofs.Before.{is_plain}
+use Rattle.snap_text.proofs.Printed.{Reads, space, reads_end, reads_first, reads_more, token_plain, space_plain, joined_plain, line_read}
 use Rattle.snap_sched.specs.Laws.{FitsWords, FitsItem}
 use Rattle.snap_sched.specs.Spelling.{IsSpelling, AreLinesOf, IsSpelled, line_tokens}
 use Rattle.snap_sched.proofs.Again.{spelled_is_read}
 use Rattle.snap_sched.proofs.Apart.{AreApart, forms_apart}
 use Rattle.snap_sched.proofs.Lines.{length_items}
 
--- a token that is read as itself: a word of letters, and a number of 64 bits
-abbrev pub IsSound : Token → Type 0
-IsSound (Word w) = (0 < length w) × (list_all is_letter w ≡ true)
-IsSound (Number k) = k < 2 ^ 64
-IsSound (Sign m) = Unit {0}
+mark_text_same : (m : Mark) → mark_text m ≡ layout.mark_text m
+mark_text_same mark.Colon = refl
+mark_text_same mark.Equal = refl
+mark_text_same mark.Different = refl
+mark_text_same mark.Less = refl
+mark_text_same mark.Plus = refl
+mark_text_same mark.Comma = refl
+mark_text_same mark.OpenParenthesis = refl
+mark_text_same mark.CloseParenthesis = refl
+mark_text_same mark.OpenBracket = refl
+mark_text_same mark.CloseBracket = refl
+mark_text_same mark.At = refl
+mark_text_same mark.Star = refl
 
--- what stands behind a token is read as the tokens behind it, and begins with no letter or digit where that would join
-record Reads (t : Token) (ts : List Token) : Type 0 where
-  tokens : tokens_of (behind t ts) ≡ Some ts
-  apart : is_sign t ≡ false → front_of (behind t ts) ≡ Some ([], ts)
+-- a token is spelled in a schedule as it is in a listing
+text_same : (t : Token) → token_text t ≡ layout.token_text t
+text_same (Word w) = refl
+text_same (Number k) = refl
+text_same (Sign m) = mark_text_same m
 
-token_first : (u : Token) (us : List Token) → IsSound u → Reads u us → tokens_of (token_text u ++ behind u us) ≡ Some (u ∷ us)
-token_first (Word w) us h rest = word_before w (behind (Word w) us) us h.0 h.1 (rest.apart refl)
-token_first (Number k) us h rest = number_before k (behind (Number k) us) us h (rest.apart refl)
-token_first (Sign m) us h rest = ap front_tokens (sign_before m (behind (Sign m) us) us rest.tokens)
+-- whether a space stands between two tokens
+abbrev are_parted : Bool → Bool → Bool
+are_parted s c = not (s || c)
 
--- the gap before a token
-abbrev gap_by : Bool → Bool → List ℕ
-gap_by s c = if s then [] else if c then [] else 32 ∷ []
+both_parted : (s c : Bool) → s ≡ false → c ≡ false → are_parted s c ≡ true
+both_parted true c e d = absurd cc
+both_parted false true e d = absurd cc
+both_parted false false e d = refl
 
-gap_is : (t u : Token) → gap t u ≡ gap_by (is_sign t) (is_sign u)
-gap_is (Word w) u = refl
-gap_is (Number k) u = refl
+gap_by : (c : Bool) → (if c then [] else 32 ∷ []) ≡ space (are_parted false c)
+gap_by true = refl
+gap_by false = refl
+
+gap_is : (t u : Token) → gap t u ≡ space (are_parted (is_sign t) (is_sign u))
+gap_is (Word w) u = gap_by (is_sign u)
+gap_is (Number k) u = gap_by (is_sign u)
 gap_is (Sign m) u = refl
 
-tokens_by : (s c : Bool) (bs : List ℕ) (ts : List Token) → tokens_of bs ≡ Some ts → tokens_of (gap_by s c ++ bs) ≡ Some ts
-tokens_by true c bs ts e = e
-tokens_by false true bs ts e = e
-tokens_by false false bs ts e = ap front_tokens (space_before bs ts e)
+behind_is : (t u : Token) (us : List Token) → behind t (u ∷ us) ≡ space (are_parted (is_sign t) (is_sign u)) ++ (layout.token_text u ++ behind u us)
+behind_is t u us =
+    append_assoc (gap t u) (token_text u) (behind u us)
+    ∙ ap (λ (g : List ℕ). g ++ (token_text u ++ behind u us)) (gap_is t u)
+    ∙ ap (λ (x : List ℕ). space (are_parted (is_sign t) (is_sign u)) ++ (x ++ behind u us)) (text_same u)
 
-apart_by : (s c : Bool) (bs : List ℕ) (ts : List Token) → tokens_of bs ≡ Some ts → (c ≡ true → front_of bs ≡ Some ([], ts)) → s ≡ false → front_of (gap_by s c ++ bs) ≡ Some ([], ts)
-apart_by true c bs ts e f h = absurd cc
-apart_by false true bs ts e f h = f refl
-apart_by false false bs ts e f h = space_before bs ts e
-
-sign_apart : (u : Token) (us : List Token) → Reads u us → is_sign u ≡ true → front_of (token_text u ++ behind u us) ≡ Some ([], u ∷ us)
-sign_apart (Word w) us rest e = absurd cc
-sign_apart (Number k) us rest e = absurd cc
-sign_apart (Sign m) us rest e = sign_before m (behind (Sign m) us) us rest.tokens
-
-behind_reads : (t : Token) (ts : List Token) → AllByRecursion IsSound ts → Reads t ts
-behind_reads t [] h = record { tokens = refl; apart = λ e. refl }
+behind_reads : (t : Token) (ts : List Token) → AllByRecursion IsSound ts → Reads t (behind t ts) ts
+behind_reads t [] h = reads_end t
 behind_reads t (u ∷ us) h =
-    let rest = behind_reads u us h.1 in
-    let first = token_first u us h.0 rest in
-    let is : gap t u ++ token_text u ++ behind u us ≡ gap_by (is_sign t) (is_sign u) ++ (token_text u ++ behind u us) =
-    append_assoc (gap t u) (token_text u) (behind u us) ∙ ap (λ (g : List ℕ). g ++ (token_text u ++ behind u us)) (gap_is t u) in
-    record {
-      tokens = ap tokens_of is ∙ tokens_by (is_sign t) (is_sign u) (token_text u ++ behind u us) (u ∷ us) first;
-      apart = λ e. ap front_of is ∙ apart_by (is_sign t) (is_sign u) (token_text u ++ behind u us) (u ∷ us) first (sign_apart u us rest) e;
-    }
+    subst (λ (bs : List ℕ). Reads t bs (u ∷ us)) (sym (behind_is t u us))
+    (reads_more t u (are_parted (is_sign t) (is_sign u)) (behind u us) us (both_parted (is_sign t) (is_sign u)) h.0 (behind_reads u us h.1))
 
 -- the tokens of printed tokens are those tokens
 pub printed_tokens : (t : Token) (ts : List Token) → IsSound t → AllByRecursion IsSound ts → tokens_of (token_text t ++ behind t ts) ≡ Some (t ∷ ts)
-printed_tokens t ts h hs = token_first t ts h (behind_reads t ts hs)
+printed_tokens t ts h hs =
+    ap (λ (x : List ℕ). tokens_of (x ++ behind t ts)) (text_same t) ∙ reads_first t (behind t ts) ts h (behind_reads t ts hs)
 
-digits_plain : (ds : List ℕ) → list_all is_digit ds ≡ true → list_all is_plain ds ≡ true
-digits_plain [] h = refl
-digits_plain (b ∷ ds) h =
-    let parts = and_parts (is_digit b) (list_all is_digit ds) h in
-    let low = leb-true 48 b (and_parts (nat_le 48 b) (nat_le b 57) parts.0).0 in
-    and_from (is_plain b) (list_all is_plain ds) (ap not (ne_eqb b 10 (λ e. omega (arith, low, e)))) (digits_plain ds parts.1)
-
-letters_plain : (w : List ℕ) → list_all is_letter w ≡ true → list_all is_plain w ≡ true
-letters_plain [] h = refl
-letters_plain (b ∷ w) h =
-    let parts = and_parts (is_letter b) (list_all is_letter w) h in
-    let low = leb-true 97 b (and_parts (nat_le 97 b) (nat_le b 122) parts.0).0 in
-    and_from (is_plain b) (list_all is_plain w) (ap not (ne_eqb b 10 (λ e. omega (arith, low, e)))) (letters_plain w parts.1)
-
-mark_plain : (m : Mark) → list_all is_plain (mark_text m) ≡ true
-mark_plain mark.Colon = refl
-mark_plain mark.Equal = refl
-mark_plain mark.Different = refl
-mark_plain mark.Less = refl
-mark_plain mark.Plus = refl
-mark_plain mark.Comma = refl
-mark_plain mark.OpenParenthesis = refl
-mark_plain mark.CloseParenthesis = refl
-mark_plain mark.OpenBracket = refl
-mark_plain mark.CloseBracket = refl
-mark_plain mark.At = refl
-mark_plain mark.Star = refl
-
-token_plain : (t : Token) → IsSound t → list_all is_plain (token_text t) ≡ true
-token_plain (Word w) h = letters_plain w h.1
-token_plain (Number k) h = digits_plain (decimal k) (decimal_digits k h)
-token_plain (Sign m) h = mark_plain m
-
-gap_plain : (s c : Bool) → list_all is_plain (gap_by s c) ≡ true
-gap_plain true c = refl
-gap_plain false true = refl
-gap_plain false false = refl
-
-joined_plain : (xs ys : List ℕ) → list_all is_plain xs ≡ true → list_all is_plain ys ≡ true → list_all is_plain (xs ++ ys) ≡ true
-joined_plain xs ys h g = list_all-append is_plain xs ys ∙ and_from (list_all is_plain xs) (list_all is_plain ys) h g
+text_plain : (t : Token) → IsSound t → list_all is_plain (token_text t) ≡ true
+text_plain t h = ap (list_all is_plain) (text_same t) ∙ token_plain t h
 
 behind_plain : (t : Token) (ts : List Token) → AllByRecursion IsSound ts → list_all is_plain (behind t ts) ≡ true
 behind_plain t [] h = refl
 behind_plain t (u ∷ us) h =
     joined_plain (gap t u ++ token_text u) (behind u us)
-    (joined_plain (gap t u) (token_text u) (ap (list_all is_plain) (gap_is t u) ∙ gap_plain (is_sign t) (is_sign u)) (token_plain u h.0))
+    (joined_plain (gap t u) (token_text u) (ap (list_all is_plain) (gap_is t u) ∙ space_plain (are_parted (is_sign t) (is_sign u))) (text_plain u h.0))
     (behind_plain u us h.1)
 
 -- the first of printed lines, and the others
@@ -132,10 +94,9 @@ pub printed_line : (k : ℕ) (t : Token) (ts : List Token) (rest : List ℕ) →
     line_tokens (numbered k (lines_of (line_text (t ∷ ts) ++ rest))) ≡ Some (t ∷ ts) ∷ line_tokens (numbered (k + 1) (lines_of rest))
 printed_line k t ts rest h hs =
     let body = token_text t ++ behind t ts in
-    let plain = joined_plain (token_text t) (behind t ts) (token_plain t h) (behind_plain t ts hs) in
+    let plain = joined_plain (token_text t) (behind t ts) (text_plain t h) (behind_plain t ts hs) in
     ap (λ (bs : List ℕ). line_tokens (numbered k (lines_of bs))) (append_assoc body (10 ∷ []) rest)
-    ∙ ap (λ (ls : List (List ℕ)). line_tokens (numbered k ls)) (line_before body rest plain)
-    ∙ ap line_tokens (numbered_before k body (lines_of rest) t ts (printed_tokens t ts h hs))
+    ∙ ap line_tokens (line_read k body rest t ts plain (printed_tokens t ts h hs))
 
 -- a form whose numbers have 64 bits
 abbrev pub FitsForm : Form → Type 0

@@ -4,7 +4,7 @@ use Rattle.std.proofs.lemmas.Bool.{and_parts, and_from}
 use Rattle.std.specs.List.{list_all}
 use Rattle.snap_semantics.specs.declared.text.Mark.{Mark}
 use Rattle.snap_semantics.specs.declared.text.Mark.TheVariants as mark
-use Rattle.snap_semantics.specs.ScheduleText.{mark_text}
+use Rattle.snap_semantics.specs.Layout.{mark_text}
 use Rattle.snap_semantics.specs.Token.{Token, Word, Number, Sign, Front, is_letter, is_digit, is_run_byte, run_token, with_token, with_different, longer_run, no_run, front_of, front_tokens, tokens_of, onto_line, lines_of, with_line, numbered}
 use Rattle.snap_text.proofs.Decimals.{decimal_token, decimal_run, decimal_some}
 

@@ -1,6 +1,7 @@
 pub mod Before
 pub mod Decimals
+pub mod Printed
 pub mod Runs
-pub mod Sized
+pub mod Sound
 pub mod Splits
 pub mod Texts

@@ -1,8 +1,9 @@
 -- Tokens as they are seen, and what rules find.
-use Rattle.std.specs.Prelude.{◌≡◌, ℕ, ◌+◌, Bool, true, false, List, [], ◌∷◌, map, Option, Some, None, nat_eq, if◌then◌else◌}
+use Rattle.std.specs.Prelude.{◌≡◌, ℕ, ◌+◌, ◌^◌, ◌<◌, Bool, true, false, List, [], ◌∷◌, length, map, Option, Some, None, nat_eq, if◌then◌else◌}
+use Rattle.std.specs.List.{list_all}
 use Rattle.snap_semantics.specs.declared.text.Mark.{Mark}
 use Rattle.snap_semantics.specs.declared.text.Mark.TheVariants as mark
-use Rattle.snap_semantics.specs.Token.{Token, Word, Number, Sign, is_run_byte, mark_of}
+use Rattle.snap_semantics.specs.Token.{Token, Word, Number, Sign, is_letter, is_run_byte, mark_of}
 use Rattle.snap_text.specs.declared.lexer.Token.{Token as Given}
 use Rattle.snap_text.specs.declared.lexer.Token.TheVariants as given
 
@@ -13,6 +14,12 @@ view_token (given.Sign m) = Sign m
 
 abbrev pub view_tokens : List Given → List Token
 view_tokens ts = map view_token ts
+
+-- a token that can stand in a text: a word of one or more letters, a number of 64 bits, or a mark
+abbrev pub IsSound : Token → Type 0
+IsSound (Word w) = (0 < length w) × (list_all is_letter w ≡ true)
+IsSound (Number k) = k < 2 ^ 64
+IsSound (Sign m) = Unit {0}
 
 -- What a rule found, seen by `view`, is what the definition finds. It goes by cases on what was found, so that a rule
 -- that is made of others by `?` follows from theirs once it is unfolded: no proof file is needed.

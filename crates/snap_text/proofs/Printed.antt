@@ -1,0 +1,101 @@
+-- Tokens that are printed, one behind the other, are read as those tokens.
+use Rattle.std.proofs.Common.{◌≡◌, ℕ, ◌+◌, Bool, true, false, not, List, [], ◌∷◌, ◌++◌, Some, decimal, nat_le, if◌then◌else◌, refl, ap, ◌∙◌, arith}
+use Rattle.std.proofs.lemmas.Bool.{and_parts, and_from, ne_eqb, leb-true}
+use Rattle.std.proofs.lemmas.List.Folds.{list_all-append}
+use Rattle.std.specs.List.{list_all}
+use Rattle.snap_semantics.specs.declared.text.Mark.{Mark}
+use Rattle.snap_semantics.specs.declared.text.Mark.TheVariants as mark
+use Rattle.snap_semantics.specs.Layout.{mark_text, token_text}
+use Rattle.snap_semantics.specs.ScheduleText.{is_sign}
+use Rattle.snap_semantics.specs.Token.{Token, Word, Number, Sign, is_letter, is_digit, front_of, front_tokens, tokens_of, lines_of, numbered}
+use Rattle.snap_text.specs.Tokens.{IsSound}
+use Rattle.snap_text.proofs.Before.{number_before, word_before, space_before, sign_before, is_plain, line_before, numbered_before}
+use Rattle.snap_text.proofs.Decimals.{decimal_digits}
+
+-- What stands behind a token is read as these tokens, and begins with no letter or digit where that would join.
+pub record Reads (t : Token) (bs : List ℕ) (ts : List Token) : Type 0 where
+  pub tokens : tokens_of bs ≡ Some ts
+  pub apart : is_sign t ≡ false → front_of bs ≡ Some ([], ts)
+
+-- a space, or none
+abbrev pub space : Bool → List ℕ
+space b = if b then 32 ∷ [] else []
+
+pub reads_end : (t : Token) → Reads t [] []
+reads_end t = record { tokens = refl; apart = λ e. refl }
+
+-- a token before what is read behind it
+pub reads_first : (t : Token) (bs : List ℕ) (ts : List Token) → IsSound t → Reads t bs ts → tokens_of (token_text t ++ bs) ≡ Some (t ∷ ts)
+reads_first (Word w) bs ts h rest = word_before w bs ts h.0 h.1 (rest.apart refl)
+reads_first (Number k) bs ts h rest = number_before k bs ts h (rest.apart refl)
+reads_first (Sign m) bs ts h rest = ap front_tokens (sign_before m bs ts rest.tokens)
+
+tokens_by : (b : Bool) (bs : List ℕ) (ts : List Token) → tokens_of bs ≡ Some ts → tokens_of (space b ++ bs) ≡ Some ts
+tokens_by true bs ts e = ap front_tokens (space_before bs ts e)
+tokens_by false bs ts e = e
+
+apart_by : (b c : Bool) (bs : List ℕ) (ts : List Token) → (c ≡ false → b ≡ true) → tokens_of bs ≡ Some ts → (c ≡ true → front_of bs ≡ Some ([], ts)) → front_of (space b ++ bs) ≡ Some ([], ts)
+apart_by true c bs ts h e f = space_before bs ts e
+apart_by false true bs ts h e f = f refl
+apart_by false false bs ts h e f = absurd (let no : false ≡ true = h refl in cc)
+
+sign_apart : (t : Token) (bs : List ℕ) (ts : List Token) → Reads t bs ts → is_sign t ≡ true → front_of (token_text t ++ bs) ≡ Some ([], t ∷ ts)
+sign_apart (Word w) bs ts rest e = absurd cc
+sign_apart (Number k) bs ts rest e = absurd cc
+sign_apart (Sign m) bs ts rest e = sign_before m bs ts rest.tokens
+
+-- a token behind another one, with a space between them where both are words or numbers
+pub reads_more : (t u : Token) (b : Bool) (bs : List ℕ) (us : List Token) → (is_sign t ≡ false → is_sign u ≡ false → b ≡ true) → IsSound u → Reads u bs us →
+    Reads t (space b ++ (token_text u ++ bs)) (u ∷ us)
+reads_more t u b bs us parted h rest =
+    let first = reads_first u bs us h rest in
+    record {
+      tokens = tokens_by b (token_text u ++ bs) (u ∷ us) first;
+      apart = λ e. apart_by b (is_sign u) (token_text u ++ bs) (u ∷ us) (parted e) first (sign_apart u bs us rest);
+    }
+
+digits_plain : (ds : List ℕ) → list_all is_digit ds ≡ true → list_all is_plain ds ≡ true
+digits_plain [] h = refl
+digits_plain (b ∷ ds) h =
+    let parts = and_parts (is_digit b) (list_all is_digit ds) h in
+    let low = leb-true 48 b (and_parts (nat_le 48 b) (nat_le b 57) parts.0).0 in
+    and_from (is_plain b) (list_all is_plain ds) (ap not (ne_eqb b 10 (λ e. omega (arith, low, e)))) (digits_plain ds parts.1)
+
+letters_plain : (w : List ℕ) → list_all is_letter w ≡ true → list_all is_plain w ≡ true
+letters_plain [] h = refl
+letters_plain (b ∷ w) h =
+    let parts = and_parts (is_letter b) (list_all is_letter w) h in
+    let low = leb-true 97 b (and_parts (nat_le 97 b) (nat_le b 122) parts.0).0 in
+    and_from (is_plain b) (list_all is_plain w) (ap not (ne_eqb b 10 (λ e. omega (arith, low, e)))) (letters_plain w parts.1)
+
+mark_plain : (m : Mark) → list_all is_plain (mark_text m) ≡ true
+mark_plain mark.Colon = refl
+mark_plain mark.Equal = refl
+mark_plain mark.Different = refl
+mark_plain mark.Less = refl
+mark_plain mark.Plus = refl
+mark_plain mark.Comma = refl
+mark_plain mark.OpenParenthesis = refl
+mark_plain mark.CloseParenthesis = refl
+mark_plain mark.OpenBracket = refl
+mark_plain mark.CloseBracket = refl
+mark_plain mark.At = refl
+mark_plain mark.Star = refl
+
+-- no line feed stands in a token, before one, or in what is put together without one
+pub token_plain : (t : Token) → IsSound t → list_all is_plain (token_text t) ≡ true
+token_plain (Word w) h = letters_plain w h.1
+token_plain (Number k) h = digits_plain (decimal k) (decimal_digits k h)
+token_plain (Sign m) h = mark_plain m
+
+pub space_plain : (b : Bool) → list_all is_plain (space b) ≡ true
+space_plain true = refl
+space_plain false = refl
+
+pub joined_plain : (xs ys : List ℕ) → list_all is_plain xs ≡ true → list_all is_plain ys ≡ true → list_all is_plain (xs ++ ys) ≡ true
+joined_plain xs ys h g = list_all-append is_plain xs ys ∙ and_from (list_all is_plain xs) (list_all is_plain ys) h g
+
+-- the first line of a text, and the lines behind it
+pub line_read : (k : ℕ) (line rest : List ℕ) (t : Token) (ts : List Token) → list_all is_plain line ≡ true → tokens_of line ≡ Some (t ∷ ts) →
+    numbered k (lines_of (line ++ 10 ∷ rest)) ≡ record { number = k; tokens = Some (t ∷ ts) } ∷ numbered (k + 1) (lines_of rest)
+line_read k line rest t ts plain e = ap (numbered k) (line_before line rest plain) ∙ numbered_before k line (lines_of rest) t ts e

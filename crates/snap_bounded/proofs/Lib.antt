@@ -17,3 +17,4 @@ pub mod Bounds
 pub mod Updates
 pub mod Moves
 pub mod Samples
+pub mod TextOfB

@@ -4,6 +4,7 @@ pub mod AgainHeaderForms
 pub mod AgainTerms
 pub mod Checks
 pub mod HasForms
+pub mod KnownTexts
 pub mod Laid
 pub mod Lines
 pub mod Names

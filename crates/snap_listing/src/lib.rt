@@ -6,6 +6,7 @@ mod fault;
 mod forms;
 mod header;
 mod instructions;
+mod known;
 mod laws;
 mod layout;
 mod listing;
@@ -19,6 +20,7 @@ mod tuples;
 mod uses;
 
 pub use fault::ListingFault;
+pub use known::read_known;
 pub use laws::{
     what_is_printed_is_read, what_is_printed_is_spelled, what_is_read_is_sound,
     what_is_read_is_spelled, what_is_spelled_is_read,

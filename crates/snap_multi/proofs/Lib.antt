@@ -16,3 +16,4 @@ pub mod Bounds
 pub mod Updates
 pub mod Moves
 pub mod Samples
+pub mod TextOfM

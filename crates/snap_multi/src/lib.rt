@@ -3,6 +3,10 @@
 
 ghost use Rattle.snap_multi.specs.Promises.{NeverTraps, ChangesOnlyAt57, WritesItsUpdate, WritesOnce, HavePoints, FewCollects, FewSteps, SharpCollects, MovesAreEvents};
 
+mod text;
+
+pub use text::listing;
+
 /// No process ever traps.
 pub fn never_traps()
     ensures { NeverTraps }

@@ -2,7 +2,7 @@
 ghost use Rattle.std.specs.Prelude.{◌≡◌, IfOk};
 ghost use Rattle.snap_single.specs.ListingU.{listing_u};
 
-use snap_listing::{Listing, ListingFault, read};
+use snap_listing::{Listing, read_known};
 use std::alloc::{AllocError, Global};
 
 /// The text of listing U.
@@ -36,11 +36,7 @@ update 30\n\
 pub fn listing(alloc: Global) -> Result<Listing, AllocError>
     ensures { IfOk result (λ l. l ≡ listing_u) }
 {
-    match read(alloc, TEXT) {
-        Ok(listing) => Ok(listing),
-        Err(ListingFault::Memory) => Err(AllocError),
-        Err(ListingFault::Refused(_)) => unreachable!(),
-    }
+    read_known(alloc, TEXT)
 }
 
 #[cfg(test)]

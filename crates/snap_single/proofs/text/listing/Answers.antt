@@ -1,8 +1,10 @@
-use Rattle.snap_single.proofs.TextOfU.{read_is_u, not_refused}
+use Rattle.snap_listing.proofs.KnownTexts.{is_listing_text, if_read}
+use Rattle.snap_single.specs.ListingU.{listing_u}
+use Rattle.snap_single.proofs.TextOfU.{text, text_is_u}
 use Rattle.snap_single.proofs.text.listing.Goals as goal
 
-pub unreachable-requires : goal.unreachable-requires
-unreachable-requires c = not_refused c.in-Err-Refused.field-0-0 (rw c.in-Err-Refused.field-0-is at c.in-Err-Refused.ensures)
+pub read_known-requires : goal.read_known-requires
+read_known-requires c = is_listing_text text listing_u text_is_u
 
-pub returns-in-Ok : goal.returns-in-Ok
-returns-in-Ok c = read_is_u c.in-Ok.listing c.in-Ok.ensures
+pub returns : goal.returns
+returns c = if_read text listing_u c.read_known.result text_is_u c.read_known.ensures

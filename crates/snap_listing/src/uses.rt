@@ -30,6 +30,7 @@ fn sort_of(header: &Header, name: &Name) -> Option<Sort>
     }
 }
 
+/// Whether two sorts are the same.
 fn same_sort(one: Sort, other: Sort) -> bool
     ensures { result ≡ same_sort one other }
 {
@@ -47,6 +48,7 @@ fn checked_name(header: &Header, line: u64, wanted: Sort, name: &Name) -> Result
     }
 }
 
+/// Whether two kinds are the same.
 fn same_kind(one: KindTag, other: KindTag) -> bool
     ensures { result ≡ same_kind one other }
 {
@@ -112,6 +114,7 @@ fn checked_kind(line: u64, has: bool) -> Result<(), ListingRefusal>
     }
 }
 
+/// An index.
 fn checked_index(header: &Header, line: u64, index: &Index) -> Result<(), ListingRefusal>
     ensures { result ≡ checked_index (header_source header.now) line index.now }
 {
@@ -121,6 +124,7 @@ fn checked_index(header: &Header, line: u64, index: &Index) -> Result<(), Listin
     }
 }
 
+/// Two indexes.
 fn checked_indexes(
     header: &Header,
     line: u64,
@@ -147,6 +151,7 @@ fn checked_place(
     checked_index(header, line, index)
 }
 
+/// A term.
 fn checked_term(header: &Header, line: u64, term: &Term) -> Result<(), ListingRefusal>
     ensures { result ≡ checked_term (header_source header.now) line term.now }
 {
@@ -166,6 +171,7 @@ fn checked_term(header: &Header, line: u64, term: &Term) -> Result<(), ListingRe
     }
 }
 
+/// An expression.
 fn checked_expr(header: &Header, line: u64, expr: &Expr) -> Result<(), ListingRefusal>
     ensures { result ≡ checked_expr (header_source header.now) line expr.now }
 {
@@ -179,6 +185,7 @@ fn checked_expr(header: &Header, line: u64, expr: &Expr) -> Result<(), ListingRe
     }
 }
 
+/// A comparison.
 fn checked_comparison(
     header: &Header,
     line: u64,
@@ -190,6 +197,7 @@ fn checked_comparison(
     checked_term(header, line, &comparison.right)
 }
 
+/// A condition.
 fn checked_condition(
     header: &Header,
     line: u64,
@@ -217,6 +225,7 @@ fn checked_condition(
     }
 }
 
+/// A condition that may be left out.
 fn checked_where(
     header: &Header,
     line: u64,
@@ -230,6 +239,7 @@ fn checked_where(
     }
 }
 
+/// A tuple.
 fn checked_tuple(header: &Header, line: u64, tuple: &Tuple) -> Result<(), ListingRefusal>
     ensures { result ≡ checked_tuple (header_source header.now) line tuple.now }
 {
@@ -324,6 +334,7 @@ fn checked_assignment(header: &Header, line: u64, instr: &Instr) -> Result<(), L
     }
 }
 
+/// An instruction.
 fn checked_instr(header: &Header, line: u64, instr: &Instr) -> Result<(), ListingRefusal>
     ensures { result ≡ checked_instr (header_source header.now) line instr.now }
 {

@@ -1,6 +1,8 @@
 pub mod Slots
-pub mod Hands
 pub mod Places
-pub mod Data
 pub mod Steps
 pub mod Replicas
+pub mod Sizes
+pub mod Kept
+pub mod Tuples
+pub mod Stands

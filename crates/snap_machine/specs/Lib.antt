@@ -1,6 +1,8 @@
+pub mod Given
 pub mod Lines
 pub mod Quantifiers
 pub mod Reading
 pub mod Seen
+pub mod Sizes
 pub mod Slot
 pub mod Standing

@@ -1,29 +1,33 @@
 //! A call of a process.
-ghost use Rattle.std.specs.Prelude.{◌≡◌, length};
+ghost use Rattle.std.specs.Prelude.{◌≡◌, length, map};
 ghost use Rattle.snap_words.specs.Shape.{IsOneOf};
 ghost use Rattle.snap_semantics.specs.Table.{call_skip, done, entry, owner_skip};
 ghost use Rattle.snap_semantics.specs.declared.process.Item.TheVariants as item;
-ghost use Rattle.snap_machine.specs.Seen.{seen_state};
+ghost use Rattle.snap_machine.specs.Seen.{seen_process, seen_state};
+ghost use Rattle.snap_machine.specs.Sizes.{AllSized};
 
 use crate::process::Process;
-use crate::word::Word;
 use snap_listing::Listing;
+use snap_regs::Registers;
 use snap_semantics::{Activity, Op, Outcome, Reason, Status};
-use snap_words::{KindTag, Shape};
+use snap_words::{Kind, KindTag, Shape};
 
 /// A call of process i.
-pub fn call(
+pub fn call<K: Kind>(
     listing: &Listing,
-    shape: Shape,
-    registers: &[Word],
-    processes: &mut [Process],
+    registers: &Registers<K>,
+    processes: &mut [Process<K>],
     i: u32,
     op: Op,
 ) -> Outcome
-    requires { IsOneOf (length processes.old) i }
-    ensures { done listing.now shape (seen_state listing.now registers.now processes.old) (item.Call i op)
-        ≡ (seen_state listing.now registers.now processes.new, result) }
+    requires process { IsOneOf (length processes.old) i }
+    requires sized { AllSized listing.now registers.now.shape (map (seen_process K.parts listing.now) processes.old) }
+    ensures done { done listing.now registers.now.shape
+        (seen_state K.parts listing.now registers.now.memory processes.old) (item.Call i op)
+        ≡ (seen_state K.parts listing.now registers.now.memory processes.new, result) }
+    ensures sized { AllSized listing.now registers.now.shape (map (seen_process K.parts listing.now) processes.new) }
 {
+    let shape = registers.shape();
     let k = (i - 1) as usize;
     let process = &mut processes[k];
     match process.status {

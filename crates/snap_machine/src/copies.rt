@@ -1,20 +1,19 @@
-//! Equal registers and processes.
+//! Equal processes.
 ghost use Rattle.std.specs.Prelude.{◌≡◌, IfOk, map, vec_items};
 ghost use Rattle.snap_semantics.specs.Source.{Source};
-ghost use Rattle.snap_machine.specs.Seen.{seen_process, seq_words};
+ghost use Rattle.snap_machine.specs.Seen.{seen_process};
 
 use crate::process::Process;
-use crate::word::Word;
-use snap_words::View;
+use snap_words::{Kind, View};
 use std::alloc::{AllocError, Global};
 
 /// Equal words.
-pub fn copy_words(alloc: Global, words: &[Word]) -> Result<Vec<Word>, AllocError>
+fn copy_words<K: Kind>(alloc: Global, words: &[K::Word]) -> Result<Vec<K::Word>, AllocError>
     ensures { IfOk result (λ v. v.items ≡ words.now) }
 {
     let mut copies = Vec::new(alloc);
     for word in words {
-        copies.push(word.copy(alloc)?)?;
+        copies.push(K::copy(alloc, word)?)?;
     }
     Ok(copies)
 }
@@ -31,13 +30,16 @@ fn copy_rows(alloc: Global, rows: &[Vec<u64>]) -> Result<Vec<Vec<u64>>, AllocErr
 }
 
 /// Equal `words` locals.
-fn copy_word_rows(alloc: Global, rows: &[Vec<Word>]) -> Result<Vec<Vec<Word>>, AllocError>
-    ensures { IfOk result (λ v. map (λ xs. seq_words xs.items) v.items
-        ≡ map (λ xs. seq_words xs.items) rows.now) }
+fn copy_word_rows<K: Kind>(
+    alloc: Global,
+    rows: &[Vec<K::Word>],
+) -> Result<Vec<Vec<K::Word>>, AllocError>
+    ensures { IfOk result (λ v. map (λ xs. map K.parts xs.items) v.items
+        ≡ map (λ xs. map K.parts xs.items) rows.now) }
 {
     let mut copies = Vec::new(alloc);
     for row in rows {
-        copies.push(copy_words(alloc, row.as_slice())?)?;
+        copies.push(copy_words::<K>(alloc, row.as_slice())?)?;
     }
     Ok(copies)
 }
@@ -54,22 +56,25 @@ fn copy_views(alloc: Global, views: &[View]) -> Result<Vec<View>, AllocError>
 }
 
 /// An equal process.
-fn copy_process(alloc: Global, process: &Process) -> Result<Process, AllocError>
-    ensures { IfOk result (λ p. (s : Source) → seen_process s p ≡ seen_process s process.now) }
+fn copy_process<K: Kind>(alloc: Global, process: &Process<K>) -> Result<Process<K>, AllocError>
+    ensures { IfOk result (λ p. (s : Source) → seen_process K.parts s p ≡ seen_process K.parts s process.now) }
 {
     Ok(Process {
         status: process.status,
         scalars: Vec::from_slice(alloc, process.scalars.as_slice())?,
         rows: copy_rows(alloc, process.rows.as_slice())?,
-        words: copy_word_rows(alloc, process.words.as_slice())?,
+        words: copy_word_rows::<K>(alloc, process.words.as_slice())?,
         views: copy_views(alloc, process.views.as_slice())?,
     })
 }
 
 /// Equal processes.
-pub fn copy_processes(alloc: Global, processes: &[Process]) -> Result<Vec<Process>, AllocError>
+pub fn copy_processes<K: Kind>(
+    alloc: Global,
+    processes: &[Process<K>],
+) -> Result<Vec<Process<K>>, AllocError>
     ensures { IfOk result (λ v. (s : Source) →
-        map (seen_process s) v.items ≡ map (seen_process s) processes.now) }
+        map (seen_process K.parts s) v.items ≡ map (seen_process K.parts s) processes.now) }
 {
     let mut copies = Vec::new(alloc);
     for process in processes {

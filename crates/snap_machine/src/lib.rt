@@ -1,4 +1,4 @@
-//! A machine: processes that run a listing over registers of kind seq, one schedule item at a time.
+//! A machine: processes that run a listing over registers of any kind, one schedule item at a time.
 #![tactic(auto)]
 
 mod call;
@@ -10,16 +10,16 @@ mod local_lines;
 mod locals;
 mod machine;
 mod process;
+mod puts;
 mod quantifiers;
 mod reading;
 mod register_lines;
 mod step;
 mod value;
-mod word;
 
 pub use machine::Machine;
-pub use reading::{Contents, Local, RegisterFault};
-pub use word::Word;
+pub use reading::{Contents, Local};
+pub use snap_regs::RegisterFault;
 
 #[cfg(test)]
 mod tests;

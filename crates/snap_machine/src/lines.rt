@@ -1,11 +1,12 @@
 //! What running a line comes to.
 ghost use Rattle.std.specs.Prelude.{◌≡◌};
 ghost use Rattle.snap_semantics.specs.Source.{following};
-ghost use Rattle.snap_machine.specs.Lines.{next_line};
+ghost use Rattle.snap_machine.specs.Lines.{cause_of, next_line};
 ghost use Rattle.snap_machine.specs.declared.lines.Halt.TheVariants.{Trap, NoMemory};
 
 use crate::value::Turn;
 use snap_listing::Listing;
+use snap_regs::RegisterFault;
 use snap_semantics::Cause;
 use snap_words::View;
 use std::alloc::AllocError;
@@ -38,6 +39,18 @@ impl From<AllocError> for Halt {
 
     fn from(e: AllocError) -> Halt {
         Halt::NoMemory(e)
+    }
+}
+
+impl From<RegisterFault> for Halt {
+    ghost from_gives = { λ fault halt. halt ≡ Trap (cause_of fault) };
+
+    fn from(fault: RegisterFault) -> Halt {
+        match fault {
+            RegisterFault::Index => Halt::Trap(Cause::Index),
+            RegisterFault::Owner => Halt::Trap(Cause::Owner),
+            RegisterFault::NotABit => Halt::Trap(Cause::NotABit),
+        }
     }
 }
 

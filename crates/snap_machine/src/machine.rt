@@ -1,5 +1,5 @@
 //! The machine.
-ghost use Rattle.std.specs.Prelude.{◌≡◌, IfOk, IsTrue, MatchResult, OnErr, length, map, option_map, vec_items, zip};
+ghost use Rattle.std.specs.Prelude.{◌≡◌, false, IfOk, IsTrue, MatchResult, OnErr, length, map, nat_eq, option_map, vec_items, zip};
 ghost use Rattle.snap_words.specs.Shape.{IsOneOf};
 ghost use Rattle.snap_semantics.specs.Memory.{may_grow};
 ghost use Rattle.snap_semantics.specs.Readers.{
@@ -12,63 +12,63 @@ ghost use Rattle.snap_semantics.specs.Readers.{
 };
 ghost use Rattle.snap_semantics.specs.State.{initial, process_at, values};
 ghost use Rattle.snap_semantics.specs.Table.{done, who};
-ghost use Rattle.snap_machine.specs.declared.reading.RegisterFault.TheVariants.{Index};
+ghost use Rattle.snap_regs.specs.declared.fault.RegisterFault.TheVariants.{Index};
 ghost use Rattle.snap_machine.specs.Reading.{seen_contents, seen_local};
-ghost use Rattle.snap_machine.specs.Seen.{seen_locals, seen_memory, seq_word, seq_words};
+ghost use Rattle.snap_machine.specs.Seen.{seen_locals};
 
 use crate::call::call;
-use crate::copies::{copy_processes, copy_words};
-use crate::fresh::{new_processes, new_words};
+use crate::copies::copy_processes;
+use crate::fresh::new_processes;
 use crate::local_lines::data_of;
 use crate::locals::{find_row, find_scalar, find_view, find_words};
 use crate::process::Process;
-use crate::reading::{Contents, Local, RegisterFault};
+use crate::reading::{Contents, Local};
 use crate::step::step;
-use crate::word::Word;
 use snap_listing::Listing;
-use snap_semantics::{Item, Name, Op, Outcome, Status};
-use snap_words::{Address, Bank, Shape, View};
+use snap_regs::{RegisterFault, Registers};
+use snap_semantics::{BitBank, Item, Name, Op, Outcome, Status};
+use snap_words::{Address, Bank, Kind, Shape, View};
 use std::alloc::{AllocError, Global};
 use std::marker::Model;
 
 /// Processes that run a listing over registers, seen as the listing, the shape and the state.
 #[derive(Drop)]
-pub struct Machine {
+pub struct Machine<K: Kind> {
     alloc: Global,
     listing: Listing,
-    shape: Shape,
-    registers: Vec<Word>,
-    processes: Vec<Process>,
+    registers: Registers<K>,
+    processes: Vec<Process<K>>,
 }
 
-impl Model for Machine {
-    ghost use Rattle.std.specs.Prelude.{◌≡◌, length};
-    ghost use Rattle.snap_machine.specs.Standing.{Standing};
+impl<K: Kind> Model for Machine<K> {
+    ghost use Rattle.snap_machine.specs.Standing.{Standing, Stands};
 
     ghost Value = { Standing };
 
     ghost use Rattle.snap_machine.specs.Seen.{seen_state};
 
-    ghost view = { λ m. record { source = m.listing; shape = m.shape; state = seen_state m.listing m.registers.items m.processes.items } };
+    ghost view = { λ m. record {
+      source = m.listing;
+      shape = m.registers.shape;
+      state = seen_state K.parts m.listing m.registers.memory m.processes.items;
+    } };
 
-    ghost invariant = { λ m. (length m.registers.items ≡ m.shape.w) × (length m.processes.items ≡ m.shape.n) };
+    ghost invariant = { λ m. Stands K.TAG K.parts m.listing m.registers.shape m.processes.items };
 }
 
-impl Machine {
+impl<K: Kind> Machine<K> {
     /// A machine in the initial state.
-    pub fn new(alloc: Global, listing: &Listing, shape: Shape) -> Result<Machine, AllocError>
+    pub fn new(alloc: Global, listing: &Listing, shape: Shape) -> Result<Machine<K>, AllocError>
+        requires { listing.now.kind ≡ K.TAG }
         ensures { IfOk result (λ m.
             m ≡ record { source = listing.now; shape = shape; state = initial listing.now shape }) }
     {
-        // Its contract tells that the kind is seq, which the registers are made for.
-        let _kind = listing.kind();
-        let registers = new_words(alloc, shape, shape.w())?;
+        let registers = Registers::new(alloc, shape)?;
         let processes = new_processes(alloc, listing, shape)?;
         let listing = listing.copy(alloc)?;
         Ok(Machine {
             alloc,
             listing,
-            shape,
             registers,
             processes,
         })
@@ -88,15 +88,13 @@ impl Machine {
             Item::Step(i) => step(
                 self.alloc,
                 &self.listing,
-                self.shape,
-                self.registers.as_mut_slice(),
+                &mut self.registers,
                 self.processes.as_mut_slice(),
                 i,
             ),
             Item::Call(i, op) => Ok(call(
                 &self.listing,
-                self.shape,
-                self.registers.as_slice(),
+                &self.registers,
                 self.processes.as_mut_slice(),
                 i,
                 op,
@@ -106,7 +104,8 @@ impl Machine {
 
     /// The listing that it runs.
     pub fn listing(&self) -> &Listing
-        ensures { result.now ≡ self.now.source }
+        ensures value { result.now ≡ self.now.source }
+        ensures kind { self.now.source.kind ≡ K.TAG }
     {
         &self.listing
     }
@@ -116,7 +115,7 @@ impl Machine {
         ensures shape { result ≡ self.now.shape }
         ensures processes { length self.now.state.processes ≡ self.now.shape.n }
     {
-        self.shape
+        self.registers.shape()
     }
 
     /// How a process stands.
@@ -163,19 +162,22 @@ impl Machine {
         }
     }
 
-    /// The words of the registers, which kind seq has alone.
-    pub fn words(&self) -> &[Word]
-        ensures words { map seq_word result.now ≡ self.now.state.memory.words }
-        ensures alone { self.now.state.memory ≡ seen_memory result.now }
+    /// The registers.
+    pub fn registers(&self) -> &Registers<K>
+        ensures { result.now ≡ record { shape = self.now.shape; memory = self.now.state.memory } }
     {
-        self.registers.as_slice()
+        &self.registers
     }
 
     /// The values of the words.
     pub fn values(&self) -> Result<View, AllocError>
         ensures { IfOk result (λ v. v ≡ values self.now.state) }
     {
-        data_of(self.alloc, self.registers.as_slice(), self.shape.w())
+        data_of::<K>(
+            self.alloc,
+            self.registers.words(),
+            self.registers.shape().w(),
+        )
     }
 
     /// The numbers of the scalars of a process, in the order of declaration.
@@ -195,10 +197,10 @@ impl Machine {
     }
 
     /// The `words` locals of a process, in the order of declaration.
-    pub fn local_words(&self, i: u32) -> &[Vec<Word>]
+    pub fn local_words(&self, i: u32) -> &[Vec<K::Word>]
         requires { IsOneOf self.now.shape.n i }
         ensures { (process_at self.now.state i).locals.words
-            ≡ zip self.now.source.words (map (λ xs. seq_words xs.items) result.now) }
+            ≡ zip self.now.source.words (map (λ xs. map K.parts xs.items) result.now) }
     {
         self.processes[(i - 1) as usize].words.as_slice()
     }
@@ -212,49 +214,73 @@ impl Machine {
     }
 
     /// An equal machine.
-    pub fn copy(&self) -> Result<Machine, AllocError>
+    pub fn copy(&self) -> Result<Machine<K>, AllocError>
         ensures { IfOk result (λ m. m ≡ self.now) }
     {
+        let listing = self.listing.copy(self.alloc)?;
+        let registers = self.registers.copy(self.alloc)?;
+        let processes = copy_processes(self.alloc, self.processes.as_slice())?;
         Ok(Machine {
             alloc: self.alloc,
-            listing: self.listing.copy(self.alloc)?,
-            shape: self.shape,
-            registers: copy_words(self.alloc, self.registers.as_slice())?,
-            processes: copy_processes(self.alloc, self.processes.as_slice())?,
+            listing,
+            registers,
+            processes,
         })
     }
 
     /// What a register has.
-    pub fn register(&self, address: Address) -> Result<Contents<'_>, RegisterFault>
+    pub fn register(&self, address: Address) -> Result<Contents<'_, K>, RegisterFault>
         ensures { let read = contents self.now.state.memory address.bank address.i address.j in
-            MatchResult result (λ c. read ≡ Some (seen_contents c)) (λ e. (e ≡ Index) × (read ≡ None)) }
+            MatchResult result (λ c. read ≡ Some (seen_contents K.parts c)) (λ e. (e ≡ Index) × (read ≡ None)) }
     {
         match address.bank {
             Bank::R => {
-                if address.j == 0 && 0 < address.i && address.i <= self.shape.w() {
-                    let word = &self.registers[(address.i - 1) as usize];
-                    Ok(Contents::Word(word))
-                } else {
-                    Err(RegisterFault::Index)
-                }
+                check_lone(address.j)?;
+                Ok(Contents::Word(self.registers.word(address.i)?))
             }
-            Bank::Q | Bank::P | Bank::V => Err(RegisterFault::Index),
+            Bank::Q => {
+                let bit = self.registers.bit(BitBank::Q, address.i, address.j)?;
+                Ok(Contents::Bit(bit))
+            }
+            Bank::P => {
+                let bit = self.registers.bit(BitBank::P, address.i, address.j)?;
+                Ok(Contents::Bit(bit))
+            }
+            Bank::V => {
+                check_lone(address.j)?;
+                Ok(Contents::View(self.registers.view(address.i)?))
+            }
         }
     }
 
     /// The value of a local, if there is one of this name.
-    pub fn local(&self, i: u32, name: Name) -> Option<Local<'_>>
+    pub fn local(&self, i: u32, name: Name) -> Option<Local<'_, K>>
         requires { IsOneOf self.now.shape.n i }
-        ensures { option_map seen_local result ≡ local_value (process_at self.now.state i).locals name }
+        ensures { option_map (seen_local K.parts) result ≡ local_value (process_at self.now.state i).locals name }
     {
         let process = &self.processes[(i - 1) as usize];
         find_local(&self.listing, process, name)
     }
 }
 
+/// `Index` where a register that has one index alone is given a second.
+fn check_lone(j: u64) -> Result<(), RegisterFault>
+    ensures { MatchResult result (λ _. j ≡ 0) (λ e. (e ≡ Index) × (nat_eq j 0 ≡ false)) }
+{
+    if j == 0 {
+        Ok(())
+    } else {
+        Err(RegisterFault::Index)
+    }
+}
+
 /// The value of a local of a process, if there is one of this name.
-fn find_local<'a>(listing: &Listing, process: &'a Process, name: Name) -> Option<Local<'a>>
-    ensures { option_map seen_local result ≡ local_value (seen_locals listing.now process.now) name }
+fn find_local<'a, K: Kind>(
+    listing: &Listing,
+    process: &'a Process<K>,
+    name: Name,
+) -> Option<Local<'a, K>>
+    ensures { option_map (seen_local K.parts) result ≡ local_value (seen_locals K.parts listing.now process.now) name }
 {
     if let Some(number) = find_scalar(listing.scalars(), process.scalars.as_slice(), name) {
         return Some(Local::Number(number));
@@ -262,7 +288,7 @@ fn find_local<'a>(listing: &Listing, process: &'a Process, name: Name) -> Option
     if let Some(row) = find_row(listing.rows(), process.rows.as_slice(), name) {
         return Some(Local::Row(row));
     }
-    if let Some(words) = find_words(listing.words(), process.words.as_slice(), name) {
+    if let Some(words) = find_words::<K>(listing.words(), process.words.as_slice(), name) {
         return Some(Local::Words(words));
     }
     match find_view(listing.views(), process.views.as_slice(), name) {

@@ -19,7 +19,7 @@ use crate::process::Process;
 use crate::value::{Turn, condition_holds, expr_value, joined, number_at};
 use snap_listing::Listing;
 use snap_semantics::{Cause, Condition, Expr, Join, Name, Range};
-use snap_words::Shape;
+use snap_words::{Kind, Shape};
 use std::alloc::{AllocError, Global};
 
 /// How many places a quantifier goes over.
@@ -33,14 +33,14 @@ pub fn range_end(shape: Shape, range: Range) -> u64
 }
 
 /// The least place at which a condition holds.
-pub fn first_place(
+pub fn first_place<K: Kind>(
     listing: &Listing,
     turn: &Turn,
-    process: &Process,
+    process: &Process<K>,
     count: u64,
     condition: &Condition,
 ) -> Result<Option<u64>, Cause>
-    ensures { result ≡ first_place (seen_context listing.now turn.now process.now) count condition.now }
+    ensures { result ≡ first_place (seen_context K.parts listing.now turn.now process.now) count condition.now }
 {
     let mut found = None;
     for passed in 0..count {
@@ -62,14 +62,14 @@ fn first_of(found: Option<u64>, holds: bool, place: u64) -> Option<u64>
 }
 
 /// Whether a condition holds at every place.
-pub fn holds_at_all(
+pub fn holds_at_all<K: Kind>(
     listing: &Listing,
     turn: &Turn,
-    process: &Process,
+    process: &Process<K>,
     count: u64,
     condition: &Condition,
 ) -> Result<bool, Cause>
-    ensures { result ≡ holds_at_all (seen_context listing.now turn.now process.now) count condition.now }
+    ensures { result ≡ holds_at_all (seen_context K.parts listing.now turn.now process.now) count condition.now }
 {
     let mut all = true;
     for passed in 0..count {
@@ -80,15 +80,15 @@ pub fn holds_at_all(
 }
 
 /// A place's new value: the expression's where the condition holds, else the old one.
-fn row_value(
+fn row_value<K: Kind>(
     listing: &Listing,
     turn: &Turn,
-    process: &Process,
+    process: &Process<K>,
     name: Name,
     expr: &Expr,
     condition: &Option<Condition>,
 ) -> Result<u64, Cause>
-    ensures { result ≡ each_value (seen_context listing.now turn.now process.now) name expr.now condition.now }
+    ensures { result ≡ each_value (seen_context K.parts listing.now turn.now process.now) name expr.now condition.now }
 {
     match condition {
         None => expr_value(listing, turn, process, expr),
@@ -106,16 +106,16 @@ fn row_value(
 }
 
 /// The trap of the first place that has no new value, if one has none.
-pub fn check_values(
+pub fn check_values<K: Kind>(
     listing: &Listing,
     turn: &Turn,
-    process: &Process,
+    process: &Process<K>,
     count: u64,
     name: Name,
     expr: &Expr,
     condition: &Option<Condition>,
 ) -> Result<(), Cause>
-    ensures { result ≡ checked_values (seen_context listing.now turn.now process.now) count name expr.now condition.now }
+    ensures { result ≡ checked_values (seen_context K.parts listing.now turn.now process.now) count name expr.now condition.now }
 {
     for passed in 0..count {
         row_value(
@@ -131,18 +131,18 @@ pub fn check_values(
 }
 
 /// A row with the new values, and after them the old ones.
-pub fn new_row(
+pub fn new_row<K: Kind>(
     alloc: Global,
     listing: &Listing,
     turn: &Turn,
-    process: &Process,
+    process: &Process<K>,
     count: u64,
     name: Name,
     expr: &Expr,
     condition: &Option<Condition>,
 ) -> Result<Vec<u64>, Halt>
     ensures { IfAnswered result (λ r.
-        items_of r ≡ new_row (seen_context listing.now turn.now process.now) count name expr.now condition.now) }
+        items_of r ≡ new_row (seen_context K.parts listing.now turn.now process.now) count name expr.now condition.now) }
 {
     let old = row(listing.rows(), process.rows.as_slice(), name);
     let mut values = room(alloc, old.len())?;

@@ -1,23 +1,35 @@
 //! Lines that trap, and small runs.
-ghost use Rattle.std.specs.Prelude.{IsTrue, ◌↔◌};
+ghost use Rattle.std.specs.Prelude.{◌≡◌, IfOk, IsTrue, ◌↔◌};
 ghost use Rattle.snap_words.specs.Shape.{IsOneOf};
 
+mod marked;
+
 use crate::machine::Machine;
+use marked::Marked;
 use snap_listing::read;
-use snap_semantics::{Cause, Item, Op, Outcome, Reason};
-use snap_words::Shape;
-use std::alloc::Global;
+use snap_semantics::{BitBank, Cause, Item, Op, Outcome, Reason};
+use snap_words::{Address, Bank, Bits, Kind, Multi, Seq, Shape};
+use std::alloc::{AllocError, Global};
 use std::process::Abort;
 use std::test::Fail;
 
-const HEADER: &[u8] = b"kind seq\nscalar x\nrow m\nwords a\nview s\nscan 1\nupdate 1\n";
+const SEQ: &[u8] = b"kind seq\n";
+
+const BITS: &[u8] = b"kind bit\n";
+
+const MULTI: &[u8] = b"kind multi\n";
+
+const NAMES: &[u8] = b"scalar x\nrow m\nwords a\nview s\nscan 1\nupdate 1\n";
 
 const UPDATE: Op = Op::Update { word: 1, value: 5 };
 
 const SCAN: Op = Op::Scan;
 
 /// The lines of a listing, the operation that process 1 of 2 is asked for, the steps that go well, and why the next traps.
-const TRAPS: &[(&[u8], Op, u64, Cause)] = &[
+type Trap = (&'static [u8], Op, u64, Cause);
+
+/// Lines of every kind that has words with a sequence number.
+const SEQ_TRAPS: &[Trap] = &[
     (b"1: let x = m[0]\n2: finish\n", SCAN, 0, Cause::Index),
     (b"1: let x = m[3]\n2: finish\n", SCAN, 0, Cause::Index),
     (b"1: let x = seq(a[3])\n2: finish\n", SCAN, 0, Cause::Index),
@@ -130,6 +142,106 @@ const TRAPS: &[(&[u8], Op, u64, Cause)] = &[
     (b"1: call 2\n2: finish\n", UPDATE, 1, Cause::BadEnd),
 ];
 
+/// Lines with bits: places come first, then what is no bit, then the owner, then the end of the lines.
+const BIT_TRAPS: &[Trap] = &[
+    (b"1: bit x = q[0,1]\n2: finish\n", SCAN, 0, Cause::Index),
+    (b"1: bit x = q[1,3]\n2: finish\n", SCAN, 0, Cause::Index),
+    (b"1: bit x = q[2,2]\n", SCAN, 0, Cause::OffEnd),
+    (
+        b"1: let x = hand(a[3],1)\n2: finish\n",
+        SCAN,
+        0,
+        Cause::Index,
+    ),
+    (
+        b"1: let x = hand(a[1],0)\n2: finish\n",
+        SCAN,
+        0,
+        Cause::Index,
+    ),
+    (
+        b"1: let x = hand(a[1],3)\n2: finish\n",
+        SCAN,
+        0,
+        Cause::Index,
+    ),
+    (b"1: let x = hand(a[2],2)\n", SCAN, 0, Cause::OffEnd),
+    (b"1: put q[3,1] = 2\n2: finish\n", SCAN, 0, Cause::Index),
+    (b"1: put q[1,3] = m[9]\n2: finish\n", SCAN, 0, Cause::Index),
+    (b"1: put q[2,1] = 2\n2: finish\n", SCAN, 0, Cause::NotABit),
+    (b"1: put q[2,1] = 1\n", SCAN, 0, Cause::Owner),
+    (b"1: put q[1,2] = 1\n", SCAN, 0, Cause::OffEnd),
+    (
+        b"1: put r[3] = (arg, m, 2, s)\n2: finish\n",
+        UPDATE,
+        0,
+        Cause::Index,
+    ),
+    (
+        b"1: put r[2] = (arg, m, m[9], s)\n2: finish\n",
+        UPDATE,
+        0,
+        Cause::Index,
+    ),
+    (
+        b"1: put r[2] = (arg, m, 2, s)\n2: finish\n",
+        UPDATE,
+        0,
+        Cause::NotABit,
+    ),
+    (
+        b"1: let m[2] = 2\n2: put r[2] = (arg, m, 0, s)\n3: finish\n",
+        UPDATE,
+        1,
+        Cause::NotABit,
+    ),
+    (b"1: put r[2] = (arg, m, 1, s)\n", UPDATE, 0, Cause::Owner),
+    (b"1: put r[1] = (arg, m, 1, s)\n", UPDATE, 0, Cause::OffEnd),
+];
+
+/// Lines of kind multi, in whose banks a process has registers of its own beside the words.
+const MULTI_TRAPS: &[Trap] = &[
+    (b"1: bit x = p[3,1]\n2: finish\n", SCAN, 0, Cause::Index),
+    (b"1: put p[2,3] = 2\n2: finish\n", SCAN, 0, Cause::Index),
+    (b"1: put p[2,1] = 2\n2: finish\n", SCAN, 0, Cause::NotABit),
+    (b"1: put p[2,1] = 0\n", SCAN, 0, Cause::Owner),
+    (b"1: put p[1,2] = 0\n", SCAN, 0, Cause::OffEnd),
+    (b"1: put q[2,1] = 0\n", SCAN, 0, Cause::Owner),
+    (b"1: look s = v[0]\n2: finish\n", SCAN, 0, Cause::Index),
+    (b"1: look s = v[2]\n", SCAN, 0, Cause::OffEnd),
+    (b"1: put v[3] = s\n2: finish\n", SCAN, 0, Cause::Index),
+    (b"1: put v[2] = s\n", SCAN, 0, Cause::Owner),
+    (b"1: put v[1] = s\n", SCAN, 0, Cause::OffEnd),
+    (
+        b"1: put r[3] = (arg, me, 2)\n2: finish\n",
+        UPDATE,
+        0,
+        Cause::Index,
+    ),
+    (
+        b"1: put r[2] = (arg, m[9], 2)\n2: finish\n",
+        UPDATE,
+        0,
+        Cause::Index,
+    ),
+    (b"1: put r[2] = (arg, me, 2)\n", UPDATE, 0, Cause::NotABit),
+    (b"1: put r[2] = (arg, me, 1)\n", UPDATE, 0, Cause::OffEnd),
+];
+
+/// An update puts a word, a bit of each bank and a view; a scan reads them.
+const ROUND: &[u8] = b"10: look s = v[me]\n\
+11: bit x = q[1,2]\n\
+12: get a[1] = r[2]\n\
+13: view s = data(a)\n\
+14: return s\n\
+30: put r[word] = (arg, me, 1)\n\
+31: put q[me,2] = 1\n\
+32: put p[me,1] = 1\n\
+33: get a[2] = r[2]\n\
+34: view s = data(a)\n\
+35: put v[me] = s\n\
+36: finish\n";
+
 /// The unbounded single-writer snapshot listing.
 const SNAPSHOT: &[u8] = b"kind seq\n\
 scalar j c\n\
@@ -157,54 +269,131 @@ update 30\n\
 32: put r[me] = (arg, c, s)\n\
 33: finish\n";
 
-/// A machine of two processes and two words over these lines.
-fn machine_of(alloc: Global, lines: &[u8]) -> Result<Machine, Fail> {
-    let mut text = Vec::from_slice(alloc, HEADER)?;
-    text.extend_from_slice(lines)?;
-    let listing = read(alloc, text.as_slice())?;
+/// A text of these parts.
+fn text_of(alloc: Global, parts: &[&[u8]]) -> Result<Vec<u8>, AllocError> {
+    let mut text = Vec::new(alloc);
+    for part in parts {
+        text.extend_from_slice(part)?;
+    }
+    Ok(text)
+}
+
+/// A machine of two processes and two words over this text.
+fn machine_of<K: Kind>(rt: &impl Abort, alloc: Global, text: &[u8]) -> Result<Machine<K>, Fail> {
+    let listing = read(alloc, text)?;
+    assert!(rt; listing.kind() == K::TAG);
     let shape = Shape::new(2, 2)?;
     Ok(Machine::new(alloc, &listing, shape)?)
 }
 
 /// Whether there is a process of this number.
-fn has(machine: &Machine, i: u32) -> bool
+fn has<K: Kind>(machine: &Machine<K>, i: u32) -> bool
     ensures { IsTrue result ↔ IsOneOf machine.now.shape.n i }
 {
     0 < i && u64::from(i) <= machine.shape().n()
 }
 
 /// A step of process 1.
-fn step(rt: &impl Abort, machine: &mut Machine) -> Result<Outcome, Fail> {
+fn step<K: Kind>(rt: &impl Abort, machine: &mut Machine<K>) -> Result<Outcome, Fail> {
     assert!(rt; has(machine, 1));
     Ok(machine.apply(Item::Step(1))?)
 }
 
 /// A call of process 1.
-fn call(rt: &impl Abort, machine: &mut Machine, op: Op) -> Result<Outcome, Fail> {
+fn call<K: Kind>(rt: &impl Abort, machine: &mut Machine<K>, op: Op) -> Result<Outcome, Fail> {
     assert!(rt; has(machine, 1));
     Ok(machine.apply(Item::Call(1, op))?)
 }
 
-#[test]
-fn traps(rt: HostRuntime) -> Result<(), Fail> {
-    for (lines, op, steps, cause) in TRAPS {
-        let mut machine = machine_of(rt.alloc(), lines)?;
-        assert!(rt; matches!(call(&rt, &mut machine, *op)?, Outcome::Called));
+/// Each line traps as the table says.
+fn check_traps<K: Kind>(
+    rt: &impl Abort,
+    alloc: Global,
+    kind: &[u8],
+    traps: &[Trap],
+) -> Result<(), Fail> {
+    for (lines, op, steps, cause) in traps {
+        let text = text_of(alloc, &[kind, NAMES, lines])?;
+        let mut machine = machine_of::<K>(rt, alloc, text.as_slice())?;
+        assert!(rt; matches!(call(rt, &mut machine, *op)?, Outcome::Called));
         for _ in 0..*steps {
-            assert!(rt; matches!(step(&rt, &mut machine)?, Outcome::Stepped));
+            assert!(rt; matches!(step(rt, &mut machine)?, Outcome::Stepped));
         }
-        match step(&rt, &mut machine)? {
+        match step(rt, &mut machine)? {
             Outcome::Trapped(found) => assert_eq!(rt; found, *cause, "{lines:?}"),
             other => assert!(rt; false, "{lines:?}: {other:?}"),
         }
-        assert!(rt; matches!(step(&rt, &mut machine)?, Outcome::Skipped(Reason::Trapped)));
+        assert!(rt; matches!(step(rt, &mut machine)?, Outcome::Skipped(Reason::Trapped)));
     }
     Ok(())
 }
 
 #[test]
+fn seq_lines_trap(rt: HostRuntime) -> Result<(), Fail> {
+    check_traps::<Seq>(&rt, rt.alloc(), SEQ, SEQ_TRAPS)
+}
+
+#[test]
+fn bit_lines_trap(rt: HostRuntime) -> Result<(), Fail> {
+    check_traps::<Bits>(&rt, rt.alloc(), BITS, BIT_TRAPS)
+}
+
+#[test]
+fn multi_lines_trap(rt: HostRuntime) -> Result<(), Fail> {
+    check_traps::<Multi>(&rt, rt.alloc(), MULTI, MULTI_TRAPS)?;
+    check_traps::<Marked>(&rt, rt.alloc(), MULTI, MULTI_TRAPS)
+}
+
+/// Steps of process 1 to the end of its operation.
+fn finish<K: Kind>(rt: &impl Abort, machine: &mut Machine<K>) -> Result<Outcome, Fail> {
+    for _ in 0..20 {
+        match step(rt, machine)? {
+            Outcome::Stepped => {}
+            other => return Ok(other),
+        }
+    }
+    Ok(Outcome::Skipped(Reason::Busy))
+}
+
+/// An update of word 2 by process 1, and its scan after it.
+fn go_round<K: Kind>(rt: &impl Abort, alloc: Global) -> Result<(), Fail> {
+    let names = b"scalar x\nrow m\nwords a\nview s\nscan 10\nupdate 30\n".as_slice();
+    let text = text_of(alloc, &[MULTI, names, ROUND])?;
+    let mut machine = machine_of::<K>(rt, alloc, text.as_slice())?;
+    call(rt, &mut machine, Op::Update { word: 2, value: 7 })?;
+    assert!(rt; matches!(finish(rt, &mut machine)?, Outcome::Finished));
+    let registers = machine.registers();
+    assert_eq!(rt; registers.bit(BitBank::Q, 1, 2)?, 1);
+    assert_eq!(rt; registers.bit(BitBank::P, 1, 1)?, 1);
+    assert_eq!(rt; registers.view(1)?.as_slice(), [0, 7].as_slice());
+    assert_eq!(rt; machine.values()?.as_slice(), [0, 7].as_slice());
+    let lone = Address {
+        bank: Bank::R,
+        i: 2,
+        j: 1,
+    };
+    assert!(rt; machine.register(lone).is_err());
+    let mut copy = machine.copy()?;
+    call(rt, &mut copy, SCAN)?;
+    match finish(rt, &mut copy)? {
+        Outcome::Answered(view) => assert_eq!(rt; view.as_slice(), [7, 7].as_slice()),
+        other => assert!(rt; false, "{other:?}"),
+    }
+    assert!(rt; has(&copy, 1));
+    assert_eq!(rt; copy.local_scalars(1), [1].as_slice());
+    Ok(())
+}
+
+#[test]
+fn kinds_go_round_alike(rt: HostRuntime) -> Result<(), Fail> {
+    go_round::<Multi>(&rt, rt.alloc())?;
+    go_round::<Marked>(&rt, rt.alloc())
+}
+
+#[test]
 fn skips(rt: HostRuntime) -> Result<(), Fail> {
-    let mut machine = machine_of(rt.alloc(), b"1: finish\n")?;
+    let text = text_of(rt.alloc(), &[SEQ, NAMES, b"1: finish\n"])?;
+    let mut machine = machine_of::<Seq>(&rt, rt.alloc(), text.as_slice())?;
     assert!(rt; matches!(step(&rt, &mut machine)?, Outcome::Skipped(Reason::Idle)));
     for (word, reason) in [
         (2, Reason::NotOwner),
@@ -227,8 +416,9 @@ fn skips(rt: HostRuntime) -> Result<(), Fail> {
 }
 
 /// A machine over the snapshot listing, after a call of an update and so many steps of process 1, which is alone.
-fn updating(rt: &impl Abort, alloc: Global, steps: u64) -> Result<Machine, Fail> {
+fn updating(rt: &impl Abort, alloc: Global, steps: u64) -> Result<Machine<Seq>, Fail> {
     let listing = read(alloc, SNAPSHOT)?;
+    assert!(rt; listing.kind() == Seq::TAG);
     let mut machine = Machine::new(alloc, &listing, Shape::new(1, 1)?)?;
     call(rt, &mut machine, Op::Update { word: 1, value: 7 })?;
     for _ in 0..steps {

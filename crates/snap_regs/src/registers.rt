@@ -11,7 +11,7 @@ ghost use Rattle.snap_regs.specs.Store.{HasColumns, IsOfShape, rows_in, with_wor
 ghost use Rattle.snap_regs.specs.declared.fault.RegisterFault.TheVariants.{Index, Owner};
 
 use crate::fault::RegisterFault;
-use crate::rows::{bank_of, place_in, set_bit, zero_rows};
+use crate::rows::{bank_of, copy_rows, place_in, set_bit, zero_rows};
 use snap_semantics::BitBank;
 use snap_words::{Address, Bank, Kind, Shape, View};
 use std::alloc::{AllocError, Global};
@@ -54,6 +54,17 @@ fn initial_words<K: Kind>(alloc: Global, shape: Shape) -> Result<Vec<K::Word>, A
         words.push(K::initial(alloc, shape)?)?;
     }
     Ok(words)
+}
+
+/// Equal words.
+fn copy_words<K: Kind>(alloc: Global, words: &[K::Word]) -> Result<Vec<K::Word>, AllocError>
+    ensures { IfOk result (λ copies. copies.items ≡ words.now) }
+{
+    let mut copies = Vec::new(alloc);
+    for word in words {
+        copies.push(K::copy(alloc, word)?)?;
+    }
+    Ok(copies)
 }
 
 /// The place of a bit, its row and column counted from 0.
@@ -145,7 +156,7 @@ impl<K: Kind> Registers<K> {
             (λ _. contents self.now.memory (bank_of bits) i j ≡ None) }
     {
         let (row, column) = bit_place::<K>(self.shape, bits, i, j)?;
-        Ok(self.rows(bits)[row].as_slice()[column])
+        Ok(self.bits(bits)[row].as_slice()[column])
     }
 
     /// View `i`, or `Index` where there is none.
@@ -220,7 +231,7 @@ impl<K: Kind> Registers<K> {
     }
 
     /// The rows of a bank of bits.
-    fn rows(&self, bits: BitBank) -> &[View]
+    pub fn bits(&self, bits: BitBank) -> &[View]
         ensures value { result.now ≡ bits_of bits self.now.memory }
         ensures row_count { length result.now ≡ rows_in K.TAG self.now.shape (bank_of bits) }
         ensures columns { HasColumns self.now.shape.n result.now }
@@ -236,6 +247,26 @@ impl<K: Kind> Registers<K> {
         ensures { map K.parts result.now ≡ self.now.memory.words }
     {
         self.words.as_slice()
+    }
+
+    /// Equal registers.
+    pub fn copy(&self, alloc: Global) -> Result<Registers<K>, AllocError>
+        ensures { IfOk result (λ r. r ≡ self.now) }
+    {
+        Ok(Registers {
+            shape: self.shape,
+            words: copy_words::<K>(alloc, self.words.as_slice())?,
+            q: copy_rows(alloc, self.q.as_slice())?,
+            p: copy_rows(alloc, self.p.as_slice())?,
+            views: copy_rows(alloc, self.views.as_slice())?,
+        })
+    }
+
+    /// The views.
+    pub fn views(&self) -> &[View]
+        ensures { result.now ≡ self.now.memory.views }
+    {
+        self.views.as_slice()
     }
 }
 

@@ -43,6 +43,17 @@ pub(crate) fn zero_rows(alloc: Global, count: u64, columns: u64) -> Result<Vec<V
     Ok(rows)
 }
 
+/// Equal rows.
+pub(crate) fn copy_rows(alloc: Global, rows: &[View]) -> Result<Vec<View>, AllocError>
+    ensures { IfOk result (λ copies. copies.items ≡ rows.now) }
+{
+    let mut copies = Vec::new(alloc);
+    for row in rows {
+        copies.push(row.copy(alloc)?)?;
+    }
+    Ok(copies)
+}
+
 /// Sets a bit of the rows, its place counted from 0.
 pub(crate) fn set_bit(rows: &mut [View], row: usize, column: usize, bit: u64)
     requires row_in { row < length rows.old }

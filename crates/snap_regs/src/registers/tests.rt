@@ -90,5 +90,9 @@ fn multi(rt: HostRuntime) -> Result<(), Fail> {
     assert_eq!(rt; registers.put_view(1, 1, view), Ok(()));
     assert_eq!(rt; registers.view(1)?.as_slice(), [3, 4].as_slice());
     assert_eq!(rt; registers.shape().w(), 2);
+    let copy = registers.copy(rt.alloc())?;
+    assert_eq!(rt; copy.views()[0].as_slice(), [3, 4].as_slice());
+    assert_eq!(rt; copy.bits(BitBank::P)[0].as_slice(), [1].as_slice());
+    assert_eq!(rt; data(&copy)?, [Some(0), Some(7)]);
     Ok(())
 }

@@ -8,6 +8,6 @@ use Rattle.snap_machine.proofs.Places.{left_of}
 use Rattle.snap_machine.proofs.quantifiers.check_values.Given as goal
 
 abbrev pub invariant-loop-passed : goal.invariant-loop-passed
-invariant-loop-passed l =
-    (left_of (λ p. each_value (at_place (seen_context l.listing l.turn l.process) p) l.name l.expr l.condition) l.passed l.count >>= λ vs. Ok tt)
-    ≡ checked_values (seen_context l.listing l.turn l.process) l.count l.name l.expr l.condition
+invariant-loop-passed g l =
+    (left_of (λ p. each_value (at_place (seen_context g.K.Kind.parts l.listing l.turn l.process) p) l.name l.expr l.condition) l.passed l.count >>= λ vs. Ok tt)
+    ≡ checked_values (seen_context g.K.Kind.parts l.listing l.turn l.process) l.count l.name l.expr l.condition

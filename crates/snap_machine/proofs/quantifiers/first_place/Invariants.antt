@@ -9,6 +9,6 @@ use Rattle.snap_machine.proofs.Places.{left_of}
 use Rattle.snap_machine.proofs.quantifiers.first_place.Given as goal
 
 abbrev pub invariant-loop-passed : goal.invariant-loop-passed
-invariant-loop-passed l =
-    (left_of (λ p. condition_holds (at_place (seen_context l.listing l.turn l.process) p) l.condition) l.passed l.count >>= λ bs. Ok (or_else l.found (first_true (l.passed + 1) bs)))
-    ≡ first_place (seen_context l.listing l.turn l.process) l.count l.condition
+invariant-loop-passed g l =
+    (left_of (λ p. condition_holds (at_place (seen_context g.K.Kind.parts l.listing l.turn l.process) p) l.condition) l.passed l.count >>= λ bs. Ok (or_else l.found (first_true (l.passed + 1) bs)))
+    ≡ first_place (seen_context g.K.Kind.parts l.listing l.turn l.process) l.count l.condition

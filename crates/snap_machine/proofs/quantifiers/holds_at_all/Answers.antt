@@ -8,27 +8,27 @@ use Rattle.std.proofs.lemmas.Result.{err_from_is_err_and}
 use Rattle.snap_machine.proofs.quantifiers.holds_at_all.Goals as goal
 
 pub returns-in_err-holds : goal.returns-in_err-holds
-returns-in_err-holds c =
+returns-in_err-holds g c =
     let s = c.args.listing.now in
     let p = c.args.process.now in
     let k = c.args.condition.now in
     let passed = c.loop-passed.passed in
-    let context : Context = seen_context s c.args.turn.now p in
+    let context : Context = seen_context g.K.Kind.parts s c.args.turn.now p in
     let is : condition_holds (at_place context (passed + 1)) k ≡ Err c.in_err-holds.field-0.0 =
-    ap (λ (t : Turn). condition_holds (seen_context s t p) k) (sym c.at.ensures) ∙ sym c.condition_holds.ensures ∙ c.in_err-holds.was in
+    ap (λ (t : Turn). condition_holds (seen_context g.K.Kind.parts s t p) k) (sym c.at.ensures) ∙ sym c.condition_holds.ensures ∙ c.in_err-holds.was in
     let left : List Bool → Bool = λ bs. c.loop-passed.all && all_true bs in
     let e = err_from_is_err_and c.from_residual.result c.from_residual.ensures.1 in
     rw (e.1, e.2) (sym (trap_place (λ q. condition_holds (at_place context q) k) left passed c.args.count c.in_err-holds.field-0.0 (omega arith) is) ∙ c.loop-passed.invariant)
 
 pub loop-passed-preserved : goal.loop-passed-preserved
-loop-passed-preserved c =
+loop-passed-preserved g c =
     let s = c.args.listing.now in
     let p = c.args.process.now in
     let k = c.args.condition.now in
     let passed = c.loop-passed.passed in
-    let context : Context = seen_context s c.args.turn.now p in
+    let context : Context = seen_context g.K.Kind.parts s c.args.turn.now p in
     let is : condition_holds (at_place context (passed + 1)) k ≡ Ok c.in_ok-holds.holds =
-    ap (λ (t : Turn). condition_holds (seen_context s t p) k) (sym c.at.ensures) ∙ sym c.condition_holds.ensures ∙ c.in_ok-holds.was in
+    ap (λ (t : Turn). condition_holds (seen_context g.K.Kind.parts s t p) k) (sym c.at.ensures) ∙ sym c.condition_holds.ensures ∙ c.in_ok-holds.was in
     let left : List Bool → Bool = λ bs. c.loop-passed.all && all_true bs in
     let left' : List Bool → Bool = λ bs. c.joined-all.result && all_true bs in
     let b = c.in_ok-holds.holds in

@@ -1,13 +1,19 @@
-use Rattle.std.proofs.Common.{ℕ, replicate, ap, ◌∙◌}
-use Rattle.snap_words.specs.Kind.{initial_word}
-use Rattle.snap_words.specs.declared.kind.KindTag.TheVariants.{Seq}
-use Rattle.snap_semantics.specs.State.{initial_process}
-use Rattle.snap_machine.specs.Seen.{seen_process, seq_word}
+use Rattle.std.proofs.Common.{◌≡◌, map, sym, subst}
+use Rattle.std.proofs.lemmas.List.Elements.{All-replicate}
+use Rattle.snap_semantics.specs.State.{Process, initial_process}
+use Rattle.snap_machine.specs.Seen.{seen_process}
+use Rattle.snap_machine.specs.Sizes.{AllSized, AreSized}
 use Rattle.snap_machine.proofs.Replicas.{length_of_map}
+use Rattle.snap_machine.proofs.Sizes.{AreSized-initial}
 use Rattle.snap_machine.proofs.machine.Machine.new.Goals as goal
 
 pub invariant_of-result : goal.invariant_of-result
-invariant_of-result c = (
-  length_of_map seq_word c.in_ok-registers.registers.items c.args.shape.w (initial_word Seq c.args.shape) (c.in_ok-registers.ensures ∙ ap (λ (n : ℕ). replicate n (initial_word Seq c.args.shape)) c.w.ensures),
-  length_of_map (seen_process c.args.listing.now) c.in_ok-processes.processes.items c.args.shape.n (initial_process c.args.listing.now c.args.shape) c.in_ok-processes.ensures,
-)
+invariant_of-result g c =
+    let parts = g.K.Kind.parts in
+    let s = c.args.listing.now in
+    let shape = c.args.shape in
+    let processes = c.in_ok-processes.processes.items in
+    let sized : AllSized s shape (map (seen_process parts s) processes) =
+    subst (AllSized s shape) (sym c.in_ok-processes.ensures) (All-replicate (λ (p : Process). AreSized s shape p.locals) shape.n (initial_process s shape) (AreSized-initial s shape)) in
+    rw (c.in_ok-listing.ensures, c.in_ok-registers.ensures.0)
+    (record { kind = c.requires; process_count = length_of_map (seen_process parts s) processes shape.n (initial_process s shape) c.in_ok-processes.ensures; sized = sized })

@@ -1,0 +1,11 @@
+use Rattle.std.proofs.Common.{List, map, ap, ◌∙◌}
+use Rattle.snap_regs.specs.Store.{Store}
+use Rattle.snap_machine.specs.Seen.{seen_process}
+use Rattle.snap_machine.proofs.Stands.{stands_copy}
+use Rattle.snap_machine.proofs.machine.Machine.copy.Goals as goal
+
+pub invariant_of-result : goal.invariant_of-result
+invariant_of-result g c =
+    let inside = c.self.inside in
+    stands_copy g.K.Kind.TAG g.K.Kind.parts inside.listing c.in_ok-listing.listing inside.registers.shape c.in_ok-registers.registers.shape inside.processes.items c.in_ok-processes.processes.items
+    c.self.invariant c.in_ok-listing.ensures (ap (λ (r : Store). r.shape) c.in_ok-registers.ensures) (c.in_ok-processes.ensures inside.listing ∙ ap (map (seen_process g.K.Kind.parts inside.listing)) c.as_slice.ensures.value)

@@ -11,7 +11,7 @@ use crate::header::{Header, is_among};
 use snap_semantics::{
     BitBank, Comparison, Condition, Expr, Index, Instr, ListingRefusal, Name, Sort, Term, Tuple,
 };
-use snap_words::{Bank, Field, KindTag};
+use snap_words::{Bank, Bits, Field, Kind, KindTag, Multi, Seq};
 
 /// The sort of a declared name.
 fn sort_of(header: &Header, name: &Name) -> Option<Sort>
@@ -69,11 +69,10 @@ fn bank_of(bits: BitBank) -> Bank
 fn has_bank(kind: KindTag, bank: Bank) -> bool
     ensures { result ≡ has_bank kind bank }
 {
-    match (kind, bank) {
-        (_, Bank::R) => true,
-        (KindTag::Seq, _) => false,
-        (KindTag::Bits, bank) => bank == Bank::Q,
-        (KindTag::Multi, _) => true,
+    match kind {
+        KindTag::Seq => Seq::has_bank(bank),
+        KindTag::Bits => Bits::has_bank(bank),
+        KindTag::Multi => Multi::has_bank(bank),
     }
 }
 

@@ -1,7 +1,7 @@
 //! Quantifiers: what holds, and what the values are, at the places from 1 on. The operands of a place are all taken
 //! before those of the next.
 ghost use Rattle.std.specs.Prelude.{◌≡◌, [], ◌∷◌, ◌++◌, drop, if◌then◌else◌, IfOk, OnOk};
-ghost use Rattle.snap_semantics.specs.Readers.{or_else};
+ghost use Rattle.snap_semantics.specs.Forms.{or_else};
 ghost use Rattle.snap_semantics.specs.Table.{each_value, range_end};
 ghost use Rattle.snap_machine.specs.Lines.{IfAnswered};
 ghost use Rattle.snap_machine.specs.Quantifiers.{

@@ -1,11 +1,11 @@
 -- What a machine does, item by item, put together.
-use Rattle.std.proofs.Common.{◌≡◌, ℕ, zero, suc, ◌+◌, ◌-◌, ◌<◌, ◌≤◌, List, [], ◌∷◌, ◌++◌, length, take, drop, get_or, replicate, Result, Ok, refl, sym, ◌∙◌, ap, append_assoc, append-nil, length-append, add-one, subst, arith}
+use Rattle.std.proofs.Common.{◌≡◌, ℕ, zero, suc, ◌+◌, ◌-◌, ◌<◌, ◌≤◌, List, [], ◌∷◌, ◌++◌, length, take, get_or, refl, sym, ◌∙◌, ap, append_assoc, append-nil, length-append, subst, arith}
 use Rattle.std.proofs.Common.{min, ◌⊎◌, inl, inr, take_all}
 use Rattle.std.proofs.Math.Seq.{take-append-add}
 use Rattle.std.proofs.lemmas.Bool.{cases_lt}
 use Rattle.std.proofs.lemmas.Grind.{flat_map-append}
 use Rattle.std.proofs.lemmas.List.{length-replicate, length-take, replicate-append-replicate, take-append-le, take-replicate, take_more}
-use Rattle.std.specs.List.{AllByRecursion, flat_map}
+use Rattle.std.specs.List.{AllByRecursion}
 use Rattle.snap_words.specs.Shape.{IsOneOf}
 use Rattle.snap_words.specs.Shape.{Counts}
 use Rattle.snap_semantics.specs.Run.{after, events, event_of}
@@ -20,7 +20,7 @@ use Rattle.snap_semantics.specs.declared.process.Item.{Item}
 use Rattle.snap_semantics.specs.declared.process.Item.TheVariants as item
 use Rattle.snap_semantics.specs.declared.process.Outcome.{Outcome}
 use Rattle.snap_program.specs.declared.course.Course.{Course}
-use Rattle.snap_program.specs.Courses.{GoesOn, of_option, steps}
+use Rattle.snap_program.specs.Courses.{GoesOn, steps}
 
 -- items one after the other
 after_append : (s : Source) (n : Counts) (S : State) (xs ys : List Item) → after s n S (xs ++ ys) ≡ after s n (after s n S xs) ys
@@ -37,7 +37,7 @@ events_append s n S t (x ∷ xs) ys =
     ∙ sym (append_assoc (event_of t x (done s n S x).1) (events s n (done s n S x).0 (t + 1) xs) (events s n (after s n S (x ∷ xs)) (t + suc (length xs)) ys))
 
 -- no items
-pub no_items : (old : Course) → GoesOn old [] old
+pub no_items : {K W : Type 0} (old : Course K W) → GoesOn old [] old
 no_items old = record {
   source = refl;
   shape = refl;
@@ -47,7 +47,7 @@ no_items old = record {
 }
 
 -- one item
-pub one_item : (old new : Course) (x : Item) (o : Outcome) (event : List Event)
+pub one_item : {K W : Type 0} (old new : Course K W) (x : Item) (o : Outcome) (event : List Event)
     → done old.machine.source old.machine.shape old.machine.state x ≡ (new.machine.state, o)
     → new.machine.source ≡ old.machine.source → new.machine.shape ≡ old.machine.shape
     → event ≡ event_of (old.position + 1) x o → new.events.items ≡ old.events.items ++ event
@@ -64,7 +64,7 @@ one_item old new x o event is_done source shape is_event more position = record 
 }
 
 -- first these items, then those
-pub goes_further : (old mid new : Course) (xs ys : List Item) → GoesOn old xs mid → GoesOn mid ys new → GoesOn old (xs ++ ys) new
+pub goes_further : {K W : Type 0} (old mid new : Course K W) (xs ys : List Item) → GoesOn old xs mid → GoesOn mid ys new → GoesOn old (xs ++ ys) new
 goes_further old mid new xs ys h k =
     let n = old.machine.shape in
     let s = old.machine.source in
@@ -85,7 +85,7 @@ goes_further old mid new xs ys h k =
     }
 
 -- one step more
-pub one_more_step : (old mid new : Course) (count i : ℕ) → GoesOn old (steps count i) mid → GoesOn mid (item.Step i ∷ []) new → GoesOn old (steps (count + 1) i) new
+pub one_more_step : {K W : Type 0} (old mid new : Course K W) (count i : ℕ) → GoesOn old (steps count i) mid → GoesOn mid (item.Step i ∷ []) new → GoesOn old (steps (count + 1) i) new
 one_more_step old mid new count i h k =
     let P : List Item → Type 0 = λ xs. GoesOn old xs new in
     subst P (replicate-append-replicate count 1 (item.Step i)) (goes_further old mid new (steps count i) (item.Step i ∷ []) h k)
@@ -102,7 +102,7 @@ first_steps most count i = first_steps_by most count i (cases_lt most count)
         ∙ ap (λ n. steps n i) (let e : count ≡ min most count = omega (arith, h) in e)
 
 -- the first steps of a run of them
-pub steps_of_run : (old new : Course) (run : Run) (most count i : ℕ) → run ≡ runs.Steps i count → GoesOn old (steps (min most count) i) new → GoesOn old (take most (run_items run)) new
+pub steps_of_run : {K W : Type 0} (old new : Course K W) (run : Run) (most count i : ℕ) → run ≡ runs.Steps i count → GoesOn old (steps (min most count) i) new → GoesOn old (take most (run_items run)) new
 steps_of_run old new run most count i is h =
     let P : List Item → Type 0 = λ xs. GoesOn old xs new in
     subst P (sym (ap (λ r. take most (run_items r)) is ∙ first_steps most count i)) h
@@ -128,11 +128,11 @@ items_of_more rs k d lt =
     ∙ ap (λ xs. items_of_runs (take k rs) ++ xs) (append-nil (run_items (get_or rs k d)))
 
 -- no more than so many items are done
-pub within : (old mid : Course) (count : ℕ) (xs : List Item) → GoesOn old (take count xs) mid → mid.position ≤ old.position + count
+pub within : {K W : Type 0} (old mid : Course K W) (count : ℕ) (xs : List Item) → GoesOn old (take count xs) mid → mid.position ≤ old.position + count
 within old mid count xs h = let e = h.position in let l = length-take count xs in omega (arith, e, l)
 
 -- one run more
-pub one_more_run : (old mid new : Course) (count k : ℕ) (rs : List Run) (d : Run) → k < length rs
+pub one_more_run : {K W : Type 0} (old mid new : Course K W) (count k : ℕ) (rs : List Run) (d : Run) → k < length rs
     → GoesOn old (take count (items_of_runs (take k rs))) mid
     → GoesOn mid (take (old.position + count - mid.position) (run_items (get_or rs k d))) new
     → GoesOn old (take count (items_of_runs (take (k + 1) rs))) new
@@ -147,7 +147,7 @@ one_more_run old mid new count k rs d lt h more =
     subst P (sym taken) (goes_further old mid new (take count before) (take (old.position + count - mid.position) next) h more)
 
 -- all runs
-pub all_runs : (old new : Course) (count k : ℕ) (rs : List Run) (xs : List Item) → length rs ≤ k → items_of_runs rs ≡ xs
+pub all_runs : {K W : Type 0} (old new : Course K W) (count k : ℕ) (rs : List Run) (xs : List Item) → length rs ≤ k → items_of_runs rs ≡ xs
     → GoesOn old (take count (items_of_runs (take k rs))) new → GoesOn old (take count xs) new
 all_runs old new count k rs xs all is h =
     let P : List Item → Type 0 = λ ys. GoesOn old ys new in

@@ -3,7 +3,6 @@ use Rattle.std.proofs.Common.{◌≡◌, ℕ, zero, suc, ◌+◌, ◌<◌, ◌�
 use Rattle.std.proofs.Math.ListN.{get_or-map}
 use Rattle.std.proofs.lemmas.List.{length-map}
 use Rattle.snap_semantics.specs.Source.{Name}
-use Rattle.snap_semantics.specs.State.{Named}
 use Rattle.snap_semantics.specs.Report.{locals_lines}
 
 zip_next : {A : Type 0} (f : Name → A → List ℕ) (names : List Name) (values : List A) (k : ℕ) (x : Name) (v : A)

@@ -15,7 +15,7 @@ abbrev pub steps : ℕ → ℕ → List Item
 steps count i = replicate count (item.Step i)
 
 -- what was done, once more of these items are
-pub record GoesOn (old : Course) (items : List Item) (new : Course) : Type 0 where
+pub record GoesOn {K W : Type 0} (old : Course K W) (items : List Item) (new : Course K W) : Type 0 where
   pub source : new.machine.source ≡ old.machine.source
   pub shape : new.machine.shape ≡ old.machine.shape
   pub state : new.machine.state ≡ after old.machine.source old.machine.shape old.machine.state items

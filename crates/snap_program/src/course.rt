@@ -13,13 +13,13 @@ use snap_listing::Listing;
 use snap_machine::Machine;
 use snap_sched::{Items, Run};
 use snap_semantics::{Event, Happening, Item, Outcome};
-use snap_words::Shape;
+use snap_words::{Kind, Shape};
 use std::alloc::{AllocError, Global};
 
 /// A machine, the events of the items that it has done, and how many these are.
 #[derive(Drop)]
-pub struct Course {
-    pub machine: Machine,
+pub struct Course<K: Kind> {
+    pub machine: Machine<K>,
     pub events: Vec<Event>,
     pub position: u64,
 }
@@ -83,9 +83,10 @@ fn push_event(events: &mut Vec<Event>, event: Option<Event>) -> Result<(), Alloc
     }
 }
 
-impl Course {
+impl<K: Kind> Course<K> {
     /// Before the first item.
-    pub fn new(alloc: Global, listing: &Listing, shape: Shape) -> Result<Course, AllocError>
+    pub fn new(alloc: Global, listing: &Listing, shape: Shape) -> Result<Course<K>, AllocError>
+        requires { listing.now.kind ≡ K.TAG }
         ensures { IfOk result (λ c. (c.machine ≡ record { source = listing.now; shape = shape; state = initial listing.now shape })
             × (c.events.items ≡ []) × (c.position ≡ 0)) }
     {

@@ -11,8 +11,10 @@ mod parts;
 mod performing;
 mod process_text;
 mod reading;
+mod register_text;
 mod report;
 mod standard;
+mod word_text;
 mod writing;
 
 pub use conducting::conduct;

@@ -1,11 +1,10 @@
 //! A listing under a schedule, with debugger commands.
 ghost use Rattle.std.specs.Prelude.{◌≡◌, ◌++◌, IfOk, OnOk};
-ghost use Rattle.snap_words.specs.Kind.{fits};
 ghost use Rattle.snap_semantics.specs.Answers.{refused_as};
 ghost use Rattle.snap_semantics.specs.Listing.{listing_of};
 ghost use Rattle.snap_semantics.specs.Perform.{
   command_text,
-  fitting,
+  perform_listing,
   perform_of,
   performance,
   position_after,
@@ -26,7 +25,7 @@ use snap_listing::Listing;
 use snap_sched::Schedule;
 use snap_semantics::{Command, Refusal};
 use snap_text::push_text;
-use snap_words::{KindTag, Shape, WordFault};
+use snap_words::{Bits, Kind, KindTag, Multi, Seq, WordFault};
 use std::alloc::{AllocError, Global};
 
 /// Reads a listing.
@@ -41,27 +40,6 @@ fn read_schedule(alloc: Global, text: &[u8]) -> Result<Schedule, Fault>
     ensures { Gives (λ s. s) result (refused_as refusal.Schedule (schedule_of text.now)) }
 {
     Ok(snap_sched::read(alloc, text)?)
-}
-
-/// Whether a shape fits a kind of registers.
-fn fits(kind: KindTag, shape: Shape) -> bool
-    ensures { result ≡ fits kind shape }
-{
-    match kind {
-        KindTag::Seq | KindTag::Bits => shape.w() == shape.n(),
-        KindTag::Multi => true,
-    }
-}
-
-/// Sees that the shape of a schedule fits the kind of a listing.
-fn check_fit(listing: &Listing, schedule: &Schedule) -> Result<(), Fault>
-    ensures { Gives (λ done. schedule.now) result (fitting listing.now schedule.now) }
-{
-    if fits(listing.kind(), schedule.shape()) {
-        Ok(())
-    } else {
-        Err(Fault::Refused(Refusal::Words(WordFault::BadShape)))
-    }
 }
 
 /// The position that a command leads to.
@@ -127,19 +105,20 @@ fn replies_text(out: &mut Vec<u8>, total: u64, commands: &[Command]) -> Result<u
 }
 
 /// What a listing does under a schedule, as commands ask for it.
-fn performance(
+fn performance<K: Kind>(
     alloc: Global,
     listing: &Listing,
     schedule: &Schedule,
     commands: &[Command],
 ) -> Result<Vec<u8>, AllocError>
+    requires { listing.now.kind ≡ K.TAG }
     ensures { IfOk result (λ out. out.items ≡ performance listing.now schedule.now commands.now) }
 {
     let items = schedule.items();
     let total = items.len();
     let mut out = Vec::new(alloc);
     let position = replies_text(&mut out, total, commands)?;
-    let mut course = Course::new(alloc, listing, schedule.shape())?;
+    let mut course = Course::<K>::new(alloc, listing, schedule.shape())?;
     course.apply_first(items, position)?;
     report(
         &mut out,
@@ -149,6 +128,25 @@ fn performance(
         total,
     )?;
     Ok(out)
+}
+
+/// What commands are answered on a listing of a kind under a schedule, and the report of the position reached.
+#[tactic(auto, unfolding(snap_semantics::specs::Perform::perform_listing))]
+fn perform_kind<K: Kind>(
+    alloc: Global,
+    listing: &Listing,
+    schedule: &[u8],
+    commands: &[u8],
+) -> Result<Vec<u8>, Fault>
+    requires { listing.now.kind ≡ K.TAG }
+    ensures { Gives (λ out. out.items) result (perform_listing listing.now schedule.now commands.now) }
+{
+    let schedule = read_schedule(alloc, schedule)?;
+    if !K::fits(schedule.shape()) {
+        return Err(Fault::Refused(Refusal::Words(WordFault::BadShape)));
+    }
+    let commands = read_commands(alloc, commands)?;
+    Ok(performance::<K>(alloc, listing, &schedule, commands.as_slice())?)
 }
 
 /// What commands are answered on a listing under a schedule, and the report of the position reached, as text.
@@ -162,8 +160,9 @@ pub fn perform(
     ensures { Gives (λ out. out.items) result (perform_of listing.now schedule.now commands.now) }
 {
     let listing = read_listing(alloc, listing)?;
-    let schedule = read_schedule(alloc, schedule)?;
-    check_fit(&listing, &schedule)?;
-    let commands = read_commands(alloc, commands)?;
-    Ok(performance(alloc, &listing, &schedule, commands.as_slice())?)
+    match listing.kind() {
+        KindTag::Seq => perform_kind::<Seq>(alloc, &listing, schedule, commands),
+        KindTag::Bits => perform_kind::<Bits>(alloc, &listing, schedule, commands),
+        KindTag::Multi => perform_kind::<Multi>(alloc, &listing, schedule, commands),
+    }
 }

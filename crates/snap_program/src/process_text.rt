@@ -1,6 +1,5 @@
 //! The printed texts of processes and their locals.
 ghost use Rattle.std.specs.Prelude.{◌≡◌, ◌++◌, OnOk, zip, map, vec_items};
-ghost use Rattle.snap_words.specs.declared.kind.KindTag.TheVariants.{Seq};
 ghost use Rattle.snap_words.specs.Shape.{IsOneOf};
 ghost use Rattle.snap_semantics.specs.State.{process_at};
 ghost use Rattle.snap_semantics.specs.Report.{
@@ -17,14 +16,14 @@ ghost use Rattle.snap_semantics.specs.Report.{
   process_lines,
   processes_lines,
 };
-ghost use Rattle.snap_machine.specs.Seen.{seq_word, seq_words};
 ghost use Rattle.snap_program.specs.ReportLines.{place_text};
 
-use crate::report::{op_text, word_text};
-use snap_machine::{Machine, Word};
+use crate::report::op_text;
+use crate::word_text::word_text;
+use snap_machine::Machine;
 use snap_semantics::{Cause, Name, Status};
 use snap_text::{push_number, push_numbers, push_text};
-use snap_words::View;
+use snap_words::{Kind, KindTag, View};
 use std::alloc::AllocError;
 
 /// Why a process trapped.
@@ -127,21 +126,32 @@ fn place_text(out: &mut Vec<u8>, name: &Name, place: u64) -> Result<(), AllocErr
 
 /// A place of a `words` local.
 #[tactic(auto, using(snap_text::proofs::Texts::joined))]
-fn word_local(out: &mut Vec<u8>, name: &Name, place: u64, word: &Word) -> Result<(), AllocError>
-    ensures { OnOk result (out.new.items ≡ out.old.items ++ word_local Seq name.now place (seq_word word.now)) }
+fn word_local<K: Kind>(
+    out: &mut Vec<u8>,
+    kind: KindTag,
+    name: &Name,
+    place: u64,
+    word: &K::Word,
+) -> Result<(), AllocError>
+    ensures { OnOk result (out.new.items ≡ out.old.items ++ word_local kind name.now place (K.parts word.now)) }
 {
     place_text(out, name, place)?;
-    word_text(out, word)?;
+    word_text::<K>(out, kind, word)?;
     push_text(out, b"\n")
 }
 
 /// The places of a `words` local.
-fn words_local(out: &mut Vec<u8>, name: &Name, words: &[Word]) -> Result<(), AllocError>
-    ensures { OnOk result (out.new.items ≡ out.old.items ++ words_local Seq name.now 1 (seq_words words.now)) }
+fn words_local<K: Kind>(
+    out: &mut Vec<u8>,
+    kind: KindTag,
+    name: &Name,
+    words: &[K::Word],
+) -> Result<(), AllocError>
+    ensures { OnOk result (out.new.items ≡ out.old.items ++ words_local kind name.now 1 (map K.parts words.now)) }
 {
     let mut k = 0;
     while k < words.len() {
-        word_local(out, name, k as u64 + 1, &words[k])?;
+        word_local::<K>(out, kind, name, k as u64 + 1, &words[k])?;
         k += 1;
     }
     Ok(())
@@ -175,13 +185,18 @@ fn row_lines(out: &mut Vec<u8>, names: &[Name], rows: &[Vec<u64>]) -> Result<(),
 
 /// The `words` locals.
 #[tactic(auto, using(crate::proofs::Lines::no_name_left, crate::proofs::Lines::no_value_left))]
-fn words_lines(out: &mut Vec<u8>, names: &[Name], words: &[Vec<Word>]) -> Result<(), AllocError>
+fn words_lines<K: Kind>(
+    out: &mut Vec<u8>,
+    kind: KindTag,
+    names: &[Name],
+    words: &[Vec<K::Word>],
+) -> Result<(), AllocError>
     ensures { OnOk result (out.new.items ≡ out.old.items
-        ++ locals_lines (λ x vs. words_local Seq x 1 vs) (zip names.now (map (λ xs. seq_words xs.items) words.now))) }
+        ++ locals_lines (λ x vs. words_local kind x 1 vs) (zip names.now (map (λ xs. map K.parts xs.items) words.now))) }
 {
     let mut k = 0;
     while k < names.len() && k < words.len() {
-        words_local(out, &names[k], words[k].as_slice())?;
+        words_local::<K>(out, kind, &names[k], words[k].as_slice())?;
         k += 1;
     }
     Ok(())
@@ -202,30 +217,30 @@ fn view_lines(out: &mut Vec<u8>, names: &[Name], views: &[View]) -> Result<(), A
 
 /// The locals of process i, sort by sort.
 #[tactic(auto, using(snap_text::proofs::Texts::joined))]
-fn locals_text(out: &mut Vec<u8>, machine: &Machine, i: u32) -> Result<(), AllocError>
+fn locals_text<K: Kind>(out: &mut Vec<u8>, machine: &Machine<K>, i: u32) -> Result<(), AllocError>
     requires { IsOneOf machine.now.shape.n i }
-    ensures { OnOk result (out.new.items ≡ out.old.items ++ locals_text Seq (process_at machine.now.state i).locals) }
+    ensures { OnOk result (out.new.items ≡ out.old.items ++ locals_text machine.now.source.kind (process_at machine.now.state i).locals) }
 {
     let listing = machine.listing();
     scalar_lines(out, listing.scalars(), machine.local_scalars(i))?;
     row_lines(out, listing.rows(), machine.local_rows(i))?;
-    words_lines(out, listing.words(), machine.local_words(i))?;
+    words_lines::<K>(out, listing.kind(), listing.words(), machine.local_words(i))?;
     view_lines(out, listing.views(), machine.local_views(i))
 }
 
 /// The lines of process i.
 #[tactic(auto, using(snap_text::proofs::Texts::joined))]
-fn process_lines(out: &mut Vec<u8>, machine: &Machine, i: u32) -> Result<(), AllocError>
+fn process_lines<K: Kind>(out: &mut Vec<u8>, machine: &Machine<K>, i: u32) -> Result<(), AllocError>
     requires { IsOneOf machine.now.shape.n i }
-    ensures { OnOk result (out.new.items ≡ out.old.items ++ process_lines Seq i (process_at machine.now.state i)) }
+    ensures { OnOk result (out.new.items ≡ out.old.items ++ process_lines machine.now.source.kind i (process_at machine.now.state i)) }
 {
     head_line(out, u64::from(i), &machine.status(i))?;
     locals_text(out, machine, i)
 }
 
 /// The lines of the processes, from process 1 on.
-pub fn processes_lines(out: &mut Vec<u8>, machine: &Machine) -> Result<(), AllocError>
-    ensures { OnOk result (out.new.items ≡ out.old.items ++ processes_lines Seq 1 machine.now.state.processes) }
+pub fn processes_lines<K: Kind>(out: &mut Vec<u8>, machine: &Machine<K>) -> Result<(), AllocError>
+    ensures { OnOk result (out.new.items ≡ out.old.items ++ processes_lines machine.now.source.kind 1 machine.now.state.processes) }
 {
     let shape = machine.shape();
     for k in 0..shape.n() {

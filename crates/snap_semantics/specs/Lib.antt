@@ -21,6 +21,11 @@ pub mod Spelling
 pub mod IsListing
 pub mod Layout
 pub mod CanonicalText
+pub mod ImageCodes
+pub mod Image
+pub mod ImageForms
+pub mod ImageInstrs
+pub mod ImageListing
 pub mod Report
 pub mod CommandForms
 pub mod Commands

@@ -49,11 +49,16 @@ performance l s cs = replies_text (length s.items) 0 cs ++ report_at l s (reache
 abbrev pub fitting : Source → Schedule → Result Schedule Refusal
 fitting l s = if fits l.kind s.shape then Ok s else Err (refusal.Words BadShape)
 
--- what is written for three texts, or the first reason why nothing is
-unfoldable pub perform_of : List ℕ → List ℕ → List ℕ → Result (List ℕ) Refusal
-perform_of listing schedule commands = do
-  l ← refused_as refusal.Listing (listing_of listing)
+-- what is written for a listing and two texts, or the first reason why nothing is
+unfoldable pub perform_listing : Source → List ℕ → List ℕ → Result (List ℕ) Refusal
+perform_listing l schedule commands = do
   s ← refused_as refusal.Schedule (schedule_of schedule)
   fit ← fitting l s
   cs ← refused_as refusal.Commands (commands_of commands)
   Ok (performance l s cs)
+
+-- and for three texts
+unfoldable pub perform_of : List ℕ → List ℕ → List ℕ → Result (List ℕ) Refusal
+perform_of listing schedule commands = do
+  l ← refused_as refusal.Listing (listing_of listing)
+  perform_listing l schedule commands

@@ -2,6 +2,7 @@
 #![tactic(auto)]
 
 mod event;
+mod image;
 mod instr;
 mod name;
 mod process;
@@ -9,10 +10,11 @@ mod refusal;
 mod text;
 
 pub use event::{Event, Happening};
+pub use image::{ExprTag, Form, TermTag};
 pub use instr::{
     BitBank, Comparison, Condition, Expr, Index, Instr, Join, Line, Range, Relation, Term, Tuple,
 };
 pub use name::Name;
 pub use process::{Activity, Cause, Item, Op, Outcome, Reason, Status};
-pub use refusal::{CommandRefusal, ListingRefusal, Refusal, ScheduleRefusal};
+pub use refusal::{CommandRefusal, ImageRefusal, ListingRefusal, Refusal, ScheduleRefusal};
 pub use text::{Command, Mark, Sort, Sub, Task};

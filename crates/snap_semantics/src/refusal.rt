@@ -68,6 +68,30 @@ pub enum CommandRefusal {
     TooLong,
 }
 
+/// Why bytes are no image of a listing.
+#[derive(Clone, Copy, Debug, PartialEq, Eq, Error)]
+pub enum ImageRefusal {
+    /// The first four bytes are not those of an image.
+    #[error("I1 NotAnImage")]
+    NotAnImage,
+    /// A version that is not known.
+    #[error("I2 Version")]
+    Version,
+    /// A byte is missing.
+    #[error("I3 Truncated")]
+    Truncated,
+    /// A byte that is no code in its place; places count from 0.
+    #[error("I4 BadCode {0}")]
+    BadCode(u64),
+    /// A rule of listings that is broken. The number is the line's place among the lines, from 1, and 0 before the first
+    /// line; of `NoSuchLine` it is the target.
+    #[error("I5 Invalid {0}")]
+    Invalid(ListingRefusal),
+    /// Bytes behind the last line.
+    #[error("I6 Extra")]
+    Extra,
+}
+
 /// Why the program refuses its input.
 #[derive(Clone, Copy, Debug, PartialEq, Eq, Error)]
 pub enum Refusal {

@@ -1,5 +1,5 @@
 use Rattle.std.proofs.Common.{◌≡◌, ℕ, ◌+◌, Bool, List, Option, Ok, Err, sym, ap, ◌∙◌, arith}
-use Rattle.snap_semantics.specs.Readers.{or_else}
+use Rattle.snap_semantics.specs.Forms.{or_else}
 use Rattle.snap_semantics.specs.Table.{first_true}
 use Rattle.snap_semantics.specs.Value.{Context, at_place, condition_holds}
 use Rattle.snap_machine.specs.declared.value.Turn.{Turn}

@@ -1,6 +1,6 @@
 use Rattle.std.proofs.Common.{◌≡◌, ◌+◌, Ok}
 use Rattle.snap_semantics.specs.Answers.{◌>>=◌}
-use Rattle.snap_semantics.specs.Readers.{or_else}
+use Rattle.snap_semantics.specs.Forms.{or_else}
 use Rattle.snap_semantics.specs.Table.{first_true}
 use Rattle.snap_semantics.specs.Value.{at_place, condition_holds}
 use Rattle.snap_machine.specs.Quantifiers.{first_place}

@@ -5,4 +5,4 @@ use Rattle.snap_program.proofs.course.Course.apply_first.Given as goal
 
 -- the first items of the runs that were passed are done
 abbrev pub invariant-loop-run : goal.invariant-loop-run
-invariant-loop-run l = GoesOn l.fn.self (take l.count (items_of_runs (take l.run-index l.run-items))) l.self
+invariant-loop-run g l = GoesOn l.fn.self (take l.count (items_of_runs (take l.run-index l.run-items))) l.self

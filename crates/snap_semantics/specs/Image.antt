@@ -1,0 +1,170 @@
+-- The image of a listing: one string of bytes. Numbers have two or eight bytes, the highest first. A name is said by its slot,
+-- its place among the names of its sort from 0; a target by its line number.
+use Rattle.std.specs.Int.{w16, w64, to_be_bytes}
+use Rattle.std.specs.Prelude.{ℕ, ◌+◌, List, [], ◌∷◌, ◌++◌, length, Option, Some, None, bytes_eq, codes, if◌then◌else◌}
+use Rattle.snap_words.specs.declared.kind.Field.{Field}
+use Rattle.snap_words.specs.declared.kind.Field.TheVariants as field
+use Rattle.snap_semantics.specs.declared.image.ExprTag.TheVariants as exprs
+use Rattle.snap_semantics.specs.declared.image.Form.{Form}
+use Rattle.snap_semantics.specs.declared.image.Form.TheVariants as form
+use Rattle.snap_semantics.specs.declared.image.TermTag.{TermTag}
+use Rattle.snap_semantics.specs.declared.image.TermTag.TheVariants as tag
+use Rattle.snap_semantics.specs.declared.instr.BitBank.{BitBank}
+use Rattle.snap_semantics.specs.declared.instr.BitBank.TheVariants as bits
+use Rattle.snap_semantics.specs.declared.instr.Comparison.{Comparison}
+use Rattle.snap_semantics.specs.declared.instr.Condition.{Condition}
+use Rattle.snap_semantics.specs.declared.instr.Condition.TheVariants.{One, Two, Three, Four}
+use Rattle.snap_semantics.specs.declared.instr.Expr.{Expr}
+use Rattle.snap_semantics.specs.declared.instr.Expr.TheVariants as expr
+use Rattle.snap_semantics.specs.declared.instr.Index.{Index}
+use Rattle.snap_semantics.specs.declared.instr.Index.TheVariants as index
+use Rattle.snap_semantics.specs.declared.instr.Instr.{Instr}
+use Rattle.snap_semantics.specs.declared.instr.Instr.TheVariants.{Let, LetPlace, Get, Bit, Look, Put, PutBit, PutView, ViewData, ViewOf, Each, First, Next, If, IfAll, Goto, Call, Return, Finish}
+use Rattle.snap_semantics.specs.declared.instr.Line.{Line}
+use Rattle.snap_semantics.specs.declared.instr.Term.{Term}
+use Rattle.snap_semantics.specs.declared.instr.Term.TheVariants as term
+use Rattle.snap_semantics.specs.declared.instr.Tuple.{Tuple}
+use Rattle.snap_semantics.specs.declared.instr.Tuple.TheVariants as tuple
+use Rattle.snap_semantics.specs.ImageCodes.{kind_code, term_code, expr_code, relation_code, join_code, range_code, form_code}
+use Rattle.snap_semantics.specs.Source.{Name, Source}
+
+-- the place of a name, counted from 0; as many as there are for a name that is not among them
+abbrev pub slot : List Name → Name → ℕ
+slot [] x = 0
+slot (n ∷ ns) x = if bytes_eq x n then 0 else slot ns x + 1
+
+abbrev pub index_image : Source → Index → List ℕ
+index_image s (index.Number k) = term_code tag.Number ∷ to_be_bytes w64 k
+index_image s index.Processes = term_code tag.Processes ∷ []
+index_image s index.Words = term_code tag.Words ∷ []
+index_image s index.Me = term_code tag.Me ∷ []
+index_image s index.Word = term_code tag.Word ∷ []
+index_image s index.Place = term_code tag.Place ∷ []
+index_image s (index.Scalar x) = term_code tag.Scalar ∷ slot s.scalars x ∷ []
+
+abbrev pub field_tag : Field → TermTag
+field_tag field.Seq = tag.Seq
+field_tag field.Datum = tag.Datum
+field_tag field.Toggle = tag.Toggle
+field_tag field.Id = tag.Id
+
+abbrev pub term_image : Source → Term → List ℕ
+term_image s (term.Index i) = index_image s i
+term_image s term.Arg = term_code tag.Arg ∷ []
+term_image s (term.Row x i) = term_code tag.Row ∷ slot s.rows x ∷ index_image s i
+term_image s (term.Field f x i) = term_code (field_tag f) ∷ slot s.words x ∷ index_image s i
+term_image s (term.Hand x i j) = term_code tag.Hand ∷ slot s.words x ∷ (index_image s i ++ index_image s j)
+
+abbrev pub expr_image : Source → Expr → List ℕ
+expr_image s (expr.Term t) = expr_code exprs.Term ∷ term_image s t
+expr_image s (expr.Sum t u) = expr_code exprs.Sum ∷ (term_image s t ++ term_image s u)
+expr_image s (expr.Not t) = expr_code exprs.Not ∷ term_image s t
+
+abbrev pub comparison_image : Source → Comparison → List ℕ
+comparison_image s k = relation_code k.relation ∷ (term_image s k.left ++ term_image s k.right)
+
+-- how many comparisons, how they are joined, and each of them; one alone has the join `and`
+abbrev pub condition_image : Source → Condition → List ℕ
+condition_image s (One k) = 1 ∷ 0 ∷ comparison_image s k
+condition_image s (Two j k l) = 2 ∷ join_code j ∷ (comparison_image s k ++ comparison_image s l)
+condition_image s (Three j k l m) = 3 ∷ join_code j ∷ (comparison_image s k ++ (comparison_image s l ++ comparison_image s m))
+condition_image s (Four j k l m o) =
+    4 ∷ join_code j ∷ (comparison_image s k ++ (comparison_image s l ++ (comparison_image s m ++ comparison_image s o)))
+
+abbrev pub where_image : Source → Option Condition → List ℕ
+where_image s None = 0 ∷ []
+where_image s (Some k) = 1 ∷ condition_image s k
+
+abbrev pub tuple_form : Tuple → Form
+tuple_form (tuple.Seq d q v) = form.PutSeq
+tuple_form (tuple.Bits d h t v) = form.PutBits
+tuple_form (tuple.Multi d i t) = form.PutMulti
+
+abbrev pub tuple_image : Source → Tuple → List ℕ
+tuple_image s (tuple.Seq d q v) = expr_image s d ++ (expr_image s q ++ slot s.views v ∷ [])
+tuple_image s (tuple.Bits d h t v) = expr_image s d ++ slot s.rows h ∷ (expr_image s t ++ slot s.views v ∷ [])
+tuple_image s (tuple.Multi d i t) = expr_image s d ++ (expr_image s i ++ expr_image s t)
+
+abbrev pub bit_form : BitBank → Form
+bit_form bits.Q = form.BitQ
+bit_form bits.P = form.BitP
+
+abbrev pub put_bit_form : BitBank → Form
+put_bit_form bits.Q = form.PutQ
+put_bit_form bits.P = form.PutP
+
+-- the form of an instruction
+abbrev pub form_of : Instr → Form
+form_of (Let x e) = form.Let
+form_of (LetPlace x i e) = form.LetPlace
+form_of (Get x i j) = form.Get
+form_of (Bit x b i j) = bit_form b
+form_of (Look x i) = form.Look
+form_of (Put i t) = tuple_form t
+form_of (PutBit b i j e) = put_bit_form b
+form_of (PutView i x) = form.PutView
+form_of (ViewData x y) = form.ViewData
+form_of (ViewOf x y i) = form.ViewOf
+form_of (Each g x e k) = form.Each
+form_of (First x g k target) = form.First
+form_of (Next x g target) = form.Next
+form_of (If k target) = form.If
+form_of (IfAll g k target) = form.IfAll
+form_of (Goto target) = form.Goto
+form_of (Call target) = form.Call
+form_of (Return x) = form.Return
+form_of Finish = form.Finish
+
+-- what stands behind its code
+abbrev pub operands_image : Source → Instr → List ℕ
+operands_image s (Let x e) = slot s.scalars x ∷ expr_image s e
+operands_image s (LetPlace x i e) = slot s.rows x ∷ (index_image s i ++ expr_image s e)
+operands_image s (Get x i j) = slot s.words x ∷ (index_image s i ++ index_image s j)
+operands_image s (Bit x b i j) = slot s.scalars x ∷ (index_image s i ++ index_image s j)
+operands_image s (Look x i) = slot s.views x ∷ index_image s i
+operands_image s (Put i t) = index_image s i ++ tuple_image s t
+operands_image s (PutBit b i j e) = index_image s i ++ (index_image s j ++ expr_image s e)
+operands_image s (PutView i x) = index_image s i ++ slot s.views x ∷ []
+operands_image s (ViewData x y) = slot s.views x ∷ slot s.words y ∷ []
+operands_image s (ViewOf x y i) = slot s.views x ∷ slot s.words y ∷ index_image s i
+operands_image s (Each g x e k) = range_code g ∷ slot s.rows x ∷ (expr_image s e ++ where_image s k)
+operands_image s (First x g k target) = slot s.scalars x ∷ range_code g ∷ (condition_image s k ++ to_be_bytes w16 target)
+operands_image s (Next x g target) = slot s.scalars x ∷ range_code g ∷ to_be_bytes w16 target
+operands_image s (If k target) = condition_image s k ++ to_be_bytes w16 target
+operands_image s (IfAll g k target) = range_code g ∷ (condition_image s k ++ to_be_bytes w16 target)
+operands_image s (Goto target) = to_be_bytes w16 target
+operands_image s (Call target) = to_be_bytes w16 target
+operands_image s (Return x) = slot s.views x ∷ []
+operands_image s Finish = []
+
+abbrev pub line_image : Source → Line → List ℕ
+line_image s line = to_be_bytes w16 line.number ++ form_code (form_of line.instr) ∷ operands_image s line.instr
+
+abbrev pub lines_image : Source → List Line → List ℕ
+lines_image s [] = []
+lines_image s (line ∷ lines) = line_image s line ++ lines_image s lines
+
+-- each name behind its length
+abbrev pub names_image : List Name → List ℕ
+names_image [] = []
+names_image (x ∷ xs) = length x ∷ (x ++ names_image xs)
+
+-- the names of a sort, behind their count
+abbrev pub table_image : List Name → List ℕ
+table_image xs = length xs ∷ names_image xs
+
+-- the first four bytes of an image, and its version
+abbrev pub signature : List ℕ
+signature = codes "SNAP"
+
+abbrev pub version : ℕ
+version = 1
+
+-- the bytes before the first line
+abbrev pub head_image : Source → List ℕ
+head_image s =
+    signature ++ version ∷ kind_code s.kind ∷ (table_image s.scalars ++ (table_image s.rows ++ (table_image s.words ++ (table_image s.views
+    ++ (to_be_bytes w16 s.scan ++ (to_be_bytes w16 s.update ++ to_be_bytes w16 (length s.lines)))))))
+
+abbrev pub image_of : Source → List ℕ
+image_of s = head_image s ++ lines_image s s.lines

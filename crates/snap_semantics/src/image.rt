@@ -1,0 +1,59 @@
+//! What the codes of an image stand for.
+
+/// The tag of a term.
+#[derive(Clone, Copy, Debug, PartialEq, Eq)]
+pub enum TermTag {
+    Number,
+    /// `n`.
+    Processes,
+    /// `w`.
+    Words,
+    Me,
+    Word,
+    Arg,
+    /// `@`.
+    Place,
+    Scalar,
+    Row,
+    Seq,
+    Datum,
+    Hand,
+    Toggle,
+    Id,
+}
+
+/// The tag of an expression.
+#[derive(Clone, Copy, Debug, PartialEq, Eq)]
+pub enum ExprTag {
+    Term,
+    Sum,
+    Not,
+}
+
+/// The form of an instruction.
+#[derive(Clone, Copy, Debug, PartialEq, Eq)]
+pub enum Form {
+    Let,
+    LetPlace,
+    Get,
+    BitQ,
+    BitP,
+    Look,
+    PutSeq,
+    PutBits,
+    PutMulti,
+    PutQ,
+    PutP,
+    PutView,
+    ViewData,
+    ViewOf,
+    Each,
+    First,
+    Next,
+    If,
+    IfAll,
+    Goto,
+    Call,
+    Return,
+    Finish,
+}

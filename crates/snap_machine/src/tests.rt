@@ -1,5 +1,5 @@
 //! Lines that trap, and small runs.
-ghost use Rattle.std.specs.Prelude.{◌≡◌, IfOk, IsTrue, ◌↔◌};
+ghost use Rattle.std.specs.Prelude.{IsTrue, ◌↔◌};
 ghost use Rattle.snap_words.specs.Shape.{IsOneOf};
 
 mod marked;
@@ -28,7 +28,7 @@ const SCAN: Op = Op::Scan;
 /// The lines of a listing, the operation that process 1 of 2 is asked for, the steps that go well, and why the next traps.
 type Trap = (&'static [u8], Op, u64, Cause);
 
-/// Lines of every kind that has words with a sequence number.
+/// Lines of kind seq.
 const SEQ_TRAPS: &[Trap] = &[
     (b"1: let x = m[0]\n2: finish\n", SCAN, 0, Cause::Index),
     (b"1: let x = m[3]\n2: finish\n", SCAN, 0, Cause::Index),

@@ -1,11 +1,7 @@
-use Rattle.std.proofs.Common.{◌≡◌, ap, sym, subst, true, Ok, Result, ◌∙◌}
-use Rattle.snap_words.specs.Kind.{is_sized}
-use Rattle.snap_words.specs.Shape.{Counts}
-use Rattle.snap_words.specs.Word.{Word}
+use Rattle.std.proofs.Common.{◌≡◌, ap, sym, subst, Ok}
 use Rattle.snap_words.specs.declared.kind.KindTag.{KindTag}
 use Rattle.snap_semantics.specs.Table.{tuple_word}
 use Rattle.snap_semantics.specs.Value.{Context}
-use Rattle.snap_semantics.specs.declared.process.Cause.{Cause}
 use Rattle.snap_machine.specs.Given.{given_word, word_in}
 use Rattle.snap_machine.specs.Seen.{seen_context}
 use Rattle.snap_machine.proofs.Tuples.{Suits, word_suits}

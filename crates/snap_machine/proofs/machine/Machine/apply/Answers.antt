@@ -1,4 +1,4 @@
-use Rattle.std.proofs.Common.{rules, ◌≡◌, length, refl, sym, ap, ◌∙◌, arith}
+use Rattle.std.proofs.Common.{rules, ◌≡◌, length, refl, ap, ◌∙◌}
 use Rattle.snap_machine.proofs.Stands.{stands_after}
 use Rattle.snap_machine.proofs.machine.Machine.apply.Goals as goal
 

@@ -1,4 +1,4 @@
-use Rattle.std.proofs.Common.{List, map, ap, ◌∙◌}
+use Rattle.std.proofs.Common.{map, ap, ◌∙◌}
 use Rattle.snap_regs.specs.Store.{Store}
 use Rattle.snap_machine.specs.Seen.{seen_process}
 use Rattle.snap_machine.proofs.Stands.{stands_copy}

@@ -11,7 +11,7 @@ use Rattle.snap_semantics.specs.declared.process.Op.TheVariants.{Scan, Update}
 use Rattle.snap_runs.proofs.Algorithm as typed
 use Rattle.snap_runs.proofs.Algorithm.{Task, Scanning, Embedded, Updating, value_of, To, Begin, Answer, Finish, Algorithm}
 use Rattle.snap_runs.proofs.Embedding.{map_same}
-use Rattle.snap_runs.proofs.Flow.{Lines}
+use Rattle.snap_runs.proofs.Flow.{Lines, IsScanOf, IsUpdateOf}
 use Rattle.snap_runs.proofs.Held.{word_at, seq_at}
 use Rattle.snap_runs.proofs.Places.{for_each}
 use Rattle.snap_bounded.specs.ListingB as listing
@@ -313,14 +313,10 @@ algorithm n = record {
 
 -- which task a line belongs to; the word of an update is the process's own
 abbrev pub IsScan : ℕ → Task → Type 0
-IsScan me Scanning = Unit {0}
-IsScan me (Embedded word value) = word ≡ me
-IsScan me (Updating word value) = ⊥
+IsScan me d = IsScanOf (λ word. word ≡ me) d
 
 abbrev pub IsUpdate : ℕ → Task → Type 0
-IsUpdate me Scanning = ⊥
-IsUpdate me (Embedded word value) = ⊥
-IsUpdate me (Updating word value) = word ≡ me
+IsUpdate me d = IsUpdateOf (λ word. word ≡ me) d
 
 abbrev pub IsLineOf : ℕ → Task → ProgramCounter → Type 0
 IsLineOf me d L40 = IsUpdate me d

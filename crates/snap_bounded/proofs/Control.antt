@@ -10,7 +10,7 @@ use Rattle.snap_semantics.specs.declared.process.Op.{Op}
 use Rattle.snap_semantics.specs.declared.process.Op.TheVariants.{Scan, Update}
 use Rattle.snap_semantics.specs.declared.process.Reason.{Reason}
 use Rattle.snap_semantics.specs.declared.process.Reason.TheVariants.{NoSuchWord, NotOwner}
-use Rattle.snap_runs.proofs.Algorithm.{Task, Scanning, Embedded, Updating, task_of, op_of, Idle, At, To, Begin, Answer, Finish, SameOp}
+use Rattle.snap_runs.proofs.Algorithm.{Task, Scanning, Embedded, Updating, task_of, op_of, Idle, At, WhenBusy, To, Begin, Answer, Finish, SameOp}
 use Rattle.snap_runs.proofs.Computing.{lt_from, same_from, either, whether}
 use Rattle.snap_runs.proofs.Embedding as embed
 use Rattle.snap_runs.proofs.Held.{word_at}
@@ -169,8 +169,7 @@ pub own_word : (n i word value : ℕ) → call_skip kind.Bits (square n) i (Upda
 own_word n i word value h = same_from word i (own_then (nat_lt 0 word && nat_le word n) (nat_eq word i) NoSuchWord NotOwner h)
 
 abbrev pub ControlWell : ℕ → ℕ → Variables → Control → Type 0
-ControlWell n me p Idle = Unit {0}
-ControlWell n me p (At d k) = IsLineOf me d k × VariablesAt n me p k
+ControlWell n me p control = WhenBusy (λ d k. IsLineOf me d k × VariablesAt n me p k) control
 
 pub called_well : (n me : ℕ) (p : Variables) (op : Op) → call_skip kind.Bits (square n) me op ≡ None →
     ControlWell n me p (At (task_of op) (counter op))

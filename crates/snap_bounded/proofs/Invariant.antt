@@ -3,7 +3,7 @@ use Rattle.std.specs.Prelude.{◌≡◌, ℕ, suc, ◌<◌, ◌≤◌, length, r
 use Rattle.std.proofs.Common.{sym, ◌∙◌, ap, subst, arith, inr}
 use Rattle.snap_words.specs.Shape.{IsOneOf}
 use Rattle.snap_words.specs.Word.{Word}
-use Rattle.snap_runs.proofs.Algorithm.{Idle, At, typed_at}
+use Rattle.snap_runs.proofs.Algorithm.{Idle, At, WhenBusy, typed_at}
 use Rattle.snap_runs.proofs.Flow.{InScan}
 use Rattle.snap_runs.proofs.Held.{word_at, held_wider, seq_at}
 use Rattle.snap_bounded.proofs.Algorithm.{Words, Registers, Control, Process, State, Variables, place, bit_for, algorithm}
@@ -18,8 +18,7 @@ use Rattle.snap_bounded.proofs.Count.{Count}
 
 -- a busy process is at the stage of its line
 abbrev pub StageAt : ℕ → ℕ → (ℕ → Words) → ℕ → ℕ → ℕ → Words → Variables → Control → Type 0
-StageAt n i history t since round words p Idle = Unit {0}
-StageAt n i history t since round words p (At d k) = Stage n i history t since round words p k
+StageAt n i history t since round words p control = WhenBusy (λ d k. Stage n i history t since round words p k) control
 
 abbrev pub ToggledAt : ℕ → Variables → Control → Type 0
 ToggledAt toggle p Idle = p.t ≡ toggle
@@ -34,8 +33,7 @@ AnswersAt i bit p Idle = Unit {0}
 AnswersAt i bit p (At d k) = Answers i bit d p k
 
 abbrev pub CountAt : ℕ → ℕ → Variables → ℕ → ℕ → ℕ → Control → Type 0
-CountAt n i p own c recent Idle = Unit {0}
-CountAt n i p own c recent (At d k) = Count n i p own c recent k
+CountAt n i p own c recent control = WhenBusy (λ d k. Count n i p own c recent k) control
 
 -- What holds of process i, at whichever line it stands, with these registers.
 pub record ProcessInvariant (n t : ℕ) (history : ℕ → Words) (m : Registers) (i : ℕ) (q : Process) : Type 0 where

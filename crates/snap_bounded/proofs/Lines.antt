@@ -2,7 +2,6 @@
 use Rattle.std.specs.Prelude.{◌≡◌, ℕ, zero, suc, ◌+◌, ◌-◌, ◌<◌, ◌≤◌, max, Bool, true, false, not, ◌&&◌, ◌||◌, List, [], ◌∷◌, take, map, Option, Some, None, Result, Ok, Err, slice_index, slice_index_or, slice_set, nat_eq, nat_lt, if◌then◌else◌, refl}
 use Rattle.std.specs.List.{list_all}
 use Rattle.std.proofs.Common.{sym, ◌∙◌, ap, arith}
-use Rattle.std.proofs.Math.ListN.{get_or-map}
 use Rattle.std.proofs.lemmas.List.{map-set}
 use Rattle.snap_words.specs.Shape.{Counts, IsOneOf}
 use Rattle.snap_words.specs.Word.{Word, no_word}
@@ -23,6 +22,7 @@ use Rattle.snap_semantics.specs.declared.process.Op.{Op}
 use Rattle.snap_runs.proofs.Algorithm.{Task, Scanning, Embedded, Updating, op_of, link_of, To, shown}
 use Rattle.snap_runs.proofs.Computing.{if_true, le_true, same_number}
 use Rattle.snap_runs.proofs.Held.{word_at}
+use Rattle.snap_runs.proofs.Plain.{plain_at, plain_copied, plain_taken}
 use Rattle.snap_runs.proofs.Places.{bind_ok, place_ok, each_ok, sum_ok}
 use Rattle.snap_bounded.specs.ListingB as listing
 use Rattle.snap_bounded.specs.ListingB.{listing_b}
@@ -78,29 +78,12 @@ in_places n k h = (h.0, omega arith)
 abbrev pub at_k : ℕ → ℕ → Task → Variables → ℕ → Context
 at_k n me d p k = at_place (context_of (square n) me (op_of d) p) k
 
--- the listing's words are the proof's without their counts
-plain_at : (ws : Words) (k : ℕ) → slice_index_or (map plain ws) k no_word ≡ plain (slice_index_or ws k no_word)
-plain_at ws k = get_or-map plain ws k no_word
-
-plain_copied : (a ws : Words) (k r : ℕ) →
-    slice_set (map plain a) k (slice_index_or (map plain ws) r no_word) ≡ map plain (slice_set a k (slice_index_or ws r no_word))
-plain_copied a ws k r = ap (slice_set (map plain a) k) (plain_at ws r) ∙ sym (map-set plain a k (slice_index_or ws r no_word))
-
-pub plain_data : (ws : Words) → map (λ (r : Word). r.datum) (map plain ws) ≡ map (λ (r : Word). r.datum) ws
-plain_data [] = refl
-plain_data (w ∷ ws) = ap (λ rest. w.datum ∷ rest) (plain_data ws)
-
-plain_taken : (n : ℕ) (ws : Words) → map (λ (r : Word). r.datum) (take n (map plain ws)) ≡ map (λ (r : Word). r.datum) (take n ws)
-plain_taken zero ws = refl
-plain_taken (suc n) [] = refl
-plain_taken (suc n) (w ∷ ws) = ap (λ rest. w.datum ∷ rest) (plain_taken n ws)
-
 -- operands at a place
 hand_ok : (n me : ℕ) (d : Task) (p : Variables) (k : ℕ) (ws : Words) → IsOneOf (max n n) k → IsOneOf n me →
     (place_in (max n n) k >>= λ u. place_in n me >>= λ h. let r : Result ℕ Cause = Ok (slice_index (slice_index_or (map plain ws) u no_word).hands h) in r) ≡ Ok (hand_at (word_at ws k) me)
 hand_ok n me d p k ws h one =
     bind_ok _ _ _ _ (place_ok (max n n) k h)
-    (bind_ok _ _ _ _ (place_ok n me one) (ap (λ (w : Word). let r : Result ℕ Cause = Ok (slice_index w.hands (me - 1)) in r) (plain_at ws (k - 1))))
+    (bind_ok _ _ _ _ (place_ok n me one) (ap (λ (w : Word). let r : Result ℕ Cause = Ok (slice_index w.hands (me - 1)) in r) (plain_at plain refl ws (k - 1))))
 
 hand_a : (n me : ℕ) (d : Task) (p : Variables) (k : ℕ) → IsOneOf (max n n) k → IsOneOf n me →
     term_value (at_k n me d p k) listing.hand_a ≡ Ok (hand_at (word_at p.a k) me)
@@ -112,11 +95,11 @@ hand_b n me d p k h one = hand_ok n me d p k p.b h one
 
 toggle_a : (n me : ℕ) (d : Task) (p : Variables) (k : ℕ) → IsOneOf (max n n) k →
     term_value (at_k n me d p k) listing.toggle_a ≡ Ok (word_at p.a k).toggle
-toggle_a n me d p k h = bind_ok _ _ _ _ (place_ok (max n n) k h) (ap (λ (w : Word). let r : Result ℕ Cause = Ok w.toggle in r) (plain_at p.a (k - 1)))
+toggle_a n me d p k h = bind_ok _ _ _ _ (place_ok (max n n) k h) (ap (λ (w : Word). let r : Result ℕ Cause = Ok w.toggle in r) (plain_at plain refl p.a (k - 1)))
 
 toggle_b : (n me : ℕ) (d : Task) (p : Variables) (k : ℕ) → IsOneOf (max n n) k →
     term_value (at_k n me d p k) listing.toggle_b ≡ Ok (word_at p.b k).toggle
-toggle_b n me d p k h = bind_ok _ _ _ _ (place_ok (max n n) k h) (ap (λ (w : Word). let r : Result ℕ Cause = Ok w.toggle in r) (plain_at p.b (k - 1)))
+toggle_b n me d p k h = bind_ok _ _ _ _ (place_ok (max n n) k h) (ap (λ (w : Word). let r : Result ℕ Cause = Ok w.toggle in r) (plain_at plain refl p.b (k - 1)))
 
 row_ok : (n me : ℕ) (d : Task) (p : Variables) (k : ℕ) → IsOneOf (max n n) k →
     term_value (at_k n me d p k) (Row listing.moved Place) ≡ Ok (moved_at p k)
@@ -216,7 +199,7 @@ each_line n me d m p L10 one s h = bind_ok _ _ _ _ (each_ok _ (λ k. 0) 1 n (λ 
 each_line n me d m p L11 one s h = refl
 each_line n me d m p L12 one s h =
     bind_ok _ _ _ _ (place_ok (max n n) p.j (in_places n p.j h)) (bind_ok _ _ _ _ (place_ok n p.j h)
-    (ap (λ (ws : Words). left_words m p d 13 ((listing.a, ws) ∷ (listing.b, map plain p.b) ∷ [])) (plain_copied p.a m.words (p.j - 1) (p.j - 1))))
+    (ap (λ (ws : Words). left_words m p d 13 ((listing.a, ws) ∷ (listing.b, map plain p.b) ∷ [])) (plain_copied plain refl p.a m.words (p.j - 1) (p.j - 1))))
 each_line n me d m p L13 one s h =
     bind_ok _ _ _ _ (place_ok (max n n) p.j (in_places n p.j h))
     (bind_ok _ _ _ _ (hand_ok n me d p p.j p.a (in_places n p.j h) one) refl)
@@ -229,11 +212,11 @@ each_line n me d m p L14 one s h =
 each_line n me d m p L15 one s h = shown_if n m (nat_lt p.j n) (To d m (record p { j = p.j + 1 }) L12) (To d m (record p { j = 1 }) L16)
 each_line n me d m p L16 one s h =
     bind_ok _ _ _ _ (place_ok (max n n) p.j (in_places n p.j h)) (bind_ok _ _ _ _ (place_ok n p.j h)
-    (ap (λ (ws : Words). left_words m p d 17 ((listing.a, ws) ∷ (listing.b, map plain p.b) ∷ [])) (plain_copied p.a m.words (p.j - 1) (p.j - 1))))
+    (ap (λ (ws : Words). left_words m p d 17 ((listing.a, ws) ∷ (listing.b, map plain p.b) ∷ [])) (plain_copied plain refl p.a m.words (p.j - 1) (p.j - 1))))
 each_line n me d m p L17 one s h = shown_if n m (nat_lt p.j n) (To d m (record p { j = p.j + 1 }) L16) (To d m (record p { j = 1 }) L18)
 each_line n me d m p L18 one s h =
     bind_ok _ _ _ _ (place_ok (max n n) p.j (in_places n p.j h)) (bind_ok _ _ _ _ (place_ok n p.j h)
-    (ap (λ (ws : Words). left_words m p d 19 ((listing.a, map plain p.a) ∷ (listing.b, ws) ∷ [])) (plain_copied p.b m.words (p.j - 1) (p.j - 1))))
+    (ap (λ (ws : Words). left_words m p d 19 ((listing.a, map plain p.a) ∷ (listing.b, ws) ∷ [])) (plain_copied plain refl p.b m.words (p.j - 1) (p.j - 1))))
 each_line n me d m p L19 one s h = shown_if n m (nat_lt p.j n) (To d m (record p { j = p.j + 1 }) L18) (To d m (record p { j = 1 }) L20)
 each_line n me d m p L20 one s h =
     bind_ok _ _ _ _ (each_ok _ (agree me p) 1 n (λ k low high. agree_ok n me d p k (in_range n k low high) one))
@@ -251,12 +234,12 @@ each_line n me d m p L22 one s h =
     (each_ok _ (at_limit p) 1 n (λ k low high. bind_ok _ _ _ _ (row_ok n me d p k (in_range n k low high)) refl))
     (first_shown n d m p (first_true 1 (map (at_limit p) (places_to n))))
 each_line n me d m p L23 one s h = refl
-each_line n me d m p L25 one s h = ap (left_view m p d 26) (plain_taken n p.b)
+each_line n me d m p L25 one s h = ap (left_view m p d 26) (plain_taken plain (λ w. refl) n p.b)
 each_line n me Scanning m p L26 one s h = refl
 each_line n me (Embedded w x) m p L26 one s h = refl
 each_line n me (Updating w x) m p L26 one s h = absurd s
 each_line n me d m p L27 one s h =
-    bind_ok _ _ _ _ (place_ok (max n n) p.j (in_places n p.j h)) (ap (λ (w : Word). left_view m p d 28 w.view) (plain_at p.b (p.j - 1)))
+    bind_ok _ _ _ _ (place_ok (max n n) p.j (in_places n p.j h)) (ap (λ (w : Word). left_view m p d 28 w.view) (plain_at plain refl p.b (p.j - 1)))
 each_line n me Scanning m p L28 one s h = refl
 each_line n me (Embedded w x) m p L28 one s h = refl
 each_line n me (Updating w x) m p L28 one s h = absurd s

@@ -1,8 +1,7 @@
 -- Each item of a run of B keeps the invariant.
-use Rattle.std.specs.Prelude.{◌≡◌, ℕ, suc, ◌+◌, ◌<◌, ◌≤◌, ◌⊎◌, Bool, true, false, nat_eq, length, Option, Some, None, if◌then◌else◌, refl}
+use Rattle.std.specs.Prelude.{◌≡◌, ℕ, suc, ◌+◌, ◌<◌, ◌≤◌, length, Option, Some, None, if◌then◌else◌, refl}
 use Rattle.std.proofs.Common.{sym, ◌∙◌, ap, subst, arith, inl, inr}
 use Rattle.std.proofs.Math.Nat.{eq-or-lt_of_le}
-use Rattle.std.proofs.lemmas.Bool.{cases_eq}
 use Rattle.snap_words.specs.Shape.{IsOneOf}
 use Rattle.snap_words.specs.declared.kind.KindTag.TheVariants as kind
 use Rattle.snap_semantics.specs.Table.{call_skip, who}
@@ -14,17 +13,18 @@ use Rattle.snap_semantics.specs.declared.process.Outcome.{Outcome}
 use Rattle.snap_semantics.specs.declared.process.Outcome.TheVariants.{Called, Stepped, Answered, Finished}
 use Rattle.snap_semantics.specs.declared.process.Reason.{Reason}
 use Rattle.snap_runs.proofs.Algorithm.{Task, Scanning, Updating, op_of, Idle, At, To, Begin, Answer, Finish, New, by_move, by_step, by_admission, by_call, typed_at, changed, happens, stepped_auxiliary, begun_auxiliary, called_auxiliary}
-use Rattle.snap_runs.proofs.Computing.{other_number}
 use Rattle.snap_runs.proofs.Flow as flow
-use Rattle.snap_runs.proofs.Flow.{IsInScan, InScan}
-use Rattle.snap_runs.proofs.Held.{word_at, seq_at}
+use Rattle.snap_runs.proofs.Flow.{IsInScan, InScan, scan_inside}
+use Rattle.snap_runs.proofs.Held.{word_at, seq_at, at_most_now, at_least_now, opened_next}
+use Rattle.snap_runs.proofs.ListedLines.{writes_or_not}
+use Rattle.snap_runs.proofs.WordWrites.{words_then}
 use Rattle.snap_bounded.specs.Promises.{square}
-use Rattle.snap_bounded.proofs.Algorithm.{number, Words, Registers, Move, Control, Process, State, Variables, ProgramCounter, L10, L20, L40, L46, place, hand_at, bit_for, move, IsLineOf, lines, tests, restarts, writes, algorithm}
+use Rattle.snap_bounded.proofs.Algorithm.{Words, Registers, Move, Control, Process, State, Variables, ProgramCounter, L10, L20, L40, L46, place, hand_at, bit_for, move, IsLineOf, lines, tests, restarts, writes, algorithm}
 use Rattle.snap_bounded.proofs.Change.{process_changes}
 use Rattle.snap_bounded.proofs.Collect.{Low, Late, Viewed, floor}
 use Rattle.snap_bounded.proofs.Control.{BelowLimit, VariablesAt, MoveWell, ControlWell, move_well, called_well}
 use Rattle.snap_bounded.proofs.Count.{Count, CountMove, count_move, moves, moves_less}
-use Rattle.snap_bounded.proofs.Flows.{Making, HasWritten, in_scan, flows, line_listed, at_number}
+use Rattle.snap_bounded.proofs.Flows.{Making, HasWritten, flows, counter_with, line_listed, writer}
 use Rattle.snap_bounded.proofs.Handshake.{Asked, Answers, KeepsBit, BitsMove, bits_move, PutsMove, puts_move, square_kept, rows_kept, AnswersMove, answers_move}
 use Rattle.snap_bounded.proofs.Invariant.{ProcessInvariant, Invariant, StageAt, CountAt, ToggledAt, AnswersAt, reach_at, time_passes}
 use Rattle.snap_bounded.proofs.Stage.{reach, Stage, StageMove, stage_move, IsToggle, Toggled, Fit, FitMove, fit_move}
@@ -47,21 +47,7 @@ pub few_moves : (n me : ℕ) (history : ℕ → Words) (t since round : ℕ) (wo
     Stage n me history t since round words p k → k ≡ L20 → moves n p < n
 few_moves n me history t since round words d p k one line keeps opened self stage e =
     unmoved n me (history since) (history round) words p one (subst (Stage n me history t since round words p) e stage).0 (opened me one)
-    (subst (VariablesAt n me p) e keeps).1 (self (in_scan me d (subst (IsLineOf me d) e line)))
-
--- the words at item t are the words now
-pub at_most_now : (history : ℕ → Words) (words : Words) (t : ℕ) → history t ≡ words → (k : ℕ) → seq_at (history t) k ≤ seq_at words k
-at_most_now history words t now k = let e : seq_at (history t) k ≡ seq_at words k = ap (λ w. seq_at w k) now in omega arith
-
-pub at_least_now : (history : ℕ → Words) (words : Words) (t : ℕ) → history t ≡ words → (k : ℕ) → seq_at words k ≤ seq_at (history t) k
-at_least_now history words t now k = let e : seq_at (history t) k ≡ seq_at words k = ap (λ w. seq_at w k) now in omega arith
-
--- the words when the last double collect was started are not later than the words now, also where a line starts another one
-opened_next : (n : ℕ) (history : ℕ → Words) (words : Words) (again : Bool) (t round : ℕ) → history t ≡ words →
-    ((k : ℕ) → IsOneOf n k → seq_at (history round) k ≤ seq_at words k) →
-    (k : ℕ) → IsOneOf n k → seq_at (history (if again then t else round)) k ≤ seq_at words k
-opened_next n history words true t round now h k i = at_most_now history words t now k
-opened_next n history words false t round now h k i = h k i
+    (subst (VariablesAt n me p) e keeps).1 (self (scan_inside (λ word. word ≡ me) d (subst (IsLineOf me d) e line)))
 
 -- a process whose operation has ended
 idle_own : (n t : ℕ) (history : ℕ → Words) (m : Registers) (i : ℕ) (q : Process) (d : Task) (k : ProgramCounter) → q.control ≡ At d k → writes k ≡ 0 →
@@ -284,21 +270,6 @@ admission_keeps n t history x i (Update word value) None e count one h is now =
       answers = λ u bit ju put said. tt;
     })
 
-pub words_then : (n t : ℕ) (x : State) (i : ℕ) (k : ProgramCounter) (v : Move) → flow.KeepsMemory lines x.memory v →
-    (changed x i (by_move (algorithm n) t x.memory (at n x i) k v)).memory.words ≡ x.memory.words
-words_then n t x i k (To d m p k') h = h
-words_then n t x i k (Begin d p k') h = refl
-words_then n t x i k (Answer v) h = refl
-words_then n t x i k Finish h = refl
-
--- a line writes, or it is no line 46
-is_46_or_quiet : (k : ProgramCounter) → (k ≡ L46) ⊎ (writes k ≡ 0)
-is_46_or_quiet k =
-    elim (cases_eq (number k) 46) [
-      | inl same ↦ inl (at_number k 46 L46 refl (ap (λ y. nat_eq y 46) same))
-      | inr other ↦ inr (sym (line_listed k).wrote ∙ ap (λ b. if b then 1 else 0) (other_number (number k) 46 other))
-    ]
-
 line_46_keeps : (n t : ℕ) (history : ℕ → Words) (x : State) (i : ℕ) (d : Task) → length x.processes ≡ n → IsOneOf n i → Invariant n t history x →
     (at n x i).control ≡ At d L46 → Invariant n (suc t) history (changed x i (by_step (algorithm n) (suc t) x.memory i (at n x i) (At d L46)))
 line_46_keeps n t history x i d count one h is =
@@ -322,11 +293,11 @@ step_keeps n t history x i (At d k) lengths count one h is now =
     let stage : Stage n i history (suc t) q.auxiliary.since q.auxiliary.round m.words p k =
     subst (λ (c : Control). StageAt n i history (suc t) q.auxiliary.since q.auxiliary.round m.words p c) is own.stage in
     let passes = flows n i d m p k well.0 in
-    elim (is_46_or_quiet k) [
+    elim (writes_or_not (algorithm n) lines 46 counter_with (line_listed n) L46 k refl) [
       | inl e ↦ subst (λ y. Invariant n (suc t) history (changed x i (by_step (algorithm n) (suc t) m i q (At d y)))) (sym e)
           (line_46_keeps n t history x i d count one h (is ∙ ap (λ y. At d y) e))
       | inr quiet ↦ elim (flow.keeps_memory lines (algorithm n) d m p k (move n i d m p k) passes) [
-        | inl keeps ↦ (let same : history (suc t) ≡ m.words = now ∙ words_then n (suc t) x i k (move n i d m p k) keeps in
+        | inl keeps ↦ (let same : history (suc t) ≡ m.words = now ∙ words_then (algorithm n) lines 46 (writer n) (suc t) x i k (move n i d m p k) keeps in
             line_keeps n (suc t) history x i d k (move n i d m p k) count one same later is quiet
             (record {
               words = keeps;

@@ -13,7 +13,7 @@ use Rattle.snap_semantics.specs.Table.{places_to, all_true, first_true, bit_at, 
 use Rattle.snap_runs.proofs.Held.{word_at, seq_at}
 use Rattle.snap_runs.proofs.Algorithm as typed
 use Rattle.snap_runs.proofs.Algorithm.{Task, Scanning, Embedded, Updating, value_of, To, Begin, Answer, Finish, Algorithm}
-use Rattle.snap_runs.proofs.Flow.{Lines}
+use Rattle.snap_runs.proofs.Flow.{Lines, IsScanOf, IsUpdateOf}
 use Rattle.snap_runs.proofs.Places.{for_each}
 use Rattle.snap_runs.proofs.Embedding.{map_same}
 use Rattle.snap_multi.specs.ListingM as names
@@ -314,15 +314,12 @@ move n w me d m p L56 = To d m (record p { tog = slice_set p.tog (word_of d - 1)
 move n w me d m p L57 = To d (after_57 me d m p) p L58
 move n w me d m p L58 = Finish
 
+-- which task a line belongs to; the word of an update is one of the words
 abbrev pub IsScan : ℕ → Task → Type 0
-IsScan w Scanning = Unit {0}
-IsScan w (Embedded word arg) = IsOneOf w word
-IsScan w (Updating word arg) = ⊥
+IsScan w d = IsScanOf (IsOneOf w) d
 
 abbrev pub IsUpdate : ℕ → Task → Type 0
-IsUpdate w Scanning = ⊥
-IsUpdate w (Embedded word arg) = ⊥
-IsUpdate w (Updating word arg) = IsOneOf w word
+IsUpdate w d = IsUpdateOf (IsOneOf w) d
 
 -- what a line needs so that it does not trap
 abbrev pub Needs : ℕ → ℕ → ℕ → Task → Variables → ProgramCounter → Type 0

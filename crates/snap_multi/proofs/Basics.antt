@@ -1,13 +1,12 @@
 -- Facts about numbers, rows and bits.
-use Rattle.std.specs.Prelude.{◌≡◌, ◌≢◌, ℕ, zero, suc, ◌-◌, ◌<◌, ◌≤◌, ◌⊎◌, true, false, List, [], ◌∷◌, length, map, slice_index, slice_index_or, slice_set, nat_eq, nat_lt, nat_le, refl}
+use Rattle.std.specs.Prelude.{◌≡◌, ◌≢◌, ℕ, ◌-◌, ◌<◌, ◌≤◌, ◌⊎◌, true, false, List, [], length, slice_index, slice_index_or, slice_set, nat_eq, nat_lt, nat_le, refl}
 use Rattle.std.proofs.Common.{sym, ◌∙◌, ap, arith, inl, inr}
 use Rattle.std.proofs.lemmas.Bool.{cases_eq}
 use Rattle.std.proofs.lemmas.Grind.{common_steps, get_or-set_at}
 use Rattle.std.proofs.lemmas.List.{get_or-set_other, length-set}
 use Rattle.snap_runs.proofs.Computing.{lt_from, not_lt, same_number}
 use Rattle.snap_words.specs.Shape.{IsOneOf}
-use Rattle.snap_words.specs.Word.{no_word}
-use Rattle.snap_multi.proofs.Algorithm.{Words, Bits, plain, place, bit, with_bit, flip}
+use Rattle.snap_multi.proofs.Algorithm.{Bits, place, bit, with_bit, flip}
 
 pub le_from : (x y : ℕ) → nat_le x y ≡ true → x ≤ y
 le_from x y h = grind (arith, common_steps)
@@ -65,9 +64,3 @@ square_kept n rows i j x one h = (
     | inr other ↦ ap length (row_elsewhere rows i j x u one.0 ou.0 other) ∙ h.1 u ou
   ],
 )
-
--- words as the machine has them
-pub plain_at : (xs : Words) (i : ℕ) → slice_index_or (map plain xs) i no_word ≡ plain (slice_index_or xs i no_word)
-plain_at [] i = refl
-plain_at (x ∷ xs) zero = refl
-plain_at (x ∷ xs) (suc i) = plain_at xs i

@@ -1,6 +1,6 @@
 -- The handshake and the two collects of a double collect of M, and what a scan learns of them.
 use Rattle.snap_runs.proofs.Computing.{both, same_from}
-use Rattle.std.specs.Prelude.{◌≡◌, ◌≢◌, ℕ, zero, suc, ◌+◌, ◌-◌, ◌<◌, ◌≤◌, true, false, List, [], ◌∷◌, take, length, map, slice_set, refl}
+use Rattle.std.specs.Prelude.{◌≡◌, ◌≢◌, ℕ, suc, ◌+◌, ◌-◌, ◌<◌, ◌≤◌, true, false, List, take, length, slice_set, refl}
 use Rattle.std.proofs.Common.{sym, ◌∙◌, ap, subst, arith, inl, inr}
 use Rattle.std.proofs.lemmas.Bool.{cases_eq}
 use Rattle.std.proofs.lemmas.Grind.{common_steps, get_or-set_at}
@@ -9,7 +9,7 @@ use Rattle.std.proofs.Math.Nat.{eq-or-lt_of_le}
 use Rattle.snap_words.specs.Shape.{IsOneOf}
 use Rattle.snap_words.specs.Word.{Word, no_word}
 use Rattle.snap_runs.proofs.Held.{word_at, seq_at, Held, data_of, WordBefore, squeezed, same_data}
-use Rattle.snap_multi.proofs.Algorithm.{Words, Registers, plain, place, bit, same_words, same_at, view_at}
+use Rattle.snap_multi.proofs.Algorithm.{Words, Registers, place, bit, same_words, same_at, view_at}
 use Rattle.snap_multi.proofs.Basics.{less_or_not, set_here, set_there}
 use Rattle.snap_multi.proofs.History.{words_of, id_at, Laws}
 
@@ -401,12 +401,6 @@ module _ (n w me : ℕ) (history : ℕ → Registers) (from t : ℕ) (g : List �
         omega arith,
         same_data w (words_of history x.middle) b (laws x.middle (omega arith)).now.size len (λ k o. unchanged k o still (same k o)),
       )
-
--- the data of the words as the machine has them
-pub plain_data : (w : ℕ) (xs : Words) → map (λ (x : Word). x.datum) (take w (map plain xs)) ≡ data_of (take w xs)
-plain_data zero xs = refl
-plain_data (suc w) [] = refl
-plain_data (suc w) (x ∷ xs) = ap (λ ys. x.datum ∷ ys) (plain_data w xs)
 
 -- Three events of one process since a scan's start: its view is the values at some state since.
 pub borrowed : (n w me c since t : ℕ) (history : ℕ → Registers) → Laws n w history since → Laws n w history t → since ≤ t → IsOneOf n c →

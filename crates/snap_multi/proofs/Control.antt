@@ -13,7 +13,7 @@ use Rattle.snap_semantics.specs.declared.process.Op.TheVariants.{Scan, Update}
 use Rattle.snap_semantics.specs.declared.process.Reason.{Reason}
 use Rattle.snap_semantics.specs.declared.process.Reason.TheVariants.{NoSuchWord}
 use Rattle.snap_semantics.specs.Table.{places_to, call_skip}
-use Rattle.snap_runs.proofs.Algorithm.{task_of, Idle, At, To, Begin, Answer, Finish, SameOp, Task, Scanning, Embedded, Updating, op_of}
+use Rattle.snap_runs.proofs.Algorithm.{task_of, Idle, At, WhenBusy, To, Begin, Answer, Finish, SameOp, Task, Scanning, Embedded, Updating, op_of}
 use Rattle.snap_runs.proofs.Embedding as embed
 use Rattle.snap_runs.proofs.Held.{word_at}
 use Rattle.snap_multi.specs.Promises.{counts}
@@ -271,8 +271,7 @@ allowed_word n w me word arg h =
     (lt_from 0 word parts.0, le_from word w parts.1)
 
 abbrev pub ControlWell : ℕ → ℕ → Variables → Control → Type 0
-ControlWell n w p Idle = Unit {0}
-ControlWell n w p (At d k) = IsLineOf w d k × Keeps n w d p k
+ControlWell n w p control = WhenBusy (λ d k. IsLineOf w d k × Keeps n w d p k) control
 
 pub called_well : (n w me : ℕ) (p : Variables) (op : Op) → call_skip kind.Multi (counts n w) me op ≡ None →
     ControlWell n w p (At (task_of op) (counter op))

@@ -1,8 +1,10 @@
 -- The double collects and own steps of a scan of M.
+use Rattle.snap_runs.proofs.Budget as budgets
+use Rattle.snap_runs.proofs.Budget.{budget_zero, same_budget, next_budget, budget_le}
 use Rattle.snap_runs.proofs.Computing.{either, not_lt}
 use Rattle.snap_runs.proofs.Totals.{total, total_more}
 use Rattle.snap_runs.proofs.Places.{for_each, for_each_at, some_fails}
-use Rattle.std.specs.Prelude.{◌≡◌, ℕ, zero, suc, ◌+◌, ◌-◌, ◌*◌, ◌<◌, ◌≤◌, Bool, true, false, Option, Some, None, nat_eq, nat_lt, if◌then◌else◌, refl}
+use Rattle.std.specs.Prelude.{◌≡◌, ℕ, suc, ◌+◌, ◌-◌, ◌*◌, ◌<◌, ◌≤◌, Bool, true, false, Option, Some, None, nat_eq, nat_lt, if◌then◌else◌, refl}
 use Rattle.std.proofs.Common.{sym, ap, subst, arith}
 use Rattle.std.proofs.lemmas.Grind.{common_steps}
 use Rattle.snap_words.specs.Shape.{IsOneOf}
@@ -12,46 +14,11 @@ use Rattle.snap_multi.proofs.Basics.{other_from}
 use Rattle.snap_multi.proofs.Control.{Keeps}
 
 -- the own steps of c failed double collects
-pub budget : ℕ → ℕ → ℕ → ℕ
-budget n w zero = 3
-budget n w (suc c) = budget n w c + (7 * n + 8 * w + 6)
+abbrev pub round : ℕ → ℕ → ℕ
+round n w = 7 * n + 8 * w + 6
 
-pub budget_zero : (n w : ℕ) → budget n w 0 ≡ 3
-unfolding budget
-budget_zero n w = refl
-
-pub same_budget : (n w c c' : ℕ) → c' ≡ c + 0 → budget n w c' ≡ budget n w c
-same_budget n w c c' e = ap (budget n w) (let f : c' ≡ c = omega arith in f)
-
-pub next_budget : (n w c c' : ℕ) → c' ≡ c + 1 → budget n w c' ≡ budget n w c + (7 * n + 8 * w + 6)
-unfolding budget
-next_budget n w c c' e = ap (budget n w) (let f : c' ≡ suc c = omega arith in f)
-
-budget_mono : (n w c more : ℕ) → budget n w c ≤ budget n w (c + more)
-unfolding budget
-budget_mono n w c zero = (let e : budget n w (c + 0) ≡ budget n w c = ap (budget n w) (let f : c + 0 ≡ c = omega arith in f) in omega arith)
-budget_mono n w c (suc more) =
-    let e : budget n w (c + suc more) ≡ budget n w (c + more) + (7 * n + 8 * w + 6) = ap (budget n w) (let f : c + suc more ≡ suc (c + more) = omega arith in f) in
-    let rest : budget n w c ≤ budget n w (c + more) = budget_mono n w c more in omega arith
-
-budget_is : (n w c : ℕ) → budget n w c ≡ c * (7 * n + 8 * w + 6) + 3
-unfolding budget
-budget_is n w zero = omega arith
-budget_is n w (suc c) =
-    let rest : budget n w c ≡ c * (7 * n + 8 * w + 6) + 3 = budget_is n w c in
-    let e : suc c * (7 * n + 8 * w + 6) ≡ c * (7 * n + 8 * w + 6) + (7 * n + 8 * w + 6) = grind arith in omega arith
-
-budget_all : (n w : ℕ) → budget n w (2 * n) ≡ 14 * (n * n) + 16 * (n * w) + 12 * n + 3
-budget_all n w =
-    let a : budget n w (2 * n) ≡ (2 * n) * (7 * n + 8 * w + 6) + 3 = budget_is n w (2 * n) in
-    let b : (2 * n) * (7 * n + 8 * w + 6) ≡ 14 * (n * n) + 16 * (n * w) + 12 * n = grind arith in omega arith
-
-budget_le : (n w c : ℕ) → c + 1 ≤ 2 * n → budget n w c + (7 * n + 8 * w + 6) ≤ 14 * (n * n) + 16 * (n * w) + 12 * n + 3
-budget_le n w c h =
-    let next : budget n w (c + 1) ≡ budget n w c + (7 * n + 8 * w + 6) = next_budget n w c (c + 1) refl in
-    let a : budget n w (c + 1) ≤ budget n w (c + 1 + (2 * n - (c + 1))) = budget_mono n w (c + 1) (2 * n - (c + 1)) in
-    let e : budget n w (c + 1 + (2 * n - (c + 1))) ≡ budget n w (2 * n) = ap (budget n w) (let f : c + 1 + (2 * n - (c + 1)) ≡ 2 * n = omega arith in f) in
-    let b : budget n w (2 * n) ≡ 14 * (n * n) + 16 * (n * w) + 12 * n + 3 = budget_all n w in omega arith
+abbrev pub budget : ℕ → ℕ → ℕ → ℕ
+budget n w c = budgets.budget (round n w) 3 c
 
 -- the moves of all processes that a scan has seen
 abbrev pub moves : ℕ → Variables → ℕ
@@ -131,51 +98,51 @@ count_move n w me d m p L10 own c c' recent recent' pos e f keeps sharp bits h =
 count_move n w me d m p L11 own c c' recent recent' pos e f keeps sharp bits h = (omega arith, omega arith, omega arith)
 count_move n w me d m p L12 own c c' recent recent' pos e f keeps sharp bits h =
     let b : budget n w c' ≡ budget n w 0 = ap (budget n w) (let z : c' ≡ 0 = omega arith in z) in
-    let three : budget n w 0 ≡ 3 = budget_zero n w in
+    let three : budget n w 0 ≡ 3 = budget_zero (round n w) 3 in
     let first : p.j ≡ 1 = keeps.0 in
     (omega arith, omega arith, omega arith, omega arith)
-count_move n w me d m p L13 own c c' recent recent' pos e f keeps sharp bits h = let b : budget n w c' ≡ budget n w c = same_budget n w c c' e in (omega arith, omega arith, omega arith, omega arith)
-count_move n w me d m p L14 own c c' recent recent' pos e f keeps sharp bits h = let b : budget n w c' ≡ budget n w c = same_budget n w c c' e in (omega arith, omega arith, omega arith, omega arith)
-count_move n w me d m p L15 own c c' recent recent' pos e f keeps sharp bits h = let b : budget n w c' ≡ budget n w c = same_budget n w c c' e in (omega arith, omega arith, omega arith, omega arith)
+count_move n w me d m p L13 own c c' recent recent' pos e f keeps sharp bits h = let b : budget n w c' ≡ budget n w c = same_budget (round n w) 3 c c' e in (omega arith, omega arith, omega arith, omega arith)
+count_move n w me d m p L14 own c c' recent recent' pos e f keeps sharp bits h = let b : budget n w c' ≡ budget n w c = same_budget (round n w) 3 c c' e in (omega arith, omega arith, omega arith, omega arith)
+count_move n w me d m p L15 own c c' recent recent' pos e f keeps sharp bits h = let b : budget n w c' ≡ budget n w c = same_budget (round n w) 3 c c' e in (omega arith, omega arith, omega arith, omega arith)
 count_move n w me d m p L16 own c c' recent recent' pos e f keeps sharp bits h =
-    let b : budget n w c' ≡ budget n w c = same_budget n w c c' e in
+    let b : budget n w c' ≡ budget n w c = same_budget (round n w) 3 c c' e in
     let inside : IsOneOf n p.j = keeps.0 in let first : p.k ≡ 1 = keeps.1 in either (CountMove n w (suc own) c' recent') (nat_lt p.j n) _ _ (λ t. (omega arith, omega arith, omega arith, omega arith)) (λ t. let ge : n ≤ p.j = not_lt p.j n t in (omega arith, omega arith, omega arith, omega arith))
-count_move n w me d m p L17 own c c' recent recent' pos e f keeps sharp bits h = let b : budget n w c' ≡ budget n w c = same_budget n w c c' e in (omega arith, omega arith, omega arith, omega arith)
+count_move n w me d m p L17 own c c' recent recent' pos e f keeps sharp bits h = let b : budget n w c' ≡ budget n w c = same_budget (round n w) 3 c c' e in (omega arith, omega arith, omega arith, omega arith)
 count_move n w me d m p L18 own c c' recent recent' pos e f keeps sharp bits h =
-    let b : budget n w c' ≡ budget n w c = same_budget n w c c' e in
+    let b : budget n w c' ≡ budget n w c = same_budget (round n w) 3 c c' e in
     let inside : IsOneOf w p.k = keeps.1 in let first : p.j ≡ 1 = keeps.0 in either (CountMove n w (suc own) c' recent') (nat_lt p.k w) _ _ (λ t. (omega arith, omega arith, omega arith, omega arith)) (λ t. let ge : w ≤ p.k = not_lt p.k w t in (omega arith, omega arith, omega arith, omega arith))
-count_move n w me d m p L19 own c c' recent recent' pos e f keeps sharp bits h = let b : budget n w c' ≡ budget n w c = same_budget n w c c' e in (omega arith, omega arith, omega arith, omega arith)
+count_move n w me d m p L19 own c c' recent recent' pos e f keeps sharp bits h = let b : budget n w c' ≡ budget n w c = same_budget (round n w) 3 c c' e in (omega arith, omega arith, omega arith, omega arith)
 count_move n w me d m p L20 own c c' recent recent' pos e f keeps sharp bits h =
-    let b : budget n w c' ≡ budget n w c = same_budget n w c c' e in
+    let b : budget n w c' ≡ budget n w c = same_budget (round n w) 3 c c' e in
     let inside : IsOneOf w p.k = keeps.1 in let first : p.j ≡ 1 = keeps.0 in either (CountMove n w (suc own) c' recent') (nat_lt p.k w) _ _ (λ t. (omega arith, omega arith, omega arith, omega arith)) (λ t. let ge : w ≤ p.k = not_lt p.k w t in (omega arith, omega arith, omega arith, omega arith))
-count_move n w me d m p L21 own c c' recent recent' pos e f keeps sharp bits h = let b : budget n w c' ≡ budget n w c = same_budget n w c c' e in (omega arith, omega arith, omega arith, omega arith)
-count_move n w me d m p L22 own c c' recent recent' pos e f keeps sharp bits h = let b : budget n w c' ≡ budget n w c = same_budget n w c c' e in (omega arith, omega arith, omega arith, omega arith)
+count_move n w me d m p L21 own c c' recent recent' pos e f keeps sharp bits h = let b : budget n w c' ≡ budget n w c = same_budget (round n w) 3 c c' e in (omega arith, omega arith, omega arith, omega arith)
+count_move n w me d m p L22 own c c' recent recent' pos e f keeps sharp bits h = let b : budget n w c' ≡ budget n w c = same_budget (round n w) 3 c c' e in (omega arith, omega arith, omega arith, omega arith)
 count_move n w me d m p L23 own c c' recent recent' pos e f keeps sharp bits h =
-    let b : budget n w c' ≡ budget n w c = same_budget n w c c' e in
+    let b : budget n w c' ≡ budget n w c = same_budget (round n w) 3 c c' e in
     let inside : IsOneOf n p.j = keeps.0 in let first : p.k ≡ 1 = keeps.1 in either (CountMove n w (suc own) c' recent') (nat_lt p.j n) _ _ (λ t. (omega arith, omega arith, omega arith, omega arith)) (λ t. let ge : n ≤ p.j = not_lt p.j n t in (omega arith, omega arith, omega arith, omega arith))
-count_move n w me d m p L24 own c c' recent recent' pos e f keeps sharp bits h = let b : budget n w c' ≡ budget n w c = same_budget n w c c' e in (omega arith, omega arith, omega arith, omega arith)
-count_move n w me d m p L25 own c c' recent recent' pos e f keeps sharp bits h = let k : p.k ≡ 1 = keeps.1 in let b : budget n w c' ≡ budget n w c = same_budget n w c c' e in (omega arith, omega arith, omega arith, omega arith)
-count_move n w me d m p L26 own c c' recent recent' pos e f keeps sharp bits h = let b : budget n w c' ≡ budget n w c = same_budget n w c c' e in either (CountMove n w (suc own) c' recent') (same_at p.a p.b p.k) _ _ (λ t. (omega arith, omega arith, omega arith, omega arith)) (λ t. (omega arith, omega arith, omega arith, omega arith))
-count_move n w me d m p L27 own c c' recent recent' pos e f keeps sharp bits h = let b : budget n w c' ≡ budget n w c = same_budget n w c c' e in (omega arith, omega arith, omega arith, omega arith)
-count_move n w me d m p L28 own c c' recent recent' pos e f keeps sharp bits h = let b : budget n w c' ≡ budget n w c = same_budget n w c c' e in (omega arith, omega arith, omega arith, omega arith)
+count_move n w me d m p L24 own c c' recent recent' pos e f keeps sharp bits h = let b : budget n w c' ≡ budget n w c = same_budget (round n w) 3 c c' e in (omega arith, omega arith, omega arith, omega arith)
+count_move n w me d m p L25 own c c' recent recent' pos e f keeps sharp bits h = let k : p.k ≡ 1 = keeps.1 in let b : budget n w c' ≡ budget n w c = same_budget (round n w) 3 c c' e in (omega arith, omega arith, omega arith, omega arith)
+count_move n w me d m p L26 own c c' recent recent' pos e f keeps sharp bits h = let b : budget n w c' ≡ budget n w c = same_budget (round n w) 3 c c' e in either (CountMove n w (suc own) c' recent') (same_at p.a p.b p.k) _ _ (λ t. (omega arith, omega arith, omega arith, omega arith)) (λ t. (omega arith, omega arith, omega arith, omega arith))
+count_move n w me d m p L27 own c c' recent recent' pos e f keeps sharp bits h = let b : budget n w c' ≡ budget n w c = same_budget (round n w) 3 c c' e in (omega arith, omega arith, omega arith, omega arith)
+count_move n w me d m p L28 own c c' recent recent' pos e f keeps sharp bits h = let b : budget n w c' ≡ budget n w c = same_budget (round n w) 3 c c' e in (omega arith, omega arith, omega arith, omega arith)
 count_move n w me d m p L29 own c c' recent recent' pos e f keeps sharp bits h =
-    let b : budget n w c' ≡ budget n w c = same_budget n w c c' e in
+    let b : budget n w c' ≡ budget n w c = same_budget (round n w) 3 c c' e in
     let inside : IsOneOf w p.k = keeps.1 in let first : p.j ≡ 1 = keeps.0 in either (CountMove n w (suc own) c' recent') (nat_lt p.k w) _ _ (λ t. (omega arith, omega arith, omega arith, omega arith)) (λ t. let ge : w ≤ p.k = not_lt p.k w t in (omega arith, omega arith, omega arith, omega arith))
 count_move n w me d m p L30 own c c' recent recent' pos e f keeps sharp bits h =
-    let b : budget n w c' ≡ budget n w c + (7 * n + 8 * w + 6) = next_budget n w c c' e in
+    let b : budget n w c' ≡ budget n w c + (7 * n + 8 * w + 6) = next_budget (round n w) 3 c c' e in
     let less : moves n p + 2 ≤ 2 * n = sharp refl in
     either (CountMove n w (suc own) c' recent') (all_still n p) _ _ (λ t. (omega arith, omega arith)) (λ t. (omega arith, omega arith, omega arith, omega arith, t))
 count_move n w me d m p L31 own c c' recent recent' pos e f keeps sharp bits h =
-    let b : budget n w c' ≡ budget n w c = same_budget n w c c' e in
+    let b : budget n w c' ≡ budget n w c = same_budget (round n w) 3 c c' e in
     let more : moves n p < moves n (counted_row n p) = after_count n p h.4 (bits refl) (counted_row n p) (λ k i. for_each_at n (counted p) p.moved k i) in
     (omega arith, omega arith, omega arith)
-count_move n w me d m p L32 own c c' recent recent' pos e f keeps sharp bits h = let b : budget n w c' ≡ budget n w c = same_budget n w c c' e in count_first n w (suc own) c' recent' d m p (third_move n p) (omega arith) (omega arith) (omega arith)
-count_move n w me d m p L33 own c c' recent recent' pos e f keeps sharp bits h = let first : p.j ≡ 1 = keeps.0 in let b : budget n w c' ≡ budget n w c = same_budget n w c c' e in (omega arith, omega arith, omega arith, omega arith)
-count_move n w me d m p L34 own c c' recent recent' pos e f keeps sharp bits h = let b : budget n w c' ≡ budget n w c = same_budget n w c c' e in (omega arith, omega arith)
+count_move n w me d m p L32 own c c' recent recent' pos e f keeps sharp bits h = let b : budget n w c' ≡ budget n w c = same_budget (round n w) 3 c c' e in count_first n w (suc own) c' recent' d m p (third_move n p) (omega arith) (omega arith) (omega arith)
+count_move n w me d m p L33 own c c' recent recent' pos e f keeps sharp bits h = let first : p.j ≡ 1 = keeps.0 in let b : budget n w c' ≡ budget n w c = same_budget (round n w) 3 c c' e in (omega arith, omega arith, omega arith, omega arith)
+count_move n w me d m p L34 own c c' recent recent' pos e f keeps sharp bits h = let b : budget n w c' ≡ budget n w c = same_budget (round n w) 3 c c' e in (omega arith, omega arith)
 count_move n w me Scanning m p L35 own c c' recent recent' pos e f keeps sharp bits h = tt
 count_move n w me (Embedded y z) m p L35 own c c' recent recent' pos e f keeps sharp bits h = tt
 count_move n w me (Updating y z) m p L35 own c c' recent recent' pos e f keeps sharp bits h = tt
-count_move n w me d m p L36 own c c' recent recent' pos e f keeps sharp bits h = let b : budget n w c' ≡ budget n w c = same_budget n w c c' e in (omega arith, omega arith)
+count_move n w me d m p L36 own c c' recent recent' pos e f keeps sharp bits h = let b : budget n w c' ≡ budget n w c = same_budget (round n w) 3 c c' e in (omega arith, omega arith)
 count_move n w me Scanning m p L37 own c c' recent recent' pos e f keeps sharp bits h = tt
 count_move n w me (Embedded y z) m p L37 own c c' recent recent' pos e f keeps sharp bits h = tt
 count_move n w me (Updating y z) m p L37 own c c' recent recent' pos e f keeps sharp bits h = tt
@@ -245,7 +212,10 @@ collects_le n w p L57 own c recent pos sharp h s = absurd s
 collects_le n w p L58 own c recent pos sharp h s = absurd s
 
 own_all : (n w c own : ℕ) → c + 1 ≤ 2 * n → own ≤ budget n w c + (7 * n + 8 * w + 6) → own + 1 ≤ 14 * (n * n) + 16 * (n * w) + 19 * n + 8 * w + 10
-own_all n w c own le h = let b : budget n w c + (7 * n + 8 * w + 6) ≤ 14 * (n * n) + 16 * (n * w) + 12 * n + 3 = budget_le n w c le in omega arith
+own_all n w c own le h =
+    let next : budget n w (c + 1) ≡ budget n w c + (7 * n + 8 * w + 6) = next_budget (round n w) 3 c (c + 1) refl in
+    let b : budget n w (c + 1) ≤ (2 * n) * (7 * n + 8 * w + 6) + 3 = budget_le (round n w) 3 (c + 1) (2 * n) le in
+    let e : (2 * n) * (7 * n + 8 * w + 6) ≡ 14 * (n * n) + 16 * (n * w) + 12 * n = grind arith in omega arith
 
 pub own_le : (n w : ℕ) (d : Task) (p : Variables) (k : ProgramCounter) (own c recent : ℕ) → Keeps n w d p k → Count n w p own c recent k →
     InScanLine k →

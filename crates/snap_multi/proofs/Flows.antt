@@ -1,22 +1,23 @@
 -- How control passes from line to line of M, and what the listing says of each line.
-use Rattle.std.specs.Prelude.{◌≡◌, ℕ, ◌+◌, ◌≤◌, true, List, Option, Some, None, nat_eq, nat_lt, if◌then◌else◌, refl}
-use Rattle.std.proofs.Common.{sym, ◌∙◌, ap, subst, arith, inl, inr}
+use Rattle.std.specs.Prelude.{◌≡◌, ℕ, Option, Some, None, nat_eq, nat_lt, if◌then◌else◌, refl}
+use Rattle.std.proofs.Common.{sym, ap, subst, arith, inl, inr}
+use Rattle.snap_words.specs.Shape.{IsOneOf}
 use Rattle.snap_semantics.specs.Source.{instr_at}
-use Rattle.snap_runs.specs.Scan.{IsCallLine, Returns, is_if_all}
+use Rattle.snap_runs.specs.Scan.{Returns}
 use Rattle.snap_runs.proofs.Algorithm.{Task, Scanning, Embedded, Updating, To}
-use Rattle.snap_runs.proofs.Computing.{either, whether, same_from}
+use Rattle.snap_runs.proofs.Computing.{either, whether}
+use Rattle.snap_runs.proofs.Executing.{Numbered}
 use Rattle.snap_runs.proofs.Flow as flow
-use Rattle.snap_runs.proofs.Flow.{IsInScan}
+use Rattle.snap_runs.proofs.Flow.{scan_inside}
+use Rattle.snap_runs.proofs.ListedLines as listed_lines
+use Rattle.snap_runs.proofs.ListedLines.{LineListed}
+use Rattle.snap_runs.proofs.Plain.{plain_data}
 use Rattle.snap_runs.proofs.ScanSpan as span
 use Rattle.snap_runs.proofs.Scans as scans
+use Rattle.snap_runs.proofs.WordWrites as word_writes
 use Rattle.snap_runs.proofs.WritesOnce as writes_once
 use Rattle.snap_multi.specs.ListingM.{listing_m}
-use Rattle.snap_multi.proofs.Algorithm.{Registers, Move, Variables, ProgramCounter, L10, L11, L12, L13, L14, L15, L16, L17, L18, L19, L20, L21, L22, L23, L24, L25, L26, L27, L28, L29, L30, L31, L32, L33, L34, L35, L36, L37, L50, L51, L52, L53, L54, L55, L56, L57, L58, number, locals_of, same_at, all_still, third_move, move, first_to, embed_to, algorithm, IsScan, IsLineOf, tests, writes, written_at, lines}
-
-pub in_scan : (w : ℕ) (d : Task) → IsScan w d → IsInScan d
-in_scan w Scanning s = tt
-in_scan w (Embedded word value) s = tt
-in_scan w (Updating word value) s = s
+use Rattle.snap_multi.proofs.Algorithm.{Registers, plain, written, Move, Variables, ProgramCounter, L10, L11, L12, L13, L14, L15, L16, L17, L18, L19, L20, L21, L22, L23, L24, L25, L26, L27, L28, L29, L30, L31, L32, L33, L34, L35, L36, L37, L50, L51, L52, L53, L54, L55, L56, L57, L58, number, locals_of, same_at, all_still, third_move, move, first_to, embed_to, algorithm, IsScan, IsLineOf, writes, written_at, lines}
 
 abbrev pub Flows : ℕ → ℕ → Task → Registers → Variables → ProgramCounter → Move → Type 0
 Flows n w = flow.Flows lines (algorithm n w)
@@ -24,7 +25,7 @@ Flows n w = flow.Flows lines (algorithm n w)
 -- a line of a scan that goes on
 on : (n w : ℕ) (d : Task) (m m' : Registers) (p p' : Variables) (k k' : ProgramCounter) → IsScan w d → writes k ≡ 0 → m'.words ≡ m.words →
     Flows n w d m p k (To d m' p' k')
-on n w d m m' p p' k k' s quiet kept = flow.within lines (algorithm n w) d m m' p p' k k' (in_scan w d s) quiet kept
+on n w d m m' p p' k k' s quiet kept = flow.within lines (algorithm n w) d m m' p p' k k' (scan_inside (IsOneOf w) d s) quiet kept
 
 pub flows : (n w me : ℕ) (d : Task) (m : Registers) (p : Variables) (k : ProgramCounter) → IsLineOf w d k → Flows n w d m p k (move n w me d m p k)
 flows n w me d m p L10 s = on n w d m _ p _ L10 _ s refl refl
@@ -131,89 +132,77 @@ counter_with k =
     else if nat_eq k 58 then Some L58
     else None
 
--- what the listing says of a line
-pub record LineListed (k : ProgramCounter) : Type 0 where
-  -- no other line has its number
-  pub alone : counter_with (number k) ≡ Some k
-  -- the `if all` line is the one that ends a double collect
-  pub tested : (if is_if_all (instr_at listing_m.lines (number k)) then 1 else 0) ≡ tests k
-  -- line 57 is the one that writes
-  pub wrote : (if nat_eq (number k) 57 then 1 else 0) ≡ writes k
-  -- a `call` line is line 54
-  pub calls : IsCallLine (instr_at listing_m.lines (number k)) → k ≡ L54
-  -- a line that returns a view returns s
-  pub returns : (p : Variables) (v : List ℕ) → Returns (instr_at listing_m.lines (number k)) (locals_of p) v → lines.IsReturn k × (p.s ≡ v)
-  -- an update writes at most once up to the end of a line
-  pub once : written_at k + writes k ≤ 1
-
-pub line_listed : (k : ProgramCounter) → LineListed k
-line_listed L10 = record { alone = refl; tested = refl; wrote = refl; calls = λ h. absurd h; returns = λ p v h. absurd h; once = omega arith }
-line_listed L11 = record { alone = refl; tested = refl; wrote = refl; calls = λ h. absurd h; returns = λ p v h. absurd h; once = omega arith }
-line_listed L12 = record { alone = refl; tested = refl; wrote = refl; calls = λ h. absurd h; returns = λ p v h. absurd h; once = omega arith }
-line_listed L13 = record { alone = refl; tested = refl; wrote = refl; calls = λ h. absurd h; returns = λ p v h. absurd h; once = omega arith }
-line_listed L14 = record { alone = refl; tested = refl; wrote = refl; calls = λ h. absurd h; returns = λ p v h. absurd h; once = omega arith }
-line_listed L15 = record { alone = refl; tested = refl; wrote = refl; calls = λ h. absurd h; returns = λ p v h. absurd h; once = omega arith }
-line_listed L16 = record { alone = refl; tested = refl; wrote = refl; calls = λ h. absurd h; returns = λ p v h. absurd h; once = omega arith }
-line_listed L17 = record { alone = refl; tested = refl; wrote = refl; calls = λ h. absurd h; returns = λ p v h. absurd h; once = omega arith }
-line_listed L18 = record { alone = refl; tested = refl; wrote = refl; calls = λ h. absurd h; returns = λ p v h. absurd h; once = omega arith }
-line_listed L19 = record { alone = refl; tested = refl; wrote = refl; calls = λ h. absurd h; returns = λ p v h. absurd h; once = omega arith }
-line_listed L20 = record { alone = refl; tested = refl; wrote = refl; calls = λ h. absurd h; returns = λ p v h. absurd h; once = omega arith }
-line_listed L21 = record { alone = refl; tested = refl; wrote = refl; calls = λ h. absurd h; returns = λ p v h. absurd h; once = omega arith }
-line_listed L22 = record { alone = refl; tested = refl; wrote = refl; calls = λ h. absurd h; returns = λ p v h. absurd h; once = omega arith }
-line_listed L23 = record { alone = refl; tested = refl; wrote = refl; calls = λ h. absurd h; returns = λ p v h. absurd h; once = omega arith }
-line_listed L24 = record { alone = refl; tested = refl; wrote = refl; calls = λ h. absurd h; returns = λ p v h. absurd h; once = omega arith }
-line_listed L25 = record { alone = refl; tested = refl; wrote = refl; calls = λ h. absurd h; returns = λ p v h. absurd h; once = omega arith }
-line_listed L26 = record { alone = refl; tested = refl; wrote = refl; calls = λ h. absurd h; returns = λ p v h. absurd h; once = omega arith }
-line_listed L27 = record { alone = refl; tested = refl; wrote = refl; calls = λ h. absurd h; returns = λ p v h. absurd h; once = omega arith }
-line_listed L28 = record { alone = refl; tested = refl; wrote = refl; calls = λ h. absurd h; returns = λ p v h. absurd h; once = omega arith }
-line_listed L29 = record { alone = refl; tested = refl; wrote = refl; calls = λ h. absurd h; returns = λ p v h. absurd h; once = omega arith }
-line_listed L30 = record { alone = refl; tested = refl; wrote = refl; calls = λ h. absurd h; returns = λ p v h. absurd h; once = omega arith }
-line_listed L31 = record { alone = refl; tested = refl; wrote = refl; calls = λ h. absurd h; returns = λ p v h. absurd h; once = omega arith }
-line_listed L32 = record { alone = refl; tested = refl; wrote = refl; calls = λ h. absurd h; returns = λ p v h. absurd h; once = omega arith }
-line_listed L33 = record { alone = refl; tested = refl; wrote = refl; calls = λ h. absurd h; returns = λ p v h. absurd h; once = omega arith }
-line_listed L34 = record { alone = refl; tested = refl; wrote = refl; calls = λ h. absurd h; returns = λ p v h. absurd h; once = omega arith }
-line_listed L35 = record { alone = refl; tested = refl; wrote = refl; calls = λ h. absurd h; returns = λ p v h. (inl refl, h); once = omega arith }
-line_listed L36 = record { alone = refl; tested = refl; wrote = refl; calls = λ h. absurd h; returns = λ p v h. absurd h; once = omega arith }
-line_listed L37 = record { alone = refl; tested = refl; wrote = refl; calls = λ h. absurd h; returns = λ p v h. (inr refl, h); once = omega arith }
-line_listed L50 = record { alone = refl; tested = refl; wrote = refl; calls = λ h. absurd h; returns = λ p v h. absurd h; once = omega arith }
-line_listed L51 = record { alone = refl; tested = refl; wrote = refl; calls = λ h. absurd h; returns = λ p v h. absurd h; once = omega arith }
-line_listed L52 = record { alone = refl; tested = refl; wrote = refl; calls = λ h. absurd h; returns = λ p v h. absurd h; once = omega arith }
-line_listed L53 = record { alone = refl; tested = refl; wrote = refl; calls = λ h. absurd h; returns = λ p v h. absurd h; once = omega arith }
-line_listed L54 = record { alone = refl; tested = refl; wrote = refl; calls = λ h. refl; returns = λ p v h. absurd h; once = omega arith }
-line_listed L55 = record { alone = refl; tested = refl; wrote = refl; calls = λ h. absurd h; returns = λ p v h. absurd h; once = omega arith }
-line_listed L56 = record { alone = refl; tested = refl; wrote = refl; calls = λ h. absurd h; returns = λ p v h. absurd h; once = omega arith }
-line_listed L57 = record { alone = refl; tested = refl; wrote = refl; calls = λ h. absurd h; returns = λ p v h. absurd h; once = omega arith }
-line_listed L58 = record { alone = refl; tested = refl; wrote = refl; calls = λ h. absurd h; returns = λ p v h. absurd h; once = omega arith }
-
-pub at_number : (k : ProgramCounter) (line : ℕ) (there : ProgramCounter) → counter_with line ≡ Some there → nat_eq (number k) line ≡ true → k ≡ there
-at_number k line there is same =
-    let e : Some k ≡ Some there = sym (line_listed k).alone ∙ ap counter_with (same_from (number k) line same) ∙ is in cc
-
 -- a `call` line begins a scan
-calls_embed : (n w : ℕ) (d : Task) (m : Registers) (p : Variables) → span.NotTo (algorithm n w) (embed_to d m p)
-calls_embed n w Scanning m p = tt
-calls_embed n w (Embedded word value) m p = tt
-calls_embed n w (Updating word value) m p = tt
+embeds : (n w : ℕ) (d : Task) (m : Registers) (p : Variables) → span.NotTo (algorithm n w) (embed_to d m p)
+embeds n w Scanning m p = tt
+embeds n w (Embedded word value) m p = tt
+embeds n w (Updating word value) m p = tt
 
-calls : (n w me : ℕ) (d : Task) (m : Registers) (p : Variables) (k : ProgramCounter) → k ≡ L54 → span.NotTo (algorithm n w) (move n w me d m p k)
-calls n w me d m p k is = subst (λ y. span.NotTo (algorithm n w) (move n w me d m p y)) (sym is) (calls_embed n w d m p)
+pub line_listed : (n w : ℕ) (k : ProgramCounter) → LineListed (algorithm n w) lines 57 counter_with k
+line_listed n w L10 = record { alone = refl; tested = refl; wrote = refl; calls = λ h. absurd h; returns = λ p v h. absurd h; once = omega arith }
+line_listed n w L11 = record { alone = refl; tested = refl; wrote = refl; calls = λ h. absurd h; returns = λ p v h. absurd h; once = omega arith }
+line_listed n w L12 = record { alone = refl; tested = refl; wrote = refl; calls = λ h. absurd h; returns = λ p v h. absurd h; once = omega arith }
+line_listed n w L13 = record { alone = refl; tested = refl; wrote = refl; calls = λ h. absurd h; returns = λ p v h. absurd h; once = omega arith }
+line_listed n w L14 = record { alone = refl; tested = refl; wrote = refl; calls = λ h. absurd h; returns = λ p v h. absurd h; once = omega arith }
+line_listed n w L15 = record { alone = refl; tested = refl; wrote = refl; calls = λ h. absurd h; returns = λ p v h. absurd h; once = omega arith }
+line_listed n w L16 = record { alone = refl; tested = refl; wrote = refl; calls = λ h. absurd h; returns = λ p v h. absurd h; once = omega arith }
+line_listed n w L17 = record { alone = refl; tested = refl; wrote = refl; calls = λ h. absurd h; returns = λ p v h. absurd h; once = omega arith }
+line_listed n w L18 = record { alone = refl; tested = refl; wrote = refl; calls = λ h. absurd h; returns = λ p v h. absurd h; once = omega arith }
+line_listed n w L19 = record { alone = refl; tested = refl; wrote = refl; calls = λ h. absurd h; returns = λ p v h. absurd h; once = omega arith }
+line_listed n w L20 = record { alone = refl; tested = refl; wrote = refl; calls = λ h. absurd h; returns = λ p v h. absurd h; once = omega arith }
+line_listed n w L21 = record { alone = refl; tested = refl; wrote = refl; calls = λ h. absurd h; returns = λ p v h. absurd h; once = omega arith }
+line_listed n w L22 = record { alone = refl; tested = refl; wrote = refl; calls = λ h. absurd h; returns = λ p v h. absurd h; once = omega arith }
+line_listed n w L23 = record { alone = refl; tested = refl; wrote = refl; calls = λ h. absurd h; returns = λ p v h. absurd h; once = omega arith }
+line_listed n w L24 = record { alone = refl; tested = refl; wrote = refl; calls = λ h. absurd h; returns = λ p v h. absurd h; once = omega arith }
+line_listed n w L25 = record { alone = refl; tested = refl; wrote = refl; calls = λ h. absurd h; returns = λ p v h. absurd h; once = omega arith }
+line_listed n w L26 = record { alone = refl; tested = refl; wrote = refl; calls = λ h. absurd h; returns = λ p v h. absurd h; once = omega arith }
+line_listed n w L27 = record { alone = refl; tested = refl; wrote = refl; calls = λ h. absurd h; returns = λ p v h. absurd h; once = omega arith }
+line_listed n w L28 = record { alone = refl; tested = refl; wrote = refl; calls = λ h. absurd h; returns = λ p v h. absurd h; once = omega arith }
+line_listed n w L29 = record { alone = refl; tested = refl; wrote = refl; calls = λ h. absurd h; returns = λ p v h. absurd h; once = omega arith }
+line_listed n w L30 = record { alone = refl; tested = refl; wrote = refl; calls = λ h. absurd h; returns = λ p v h. absurd h; once = omega arith }
+line_listed n w L31 = record { alone = refl; tested = refl; wrote = refl; calls = λ h. absurd h; returns = λ p v h. absurd h; once = omega arith }
+line_listed n w L32 = record { alone = refl; tested = refl; wrote = refl; calls = λ h. absurd h; returns = λ p v h. absurd h; once = omega arith }
+line_listed n w L33 = record { alone = refl; tested = refl; wrote = refl; calls = λ h. absurd h; returns = λ p v h. absurd h; once = omega arith }
+line_listed n w L34 = record { alone = refl; tested = refl; wrote = refl; calls = λ h. absurd h; returns = λ p v h. absurd h; once = omega arith }
+line_listed n w L35 = record { alone = refl; tested = refl; wrote = refl; calls = λ h. absurd h; returns = λ p v h. (inl refl, h); once = omega arith }
+line_listed n w L36 = record { alone = refl; tested = refl; wrote = refl; calls = λ h. absurd h; returns = λ p v h. absurd h; once = omega arith }
+line_listed n w L37 = record { alone = refl; tested = refl; wrote = refl; calls = λ h. absurd h; returns = λ p v h. (inr refl, h); once = omega arith }
+line_listed n w L50 = record { alone = refl; tested = refl; wrote = refl; calls = λ h. absurd h; returns = λ p v h. absurd h; once = omega arith }
+line_listed n w L51 = record { alone = refl; tested = refl; wrote = refl; calls = λ h. absurd h; returns = λ p v h. absurd h; once = omega arith }
+line_listed n w L52 = record { alone = refl; tested = refl; wrote = refl; calls = λ h. absurd h; returns = λ p v h. absurd h; once = omega arith }
+line_listed n w L53 = record { alone = refl; tested = refl; wrote = refl; calls = λ h. absurd h; returns = λ p v h. absurd h; once = omega arith }
+line_listed n w L54 = record { alone = refl; tested = refl; wrote = refl; calls = λ h me d m p. embeds n w d m p; returns = λ p v h. absurd h; once = omega arith }
+line_listed n w L55 = record { alone = refl; tested = refl; wrote = refl; calls = λ h. absurd h; returns = λ p v h. absurd h; once = omega arith }
+line_listed n w L56 = record { alone = refl; tested = refl; wrote = refl; calls = λ h. absurd h; returns = λ p v h. absurd h; once = omega arith }
+line_listed n w L57 = record { alone = refl; tested = refl; wrote = refl; calls = λ h. absurd h; returns = λ p v h. absurd h; once = omega arith }
+line_listed n w L58 = record { alone = refl; tested = refl; wrote = refl; calls = λ h. absurd h; returns = λ p v h. absurd h; once = omega arith }
 
 -- lines 35 and 37 return s
 answers : (p : Variables) (k : ProgramCounter) → lines.IsReturn k → Returns (instr_at listing_m.lines (number k)) (locals_of p) p.s
 answers p k (inl is) = subst (λ y. Returns (instr_at listing_m.lines (number y)) (locals_of p) p.s) (sym is) refl
 answers p k (inr is) = subst (λ y. Returns (instr_at listing_m.lines (number y)) (locals_of p) p.s) (sym is) refl
 
+abbrev pub numbered : (n w : ℕ) → Numbered (algorithm n w)
+numbered n w = listed_lines.numbered (algorithm n w) lines 57 counter_with (line_listed n w)
+
 pub listed : (n w : ℕ) → scans.Listed (algorithm n w) lines
-listed n w = record {
-  tested = λ k. (line_listed k).tested;
-  calls = λ me d m p k call. calls n w me d m p k ((line_listed k).calls call);
-  returns = λ p k v h. (line_listed k).returns p v h;
-  answers = answers;
-}
+listed n w = listed_lines.listed (algorithm n w) lines 57 counter_with (line_listed n w) answers
 
 pub once : (n w : ℕ) → writes_once.Once (algorithm n w) lines 57
-once n w = record {
-  writes_is = λ k. (line_listed k).wrote;
-  most = λ k. (line_listed k).once;
-  last = λ k is. (ap written_at is, ap writes is);
+once n w = listed_lines.once (algorithm n w) lines 57 counter_with (line_listed n w) (λ k is. (ap written_at is, ap writes is))
+
+-- line 57 writes a word
+abbrev pub writer : (n w : ℕ) → word_writes.Writer (algorithm n w) lines 57
+writer n w = record {
+  words = λ m. m.words;
+  values_are = λ m. plain_data plain (λ x. refl) m.words;
+  kept = λ m m' same. same;
+  counter = L57;
+  number_is = refl;
+  only = λ k is. is;
+  Owned = λ me word. IsOneOf w word;
+  is_word = λ me word one is. is;
+  put = λ me word value m p. written me (Updating word value) m p;
+  datum_is = λ me word value m p. refl;
+  puts = λ me word value m p is. refl;
 }

@@ -6,7 +6,7 @@ use Rattle.std.proofs.lemmas.Bool.{cases_eq}
 use Rattle.std.proofs.lemmas.Grind.{common_steps}
 use Rattle.snap_words.specs.Shape.{IsOneOf}
 use Rattle.snap_semantics.specs.declared.process.Outcome.{Outcome}
-use Rattle.snap_runs.proofs.Algorithm.{Idle, At, To, Begin, Answer, Finish, New, typed_at, changed, Task, Scanning, Embedded, Updating}
+use Rattle.snap_runs.proofs.Algorithm.{Idle, At, WhenBusy, when_busy, To, Begin, Answer, Finish, New, typed_at, changed, Task, Scanning, Embedded, Updating}
 use Rattle.snap_runs.proofs.Flow as flow
 use Rattle.snap_runs.proofs.Frame as frame
 use Rattle.snap_runs.proofs.Flow.{IsInScan}
@@ -15,7 +15,7 @@ use Rattle.snap_multi.proofs.Basics.{set_here, set_there}
 use Rattle.snap_multi.proofs.Control.{ControlWell, Long}
 use Rattle.snap_multi.proofs.History.{Since, Laws}
 use Rattle.snap_multi.proofs.Collect.{events}
-use Rattle.snap_multi.proofs.Stage.{Stage, IsQuiet, Apart, stage_kept}
+use Rattle.snap_multi.proofs.Stage.{Stage, IsQuiet, stage_kept}
 use Rattle.snap_multi.proofs.Count.{Count}
 
 -- In an update: whether process c is answered, how many views are put, and whether the toggle of word y is turned, that are not
@@ -265,12 +265,10 @@ books_at_kept n w me base m m' p (At d k) one u h = books_kept n w me base m m' 
 
 -- a busy process is at the stage of its line
 abbrev pub StageAt : ℕ → ℕ → ℕ → (ℕ → Registers) → ℕ → ℕ → ℕ → Variables → Control → Type 0
-StageAt n w me history t since round p Idle = Unit {0}
-StageAt n w me history t since round p (At d k) = Stage n w me history t since round p k
+StageAt n w me history t since round p control = WhenBusy (λ d k. Stage n w me history t since round p k) control
 
 abbrev pub CountAt : ℕ → ℕ → Variables → ℕ → ℕ → ℕ → Control → Type 0
-CountAt n w p own c recent Idle = Unit {0}
-CountAt n w p own c recent (At d k) = Count n w p own c recent k
+CountAt n w p own c recent control = WhenBusy (λ d k. Count n w p own c recent k) control
 
 -- What holds of process i, at whichever line it stands.
 pub record ProcessInvariant (n w t : ℕ) (history : ℕ → Registers) (i : ℕ) (q : Process) : Type 0 where
@@ -293,12 +291,6 @@ pub record Invariant (n w t : ℕ) (history : ℕ → Registers) (x : State) : T
   pub laws : (u : ℕ) → u ≤ t → Laws n w history u
   pub each : (i : ℕ) → IsOneOf n i → ProcessInvariant n w t history i (typed_at (algorithm n w) x i)
 
-stage_at_kept : (n w me : ℕ) (history : ℕ → Registers) (t since round : ℕ) (p : Variables) (control : Control) → IsOneOf n me →
-    Since n w history t (suc t) →
-    Apart n me (history t) (history (suc t)) → StageAt n w me history t since round p control → StageAt n w me history (suc t) since round p control
-stage_at_kept n w me history t since round p Idle i s o h = tt
-stage_at_kept n w me history t since round p (At d k) i s o h = stage_kept n w me history t since round p k i s o h
-
 -- time passes and other processes act
 pub own_kept : (n w t : ℕ) (history : ℕ → Registers) (i : ℕ) (q : Process) → IsOneOf n i → Since n w history t (suc t) →
     Untouched n w i (history t) (history (suc t)) →
@@ -308,7 +300,7 @@ own_kept n w t history i q one s u h = record {
   long = h.long;
   opened = h.opened;
   round_le = (let le : q.auxiliary.round ≤ t = h.round_le in omega arith);
-  stage = stage_at_kept n w i history t q.auxiliary.since q.auxiliary.round q.variables q.control one s (record { asks = u.asks; writes = u.writes }) h.stage;
+  stage = when_busy _ _ (λ d k. stage_kept n w i history t q.auxiliary.since q.auxiliary.round q.variables k one s (record { asks = u.asks; writes = u.writes })) q.control h.stage;
   counts = h.counts;
   wrote = h.wrote;
   books = books_at_kept n w i (history q.auxiliary.since) (history t) (history (suc t)) q.variables q.control one u h.books;

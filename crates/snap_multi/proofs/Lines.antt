@@ -1,7 +1,7 @@
 -- What each line of M does.
-use Rattle.snap_runs.proofs.Places.{bind_ok, place_ok, each_ok, sum_ok}
+use Rattle.snap_runs.proofs.Places.{bind_ok, place_ok, each_ok, sum_ok, owned_ok}
 use Rattle.snap_runs.proofs.Computing.{if_true, le_true, same_number}
-use Rattle.std.specs.Prelude.{◌≡◌, ℕ, ◌+◌, ◌-◌, ◌<◌, ◌≤◌, max, Bool, true, false, ◌&&◌, [], ◌∷◌, map, Option, Some, None, Result, Ok, Err, slice_index_or, slice_set, nat_eq, nat_lt, nat_le, if◌then◌else◌, refl}
+use Rattle.std.specs.Prelude.{◌≡◌, ℕ, ◌+◌, ◌-◌, ◌<◌, ◌≤◌, max, Bool, true, false, ◌&&◌, [], ◌∷◌, map, Option, Some, None, Result, Ok, Err, slice_index_or, nat_eq, nat_lt, nat_le, if◌then◌else◌, refl}
 use Rattle.std.proofs.Common.{sym, ◌∙◌, ap, arith}
 use Rattle.std.proofs.lemmas.List.{map-set}
 use Rattle.snap_words.specs.Shape.{Counts, IsOneOf}
@@ -12,18 +12,18 @@ use Rattle.snap_semantics.specs.declared.process.Activity.{Activity}
 use Rattle.snap_semantics.specs.declared.process.Cause.{Cause}
 use Rattle.snap_semantics.specs.declared.process.Cause.TheVariants.{Owner, NotABit}
 use Rattle.snap_semantics.specs.declared.process.Op.{Op}
-use Rattle.snap_semantics.specs.Answers.{◌>>=◌}
 use Rattle.snap_semantics.specs.Source.{Name, instr_at}
 use Rattle.snap_semantics.specs.State.{Locals, value_at}
 use Rattle.snap_semantics.specs.Value.{Context, at_place, term_value}
 use Rattle.snap_semantics.specs.Table.{Goes, Effect, effect_at, first_goes}
 use Rattle.snap_runs.proofs.Algorithm.{To, shown, Task, Scanning, Embedded, Updating, op_of, link_of}
 use Rattle.snap_runs.proofs.Held.{word_at}
+use Rattle.snap_runs.proofs.Plain.{plain_at, plain_copied}
 use Rattle.snap_multi.specs.ListingM as names
 use Rattle.snap_multi.specs.ListingM.{listing_m}
 use Rattle.snap_multi.specs.Promises.{counts}
 use Rattle.snap_multi.proofs.Algorithm.{Words, Registers, plain, real, Move, Variables, locals_of, context_of, ProgramCounter, L10, L11, L12, L13, L14, L15, L16, L17, L18, L19, L20, L21, L22, L23, L24, L25, L26, L27, L28, L29, L30, L31, L32, L33, L34, L35, L36, L37, L50, L51, L52, L53, L54, L55, L56, L57, L58, number, move, first_to, algorithm, Needs, IsLineOf, place, flip, same_words, same_at, marked, counted, all_still, third_move, limit, at_limit, borrows, back, written}
-use Rattle.snap_multi.proofs.Basics.{flip_bit, plain_at}
+use Rattle.snap_multi.proofs.Basics.{flip_bit}
 
 abbrev pub act : Op → Option ℕ → ℕ → Activity
 act op link line = record { op = op; line = line; link = link }
@@ -55,28 +55,18 @@ row_term : (n w me : ℕ) (d : Task) (p : Variables) (k : ℕ) (row : Name) → 
     term_value (here n w me d p k) (Row row Place) ≡ Ok (place (value_at row (locals_of p).rows []) k)
 row_term n w me d p k row h = bind_ok _ _ _ _ (place_ok (max n w) k h) refl
 
--- a word that is read
-get_is : (copies words : Words) (k : ℕ) →
-    slice_set (map plain copies) (k - 1) (slice_index_or (map plain words) (k - 1) no_word) ≡ map plain (slice_set copies (k - 1) (word_at words k))
-get_is copies words k =
-    ap (slice_set (map plain copies) (k - 1)) (plain_at words (k - 1)) ∙ sym (map-set plain copies (k - 1) (word_at words k))
-
 -- the parts of a copy at place k
 id_term : (xs : Words) (k : ℕ) → (slice_index_or (map plain xs) (k - 1) no_word).id ≡ (word_at xs k).id
-id_term xs k = ap (λ (x : Word). x.id) (plain_at xs (k - 1))
+id_term xs k = ap (λ (x : Word). x.id) (plain_at plain refl xs (k - 1))
 
 toggle_term : (xs : Words) (k : ℕ) → (slice_index_or (map plain xs) (k - 1) no_word).toggle ≡ (word_at xs k).toggle
-toggle_term xs k = ap (λ (x : Word). x.toggle) (plain_at xs (k - 1))
-
-owned_ok : {A : Type 0} (own : Bool) (x : A) (cause : Cause) (f : A → Result Effect Cause) → own ≡ true →
-    ((if own then Ok x else Err cause) >>= f) ≡ f x
-owned_ok own x cause f h = ap (λ b. (if b then Ok x else Err cause) >>= f) h
+toggle_term xs k = ap (λ (x : Word). x.toggle) (plain_at plain refl xs (k - 1))
 
 same_is : (xs ys : Words) (k : ℕ) →
     same_words (slice_index_or (map plain xs) (k - 1) no_word) (slice_index_or (map plain ys) (k - 1) no_word) ≡ same_at xs ys k
 same_is xs ys k =
-    ap (λ (x : Word). same_words x (slice_index_or (map plain ys) (k - 1) no_word)) (plain_at xs (k - 1))
-    ∙ ap (λ (y : Word). same_words (word_at xs k) y) (plain_at ys (k - 1))
+    ap (λ (x : Word). same_words x (slice_index_or (map plain ys) (k - 1) no_word)) (plain_at plain refl xs (k - 1))
+    ∙ ap (λ (y : Word). same_words (word_at xs k) y) (plain_at plain refl ys (k - 1))
 
 first_shown : (n w : ℕ) (d : Task) (m : Registers) (p : Variables) (o : Option ℕ) →
     first_goes listing_m (act (op_of d) (link_of (number back) d) 32) (real m) (locals_of p) names.j (number borrows) o ≡ shown (algorithm n w) m (first_to d m p o)
@@ -104,11 +94,11 @@ lines n w me d m p L15 s h =
 lines n w me d m p L16 s h = shown_if n w m (nat_lt p.j n) _ _
 lines n w me d m p L17 s h =
     bind_ok _ _ _ _ (place_ok (max n w) p.k (word_place n w p.k h)) (bind_ok _ _ _ _ (place_ok w p.k h)
-    (ap (λ (xs : Words). Ok (Goes (real m) (with_copies p xs (map plain p.b)) (link_of (number back) d) 18)) (get_is p.a m.words p.k)))
+    (ap (λ (xs : Words). Ok (Goes (real m) (with_copies p xs (map plain p.b)) (link_of (number back) d) 18)) (plain_copied plain refl p.a m.words (p.k - 1) (p.k - 1))))
 lines n w me d m p L18 s h = shown_if n w m (nat_lt p.k w) _ _
 lines n w me d m p L19 s h =
     bind_ok _ _ _ _ (place_ok (max n w) p.k (word_place n w p.k h)) (bind_ok _ _ _ _ (place_ok w p.k h)
-    (ap (λ (xs : Words). Ok (Goes (real m) (with_copies p (map plain p.a) xs) (link_of (number back) d) 20)) (get_is p.b m.words p.k)))
+    (ap (λ (xs : Words). Ok (Goes (real m) (with_copies p (map plain p.a) xs) (link_of (number back) d) 20)) (plain_copied plain refl p.b m.words (p.k - 1) (p.k - 1))))
 lines n w me d m p L20 s h = shown_if n w m (nat_lt p.k w) _ _
 lines n w me d m p L21 s h = bind_ok _ _ _ _ (place_ok n p.j h.0) (bind_ok _ _ _ _ (place_ok n me h.1) refl)
 lines n w me d m p L22 s h = bind_ok _ _ _ _ (place_ok (max n w) p.j (process_place n w p.j h)) refl

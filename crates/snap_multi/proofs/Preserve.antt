@@ -1,5 +1,5 @@
 -- Every state of a run of M keeps the invariant.
-use Rattle.snap_runs.proofs.Flow.{IsInScan}
+use Rattle.snap_runs.proofs.Flow.{IsInScan, scan_inside}
 use Rattle.snap_runs.proofs.Totals.{total_less}
 use Rattle.snap_runs.proofs.Computing.{either, lt_true, same_number, other_number}
 use Rattle.std.specs.Prelude.{◌≡◌, ◌≢◌, ℕ, suc, ◌+◌, ◌*◌, ◌<◌, ◌≤◌, Bool, true, false, length, Option, Some, None, nat_lt, if◌then◌else◌, refl}
@@ -15,14 +15,15 @@ use Rattle.snap_semantics.specs.declared.process.Item.{Item}
 use Rattle.snap_semantics.specs.declared.process.Item.TheVariants.{Step, Call}
 use Rattle.snap_semantics.specs.declared.process.Outcome.TheVariants.{Called, Stepped, Answered, Finished}
 use Rattle.snap_semantics.specs.Table.{call_skip, who}
-use Rattle.snap_runs.proofs.Algorithm.{Idle, At, To, Begin, Answer, Finish, New, by_move, by_step, by_admission, by_call, typed_at, changed, happens, stepped_auxiliary, begun_auxiliary, called_auxiliary, Task, Scanning, Embedded, Updating, op_of}
+use Rattle.snap_runs.proofs.Algorithm.{Idle, At, To, Begin, Answer, Finish, New, by_move, by_step, by_admission, by_call, memory_after, typed_at, changed, happens, stepped_auxiliary, begun_auxiliary, called_auxiliary, Task, Scanning, Embedded, Updating, op_of}
+use Rattle.snap_runs.proofs.Embedding as embed
 use Rattle.snap_runs.proofs.Flow as flow
 use Rattle.snap_runs.proofs.Held.{Held}
 use Rattle.snap_multi.specs.Promises.{counts}
 use Rattle.snap_multi.proofs.Algorithm.{counter, limit, lines, Registers, restarts, Process, Control, Move, State, Variables, ProgramCounter, L10, L11, L12, L13, L14, L15, L16, L17, L18, L19, L20, L21, L22, L23, L24, L25, L26, L27, L28, L29, L30, L31, L32, L33, L34, L35, L36, L37, L50, L51, L52, L53, L54, L55, L56, L57, L58, place, bit, flip, move, first_to, return_to, embed_to, same_at, all_still, third_move, after_15, after_52, after_55, after_57, IsLineOf, IsScan, tests, writes, algorithm}
 use Rattle.snap_multi.proofs.Basics.{less_or_not}
 use Rattle.snap_multi.proofs.Control.{Keeps, BelowLimit, LongMove, long_move, MoveWell, ControlWell, Ground, move_well, called_well}
-use Rattle.snap_multi.proofs.Flows.{in_scan, flows}
+use Rattle.snap_multi.proofs.Flows.{flows}
 use Rattle.snap_multi.proofs.History.{words_of, Now, Since, Laws, acts_nothing, laws_next, laws_up_to}
 use Rattle.snap_multi.proofs.Collect.{events}
 use Rattle.snap_multi.proofs.Stage.{Stage, StageMove, IsQuiet, Low, Row, events_le, stage_move, stage_15}
@@ -31,20 +32,17 @@ use Rattle.snap_multi.proofs.Invariant.{HasWritten, ProcessInvariant, Invariant,
 use Rattle.snap_multi.proofs.Writes.{acts_15, now_15, untouched_15, asks_there, asks_here, acts_52, now_52, untouched_52, acts_55, now_55, untouched_55, acts_57, now_57, untouched_57, raised_here, raised_at_here, raised_at_elsewhere, with_at_here, with_at_elsewhere}
 
 abbrev pub KeepsMemory : Registers → Move → Type 0
-KeepsMemory m (To d m' p k) = m' ≡ m
-KeepsMemory m (Begin d p k) = Unit {0}
-KeepsMemory m (Answer v) = Unit {0}
-KeepsMemory m Finish = Unit {0}
+KeepsMemory m v = memory_after m v ≡ m
 
 kept_return : (d : Task) (m : Registers) (p : Variables) → KeepsMemory m (return_to d m p)
-kept_return Scanning m p = tt
+kept_return Scanning m p = refl
 kept_return (Embedded word arg) m p = refl
-kept_return (Updating word arg) m p = tt
+kept_return (Updating word arg) m p = refl
 
 kept_embed : (d : Task) (m : Registers) (p : Variables) → KeepsMemory m (embed_to d m p)
-kept_embed Scanning m p = tt
-kept_embed (Embedded word arg) m p = tt
-kept_embed (Updating word arg) m p = tt
+kept_embed Scanning m p = refl
+kept_embed (Embedded word arg) m p = refl
+kept_embed (Updating word arg) m p = refl
 
 kept_first : (d : Task) (m : Registers) (p : Variables) (o : Option ℕ) → KeepsMemory m (first_to d m p o)
 kept_first d m p None = refl
@@ -88,18 +86,11 @@ kept n w me d m p L54 q = kept_embed d m p
 kept n w me d m p L55 q = absurd q
 kept n w me d m p L56 q = refl
 kept n w me d m p L57 q = absurd q
-kept n w me d m p L58 q = tt
+kept n w me d m p L58 q = refl
 
 -- process i
 abbrev pub at : ℕ → ℕ → State → ℕ → Process
 at n w x i = typed_at (algorithm n w) x i
-
-pub keeps_then : (n w t : ℕ) (x : State) (i : ℕ) (k : ProgramCounter) (v : Move) → KeepsMemory x.memory v →
-    (changed x i (by_move (algorithm n w) t x.memory (at n w x i) k v)).memory ≡ x.memory
-keeps_then n w t x i k (To d m p k') h = h
-keeps_then n w t x i k (Begin d p k') h = refl
-keeps_then n w t x i k (Answer v) h = refl
-keeps_then n w t x i k Finish h = refl
 
 -- the start of the last double collect, also where a line starts another one
 round_from : (again : Bool) (since round t : ℕ) → since ≤ round → round ≤ t → since ≤ (if again then t else round)
@@ -128,7 +119,7 @@ pub sharp_at : (n w i : ℕ) (history : ℕ → Registers) (t since round : ℕ)
 sharp_at n w i history t since round d p k one s line keeps books stage e =
     let keeps30 : Keeps n w d p L30 = subst (Keeps n w d p) e keeps in
     unmoved n w i history t since round p one s (subst (Stage n w i history t since round p) e stage).0 keeps30.2
-    (books.self (in_scan w d (subst (IsLineOf w d) e line)))
+    (books.self (scan_inside (IsOneOf w) d (subst (IsLineOf w d) e line)))
 
 pub bits_at : (n w i : ℕ) (history : ℕ → Registers) (t since round : ℕ) (p : Variables) (k : ProgramCounter) → Stage n w i history t since round p k →
     k ≡ L31 →
@@ -228,7 +219,7 @@ quiet_inv n w t history x i d k quiet some count one now h is next =
     let q = at n w x i in
     let p = q.variables in
     let m = x.memory in
-    let stays : history (suc t) ≡ m = next ∙ keeps_then n w (suc t) x i k (move n w i d m p k) (kept n w i d m p k quiet) in
+    let stays : history (suc t) ≡ m = next ∙ embed.move_memory (algorithm n w) (suc t) x i k (move n w i d m p k) ∙ kept n w i d m p k quiet in
     let same : history (suc t) ≡ history t = stays ∙ sym now in
     let laws : (u : ℕ) → u ≤ suc t → Laws n w history u = laws_same n w t history same h.laws in
     let here : Laws n w history (suc t) = laws (suc t) (omega arith) in
@@ -607,16 +598,6 @@ admit_inv n w t history x i (Update word value) None e count one same laws h is 
       };
     })
 
-pub admit_memory : (n w t : ℕ) (x : State) (i : ℕ) (op : Op) (o : Option Reason) →
-    (changed x i (by_admission (algorithm n w) t x.memory (at n w x i) op o)).memory ≡ x.memory
-admit_memory n w t x i op (Some why) = refl
-admit_memory n w t x i op None = refl
-
-pub call_memory : (n w t : ℕ) (x : State) (i : ℕ) (op : Op) (control : Control) →
-    (changed x i (by_call (algorithm n w) t x.memory i op (at n w x i) control)).memory ≡ x.memory
-call_memory n w t x i op Idle = admit_memory n w t x i op (call_skip kind.Multi (counts n w) i op)
-call_memory n w t x i op (At d k) = refl
-
 asked_inv : (n w t : ℕ) (history : ℕ → Registers) (x : State) (i : ℕ) (op : Op) (control : Control) → length x.processes ≡ n → IsOneOf n i →
     history (suc t) ≡ history t → ((u : ℕ) → u ≤ suc t → Laws n w history u) → Invariant n w t history x → (at n w x i).control ≡ control →
     Invariant n w (suc t) history (changed x i (by_call (algorithm n w) (suc t) x.memory i op (at n w x i) control))
@@ -629,5 +610,5 @@ pub happens_inv : (n w t : ℕ) (history : ℕ → Registers) (x : State) (y : I
     Invariant n w (suc t) history (happens (algorithm n w) (suc t) x y)
 happens_inv n w t history x (Step i) some count one now h next = step_inv n w t history x i (at n w x i).control some count one now h refl next
 happens_inv n w t history x (Call i op) some count one now h next =
-    let same : history (suc t) ≡ history t = next ∙ call_memory n w (suc t) x i op (at n w x i).control ∙ sym now in
+    let same : history (suc t) ≡ history t = next ∙ embed.call_memory (algorithm n w) (suc t) x i op (at n w x i).control ∙ sym now in
     asked_inv n w t history x i op (at n w x i).control count one same (laws_same n w t history same h.laws) h refl

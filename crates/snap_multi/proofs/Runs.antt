@@ -1,30 +1,25 @@
 -- Whole runs of M: the invariant at each state, and no traps.
-use Rattle.std.specs.Prelude.{◌≡◌, ℕ, zero, suc, ◌-◌, ◌<◌, ◌≤◌, max, List, [], ◌∷◌, length, map, Option, replicate, slice_index, refl}
+use Rattle.std.specs.Prelude.{◌≡◌, ℕ, zero, suc, ◌-◌, ◌<◌, ◌≤◌, max, List, [], length, replicate, slice_index, refl}
 use Rattle.std.proofs.Common.{sym, ◌∙◌, ap, subst, arith}
 use Rattle.std.proofs.lemmas.List.{get_or-replicate, length-replicate}
 use Rattle.snap_words.specs.Shape.{IsOneOf}
 use Rattle.snap_words.specs.Word.{Word, no_word}
-use Rattle.snap_semantics.specs.State.{Process as NamedProcess, values}
 use Rattle.snap_semantics.specs.declared.process.Item.{Item}
-use Rattle.snap_semantics.specs.declared.process.Item.TheVariants.{Step}
-use Rattle.snap_semantics.specs.Table.{who}
-use Rattle.snap_runs.specs.Run.{Fits, state}
-use Rattle.snap_runs.specs.Scan.{Scan}
-use Rattle.snap_runs.specs.Promises.{HasTrapped}
-use Rattle.snap_runs.proofs.Algorithm.{Idle, At, first_process, first_state, typed_at, item_at, typed_state, status_of, Task}
+use Rattle.snap_runs.specs.Run.{Fits}
+use Rattle.snap_runs.proofs.Algorithm.{Task, Idle, At, when_busy, first_process, first_state, typed_at, item_at, typed_state}
 use Rattle.snap_runs.proofs.Embedding as embed
-use Rattle.snap_runs.proofs.ScanSpan as span
+use Rattle.snap_runs.proofs.Held.{word_at, seq_at}
 use Rattle.snap_runs.proofs.Scans as scans
-use Rattle.snap_multi.proofs.Flows.{flows, listed}
-use Rattle.snap_runs.proofs.Held.{word_at, seq_at, data_of}
 use Rattle.snap_multi.specs.Promises.{run_of, NeverTraps}
-use Rattle.snap_multi.proofs.Algorithm.{lines, Words, Registers, Process, plain, first_word, first_memory, Control, State, Variables, ProgramCounter, L28, bit, algorithm}
+use Rattle.snap_multi.proofs.Algorithm.{lines, Registers, Process, first_word, first_memory, Control, State, Variables, ProgramCounter, L28, bit, IsLineOf, algorithm}
 use Rattle.snap_multi.proofs.Basics.{Square}
-use Rattle.snap_multi.proofs.Control.{ControlWell, NamedAt28, does}
+use Rattle.snap_multi.proofs.Control.{ControlWell, Keeps, NamedAt28, does}
+use Rattle.snap_multi.proofs.Count.{Count}
+use Rattle.snap_multi.proofs.Flows.{flows}
 use Rattle.snap_multi.proofs.History.{Now, Since, Laws, since_itself}
 use Rattle.snap_multi.proofs.Collect.{seen_by_words}
 use Rattle.snap_multi.proofs.Stage.{Stage}
-use Rattle.snap_multi.proofs.Invariant.{ProcessInvariant, Invariant, StageAt}
+use Rattle.snap_multi.proofs.Invariant.{ProcessInvariant, Invariant, StageAt, CountAt}
 use Rattle.snap_multi.proofs.Preserve.{happens_inv}
 
 abbrev pub state_at : ℕ → ℕ → List Item → ℕ → State
@@ -104,7 +99,7 @@ pub inv : (n w : ℕ) (items : List Item) → 0 < w → Fits (run_of n w items) 
 inv n w items some fits zero h = inv0 n w items
 inv n w items some fits (suc t) h =
     happens_inv n w t (registers_at n w items) (state_at n w items t) (item_at items t) some (embed.count (algorithm n w) items t)
-    (embed.all_index (λ y. IsOneOf n (who y)) items t (Step 0) fits.all (omega arith)) refl (inv n w items some fits t (omega arith)) refl
+    (embed.one_at (algorithm n w) items fits t (omega arith)) refl (inv n w items some fits t (omega arith)) refl
 
 pub own : (n w : ℕ) (items : List Item) → 0 < w → Fits (run_of n w items) → (t i : ℕ) → t ≤ length items → IsOneOf n i →
     ProcessInvariant n w t (registers_at n w items) i (typed_at (algorithm n w) (state_at n w items t) i)
@@ -129,49 +124,28 @@ all_do n w items some fits t i h one =
     (record { one = one; some = some; bits = λ c k. (v.laws t (omega arith)).now.bits c i k one; long = o.long }) o.well
     (named_28 n w i (registers_at n w items) t q.auxiliary.since q.auxiliary.round q.variables q.control one v.laws o.well o.stage)
 
--- No process traps.
-not_trapped : (n w : ℕ) (control : Control) → HasTrapped (status_of (algorithm n w) control) → ⊥
-not_trapped n w Idle h = h
-not_trapped n w (At d k) h = h
-
 pub never_traps_lem : NeverTraps
-never_traps_lem n w items some fits i t one h trapped =
-    not_trapped n w (typed_at (algorithm n w) (state_at n w items t) i).control
-    (subst (λ (p : NamedProcess). HasTrapped p.status) (embed.process_at_is (algorithm n w) items fits (all_do n w items some fits) t i h one) trapped)
+never_traps_lem n w items some fits = embed.never_traps (algorithm n w) items fits (all_do n w items some fits)
 
--- how control passes
-flows_at : (n w i : ℕ) (m : Registers) (p : Variables) (control : Control) → ControlWell n w p control →
-    scans.FlowsAt (algorithm n w) lines i m p control
-flows_at n w i m p Idle h = tt
-flows_at n w i m p (At d k) h = flows n w i d m p k h.0
+-- the run, with what is known of its lines
+abbrev pub execution : (n w : ℕ) (items : List Item) → 0 < w → Fits (run_of n w items) → scans.Execution (algorithm n w) lines
+execution n w items some fits = record {
+  items = items;
+  fits = fits;
+  does = all_do n w items some fits;
+  flows = λ t i h one.
+      let q = typed_at (algorithm n w) (state_at n w items t) i in
+      when_busy _ _ (λ d k well. flows n w i d (registers_at n w items t) q.variables k well.0) q.control (own n w items some fits t i (omega arith) one).well;
+  wrote = λ t i h one. (own n w items some fits t i h one).wrote;
+}
 
-pub all_flow : (n w : ℕ) (items : List Item) → 0 < w → Fits (run_of n w items) → scans.AllFlow (algorithm n w) lines items
-all_flow n w items some fits t i h one =
-    flows_at n w i (registers_at n w items t) (typed_at (algorithm n w) (state_at n w items t) i).variables (typed_at (algorithm n w) (state_at n w items t) i).control
-    (own n w items some fits t i (omega arith) one).well
-
-pub lawful : (n w : ℕ) (items : List Item) → 0 < w → Fits (run_of n w items) → (t i : ℕ) → t < length items → IsOneOf n i →
-    span.LawfulAt (algorithm n w) i (registers_at n w items t) (typed_at (algorithm n w) (state_at n w items t) i).variables (typed_at (algorithm n w) (state_at n w items t) i).control
-lawful n w items some fits t i h one = scans.lawful (algorithm n w) lines (listed n w) items fits (all_do n w items some fits) (all_flow n w items some fits) t i h one
-
--- at state t the scan that process i started at item c goes on
-abbrev pub Goes : (n w : ℕ) (items : List Item) → 0 < w → Fits (run_of n w items) → (i : ℕ) → IsOneOf n i → Option ℕ → ℕ → ℕ → Type 0
-Goes n w items some fits i one link c t = scans.Goes (algorithm n w) lines (listed n w) items fits (all_do n w items some fits) (all_flow n w items some fits) i one link c t
-
-pub goes : (n w : ℕ) (items : List Item) (some : 0 < w) (fits : Fits (run_of n w items)) (i : ℕ) (one : IsOneOf n i) (link : Option ℕ) (c e t : ℕ) →
-    Scan (run_of n w items) i link c e → c ≤ t → t < e →
-    Goes n w items some fits i one link c t
-goes n w items some fits i one link c e t scan le lt =
-    scans.goes (algorithm n w) lines (listed n w) items fits (all_do n w items some fits) (all_flow n w items some fits) i one link c e t scan le lt
-
--- the values of the words as the machine has them
-plain_values : (xs : Words) → map (λ (x : Word). x.datum) (map plain xs) ≡ data_of xs
-plain_values [] = refl
-plain_values (x ∷ xs) = ap (λ ys. x.datum ∷ ys) (plain_values xs)
-
-pub values_is : (n w : ℕ) (items : List Item) → 0 < w → Fits (run_of n w items) → (t : ℕ) → t ≤ length items →
-    values (state (run_of n w items) t) ≡ data_of (registers_at n w items t).words
-values_is n w items some fits t h = ap values (embed.state_is (algorithm n w) items fits (all_do n w items some fits) t h) ∙ plain_values (registers_at n w items t).words
+-- what a process at a line keeps there
+pub well_of : (n w : ℕ) (items : List Item) → 0 < w → Fits (run_of n w items) → (t i : ℕ) (d : Task) (k : ProgramCounter) → t ≤ length items →
+    IsOneOf n i →
+    (typed_at (algorithm n w) (state_at n w items t) i).control ≡ At d k →
+    IsLineOf w d k × Keeps n w d (typed_at (algorithm n w) (state_at n w items t) i).variables k
+well_of n w items some fits t i d k le one e =
+    let q = typed_at (algorithm n w) (state_at n w items t) i in subst (ControlWell n w q.variables) e (own n w items some fits t i le one).well
 
 -- a busy process is at the stage of its line
 pub stage_of : (n w : ℕ) (items : List Item) → 0 < w → Fits (run_of n w items) → (t i : ℕ) (d : Task) (k : ProgramCounter) → t ≤ length items →
@@ -181,3 +155,12 @@ pub stage_of : (n w : ℕ) (items : List Item) → 0 < w → Fits (run_of n w it
 stage_of n w items some fits t i d k le one e =
     let q = typed_at (algorithm n w) (state_at n w items t) i in
     subst (StageAt n w i (registers_at n w items) t q.auxiliary.since q.auxiliary.round q.variables) e (own n w items some fits t i le one).stage
+
+-- and its counts are those of its line
+pub counts_of : (n w : ℕ) (items : List Item) → 0 < w → Fits (run_of n w items) → (t i : ℕ) (d : Task) (k : ProgramCounter) → t ≤ length items →
+    IsOneOf n i →
+    (typed_at (algorithm n w) (state_at n w items t) i).control ≡ At d k →
+    Count n w (typed_at (algorithm n w) (state_at n w items t) i).variables (typed_at (algorithm n w) (state_at n w items t) i).auxiliary.own (typed_at (algorithm n w) (state_at n w items t) i).auxiliary.collects (typed_at (algorithm n w) (state_at n w items t) i).auxiliary.tested k
+counts_of n w items some fits t i d k le one e =
+    let q = typed_at (algorithm n w) (state_at n w items t) i in
+    subst (CountAt n w q.variables q.auxiliary.own q.auxiliary.collects q.auxiliary.tested) e (own n w items some fits t i le one).counts

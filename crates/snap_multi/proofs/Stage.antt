@@ -8,11 +8,12 @@ use Rattle.snap_words.specs.Shape.{IsOneOf}
 use Rattle.snap_words.specs.Word.{Word}
 use Rattle.snap_runs.proofs.Algorithm.{To, Begin, Answer, Finish, Task, Scanning, Embedded, Updating}
 use Rattle.snap_runs.proofs.Held.{word_at, Held, held_wider}
+use Rattle.snap_runs.proofs.Plain.{plain_taken}
 use Rattle.snap_multi.proofs.Algorithm.{Words, Registers, Move, Variables, ProgramCounter, L10, L11, L12, L13, L14, L15, L16, L17, L18, L19, L20, L21, L22, L23, L24, L25, L26, L27, L28, L29, L30, L31, L32, L33, L34, L35, L36, L37, L50, L51, L52, L53, L54, L55, L56, L57, L58, plain, place, bit, view_at, move, first_to, same_at, marked, counted, all_still, third_move, limit, at_limit, restarts, IsLineOf}
 use Rattle.snap_multi.proofs.Basics.{other_from, set_here, set_there}
 use Rattle.snap_multi.proofs.Control.{Keeps, Long}
 use Rattle.snap_multi.proofs.History.{words_of, Since, Laws}
-use Rattle.snap_multi.proofs.Collect.{events, ReadBit, Collected, collected_starts, collected_as, collected_kept, ended_kept, asked_row, asked_more, first_more, second_more, late_more, seen_by_words, seen_by_bits, passed, plain_data, borrowed}
+use Rattle.snap_multi.proofs.Collect.{events, ReadBit, Collected, collected_starts, collected_as, collected_kept, ended_kept, asked_row, asked_more, first_more, second_more, late_more, seen_by_words, seen_by_bits, passed, borrowed}
 
 -- The moves that the scan has seen are events since its start: up to its last double collect's start, and up to now.
 abbrev pub Low : ℕ → ℕ → (ℕ → Registers) → ℕ → ℕ → List ℕ → Type 0
@@ -285,7 +286,7 @@ stage_move n w me history t since round m d p L30 e h =
     let long : Long n w p = e.long in
     let len : length p.b ≡ max n w = long.b in
     either (StageMove n w me history t since round) (all_still n p) _ _
-    (λ b. subst (Held (words_of history) t since) (sym (plain_data w p.b))
+    (λ b. subst (Held (words_of history) t since) (sym (plain_taken plain (λ x. refl) w p.b))
     (passed n w me history round t p.g p.a p.b p.h e.one e.laws h.1 since e.opened (omega arith)
     (still_bits n w me history round t p (w + 1) h.2 b) (still_words n w me history round t p e.one e.laws h.1 h.2 b)))
     (λ b. h)

@@ -61,12 +61,29 @@ pub data Control (P : Type 0) : Type 0 where
   Idle : Control P
   At : (task : Task) → (counter : P) → Control P
 
+-- what holds of a process at its line, where it is busy
+abbrev pub WhenBusy : {P : Type 0} → (Task → P → Type 0) → Control P → Type 0
+WhenBusy Holds Idle = Unit {0}
+WhenBusy Holds (At d k) = Holds d k
+
+pub when_busy : {P : Type 0} (A B : Task → P → Type 0) → ((d : Task) (k : P) → A d k → B d k) → (control : Control P) → WhenBusy A control →
+    WhenBusy B control
+when_busy A B gives Idle h = tt
+when_busy A B gives (At d k) h = gives d k h
+
 -- what a line does: it goes on, begins an embedded scan, answers a scan, or finishes an update
 pub data Move (V P M : Type 0) : Type 0 where
   To : (task : Task) → (memory : M) → (variables : V) → (counter : P) → Move V P M
   Begin : (task : Task) → (variables : V) → (counter : P) → Move V P M
   Answer : (view : List ℕ) → Move V P M
   Finish : Move V P M
+
+-- the memory after it
+abbrev pub memory_after : {V P M : Type 0} → M → Move V P M → M
+memory_after m (To d m' p k) = m'
+memory_after m (Begin d p k) = m
+memory_after m (Answer v) = m
+memory_after m Finish = m
 
 -- what the proof remembers of a process, in numbers of items and counts
 pub record Auxiliary : Type 0 where

@@ -1,6 +1,6 @@
 -- The machine does what the typed processes do: for any algorithm whose lines do its moves.
 use Rattle.std.specs.Prelude.{◌≡◌, ◌≢◌, ℕ, zero, suc, ◌-◌, ◌<◌, ◌≤◌, List, [], ◌∷◌, ◌++◌, take, length, map, Option, Some, None, slice_index_or, slice_set, replicate, refl}
-use Rattle.std.proofs.Common.{sym, ◌∙◌, ap, arith}
+use Rattle.std.proofs.Common.{sym, ◌∙◌, ap, subst, arith}
 use Rattle.std.specs.List.{AllByRecursion}
 use Rattle.std.proofs.lemmas.Grind.{get_or-set_at}
 use Rattle.std.proofs.lemmas.List.{get_or-map, map-set, length-set, get_or-set_other, length-replicate, get_or-replicate}
@@ -21,8 +21,9 @@ use Rattle.snap_semantics.specs.Table.{effect_at, leave, step, called, call, cal
 use Rattle.snap_semantics.specs.Run.{after}
 use Rattle.snap_semantics.specs.State.{Memory, process_at, initial, initial_process}
 use Rattle.snap_words.specs.Shape.{IsOneOf}
+use Rattle.snap_runs.specs.Promises.{HasTrapped}
 use Rattle.snap_runs.specs.Run.{Run, Fits, state, item, outcome}
-use Rattle.snap_runs.proofs.Algorithm.{Task, op_of, link_of, task_of, op_is, link_is, Control, Idle, At, Move, To, Begin, Answer, Finish, TypedProcess, TypedState, Algorithm, Change, Same, New, by_move, by_step, by_admission, by_call, first_process, first_state, typed_at, by_item, changed, outcome_of, item_at, typed_state, status_of, process_of, state_of, shown, SameOp}
+use Rattle.snap_runs.proofs.Algorithm.{Task, op_of, link_of, task_of, op_is, link_is, Control, Idle, At, Move, To, Begin, Answer, Finish, TypedProcess, TypedState, Algorithm, Change, Same, New, by_move, by_step, by_admission, by_call, memory_after, first_process, first_state, typed_at, by_item, changed, outcome_of, item_at, typed_state, status_of, process_of, state_of, shown, SameOp}
 
 pub map_same : {A B : Type 0} (f : A → B) (n : ℕ) (x : A) → map f (replicate n x) ≡ replicate n (f x)
 map_same f zero x = refl
@@ -33,7 +34,7 @@ pub after_append : (s : Source) (shape : Counts) (S : State) (xs : List Item) (x
 after_append s shape S [] x = refl
 after_append s shape S (y ∷ xs) x = after_append s shape (done s shape S y).0 xs x
 
-pub all_index : (P : Item → Type 0) (xs : List Item) (k : ℕ) (d : Item) → AllByRecursion P xs → k < length xs → P (slice_index_or xs k d)
+all_index : (P : Item → Type 0) (xs : List Item) (k : ℕ) (d : Item) → AllByRecursion P xs → k < length xs → P (slice_index_or xs k d)
 all_index P [] k d h b = absurd (omega arith)
 all_index P (x ∷ xs) zero d h b = h.0
 all_index P (x ∷ xs) (suc k) d h b = all_index P xs k d h.1 (omega arith)
@@ -138,6 +139,24 @@ module _ {V P M : Type 0} (a : Algorithm V P M) where
       typed_at a (changed x i (New m q o)) i ≡ q
   own_process x i m q o count one = get_or-set_at x.processes (i - 1) (i - 1) q (first_process a) refl (omega arith)
 
+  -- the memory after a move, and that a call leaves it
+  pub move_memory : (time : ℕ) (x : TypedState V P M) (i : ℕ) (k : P) (v : Move V P M) →
+      (changed x i (by_move a time x.memory (typed_at a x i) k v)).memory ≡ memory_after x.memory v
+  move_memory time x i k (To d m p k') = refl
+  move_memory time x i k (Begin d p k') = refl
+  move_memory time x i k (Answer v) = refl
+  move_memory time x i k Finish = refl
+
+  admission_memory : (time : ℕ) (x : TypedState V P M) (i : ℕ) (op : Op) (o : Option Reason) →
+      (changed x i (by_admission a time x.memory (typed_at a x i) op o)).memory ≡ x.memory
+  admission_memory time x i op (Some why) = refl
+  admission_memory time x i op None = refl
+
+  pub call_memory : (time : ℕ) (x : TypedState V P M) (i : ℕ) (op : Op) (control : Control P) →
+      (changed x i (by_call a time x.memory i op (typed_at a x i) control)).memory ≡ x.memory
+  call_memory time x i op Idle = admission_memory time x i op (call_skip a.source.kind a.shape i op)
+  call_memory time x i op (At d k) = refl
+
   -- the process of an item that changes it
   pub process_next : (items : List Item) (t i : ℕ) (m : M) (q : TypedProcess V P M) (o : Outcome) → IsOneOf a.shape.n i →
       typed_state a items (suc t) ≡ changed (typed_state a items t) i (New m q o) → typed_at a (typed_state a items (suc t)) i ≡ q
@@ -158,19 +177,20 @@ module _ {V P M : Type 0} (a : Algorithm V P M) where
   abbrev pub run_of : List Item → Run
   run_of items = record { source = a.source; shape = a.shape; items = items }
 
+  -- each item is one of the processes'
+  pub one_at : (items : List Item) → Fits (run_of items) → (t : ℕ) → t < length items → IsOneOf a.shape.n (who (item_at items t))
+  one_at items fits t h = all_index (λ y. IsOneOf a.shape.n (who y)) items t (Step 0) fits.all h
+
   -- each line that is met does its move
   abbrev pub AllDo : List Item → Type 0
   AllDo items =
       (t i : ℕ) → t < length items → IsOneOf a.shape.n i → Does i (typed_state a items t).memory (typed_at a (typed_state a items t) i).variables (typed_at a (typed_state a items t) i).control
 
   module _ (items : List Item) (fits : Fits (run_of items)) (does : AllDo items) where
-    pub one_at : (t : ℕ) → t < length items → IsOneOf a.shape.n (who (item_at items t))
-    one_at t h = all_index (λ y. IsOneOf a.shape.n (who y)) items t (Step 0) fits.all h
-
     pub item_is : (t : ℕ) → t < length items →
         done a.source a.shape (state_of a (typed_state a items t)) (item_at items t) ≡ result_of (typed_state a items t) (who (item_at items t)) (by_item a (suc t) (typed_state a items t) (item_at items t))
     item_is t h =
-        happens_is (suc t) (typed_state a items t) (item_at items t) (count items t) (one_at t h) (does t (who (item_at items t)) h (one_at t h))
+        happens_is (suc t) (typed_state a items t) (item_at items t) (count items t) (one_at items fits t h) (does t (who (item_at items t)) h (one_at items fits t h))
 
     pub state_is : (t : ℕ) → t ≤ length items → state (run_of items) t ≡ state_of a (typed_state a items t)
     state_is zero h = sym first_state_is
@@ -188,3 +208,12 @@ module _ {V P M : Type 0} (a : Algorithm V P M) where
     pub process_at_is : (t i : ℕ) → t ≤ length items → IsOneOf a.shape.n i →
         process_at (state (run_of items) t) i ≡ process_of a (typed_at a (typed_state a items t) i)
     process_at_is t i h one = ap (λ (S : State). process_at S i) (state_is t h) ∙ process_is (typed_state a items t) i (count items t) one
+
+    not_trapped : (control : Control P) → HasTrapped (status_of a control) → ⊥
+    not_trapped Idle h = h
+    not_trapped (At d k) h = h
+
+    -- no process traps
+    pub never_traps : (i t : ℕ) → IsOneOf a.shape.n i → t ≤ length items → HasTrapped (process_at (state (run_of items) t) i).status → ⊥
+    never_traps i t one h trapped =
+        not_trapped (typed_at a (typed_state a items t) i).control (subst (λ (p : Process). HasTrapped p.status) (process_at_is t i h one) trapped)

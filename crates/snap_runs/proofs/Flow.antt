@@ -18,6 +18,32 @@ abbrev pub InScan : {P : Type 0} → Control P → Type 0
 InScan Idle = ⊥
 InScan (At d k) = IsInScan d
 
+-- an update of such a word outside its scan, and a scan, called or embedded in an update of such a word
+abbrev pub IsUpdateOf : (ℕ → Type 0) → Task → Type 0
+IsUpdateOf Owned Scanning = ⊥
+IsUpdateOf Owned (Embedded word value) = ⊥
+IsUpdateOf Owned (Updating word value) = Owned word
+
+abbrev pub IsScanOf : (ℕ → Type 0) → Task → Type 0
+IsScanOf Owned Scanning = Unit {0}
+IsScanOf Owned (Embedded word value) = Owned word
+IsScanOf Owned (Updating word value) = ⊥
+
+pub scan_inside : (Owned : ℕ → Type 0) (d : Task) → IsScanOf Owned d → IsInScan d
+scan_inside Owned Scanning s = tt
+scan_inside Owned (Embedded word value) s = tt
+scan_inside Owned (Updating word value) s = s
+
+pub not_update : (Owned : ℕ → Type 0) (d : Task) → IsInScan d → IsUpdateOf Owned d → ⊥
+not_update Owned Scanning inside u = u
+not_update Owned (Embedded word value) inside u = u
+not_update Owned (Updating word value) inside u = inside
+
+pub update_of : (Owned : ℕ → Type 0) (d : Task) → IsUpdateOf Owned d → (word : ℕ) × (value : ℕ) × Owned word × (d ≡ Updating word value)
+update_of Owned Scanning u = absurd u
+update_of Owned (Embedded word value) u = absurd u
+update_of Owned (Updating word value) u = (word, value, u, refl)
+
 -- what the lines of a listing are for
 pub record Lines (V P M : Type 0) : Type 1 where
   -- what each line but those that write keeps of the memory

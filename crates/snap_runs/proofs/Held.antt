@@ -1,5 +1,5 @@
 -- Values that the words had at some state of a run, and words that stand after one another.
-use Rattle.std.specs.Prelude.{◌≡◌, ℕ, ◌+◌, ◌-◌, ◌<◌, ◌≤◌, ◌⊎◌, List, take, length, map, slice_index_or}
+use Rattle.std.specs.Prelude.{◌≡◌, ℕ, ◌+◌, ◌-◌, ◌<◌, ◌≤◌, ◌⊎◌, Bool, true, false, List, take, length, map, slice_index_or, if◌then◌else◌}
 use Rattle.std.proofs.Common.{sym, ◌∙◌, ap, subst, arith, inl, inr}
 use Rattle.std.proofs.lemmas.List.{get_or-take, ext_get_or, length-take-le}
 use Rattle.snap_words.specs.Shape.{IsOneOf}
@@ -21,6 +21,20 @@ Held history t lo v = (u : ℕ) × (lo ≤ u) × (u ≤ t) × (data_of (history 
 
 pub held_wider : (history : ℕ → List Word) (t t' lo lo' : ℕ) (v : List ℕ) → t ≤ t' → lo' ≤ lo → Held history t lo v → Held history t' lo' v
 held_wider history t t' lo lo' v e f h = (h.0, omega arith, omega arith, h.3)
+
+-- the words at item t are the words now
+pub at_most_now : (history : ℕ → List Word) (words : List Word) (t : ℕ) → history t ≡ words → (k : ℕ) → seq_at (history t) k ≤ seq_at words k
+at_most_now history words t now k = let e : seq_at (history t) k ≡ seq_at words k = ap (λ w. seq_at w k) now in omega arith
+
+pub at_least_now : (history : ℕ → List Word) (words : List Word) (t : ℕ) → history t ≡ words → (k : ℕ) → seq_at words k ≤ seq_at (history t) k
+at_least_now history words t now k = let e : seq_at (history t) k ≡ seq_at words k = ap (λ w. seq_at w k) now in omega arith
+
+-- the words at some round are not later than the words now, also where a line starts another round
+pub opened_next : (n : ℕ) (history : ℕ → List Word) (words : List Word) (again : Bool) (t round : ℕ) → history t ≡ words →
+    ((k : ℕ) → IsOneOf n k → seq_at (history round) k ≤ seq_at words k) →
+    (k : ℕ) → IsOneOf n k → seq_at (history (if again then t else round)) k ≤ seq_at words k
+opened_next n history words true t round now h k i = at_most_now history words t now k
+opened_next n history words false t round now h k i = h k i
 
 -- y is x, or a later word of the same register
 abbrev pub WordBefore : Word → Word → Type 0

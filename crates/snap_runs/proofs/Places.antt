@@ -6,7 +6,6 @@ use Rattle.std.proofs.Math.Nat.{eq-or-lt_of_le}
 use Rattle.std.proofs.lemmas.List.{get_or_append_left}
 use Rattle.std.proofs.lemmas.List.FromFn.{get_or-map-range_with_len, length-map-range_with_len}
 use Rattle.snap_words.specs.Shape.{IsOneOf}
-use Rattle.snap_words.specs.Word.{Word}
 use Rattle.snap_semantics.specs.declared.process.Cause.{Cause}
 use Rattle.snap_semantics.specs.Answers.{◌>>=◌}
 use Rattle.snap_semantics.specs.Table.{Effect, places_to, all_true, first_true}
@@ -23,9 +22,9 @@ place_ok count k h = rw (lt_true 0 k h.0, le_true k count h.1) refl
 pub sum_ok : (x y : ℕ) → x + y < 2 ^ 64 → checked_sum x y ≡ Ok (x + y)
 sum_ok x y h = if_true _ _ _ (lt_true (x + y) (2 ^ 64) h)
 
-pub owned_ok : (own : Bool) (word : Word) (cause : Cause) (f : Word → Result Effect Cause) → own ≡ true →
-    ((if own then Ok word else Err cause) >>= f) ≡ f word
-owned_ok own word cause f h = ap (λ b. (if b then Ok word else Err cause) >>= f) h
+pub owned_ok : {A : Type 0} (own : Bool) (x : A) (cause : Cause) (f : A → Result Effect Cause) → own ≡ true →
+    ((if own then Ok x else Err cause) >>= f) ≡ f x
+owned_ok own x cause f h = ap (λ b. (if b then Ok x else Err cause) >>= f) h
 
 pub each_ok : {A : Type 0} (f : ℕ → Result A Cause) (g : ℕ → A) (from count : ℕ) → ((k : ℕ) → from ≤ k → k < from + count → f k ≡ Ok (g k)) →
     each_of f (range_with_len from count) ≡ Ok (map g (range_with_len from count))

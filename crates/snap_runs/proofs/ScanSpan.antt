@@ -250,7 +250,7 @@ module _ {V P M : Type 0} (a : Algorithm V P M) where
     next_goes : (link : Option ℕ) (c e t : ℕ) → Scan r i link c e → c ≤ t → suc t < e → Goes link c t → Goes link c (suc t)
     next_goes link c e t scan le lt g =
         let short : t < length items = (let last : e ≤ length items = scan.last in omega arith) in
-        let his_one : IsOneOf a.shape.n (who (item_at items t)) = embed.one_at a items fits does t short in
+        let his_one : IsOneOf a.shape.n (who (item_at items t)) = embed.one_at a items fits t short in
         elim (cases_eq (who (item_at items t)) i) [
           | inl his_item ↦ item_goes link c e t (item_at items t) scan le lt refl his_item g
           | inr other ↦ same_goes link c t le

@@ -10,7 +10,7 @@ use Rattle.snap_semantics.specs.declared.process.Item.TheVariants.{Step, Call}
 use Rattle.snap_semantics.specs.declared.process.Outcome.TheVariants.{Answered}
 use Rattle.snap_runs.specs.Run.{Fits, state, outcome}
 use Rattle.snap_runs.specs.Scan.{IsCallLine, Returns, Ends, Scan, Finished, line_in, is_if_all}
-use Rattle.snap_runs.proofs.Algorithm.{Task, Control, Idle, At, Move, To, Begin, Answer, Finish, TypedProcess, Algorithm, by_move, by_step, by_call, typed_at, by_item, outcome_of, item_at, typed_state, process_of}
+use Rattle.snap_runs.proofs.Algorithm.{Task, Control, Idle, At, WhenBusy, Move, To, Begin, Answer, Finish, TypedProcess, Algorithm, by_move, by_step, by_call, typed_at, by_item, outcome_of, item_at, typed_state, process_of}
 use Rattle.snap_runs.proofs.Embedding as embed
 use Rattle.snap_runs.proofs.Flow.{Lines}
 use Rattle.snap_runs.proofs.Flow as flow
@@ -29,12 +29,24 @@ module _ {V P M : Type 0} (a : Algorithm V P M) (lines : Lines V P M) where
     pub answers : (p : V) (k : P) → lines.IsReturn k → Returns (instr_at a.source.lines (a.number k)) (a.locals_of p) (lines.answer p)
 
   abbrev pub FlowsAt : ℕ → M → V → Control P → Type 0
-  FlowsAt me m p Idle = Unit {0}
-  FlowsAt me m p (At d k) = flow.Flows lines a d m p k (a.move me d m p k)
+  FlowsAt me m p = WhenBusy (λ d k. flow.Flows lines a d m p k (a.move me d m p k))
 
   abbrev pub AllFlow : List Item → Type 0
   AllFlow items = (t i : ℕ) → t < length items → IsOneOf a.shape.n i →
       FlowsAt i (typed_state a items t).memory (typed_at a (typed_state a items t) i).variables (typed_at a (typed_state a items t) i).control
+
+  -- an update has written as often as its line says
+  abbrev pub AllWrite : List Item → Type 0
+  AllWrite items = (t i : ℕ) → t ≤ length items → IsOneOf a.shape.n i →
+      flow.HasWritten lines (typed_at a (typed_state a items t) i).control (typed_at a (typed_state a items t) i).auxiliary.wrote
+
+  -- A run in which each line that is met does its move, and passes control on as the lines of the listing do.
+  pub record Execution : Type 0 where
+    pub items : List Item
+    pub fits : Fits (embed.run_of a items)
+    pub does : embed.AllDo a items
+    pub flows : AllFlow items
+    pub wrote : AllWrite items
 
   -- what ends with an answer stands at a line that returns it
   answered : (t : ℕ) (m : M) (q : TypedProcess V P M) (k : P) (v : Move V P M) (view : List ℕ) → outcome_of (by_move a t m q k v) ≡ Answered view →
@@ -44,7 +56,10 @@ module _ {V P M : Type 0} (a : Algorithm V P M) (lines : Lines V P M) where
   answered t m q k (Answer v) view out h = (h.0, sym h.1 ∙ (let e : v ≡ view = cc in e))
   answered t m q k Finish view out h = absurd (cc)
 
-  module _ (listed : Listed) (items : List Item) (fits : Fits (embed.run_of a items)) (does : embed.AllDo a items) (flows : AllFlow items) where
+  module _ (listed : Listed) (run : Execution) where
+    abbrev items : List Item
+    items = run.items
+
     lawful_at : (me : ℕ) (m : M) (p : V) (control : Control P) → FlowsAt me m p control → span.LawfulAt a me m p control
     lawful_at me m p Idle h = tt
     lawful_at me m p (At d k) h = record {
@@ -55,7 +70,7 @@ module _ {V P M : Type 0} (a : Algorithm V P M) (lines : Lines V P M) where
     pub lawful : (t i : ℕ) → t < length items → IsOneOf a.shape.n i →
         span.LawfulAt a i (typed_state a items t).memory (typed_at a (typed_state a items t) i).variables (typed_at a (typed_state a items t) i).control
     lawful t i h one =
-        lawful_at i (typed_state a items t).memory (typed_at a (typed_state a items t) i).variables (typed_at a (typed_state a items t) i).control (flows t i h one)
+        lawful_at i (typed_state a items t).memory (typed_at a (typed_state a items t) i).variables (typed_at a (typed_state a items t) i).control (run.flows t i h one)
 
     module _ (i : ℕ) (one : IsOneOf a.shape.n i) where
       abbrev pub his : ℕ → TypedProcess V P M
@@ -63,10 +78,10 @@ module _ {V P M : Type 0} (a : Algorithm V P M) (lines : Lines V P M) where
 
       -- at state t the scan that started at item c goes on
       abbrev pub Goes : Option ℕ → ℕ → ℕ → Type 0
-      Goes link c t = span.Goes a listed.tested items fits does lawful i one link c t
+      Goes link c t = span.Goes a listed.tested items run.fits run.does lawful i one link c t
 
       pub goes : (link : Option ℕ) (c e t : ℕ) → Scan (embed.run_of a items) i link c e → c ≤ t → t < e → Goes link c t
-      goes link c e t scan le lt = span.goes a listed.tested items fits does lawful i one link c e t scan le lt
+      goes link c e t scan le lt = span.goes a listed.tested items run.fits run.does lawful i one link c e t scan le lt
 
       -- at state t it is about to end with this view
       pub record Ending (link : Option ℕ) (c t : ℕ) (view : List ℕ) : Type 0 where
@@ -78,7 +93,7 @@ module _ {V P M : Type 0} (a : Algorithm V P M) (lines : Lines V P M) where
           Ending (Some l) c t view
       embedded_ending l c t view short g ends =
           let busy : process_at (state (embed.run_of a items) t) i ≡ process_of a (record { control = At g.task g.counter; variables = (his t).variables; auxiliary = (his t).auxiliary }) =
-          embed.process_at_is a items fits does t i (omega arith) one
+          embed.process_at_is a items run.fits run.does t i (omega arith) one
           ∙ ap (λ (p : Control P). process_of a (record { control = p; variables = (his t).variables; auxiliary = (his t).auxiliary })) g.control in
           let returned =
           listed.returns (his t).variables g.counter view (subst (λ (p : Process). Returns (line_in a.source p.status) p.locals view) busy ends.1) in
@@ -91,7 +106,7 @@ module _ {V P M : Type 0} (a : Algorithm V P M) (lines : Lines V P M) where
           let e : outcome_of (by_item a (suc t) (typed_state a items t) (item_at items t)) ≡ outcome_of (by_call a (suc t) (typed_state a items t).memory i op (his t) (At g.task g.counter)) =
           ap (λ (y : Item). outcome_of (by_item a (suc t) (typed_state a items t) y)) is2
           ∙ ap (λ (p : Control P). outcome_of (by_call a (suc t) (typed_state a items t).memory i op (his t) p)) g.control in
-          absurd (let f = sym out ∙ embed.outcome_is a items fits does t short ∙ e in cc)
+          absurd (let f = sym out ∙ embed.outcome_is a items run.fits run.does t short ∙ e in cc)
       called_ending c t view short g (Step k) is w out =
           let is2 : item_at items t ≡ Step i = is ∙ ap (λ u. Step u) w in
           let m = (typed_state a items t).memory in
@@ -100,8 +115,8 @@ module _ {V P M : Type 0} (a : Algorithm V P M) (lines : Lines V P M) where
           ∙ ap (λ (p : Control P). outcome_of (by_step a (suc t) m i (his t) p)) g.control in
           let v = a.move i g.task m (his t).variables g.counter in
           let flows_on : flow.Flows lines a g.task m (his t).variables g.counter v =
-          subst (FlowsAt i m (his t).variables) g.control (flows t i short one) in
-          let returned = answered (suc t) m (his t) g.counter v view (sym e ∙ sym (embed.outcome_is a items fits does t short) ∙ out)
+          subst (FlowsAt i m (his t).variables) g.control (run.flows t i short one) in
+          let returned = answered (suc t) m (his t) g.counter v view (sym e ∙ sym (embed.outcome_is a items run.fits run.does t short) ∙ out)
           (flow.answers_at lines a g.task m (his t).variables g.counter v flows_on) in
           record { goes_on = g; at_return = returned.0; answers = returned.1 }
 

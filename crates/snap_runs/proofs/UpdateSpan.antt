@@ -162,7 +162,7 @@ module _ {V P M : Type 0} (a : Algorithm V P M) where
 
     process_kept : (t : ℕ) → t < length items → who (item_at items t) ≢ i → his (suc t) ≡ his t
     process_kept t short other =
-        let his_one : IsOneOf a.shape.n (who (item_at items t)) = embed.one_at a items fits does t short in
+        let his_one : IsOneOf a.shape.n (who (item_at items t)) = embed.one_at a items fits t short in
         embed.other_process a (typed_state a items t) (who (item_at items t)) i (by_item a (suc t) (typed_state a items t) (item_at items t)) his_one.0 one.0 (λ same. other (sym same))
 
     at_zero : UnderAt 0 (his 0) (his 0).control

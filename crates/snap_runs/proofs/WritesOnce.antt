@@ -8,7 +8,7 @@ use Rattle.snap_semantics.specs.declared.process.Item.{Item}
 use Rattle.snap_semantics.specs.declared.process.Item.TheVariants.{Step, Call}
 use Rattle.snap_semantics.specs.declared.process.Op.TheVariants.{Update}
 use Rattle.snap_semantics.specs.declared.process.Outcome.TheVariants.{Finished as Done}
-use Rattle.snap_runs.specs.Run.{Fits, outcome}
+use Rattle.snap_runs.specs.Run.{outcome}
 use Rattle.snap_runs.specs.Scan.{count}
 use Rattle.snap_runs.specs.Update.{executes, IsDone, Updating as UpdateOf}
 use Rattle.snap_runs.proofs.Algorithm.{Task, Scanning, Embedded, Updating, op_of, Control, At, Move, To, Begin, Answer, Finish, TypedProcess, Algorithm, by_move, by_step, by_call, typed_at, by_item, outcome_of, item_at, typed_state}
@@ -27,15 +27,16 @@ module _ {V P M : Type 0} (a : Algorithm V P M) (lines : Lines V P M) (line : �
     -- at its last line it has written
     pub last : (k : P) → lines.IsLast k → (lines.written k ≡ 1) × (a.writes k ≡ 0)
 
-  module _ (once : Once) (items : List Item) (fits : Fits (embed.run_of a items)) (does : embed.AllDo a items) (flows : scans.AllFlow a lines items)
-      (wrote : (t i : ℕ) → t ≤ length items → IsOneOf a.shape.n i → flow.HasWritten lines (typed_at a (typed_state a items t) i).control (typed_at a (typed_state a items t) i).auxiliary.wrote)
-      (i : ℕ) (one : IsOneOf a.shape.n i) where
+  module _ (once : Once) (run : scans.Execution a lines) (i : ℕ) (one : IsOneOf a.shape.n i) where
+    abbrev items : List Item
+    items = run.items
+
     abbrev pub his : ℕ → TypedProcess V P M
     his t = typed_at a (typed_state a items t) i
 
     flows_at : (t : ℕ) (d : Task) (k : P) → t < length items → (his t).control ≡ At d k →
         flow.Flows lines a d (typed_state a items t).memory (his t).variables k (a.move i d (typed_state a items t).memory (his t).variables k)
-    flows_at t d k h is = subst (scans.FlowsAt a lines i (typed_state a items t).memory (his t).variables) is (flows t i h one)
+    flows_at t d k h is = subst (scans.FlowsAt a lines i (typed_state a items t).memory (his t).variables) is (run.flows t i h one)
 
     pub silent : (t : ℕ) → t < length items → (d : Task) (k : P) → (his t).control ≡ At d k → (word value : ℕ) → op_of d ≡ Update word value →
         called.NoAnswer a (a.move i d (typed_state a items t).memory (his t).variables k)
@@ -59,7 +60,7 @@ module _ {V P M : Type 0} (a : Algorithm V P M) (lines : Lines V P M) (line : �
     once_done t m q (Updating x y) k Finish w word value out e h is = let last = once.last k h in (is ∙ last.0, last.1)
 
     abbrev pub Going : (word value c t : ℕ) → Type 0
-    Going word value c t = called.Going a line once.writes_is items fits does i one silent word value c t
+    Going word value c t = called.Going a line once.writes_is items run.fits run.does i one silent word value c t
 
     done_once : (word value c t : ℕ) → c ≤ t → t < length items → Going word value c t → (y : Item) → item_at items t ≡ y → who y ≡ i →
         outcome (embed.run_of a items) (suc t) ≡ Done → count (executes (embed.run_of a items) i line) c (suc t) ≡ 1
@@ -68,7 +69,7 @@ module _ {V P M : Type 0} (a : Algorithm V P M) (lines : Lines V P M) (line : �
         let e : outcome_of (by_item a (suc t) (typed_state a items t) (item_at items t)) ≡ outcome_of (by_call a (suc t) (typed_state a items t).memory i op (his t) (At g.task g.counter)) =
         ap (λ (y : Item). outcome_of (by_item a (suc t) (typed_state a items t) y)) is2
         ∙ ap (λ (p : Control P). outcome_of (by_call a (suc t) (typed_state a items t).memory i op (his t) p)) g.control in
-        absurd (let f = sym out ∙ embed.outcome_is a items fits does t short ∙ e in cc)
+        absurd (let f = sym out ∙ embed.outcome_is a items run.fits run.does t short ∙ e in cc)
     done_once word value c t le short g (Step k) is w out =
         let is2 : item_at items t ≡ Step i = is ∙ ap (λ u. Step u) w in
         let m = (typed_state a items t).memory in
@@ -76,14 +77,14 @@ module _ {V P M : Type 0} (a : Algorithm V P M) (lines : Lines V P M) (line : �
         ap (λ (y : Item). outcome_of (by_item a (suc t) (typed_state a items t) y)) is2
         ∙ ap (λ (p : Control P). outcome_of (by_step a (suc t) m i (his t) p)) g.control in
         let written : flow.HasWritten lines (At g.task g.counter) (his t).auxiliary.wrote =
-        subst (λ (p : Control P). flow.HasWritten lines p (his t).auxiliary.wrote) g.control (wrote t i (omega arith) one) in
+        subst (λ (p : Control P). flow.HasWritten lines p (his t).auxiliary.wrote) g.control (run.wrote t i (omega arith) one) in
         let ended = once_done (suc t) m (his t) g.task g.counter (a.move i g.task m (his t).variables g.counter) (his t).auxiliary.wrote word value
-        (sym e ∙ sym (embed.outcome_is a items fits does t short) ∙ out) g.op (flows_at t g.task g.counter short g.control) written in
+        (sym e ∙ sym (embed.outcome_is a items run.fits run.does t short) ∙ out) g.op (flows_at t g.task g.counter short g.control) written in
         let one_write : (his t).auxiliary.wrote ≡ 1 = ended.0 in
         let none_more : a.writes g.counter ≡ 0 = ended.1 in
         let is_count : (his t).auxiliary.wrote ≡ count (executes (embed.run_of a items) i line) c t = g.wrote in
         let next : count (executes (embed.run_of a items) i line) c (suc t) ≡ count (executes (embed.run_of a items) i line) c t + a.writes g.counter =
-        called.line_counts a line once.writes_is items fits does i one silent t c g.task g.counter le (omega arith) is2 g.control in
+        called.line_counts a line once.writes_is items run.fits run.does i one silent t c g.task g.counter le (omega arith) is2 g.control in
         omega arith
 
     pub writes_once : (word value c e : ℕ) → UpdateOf (embed.run_of a items) i word value c e →
@@ -93,16 +94,16 @@ module _ {V P M : Type 0} (a : Algorithm V P M) (lines : Lines V P M) (line : �
         let r = embed.run_of a items in
         let last : suc t ≤ length items = up.last in
         elim (eq-or-lt_of_le up.order) [
-          | inl same ↦ (let none : count (executes r i line) c (suc t) ≡ 0 = called.none_yet a line once.writes_is items fits does i one silent c (suc t) (omega arith) in
+          | inl same ↦ (let none : count (executes r i line) c (suc t) ≡ 0 = called.none_yet a line once.writes_is items run.fits run.does i one silent c (suc t) (omega arith) in
               (omega arith, λ lt done. absurd (omega arith)))
           | inr more ↦ (
-              let g = called.going a line once.writes_is items fits does i one silent word value c (suc t) t up (omega arith) (omega arith) in
+              let g = called.going a line once.writes_is items run.fits run.does i one silent word value c (suc t) t up (omega arith) (omega arith) in
               let written : flow.HasWritten lines (At g.task g.counter) (his t).auxiliary.wrote =
-              subst (λ (p : Control P). flow.HasWritten lines p (his t).auxiliary.wrote) g.control (wrote t i (omega arith) one) in
+              subst (λ (p : Control P). flow.HasWritten lines p (his t).auxiliary.wrote) g.control (run.wrote t i (omega arith) one) in
               let most : (his t).auxiliary.wrote + a.writes g.counter ≤ 1 =
               most_once g.task g.counter (his t).auxiliary.wrote word value g.op written in
               let is : (his t).auxiliary.wrote ≡ count (executes r i line) c t = g.wrote in
               let next : count (executes r i line) c (suc t) ≤ count (executes r i line) c t + a.writes g.counter =
-              called.line_at_most a line once.writes_is items fits does i one silent t c g.task g.counter (omega arith) (omega arith) g.control in
+              called.line_at_most a line once.writes_is items run.fits run.does i one silent t c g.task g.counter (omega arith) (omega arith) g.control in
               (omega arith, λ lt done. done_once word value c t (omega arith) (omega arith) g (item_at items t) refl done.0 done.1))
         ]

@@ -9,7 +9,7 @@ use Rattle.snap_semantics.specs.declared.process.Op.{Op}
 use Rattle.snap_semantics.specs.declared.process.Op.TheVariants.{Scan, Update}
 use Rattle.snap_semantics.specs.declared.process.Reason.{Reason}
 use Rattle.snap_semantics.specs.declared.process.Reason.TheVariants.{NoSuchWord, NotOwner}
-use Rattle.snap_runs.proofs.Algorithm.{Task, Scanning, Embedded, Updating, task_of, op_of, Idle, At, To, Begin, Answer, Finish, SameOp}
+use Rattle.snap_runs.proofs.Algorithm.{Task, Scanning, Embedded, Updating, task_of, op_of, Idle, At, WhenBusy, To, Begin, Answer, Finish, SameOp}
 use Rattle.snap_runs.proofs.Computing.{lt_from, same_from, either, whether}
 use Rattle.snap_runs.proofs.Embedding as embed
 use Rattle.snap_runs.proofs.Places.{for_each_at, first_found, first_none}
@@ -120,8 +120,7 @@ own_word n i word value h = same_from word i (own_then (nat_lt 0 word && nat_le 
 
 -- A busy process is at a line of its task, with the variables that the line asks for.
 abbrev pub ControlWell : ℕ → ℕ → Variables → Control → Type 0
-ControlWell n me p Idle = Unit {0}
-ControlWell n me p (At d k) = IsLineOf me d k × VariablesAt n p k
+ControlWell n me p control = WhenBusy (λ d k. IsLineOf me d k × VariablesAt n p k) control
 
 pub called_well : (n me : ℕ) (p : Variables) (op : Op) → call_skip kind.Seq (square n) me op ≡ None →
     ControlWell n me p (At (task_of op) (counter op))

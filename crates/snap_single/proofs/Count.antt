@@ -1,9 +1,10 @@
 -- The double collects and own steps of a scan of U.
-use Rattle.std.specs.Prelude.{◌≡◌, ℕ, zero, suc, ◌+◌, ◌-◌, ◌*◌, ◌<◌, ◌≤◌, Bool, true, false, not, map, nat_lt, if◌then◌else◌, refl}
+use Rattle.std.specs.Prelude.{◌≡◌, ℕ, suc, ◌+◌, ◌*◌, ◌<◌, ◌≤◌, Bool, true, false, not, map, nat_lt, if◌then◌else◌, refl}
 use Rattle.std.proofs.Common.{sym, ap, subst, arith}
-use Rattle.std.proofs.Math.Nat.{mul-add, mul_left_comm}
 use Rattle.snap_semantics.specs.Table.{places_to, all_true, first_true}
 use Rattle.snap_runs.proofs.Algorithm.{Task, Scanning, Embedded, Updating, To, Begin, Answer, Finish}
+use Rattle.snap_runs.proofs.Budget as budgets
+use Rattle.snap_runs.proofs.Budget.{budget_zero, same_budget, next_budget, budget_le}
 use Rattle.snap_runs.proofs.Computing.{not_lt, either, whether}
 use Rattle.snap_runs.proofs.Places.{for_each, for_each_at, some_fails}
 use Rattle.snap_runs.proofs.Totals.{total, total_le, total_less, total_more}
@@ -12,46 +13,11 @@ use Rattle.snap_single.proofs.Algorithm.{Words, Move, Variables, ProgramCounter,
 use Rattle.snap_single.proofs.Control.{BelowLimit, VariablesAt}
 
 -- the own steps of c failed double collects
-pub budget : ℕ → ℕ → ℕ
-budget n zero = 2
-budget n (suc c) = budget n c + (4 * n + 4)
+abbrev pub round : ℕ → ℕ
+round n = 4 * n + 4
 
-pub budget_zero : (n : ℕ) → budget n 0 ≡ 2
-unfolding budget
-budget_zero n = refl
-
-pub same_budget : (n c c' : ℕ) → c' ≡ c + 0 → budget n c' ≡ budget n c
-same_budget n c c' e = ap (budget n) (let f : c' ≡ c = omega arith in f)
-
-pub next_budget : (n c c' : ℕ) → c' ≡ c + 1 → budget n c' ≡ budget n c + (4 * n + 4)
-unfolding budget
-next_budget n c c' e = ap (budget n) (let f : c' ≡ suc c = omega arith in f)
-
-budget_mono : (n c more : ℕ) → budget n c ≤ budget n (c + more)
-unfolding budget
-budget_mono n c zero = (let e : budget n (c + 0) ≡ budget n c = ap (budget n) (let f : c + 0 ≡ c = omega arith in f) in omega arith)
-budget_mono n c (suc more) =
-    let e : budget n (c + suc more) ≡ budget n (c + more) + (4 * n + 4) = ap (budget n) (let f : c + suc more ≡ suc (c + more) = omega arith in f) in
-    let rest : budget n c ≤ budget n (c + more) = budget_mono n c more in omega arith
-
-budget_is : (n c : ℕ) → budget n c ≡ c * (4 * n + 4) + 2
-unfolding budget
-budget_is n zero = omega arith
-budget_is n (suc c) =
-    let rest : budget n c ≡ c * (4 * n + 4) + 2 = budget_is n c in
-    let e : suc c * (4 * n + 4) ≡ c * (4 * n + 4) + (4 * n + 4) = grind arith in omega arith
-
-budget_all : (n : ℕ) → budget n n ≡ 4 * (n * n) + 4 * n + 2
-budget_all n =
-    let a : budget n n ≡ n * (4 * n + 4) + 2 = budget_is n n in
-    let b : n * (4 * n + 4) ≡ n * (4 * n) + n * 4 = mul-add n (4 * n) 4 in
-    let c : n * (4 * n) ≡ 4 * (n * n) = mul_left_comm n 4 n in omega arith
-
-pub budget_le : (n c : ℕ) → c ≤ n → budget n c ≤ 4 * (n * n) + 4 * n + 2
-budget_le n c h =
-    let a : budget n c ≤ budget n (c + (n - c)) = budget_mono n c (n - c) in
-    let e : budget n (c + (n - c)) ≡ budget n n = ap (budget n) (let f : c + (n - c) ≡ n = omega arith in f) in
-    let b : budget n n ≡ 4 * (n * n) + 4 * n + 2 = budget_all n in omega arith
+abbrev pub budget : ℕ → ℕ → ℕ
+budget n c = budgets.budget (round n) 2 c
 
 -- the moves that a scan has counted
 abbrev pub moves : ℕ → Variables → ℕ
@@ -127,39 +93,39 @@ pub count_move : (n me : ℕ) (d : Task) (words : Words) (p : Variables) (k : Pr
 count_move n me d words p L10 own c c' recent recent' e f keeps sharp h = (omega arith, omega arith, omega arith)
 count_move n me d words p L11 own c c' recent recent' e f keeps sharp h =
     let b : budget n c' ≡ budget n 0 = ap (budget n) (let f : c' ≡ 0 = omega arith in f) in
-    let two : budget n 0 ≡ 2 = budget_zero n in
+    let two : budget n 0 ≡ 2 = budget_zero (round n) 2 in
     (omega arith, omega arith, omega arith)
 count_move n me d words p L12 own c c' recent recent' e f keeps sharp h =
-    let b : budget n c' ≡ budget n c = same_budget n c c' e in (omega arith, omega arith, omega arith)
+    let b : budget n c' ≡ budget n c = same_budget (round n) 2 c c' e in (omega arith, omega arith, omega arith)
 count_move n me d words p L13 own c c' recent recent' e f keeps sharp h =
-    let b : budget n c' ≡ budget n c = same_budget n c c' e in
+    let b : budget n c' ≡ budget n c = same_budget (round n) 2 c c' e in
     either (CountMove n (suc own) c' recent') (nat_lt p.j n) _ _ (λ t. (omega arith, omega arith, omega arith)) (λ t. let ge : n ≤ p.j = not_lt p.j n t in (omega arith, omega arith, omega arith))
 count_move n me d words p L14 own c c' recent recent' e f keeps sharp h =
-    let b : budget n c' ≡ budget n c = same_budget n c c' e in (omega arith, omega arith, omega arith)
+    let b : budget n c' ≡ budget n c = same_budget (round n) 2 c c' e in (omega arith, omega arith, omega arith)
 count_move n me d words p L15 own c c' recent recent' e f keeps sharp h =
-    let b : budget n c' ≡ budget n c = same_budget n c c' e in
+    let b : budget n c' ≡ budget n c = same_budget (round n) 2 c c' e in
     either (CountMove n (suc own) c' recent') (nat_lt p.j n) _ _ (λ t. (omega arith, omega arith, omega arith)) (λ t. let ge : n ≤ p.j = not_lt p.j n t in (omega arith, omega arith, omega arith))
 count_move n me d words p L16 own c c' recent recent' e f keeps sharp h =
-    let b : budget n c' ≡ budget n c + (4 * n + 4) = next_budget n c c' e in
+    let b : budget n c' ≡ budget n c + (4 * n + 4) = next_budget (round n) 2 c c' e in
     let less : moves n p < n = sharp refl in
     either (CountMove n (suc own) c' recent') (all_true (map (agree p) (places_to n))) _ _ (λ t. (omega arith, omega arith))
     (λ t. (omega arith, omega arith, omega arith, omega arith, t))
 count_move n me d words p L17 own c c' recent recent' e f keeps sharp h =
-    let b : budget n c' ≡ budget n c = same_budget n c c' e in
+    let b : budget n c' ≡ budget n c = same_budget (round n) 2 c c' e in
     let more : moves n p < moves n (counted_row n p) = after_count n p h.4 (counted_row n p) (λ k i. for_each_at n (counted p) p.moved k i) in
     (omega arith, omega arith, omega arith)
 count_move n me d words p L18 own c c' recent recent' e f keeps sharp h =
-    let b : budget n c' ≡ budget n c = same_budget n c c' e in
+    let b : budget n c' ≡ budget n c = same_budget (round n) 2 c c' e in
     whether (CountMove n (suc own) c' recent') (first_to d words p) (first_true 1 (map (at_limit p) (places_to n))) (λ none. (omega arith, omega arith)) (λ k found. (omega arith, omega arith))
 count_move n me d words p L19 own c c' recent recent' e f keeps sharp h =
-    let b : budget n c' ≡ budget n c = same_budget n c c' e in (omega arith, omega arith, omega arith)
+    let b : budget n c' ≡ budget n c = same_budget (round n) 2 c c' e in (omega arith, omega arith, omega arith)
 count_move n me d words p L21 own c c' recent recent' e f keeps sharp h =
-    let b : budget n c' ≡ budget n c = same_budget n c c' e in (omega arith, omega arith)
+    let b : budget n c' ≡ budget n c = same_budget (round n) 2 c c' e in (omega arith, omega arith)
 count_move n me Scanning words p L22 own c c' recent recent' e f keeps sharp h = tt
 count_move n me (Embedded w x) words p L22 own c c' recent recent' e f keeps sharp h = tt
 count_move n me (Updating w x) words p L22 own c c' recent recent' e f keeps sharp h = tt
 count_move n me d words p L23 own c c' recent recent' e f keeps sharp h =
-    let b : budget n c' ≡ budget n c = same_budget n c c' e in (omega arith, omega arith)
+    let b : budget n c' ≡ budget n c = same_budget (round n) 2 c c' e in (omega arith, omega arith)
 count_move n me Scanning words p L24 own c c' recent recent' e f keeps sharp h = tt
 count_move n me (Embedded w x) words p L24 own c c' recent recent' e f keeps sharp h = tt
 count_move n me (Updating w x) words p L24 own c c' recent recent' e f keeps sharp h = tt
@@ -200,7 +166,9 @@ collects_le n p L32 own c recent pos keeps sharp h s = absurd s
 collects_le n p L33 own c recent pos keeps sharp h s = absurd s
 
 own_all : (n c own : ℕ) → c ≤ n → own ≤ budget n c + 4 * n → own + 1 ≤ 4 * (n * n) + 8 * n + 7
-own_all n c own le h = let b : budget n c ≤ 4 * (n * n) + 4 * n + 2 = budget_le n c le in omega arith
+own_all n c own le h =
+    let b : budget n c ≤ n * (4 * n + 4) + 2 = budget_le (round n) 2 c n le in
+    let e : n * (4 * n + 4) ≡ 4 * (n * n) + 4 * n = grind arith in omega arith
 
 pub own_le : (n : ℕ) (p : Variables) (k : ProgramCounter) (own c recent : ℕ) → VariablesAt n p k → Count n p own c recent k → c ≤ n → InScanLine k →
     own + 1 ≤ 4 * (n * n) + 8 * n + 7

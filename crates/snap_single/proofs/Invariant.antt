@@ -2,7 +2,7 @@
 use Rattle.std.specs.Prelude.{◌≡◌, ℕ, suc, ◌+◌, ◌<◌, ◌≤◌, ◌⊎◌, max, length, refl}
 use Rattle.std.proofs.Common.{sym, ◌∙◌, ap, subst, arith, inl, inr}
 use Rattle.snap_semantics.specs.declared.process.Outcome.{Outcome}
-use Rattle.snap_runs.proofs.Algorithm.{Idle, At, New, typed_at, changed}
+use Rattle.snap_runs.proofs.Algorithm.{Idle, At, WhenBusy, when_busy, New, typed_at, changed}
 use Rattle.snap_runs.proofs.Frame as frame
 use Rattle.snap_runs.proofs.Flow.{InScan}
 use Rattle.snap_runs.proofs.Held.{word_at, held_wider, seq_at, before_seq, Grows}
@@ -21,13 +21,11 @@ pending (At d k) = writes k
 
 -- a busy process is at the stage of its line
 abbrev pub StageAt : ℕ → (ℕ → Words) → ℕ → ℕ → ℕ → Words → Variables → Control → Type 0
-StageAt n history t since round words p Idle = Unit {0}
-StageAt n history t since round words p (At d k) = Stage n history t since round words p k
+StageAt n history t since round words p control = WhenBusy (λ d k. Stage n history t since round words p k) control
 
 -- and its counts are those of its line
 abbrev pub CountAt : ℕ → Variables → ℕ → ℕ → ℕ → Control → Type 0
-CountAt n p own c recent Idle = Unit {0}
-CountAt n p own c recent (At d k) = Count n p own c recent k
+CountAt n p own c recent control = WhenBusy (λ d k. Count n p own c recent k) control
 
 -- What holds of process i, at whichever line it stands, with these words.
 pub record ProcessInvariant (n t : ℕ) (history : ℕ → Words) (words : Words) (i : ℕ) (q : Process) : Type 0 where
@@ -69,12 +67,6 @@ pub record Invariant (n t : ℕ) (history : ℕ → Words) (x : State) : Type 0 
   pub each : (i : ℕ) → IsOneOf n i → ProcessInvariant n t history x.memory i (typed_at (algorithm n) x i)
   pub start : (i k : ℕ) → IsOneOf n i → IsOneOf n k → PairInvariant history x.memory (typed_at (algorithm n) x i) (typed_at (algorithm n) x k) k
 
-stage_at_kept : (n : ℕ) (history : ℕ → Words) (t t' since round : ℕ) (words words' : Words) (p : Variables) (control : Control) → t ≤ t' →
-    Grows n words words' →
-    StageAt n history t since round words p control → StageAt n history t' since round words' p control
-stage_at_kept n history t t' since round words words' p Idle le g h = tt
-stage_at_kept n history t t' since round words words' p (At d k) le g h = stage_kept n history t t' since round words words' p k le g h
-
 -- other processes act
 pub others_act : (n t t' : ℕ) (history : ℕ → Words) (words words' : Words) (i : ℕ) (q : Process) → t ≤ t' → Grows n words words' →
     seq_at words' i ≡ seq_at words i →
@@ -91,7 +83,7 @@ others_act n t t' history words words' i q le g same v h = record {
   opened = λ k i. let l : seq_at (history q.auxiliary.round) k ≤ seq_at words k = h.opened k i in
       let s : seq_at words k ≤ seq_at words' k = before_seq (word_at words k) (word_at words' k) (g k i) in omega arith;
   views = v;
-  stage = stage_at_kept n history t t' q.auxiliary.since q.auxiliary.round words words' q.variables q.control le g h.stage;
+  stage = when_busy _ _ (λ d k. stage_kept n history t t' q.auxiliary.since q.auxiliary.round words words' q.variables k le g) q.control h.stage;
   self = λ scan. h.self scan ∙ sym same;
   counts = h.counts;
   wrote = h.wrote;

@@ -1,8 +1,7 @@
 -- Each item of a run of U keeps the invariant.
-use Rattle.std.specs.Prelude.{◌≡◌, ℕ, suc, ◌+◌, ◌<◌, ◌≤◌, ◌⊎◌, Bool, true, false, nat_eq, length, Option, Some, None, if◌then◌else◌, refl}
+use Rattle.std.specs.Prelude.{◌≡◌, ℕ, suc, ◌+◌, ◌<◌, ◌≤◌, length, Option, Some, None, if◌then◌else◌, refl}
 use Rattle.std.proofs.Common.{sym, ◌∙◌, ap, subst, arith, inl, inr}
 use Rattle.std.proofs.Math.Nat.{eq-or-lt_of_le}
-use Rattle.std.proofs.lemmas.Bool.{cases_eq}
 use Rattle.snap_words.specs.Shape.{IsOneOf}
 use Rattle.snap_words.specs.declared.kind.KindTag.TheVariants as kind
 use Rattle.snap_semantics.specs.Table.{call_skip, who}
@@ -13,16 +12,17 @@ use Rattle.snap_semantics.specs.declared.process.Op.TheVariants.{Scan, Update}
 use Rattle.snap_semantics.specs.declared.process.Outcome.TheVariants.{Called, Stepped, Answered, Finished}
 use Rattle.snap_semantics.specs.declared.process.Reason.{Reason}
 use Rattle.snap_runs.proofs.Algorithm.{Task, Scanning, Updating, op_of, Idle, At, To, Begin, Answer, Finish, New, by_move, by_step, by_admission, by_call, typed_at, changed, happens, stepped_auxiliary, begun_auxiliary, called_auxiliary}
-use Rattle.snap_runs.proofs.Computing.{other_number}
 use Rattle.snap_runs.proofs.Flow as flow
-use Rattle.snap_runs.proofs.Flow.{IsInScan, InScan}
-use Rattle.snap_runs.proofs.Held.{seq_at}
+use Rattle.snap_runs.proofs.Flow.{IsInScan, InScan, scan_inside}
+use Rattle.snap_runs.proofs.Held.{seq_at, at_most_now, at_least_now, opened_next}
+use Rattle.snap_runs.proofs.ListedLines.{writes_or_not}
+use Rattle.snap_runs.proofs.WordWrites.{words_then}
 use Rattle.snap_single.specs.Promises.{square}
-use Rattle.snap_single.proofs.Algorithm.{number, written, Words, Move, Control, Process, State, Variables, ProgramCounter, L10, L16, L30, L32, move, IsLineOf, lines, tests, restarts, writes, algorithm}
+use Rattle.snap_single.proofs.Algorithm.{written, Words, Move, Control, Process, State, Variables, ProgramCounter, L10, L16, L30, L32, move, IsLineOf, lines, tests, restarts, writes, algorithm}
 use Rattle.snap_single.proofs.Collect.{Low, floor}
 use Rattle.snap_single.proofs.Control.{BelowLimit, VariablesAt, MoveWell, ControlWell, move_well, called_well}
 use Rattle.snap_single.proofs.Count.{Count, CountMove, count_move, moves, moves_less}
-use Rattle.snap_single.proofs.Flows.{Making, HasWritten, in_scan, flows, line_listed, at_number}
+use Rattle.snap_single.proofs.Flows.{Making, HasWritten, flows, counter_with, line_listed, writer}
 use Rattle.snap_single.proofs.Invariant.{ProcessInvariant, Invariant, StageAt, CountAt, pending, time_passes, process_changes}
 use Rattle.snap_single.proofs.Write.{line_32_writes}
 use Rattle.snap_single.proofs.Stage.{Stage, StageMove, stage_move, Sized, SizedMove, sized_move}
@@ -42,17 +42,10 @@ pub few_moves : (n me : ℕ) (history : ℕ → Words) (t since round : ℕ) (m 
     (IsInScan d → seq_at (history since) me ≡ seq_at m me) → Stage n history t since round m p k → k ≡ L16 → moves n p < n
 few_moves n me history t since round m d p k one line keeps self stage e =
     unmoved n me (history since) m p one (subst (Stage n history t since round m p) e stage).0 (subst (VariablesAt n p) e keeps).1
-    (self (in_scan me d (subst (IsLineOf me d) e line)))
+    (self (scan_inside (λ word. word ≡ me) d (subst (IsLineOf me d) e line)))
 
-writes_le : (k : ProgramCounter) → writes k ≤ 1
-writes_le k = let once : written k + writes k ≤ 1 = (line_listed k).once in omega arith
-
--- the words at item t are the words now
-pub at_most_now : (history : ℕ → Words) (words : Words) (t : ℕ) → history t ≡ words → (k : ℕ) → seq_at (history t) k ≤ seq_at words k
-at_most_now history words t now k = let e : seq_at (history t) k ≡ seq_at words k = ap (λ w. seq_at w k) now in omega arith
-
-pub at_least_now : (history : ℕ → Words) (words : Words) (t : ℕ) → history t ≡ words → (k : ℕ) → seq_at words k ≤ seq_at (history t) k
-at_least_now history words t now k = let e : seq_at (history t) k ≡ seq_at words k = ap (λ w. seq_at w k) now in omega arith
+writes_le : (n : ℕ) (k : ProgramCounter) → writes k ≤ 1
+writes_le n k = let once : written k + writes k ≤ 1 = (line_listed n k).once in omega arith
 
 -- before a line that keeps the words, c is the sequence number of the process's word
 is_seq : (n t : ℕ) (history : ℕ → Words) (x : State) (i : ℕ) (d : Task) (k : ProgramCounter) → IsOneOf n i → Invariant n t history x →
@@ -60,13 +53,6 @@ is_seq : (n t : ℕ) (history : ℕ → Words) (x : State) (i : ℕ) (d : Task) 
     (at n x i).variables.c ≡ seq_at x.memory i + 0
 is_seq n t history x i d k one h is quiet =
     (h.each i one).seq ∙ ap (λ (y : Control). seq_at x.memory i + pending y) is ∙ ap (λ y. seq_at x.memory i + y) quiet
-
--- the words when the last double collect was started are not later than the words now, also where a line starts another one
-opened_next : (n : ℕ) (history : ℕ → Words) (words : Words) (again : Bool) (t round : ℕ) → history t ≡ words →
-    ((k : ℕ) → IsOneOf n k → seq_at (history round) k ≤ seq_at words k) →
-    (k : ℕ) → IsOneOf n k → seq_at (history (if again then t else round)) k ≤ seq_at words k
-opened_next n history words true t round now h k i = at_most_now history words t now k
-opened_next n history words false t round now h k i = h k i
 
 -- a process whose operation has ended
 idle_own : (n t : ℕ) (history : ℕ → Words) (words : Words) (i : ℕ) (q : Process) (k : ProgramCounter) → q.variables.c ≡ seq_at words i + 0 →
@@ -125,7 +111,7 @@ line_keeps n t history x i d k (To d' m' p k') count one now h is c quiet owes =
       length_a = sized.0;
       length_b = sized.1;
       seq = sized.2;
-      fresh = (let s : p.c ≡ seq_at x.memory i + writes k' = sized.2 in let le : writes k' ≤ 1 = writes_le k' in omega arith);
+      fresh = (let s : p.c ≡ seq_at x.memory i + writes k' = sized.2 in let le : writes k' ≤ 1 = writes_le n k' in omega arith);
       since_le = own.since_le;
       low = own.low;
       opened = opened_next n history x.memory (restarts k) t q.auxiliary.round now own.opened;
@@ -147,7 +133,7 @@ line_keeps n t history x i d k (Begin d' p k') count one now h is c quiet owes =
       length_a = sized.0;
       length_b = sized.1;
       seq = sized.2;
-      fresh = (let s : p.c ≡ seq_at x.memory i + writes k' = sized.2 in let le : writes k' ≤ 1 = writes_le k' in omega arith);
+      fresh = (let s : p.c ≡ seq_at x.memory i + writes k' = sized.2 in let le : writes k' ≤ 1 = writes_le n k' in omega arith);
       since_le = omega arith;
       low = λ k j. at_most_now history x.memory t now k;
       opened = λ k j. at_most_now history x.memory t now k;
@@ -213,21 +199,6 @@ admission_keeps n t history x i (Update word value) None e count one h is now =
     })
     (λ m. absurd m) (inr refl)
 
-pub words_then : (n t : ℕ) (x : State) (i : ℕ) (k : ProgramCounter) (v : Move) → flow.KeepsMemory lines x.memory v →
-    (changed x i (by_move (algorithm n) t x.memory (at n x i) k v)).memory ≡ x.memory
-words_then n t x i k (To d m p k') h = h
-words_then n t x i k (Begin d p k') h = refl
-words_then n t x i k (Answer v) h = refl
-words_then n t x i k Finish h = refl
-
--- a line writes, or it is no line 32
-is_32_or_quiet : (k : ProgramCounter) → (k ≡ L32) ⊎ (writes k ≡ 0)
-is_32_or_quiet k =
-    elim (cases_eq (number k) 32) [
-      | inl same ↦ inl (at_number k 32 L32 refl (ap (λ y. nat_eq y 32) same))
-      | inr other ↦ inr (sym (line_listed k).wrote ∙ ap (λ b. if b then 1 else 0) (other_number (number k) 32 other))
-    ]
-
 line_32_keeps : (n t : ℕ) (history : ℕ → Words) (x : State) (i : ℕ) (d : Task) → length x.processes ≡ n → IsOneOf n i → Invariant n t history x →
     (at n x i).control ≡ At d L32 → Invariant n (suc t) history (changed x i (by_step (algorithm n) (suc t) x.memory i (at n x i) (At d L32)))
 line_32_keeps n t history x i d count one h is =
@@ -252,11 +223,11 @@ step_keeps n t history x i (At d k) lengths count one h is now =
     let seq : q.variables.c ≡ seq_at words i + writes k = own.seq ∙ ap (λ (y : Control). seq_at words i + pending y) is in
     let fresh : q.variables.c ≤ t = (h.each i one).fresh in
     let passes = flows n i d words q.variables k well.0 in
-    elim (is_32_or_quiet k) [
+    elim (writes_or_not (algorithm n) lines 32 counter_with (line_listed n) L32 k refl) [
       | inl e ↦ subst (λ y. Invariant n (suc t) history (changed x i (by_step (algorithm n) (suc t) words i q (At d y)))) (sym e)
           (line_32_keeps n t history x i d count one h (is ∙ ap (λ y. At d y) e))
       | inr zeroed ↦ elim (flow.keeps_memory lines (algorithm n) d words q.variables k (move n i d words q.variables k) passes) [
-        | inl keeps ↦ (let same : history (suc t) ≡ words = now ∙ words_then n (suc t) x i k (move n i d words q.variables k) keeps in
+        | inl keeps ↦ (let same : history (suc t) ≡ words = now ∙ words_then (algorithm n) lines 32 (writer n) (suc t) x i k (move n i d words q.variables k) keeps in
             line_keeps n (suc t) history x i d k (move n i d words q.variables k) count one same later is (omega arith) zeroed
             (record {
               words = keeps;

@@ -1,32 +1,23 @@
 -- Every run of U: the invariant at each state, and no process traps.
-use Rattle.std.specs.Prelude.{◌≡◌, ℕ, zero, suc, ◌-◌, ◌<◌, ◌≤◌, ◌⊎◌, max, List, length, Option, Some, None, replicate, refl}
+use Rattle.std.specs.Prelude.{◌≡◌, ℕ, zero, suc, ◌-◌, ◌≤◌, max, List, length, replicate, refl}
 use Rattle.std.proofs.Common.{sym, ◌∙◌, ap, subst, arith, inl, inr}
 use Rattle.std.proofs.lemmas.List.{get_or-replicate, length-replicate}
 use Rattle.std.proofs.Math.Nat.{eq-or-lt_of_le}
 use Rattle.snap_words.specs.Shape.{IsOneOf}
 use Rattle.snap_words.specs.Word.{Word, no_word}
-use Rattle.snap_words.specs.declared.kind.KindTag.TheVariants as kind
-use Rattle.snap_semantics.specs.State.{Process as NamedProcess}
-use Rattle.snap_semantics.specs.Table.{call_skip, who}
 use Rattle.snap_semantics.specs.declared.process.Item.{Item}
-use Rattle.snap_semantics.specs.declared.process.Item.TheVariants.{Step, Call}
-use Rattle.snap_semantics.specs.declared.process.Op.{Op}
-use Rattle.snap_semantics.specs.declared.process.Reason.{Reason}
 use Rattle.snap_runs.specs.Run.{Fits}
-use Rattle.snap_runs.specs.Scan.{Scan}
-use Rattle.snap_runs.specs.Promises.{HasTrapped}
-use Rattle.snap_runs.proofs.Algorithm.{Task, Idle, At, by_step, by_admission, by_call, first_process, first_state, typed_at, changed, happens, item_at, typed_state, status_of}
+use Rattle.snap_runs.proofs.Algorithm.{Task, At, when_busy, first_process, first_state, typed_at, item_at, typed_state}
 use Rattle.snap_runs.proofs.Embedding as embed
-use Rattle.snap_runs.proofs.Flow as flow
-use Rattle.snap_runs.proofs.Held.{word_at, seq_at}
-use Rattle.snap_runs.proofs.ScanSpan as span
+use Rattle.snap_runs.proofs.Held.{word_at, seq_at, at_most_now}
 use Rattle.snap_runs.proofs.Scans as scans
-use Rattle.snap_single.specs.Promises.{square, run_of, NeverTraps}
-use Rattle.snap_single.proofs.Algorithm.{Words, Control, Process, State, Variables, ProgramCounter, L32, move, first_word, lines, algorithm}
-use Rattle.snap_single.proofs.Control.{ControlWell, does}
-use Rattle.snap_single.proofs.Flows.{flows, listed}
-use Rattle.snap_single.proofs.Invariant.{ProcessInvariant, Invariant, PairInvariant, StageAt}
-use Rattle.snap_single.proofs.Preserve.{at_most_now, words_then, item_keeps}
+use Rattle.snap_single.specs.Promises.{run_of, NeverTraps}
+use Rattle.snap_single.proofs.Algorithm.{Words, Control, Process, State, ProgramCounter, first_word, IsLineOf, lines, algorithm}
+use Rattle.snap_single.proofs.Control.{ControlWell, VariablesAt, does}
+use Rattle.snap_single.proofs.Count.{Count}
+use Rattle.snap_single.proofs.Flows.{flows}
+use Rattle.snap_single.proofs.Invariant.{ProcessInvariant, Invariant, PairInvariant, StageAt, CountAt}
+use Rattle.snap_single.proofs.Preserve.{item_keeps}
 use Rattle.snap_single.proofs.Stage.{Stage}
 
 -- the state after t items, and its words
@@ -39,10 +30,6 @@ words_at n items t = (state_at n items t).memory
 -- process i after t items
 abbrev pub process_after : ℕ → List Item → ℕ → ℕ → Process
 process_after n items t i = typed_at (algorithm n) (state_at n items t) i
-
--- each item is one of the processes'
-pub one_at : (n : ℕ) (items : List Item) → Fits (run_of n items) → (t : ℕ) → t < length items → IsOneOf n (who (item_at items t))
-one_at n items fits t h = embed.all_index (λ y. IsOneOf n (who y)) items t (Step 0) fits.all h
 
 -- the invariant at the start
 zero_at : (n k : ℕ) → IsOneOf n k → word_at (replicate n (first_word n)) k ≡ first_word n
@@ -86,7 +73,7 @@ invariant_and_sizes n items fits zero h =
 invariant_and_sizes n items fits (suc t) h =
     let past = invariant_and_sizes n items fits t (omega arith) in
     let now : Invariant n (suc t) (words_at n items) (state_at n items (suc t)) =
-    item_keeps n t (words_at n items) (state_at n items t) (item_at items t) past.1 (embed.count (algorithm n) items t) (one_at n items fits t (omega arith)) past.0 refl in (
+    item_keeps n t (words_at n items) (state_at n items t) (item_at items t) past.1 (embed.count (algorithm n) items t) (embed.one_at (algorithm n) items fits t (omega arith)) past.0 refl in (
       now,
       λ u le. elim (eq-or-lt_of_le le) [
         | inl last ↦ ap (λ y. length (words_at n items y)) last ∙ now.size
@@ -108,36 +95,26 @@ all_do n items fits t i h one =
     let few : length items ≤ 1000000 = fits.few in
     does n t i (words_at n items t) (process_after n items t i).variables (process_after n items t i).control one o.fresh (omega arith) o.well
 
-not_trapped : (n : ℕ) (control : Control) → HasTrapped (status_of (algorithm n) control) → ⊥
-not_trapped n Idle h = h
-not_trapped n (At d k) h = h
-
 pub never_traps_lem : NeverTraps
-never_traps_lem n items fits i t one h trapped =
-    not_trapped n (process_after n items t i).control
-    (subst (λ (p : NamedProcess). HasTrapped p.status) (embed.process_at_is (algorithm n) items fits (all_do n items fits) t i h one) trapped)
+never_traps_lem n items fits = embed.never_traps (algorithm n) items fits (all_do n items fits)
 
-flows_at : (n i : ℕ) (m : Words) (p : Variables) (control : Control) → ControlWell n i p control → scans.FlowsAt (algorithm n) lines i m p control
-flows_at n i m p Idle h = tt
-flows_at n i m p (At d k) h = flows n i d m p k h.0
+-- the run, with what is known of its lines
+abbrev pub execution : (n : ℕ) (items : List Item) → Fits (run_of n items) → scans.Execution (algorithm n) lines
+execution n items fits = record {
+  items = items;
+  fits = fits;
+  does = all_do n items fits;
+  flows = λ t i h one.
+      let q = process_after n items t i in
+      when_busy _ _ (λ d k well. flows n i d (words_at n items t) q.variables k well.0) q.control (invariant_of n items fits t i (omega arith) one).well;
+  wrote = λ t i h one. (invariant_of n items fits t i h one).wrote;
+}
 
-pub all_flow : (n : ℕ) (items : List Item) → Fits (run_of n items) → scans.AllFlow (algorithm n) lines items
-all_flow n items fits t i h one =
-    flows_at n i (words_at n items t) (process_after n items t i).variables (process_after n items t i).control (invariant_of n items fits t i (omega arith) one).well
-
--- at state t the scan that process i started at item c goes on
-abbrev pub Goes : (n : ℕ) (items : List Item) → Fits (run_of n items) → (i : ℕ) → IsOneOf n i → Option ℕ → ℕ → ℕ → Type 0
-Goes n items fits i one link c t = scans.Goes (algorithm n) lines (listed n) items fits (all_do n items fits) (all_flow n items fits) i one link c t
-
-pub goes : (n : ℕ) (items : List Item) (fits : Fits (run_of n items)) (i : ℕ) (one : IsOneOf n i) (link : Option ℕ) (c e t : ℕ) →
-    Scan (run_of n items) i link c e → c ≤ t → t < e →
-    Goes n items fits i one link c t
-goes n items fits i one link c e t scan le lt =
-    scans.goes (algorithm n) lines (listed n) items fits (all_do n items fits) (all_flow n items fits) i one link c e t scan le lt
-
-pub lawful : (n : ℕ) (items : List Item) → Fits (run_of n items) → (t i : ℕ) → t < length items → IsOneOf n i →
-    span.LawfulAt (algorithm n) i (words_at n items t) (process_after n items t i).variables (process_after n items t i).control
-lawful n items fits t i h one = scans.lawful (algorithm n) lines (listed n) items fits (all_do n items fits) (all_flow n items fits) t i h one
+-- what a process at a line keeps there
+pub well_of : (n : ℕ) (items : List Item) → Fits (run_of n items) → (t i : ℕ) (d : Task) (k : ProgramCounter) → t ≤ length items → IsOneOf n i →
+    (process_after n items t i).control ≡ At d k →
+    IsLineOf i d k × VariablesAt n (process_after n items t i).variables k
+well_of n items fits t i d k le one e = subst (ControlWell n i (process_after n items t i).variables) e (invariant_of n items fits t i le one).well
 
 -- a busy process is at the stage of its line
 pub stage_of : (n : ℕ) (items : List Item) → Fits (run_of n items) → (t i : ℕ) (d : Task) (k : ProgramCounter) → t ≤ length items → IsOneOf n i →
@@ -147,37 +124,10 @@ stage_of n items fits t i d k le one e =
     let q = process_after n items t i in
     subst (λ (p : Control). StageAt n (words_at n items) t q.auxiliary.since q.auxiliary.round (words_at n items t) q.variables p) e (invariant_of n items fits t i le one).stage
 
--- an item changes the words only at line 32
-abbrev pub Writes : ℕ → State → Item → Type 0
-Writes n x y = (i : ℕ) × (d : Task) × (y ≡ Step i) × ((typed_at (algorithm n) x i).control ≡ At d L32)
-
-step_writes : (n t : ℕ) (x : State) (i : ℕ) (control : Control) → (typed_at (algorithm n) x i).control ≡ control →
-    ControlWell n i (typed_at (algorithm n) x i).variables control →
-    ((changed x i (by_step (algorithm n) t x.memory i (typed_at (algorithm n) x i) control)).memory ≡ x.memory) ⊎ Writes n x (Step i)
-step_writes n t x i Idle is well = inl refl
-step_writes n t x i (At d k) is well =
-    let p = (typed_at (algorithm n) x i).variables in
-    elim (flow.keeps_memory lines (algorithm n) d x.memory p k (move n i d x.memory p k) (flows n i d x.memory p k well.0)) [
-      | inl keeps ↦ inl (words_then n t x i k (move n i d x.memory p k) keeps)
-      | inr e ↦ inr (i, d, refl, is ∙ ap (λ y. At d y) e)
-    ]
-
-admission_keeps_words : (n t : ℕ) (x : State) (i : ℕ) (op : Op) (o : Option Reason) →
-    (changed x i (by_admission (algorithm n) t x.memory (typed_at (algorithm n) x i) op o)).memory ≡ x.memory
-admission_keeps_words n t x i op (Some why) = refl
-admission_keeps_words n t x i op None = refl
-
-call_keeps_words : (n t : ℕ) (x : State) (i : ℕ) (op : Op) (control : Control) →
-    (changed x i (by_call (algorithm n) t x.memory i op (typed_at (algorithm n) x i) control)).memory ≡ x.memory
-call_keeps_words n t x i op Idle = admission_keeps_words n t x i op (call_skip kind.Seq (square n) i op)
-call_keeps_words n t x i op (At d k) = refl
-
-item_writes : (n t : ℕ) (history : ℕ → Words) (x : State) (y : Item) → IsOneOf n (who y) → Invariant n t history x →
-    ((happens (algorithm n) (suc t) x y).memory ≡ x.memory) ⊎ Writes n x y
-item_writes n t history x (Step i) one h = step_writes n (suc t) x i (typed_at (algorithm n) x i).control refl (h.each i one).well
-item_writes n t history x (Call i op) one h = inl (call_keeps_words n (suc t) x i op (typed_at (algorithm n) x i).control)
-
-pub words_change : (n : ℕ) (items : List Item) → Fits (run_of n items) → (t : ℕ) → t < length items →
-    (words_at n items (suc t) ≡ words_at n items t) ⊎ Writes n (state_at n items t) (item_at items t)
-words_change n items fits t h =
-    item_writes n t (words_at n items) (state_at n items t) (item_at items t) (one_at n items fits t h) (invariant n items fits t (omega arith))
+-- and its counts are those of its line
+pub counts_of : (n : ℕ) (items : List Item) → Fits (run_of n items) → (t i : ℕ) (d : Task) (k : ProgramCounter) → t ≤ length items → IsOneOf n i →
+    (process_after n items t i).control ≡ At d k →
+    Count n (process_after n items t i).variables (process_after n items t i).auxiliary.own (process_after n items t i).auxiliary.collects (process_after n items t i).auxiliary.tested k
+counts_of n items fits t i d k le one e =
+    let q = process_after n items t i in
+    subst (CountAt n q.variables q.auxiliary.own q.auxiliary.collects q.auxiliary.tested) e (invariant_of n items fits t i le one).counts

@@ -11,7 +11,7 @@ use Rattle.snap_semantics.specs.declared.process.Op.TheVariants.{Scan, Update}
 use Rattle.snap_runs.proofs.Algorithm as typed
 use Rattle.snap_runs.proofs.Algorithm.{Task, Scanning, Embedded, Updating, value_of, To, Begin, Answer, Finish, Algorithm}
 use Rattle.snap_runs.proofs.Embedding.{map_same}
-use Rattle.snap_runs.proofs.Flow.{Lines, IsScanOf, IsUpdateOf}
+use Rattle.snap_runs.proofs.Flow.{Lines, IsScanOf, IsUpdateOf, IsLine}
 use Rattle.snap_runs.proofs.Held.{word_at, seq_at}
 use Rattle.snap_runs.proofs.Places.{for_each}
 use Rattle.snap_bounded.specs.ListingB as listing
@@ -318,16 +318,20 @@ IsScan me d = IsScanOf (λ word. word ≡ me) d
 abbrev pub IsUpdate : ℕ → Task → Type 0
 IsUpdate me d = IsUpdateOf (λ word. word ≡ me) d
 
+-- the lines of an update outside its scan
+abbrev pub in_update : ProgramCounter → Bool
+in_update L40 = true
+in_update L41 = true
+in_update L42 = true
+in_update L43 = true
+in_update L44 = true
+in_update L45 = true
+in_update L46 = true
+in_update L47 = true
+in_update _ = false
+
 abbrev pub IsLineOf : ℕ → Task → ProgramCounter → Type 0
-IsLineOf me d L40 = IsUpdate me d
-IsLineOf me d L41 = IsUpdate me d
-IsLineOf me d L42 = IsUpdate me d
-IsLineOf me d L43 = IsUpdate me d
-IsLineOf me d L44 = IsUpdate me d
-IsLineOf me d L45 = IsUpdate me d
-IsLineOf me d L46 = IsUpdate me d
-IsLineOf me d L47 = IsUpdate me d
-IsLineOf me d _ = IsScan me d
+IsLineOf me d k = IsLine (λ word. word ≡ me) (in_update k) d
 
 -- What the lines are for.
 

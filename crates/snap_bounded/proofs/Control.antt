@@ -1,17 +1,16 @@
 -- Which variables a process of B has at each line, and that no line traps.
-use Rattle.std.specs.Prelude.{◌≡◌, ℕ, ◌+◌, ◌-◌, ◌<◌, ◌≤◌, max, Bool, true, false, not, ◌&&◌, List, length, map, Some, None, nat_eq, nat_lt, nat_le, if◌then◌else◌, slice_set, refl}
+use Rattle.std.specs.Prelude.{◌≡◌, ℕ, ◌-◌, ◌<◌, ◌≤◌, max, not, ◌&&◌, List, length, map, Some, None, nat_eq, nat_lt, nat_le, if◌then◌else◌, slice_set, refl}
 use Rattle.std.proofs.Common.{sym, subst, arith}
-use Rattle.std.proofs.lemmas.Grind.{common_steps, get_or-set_at}
+use Rattle.std.proofs.lemmas.Grind.{get_or-set_at}
 use Rattle.snap_words.specs.Shape.{IsOneOf}
 use Rattle.snap_words.specs.Word.{Word, no_word}
 use Rattle.snap_words.specs.declared.kind.KindTag.TheVariants as kind
 use Rattle.snap_semantics.specs.Table.{places_to, all_true, first_true, call_skip}
 use Rattle.snap_semantics.specs.declared.process.Op.{Op}
 use Rattle.snap_semantics.specs.declared.process.Op.TheVariants.{Scan, Update}
-use Rattle.snap_semantics.specs.declared.process.Reason.{Reason}
 use Rattle.snap_semantics.specs.declared.process.Reason.TheVariants.{NoSuchWord, NotOwner}
-use Rattle.snap_runs.proofs.Algorithm.{Task, Scanning, Embedded, Updating, task_of, op_of, Idle, At, WhenBusy, To, Begin, Answer, Finish, SameOp}
-use Rattle.snap_runs.proofs.Computing.{lt_from, same_from, either, whether}
+use Rattle.snap_runs.proofs.Algorithm.{Task, Scanning, Embedded, Updating, task_of, op_of, Idle, At, WhenBusy, LeadsTo, leads_to}
+use Rattle.snap_runs.proofs.Computing.{lt_from, same_from, either, whether, differs, raised_most, none_then}
 use Rattle.snap_runs.proofs.Embedding as embed
 use Rattle.snap_runs.proofs.Held.{word_at}
 use Rattle.snap_runs.proofs.Places.{for_each_at, first_found, first_none}
@@ -56,17 +55,7 @@ VariablesAt n me p L43 = IsOneOf n p.j
 VariablesAt n me p _ = Unit {0}
 
 abbrev pub MoveWell : Op → ℕ → ℕ → Move → Type 0
-MoveWell op n me (To d m p k) = IsLineOf me d k × VariablesAt n me p k × (op_of d ≡ op)
-MoveWell op n me (Begin d p k) = IsLineOf me d k × VariablesAt n me p k × (op_of d ≡ op)
-MoveWell op n me (Answer v) = Unit {0}
-MoveWell op n me Finish = Unit {0}
-
-within : (b : Bool) (x most : ℕ) → x < most → (if not b then x + 1 else x) ≤ most
-within true x most h = omega arith
-within false x most h = omega arith
-
-below : (x most : ℕ) → x ≤ most → nat_eq x most ≡ false → x < most
-below x most h e = grind (arith, common_steps)
+MoveWell op n me v = LeadsTo (λ d p k. IsLineOf me d k × VariablesAt n me p k × (op_of d ≡ op)) v
 
 -- what a line puts at place j of a row or of the copies
 pub put_place : (row : List ℕ) (j v : ℕ) → 0 < j → j ≤ length row → place (slice_set row (j - 1) v) j ≡ v
@@ -103,10 +92,10 @@ move_well n me d m p L19 i bits sized s h =
 move_well n me d m p L20 i bits sized s h =
     either (MoveWell (op_of d) n me) (all_true (map (agree me p) (places_to n))) _ _ (λ b. (s, tt, refl)) (λ b. (s, h, refl))
 move_well n me d m p L21 i bits sized s h =
-    (s, (h.0, λ k e. rw (for_each_at n (counted me p) p.moved k e) (within (agree me p k) (moved_at p k) limit (h.1 k e))), refl)
+    (s, (h.0, λ k e. rw (for_each_at n (counted me p) p.moved k e) (raised_most (not (agree me p k)) (moved_at p k) limit (h.1 k e))), refl)
 move_well n me d m p L22 i bits sized s h =
     whether (MoveWell (op_of d) n me) (first_to d m p) (first_true 1 (map (at_limit p) (places_to n)))
-    (λ e. (s, (h.0, λ k o. below (moved_at p k) limit (h.1 k o) (first_none 1 n (at_limit p) e k (omega arith) (omega arith))), refl))
+    (λ e. (s, (h.0, λ k o. differs (moved_at p k) limit (first_none 1 n (at_limit p) e k (omega arith) (omega arith)) (h.1 k o)), refl))
     (λ k e. let r = first_found 1 n (at_limit p) k e in (s, (omega arith, omega arith), refl))
 move_well n me d m p L23 i bits sized s h = (s, ((omega arith, omega arith), h.1), refl)
 move_well n me d m p L25 i bits sized s h = (s, tt, refl)
@@ -160,13 +149,8 @@ needs n me p L46 f h = f
 needs n me p L47 f h = tt
 
 -- an update that is not skipped is of the caller's own word
-pub own_then : (x y : Bool) (s t : Reason) → (if x then (if y then None else Some t) else Some s) ≡ None → y ≡ true
-own_then true true s t h = refl
-own_then true false s t h = absurd (cc)
-own_then false y s t h = absurd (cc)
-
 pub own_word : (n i word value : ℕ) → call_skip kind.Bits (square n) i (Update word value) ≡ None → word ≡ i
-own_word n i word value h = same_from word i (own_then (nat_lt 0 word && nat_le word n) (nat_eq word i) NoSuchWord NotOwner h)
+own_word n i word value h = same_from word i (none_then (nat_eq word i) None NotOwner (none_then (nat_lt 0 word && nat_le word n) (if nat_eq word i then None else Some NotOwner) NoSuchWord h).1).0
 
 abbrev pub ControlWell : ℕ → ℕ → Variables → Control → Type 0
 ControlWell n me p control = WhenBusy (λ d k. IsLineOf me d k × VariablesAt n me p k) control
@@ -176,16 +160,10 @@ pub called_well : (n me : ℕ) (p : Variables) (op : Op) → call_skip kind.Bits
 called_well n me p Scan e = (tt, tt)
 called_well n me p (Update word value) e = (own_word n me word value e, tt)
 
-pub same_op : (n me : ℕ) (d : Task) (v : Move) → MoveWell (op_of d) n me v → SameOp (algorithm n) d v
-same_op n me d (To d' m p k) h = h.2
-same_op n me d (Begin d' p k) h = h.2
-same_op n me d (Answer v) h = tt
-same_op n me d Finish h = tt
-
 -- no line traps: each does its move
 pub does : (n me : ℕ) (m : Registers) (p : Variables) (control : Control) → IsOneOf n me → BitWords n m.words → Sized n p → SaysBits n p →
     ControlWell n me p control →
     embed.Does (algorithm n) me m p control
 does n me m p Idle i bits sized f h = tt
 does n me m p (At d k) i bits sized f h =
-    (each_line n me d m p k i h.0 (needs n me p k f h.1), same_op n me d (move n me d m p k) (move_well n me d m p k i bits sized h.0 h.1))
+    (each_line n me d m p k i h.0 (needs n me p k f h.1), leads_to _ _ (λ d p k well. well.2) (move n me d m p k) (move_well n me d m p k i bits sized h.0 h.1))

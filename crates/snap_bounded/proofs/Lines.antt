@@ -20,14 +20,14 @@ use Rattle.snap_semantics.specs.declared.process.Cause.{Cause}
 use Rattle.snap_semantics.specs.declared.process.Cause.TheVariants.{Owner}
 use Rattle.snap_semantics.specs.declared.process.Op.{Op}
 use Rattle.snap_runs.proofs.Algorithm.{Task, Scanning, Embedded, Updating, op_of, link_of, To, shown}
-use Rattle.snap_runs.proofs.Computing.{if_true, le_true, same_number}
+use Rattle.snap_runs.proofs.Computing.{if_true, le_true, same_number, if_of}
 use Rattle.snap_runs.proofs.Held.{word_at}
 use Rattle.snap_runs.proofs.Plain.{plain_at, plain_copied, plain_taken}
 use Rattle.snap_runs.proofs.Places.{bind_ok, place_ok, each_ok, sum_ok}
 use Rattle.snap_bounded.specs.ListingB as listing
 use Rattle.snap_bounded.specs.ListingB.{listing_b}
 use Rattle.snap_bounded.specs.Promises.{square}
-use Rattle.snap_bounded.proofs.Algorithm.{Words, Registers, Move, Variables, ProgramCounter, L10, L11, L12, L13, L14, L15, L16, L17, L18, L19, L20, L21, L22, L23, L25, L26, L27, L28, L40, L41, L42, L43, L44, L45, L46, L47, number, back, plain, real, locals_of, place, hand_at, agree, limit, moved_at, counted, at_limit, word_put, move, first_to, algorithm, IsLineOf}
+use Rattle.snap_bounded.proofs.Algorithm.{Words, Registers, Variables, ProgramCounter, L10, L11, L12, L13, L14, L15, L16, L17, L18, L19, L20, L21, L22, L23, L25, L26, L27, L28, L40, L41, L42, L43, L44, L45, L46, L47, number, back, plain, real, locals_of, place, hand_at, agree, limit, moved_at, counted, at_limit, word_put, move, first_to, algorithm, IsLineOf}
 
 -- a row of bits
 abbrev pub Bits : ℕ → List ℕ → Type 0
@@ -61,11 +61,6 @@ activity op link line = record { op = op; line = line; link = link }
 abbrev pub at_line : Counts → ℕ → Op → Registers → Option ℕ → ℕ → Variables → Result Effect Cause
 at_line shape me op m link line p =
     effect_at listing_b (context_of shape me op p) (real m) (activity op link line) (instr_at listing_b.lines line)
-
-shown_if : (n : ℕ) (m : Registers) (t : Bool) (x y : Move) →
-    (if t then shown (algorithm n) m x else shown (algorithm n) m y) ≡ shown (algorithm n) m (if t then x else y)
-shown_if n m true x y = refl
-shown_if n m false x y = refl
 
 -- in a place of the range each place is there
 in_range : (n k : ℕ) → 1 ≤ k → k < 1 + n → IsOneOf (max n n) k
@@ -209,18 +204,18 @@ each_line n me d m p L14 one s h =
     (bind_ok _ _ _ _ (bind_ok _ _ _ _ (place_ok (max n n) p.j (in_places n p.j h.0)) refl)
     (bind_ok _ _ _ _ (bit_value_ok (place p.g p.j) h.1)
     (owned_ok (nat_eq me me) (place p.g p.j) Owner (λ y. Ok (Goes (real (with_put_bit me m p y)) (locals_of p) (link_of (number back) d) 15)) (same_number me)))))
-each_line n me d m p L15 one s h = shown_if n m (nat_lt p.j n) (To d m (record p { j = p.j + 1 }) L12) (To d m (record p { j = 1 }) L16)
+each_line n me d m p L15 one s h = if_of (shown (algorithm n) m) (nat_lt p.j n) (To d m (record p { j = p.j + 1 }) L12) (To d m (record p { j = 1 }) L16)
 each_line n me d m p L16 one s h =
     bind_ok _ _ _ _ (place_ok (max n n) p.j (in_places n p.j h)) (bind_ok _ _ _ _ (place_ok n p.j h)
     (ap (λ (ws : Words). left_words m p d 17 ((listing.a, ws) ∷ (listing.b, map plain p.b) ∷ [])) (plain_copied plain refl p.a m.words (p.j - 1) (p.j - 1))))
-each_line n me d m p L17 one s h = shown_if n m (nat_lt p.j n) (To d m (record p { j = p.j + 1 }) L16) (To d m (record p { j = 1 }) L18)
+each_line n me d m p L17 one s h = if_of (shown (algorithm n) m) (nat_lt p.j n) (To d m (record p { j = p.j + 1 }) L16) (To d m (record p { j = 1 }) L18)
 each_line n me d m p L18 one s h =
     bind_ok _ _ _ _ (place_ok (max n n) p.j (in_places n p.j h)) (bind_ok _ _ _ _ (place_ok n p.j h)
     (ap (λ (ws : Words). left_words m p d 19 ((listing.a, map plain p.a) ∷ (listing.b, ws) ∷ [])) (plain_copied plain refl p.b m.words (p.j - 1) (p.j - 1))))
-each_line n me d m p L19 one s h = shown_if n m (nat_lt p.j n) (To d m (record p { j = p.j + 1 }) L18) (To d m (record p { j = 1 }) L20)
+each_line n me d m p L19 one s h = if_of (shown (algorithm n) m) (nat_lt p.j n) (To d m (record p { j = p.j + 1 }) L18) (To d m (record p { j = 1 }) L20)
 each_line n me d m p L20 one s h =
     bind_ok _ _ _ _ (each_ok _ (agree me p) 1 n (λ k low high. agree_ok n me d p k (in_range n k low high) one))
-    (shown_if n m (all_true (map (agree me p) (places_to n))) (To d m p L25) (To d m p L21))
+    (if_of (shown (algorithm n) m) (all_true (map (agree me p) (places_to n))) (To d m p L25) (To d m p L21))
 each_line n me d m p L21 one s h =
     bind_ok _ _ _ _
     (each_ok _ (counted me p) 1 n (λ k low high.
@@ -246,7 +241,7 @@ each_line n me (Updating w x) m p L28 one s h = absurd s
 each_line n me d m p L40 one s h = refl
 each_line n me d m p L41 one s h = bind_ok _ _ _ _ (place_ok n p.j h) (bind_ok _ _ _ _ (place_ok n me one) refl)
 each_line n me d m p L42 one s h = bind_ok _ _ _ _ (place_ok (max n n) p.j (in_places n p.j h)) refl
-each_line n me d m p L43 one s h = shown_if n m (nat_lt p.j n) (To d m (record p { j = p.j + 1 }) L41) (To d m (record p { j = 1 }) L44)
+each_line n me d m p L43 one s h = if_of (shown (algorithm n) m) (nat_lt p.j n) (To d m (record p { j = p.j + 1 }) L41) (To d m (record p { j = 1 }) L44)
 each_line n me Scanning m p L44 one s h = absurd s
 each_line n me (Embedded w x) m p L44 one s h = absurd s
 each_line n me (Updating w x) m p L44 one s h = refl

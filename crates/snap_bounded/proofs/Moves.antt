@@ -1,5 +1,5 @@
 -- The moves that a scan of B sees are writes since its previous double collect.
-use Rattle.std.specs.Prelude.{◌≡◌, ℕ, zero, suc, ◌+◌, ◌<◌, ◌≤◌, Bool, true, false, not, List, length, Option, if◌then◌else◌, refl}
+use Rattle.std.specs.Prelude.{ℕ, zero, suc, ◌+◌, ◌<◌, ◌≤◌, not, List, length, Option, refl}
 use Rattle.std.proofs.Common.{subst, arith}
 use Rattle.snap_semantics.specs.declared.process.Item.{Item}
 use Rattle.snap_runs.specs.Run.{Fits}
@@ -8,6 +8,7 @@ use Rattle.snap_runs.specs.Promises.{ObservedMove, RecentWrite}
 use Rattle.snap_runs.proofs.Held.{word_at, seq_at}
 use Rattle.snap_runs.proofs.Moves as moves
 use Rattle.snap_runs.proofs.Places.{for_each_at}
+use Rattle.snap_runs.proofs.Computing.{not_true, raised_only}
 use Rattle.snap_bounded.specs.ListingB as listing
 use Rattle.snap_bounded.specs.Promises.{run_of, MovesAreWrites}
 use Rattle.snap_bounded.proofs.Algorithm.{L21, L22, agree, moved_at, counted, lines, algorithm}
@@ -17,11 +18,6 @@ use Rattle.snap_bounded.proofs.Flows.{numbered, listed, writer}
 use Rattle.snap_bounded.proofs.Follow.{follows_seq}
 use Rattle.snap_bounded.proofs.Runs.{words_at, process_after, execution, stage_of, counts_of}
 use Rattle.snap_bounded.proofs.Updates.{updates}
-
--- a place that grows is one where the copies differ
-raised_only : (same : Bool) (v : ℕ) → v < (if not same then v + 1 else v) → same ≡ false
-raised_only true v h = absurd (omega arith)
-raised_only false v h = refl
 
 move_is_write : (n : ℕ) (items : List Item) → Fits (run_of n items) → (i j : ℕ) (link : Option ℕ) (c t : ℕ) → Scan (run_of n items) i link c (suc t) → c ≤ t →
     ObservedMove (run_of n items) 21 listing.moved i j (suc t) →
@@ -40,7 +36,7 @@ move_is_write n items fits i j link c t scan le move =
     let second : Second n i (words_at n items) t since round (words_at n items t) p.g p.marks p.a p.b (n + 1) (words_at n items between.0) = between.3 in
     let grows : moved_at p j < counted i p j = subst (λ y. moved_at p j < y) (for_each_at n (counted i p) p.moved j move.process) seen.grows in
     let newer : seq_at (words_at n items round) j < seq_at p.b j =
-    moved_since n i (words_at n items) t since round (words_at n items t) p between j move.process (raised_only (agree i p j) (moved_at p j) grows) in
+    moved_since n i (words_at n items) t since round (words_at n items t) p between j move.process (not_true (agree i p j) (raised_only (not (agree i p j)) (moved_at p j) grows)) in
     let later : seq_at p.b j ≤ seq_at (words_at n items t) j =
     follows_seq (word_at p.b j) (word_at (words_at n items t) j) (second.read j move.process (let i2 = move.process in omega arith)).before in
     let counts : Count n i p q.auxiliary.own q.auxiliary.collects q.auxiliary.tested L21 = counts_of n items fits t i seen.task L21 (omega arith) one seen.control in

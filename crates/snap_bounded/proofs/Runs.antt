@@ -1,8 +1,7 @@
 -- Every run of B: the invariant at each state, and no process traps.
-use Rattle.std.specs.Prelude.{◌≡◌, ℕ, zero, suc, ◌-◌, ◌≤◌, max, List, [], length, replicate, refl}
-use Rattle.std.proofs.Common.{sym, ◌∙◌, ap, subst, arith, inl, inr}
+use Rattle.std.specs.Prelude.{◌≡◌, ℕ, ◌-◌, ◌≤◌, max, List, [], length, replicate, refl}
+use Rattle.std.proofs.Common.{sym, ◌∙◌, ap, subst, arith}
 use Rattle.std.proofs.lemmas.List.{get_or-replicate, length-replicate}
-use Rattle.std.proofs.Math.Nat.{eq-or-lt_of_le}
 use Rattle.snap_words.specs.Shape.{IsOneOf}
 use Rattle.snap_words.specs.Word.{Word, no_word}
 use Rattle.snap_semantics.specs.declared.process.Item.{Item}
@@ -11,6 +10,7 @@ use Rattle.snap_runs.proofs.Algorithm.{Task, At, when_busy, first_process, first
 use Rattle.snap_runs.proofs.Embedding as embed
 use Rattle.snap_runs.proofs.Held.{word_at, seq_at, at_most_now}
 use Rattle.snap_runs.proofs.Scans as scans
+use Rattle.snap_runs.proofs.States.{at_each}
 use Rattle.snap_bounded.specs.Promises.{run_of, NeverTraps}
 use Rattle.snap_bounded.proofs.Algorithm.{Words, Registers, Control, Process, State, ProgramCounter, place, hand_at, first_word, first_words, first_registers, IsLineOf, lines, algorithm}
 use Rattle.snap_bounded.proofs.Control.{ControlWell, VariablesAt, does}
@@ -74,8 +74,7 @@ process_at_the_start n history i h now =
 
 at_the_start : (n : ℕ) (history : ℕ → Words) → history 0 ≡ first_words n n → Invariant n 0 history (first_state (algorithm n))
 at_the_start n history now =
-    let at : (i : ℕ) → IsOneOf n i → typed_at (algorithm n) (first_state (algorithm n)) i ≡ first_process (algorithm n) =
-    λ i h. get_or-replicate n (i - 1) (first_process (algorithm n)) (first_process (algorithm n)) (omega arith) in
+    let at = embed.first_process_is (algorithm n) in
     record {
       size = length-replicate n (first_word n);
       square = record { rows = length-replicate n (replicate n 0); bits = λ i h. ap length (zero_row n i h) ∙ length-replicate n 0 };
@@ -85,25 +84,14 @@ at_the_start n history now =
       answered = λ i k h j. subst (λ (q : Process). Answered n (first_words n n) i q k (typed_at (algorithm n) (first_state (algorithm n)) k)) (sym (at i h)) (λ lt more. absurd (omega arith));
     }
 
--- the invariant at state t, and the number of words up to there
-invariant_and_sizes : (n : ℕ) (items : List Item) → Fits (run_of n items) → (t : ℕ) → t ≤ length items →
-    Invariant n t (words_at n items) (state_at n items t) × ((u : ℕ) → u ≤ t → length (words_at n items u) ≡ n)
-invariant_and_sizes n items fits zero h =
-    (at_the_start n (words_at n items) refl, λ u le. ap (λ y. length (words_at n items y)) (let z : u ≡ 0 = omega arith in z) ∙ length-replicate n (first_word n))
-invariant_and_sizes n items fits (suc t) h =
-    let past = invariant_and_sizes n items fits t (omega arith) in
-    let now : Invariant n (suc t) (words_at n items) (state_at n items (suc t)) =
-    item_keeps n t (words_at n items) (state_at n items t) (item_at items t) past.1 (embed.count (algorithm n) items t) (embed.one_at (algorithm n) items fits t (omega arith)) past.0 refl in (
-      now,
-      λ u le. elim (eq-or-lt_of_le le) [
-        | inl last ↦ ap (λ y. length (words_at n items y)) last ∙ now.size
-        | inr less ↦ past.1 u (omega arith)
-      ],
-    )
-
+-- the invariant at state t, where each state up to there has had as many words
 pub invariant : (n : ℕ) (items : List Item) → Fits (run_of n items) → (t : ℕ) → t ≤ length items →
     Invariant n t (words_at n items) (state_at n items t)
-invariant n items fits t h = (invariant_and_sizes n items fits t h).0
+invariant n items fits =
+    let a = algorithm n in
+    at_each (λ t. Invariant n t (words_at n items) (state_at n items t)) (λ t. length (words_at n items t) ≡ n) (length items)
+    (at_the_start n (words_at n items) refl) (λ t h. h.size)
+    (λ t lt sizes h. item_keeps n t (words_at n items) (state_at n items t) (item_at items t) sizes (embed.count a items t) (embed.one_at a items fits t lt) h refl)
 
 pub invariant_of : (n : ℕ) (items : List Item) → Fits (run_of n items) → (t i : ℕ) → t ≤ length items → IsOneOf n i →
     ProcessInvariant n t (words_at n items) (registers_at n items t) i (process_after n items t i)

@@ -7,36 +7,17 @@ use Rattle.snap_words.specs.Shape.{IsOneOf}
 use Rattle.snap_words.specs.Word.{Word}
 use Rattle.snap_semantics.specs.declared.process.Outcome.{Outcome}
 use Rattle.snap_runs.proofs.Algorithm.{Task, Scanning, Embedded, Updating, At, New, typed_at, changed, stepped_auxiliary}
-use Rattle.snap_runs.proofs.Flow.{IsInScan}
+use Rattle.snap_runs.proofs.Flow.{IsInScan, not_update}
 use Rattle.snap_runs.proofs.Frame as frame
 use Rattle.snap_runs.proofs.Held.{word_at, Held, held_wider, seq_at}
-use Rattle.snap_bounded.proofs.Algorithm.{Words, Registers, Control, Process, State, L46, L47, place, hand_at, word_put, with_written, IsUpdate, algorithm}
+use Rattle.snap_runs.proofs.Flow as flow
+use Rattle.snap_bounded.proofs.Algorithm.{Words, Registers, Control, Process, State, L46, L47, place, hand_at, word_put, with_written, IsUpdate, algorithm, lines}
 use Rattle.snap_bounded.proofs.Change.{each_pair}
 use Rattle.snap_bounded.proofs.Collect.{Late, Viewed, word_set, word_kept}
 use Rattle.snap_bounded.proofs.Flows.{Making, HasWritten}
 use Rattle.snap_bounded.proofs.Follow.{Follows, follows_seq, Grows}
 use Rattle.snap_bounded.proofs.Handshake.{Says}
 use Rattle.snap_bounded.proofs.Invariant.{ProcessInvariant, PairInvariant, Invariant, Answered, StageAt, ToggledAt, AnswersAt, reach_at, others_act}
-
-late : (i : ℕ) (d : Task) → IsUpdate i d → Making (At d L46)
-late i Scanning up = absurd up
-late i (Embedded word value) up = absurd up
-late i (Updating word value) up = tt
-
-not_late : (i : ℕ) (d : Task) → IsUpdate i d → Making (At d L47) → ⊥
-not_late i Scanning up made = made
-not_late i (Embedded word value) up made = up
-not_late i (Updating word value) up made = made
-
-not_scan : (i : ℕ) (d : Task) → IsUpdate i d → IsInScan d → ⊥
-not_scan i Scanning up inside = up
-not_scan i (Embedded word value) up inside = up
-not_scan i (Updating word value) up inside = inside
-
-has_written : (i : ℕ) (d : Task) (w : ℕ) → IsUpdate i d → HasWritten (At d L46) w → HasWritten (At d L47) (w + 1)
-has_written i Scanning w up h = absurd up
-has_written i (Embedded word value) w up h = absurd up
-has_written i (Updating word value) w up h = omega arith
 
 says_another : (i said bit : ℕ) (d : Task) → IsUpdate i d → Says said bit d → said ≡ bit → ⊥
 says_another i said bit Scanning up other same = up
@@ -83,7 +64,7 @@ module _ (n t : ℕ) (history : ℕ → Words) (x : State) (i : ℕ) (d : Task) 
       let s : seq_at x.memory.words k ≤ seq_at after.words k = follows_seq (word_at x.memory.words k) (word_at after.words k) (grows k ik) in omega arith
 
   making : Making (at i).control
-  making = subst Making (sym at_46) (late i d up)
+  making = subst Making (sym at_46) (flow.late_makes lines (λ word. word ≡ i) d L46 up tt)
 
   -- the view beside the new word was the values since the scan that made it, which is no older than a scan that finds it the
   -- second write
@@ -129,9 +110,9 @@ module _ (n t : ℕ) (history : ℕ → Words) (x : State) (i : ℕ) (d : Task) 
         asked = λ k ik lt. absurd (omega arith);
         late = λ k ik lt. absurd (omega arith);
         stage = tt;
-        self = λ scan. absurd (not_scan i d up scan);
+        self = λ scan. absurd (not_update (λ word. word ≡ i) d scan up);
         counts = tt;
-        wrote = has_written i d q.auxiliary.wrote up (subst (λ (p : Control). HasWritten p q.auxiliary.wrote) at_46 past.wrote);
+        wrote = flow.writes_more lines (λ word. word ≡ i) d L46 L47 q.auxiliary.wrote up refl (subst (λ (p : Control). HasWritten p q.auxiliary.wrote) at_46 past.wrote);
       }
 
   pub line_46_writes : (o : Outcome) → length x.processes ≡ n → Invariant n (suc t) history (changed x i (New after writer o))
@@ -145,9 +126,9 @@ module _ (n t : ℕ) (history : ℕ → Words) (x : State) (i : ℕ) (d : Task) 
         (λ k ik other. others_act n t (suc t) history x.memory after k (at k) (omega arith) grows (old_word k ik other) (λ u iu. refl)
         (shows k ik) (viewed k ik) (h.each k ik));
     start = each_pair n x i after writer o count one (λ u p v r. PairInvariant history after.words p r v)
-        (λ made lt. absurd (not_late i d up made))
+        (λ made lt. absurd (flow.makes_late lines (λ word. word ≡ i) d L47 up made))
         (λ k ik other made lt. h.start i k one ik made (subst (λ (w : Word). seq_at (history (at i).auxiliary.since) k < w.seq) (old_word k ik other) lt))
-        (λ k ik other made lt. absurd (not_late i d up made))
+        (λ k ik other made lt. absurd (flow.makes_late lines (λ word. word ≡ i) d L47 up made))
         (λ u v iu iv other made lt. h.start u v iu iv made (subst (λ (w : Word). seq_at (history (at u).auxiliary.since) v < w.seq) (old_word v iv other) lt));
     answered = each_pair n x i after writer o count one (Answered n after.words)
         (λ lt more. tt) (λ k ik other lt more. absurd (omega arith)) (λ k ik other lt more. tt)

@@ -13,7 +13,7 @@ use Rattle.snap_semantics.specs.Table.{places_to, all_true, first_true, bit_at, 
 use Rattle.snap_runs.proofs.Held.{word_at, seq_at}
 use Rattle.snap_runs.proofs.Algorithm as typed
 use Rattle.snap_runs.proofs.Algorithm.{Task, Scanning, Embedded, Updating, value_of, To, Begin, Answer, Finish, Algorithm}
-use Rattle.snap_runs.proofs.Flow.{Lines, IsScanOf, IsUpdateOf}
+use Rattle.snap_runs.proofs.Flow.{Lines, IsScanOf, IsUpdateOf, IsLine}
 use Rattle.snap_runs.proofs.Places.{for_each}
 use Rattle.snap_runs.proofs.Embedding.{map_same}
 use Rattle.snap_multi.specs.ListingM as names
@@ -342,17 +342,21 @@ Needs n w me d p L56 = IsOneOf w (word_of d)
 Needs n w me d p L57 = IsOneOf w (word_of d) × (place p.tog (word_of d) ≤ 1)
 Needs n w me d p _ = Unit {0}
 
+-- the lines of an update outside its scan
+abbrev pub in_update : ProgramCounter → Bool
+in_update L50 = true
+in_update L51 = true
+in_update L52 = true
+in_update L53 = true
+in_update L54 = true
+in_update L55 = true
+in_update L56 = true
+in_update L57 = true
+in_update L58 = true
+in_update _ = false
+
 abbrev pub IsLineOf : ℕ → Task → ProgramCounter → Type 0
-IsLineOf w d L50 = IsUpdate w d
-IsLineOf w d L51 = IsUpdate w d
-IsLineOf w d L52 = IsUpdate w d
-IsLineOf w d L53 = IsUpdate w d
-IsLineOf w d L54 = IsUpdate w d
-IsLineOf w d L55 = IsUpdate w d
-IsLineOf w d L56 = IsUpdate w d
-IsLineOf w d L57 = IsUpdate w d
-IsLineOf w d L58 = IsUpdate w d
-IsLineOf w d _ = IsScan w d
+IsLineOf w d k = IsLine (IsOneOf w) (in_update k) d
 
 -- where an operation begins, and the line to which its embedded scan leads back
 abbrev pub counter : Op → ProgramCounter

@@ -7,54 +7,14 @@ use Rattle.snap_runs.specs.Run.{Fits}
 use Rattle.snap_runs.specs.Scan.{double_collects}
 use Rattle.snap_runs.proofs.Algorithm.{Task, At, typed_at}
 use Rattle.snap_runs.proofs.Bounds.{collects_at_most, steps_at_most}
-use Rattle.snap_runs.proofs.Flow.{IsInScan, not_update}
+use Rattle.snap_runs.proofs.Flow.{IsInScan, scan_line}
 use Rattle.snap_multi.specs.Promises.{run_of, FewCollects, FewSteps, SharpCollects}
-use Rattle.snap_multi.proofs.Algorithm.{ProgramCounter, L10, L11, L12, L13, L14, L15, L16, L17, L18, L19, L20, L21, L22, L23, L24, L25, L26, L27, L28, L29, L30, L31, L32, L33, L34, L35, L36, L37, L50, L51, L52, L53, L54, L55, L56, L57, L58, IsLineOf, lines, tests, algorithm}
-use Rattle.snap_multi.proofs.Count.{InScanLine, collects_le, own_le}
+use Rattle.snap_multi.proofs.Algorithm.{ProgramCounter, in_update, lines, tests, algorithm}
+use Rattle.snap_multi.proofs.Count.{collects_le, own_le}
 use Rattle.snap_multi.proofs.Flows.{listed}
 use Rattle.snap_multi.proofs.Invariant.{Books, BooksAt}
 use Rattle.snap_multi.proofs.Preserve.{sharp_at}
 use Rattle.snap_multi.proofs.Runs.{state_at, registers_at, inv, well_of, stage_of, counts_of, execution}
-
--- a scan is at one of its lines
-scan_line : (w : ℕ) (d : Task) (k : ProgramCounter) → IsInScan d → IsLineOf w d k → InScanLine k
-scan_line w d L10 h s = tt
-scan_line w d L11 h s = tt
-scan_line w d L12 h s = tt
-scan_line w d L13 h s = tt
-scan_line w d L14 h s = tt
-scan_line w d L15 h s = tt
-scan_line w d L16 h s = tt
-scan_line w d L17 h s = tt
-scan_line w d L18 h s = tt
-scan_line w d L19 h s = tt
-scan_line w d L20 h s = tt
-scan_line w d L21 h s = tt
-scan_line w d L22 h s = tt
-scan_line w d L23 h s = tt
-scan_line w d L24 h s = tt
-scan_line w d L25 h s = tt
-scan_line w d L26 h s = tt
-scan_line w d L27 h s = tt
-scan_line w d L28 h s = tt
-scan_line w d L29 h s = tt
-scan_line w d L30 h s = tt
-scan_line w d L31 h s = tt
-scan_line w d L32 h s = tt
-scan_line w d L33 h s = tt
-scan_line w d L34 h s = tt
-scan_line w d L35 h s = tt
-scan_line w d L36 h s = tt
-scan_line w d L37 h s = tt
-scan_line w d L50 h s = not_update (IsOneOf w) d h s
-scan_line w d L51 h s = not_update (IsOneOf w) d h s
-scan_line w d L52 h s = not_update (IsOneOf w) d h s
-scan_line w d L53 h s = not_update (IsOneOf w) d h s
-scan_line w d L54 h s = not_update (IsOneOf w) d h s
-scan_line w d L55 h s = not_update (IsOneOf w) d h s
-scan_line w d L56 h s = not_update (IsOneOf w) d h s
-scan_line w d L57 h s = not_update (IsOneOf w) d h s
-scan_line w d L58 h s = not_update (IsOneOf w) d h s
 
 abbrev pub most_steps : ℕ → ℕ → ℕ
 most_steps n w = 14 * (n * n) + 16 * (n * w) + 19 * n + 8 * w + 10
@@ -74,7 +34,7 @@ within n w items some fits t i d k le one at scan =
     let stage = stage_of n w items some fits t i d k le one at in
     let counts = counts_of n w items some fits t i d k le one at in
     let books : Books n w i (history g.since) (history t) d q.variables k = subst (BooksAt n w i (history g.since) (history t) q.variables) at o.books in
-    let inside = scan_line w d k scan well.0 in
+    let inside = scan_line (IsOneOf w) (in_update k) d scan well.0 in
     let sharp = sharp_at n w i history t g.since g.round d q.variables k one ((v.laws t (omega arith)).since g.round o.round_le) well.0 well.1 books stage in
     (collects_le n w q.variables k g.own g.collects g.tested (omega arith) sharp counts inside, own_le n w d q.variables k g.own g.collects g.tested well.1 counts inside)
 

@@ -1,19 +1,17 @@
 -- The places of M: which locals a process has at each line, and that no line traps.
-use Rattle.snap_runs.proofs.Computing.{either, lt_from, both}
+use Rattle.snap_runs.proofs.Computing.{either, lt_from, both, differs, raised_most, none_then}
 use Rattle.snap_runs.proofs.Places.{for_each, for_each_at, first_found, first_none}
-use Rattle.std.specs.Prelude.{◌≡◌, ℕ, ◌+◌, ◌-◌, ◌<◌, ◌≤◌, max, Bool, true, false, ◌&&◌, List, drop, length, map, Option, Some, None, nat_eq, nat_lt, nat_le, if◌then◌else◌, slice_set, refl}
+use Rattle.std.specs.Prelude.{◌≡◌, ℕ, ◌+◌, ◌-◌, ◌<◌, ◌≤◌, max, ◌&&◌, List, drop, length, map, Option, Some, None, nat_eq, nat_lt, nat_le, slice_set, refl}
 use Rattle.std.proofs.Common.{sym, ◌∙◌, subst, arith}
-use Rattle.std.proofs.lemmas.Grind.{common_steps}
 use Rattle.std.proofs.lemmas.List.{length-set, length-append}
 use Rattle.std.proofs.lemmas.List.FromFn.{length-map-range_with_len}
 use Rattle.snap_words.specs.Shape.{IsOneOf}
 use Rattle.snap_words.specs.declared.kind.KindTag.TheVariants as kind
 use Rattle.snap_semantics.specs.declared.process.Op.{Op}
 use Rattle.snap_semantics.specs.declared.process.Op.TheVariants.{Scan, Update}
-use Rattle.snap_semantics.specs.declared.process.Reason.{Reason}
 use Rattle.snap_semantics.specs.declared.process.Reason.TheVariants.{NoSuchWord}
 use Rattle.snap_semantics.specs.Table.{places_to, call_skip}
-use Rattle.snap_runs.proofs.Algorithm.{task_of, Idle, At, WhenBusy, To, Begin, Answer, Finish, SameOp, Task, Scanning, Embedded, Updating, op_of}
+use Rattle.snap_runs.proofs.Algorithm.{task_of, Idle, At, WhenBusy, To, Begin, Answer, Finish, Task, Scanning, Embedded, Updating, op_of, LeadsTo, leads_to}
 use Rattle.snap_runs.proofs.Embedding as embed
 use Rattle.snap_runs.proofs.Held.{word_at}
 use Rattle.snap_multi.specs.Promises.{counts}
@@ -130,17 +128,7 @@ long_move n w me d m p L57 h = record { a = h.a; b = h.b; g = h.g; h = h.h; tog 
 long_move n w me d m p L58 h = tt
 
 abbrev pub MoveWell : Op → ℕ → ℕ → Move → Type 0
-MoveWell op n w (To d m p k) = IsLineOf w d k × Keeps n w d p k × (op_of d ≡ op)
-MoveWell op n w (Begin d p k) = IsLineOf w d k × Keeps n w d p k × (op_of d ≡ op)
-MoveWell op n w (Answer v) = Unit {0}
-MoveWell op n w Finish = Unit {0}
-
-bump : (b : Bool) (x : ℕ) → x < limit → (if b then x + 1 else x) ≤ limit
-bump true x h = omega arith
-bump false x h = omega arith
-
-below : (x y : ℕ) → x ≤ y → nat_eq x y ≡ false → x < y
-below x y h e = grind (arith, common_steps)
+MoveWell op n w v = LeadsTo (λ d p k. IsLineOf w d k × Keeps n w d p k × (op_of d ≡ op)) v
 
 first_well : (n w : ℕ) (d : Task) (m : Registers) (p : Variables) (o : Option ℕ) → IsScan w d → (p.j ≡ 1) × (p.k ≡ 1) →
     ((k : ℕ) → o ≡ Some k → IsOneOf n k) → (o ≡ None → BelowLimit n p) → MoveWell (op_of d) n w (first_to d m p o)
@@ -182,11 +170,11 @@ move_well n w me d m p L28 e s h = (s, h, refl)
 move_well n w me d m p L29 e s h =
     either (MoveWell (op_of d) n w) (nat_lt p.k w) _ _ (λ b. let lt : p.k < w = lt_from p.k w b in (s, (h.0, (omega arith, omega arith), h.2), refl)) (λ b. (s, (h.0, refl, h.2), refl))
 move_well n w me d m p L30 e s h = either (MoveWell (op_of d) n w) (all_still n p) _ _ (λ b. (s, tt, refl)) (λ b. (s, h, refl))
-move_well n w me d m p L31 e s h = (s, (h.0, h.1, λ c i. rw (for_each_at n (counted p) p.moved c i) (bump (nat_eq (place p.d c) 1) (place p.moved c) (h.2 c i))), refl)
+move_well n w me d m p L31 e s h = (s, (h.0, h.1, λ c i. rw (for_each_at n (counted p) p.moved c i) (raised_most (nat_eq (place p.d c) 1) (place p.moved c) limit (h.2 c i))), refl)
 move_well n w me d m p L32 e s h =
     first_well n w d m p (third_move n p) s (h.0, h.1)
     (λ k f. let r = first_found 1 n (at_limit p) k f in (omega arith, omega arith))
-    (λ f k o. below (place p.moved k) limit (h.2 k o) (first_none 1 n (at_limit p) f k (omega arith) (omega arith)))
+    (λ f k o. differs (place p.moved k) limit (first_none 1 n (at_limit p) f k (omega arith) (omega arith)) (h.2 k o))
 move_well n w me d m p L33 e s h = let one : IsOneOf n me = e.one in (s, ((omega arith, omega arith), h.1, h.2), refl)
 move_well n w me d m p L34 e s h = (s, tt, refl)
 move_well n w me Scanning m p L35 e s h = tt
@@ -261,13 +249,9 @@ needs n w me d p L57 i s h x = (word_is w d s, h)
 needs n w me d p L58 i s h x = tt
 
 -- an update that is not skipped is of a word that there is
-there_is : (x : Bool) (s : Reason) → (if x then None else Some s) ≡ None → x ≡ true
-there_is true s h = refl
-there_is false s h = absurd (cc)
-
 allowed_word : (n w me word arg : ℕ) → call_skip kind.Multi (counts n w) me (Update word arg) ≡ None → IsOneOf w word
 allowed_word n w me word arg h =
-    let parts = both (nat_lt 0 word) (nat_le word w) (there_is (nat_lt 0 word && nat_le word w) NoSuchWord h) in
+    let parts = both (nat_lt 0 word) (nat_le word w) (none_then (nat_lt 0 word && nat_le word w) None NoSuchWord h).0 in
     (lt_from 0 word parts.0, le_from word w parts.1)
 
 abbrev pub ControlWell : ℕ → ℕ → Variables → Control → Type 0
@@ -278,12 +262,6 @@ pub called_well : (n w me : ℕ) (p : Variables) (op : Op) → call_skip kind.Mu
 called_well n w me p Scan e = (tt, tt)
 called_well n w me p (Update word arg) e = (allowed_word n w me word arg e, tt)
 
-same_op : (n w : ℕ) (d : Task) (v : Move) → MoveWell (op_of d) n w v → SameOp (algorithm n w) d v
-same_op n w d (To d' m p k) h = h.2
-same_op n w d (Begin d' p k) h = h.2
-same_op n w d (Answer v) h = tt
-same_op n w d Finish h = tt
-
 abbrev pub NamedAt28 : ℕ → Variables → Control → Type 0
 NamedAt28 n p Idle = Unit {0}
 NamedAt28 n p (At d k) = k ≡ L28 → IsOneOf n p.x
@@ -293,4 +271,4 @@ pub does : (n w me : ℕ) (m : Registers) (p : Variables) (control : Control) �
     embed.Does (algorithm n w) me m p control
 does n w me m p Idle e h x = tt
 does n w me m p (At d k) e h x =
-    (lines n w me d m p k h.0 (needs n w me d p k e.one h.0 h.1 x), same_op n w d (move n w me d m p k) (move_well n w me d m p k e h.0 h.1))
+    (lines n w me d m p k h.0 (needs n w me d p k e.one h.0 h.1 x), leads_to _ _ (λ d p k well. well.2) (move n w me d m p k) (move_well n w me d m p k e h.0 h.1))

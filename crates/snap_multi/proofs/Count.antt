@@ -2,14 +2,15 @@
 use Rattle.snap_runs.proofs.Budget as budgets
 use Rattle.snap_runs.proofs.Budget.{budget_zero, same_budget, next_budget, budget_le}
 use Rattle.snap_runs.proofs.Computing.{either, not_lt}
-use Rattle.snap_runs.proofs.Totals.{total, total_more}
+use Rattle.snap_runs.proofs.Totals.{total, total_raised}
 use Rattle.snap_runs.proofs.Places.{for_each, for_each_at, some_fails}
-use Rattle.std.specs.Prelude.{◌≡◌, ℕ, suc, ◌+◌, ◌-◌, ◌*◌, ◌<◌, ◌≤◌, Bool, true, false, Option, Some, None, nat_eq, nat_lt, if◌then◌else◌, refl}
-use Rattle.std.proofs.Common.{sym, ap, subst, arith}
+use Rattle.std.specs.Prelude.{◌≡◌, ℕ, suc, ◌+◌, ◌-◌, ◌*◌, ◌<◌, ◌≤◌, false, Option, Some, None, nat_eq, nat_lt, if◌then◌else◌, refl}
+use Rattle.std.proofs.Common.{ap, arith}
 use Rattle.std.proofs.lemmas.Grind.{common_steps}
 use Rattle.snap_words.specs.Shape.{IsOneOf}
-use Rattle.snap_runs.proofs.Algorithm.{To, Begin, Answer, Finish, Task, Scanning, Embedded, Updating}
-use Rattle.snap_multi.proofs.Algorithm.{Registers, restarts, Move, Variables, ProgramCounter, L10, L11, L12, L13, L14, L15, L16, L17, L18, L19, L20, L21, L22, L23, L24, L25, L26, L27, L28, L29, L30, L31, L32, L33, L34, L35, L36, L37, L50, L51, L52, L53, L54, L55, L56, L57, L58, move, first_to, place, same_at, counted, all_still, third_move, tests}
+use Rattle.snap_runs.proofs.Algorithm.{Task, Scanning, Embedded, Updating, GoesOn}
+use Rattle.snap_runs.proofs.Flow.{IsScanLine}
+use Rattle.snap_multi.proofs.Algorithm.{Registers, restarts, Move, Variables, ProgramCounter, L10, L11, L12, L13, L14, L15, L16, L17, L18, L19, L20, L21, L22, L23, L24, L25, L26, L27, L28, L29, L30, L31, L32, L33, L34, L35, L36, L37, L50, L51, L52, L53, L54, L55, L56, L57, L58, move, first_to, place, same_at, counted, all_still, third_move, tests, in_update}
 use Rattle.snap_multi.proofs.Basics.{other_from}
 use Rattle.snap_multi.proofs.Control.{Keeps}
 
@@ -58,19 +59,12 @@ Count n w p own c recent L37 = (own ≤ budget n w c) × (c + 1 ≤ 2 * n)
 Count n w p own c recent _ = Unit {0}
 
 abbrev pub CountMove : ℕ → ℕ → ℕ → ℕ → ℕ → Move → Type 0
-CountMove n w own c recent (To d m p k) = Count n w p own c recent k
-CountMove n w own c recent (Begin d p k) = Unit {0}
-CountMove n w own c recent (Answer v) = Unit {0}
-CountMove n w own c recent Finish = Unit {0}
+CountMove n w own c recent v = GoesOn (λ d m p k. Count n w p own c recent k) v
 
 count_first : (n w own c recent : ℕ) (d : Task) (m : Registers) (p : Variables) (o : Option ℕ) → own + 1 ≤ budget n w c → c ≤ moves n p →
     c + 1 ≤ 2 * n → CountMove n w own c recent (first_to d m p o)
 count_first n w own c recent d m p None a b e = (a, b, e)
 count_first n w own c recent d m p (Some k) a b e = (a, e)
-
-counted_from : (b : Bool) (v : ℕ) → v ≤ (if b then v + 1 else v)
-counted_from true v = omega arith
-counted_from false v = omega arith
 
 abbrev pub counted_row : ℕ → Variables → Variables
 counted_row n p = record p { moved = for_each n (counted p) p.moved }
@@ -83,10 +77,7 @@ after_count n p failed bits p' is =
     let k = some.0 in
     let i : IsOneOf n k = (omega arith, omega arith) in
     let one : place p.d k ≡ 1 = (let le : place p.d k ≤ 1 = bits k i in grind (arith, common_steps, other_from (place p.d k) 0 some.3)) in
-    let more : counted p k ≡ place p.moved k + 1 = ap (λ v. if nat_eq v 1 then place p.moved k + 1 else place p.moved k) one in
-    total_more (place p.moved) (place p'.moved) n k i
-    (subst (λ y. place p.moved k < y) (sym (is k i)) (omega arith))
-    (λ u j. subst (λ y. place p.moved u ≤ y) (sym (is u j)) (counted_from (nat_eq (place p.d u) 1) (place p.moved u)))
+    total_raised (place p.moved) (place p'.moved) (λ u. nat_eq (place p.d u) 1) n k i (ap (λ v. nat_eq v 1) one) is
 
 -- each line keeps the counts: c' and recent' are the double collects with its own
 pub count_move : (n w me : ℕ) (d : Task) (m : Registers) (p : Variables) (k : ProgramCounter) (own c c' recent recent' : ℕ) → 0 < n →
@@ -158,21 +149,9 @@ count_move n w me d m p L56 own c c' recent recent' pos e f keeps sharp bits h =
 count_move n w me d m p L57 own c c' recent recent' pos e f keeps sharp bits h = tt
 count_move n w me d m p L58 own c c' recent recent' pos e f keeps sharp bits h = tt
 
-abbrev pub InScanLine : ProgramCounter → Type 0
-InScanLine L50 = ⊥
-InScanLine L51 = ⊥
-InScanLine L52 = ⊥
-InScanLine L53 = ⊥
-InScanLine L54 = ⊥
-InScanLine L55 = ⊥
-InScanLine L56 = ⊥
-InScanLine L57 = ⊥
-InScanLine L58 = ⊥
-InScanLine _ = Unit {0}
-
 -- the bounds at each line of a scan
 pub collects_le : (n w : ℕ) (p : Variables) (k : ProgramCounter) (own c recent : ℕ) → 0 < n → (k ≡ L30 → moves n p + 2 ≤ 2 * n) →
-    Count n w p own c recent k → InScanLine k → c + tests k ≤ 2 * n - 1
+    Count n w p own c recent k → IsScanLine (in_update k) → c + tests k ≤ 2 * n - 1
 collects_le n w p L10 own c recent pos sharp h s = omega arith
 collects_le n w p L11 own c recent pos sharp h s = omega arith
 collects_le n w p L12 own c recent pos sharp h s = omega arith
@@ -218,7 +197,7 @@ own_all n w c own le h =
     let e : (2 * n) * (7 * n + 8 * w + 6) ≡ 14 * (n * n) + 16 * (n * w) + 12 * n = grind arith in omega arith
 
 pub own_le : (n w : ℕ) (d : Task) (p : Variables) (k : ProgramCounter) (own c recent : ℕ) → Keeps n w d p k → Count n w p own c recent k →
-    InScanLine k →
+    IsScanLine (in_update k) →
     own + 1 ≤ 14 * (n * n) + 16 * (n * w) + 19 * n + 8 * w + 10
 own_le n w d p L10 own c recent keeps h s = omega arith
 own_le n w d p L11 own c recent keeps h s = omega arith

@@ -1,7 +1,7 @@
 -- What each line of M does.
 use Rattle.snap_runs.proofs.Places.{bind_ok, place_ok, each_ok, sum_ok, owned_ok}
-use Rattle.snap_runs.proofs.Computing.{if_true, le_true, same_number}
-use Rattle.std.specs.Prelude.{◌≡◌, ℕ, ◌+◌, ◌-◌, ◌<◌, ◌≤◌, max, Bool, true, false, ◌&&◌, [], ◌∷◌, map, Option, Some, None, Result, Ok, Err, slice_index_or, nat_eq, nat_lt, nat_le, if◌then◌else◌, refl}
+use Rattle.snap_runs.proofs.Computing.{if_true, le_true, same_number, if_of}
+use Rattle.std.specs.Prelude.{◌≡◌, ℕ, ◌+◌, ◌-◌, ◌<◌, ◌≤◌, max, true, ◌&&◌, [], ◌∷◌, map, Option, Some, None, Result, Ok, Err, slice_index_or, nat_eq, nat_lt, nat_le, if◌then◌else◌, refl}
 use Rattle.std.proofs.Common.{sym, ◌∙◌, ap, arith}
 use Rattle.std.proofs.lemmas.List.{map-set}
 use Rattle.snap_words.specs.Shape.{Counts, IsOneOf}
@@ -22,7 +22,7 @@ use Rattle.snap_runs.proofs.Plain.{plain_at, plain_copied}
 use Rattle.snap_multi.specs.ListingM as names
 use Rattle.snap_multi.specs.ListingM.{listing_m}
 use Rattle.snap_multi.specs.Promises.{counts}
-use Rattle.snap_multi.proofs.Algorithm.{Words, Registers, plain, real, Move, Variables, locals_of, context_of, ProgramCounter, L10, L11, L12, L13, L14, L15, L16, L17, L18, L19, L20, L21, L22, L23, L24, L25, L26, L27, L28, L29, L30, L31, L32, L33, L34, L35, L36, L37, L50, L51, L52, L53, L54, L55, L56, L57, L58, number, move, first_to, algorithm, Needs, IsLineOf, place, flip, same_words, same_at, marked, counted, all_still, third_move, limit, at_limit, borrows, back, written}
+use Rattle.snap_multi.proofs.Algorithm.{Words, Registers, plain, real, Variables, locals_of, context_of, ProgramCounter, L10, L11, L12, L13, L14, L15, L16, L17, L18, L19, L20, L21, L22, L23, L24, L25, L26, L27, L28, L29, L30, L31, L32, L33, L34, L35, L36, L37, L50, L51, L52, L53, L54, L55, L56, L57, L58, number, move, first_to, algorithm, Needs, IsLineOf, place, flip, same_words, same_at, marked, counted, all_still, third_move, limit, at_limit, borrows, back, written}
 use Rattle.snap_multi.proofs.Basics.{flip_bit}
 
 abbrev pub act : Op → Option ℕ → ℕ → Activity
@@ -32,11 +32,6 @@ act op link line = record { op = op; line = line; link = link }
 abbrev pub at_line : Counts → ℕ → Op → Registers → Option ℕ → ℕ → Variables → Result Effect Cause
 at_line shape me op m link line p =
     effect_at listing_m (context_of shape me op p) (real m) (act op link line) (instr_at listing_m.lines line)
-
-shown_if : (n w : ℕ) (m : Registers) (t : Bool) (x y : Move) →
-    (if t then shown (algorithm n w) m x else shown (algorithm n w) m y) ≡ shown (algorithm n w) m (if t then x else y)
-shown_if n w m true x y = refl
-shown_if n w m false x y = refl
 
 -- a number that is a place of a range is one of a row
 process_place : (n w k : ℕ) → IsOneOf n k → IsOneOf (max n w) k
@@ -91,18 +86,18 @@ lines n w me d m p L14 s h = bind_ok _ _ _ _ (place_ok (max n w) p.j (process_pl
 lines n w me d m p L15 s h =
     bind_ok _ _ _ _ (place_ok n me h.1) (bind_ok _ _ _ _ (place_ok n p.j h.0)
     (bind_ok _ _ _ _ (if_true (nat_le p.x 1) (Ok p.x) (Err NotABit) (le_true p.x 1 h.2)) (owned_ok (nat_eq me me) p.x Owner _ (same_number me))))
-lines n w me d m p L16 s h = shown_if n w m (nat_lt p.j n) _ _
+lines n w me d m p L16 s h = if_of (shown (algorithm n w) m) (nat_lt p.j n) _ _
 lines n w me d m p L17 s h =
     bind_ok _ _ _ _ (place_ok (max n w) p.k (word_place n w p.k h)) (bind_ok _ _ _ _ (place_ok w p.k h)
     (ap (λ (xs : Words). Ok (Goes (real m) (with_copies p xs (map plain p.b)) (link_of (number back) d) 18)) (plain_copied plain refl p.a m.words (p.k - 1) (p.k - 1))))
-lines n w me d m p L18 s h = shown_if n w m (nat_lt p.k w) _ _
+lines n w me d m p L18 s h = if_of (shown (algorithm n w) m) (nat_lt p.k w) _ _
 lines n w me d m p L19 s h =
     bind_ok _ _ _ _ (place_ok (max n w) p.k (word_place n w p.k h)) (bind_ok _ _ _ _ (place_ok w p.k h)
     (ap (λ (xs : Words). Ok (Goes (real m) (with_copies p (map plain p.a) xs) (link_of (number back) d) 20)) (plain_copied plain refl p.b m.words (p.k - 1) (p.k - 1))))
-lines n w me d m p L20 s h = shown_if n w m (nat_lt p.k w) _ _
+lines n w me d m p L20 s h = if_of (shown (algorithm n w) m) (nat_lt p.k w) _ _
 lines n w me d m p L21 s h = bind_ok _ _ _ _ (place_ok n p.j h.0) (bind_ok _ _ _ _ (place_ok n me h.1) refl)
 lines n w me d m p L22 s h = bind_ok _ _ _ _ (place_ok (max n w) p.j (process_place n w p.j h)) refl
-lines n w me d m p L23 s h = shown_if n w m (nat_lt p.j n) _ _
+lines n w me d m p L23 s h = if_of (shown (algorithm n w) m) (nat_lt p.j n) _ _
 lines n w me d m p L24 s h = bind_ok _ _ _ _ (each_ok _ (λ c. 0) 1 n (λ c low high. refl)) refl
 lines n w me d m p L25 s h =
     bind_ok _ _ _ _
@@ -117,15 +112,15 @@ lines n w me d m p L26 s h =
     (bind_ok _ _ _ _ (bind_ok _ _ _ _ (bind_ok _ _ _ _ (place_ok (max n w) p.k i) refl) (bind_ok _ _ _ _ (bind_ok _ _ _ _ (place_ok (max n w) p.k i) refl) refl))
     (bind_ok _ _ _ _ (bind_ok _ _ _ _ (bind_ok _ _ _ _ (place_ok (max n w) p.k i) refl) (bind_ok _ _ _ _ (bind_ok _ _ _ _ (place_ok (max n w) p.k i) refl) refl)) refl))
     (ap (λ b. if b then shown (algorithm n w) m (To d m p L29) else shown (algorithm n w) m (To d m p L27)) (same_is p.a p.b p.k)
-    ∙ shown_if n w m (same_at p.a p.b p.k) (To d m p L29) (To d m p L27))
+    ∙ if_of (shown (algorithm n w) m) (same_at p.a p.b p.k) (To d m p L29) (To d m p L27))
 lines n w me d m p L27 s h =
     bind_ok _ _ (word_at p.b p.k).id _ (bind_ok _ _ _ _ (place_ok (max n w) p.k (word_place n w p.k h)) (ap (λ y. Ok y) (id_term p.b p.k))) refl
 lines n w me d m p L28 s h = bind_ok _ _ _ _ (place_ok (max n w) p.x (process_place n w p.x h)) refl
-lines n w me d m p L29 s h = shown_if n w m (nat_lt p.k w) _ _
+lines n w me d m p L29 s h = if_of (shown (algorithm n w) m) (nat_lt p.k w) _ _
 lines n w me d m p L30 s h =
     bind_ok _ _ _ _
     (each_ok _ (λ c. nat_eq (place p.d c) 0) 1 n (λ c low high. bind_ok _ _ _ _ (row_term n w me d p c names.d (in_range n w c low high)) refl))
-    (shown_if n w m (all_still n p) (To d m p L34) (To d m p L31))
+    (if_of (shown (algorithm n w) m) (all_still n p) (To d m p L34) (To d m p L31))
 lines n w me d m p L31 s h =
     bind_ok _ _ _ _
     (each_ok _ (counted p) 1 n (λ c low high.
@@ -153,7 +148,7 @@ lines n w me d m p L52 s h =
     bind_ok _ _ _ _ (place_ok n me h.1) (bind_ok _ _ _ _ (place_ok n p.j h.0)
     (bind_ok _ _ _ _ (if_true (nat_le (flip p.x) 1) (Ok (flip p.x)) (Err NotABit) (le_true (flip p.x) 1 (flip_bit p.x)))
     (owned_ok (nat_eq me me) (flip p.x) Owner _ (same_number me))))
-lines n w me d m p L53 s h = shown_if n w m (nat_lt p.j n) _ _
+lines n w me d m p L53 s h = if_of (shown (algorithm n w) m) (nat_lt p.j n) _ _
 lines n w me Scanning m p L54 s h = absurd s
 lines n w me (Embedded y z) m p L54 s h = absurd s
 lines n w me (Updating y z) m p L54 s h = refl

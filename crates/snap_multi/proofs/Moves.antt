@@ -1,7 +1,7 @@
 -- The moves that a scan of M sees are events since its previous double collect.
-use Rattle.snap_runs.proofs.Computing.{either, same_from}
+use Rattle.snap_runs.proofs.Computing.{either, same_from, raised_only}
 use Rattle.snap_runs.proofs.Places.{for_each_at}
-use Rattle.std.specs.Prelude.{◌≡◌, ℕ, zero, suc, ◌+◌, ◌<◌, ◌≤◌, ◌⊎◌, Bool, true, false, List, length, Option, Some, None, nat_eq, nat_lt, if◌then◌else◌, refl}
+use Rattle.std.specs.Prelude.{◌≡◌, ℕ, zero, suc, ◌+◌, ◌<◌, ◌≤◌, ◌⊎◌, true, List, length, Option, Some, None, nat_eq, nat_lt, refl}
 use Rattle.std.proofs.Common.{sym, ◌∙◌, ap, subst, arith, inl, inr}
 use Rattle.std.proofs.lemmas.Bool.{cases_eq}
 use Rattle.snap_semantics.specs.State.{Process as NamedProcess, process_at, value_at}
@@ -114,11 +114,6 @@ happens_counters n w t x (Call i op) =
     let same : (happens (algorithm n w) t x (Call i op)).memory ≡ x.memory = embed.call_memory (algorithm n w) t x i op (typed_at (algorithm n w) x i).control in
     inl (ap (λ (m : Registers). m.writes) same, ap (λ (m : Registers). m.answers) same)
 
--- a place that grows is one that is marked
-counted_only : (b : Bool) (v : ℕ) → v < (if b then v + 1 else v) → b ≡ true
-counted_only true v h = refl
-counted_only false v h = absurd (omega arith)
-
 module _ (n w : ℕ) (items : List Item) (some : 0 < w) (fits : Fits (run_of n w items)) where
   abbrev pub at : ℕ → ℕ → Process
   at t i = typed_at (algorithm n w) (state_at n w items t) i
@@ -177,7 +172,7 @@ module _ (n w : ℕ) (items : List Item) (some : 0 < w) (fits : Fits (run_of n w
       let stage = stage_of n w items some fits t i seen.task L31 (omega arith) one seen.control in
       let row : Row n w i (registers_at n w items) q.auxiliary.round t p.g p.h p.d p.a p.b (w + 1) = stage.2 in
       let grows : place p.moved j < counted p j = subst (λ y. place p.moved j < y) (for_each_at n (counted p) p.moved j move.process) seen.grows in
-      let marked : place p.d j ≡ 1 = same_from (place p.d j) 1 (counted_only (nat_eq (place p.d j) 1) (place p.moved j) grows) in
+      let marked : place p.d j ≡ 1 = same_from (place p.d j) 1 (raised_only (nat_eq (place p.d j) 1) (place p.moved j) grows) in
       let counts : Count n w p q.auxiliary.own q.auxiliary.collects q.auxiliary.tested L31 = counts_of n w items some fits t i seen.task L31 (omega arith) one seen.control in
       let event = moves.recent (algorithm n w) lines (listed n w) run (IsEvent (run_of n w items) i j) (λ y. events (registers_at n w items y) j i) (λ v h. item_does v i j h) i link c t seen.task L31 scan le seen.control refl counts.3 (row.moved j move.process marked) in
       record { item = event.item; after_start = event.after_start; before_move = event.before_move; event = event.event; recent = event.recent }

@@ -78,6 +78,27 @@ pub data Move (V P M : Type 0) : Type 0 where
   Answer : (view : List ℕ) → Move V P M
   Finish : Move V P M
 
+-- what holds of the task, the variables and the line to which it leads
+abbrev pub LeadsTo : {V P M : Type 0} → (Task → V → P → Type 0) → Move V P M → Type 0
+LeadsTo Holds (To d m p k) = Holds d p k
+LeadsTo Holds (Begin d p k) = Holds d p k
+LeadsTo Holds (Answer v) = Unit {0}
+LeadsTo Holds Finish = Unit {0}
+
+pub leads_to : {V P M : Type 0} (A B : Task → V → P → Type 0) → ((d : Task) (p : V) (k : P) → A d p k → B d p k) → (v : Move V P M) → LeadsTo A v →
+    LeadsTo B v
+leads_to A B gives (To d m p k) h = gives d p k h
+leads_to A B gives (Begin d p k) h = gives d p k h
+leads_to A B gives (Answer v) h = tt
+leads_to A B gives Finish h = tt
+
+-- the same where it goes on
+abbrev pub GoesOn : {V P M : Type 0} → (Task → M → V → P → Type 0) → Move V P M → Type 0
+GoesOn Holds (To d m p k) = Holds d m p k
+GoesOn Holds (Begin d p k) = Unit {0}
+GoesOn Holds (Answer v) = Unit {0}
+GoesOn Holds Finish = Unit {0}
+
 -- the memory after it
 abbrev pub memory_after : {V P M : Type 0} → M → Move V P M → M
 memory_after m (To d m' p k) = m'
@@ -236,7 +257,4 @@ shown a m Finish = Ok Finishes
 
 -- a move keeps the operation
 abbrev pub SameOp : {V P M : Type 0} → Algorithm V P M → Task → Move V P M → Type 0
-SameOp a d (To d' m p k) = op_of d' ≡ op_of d
-SameOp a d (Begin d' p k) = op_of d' ≡ op_of d
-SameOp a d (Answer v) = Unit {0}
-SameOp a d Finish = Unit {0}
+SameOp a d v = LeadsTo (λ d' p k. op_of d' ≡ op_of d) v

@@ -1,5 +1,5 @@
 -- Tests of numbers and choices.
-use Rattle.std.specs.Prelude.{◌≡◌, ◌≢◌, ℕ, ◌<◌, ◌≤◌, Bool, true, false, ◌&&◌, Option, Some, None, nat_eq, nat_lt, nat_le, if◌then◌else◌, refl}
+use Rattle.std.specs.Prelude.{◌≡◌, ◌≢◌, ℕ, ◌+◌, ◌<◌, ◌≤◌, Bool, true, false, not, ◌&&◌, Option, Some, None, nat_eq, nat_lt, nat_le, if◌then◌else◌, refl}
 use Rattle.std.proofs.Common.{ap, arith}
 use Rattle.std.proofs.lemmas.Grind.{common_steps}
 
@@ -48,3 +48,34 @@ pub whether : {A B : Type 0} (P : B → Type 0) (f : Option A → B) (o : Option
     P (f o)
 whether P f None g h = g refl
 whether P f (Some x) g h = h x refl
+
+-- what is done to either side of a choice is done to the choice
+pub if_of : {A B : Type 0} (f : A → B) (b : Bool) (x y : A) → (if b then f x else f y) ≡ f (if b then x else y)
+if_of f true x y = refl
+if_of f false x y = refl
+
+pub not_true : (b : Bool) → not b ≡ true → b ≡ false
+not_true true h = absurd (cc)
+not_true false h = refl
+
+-- where nothing is said against it
+pub none_then : {A : Type 0} (b : Bool) (o : Option A) (x : A) → (if b then o else Some x) ≡ None → (b ≡ true) × (o ≡ None)
+none_then true o x h = (refl, h)
+none_then false o x h = absurd (cc)
+
+-- a number that is raised by one where a test passes
+pub raised_least : (b : Bool) (v : ℕ) → v ≤ (if b then v + 1 else v)
+raised_least true v = omega arith
+raised_least false v = omega arith
+
+pub raised_most : (b : Bool) (v most : ℕ) → v < most → (if b then v + 1 else v) ≤ most
+raised_most true v most h = omega arith
+raised_most false v most h = omega arith
+
+pub raised_more : (b : Bool) (v : ℕ) → b ≡ true → v < (if b then v + 1 else v)
+raised_more true v h = omega arith
+raised_more false v h = absurd (cc)
+
+pub raised_only : (b : Bool) (v : ℕ) → v < (if b then v + 1 else v) → b ≡ true
+raised_only true v h = refl
+raised_only false v h = absurd (omega arith)

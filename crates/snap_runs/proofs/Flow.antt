@@ -1,5 +1,5 @@
 -- How control passes from line to line: a scan stays a scan until it returns, and an update writes once.
-use Rattle.std.specs.Prelude.{◌≡◌, ℕ, ◌+◌, ◌⊎◌, List, Option, Some, None, refl}
+use Rattle.std.specs.Prelude.{◌≡◌, ℕ, ◌+◌, ◌⊎◌, Bool, true, false, List, Option, Some, None, refl}
 use Rattle.std.proofs.Common.{sym, ◌∙◌, ap, subst, arith, inl, inr}
 use Rattle.snap_semantics.specs.declared.process.Op.TheVariants.{Scan as ScanOp, Update}
 use Rattle.snap_semantics.specs.Source.{instr_at}
@@ -38,6 +38,20 @@ pub not_update : (Owned : ℕ → Type 0) (d : Task) → IsInScan d → IsUpdate
 not_update Owned Scanning inside u = u
 not_update Owned (Embedded word value) inside u = u
 not_update Owned (Updating word value) inside u = inside
+
+-- a line of an update outside its scan, where it is one, and else a line of a scan
+abbrev pub IsLine : (ℕ → Type 0) → Bool → Task → Type 0
+IsLine Owned true d = IsUpdateOf Owned d
+IsLine Owned false d = IsScanOf Owned d
+
+abbrev pub IsScanLine : Bool → Type 0
+IsScanLine true = ⊥
+IsScanLine false = Unit {0}
+
+-- a scan is at one of its lines
+pub scan_line : (Owned : ℕ → Type 0) (update : Bool) (d : Task) → IsInScan d → IsLine Owned update d → IsScanLine update
+scan_line Owned true d inside line = not_update Owned d inside line
+scan_line Owned false d inside line = tt
 
 pub update_of : (Owned : ℕ → Type 0) (d : Task) → IsUpdateOf Owned d → (word : ℕ) × (value : ℕ) × Owned word × (d ≡ Updating word value)
 update_of Owned Scanning u = absurd u
@@ -96,6 +110,23 @@ module _ {V P M : Type 0} (lines : Lines V P M) where
   HasWritten (At Scanning k) w = Unit {0}
   HasWritten (At (Embedded word value) k) w = w ≡ 0
   HasWritten (At (Updating word value) k) w = w ≡ lines.written k
+
+  -- what an update makes and has written at a line
+  pub late_makes : (Owned : ℕ → Type 0) (d : Task) (k : P) → IsUpdateOf Owned d → lines.IsLate k → Making (At d k)
+  late_makes Owned Scanning k up late = absurd up
+  late_makes Owned (Embedded word value) k up late = absurd up
+  late_makes Owned (Updating word value) k up late = late
+
+  pub makes_late : (Owned : ℕ → Type 0) (d : Task) (k : P) → IsUpdateOf Owned d → Making (At d k) → lines.IsLate k
+  makes_late Owned Scanning k up made = absurd up
+  makes_late Owned (Embedded word value) k up made = absurd up
+  makes_late Owned (Updating word value) k up made = made
+
+  pub writes_more : (Owned : ℕ → Type 0) (d : Task) (k k' : P) (w : ℕ) → IsUpdateOf Owned d → lines.written k' ≡ lines.written k + 1 →
+      HasWritten (At d k) w → HasWritten (At d k') (w + 1)
+  writes_more Owned Scanning k k' w up more h = tt
+  writes_more Owned (Embedded word value) k k' w up more h = absurd up
+  writes_more Owned (Updating word value) k k' w up more h = ap (λ y. y + 1) h ∙ sym more
 
   abbrev pub CountsWrites : ℕ → Move V P M → Type 0
   CountsWrites w (To d m p k) = HasWritten (At d k) w

@@ -3,6 +3,7 @@ pub mod Counting
 pub mod Places
 pub mod Totals
 pub mod Budget
+pub mod States
 pub mod Held
 pub mod Plain
 pub mod Algorithm

@@ -1,8 +1,9 @@
 -- Sums over the places 1 to n.
-use Rattle.std.specs.Prelude.{◌≡◌, ℕ, zero, suc, ◌+◌, ◌*◌, ◌<◌, ◌≤◌}
+use Rattle.std.specs.Prelude.{◌≡◌, ℕ, zero, suc, ◌+◌, ◌*◌, ◌<◌, ◌≤◌, Bool, true, if◌then◌else◌}
 use Rattle.std.proofs.Common.{sym, ◌∙◌, ap, subst, arith, inl, inr}
 use Rattle.std.proofs.lemmas.Bool.{cases_eq}
 use Rattle.snap_words.specs.Shape.{IsOneOf}
+use Rattle.snap_runs.proofs.Computing.{raised_least, raised_more}
 
 pub total : (ℕ → ℕ) → ℕ → ℕ
 total f zero = 0
@@ -49,3 +50,11 @@ total_more f g (suc n) i one lt h =
       | inr other ↦ (let rest : total f n < total g n = total_more f g n i (one.0, omega arith) lt (λ k e. h k (e.0, omega arith)) in
           let last : f (suc n) ≤ g (suc n) = h (suc n) (omega arith, omega arith) in omega arith)
     ]
+
+-- and so it is where each place is raised by one that is marked, and one is
+pub total_raised : (f g : ℕ → ℕ) (marked : ℕ → Bool) (n k : ℕ) → IsOneOf n k → marked k ≡ true →
+    ((u : ℕ) → IsOneOf n u → g u ≡ (if marked u then f u + 1 else f u)) →
+    total f n < total g n
+total_raised f g marked n k i mark is =
+    total_more f g n k i (subst (λ y. f k < y) (sym (is k i)) (raised_more (marked k) (f k) mark))
+    (λ u j. subst (λ y. f u ≤ y) (sym (is u j)) (raised_least (marked u) (f u)))

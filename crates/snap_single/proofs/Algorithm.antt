@@ -9,7 +9,7 @@ use Rattle.snap_semantics.specs.declared.process.Op.{Op}
 use Rattle.snap_semantics.specs.declared.process.Op.TheVariants.{Scan, Update}
 use Rattle.snap_runs.proofs.Algorithm as typed
 use Rattle.snap_runs.proofs.Algorithm.{Task, Scanning, Embedded, Updating, value_of, To, Begin, Answer, Finish, Algorithm}
-use Rattle.snap_runs.proofs.Flow.{Lines, IsScanOf, IsUpdateOf}
+use Rattle.snap_runs.proofs.Flow.{Lines, IsScanOf, IsUpdateOf, IsLine}
 use Rattle.snap_runs.proofs.Held.{word_at}
 use Rattle.snap_runs.proofs.Places.{for_each}
 use Rattle.snap_single.specs.ListingU as u
@@ -235,12 +235,16 @@ IsScan me d = IsScanOf (λ word. word ≡ me) d
 abbrev pub IsUpdate : ℕ → Task → Type 0
 IsUpdate me d = IsUpdateOf (λ word. word ≡ me) d
 
+-- the lines of an update outside its scan
+abbrev pub in_update : ProgramCounter → Bool
+in_update L30 = true
+in_update L31 = true
+in_update L32 = true
+in_update L33 = true
+in_update _ = false
+
 abbrev pub IsLineOf : ℕ → Task → ProgramCounter → Type 0
-IsLineOf me d L30 = IsUpdate me d
-IsLineOf me d L31 = IsUpdate me d
-IsLineOf me d L32 = IsUpdate me d
-IsLineOf me d L33 = IsUpdate me d
-IsLineOf me d _ = IsScan me d
+IsLineOf me d k = IsLine (λ word. word ≡ me) (in_update k) d
 
 -- What the lines are for.
 

@@ -1,16 +1,14 @@
 -- Which variables a process of U has at each line, and that no line traps.
-use Rattle.std.specs.Prelude.{◌≡◌, ℕ, ◌+◌, ◌^◌, ◌<◌, ◌≤◌, Bool, true, false, not, ◌&&◌, map, Some, None, nat_eq, nat_lt, nat_le, if◌then◌else◌, refl}
+use Rattle.std.specs.Prelude.{◌≡◌, ℕ, ◌^◌, ◌<◌, ◌≤◌, not, ◌&&◌, map, Some, None, nat_eq, nat_lt, nat_le, if◌then◌else◌, refl}
 use Rattle.std.proofs.Common.{arith}
-use Rattle.std.proofs.lemmas.Grind.{common_steps}
 use Rattle.snap_words.specs.Shape.{IsOneOf}
 use Rattle.snap_words.specs.declared.kind.KindTag.TheVariants as kind
 use Rattle.snap_semantics.specs.Table.{places_to, all_true, first_true, call_skip}
 use Rattle.snap_semantics.specs.declared.process.Op.{Op}
 use Rattle.snap_semantics.specs.declared.process.Op.TheVariants.{Scan, Update}
-use Rattle.snap_semantics.specs.declared.process.Reason.{Reason}
 use Rattle.snap_semantics.specs.declared.process.Reason.TheVariants.{NoSuchWord, NotOwner}
-use Rattle.snap_runs.proofs.Algorithm.{Task, Scanning, Embedded, Updating, task_of, op_of, Idle, At, WhenBusy, To, Begin, Answer, Finish, SameOp}
-use Rattle.snap_runs.proofs.Computing.{lt_from, same_from, either, whether}
+use Rattle.snap_runs.proofs.Algorithm.{Task, Scanning, Embedded, Updating, task_of, op_of, Idle, At, WhenBusy, LeadsTo, leads_to}
+use Rattle.snap_runs.proofs.Computing.{lt_from, same_from, either, whether, differs, raised_most, none_then}
 use Rattle.snap_runs.proofs.Embedding as embed
 use Rattle.snap_runs.proofs.Places.{for_each_at, first_found, first_none}
 use Rattle.snap_single.specs.Promises.{square}
@@ -40,17 +38,7 @@ VariablesAt n p _ = Unit {0}
 
 -- What a line leaves is at a line of its task, with the variables that it asks for, and has kept the operation.
 abbrev pub MoveWell : Op → ℕ → ℕ → Move → Type 0
-MoveWell op n me (To d m p k) = IsLineOf me d k × VariablesAt n p k × (op_of d ≡ op)
-MoveWell op n me (Begin d p k) = IsLineOf me d k × VariablesAt n p k × (op_of d ≡ op)
-MoveWell op n me (Answer v) = Unit {0}
-MoveWell op n me Finish = Unit {0}
-
-within : (b : Bool) (x most : ℕ) → x < most → (if not b then x + 1 else x) ≤ most
-within true x most h = omega arith
-within false x most h = omega arith
-
-below : (x most : ℕ) → x ≤ most → nat_eq x most ≡ false → x < most
-below x most h e = grind (arith, common_steps)
+MoveWell op n me v = LeadsTo (λ d p k. IsLineOf me d k × VariablesAt n p k × (op_of d ≡ op)) v
 
 pub move_well : (n me : ℕ) (d : Task) (m : Words) (p : Variables) (k : ProgramCounter) → IsOneOf n me → IsLineOf me d k → VariablesAt n p k →
     MoveWell (op_of d) n me (move n me d m p k)
@@ -67,10 +55,10 @@ move_well n me d m p L15 i s h =
 move_well n me d m p L16 i s h =
     either (MoveWell (op_of d) n me) (all_true (map (agree p) (places_to n))) _ _ (λ b. (s, tt, refl)) (λ b. (s, h, refl))
 move_well n me d m p L17 i s h =
-    (s, (h.0, λ k e. rw (for_each_at n (counted p) p.moved k e) (within (agree p k) (moved_at p k) limit (h.1 k e))), refl)
+    (s, (h.0, λ k e. rw (for_each_at n (counted p) p.moved k e) (raised_most (not (agree p k)) (moved_at p k) limit (h.1 k e))), refl)
 move_well n me d m p L18 i s h =
     whether (MoveWell (op_of d) n me) (first_to d m p) (first_true 1 (map (at_limit p) (places_to n)))
-    (λ e. (s, (h.0, λ k o. below (moved_at p k) limit (h.1 k o) (first_none 1 n (at_limit p) e k (omega arith) (omega arith))), refl))
+    (λ e. (s, (h.0, λ k o. differs (moved_at p k) limit (first_none 1 n (at_limit p) e k (omega arith) (omega arith)) (h.1 k o)), refl))
     (λ k e. let r = first_found 1 n (at_limit p) k e in (s, (omega arith, omega arith), refl))
 move_well n me d m p L19 i s h = (s, ((omega arith, omega arith), h.1), refl)
 move_well n me d m p L21 i s h = (s, tt, refl)
@@ -110,13 +98,8 @@ needs n time me p L32 i c b h = i
 needs n time me p L33 i c b h = tt
 
 -- an update that is not skipped is of the caller's own word
-own_then : (x y : Bool) (s t : Reason) → (if x then (if y then None else Some t) else Some s) ≡ None → y ≡ true
-own_then true true s t h = refl
-own_then true false s t h = absurd (cc)
-own_then false y s t h = absurd (cc)
-
 own_word : (n i word value : ℕ) → call_skip kind.Seq (square n) i (Update word value) ≡ None → word ≡ i
-own_word n i word value h = same_from word i (own_then (nat_lt 0 word && nat_le word n) (nat_eq word i) NoSuchWord NotOwner h)
+own_word n i word value h = same_from word i (none_then (nat_eq word i) None NotOwner (none_then (nat_lt 0 word && nat_le word n) (if nat_eq word i then None else Some NotOwner) NoSuchWord h).1).0
 
 -- A busy process is at a line of its task, with the variables that the line asks for.
 abbrev pub ControlWell : ℕ → ℕ → Variables → Control → Type 0
@@ -127,15 +110,9 @@ pub called_well : (n me : ℕ) (p : Variables) (op : Op) → call_skip kind.Seq 
 called_well n me p Scan e = (tt, tt)
 called_well n me p (Update word value) e = (own_word n me word value e, tt)
 
-same_op : (n me : ℕ) (d : Task) (v : Move) → MoveWell (op_of d) n me v → SameOp (algorithm n) d v
-same_op n me d (To d' m p k) h = h.2
-same_op n me d (Begin d' p k) h = h.2
-same_op n me d (Answer v) h = tt
-same_op n me d Finish h = tt
-
 -- no line traps: each does its move
 pub does : (n time me : ℕ) (m : Words) (p : Variables) (control : Control) → IsOneOf n me → p.c ≤ time → time < 2 ^ 60 → ControlWell n me p control →
     embed.Does (algorithm n) me m p control
 does n time me m p Idle i c b h = tt
 does n time me m p (At d k) i c b h =
-    (each_line n me d m p k h.0 (needs n time me p k i c b h.1), same_op n me d (move n me d m p k) (move_well n me d m p k i h.0 h.1))
+    (each_line n me d m p k h.0 (needs n time me p k i c b h.1), leads_to _ _ (λ d p k well. well.2) (move n me d m p k) (move_well n me d m p k i h.0 h.1))

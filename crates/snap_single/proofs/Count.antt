@@ -1,15 +1,16 @@
 -- The double collects and own steps of a scan of U.
-use Rattle.std.specs.Prelude.{◌≡◌, ℕ, suc, ◌+◌, ◌*◌, ◌<◌, ◌≤◌, Bool, true, false, not, map, nat_lt, if◌then◌else◌, refl}
-use Rattle.std.proofs.Common.{sym, ap, subst, arith}
+use Rattle.std.specs.Prelude.{◌≡◌, ℕ, suc, ◌+◌, ◌*◌, ◌<◌, ◌≤◌, false, not, map, nat_lt, if◌then◌else◌, refl}
+use Rattle.std.proofs.Common.{ap, arith}
 use Rattle.snap_semantics.specs.Table.{places_to, all_true, first_true}
-use Rattle.snap_runs.proofs.Algorithm.{Task, Scanning, Embedded, Updating, To, Begin, Answer, Finish}
+use Rattle.snap_runs.proofs.Algorithm.{Task, Scanning, Embedded, Updating, GoesOn}
 use Rattle.snap_runs.proofs.Budget as budgets
 use Rattle.snap_runs.proofs.Budget.{budget_zero, same_budget, next_budget, budget_le}
 use Rattle.snap_runs.proofs.Computing.{not_lt, either, whether}
 use Rattle.snap_runs.proofs.Places.{for_each, for_each_at, some_fails}
-use Rattle.snap_runs.proofs.Totals.{total, total_le, total_less, total_more}
+use Rattle.snap_runs.proofs.Totals.{total, total_le, total_less, total_raised}
 use Rattle.snap_words.specs.Shape.{IsOneOf}
-use Rattle.snap_single.proofs.Algorithm.{Words, Move, Variables, ProgramCounter, L10, L11, L12, L13, L14, L15, L16, L17, L18, L19, L21, L22, L23, L24, L30, L31, L32, L33, move, first_to, agree, limit, moved_at, counted, at_limit, tests, restarts}
+use Rattle.snap_runs.proofs.Flow.{IsScanLine}
+use Rattle.snap_single.proofs.Algorithm.{Words, Move, Variables, ProgramCounter, L10, L11, L12, L13, L14, L15, L16, L17, L18, L19, L21, L22, L23, L24, L30, L31, L32, L33, move, first_to, agree, limit, moved_at, counted, at_limit, tests, restarts, in_update}
 use Rattle.snap_single.proofs.Control.{BelowLimit, VariablesAt}
 
 -- the own steps of c failed double collects
@@ -60,18 +61,7 @@ Count n p own c recent L32 = Unit {0}
 Count n p own c recent L33 = Unit {0}
 
 abbrev pub CountMove : ℕ → ℕ → ℕ → ℕ → Move → Type 0
-CountMove n own c recent (To d words p k) = Count n p own c recent k
-CountMove n own c recent (Begin d p k) = Unit {0}
-CountMove n own c recent (Answer v) = Unit {0}
-CountMove n own c recent Finish = Unit {0}
-
-raised : (b : Bool) (v : ℕ) → v ≤ (if not b then v + 1 else v)
-raised true v = omega arith
-raised false v = omega arith
-
-raised_more : (b : Bool) (v : ℕ) → b ≡ false → v < (if not b then v + 1 else v)
-raised_more true v h = absurd (cc)
-raised_more false v h = omega arith
+CountMove n own c recent v = GoesOn (λ d m p k. Count n p own c recent k) v
 
 abbrev pub counted_row : ℕ → Variables → Variables
 counted_row n p = record p { moved = for_each n (counted p) p.moved }
@@ -82,9 +72,7 @@ after_count n p failed p' is =
     let some = some_fails (agree p) 1 n failed in
     let k = some.0 in
     let i : IsOneOf n k = (omega arith, omega arith) in
-    total_more (moved_at p) (moved_at p') n k i
-    (subst (λ y. moved_at p k < y) (sym (is k i)) (raised_more (agree p k) (moved_at p k) some.3))
-    (λ u j. subst (λ y. moved_at p u ≤ y) (sym (is u j)) (raised (agree p u) (moved_at p u)))
+    total_raised (moved_at p) (moved_at p') (λ u. not (agree p u)) n k i (ap not some.3) is
 
 -- each line keeps the counts: c' and recent' are the double collects with its own
 pub count_move : (n me : ℕ) (d : Task) (words : Words) (p : Variables) (k : ProgramCounter) (own c c' recent recent' : ℕ) → c' ≡ c + tests k →
@@ -136,16 +124,9 @@ count_move n me d words p L31 own c c' recent recent' e f keeps sharp h = tt
 count_move n me d words p L32 own c c' recent recent' e f keeps sharp h = tt
 count_move n me d words p L33 own c c' recent recent' e f keeps sharp h = tt
 
-abbrev pub InScanLine : ProgramCounter → Type 0
-InScanLine L30 = ⊥
-InScanLine L31 = ⊥
-InScanLine L32 = ⊥
-InScanLine L33 = ⊥
-InScanLine _ = Unit {0}
-
 -- the bounds at each line of a scan
 pub collects_le : (n : ℕ) (p : Variables) (k : ProgramCounter) (own c recent : ℕ) → 0 < n → VariablesAt n p k → ((k ≡ L16) → moves n p < n) →
-    Count n p own c recent k → InScanLine k → c + tests k ≤ n
+    Count n p own c recent k → IsScanLine (in_update k) → c + tests k ≤ n
 collects_le n p L10 own c recent pos keeps sharp h s = omega arith
 collects_le n p L11 own c recent pos keeps sharp h s = omega arith
 collects_le n p L12 own c recent pos keeps sharp h s = let t : moves n p ≤ n = moves_le n p keeps.1 in omega arith
@@ -170,7 +151,7 @@ own_all n c own le h =
     let b : budget n c ≤ n * (4 * n + 4) + 2 = budget_le (round n) 2 c n le in
     let e : n * (4 * n + 4) ≡ 4 * (n * n) + 4 * n = grind arith in omega arith
 
-pub own_le : (n : ℕ) (p : Variables) (k : ProgramCounter) (own c recent : ℕ) → VariablesAt n p k → Count n p own c recent k → c ≤ n → InScanLine k →
+pub own_le : (n : ℕ) (p : Variables) (k : ProgramCounter) (own c recent : ℕ) → VariablesAt n p k → Count n p own c recent k → c ≤ n → IsScanLine (in_update k) →
     own + 1 ≤ 4 * (n * n) + 8 * n + 7
 own_le n p L10 own c recent keeps h le s = omega arith
 own_le n p L11 own c recent keeps h le s = omega arith

@@ -1,5 +1,5 @@
 -- Each line of listing U does its move.
-use Rattle.std.specs.Prelude.{◌≡◌, ℕ, ◌+◌, ◌-◌, ◌^◌, ◌<◌, ◌≤◌, max, Bool, true, false, map, Option, Some, None, Result, Ok, nat_eq, nat_lt, if◌then◌else◌, slice_set, refl}
+use Rattle.std.specs.Prelude.{◌≡◌, ℕ, ◌+◌, ◌-◌, ◌^◌, ◌<◌, ◌≤◌, max, map, Option, Some, None, Result, Ok, nat_eq, nat_lt, slice_set, refl}
 use Rattle.std.proofs.Common.{arith}
 use Rattle.snap_words.specs.Shape.{Counts, IsOneOf}
 use Rattle.snap_semantics.specs.Source.{instr_at, following}
@@ -12,13 +12,13 @@ use Rattle.snap_semantics.specs.declared.process.Cause.{Cause}
 use Rattle.snap_semantics.specs.declared.process.Cause.TheVariants.{Owner}
 use Rattle.snap_semantics.specs.declared.process.Op.{Op}
 use Rattle.snap_runs.proofs.Algorithm.{Task, Scanning, Embedded, Updating, op_of, link_of, To, shown}
-use Rattle.snap_runs.proofs.Computing.{same_number}
+use Rattle.snap_runs.proofs.Computing.{same_number, if_of}
 use Rattle.snap_runs.proofs.Held.{word_at}
 use Rattle.snap_runs.proofs.Places.{bind_ok, place_ok, each_ok, sum_ok, owned_ok}
 use Rattle.snap_single.specs.ListingU as u
 use Rattle.snap_single.specs.ListingU.{listing_u}
 use Rattle.snap_single.specs.Promises.{square}
-use Rattle.snap_single.proofs.Algorithm.{Words, Move, Variables, ProgramCounter, L10, L11, L12, L13, L14, L15, L16, L17, L18, L19, L21, L22, L23, L24, L30, L31, L32, L33, number, back, real, locals_of, compared, agree, limit, moved_at, counted, at_limit, borrows, first_to, word_put, move, algorithm, IsLineOf}
+use Rattle.snap_single.proofs.Algorithm.{Words, Variables, ProgramCounter, L10, L11, L12, L13, L14, L15, L16, L17, L18, L19, L21, L22, L23, L24, L30, L31, L32, L33, number, back, real, locals_of, compared, agree, limit, moved_at, counted, at_limit, borrows, first_to, word_put, move, algorithm, IsLineOf}
 
 -- what a line needs so that it does not trap
 abbrev pub Needs : ℕ → ℕ → Variables → ProgramCounter → Type 0
@@ -39,11 +39,6 @@ activity op link line = record { op = op; line = line; link = link }
 -- what the line with this number does to a process with these variables
 abbrev pub at_line : Counts → ℕ → Op → Words → Option ℕ → ℕ → Variables → Result Effect Cause
 at_line shape me op m link line p = effect_at listing_u (context_of shape me op p) (real m) (activity op link line) (instr_at listing_u.lines line)
-
-shown_if : (n : ℕ) (m : Words) (t : Bool) (x y : Move) →
-    (if t then shown (algorithm n) m x else shown (algorithm n) m y) ≡ shown (algorithm n) m (if t then x else y)
-shown_if n m true x y = refl
-shown_if n m false x y = refl
 
 -- each place of a quantifier is a place of the row and of the copies
 in_range : (n k : ℕ) → 1 ≤ k → k < 1 + n → IsOneOf (max n n) k
@@ -74,14 +69,14 @@ pub each_line : (n me : ℕ) (d : Task) (m : Words) (p : Variables) (k : Program
 each_line n me d m p L10 s h = bind_ok _ _ _ _ (each_ok _ (λ k. 0) 1 n (λ k low high. refl)) refl
 each_line n me d m p L11 s h = refl
 each_line n me d m p L12 s h = bind_ok _ _ _ _ (place_ok (max n n) p.j (h.0, omega arith)) (bind_ok _ _ _ _ (place_ok n p.j h) refl)
-each_line n me d m p L13 s h = shown_if n m (nat_lt p.j n) (To d m (record p { j = p.j + 1 }) L12) (To d m (record p { j = 1 }) L14)
+each_line n me d m p L13 s h = if_of (shown (algorithm n) m) (nat_lt p.j n) (To d m (record p { j = p.j + 1 }) L12) (To d m (record p { j = 1 }) L14)
 each_line n me d m p L14 s h = bind_ok _ _ _ _ (place_ok (max n n) p.j (h.0, omega arith)) (bind_ok _ _ _ _ (place_ok n p.j h) refl)
-each_line n me d m p L15 s h = shown_if n m (nat_lt p.j n) (To d m (record p { j = p.j + 1 }) L14) (To d m (record p { j = 1 }) L16)
+each_line n me d m p L15 s h = if_of (shown (algorithm n) m) (nat_lt p.j n) (To d m (record p { j = p.j + 1 }) L14) (To d m (record p { j = 1 }) L16)
 each_line n me d m p L16 s h =
     bind_ok _ _ _ _
     (each_ok _ (agree p) 1 n (λ k low high.
     bind_ok _ _ _ _ (compared_a n me d p k (in_range n k low high)) (bind_ok _ _ _ _ (compared_b n me d p k (in_range n k low high)) refl)))
-    (shown_if n m (all_true (map (agree p) (places_to n))) (To d m p L21) (To d m p L17))
+    (if_of (shown (algorithm n) m) (all_true (map (agree p) (places_to n))) (To d m p L21) (To d m p L17))
 each_line n me d m p L17 s h =
     bind_ok _ _ _ _
     (each_ok _ (counted p) 1 n (λ k low high.

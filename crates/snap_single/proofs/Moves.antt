@@ -1,11 +1,11 @@
 -- The moves that a scan of U sees are writes since its previous double collect.
-use Rattle.std.specs.Prelude.{◌≡◌, ℕ, zero, suc, ◌+◌, ◌<◌, ◌≤◌, Bool, true, false, not, List, length, Option, if◌then◌else◌, refl}
+use Rattle.std.specs.Prelude.{ℕ, zero, suc, ◌+◌, ◌<◌, ◌≤◌, not, List, length, Option, refl}
 use Rattle.std.proofs.Common.{subst, arith}
 use Rattle.snap_semantics.specs.declared.process.Item.{Item}
 use Rattle.snap_runs.specs.Run.{Fits}
 use Rattle.snap_runs.specs.Scan.{Scan}
 use Rattle.snap_runs.specs.Promises.{ObservedMove, RecentWrite}
-use Rattle.snap_runs.proofs.Computing.{differs}
+use Rattle.snap_runs.proofs.Computing.{differs, not_true, raised_only}
 use Rattle.snap_runs.proofs.Held.{word_at, seq_at, before_seq}
 use Rattle.snap_runs.proofs.Moves as moves
 use Rattle.snap_runs.proofs.Places.{for_each_at}
@@ -18,11 +18,6 @@ use Rattle.snap_single.proofs.Flows.{numbered, listed, writer}
 use Rattle.snap_single.proofs.Runs.{words_at, process_after, execution, stage_of, counts_of}
 use Rattle.snap_single.proofs.Stage.{copies_grow}
 use Rattle.snap_single.proofs.Updates.{updates}
-
--- a place that grows is one where the copies differ
-raised_only : (same : Bool) (v : ℕ) → v < (if not same then v + 1 else v) → same ≡ false
-raised_only true v h = absurd (omega arith)
-raised_only false v h = refl
 
 move_is_write : (n : ℕ) (items : List Item) → Fits (run_of n items) → (i j : ℕ) (link : Option ℕ) (c t : ℕ) → Scan (run_of n items) i link c (suc t) → c ≤ t →
     ObservedMove (run_of n items) 17 u.moved i j (suc t) →
@@ -41,7 +36,7 @@ move_is_write n items fits i j link c t scan le move =
     let second : Second n (words_at n items) t since round (words_at n items t) p.moved p.a p.b (n + 1) (words_at n items between.0) = between.3 in
     let grows : moved_at p j < counted p j = subst (λ y. moved_at p j < y) (for_each_at n (counted p) p.moved j move.process) seen.grows in
     let differ : seq_at p.a j < seq_at p.b j =
-    differs (seq_at p.a j) (seq_at p.b j) (raised_only (agree p j) (moved_at p j) grows) (copies_grow n (words_at n items) t since round (words_at n items t) p between j move.process) in
+    differs (seq_at p.a j) (seq_at p.b j) (not_true (agree p j) (raised_only (not (agree p j)) (moved_at p j) grows)) (copies_grow n (words_at n items) t since round (words_at n items t) p between j move.process) in
     let fresh : seq_at (words_at n items round) j ≤ seq_at p.a j = (second.first j move.process).fresh in
     let later : seq_at p.b j ≤ seq_at (words_at n items t) j =
     before_seq (word_at p.b j) (word_at (words_at n items t) j) (second.read j move.process (let i2 = move.process in omega arith)).1 in

@@ -7,34 +7,15 @@ use Rattle.std.proofs.lemmas.List.{length-set, get_or-set_other}
 use Rattle.snap_semantics.specs.declared.process.Outcome.{Outcome}
 use Rattle.snap_words.specs.Shape.{IsOneOf}
 use Rattle.snap_words.specs.Word.{Word, no_word}
-use Rattle.snap_runs.proofs.Algorithm.{Task, Scanning, Embedded, Updating, At, New, typed_at, changed, stepped_auxiliary}
-use Rattle.snap_runs.proofs.Flow.{IsInScan}
+use Rattle.snap_runs.proofs.Algorithm.{Task, At, New, typed_at, changed, stepped_auxiliary}
+use Rattle.snap_runs.proofs.Flow.{IsInScan, not_update}
 use Rattle.snap_runs.proofs.Frame as frame
 use Rattle.snap_runs.proofs.Held.{word_at, Held, held_wider, seq_at, WordBefore, before_seq, Grows}
-use Rattle.snap_single.proofs.Algorithm.{Words, Control, Process, State, L32, L33, IsUpdate, word_put, algorithm}
+use Rattle.snap_runs.proofs.Flow as flow
+use Rattle.snap_single.proofs.Algorithm.{Words, Control, Process, State, L32, L33, IsUpdate, word_put, algorithm, lines}
 use Rattle.snap_single.proofs.Collect.{Viewed}
 use Rattle.snap_single.proofs.Flows.{Making, HasWritten}
 use Rattle.snap_single.proofs.Invariant.{ProcessInvariant, PairInvariant, Invariant, StageAt, pending, others_act}
-
-late : (i : ℕ) (d : Task) → IsUpdate i d → Making (At d L32)
-late i Scanning up = absurd up
-late i (Embedded word value) up = absurd up
-late i (Updating word value) up = tt
-
-not_late : (i : ℕ) (d : Task) → IsUpdate i d → Making (At d L33) → ⊥
-not_late i Scanning up made = made
-not_late i (Embedded word value) up made = up
-not_late i (Updating word value) up made = made
-
-not_scan : (i : ℕ) (d : Task) → IsUpdate i d → IsInScan d → ⊥
-not_scan i Scanning up inside = up
-not_scan i (Embedded word value) up inside = up
-not_scan i (Updating word value) up inside = inside
-
-has_written : (i : ℕ) (d : Task) (w : ℕ) → IsUpdate i d → HasWritten (At d L32) w → HasWritten (At d L33) (w + 1)
-has_written i Scanning w up h = absurd up
-has_written i (Embedded word value) w up h = absurd up
-has_written i (Updating word value) w up h = omega arith
 
 module _ (n t : ℕ) (history : ℕ → Words) (x : State) (i : ℕ) (d : Task) (one : IsOneOf n i) (h : Invariant n t history x)
     (at_32 : (typed_at (algorithm n) x i).control ≡ At d L32) (up : IsUpdate i d) where
@@ -80,7 +61,7 @@ module _ (n t : ℕ) (history : ℕ → Words) (x : State) (i : ℕ) (d : Task) 
       subst (λ (p : Control). StageAt n history t (at i).auxiliary.since (at i).auxiliary.round x.memory (at i).variables p) at_32 (h.each i one).stage
 
   making : Making (at i).control
-  making = subst Making (sym at_32) (late i d up)
+  making = subst Making (sym at_32) (flow.late_makes lines (λ word. word ≡ i) d L32 up tt)
 
   -- where this is the second write since a scan of u started, the writer's embedded scan started no earlier
   viewed : (u : ℕ) → IsOneOf n u → Viewed n history (suc t) (at u).auxiliary.since after
@@ -111,9 +92,9 @@ module _ (n t : ℕ) (history : ℕ → Words) (x : State) (i : ℕ) (d : Task) 
         opened = λ k j. not_older (history (at i).auxiliary.round) k j (own.opened k j);
         views = viewed i one;
         stage = tt;
-        self = λ scan. absurd (not_scan i d up scan);
+        self = λ scan. absurd (not_update (λ word. word ≡ i) d scan up);
         counts = tt;
-        wrote = has_written i d (at i).auxiliary.wrote up (subst (λ (p : Control). HasWritten p (at i).auxiliary.wrote) at_32 own.wrote);
+        wrote = flow.writes_more lines (λ word. word ≡ i) d L32 L33 (at i).auxiliary.wrote up refl (subst (λ (p : Control). HasWritten p (at i).auxiliary.wrote) at_32 own.wrote);
       }
 
   others_keep : (k : ℕ) → IsOneOf n k → k ≢ i → ProcessInvariant n (suc t) history after k (at k)
@@ -130,9 +111,9 @@ module _ (n t : ℕ) (history : ℕ → Words) (x : State) (i : ℕ) (d : Task) 
     size = length-set x.memory (i - 1) word ∙ h.size;
     each = frame.each_next (algorithm n) x i after writer o count one (ProcessInvariant n (suc t) history after) writer_keeps others_keep;
     start = frame.pairs_next (algorithm n) x i after writer o count one (PairInvariant history after) (record {
-      own = λ made more. absurd (not_late i d up made);
+      own = λ made more. absurd (flow.makes_late lines (λ word. word ≡ i) d L33 up made);
       first = λ k j other. pair_keeps i k one j other;
-      second = λ k j other made more. absurd (not_late i d up made);
+      second = λ k j other made more. absurd (flow.makes_late lines (λ word. word ≡ i) d L33 up made);
       others = λ k l jk jl other away. pair_keeps k l jk jl away;
     });
   }

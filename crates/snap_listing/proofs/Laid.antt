@@ -19,13 +19,17 @@ abbrev laid : ℕ → Token → List Token → List ℕ
 laid depth t [] = []
 laid depth t (u ∷ us) = gap depth t u ++ (token_text u ++ laid (depth_behind depth t u) u us)
 
+-- a piece before two texts of which one ends with the line feed
+piece_before : (piece xs ys rest : List ℕ) → xs ++ rest ≡ ys ++ 10 ∷ rest → (piece ++ xs) ++ rest ≡ (piece ++ ys) ++ 10 ∷ rest
+piece_before piece xs ys rest e =
+    append_assoc piece xs rest ∙ ap (λ (zs : List ℕ). piece ++ zs) e ∙ sym (append_assoc piece ys (10 ∷ rest))
+
 layout_is : (depth : ℕ) (t : Token) (us : List Token) (rest : List ℕ) → layout depth t us ++ rest ≡ laid depth t us ++ 10 ∷ rest
 layout_is depth t [] rest = refl
 layout_is depth t (u ∷ us) rest =
     let next = depth_behind depth t u in
-    append_assoc (gap depth t u) (token_text u ++ layout next u us) rest
-    ∙ ap (λ (xs : List ℕ). gap depth t u ++ xs) (append_assoc (token_text u) (layout next u us) rest ∙ ap (λ (xs : List ℕ). token_text u ++ xs) (layout_is next u us rest) ∙ sym (append_assoc (token_text u) (laid next u us) (10 ∷ rest)))
-    ∙ sym (append_assoc (gap depth t u) (token_text u ++ laid next u us) (10 ∷ rest))
+    piece_before (gap depth t u) (token_text u ++ layout next u us) (token_text u ++ laid next u us) rest
+    (piece_before (token_text u) (layout next u us) (laid next u us) rest (layout_is next u us rest))
 
 -- whether a space stands between two tokens
 abbrev are_parted : ℕ → Token → Token → Bool
@@ -68,24 +72,31 @@ laid_plain depth t (u ∷ us) h =
 line_printed : (k : ℕ) (t : Token) (ts : List Token) (rest : List ℕ) → IsSound t → AllByRecursion IsSound ts →
     line_tokens (numbered k (lines_of (line_text (t ∷ ts) ++ rest))) ≡ Some (t ∷ ts) ∷ line_tokens (numbered (k + 1) (lines_of rest))
 line_printed k t ts rest h hs =
-    let line = token_text t ++ laid 0 t ts in
-    let is : line_text (t ∷ ts) ++ rest ≡ line ++ 10 ∷ rest =
-    append_assoc (token_text t) (layout 0 t ts) rest ∙ ap (λ (xs : List ℕ). token_text t ++ xs) (layout_is 0 t ts rest) ∙ sym (append_assoc (token_text t) (laid 0 t ts) (10 ∷ rest)) in
-    ap (λ (bs : List ℕ). line_tokens (numbered k (lines_of bs))) is
-    ∙ ap line_tokens (line_read k line rest t ts (joined_plain (token_text t) (laid 0 t ts) (token_plain t h) (laid_plain 0 t ts hs)) (reads_first t (laid 0 t ts) ts h (laid_reads 0 t ts hs)))
+    let behind = laid 0 t ts in
+    let plain = joined_plain (token_text t) behind (token_plain t h) (laid_plain 0 t ts hs) in
+    let tokens = reads_first t behind ts h (laid_reads 0 t ts hs) in
+    ap (λ (bs : List ℕ). line_tokens (numbered k (lines_of bs))) (piece_before (token_text t) (layout 0 t ts) behind rest (layout_is 0 t ts rest))
+    ∙ ap line_tokens (line_read k (token_text t ++ behind) rest t ts plain tokens)
+
+abbrev AreSome : List (List Token) → Type 0
+AreSome lines = AllByRecursion (λ (ts : List Token). is_some_token ts ≡ true) lines
+
+abbrev AreSoundLines : List (List Token) → Type 0
+AreSoundLines lines = AllByRecursion (λ (ts : List Token). AllByRecursion IsSound ts) lines
 
 -- the lines as they are found in a text
 abbrev found_lines : List (List Token) → List (Option (List Token))
 found_lines lines = map (λ (ts : List Token). let line : Option (List Token) = Some ts in line) lines
 
-lines_printed : (k : ℕ) (lines : List (List Token)) → AllByRecursion (λ (ts : List Token). is_some_token ts ≡ true) lines → AllByRecursion (λ (ts : List Token). AllByRecursion IsSound ts) lines →
+lines_printed : (k : ℕ) (lines : List (List Token)) → AreSome lines → AreSoundLines lines →
     line_tokens (numbered k (lines_of (lines_text lines))) ≡ found_lines lines
 lines_printed k [] some h = refl
 lines_printed k ([] ∷ lines) some h = absurd (let no = some.0 in cc)
 lines_printed k ((t ∷ ts) ∷ lines) some h =
-    line_printed k t ts (lines_text lines) h.0.0 h.0.1 ∙ ap (λ (ls : List (Option (List Token))). Some (t ∷ ts) ∷ ls) (lines_printed (k + 1) lines some.1 h.1)
+    line_printed k t ts (lines_text lines) h.0.0 h.0.1
+    ∙ ap (λ (ls : List (Option (List Token))). Some (t ∷ ts) ∷ ls) (lines_printed (k + 1) lines some.1 h.1)
 
-lines_some : (lines : List Line) → AllByRecursion (λ (ts : List Token). is_some_token ts ≡ true) (map spelled_line lines)
+lines_some : (lines : List Line) → AreSome (map spelled_line lines)
 lines_some [] = tt
 lines_some (line ∷ lines) = (refl, lines_some lines)
 
@@ -97,13 +108,14 @@ tokens_sound : (lines : List TextLine) → AllByRecursion (λ line. AreSound lin
 tokens_sound [] h = tt
 tokens_sound (line ∷ lines) h = (h.0, tokens_sound lines h.1)
 
-found_sound : (lines : List (List Token)) → AllByRecursion AreSound (found_lines lines) → AllByRecursion (λ (ts : List Token). AllByRecursion IsSound ts) lines
+found_sound : (lines : List (List Token)) → AllByRecursion AreSound (found_lines lines) → AreSoundLines lines
 found_sound [] h = tt
 found_sound (ts ∷ lines) h = (h.0, found_sound lines h.1)
 
 -- what a text spells has sound tokens
 spelled_sound : (text : List ℕ) (s : Source) → Spells text s → HasSoundTokens s
-spelled_sound text s e = found_sound (spelled_source s) (subst (AllByRecursion AreSound) e (tokens_sound (text_lines text) (lines_sound text)))
+spelled_sound text s e =
+    found_sound (spelled_source s) (subst (AllByRecursion AreSound) e (tokens_sound (text_lines text) (lines_sound text)))
 
 -- What is read has sound tokens, since its text spells it; what is printed of a listing is read, since it spells the listing.
 pub read_sound : ReadsOnlySpelled → ReadsSoundTokens

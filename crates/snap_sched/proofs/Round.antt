@@ -62,7 +62,8 @@ gap_is (Word w) u = gap_by (is_sign u)
 gap_is (Number k) u = gap_by (is_sign u)
 gap_is (Sign m) u = refl
 
-behind_is : (t u : Token) (us : List Token) → behind t (u ∷ us) ≡ space (are_parted (is_sign t) (is_sign u)) ++ (layout.token_text u ++ behind u us)
+behind_is : (t u : Token) (us : List Token) →
+    behind t (u ∷ us) ≡ space (are_parted (is_sign t) (is_sign u)) ++ (layout.token_text u ++ behind u us)
 behind_is t u us =
     append_assoc (gap t u) (token_text u) (behind u us)
     ∙ ap (λ (g : List ℕ). g ++ (token_text u ++ behind u us)) (gap_is t u)
@@ -86,7 +87,8 @@ behind_plain : (t : Token) (ts : List Token) → AllByRecursion IsSound ts → l
 behind_plain t [] h = refl
 behind_plain t (u ∷ us) h =
     joined_plain (gap t u ++ token_text u) (behind u us)
-    (joined_plain (gap t u) (token_text u) (ap (list_all is_plain) (gap_is t u) ∙ space_plain (are_parted (is_sign t) (is_sign u))) (text_plain u h.0))
+    (joined_plain (gap t u) (token_text u)
+    (ap (list_all is_plain) (gap_is t u) ∙ space_plain (are_parted (is_sign t) (is_sign u))) (text_plain u h.0))
     (behind_plain u us h.1)
 
 -- the first of printed lines, and the others

@@ -34,18 +34,21 @@ tokens_by : (b : Bool) (bs : List ℕ) (ts : List Token) → tokens_of bs ≡ So
 tokens_by true bs ts e = ap front_tokens (space_before bs ts e)
 tokens_by false bs ts e = e
 
-apart_by : (b c : Bool) (bs : List ℕ) (ts : List Token) → (c ≡ false → b ≡ true) → tokens_of bs ≡ Some ts → (c ≡ true → front_of bs ≡ Some ([], ts)) → front_of (space b ++ bs) ≡ Some ([], ts)
+apart_by : (b c : Bool) (bs : List ℕ) (ts : List Token) → (c ≡ false → b ≡ true) → tokens_of bs ≡ Some ts →
+    (c ≡ true → front_of bs ≡ Some ([], ts)) → front_of (space b ++ bs) ≡ Some ([], ts)
 apart_by true c bs ts h e f = space_before bs ts e
 apart_by false true bs ts h e f = f refl
 apart_by false false bs ts h e f = absurd (let no : false ≡ true = h refl in cc)
 
-sign_apart : (t : Token) (bs : List ℕ) (ts : List Token) → Reads t bs ts → is_sign t ≡ true → front_of (token_text t ++ bs) ≡ Some ([], t ∷ ts)
+sign_apart : (t : Token) (bs : List ℕ) (ts : List Token) → Reads t bs ts → is_sign t ≡ true →
+    front_of (token_text t ++ bs) ≡ Some ([], t ∷ ts)
 sign_apart (Word w) bs ts rest e = absurd cc
 sign_apart (Number k) bs ts rest e = absurd cc
 sign_apart (Sign m) bs ts rest e = sign_before m bs ts rest.tokens
 
 -- a token behind another one, with a space between them where both are words or numbers
-pub reads_more : (t u : Token) (b : Bool) (bs : List ℕ) (us : List Token) → (is_sign t ≡ false → is_sign u ≡ false → b ≡ true) → IsSound u → Reads u bs us →
+pub reads_more : (t u : Token) (b : Bool) (bs : List ℕ) (us : List Token) →
+    (is_sign t ≡ false → is_sign u ≡ false → b ≡ true) → IsSound u → Reads u bs us →
     Reads t (space b ++ (token_text u ++ bs)) (u ∷ us)
 reads_more t u b bs us parted h rest =
     let first = reads_first u bs us h rest in
@@ -96,6 +99,7 @@ pub joined_plain : (xs ys : List ℕ) → list_all is_plain xs ≡ true → list
 joined_plain xs ys h g = list_all-append is_plain xs ys ∙ and_from (list_all is_plain xs) (list_all is_plain ys) h g
 
 -- the first line of a text, and the lines behind it
-pub line_read : (k : ℕ) (line rest : List ℕ) (t : Token) (ts : List Token) → list_all is_plain line ≡ true → tokens_of line ≡ Some (t ∷ ts) →
+pub line_read : (k : ℕ) (line rest : List ℕ) (t : Token) (ts : List Token) →
+    list_all is_plain line ≡ true → tokens_of line ≡ Some (t ∷ ts) →
     numbered k (lines_of (line ++ 10 ∷ rest)) ≡ record { number = k; tokens = Some (t ∷ ts) } ∷ numbered (k + 1) (lines_of rest)
 line_read k line rest t ts plain e = ap (numbered k) (line_before line rest plain) ∙ numbered_before k line (lines_of rest) t ts e

@@ -43,14 +43,16 @@ number_token_sound : (o : Option ℕ) → FitsNumber o → IsSoundOne (number_to
 number_token_sound None h = tt
 number_token_sound (Some k) h = h
 
-run_by : (run : List ℕ) (l z : Bool) (o : Option Token) → 0 < length run → list_all is_letter run ≡ l → IsSoundOne o → IsSoundOne (if l then Some (Word run) else if z then None else o)
+run_by : (run : List ℕ) (l z : Bool) (o : Option Token) → 0 < length run → list_all is_letter run ≡ l → IsSoundOne o →
+    IsSoundOne (if l then Some (Word run) else if z then None else o)
 run_by run true z o some letters h = (some, letters)
 run_by run false true o some letters h = tt
 run_by run false false o some letters h = h
 
 run_sound : (run : List ℕ) → 0 < length run → IsSoundOne (run_token run)
 run_sound run some =
-    run_by run (list_all is_letter run) (has_leading_zero run) (number_token (number_of 0 run)) some refl (number_token_sound (number_of 0 run) (number_fits 0 run (omega arith)))
+    run_by run (list_all is_letter run) (has_leading_zero run) (number_token (number_of 0 run)) some refl
+    (number_token_sound (number_of 0 run) (number_fits 0 run (omega arith)))
 
 with_sound : (o : Option Token) (ts : Option (List Token)) → IsSoundOne o → AreSound ts → AreSound (with_token o ts)
 with_sound None ts h g = tt
@@ -105,7 +107,8 @@ front_sound (b ∷ bs) =
 pub tokens_sound : (bs : List ℕ) → AreSound (tokens_of bs)
 tokens_sound bs = front_tokens_sound (front_of bs) (front_sound bs)
 
-line_sound : (k : ℕ) (o : Option (List Token)) (lines : List TextLine) → AreSound o → AllByRecursion (λ line. AreSound line.tokens) lines → AllByRecursion (λ line. AreSound line.tokens) (with_line k o lines)
+line_sound : (k : ℕ) (o : Option (List Token)) (lines : List TextLine) → AreSound o →
+    AllByRecursion (λ line. AreSound line.tokens) lines → AllByRecursion (λ line. AreSound line.tokens) (with_line k o lines)
 line_sound k None lines h g = (tt, g)
 line_sound k (Some []) lines h g = g
 line_sound k (Some (t ∷ ts)) lines h g = (h, g)

@@ -102,7 +102,7 @@ fn row_lines(out: &mut Vec<u8>, bank: &[u8], i: u64, row: &[u64]) -> Result<(), 
     Ok(())
 }
 
-/// The lines of a bank of bits, from row 1 on.
+/// The lines of a bank of bits, row by row.
 fn bank_lines(out: &mut Vec<u8>, bank: &[u8], rows: &[View]) -> Result<(), AllocError>
     ensures { OnOk result (out.new.items ≡ out.old.items ++ bank_lines bank.now 1 rows.now) }
 {

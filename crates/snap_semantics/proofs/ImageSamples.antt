@@ -22,7 +22,13 @@ use Rattle.snap_semantics.specs.Source.{Source}
 
 abbrev small : Source
 small = record {
-  kind = Seq; scalars = []; rows = []; words = []; views = codes "s" ∷ []; scan = 1; update = 2;
+  kind = Seq;
+  scalars = [];
+  rows = [];
+  words = [];
+  views = codes "s" ∷ [];
+  scan = 1;
+  update = 2;
   lines = record { number = 1; instr = Return (codes "s") } ∷ record { number = 2; instr = Finish } ∷ [];
 }
 
@@ -53,7 +59,13 @@ join_of_one = 83 ∷ 78 ∷ 65 ∷ 80 ∷ 1 ∷ 0 ∷ 0 ∷ 0 ∷ 0 ∷ 0 ∷ 0 
 
 abbrev if_source : Source
 if_source = record {
-  kind = Seq; scalars = []; rows = []; words = []; views = []; scan = 1; update = 1;
+  kind = Seq;
+  scalars = [];
+  rows = [];
+  words = [];
+  views = [];
+  scan = 1;
+  update = 1;
   lines = record { number = 1; instr = If (One (record { left = term.Index (index.Number 1); relation = relation.Equal; right = term.Index (index.Number 1) })) 1 } ∷ [];
 }
 

@@ -56,7 +56,7 @@ term_code term.Id = 13
 abbrev pub terms : Codes TermTag
 terms = record {
   all = term.Number ∷ term.Processes ∷ term.Words ∷ term.Me ∷ term.Word ∷ term.Arg ∷ term.Place ∷ term.Scalar ∷ term.Row ∷ term.Seq
-    ∷ term.Datum ∷ term.Hand ∷ term.Toggle ∷ term.Id ∷ [];
+      ∷ term.Datum ∷ term.Hand ∷ term.Toggle ∷ term.Id ∷ [];
   code = term_code;
 }
 
@@ -118,7 +118,7 @@ form_code form.Finish = 23
 abbrev pub forms : Codes Form
 forms = record {
   all = form.Let ∷ form.LetPlace ∷ form.Get ∷ form.BitQ ∷ form.BitP ∷ form.Look ∷ form.PutSeq ∷ form.PutBits ∷ form.PutMulti ∷ form.PutQ
-    ∷ form.PutP ∷ form.PutView ∷ form.ViewData ∷ form.ViewOf ∷ form.Each ∷ form.First ∷ form.Next ∷ form.If ∷ form.IfAll ∷ form.Goto
-    ∷ form.Call ∷ form.Return ∷ form.Finish ∷ [];
+      ∷ form.PutP ∷ form.PutView ∷ form.ViewData ∷ form.ViewOf ∷ form.Each ∷ form.First ∷ form.Next ∷ form.If ∷ form.IfAll ∷ form.Goto
+      ∷ form.Call ∷ form.Return ∷ form.Finish ∷ [];
   code = form_code;
 }

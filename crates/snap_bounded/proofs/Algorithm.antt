@@ -9,7 +9,7 @@ use Rattle.snap_semantics.specs.Table.{places_to, all_true, first_true, bit_at, 
 use Rattle.snap_semantics.specs.declared.process.Op.{Op}
 use Rattle.snap_semantics.specs.declared.process.Op.TheVariants.{Scan, Update}
 use Rattle.snap_runs.proofs.Algorithm as typed
-use Rattle.snap_runs.proofs.Algorithm.{Task, Scanning, Embedded, Updating, value_of, To, Begin, Answer, Finish, Algorithm}
+use Rattle.snap_runs.proofs.Algorithm.{Task, Scanning, Embedded, Updating, value_of, To, Begin, Answer, Finish, Algorithm, returning, embedding}
 use Rattle.snap_runs.proofs.Embedding.{map_same}
 use Rattle.snap_runs.proofs.Flow.{Lines, IsScanOf, IsUpdateOf, IsLine}
 use Rattle.snap_runs.proofs.Held.{word_at, seq_at}
@@ -173,15 +173,11 @@ next_to n d m p back on = if nat_lt p.j n then To d m (record p { j = p.j + 1 })
 
 -- lines 26 and 28
 abbrev pub return_to : Task → Registers → Variables → Move
-return_to Scanning m p = Answer p.s
-return_to (Embedded word value) m p = To (Updating word value) m p L45
-return_to (Updating word value) m p = Finish
+return_to d m p = returning p.s L45 d m p
 
 -- line 44
 abbrev pub embed_to : Task → Registers → Variables → Move
-embed_to Scanning m p = Finish
-embed_to (Embedded word value) m p = Finish
-embed_to (Updating word value) m p = Begin (Embedded word value) p L10
+embed_to d m p = embedding L10 d p
 
 -- the line that borrows a view
 abbrev pub borrows : ProgramCounter

@@ -18,7 +18,7 @@ use Rattle.snap_runs.proofs.Scans as scans
 use Rattle.snap_runs.proofs.WordWrites as word_writes
 use Rattle.snap_runs.proofs.WritesOnce as writes_once
 use Rattle.snap_bounded.specs.ListingB.{listing_b}
-use Rattle.snap_bounded.proofs.Algorithm.{Registers, plain, Move, Control, Variables, ProgramCounter, L10, L11, L12, L13, L14, L15, L16, L17, L18, L19, L20, L21, L22, L23, L25, L26, L27, L28, L40, L41, L42, L43, L44, L45, L46, L47, number, locals_of, agree, at_limit, move, first_to, embed_to, algorithm, IsScan, IsUpdate, IsLineOf, IsLate, writes, written, word_put, lines}
+use Rattle.snap_bounded.proofs.Algorithm.{Registers, plain, Move, Control, Variables, ProgramCounter, L10, L11, L12, L13, L14, L15, L16, L17, L18, L19, L20, L21, L22, L23, L25, L26, L27, L28, L40, L41, L42, L43, L44, L45, L46, L47, number, locals_of, agree, at_limit, move, first_to, algorithm, IsScan, IsUpdate, IsLineOf, IsLate, writes, written, word_put, lines}
 
 abbrev pub Making : Control → Type 0
 Making = flow.Making lines
@@ -121,12 +121,6 @@ counter_with k =
     else if nat_eq k 47 then Some L47
     else None
 
--- a `call` line begins a scan
-embeds : (n : ℕ) (d : Task) (m : Registers) (p : Variables) → span.NotTo (algorithm n) (embed_to d m p)
-embeds n Scanning m p = tt
-embeds n (Embedded word value) m p = tt
-embeds n (Updating word value) m p = tt
-
 pub line_listed : (n : ℕ) (k : ProgramCounter) → LineListed (algorithm n) lines 46 counter_with k
 line_listed n L10 = record { alone = refl; tested = refl; wrote = refl; calls = λ h. absurd h; returns = λ p v h. absurd h; once = omega arith }
 line_listed n L11 = record { alone = refl; tested = refl; wrote = refl; calls = λ h. absurd h; returns = λ p v h. absurd h; once = omega arith }
@@ -150,7 +144,7 @@ line_listed n L40 = record { alone = refl; tested = refl; wrote = refl; calls = 
 line_listed n L41 = record { alone = refl; tested = refl; wrote = refl; calls = λ h. absurd h; returns = λ p v h. absurd h; once = omega arith }
 line_listed n L42 = record { alone = refl; tested = refl; wrote = refl; calls = λ h. absurd h; returns = λ p v h. absurd h; once = omega arith }
 line_listed n L43 = record { alone = refl; tested = refl; wrote = refl; calls = λ h. absurd h; returns = λ p v h. absurd h; once = omega arith }
-line_listed n L44 = record { alone = refl; tested = refl; wrote = refl; calls = λ h me d m p. embeds n d m p; returns = λ p v h. absurd h; once = omega arith }
+line_listed n L44 = record { alone = refl; tested = refl; wrote = refl; calls = λ h me d m p. span.embeds (algorithm n) L10 d p; returns = λ p v h. absurd h; once = omega arith }
 line_listed n L45 = record { alone = refl; tested = refl; wrote = refl; calls = λ h. absurd h; returns = λ p v h. absurd h; once = omega arith }
 line_listed n L46 = record { alone = refl; tested = refl; wrote = refl; calls = λ h. absurd h; returns = λ p v h. absurd h; once = omega arith }
 line_listed n L47 = record { alone = refl; tested = refl; wrote = refl; calls = λ h. absurd h; returns = λ p v h. absurd h; once = omega arith }

@@ -12,7 +12,7 @@ use Rattle.snap_semantics.specs.Value.{Context}
 use Rattle.snap_semantics.specs.Table.{places_to, all_true, first_true, bit_at, with_bit_at, entry}
 use Rattle.snap_runs.proofs.Held.{word_at, seq_at}
 use Rattle.snap_runs.proofs.Algorithm as typed
-use Rattle.snap_runs.proofs.Algorithm.{Task, Scanning, Embedded, Updating, value_of, To, Begin, Answer, Finish, Algorithm}
+use Rattle.snap_runs.proofs.Algorithm.{Task, Scanning, Embedded, Updating, value_of, To, Begin, Answer, Finish, Algorithm, returning, embedding}
 use Rattle.snap_runs.proofs.Flow.{Lines, IsScanOf, IsUpdateOf, IsLine}
 use Rattle.snap_runs.proofs.Places.{for_each}
 use Rattle.snap_runs.proofs.Embedding.{map_same}
@@ -214,15 +214,11 @@ next_k w d m p back on = if nat_lt p.k w then To d m (record p { k = p.k + 1 }) 
 
 -- lines 35 and 37
 abbrev pub return_to : Task → Registers → Variables → Move
-return_to Scanning m p = Answer p.s
-return_to (Embedded word arg) m p = To (Updating word arg) m p L55
-return_to (Updating word arg) m p = Finish
+return_to d m p = returning p.s L55 d m p
 
 -- line 54
 abbrev pub embed_to : Task → Registers → Variables → Move
-embed_to Scanning m p = Finish
-embed_to (Embedded word arg) m p = Finish
-embed_to (Updating word arg) m p = Begin (Embedded word arg) p L10
+embed_to d m p = embedding L10 d p
 
 -- so many moves of one process has a scan to see before it borrows a view, and the line that borrows it
 abbrev pub limit : ℕ

@@ -17,7 +17,7 @@ use Rattle.snap_runs.proofs.Scans as scans
 use Rattle.snap_runs.proofs.WordWrites as word_writes
 use Rattle.snap_runs.proofs.WritesOnce as writes_once
 use Rattle.snap_multi.specs.ListingM.{listing_m}
-use Rattle.snap_multi.proofs.Algorithm.{Registers, plain, written, Move, Variables, ProgramCounter, L10, L11, L12, L13, L14, L15, L16, L17, L18, L19, L20, L21, L22, L23, L24, L25, L26, L27, L28, L29, L30, L31, L32, L33, L34, L35, L36, L37, L50, L51, L52, L53, L54, L55, L56, L57, L58, number, locals_of, same_at, all_still, third_move, move, first_to, embed_to, algorithm, IsScan, IsLineOf, writes, written_at, lines}
+use Rattle.snap_multi.proofs.Algorithm.{Registers, plain, written, Move, Variables, ProgramCounter, L10, L11, L12, L13, L14, L15, L16, L17, L18, L19, L20, L21, L22, L23, L24, L25, L26, L27, L28, L29, L30, L31, L32, L33, L34, L35, L36, L37, L50, L51, L52, L53, L54, L55, L56, L57, L58, number, locals_of, same_at, all_still, third_move, move, first_to, algorithm, IsScan, IsLineOf, writes, written_at, lines}
 
 abbrev pub Flows : ℕ → ℕ → Task → Registers → Variables → ProgramCounter → Move → Type 0
 Flows n w = flow.Flows lines (algorithm n w)
@@ -132,12 +132,6 @@ counter_with k =
     else if nat_eq k 58 then Some L58
     else None
 
--- a `call` line begins a scan
-embeds : (n w : ℕ) (d : Task) (m : Registers) (p : Variables) → span.NotTo (algorithm n w) (embed_to d m p)
-embeds n w Scanning m p = tt
-embeds n w (Embedded word value) m p = tt
-embeds n w (Updating word value) m p = tt
-
 pub line_listed : (n w : ℕ) (k : ProgramCounter) → LineListed (algorithm n w) lines 57 counter_with k
 line_listed n w L10 = record { alone = refl; tested = refl; wrote = refl; calls = λ h. absurd h; returns = λ p v h. absurd h; once = omega arith }
 line_listed n w L11 = record { alone = refl; tested = refl; wrote = refl; calls = λ h. absurd h; returns = λ p v h. absurd h; once = omega arith }
@@ -171,7 +165,7 @@ line_listed n w L50 = record { alone = refl; tested = refl; wrote = refl; calls 
 line_listed n w L51 = record { alone = refl; tested = refl; wrote = refl; calls = λ h. absurd h; returns = λ p v h. absurd h; once = omega arith }
 line_listed n w L52 = record { alone = refl; tested = refl; wrote = refl; calls = λ h. absurd h; returns = λ p v h. absurd h; once = omega arith }
 line_listed n w L53 = record { alone = refl; tested = refl; wrote = refl; calls = λ h. absurd h; returns = λ p v h. absurd h; once = omega arith }
-line_listed n w L54 = record { alone = refl; tested = refl; wrote = refl; calls = λ h me d m p. embeds n w d m p; returns = λ p v h. absurd h; once = omega arith }
+line_listed n w L54 = record { alone = refl; tested = refl; wrote = refl; calls = λ h me d m p. span.embeds (algorithm n w) L10 d p; returns = λ p v h. absurd h; once = omega arith }
 line_listed n w L55 = record { alone = refl; tested = refl; wrote = refl; calls = λ h. absurd h; returns = λ p v h. absurd h; once = omega arith }
 line_listed n w L56 = record { alone = refl; tested = refl; wrote = refl; calls = λ h. absurd h; returns = λ p v h. absurd h; once = omega arith }
 line_listed n w L57 = record { alone = refl; tested = refl; wrote = refl; calls = λ h. absurd h; returns = λ p v h. absurd h; once = omega arith }

@@ -78,6 +78,18 @@ pub data Move (V P M : Type 0) : Type 0 where
   Answer : (view : List ℕ) → Move V P M
   Finish : Move V P M
 
+-- a `return` line: a scan that was called answers the view, and an update goes on at this line
+abbrev pub returning : {V P M : Type 0} → List ℕ → P → Task → M → V → Move V P M
+returning view k Scanning m p = Answer view
+returning view k (Embedded word value) m p = To (Updating word value) m p k
+returning view k (Updating word value) m p = Finish
+
+-- a `call` line: an update begins a scan at this line
+abbrev pub embedding : {V P M : Type 0} → P → Task → V → Move V P M
+embedding k Scanning p = Finish
+embedding k (Embedded word value) p = Finish
+embedding k (Updating word value) p = Begin (Embedded word value) p k
+
 -- what holds of the task, the variables and the line to which it leads
 abbrev pub LeadsTo : {V P M : Type 0} → (Task → V → P → Type 0) → Move V P M → Type 0
 LeadsTo Holds (To d m p k) = Holds d p k

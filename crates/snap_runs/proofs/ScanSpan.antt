@@ -15,7 +15,7 @@ use Rattle.snap_semantics.specs.Table.{who}
 use Rattle.snap_words.specs.Shape.{IsOneOf}
 use Rattle.snap_runs.specs.Run.{Run, Fits, state, before, item, outcome}
 use Rattle.snap_runs.specs.Scan.{line_in, link_in, IsCallLine, Returns, Starts, Scan, steps, is_if_all, is_stepped, is_not_skipped, ends_double_collect, takes_step, double_collects, own_steps}
-use Rattle.snap_runs.proofs.Algorithm.{Task, op_of, link_of, task_of, op_is, link_is, Control, Idle, At, Move, To, Begin, Answer, Finish, TypedProcess, TypedState, Algorithm, by_move, by_step, by_call, typed_at, by_item, changed, outcome_of, happens, item_at, typed_state, status_of, process_of, stepped_auxiliary, begun_auxiliary, called_auxiliary}
+use Rattle.snap_runs.proofs.Algorithm.{Task, Scanning, Embedded, Updating, op_of, link_of, task_of, op_is, link_is, Control, Idle, At, Move, To, Begin, Answer, Finish, embedding, TypedProcess, TypedState, Algorithm, by_move, by_step, by_call, typed_at, by_item, changed, outcome_of, happens, item_at, typed_state, status_of, process_of, stepped_auxiliary, begun_auxiliary, called_auxiliary}
 use Rattle.snap_runs.proofs.Counting.{count_none, count_next, count_not}
 use Rattle.snap_runs.proofs.Computing.{same_number, other_number}
 use Rattle.snap_runs.proofs.Embedding as embed
@@ -54,6 +54,11 @@ module _ {V P M : Type 0} (a : Algorithm V P M) where
   NotTo (Begin d p k) = Unit {0}
   NotTo (Answer v) = Unit {0}
   NotTo Finish = Unit {0}
+
+  pub embeds : (k : P) (d : Task) (p : V) → NotTo (embedding k d p)
+  embeds k Scanning p = tt
+  embeds k (Embedded word value) p = tt
+  embeds k (Updating word value) p = tt
 
   -- what a line owes: in a scan it stays or returns, and a `call` line begins a scan
   pub record Lawful (me : ℕ) (d : Task) (m : M) (p : V) (k : P) : Type 0 where

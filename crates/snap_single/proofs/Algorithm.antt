@@ -8,7 +8,7 @@ use Rattle.snap_semantics.specs.Table.{places_to, all_true, first_true, entry}
 use Rattle.snap_semantics.specs.declared.process.Op.{Op}
 use Rattle.snap_semantics.specs.declared.process.Op.TheVariants.{Scan, Update}
 use Rattle.snap_runs.proofs.Algorithm as typed
-use Rattle.snap_runs.proofs.Algorithm.{Task, Scanning, Embedded, Updating, value_of, To, Begin, Answer, Finish, Algorithm}
+use Rattle.snap_runs.proofs.Algorithm.{Task, Scanning, Embedded, Updating, value_of, To, Begin, Answer, Finish, Algorithm, returning, embedding}
 use Rattle.snap_runs.proofs.Flow.{Lines, IsScanOf, IsUpdateOf, IsLine}
 use Rattle.snap_runs.proofs.Held.{word_at}
 use Rattle.snap_runs.proofs.Places.{for_each}
@@ -133,15 +133,11 @@ first_to d m p (Some k) = To d m (record p { j = k }) borrows
 
 -- lines 22 and 24
 abbrev pub return_to : Task → Words → Variables → Move
-return_to Scanning m p = Answer p.s
-return_to (Embedded word value) m p = To (Updating word value) m p L31
-return_to (Updating word value) m p = Finish
+return_to d m p = returning p.s L31 d m p
 
 -- line 30
 abbrev pub embed_to : Task → Words → Variables → Move
-embed_to Scanning m p = Finish
-embed_to (Embedded word value) m p = Finish
-embed_to (Updating word value) m p = Begin (Embedded word value) p L10
+embed_to d m p = embedding L10 d p
 
 -- the word that line 32 puts
 abbrev pub word_put : Task → Variables → Word

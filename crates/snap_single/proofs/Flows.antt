@@ -17,7 +17,7 @@ use Rattle.snap_runs.proofs.Scans as scans
 use Rattle.snap_runs.proofs.WordWrites as word_writes
 use Rattle.snap_runs.proofs.WritesOnce as writes_once
 use Rattle.snap_single.specs.ListingU.{listing_u}
-use Rattle.snap_single.proofs.Algorithm.{Words, Move, Control, Variables, ProgramCounter, L10, L11, L12, L13, L14, L15, L16, L17, L18, L19, L21, L22, L23, L24, L30, L31, L32, L33, number, locals_of, agree, at_limit, move, first_to, embed_to, algorithm, IsScan, IsLineOf, writes, written, word_put, lines}
+use Rattle.snap_single.proofs.Algorithm.{Words, Move, Control, Variables, ProgramCounter, L10, L11, L12, L13, L14, L15, L16, L17, L18, L19, L21, L22, L23, L24, L30, L31, L32, L33, number, locals_of, agree, at_limit, move, first_to, algorithm, IsScan, IsLineOf, writes, written, word_put, lines}
 
 abbrev pub Making : Control → Type 0
 Making = flow.Making lines
@@ -90,12 +90,6 @@ counter_with k =
     else if nat_eq k 33 then Some L33
     else None
 
--- a `call` line begins a scan
-embeds : (n : ℕ) (d : Task) (m : Words) (p : Variables) → span.NotTo (algorithm n) (embed_to d m p)
-embeds n Scanning m p = tt
-embeds n (Embedded word value) m p = tt
-embeds n (Updating word value) m p = tt
-
 pub line_listed : (n : ℕ) (k : ProgramCounter) → LineListed (algorithm n) lines 32 counter_with k
 line_listed n L10 = record { alone = refl; tested = refl; wrote = refl; calls = λ h. absurd h; returns = λ p v h. absurd h; once = omega arith }
 line_listed n L11 = record { alone = refl; tested = refl; wrote = refl; calls = λ h. absurd h; returns = λ p v h. absurd h; once = omega arith }
@@ -111,7 +105,7 @@ line_listed n L21 = record { alone = refl; tested = refl; wrote = refl; calls = 
 line_listed n L22 = record { alone = refl; tested = refl; wrote = refl; calls = λ h. absurd h; returns = λ p v h. (inl refl, h); once = omega arith }
 line_listed n L23 = record { alone = refl; tested = refl; wrote = refl; calls = λ h. absurd h; returns = λ p v h. absurd h; once = omega arith }
 line_listed n L24 = record { alone = refl; tested = refl; wrote = refl; calls = λ h. absurd h; returns = λ p v h. (inr refl, h); once = omega arith }
-line_listed n L30 = record { alone = refl; tested = refl; wrote = refl; calls = λ h me d m p. embeds n d m p; returns = λ p v h. absurd h; once = omega arith }
+line_listed n L30 = record { alone = refl; tested = refl; wrote = refl; calls = λ h me d m p. span.embeds (algorithm n) L10 d p; returns = λ p v h. absurd h; once = omega arith }
 line_listed n L31 = record { alone = refl; tested = refl; wrote = refl; calls = λ h. absurd h; returns = λ p v h. absurd h; once = omega arith }
 line_listed n L32 = record { alone = refl; tested = refl; wrote = refl; calls = λ h. absurd h; returns = λ p v h. absurd h; once = omega arith }
 line_listed n L33 = record { alone = refl; tested = refl; wrote = refl; calls = λ h. absurd h; returns = λ p v h. absurd h; once = omega arith }

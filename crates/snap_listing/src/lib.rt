@@ -20,6 +20,8 @@ mod tuples;
 mod uses;
 
 pub use fault::ListingFault;
+pub use forms::is_line_number;
+pub use header::{Header, is_among};
 pub use known::read_known;
 pub use laws::{
     what_is_printed_is_read, what_is_printed_is_spelled, what_is_read_is_sound,
@@ -27,4 +29,6 @@ pub use laws::{
 };
 pub use listing::Listing;
 pub use printing::print;
-pub use reader::read;
+pub use reader::{checked_target, checked_targets, push_line, read};
+pub use terms::is_reserved;
+pub use uses::{has_bank, has_field, has_hands, has_view, same_kind};

@@ -47,7 +47,8 @@ fn numbered_line(
     Ok(line)
 }
 
-fn push_line(lines: &mut Vec<Line>, line: &Line) -> Result<(), AllocError>
+/// Adds a line.
+pub fn push_line(lines: &mut Vec<Line>, line: &Line) -> Result<(), AllocError>
     ensures { OnOk result (lines.new.items ≡ lines.old.items ++ line.now ∷ []) }
 {
     lines.extend_from_slice(slice::from_ref(line))
@@ -110,7 +111,7 @@ fn has_line(lines: &[Line], number: u64) -> bool
 }
 
 /// A target has to be a line.
-fn checked_target(lines: &[Line], target: u64) -> Result<(), ListingRefusal>
+pub fn checked_target(lines: &[Line], target: u64) -> Result<(), ListingRefusal>
     ensures { result ≡ checked_target lines.now target }
 {
     if has_line(lines, target) {
@@ -121,7 +122,7 @@ fn checked_target(lines: &[Line], target: u64) -> Result<(), ListingRefusal>
 }
 
 /// The targets of all lines.
-fn checked_targets(lines: &[Line]) -> Result<(), ListingRefusal>
+pub fn checked_targets(lines: &[Line]) -> Result<(), ListingRefusal>
     ensures { result ≡ checked_targets lines.now (line_targets lines.now) }
 {
     for line in lines {

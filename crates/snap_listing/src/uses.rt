@@ -49,7 +49,7 @@ fn checked_name(header: &Header, line: u64, wanted: Sort, name: &Name) -> Result
 }
 
 /// Whether two kinds are the same.
-fn same_kind(one: KindTag, other: KindTag) -> bool
+pub fn same_kind(one: KindTag, other: KindTag) -> bool
     ensures { result ≡ same_kind one other }
 {
     one == other
@@ -66,7 +66,7 @@ fn bank_of(bits: BitBank) -> Bank
 }
 
 /// Whether a kind has this bank.
-fn has_bank(kind: KindTag, bank: Bank) -> bool
+pub fn has_bank(kind: KindTag, bank: Bank) -> bool
     ensures { result ≡ has_bank kind bank }
 {
     match kind {
@@ -77,7 +77,7 @@ fn has_bank(kind: KindTag, bank: Bank) -> bool
 }
 
 /// Whether the words of a kind have this field.
-fn has_field(kind: KindTag, field: Field) -> bool
+pub fn has_field(kind: KindTag, field: Field) -> bool
     ensures { result ≡ has_field kind field }
 {
     match field {
@@ -89,14 +89,14 @@ fn has_field(kind: KindTag, field: Field) -> bool
 }
 
 /// Whether the words of a kind have hands.
-fn has_hands(kind: KindTag) -> bool
+pub fn has_hands(kind: KindTag) -> bool
     ensures { result ≡ has_hands kind }
 {
     kind == KindTag::Bits
 }
 
 /// Whether the words of a kind have a view.
-fn has_view(kind: KindTag) -> bool
+pub fn has_view(kind: KindTag) -> bool
     ensures { result ≡ has_view kind }
 {
     kind != KindTag::Multi

@@ -1,0 +1,10 @@
+pub mod FormUses
+pub mod Heads
+pub mod Lines
+pub mod Names
+pub mod Parts
+pub mod RightImages
+pub mod SaidForms
+pub mod SaidInstrs
+pub mod SaidListing
+pub mod Slots

@@ -1,0 +1,6 @@
+use Rattle.std.proofs.Common.{◌≡◌, ◌++◌, drop}
+use Rattle.snap_semantics.specs.Image.{lines_image}
+use Rattle.snap_image.proofs.encoding.push_lines.Given as goal
+
+abbrev pub invariant-loop-line : goal.invariant-loop-line
+invariant-loop-line l = l.out.items ++ lines_image l.listing (drop l.line-index l.lines) ≡ l.fn.out.items ++ lines_image l.listing l.lines

@@ -1,0 +1,239 @@
+//! The codes of an image: each stands here once, and is read by looking for it.
+ghost use Rattle.std.specs.Prelude.{◌≡◌};
+ghost use Rattle.snap_semantics.specs.ImageCodes.{Codes, coded, of_code, kinds, terms, exprs, relations, joins, ranges, forms};
+
+use snap_semantics::{ExprTag, Form, Join, Range, Relation, TermTag};
+use snap_words::KindTag;
+
+/// A type whose values have codes.
+pub trait Coded: Copy + 'static {
+    ghost table: { Codes Self };
+
+    /// All values that have a code.
+    fn all() -> &'static [Self]
+        ensures { result.now ≡ table.all };
+
+    /// The code of a value.
+    fn code(self) -> u8
+        ensures { result ≡ table.code self };
+}
+
+/// The first of these values with this code.
+fn find<T: Coded>(all: &[T], code: u8) -> Option<T>
+    ensures { result ≡ coded T.table.code all.now code }
+{
+    for value in all {
+        if value.code() == code {
+            return Some(*value);
+        }
+    }
+    None
+}
+
+/// The value with this code.
+pub fn with_code<T: Coded>(code: u8) -> Option<T>
+    ensures { result ≡ of_code T.table code }
+{
+    find(T::all(), code)
+}
+
+/// All kinds.
+const KINDS: [KindTag; 3] = [KindTag::Seq, KindTag::Bits, KindTag::Multi];
+
+impl Coded for KindTag {
+    ghost table = { kinds };
+
+    fn all() -> &'static [Self] {
+        &KINDS
+    }
+
+    fn code(self) -> u8 {
+        match self {
+            KindTag::Seq => 0,
+            KindTag::Bits => 1,
+            KindTag::Multi => 2,
+        }
+    }
+}
+
+/// All tags of terms.
+const TERMS: [TermTag; 14] = [
+    TermTag::Number,
+    TermTag::Processes,
+    TermTag::Words,
+    TermTag::Me,
+    TermTag::Word,
+    TermTag::Arg,
+    TermTag::Place,
+    TermTag::Scalar,
+    TermTag::Row,
+    TermTag::Seq,
+    TermTag::Datum,
+    TermTag::Hand,
+    TermTag::Toggle,
+    TermTag::Id,
+];
+
+impl Coded for TermTag {
+    ghost table = { terms };
+
+    fn all() -> &'static [Self] {
+        &TERMS
+    }
+
+    fn code(self) -> u8 {
+        match self {
+            TermTag::Number => 0,
+            TermTag::Processes => 1,
+            TermTag::Words => 2,
+            TermTag::Me => 3,
+            TermTag::Word => 4,
+            TermTag::Arg => 5,
+            TermTag::Place => 6,
+            TermTag::Scalar => 7,
+            TermTag::Row => 8,
+            TermTag::Seq => 9,
+            TermTag::Datum => 10,
+            TermTag::Hand => 11,
+            TermTag::Toggle => 12,
+            TermTag::Id => 13,
+        }
+    }
+}
+
+/// All tags of expressions.
+const EXPRS: [ExprTag; 3] = [ExprTag::Term, ExprTag::Sum, ExprTag::Not];
+
+impl Coded for ExprTag {
+    ghost table = { exprs };
+
+    fn all() -> &'static [Self] {
+        &EXPRS
+    }
+
+    fn code(self) -> u8 {
+        match self {
+            ExprTag::Term => 0,
+            ExprTag::Sum => 1,
+            ExprTag::Not => 2,
+        }
+    }
+}
+
+/// All relations.
+const RELATIONS: [Relation; 3] = [Relation::Equal, Relation::Different, Relation::Less];
+
+impl Coded for Relation {
+    ghost table = { relations };
+
+    fn all() -> &'static [Self] {
+        &RELATIONS
+    }
+
+    fn code(self) -> u8 {
+        match self {
+            Relation::Equal => 0,
+            Relation::Different => 1,
+            Relation::Less => 2,
+        }
+    }
+}
+
+/// All joins.
+const JOINS: [Join; 2] = [Join::And, Join::Or];
+
+impl Coded for Join {
+    ghost table = { joins };
+
+    fn all() -> &'static [Self] {
+        &JOINS
+    }
+
+    fn code(self) -> u8 {
+        match self {
+            Join::And => 0,
+            Join::Or => 1,
+        }
+    }
+}
+
+/// All ranges.
+const RANGES: [Range; 2] = [Range::Processes, Range::Words];
+
+impl Coded for Range {
+    ghost table = { ranges };
+
+    fn all() -> &'static [Self] {
+        &RANGES
+    }
+
+    fn code(self) -> u8 {
+        match self {
+            Range::Processes => 0,
+            Range::Words => 1,
+        }
+    }
+}
+
+/// All forms of instructions.
+const FORMS: [Form; 23] = [
+    Form::Let,
+    Form::LetPlace,
+    Form::Get,
+    Form::BitQ,
+    Form::BitP,
+    Form::Look,
+    Form::PutSeq,
+    Form::PutBits,
+    Form::PutMulti,
+    Form::PutQ,
+    Form::PutP,
+    Form::PutView,
+    Form::ViewData,
+    Form::ViewOf,
+    Form::Each,
+    Form::First,
+    Form::Next,
+    Form::If,
+    Form::IfAll,
+    Form::Goto,
+    Form::Call,
+    Form::Return,
+    Form::Finish,
+];
+
+impl Coded for Form {
+    ghost table = { forms };
+
+    fn all() -> &'static [Self] {
+        &FORMS
+    }
+
+    fn code(self) -> u8 {
+        match self {
+            Form::Let => 1,
+            Form::LetPlace => 2,
+            Form::Get => 3,
+            Form::BitQ => 4,
+            Form::BitP => 5,
+            Form::Look => 6,
+            Form::PutSeq => 7,
+            Form::PutBits => 8,
+            Form::PutMulti => 9,
+            Form::PutQ => 10,
+            Form::PutP => 11,
+            Form::PutView => 12,
+            Form::ViewData => 13,
+            Form::ViewOf => 14,
+            Form::Each => 15,
+            Form::First => 16,
+            Form::Next => 17,
+            Form::If => 18,
+            Form::IfAll => 19,
+            Form::Goto => 20,
+            Form::Call => 21,
+            Form::Return => 22,
+            Form::Finish => 23,
+        }
+    }
+}

@@ -1,0 +1,20 @@
+//! Images of listings: encoded and decoded.
+#![tactic(auto)]
+
+mod codes;
+mod conditions;
+mod cursor;
+mod decoding;
+mod encoding;
+mod fault;
+mod head;
+mod instrs;
+mod laws;
+mod terms;
+#[cfg(test)]
+mod tests;
+
+pub use decoding::decode;
+pub use encoding::encode;
+pub use fault::ImageFault;
+pub use laws::what_is_decoded_is_an_image;

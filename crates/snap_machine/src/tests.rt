@@ -1,5 +1,5 @@
 //! Lines that trap, and small runs.
-ghost use Rattle.std.specs.Prelude.{IsTrue, ◌↔◌};
+ghost use Rattle.std.specs.Prelude.{◌≡◌, IsTrue, ◌↔◌};
 ghost use Rattle.snap_words.specs.Shape.{IsOneOf};
 
 mod marked;
@@ -8,7 +8,7 @@ use crate::machine::Machine;
 use marked::Marked;
 use snap_listing::read;
 use snap_semantics::{BitBank, Cause, Item, Op, Outcome, Reason};
-use snap_words::{Address, Bank, Bits, Kind, Multi, Seq, Shape};
+use snap_words::{Address, Bank, Bits, Kind, KindTag, Multi, Seq, Shape};
 use std::alloc::{AllocError, Global};
 use std::process::Abort;
 use std::test::Fail;
@@ -269,19 +269,26 @@ update 30\n\
 32: put r[me] = (arg, c, s)\n\
 33: finish\n";
 
-/// A text of these parts.
-fn text_of(alloc: Global, parts: &[&[u8]]) -> Result<Vec<u8>, AllocError> {
+/// A text of three parts.
+fn text_of(alloc: Global, kind: &[u8], names: &[u8], lines: &[u8]) -> Result<Vec<u8>, AllocError> {
     let mut text = Vec::new(alloc);
-    for part in parts {
-        text.extend_from_slice(part)?;
-    }
+    text.extend_from_slice(kind)?;
+    text.extend_from_slice(names)?;
+    text.extend_from_slice(lines)?;
     Ok(text)
 }
 
-/// A machine of two processes and two words over this text.
-fn machine_of<K: Kind>(rt: &impl Abort, alloc: Global, text: &[u8]) -> Result<Machine<K>, Fail> {
+/// A machine of two processes and two words over this text, which is a listing of this kind.
+fn machine_of<K: Kind>(
+    rt: &impl Abort,
+    alloc: Global,
+    kind: KindTag,
+    text: &[u8],
+) -> Result<Machine<K>, Fail>
+    requires { kind ≡ K.TAG }
+{
     let listing = read(alloc, text)?;
-    assert!(rt; listing.kind() == K::TAG);
+    assert!(rt; listing.kind() == kind);
     let shape = Shape::new(2, 2)?;
     Ok(Machine::new(alloc, &listing, shape)?)
 }
@@ -309,12 +316,15 @@ fn call<K: Kind>(rt: &impl Abort, machine: &mut Machine<K>, op: Op) -> Result<Ou
 fn check_traps<K: Kind>(
     rt: &impl Abort,
     alloc: Global,
-    kind: &[u8],
+    kind: KindTag,
+    line: &[u8],
     traps: &[Trap],
-) -> Result<(), Fail> {
+) -> Result<(), Fail>
+    requires { kind ≡ K.TAG }
+{
     for (lines, op, steps, cause) in traps {
-        let text = text_of(alloc, &[kind, NAMES, lines])?;
-        let mut machine = machine_of::<K>(rt, alloc, text.as_slice())?;
+        let text = text_of(alloc, line, NAMES, *lines)?;
+        let mut machine = machine_of::<K>(rt, alloc, kind, text.as_slice())?;
         assert!(rt; matches!(call(rt, &mut machine, *op)?, Outcome::Called));
         for _ in 0..*steps {
             assert!(rt; matches!(step(rt, &mut machine)?, Outcome::Stepped));
@@ -330,18 +340,18 @@ fn check_traps<K: Kind>(
 
 #[test]
 fn seq_lines_trap(rt: HostRuntime) -> Result<(), Fail> {
-    check_traps::<Seq>(&rt, rt.alloc(), SEQ, SEQ_TRAPS)
+    check_traps::<Seq>(&rt, rt.alloc(), KindTag::Seq, SEQ, SEQ_TRAPS)
 }
 
 #[test]
 fn bit_lines_trap(rt: HostRuntime) -> Result<(), Fail> {
-    check_traps::<Bits>(&rt, rt.alloc(), BITS, BIT_TRAPS)
+    check_traps::<Bits>(&rt, rt.alloc(), KindTag::Bits, BITS, BIT_TRAPS)
 }
 
 #[test]
 fn multi_lines_trap(rt: HostRuntime) -> Result<(), Fail> {
-    check_traps::<Multi>(&rt, rt.alloc(), MULTI, MULTI_TRAPS)?;
-    check_traps::<Marked>(&rt, rt.alloc(), MULTI, MULTI_TRAPS)
+    check_traps::<Multi>(&rt, rt.alloc(), KindTag::Multi, MULTI, MULTI_TRAPS)?;
+    check_traps::<Marked>(&rt, rt.alloc(), KindTag::Multi, MULTI, MULTI_TRAPS)
 }
 
 /// Steps of process 1 to the end of its operation.
@@ -356,10 +366,12 @@ fn finish<K: Kind>(rt: &impl Abort, machine: &mut Machine<K>) -> Result<Outcome,
 }
 
 /// An update of word 2 by process 1, and its scan after it.
-fn go_round<K: Kind>(rt: &impl Abort, alloc: Global) -> Result<(), Fail> {
+fn go_round<K: Kind>(rt: &impl Abort, alloc: Global, kind: KindTag) -> Result<(), Fail>
+    requires { kind ≡ K.TAG }
+{
     let names = b"scalar x\nrow m\nwords a\nview s\nscan 10\nupdate 30\n".as_slice();
-    let text = text_of(alloc, &[MULTI, names, ROUND])?;
-    let mut machine = machine_of::<K>(rt, alloc, text.as_slice())?;
+    let text = text_of(alloc, MULTI, names, ROUND)?;
+    let mut machine = machine_of::<K>(rt, alloc, kind, text.as_slice())?;
     call(rt, &mut machine, Op::Update { word: 2, value: 7 })?;
     assert!(rt; matches!(finish(rt, &mut machine)?, Outcome::Finished));
     let registers = machine.registers();
@@ -386,14 +398,14 @@ fn go_round<K: Kind>(rt: &impl Abort, alloc: Global) -> Result<(), Fail> {
 
 #[test]
 fn kinds_go_round_alike(rt: HostRuntime) -> Result<(), Fail> {
-    go_round::<Multi>(&rt, rt.alloc())?;
-    go_round::<Marked>(&rt, rt.alloc())
+    go_round::<Multi>(&rt, rt.alloc(), KindTag::Multi)?;
+    go_round::<Marked>(&rt, rt.alloc(), KindTag::Multi)
 }
 
 #[test]
 fn skips(rt: HostRuntime) -> Result<(), Fail> {
-    let text = text_of(rt.alloc(), &[SEQ, NAMES, b"1: finish\n"])?;
-    let mut machine = machine_of::<Seq>(&rt, rt.alloc(), text.as_slice())?;
+    let text = text_of(rt.alloc(), SEQ, NAMES, b"1: finish\n")?;
+    let mut machine = machine_of::<Seq>(&rt, rt.alloc(), KindTag::Seq, text.as_slice())?;
     assert!(rt; matches!(step(&rt, &mut machine)?, Outcome::Skipped(Reason::Idle)));
     for (word, reason) in [
         (2, Reason::NotOwner),
@@ -418,7 +430,7 @@ fn skips(rt: HostRuntime) -> Result<(), Fail> {
 /// A machine over the snapshot listing, after a call of an update and so many steps of process 1, which is alone.
 fn updating(rt: &impl Abort, alloc: Global, steps: u64) -> Result<Machine<Seq>, Fail> {
     let listing = read(alloc, SNAPSHOT)?;
-    assert!(rt; listing.kind() == Seq::TAG);
+    assert!(rt; listing.kind() == KindTag::Seq);
     let mut machine = Machine::new(alloc, &listing, Shape::new(1, 1)?)?;
     call(rt, &mut machine, Op::Update { word: 1, value: 7 })?;
     for _ in 0..steps {

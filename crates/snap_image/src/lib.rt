@@ -17,4 +17,7 @@ mod tests;
 pub use decoding::decode;
 pub use encoding::encode;
 pub use fault::ImageFault;
-pub use laws::what_is_decoded_is_an_image;
+pub use laws::{
+    images_are_bytes, more_than_an_image_is_refused, what_is_decoded_is_an_image,
+    what_is_encoded_is_decoded,
+};

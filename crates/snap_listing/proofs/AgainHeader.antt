@@ -8,7 +8,8 @@ use Rattle.snap_semantics.specs.declared.refusal.ListingRefusal.TheVariants as r
 use Rattle.snap_semantics.specs.Answers.{◌>>=◌}
 use Rattle.snap_semantics.specs.HeaderForms.{kind_form, names_form, entry_form}
 use Rattle.snap_semantics.specs.IsListing.{IsName, AreDistinct, IsListing}
-use Rattle.snap_semantics.specs.Listing.{is_bad_name, found_or, form_or, header_line, new_names, names_line, header_of, with_lines}
+use Rattle.snap_semantics.specs.Forms.{found_or, form_or}
+use Rattle.snap_semantics.specs.Listing.{is_bad_name, header_line, new_names, names_line, header_of, with_lines}
 use Rattle.snap_semantics.specs.Source.{Name, Source}
 use Rattle.snap_semantics.specs.Spelling.{spelled_names, spelled_entry}
 use Rattle.snap_semantics.specs.Token.{Token, TextLine}

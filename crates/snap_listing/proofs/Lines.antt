@@ -5,7 +5,8 @@ use Rattle.snap_semantics.specs.declared.instr.Line.{Line}
 use Rattle.snap_semantics.specs.declared.refusal.ListingRefusal.{ListingRefusal}
 use Rattle.snap_semantics.specs.declared.refusal.ListingRefusal.TheVariants as refusal
 use Rattle.snap_semantics.specs.Answers.{◌>>=◌, IsRefusal}
-use Rattle.snap_semantics.specs.Listing.{form_or, checked_line, numbered_lines}
+use Rattle.snap_semantics.specs.Forms.{form_or}
+use Rattle.snap_semantics.specs.Listing.{checked_line, numbered_lines}
 use Rattle.snap_semantics.specs.ListingForms.{line_form}
 use Rattle.snap_semantics.specs.Source.{Source}
 use Rattle.snap_semantics.specs.Token.{TextLine}

@@ -9,7 +9,8 @@ use Rattle.snap_semantics.specs.declared.refusal.ListingRefusal.TheVariants as r
 use Rattle.snap_semantics.specs.declared.text.Sort.{Sort}
 use Rattle.snap_semantics.specs.declared.text.Sort.TheVariants as sort
 use Rattle.snap_semantics.specs.IsListing.{IsName, HasForm, AreRising, IsLine, IsListing}
-use Rattle.snap_semantics.specs.Listing.{form_or, checked_line, numbered_lines, has_line, checked_targets, line_targets, all_names, header_of, with_lines, listing_of_lines, listing_of}
+use Rattle.snap_semantics.specs.Forms.{form_or}
+use Rattle.snap_semantics.specs.Listing.{checked_line, numbered_lines, has_line, checked_targets, line_targets, all_names, header_of, with_lines, listing_of_lines, listing_of}
 use Rattle.snap_semantics.specs.ListingForms.{is_line_number, line_form}
 use Rattle.snap_semantics.specs.RightUses.{IsRight, HasRightUses}
 use Rattle.snap_semantics.specs.Source.{Name, Source}

@@ -8,7 +8,8 @@ use Rattle.snap_semantics.specs.declared.refusal.ListingRefusal.TheVariants as r
 use Rattle.snap_semantics.specs.declared.text.Sort.{Sort}
 use Rattle.snap_semantics.specs.declared.text.Sort.TheVariants as sort
 use Rattle.snap_semantics.specs.Answers.{◌>>=◌}
-use Rattle.snap_semantics.specs.Listing.{form_or, checked_line, numbered_lines, with_lines}
+use Rattle.snap_semantics.specs.Forms.{form_or}
+use Rattle.snap_semantics.specs.Listing.{checked_line, numbered_lines, with_lines}
 use Rattle.snap_semantics.specs.ListingForms.{line_form}
 use Rattle.snap_semantics.specs.RightUses.{IsRight, HasRightUses, AreLinesRight}
 use Rattle.snap_semantics.specs.Source.{Source, instr_at}

@@ -11,7 +11,8 @@ use Rattle.snap_semantics.specs.declared.refusal.ListingRefusal.TheVariants as r
 use Rattle.snap_semantics.specs.Forms.{number_at, word_at, keyword_at, end_at}
 use Rattle.snap_semantics.specs.HeaderForms.{kind_of_word, kind_form, words_form, names_form, entry_form}
 use Rattle.snap_semantics.specs.IsListing.{IsName, AreDistinct}
-use Rattle.snap_semantics.specs.Listing.{is_bad_name, found_or, form_or, header_line, new_names, names_line, header_of, all_names}
+use Rattle.snap_semantics.specs.Forms.{found_or, form_or}
+use Rattle.snap_semantics.specs.Listing.{is_bad_name, header_line, new_names, names_line, header_of, all_names}
 use Rattle.snap_semantics.specs.ListingForms.{is_line_number}
 use Rattle.snap_semantics.specs.Source.{Name, Source}
 use Rattle.snap_semantics.specs.Spelling.{kind_word, spelled_names, spelled_entry}

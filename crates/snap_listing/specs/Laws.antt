@@ -1,13 +1,11 @@
 -- The laws of reading and printing listings.
 use Rattle.std.specs.Prelude.{◌≡◌, ℕ, ◌≤◌, List, length, map, Option, Some, Ok}
-use Rattle.std.specs.List.{AllByRecursion}
 use Rattle.snap_semantics.specs.CanonicalText.{canonical_text}
 use Rattle.snap_semantics.specs.IsListing.{IsListing}
 use Rattle.snap_semantics.specs.Listing.{listing_of}
 use Rattle.snap_semantics.specs.Source.{Source}
 use Rattle.snap_semantics.specs.Spelling.{spelled_source}
 use Rattle.snap_semantics.specs.Token.{Token, TextLine, text_lines}
-use Rattle.snap_text.specs.Tokens.{IsSound}
 
 -- the tokens of the lines
 abbrev pub line_tokens : List TextLine → List (Option (List Token))
@@ -25,18 +23,10 @@ ReadsOnlySpelled = (text : List ℕ) (s : Source) → listing_of text ≡ Ok s �
 abbrev pub ReadsAllSpelled : Type 0
 ReadsAllSpelled = (text : List ℕ) (s : Source) → length text ≤ 65536 → IsListing s → Spells text s → listing_of text ≡ Ok s
 
--- Its tokens can stand in a text: each word is one or more letters, and each number has 64 bits.
-abbrev pub HasSoundTokens : Source → Type 0
-HasSoundTokens s = AllByRecursion (λ (ts : List Token). AllByRecursion IsSound ts) (spelled_source s)
-
--- what is printed spells what was to be printed
+-- what is printed of a listing spells it
 abbrev pub PrintsSpelling : Type 0
-PrintsSpelling = (s : Source) → HasSoundTokens s → Spells (canonical_text s) s
+PrintsSpelling = (s : Source) → IsListing s → Spells (canonical_text s) s
 
--- what is read has such tokens
-abbrev pub ReadsSoundTokens : Type 0
-ReadsSoundTokens = (text : List ℕ) (s : Source) → listing_of text ≡ Ok s → HasSoundTokens s
-
--- what is printed of a listing is read as that listing
+-- what is printed of a listing is read as that listing, where it is within the size of a text
 abbrev pub ReadsPrinted : Type 0
-ReadsPrinted = (s : Source) → IsListing s → HasSoundTokens s → length (canonical_text s) ≤ 65536 → listing_of (canonical_text s) ≡ Ok s
+ReadsPrinted = (s : Source) → IsListing s → length (canonical_text s) ≤ 65536 → listing_of (canonical_text s) ≡ Ok s

@@ -4,7 +4,8 @@ use Rattle.snap_semantics.specs.declared.instr.Line.{Line}
 use Rattle.snap_semantics.specs.declared.refusal.ListingRefusal.{ListingRefusal}
 use Rattle.snap_semantics.specs.declared.refusal.ListingRefusal.TheVariants as refusal
 use Rattle.snap_semantics.specs.Answers.{◌>>=◌}
-use Rattle.snap_semantics.specs.Listing.{is_bad_name, form_or, checked_line, has_line}
+use Rattle.snap_semantics.specs.Forms.{form_or}
+use Rattle.snap_semantics.specs.Listing.{is_bad_name, checked_line, has_line}
 use Rattle.snap_semantics.specs.ListingForms.{line_form}
 use Rattle.snap_semantics.specs.Source.{Name, Source}
 use Rattle.snap_semantics.specs.Token.{TextLine}

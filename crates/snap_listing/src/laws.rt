@@ -1,5 +1,5 @@
 //! The laws of reading and printing listings.
-ghost use Rattle.snap_listing.specs.Laws.{ReadsAllSpelled, ReadsOnlySpelled, PrintsSpelling, ReadsPrinted, ReadsSoundTokens};
+ghost use Rattle.snap_listing.specs.Laws.{ReadsAllSpelled, ReadsOnlySpelled, PrintsSpelling, ReadsPrinted};
 
 /// What is read is a listing, and the text spells it.
 pub fn what_is_read_is_spelled()
@@ -11,12 +11,7 @@ pub fn what_is_spelled_is_read()
     ensures { ReadsAllSpelled }
 {}
 
-/// What is read has tokens that can stand in a text.
-pub fn what_is_read_is_sound()
-    ensures { ReadsSoundTokens }
-{}
-
-/// What is printed of a source with such tokens spells it.
+/// What is printed of a listing spells it.
 pub fn what_is_printed_is_spelled()
     ensures { PrintsSpelling }
 {}

@@ -24,8 +24,8 @@ pub use forms::is_line_number;
 pub use header::{Header, is_among};
 pub use known::read_known;
 pub use laws::{
-    what_is_printed_is_read, what_is_printed_is_spelled, what_is_read_is_sound,
-    what_is_read_is_spelled, what_is_spelled_is_read,
+    what_is_printed_is_read, what_is_printed_is_spelled, what_is_read_is_spelled,
+    what_is_spelled_is_read,
 };
 pub use listing::Listing;
 pub use printing::print;

@@ -12,7 +12,8 @@ use Rattle.snap_semantics.specs.declared.refusal.ScheduleRefusal.TheVariants as 
 use Rattle.snap_semantics.specs.declared.text.Mark.TheVariants as mark
 use Rattle.snap_semantics.specs.Answers.{◌>>=◌}
 use Rattle.snap_semantics.specs.Forms.{or_else}
-use Rattle.snap_semantics.specs.Schedule.{Schedule, form_or, found_or, admitted, items_of, schedule_of_lines, schedule_of, form_process, form_count, form_items}
+use Rattle.snap_semantics.specs.Forms.{form_or, found_or}
+use Rattle.snap_semantics.specs.Schedule.{Schedule, admitted, items_of, schedule_of_lines, schedule_of, form_process, form_count, form_items}
 use Rattle.snap_semantics.specs.ScheduleForms.{Form, Steps, Calls, spelled_shape, spelled_steps, spelled_call, is_count, shape_form, step_form, steps_form, scan_form, update_form, item_form}
 use Rattle.snap_semantics.specs.ScheduleText.{IsSchedule}
 use Rattle.snap_semantics.specs.Table.{who}

@@ -9,7 +9,8 @@ use Rattle.snap_semantics.specs.declared.process.Item.TheVariants as item
 use Rattle.snap_semantics.specs.declared.refusal.ScheduleRefusal.{ScheduleRefusal}
 use Rattle.snap_semantics.specs.declared.refusal.ScheduleRefusal.TheVariants as refusal
 use Rattle.snap_semantics.specs.Answers.{◌>>=◌}
-use Rattle.snap_semantics.specs.Schedule.{form_or, admitted, items_of, form_process, form_count, form_items}
+use Rattle.snap_semantics.specs.Forms.{form_or}
+use Rattle.snap_semantics.specs.Schedule.{admitted, items_of, form_process, form_count, form_items}
 use Rattle.snap_semantics.specs.ScheduleForms.{Form, Steps, Calls, item_form}
 use Rattle.snap_semantics.specs.Table.{who}
 use Rattle.snap_semantics.specs.Token.{TextLine}

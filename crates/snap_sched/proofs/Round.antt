@@ -7,12 +7,11 @@ use Rattle.snap_words.specs.Shape.{Counts, IsOneOf, IsShape}
 use Rattle.snap_semantics.specs.declared.process.Item.{Item}
 use Rattle.snap_semantics.specs.declared.process.Item.TheVariants as item
 use Rattle.snap_semantics.specs.declared.process.Op.TheVariants as op
-use Rattle.snap_semantics.specs.declared.text.Mark.{Mark}
 use Rattle.snap_semantics.specs.declared.text.Mark.TheVariants as mark
-use Rattle.snap_semantics.specs.Layout as layout
+use Rattle.snap_semantics.specs.Layout.{token_text}
 use Rattle.snap_semantics.specs.Schedule.{Schedule, schedule_of, form_count, form_items}
 use Rattle.snap_semantics.specs.ScheduleForms.{Form, Steps, Calls, spelled_shape, spelled_steps, spelled_form}
-use Rattle.snap_semantics.specs.ScheduleText.{IsSchedule, step_onto, item_onto, forms_of, mark_text, token_text, is_sign, gap, behind, line_text, forms_text, schedule_text}
+use Rattle.snap_semantics.specs.ScheduleText.{IsSchedule, step_onto, item_onto, forms_of, is_sign, gap, behind, line_text, forms_text, schedule_text}
 use Rattle.snap_semantics.specs.Table.{who}
 use Rattle.snap_semantics.specs.Token.{Token, Word, Number, Sign, tokens_of, lines_of, numbered, text_lines}
 use Rattle.snap_text.specs.Tokens.{IsSound}
@@ -23,26 +22,6 @@ use Rattle.snap_sched.specs.Spelling.{IsSpelling, AreLinesOf, IsSpelled, line_to
 use Rattle.snap_sched.proofs.Again.{spelled_is_read}
 use Rattle.snap_sched.proofs.Apart.{AreApart, forms_apart}
 use Rattle.snap_sched.proofs.Lines.{length_items}
-
-mark_text_same : (m : Mark) → mark_text m ≡ layout.mark_text m
-mark_text_same mark.Colon = refl
-mark_text_same mark.Equal = refl
-mark_text_same mark.Different = refl
-mark_text_same mark.Less = refl
-mark_text_same mark.Plus = refl
-mark_text_same mark.Comma = refl
-mark_text_same mark.OpenParenthesis = refl
-mark_text_same mark.CloseParenthesis = refl
-mark_text_same mark.OpenBracket = refl
-mark_text_same mark.CloseBracket = refl
-mark_text_same mark.At = refl
-mark_text_same mark.Star = refl
-
--- a token is spelled in a schedule as it is in a listing
-text_same : (t : Token) → token_text t ≡ layout.token_text t
-text_same (Word w) = refl
-text_same (Number k) = refl
-text_same (Sign m) = mark_text_same m
 
 -- whether a space stands between two tokens
 abbrev are_parted : Bool → Bool → Bool
@@ -63,11 +42,10 @@ gap_is (Number k) u = gap_by (is_sign u)
 gap_is (Sign m) u = refl
 
 behind_is : (t u : Token) (us : List Token) →
-    behind t (u ∷ us) ≡ space (are_parted (is_sign t) (is_sign u)) ++ (layout.token_text u ++ behind u us)
+    behind t (u ∷ us) ≡ space (are_parted (is_sign t) (is_sign u)) ++ (token_text u ++ behind u us)
 behind_is t u us =
     append_assoc (gap t u) (token_text u) (behind u us)
     ∙ ap (λ (g : List ℕ). g ++ (token_text u ++ behind u us)) (gap_is t u)
-    ∙ ap (λ (x : List ℕ). space (are_parted (is_sign t) (is_sign u)) ++ (x ++ behind u us)) (text_same u)
 
 behind_reads : (t : Token) (ts : List Token) → AllByRecursion IsSound ts → Reads t (behind t ts) ts
 behind_reads t [] h = reads_end t
@@ -78,17 +56,14 @@ behind_reads t (u ∷ us) h =
 -- the tokens of printed tokens are those tokens
 pub printed_tokens : (t : Token) (ts : List Token) → IsSound t → AllByRecursion IsSound ts → tokens_of (token_text t ++ behind t ts) ≡ Some (t ∷ ts)
 printed_tokens t ts h hs =
-    ap (λ (x : List ℕ). tokens_of (x ++ behind t ts)) (text_same t) ∙ reads_first t (behind t ts) ts h (behind_reads t ts hs)
-
-text_plain : (t : Token) → IsSound t → list_all is_plain (token_text t) ≡ true
-text_plain t h = ap (list_all is_plain) (text_same t) ∙ token_plain t h
+    reads_first t (behind t ts) ts h (behind_reads t ts hs)
 
 behind_plain : (t : Token) (ts : List Token) → AllByRecursion IsSound ts → list_all is_plain (behind t ts) ≡ true
 behind_plain t [] h = refl
 behind_plain t (u ∷ us) h =
     joined_plain (gap t u ++ token_text u) (behind u us)
     (joined_plain (gap t u) (token_text u)
-    (ap (list_all is_plain) (gap_is t u) ∙ space_plain (are_parted (is_sign t) (is_sign u))) (text_plain u h.0))
+    (ap (list_all is_plain) (gap_is t u) ∙ space_plain (are_parted (is_sign t) (is_sign u))) (token_plain u h.0))
     (behind_plain u us h.1)
 
 -- the first of printed lines, and the others
@@ -96,7 +71,7 @@ pub printed_line : (k : ℕ) (t : Token) (ts : List Token) (rest : List ℕ) →
     line_tokens (numbered k (lines_of (line_text (t ∷ ts) ++ rest))) ≡ Some (t ∷ ts) ∷ line_tokens (numbered (k + 1) (lines_of rest))
 printed_line k t ts rest h hs =
     let body = token_text t ++ behind t ts in
-    let plain = joined_plain (token_text t) (behind t ts) (text_plain t h) (behind_plain t ts hs) in
+    let plain = joined_plain (token_text t) (behind t ts) (token_plain t h) (behind_plain t ts hs) in
     ap (λ (bs : List ℕ). line_tokens (numbered k (lines_of bs))) (append_assoc body (10 ∷ []) rest)
     ∙ ap line_tokens (line_read k body rest t ts plain (printed_tokens t ts h hs))
 

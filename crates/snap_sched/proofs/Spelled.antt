@@ -8,7 +8,8 @@ use Rattle.snap_semantics.specs.declared.process.Item.{Item}
 use Rattle.snap_semantics.specs.declared.refusal.ScheduleRefusal.{ScheduleRefusal}
 use Rattle.snap_semantics.specs.declared.refusal.ScheduleRefusal.TheVariants as refusal
 use Rattle.snap_semantics.specs.Answers.{◌>>=◌}
-use Rattle.snap_semantics.specs.Schedule.{Schedule, form_or, found_or, admitted, items_of, schedule_of_lines, schedule_of, form_process, form_count, form_items}
+use Rattle.snap_semantics.specs.Forms.{form_or, found_or}
+use Rattle.snap_semantics.specs.Schedule.{Schedule, admitted, items_of, schedule_of_lines, schedule_of, form_process, form_count, form_items}
 use Rattle.snap_semantics.specs.ScheduleForms.{Form, shape_form, item_form}
 use Rattle.snap_semantics.specs.ScheduleText.{IsSchedule}
 use Rattle.snap_semantics.specs.Table.{who}

@@ -4,7 +4,8 @@ use Rattle.snap_words.specs.Shape.{Counts}
 use Rattle.snap_semantics.specs.declared.refusal.ScheduleRefusal.{ScheduleRefusal}
 use Rattle.snap_semantics.specs.declared.refusal.ScheduleRefusal.TheVariants as refusal
 use Rattle.snap_semantics.specs.Answers.{◌>>=◌}
-use Rattle.snap_semantics.specs.Schedule.{form_or, admitted}
+use Rattle.snap_semantics.specs.Forms.{form_or}
+use Rattle.snap_semantics.specs.Schedule.{admitted}
 use Rattle.snap_semantics.specs.ScheduleForms.{Form, Steps, Calls, is_count, shape_form, item_form}
 use Rattle.snap_semantics.specs.Token.{TextLine}
 use Rattle.snap_sched.specs.declared.forms.Form.{Form as Given}

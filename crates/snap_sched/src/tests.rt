@@ -13,7 +13,7 @@ fn refusal(alloc: Global, text: &[u8]) -> Result<Option<ScheduleRefusal>, Fail> 
 }
 
 #[test]
-fn refuses(rt: HostRuntime) -> Result<(), Fail> {
+fn refuses_what_fits_no_form(rt: HostRuntime) -> Result<(), Fail> {
     for (text, want) in [
         (b"".as_slice(), ScheduleRefusal::BadShape),
         (b"$".as_slice(), ScheduleRefusal::BadShape),
@@ -28,6 +28,15 @@ fn refuses(rt: HostRuntime) -> Result<(), Fail> {
             b"shape 3 3\n1*18446744073709551616".as_slice(),
             ScheduleRefusal::BadItem(2),
         ),
+    ] {
+        assert_eq!(rt; refusal(rt.alloc(), text)?, Some(want), "{want}");
+    }
+    Ok(())
+}
+
+#[test]
+fn refuses_too_many_items_and_missing_processes(rt: HostRuntime) -> Result<(), Fail> {
+    for (text, want) in [
         (
             b"shape 3 3\n1*18446744073709551615".as_slice(),
             ScheduleRefusal::TooManyItems(2),

@@ -1,12 +1,9 @@
 -- Images at work: the image of a small listing, and what is wrong with bytes that are none.
-use Rattle.std.specs.Prelude.{◌≡◌, ℕ, List, [], ◌∷◌, take, Ok, Err, codes, refl, ◌++◌, None, Some}
-use Rattle.snap_words.specs.declared.kind.KindTag.TheVariants.{Seq, Bits, Multi}
-use Rattle.snap_semantics.specs.declared.instr.Comparison.{Comparison}
-use Rattle.snap_semantics.specs.declared.instr.Condition.TheVariants.{One, Two}
+use Rattle.std.specs.Prelude.{◌≡◌, ℕ, List, [], ◌∷◌, take, Ok, Err, codes, refl, ◌++◌}
+use Rattle.snap_words.specs.declared.kind.KindTag.TheVariants.{Seq}
+use Rattle.snap_semantics.specs.declared.instr.Condition.TheVariants.{One}
 use Rattle.snap_semantics.specs.declared.instr.Index.TheVariants as index
 use Rattle.snap_semantics.specs.declared.instr.Instr.TheVariants.{Get, If, IfAll, Return, Finish}
-use Rattle.snap_semantics.specs.declared.instr.Join.TheVariants.{Or}
-use Rattle.snap_semantics.specs.declared.instr.Line.{Line}
 use Rattle.snap_semantics.specs.declared.instr.Range.TheVariants as range
 use Rattle.snap_semantics.specs.declared.instr.Relation.TheVariants as relation
 use Rattle.snap_semantics.specs.declared.instr.Term.TheVariants as term
@@ -20,7 +17,7 @@ use Rattle.snap_semantics.specs.ImageListing as images
 use Rattle.snap_semantics.specs.ImageListing.{listing_of_image}
 use Rattle.snap_semantics.specs.Source.{Source}
 
-abbrev small : Source
+abbrev pub small : Source
 small = record {
   kind = Seq;
   scalars = [];
@@ -32,7 +29,7 @@ small = record {
   lines = record { number = 1; instr = Return (codes "s") } ∷ record { number = 2; instr = Finish } ∷ [];
 }
 
-abbrev small_image : List ℕ
+abbrev pub small_image : List ℕ
 small_image = 83 ∷ 78 ∷ 65 ∷ 80 ∷ 1 ∷ 0 ∷ 0 ∷ 0 ∷ 0 ∷ 1 ∷ 1 ∷ 115 ∷ 0 ∷ 1 ∷ 0 ∷ 2 ∷ 0 ∷ 2 ∷ 0 ∷ 1 ∷ 22 ∷ 0 ∷ 0 ∷ 2 ∷ 23 ∷ []
 
 image_of_small : image_of small ≡ small_image

@@ -1,2 +1,3 @@
-mod Samples
+pub mod Samples
 pub mod ImageSamples
+pub mod OutputSamples

@@ -1,5 +1,5 @@
 -- What rules of a grammar find at the front of the tokens of a line. A rule that does not fit finds nothing.
-use Rattle.std.specs.Prelude.{ℕ, List, [], ◌∷◌, Option, Some, None, bytes_eq, if◌then◌else◌}
+use Rattle.std.specs.Prelude.{ℕ, List, [], ◌∷◌, Option, Some, None, Result, Ok, Err, bytes_eq, if◌then◌else◌}
 use Rattle.snap_semantics.specs.declared.text.Mark.{Mark}
 use Rattle.snap_semantics.specs.Token.{Token, Word, Number, Sign, same_mark}
 
@@ -17,6 +17,16 @@ or_else (Some x) o = Some x
 -- a value, and the tokens behind what spells it
 abbrev pub Found : Type 0 → Type 0
 Found A = Option (A × List Token)
+
+-- what a rule finds in a line, or why it does not fit
+abbrev pub found_or : {A E : Type 0} → E → Option A → Result A E
+found_or e None = Err e
+found_or e (Some x) = Ok x
+
+-- the form of a line; a byte that begins no token fits none
+abbrev pub form_or : {A E : Type 0} → E → (List Token → Option A) → Option (List Token) → Result A E
+form_or e rule None = Err e
+form_or e rule (Some ts) = found_or e (rule ts)
 
 -- any number
 abbrev pub number_at : List Token → Found ℕ

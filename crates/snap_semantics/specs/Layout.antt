@@ -1,7 +1,7 @@
 -- The canonical text of tokens: how a line is laid out. A space stands between two tokens, but for these places: none before a
 -- closing bracket, a comma, a colon or a star, none behind an opening bracket or a star, and none between a word and an opening
 -- bracket. Behind a comma stands a space only where it parts the elements of a tuple, whose bracket stands behind `=`.
-use Rattle.std.specs.Prelude.{ℕ, zero, suc, ◌+◌, Bool, true, false, List, [], ◌∷◌, ◌++◌, nat_eq, codes, decimal, if◌then◌else◌}
+use Rattle.std.specs.Prelude.{ℕ, zero, suc, Bool, true, false, List, [], ◌∷◌, ◌++◌, nat_eq, codes, decimal, if◌then◌else◌}
 use Rattle.snap_semantics.specs.declared.text.Mark.{Mark}
 use Rattle.snap_semantics.specs.declared.text.Mark.TheVariants as mark
 use Rattle.snap_semantics.specs.Token.{Token, Word, Number, Sign}

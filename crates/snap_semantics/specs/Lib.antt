@@ -26,6 +26,7 @@ pub mod Image
 pub mod ImageForms
 pub mod ImageInstrs
 pub mod ImageListing
+pub mod Assembly
 pub mod Report
 pub mod CommandForms
 pub mod Commands

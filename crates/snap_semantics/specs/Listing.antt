@@ -1,5 +1,5 @@
 -- The grammar of listings: seven header lines and then numbered lines; and why a text is refused, the first reason first.
-use Rattle.std.specs.Prelude.{ℕ, ◌+◌, Bool, ◌||◌, List, [], ◌∷◌, ◌++◌, length, Option, Some, None, Result, Ok, Err, nat_eq, nat_lt, nat_le, codes, if◌then◌else◌}
+use Rattle.std.specs.Prelude.{ℕ, ◌+◌, Bool, ◌||◌, List, [], ◌∷◌, ◌++◌, length, Option, Result, Ok, Err, nat_eq, nat_lt, nat_le, codes, if◌then◌else◌}
 use Rattle.std.specs.List.{list_any}
 use Rattle.snap_semantics.specs.declared.instr.Instr.{Instr}
 use Rattle.snap_semantics.specs.declared.instr.Instr.TheVariants.{Let, LetPlace, Get, Bit, Look, Put, PutBit, PutView, ViewData, ViewOf, Each, First, Next, If, IfAll, Goto, Call, Return, Finish}
@@ -7,21 +7,12 @@ use Rattle.snap_semantics.specs.declared.instr.Line.{Line}
 use Rattle.snap_semantics.specs.declared.refusal.ListingRefusal.{ListingRefusal}
 use Rattle.snap_semantics.specs.declared.refusal.ListingRefusal.TheVariants as refusal
 use Rattle.snap_semantics.specs.Answers.{◌>>=◌}
+use Rattle.snap_semantics.specs.Forms.{form_or}
 use Rattle.snap_semantics.specs.HeaderForms.{kind_form, names_form, entry_form}
 use Rattle.snap_semantics.specs.ListingForms.{is_reserved, line_form}
 use Rattle.snap_semantics.specs.Source.{Name, Source}
 use Rattle.snap_semantics.specs.Token.{Token, TextLine, text_lines, lines_of}
 use Rattle.snap_semantics.specs.Uses.{instr_uses, checked_uses, is_among}
-
--- what a rule finds in a line, or why it does not fit
-abbrev pub found_or : {A : Type 0} → ListingRefusal → Option A → Result A ListingRefusal
-found_or e None = Err e
-found_or e (Some x) = Ok x
-
--- the form of a line; a byte that begins no token fits none
-abbrev pub form_or : {A : Type 0} → ListingRefusal → (List Token → Option A) → Option (List Token) → Result A ListingRefusal
-form_or e rule None = Err e
-form_or e rule (Some ts) = found_or e (rule ts)
 
 -- What a header line says, and the lines behind it. Where the lines are used up, the line that is missing is line `after`.
 abbrev pub header_line : {A : Type 0} → ℕ → (List Token → Option A) → List TextLine → Result (A × ℕ × List TextLine) ListingRefusal

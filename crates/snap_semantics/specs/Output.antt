@@ -1,11 +1,16 @@
 -- What the program writes for what it reads, or why it refuses.
-use Rattle.std.specs.Prelude.{ℕ, ◌||◌, Bool, nat_eq, nat_lt, List, [], ◌∷◌, ◌++◌, length, Result, Err, bytes_eq, codes, slice_index_or, if◌then◌else◌}
+use Rattle.std.specs.Prelude.{ℕ, ◌||◌, Bool, nat_eq, nat_lt, List, [], ◌∷◌, ◌++◌, length, Result, Ok, Err, bytes_eq, codes, decimal, slice_index_or, if◌then◌else◌}
 use Rattle.snap_semantics.specs.declared.refusal.Refusal.{Refusal}
 use Rattle.snap_semantics.specs.declared.refusal.Refusal.TheVariants as refusal
 use Rattle.snap_semantics.specs.declared.text.Sub.{Sub}
 use Rattle.snap_semantics.specs.declared.text.Sub.TheVariants as sub
 use Rattle.snap_semantics.specs.declared.text.Task.{Task}
+use Rattle.snap_semantics.specs.Answers.{◌>>=◌, refused_as}
+use Rattle.snap_semantics.specs.Assembly.{assembled, listed}
+use Rattle.snap_semantics.specs.Listing.{listing_of}
 use Rattle.snap_semantics.specs.Perform.{perform_of}
+use Rattle.snap_semantics.specs.Source.{Source}
+use Rattle.snap_semantics.specs.Spelling.{kind_word}
 use Rattle.snap_semantics.specs.Token.{onto_line}
 
 -- the lines of an input, each with its line feed, which the last may lack
@@ -41,7 +46,20 @@ run_of input =
     then perform_of (part 0 (parts_of input)) (part 1 (parts_of input)) (codes "run\n")
     else Err (refusal.WrongParts (length (parts_of input)))
 
+-- `ok: KIND, K lines`
+abbrev pub check_line : Source → List ℕ
+check_line l = codes "ok: " ++ kind_word l.kind ++ codes ", " ++ decimal (length l.lines) ++ codes " lines\n"
+
+-- what is said of a text that is a listing; the whole input is the text
+unfoldable pub check_of : List ℕ → Result (List ℕ) Refusal
+check_of input = do
+  l ← refused_as refusal.Listing (listing_of input)
+  Ok (check_line l)
+
 abbrev pub of_sub : Sub → List ℕ → Result (List ℕ) Refusal
+of_sub sub.Check input = check_of input
+of_sub sub.Assemble input = refused_as refusal.Listing (assembled input)
+of_sub sub.List input = refused_as refusal.Image (listed input)
 of_sub sub.Run input = run_of input
 
 -- what a whole run of the program writes for an input, or its refusal

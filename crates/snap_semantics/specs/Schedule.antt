@@ -1,13 +1,14 @@
 -- The grammar of schedules: a shape, and then items, one form a line; and why a text is refused, the first reason first.
-use Rattle.std.specs.Prelude.{ℕ, ◌-◌, ◌&&◌, not, List, [], ◌∷◌, ◌++◌, length, replicate, Option, Some, None, Result, Ok, Err, nat_lt, nat_le, if◌then◌else◌}
+use Rattle.std.specs.Prelude.{ℕ, ◌-◌, ◌&&◌, not, List, [], ◌∷◌, ◌++◌, length, replicate, Result, Ok, Err, nat_lt, nat_le, if◌then◌else◌}
 use Rattle.snap_words.specs.Shape.{Counts}
 use Rattle.snap_semantics.specs.declared.process.Item.{Item}
 use Rattle.snap_semantics.specs.declared.process.Item.TheVariants as item
 use Rattle.snap_semantics.specs.declared.refusal.ScheduleRefusal.{ScheduleRefusal}
 use Rattle.snap_semantics.specs.declared.refusal.ScheduleRefusal.TheVariants as refusal
 use Rattle.snap_semantics.specs.Answers.{◌>>=◌}
+use Rattle.snap_semantics.specs.Forms.{form_or}
 use Rattle.snap_semantics.specs.ScheduleForms.{Form, Steps, Calls, shape_form, item_form}
-use Rattle.snap_semantics.specs.Token.{Token, TextLine, text_lines}
+use Rattle.snap_semantics.specs.Token.{TextLine, text_lines}
 
 -- a schedule: how many processes and words there are, and the items in order
 pub record Schedule : Type 0 where
@@ -26,16 +27,6 @@ form_count (Calls i op) = 1
 abbrev pub form_items : Form → List Item
 form_items (Steps i count) = replicate count (item.Step i)
 form_items (Calls i op) = item.Call i op ∷ []
-
--- what a rule finds in a line, or why it does not fit
-abbrev pub found_or : {A : Type 0} → ScheduleRefusal → Option A → Result A ScheduleRefusal
-found_or e None = Err e
-found_or e (Some x) = Ok x
-
--- the form of a line; a byte that begins no token fits none
-abbrev pub form_or : {A : Type 0} → ScheduleRefusal → (List Token → Option A) → Option (List Token) → Result A ScheduleRefusal
-form_or e rule None = Err e
-form_or e rule (Some ts) = found_or e (rule ts)
 
 -- a form of a process that is there, and of no more items than are left
 abbrev pub admitted : ℕ → ℕ → ℕ → Form → Result Form ScheduleRefusal

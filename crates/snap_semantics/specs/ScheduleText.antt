@@ -1,11 +1,10 @@
 -- The canonical text of a schedule: its shape, and then each greatest run of steps of one process and each call on a line.
-use Rattle.std.specs.Prelude.{ℕ, suc, ◌≤◌, Bool, true, false, List, [], ◌∷◌, ◌++◌, length, nat_eq, codes, decimal, if◌then◌else◌}
+use Rattle.std.specs.Prelude.{ℕ, suc, ◌≤◌, Bool, true, false, List, [], ◌∷◌, ◌++◌, length, nat_eq, if◌then◌else◌}
 use Rattle.std.specs.List.{AllByRecursion}
 use Rattle.snap_words.specs.Shape.{IsOneOf, IsShape}
 use Rattle.snap_semantics.specs.declared.process.Item.{Item}
 use Rattle.snap_semantics.specs.declared.process.Item.TheVariants as item
-use Rattle.snap_semantics.specs.declared.text.Mark.{Mark}
-use Rattle.snap_semantics.specs.declared.text.Mark.TheVariants as mark
+use Rattle.snap_semantics.specs.Layout.{token_text}
 use Rattle.snap_semantics.specs.Schedule.{Schedule}
 use Rattle.snap_semantics.specs.ScheduleForms.{Form, Steps, Calls, spelled_shape, spelled_form}
 use Rattle.snap_semantics.specs.Table.{who}
@@ -25,26 +24,6 @@ item_onto (item.Call i op) forms = Calls i op ∷ forms
 abbrev pub forms_of : List Item → List Form
 forms_of [] = []
 forms_of (x ∷ xs) = item_onto x (forms_of xs)
-
-abbrev pub mark_text : Mark → List ℕ
-mark_text mark.Colon = codes ":"
-mark_text mark.Equal = codes "="
-mark_text mark.Different = codes "!="
-mark_text mark.Less = codes "<"
-mark_text mark.Plus = codes "+"
-mark_text mark.Comma = codes ","
-mark_text mark.OpenParenthesis = codes "("
-mark_text mark.CloseParenthesis = codes ")"
-mark_text mark.OpenBracket = codes "["
-mark_text mark.CloseBracket = codes "]"
-mark_text mark.At = codes "@"
-mark_text mark.Star = codes "*"
-
--- how a token is spelled
-abbrev pub token_text : Token → List ℕ
-token_text (Word w) = w
-token_text (Number k) = decimal k
-token_text (Sign m) = mark_text m
 
 abbrev pub is_sign : Token → Bool
 is_sign (Word w) = false

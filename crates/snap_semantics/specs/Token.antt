@@ -1,6 +1,6 @@
 -- The tokens of a line of text: words, numbers and marks. Spaces may stand between any two tokens; a word and a number, or
 -- two of one sort, have one between them. `#` begins a comment, which runs to the end of the line.
-use Rattle.std.specs.Prelude.{ℕ, ◌+◌, ◌-◌, ◌*◌, ◌/◌, ◌^◌, Bool, false, ◌&&◌, ◌||◌, List, [], ◌∷◌, Option, Some, None, nat_eq, nat_lt, nat_le, if◌then◌else◌}
+use Rattle.std.specs.Prelude.{◌≡◌, ℕ, ◌+◌, ◌-◌, ◌*◌, ◌/◌, ◌^◌, ◌<◌, Bool, true, false, ◌&&◌, ◌||◌, List, [], ◌∷◌, length, Option, Some, None, nat_eq, nat_lt, nat_le, if◌then◌else◌}
 use Rattle.std.specs.List.{list_all}
 use Rattle.snap_semantics.specs.declared.text.Mark.{Mark}
 use Rattle.snap_semantics.specs.declared.text.Mark.TheVariants as mark
@@ -12,6 +12,10 @@ pub data Token : Type 0 where
 
 abbrev pub is_letter : ℕ → Bool
 is_letter b = nat_le 97 b && nat_le b 122
+
+-- one or more letters
+abbrev pub IsWord : List ℕ → Type 0
+IsWord w = (0 < length w) × (list_all is_letter w ≡ true)
 
 abbrev pub is_digit : ℕ → Bool
 is_digit b = nat_le 48 b && nat_le b 57

@@ -104,6 +104,8 @@ pub enum Refusal {
     #[error("{0}")]
     Listing(ListingRefusal),
     #[error("{0}")]
+    Image(ImageRefusal),
+    #[error("{0}")]
     Schedule(ScheduleRefusal),
     /// A shape that does not fit the kind of registers.
     #[error("{0}")]

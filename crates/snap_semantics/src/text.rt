@@ -36,6 +36,13 @@ pub enum Command {
 /// A subcommand of the program.
 #[derive(Clone, Copy, Debug, PartialEq, Eq)]
 pub enum Sub {
+    /// Whether a text is a listing.
+    Check,
+    /// The image of a listing's text.
+    Assemble,
+    /// The text of a listing's image.
+    List,
+    /// A listing under a schedule.
     Run,
 }
 

@@ -3,7 +3,7 @@ use Rattle.std.specs.Prelude.{◌≡◌, ℕ, ◌+◌, ◌^◌, ◌<◌, Bool, t
 use Rattle.std.specs.List.{list_all}
 use Rattle.snap_semantics.specs.declared.text.Mark.{Mark}
 use Rattle.snap_semantics.specs.declared.text.Mark.TheVariants as mark
-use Rattle.snap_semantics.specs.Token.{Token, Word, Number, Sign, is_letter, is_run_byte, mark_of}
+use Rattle.snap_semantics.specs.Token.{Token, Word, Number, Sign, IsWord, is_run_byte, mark_of}
 use Rattle.snap_text.specs.declared.lexer.Token.{Token as Given}
 use Rattle.snap_text.specs.declared.lexer.Token.TheVariants as given
 
@@ -17,7 +17,7 @@ view_tokens ts = map view_token ts
 
 -- a token that can stand in a text: a word of one or more letters, a number of 64 bits, or a mark
 abbrev pub IsSound : Token → Type 0
-IsSound (Word w) = (0 < length w) × (list_all is_letter w ≡ true)
+IsSound (Word w) = IsWord w
 IsSound (Number k) = k < 2 ^ 64
 IsSound (Sign m) = Unit {0}
 

@@ -30,6 +30,7 @@ use Rattle.snap_semantics.specs.Source.{Name, Source}
 use Rattle.snap_semantics.specs.Spelling.{in_parentheses, in_brackets, spelled_index, spelled_place, spelled_term, spelled_expr, spelled_condition, spelled_where, spelled_range, spelled_target, spelled_tuple, bank_word, spelled_pair, spelled_instr, spelled_line}
 use Rattle.snap_semantics.specs.Token.{Token, Word, Number, Sign}
 use Rattle.snap_semantics.specs.Uses.{Use, row, view, same_kind, index_uses, term_uses, expr_uses, condition_uses, where_uses, tuple_uses, instr_uses}
+use Rattle.snap_listing.proofs.Alls.{all_rest}
 use Rattle.snap_listing.proofs.AgainTerms.{Names, names_first, names_rest, then_is, then_none, or_first, or_second, if_yes, name_read, index_again, bracket_again, place_again, pair_tokens, expr_again, condition_again}
 
 range_again : (g : Range) (rest : List Token) → range_at (spelled_range g ∷ rest) ≡ Some (g, rest)
@@ -278,10 +279,6 @@ tuple_again s (tuple.Multi d i t) h right names =
     or_second (bits_tuple_at (spelled_tuple whole)) _ _ (multi_no_bits d i t h.0 h.2 nd ni nt)
     (multi_triple s.kind (spelled_tuple whole) whole right.0 (multi_tuple_again d i t h.0 h.1 h.2 nd ni nt))
 
-rights_rest : (s : Source) (us vs : List Use) → AllByRecursion (IsRight s) (us ++ vs) → AllByRecursion (IsRight s) vs
-rights_rest s [] vs h = h
-rights_rest s (u ∷ us) vs h = rights_rest s us vs h.1
-
 put_again : (s : Source) (i : Index) (t : Tuple) → HasIndex false i → HasTuple t → AllByRecursion (IsRight s) (tuple_uses t) → Names (index_uses i) →
     Names (tuple_uses t) → put_form s.kind (Word (codes "r") ∷ (in_brackets (spelled_index i) ++ Sign mark.Equal ∷ spelled_tuple t)) ≡ Some (instr.Put i t)
 unfolding put_form
@@ -457,7 +454,7 @@ instr_again s (instr.Bit x b i j) h right names =
 instr_again s (instr.Look x i) h right names = look_again x i h names.0 names.1.1
 instr_again s (instr.Put i t) h right names =
     or_first (put_form s.kind (Word (codes "r") ∷ (in_brackets (spelled_index i) ++ Sign mark.Equal ∷ spelled_tuple t))) _ _
-    (put_again s i t h.0 h.1 (rights_rest s (index_uses i) (tuple_uses t) right) (names_first (index_uses i) (tuple_uses t) names)
+    (put_again s i t h.0 h.1 (all_rest (IsRight s) (index_uses i) (tuple_uses t) right) (names_first (index_uses i) (tuple_uses t) names)
     (names_rest (index_uses i) (tuple_uses t) names))
 instr_again s (instr.PutBit b i j e) h right names =
     let behind : List Token = spelled_pair i j ++ Sign mark.Equal ∷ spelled_expr e in

@@ -14,9 +14,9 @@ use Rattle.snap_semantics.specs.Source.{Name, Source}
 use Rattle.snap_semantics.specs.Spelling.{spelled_names, spelled_entry}
 use Rattle.snap_semantics.specs.Token.{Token, TextLine}
 use Rattle.snap_semantics.specs.Uses.{is_among}
+use Rattle.snap_listing.proofs.Alls.{all_first, all_rest}
 use Rattle.snap_listing.proofs.AgainHeaderForms.{kind_again, names_again, entry_again}
-use Rattle.snap_listing.proofs.SpelledHeader.{or_left, or_right, neither, other_by, spelled_kind}
-use Rattle.snap_listing.proofs.SpelledLines.{all_first, all_rest, some_line}
+use Rattle.snap_listing.proofs.SpelledHeader.{or_left, or_right, neither, other_by, some_line, spelled_kind}
 
 pub bind_by : {A B : Type 0} (r : Result A ListingRefusal) (x : A) (f : A → Result B ListingRefusal) (p : Result B ListingRefusal) → r ≡ Ok x → f x ≡ p → (r >>= f) ≡ p
 bind_by (Ok y) x f p e h = let same : y ≡ x = cc in ap f same ∙ h
@@ -52,7 +52,7 @@ new_again line known (w ∷ ws) h d few =
     let room : length known < 32 = omega (arith, few) in
     let later : length (known ++ w ∷ []) + length ws ≤ 32 = omega (arith, few, longer) in
     let rest = new_again line (known ++ w ∷ []) ws h.1 (subst AreDistinct (sym (append_assoc known (w ∷ []) ws)) d) later in
-    pass_by (is_bad_name w) _ _ (Ok (w ∷ ws)) h.0 (pass_by (is_among w known) _ _ (Ok (w ∷ ws)) (fresh known w ws d)
+    pass_by (is_bad_name w) _ _ (Ok (w ∷ ws)) h.0.1 (pass_by (is_among w known) _ _ (Ok (w ∷ ws)) (fresh known w ws d)
     (pass_by (nat_le 32 (length known)) _ _ (Ok (w ∷ ws)) (lt-leb 32 (length known) room)
     (bind_by (new_names line (known ++ w ∷ []) ws) ws _ (Ok (w ∷ ws)) rest refl)))
 
@@ -91,8 +91,8 @@ record SortsOk (a b c d : List Name) : Type 0 where
 sorts_ok : (a b c d : List Name) → AllByRecursion IsName (a ++ (b ++ (c ++ d))) → AreDistinct (a ++ (b ++ (c ++ d))) → length (a ++ (b ++ (c ++ d))) ≤ 32 →
     SortsOk a b c d
 sorts_ok a b c d named distinct few =
-    let rows = all_rest a (b ++ (c ++ d)) named in
-    let words = all_rest b (c ++ d) rows in
+    let rows = all_rest IsName a (b ++ (c ++ d)) named in
+    let words = all_rest IsName b (c ++ d) rows in
     let two : a ++ (b ++ (c ++ d)) ≡ (a ++ b) ++ (c ++ d) = sym (append_assoc a b (c ++ d)) in
     let three : a ++ (b ++ (c ++ d)) ≡ ((a ++ b) ++ c) ++ d = two ∙ sym (append_assoc (a ++ b) c d) in
     let four : a ++ (b ++ (c ++ d)) ≡ (a ++ (b ++ c)) ++ d = ap (λ (xs : List Name). a ++ xs) (sym (append_assoc b c d)) ∙ sym (append_assoc a (b ++ c) d) in
@@ -103,10 +103,10 @@ sorts_ok a b c d named distinct few =
     let t : length (a ++ (b ++ c)) ≡ length a + length (b ++ c) = length-append a (b ++ c) in
     let u : length (b ++ c) ≡ length b + length c = length-append b c in
     record {
-      named_scalars = all_first a (b ++ (c ++ d)) named;
-      named_rows = all_first b (c ++ d) rows;
-      named_words = all_first c d words;
-      named_views = all_rest c d words;
+      named_scalars = all_first IsName a (b ++ (c ++ d)) named;
+      named_rows = all_first IsName b (c ++ d) rows;
+      named_words = all_first IsName c d words;
+      named_views = all_rest IsName c d words;
       distinct_scalars = distinct_first a (b ++ (c ++ d)) distinct;
       distinct_rows = distinct_first (a ++ b) (c ++ d) (subst AreDistinct two distinct);
       distinct_words = distinct_first ((a ++ b) ++ c) d (subst AreDistinct three distinct);

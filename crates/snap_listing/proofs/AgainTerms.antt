@@ -26,6 +26,7 @@ use Rattle.snap_semantics.specs.Source.{Name}
 use Rattle.snap_semantics.specs.Spelling.{in_brackets, spelled_index, spelled_place, field_word, spelled_term, spelled_expr, spelled_relation, spelled_comparison, spelled_condition}
 use Rattle.snap_semantics.specs.Token.{Token, Word, Sign}
 use Rattle.snap_semantics.specs.Uses.{Use, Named, BankUse, FieldUse, HandUse, ViewUse, TupleUse, index_uses, term_uses, expr_uses, comparison_uses, condition_uses}
+use Rattle.snap_listing.proofs.Alls.{all_first, all_rest}
 
 -- what a use names is a name
 abbrev pub IsNamed : Use → Type 0
@@ -40,12 +41,10 @@ abbrev pub Names : List Use → Type 0
 Names us = AllByRecursion IsNamed us
 
 pub names_first : (us vs : List Use) → Names (us ++ vs) → Names us
-names_first [] vs h = tt
-names_first (u ∷ us) vs h = (h.0, names_first us vs h.1)
+names_first us vs h = all_first IsNamed us vs h
 
 pub names_rest : (us vs : List Use) → Names (us ++ vs) → Names vs
-names_rest [] vs h = h
-names_rest (u ∷ us) vs h = names_rest us vs h.1
+names_rest us vs h = all_rest IsNamed us vs h
 
 -- a rule finds x, and the next rule goes on from there
 pub then_is : {A B : Type 0} (o : Option A) (x : A) (f : A → Option B) (r : Option B) → o ≡ Some x → f x ≡ r → (o >>= f) ≡ r
@@ -73,10 +72,10 @@ neither_bool true b e = absurd cc
 neither_bool false b e = (refl, e)
 
 free_name : (x : Name) → IsName x → is_reserved x ≡ false
-free_name x h = (neither_bool (nat_lt 8 (length x)) (is_reserved x) h).1
+free_name x h = (neither_bool (nat_lt 8 (length x)) (is_reserved x) h.1).1
 
-short_name : (x : Name) → IsName x → length x ≤ 8
-short_name x h = ltb-false 8 (length x) (neither_bool (nat_lt 8 (length x)) (is_reserved x) h).0
+pub short_name : (x : Name) → IsName x → length x ≤ 8
+short_name x h = ltb-false 8 (length x) (neither_bool (nat_lt 8 (length x)) (is_reserved x) h.1).0
 
 not_by : (x w : List ℕ) (b : Bool) → bytes_eq x w ≡ b → is_reserved x ≡ false → is_reserved w ≡ true → b ≡ false
 not_by x w true e h g = let same = ap is_reserved (same_text x w (sym e)) in absurd cc

@@ -5,14 +5,14 @@ use Rattle.snap_semantics.specs.CanonicalText.{canonical_text}
 use Rattle.snap_semantics.specs.declared.instr.Line.{Line}
 use Rattle.snap_semantics.specs.Layout.{token_text, depth_behind, parts_behind, parts_before, gap, layout, line_text, lines_text}
 use Rattle.snap_semantics.specs.ScheduleText.{is_sign}
-use Rattle.snap_semantics.specs.Source.{Source}
 use Rattle.snap_semantics.specs.Spelling.{spelled_line, spelled_source}
-use Rattle.snap_semantics.specs.Token.{Token, Word, Number, Sign, TextLine, lines_of, numbered, text_lines}
+use Rattle.snap_semantics.specs.Token.{Token, Word, Number, Sign, lines_of, numbered}
 use Rattle.snap_text.specs.Tokens.{IsSound, is_some_token}
 use Rattle.snap_text.proofs.Before.{is_plain}
 use Rattle.snap_text.proofs.Printed.{Reads, space, reads_end, reads_first, reads_more, token_plain, space_plain, joined_plain, line_read}
-use Rattle.snap_text.proofs.Sound.{AreSound, lines_sound}
-use Rattle.snap_listing.specs.Laws.{line_tokens, Spells, HasSoundTokens, ReadsOnlySpelled, ReadsAllSpelled, ReadsSoundTokens, ReadsPrinted}
+use Rattle.snap_listing.specs.Laws.{line_tokens, ReadsAllSpelled, PrintsSpelling, ReadsPrinted}
+use Rattle.snap_listing.proofs.HasForms.{Sounds}
+use Rattle.snap_listing.proofs.SoundForms.{AreSoundLines, listing_sound}
 
 -- the tokens behind one, laid out without the line feed
 abbrev laid : ℕ → Token → List Token → List ℕ
@@ -53,14 +53,14 @@ both_parted depth (Sign m) u e d = absurd cc
 both_parted depth (Word w) (Sign m) e d = absurd cc
 both_parted depth (Number j) (Sign m) e d = absurd cc
 
-laid_reads : (depth : ℕ) (t : Token) (us : List Token) → AllByRecursion IsSound us → Reads t (laid depth t us) us
+laid_reads : (depth : ℕ) (t : Token) (us : List Token) → Sounds us → Reads t (laid depth t us) us
 laid_reads depth t [] h = reads_end t
 laid_reads depth t (u ∷ us) h =
     let behind = laid (depth_behind depth t u) u us in
     subst (λ (g : List ℕ). Reads t (g ++ (token_text u ++ behind)) (u ∷ us)) (sym (gap_is depth t u))
     (reads_more t u (are_parted depth t u) behind us (both_parted depth t u) h.0 (laid_reads (depth_behind depth t u) u us h.1))
 
-laid_plain : (depth : ℕ) (t : Token) (us : List Token) → AllByRecursion IsSound us → list_all is_plain (laid depth t us) ≡ true
+laid_plain : (depth : ℕ) (t : Token) (us : List Token) → Sounds us → list_all is_plain (laid depth t us) ≡ true
 laid_plain depth t [] h = refl
 laid_plain depth t (u ∷ us) h =
     let behind = laid (depth_behind depth t u) u us in
@@ -69,7 +69,7 @@ laid_plain depth t (u ∷ us) h =
     (joined_plain (token_text u) behind (token_plain u h.0) (laid_plain (depth_behind depth t u) u us h.1))
 
 -- the first of the lines, and the others
-line_printed : (k : ℕ) (t : Token) (ts : List Token) (rest : List ℕ) → IsSound t → AllByRecursion IsSound ts →
+line_printed : (k : ℕ) (t : Token) (ts : List Token) (rest : List ℕ) → IsSound t → Sounds ts →
     line_tokens (numbered k (lines_of (line_text (t ∷ ts) ++ rest))) ≡ Some (t ∷ ts) ∷ line_tokens (numbered (k + 1) (lines_of rest))
 line_printed k t ts rest h hs =
     let behind = laid 0 t ts in
@@ -80,9 +80,6 @@ line_printed k t ts rest h hs =
 
 abbrev AreSome : List (List Token) → Type 0
 AreSome lines = AllByRecursion (λ (ts : List Token). is_some_token ts ≡ true) lines
-
-abbrev AreSoundLines : List (List Token) → Type 0
-AreSoundLines lines = AllByRecursion (λ (ts : List Token). AllByRecursion IsSound ts) lines
 
 -- the lines as they are found in a text
 abbrev found_lines : List (List Token) → List (Option (List Token))
@@ -100,26 +97,11 @@ lines_some : (lines : List Line) → AreSome (map spelled_line lines)
 lines_some [] = tt
 lines_some (line ∷ lines) = (refl, lines_some lines)
 
--- what is printed spells what was to be printed
-pub printed_spells : (s : Source) → HasSoundTokens s → Spells (canonical_text s) s
-printed_spells s h = lines_printed 1 (spelled_source s) (refl, (refl, (refl, (refl, (refl, (refl, (refl, lines_some s.lines))))))) h
+-- what is printed of a listing spells it
+pub printed_spells : PrintsSpelling
+printed_spells s h =
+    lines_printed 1 (spelled_source s) (refl, (refl, (refl, (refl, (refl, (refl, (refl, lines_some s.lines))))))) (listing_sound s h)
 
-tokens_sound : (lines : List TextLine) → AllByRecursion (λ line. AreSound line.tokens) lines → AllByRecursion AreSound (line_tokens lines)
-tokens_sound [] h = tt
-tokens_sound (line ∷ lines) h = (h.0, tokens_sound lines h.1)
-
-found_sound : (lines : List (List Token)) → AllByRecursion AreSound (found_lines lines) → AreSoundLines lines
-found_sound [] h = tt
-found_sound (ts ∷ lines) h = (h.0, found_sound lines h.1)
-
--- what a text spells has sound tokens
-spelled_sound : (text : List ℕ) (s : Source) → Spells text s → HasSoundTokens s
-spelled_sound text s e =
-    found_sound (spelled_source s) (subst (AllByRecursion AreSound) e (tokens_sound (text_lines text) (lines_sound text)))
-
--- What is read has sound tokens, since its text spells it; what is printed of a listing is read, since it spells the listing.
-pub read_sound : ReadsOnlySpelled → ReadsSoundTokens
-read_sound spelled text s e = spelled_sound text s (spelled text s e).1
-
+-- so it is read
 pub printed_read : ReadsAllSpelled → ReadsPrinted
-printed_read read s h sound short = read (canonical_text s) s short h (printed_spells s sound)
+printed_read read s h short = read (canonical_text s) s short h (printed_spells s h)

@@ -2,7 +2,9 @@ pub mod AgainForms
 pub mod AgainHeader
 pub mod AgainHeaderForms
 pub mod AgainTerms
+pub mod Alls
 pub mod Checks
+pub mod Declared
 pub mod HasForms
 pub mod KnownTexts
 pub mod Laid
@@ -11,6 +13,7 @@ pub mod Names
 pub mod ReadsAll
 pub mod RightLines
 pub mod RightSources
+pub mod SoundForms
 pub mod SpelledForms
 pub mod SpelledHeader
 pub mod SpelledLines

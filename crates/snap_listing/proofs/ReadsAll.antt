@@ -1,7 +1,6 @@
 -- Every listing is read from every text that spells it.
-use Rattle.std.proofs.Common.{◌≡◌, ℕ, ◌+◌, ◌<◌, ◌≤◌, ◌||◌, ◌++◌, Bool, true, false, List, [], ◌∷◌, length, map, Option, Some, Ok, Err, nat_lt, nat_le, bytes_eq, if◌then◌else◌, refl, sym, ap, ◌∙◌, subst, arith}
+use Rattle.std.proofs.Common.{◌≡◌, ℕ, ◌+◌, ◌<◌, ◌≤◌, Bool, true, false, List, [], ◌∷◌, length, map, Option, Some, Ok, Err, nat_lt, nat_le, if◌then◌else◌, refl, ap, ◌∙◌, arith}
 use Rattle.std.proofs.lemmas.Bool.{lt-leb, le-ltb}
-use Rattle.std.specs.Cmp.Lexicographic.{same_text}
 use Rattle.std.specs.List.{AllByRecursion}
 use Rattle.snap_semantics.specs.declared.instr.Line.{Line}
 use Rattle.snap_semantics.specs.declared.refusal.ListingRefusal.{ListingRefusal}
@@ -13,52 +12,23 @@ use Rattle.snap_semantics.specs.Forms.{form_or}
 use Rattle.snap_semantics.specs.Listing.{checked_line, numbered_lines, has_line, checked_targets, line_targets, all_names, header_of, with_lines, listing_of_lines, listing_of}
 use Rattle.snap_semantics.specs.ListingForms.{is_line_number, line_form}
 use Rattle.snap_semantics.specs.RightUses.{IsRight, HasRightUses}
-use Rattle.snap_semantics.specs.Source.{Name, Source}
+use Rattle.snap_semantics.specs.Source.{Source}
 use Rattle.snap_semantics.specs.Spelling.{spelled_line, spelled_source}
 use Rattle.snap_semantics.specs.Token.{Token, TextLine, text_lines, lines_of}
-use Rattle.snap_semantics.specs.Uses.{Use, Named, BankUse, FieldUse, HandUse, ViewUse, TupleUse, instr_uses, is_among, kind_has, sort_of, use_of_sort, checked_use, checked_uses}
+use Rattle.snap_semantics.specs.Uses.{Use, Named, BankUse, FieldUse, HandUse, ViewUse, TupleUse, instr_uses, kind_has, use_of_sort, checked_use, checked_uses}
 use Rattle.snap_listing.specs.Checks.{Checked}
 use Rattle.snap_listing.specs.Laws.{line_tokens, ReadsAllSpelled}
 use Rattle.snap_listing.proofs.AgainHeader.{bind_by, pass_by, form_again, header_again}
-use Rattle.snap_listing.proofs.AgainTerms.{IsNamed, Names}
+use Rattle.snap_listing.proofs.AgainTerms.{Names}
+use Rattle.snap_listing.proofs.Declared.{uses_named}
 use Rattle.snap_listing.proofs.RightSources.{relined_uses}
-use Rattle.snap_listing.proofs.SpelledLines.{all_first, all_rest, sort_by, some_line, spelled_lines}
+use Rattle.snap_listing.proofs.SpelledHeader.{some_line}
+use Rattle.snap_listing.proofs.SpelledLines.{spelled_lines}
 
 -- a line is read from its spelling
 abbrev pub LineAgain : Type 0
 LineAgain = (s : Source) (line : Line) → is_line_number line.number ≡ true → HasForm line.instr → HasRightUses s line.instr → Names (instr_uses line.instr) →
     line_form s.kind (spelled_line line) ≡ Some line
-
-name_by : (x y : Name) (ys : List Name) (b : Bool) → bytes_eq x y ≡ b → IsName y → ((is_among x ys ≡ true) → IsName x) → (b || is_among x ys) ≡ true → IsName x
-name_by x y ys true h n g e = subst IsName (sym (same_text x y (sym h))) n
-name_by x y ys false h n g e = g e
-
-among_name : (x : Name) (ys : List Name) → AllByRecursion IsName ys → is_among x ys ≡ true → IsName x
-among_name x [] h e = absurd cc
-among_name x (y ∷ ys) h e = name_by x y ys (bytes_eq x y) refl h.0 (among_name x ys h.1) e
-
--- what is declared is a name
-declared_name : (s : Source) (wanted : Sort) (x : Name) → AllByRecursion IsName (all_names s) → sort_of s x ≡ Some wanted → IsName x
-declared_name s wanted x all e =
-    let rows = all_rest s.scalars (s.rows ++ (s.words ++ s.views)) all in
-    let words = all_rest s.rows (s.words ++ s.views) rows in
-    sort_by (IsName x) (is_among x s.scalars) (is_among x s.rows) (is_among x s.words) (is_among x s.views) wanted
-    (among_name x s.scalars (all_first s.scalars (s.rows ++ (s.words ++ s.views)) all))
-    (among_name x s.rows (all_first s.rows (s.words ++ s.views) rows))
-    (among_name x s.words (all_first s.words s.views words))
-    (among_name x s.views (all_rest s.words s.views words)) e
-
-use_named : (s : Source) (u : Use) → AllByRecursion IsName (all_names s) → IsRight s u → IsNamed u
-use_named s (Named wanted x) all e = declared_name s wanted x all e
-use_named s (BankUse b) all e = tt
-use_named s (FieldUse f) all e = tt
-use_named s HandUse all e = tt
-use_named s ViewUse all e = tt
-use_named s (TupleUse k) all e = tt
-
-uses_named : (s : Source) (us : List Use) → AllByRecursion IsName (all_names s) → AllByRecursion (IsRight s) us → Names us
-uses_named s [] all h = tt
-uses_named s (u ∷ us) all h = (use_named s u all h.0, uses_named s us all h.1)
 
 abbrev done : Checked
 done = Ok tt

@@ -1,29 +1,21 @@
--- Each line that is read speaks of nothing that the listing lacks.
-use Rattle.std.proofs.Common.{◌≡◌, ℕ, ◌+◌, Bool, true, false, List, [], ◌∷◌, Option, Some, None, Result, Ok, Err, nat_eq, nat_le, if◌then◌else◌, refl, ap, subst}
+-- What is checked of what a line speaks of, is right.
+use Rattle.std.proofs.Common.{◌≡◌, ℕ, Bool, true, false, List, [], ◌∷◌, Option, Some, None, Result, Ok, Err, if◌then◌else◌, refl, ap, subst}
 use Rattle.std.specs.List.{AllByRecursion}
-use Rattle.snap_semantics.specs.declared.instr.Instr.{Instr}
 use Rattle.snap_semantics.specs.declared.instr.Line.{Line}
 use Rattle.snap_semantics.specs.declared.refusal.ListingRefusal.{ListingRefusal}
 use Rattle.snap_semantics.specs.declared.refusal.ListingRefusal.TheVariants as refusal
 use Rattle.snap_semantics.specs.declared.text.Sort.{Sort}
 use Rattle.snap_semantics.specs.declared.text.Sort.TheVariants as sort
 use Rattle.snap_semantics.specs.Answers.{◌>>=◌}
-use Rattle.snap_semantics.specs.Forms.{form_or}
-use Rattle.snap_semantics.specs.Listing.{checked_line, numbered_lines, with_lines}
-use Rattle.snap_semantics.specs.ListingForms.{line_form}
-use Rattle.snap_semantics.specs.RightUses.{IsRight, HasRightUses, AreLinesRight}
-use Rattle.snap_semantics.specs.Source.{Source, instr_at}
-use Rattle.snap_semantics.specs.Token.{TextLine}
-use Rattle.snap_semantics.specs.Uses.{Use, Named, BankUse, FieldUse, HandUse, ViewUse, TupleUse, instr_uses, kind_has, sort_of, same_sort, use_of_sort, checked_use, checked_uses}
+use Rattle.snap_semantics.specs.Listing.{with_lines}
+use Rattle.snap_semantics.specs.RightUses.{IsRight}
+use Rattle.snap_semantics.specs.Source.{Source}
+use Rattle.snap_semantics.specs.Uses.{Use, Named, BankUse, FieldUse, HandUse, ViewUse, TupleUse, kind_has, sort_of, same_sort, use_of_sort, checked_use, checked_uses}
 
 -- what holds of what is answered, where something is
 abbrev pub HoldsOk : {A : Type 0} → (A → Type 0) → Result A ListingRefusal → Type 0
 HoldsOk P (Ok x) = P x
 HoldsOk P (Err e) = Unit {0}
-
-ok_any : {A B : Type 0} (P : B → Type 0) (r : Result A ListingRefusal) (f : A → Result B ListingRefusal) → ((x : A) → HoldsOk P (f x)) → HoldsOk P (r >>= f)
-ok_any P (Ok x) f h = h x
-ok_any P (Err e) f h = tt
 
 pub ok_with : {A B : Type 0} (Q : A → Type 0) (P : B → Type 0) (r : Result A ListingRefusal) (f : A → Result B ListingRefusal) →
     HoldsOk Q r → ((x : A) → Q x → HoldsOk P (f x)) → HoldsOk P (r >>= f)
@@ -37,10 +29,6 @@ holds_ok P (Err d) x h e = absurd cc
 pub ok_same : {A : Type 0} (Q P : A → Type 0) (r : Result A ListingRefusal) → HoldsOk Q r → ((x : A) → Q x → P x) → HoldsOk P r
 ok_same Q P (Ok x) h f = f x h
 ok_same Q P (Err e) h f = tt
-
-ok_if : {A : Type 0} (P : A → Type 0) (b : Bool) (r s : Result A ListingRefusal) → HoldsOk P r → HoldsOk P s → HoldsOk P (if b then r else s)
-ok_if P true r s g h = g
-ok_if P false r s g h = h
 
 same_sorts : (a b : Sort) → same_sort a b ≡ true → b ≡ a
 same_sorts sort.Scalar sort.Scalar e = refl
@@ -91,26 +79,6 @@ uses_ok s line (u ∷ us) =
     ok_same (WhenDone (AllByRecursion (IsRight s) us)) (WhenDone (AllByRecursion (IsRight s) (u ∷ us))) (checked_uses s line us) (uses_ok s line us)
     (λ x hs. (h, hs)))
 
-abbrev IsRightLine : Source → Line → Type 0
-IsRightLine s line = HasRightUses s line.instr
-
-checked_right : (s : Source) (at last count : ℕ) (line : Line) → HoldsOk (IsRightLine s) (checked_line s at last count line)
-checked_right s at last count line =
-    let P = IsRightLine s in
-    ok_if P (nat_le line.number last) _ _ tt (ok_if P (nat_le 200 count) _ _ tt
-    (ok_with (WhenDone (HasRightUses s line.instr)) P (checked_uses s at (instr_uses line.instr)) _ (uses_ok s at (instr_uses line.instr)) (λ done h. h)))
-
-abbrev AreRight : Source → List Line → Type 0
-AreRight s lines = AllByRecursion (IsRightLine s) lines
-
-lines_right : (s : Source) (last count : ℕ) (texts : List TextLine) → HoldsOk (AreRight s) (numbered_lines s last count texts)
-lines_right s last count [] = tt
-lines_right s last count (text ∷ texts) =
-    let P = AreRight s in
-    ok_any P (form_or (refusal.BadLine text.number) (line_form s.kind) text.tokens) _ (λ form.
-    ok_with (IsRightLine s) P (checked_line s text.number last count form) _ (checked_right s text.number last count form) (λ line h.
-    ok_with P P (numbered_lines s line.number (count + 1) texts) _ (lines_right s line.number (count + 1) texts) (λ lines hs. (h, hs))))
-
 -- a listing's lines don't say what it has
 relined_use : (s : Source) (lines : List Line) (u : Use) → IsRight s u → IsRight (with_lines lines s) u
 relined_use s lines (Named wanted x) h = h
@@ -123,21 +91,3 @@ relined_use s lines (TupleUse k) h = h
 pub relined_uses : (s : Source) (lines : List Line) (us : List Use) → AllByRecursion (IsRight s) us → AllByRecursion (IsRight (with_lines lines s)) us
 relined_uses s lines [] h = tt
 relined_uses s lines (u ∷ us) h = (relined_use s lines u h.0, relined_uses s lines us h.1)
-
-some_is : (i k : Instr) → (let o : Option Instr = Some i in o) ≡ Some k → i ≡ k
-some_is i k e = cc
-
-instr_by : (P : Instr → Type 0) (i k : Instr) (rest : Option Instr) (b : Bool) → P i → (rest ≡ Some k → P k) → (if b then Some i else rest) ≡ Some k → P k
-instr_by P i k rest true h g e = subst P (some_is i k e) h
-instr_by P i k rest false h g e = g e
-
-right_instr : (s : Source) (lines : List Line) → AreRight s lines → (number : ℕ) (i : Instr) → instr_at lines number ≡ Some i → HasRightUses s i
-right_instr s [] h number i e = absurd cc
-right_instr s (line ∷ lines) h number i e =
-    instr_by (HasRightUses s) line.instr i (instr_at lines number) (nat_eq line.number number) h.0 (right_instr s lines h.1 number i) e
-
--- the lines of a listing that was read are right
-pub right_source : (header : Source) (texts : List TextLine) (lines : List Line) → numbered_lines header 0 0 texts ≡ Ok lines → AreLinesRight (with_lines lines header)
-right_source header texts lines e =
-    let right = holds_ok (AreRight header) (numbered_lines header 0 0 texts) lines (lines_right header 0 0 texts) e in
-    record { uses = λ number i found. relined_uses header lines (instr_uses i) (right_instr header lines right number i found) }

@@ -8,18 +8,19 @@ use Rattle.std.specs.List.{AllByRecursion}
 use Rattle.snap_words.specs.declared.kind.KindTag.{KindTag}
 use Rattle.snap_semantics.specs.declared.refusal.ListingRefusal.{ListingRefusal}
 use Rattle.snap_semantics.specs.declared.refusal.ListingRefusal.TheVariants as refusal
-use Rattle.snap_semantics.specs.Forms.{number_at, word_at, keyword_at, end_at}
+use Rattle.snap_semantics.specs.Forms.{found_or, form_or, number_at, word_at, keyword_at, end_at}
 use Rattle.snap_semantics.specs.HeaderForms.{kind_of_word, kind_form, words_form, names_form, entry_form}
 use Rattle.snap_semantics.specs.IsListing.{IsName, AreDistinct}
-use Rattle.snap_semantics.specs.Forms.{found_or, form_or}
 use Rattle.snap_semantics.specs.Listing.{is_bad_name, header_line, new_names, names_line, header_of, all_names}
 use Rattle.snap_semantics.specs.ListingForms.{is_line_number}
 use Rattle.snap_semantics.specs.Source.{Name, Source}
 use Rattle.snap_semantics.specs.Spelling.{kind_word, spelled_names, spelled_entry}
-use Rattle.snap_semantics.specs.Token.{Token, Word, Number, Sign, TextLine}
+use Rattle.snap_semantics.specs.Token.{Token, Word, Number, Sign, IsWord, TextLine}
 use Rattle.snap_semantics.specs.Uses.{is_among}
+use Rattle.snap_text.proofs.Sound.{AreSound}
 use Rattle.snap_listing.specs.Laws.{line_tokens}
-use Rattle.snap_listing.proofs.HasForms.{Holds, then_with}
+use Rattle.snap_listing.proofs.Alls.{all_both}
+use Rattle.snap_listing.proofs.HasForms.{Holds, then_with, Sounds}
 use Rattle.snap_listing.proofs.RightSources.{HoldsOk, ok_with}
 use Rattle.snap_listing.proofs.SpelledTerms.{if_when, KeywordIs, keyword_is, WordIs, word_is, NumberIs, number_is, EndIs, end_is}
 
@@ -67,18 +68,18 @@ pub record NamesOk (known : List Name) (ws names : List (List ℕ)) : Type 0 whe
   pub distinct : AreDistinct known → AreDistinct (known ++ names)
   pub few : length known ≤ 32 → length known + length names ≤ 32
 
-names_ok : (line : ℕ) (known : List Name) (ws : List (List ℕ)) → HoldsOk (NamesOk known ws) (new_names line known ws)
-names_ok line known [] =
+names_ok : (line : ℕ) (known : List Name) (ws : List (List ℕ)) → AllByRecursion IsWord ws → HoldsOk (NamesOk known ws) (new_names line known ws)
+names_ok line known [] words =
     record { same = refl; named = tt; distinct = λ d. subst AreDistinct (sym (nil_end known)) d; few = λ h. omega arith }
-names_ok line known (w ∷ ws) =
+names_ok line known (w ∷ ws) words =
     let P = NamesOk known (w ∷ ws) in
     ok_when P (is_bad_name w) _ _ tt (λ bad. ok_when P (is_among w known) _ _ tt (λ among. ok_when P (nat_le 32 (length known)) _ _ tt (λ full.
-    ok_with (NamesOk (known ++ w ∷ []) ws) P (new_names line (known ++ w ∷ []) ws) _ (names_ok line (known ++ w ∷ []) ws) (λ names h.
+    ok_with (NamesOk (known ++ w ∷ []) ws) P (new_names line (known ++ w ∷ []) ws) _ (names_ok line (known ++ w ∷ []) ws words.1) (λ names h.
     let room : length known < 32 = leb-false 32 (length known) full in
     let longer : length (known ++ w ∷ []) ≡ length known + 1 = length-append known (w ∷ []) in
     record {
       same = ap (λ (xs : List (List ℕ)). w ∷ xs) h.same;
-      named = (bad, h.named);
+      named = ((words.0, bad), h.named);
       distinct = λ d. subst AreDistinct (append_assoc known (w ∷ []) names) (h.distinct (distinct_snoc known w d among));
       few = λ k. let later : length (known ++ w ∷ []) + length names ≤ 32 = h.few (omega (arith, longer, room)) in omega (arith, later, longer);
     }))))
@@ -135,13 +136,31 @@ pub record NamesLineOk (keyword : List ℕ) (known : List Name) (lines : List Te
 abbrev Anything : {A : Type 0} → A → Type 0
 Anything x = Unit {0}
 
-names_line_ok : (after : ℕ) (keyword : List ℕ) (known : List Name) (lines : List TextLine) → HoldsOk (NamesLineOk keyword known lines) (names_line after keyword known lines)
-names_line_ok after keyword known lines =
+abbrev pub some_line : List Token → Option (List Token)
+some_line ts = Some ts
+
+-- words whose tokens can stand in a text
+words_sound : (ws : List (List ℕ)) → Sounds (map (λ (x : List ℕ). Word x) ws) → AllByRecursion IsWord ws
+words_sound [] h = tt
+words_sound (w ∷ ws) h = (h.0, words_sound ws h.1)
+
+-- the tokens of each line can stand in a text
+abbrev pub AreSoundTexts : List TextLine → Type 0
+AreSoundTexts lines = AllByRecursion AreSound (line_tokens lines)
+
+-- those of the first line, and of the lines behind it
+first_sound : (ts : List Token) (lines rest : List TextLine) → line_tokens lines ≡ some_line ts ∷ line_tokens rest → AreSoundTexts lines →
+    Sounds ts × AreSoundTexts rest
+first_sound ts lines rest e sound = subst (AllByRecursion AreSound) e sound
+
+names_line_ok : (after : ℕ) (keyword : List ℕ) (known : List Name) (lines : List TextLine) → AreSoundTexts lines →
+    HoldsOk (NamesLineOk keyword known lines) (names_line after keyword known lines)
+names_line_ok after keyword known lines sound =
     let P = NamesLineOk keyword known lines in
     ok_with (SaysLine (spelled_names keyword) Anything lines) P (header_line after (names_form keyword) lines) _
     (header_says (spelled_names keyword) Anything after (names_form keyword) lines (λ ts.
     then_same (NamesAre keyword ts) (λ (x : List (List ℕ)). (ts ≡ spelled_names keyword x) × Unit {0}) (names_form keyword ts) (names_are keyword ts) (λ x e. (e, tt))))
-    (λ x g. ok_with (NamesOk known x.0) P (new_names x.1 known x.0) _ (names_ok x.1 known x.0) (λ names h.
+    (λ x g. ok_with (NamesOk known x.0) P (new_names x.1 known x.0) _ (names_ok x.1 known x.0 (words_sound x.0 (first_sound (spelled_names keyword x.0) lines x.2 g.0 sound).0.1)) (λ names h.
     record {
       line = g.0 ∙ ap (λ (ws : List (List ℕ)). (let line : Option (List Token) = Some (spelled_names keyword ws) in line) ∷ line_tokens x.2) (sym h.same);
       named = h.named;
@@ -196,13 +215,6 @@ entry_said keyword ts =
     entry_by keyword ts k.0 (is_line_number k.0) refl
     (e ∙ ap (λ (x : List Token). Word keyword ∷ x) f ∙ ap (λ (x : List Token). Word keyword ∷ Number k.0 ∷ x) z))))
 
-abbrev spelled_line_of : List Token → Option (List Token)
-spelled_line_of ts = Some ts
-
-all_append : (xs ys : List Name) → AllByRecursion IsName xs → AllByRecursion IsName ys → AllByRecursion IsName (xs ++ ys)
-all_append [] ys h g = g
-all_append (x ∷ xs) ys h g = (h.0, all_append xs ys h.1 g)
-
 -- a header as it has to be, and its lines
 pub record HeaderOk (texts : List TextLine) (x : Source × List TextLine) : Type 0 where
   pub names : AllByRecursion IsName (all_names x.0)
@@ -211,9 +223,10 @@ pub record HeaderOk (texts : List TextLine) (x : Source × List TextLine) : Type
   pub scan : is_line_number x.0.scan ≡ true
   pub update : is_line_number x.0.update ≡ true
   pub lines : line_tokens texts
-      ≡ spelled_line_of (spelled_kind x.0.kind) ∷ spelled_line_of (spelled_names (codes "scalar") x.0.scalars) ∷ spelled_line_of (spelled_names (codes "row") x.0.rows)
-      ∷ spelled_line_of (spelled_names (codes "words") x.0.words) ∷ spelled_line_of (spelled_names (codes "view") x.0.views)
-      ∷ spelled_line_of (spelled_entry (codes "scan") x.0.scan) ∷ spelled_line_of (spelled_entry (codes "update") x.0.update) ∷ line_tokens x.1
+      ≡ some_line (spelled_kind x.0.kind) ∷ some_line (spelled_names (codes "scalar") x.0.scalars) ∷ some_line (spelled_names (codes "row") x.0.rows)
+      ∷ some_line (spelled_names (codes "words") x.0.words) ∷ some_line (spelled_names (codes "view") x.0.views)
+      ∷ some_line (spelled_entry (codes "scan") x.0.scan) ∷ some_line (spelled_entry (codes "update") x.0.update) ∷ line_tokens x.1
+  pub sound : AreSoundTexts x.1
 
 behind_line : (o : Option (List Token)) (ls ms ns : List (Option (List Token))) → ls ≡ o ∷ ms → ms ≡ ns → ls ≡ o ∷ ns
 behind_line o ls ms ns p q = p ∙ ap (λ (x : List (Option (List Token))). o ∷ x) q
@@ -240,22 +253,30 @@ one_few a h = omega arith
 two_few : (a b : List Name) → length a + length b ≤ 32 → length (a ++ b) ≤ 32
 two_few a b h = let p : length (a ++ b) ≡ length a + length b = length-append a b in omega (arith, h, p)
 
-pub header_ok : (after : ℕ) (texts : List TextLine) → HoldsOk (HeaderOk texts) (header_of after texts)
+pub header_ok : (after : ℕ) (texts : List TextLine) → AreSoundTexts texts → HoldsOk (HeaderOk texts) (header_of after texts)
 unfolding header_of
-header_ok after texts =
+header_ok after texts sound =
     let H = HeaderOk texts in
     ok_with (SaysLine spelled_kind Anything texts) H (header_line after kind_form texts) _ (header_says spelled_kind Anything after kind_form texts kind_said) (λ k hk.
-    ok_with (NamesLineOk (codes "scalar") [] k.2) H (names_line after (codes "scalar") [] k.2) _ (names_line_ok after (codes "scalar") [] k.2) (λ a ha.
-    ok_with (NamesLineOk (codes "row") a.0 a.1) H (names_line after (codes "row") a.0 a.1) _ (names_line_ok after (codes "row") a.0 a.1) (λ b hb.
-    ok_with (NamesLineOk (codes "words") (a.0 ++ b.0) b.1) H (names_line after (codes "words") (a.0 ++ b.0) b.1) _ (names_line_ok after (codes "words") (a.0 ++ b.0) b.1) (λ c hc.
+    let behind_kind = (first_sound (spelled_kind k.0) texts k.2 hk.0 sound).1 in
+    ok_with (NamesLineOk (codes "scalar") [] k.2) H (names_line after (codes "scalar") [] k.2) _ (names_line_ok after (codes "scalar") [] k.2 behind_kind) (λ a ha.
+    let behind_scalars = (first_sound (spelled_names (codes "scalar") a.0) k.2 a.1 ha.line behind_kind).1 in
+    ok_with (NamesLineOk (codes "row") a.0 a.1) H (names_line after (codes "row") a.0 a.1) _ (names_line_ok after (codes "row") a.0 a.1 behind_scalars) (λ b hb.
+    let behind_rows = (first_sound (spelled_names (codes "row") b.0) a.1 b.1 hb.line behind_scalars).1 in
+    ok_with (NamesLineOk (codes "words") (a.0 ++ b.0) b.1) H (names_line after (codes "words") (a.0 ++ b.0) b.1) _
+    (names_line_ok after (codes "words") (a.0 ++ b.0) b.1 behind_rows) (λ c hc.
+    let behind_words = (first_sound (spelled_names (codes "words") c.0) b.1 c.1 hc.line behind_rows).1 in
     ok_with (NamesLineOk (codes "view") (a.0 ++ (b.0 ++ c.0)) c.1) H (names_line after (codes "view") (a.0 ++ (b.0 ++ c.0)) c.1) _
-    (names_line_ok after (codes "view") (a.0 ++ (b.0 ++ c.0)) c.1) (λ d hd.
+    (names_line_ok after (codes "view") (a.0 ++ (b.0 ++ c.0)) c.1 behind_words) (λ d hd.
+    let behind_views = (first_sound (spelled_names (codes "view") d.0) c.1 d.1 hd.line behind_words).1 in
     ok_with (SaysLine (spelled_entry (codes "scan")) IsNumbered d.1) H (header_line after (entry_form (codes "scan")) d.1) _
     (header_says (spelled_entry (codes "scan")) IsNumbered after (entry_form (codes "scan")) d.1 (entry_said (codes "scan"))) (λ e he.
+    let behind_scan = (first_sound (spelled_entry (codes "scan") e.0) d.1 e.2 he.0 behind_views).1 in
     ok_with (SaysLine (spelled_entry (codes "update")) IsNumbered e.2) H (header_line after (entry_form (codes "update")) e.2) _
     (header_says (spelled_entry (codes "update")) IsNumbered after (entry_form (codes "update")) e.2 (entry_said (codes "update"))) (λ f hf.
     record {
-      names = all_append a.0 (b.0 ++ (c.0 ++ d.0)) ha.named (all_append b.0 (c.0 ++ d.0) hb.named (all_append c.0 d.0 hc.named hd.named));
+      names =
+          all_both IsName a.0 (b.0 ++ (c.0 ++ d.0)) ha.named (all_both IsName b.0 (c.0 ++ d.0) hb.named (all_both IsName c.0 d.0 hc.named hd.named));
       distinct =
           subst AreDistinct (append_assoc a.0 (b.0 ++ c.0) d.0 ∙ ap (λ (xs : List Name). a.0 ++ xs) (append_assoc b.0 c.0 d.0))
           (hd.distinct (subst AreDistinct (append_assoc a.0 b.0 c.0) (hc.distinct (hb.distinct (ha.distinct tt)))));
@@ -265,4 +286,5 @@ header_ok after texts =
       lines =
           behind_line _ _ _ _ hk.0 (behind_line _ _ _ _ ha.line (behind_line _ _ _ _ hb.line (behind_line _ _ _ _ hc.line
           (behind_line _ _ _ _ hd.line (behind_line _ _ _ _ he.0 hf.0)))));
+      sound = (first_sound (spelled_entry (codes "update") f.0) e.2 f.2 hf.0 behind_scan).1;
     })))))))

@@ -23,6 +23,7 @@ use Rattle.snap_semantics.specs.Source.{Name}
 use Rattle.snap_semantics.specs.Spelling.{in_parentheses, in_brackets, spelled_index, spelled_place, field_word, spelled_term, spelled_expr, spelled_relation, spelled_comparison, spelled_condition, spelled_where, spelled_range, spelled_target}
 use Rattle.snap_semantics.specs.Token.{Token, Word, Number, Sign, mark_byte, same_mark}
 use Rattle.snap_semantics.specs.Uses.{Use, Named, BankUse, FieldUse, HandUse, ViewUse, TupleUse, index_uses, term_uses, expr_uses, comparison_uses, condition_uses, where_uses}
+use Rattle.snap_listing.proofs.Alls.{all_first, all_rest}
 use Rattle.snap_listing.proofs.HasForms.{Holds, then_with, either, if_so}
 
 abbrev pub IsShort : Use → Type 0
@@ -37,12 +38,10 @@ abbrev pub Shorts : List Use → Type 0
 Shorts us = AllByRecursion IsShort us
 
 pub shorts_first : (us vs : List Use) → Shorts (us ++ vs) → Shorts us
-shorts_first [] vs h = tt
-shorts_first (u ∷ us) vs h = (h.0, shorts_first us vs h.1)
+shorts_first us vs h = all_first IsShort us vs h
 
 pub shorts_rest : (us vs : List Use) → Shorts (us ++ vs) → Shorts vs
-shorts_rest [] vs h = h
-shorts_rest (u ∷ us) vs h = shorts_rest us vs h.1
+shorts_rest us vs h = all_rest IsShort us vs h
 
 pub if_when : {A : Type 0} (P : A → Type 0) (b : Bool) (o p : Option A) → (b ≡ true → Holds P o) → Holds P p → Holds P (if b then o else p)
 if_when P true o p g h = g refl

@@ -29,6 +29,6 @@ pub use laws::{
 };
 pub use listing::Listing;
 pub use printing::print;
-pub use reader::{checked_target, checked_targets, push_line, read};
+pub use reader::{checked_target, checked_targets, has_line, push_line, read};
 pub use terms::is_reserved;
 pub use uses::{has_bank, has_field, has_hands, has_view, same_kind};

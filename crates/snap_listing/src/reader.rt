@@ -1,7 +1,7 @@
 //! Reads listings.
 ghost use Rattle.std.specs.Prelude.{◌≡◌, [], ◌∷◌, ◌++◌, OnOk};
 ghost use Rattle.snap_semantics.specs.Answers.{Answers};
-ghost use Rattle.snap_semantics.specs.Listing.{numbered_lines, instr_targets, has_line, checked_targets, line_targets, listing_of_lines, listing_of};
+ghost use Rattle.snap_semantics.specs.Listing.{numbered_lines, instr_targets, has_line, checked_targets, line_targets, with_lines, listing_of_lines, listing_of};
 ghost use Rattle.snap_listing.specs.Fields.{header_source};
 ghost use Rattle.snap_listing.specs.Reading.{refusal_in, numbered_line, added_line, target_list, checked_target};
 ghost use Rattle.snap_text.specs.Lines.{view_line};
@@ -104,7 +104,7 @@ fn instr_target(instr: &Instr) -> Option<u64>
 }
 
 /// Whether there is a line with this number.
-fn has_line(lines: &[Line], number: u64) -> bool
+pub fn has_line(lines: &[Line], number: u64) -> bool
     ensures { result ≡ has_line lines.now number }
 {
     lines.iter().any(|line| line.number == number)
@@ -133,21 +133,21 @@ pub fn checked_targets(lines: &[Line]) -> Result<(), ListingRefusal>
     Ok(())
 }
 
-/// The listing that the lines of a text are. Where they are used up, the line behind them is line `after`.
+/// The header and the numbered lines of a text. Where its lines are used up, the line behind them is line `after`.
 #[tactic(auto, unfolding(snap_semantics::specs::Listing::listing_of_lines))]
-fn listing_of_lines(
+fn header_and_lines(
     alloc: Global,
     after: u64,
     texts: &mut TextLines<'_>,
-) -> Result<Listing, ListingFault>
-    ensures { Answers refusal_in (λ l. l) result (listing_of_lines after texts.old) }
+) -> Result<(Header, Vec<Line>), ListingFault>
+    ensures { Answers refusal_in (λ parts. with_lines parts.1.items (header_source parts.0)) result (listing_of_lines after texts.old) }
 {
     let header = header_of(alloc, after, texts)?;
     let lines = numbered_lines(alloc, &header, texts)?;
     checked_target(lines.as_slice(), header.scan)?;
     checked_target(lines.as_slice(), header.update)?;
     checked_targets(lines.as_slice())?;
-    Ok(Listing::of(header, lines))
+    Ok((header, lines))
 }
 
 /// The listing that a text is, or the first reason why it is none.
@@ -160,5 +160,6 @@ pub fn read(alloc: Global, text: &[u8]) -> Result<Listing, ListingFault>
     }
     let after = line_count(text) + 1;
     let mut texts = TextLines::new(text);
-    listing_of_lines(alloc, after, &mut texts)
+    let (header, lines) = header_and_lines(alloc, after, &mut texts)?;
+    Ok(Listing::of(header, lines))
 }

@@ -14,10 +14,6 @@ pub onto_cons : {A : Type 0} (xs : List A) (x : A) (m : Read (List A)) →
 onto_cons {A} xs x (Ok ys) = ap (λ (zs : List A). let r : Read (List A) = Ok (zs, ys.1) in r) (sym (append_assoc xs (x ∷ []) ys.0))
 onto_cons xs x (Err e) = refl
 
-pub onto_nil : {A : Type 0} (m : Read (List A)) → onto [] m ≡ m
-onto_nil (Ok ys) = refl
-onto_nil (Err e) = refl
-
 -- one letter further
 letter_more : (xs : List ℕ) (n b : ℕ) (r r' : Rest) → byte_in r ≡ Ok (b, r') → letter b ≡ Ok tt →
     onto xs (letters_in (suc n) r) ≡ onto (xs ++ b ∷ []) (letters_in n r')
@@ -86,9 +82,6 @@ pub names_stop : (known xs : List Name) (count : ℕ) (r : Rest) (d : ImageRefus
 names_stop known xs count r d lt e =
     let n : count - length xs ≡ suc (count - (length xs + 1)) = omega arith in
     ap (λ (m : ℕ). onto xs (names_in m (known ++ xs) r)) n ∙ name_stop known xs (count - (length xs + 1)) r d e
-
-pub names_begin : (known : List Name) (count : ℕ) (r : Rest) → onto [] (names_in count (known ++ []) r) ≡ names_in count known r
-names_begin known count r = onto_nil (names_in count (known ++ []) r) ∙ ap (λ (ys : List Name). names_in count ys r) (append-nil known)
 
 or_more : (a b c : Bool) → ((a || b) || c) ≡ (a || (b || c))
 or_more true b c = refl

@@ -15,6 +15,7 @@ use Rattle.snap_semantics.specs.RightUses.{IsRight}
 use Rattle.snap_semantics.specs.Source.{Name, Source}
 use Rattle.snap_semantics.specs.Uses.{Use, Named}
 use Rattle.snap_image.specs.Laws.{AreBytes}
+use Rattle.snap_image.proofs.TwoLists.{all_append}
 
 -- what holds of what is read, where something is
 abbrev pub Holds : {A : Type 0} → (A → Type 0) → Result A ImageRefusal → Type 0
@@ -25,6 +26,10 @@ pub then_with : {A B : Type 0} (Q : A → Type 0) (P : B → Type 0) (r : Result
     Holds Q r → ((x : A) → Q x → Holds P (f x)) → Holds P (r >>= f)
 then_with Q P (Ok x) f g h = h x g
 then_with Q P (Err e) f g h = tt
+
+pub then_any : {A B : Type 0} (P : B → Type 0) (r : Result A ImageRefusal) (f : A → Result B ImageRefusal) → ((x : A) → Holds P (f x)) → Holds P (r >>= f)
+then_any P (Ok x) f h = h x
+then_any P (Err e) f h = tt
 
 pub holds_as : {A : Type 0} (Q P : A → Type 0) (r : Result A ImageRefusal) → Holds Q r → ((x : A) → Q x → P x) → Holds P r
 holds_as Q P (Ok x) h f = f x h
@@ -38,71 +43,60 @@ pub holds_if : {A : Type 0} (P : A → Type 0) (b : Bool) (r t : Result A ImageR
 holds_if P true r t g h = g refl
 holds_if P false r t g h = h refl
 
--- What the bytes `before` say: `said`, with `after` behind it; what it speaks of is right in the listing; a form, and numbers that fit.
-pub record Part (s : Source) (before said after : List ℕ) (spoken : List Use) (F N : Type 0) : Type 0 where
-  pub bytes : AreBytes before → (before ≡ said ++ after) × AreBytes after × N
+-- What the bytes `before` say: `said`, with `after` behind it, in a form that can be said; what it speaks of is right in the listing.
+pub record Part (s : Source) (before said after : List ℕ) (spoken : List Use) (F : Type 0) : Type 0 where
+  pub bytes : AreBytes before → (before ≡ said ++ after) × AreBytes after × F
   pub uses : AllByRecursion (IsRight s) spoken
-  pub form : F
 
 abbrev pub U : Type 0
 U = Unit {0}
 
-all_append : {A : Type 0} (P : A → Type 0) (xs ys : List A) → AllByRecursion P xs → AllByRecursion P ys → AllByRecursion P (xs ++ ys)
-all_append P [] ys g h = h
-all_append P (x ∷ xs) ys g h = (g.0, all_append P xs ys g.1 h)
-
 -- a part, and one behind it
-pub both : {s : Source} {a b c x y : List ℕ} {us vs : List Use} {F G M N : Type 0} →
-    Part s a x b us F M → Part s b y c vs G N → Part s a (x ++ y) c (us ++ vs) (F × G) (M × N)
+pub both : {s : Source} {a b c x y : List ℕ} {us vs : List Use} {F G : Type 0} →
+    Part s a x b us F → Part s b y c vs G → Part s a (x ++ y) c (us ++ vs) (F × G)
 both {s} {a} {b} {c} {x} {y} {us} {vs} p q = record {
   bytes = λ small.
       let h = p.bytes small in
       let k = q.bytes h.1 in
       (h.0 ∙ ap (λ (z : List ℕ). x ++ z) k.0 ∙ sym (append_assoc x y c), k.1, (h.2, k.2));
   uses = all_append (IsRight s) us vs p.uses q.uses;
-  form = (p.form, q.form);
 }
 
-pub reformed : {s : Source} {a b x : List ℕ} {us : List Use} {F G M N : Type 0} → (F → G) → (M → N) → Part s a x b us F M → Part s a x b us G N
-reformed f g p = record { bytes = λ small. (let h = p.bytes small in (h.0, h.1, g h.2)); uses = p.uses; form = f p.form }
+pub reformed : {s : Source} {a b x : List ℕ} {us : List Use} {F G : Type 0} → (F → G) → Part s a x b us F → Part s a x b us G
+reformed f p = record { bytes = λ small. (let h = p.bytes small in (h.0, h.1, f h.2)); uses = p.uses }
 
 -- a part without a form of its own, and one behind it
-pub skip : {s : Source} {a b c x y : List ℕ} {us vs : List Use} {G N : Type 0} →
-    Part s a x b us U U → Part s b y c vs G N → Part s a (x ++ y) c (us ++ vs) G N
-skip p q = reformed (λ f. f.1) (λ f. f.1) (both p q)
+pub skip : {s : Source} {a b c x y : List ℕ} {us vs : List Use} {G : Type 0} → Part s a x b us U → Part s b y c vs G → Part s a (x ++ y) c (us ++ vs) G
+skip p q = reformed (λ f. f.1) (both p q)
 
 -- a part, and one without a form of its own behind it
-pub last : {s : Source} {a b c x y : List ℕ} {us vs : List Use} {F M : Type 0} →
-    Part s a x b us F M → Part s b y c vs U U → Part s a (x ++ y) c (us ++ vs) F M
-last p q = reformed (λ f. f.0) (λ f. f.0) (both p q)
+pub last : {s : Source} {a b c x y : List ℕ} {us vs : List Use} {F : Type 0} → Part s a x b us F → Part s b y c vs U → Part s a (x ++ y) c (us ++ vs) F
+last p q = reformed (λ f. f.0) (both p q)
 
 -- a part, and one behind it that speaks of nothing
-pub ending : {s : Source} {a b c x y : List ℕ} {us : List Use} {F M : Type 0} →
-    Part s a x b us F M → Part s b y c [] U U → Part s a (x ++ y) c us F M
-ending p q = let r = last p q in record { bytes = r.bytes; uses = p.uses; form = p.form }
+pub ending : {s : Source} {a b c x y : List ℕ} {us : List Use} {F : Type 0} → Part s a x b us F → Part s b y c [] U → Part s a (x ++ y) c us F
+ending p q = let r = last p q in record { bytes = r.bytes; uses = p.uses }
 
--- the forms and the numbers of three parts, and of four
-pub three_of : {s : Source} {a b x : List ℕ} {us : List Use} {F G H M N O : Type 0} →
-    Part s a x b us (F × (G × H)) (M × (N × O)) → Part s a x b us (F × G × H) (M × N × O)
-three_of p = reformed (λ f. (f.0, f.1.0, f.1.1)) (λ f. (f.0, f.1.0, f.1.1)) p
+-- the forms of three parts, and of four
+pub three_of : {s : Source} {a b x : List ℕ} {us : List Use} {F G H : Type 0} → Part s a x b us (F × (G × H)) → Part s a x b us (F × G × H)
+three_of p = reformed (λ f. (f.0, f.1.0, f.1.1)) p
 
-pub four_of : {s : Source} {a b x : List ℕ} {us : List Use} {F G H I M N O Q : Type 0} →
-    Part s a x b us (F × (G × (H × I))) (M × (N × (O × Q))) → Part s a x b us (F × G × H × I) (M × N × O × Q)
-four_of p = reformed (λ f. (f.0, f.1.0, f.1.1.0, f.1.1.1)) (λ f. (f.0, f.1.0, f.1.1.0, f.1.1.1)) p
+pub four_of : {s : Source} {a b x : List ℕ} {us : List Use} {F G H I : Type 0} → Part s a x b us (F × (G × (H × I))) → Part s a x b us (F × G × H × I)
+four_of p = reformed (λ f. (f.0, f.1.0, f.1.1.0, f.1.1.1)) p
 
 -- nothing read
-pub none : (s : Source) (a : List ℕ) → Part s a [] a [] U U
-none s a = record { bytes = λ small. (refl, small, tt); uses = tt; form = tt }
+pub none : (s : Source) (a : List ℕ) → Part s a [] a [] U
+none s a = record { bytes = λ small. (refl, small, tt); uses = tt }
 
 -- a bank, a field, a tuple that the kind has
-pub spoken_of : (s : Source) (a : List ℕ) (us : List Use) → AllByRecursion (IsRight s) us → Part s a [] a us U U
-spoken_of s a us h = record { bytes = λ small. (refl, small, tt); uses = h; form = tt }
+pub spoken_of : (s : Source) (a : List ℕ) (us : List Use) → AllByRecursion (IsRight s) us → Part s a [] a us U
+spoken_of s a us h = record { bytes = λ small. (refl, small, tt); uses = h }
 
 one_less : (a b : List ℕ) (k : ℕ) → a ≡ k ∷ b → AreBytes a → AreBytes b
 one_less a b k e small = let h : AreBytes (k ∷ b) = subst (λ (z : List ℕ). AreBytes z) e small in h.1
 
-pub one_byte : (s : Source) (a b : List ℕ) (k : ℕ) → a ≡ k ∷ b → Part s a (k ∷ []) b [] U U
-one_byte s a b k e = record { bytes = λ small. (e, one_less a b k e small, tt); uses = tt; form = tt }
+pub one_byte : (s : Source) (a b : List ℕ) (k : ℕ) → a ≡ k ∷ b → Part s a (k ∷ []) b [] U
+one_byte s a b k e = record { bytes = λ small. (e, one_less a b k e small, tt); uses = tt }
 
 abbrev pub ByteIs : Rest → (ℕ × Rest) → Type 0
 ByteIs r x = r.bytes ≡ x.0 ∷ x.1.bytes
@@ -145,7 +139,7 @@ abbrev pub HasSlots : Source → List Name → Sort → Type 0
 HasSlots s names wanted = (b : ℕ) (x : Name) → slice_get names b ≡ Some x → (slot names x ≡ b) × IsRight s (Named wanted x)
 
 abbrev pub SlotIs : Source → List Name → Sort → Rest → (Name × Rest) → Type 0
-SlotIs s names wanted r x = Part s r.bytes (slot names x.0 ∷ []) x.1.bytes (Named wanted x.0 ∷ []) U U
+SlotIs s names wanted r x = Part s r.bytes (slot names x.0 ∷ []) x.1.bytes (Named wanted x.0 ∷ []) U
 
 name_is : (s : Source) (names : List Name) (wanted : Sort) (line : ℕ) (r after : Rest) (b : ℕ) (o : Option Name) → HasSlots s names wanted →
     slice_get names b ≡ o → r.bytes ≡ b ∷ after.bytes → Holds (SlotIs s names wanted r) (known_name line after o)
@@ -153,7 +147,7 @@ name_is s names wanted line r after b None h g e = tt
 name_is s names wanted line r after b (Some x) h g e =
     let p = h b x g in
     let q : r.bytes ≡ slot names x ∷ after.bytes = e ∙ ap (λ (k : ℕ). k ∷ after.bytes) (sym p.0) in
-    record { bytes = λ small. (q, one_less r.bytes after.bytes (slot names x) q small, tt); uses = (p.1, tt); form = tt }
+    record { bytes = λ small. (q, one_less r.bytes after.bytes (slot names x) q small, tt); uses = (p.1, tt) }
 
 pub slot_is : (s : Source) (names : List Name) (wanted : Sort) → HasSlots s names wanted → (line : ℕ) (r : Rest) →
     Holds (SlotIs s names wanted r) (slot_in line names r)
@@ -188,7 +182,7 @@ bytes_are n r =
     (λ e. tt)
 
 abbrev pub ShortIs : Source → Rest → (ℕ × Rest) → Type 0
-ShortIs s r x = Part s r.bytes (to_be_bytes w16 x.0) x.1.bytes [] U U
+ShortIs s r x = Part s r.bytes (to_be_bytes w16 x.0) x.1.bytes [] U
 
 pub short_is : (s : Source) (r : Rest) → Holds (ShortIs s r) (short_in r)
 unfolding short_in
@@ -199,7 +193,6 @@ short_is s r =
           let w : to_be_bytes w16 (from_be_bytes w16 x.0) ≡ x.0 = be_bytes_2 x.0 (from_be_bytes w16 x.0) h.0 (small_at x.0 t.0) refl in
           (h.1 ∙ ap (λ (z : List ℕ). z ++ x.1.bytes) (sym w), t.1, tt);
       uses = tt;
-      form = tt;
     })
 
 below_64 : (bs : List ℕ) → ((i : ℕ) → get_or bs i 0 < 256) → from_be_bytes w64 bs < 2 ^ 64
@@ -208,7 +201,7 @@ below_64 bs small =
     omega arith
 
 abbrev pub LongIs : Source → Rest → (ℕ × Rest) → Type 0
-LongIs s r x = Part s r.bytes (to_be_bytes w64 x.0) x.1.bytes [] U (x.0 < 2 ^ 64)
+LongIs s r x = Part s r.bytes (to_be_bytes w64 x.0) x.1.bytes [] (x.0 < 2 ^ 64)
 
 pub long_is : (s : Source) (r : Rest) → Holds (LongIs s r) (long_in r)
 unfolding long_in
@@ -219,5 +212,4 @@ long_is s r =
           let w : to_be_bytes w64 (from_be_bytes w64 x.0) ≡ x.0 = be_bytes_8 x.0 (from_be_bytes w64 x.0) h.0 (small_at x.0 t.0) refl in
           (h.1 ∙ ap (λ (z : List ℕ). z ++ x.1.bytes) (sym w), t.1, below_64 x.0 (small_at x.0 t.0));
       uses = tt;
-      form = tt;
     })

@@ -30,7 +30,6 @@ use Rattle.snap_semantics.specs.IsListing.{HasIndex, HasTerm, HasExpr, HasCompar
 use Rattle.snap_semantics.specs.Listing.{with_lines}
 use Rattle.snap_semantics.specs.Source.{Source}
 use Rattle.snap_semantics.specs.Uses.{Use, FieldUse, HandUse, index_uses, term_uses, expr_uses, comparison_uses, condition_uses, where_uses}
-use Rattle.snap_image.specs.Laws.{FitsIndex, FitsTerm, FitsExpr, FitsComparison, FitsCondition, FitsWhere}
 use Rattle.snap_image.proofs.Parts.{Holds, then_with, holds_as, holds_if, Part, both, reformed, skip, three_of, four_of, none, spoken_of, one_byte, ByteIs, byte_is, CodeIs, code_is, HasSlots, SlotIs, slot_is, LongIs, long_is}
 
 -- the slots of the names of each sort
@@ -41,12 +40,12 @@ pub record Slots (s : Source) : Type 0 where
   pub views : HasSlots s s.views sort.View
 
 -- a byte, and what stands behind it
-pub behind : {s : Source} {a b x c : List ℕ} {us : List Use} {F N : Type 0} (k : ℕ) → a ≡ k ∷ b → Part s b x c us F N → Part s a (k ∷ x) c us F N
+pub behind : {s : Source} {a b x c : List ℕ} {us : List Use} {F : Type 0} (k : ℕ) → a ≡ k ∷ b → Part s b x c us F → Part s a (k ∷ x) c us F
 behind {s} {a} {b} k e p = skip (one_byte s a b k e) p
 
 -- the same bytes, said otherwise
-pub said_as : {s : Source} {a b x y : List ℕ} {us : List Use} {F N : Type 0} → x ≡ y → Part s a x b us F N → Part s a y b us F N
-said_as {s} {a} {b} {x} {y} {us} {F} {N} e p = subst (λ (z : List ℕ). Part s a z b us F N) e p
+pub said_as : {s : Source} {a b x y : List ℕ} {us : List Use} {F : Type 0} → x ≡ y → Part s a x b us F → Part s a y b us F
+said_as {s} {a} {b} {x} {y} {us} {F} e p = subst (λ (z : List ℕ). Part s a z b us F) e p
 
 abbrev pub WhenDone : Type 0 → Unit {0} → Type 0
 WhenDone P done = P
@@ -61,16 +60,16 @@ kind_ok line false = tt
 
 -- the lines that are to follow say nothing of names
 abbrev pub IndexIs : List Line → Source → Bool → Rest → (Index × Rest) → Type 0
-IndexIs ls s q r x = let g = with_lines ls s in Part g r.bytes (index_image g x.0) x.1.bytes (index_uses x.0) (HasIndex q x.0) (FitsIndex x.0)
+IndexIs ls s q r x = let g = with_lines ls s in Part g r.bytes (index_image g x.0) x.1.bytes (index_uses x.0) (HasIndex q x.0)
 
 -- an index behind its tag
 abbrev pub IndexTag : List Line → Source → Bool → TermTag → Rest → (Index × Rest) → Type 0
 IndexTag ls s q t r x =
     let g = with_lines ls s in
-    (said : List ℕ) × (term_code t ∷ said ≡ index_image g x.0) × Part g r.bytes said x.1.bytes (index_uses x.0) (HasIndex q x.0) (FitsIndex x.0)
+    (said : List ℕ) × (term_code t ∷ said ≡ index_image g x.0) × Part g r.bytes said x.1.bytes (index_uses x.0) (HasIndex q x.0)
 
 place_by : (ls : List Line) (s : Source) (q : Bool) (line : ℕ) (r : Rest) → Holds (IndexTag ls s q tag.Place r) (if q then Ok (index.Place, r) else Err (Invalid (refusal.BadLine line)))
-place_by ls s true line r = ([], refl, reformed (λ f. refl) (λ f. f) (none (with_lines ls s) r.bytes))
+place_by ls s true line r = ([], refl, reformed (λ f. refl) (none (with_lines ls s) r.bytes))
 place_by ls s false line r = tt
 
 pub index_tag : (ls : List Line) (s : Source) → Slots (with_lines ls s) → (line : ℕ) (q : Bool) (at : ℕ) (t : TermTag) (r : Rest) →
@@ -103,13 +102,13 @@ index_is ls s h line q r =
     (λ x p. said_as p.1 (behind (term_code t.0) e p.2)))
 
 abbrev pub TermIs : List Line → Source → Bool → Rest → (Term × Rest) → Type 0
-TermIs ls s q r x = let g = with_lines ls s in Part g r.bytes (term_image g x.0) x.1.bytes (term_uses x.0) (HasTerm q x.0) (FitsTerm x.0)
+TermIs ls s q r x = let g = with_lines ls s in Part g r.bytes (term_image g x.0) x.1.bytes (term_uses x.0) (HasTerm q x.0)
 
 -- a term behind its tag
 abbrev pub TermOf : List Line → Source → Bool → TermTag → Rest → (Term × Rest) → Type 0
 TermOf ls s q t r x =
     let g = with_lines ls s in
-    (said : List ℕ) × (term_code t ∷ said ≡ term_image g x.0) × Part g r.bytes said x.1.bytes (term_uses x.0) (HasTerm q x.0) (FitsTerm x.0)
+    (said : List ℕ) × (term_code t ∷ said ≡ term_image g x.0) × Part g r.bytes said x.1.bytes (term_uses x.0) (HasTerm q x.0)
 
 row_is : (ls : List Line) (s : Source) → Slots (with_lines ls s) → (line : ℕ) (q : Bool) (r : Rest) → Holds (TermOf ls s q tag.Row r) (row_term s line q r)
 unfolding row_term
@@ -172,7 +171,7 @@ term_is ls s h line q r =
     (λ x p. said_as p.1 (behind (term_code t.0) e p.2)))
 
 abbrev pub ExprIs : List Line → Source → Bool → Rest → (Expr × Rest) → Type 0
-ExprIs ls s q r x = let g = with_lines ls s in Part g r.bytes (expr_image g x.0) x.1.bytes (expr_uses x.0) (HasExpr q x.0) (FitsExpr x.0)
+ExprIs ls s q r x = let g = with_lines ls s in Part g r.bytes (expr_image g x.0) x.1.bytes (expr_uses x.0) (HasExpr q x.0)
 
 expr_tag : (ls : List Line) (s : Source) → Slots (with_lines ls s) → (line : ℕ) (q : Bool) (t : ExprTag) (r after : Rest) → r.bytes ≡ expr_code t ∷ after.bytes →
     Holds (ExprIs ls s q r) (expr_of_tag s line q t after)
@@ -193,7 +192,7 @@ expr_is ls s h line q r =
 
 abbrev pub ComparisonIs : List Line → Source → Bool → Rest → (Comparison × Rest) → Type 0
 ComparisonIs ls s q r x =
-    let g = with_lines ls s in Part g r.bytes (comparison_image g x.0) x.1.bytes (comparison_uses x.0) (HasComparison q x.0) (FitsComparison x.0)
+    let g = with_lines ls s in Part g r.bytes (comparison_image g x.0) x.1.bytes (comparison_uses x.0) (HasComparison q x.0)
 
 pub comparison_is : (ls : List Line) (s : Source) → Slots (with_lines ls s) → (line : ℕ) (q : Bool) (r : Rest) →
     Holds (ComparisonIs ls s q r) (comparison_in s line q r)
@@ -206,14 +205,14 @@ comparison_is ls s h line q r =
 
 abbrev pub ConditionIs : List Line → Source → Bool → Rest → (Condition × Rest) → Type 0
 ConditionIs ls s q r x =
-    let g = with_lines ls s in Part g r.bytes (condition_image g x.0) x.1.bytes (condition_uses x.0) (HasCondition q x.0) (FitsCondition x.0)
+    let g = with_lines ls s in Part g r.bytes (condition_image g x.0) x.1.bytes (condition_uses x.0) (HasCondition q x.0)
 
 -- the count and the join stand before the comparisons
 abbrev Opened : ℕ → Join → Rest → Rest → Type 0
 Opened n j r after = r.bytes ≡ n ∷ join_code j ∷ after.bytes
 
-opened : {g : Source} {x c : List ℕ} {us : List Use} {F N : Type 0} (n : ℕ) (j : Join) (r after : Rest) → Opened n j r after →
-    Part g after.bytes x c us F N → Part g r.bytes (n ∷ join_code j ∷ x) c us F N
+opened : {g : Source} {x c : List ℕ} {us : List Use} {F : Type 0} (n : ℕ) (j : Join) (r after : Rest) → Opened n j r after →
+    Part g after.bytes x c us F → Part g r.bytes (n ∷ join_code j ∷ x) c us F
 opened {g} n j r after e p = behind n e (behind (join_code j) refl p)
 
 one_is : (ls : List Line) (s : Source) → Slots (with_lines ls s) → (line : ℕ) (q : Bool) (at : ℕ) (j : Join) (r after : Rest) → Opened 1 j r after →
@@ -303,7 +302,7 @@ unfolding flag_in
 flag_is r = then_with (ByteIs r) (FlagIs r) (byte_in r) _ (byte_is r) (λ b e. flag_if r b.1 r.passed b.0 (nat_eq b.0 0) (nat_eq b.0 1) refl refl e)
 
 abbrev pub WhereIs : List Line → Source → Rest → (Option Condition × Rest) → Type 0
-WhereIs ls s r x = let g = with_lines ls s in Part g r.bytes (where_image g x.0) x.1.bytes (where_uses x.0) (HasWhere x.0) (FitsWhere x.0)
+WhereIs ls s r x = let g = with_lines ls s in Part g r.bytes (where_image g x.0) x.1.bytes (where_uses x.0) (HasWhere x.0)
 
 where_by : (ls : List Line) (s : Source) → Slots (with_lines ls s) → (line : ℕ) (flag : Bool) (r after : Rest) → r.bytes ≡ flag_byte flag ∷ after.bytes →
     Holds (WhereIs ls s r) (where_of_flag s line flag after)

@@ -18,7 +18,6 @@ use Rattle.snap_semantics.specs.RightUses.{IsRight}
 use Rattle.snap_semantics.specs.Source.{Source}
 use Rattle.snap_semantics.specs.Table.{bank_of}
 use Rattle.snap_semantics.specs.Uses.{Use, BankUse, instr_uses}
-use Rattle.snap_image.specs.Laws.{FitsInstr}
 use Rattle.snap_image.proofs.FormUses.{uses_allowed}
 use Rattle.snap_image.proofs.Parts.{Holds, then_with, holds_as, Part, both, skip, last, ending, three_of, none, spoken_of, CodeIs, code_is, SlotIs, slot_is, ShortIs, short_is}
 use Rattle.snap_image.proofs.SaidForms.{Slots, behind, IndexIs, index_is, ExprIs, expr_is, ConditionIs, condition_is, WhereIs, where_is}
@@ -27,7 +26,7 @@ use Rattle.snap_image.proofs.SaidForms.{Slots, behind, IndexIs, index_is, ExprIs
 abbrev pub OperandsAre : List Line → Source → Form → Rest → (Instr × Rest) → Type 0
 OperandsAre ls s f r x =
     let g = with_lines ls s in
-    (form_of x.0 ≡ f) × Part g r.bytes (operands_image g x.0) x.1.bytes (instr_uses x.0) (HasForm x.0) (FitsInstr x.0)
+    (form_of x.0 ≡ f) × Part g r.bytes (operands_image g x.0) x.1.bytes (instr_uses x.0) (HasForm x.0)
 
 abbrev Right : List Line → Source → List Use → Type 0
 Right ls s us = AllByRecursion (IsRight (with_lines ls s)) us
@@ -256,7 +255,7 @@ operands_are ls s h line form.Finish r right = (refl, none (with_lines ls s) r.b
 abbrev pub InstrIs : List Line → Source → Rest → (Instr × Rest) → Type 0
 InstrIs ls s r x =
     let g = with_lines ls s in
-    Part g r.bytes (form_code (form_of x.0) ∷ operands_image g x.0) x.1.bytes (instr_uses x.0) (HasForm x.0) (FitsInstr x.0)
+    Part g r.bytes (form_code (form_of x.0) ∷ operands_image g x.0) x.1.bytes (instr_uses x.0) (HasForm x.0)
 
 pub instr_is : (ls : List Line) (s : Source) → Slots (with_lines ls s) → (line : ℕ) (r : Rest) → Holds (InstrIs ls s r) (instr_in s line r)
 unfolding instr_in

@@ -1,10 +1,10 @@
 -- What is read from an image is what the image says: names, lines and the whole listing.
-use Rattle.std.proofs.Common.{◌≡◌, ℕ, ◌+◌, ◌<◌, ◌≤◌, zero, suc, Bool, true, false, ◌&&◌, ◌||◌, List, [], ◌∷◌, ◌++◌, length, take, drop, Result, Ok, Err, bytes_eq, nat_eq, nat_le, nat_lt, if◌then◌else◌, refl, sym, ap, ◌∙◌, append_assoc, subst, arith}
-use Rattle.std.proofs.lemmas.Bool.{eqb-true}
+use Rattle.std.proofs.Common.{◌≡◌, ℕ, ◌+◌, ◌<◌, ◌≤◌, zero, suc, Bool, true, false, ◌&&◌, List, [], ◌∷◌, ◌++◌, length, take, drop, Result, Ok, Err, bytes_eq, nat_eq, nat_le, nat_lt, if◌then◌else◌, Fits, w8, slice_index_or, refl, sym, ap, ◌∙◌, append_assoc, subst, arith}
+use Rattle.std.proofs.lemmas.Bool.{eqb-true, and_from, or_from}
 use Rattle.std.proofs.lemmas.List.{length-append, take-append-drop, append-nil}
 use Rattle.std.specs.Cmp.Lexicographic.{same_text}
 use Rattle.std.specs.Int.{w16, to_be_bytes}
-use Rattle.std.specs.List.{AllByRecursion}
+use Rattle.std.specs.List.{AllByRecursion, list_all}
 use Rattle.snap_words.specs.declared.kind.KindTag.TheVariants as kind
 use Rattle.snap_semantics.specs.declared.instr.Line.{Line}
 use Rattle.snap_semantics.specs.declared.refusal.ImageRefusal.{ImageRefusal}
@@ -21,12 +21,15 @@ use Rattle.snap_semantics.specs.IsListing.{IsName, AreDistinct, AreRising, IsLin
 use Rattle.snap_semantics.specs.Listing.{all_names, has_line, checked_targets, line_targets, with_lines}
 use Rattle.snap_semantics.specs.ListingForms.{is_line_number, is_reserved}
 use Rattle.snap_semantics.specs.Source.{Name, Source}
+use Rattle.snap_semantics.specs.Token.{is_letter}
 use Rattle.snap_semantics.specs.Uses.{is_among}
-use Rattle.snap_image.specs.Laws.{FitsInstr, HasFittingNumbers, AreBytes, DecodesOnlyImages}
+use Rattle.snap_image.specs.Laws.{AreBytes, DecodesOnlyImages}
+use Rattle.snap_image.proofs.TwoLists.{all_append}
 use Rattle.snap_image.proofs.Parts.{Holds, then_with, holds_as, holds_of, holds_if, Part, U, both, skip, reformed, ByteIs, byte_is, CodeIs, code_is, ShortIs, short_is}
-use Rattle.snap_image.proofs.RightImages.{then_any, neither, head_distinct}
+use Rattle.snap_image.proofs.Distinct.{head_distinct}
 use Rattle.snap_image.proofs.SaidForms.{Slots, behind}
 use Rattle.snap_image.proofs.SaidInstrs.{InstrIs, instr_is}
+use Rattle.snap_image.proofs.Shorts.{numbered}
 use Rattle.snap_image.proofs.Slots.{slots_of}
 
 abbrev NumberIs : ℕ → ℕ → Unit {0} → Type 0
@@ -41,7 +44,7 @@ number_ok line last number =
 
 abbrev LineIs : List Line → Source → ℕ → Rest → (Line × Rest) → Type 0
 LineIs ls s last r x =
-    let g = with_lines ls s in Part g r.bytes (line_image g x.0) x.1.bytes [] (IsLine g x.0 × (last < x.0.number)) (FitsInstr x.0.instr)
+    let g = with_lines ls s in Part g r.bytes (line_image g x.0) x.1.bytes [] (IsLine g x.0 × (last < x.0.number))
 
 line_is : (ls : List Line) (s : Source) → Slots (with_lines ls s) → (line last : ℕ) (r : Rest) → Holds (LineIs ls s last r) (line_in s line last r)
 unfolding line_in
@@ -51,58 +54,58 @@ line_is ls s h line last r =
     then_with (ShortIs g r) L (short_in r) _ (short_is g r) (λ n pn.
     then_with (NumberIs last n.0) L (new_number line last n.0) _ (number_ok line last n.0) (λ done k.
     then_with (InstrIs ls s n.1) L (instr_in s line n.1) _ (instr_is ls s h line n.1) (λ i pi.
-    let p = skip pn pi in
-    record { bytes = p.bytes; uses = tt; form = (record { number = k.0; form = pi.form; uses = pi.uses }, k.1) })))
-
-abbrev FitsLine : Line → Type 0
-FitsLine line = FitsInstr line.instr
+    let p = reformed (λ f. (record { number = k.0; form = f; uses = pi.uses }, k.1)) (skip pn pi) in record { bytes = p.bytes; uses = tt })))
 
 abbrev LinesAre : List Line → Source → ℕ → ℕ → Rest → (List Line × Rest) → Type 0
 LinesAre ls s count last r x =
     let g = with_lines ls s in
-    Part g r.bytes (lines_image g x.0) x.1.bytes [] (AllByRecursion (IsLine g) x.0 × AreRising last x.0 × (length x.0 ≡ count)) (AllByRecursion FitsLine x.0)
+    Part g r.bytes (lines_image g x.0) x.1.bytes [] (AllByRecursion (IsLine g) x.0 × AreRising last x.0 × (length x.0 ≡ count))
 
 lines_are : (ls : List Line) (s : Source) → Slots (with_lines ls s) → (count line last : ℕ) (r : Rest) → Holds (LinesAre ls s count last r) (lines_in s count line last r)
 unfolding lines_in
-lines_are ls s h zero line last r = record { bytes = λ small. (refl, small, tt); uses = tt; form = (tt, tt, refl) }
+lines_are ls s h zero line last r = record { bytes = λ small. (refl, small, (tt, tt, refl)); uses = tt }
 lines_are ls s h (suc count) line last r =
     let L = LinesAre ls s (suc count) last r in
     then_with (LineIs ls s last r) L (line_in s line last r) _ (line_is ls s h line last r) (λ x p.
     then_with (LinesAre ls s count x.0.number x.1) L (lines_in s count (line + 1) x.0.number x.1) _ (lines_are ls s h count (line + 1) x.0.number x.1) (λ xs k.
-    let q = both p k in
-    let counted : length xs.0 ≡ count = k.form.2 in
-    record { bytes = q.bytes; uses = tt; form = ((p.form.0, k.form.0), (p.form.1, k.form.1), ap (λ (n : ℕ). suc n) counted) }))
+    reformed (λ f. ((f.0.0, f.1.0), (f.0.1, f.1.1), ap (λ (n : ℕ). suc n) f.1.2)) (both p k)))
 
 small_after : (xs ys : List ℕ) → AreBytes (xs ++ ys) → AreBytes ys
 small_after [] ys h = h
 small_after (x ∷ xs) ys h = small_after xs ys h.1
 
 -- bytes with no numbers of several bytes among them
-plain : (g : Source) (a x b : List ℕ) → a ≡ x ++ b → Part g a x b [] U U
-plain g a x b e = record { bytes = λ small. (e, small_after x b (subst (λ (z : List ℕ). AreBytes z) e small), tt); uses = tt; form = tt }
+plain : (g : Source) (a x b : List ℕ) → a ≡ x ++ b → Part g a x b [] U
+plain g a x b e = record { bytes = λ small. (e, small_after x b (subst (λ (z : List ℕ). AreBytes z) e small), tt); uses = tt }
 
 abbrev LettersAre : ℕ → Rest → (Name × Rest) → Type 0
-LettersAre count r x = (length x.0 ≡ count) × (r.bytes ≡ x.0 ++ x.1.bytes)
+LettersAre count r x = (length x.0 ≡ count) × (r.bytes ≡ x.0 ++ x.1.bytes) × (list_all is_letter x.0 ≡ true)
+
+abbrev IsLetter : ℕ → Unit {0} → Type 0
+IsLetter b done = is_letter b ≡ true
+
+letter_is : (b : ℕ) → Holds (IsLetter b) (letter b)
+letter_is b = holds_if (IsLetter b) (is_letter b) _ _ (λ e. e) (λ e. tt)
 
 letters_are : (count : ℕ) (r : Rest) → Holds (LettersAre count r) (letters_in count r)
 unfolding letters_in
-letters_are zero r = (refl, refl)
+letters_are zero r = (refl, refl, refl)
 letters_are (suc count) r =
     let P = LettersAre (suc count) r in
     then_with (ByteIs r) P (byte_in r) _ (byte_is r) (λ b e.
-    then_any P (letter b.0) _ (λ good.
+    then_with (IsLetter b.0) P (letter b.0) _ (letter_is b.0) (λ done good.
     then_with (LettersAre count b.1) P (letters_in count b.1) _ (letters_are count b.1) (λ x h.
-    (ap (λ (n : ℕ). suc n) h.0, e ∙ ap (λ (z : List ℕ). b.0 ∷ z) h.1))))
+    (ap (λ (n : ℕ). suc n) h.0, e ∙ ap (λ (z : List ℕ). b.0 ∷ z) h.1, and_from (is_letter b.0) (list_all is_letter x.0) good h.2))))
 
 abbrev LengthIs : Rest → (ℕ × Rest) → Type 0
-LengthIs r x = (r.bytes ≡ x.0 ∷ x.1.bytes) × (x.0 ≤ 8)
+LengthIs r x = (r.bytes ≡ x.0 ∷ x.1.bytes) × (0 < x.0) × (x.0 ≤ 8)
 
 length_is : (r : Rest) → Holds (LengthIs r) (length_in r)
 unfolding length_in
 length_is r =
     let P = LengthIs r in
     then_with (ByteIs r) P (byte_in r) _ (byte_is r) (λ b e.
-    holds_if P (nat_le 1 b.0 && nat_le b.0 8) _ _ (λ f. let few : b.0 ≤ 8 = grind arith in (e, few)) (λ f. tt))
+    holds_if P (nat_le 1 b.0 && nat_le b.0 8) _ _ (λ f. let some : 0 < b.0 = grind arith in let few : b.0 ≤ 8 = grind arith in (e, some, few)) (λ f. tt))
 
 abbrev NotReserved : Name → Unit {0} → Type 0
 NotReserved x done = is_reserved x ≡ false
@@ -114,8 +117,9 @@ new_is known x =
 abbrev NameIs : Rest → (Name × Rest) → Type 0
 NameIs r x = (r.bytes ≡ length x.0 ∷ (x.0 ++ x.1.bytes)) × IsName x.0
 
-named : (x : Name) → length x ≤ 8 → is_reserved x ≡ false → IsName x
-named x few e = let short : nat_lt 8 (length x) ≡ false = grind arith in neither (nat_lt 8 (length x)) (is_reserved x) short e
+named : (x : Name) → 0 < length x → length x ≤ 8 → list_all is_letter x ≡ true → is_reserved x ≡ false → IsName x
+named x some few letters e =
+    let short : nat_lt 8 (length x) ≡ false = grind arith in ((some, letters), or_from (nat_lt 8 (length x)) (is_reserved x) short e)
 
 name_is : (known : List Name) (r : Rest) → Holds (NameIs r) (name_in known r)
 unfolding name_in
@@ -124,8 +128,9 @@ name_is known r =
     then_with (LengthIs r) P (length_in r) _ (length_is r) (λ n e.
     then_with (LettersAre n.0 n.1) P (letters_in n.0 n.1) _ (letters_are n.0 n.1) (λ x h.
     then_with (NotReserved x.0) P (new_name known x.0) _ (new_is known x.0) (λ done f.
-    let few : length x.0 ≤ 8 = subst (λ (k : ℕ). k ≤ 8) (sym h.0) e.1 in
-    (e.0 ∙ ap (λ (z : List ℕ). n.0 ∷ z) h.1 ∙ ap (λ (k : ℕ). k ∷ (x.0 ++ x.1.bytes)) (sym h.0), named x.0 few f))))
+    let some : 0 < length x.0 = subst (λ (k : ℕ). 0 < k) (sym h.0) e.1 in
+    let few : length x.0 ≤ 8 = subst (λ (k : ℕ). k ≤ 8) (sym h.0) e.2 in
+    (e.0 ∙ ap (λ (z : List ℕ). n.0 ∷ z) h.1 ∙ ap (λ (k : ℕ). k ∷ (x.0 ++ x.1.bytes)) (sym h.0), named x.0 some few h.2 f))))
 
 abbrev NamesAre : ℕ → Rest → (List Name × Rest) → Type 0
 NamesAre count r x = (r.bytes ≡ names_image x.0 ++ x.1.bytes) × (length x.0 ≡ count) × AllByRecursion IsName x.0
@@ -200,11 +205,7 @@ abbrev HeadForm : ((Source × ℕ) × Rest) → Type 0
 HeadForm x = AllByRecursion IsName (all_names x.0.0) × (length (all_names x.0.0) ≤ 32) × (x.0.1 ≤ 200)
 
 abbrev HeadIs : Source → List ℕ → ((Source × ℕ) × Rest) → Type 0
-HeadIs g bytes x = Part g bytes (head_said x.0.0 x.0.1) x.1.bytes [] (HeadForm x) U
-
-all_append : (xs ys : List Name) → AllByRecursion IsName xs → AllByRecursion IsName ys → AllByRecursion IsName (xs ++ ys)
-all_append [] ys g h = h
-all_append (x ∷ xs) ys g h = (g.0, all_append xs ys g.1 h)
+HeadIs g bytes x = Part g bytes (head_said x.0.0 x.0.1) x.1.bytes [] (HeadForm x)
 
 four_few : (a b c d : List Name) → length (a ++ (b ++ c)) + length d ≤ 32 → length (a ++ (b ++ (c ++ d))) ≤ 32
 four_few a b c d h =
@@ -230,7 +231,7 @@ head_is g bytes =
     then_with (ShortIs g scan.1) H (short_in scan.1) _ (short_is g scan.1) (λ update q.
     then_with (CountIs g update.1) H (line_count_in update.1) _ (count_is g update.1) (λ n m.
     reformed
-    (λ f. (all_append a.0 (b.0 ++ (c.0 ++ d.0)) ea.1 (all_append b.0 (c.0 ++ d.0) eb.1 (all_append c.0 d.0 ec.1 ed.1)), four_few a.0 b.0 c.0 d.0 ed.2, m.1)) (λ f. f)
+    (λ f. (all_append IsName a.0 (b.0 ++ (c.0 ++ d.0)) ea.1 (all_append IsName b.0 (c.0 ++ d.0) eb.1 (all_append IsName c.0 d.0 ec.1 ed.1)), four_few a.0 b.0 c.0 d.0 ed.2, m.1))
     (skip (plain g bytes signature s.bytes es) (behind version ev (behind (kind_code k.0) ek
     (skip (plain g k.1.bytes (table_image a.0) a.1.bytes ea.0) (skip (plain g a.1.bytes (table_image b.0) b.1.bytes eb.0)
     (skip (plain g b.1.bytes (table_image c.0) c.1.bytes ec.0) (skip (plain g c.1.bytes (table_image d.0) d.1.bytes ed.0)
@@ -268,18 +269,8 @@ targets_are lines (k ∷ ks) =
     target_by (TargetsAre lines (k ∷ ks)) (has_line lines k) (checked_targets lines ks) (refusal.NoSuchLine k) (λ e.
     unit_as (TargetsAre lines ks tt) (TargetsAre lines (k ∷ ks) tt) (checked_targets lines ks) (λ hs. (e, hs)) (targets_are lines ks))
 
-numbered_by : (s : Source) (line : Line) (lines : List Line) (k : ℕ) (b : Bool) → nat_eq line.number k ≡ b → is_line_number line.number ≡ true →
-    (has_line lines k ≡ true → is_line_number k ≡ true) → (b || has_line lines k) ≡ true → is_line_number k ≡ true
-numbered_by s line lines k true e h rest t = subst (λ (n : ℕ). is_line_number n ≡ true) (eqb-true line.number k e) h
-numbered_by s line lines k false e h rest t = rest t
-
--- a target is the number of a line
-numbered : (s : Source) (lines : List Line) (k : ℕ) → AllByRecursion (IsLine s) lines → has_line lines k ≡ true → is_line_number k ≡ true
-numbered s [] k h t = absurd cc
-numbered s (line ∷ lines) k h t = numbered_by s line lines k (nat_eq line.number k) refl h.0.number (numbered s lines k h.1) t
-
 abbrev IsImage : List ℕ → Source → Type 0
-IsImage bytes s = IsListing s × HasFittingNumbers s × (bytes ≡ image_of s)
+IsImage bytes s = IsListing s × (bytes ≡ image_of s)
 
 blank : Source
 blank = record { kind = kind.Seq; scalars = []; rows = []; words = []; views = []; scan = 0; update = 0; lines = [] }
@@ -296,20 +287,19 @@ whole bytes small s count r after lines hd d ln end t =
     let hb = hd.bytes small in
     let lb = ln.bytes hb.1 in (
       record {
-        names = hd.form.0;
+        names = hb.2.0;
         distinct = d;
-        few_names = hd.form.1;
-        scan = numbered g lines s.scan ln.form.0 t.0;
-        update = numbered g lines s.update ln.form.0 t.1.0;
-        lines = ln.form.0;
-        rising = ln.form.1;
-        few_lines = subst (λ (n : ℕ). n ≤ 200) (sym ln.form.2) hd.form.2;
+        few_names = hb.2.1;
+        scan = numbered g lines s.scan lb.2.0 t.0;
+        update = numbered g lines s.update lb.2.0 t.1.0;
+        lines = lb.2.0;
+        rising = lb.2.1;
+        few_lines = subst (λ (n : ℕ). n ≤ 200) (sym lb.2.2) hb.2.2;
         targets = t;
       },
-      lb.2,
       hb.0
           ∙ ap (λ (z : List ℕ). head_said s count ++ z) (lb.0 ∙ ap (λ (z : List ℕ). lines_image g lines ++ z) end ∙ append-nil (lines_image g lines))
-          ∙ ap (λ (n : ℕ). head_said s n ++ lines_image g lines) (sym ln.form.2),
+          ∙ ap (λ (n : ℕ). head_said s n ++ lines_image g lines) (sym lb.2.2),
     )
 
 listing_is : (bytes : List ℕ) → AreBytes bytes → Holds (IsImage bytes) (listing_of_image bytes)
@@ -328,3 +318,21 @@ listing_is bytes small =
 
 pub decodes_only : DecodesOnlyImages
 decodes_only bytes s small e = holds_of (IsImage bytes) (listing_of_image bytes) s (listing_is bytes small) e
+
+-- the head, the lines, the end and the targets of an image make up its listing
+listing_by : (bytes : List ℕ) (s : Source) (count : ℕ) (r after : Rest) (lines : List Line) → head_in bytes ≡ Ok ((s, count), r) →
+    lines_in s count 1 0 r ≡ Ok (lines, after) → ended after.bytes ≡ Ok tt → checked_targets lines (s.scan ∷ s.update ∷ line_targets lines) ≡ Ok tt →
+    listing_of_image bytes ≡ Ok (with_lines lines s)
+unfolding listing_of_image
+listing_by bytes s count r after lines e f g h = rw (e, f, g, h) refl
+
+-- what a slice of bytes holds is bytes
+are_bytes : (bytes : List ℕ) → ((i : ℕ) → Fits w8 (slice_index_or bytes i 0)) → AreBytes bytes
+are_bytes [] fits = tt
+are_bytes (b ∷ bytes) fits = let first : Fits w8 b = fits 0 in let small : b < 256 = omega (arith, first) in (small, are_bytes bytes (λ i. fits (suc i)))
+
+pub decoded_is_listing : (bytes : List ℕ) → ((i : ℕ) → Fits w8 (slice_index_or bytes i 0)) → (s : Source) (count : ℕ) (r after : Rest) (lines : List Line) →
+    head_in bytes ≡ Ok ((s, count), r) → lines_in s count 1 0 r ≡ Ok (lines, after) → ended after.bytes ≡ Ok tt →
+    checked_targets lines (s.scan ∷ s.update ∷ line_targets lines) ≡ Ok tt → IsListing (with_lines lines s)
+decoded_is_listing bytes fits s count r after lines e f g h =
+    (decodes_only bytes (with_lines lines s) (are_bytes bytes fits) (listing_by bytes s count r after lines e f g h)).0

@@ -1,6 +1,7 @@
 -- The slots of names that are declared once.
-use Rattle.std.proofs.Common.{◌≡◌, ℕ, ◌+◌, zero, suc, Bool, true, false, ◌||◌, List, [], ◌∷◌, ◌++◌, Option, Some, None, bytes_eq, if◌then◌else◌, refl, sym, ap, ◌∙◌, subst, arith}
+use Rattle.std.proofs.Common.{◌≡◌, ℕ, ◌+◌, ◌≤◌, zero, suc, Bool, true, false, ◌||◌, List, [], ◌∷◌, ◌++◌, length, Option, Some, None, bytes_eq, if◌then◌else◌, refl, sym, ap, ◌∙◌, subst, arith}
 use Rattle.std.specs.Cmp.Lexicographic.{same_text}
+use Rattle.std.proofs.lemmas.Bool.{or_parts, or_left, or_right}
 use Rattle.std.proofs.lemmas.Slice.Eq.{bytes_eq-Decides}
 use Rattle.std.specs.List.{slice_get}
 use Rattle.snap_semantics.specs.declared.text.Sort.{Sort}
@@ -13,27 +14,19 @@ use Rattle.snap_semantics.specs.Uses.{is_among}
 use Rattle.snap_image.proofs.Names.{among_both}
 use Rattle.snap_image.proofs.SaidForms.{Slots}
 
-same_name : (x y : Name) → bytes_eq x y ≡ true → x ≡ y
+pub same_name : (x y : Name) → bytes_eq x y ≡ true → x ≡ y
 same_name x y e = same_text x y (sym e)
 
-name_same : (x y : Name) → x ≡ y → bytes_eq x y ≡ true
+pub name_same : (x y : Name) → x ≡ y → bytes_eq x y ≡ true
 name_same x y e = (bytes_eq-Decides x y).1 e
-
-or_true : (a b : Bool) → b ≡ true → (a || b) ≡ true
-or_true true b e = refl
-or_true false b e = e
-
-true_or : (a b : Bool) → a ≡ true → (a || b) ≡ true
-true_or true b e = refl
-true_or false b e = absurd cc
 
 some_is : (x y : Name) → (let o : Option Name = Some x in o) ≡ Some y → x ≡ y
 some_is x y e = cc
 
 at_among : (xs : List Name) (b : ℕ) (x : Name) → slice_get xs b ≡ Some x → is_among x xs ≡ true
 at_among [] b x e = absurd cc
-at_among (y ∷ ys) zero x e = true_or (bytes_eq x y) (is_among x ys) (name_same x y (sym (some_is y x e)))
-at_among (y ∷ ys) (suc b) x e = or_true (bytes_eq x y) (is_among x ys) (at_among ys b x e)
+at_among (y ∷ ys) zero x e = or_left (bytes_eq x y) (is_among x ys) (name_same x y (sym (some_is y x e)))
+at_among (y ∷ ys) (suc b) x e = or_right (bytes_eq x y) (is_among x ys) (at_among ys b x e)
 
 -- a name that is among these is not one that is not
 other : (x y : Name) (ys : List Name) (q : Bool) → bytes_eq x y ≡ q → is_among y ys ≡ false → is_among x ys ≡ true → q ≡ false
@@ -48,27 +41,31 @@ slot_back (y ∷ ys) d (suc b) x e =
     let g : slot ys x + 1 ≡ suc b = omega (arith, h) in
     ap (λ (q : Bool). if q then 0 else slot ys x + 1) (other x y ys (bytes_eq x y) refl d.0 (at_among ys b x e)) ∙ g
 
-or_left : (a b : Bool) → (a || b) ≡ false → a ≡ false
-or_left true b e = e
-or_left false b e = refl
+within_by : (b : Bool) (k n : ℕ) → k ≤ n → (if b then 0 else k + 1) ≤ suc n
+within_by true k n le = omega arith
+within_by false k n le = omega (arith, le)
+
+pub slot_within : (names : List Name) (x : Name) → slot names x ≤ length names
+slot_within [] x = omega arith
+slot_within (n ∷ ns) x = within_by (bytes_eq x n) (slot ns x) (length ns) (slot_within ns x)
 
 pub distinct_first : (xs ys : List Name) → AreDistinct (xs ++ ys) → AreDistinct xs
 distinct_first [] ys d = tt
-distinct_first (x ∷ xs) ys d = (or_left (is_among x xs) (is_among x ys) (sym (among_both x xs ys) ∙ d.0), distinct_first xs ys d.1)
+distinct_first (x ∷ xs) ys d = ((or_parts (is_among x xs) (is_among x ys) (sym (among_both x xs ys) ∙ d.0)).0, distinct_first xs ys d.1)
 
 pub distinct_rest : (xs ys : List Name) → AreDistinct (xs ++ ys) → AreDistinct ys
 distinct_rest [] ys d = d
 distinct_rest (x ∷ xs) ys d = distinct_rest xs ys d.1
 
 -- a name of those behind is none of these
-apart : (xs ys : List Name) (x : Name) → AreDistinct (xs ++ ys) → is_among x ys ≡ true → is_among x xs ≡ false
+pub apart : (xs ys : List Name) (x : Name) → AreDistinct (xs ++ ys) → is_among x ys ≡ true → is_among x xs ≡ false
 apart [] ys x d t = refl
 apart (z ∷ zs) ys x d t =
-    let later : is_among x (zs ++ ys) ≡ true = among_both x zs ys ∙ or_true (is_among x zs) (is_among x ys) t in
+    let later : is_among x (zs ++ ys) ≡ true = among_both x zs ys ∙ or_right (is_among x zs) (is_among x ys) t in
     let p : bytes_eq x z ≡ false = other x z (zs ++ ys) (bytes_eq x z) refl d.0 later in
     ap (λ (q : Bool). q || is_among x zs) p ∙ apart zs ys x d.1 t
 
-abbrev sorted : Bool → Bool → Bool → Bool → Option Sort
+abbrev pub sorted : Bool → Bool → Bool → Bool → Option Sort
 sorted a b c d = if a then Some sort.Scalar else if b then Some sort.Row else if c then Some sort.Words else if d then Some sort.View else None
 
 rows_sorted : (a b c d : Bool) → a ≡ false → b ≡ true → sorted a b c d ≡ Some sort.Row
@@ -94,10 +91,10 @@ scalars_sorted true b c d e = refl
 scalars_sorted false b c d e = absurd cc
 
 among_left : (x : Name) (xs ys : List Name) → is_among x xs ≡ true → is_among x (xs ++ ys) ≡ true
-among_left x xs ys t = among_both x xs ys ∙ true_or (is_among x xs) (is_among x ys) t
+among_left x xs ys t = among_both x xs ys ∙ or_left (is_among x xs) (is_among x ys) t
 
 among_right : (x : Name) (xs ys : List Name) → is_among x ys ≡ true → is_among x (xs ++ ys) ≡ true
-among_right x xs ys t = among_both x xs ys ∙ or_true (is_among x xs) (is_among x ys) t
+among_right x xs ys t = among_both x xs ys ∙ or_right (is_among x xs) (is_among x ys) t
 
 -- where all names are distinct, a slot's name has that slot, and is of its sort
 pub slots_of : (s : Source) → AreDistinct (all_names s) → Slots s

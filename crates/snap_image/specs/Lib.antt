@@ -1,3 +1,4 @@
+pub mod Fits
 pub mod Head
 pub mod Laws
 pub mod Operands

@@ -1,0 +1,5 @@
+pub mod Adding
+pub mod Alone
+pub mod Back
+pub mod Keys
+pub mod Sought

@@ -1,13 +1,13 @@
+//! Texts, their images, and the programs that are loaded.
 use super::{Program, assemble, list, load};
 use snap_image::ImageFault;
 use snap_listing::ListingFault;
 use snap_semantics::{ImageRefusal, ListingRefusal, Name, Sort};
 use snap_words::KindTag;
-use std::alloc::Global;
 use std::process::Abort;
 use std::test::Fail;
 
-/// A small listing.
+/// A small listing in its canonical text.
 const SMALL: &[u8] =
     b"kind seq\nscalar\nrow\nwords\nview s\nscan 1\nupdate 2\n1: return s\n2: finish\n";
 
@@ -17,8 +17,8 @@ const SMALL_IMAGE: [u8; 25] = [
     0x00, 0x02, 0x00, 0x01, 0x16, 0x00, 0x00, 0x02, 0x17,
 ];
 
-/// Updates that collect the registers first.
-const COLLECT: &[u8] = b"\
+/// A listing in its canonical text.
+const PLAIN: &[u8] = b"\
     kind seq\n\
     scalar j c\n\
     row\n\
@@ -34,94 +34,112 @@ const COLLECT: &[u8] = b"\
     15: finish\n\
 ";
 
-/// The same listing with comments, blank lines, tabs and spaces.
-const SPACED_COLLECT: &[u8] = b"\
-    # one update collects\n\
-    kind seq # single-writer\n\
-    scalar j c\n\
+/// The same listing with comments, blank lines, and spaces and tabs between the tokens.
+const LOOSE: &[u8] = b"\
+    # an update\n\
     \n\
+    kind\tseq\n\
+    scalar j  c # counters\n\
     row\n\
     words a\n\
-    view\ts\r\n\
+    view s\n\
     scan 10\n\
+    \t \n\
     update 10\n\
-    10 : let j = 1\n\
-    11: get a[ j ] = r[j\t]\n\
-    \t12: next j n goto 11\n\
+    10 : let j=1\n\
+    11\t:get a[ j\t] = r[j ]\n\
+    12: next j n goto 11 # each word\n\
     13: let c=c+1\n\
-    # the write\n\
-    14: put r[me] = (arg,c , s)\n\
-    15: finish";
-
-/// The program of a text.
-fn program(alloc: Global, text: &[u8]) -> Result<Program, Fail> {
-    let image = assemble(alloc, text)?;
-    let program = load(alloc, image.as_slice())?;
-    Ok(program)
-}
-
-/// Whether a program has the names of the collecting listing, each with its sort.
-fn has_names_of_collect(rt: &impl Abort, program: &Program) {
-    let names = program.names();
-    assert_eq!(rt; names.len(), 4);
-    for (letters, place) in [
-        (b"j".as_slice(), (Sort::Scalar, 0)),
-        (b"c".as_slice(), (Sort::Scalar, 1)),
-        (b"a".as_slice(), (Sort::Words, 0)),
-        (b"s".as_slice(), (Sort::View, 0)),
-    ] {
-        let name = Name::of(letters);
-        assert_eq!(rt; names.get(&name).copied(), Some(place.0));
-        assert_eq!(rt; program.place(name), Some(place));
-    }
-    assert_eq!(rt; program.place(Name::of(b"x".as_slice())), None);
-}
+    \n\
+    14: put r [ me ] = ( arg,c , s )\n\
+    15: finish\n\
+    # the end\n\
+";
 
 #[test]
 fn assembles_and_lists_a_small_listing(rt: HostRuntime) -> Result<(), Fail> {
     let image = assemble(rt.alloc(), SMALL)?;
     assert_eq!(rt; image.as_slice(), SMALL_IMAGE.as_slice());
-    let text = list(rt.alloc(), image.as_slice())?;
+    let text = list(rt.alloc(), SMALL_IMAGE.as_slice())?;
     assert_eq!(rt; text.as_slice(), SMALL);
     Ok(())
 }
 
 #[test]
-fn passes_over_comments_and_spaces(rt: HostRuntime) -> Result<(), Fail> {
-    let plain = assemble(rt.alloc(), COLLECT)?;
-    let spaced = assemble(rt.alloc(), SPACED_COLLECT)?;
-    assert_eq!(rt; spaced.as_slice(), plain.as_slice());
-    let text = list(rt.alloc(), spaced.as_slice())?;
-    assert_eq!(rt; text.as_slice(), COLLECT);
+fn comments_and_spaces_leave_no_trace(rt: HostRuntime) -> Result<(), Fail> {
+    let plain = assemble(rt.alloc(), PLAIN)?;
+    let loose = assemble(rt.alloc(), LOOSE)?;
+    assert_eq!(rt; loose.as_slice(), plain.as_slice());
+    let text = list(rt.alloc(), loose.as_slice())?;
+    assert_eq!(rt; text.as_slice(), PLAIN);
     Ok(())
 }
 
-#[test]
-fn loads_programs(rt: HostRuntime) -> Result<(), Fail> {
-    let program = program(rt.alloc(), COLLECT)?;
+/// This is the program of the plain text.
+fn check_program(rt: &impl Abort, program: &Program) {
     assert_eq!(rt; program.kind(), KindTag::Seq);
-    assert!(rt; program.has_line(12));
+    assert!(rt; program.has_line(10));
+    assert!(rt; program.has_line(15));
     assert!(rt; !program.has_line(16));
-    has_names_of_collect(&rt, &program);
-    let copy = program.copy(rt.alloc())?;
-    assert_eq!(rt; copy.kind(), KindTag::Seq);
-    assert_eq!(rt; copy.listing().lines().len(), 6);
-    has_names_of_collect(&rt, &copy);
+    assert_eq!(rt; program.listing().update(), 10);
+    assert_eq!(rt; program.names().len(), 4);
+    check_name(rt, program, 0, Name::of(b"j".as_slice()), Sort::Scalar, 0);
+    check_name(rt, program, 1, Name::of(b"c".as_slice()), Sort::Scalar, 1);
+    check_name(rt, program, 2, Name::of(b"a".as_slice()), Sort::Words, 0);
+    check_name(rt, program, 3, Name::of(b"s".as_slice()), Sort::View, 0);
+    assert_eq!(rt; program.place(Name::of(b"moved".as_slice())), None);
+}
+
+/// A name, by its number among all names, with its sort and its place among the names of that sort.
+fn check_name(
+    rt: &impl Abort,
+    program: &Program,
+    index: usize,
+    name: Name,
+    sort: Sort,
+    place: usize,
+) {
+    match program.names().get_index(index) {
+        Some((found, found_sort)) => {
+            assert_eq!(rt; *found, name);
+            assert_eq!(rt; *found_sort, sort);
+        }
+        None => assert!(rt; false, "no name {index}"),
+    }
+    assert_eq!(rt; program.place(name), Some((sort, place)));
+}
+
+#[test]
+fn loads_a_program(rt: HostRuntime) -> Result<(), Fail> {
+    let image = assemble(rt.alloc(), PLAIN)?;
+    let program = load(rt.alloc(), image.as_slice())?;
+    check_program(&rt, &program);
+    check_program(&rt, &program.copy(rt.alloc())?);
     Ok(())
 }
 
 #[test]
-fn says_why_a_text_or_an_image_is_refused(rt: HostRuntime) {
+fn passes_refusals_on(rt: HostRuntime) -> Result<(), Fail> {
     assert_eq!(rt;
-        assemble(rt.alloc(), b"kind seq\n").err(),
-        Some(ListingFault::Refused(ListingRefusal::BadHeader(2)))
+        assemble(rt.alloc(), b"kind none\n").err(),
+        Some(ListingFault::Refused(ListingRefusal::BadHeader(1)))
     );
+    let cut = &SMALL_IMAGE[..24];
     assert_eq!(rt;
-        list(rt.alloc(), &SMALL_IMAGE[..4]).err(),
+        list(rt.alloc(), cut).err(),
         Some(ImageFault::Refused(ImageRefusal::Truncated))
     );
-    assert!(rt; matches!(
-        load(rt.alloc(), b"SNAP\x02"),
-        Err(ImageFault::Refused(ImageRefusal::Version))
-    ));
+    assert!(rt;
+        matches!(
+            load(rt.alloc(), b"SNAP").err(),
+            Some(ImageFault::Refused(ImageRefusal::Truncated))
+        )
+    );
+    assert!(rt;
+        matches!(
+            load(rt.alloc(), b"text").err(),
+            Some(ImageFault::Refused(ImageRefusal::NotAnImage))
+        )
+    );
+    Ok(())
 }

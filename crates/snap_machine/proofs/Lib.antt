@@ -3,6 +3,7 @@ pub mod Places
 pub mod Steps
 pub mod Replicas
 pub mod Sizes
+pub mod Found
 pub mod Kept
 pub mod Tuples
 pub mod Stands

@@ -4,5 +4,4 @@ pub mod Quantifiers
 pub mod Reading
 pub mod Seen
 pub mod Sizes
-pub mod Slot
 pub mod Standing

@@ -13,29 +13,28 @@ ghost use Rattle.snap_semantics.specs.Readers.{
 ghost use Rattle.snap_semantics.specs.State.{initial, process_at, values};
 ghost use Rattle.snap_semantics.specs.Table.{done, who};
 ghost use Rattle.snap_regs.specs.declared.fault.RegisterFault.TheVariants.{Index};
-ghost use Rattle.snap_machine.specs.Reading.{seen_contents, seen_local};
+ghost use Rattle.snap_machine.specs.Reading.{seen_contents, seen_local, value_there};
 ghost use Rattle.snap_machine.specs.Seen.{seen_locals};
 
 use crate::call::call;
 use crate::copies::copy_processes;
 use crate::fresh::new_processes;
 use crate::local_lines::data_of;
-use crate::locals::{find_row, find_scalar, find_view, find_words};
 use crate::process::Process;
 use crate::reading::{Contents, Local};
 use crate::step::step;
-use snap_listing::Listing;
+use snap_asm::Program;
 use snap_regs::{RegisterFault, Registers};
-use snap_semantics::{BitBank, Item, Name, Op, Outcome, Status};
+use snap_semantics::{BitBank, Item, Name, Op, Outcome, Sort, Status};
 use snap_words::{Address, Bank, Kind, Shape, View};
 use std::alloc::{AllocError, Global};
 use std::marker::Model;
 
-/// Processes that run a listing over registers, seen as the listing, the shape and the state.
+/// Processes that run a program over registers, seen as the program, the shape and the state.
 #[derive(Drop)]
 pub struct Machine<K: Kind> {
     alloc: Global,
-    listing: Listing,
+    program: Program,
     registers: Registers<K>,
     processes: Vec<Process<K>>,
 }
@@ -48,27 +47,27 @@ impl<K: Kind> Model for Machine<K> {
     ghost use Rattle.snap_machine.specs.Seen.{seen_state};
 
     ghost view = { λ m. record {
-      source = m.listing;
+      source = m.program;
       shape = m.registers.shape;
-      state = seen_state K.parts m.listing m.registers.memory m.processes.items;
+      state = seen_state K.parts m.program m.registers.memory m.processes.items;
     } };
 
-    ghost invariant = { λ m. Stands K.TAG K.parts m.listing m.registers.shape m.processes.items };
+    ghost invariant = { λ m. Stands K.TAG K.parts m.program m.registers.shape m.processes.items };
 }
 
 impl<K: Kind> Machine<K> {
     /// A machine in the initial state.
-    pub fn new(alloc: Global, listing: &Listing, shape: Shape) -> Result<Machine<K>, AllocError>
-        requires { listing.now.kind ≡ K.TAG }
+    pub fn new(alloc: Global, program: &Program, shape: Shape) -> Result<Machine<K>, AllocError>
+        requires { program.now.kind ≡ K.TAG }
         ensures { IfOk result (λ m.
-            m ≡ record { source = listing.now; shape = shape; state = initial listing.now shape }) }
+            m ≡ record { source = program.now; shape = shape; state = initial program.now shape }) }
     {
         let registers = Registers::new(alloc, shape)?;
-        let processes = new_processes(alloc, listing, shape)?;
-        let listing = listing.copy(alloc)?;
+        let processes = new_processes(alloc, program.listing(), shape)?;
+        let program = program.copy(alloc)?;
         Ok(Machine {
             alloc,
-            listing,
+            program,
             registers,
             processes,
         })
@@ -87,13 +86,13 @@ impl<K: Kind> Machine<K> {
         match item {
             Item::Step(i) => step(
                 self.alloc,
-                &self.listing,
+                self.program.listing(),
                 &mut self.registers,
                 self.processes.as_mut_slice(),
                 i,
             ),
             Item::Call(i, op) => Ok(call(
-                &self.listing,
+                self.program.listing(),
                 &self.registers,
                 self.processes.as_mut_slice(),
                 i,
@@ -102,12 +101,12 @@ impl<K: Kind> Machine<K> {
         }
     }
 
-    /// The listing that it runs.
-    pub fn listing(&self) -> &Listing
+    /// The program that it runs.
+    pub fn program(&self) -> &Program
         ensures value { result.now ≡ self.now.source }
         ensures kind { self.now.source.kind ≡ K.TAG }
     {
-        &self.listing
+        &self.program
     }
 
     /// The numbers of processes and of words.
@@ -217,12 +216,12 @@ impl<K: Kind> Machine<K> {
     pub fn copy(&self) -> Result<Machine<K>, AllocError>
         ensures { IfOk result (λ m. m ≡ self.now) }
     {
-        let listing = self.listing.copy(self.alloc)?;
+        let program = self.program.copy(self.alloc)?;
         let registers = self.registers.copy(self.alloc)?;
         let processes = copy_processes(self.alloc, self.processes.as_slice())?;
         Ok(Machine {
             alloc: self.alloc,
-            listing,
+            program,
             registers,
             processes,
         })
@@ -259,7 +258,7 @@ impl<K: Kind> Machine<K> {
         ensures { option_map (seen_local K.parts) result ≡ local_value (process_at self.now.state i).locals name }
     {
         let process = &self.processes[(i - 1) as usize];
-        find_local(&self.listing, process, name)
+        find_local(&self.program, process, name)
     }
 }
 
@@ -276,23 +275,24 @@ fn check_lone(j: u64) -> Result<(), RegisterFault>
 
 /// The value of a local of a process, if there is one of this name.
 fn find_local<'a, K: Kind>(
-    listing: &Listing,
+    program: &Program,
     process: &'a Process<K>,
     name: Name,
 ) -> Option<Local<'a, K>>
-    ensures { option_map (seen_local K.parts) result ≡ local_value (seen_locals K.parts listing.now process.now) name }
+    ensures { option_map (seen_local K.parts) result ≡ local_value (seen_locals K.parts program.now process.now) name }
 {
-    if let Some(number) = find_scalar(listing.scalars(), process.scalars.as_slice(), name) {
-        return Some(Local::Number(number));
-    }
-    if let Some(row) = find_row(listing.rows(), process.rows.as_slice(), name) {
-        return Some(Local::Row(row));
-    }
-    if let Some(words) = find_words::<K>(listing.words(), process.words.as_slice(), name) {
-        return Some(Local::Words(words));
-    }
-    match find_view(listing.views(), process.views.as_slice(), name) {
-        Some(view) => Some(Local::View(view)),
-        None => None,
+    let (sort, k) = program.place(name)?;
+    local_there(process, sort, k)
+}
+
+/// The value of the local at a place among those of a sort.
+fn local_there<'a, K: Kind>(process: &'a Process<K>, sort: Sort, k: usize) -> Option<Local<'a, K>>
+    ensures { option_map (seen_local K.parts) result ≡ value_there K.parts process.now sort k }
+{
+    match sort {
+        Sort::Scalar => Some(Local::Number(*process.scalars.get(k)?)),
+        Sort::Row => Some(Local::Row(process.rows.get(k)?.as_slice())),
+        Sort::Words => Some(Local::Words(process.words.get(k)?.as_slice())),
+        Sort::View => Some(Local::View(process.views.get(k)?)),
     }
 }

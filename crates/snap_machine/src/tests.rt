@@ -6,7 +6,7 @@ mod marked;
 
 use crate::machine::Machine;
 use marked::Marked;
-use snap_listing::read;
+use snap_asm::{Program, assemble, load};
 use snap_semantics::{BitBank, Cause, Item, Op, Outcome, Reason};
 use snap_words::{Address, Bank, Bits, Kind, KindTag, Multi, Seq, Shape};
 use std::alloc::{AllocError, Global};
@@ -278,6 +278,12 @@ fn text_of(alloc: Global, kind: &[u8], names: &[u8], lines: &[u8]) -> Result<Vec
     Ok(text)
 }
 
+/// The program of a text.
+fn program_of(alloc: Global, text: &[u8]) -> Result<Program, Fail> {
+    let image = assemble(alloc, text)?;
+    Ok(load(alloc, image.as_slice())?)
+}
+
 /// A machine of two processes and two words over this text, which is a listing of this kind.
 fn machine_of<K: Kind>(
     rt: &impl Abort,
@@ -287,10 +293,10 @@ fn machine_of<K: Kind>(
 ) -> Result<Machine<K>, Fail>
     requires { kind ≡ K.TAG }
 {
-    let listing = read(alloc, text)?;
-    assert!(rt; listing.kind() == kind);
+    let program = program_of(alloc, text)?;
+    assert!(rt; program.kind() == kind);
     let shape = Shape::new(2, 2)?;
-    Ok(Machine::new(alloc, &listing, shape)?)
+    Ok(Machine::new(alloc, &program, shape)?)
 }
 
 /// Whether there is a process of this number.
@@ -429,9 +435,9 @@ fn skips(rt: HostRuntime) -> Result<(), Fail> {
 
 /// A machine over the snapshot listing, after a call of an update and so many steps of process 1, which is alone.
 fn updating(rt: &impl Abort, alloc: Global, steps: u64) -> Result<Machine<Seq>, Fail> {
-    let listing = read(alloc, SNAPSHOT)?;
-    assert!(rt; listing.kind() == KindTag::Seq);
-    let mut machine = Machine::new(alloc, &listing, Shape::new(1, 1)?)?;
+    let program = program_of(alloc, SNAPSHOT)?;
+    assert!(rt; program.kind() == KindTag::Seq);
+    let mut machine = Machine::new(alloc, &program, Shape::new(1, 1)?)?;
     call(rt, &mut machine, Op::Update { word: 1, value: 7 })?;
     for _ in 0..steps {
         step(rt, &mut machine)?;

@@ -2,6 +2,8 @@
 use Rattle.std.specs.Prelude.{ℕ, List, ◌++◌, codes, decimal}
 use Rattle.snap_words.specs.declared.shape.WordFault.{WordFault}
 use Rattle.snap_words.specs.declared.shape.WordFault.TheVariants as words
+use Rattle.snap_semantics.specs.declared.refusal.ImageRefusal.{ImageRefusal}
+use Rattle.snap_semantics.specs.declared.refusal.ImageRefusal.TheVariants as image
 use Rattle.snap_semantics.specs.declared.refusal.ListingRefusal.{ListingRefusal}
 use Rattle.snap_semantics.specs.declared.refusal.ListingRefusal.TheVariants as listing
 use Rattle.snap_semantics.specs.declared.refusal.ScheduleRefusal.{ScheduleRefusal}
@@ -29,6 +31,15 @@ listing_refusal_text (listing.NoSuchLine target) = numbered (codes "L8 NoSuchLin
 listing_refusal_text (listing.TooMany line) = numbered (codes "L9 TooMany") line
 listing_refusal_text (listing.BadName line) = numbered (codes "L10 BadName") line
 
+-- a broken rule of listings is said as it is of a listing's text
+abbrev pub image_refusal_text : ImageRefusal → List ℕ
+image_refusal_text image.NotAnImage = codes "I1 NotAnImage"
+image_refusal_text image.Version = codes "I2 Version"
+image_refusal_text image.Truncated = codes "I3 Truncated"
+image_refusal_text (image.BadCode offset) = numbered (codes "I4 BadCode") offset
+image_refusal_text (image.Invalid r) = codes "I5 Invalid " ++ listing_refusal_text r
+image_refusal_text image.Extra = codes "I6 Extra"
+
 abbrev pub schedule_refusal_text : ScheduleRefusal → List ℕ
 schedule_refusal_text schedule.TooLong = codes "S1 TooLong"
 schedule_refusal_text schedule.BadShape = codes "S2 BadShape"
@@ -48,6 +59,7 @@ abbrev pub refusal_text : Refusal → List ℕ
 refusal_text refusal.InputTooLong = codes "P1 InputTooLong"
 refusal_text (refusal.WrongParts found) = numbered (codes "P2 WrongParts") found
 refusal_text (refusal.Listing r) = listing_refusal_text r
+refusal_text (refusal.Image r) = image_refusal_text r
 refusal_text (refusal.Schedule r) = schedule_refusal_text r
 refusal_text (refusal.Words r) = word_fault_text r
 refusal_text (refusal.Commands r) = command_refusal_text r

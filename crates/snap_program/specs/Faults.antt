@@ -1,5 +1,7 @@
 -- The faults of what is read, as the program's.
 use Rattle.snap_semantics.specs.declared.refusal.Refusal.TheVariants as refusal
+use Rattle.snap_image.specs.declared.fault.ImageFault.{ImageFault}
+use Rattle.snap_image.specs.declared.fault.ImageFault.TheVariants as image
 use Rattle.snap_listing.specs.declared.fault.ListingFault.{ListingFault}
 use Rattle.snap_listing.specs.declared.fault.ListingFault.TheVariants as listing
 use Rattle.snap_sched.specs.declared.fault.ScheduleFault.{ScheduleFault}
@@ -10,6 +12,10 @@ use Rattle.snap_program.specs.declared.fault.Fault.TheVariants as fault
 abbrev pub of_listing : ListingFault → Fault
 of_listing listing.Memory = fault.Memory
 of_listing (listing.Refused r) = fault.Refused (refusal.Listing r)
+
+abbrev pub of_image : ImageFault → Fault
+of_image image.Memory = fault.Memory
+of_image (image.Refused r) = fault.Refused (refusal.Image r)
 
 abbrev pub of_schedule : ScheduleFault → Fault
 of_schedule schedule.Memory = fault.Memory

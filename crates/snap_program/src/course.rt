@@ -9,7 +9,7 @@ ghost use Rattle.snap_semantics.specs.declared.process.Item.TheVariants as item;
 ghost use Rattle.snap_sched.specs.Runs.{run_items};
 ghost use Rattle.snap_program.specs.Courses.{GoesOn, of_option, steps};
 
-use snap_listing::Listing;
+use snap_asm::Program;
 use snap_machine::Machine;
 use snap_sched::{Items, Run};
 use snap_semantics::{Event, Happening, Item, Outcome};
@@ -85,13 +85,13 @@ fn push_event(events: &mut Vec<Event>, event: Option<Event>) -> Result<(), Alloc
 
 impl<K: Kind> Course<K> {
     /// Before the first item.
-    pub fn new(alloc: Global, listing: &Listing, shape: Shape) -> Result<Course<K>, AllocError>
-        requires { listing.now.kind ≡ K.TAG }
-        ensures { IfOk result (λ c. (c.machine ≡ record { source = listing.now; shape = shape; state = initial listing.now shape })
+    pub fn new(alloc: Global, program: &Program, shape: Shape) -> Result<Course<K>, AllocError>
+        requires { program.now.kind ≡ K.TAG }
+        ensures { IfOk result (λ c. (c.machine ≡ record { source = program.now; shape = shape; state = initial program.now shape })
             × (c.events.items ≡ []) × (c.position ≡ 0)) }
     {
         Ok(Course {
-            machine: Machine::new(alloc, listing, shape)?,
+            machine: Machine::new(alloc, program, shape)?,
             events: Vec::new(alloc),
             position: 0,
         })

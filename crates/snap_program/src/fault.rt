@@ -1,9 +1,10 @@
 //! Why the program did not write its output.
 ghost use Rattle.std.specs.Prelude.{◌≡◌};
 ghost use Rattle.snap_semantics.specs.declared.refusal.Refusal.TheVariants as refusal;
-ghost use Rattle.snap_program.specs.Faults.{of_listing, of_schedule};
+ghost use Rattle.snap_program.specs.Faults.{of_image, of_listing, of_schedule};
 ghost use Rattle.snap_program.specs.declared.fault.Fault.TheVariants.{Memory, Refused};
 
+use snap_image::ImageFault;
 use snap_listing::ListingFault;
 use snap_sched::ScheduleFault;
 use snap_semantics::{CommandRefusal, Refusal};
@@ -63,6 +64,17 @@ impl From<ListingFault> for Fault {
         match fault {
             ListingFault::Memory => Fault::Memory,
             ListingFault::Refused(refusal) => Fault::Refused(Refusal::Listing(refusal)),
+        }
+    }
+}
+
+impl From<ImageFault> for Fault {
+    ghost from_gives = { λ found fault. fault ≡ of_image found };
+
+    fn from(fault: ImageFault) -> Fault {
+        match fault {
+            ImageFault::Memory => Fault::Memory,
+            ImageFault::Refused(refusal) => Fault::Refused(Refusal::Image(refusal)),
         }
     }
 }

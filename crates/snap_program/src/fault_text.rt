@@ -3,6 +3,7 @@ ghost use Rattle.std.specs.Prelude.{◌≡◌, ◌++◌, codes, OnOk, IfOk, deci
 ghost use Rattle.snap_program.specs.FaultText.{
   numbered,
   listing_refusal_text,
+  image_refusal_text,
   schedule_refusal_text,
   command_refusal_text,
   word_fault_text,
@@ -11,7 +12,7 @@ ghost use Rattle.snap_program.specs.FaultText.{
 };
 
 use crate::fault::Fault;
-use snap_semantics::{CommandRefusal, ListingRefusal, Refusal, ScheduleRefusal};
+use snap_semantics::{CommandRefusal, ImageRefusal, ListingRefusal, Refusal, ScheduleRefusal};
 use snap_text::{push_number, push_text};
 use snap_words::WordFault;
 use std::alloc::{AllocError, Global};
@@ -39,6 +40,23 @@ fn push_listing_refusal(out: &mut Vec<u8>, refusal: &ListingRefusal) -> Result<(
         ListingRefusal::NoSuchLine(target) => push_numbered(out, b"L8 NoSuchLine", *target),
         ListingRefusal::TooMany(line) => push_numbered(out, b"L9 TooMany", *line),
         ListingRefusal::BadName(line) => push_numbered(out, b"L10 BadName", *line),
+    }
+}
+
+#[tactic(auto, using(snap_text::proofs::Texts::joined))]
+fn push_image_refusal(out: &mut Vec<u8>, refusal: &ImageRefusal) -> Result<(), AllocError>
+    ensures { OnOk result (out.new.items ≡ out.old.items ++ image_refusal_text refusal.now) }
+{
+    match refusal {
+        ImageRefusal::NotAnImage => push_text(out, b"I1 NotAnImage"),
+        ImageRefusal::Version => push_text(out, b"I2 Version"),
+        ImageRefusal::Truncated => push_text(out, b"I3 Truncated"),
+        ImageRefusal::BadCode(offset) => push_numbered(out, b"I4 BadCode", *offset),
+        ImageRefusal::Invalid(refusal) => {
+            push_text(out, b"I5 Invalid ")?;
+            push_listing_refusal(out, refusal)
+        }
+        ImageRefusal::Extra => push_text(out, b"I6 Extra"),
     }
 }
 
@@ -79,6 +97,7 @@ fn push_refusal(out: &mut Vec<u8>, refusal: &Refusal) -> Result<(), AllocError>
         Refusal::InputTooLong => push_text(out, b"P1 InputTooLong"),
         Refusal::WrongParts(found) => push_numbered(out, b"P2 WrongParts", *found),
         Refusal::Listing(refusal) => push_listing_refusal(out, refusal),
+        Refusal::Image(refusal) => push_image_refusal(out, refusal),
         Refusal::Schedule(refusal) => push_schedule_refusal(out, refusal),
         Refusal::Words(fault) => push_word_fault(out, fault),
         Refusal::Commands(refusal) => push_command_refusal(out, refusal),

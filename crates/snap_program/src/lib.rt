@@ -1,11 +1,13 @@
 //! What the program does between a source of bytes and a sink: whole runs, from texts to a report.
 #![tactic(auto)]
 
+mod checking;
 mod commands;
 mod conducting;
 mod course;
 mod fault;
 mod fault_text;
+mod images;
 mod output;
 mod parts;
 mod performing;

@@ -2,7 +2,9 @@
 ghost use Rattle.snap_semantics.specs.Output.{run_of, of_sub, output_of};
 ghost use Rattle.snap_program.specs.Answers.{Gives};
 
+use crate::checking::check_of;
 use crate::fault::Fault;
+use crate::images::{assemble, list};
 use crate::parts::split_parts;
 use crate::performing::perform;
 use snap_semantics::{Refusal, Sub, Task};
@@ -32,6 +34,9 @@ pub fn output(alloc: Global, task: &Task, input: &[u8]) -> Result<Vec<u8>, Fault
         return Err(Fault::Refused(Refusal::InputTooLong));
     }
     match task.sub {
+        Sub::Check => check_of(alloc, input),
+        Sub::Assemble => assemble(alloc, input),
+        Sub::List => list(alloc, input),
         Sub::Run => run(alloc, input),
     }
 }

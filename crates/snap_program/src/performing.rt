@@ -1,7 +1,6 @@
 //! A listing under a schedule, with debugger commands.
 ghost use Rattle.std.specs.Prelude.{◌≡◌, ◌++◌, IfOk, OnOk};
 ghost use Rattle.snap_semantics.specs.Answers.{refused_as};
-ghost use Rattle.snap_semantics.specs.Listing.{listing_of};
 ghost use Rattle.snap_semantics.specs.Perform.{
   command_text,
   perform_listing,
@@ -20,20 +19,14 @@ ghost use Rattle.snap_program.specs.Replies.{command_reply};
 use crate::commands::read_commands;
 use crate::course::Course;
 use crate::fault::Fault;
+use crate::images::program_of;
 use crate::report::{position_line, report};
-use snap_listing::Listing;
+use snap_asm::Program;
 use snap_sched::Schedule;
 use snap_semantics::{Command, Refusal};
 use snap_text::push_text;
 use snap_words::{Bits, Kind, KindTag, Multi, Seq, WordFault};
 use std::alloc::{AllocError, Global};
-
-/// Reads a listing.
-fn read_listing(alloc: Global, text: &[u8]) -> Result<Listing, Fault>
-    ensures { Gives (λ l. l) result (refused_as refusal.Listing (listing_of text.now)) }
-{
-    Ok(snap_listing::read(alloc, text)?)
-}
 
 /// Reads a schedule.
 fn read_schedule(alloc: Global, text: &[u8]) -> Result<Schedule, Fault>
@@ -104,21 +97,21 @@ fn replies_text(out: &mut Vec<u8>, total: u64, commands: &[Command]) -> Result<u
     Ok(position)
 }
 
-/// What a listing does under a schedule, as commands ask for it.
+/// What a program does under a schedule, as commands ask for it.
 fn performance<K: Kind>(
     alloc: Global,
-    listing: &Listing,
+    program: &Program,
     schedule: &Schedule,
     commands: &[Command],
 ) -> Result<Vec<u8>, AllocError>
-    requires { listing.now.kind ≡ K.TAG }
-    ensures { IfOk result (λ out. out.items ≡ performance listing.now schedule.now commands.now) }
+    requires { program.now.kind ≡ K.TAG }
+    ensures { IfOk result (λ out. out.items ≡ performance program.now schedule.now commands.now) }
 {
     let items = schedule.items();
     let total = items.len();
     let mut out = Vec::new(alloc);
     let position = replies_text(&mut out, total, commands)?;
-    let mut course = Course::<K>::new(alloc, listing, schedule.shape())?;
+    let mut course = Course::<K>::new(alloc, program, schedule.shape())?;
     course.apply_first(items, position)?;
     report(
         &mut out,
@@ -130,23 +123,23 @@ fn performance<K: Kind>(
     Ok(out)
 }
 
-/// What commands are answered on a listing of a kind under a schedule, and the report of the position reached.
+/// What commands are answered on a program of a kind under a schedule, and the report of the position reached.
 #[tactic(auto, unfolding(snap_semantics::specs::Perform::perform_listing))]
 fn perform_kind<K: Kind>(
     alloc: Global,
-    listing: &Listing,
+    program: &Program,
     schedule: &[u8],
     commands: &[u8],
 ) -> Result<Vec<u8>, Fault>
-    requires { listing.now.kind ≡ K.TAG }
-    ensures { Gives (λ out. out.items) result (perform_listing listing.now schedule.now commands.now) }
+    requires { program.now.kind ≡ K.TAG }
+    ensures { Gives (λ out. out.items) result (perform_listing program.now schedule.now commands.now) }
 {
     let schedule = read_schedule(alloc, schedule)?;
     if !K::fits(schedule.shape()) {
         return Err(Fault::Refused(Refusal::Words(WordFault::BadShape)));
     }
     let commands = read_commands(alloc, commands)?;
-    Ok(performance::<K>(alloc, listing, &schedule, commands.as_slice())?)
+    Ok(performance::<K>(alloc, program, &schedule, commands.as_slice())?)
 }
 
 /// What commands are answered on a listing under a schedule, and the report of the position reached, as text.
@@ -159,10 +152,10 @@ pub fn perform(
 ) -> Result<Vec<u8>, Fault>
     ensures { Gives (λ out. out.items) result (perform_of listing.now schedule.now commands.now) }
 {
-    let listing = read_listing(alloc, listing)?;
-    match listing.kind() {
-        KindTag::Seq => perform_kind::<Seq>(alloc, &listing, schedule, commands),
-        KindTag::Bits => perform_kind::<Bits>(alloc, &listing, schedule, commands),
-        KindTag::Multi => perform_kind::<Multi>(alloc, &listing, schedule, commands),
+    let program = program_of(alloc, listing)?;
+    match program.kind() {
+        KindTag::Seq => perform_kind::<Seq>(alloc, &program, schedule, commands),
+        KindTag::Bits => perform_kind::<Bits>(alloc, &program, schedule, commands),
+        KindTag::Multi => perform_kind::<Multi>(alloc, &program, schedule, commands),
     }
 }

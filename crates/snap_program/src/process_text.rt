@@ -221,7 +221,7 @@ fn locals_text<K: Kind>(out: &mut Vec<u8>, machine: &Machine<K>, i: u32) -> Resu
     requires { IsOneOf machine.now.shape.n i }
     ensures { OnOk result (out.new.items ≡ out.old.items ++ locals_text machine.now.source.kind (process_at machine.now.state i).locals) }
 {
-    let listing = machine.listing();
+    let listing = machine.program().listing();
     scalar_lines(out, listing.scalars(), machine.local_scalars(i))?;
     row_lines(out, listing.rows(), machine.local_rows(i))?;
     words_lines::<K>(out, listing.kind(), listing.words(), machine.local_words(i))?;

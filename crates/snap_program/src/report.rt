@@ -112,7 +112,7 @@ pub fn report<K: Kind>(
     let registers = machine.registers();
     first_line(out, position, total)?;
     values_line::<K>(out, registers.words())?;
-    register_lines(out, machine.listing().kind(), registers)?;
+    register_lines(out, machine.program().kind(), registers)?;
     processes_lines(out, machine)?;
     event_lines(out, events)
 }

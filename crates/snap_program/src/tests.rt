@@ -1,5 +1,6 @@
 //! Whole runs on devices that lie in memory.
 mod devices_of_memory;
+mod images;
 mod kinds;
 
 use super::{Fault, Std, conduct, fault_line, perform};

@@ -5,4 +5,8 @@ use Rattle.snap_semantics.specs.declared.text.Sub.TheVariants as sub
 
 -- the subcommand of this name
 abbrev pub sub_of : List ℕ → Option Sub
-sub_of name = if bytes_eq name (codes "run") then Some sub.Run else None
+sub_of name =
+    if bytes_eq name (codes "check") then Some sub.Check else
+    if bytes_eq name (codes "assemble") then Some sub.Assemble else
+    if bytes_eq name (codes "list") then Some sub.List else
+    if bytes_eq name (codes "run") then Some sub.Run else None

@@ -12,6 +12,9 @@ fn command<'a>(alloc: Global) -> Result<Command<'a>, AllocError> {
     Command::new(alloc, "snaplab")
         .about("Runs listings over shared registers")
         .subcommand_required(true)
+        .subcommand(Command::new(alloc, "check").about("Says whether a text is a listing"))?
+        .subcommand(Command::new(alloc, "assemble").about("Writes the image of a listing"))?
+        .subcommand(Command::new(alloc, "list").about("Writes the text of an image"))?
         .subcommand(Command::new(alloc, "run").about("Runs a listing under a schedule"))
 }
 
@@ -20,6 +23,9 @@ fn sub_of(name: &str) -> Option<Sub>
     ensures { result ≡ sub_of name.now }
 {
     match name {
+        "check" => Some(Sub::Check),
+        "assemble" => Some(Sub::Assemble),
+        "list" => Some(Sub::List),
         "run" => Some(Sub::Run),
         _ => None,
     }

@@ -1,0 +1,55 @@
+//! What is said of a text that is a listing.
+ghost use Rattle.std.specs.Prelude.{◌≡◌, IfOk};
+ghost use Rattle.snap_semantics.specs.Answers.{refused_as};
+ghost use Rattle.snap_semantics.specs.Listing.{listing_of};
+ghost use Rattle.snap_semantics.specs.Output.{check_line, check_of};
+ghost use Rattle.snap_semantics.specs.Spelling.{kind_word};
+ghost use Rattle.snap_semantics.specs.declared.refusal.Refusal.TheVariants as refusal;
+ghost use Rattle.snap_program.specs.Answers.{Gives};
+
+use crate::fault::Fault;
+use snap_listing::Listing;
+use snap_text::{push_number, push_text};
+use snap_words::KindTag;
+use std::alloc::{AllocError, Global};
+
+/// Reads a listing.
+fn read_listing(alloc: Global, text: &[u8]) -> Result<Listing, Fault>
+    ensures { Gives (λ l. l) result (refused_as refusal.Listing (listing_of text.now)) }
+{
+    Ok(snap_listing::read(alloc, text)?)
+}
+
+/// The word of a kind.
+fn kind_word(kind: KindTag) -> &'static [u8]
+    ensures { result.now ≡ kind_word kind }
+{
+    match kind {
+        KindTag::Seq => b"seq",
+        KindTag::Bits => b"bit",
+        KindTag::Multi => b"multi",
+    }
+}
+
+/// The kind of a listing, and how many numbered lines it has.
+#[tactic(auto, using(snap_text::proofs::Texts::joined))]
+fn check_line(alloc: Global, listing: &Listing) -> Result<Vec<u8>, AllocError>
+    ensures { IfOk result (λ line. line.items ≡ check_line listing.now) }
+{
+    let mut line = Vec::new(alloc);
+    push_text(&mut line, b"ok: ")?;
+    push_text(&mut line, kind_word(listing.kind()))?;
+    push_text(&mut line, b", ")?;
+    push_number(&mut line, listing.lines().len() as u64)?;
+    push_text(&mut line, b" lines\n")?;
+    Ok(line)
+}
+
+/// What is said of a text that is a listing, or why it is none.
+#[tactic(auto, unfolding(snap_semantics::specs::Output::check_of))]
+pub fn check_of(alloc: Global, text: &[u8]) -> Result<Vec<u8>, Fault>
+    ensures { Gives (λ out. out.items) result (check_of text.now) }
+{
+    let listing = read_listing(alloc, text)?;
+    Ok(check_line(alloc, &listing)?)
+}

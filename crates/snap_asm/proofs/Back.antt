@@ -1,5 +1,5 @@
 -- What is assembled lists back: from the laws of texts and of images.
-use Rattle.std.proofs.Common.{◌≡◌, ℕ, List, Ok, ap, sym, subst}
+use Rattle.std.proofs.Common.{◌≡◌, ℕ, List, Ok, ap, subst}
 use Rattle.std.specs.Prelude.{Result}
 use Rattle.snap_semantics.specs.declared.refusal.ImageRefusal.{ImageRefusal}
 use Rattle.snap_semantics.specs.declared.refusal.ListingRefusal.{ListingRefusal}

@@ -3,7 +3,6 @@ use Rattle.std.proofs.Common.{◌≡◌, ℕ, Bool, true, false, ◌&&◌, List,
 use Rattle.std.specs.Int.{w64, to_be_bytes}
 use Rattle.snap_words.specs.declared.kind.Field.{Field}
 use Rattle.snap_words.specs.declared.kind.Field.TheVariants as field
-use Rattle.snap_semantics.specs.declared.image.ExprTag.{ExprTag}
 use Rattle.snap_semantics.specs.declared.image.ExprTag.TheVariants as etag
 use Rattle.snap_semantics.specs.declared.image.TermTag.{TermTag}
 use Rattle.snap_semantics.specs.declared.image.TermTag.TheVariants as tag
@@ -21,7 +20,7 @@ use Rattle.snap_semantics.specs.declared.instr.Relation.TheVariants as relation
 use Rattle.snap_semantics.specs.declared.instr.Term.{Term}
 use Rattle.snap_semantics.specs.declared.instr.Term.TheVariants as term
 use Rattle.snap_semantics.specs.Image.{slot, index_image, field_tag, term_image, expr_image, comparison_image, condition_image, where_image}
-use Rattle.snap_semantics.specs.ImageCodes.{of_code, terms, exprs, relations, joins, term_code, expr_code, relation_code, join_code}
+use Rattle.snap_semantics.specs.ImageCodes.{of_code, terms, exprs, relations, joins, term_code, relation_code, join_code}
 use Rattle.snap_semantics.specs.ImageForms.{Rest, byte_in, long_in, code_in, slot_in, allowed, number_index, scalar_index, index_of_tag, index_in, row_term, field_term, hand_term, index_term, term_of_tag, term_in, plain_expr, sum_expr, not_expr, expr_in, comparison_in, two_in, three_in, four_in, one_in, comparisons_in, count_in, condition_in, flag_in, where_of_flag, where_in}
 use Rattle.snap_semantics.specs.IsListing.{HasIndex, HasTerm, HasExpr, HasComparison, HasCondition, HasWhere}
 use Rattle.snap_semantics.specs.Listing.{with_lines}
@@ -29,7 +28,7 @@ use Rattle.snap_semantics.specs.RightUses.{IsRight}
 use Rattle.snap_semantics.specs.Source.{Name, Source}
 use Rattle.snap_semantics.specs.Uses.{Use, FieldUse, HandUse, index_uses, term_uses, expr_uses, comparison_uses, condition_uses, where_uses}
 use Rattle.snap_image.proofs.AgainParts.{Gives, then_gives, then_done, gives_if, byte_again, long_again, known_again, code_again, scalar_again, row_again, words_again, Right, allowed_again}
-use Rattle.snap_image.proofs.TwoLists.{all_first, all_rest}
+use Rattle.snap_listing.proofs.Alls.{all_first, all_rest}
 
 -- what stands before the lines of a listing; with it they are read
 abbrev pub head : Source → Source
@@ -61,11 +60,6 @@ term_coded tag.Datum = refl
 term_coded tag.Hand = refl
 term_coded tag.Toggle = refl
 term_coded tag.Id = refl
-
-expr_coded : (t : ExprTag) → of_code exprs (expr_code t) ≡ Some t
-expr_coded etag.Term = refl
-expr_coded etag.Sum = refl
-expr_coded etag.Not = refl
 
 relation_coded : (k : Relation) → of_code relations (relation_code k) ≡ Some k
 relation_coded relation.Equal = refl
@@ -108,7 +102,8 @@ index_parts g (index.Scalar x) = refl
 tagged_again : (g : Source) (line : ℕ) (q : Bool) (at : ℕ) (i : Index) (after : List ℕ) (r : Rest) → HasIndex q i → Right g (index_uses i) →
     r.bytes ≡ index_said g i ++ after → Gives (index_of_tag (head g) line q at (index_tag i) r) i after
 unfolding number_index scalar_index
-tagged_again g line q at (index.Number k) after r h uses e = then_gives k after (long_in r) _ (index.Number k) after (long_again k h after r e) (λ t p. (t, refl, p))
+tagged_again g line q at (index.Number k) after r h uses e =
+    then_gives k after (long_in r) _ (index.Number k) after (long_again k h after r e) (λ t p. (t, refl, p))
 tagged_again g line q at index.Processes after r h uses e = (r, refl, e)
 tagged_again g line q at index.Words after r h uses e = (r, refl, e)
 tagged_again g line q at index.Me after r h uses e = (r, refl, e)
@@ -118,7 +113,8 @@ tagged_again g line q at (index.Scalar x) after r h uses e =
     then_gives x after (slot_in line g.scalars r) _ (index.Scalar x) after (scalar_again g line x after r uses.0 e) (λ t p. (t, refl, p))
 
 -- the tag, and what stands behind it
-index_bytes : (g : Source) (i : Index) (after : List ℕ) (r : Rest) → r.bytes ≡ index_image g i ++ after → r.bytes ≡ term_code (index_tag i) ∷ (index_said g i ++ after)
+index_bytes : (g : Source) (i : Index) (after : List ℕ) (r : Rest) → r.bytes ≡ index_image g i ++ after →
+    r.bytes ≡ term_code (index_tag i) ∷ (index_said g i ++ after)
 index_bytes g i after r e = e ∙ ap (λ (z : List ℕ). z ++ after) (index_parts g i)
 
 pub index_again : (g : Source) (line : ℕ) (q : Bool) (i : Index) (after : List ℕ) (r : Rest) → HasIndex q i → Right g (index_uses i) →
@@ -126,10 +122,12 @@ pub index_again : (g : Source) (line : ℕ) (q : Bool) (i : Index) (after : List
 unfolding index_in
 index_again g line q i after r h uses e =
     let said : List ℕ = index_said g i ++ after in
-    then_gives (index_tag i) said (code_in terms r) _ i after (code_again terms (index_tag i) (term_coded (index_tag i)) said r (index_bytes g i after r e))
+    then_gives (index_tag i) said (code_in terms r) _ i after
+    (code_again terms (index_tag i) (term_coded (index_tag i)) said r (index_bytes g i after r e))
     (λ t p. tagged_again g line q r.passed i after t h uses p)
 
-index_tagged : (s : Source) (line : ℕ) (q : Bool) (at : ℕ) (i : Index) (r : Rest) → term_of_tag s line q at (index_tag i) r ≡ index_term s line q at (index_tag i) r
+index_tagged : (s : Source) (line : ℕ) (q : Bool) (at : ℕ) (i : Index) (r : Rest) →
+    term_of_tag s line q at (index_tag i) r ≡ index_term s line q at (index_tag i) r
 index_tagged s line q at (index.Number k) r = refl
 index_tagged s line q at index.Processes r = refl
 index_tagged s line q at index.Words r = refl
@@ -138,32 +136,40 @@ index_tagged s line q at index.Word r = refl
 index_tagged s line q at index.Place r = refl
 index_tagged s line q at (index.Scalar x) r = refl
 
-index_term_again : (g : Source) (line : ℕ) (q : Bool) (at : ℕ) (i : Index) (after : List ℕ) (r : Rest) → HasIndex q i → Right g (index_uses i) →
+index_term_again : (g : Source) (line : ℕ) (q : Bool) (at : ℕ) (i : Index) (after : List ℕ) (r : Rest) → HasIndex q i →
+    Right g (index_uses i) →
     r.bytes ≡ index_said g i ++ after → Gives (index_term (head g) line q at (index_tag i) r) (term.Index i) after
 unfolding index_term
 index_term_again g line q at i after r h uses e =
-    then_gives i after (index_of_tag (head g) line q at (index_tag i) r) _ (term.Index i) after (tagged_again g line q at i after r h uses e) (λ t p. (t, refl, p))
+    then_gives i after (index_of_tag (head g) line q at (index_tag i) r) _ (term.Index i) after
+    (tagged_again g line q at i after r h uses e) (λ t p. (t, refl, p))
 
-field_tagged : (s : Source) (line : ℕ) (q : Bool) (at : ℕ) (f : Field) (r : Rest) → term_of_tag s line q at (field_tag f) r ≡ field_term s line q f r
+field_tagged : (s : Source) (line : ℕ) (q : Bool) (at : ℕ) (f : Field) (r : Rest) →
+    term_of_tag s line q at (field_tag f) r ≡ field_term s line q f r
 field_tagged s line q at field.Seq r = refl
 field_tagged s line q at field.Datum r = refl
 field_tagged s line q at field.Toggle r = refl
 field_tagged s line q at field.Id r = refl
 
-row_term_again : (g : Source) (line : ℕ) (q : Bool) (x : Name) (i : Index) (after : List ℕ) (r : Rest) → HasIndex q i → Right g (term_uses (term.Row x i)) →
+row_term_again : (g : Source) (line : ℕ) (q : Bool) (x : Name) (i : Index) (after : List ℕ) (r : Rest) → HasIndex q i →
+    Right g (term_uses (term.Row x i)) →
     r.bytes ≡ slot g.rows x ∷ (index_image g i ++ after) → Gives (row_term (head g) line q r) (term.Row x i) after
 unfolding row_term
 row_term_again g line q x i after r h uses e =
-    then_gives x (index_image g i ++ after) (slot_in line g.rows r) _ (term.Row x i) after (row_again g line x (index_image g i ++ after) r uses.0 e) (λ a p.
-    then_gives i after (index_in (head g) line q a) _ (term.Row x i) after (index_again g line q i after a h uses.1 p) (λ b k. (b, refl, k)))
+    then_gives x (index_image g i ++ after) (slot_in line g.rows r) _ (term.Row x i) after
+    (row_again g line x (index_image g i ++ after) r uses.0 e) (λ a p.
+    then_gives i after (index_in (head g) line q a) _ (term.Row x i) after (index_again g line q i after a h uses.1 p)
+    (λ b k. (b, refl, k)))
 
 field_term_again : (g : Source) (line : ℕ) (q : Bool) (f : Field) (x : Name) (i : Index) (after : List ℕ) (r : Rest) → HasIndex q i →
-    Right g (term_uses (term.Field f x i)) → r.bytes ≡ slot g.words x ∷ (index_image g i ++ after) → Gives (field_term (head g) line q f r) (term.Field f x i) after
+    Right g (term_uses (term.Field f x i)) → r.bytes ≡ slot g.words x ∷ (index_image g i ++ after) →
+    Gives (field_term (head g) line q f r) (term.Field f x i) after
 unfolding field_term
 field_term_again g line q f x i after r h uses e =
     let t = term.Field f x i in
     then_done tt (allowed (head g) line (FieldUse f ∷ [])) _ t after (allowed_again (head g) line (FieldUse f ∷ []) (uses.0, tt))
-    (then_gives x (index_image g i ++ after) (slot_in line g.words r) _ t after (words_again g line x (index_image g i ++ after) r uses.1.0 e) (λ a p.
+    (then_gives x (index_image g i ++ after) (slot_in line g.words r) _ t after
+    (words_again g line x (index_image g i ++ after) r uses.1.0 e) (λ a p.
     then_gives i after (index_in (head g) line q a) _ t after (index_again g line q i after a h uses.1.1 p) (λ b k. (b, refl, k))))
 
 hand_term_again : (g : Source) (line : ℕ) (q : Bool) (x : Name) (i j : Index) (after : List ℕ) (r : Rest) → HasIndex q i → HasIndex q j →
@@ -175,27 +181,34 @@ hand_term_again g line q x i j after r hi hj uses e =
     let a_image = index_image g i in
     let b_image = index_image g j in
     then_done tt (allowed (head g) line (HandUse ∷ [])) _ t after (allowed_again (head g) line (HandUse ∷ []) (uses.0, tt))
-    (then_gives x ((a_image ++ b_image) ++ after) (slot_in line g.words r) _ t after (words_again g line x ((a_image ++ b_image) ++ after) r uses.1.0 e) (λ a p.
+    (then_gives x ((a_image ++ b_image) ++ after) (slot_in line g.words r) _ t after
+    (words_again g line x ((a_image ++ b_image) ++ after) r uses.1.0 e) (λ a p.
     then_gives i (b_image ++ after) (index_in (head g) line q a) _ t after
     (index_again g line q i (b_image ++ after) a hi (first g _ _ uses.1.1) (two a_image _ _ _ p)) (λ b k.
-    then_gives j after (index_in (head g) line q b) _ t after (index_again g line q j after b hj (rest g _ _ uses.1.1) k) (λ c l. (c, refl, l)))))
+    then_gives j after (index_in (head g) line q b) _ t after (index_again g line q j after b hj (rest g _ _ uses.1.1) k)
+    (λ c l. (c, refl, l)))))
 
-pub term_again : (g : Source) (line : ℕ) (q : Bool) (t : Term) (after : List ℕ) (r : Rest) → HasTerm q t → Right g (term_uses t) →
+term_again : (g : Source) (line : ℕ) (q : Bool) (t : Term) (after : List ℕ) (r : Rest) → HasTerm q t → Right g (term_uses t) →
     r.bytes ≡ term_image g t ++ after → Gives (term_in (head g) line q r) t after
 unfolding term_in
 term_again g line q (term.Index i) after r h uses e =
     let said : List ℕ = index_said g i ++ after in
-    then_gives (index_tag i) said (code_in terms r) _ (term.Index i) after (code_again terms (index_tag i) (term_coded (index_tag i)) said r (index_bytes g i after r e))
-    (λ u p. subst (λ m. Gives m (term.Index i) after) (sym (index_tagged (head g) line q r.passed i u)) (index_term_again g line q r.passed i after u h uses p))
+    then_gives (index_tag i) said (code_in terms r) _ (term.Index i) after
+    (code_again terms (index_tag i) (term_coded (index_tag i)) said r (index_bytes g i after r e))
+    (λ u p. subst (λ m. Gives m (term.Index i) after) (sym (index_tagged (head g) line q r.passed i u))
+    (index_term_again g line q r.passed i after u h uses p))
 term_again g line q term.Arg after r h uses e =
     then_gives tag.Arg after (code_in terms r) _ term.Arg after (code_again terms tag.Arg refl after r e) (λ u p. (u, refl, p))
 term_again g line q (term.Row x i) after r h uses e =
     let said : List ℕ = slot g.rows x ∷ (index_image g i ++ after) in
-    then_gives tag.Row said (code_in terms r) _ (term.Row x i) after (code_again terms tag.Row refl said r e) (λ u p. row_term_again g line q x i after u h uses p)
+    then_gives tag.Row said (code_in terms r) _ (term.Row x i) after (code_again terms tag.Row refl said r e)
+    (λ u p. row_term_again g line q x i after u h uses p)
 term_again g line q (term.Field f x i) after r h uses e =
     let said : List ℕ = slot g.words x ∷ (index_image g i ++ after) in
-    then_gives (field_tag f) said (code_in terms r) _ (term.Field f x i) after (code_again terms (field_tag f) (term_coded (field_tag f)) said r e)
-    (λ u p. subst (λ m. Gives m (term.Field f x i) after) (sym (field_tagged (head g) line q r.passed f u)) (field_term_again g line q f x i after u h uses p))
+    then_gives (field_tag f) said (code_in terms r) _ (term.Field f x i) after
+    (code_again terms (field_tag f) (term_coded (field_tag f)) said r e)
+    (λ u p. subst (λ m. Gives m (term.Field f x i) after) (sym (field_tagged (head g) line q r.passed f u))
+    (field_term_again g line q f x i after u h uses p))
 term_again g line q (term.Hand x i j) after r h uses e =
     let said : List ℕ = slot g.words x ∷ ((index_image g i ++ index_image g j) ++ after) in
     then_gives tag.Hand said (code_in terms r) _ (term.Hand x i j) after (code_again terms tag.Hand refl said r e)
@@ -220,14 +233,16 @@ expr_again g line q (expr.Not t) after r h uses e =
     then_gives etag.Not said (code_in exprs r) _ (expr.Not t) after (code_again exprs etag.Not refl said r e) (λ a p.
     then_gives t after (term_in (head g) line q a) _ (expr.Not t) after (term_again g line q t after a h uses p) (λ b k. (b, refl, k)))
 
-comparison_again : (g : Source) (line : ℕ) (q : Bool) (k : Comparison) (after : List ℕ) (r : Rest) → HasComparison q k → Right g (comparison_uses k) →
+comparison_again : (g : Source) (line : ℕ) (q : Bool) (k : Comparison) (after : List ℕ) (r : Rest) → HasComparison q k →
+    Right g (comparison_uses k) →
     r.bytes ≡ comparison_image g k ++ after → Gives (comparison_in (head g) line q r) k after
 unfolding comparison_in
 comparison_again g line q k after r h uses e =
     let t = k.left in
     let u = k.right in
     let said : List ℕ = (term_image g t ++ term_image g u) ++ after in
-    then_gives k.relation said (code_in relations r) _ k after (code_again relations k.relation (relation_coded k.relation) said r e) (λ a p.
+    then_gives k.relation said (code_in relations r) _ k after (code_again relations k.relation (relation_coded k.relation) said r e)
+    (λ a p.
     then_gives t (term_image g u ++ after) (term_in (head g) line q a) _ k after
     (term_again g line q t (term_image g u ++ after) a h.0 (first g _ _ uses) (two (term_image g t) _ _ _ p)) (λ b m.
     then_gives u after (term_in (head g) line q b) _ k after (term_again g line q u after b h.1 (rest g _ _ uses) m) (λ c l. (c, refl, l))))
@@ -236,10 +251,12 @@ count_again : (n : ℕ) → (nat_le 1 n && nat_le n 4) ≡ true → (after : Lis
 unfolding count_in
 count_again n few after r e =
     then_gives n after (byte_in r) _ n after (byte_again n after r e)
-    (λ t p. known_again r.passed t (if nat_le 1 n && nat_le n 4 then Some n else None) n after (ap (λ (b : Bool). if b then Some n else None) few) p)
+    (λ t p. known_again r.passed t (if nat_le 1 n && nat_le n 4 then Some n else None) n after
+    (ap (λ (b : Bool). if b then Some n else None) few) p)
 
 -- the count and the join stand before the comparisons
-opened_again : (g : Source) (line : ℕ) (q : Bool) (n : ℕ) (j : Join) (y : Condition) (mid after : List ℕ) (r : Rest) → (nat_le 1 n && nat_le n 4) ≡ true →
+opened_again : (g : Source) (line : ℕ) (q : Bool) (n : ℕ) (j : Join) (y : Condition) (mid after : List ℕ) (r : Rest) →
+    (nat_le 1 n && nat_le n 4) ≡ true →
     r.bytes ≡ n ∷ join_code j ∷ mid → ((at : ℕ) (t : Rest) → t.bytes ≡ mid → Gives (comparisons_in (head g) line q at n j t) y after) →
     Gives (condition_in (head g) line q r) y after
 unfolding condition_in
@@ -256,7 +273,8 @@ one_again g line q at k after r h uses e =
     (a, refl, p))
 
 two_again : (g : Source) (line : ℕ) (q : Bool) (j : Join) (k l : Comparison) (after : List ℕ) (r : Rest) → HasCondition q (Two j k l) →
-    Right g (condition_uses (Two j k l)) → r.bytes ≡ (comparison_image g k ++ comparison_image g l) ++ after → Gives (two_in (head g) line q j r) (Two j k l) after
+    Right g (condition_uses (Two j k l)) → r.bytes ≡ (comparison_image g k ++ comparison_image g l) ++ after →
+    Gives (two_in (head g) line q j r) (Two j k l) after
 unfolding two_in
 two_again g line q j k l after r h uses e =
     let y = Two j k l in
@@ -266,8 +284,10 @@ two_again g line q j k l after r h uses e =
     (comparison_again g line q l after a h.1 (rest g _ _ uses) p) (λ b s.
     (b, refl, s)))
 
-three_again : (g : Source) (line : ℕ) (q : Bool) (j : Join) (k l m : Comparison) (after : List ℕ) (r : Rest) → HasCondition q (Three j k l m) →
-    Right g (condition_uses (Three j k l m)) → r.bytes ≡ (comparison_image g k ++ (comparison_image g l ++ comparison_image g m)) ++ after → Gives (three_in (head g) line q j r) (Three j k l m) after
+three_again : (g : Source) (line : ℕ) (q : Bool) (j : Join) (k l m : Comparison) (after : List ℕ) (r : Rest) →
+    HasCondition q (Three j k l m) →
+    Right g (condition_uses (Three j k l m)) → r.bytes ≡ (comparison_image g k ++ (comparison_image g l ++ comparison_image g m)) ++ after →
+    Gives (three_in (head g) line q j r) (Three j k l m) after
 unfolding three_in
 three_again g line q j k l m after r h uses e =
     let y = Three j k l m in
@@ -280,8 +300,11 @@ three_again g line q j k l m after r h uses e =
     (comparison_again g line q m after b h.2 (rest g _ _ more) s) (λ c u.
     (c, refl, u))))
 
-four_again : (g : Source) (line : ℕ) (q : Bool) (j : Join) (k l m o : Comparison) (after : List ℕ) (r : Rest) → HasCondition q (Four j k l m o) →
-    Right g (condition_uses (Four j k l m o)) → r.bytes ≡ (comparison_image g k ++ (comparison_image g l ++ (comparison_image g m ++ comparison_image g o))) ++ after → Gives (four_in (head g) line q j r) (Four j k l m o) after
+four_again : (g : Source) (line : ℕ) (q : Bool) (j : Join) (k l m o : Comparison) (after : List ℕ) (r : Rest) →
+    HasCondition q (Four j k l m o) →
+    Right g (condition_uses (Four j k l m o)) →
+    r.bytes ≡ (comparison_image g k ++ (comparison_image g l ++ (comparison_image g m ++ comparison_image g o))) ++ after →
+    Gives (four_in (head g) line q j r) (Four j k l m o) after
 unfolding four_in
 four_again g line q j k l m o after r h uses e =
     let y = Four j k l m o in
@@ -297,17 +320,18 @@ four_again g line q j k l m o after r h uses e =
     (comparison_again g line q o after c h.3 (rest g _ _ more1) u) (λ d v.
     (d, refl, v)))))
 
-pub condition_again : (g : Source) (line : ℕ) (q : Bool) (x : Condition) (after : List ℕ) (r : Rest) → HasCondition q x → Right g (condition_uses x) →
+pub condition_again : (g : Source) (line : ℕ) (q : Bool) (x : Condition) (after : List ℕ) (r : Rest) → HasCondition q x →
+    Right g (condition_uses x) →
     r.bytes ≡ condition_image g x ++ after → Gives (condition_in (head g) line q r) x after
 condition_again g line q (One k) after r h uses e =
-    opened_again g line q 1 join.And (One k) (comparison_image g k ++ after) after r refl e (λ at t p. one_again g line q at k after t h uses p)
+    opened_again g line q 1 join.And (One k) _ after r refl e (λ at t p. one_again g line q at k after t h uses p)
 condition_again g line q (Two j k l) after r h uses e =
-    opened_again g line q 2 j (Two j k l) ((comparison_image g k ++ comparison_image g l) ++ after) after r refl e (λ at t p. two_again g line q j k l after t h uses p)
+    opened_again g line q 2 j (Two j k l) _ after r refl e (λ at t p. two_again g line q j k l after t h uses p)
 condition_again g line q (Three j k l m) after r h uses e =
-    opened_again g line q 3 j (Three j k l m) ((comparison_image g k ++ (comparison_image g l ++ comparison_image g m)) ++ after) after r refl e
+    opened_again g line q 3 j (Three j k l m) _ after r refl e
     (λ at t p. three_again g line q j k l m after t h uses p)
 condition_again g line q (Four j k l m o) after r h uses e =
-    opened_again g line q 4 j (Four j k l m o) ((comparison_image g k ++ (comparison_image g l ++ (comparison_image g m ++ comparison_image g o))) ++ after) after r refl e
+    opened_again g line q 4 j (Four j k l m o) _ after r refl e
     (λ at t p. four_again g line q j k l m o after t h uses p)
 
 flag_again : (g : Source) (line : ℕ) (flag : Bool) (k : Option Condition) (b : ℕ) (mid after : List ℕ) (r : Rest) →
@@ -325,4 +349,5 @@ unfolding where_of_flag
 where_again g line None after r h uses e = flag_again g line false None 0 after after r refl e (λ t p. (t, refl, p))
 where_again g line (Some k) after r h uses e =
     flag_again g line true (Some k) 1 (condition_image g k ++ after) after r refl e (λ t p.
-    then_gives k after (condition_in (head g) line true t) _ (Some k) after (condition_again g line true k after t h uses p) (λ a s. (a, refl, s)))
+    then_gives k after (condition_in (head g) line true t) _ (Some k) after (condition_again g line true k after t h uses p)
+    (λ a s. (a, refl, s)))

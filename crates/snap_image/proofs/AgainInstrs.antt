@@ -104,7 +104,8 @@ look_again g line x i after r h uses e =
     then_gives i _ (index_in (head g) line false a) _ y after (index_again g line false i _ a h uses.1.1 pa) (λ b pb.
     (b, refl, pb)))
 
-put_seq_again : (g : Source) (line : ℕ) (i : Index) (m n : Expr) (v : Name) → (let y = instr.Put i (tuple.Seq m n v) in (after : List ℕ) (r : Rest) →
+put_seq_again : (g : Source) (line : ℕ) (i : Index) (m n : Expr) (v : Name) →
+    (let y = instr.Put i (tuple.Seq m n v) in (after : List ℕ) (r : Rest) →
     HasForm y → Right g (instr_uses y) → r.bytes ≡ operands_image g y ++ after → Gives (put_seq_in (head g) line r) y after)
 unfolding put_seq_in
 put_seq_again g line i m n v after r h uses e =
@@ -121,7 +122,8 @@ put_seq_again g line i m n v after r h uses e =
     then_gives v _ (slot_in line g.views c) _ y after (view_again g line v _ c more2.0 pc) (λ d pd.
     (d, refl, pd)))))
 
-put_bits_again : (g : Source) (line : ℕ) (i : Index) (m : Expr) (x : Name) (n : Expr) (v : Name) → (let y = instr.Put i (tuple.Bits m x n v) in (after : List ℕ) (r : Rest) →
+put_bits_again : (g : Source) (line : ℕ) (i : Index) (m : Expr) (x : Name) (n : Expr) (v : Name) →
+    (let y = instr.Put i (tuple.Bits m x n v) in (after : List ℕ) (r : Rest) →
     HasForm y → Right g (instr_uses y) → r.bytes ≡ operands_image g y ++ after → Gives (put_bits_in (head g) line r) y after)
 unfolding put_bits_in
 put_bits_again g line i m x n v after r h uses e =
@@ -139,7 +141,8 @@ put_bits_again g line i m x n v after r h uses e =
     then_gives v _ (slot_in line g.views d) _ y after (view_again g line v _ d more2.0 pd) (λ z pz.
     (z, refl, pz))))))
 
-put_multi_again : (g : Source) (line : ℕ) (i : Index) (m n o : Expr) → (let y = instr.Put i (tuple.Multi m n o) in (after : List ℕ) (r : Rest) →
+put_multi_again : (g : Source) (line : ℕ) (i : Index) (m n o : Expr) →
+    (let y = instr.Put i (tuple.Multi m n o) in (after : List ℕ) (r : Rest) →
     HasForm y → Right g (instr_uses y) → r.bytes ≡ operands_image g y ++ after → Gives (put_multi_in (head g) line r) y after)
 unfolding put_multi_in
 put_multi_again g line i m n o after r h uses e =
@@ -155,7 +158,8 @@ put_multi_again g line i m n o after r h uses e =
     then_gives o _ (expr_in (head g) line false c) _ y after (expr_again g line false o _ c h.1.2 (rest g _ _ more1) pc) (λ d pd.
     (d, refl, pd)))))
 
-put_bit_again : (g : Source) (line : ℕ) (b : BitBank) (i j : Index) (v : Expr) → (let y = instr.PutBit b i j v in (after : List ℕ) (r : Rest) →
+put_bit_again : (g : Source) (line : ℕ) (b : BitBank) (i j : Index) (v : Expr) →
+    (let y = instr.PutBit b i j v in (after : List ℕ) (r : Rest) →
     HasForm y → Right g (instr_uses y) → r.bytes ≡ operands_image g y ++ after → Gives (put_bit_in (head g) line b r) y after)
 unfolding put_bit_in
 put_bit_again g line b i j v after r h uses e =
@@ -198,7 +202,8 @@ view_of_again g line x z i after r h uses e =
     then_gives i _ (index_in (head g) line false b) _ y after (index_again g line false i _ b h uses.1.1.1 pb) (λ c pc.
     (c, refl, pc))))
 
-each_again : (g : Source) (line : ℕ) (over : Range) (x : Name) (v : Expr) (k : Option Condition) → (let y = instr.Each over x v k in (after : List ℕ) (r : Rest) →
+each_again : (g : Source) (line : ℕ) (over : Range) (x : Name) (v : Expr) (k : Option Condition) →
+    (let y = instr.Each over x v k in (after : List ℕ) (r : Rest) →
     HasForm y → Right g (instr_uses y) → r.bytes ≡ operands_image g y ++ after → Gives (each_in (head g) line r) y after)
 unfolding each_in
 each_again g line over x v k after r h uses e =
@@ -210,7 +215,8 @@ each_again g line over x v k after r h uses e =
     then_gives k _ (where_in (head g) line c) _ y after (where_again g line k _ c h.1 (rest g _ _ uses.1) pc) (λ d pd.
     (d, refl, pd)))))
 
-first_again : (g : Source) (line : ℕ) (x : Name) (over : Range) (k : Condition) (target : ℕ) → (let y = instr.First x over k target in (after : List ℕ) (r : Rest) →
+first_again : (g : Source) (line : ℕ) (x : Name) (over : Range) (k : Condition) (target : ℕ) →
+    (let y = instr.First x over k target in (after : List ℕ) (r : Rest) →
     HasForm y → Right g (instr_uses y) → target < 2 ^ 16 → r.bytes ≡ operands_image g y ++ after → Gives (first_in (head g) line r) y after)
 unfolding first_in
 first_again g line x over k target after r h uses small e =
@@ -222,7 +228,8 @@ first_again g line x over k target after r h uses small e =
     then_gives target _ (short_in c) _ y after (short_again target small _ c pc) (λ d pd.
     (d, refl, pd)))))
 
-next_again : (g : Source) (line : ℕ) (x : Name) (over : Range) (target : ℕ) → (let y = instr.Next x over target in (after : List ℕ) (r : Rest) →
+next_again : (g : Source) (line : ℕ) (x : Name) (over : Range) (target : ℕ) →
+    (let y = instr.Next x over target in (after : List ℕ) (r : Rest) →
     HasForm y → Right g (instr_uses y) → target < 2 ^ 16 → r.bytes ≡ operands_image g y ++ after → Gives (next_in (head g) line r) y after)
 unfolding next_in
 next_again g line x over target after r h uses small e =
@@ -242,8 +249,10 @@ if_again g line k target after r h uses small e =
     then_gives target _ (short_in a) _ y after (short_again target small _ a pa) (λ b pb.
     (b, refl, pb)))
 
-if_all_again : (g : Source) (line : ℕ) (over : Range) (k : Condition) (target : ℕ) → (let y = instr.IfAll over k target in (after : List ℕ) (r : Rest) →
-    HasForm y → Right g (instr_uses y) → target < 2 ^ 16 → r.bytes ≡ operands_image g y ++ after → Gives (if_all_in (head g) line r) y after)
+if_all_again : (g : Source) (line : ℕ) (over : Range) (k : Condition) (target : ℕ) →
+    (let y = instr.IfAll over k target in (after : List ℕ) (r : Rest) →
+    HasForm y → Right g (instr_uses y) → target < 2 ^ 16 → r.bytes ≡ operands_image g y ++ after →
+    Gives (if_all_in (head g) line r) y after)
 unfolding if_all_in
 if_all_again g line over k target after r h uses small e =
     let y = instr.IfAll over k target in
@@ -278,7 +287,8 @@ return_again g line x after r h uses e =
     (a, refl, pa))
 
 -- the code of a form stands before its operands
-formed_again : (g : Source) (line : ℕ) (f : Form) (x : Instr) (mid after : List ℕ) (r : Rest) → Right (head g) (form_uses f) → r.bytes ≡ form_code f ∷ mid →
+formed_again : (g : Source) (line : ℕ) (f : Form) (x : Instr) (mid after : List ℕ) (r : Rest) → Right (head g) (form_uses f) →
+    r.bytes ≡ form_code f ∷ mid →
     ((t : Rest) → t.bytes ≡ mid → Gives (operands_in (head g) line f t) x after) → Gives (instr_in (head g) line r) x after
 unfolding instr_in
 formed_again g line f x mid after r uses e h =
@@ -288,71 +298,72 @@ formed_again g line f x mid after r uses e h =
 pub instr_again : (g : Source) (line : ℕ) (x : Instr) (after : List ℕ) (r : Rest) → HasForm x → Right g (instr_uses x) → HasShortTargets x →
     r.bytes ≡ (form_code (form_of x) ∷ operands_image g x) ++ after → Gives (instr_in (head g) line r) x after
 instr_again g line (instr.Let x v) after r h uses small e =
-    formed_again g line form.Let (instr.Let x v) (operands_image g (instr.Let x v) ++ after) after r tt e
+    formed_again g line form.Let (instr.Let x v) _ after r tt e
     (λ t p. let_again g line x v after t h uses p)
 instr_again g line (instr.LetPlace x i v) after r h uses small e =
-    formed_again g line form.LetPlace (instr.LetPlace x i v) (operands_image g (instr.LetPlace x i v) ++ after) after r tt e
+    formed_again g line form.LetPlace (instr.LetPlace x i v) _ after r tt e
     (λ t p. let_place_again g line x i v after t h uses p)
 instr_again g line (instr.Get x i j) after r h uses small e =
-    formed_again g line form.Get (instr.Get x i j) (operands_image g (instr.Get x i j) ++ after) after r tt e
+    formed_again g line form.Get (instr.Get x i j) _ after r tt e
     (λ t p. get_again g line x i j after t h uses p)
 instr_again g line (instr.Bit x bits.Q i j) after r h uses small e =
-    formed_again g line form.BitQ (instr.Bit x bits.Q i j) (operands_image g (instr.Bit x bits.Q i j) ++ after) after r (uses.1.0, tt) e
+    formed_again g line form.BitQ (instr.Bit x bits.Q i j) _ after r (uses.1.0, tt) e
     (λ t p. bit_again g line x bits.Q i j after t h uses p)
 instr_again g line (instr.Bit x bits.P i j) after r h uses small e =
-    formed_again g line form.BitP (instr.Bit x bits.P i j) (operands_image g (instr.Bit x bits.P i j) ++ after) after r (uses.1.0, tt) e
+    formed_again g line form.BitP (instr.Bit x bits.P i j) _ after r (uses.1.0, tt) e
     (λ t p. bit_again g line x bits.P i j after t h uses p)
 instr_again g line (instr.Look x i) after r h uses small e =
-    formed_again g line form.Look (instr.Look x i) (operands_image g (instr.Look x i) ++ after) after r (uses.1.0, tt) e
+    formed_again g line form.Look (instr.Look x i) _ after r (uses.1.0, tt) e
     (λ t p. look_again g line x i after t h uses p)
 instr_again g line (instr.Put i (tuple.Seq m n v)) after r h uses small e =
-    formed_again g line form.PutSeq (instr.Put i (tuple.Seq m n v)) (operands_image g (instr.Put i (tuple.Seq m n v)) ++ after) after r ((rest g _ (tuple_uses (tuple.Seq m n v)) uses).0, tt) e
+    formed_again g line form.PutSeq (instr.Put i (tuple.Seq m n v)) _ after r ((rest g _ (tuple_uses (tuple.Seq m n v)) uses).0, tt) e
     (λ t p. put_seq_again g line i m n v after t h uses p)
 instr_again g line (instr.Put i (tuple.Bits m x n v)) after r h uses small e =
-    formed_again g line form.PutBits (instr.Put i (tuple.Bits m x n v)) (operands_image g (instr.Put i (tuple.Bits m x n v)) ++ after) after r ((rest g _ (tuple_uses (tuple.Bits m x n v)) uses).0, tt) e
+    formed_again g line form.PutBits (instr.Put i (tuple.Bits m x n v)) _ after r
+    ((rest g _ (tuple_uses (tuple.Bits m x n v)) uses).0, tt) e
     (λ t p. put_bits_again g line i m x n v after t h uses p)
 instr_again g line (instr.Put i (tuple.Multi m n o)) after r h uses small e =
-    formed_again g line form.PutMulti (instr.Put i (tuple.Multi m n o)) (operands_image g (instr.Put i (tuple.Multi m n o)) ++ after) after r ((rest g _ (tuple_uses (tuple.Multi m n o)) uses).0, tt) e
+    formed_again g line form.PutMulti (instr.Put i (tuple.Multi m n o)) _ after r ((rest g _ (tuple_uses (tuple.Multi m n o)) uses).0, tt) e
     (λ t p. put_multi_again g line i m n o after t h uses p)
 instr_again g line (instr.PutBit bits.Q i j v) after r h uses small e =
-    formed_again g line form.PutQ (instr.PutBit bits.Q i j v) (operands_image g (instr.PutBit bits.Q i j v) ++ after) after r (uses.0, tt) e
+    formed_again g line form.PutQ (instr.PutBit bits.Q i j v) _ after r (uses.0, tt) e
     (λ t p. put_bit_again g line bits.Q i j v after t h uses p)
 instr_again g line (instr.PutBit bits.P i j v) after r h uses small e =
-    formed_again g line form.PutP (instr.PutBit bits.P i j v) (operands_image g (instr.PutBit bits.P i j v) ++ after) after r (uses.0, tt) e
+    formed_again g line form.PutP (instr.PutBit bits.P i j v) _ after r (uses.0, tt) e
     (λ t p. put_bit_again g line bits.P i j v after t h uses p)
 instr_again g line (instr.PutView i x) after r h uses small e =
-    formed_again g line form.PutView (instr.PutView i x) (operands_image g (instr.PutView i x) ++ after) after r (uses.0, tt) e
+    formed_again g line form.PutView (instr.PutView i x) _ after r (uses.0, tt) e
     (λ t p. put_view_again g line i x after t h uses p)
 instr_again g line (instr.ViewData x z) after r h uses small e =
-    formed_again g line form.ViewData (instr.ViewData x z) (operands_image g (instr.ViewData x z) ++ after) after r tt e
+    formed_again g line form.ViewData (instr.ViewData x z) _ after r tt e
     (λ t p. view_data_again g line x z after t h uses p)
 instr_again g line (instr.ViewOf x z i) after r h uses small e =
-    formed_again g line form.ViewOf (instr.ViewOf x z i) (operands_image g (instr.ViewOf x z i) ++ after) after r (uses.1.0, tt) e
+    formed_again g line form.ViewOf (instr.ViewOf x z i) _ after r (uses.1.0, tt) e
     (λ t p. view_of_again g line x z i after t h uses p)
 instr_again g line (instr.Each over x v k) after r h uses small e =
-    formed_again g line form.Each (instr.Each over x v k) (operands_image g (instr.Each over x v k) ++ after) after r tt e
+    formed_again g line form.Each (instr.Each over x v k) _ after r tt e
     (λ t p. each_again g line over x v k after t h uses p)
 instr_again g line (instr.First x over k target) after r h uses small e =
-    formed_again g line form.First (instr.First x over k target) (operands_image g (instr.First x over k target) ++ after) after r tt e
+    formed_again g line form.First (instr.First x over k target) _ after r tt e
     (λ t p. first_again g line x over k target after t h uses small.0 p)
 instr_again g line (instr.Next x over target) after r h uses small e =
-    formed_again g line form.Next (instr.Next x over target) (operands_image g (instr.Next x over target) ++ after) after r tt e
+    formed_again g line form.Next (instr.Next x over target) _ after r tt e
     (λ t p. next_again g line x over target after t h uses small.0 p)
 instr_again g line (instr.If k target) after r h uses small e =
-    formed_again g line form.If (instr.If k target) (operands_image g (instr.If k target) ++ after) after r tt e
+    formed_again g line form.If (instr.If k target) _ after r tt e
     (λ t p. if_again g line k target after t h uses small.0 p)
 instr_again g line (instr.IfAll over k target) after r h uses small e =
-    formed_again g line form.IfAll (instr.IfAll over k target) (operands_image g (instr.IfAll over k target) ++ after) after r tt e
+    formed_again g line form.IfAll (instr.IfAll over k target) _ after r tt e
     (λ t p. if_all_again g line over k target after t h uses small.0 p)
 instr_again g line (instr.Goto target) after r h uses small e =
-    formed_again g line form.Goto (instr.Goto target) (operands_image g (instr.Goto target) ++ after) after r tt e
+    formed_again g line form.Goto (instr.Goto target) _ after r tt e
     (λ t p. goto_again g line target after t h uses small.0 p)
 instr_again g line (instr.Call target) after r h uses small e =
-    formed_again g line form.Call (instr.Call target) (operands_image g (instr.Call target) ++ after) after r tt e
+    formed_again g line form.Call (instr.Call target) _ after r tt e
     (λ t p. call_again g line target after t h uses small.0 p)
 instr_again g line (instr.Return x) after r h uses small e =
-    formed_again g line form.Return (instr.Return x) (operands_image g (instr.Return x) ++ after) after r tt e
+    formed_again g line form.Return (instr.Return x) _ after r tt e
     (λ t p. return_again g line x after t h uses p)
 instr_again g line instr.Finish after r h uses small e =
-    formed_again g line form.Finish instr.Finish (operands_image g instr.Finish ++ after) after r tt e
+    formed_again g line form.Finish instr.Finish _ after r tt e
     (λ t p. (t, refl, p))

@@ -1,9 +1,6 @@
 -- The names that are read from an image are declared once.
-use Rattle.std.proofs.Common.{◌≡◌, ℕ, zero, suc, Bool, true, false, List, [], ◌∷◌, ◌++◌, bytes_eq, refl, sym, ap, ◌∙◌, append_assoc, subst}
-use Rattle.std.proofs.lemmas.Bool.{or_parts, or_from}
-use Rattle.std.proofs.lemmas.Slice.Eq.{bytes_eq-Decides}
+use Rattle.std.proofs.Common.{◌≡◌, ℕ, zero, suc, false, List, [], ◌∷◌, ◌++◌, sym, ap, ◌∙◌, append_assoc, subst}
 use Rattle.std.proofs.lemmas.List.{append-nil}
-use Rattle.std.specs.Cmp.Lexicographic.{same_text}
 use Rattle.snap_semantics.specs.ImageCodes.{kinds}
 use Rattle.snap_semantics.specs.ImageForms.{Rest, byte_in, short_in, code_in}
 use Rattle.snap_semantics.specs.ImageListing.{signature_in, version_in, letters_in, length_in, new_name, name_in, names_in, few_names, table_in, line_count_in, head_in}
@@ -12,21 +9,8 @@ use Rattle.snap_semantics.specs.Listing.{all_names}
 use Rattle.snap_semantics.specs.ListingForms.{is_reserved}
 use Rattle.snap_semantics.specs.Source.{Name, Source}
 use Rattle.snap_semantics.specs.Uses.{is_among}
+use Rattle.snap_listing.proofs.DistinctNames.{distinct_snoc}
 use Rattle.snap_image.proofs.Parts.{Holds, then_with, then_any, holds_if}
-
-other_by : (x y : List ℕ) (b : Bool) → bytes_eq x y ≡ b → bytes_eq y x ≡ false → b ≡ false
-other_by x y true h e = let p : y ≡ x = sym (same_text x y (sym h)) in let q : bytes_eq y x ≡ true = (bytes_eq-Decides y x).1 p in cc (q, e)
-other_by x y false h e = refl
-
-among_snoc : (x w : Name) (xs : List Name) → is_among x xs ≡ false → bytes_eq x w ≡ false → is_among x (xs ++ w ∷ []) ≡ false
-among_snoc x w [] e f = or_from (bytes_eq x w) false f refl
-among_snoc x w (y ∷ ys) e f =
-    or_from (bytes_eq x y) (is_among x (ys ++ w ∷ [])) (or_parts (bytes_eq x y) (is_among x ys) e).0 (among_snoc x w ys (or_parts (bytes_eq x y) (is_among x ys) e).1 f)
-
-distinct_snoc : (xs : List Name) (w : Name) → AreDistinct xs → is_among w xs ≡ false → AreDistinct (xs ++ w ∷ [])
-distinct_snoc [] w d e = (refl, tt)
-distinct_snoc (x ∷ xs) w d e =
-    (among_snoc x w xs d.0 (other_by x w (bytes_eq x w) refl (or_parts (bytes_eq w x) (is_among w xs) e).0), distinct_snoc xs w d.1 (or_parts (bytes_eq w x) (is_among w xs) e).1)
 
 abbrev IsNew : List Name → Name → Unit {0} → Type 0
 IsNew known x done = is_among x known ≡ false
@@ -42,7 +26,8 @@ name_new known r =
     then_any P (length_in r) _ (λ count. then_any P (letters_in count.0 count.1) _ (λ x.
     then_with (IsNew known x.0) P (new_name known x.0) _ (new_ok known x.0) (λ done e. e)))
 
-names_distinct : (count : ℕ) (known : List Name) (r : Rest) → AreDistinct known → Holds (λ x. AreDistinct (known ++ x.0)) (names_in count known r)
+names_distinct : (count : ℕ) (known : List Name) (r : Rest) → AreDistinct known →
+    Holds (λ x. AreDistinct (known ++ x.0)) (names_in count known r)
 unfolding names_in
 names_distinct zero known r d = subst AreDistinct (sym (append-nil known)) d
 names_distinct (suc count) known r d =

@@ -37,14 +37,14 @@ use Rattle.snap_semantics.specs.Token.{is_letter}
 use Rattle.snap_image.specs.Fits.{IsTable}
 use Rattle.snap_image.specs.Laws.{AreBytes, ImagesAreBytes}
 use Rattle.snap_image.proofs.Slots.{slot_within}
-use Rattle.snap_image.proofs.Tables.{scalars_table, rows_table, words_table, views_table, short_name}
-use Rattle.snap_image.proofs.TwoLists.{all_append}
+use Rattle.snap_image.proofs.Tables.{Tables, tables_of, short_name}
+use Rattle.snap_listing.proofs.Alls.{all_both}
 
 abbrev IsByte : ℕ → Type 0
 IsByte b = b < 256
 
 behind : (x y : List ℕ) → AreBytes x → AreBytes y → AreBytes (x ++ y)
-behind x y g h = all_append IsByte x y g h
+behind x y g h = all_both IsByte x y g h
 
 short_bytes : (k : ℕ) → AreBytes (to_be_bytes w16 k)
 short_bytes k = (omega arith, (omega arith, tt))
@@ -54,15 +54,6 @@ long_bytes k = (omega arith, (omega arith, (omega arith, (omega arith, (omega ar
 
 slot_is_byte : (names : List Name) (x : Name) → IsTable names → IsByte (slot names x)
 slot_is_byte names x tables = let within = slot_within names x in omega (arith, within, tables.0)
-
-record Tables (s : Source) : Type 0 where
-  scalars : IsTable s.scalars
-  rows : IsTable s.rows
-  words : IsTable s.words
-  views : IsTable s.views
-
-tables_of : (s : Source) → IsListing s → Tables s
-tables_of s h = record { scalars = scalars_table s h; rows = rows_table s h; words = words_table s h; views = views_table s h }
 
 kind_is_byte : (k : KindTag) → IsByte (kind_code k)
 kind_is_byte kind.Seq = omega arith
@@ -127,8 +118,14 @@ term_bytes g tables (term.Index i) = index_bytes g tables i
 term_bytes g tables term.Arg = (omega arith, tt)
 term_bytes g tables (term.Row x i) = (omega arith, (slot_is_byte g.rows x tables.rows, index_bytes g tables i))
 term_bytes g tables (term.Field f x i) = (field_is_byte f, (slot_is_byte g.words x tables.words, index_bytes g tables i))
-term_bytes g tables (term.Hand x i j) =
-    (omega arith, (slot_is_byte g.words x tables.words, behind (index_image g i) (index_image g j) (index_bytes g tables i) (index_bytes g tables j)))
+term_bytes g tables (term.Hand x i j) = (
+  omega arith,
+  (
+    slot_is_byte g.words x tables.words,
+    behind (index_image g i) (index_image g j) (index_bytes g tables i)
+        (index_bytes g tables j),
+  ),
+)
 
 expr_bytes : (g : Source) → Tables g → (x : Expr) → AreBytes (expr_image g x)
 expr_bytes g tables (expr.Term t) = (omega arith, term_bytes g tables t)
@@ -136,15 +133,20 @@ expr_bytes g tables (expr.Sum t u) = (omega arith, behind (term_image g t) (term
 expr_bytes g tables (expr.Not t) = (omega arith, term_bytes g tables t)
 
 comparison_bytes : (g : Source) → Tables g → (k : Comparison) → AreBytes (comparison_image g k)
-comparison_bytes g tables k =
-    (relation_is_byte k.relation, behind (term_image g k.left) (term_image g k.right) (term_bytes g tables k.left) (term_bytes g tables k.right))
+comparison_bytes g tables k = (
+  relation_is_byte k.relation,
+  behind (term_image g k.left) (term_image g k.right) (term_bytes g tables k.left)
+      (term_bytes g tables k.right),
+)
 
 -- two comparisons, three and four
 two_bytes : (g : Source) → Tables g → (k l : Comparison) → AreBytes (comparison_image g k ++ comparison_image g l)
 two_bytes g tables k l = behind (comparison_image g k) (comparison_image g l) (comparison_bytes g tables k) (comparison_bytes g tables l)
 
-three_bytes : (g : Source) → Tables g → (k l m : Comparison) → AreBytes (comparison_image g k ++ (comparison_image g l ++ comparison_image g m))
-three_bytes g tables k l m = behind (comparison_image g k) (comparison_image g l ++ comparison_image g m) (comparison_bytes g tables k) (two_bytes g tables l m)
+three_bytes : (g : Source) → Tables g → (k l m : Comparison) →
+    AreBytes (comparison_image g k ++ (comparison_image g l ++ comparison_image g m))
+three_bytes g tables k l m =
+    behind (comparison_image g k) (comparison_image g l ++ comparison_image g m) (comparison_bytes g tables k) (two_bytes g tables l m)
 
 condition_bytes : (g : Source) → Tables g → (k : Condition) → AreBytes (condition_image g k)
 condition_bytes g tables (One k) = (omega arith, (omega arith, comparison_bytes g tables k))
@@ -160,13 +162,15 @@ where_bytes g tables (Some k) = (omega arith, condition_bytes g tables k)
 
 tuple_bytes : (g : Source) → Tables g → (t : Tuple) → AreBytes (tuple_image g t)
 tuple_bytes g tables (tuple.Seq m n v) =
-    behind (expr_image g m) (expr_image g n ++ slot g.views v ∷ []) (expr_bytes g tables m)
-    (behind (expr_image g n) (slot g.views v ∷ []) (expr_bytes g tables n) (slot_is_byte g.views v tables.views, tt))
+    let last_two = behind (expr_image g n) (slot g.views v ∷ []) (expr_bytes g tables n) (slot_is_byte g.views v tables.views, tt) in
+    behind (expr_image g m) (expr_image g n ++ slot g.views v ∷ []) (expr_bytes g tables m) last_two
 tuple_bytes g tables (tuple.Bits m x n v) =
-    behind (expr_image g m) (slot g.rows x ∷ (expr_image g n ++ slot g.views v ∷ [])) (expr_bytes g tables m) (slot_is_byte g.rows x tables.rows, behind (expr_image g n) (slot g.views v ∷ []) (expr_bytes g tables n) (slot_is_byte g.views v tables.views, tt))
+    let last_two = behind (expr_image g n) (slot g.views v ∷ []) (expr_bytes g tables n) (slot_is_byte g.views v tables.views, tt) in
+    behind (expr_image g m) (slot g.rows x ∷ (expr_image g n ++ slot g.views v ∷ [])) (expr_bytes g tables m)
+    (slot_is_byte g.rows x tables.rows, last_two)
 tuple_bytes g tables (tuple.Multi m n o) =
-    behind (expr_image g m) (expr_image g n ++ expr_image g o) (expr_bytes g tables m)
-    (behind (expr_image g n) (expr_image g o) (expr_bytes g tables n) (expr_bytes g tables o))
+    let last_two = behind (expr_image g n) (expr_image g o) (expr_bytes g tables n) (expr_bytes g tables o) in
+    behind (expr_image g m) (expr_image g n ++ expr_image g o) (expr_bytes g tables m) last_two
 
 operands_bytes : (g : Source) → Tables g → (x : Instr) → AreBytes (operands_image g x)
 operands_bytes g tables (Let x v) = (slot_is_byte g.scalars x tables.scalars, expr_bytes g tables v)
@@ -184,13 +188,27 @@ operands_bytes g tables (PutBit b i j v) =
 operands_bytes g tables (PutView i x) =
     behind (index_image g i) (slot g.views x ∷ []) (index_bytes g tables i) (slot_is_byte g.views x tables.views, tt)
 operands_bytes g tables (ViewData x z) = (slot_is_byte g.views x tables.views, (slot_is_byte g.words z tables.words, tt))
-operands_bytes g tables (ViewOf x z i) = (slot_is_byte g.views x tables.views, (slot_is_byte g.words z tables.words, index_bytes g tables i))
-operands_bytes g tables (Each over x v k) =
-    (range_is_byte over, (slot_is_byte g.rows x tables.rows, behind (expr_image g v) (where_image g k) (expr_bytes g tables v) (where_bytes g tables k)))
-operands_bytes g tables (First x over k target) =
-    (slot_is_byte g.scalars x tables.scalars, (range_is_byte over, behind (condition_image g k) (to_be_bytes w16 target) (condition_bytes g tables k) (short_bytes target)))
+operands_bytes g tables (ViewOf x z i) =
+    (slot_is_byte g.views x tables.views, (slot_is_byte g.words z tables.words, index_bytes g tables i))
+operands_bytes g tables (Each over x v k) = (
+  range_is_byte over,
+  (
+    slot_is_byte g.rows x tables.rows,
+    behind (expr_image g v) (where_image g k) (expr_bytes g tables v)
+        (where_bytes g tables k),
+  ),
+)
+operands_bytes g tables (First x over k target) = (
+  slot_is_byte g.scalars x tables.scalars,
+  (
+    range_is_byte over,
+    behind (condition_image g k) (to_be_bytes w16 target)
+        (condition_bytes g tables k) (short_bytes target),
+  ),
+)
 operands_bytes g tables (Next x over target) = (slot_is_byte g.scalars x tables.scalars, (range_is_byte over, short_bytes target))
-operands_bytes g tables (If k target) = behind (condition_image g k) (to_be_bytes w16 target) (condition_bytes g tables k) (short_bytes target)
+operands_bytes g tables (If k target) =
+    behind (condition_image g k) (to_be_bytes w16 target) (condition_bytes g tables k) (short_bytes target)
 operands_bytes g tables (IfAll over k target) =
     (range_is_byte over, behind (condition_image g k) (to_be_bytes w16 target) (condition_bytes g tables k) (short_bytes target))
 operands_bytes g tables (Goto target) = short_bytes target
@@ -201,7 +219,8 @@ operands_bytes g tables Finish = tt
 lines_bytes : (g : Source) → Tables g → (xs : List Line) → AreBytes (lines_image g xs)
 lines_bytes g tables [] = tt
 lines_bytes g tables (x ∷ xs) =
-    let instr : AreBytes (form_code (form_of x.instr) ∷ operands_image g x.instr) = (form_is_byte (form_of x.instr), operands_bytes g tables x.instr) in
+    let instr : AreBytes (form_code (form_of x.instr) ∷ operands_image g x.instr) =
+    (form_is_byte (form_of x.instr), operands_bytes g tables x.instr) in
     let line = behind (to_be_bytes w16 x.number) (form_code (form_of x.instr) ∷ operands_image g x.instr) (short_bytes x.number) instr in
     behind (line_image g x) (lines_image g xs) line (lines_bytes g tables xs)
 
@@ -229,7 +248,8 @@ head_bytes s h =
     let count : List ℕ = to_be_bytes w16 (length s.lines) in
     let last_two : List ℕ = to_be_bytes w16 s.update ++ count in
     let entries : AreBytes (to_be_bytes w16 s.scan ++ last_two) =
-    behind (to_be_bytes w16 s.scan) last_two (short_bytes s.scan) (behind (to_be_bytes w16 s.update) count (short_bytes s.update) (short_bytes (length s.lines))) in
+    behind (to_be_bytes w16 s.scan) last_two (short_bytes s.scan)
+    (behind (to_be_bytes w16 s.update) count (short_bytes s.update) (short_bytes (length s.lines))) in
     let views = behind (table_image s.views) _ (table_bytes s.views tables.views) entries in
     let words = behind (table_image s.words) _ (table_bytes s.words tables.words) views in
     let rows = behind (table_image s.rows) _ (table_bytes s.rows tables.rows) words in

@@ -15,4 +15,3 @@ pub mod SaidListing
 pub mod Shorts
 pub mod Slots
 pub mod Tables
-pub mod TwoLists

@@ -15,7 +15,7 @@ use Rattle.snap_semantics.specs.RightUses.{IsRight}
 use Rattle.snap_semantics.specs.Source.{Name, Source}
 use Rattle.snap_semantics.specs.Uses.{Use, Named}
 use Rattle.snap_image.specs.Laws.{AreBytes}
-use Rattle.snap_image.proofs.TwoLists.{all_append}
+use Rattle.snap_listing.proofs.Alls.{all_both}
 
 -- what holds of what is read, where something is
 abbrev pub Holds : {A : Type 0} → (A → Type 0) → Result A ImageRefusal → Type 0
@@ -59,7 +59,7 @@ both {s} {a} {b} {c} {x} {y} {us} {vs} p q = record {
       let h = p.bytes small in
       let k = q.bytes h.1 in
       (h.0 ∙ ap (λ (z : List ℕ). x ++ z) k.0 ∙ sym (append_assoc x y c), k.1, (h.2, k.2));
-  uses = all_append (IsRight s) us vs p.uses q.uses;
+  uses = all_both (IsRight s) us vs p.uses q.uses;
 }
 
 pub reformed : {s : Source} {a b x : List ℕ} {us : List Use} {F G : Type 0} → (F → G) → Part s a x b us F → Part s a x b us G

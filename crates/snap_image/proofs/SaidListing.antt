@@ -24,7 +24,7 @@ use Rattle.snap_semantics.specs.Source.{Name, Source}
 use Rattle.snap_semantics.specs.Token.{is_letter}
 use Rattle.snap_semantics.specs.Uses.{is_among}
 use Rattle.snap_image.specs.Laws.{AreBytes, DecodesOnlyImages}
-use Rattle.snap_image.proofs.TwoLists.{all_append}
+use Rattle.snap_listing.proofs.Alls.{all_both}
 use Rattle.snap_image.proofs.Parts.{Holds, then_with, holds_as, holds_of, holds_if, Part, U, both, skip, reformed, ByteIs, byte_is, CodeIs, code_is, ShortIs, short_is}
 use Rattle.snap_image.proofs.Distinct.{head_distinct}
 use Rattle.snap_image.proofs.SaidForms.{Slots, behind}
@@ -231,7 +231,7 @@ head_is g bytes =
     then_with (ShortIs g scan.1) H (short_in scan.1) _ (short_is g scan.1) (λ update q.
     then_with (CountIs g update.1) H (line_count_in update.1) _ (count_is g update.1) (λ n m.
     reformed
-    (λ f. (all_append IsName a.0 (b.0 ++ (c.0 ++ d.0)) ea.1 (all_append IsName b.0 (c.0 ++ d.0) eb.1 (all_append IsName c.0 d.0 ec.1 ed.1)), four_few a.0 b.0 c.0 d.0 ed.2, m.1))
+    (λ f. (all_both IsName a.0 (b.0 ++ (c.0 ++ d.0)) ea.1 (all_both IsName b.0 (c.0 ++ d.0) eb.1 (all_both IsName c.0 d.0 ec.1 ed.1)), four_few a.0 b.0 c.0 d.0 ed.2, m.1))
     (skip (plain g bytes signature s.bytes es) (behind version ev (behind (kind_code k.0) ek
     (skip (plain g k.1.bytes (table_image a.0) a.1.bytes ea.0) (skip (plain g a.1.bytes (table_image b.0) b.1.bytes eb.0)
     (skip (plain g b.1.bytes (table_image c.0) c.1.bytes ec.0) (skip (plain g c.1.bytes (table_image d.0) d.1.bytes ed.0)

@@ -1,6 +1,6 @@
 -- The header of a listing is read from the lines that spell it.
 use Rattle.std.proofs.Common.{◌≡◌, ℕ, ◌+◌, ◌<◌, ◌≤◌, ◌++◌, Bool, true, false, List, [], ◌∷◌, length, Option, Some, Result, Ok, Err, nat_le, bytes_eq, codes, if◌then◌else◌, refl, sym, ap, ◌∙◌, subst, append_assoc, arith}
-use Rattle.std.proofs.lemmas.Bool.{lt-leb}
+use Rattle.std.proofs.lemmas.Bool.{lt-leb, or_parts, or_from}
 use Rattle.std.proofs.lemmas.List.{length-append}
 use Rattle.std.specs.List.{AllByRecursion}
 use Rattle.snap_semantics.specs.declared.refusal.ListingRefusal.{ListingRefusal}
@@ -16,7 +16,8 @@ use Rattle.snap_semantics.specs.Token.{Token, TextLine}
 use Rattle.snap_semantics.specs.Uses.{is_among}
 use Rattle.snap_listing.proofs.Alls.{all_first, all_rest}
 use Rattle.snap_listing.proofs.AgainHeaderForms.{kind_again, names_again, entry_again}
-use Rattle.snap_listing.proofs.SpelledHeader.{or_left, or_right, neither, other_by, some_line, spelled_kind}
+use Rattle.snap_listing.proofs.DistinctNames.{other_by}
+use Rattle.snap_listing.proofs.SpelledHeader.{some_line, spelled_kind}
 
 pub bind_by : {A B : Type 0} (r : Result A ListingRefusal) (x : A) (f : A → Result B ListingRefusal) (p : Result B ListingRefusal) → r ≡ Ok x → f x ≡ p → (r >>= f) ≡ p
 bind_by (Ok y) x f p e h = let same : y ≡ x = cc in ap f same ∙ h
@@ -37,12 +38,12 @@ line_says after rule line lines ts x p q =
     bind_by (form_or (refusal.BadHeader line.number) rule line.tokens) x _ (Ok (x, line.number, lines)) (form_again (refusal.BadHeader line.number) rule line.tokens ts x p q) refl
 
 apart : (x : Name) (xs : List Name) (w : Name) (ws : List Name) → is_among x (xs ++ w ∷ ws) ≡ false → bytes_eq x w ≡ false
-apart x [] w ws e = or_left (bytes_eq x w) (is_among x ws) e
-apart x (y ∷ ys) w ws e = apart x ys w ws (or_right (bytes_eq x y) (is_among x (ys ++ w ∷ ws)) e)
+apart x [] w ws e = (or_parts (bytes_eq x w) (is_among x ws) e).0
+apart x (y ∷ ys) w ws e = apart x ys w ws (or_parts (bytes_eq x y) (is_among x (ys ++ w ∷ ws)) e).1
 
 fresh : (known : List Name) (w : Name) (ws : List Name) → AreDistinct (known ++ w ∷ ws) → is_among w known ≡ false
 fresh [] w ws d = refl
-fresh (x ∷ xs) w ws d = neither (bytes_eq w x) (is_among w xs) (other_by w x (bytes_eq w x) refl (apart x xs w ws d.0)) (fresh xs w ws d.1)
+fresh (x ∷ xs) w ws d = or_from (bytes_eq w x) (is_among w xs) (other_by w x (bytes_eq w x) refl (apart x xs w ws d.0)) (fresh xs w ws d.1)
 
 new_again : (line : ℕ) (known names : List Name) → AllByRecursion IsName names → AreDistinct (known ++ names) → length known + length names ≤ 32 →
     new_names line known names ≡ Ok names
@@ -67,7 +68,7 @@ names_say after keyword known line lines names p h d few =
 among_first : (x : Name) (xs ys : List Name) → is_among x (xs ++ ys) ≡ false → is_among x xs ≡ false
 among_first x [] ys e = refl
 among_first x (z ∷ zs) ys e =
-    neither (bytes_eq x z) (is_among x zs) (or_left (bytes_eq x z) (is_among x (zs ++ ys)) e) (among_first x zs ys (or_right (bytes_eq x z) (is_among x (zs ++ ys)) e))
+    or_from (bytes_eq x z) (is_among x zs) (or_parts (bytes_eq x z) (is_among x (zs ++ ys)) e).0 (among_first x zs ys (or_parts (bytes_eq x z) (is_among x (zs ++ ys)) e).1)
 
 distinct_first : (xs ys : List Name) → AreDistinct (xs ++ ys) → AreDistinct xs
 distinct_first [] ys d = tt

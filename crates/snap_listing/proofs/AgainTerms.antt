@@ -1,6 +1,6 @@
 -- Rules read again what is spelled: names, indexes, terms, expressions and conditions, in front of what stands behind them.
-use Rattle.std.proofs.Common.{◌≡◌, ℕ, ◌≤◌, ◌++◌, length, ◌||◌, take_all, sym, ◌∙◌, ap, append_assoc, arith, Bool, true, false, List, [], ◌∷◌, Option, Some, None, nat_lt, bytes_eq, codes, if◌then◌else◌, refl}
-use Rattle.std.proofs.lemmas.Bool.{ltb-false}
+use Rattle.std.proofs.Common.{◌≡◌, ℕ, ◌≤◌, ◌++◌, length, take_all, sym, ◌∙◌, ap, append_assoc, arith, Bool, true, false, List, [], ◌∷◌, Option, Some, None, nat_lt, bytes_eq, codes, if◌then◌else◌, refl}
+use Rattle.std.proofs.lemmas.Bool.{ltb-false, or_parts}
 use Rattle.std.specs.Cmp.Lexicographic.{same_text}
 use Rattle.std.specs.List.{AllByRecursion}
 use Rattle.snap_words.specs.declared.kind.Field.{Field}
@@ -67,15 +67,11 @@ pub if_yes : {A : Type 0} (b : Bool) (o p r : Option A) → b ≡ true → o ≡
 if_yes true o p r e g = g
 if_yes false o p r e g = absurd cc
 
-neither_bool : (a b : Bool) → (a || b) ≡ false → (a ≡ false) × (b ≡ false)
-neither_bool true b e = absurd cc
-neither_bool false b e = (refl, e)
-
 free_name : (x : Name) → IsName x → is_reserved x ≡ false
-free_name x h = (neither_bool (nat_lt 8 (length x)) (is_reserved x) h.1).1
+free_name x h = (or_parts (nat_lt 8 (length x)) (is_reserved x) h.1).1
 
 pub short_name : (x : Name) → IsName x → length x ≤ 8
-short_name x h = ltb-false 8 (length x) (neither_bool (nat_lt 8 (length x)) (is_reserved x) h.1).0
+short_name x h = ltb-false 8 (length x) (or_parts (nat_lt 8 (length x)) (is_reserved x) h.1).0
 
 not_by : (x w : List ℕ) (b : Bool) → bytes_eq x w ≡ b → is_reserved x ≡ false → is_reserved w ≡ true → b ≡ false
 not_by x w true e h g = let same = ap is_reserved (same_text x w (sym e)) in absurd cc

@@ -5,6 +5,7 @@ pub mod AgainTerms
 pub mod Alls
 pub mod Checks
 pub mod Declared
+pub mod DistinctNames
 pub mod HasForms
 pub mod KnownTexts
 pub mod Laid

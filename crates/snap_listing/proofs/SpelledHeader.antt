@@ -1,8 +1,7 @@
 -- The header that is read has names as they have to be, and its lines are spelled as they were found.
-use Rattle.std.proofs.Common.{◌≡◌, ℕ, ◌+◌, ◌<◌, ◌≤◌, ◌||◌, ◌++◌, Bool, true, false, List, [], ◌∷◌, length, map, Option, Some, None, Result, nat_le, bytes_eq, codes, if◌then◌else◌, refl, sym, ap, ◌∙◌, subst, append_assoc, arith}
+use Rattle.std.proofs.Common.{◌≡◌, ℕ, ◌+◌, ◌<◌, ◌≤◌, ◌++◌, Bool, true, false, List, [], ◌∷◌, length, map, Option, Some, None, Result, nat_le, bytes_eq, codes, if◌then◌else◌, refl, sym, ap, ◌∙◌, subst, append_assoc, arith}
 use Rattle.std.proofs.lemmas.Bool.{leb-false}
 use Rattle.std.proofs.lemmas.List.{append-nil, length-append}
-use Rattle.std.proofs.lemmas.Slice.Eq.{bytes_eq-Decides}
 use Rattle.std.specs.Cmp.Lexicographic.{same_text}
 use Rattle.std.specs.List.{AllByRecursion}
 use Rattle.snap_words.specs.declared.kind.KindTag.{KindTag}
@@ -22,37 +21,12 @@ use Rattle.snap_listing.specs.Laws.{line_tokens}
 use Rattle.snap_listing.proofs.Alls.{all_both}
 use Rattle.snap_listing.proofs.HasForms.{Holds, then_with, Sounds}
 use Rattle.snap_listing.proofs.RightSources.{HoldsOk, ok_with}
+use Rattle.snap_listing.proofs.DistinctNames.{distinct_snoc}
 use Rattle.snap_listing.proofs.SpelledTerms.{if_when, KeywordIs, keyword_is, WordIs, word_is, NumberIs, number_is, EndIs, end_is}
 
 pub ok_when : {A : Type 0} (P : A → Type 0) (b : Bool) (r s : Result A ListingRefusal) → HoldsOk P r → (b ≡ false → HoldsOk P s) → HoldsOk P (if b then r else s)
 ok_when P true r s g h = g
 ok_when P false r s g h = h refl
-
-pub or_left : (a b : Bool) → (a || b) ≡ false → a ≡ false
-or_left true b e = e
-or_left false b e = refl
-
-pub or_right : (a b : Bool) → (a || b) ≡ false → b ≡ false
-or_right true b e = absurd cc
-or_right false b e = e
-
-pub neither : (a b : Bool) → a ≡ false → b ≡ false → (a || b) ≡ false
-neither true b e f = e
-neither false b e f = f
-
-pub other_by : (x y : List ℕ) (b : Bool) → bytes_eq x y ≡ b → bytes_eq y x ≡ false → b ≡ false
-other_by x y true h e = let p : y ≡ x = sym (same_text x y (sym h)) in let q : bytes_eq y x ≡ true = (bytes_eq-Decides y x).1 p in cc (q, e)
-other_by x y false h e = refl
-
-among_snoc : (x w : Name) (xs : List Name) → is_among x xs ≡ false → bytes_eq x w ≡ false → is_among x (xs ++ w ∷ []) ≡ false
-among_snoc x w [] e f = neither (bytes_eq x w) false f refl
-among_snoc x w (y ∷ ys) e f =
-    neither (bytes_eq x y) (is_among x (ys ++ w ∷ [])) (or_left (bytes_eq x y) (is_among x ys) e) (among_snoc x w ys (or_right (bytes_eq x y) (is_among x ys) e) f)
-
-distinct_snoc : (xs : List Name) (w : Name) → AreDistinct xs → is_among w xs ≡ false → AreDistinct (xs ++ w ∷ [])
-distinct_snoc [] w d e = (refl, tt)
-distinct_snoc (x ∷ xs) w d e =
-    (among_snoc x w xs d.0 (other_by x w (bytes_eq x w) refl (or_left (bytes_eq w x) (is_among w xs) e)), distinct_snoc xs w d.1 (or_right (bytes_eq w x) (is_among w xs) e))
 
 pub then_same : {A : Type 0} (Q P : A → Type 0) (o : Option A) → Holds Q o → ((x : A) → Q x → P x) → Holds P o
 then_same Q P None h f = tt

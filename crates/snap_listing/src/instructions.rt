@@ -22,7 +22,7 @@ fn bank_word(bank: BitBank) -> &'static [u8]
 }
 
 /// The word of a kind.
-fn kind_word(kind: KindTag) -> &'static [u8]
+pub fn kind_word(kind: KindTag) -> &'static [u8]
     ensures { result.now ≡ kind_word kind }
 {
     match kind {

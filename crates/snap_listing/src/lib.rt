@@ -22,6 +22,7 @@ mod uses;
 pub use fault::ListingFault;
 pub use forms::is_line_number;
 pub use header::{Header, is_among};
+pub use instructions::kind_word;
 pub use known::read_known;
 pub use laws::{
     what_is_printed_is_read, what_is_printed_is_spelled, what_is_read_is_spelled,

@@ -3,14 +3,12 @@ ghost use Rattle.std.specs.Prelude.{◌≡◌, IfOk};
 ghost use Rattle.snap_semantics.specs.Answers.{refused_as};
 ghost use Rattle.snap_semantics.specs.Listing.{listing_of};
 ghost use Rattle.snap_semantics.specs.Output.{check_line, check_of};
-ghost use Rattle.snap_semantics.specs.Spelling.{kind_word};
 ghost use Rattle.snap_semantics.specs.declared.refusal.Refusal.TheVariants as refusal;
 ghost use Rattle.snap_program.specs.Answers.{Gives};
 
 use crate::fault::Fault;
-use snap_listing::Listing;
+use snap_listing::{Listing, kind_word};
 use snap_text::{push_number, push_text};
-use snap_words::KindTag;
 use std::alloc::{AllocError, Global};
 
 /// Reads a listing.
@@ -18,17 +16,6 @@ fn read_listing(alloc: Global, text: &[u8]) -> Result<Listing, Fault>
     ensures { Gives (λ l. l) result (refused_as refusal.Listing (listing_of text.now)) }
 {
     Ok(snap_listing::read(alloc, text)?)
-}
-
-/// The word of a kind.
-fn kind_word(kind: KindTag) -> &'static [u8]
-    ensures { result.now ≡ kind_word kind }
-{
-    match kind {
-        KindTag::Seq => b"seq",
-        KindTag::Bits => b"bit",
-        KindTag::Multi => b"multi",
-    }
 }
 
 /// The kind of a listing, and how many numbered lines it has.

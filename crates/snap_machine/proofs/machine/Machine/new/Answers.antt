@@ -14,8 +14,10 @@ invariant_of-result g c =
     let shape = c.args.shape in
     let processes = c.in_ok-processes.processes.items in
     let initial : map (seen_process parts s) processes ≡ replicate shape.n (initial_process s shape) =
-    subst (λ z. map (seen_process parts z) processes ≡ replicate shape.n (initial_process z shape)) c.listing.ensures c.in_ok-processes.ensures in
+    subst (λ z. map (seen_process parts z) processes ≡ replicate shape.n (initial_process z shape)) c.listing.ensures
+    c.in_ok-processes.ensures in
     let sized : AllSized s shape (map (seen_process parts s) processes) =
-    subst (AllSized s shape) (sym initial) (All-replicate (λ (p : Process). AreSized s shape p.locals) shape.n (initial_process s shape) (AreSized-initial s shape)) in
+    subst (AllSized s shape) (sym initial)
+    (All-replicate (λ (p : Process). AreSized s shape p.locals) shape.n (initial_process s shape) (AreSized-initial s shape)) in
     rw (c.in_ok-program.ensures, c.in_ok-registers.ensures.0)
     (record { kind = c.requires; process_count = length_of_map (seen_process parts s) processes shape.n (initial_process s shape) initial; sized = sized })

@@ -3,8 +3,6 @@ ghost use Rattle.std.specs.Prelude.{◌≡◌};
 ghost use Rattle.snap_semantics.specs.Answers.{Answers};
 ghost use Rattle.snap_semantics.specs.Assembly.{assembled, listed};
 ghost use Rattle.snap_semantics.specs.ImageListing.{listing_of_image};
-ghost use Rattle.snap_listing.specs.Reading.{refusal_in as listing_refusal_in};
-ghost use Rattle.snap_image.specs.Reading.{refusal_in as image_refusal_in};
 
 use crate::program::Program;
 use snap_image::{ImageFault, decode, encode};
@@ -14,7 +12,7 @@ use std::alloc::Global;
 /// The image of the listing that a text is, or the first reason why it is none.
 #[tactic(auto, unfolding(snap_semantics::specs::Assembly::assembled))]
 pub fn assemble(alloc: Global, text: &[u8]) -> Result<Vec<u8>, ListingFault>
-    ensures { Answers listing_refusal_in (λ image. image.items) result (assembled text.now) }
+    ensures { Answers (λ image. image.items) result (assembled text.now) }
 {
     let listing = read(alloc, text)?;
     let image = encode(alloc, &listing)?;
@@ -24,7 +22,7 @@ pub fn assemble(alloc: Global, text: &[u8]) -> Result<Vec<u8>, ListingFault>
 /// The canonical text of the listing whose image these bytes are, or the first reason why they are none.
 #[tactic(auto, unfolding(snap_semantics::specs::Assembly::listed))]
 pub fn list(alloc: Global, image: &[u8]) -> Result<Vec<u8>, ImageFault>
-    ensures { Answers image_refusal_in (λ text. text.items) result (listed image.now) }
+    ensures { Answers (λ text. text.items) result (listed image.now) }
 {
     let listing = decode(alloc, image)?;
     let text = print(alloc, &listing)?;
@@ -33,7 +31,7 @@ pub fn list(alloc: Global, image: &[u8]) -> Result<Vec<u8>, ImageFault>
 
 /// The program whose image these bytes are, or the first reason why they are none.
 pub fn load(alloc: Global, image: &[u8]) -> Result<Program, ImageFault>
-    ensures { Answers image_refusal_in (λ p. p) result (listing_of_image image.now) }
+    ensures { Answers (λ p. p) result (listing_of_image image.now) }
 {
     let listing = decode(alloc, image)?;
     let program = Program::of(alloc, listing)?;

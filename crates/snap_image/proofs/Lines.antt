@@ -7,9 +7,9 @@ use Rattle.snap_semantics.specs.Answers.{◌>>=◌, IsRefusal}
 use Rattle.snap_semantics.specs.ImageForms.{Rest, Read}
 use Rattle.snap_semantics.specs.ImageListing.{line_in, lines_in}
 use Rattle.snap_semantics.specs.Source.{Source}
-use Rattle.snap_image.specs.declared.fault.ImageFault.{ImageFault}
-use Rattle.snap_image.specs.declared.fault.ImageFault.TheVariants as fault
-use Rattle.snap_image.specs.Reading.{refusal_in, added_line, onto}
+use Rattle.snap_semantics.specs.declared.fault.Fault.{Fault}
+use Rattle.snap_semantics.specs.declared.fault.Fault.TheVariants as fault
+use Rattle.snap_image.specs.Reading.{added_line, onto}
 use Rattle.snap_image.proofs.Names.{onto_cons}
 
 abbrev Added : Type 0
@@ -48,8 +48,8 @@ line_refused s count k last lines r d lt e =
     ap (λ (m : ℕ). onto lines (lines_in s m (k + 1) last r)) n ∙ stop_by s (count - (k + 1)) (k + 1 + 1) lines d (line_in s (k + 1) last r) e
 
 -- the fault of a line is the fault of the lines
-pub fault_stops : (s : Source) (count k last : ℕ) (lines : List Line) (r : Rest) (all : Read (List Line)) (f : ImageFault) → k < count →
-    onto lines (lines_in s (count - k) (k + 1) last r) ≡ all → IsRefusal (refusal_in f) (added_line s (k + 1) last lines r) → IsRefusal (refusal_in f) all
+pub fault_stops : (s : Source) (count k last : ℕ) (lines : List Line) (r : Rest) (all : Read (List Line)) (f : Fault ImageRefusal) → k < count →
+    onto lines (lines_in s (count - k) (k + 1) last r) ≡ all → IsRefusal f (added_line s (k + 1) last lines r) → IsRefusal f all
 fault_stops s count k last lines r all fault.Memory lt before h = tt
 fault_stops s count k last lines r all (fault.Refused e) lt before h = sym before ∙ line_refused s count k last lines r e lt h
 

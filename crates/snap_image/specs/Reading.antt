@@ -13,13 +13,6 @@ use Rattle.snap_semantics.specs.ImageForms.{Rest, Read}
 use Rattle.snap_semantics.specs.ImageListing.{line_in}
 use Rattle.snap_semantics.specs.Source.{Source}
 use Rattle.snap_semantics.specs.Uses.{same_kind}
-use Rattle.snap_image.specs.declared.fault.ImageFault.{ImageFault}
-use Rattle.snap_image.specs.declared.fault.ImageFault.TheVariants as fault
-
--- the refusal that a fault is; a want of memory is none
-abbrev pub refusal_in : ImageFault → Option ImageRefusal
-refusal_in fault.Memory = None
-refusal_in (fault.Refused r) = Some r
 
 -- What was read, and what is left of the image, is what a rule gives.
 abbrev pub Reads : {A : Type 0} → Result A ImageRefusal → Rest → Read A → Type 0

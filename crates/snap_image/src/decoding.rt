@@ -4,7 +4,7 @@ ghost use Rattle.snap_semantics.specs.Answers.{Answers};
 ghost use Rattle.snap_semantics.specs.ImageListing.{new_number, line_in, lines_in, listing_of_image};
 ghost use Rattle.snap_semantics.specs.Listing.{checked_targets, line_targets};
 ghost use Rattle.snap_listing.specs.Fields.{header_source};
-ghost use Rattle.snap_image.specs.Reading.{Reads, refusal_in, added_line};
+ghost use Rattle.snap_image.specs.Reading.{Reads, added_line};
 
 use crate::cursor::Cursor;
 use crate::fault::ImageFault;
@@ -51,7 +51,7 @@ fn add_line(
     lines: &mut Vec<Line>,
     cursor: &mut Cursor<'_>,
 ) -> Result<u64, ImageFault>
-    ensures { Answers refusal_in (λ number. (number, lines.new.items, cursor.new)) result (added_line (header_source header.now) line last lines.old.items cursor.old) }
+    ensures { Answers (λ number. (number, lines.new.items, cursor.new)) result (added_line (header_source header.now) line last lines.old.items cursor.old) }
 {
     match line_at(header, line, last, cursor) {
         Ok(found) => {
@@ -69,7 +69,7 @@ fn lines(
     count: u64,
     cursor: &mut Cursor<'_>,
 ) -> Result<Vec<Line>, ImageFault>
-    ensures { Answers refusal_in (λ lines. (lines.items, cursor.new)) result (lines_in (header_source header.now) count 1 0 cursor.old) }
+    ensures { Answers (λ lines. (lines.items, cursor.new)) result (lines_in (header_source header.now) count 1 0 cursor.old) }
 {
     let mut lines = Vec::new(alloc);
     let mut last = 0;
@@ -91,7 +91,7 @@ fn targets(header: &Header, lines: &[Line]) -> Result<(), ListingRefusal>
 /// The listing whose image these bytes are, or the first reason why they are none. Takes memory for the listing alone.
 #[tactic(auto, unfolding(snap_semantics::specs::ImageListing::listing_of_image))]
 pub fn decode(alloc: Global, image: &[u8]) -> Result<Listing, ImageFault>
-    ensures { Answers refusal_in (λ l. l) result (listing_of_image image.now) }
+    ensures { Answers (λ l. l) result (listing_of_image image.now) }
 {
     let (header, count, mut cursor) = head(alloc, image)?;
     let lines = lines(alloc, &header, count, &mut cursor)?;

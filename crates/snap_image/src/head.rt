@@ -5,7 +5,7 @@ ghost use Rattle.snap_semantics.specs.ImageListing.{version_in, letter, letters_
 ghost use Rattle.snap_semantics.specs.Uses.{is_among};
 ghost use Rattle.snap_listing.specs.Fields.{header_source};
 ghost use Rattle.snap_image.specs.Head.{known_names};
-ghost use Rattle.snap_image.specs.Reading.{Passes, Reads, refusal_in};
+ghost use Rattle.snap_image.specs.Reading.{Passes, Reads};
 
 use crate::cursor::Cursor;
 use crate::fault::ImageFault;
@@ -123,7 +123,7 @@ fn names(
     known: Known<'_>,
     cursor: &mut Cursor<'_>,
 ) -> Result<Vec<Name>, ImageFault>
-    ensures { Answers refusal_in (λ names. (names.items, cursor.new)) result (names_in count (known_names known.entry) cursor.old) }
+    ensures { Answers (λ names. (names.items, cursor.new)) result (names_in count (known_names known.entry) cursor.old) }
 {
     let mut names = Vec::new(alloc);
     while names.len() < count as usize {
@@ -148,7 +148,7 @@ fn checked_count(known: Known<'_>, count: u8) -> Result<(), ImageRefusal>
 /// The names of a sort behind their count, at most 32 with those before them.
 #[tactic(auto, unfolding(snap_semantics::specs::ImageListing::table_in))]
 fn table(alloc: Global, known: Known<'_>, cursor: &mut Cursor<'_>) -> Result<Vec<Name>, ImageFault>
-    ensures { Answers refusal_in (λ names. (names.items, cursor.new)) result (table_in (known_names known.entry) cursor.old) }
+    ensures { Answers (λ names. (names.items, cursor.new)) result (table_in (known_names known.entry) cursor.old) }
 {
     let count = cursor.byte()?;
     checked_count(known, count)?;
@@ -157,7 +157,7 @@ fn table(alloc: Global, known: Known<'_>, cursor: &mut Cursor<'_>) -> Result<Vec
 
 /// The scalars.
 fn scalar_table(alloc: Global, cursor: &mut Cursor<'_>) -> Result<Vec<Name>, ImageFault>
-    ensures { Answers refusal_in (λ names. (names.items, cursor.new)) result (table_in [] cursor.old) }
+    ensures { Answers (λ names. (names.items, cursor.new)) result (table_in [] cursor.old) }
 {
     let known = Known {
         scalars: &[],
@@ -174,7 +174,7 @@ fn row_table(
     scalars: &[Name],
     cursor: &mut Cursor<'_>,
 ) -> Result<Vec<Name>, ImageFault>
-    ensures { Answers refusal_in (λ names. (names.items, cursor.new)) result (table_in scalars.now cursor.old) }
+    ensures { Answers (λ names. (names.items, cursor.new)) result (table_in scalars.now cursor.old) }
 {
     let known = Known {
         scalars,
@@ -192,7 +192,7 @@ fn words_table(
     rows: &[Name],
     cursor: &mut Cursor<'_>,
 ) -> Result<Vec<Name>, ImageFault>
-    ensures { Answers refusal_in (λ names. (names.items, cursor.new)) result (table_in (scalars.now ++ rows.now) cursor.old) }
+    ensures { Answers (λ names. (names.items, cursor.new)) result (table_in (scalars.now ++ rows.now) cursor.old) }
 {
     let known = Known {
         scalars,
@@ -218,7 +218,7 @@ fn line_count(cursor: &mut Cursor<'_>) -> Result<u64, ImageRefusal>
 /// What stands before the lines, how many lines follow, and what is left.
 #[tactic(auto, unfolding(snap_semantics::specs::ImageListing::head_in))]
 pub fn head(alloc: Global, image: &[u8]) -> Result<(Header, u64, Cursor<'_>), ImageFault>
-    ensures { Answers refusal_in (λ x. ((header_source x.0, x.1), x.2)) result (head_in image.now) }
+    ensures { Answers (λ x. ((header_source x.0, x.1), x.2)) result (head_in image.now) }
 {
     let mut cursor = Cursor::new(image)?;
     version(&mut cursor)?;

@@ -10,9 +10,9 @@ use Rattle.snap_semantics.specs.Listing.{checked_line, numbered_lines}
 use Rattle.snap_semantics.specs.ListingForms.{line_form}
 use Rattle.snap_semantics.specs.Source.{Source}
 use Rattle.snap_semantics.specs.Token.{TextLine}
-use Rattle.snap_listing.specs.declared.fault.ListingFault.{ListingFault}
-use Rattle.snap_listing.specs.declared.fault.ListingFault.TheVariants as fault
-use Rattle.snap_listing.specs.Reading.{refusal_in, numbered_line, added_line, onto}
+use Rattle.snap_semantics.specs.declared.fault.Fault.{Fault}
+use Rattle.snap_semantics.specs.declared.fault.Fault.TheVariants as fault
+use Rattle.snap_listing.specs.Reading.{numbered_line, added_line, onto}
 use Rattle.snap_text.specs.declared.lines.TokenLine.{TokenLine}
 use Rattle.snap_text.specs.Lines.{IsNext, view_line}
 
@@ -80,9 +80,9 @@ pub next_is : (o : Option TokenLine) (line : TokenLine) (old new : List TextLine
 next_is o line old new e h = let P : Option TokenLine → Type 0 = λ x. IsNext x old new in let q : IsNext (Some line) old new = subst P e h in q
 
 -- the fault of a line is the fault of the lines
-pub fault_stops : (s : Source) (last : ℕ) (lines : List Line) (text : TextLine) (texts old : List TextLine) (all : Lines) (f : ListingFault) →
+pub fault_stops : (s : Source) (last : ℕ) (lines : List Line) (text : TextLine) (texts old : List TextLine) (all : Lines) (f : Fault ListingRefusal) →
     old ≡ text ∷ texts → onto lines (numbered_lines s last (length lines) old) ≡ all →
-    IsRefusal (refusal_in f) (added_line s last lines text) → IsRefusal (refusal_in f) all
+    IsRefusal f (added_line s last lines text) → IsRefusal f all
 fault_stops s last lines text texts old all fault.Memory next before h = tt
 fault_stops s last lines text texts old all (fault.Refused e) next before h =
     sym before ∙ ap (λ (ts : List TextLine). onto lines (numbered_lines s last (length lines) ts)) next ∙ line_refused s last lines text texts e h

@@ -10,15 +10,8 @@ use Rattle.snap_semantics.specs.ListingForms.{line_form}
 use Rattle.snap_semantics.specs.Source.{Name, Source}
 use Rattle.snap_semantics.specs.Token.{TextLine}
 use Rattle.snap_semantics.specs.Uses.{is_among}
-use Rattle.snap_listing.specs.declared.fault.ListingFault.{ListingFault}
-use Rattle.snap_listing.specs.declared.fault.ListingFault.TheVariants as fault
 use Rattle.snap_text.specs.declared.lexer.Token.{Token as Given}
 use Rattle.snap_text.specs.declared.lexer.Token.TheVariants as given
-
--- the refusal that a fault is; a want of memory is none
-abbrev pub refusal_in : ListingFault → Option ListingRefusal
-refusal_in fault.Memory = None
-refusal_in (fault.Refused r) = Some r
 
 -- the next line, which has to be there, and the lines behind it
 abbrev pub next_header : ℕ → List TextLine → Result (TextLine × List TextLine) ListingRefusal

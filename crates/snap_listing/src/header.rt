@@ -6,7 +6,7 @@ ghost use Rattle.snap_semantics.specs.HeaderForms.{kind_of_word, kind_form, word
 ghost use Rattle.snap_semantics.specs.Listing.{header_line, is_bad_name, new_names, names_line, header_of};
 ghost use Rattle.snap_semantics.specs.Uses.{is_among};
 ghost use Rattle.snap_listing.specs.Fields.{header_source};
-ghost use Rattle.snap_listing.specs.Reading.{refusal_in, next_header, is_word, letters_of, new_name};
+ghost use Rattle.snap_listing.specs.Reading.{next_header, is_word, letters_of, new_name};
 ghost use Rattle.snap_text.specs.Lines.{view_line};
 ghost use Rattle.snap_text.specs.Tokens.{Finds, view_tokens};
 
@@ -104,7 +104,7 @@ fn next_header<'a>(
     after: u64,
     lines: &mut TextLines<'a>,
 ) -> Result<TokenLine<'a>, ListingFault>
-    ensures { Answers refusal_in (λ line. (view_line line, lines.new)) result (next_header after lines.old) }
+    ensures { Answers (λ line. (view_line line, lines.new)) result (next_header after lines.old) }
 {
     match lines.next_line(alloc)? {
         Some(line) => Ok(line),
@@ -118,7 +118,7 @@ fn kind_line(
     after: u64,
     lines: &mut TextLines<'_>,
 ) -> Result<(KindTag, u64), ListingFault>
-    ensures { Answers refusal_in (λ x. (x.0, x.1, lines.new)) result (header_line after kind_form lines.old) }
+    ensures { Answers (λ x. (x.0, x.1, lines.new)) result (header_line after kind_form lines.old) }
 {
     let line = next_header(alloc, after, lines)?;
     let refusal = ListingFault::Refused(ListingRefusal::BadHeader(line.number));
@@ -138,7 +138,7 @@ fn entry_line(
     keyword: &[u8],
     lines: &mut TextLines<'_>,
 ) -> Result<(u64, u64), ListingFault>
-    ensures { Answers refusal_in (λ x. (x.0, x.1, lines.new)) result (header_line after (entry_form keyword.now) lines.old) }
+    ensures { Answers (λ x. (x.0, x.1, lines.new)) result (header_line after (entry_form keyword.now) lines.old) }
 {
     let line = next_header(alloc, after, lines)?;
     let refusal = ListingFault::Refused(ListingRefusal::BadHeader(line.number));
@@ -187,7 +187,7 @@ fn new_names(
     known: &mut Vec<Name>,
     words: &[Token<'_>],
 ) -> Result<Vec<Name>, ListingFault>
-    ensures names { Answers refusal_in (λ names. names.items) result (new_names line known.old.items (map letters_of words.now)) }
+    ensures names { Answers (λ names. names.items) result (new_names line known.old.items (map letters_of words.now)) }
     ensures known { IfOk result (λ names. known.new.items ≡ known.old.items ++ names.items) }
 {
     let mut names = Vec::new(alloc);
@@ -207,7 +207,7 @@ fn names_line(
     known: &mut Vec<Name>,
     lines: &mut TextLines<'_>,
 ) -> Result<Vec<Name>, ListingFault>
-    ensures names { Answers refusal_in (λ names. (names.items, lines.new)) result (names_line after keyword.now known.old.items lines.old) }
+    ensures names { Answers (λ names. (names.items, lines.new)) result (names_line after keyword.now known.old.items lines.old) }
     ensures known { IfOk result (λ names. known.new.items ≡ known.old.items ++ names.items) }
 {
     let line = next_header(alloc, after, lines)?;
@@ -228,7 +228,7 @@ pub fn header_of(
     after: u64,
     lines: &mut TextLines<'_>,
 ) -> Result<Header, ListingFault>
-    ensures { Answers refusal_in (λ header. (header_source header, lines.new)) result (header_of after lines.old) }
+    ensures { Answers (λ header. (header_source header, lines.new)) result (header_of after lines.old) }
 {
     let (kind, _) = kind_line(alloc, after, lines)?;
     let mut known = Vec::new(alloc);

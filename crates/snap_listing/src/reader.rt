@@ -3,7 +3,7 @@ ghost use Rattle.std.specs.Prelude.{◌≡◌, [], ◌∷◌, ◌++◌, OnOk};
 ghost use Rattle.snap_semantics.specs.Answers.{Answers};
 ghost use Rattle.snap_semantics.specs.Listing.{numbered_lines, instr_targets, has_line, checked_targets, line_targets, with_lines, listing_of_lines, listing_of};
 ghost use Rattle.snap_listing.specs.Fields.{header_source};
-ghost use Rattle.snap_listing.specs.Reading.{refusal_in, numbered_line, added_line, target_list, checked_target};
+ghost use Rattle.snap_listing.specs.Reading.{numbered_line, added_line, target_list, checked_target};
 ghost use Rattle.snap_text.specs.Lines.{view_line};
 
 use crate::fault::ListingFault;
@@ -61,7 +61,7 @@ fn add_line(
     lines: &mut Vec<Line>,
     text: &TokenLine<'_>,
 ) -> Result<u64, ListingFault>
-    ensures { Answers refusal_in (λ number. (number, lines.new.items)) result (added_line (header_source header.now) last lines.old.items (view_line text.now)) }
+    ensures { Answers (λ number. (number, lines.new.items)) result (added_line (header_source header.now) last lines.old.items (view_line text.now)) }
 {
     match numbered_line(header, last, lines.len(), text) {
         Ok(line) => {
@@ -78,7 +78,7 @@ fn numbered_lines(
     header: &Header,
     texts: &mut TextLines<'_>,
 ) -> Result<Vec<Line>, ListingFault>
-    ensures { Answers refusal_in (λ lines. lines.items) result (numbered_lines (header_source header.now) 0 0 texts.old) }
+    ensures { Answers (λ lines. lines.items) result (numbered_lines (header_source header.now) 0 0 texts.old) }
 {
     let mut lines = Vec::new(alloc);
     let mut last = 0;
@@ -140,7 +140,7 @@ fn header_and_lines(
     after: u64,
     texts: &mut TextLines<'_>,
 ) -> Result<(Header, Vec<Line>), ListingFault>
-    ensures { Answers refusal_in (λ parts. with_lines parts.1.items (header_source parts.0)) result (listing_of_lines after texts.old) }
+    ensures { Answers (λ parts. with_lines parts.1.items (header_source parts.0)) result (listing_of_lines after texts.old) }
 {
     let header = header_of(alloc, after, texts)?;
     let lines = numbered_lines(alloc, &header, texts)?;
@@ -153,7 +153,7 @@ fn header_and_lines(
 /// The listing that a text is, or the first reason why it is none.
 #[tactic(auto, using(crate::proofs::TextLength::few_lines), unfolding(snap_semantics::specs::Listing::listing_of))]
 pub fn read(alloc: Global, text: &[u8]) -> Result<Listing, ListingFault>
-    ensures { Answers refusal_in (λ l. l) result (listing_of text.now) }
+    ensures { Answers (λ l. l) result (listing_of text.now) }
 {
     if text.len() > MOST_BYTES {
         return Err(ListingFault::Refused(ListingRefusal::TooLong));

@@ -12,9 +12,8 @@ use Rattle.snap_semantics.specs.declared.refusal.Refusal.{Refusal}
 use Rattle.snap_semantics.specs.declared.refusal.Refusal.TheVariants as refusal
 use Rattle.snap_listing.specs.Laws.{ReadsOnlySpelled}
 use Rattle.snap_image.specs.Laws.{DecodesAllImages}
-use Rattle.snap_image.specs.Reading.{refusal_in}
-use Rattle.snap_image.specs.declared.fault.ImageFault.{ImageFault}
-use Rattle.snap_image.specs.declared.fault.ImageFault.TheVariants as fault
+use Rattle.snap_semantics.specs.declared.fault.Fault.{Fault}
+use Rattle.snap_semantics.specs.declared.fault.Fault.TheVariants as fault
 
 -- the image is that of the text
 abbrev pub IsAssembled : (text image : List ℕ) → Type 0
@@ -49,9 +48,9 @@ is_no_refusal : (s : Source) (r : ImageRefusal) (answer : Result Source ImageRef
 is_no_refusal s r answer is_s is_r = cc
 
 -- the image is not refused
-pub never_refused : ReadsOnlySpelled → DecodesAllImages → (text image : List ℕ) (found : ImageFault) (r : ImageRefusal)
-    → IsAssembled text image → found ≡ fault.Refused r → IsRefusal (refusal_in found) (listing_of_image image) → ⊥
+pub never_refused : ReadsOnlySpelled → DecodesAllImages → (text image : List ℕ) (found : Fault ImageRefusal) (r : ImageRefusal)
+    → IsAssembled text image → found ≡ fault.Refused r → IsRefusal found (listing_of_image image) → ⊥
 never_refused reads decodes text image found r e is_refused h =
     let read = decoded reads decodes text image e in
     is_no_refusal read.0 r (listing_of_image image) read.2
-    (subst (λ f. IsRefusal (refusal_in f) (listing_of_image image)) is_refused h)
+    (subst (λ f. IsRefusal f (listing_of_image image)) is_refused h)

@@ -1,11 +1,11 @@
 -- The faults of what is read, as the program's.
 use Rattle.snap_semantics.specs.declared.refusal.Refusal.TheVariants as refusal
-use Rattle.snap_image.specs.declared.fault.ImageFault.{ImageFault}
-use Rattle.snap_image.specs.declared.fault.ImageFault.TheVariants as image
-use Rattle.snap_listing.specs.declared.fault.ListingFault.{ListingFault}
-use Rattle.snap_listing.specs.declared.fault.ListingFault.TheVariants as listing
-use Rattle.snap_sched.specs.declared.fault.ScheduleFault.{ScheduleFault}
-use Rattle.snap_sched.specs.declared.fault.ScheduleFault.TheVariants as schedule
+use Rattle.snap_semantics.specs.declared.fault.Fault.{Fault}
+use Rattle.snap_semantics.specs.declared.fault.Fault.TheVariants as image
+use Rattle.snap_semantics.specs.declared.fault.Fault.{Fault}
+use Rattle.snap_semantics.specs.declared.fault.Fault.TheVariants as listing
+use Rattle.snap_semantics.specs.declared.fault.Fault.{Fault}
+use Rattle.snap_semantics.specs.declared.fault.Fault.TheVariants as schedule
 use Rattle.snap_program.specs.declared.fault.Fault.{Fault}
 use Rattle.snap_program.specs.declared.fault.Fault.TheVariants as fault
 

@@ -1,4 +1,3 @@
-pub mod Fault
 pub mod Runs
 pub mod Reading
 pub mod Printing

@@ -2,11 +2,10 @@
 ghost use Rattle.std.specs.Prelude.{◌≡◌, ◌≤◌, ◌<◌, ◌+◌, ◌^◌, ◌++◌, length, Some, IfOk, OnOk};
 ghost use Rattle.std.specs.List.{AllByRecursion};
 ghost use Rattle.snap_words.specs.Shape.{IsOneOf};
-ghost use Rattle.snap_semantics.specs.Answers.{Answers};
+ghost use Rattle.snap_semantics.specs.Answers.{Answers, Gives};
 ghost use Rattle.snap_semantics.specs.Schedule.{admitted, items_of, schedule_of, form_process, form_count, form_items};
 ghost use Rattle.snap_semantics.specs.Table.{who};
 ghost use Rattle.snap_text.specs.Lines.{view_line};
-ghost use Rattle.snap_sched.specs.Fault.{refusal_in};
 ghost use Rattle.snap_sched.specs.Reading.{view_form, line_form, first_shape};
 
 use crate::fault::ScheduleFault;
@@ -20,7 +19,7 @@ use std::alloc::{AllocError, Global};
 
 /// The form, where its process is one of `n` and no more than `left` items come of it.
 fn admitted(n: u64, left: u64, line: u64, form: Form) -> Result<Form, ScheduleRefusal>
-    ensures { Answers Some view_form result (admitted n left line (view_form form)) }
+    ensures { Gives view_form result (admitted n left line (view_form form)) }
 {
     let (process, count) = match form {
         Form::Steps { process, count } => (process, count),
@@ -37,7 +36,7 @@ fn admitted(n: u64, left: u64, line: u64, form: Form) -> Result<Form, ScheduleRe
 
 /// The form that a line is.
 fn line_form(n: u64, left: u64, line: &TokenLine<'_>) -> Result<Form, ScheduleRefusal>
-    ensures { Answers Some view_form result (line_form n left (view_line line.now)) }
+    ensures { Gives view_form result (line_form n left (view_line line.now)) }
 {
     let found = match &line.tokens {
         Some(tokens) => item_form(tokens.as_slice()),
@@ -63,7 +62,7 @@ fn push_form(items: &mut Items, form: Form) -> Result<(), AllocError>
 
 /// The shape that the first line is.
 fn first_shape(alloc: Global, lines: &mut TextLines<'_>) -> Result<Shape, ScheduleFault>
-    ensures { Answers refusal_in (λ s. (s, lines.new)) result (first_shape lines.old) }
+    ensures { Answers (λ s. (s, lines.new)) result (first_shape lines.old) }
 {
     let Some(line) = lines.next_line(alloc)? else {
         return Err(ScheduleFault::Refused(ScheduleRefusal::BadShape));
@@ -81,7 +80,7 @@ fn first_shape(alloc: Global, lines: &mut TextLines<'_>) -> Result<Shape, Schedu
 /// The items of the lines.
 fn items_of(alloc: Global, n: u64, lines: &mut TextLines<'_>) -> Result<Items, ScheduleFault>
     requires { n ≤ 16 }
-    ensures items { Answers refusal_in (λ items. items) result (items_of n 1000000 lines.old) }
+    ensures items { Answers (λ items. items) result (items_of n 1000000 lines.old) }
     ensures processes { IfOk result (λ items. AllByRecursion (λ x. IsOneOf n (who x)) items) }
     ensures few { IfOk result (λ items. length items ≤ 1000000) }
 {
@@ -97,7 +96,7 @@ fn items_of(alloc: Global, n: u64, lines: &mut TextLines<'_>) -> Result<Items, S
 
 /// Reads a schedule.
 pub fn read(alloc: Global, text: &[u8]) -> Result<Schedule, ScheduleFault>
-    ensures { Answers refusal_in (λ s. s) result (schedule_of text.now) }
+    ensures { Answers (λ s. s) result (schedule_of text.now) }
 {
     if text.len() > MAX_BYTES {
         return Err(ScheduleFault::Refused(ScheduleRefusal::TooLong));

@@ -1,5 +1,7 @@
 -- What a call that allocates answers: what a definition gives, or a want of memory in its place.
-use Rattle.std.specs.Prelude.{◌≡◌, Option, Some, None, Result, Ok, Err, ⊤}
+use Rattle.std.specs.Prelude.{◌≡◌, Result, Ok, Err, ⊤}
+use Rattle.snap_semantics.specs.declared.fault.Fault.{Fault}
+use Rattle.snap_semantics.specs.declared.fault.Fault.TheVariants as fault
 
 -- the next step on what the first one gave; a fault ends it
 infixl 10 ◌>>=◌
@@ -13,12 +15,16 @@ refused_as f (Ok x) = Ok x
 refused_as f (Err e) = Err (f e)
 
 -- a refusal is the definition's; a want of memory is none
-abbrev pub IsRefusal : {Y R : Type 0} → Option R → Result Y R → Type 0
-IsRefusal None answer = ⊤
-IsRefusal (Some r) answer = answer ≡ Err r
+abbrev pub IsRefusal : {Y R : Type 0} → Fault R → Result Y R → Type 0
+IsRefusal fault.Memory answer = ⊤
+IsRefusal (fault.Refused r) answer = answer ≡ Err r
 
--- What was answered, seen by `view`, is what the definition gives. `refusal_in` tells the refusal that a fault is; a want
--- of memory is none.
-abbrev pub Answers : {X Y F R : Type 0} → (F → Option R) → (X → Y) → Result X F → Result Y R → Type 0
-Answers refusal_in view (Ok x) answer = answer ≡ Ok (view x)
-Answers refusal_in view (Err fault) answer = IsRefusal (refusal_in fault) answer
+-- What was answered, seen by `view`, is what the definition gives; a want of memory may stand in its place.
+abbrev pub Answers : {X Y R : Type 0} → (X → Y) → Result X (Fault R) → Result Y R → Type 0
+Answers view (Ok x) answer = answer ≡ Ok (view x)
+Answers view (Err fault) answer = IsRefusal fault answer
+
+-- What was answered where no memory is taken, seen by `view`, is what the definition gives.
+abbrev pub Gives : {X Y R : Type 0} → (X → Y) → Result X R → Result Y R → Type 0
+Gives view (Ok x) answer = answer ≡ Ok (view x)
+Gives view (Err r) answer = answer ≡ Err r

@@ -2,6 +2,7 @@
 #![tactic(auto)]
 
 mod event;
+mod fault;
 mod image;
 mod instr;
 mod name;
@@ -10,6 +11,7 @@ mod refusal;
 mod text;
 
 pub use event::{Event, Happening};
+pub use fault::Fault;
 pub use image::{ExprTag, Form, TermTag};
 pub use instr::{
     BitBank, Comparison, Condition, Expr, Index, Instr, Join, Line, Range, Relation, Term, Tuple,

@@ -1,0 +1,57 @@
+//! Why a call that allocates gave no answer.
+ghost use Rattle.std.specs.Prelude.{◌≡◌};
+ghost use Rattle.snap_semantics.specs.declared.fault.Fault.TheVariants.{Memory, Refused};
+
+use crate::refusal::{ImageRefusal, ListingRefusal, ScheduleRefusal};
+use std::alloc::{AllocError, AllocFailed};
+use std::fmt::Display;
+use thiserror::Error;
+
+/// Why there is no answer: memory ran out, or what was handed in is refused.
+#[derive(Clone, Copy, Debug, PartialEq, Eq, Error)]
+pub enum Fault<R: Display> {
+    #[error("out of memory")]
+    Memory,
+    #[error("{0}")]
+    Refused(R),
+}
+
+impl<R: Display> From<AllocError> for Fault<R> {
+    ghost from_gives = { λ _ fault. fault ≡ Memory };
+
+    fn from(_error: AllocError) -> Fault<R> {
+        Fault::Memory
+    }
+}
+
+impl<R: Display, T: Drop> From<AllocFailed<T>> for Fault<R> {
+    ghost from_gives = { λ _ fault. fault ≡ Memory };
+
+    fn from(_error: AllocFailed<T>) -> Fault<R> {
+        Fault::Memory
+    }
+}
+
+impl From<ListingRefusal> for Fault<ListingRefusal> {
+    ghost from_gives = { λ refusal fault. fault ≡ Refused refusal };
+
+    fn from(refusal: ListingRefusal) -> Fault<ListingRefusal> {
+        Fault::Refused(refusal)
+    }
+}
+
+impl From<ImageRefusal> for Fault<ImageRefusal> {
+    ghost from_gives = { λ refusal fault. fault ≡ Refused refusal };
+
+    fn from(refusal: ImageRefusal) -> Fault<ImageRefusal> {
+        Fault::Refused(refusal)
+    }
+}
+
+impl From<ScheduleRefusal> for Fault<ScheduleRefusal> {
+    ghost from_gives = { λ refusal fault. fault ≡ Refused refusal };
+
+    fn from(refusal: ScheduleRefusal) -> Fault<ScheduleRefusal> {
+        Fault::Refused(refusal)
+    }
+}

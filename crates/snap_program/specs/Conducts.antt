@@ -5,8 +5,15 @@ use Rattle.std.specs.Io.KnownBytes.{Consumes, Appends, IsAtEnd}
 use Rattle.snap_semantics.specs.Output.{output_of}
 use Rattle.snap_semantics.specs.declared.refusal.Refusal.{Refusal}
 use Rattle.snap_semantics.specs.declared.text.Task.{Task}
-use Rattle.snap_program.specs.declared.fault.Fault.{Fault}
-use Rattle.snap_program.specs.declared.fault.Fault.TheVariants as fault
+use Rattle.snap_semantics.specs.declared.fault.Fault.{Fault}
+use Rattle.snap_semantics.specs.declared.fault.Fault.TheVariants as inner
+use Rattle.snap_program.specs.declared.fault.ConductFault.{ConductFault}
+use Rattle.snap_program.specs.declared.fault.ConductFault.TheVariants as fault
+
+-- why there is no output, as a fault of a whole run
+abbrev pub of_fault : Fault Refusal → ConductFault
+of_fault inner.Memory = fault.Memory
+of_fault (inner.Refused r) = fault.Refused r
 
 -- the input is all that was there, or one byte more than is allowed
 abbrev pub IsWhole : List ℕ → Option (List ℕ) → Type 0
@@ -17,17 +24,17 @@ abbrev pub Takes : List ℕ → Option (List ℕ) → Option (List ℕ) → Type
 Takes input before after = Consumes before after input × (length input ≤ 16777217)
 
 -- reading took an input, whole where it answers one; or it failed, or found no memory
-abbrev pub Reads : Result (Vec ℕ Global) Fault → Option (List ℕ) → Option (List ℕ) → Bool → Type 0
+abbrev pub Reads : Result (Vec ℕ Global) ConductFault → Option (List ℕ) → Option (List ℕ) → Bool → Type 0
 Reads (Ok v) before after failed = Takes v.items before after × IsWhole v.items after × (failed ≡ false)
 Reads (Err e) before after failed = (input : List ℕ) × Takes input before after × ((e ≡ fault.Memory) ⊎ ((e ≡ fault.Read) × (failed ≡ true)))
 
 -- writing sent all of a text, or the first count bytes
-abbrev pub Sends : Result (Unit {0}) Fault → List ℕ → Option (List ℕ) → Option (List ℕ) → (failed stalled : Bool) → Type 0
+abbrev pub Sends : Result (Unit {0}) ConductFault → List ℕ → Option (List ℕ) → Option (List ℕ) → (failed stalled : Bool) → Type 0
 Sends (Ok done) text before after failed stalled = Appends before after text
 Sends (Err e) text before after failed stalled = (count : ℕ) × (e ≡ fault.Write count) × (count < length text) × Appends before after (take count text) × ((failed ≡ true) ⊎ (stalled ≡ true))
 
 -- what has been written of an output, or of a refusal, by a run that answered so
-abbrev pub Writes : (answer : Result (Unit {0}) Fault) (output : Result (List ℕ) Refusal) (text : List ℕ) (reader_failed writer_failed writer_stalled : Bool) → Type 0
+abbrev pub Writes : (answer : Result (Unit {0}) ConductFault) (output : Result (List ℕ) Refusal) (text : List ℕ) (reader_failed writer_failed writer_stalled : Bool) → Type 0
 Writes (Ok done) output text r w s = output ≡ Ok text
 Writes (Err fault.Memory) output text r w s = text ≡ []
 Writes (Err (fault.Refused f)) output text r w s = (text ≡ []) × (output ≡ Err f)
@@ -35,7 +42,7 @@ Writes (Err fault.Read) output text r w s = (text ≡ []) × (r ≡ true)
 Writes (Err (fault.Write count)) output text r w s = (whole : List ℕ) × (output ≡ Ok whole) × (count < length whole) × (text ≡ take count whole) × ((w ≡ true) ⊎ (s ≡ true))
 
 -- whether the input that was taken is whole; after a read fault or for want of memory it need not be
-abbrev pub IsWholeFor : Result (Unit {0}) Fault → List ℕ → Option (List ℕ) → Type 0
+abbrev pub IsWholeFor : Result (Unit {0}) ConductFault → List ℕ → Option (List ℕ) → Type 0
 IsWholeFor (Ok done) input after = IsWhole input after
 IsWholeFor (Err fault.Memory) input after = ⊤
 IsWholeFor (Err (fault.Refused f)) input after = IsWhole input after
@@ -43,7 +50,7 @@ IsWholeFor (Err fault.Read) input after = ⊤
 IsWholeFor (Err (fault.Write count)) input after = IsWhole input after
 
 -- A whole run: it takes an input, and has written what its answer says of the output, and nothing else.
-abbrev pub Conducts : (answer : Result (Unit {0}) Fault) (task : Task) (left left_after taken taken_after : Option (List ℕ)) (reader_failed writer_failed writer_stalled : Bool) → Type 0
+abbrev pub Conducts : (answer : Result (Unit {0}) ConductFault) (task : Task) (left left_after taken taken_after : Option (List ℕ)) (reader_failed writer_failed writer_stalled : Bool) → Type 0
 Conducts answer task left left_after taken taken_after r w s =
     (input : List ℕ) × (text : List ℕ) × Takes input left left_after × IsWholeFor answer input left_after
     × Appends taken taken_after text × Writes answer (output_of task input) text r w s

@@ -12,8 +12,8 @@ use Rattle.snap_semantics.specs.declared.refusal.CommandRefusal.{CommandRefusal}
 use Rattle.snap_semantics.specs.declared.refusal.CommandRefusal.TheVariants as commands
 use Rattle.snap_semantics.specs.declared.refusal.Refusal.{Refusal}
 use Rattle.snap_semantics.specs.declared.refusal.Refusal.TheVariants as refusal
-use Rattle.snap_program.specs.declared.fault.Fault.{Fault}
-use Rattle.snap_program.specs.declared.fault.Fault.TheVariants as fault
+use Rattle.snap_program.specs.declared.fault.ConductFault.{ConductFault}
+use Rattle.snap_program.specs.declared.fault.ConductFault.TheVariants as fault
 
 -- a name and a number behind a space
 abbrev pub numbered : List ℕ → ℕ → List ℕ
@@ -65,7 +65,7 @@ refusal_text (refusal.Words r) = word_fault_text r
 refusal_text (refusal.Commands r) = command_refusal_text r
 
 -- the text of a fault of the program
-abbrev pub fault_text : Fault → List ℕ
+abbrev pub fault_text : ConductFault → List ℕ
 fault_text fault.Memory = codes "refused: Memory"
 fault_text (fault.Refused r) = codes "refused: " ++ refusal_text r
 fault_text fault.Read = codes "read fault"

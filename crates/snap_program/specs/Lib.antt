@@ -1,8 +1,6 @@
-pub mod Answers
 pub mod CommandsInTurn
 pub mod Conducts
 pub mod FaultText
 pub mod ReportLines
 pub mod Courses
 pub mod Replies
-pub mod Faults

@@ -1,19 +1,18 @@
 //! What is said of a text that is a listing.
 ghost use Rattle.std.specs.Prelude.{◌≡◌, IfOk};
-ghost use Rattle.snap_semantics.specs.Answers.{refused_as};
+ghost use Rattle.snap_semantics.specs.Answers.{Answers, refused_as};
 ghost use Rattle.snap_semantics.specs.Listing.{listing_of};
 ghost use Rattle.snap_semantics.specs.Output.{check_line, check_of};
 ghost use Rattle.snap_semantics.specs.declared.refusal.Refusal.TheVariants as refusal;
-ghost use Rattle.snap_program.specs.Answers.{Gives};
 
-use crate::fault::Fault;
 use snap_listing::{Listing, kind_word};
+use snap_semantics::{Fault, Refusal};
 use snap_text::{push_number, push_text};
 use std::alloc::{AllocError, Global};
 
 /// Reads a listing.
-fn read_listing(alloc: Global, text: &[u8]) -> Result<Listing, Fault>
-    ensures { Gives (λ l. l) result (refused_as refusal.Listing (listing_of text.now)) }
+fn read_listing(alloc: Global, text: &[u8]) -> Result<Listing, Fault<Refusal>>
+    ensures { Answers (λ l. l) result (refused_as refusal.Listing (listing_of text.now)) }
 {
     Ok(snap_listing::read(alloc, text)?)
 }
@@ -34,8 +33,8 @@ fn check_line(alloc: Global, listing: &Listing) -> Result<Vec<u8>, AllocError>
 
 /// What is said of a text that is a listing, or why it is none.
 #[tactic(auto, unfolding(snap_semantics::specs::Output::check_of))]
-pub fn check_of(alloc: Global, text: &[u8]) -> Result<Vec<u8>, Fault>
-    ensures { Gives (λ out. out.items) result (check_of text.now) }
+pub fn check_of(alloc: Global, text: &[u8]) -> Result<Vec<u8>, Fault<Refusal>>
+    ensures { Answers (λ out. out.items) result (check_of text.now) }
 {
     let listing = read_listing(alloc, text)?;
     Ok(check_line(alloc, &listing)?)

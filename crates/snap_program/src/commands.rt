@@ -1,16 +1,14 @@
 //! Debugger commands, read.
 ghost use Rattle.std.specs.Prelude.{◌≡◌};
-ghost use Rattle.snap_semantics.specs.Answers.{refused_as};
+ghost use Rattle.snap_semantics.specs.Answers.{Answers, refused_as};
 ghost use Rattle.snap_semantics.specs.CommandForms.{run_form, command_form};
 ghost use Rattle.snap_semantics.specs.Commands.{command_at, commands_of};
 ghost use Rattle.snap_semantics.specs.declared.refusal.Refusal.TheVariants as refusal;
 ghost use Rattle.snap_text.specs.Lines.{view_line};
 ghost use Rattle.snap_text.specs.Tokens.{Finds, view_tokens};
-ghost use Rattle.snap_program.specs.Answers.{Gives};
 ghost use Rattle.snap_program.specs.CommandsInTurn.{admitted_at};
 
-use crate::fault::Fault;
-use snap_semantics::{Command, CommandRefusal};
+use snap_semantics::{Command, CommandRefusal, Fault, Refusal};
 use snap_text::{TextLines, Token, TokenLine, end_at, keyword_at};
 use std::alloc::Global;
 
@@ -62,8 +60,8 @@ fn admitted_at(count: usize, line: &TokenLine<'_>) -> Result<Command, CommandRef
 }
 
 /// Reads commands.
-pub fn read_commands(alloc: Global, text: &[u8]) -> Result<Vec<Command>, Fault>
-    ensures { Gives (λ commands. commands.items) result (refused_as refusal.Commands (commands_of text.now)) }
+pub fn read_commands(alloc: Global, text: &[u8]) -> Result<Vec<Command>, Fault<Refusal>>
+    ensures { Answers (λ commands. commands.items) result (refused_as refusal.Commands (commands_of text.now)) }
 {
     if text.len() > MAX_BYTES {
         return Err(Fault::from(CommandRefusal::TooLong));

@@ -4,7 +4,7 @@ ghost use Rattle.std.specs.Io.KnownBytes.{Consumes, Appends, IsAtEnd};
 ghost use Rattle.snap_semantics.specs.Output.{output_of};
 ghost use Rattle.snap_program.specs.Conducts.{Reads, Sends, Conducts};
 
-use crate::fault::Fault;
+use crate::fault::ConductFault;
 use crate::output::{MAX_INPUT, output};
 use crate::reading::Source;
 use crate::writing::Sink;
@@ -15,7 +15,7 @@ use std::alloc::Global;
 const CHUNK: usize = 4096;
 
 /// Reads all there is, or one byte more than is allowed.
-fn read_all<R: Source>(alloc: Global, source: &mut R) -> Result<Vec<u8>, Fault>
+fn read_all<R: Source>(alloc: Global, source: &mut R) -> Result<Vec<u8>, ConductFault>
     requires { R.has_failed source.old ≡ false }
     ensures { Reads result (R.left source.old) (R.left source.new) (R.has_failed source.new) }
 {
@@ -26,23 +26,23 @@ fn read_all<R: Source>(alloc: Global, source: &mut R) -> Result<Vec<u8>, Fault>
         match source.read(&mut buffer[..room]) {
             Ok(0) => break,
             Ok(count) => input.extend_from_slice(&buffer[..count])?,
-            Err(_) => return Err(Fault::Read),
+            Err(_) => return Err(ConductFault::Read),
         }
     }
     Ok(input)
 }
 
 /// Writes all of a text.
-fn write_all<W: Sink>(sink: &mut W, text: &[u8]) -> Result<(), Fault>
+fn write_all<W: Sink>(sink: &mut W, text: &[u8]) -> Result<(), ConductFault>
     requires { W.has_failed sink.old ≡ false }
     ensures { Sends result text.now (W.taken sink.old) (W.taken sink.new) (W.has_failed sink.new) (W.is_stalled sink.new) }
 {
     let mut sent = 0;
     while sent < text.len() {
         match sink.write(&text[sent..]) {
-            Ok(0) => return Err(Fault::Write(sent as u64)),
+            Ok(0) => return Err(ConductFault::Write(sent as u64)),
             Ok(count) => sent += count,
-            Err(_) => return Err(Fault::Write(sent as u64)),
+            Err(_) => return Err(ConductFault::Write(sent as u64)),
         }
     }
     Ok(())
@@ -54,9 +54,10 @@ pub fn conduct<R: Source, W: Sink>(
     task: &Task,
     source: &mut R,
     sink: &mut W,
-) -> Result<(), Fault>
+) -> Result<(), ConductFault>
     requires source { R.has_failed source.old ≡ false }
     requires sink { W.has_failed sink.old ≡ false }
+    requires goes_on { W.is_stalled sink.old ≡ false }
     ensures { Conducts result task.now (R.left source.old) (R.left source.new) (W.taken sink.old) (W.taken sink.new)
         (R.has_failed source.new) (W.has_failed sink.new) (W.is_stalled sink.new) }
 {

@@ -1,19 +1,15 @@
-//! Why the program did not write its output.
+//! Why a whole run did not write its output.
 ghost use Rattle.std.specs.Prelude.{◌≡◌};
-ghost use Rattle.snap_semantics.specs.declared.refusal.Refusal.TheVariants as refusal;
-ghost use Rattle.snap_program.specs.Faults.{of_image, of_listing, of_schedule};
-ghost use Rattle.snap_program.specs.declared.fault.Fault.TheVariants.{Memory, Refused};
+ghost use Rattle.snap_program.specs.Conducts.{of_fault};
+ghost use Rattle.snap_program.specs.declared.fault.ConductFault.TheVariants.{Memory};
 
-use snap_image::ImageFault;
-use snap_listing::ListingFault;
-use snap_sched::ScheduleFault;
-use snap_semantics::{CommandRefusal, Refusal};
+use snap_semantics::{Fault, Refusal};
 use std::alloc::{AllocError, AllocFailed};
 use thiserror::Error;
 
-/// Why the program did not write its output, or not all of it.
+/// Why a whole run did not write its output, or not all of it.
 #[derive(Clone, Copy, Debug, PartialEq, Eq, Error)]
-pub enum Fault {
+pub enum ConductFault {
     #[error("out of memory")]
     Memory,
     #[error("{0}")]
@@ -25,67 +21,29 @@ pub enum Fault {
     Write(u64),
 }
 
-impl From<Refusal> for Fault {
-    ghost from_gives = { λ refusal fault. fault ≡ Refused refusal };
-
-    fn from(refusal: Refusal) -> Fault {
-        Fault::Refused(refusal)
-    }
-}
-
-impl From<AllocError> for Fault {
+impl From<AllocError> for ConductFault {
     ghost from_gives = { λ _ fault. fault ≡ Memory };
 
-    fn from(_error: AllocError) -> Fault {
-        Fault::Memory
+    fn from(_error: AllocError) -> ConductFault {
+        ConductFault::Memory
     }
 }
 
-impl<T: Drop> From<AllocFailed<T>> for Fault {
+impl<T: Drop> From<AllocFailed<T>> for ConductFault {
     ghost from_gives = { λ _ fault. fault ≡ Memory };
 
-    fn from(_error: AllocFailed<T>) -> Fault {
-        Fault::Memory
+    fn from(_error: AllocFailed<T>) -> ConductFault {
+        ConductFault::Memory
     }
 }
 
-impl From<CommandRefusal> for Fault {
-    ghost from_gives = { λ found fault. fault ≡ Refused (refusal.Commands found) };
+impl From<Fault<Refusal>> for ConductFault {
+    ghost from_gives = { λ found fault. fault ≡ of_fault found };
 
-    fn from(refusal: CommandRefusal) -> Fault {
-        Fault::Refused(Refusal::Commands(refusal))
-    }
-}
-
-impl From<ListingFault> for Fault {
-    ghost from_gives = { λ found fault. fault ≡ of_listing found };
-
-    fn from(fault: ListingFault) -> Fault {
+    fn from(fault: Fault<Refusal>) -> ConductFault {
         match fault {
-            ListingFault::Memory => Fault::Memory,
-            ListingFault::Refused(refusal) => Fault::Refused(Refusal::Listing(refusal)),
-        }
-    }
-}
-
-impl From<ImageFault> for Fault {
-    ghost from_gives = { λ found fault. fault ≡ of_image found };
-
-    fn from(fault: ImageFault) -> Fault {
-        match fault {
-            ImageFault::Memory => Fault::Memory,
-            ImageFault::Refused(refusal) => Fault::Refused(Refusal::Image(refusal)),
-        }
-    }
-}
-
-impl From<ScheduleFault> for Fault {
-    ghost from_gives = { λ found fault. fault ≡ of_schedule found };
-
-    fn from(fault: ScheduleFault) -> Fault {
-        match fault {
-            ScheduleFault::Memory => Fault::Memory,
-            ScheduleFault::Refused(refusal) => Fault::Refused(Refusal::Schedule(refusal)),
+            Fault::Memory => ConductFault::Memory,
+            Fault::Refused(refusal) => ConductFault::Refused(refusal),
         }
     }
 }

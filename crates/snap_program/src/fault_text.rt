@@ -11,7 +11,7 @@ ghost use Rattle.snap_program.specs.FaultText.{
   fault_text,
 };
 
-use crate::fault::Fault;
+use crate::fault::ConductFault;
 use snap_semantics::{CommandRefusal, ImageRefusal, ListingRefusal, Refusal, ScheduleRefusal};
 use snap_text::{push_number, push_text};
 use snap_words::WordFault;
@@ -105,18 +105,18 @@ fn push_refusal(out: &mut Vec<u8>, refusal: &Refusal) -> Result<(), AllocError>
 }
 
 /// The line that says why the program did not write its output.
-pub fn fault_line(alloc: Global, fault: &Fault) -> Result<Vec<u8>, AllocError>
+pub fn fault_line(alloc: Global, fault: &ConductFault) -> Result<Vec<u8>, AllocError>
     ensures { IfOk result (λ line. line.items ≡ fault_text fault.now ++ codes "\n") }
 {
     let mut line = Vec::new(alloc);
     match fault {
-        Fault::Memory => push_text(&mut line, b"refused: Memory")?,
-        Fault::Refused(refusal) => {
+        ConductFault::Memory => push_text(&mut line, b"refused: Memory")?,
+        ConductFault::Refused(refusal) => {
             push_text(&mut line, b"refused: ")?;
             push_refusal(&mut line, refusal)?;
         }
-        Fault::Read => push_text(&mut line, b"read fault")?,
-        Fault::Write(count) => push_numbered(&mut line, b"write fault after", *count)?,
+        ConductFault::Read => push_text(&mut line, b"read fault")?,
+        ConductFault::Write(count) => push_numbered(&mut line, b"write fault after", *count)?,
     }
     line.push(b'\n')?;
     Ok(line)

@@ -20,7 +20,7 @@ mod word_text;
 mod writing;
 
 pub use conducting::conduct;
-pub use fault::Fault;
+pub use fault::ConductFault;
 pub use fault_text::fault_line;
 pub use parts::split_parts;
 pub use performing::perform;

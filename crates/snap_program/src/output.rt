@@ -1,13 +1,12 @@
 //! What the program writes for an input.
+ghost use Rattle.snap_semantics.specs.Answers.{Answers};
 ghost use Rattle.snap_semantics.specs.Output.{run_of, of_sub, output_of};
-ghost use Rattle.snap_program.specs.Answers.{Gives};
 
 use crate::checking::check_of;
-use crate::fault::Fault;
 use crate::images::{assemble, list};
 use crate::parts::split_parts;
 use crate::performing::perform;
-use snap_semantics::{Refusal, Sub, Task};
+use snap_semantics::{Fault, Refusal, Sub, Task};
 use std::alloc::Global;
 
 /// The most bytes that an input may have.
@@ -15,8 +14,8 @@ pub const MAX_INPUT: usize = 16_777_216;
 
 /// Runs a listing under a schedule.
 #[tactic(auto, unfolding(snap_semantics::specs::Output::run_of))]
-fn run(alloc: Global, input: &[u8]) -> Result<Vec<u8>, Fault>
-    ensures { Gives (λ out. out.items) result (run_of input.now) }
+fn run(alloc: Global, input: &[u8]) -> Result<Vec<u8>, Fault<Refusal>>
+    ensures { Answers (λ out. out.items) result (run_of input.now) }
 {
     let parts = split_parts(alloc, input)?;
     if parts.len() != 2 {
@@ -27,8 +26,8 @@ fn run(alloc: Global, input: &[u8]) -> Result<Vec<u8>, Fault>
 
 /// The whole output for an input, or why there is none.
 #[tactic(auto, unfolding(snap_semantics::specs::Output::output_of))]
-pub fn output(alloc: Global, task: &Task, input: &[u8]) -> Result<Vec<u8>, Fault>
-    ensures { Gives (λ out. out.items) result (output_of task.now input.now) }
+pub fn output(alloc: Global, task: &Task, input: &[u8]) -> Result<Vec<u8>, Fault<Refusal>>
+    ensures { Answers (λ out. out.items) result (output_of task.now input.now) }
 {
     if input.len() > MAX_INPUT {
         return Err(Fault::Refused(Refusal::InputTooLong));

@@ -1,6 +1,6 @@
 //! A listing under a schedule, with debugger commands.
 ghost use Rattle.std.specs.Prelude.{◌≡◌, ◌++◌, IfOk, OnOk};
-ghost use Rattle.snap_semantics.specs.Answers.{refused_as};
+ghost use Rattle.snap_semantics.specs.Answers.{Answers, refused_as};
 ghost use Rattle.snap_semantics.specs.Perform.{
   command_text,
   perform_listing,
@@ -13,24 +13,22 @@ ghost use Rattle.snap_semantics.specs.Perform.{
 };
 ghost use Rattle.snap_semantics.specs.Schedule.{schedule_of};
 ghost use Rattle.snap_semantics.specs.declared.refusal.Refusal.TheVariants as refusal;
-ghost use Rattle.snap_program.specs.Answers.{Gives};
 ghost use Rattle.snap_program.specs.Replies.{command_reply};
 
 use crate::commands::read_commands;
 use crate::course::Course;
-use crate::fault::Fault;
 use crate::images::program_of;
 use crate::report::{position_line, report};
 use snap_asm::Program;
 use snap_sched::Schedule;
-use snap_semantics::{Command, Refusal};
+use snap_semantics::{Command, Fault, Refusal};
 use snap_text::push_text;
 use snap_words::{Bits, Kind, KindTag, Multi, Seq, WordFault};
 use std::alloc::{AllocError, Global};
 
 /// Reads a schedule.
-fn read_schedule(alloc: Global, text: &[u8]) -> Result<Schedule, Fault>
-    ensures { Gives (λ s. s) result (refused_as refusal.Schedule (schedule_of text.now)) }
+fn read_schedule(alloc: Global, text: &[u8]) -> Result<Schedule, Fault<Refusal>>
+    ensures { Answers (λ s. s) result (refused_as refusal.Schedule (schedule_of text.now)) }
 {
     Ok(snap_sched::read(alloc, text)?)
 }
@@ -130,9 +128,9 @@ fn perform_kind<K: Kind>(
     program: &Program,
     schedule: &[u8],
     commands: &[u8],
-) -> Result<Vec<u8>, Fault>
+) -> Result<Vec<u8>, Fault<Refusal>>
     requires { program.now.kind ≡ K.TAG }
-    ensures { Gives (λ out. out.items) result (perform_listing program.now schedule.now commands.now) }
+    ensures { Answers (λ out. out.items) result (perform_listing program.now schedule.now commands.now) }
 {
     let schedule = read_schedule(alloc, schedule)?;
     if !K::fits(schedule.shape()) {
@@ -149,8 +147,8 @@ pub fn perform(
     listing: &[u8],
     schedule: &[u8],
     commands: &[u8],
-) -> Result<Vec<u8>, Fault>
-    ensures { Gives (λ out. out.items) result (perform_of listing.now schedule.now commands.now) }
+) -> Result<Vec<u8>, Fault<Refusal>>
+    ensures { Answers (λ out. out.items) result (perform_of listing.now schedule.now commands.now) }
 {
     let program = program_of(alloc, listing)?;
     match program.kind() {

@@ -14,6 +14,11 @@ abbrev pub refused_as : {A E F : Type 0} → (E → F) → Result A E → Result
 refused_as f (Ok x) = Ok x
 refused_as f (Err e) = Err (f e)
 
+-- a fault with its refusal as one of a larger kind
+abbrev pub fault_as : {E F : Type 0} → (E → F) → Fault E → Fault F
+fault_as f fault.Memory = fault.Memory
+fault_as f (fault.Refused r) = fault.Refused (f r)
+
 -- a refusal is the definition's; a want of memory is none
 abbrev pub IsRefusal : {Y R : Type 0} → Fault R → Result Y R → Type 0
 IsRefusal fault.Memory answer = ⊤

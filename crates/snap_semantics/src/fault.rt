@@ -1,8 +1,10 @@
 //! Why a call that allocates gave no answer.
 ghost use Rattle.std.specs.Prelude.{◌≡◌};
+ghost use Rattle.snap_semantics.specs.Answers.{fault_as};
 ghost use Rattle.snap_semantics.specs.declared.fault.Fault.TheVariants.{Memory, Refused};
+ghost use Rattle.snap_semantics.specs.declared.refusal.Refusal.TheVariants as refusal;
 
-use crate::refusal::{ImageRefusal, ListingRefusal, ScheduleRefusal};
+use crate::refusal::{CommandRefusal, ImageRefusal, ListingRefusal, Refusal, ScheduleRefusal};
 use std::alloc::{AllocError, AllocFailed};
 use std::fmt::Display;
 use thiserror::Error;
@@ -53,5 +55,54 @@ impl From<ScheduleRefusal> for Fault<ScheduleRefusal> {
 
     fn from(refusal: ScheduleRefusal) -> Fault<ScheduleRefusal> {
         Fault::Refused(refusal)
+    }
+}
+
+impl From<Refusal> for Fault<Refusal> {
+    ghost from_gives = { λ refusal fault. fault ≡ Refused refusal };
+
+    fn from(refusal: Refusal) -> Fault<Refusal> {
+        Fault::Refused(refusal)
+    }
+}
+
+impl From<CommandRefusal> for Fault<Refusal> {
+    ghost from_gives = { λ found fault. fault ≡ Refused (refusal.Commands found) };
+
+    fn from(refusal: CommandRefusal) -> Fault<Refusal> {
+        Fault::Refused(Refusal::Commands(refusal))
+    }
+}
+
+impl From<Fault<ListingRefusal>> for Fault<Refusal> {
+    ghost from_gives = { λ found fault. fault ≡ fault_as refusal.Listing found };
+
+    fn from(fault: Fault<ListingRefusal>) -> Fault<Refusal> {
+        match fault {
+            Fault::Memory => Fault::Memory,
+            Fault::Refused(refusal) => Fault::Refused(Refusal::Listing(refusal)),
+        }
+    }
+}
+
+impl From<Fault<ImageRefusal>> for Fault<Refusal> {
+    ghost from_gives = { λ found fault. fault ≡ fault_as refusal.Image found };
+
+    fn from(fault: Fault<ImageRefusal>) -> Fault<Refusal> {
+        match fault {
+            Fault::Memory => Fault::Memory,
+            Fault::Refused(refusal) => Fault::Refused(Refusal::Image(refusal)),
+        }
+    }
+}
+
+impl From<Fault<ScheduleRefusal>> for Fault<Refusal> {
+    ghost from_gives = { λ found fault. fault ≡ fault_as refusal.Schedule found };
+
+    fn from(fault: Fault<ScheduleRefusal>) -> Fault<Refusal> {
+        match fault {
+            Fault::Memory => Fault::Memory,
+            Fault::Refused(refusal) => Fault::Refused(Refusal::Schedule(refusal)),
+        }
     }
 }

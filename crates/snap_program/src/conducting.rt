@@ -32,8 +32,8 @@ fn read_all<R: Source>(alloc: Global, source: &mut R) -> Result<Vec<u8>, Conduct
     Ok(input)
 }
 
-/// Writes all of a text.
-fn write_all<W: Sink>(sink: &mut W, text: &[u8]) -> Result<(), ConductFault>
+/// Writes all of a text. After `Write(count)` the sink has taken its first `count` bytes.
+pub fn write_all<W: Sink>(sink: &mut W, text: &[u8]) -> Result<(), ConductFault>
     requires { W.has_failed sink.old ≡ false }
     ensures { Sends result text.now (W.taken sink.old) (W.taken sink.new) (W.has_failed sink.new) (W.is_stalled sink.new) }
 {

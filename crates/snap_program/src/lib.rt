@@ -19,7 +19,7 @@ mod standard;
 mod word_text;
 mod writing;
 
-pub use conducting::conduct;
+pub use conducting::{conduct, write_all};
 pub use fault::ConductFault;
 pub use fault_text::fault_line;
 pub use parts::split_parts;
@@ -31,6 +31,3 @@ pub use writing::Sink;
 /// The device failed.
 #[derive(Clone, Copy, Debug)]
 pub struct Failed;
-
-#[cfg(test)]
-mod tests;

@@ -9,55 +9,84 @@ mod command_line;
 use clap::Error;
 use clap::error::ErrorKind;
 use command_line::task_of;
-use snap_program::{Fault, Std, conduct, fault_line};
-use std::alloc::Global;
+use snap_program::{ConductFault, Std, conduct, fault_line, write_all};
+use snap_semantics::Task;
 use std::io;
 use std::io::Write;
 use std::process::ExitCode;
 
 /// The status of a run that was refused, or whose device failed.
-fn status_of(fault: &Fault) -> u8
+fn status_of(fault: &ConductFault) -> u8
     ensures { result ≡ status_of fault.now }
 {
     match fault {
-        Fault::Memory | Fault::Refused(_) => 1,
-        Fault::Read | Fault::Write(_) => 3,
+        ConductFault::Memory | ConductFault::Refused(_) => 1,
+        ConductFault::Read | ConductFault::Write(_) => 3,
     }
 }
 
-/// Says why nothing, or not all, was written.
-fn complain<W: Write>(err: &mut W, alloc: Global, fault: &Fault) -> io::Result<u8> {
-    let line = fault_line(alloc, fault)?;
-    err.write_all(line.as_slice())?;
-    Ok(status_of(fault))
+/// Says why nothing, or not all, was written, and gives the status of that. Where standard error does not take it, nothing is said.
+fn complain(rt: &HostRuntime, fault: &ConductFault) -> u8 {
+    if let Ok(line) = fault_line(rt.alloc(), fault) {
+        let _said = rt.stderr().write_all(line.as_slice());
+    }
+    status_of(fault)
 }
 
-/// Help, as asked for; or the words say nothing that the program does.
-fn explain<R: Print + Eprint>(rt: &R, error: &Error) -> io::Result<u8> {
-    error.print(rt)?;
-    Ok(if error.use_stderr() { 2 } else { 0 })
+/// Writes help to standard output.
+fn help(rt: &HostRuntime, text: &Error) -> u8 {
+    let Ok(text) = format!(in rt.alloc(); "{text}") else {
+        return complain(rt, &ConductFault::Memory);
+    };
+    match write_all(&mut Std::new(io::writer(rt)), text.as_bytes()) {
+        Ok(()) => 0,
+        Err(fault) => complain(rt, &fault),
+    }
 }
 
-fn main(rt: HostRuntime) -> io::Result<ExitCode> {
-    let alloc = rt.alloc();
-    let Ok(words) = std::env::args(&rt) else {
-        eprintln!(rt; "error: the words of the command line are no text")?;
-        return Ok(ExitCode::from(2));
-    };
-    let words: Vec<String> = words.collect(alloc)?;
-    let status = match task_of(alloc, words.as_slice()) {
-        Err(error) if error.kind() == ErrorKind::OutOfMemory => {
-            complain(&mut rt.stderr(), alloc, &Fault::Memory)?
+/// Where words ask for no task: help, as asked for; or they say nothing that the program does; or there is no memory to read them.
+fn explain(rt: &HostRuntime, error: &Error) -> u8 {
+    if error.kind() == ErrorKind::OutOfMemory {
+        return complain(rt, &ConductFault::Memory);
+    }
+    if !error.use_stderr() {
+        return help(rt, error);
+    }
+    let _said = error.print(rt);
+    2
+}
+
+/// Reads standard input, and writes what a task makes of it to standard output.
+fn run(rt: &HostRuntime, task: &Task) -> u8 {
+    let mut source = Std::new(rt.reader());
+    let mut sink = Std::new(io::writer(rt));
+    match conduct(rt.alloc(), task, &mut source, &mut sink) {
+        Ok(()) => 0,
+        Err(fault) => complain(rt, &fault),
+    }
+}
+
+/// Does what the words of the command line ask for, and gives the status of it.
+fn status(rt: &HostRuntime) -> u8 {
+    let words = match std::env::args(rt) {
+        Ok(words) => words,
+        Err(error) if error.kind() == io::ErrorKind::OutOfMemory => {
+            return complain(rt, &ConductFault::Memory);
         }
-        Err(error) => explain(&rt, &error)?,
-        Ok(task) => {
-            let mut source = Std::new(rt.reader());
-            let mut sink = Std::new(io::writer(&rt));
-            match conduct(alloc, &task, &mut source, &mut sink) {
-                Ok(()) => 0,
-                Err(fault) => complain(&mut rt.stderr(), alloc, &fault)?,
-            }
+        Err(_) => {
+            let _said = eprintln!(rt; "error: the words of the command line are no text");
+            return 2;
         }
     };
-    Ok(ExitCode::from(status))
+    let Ok(words) = words.collect::<Vec<String>>(rt.alloc()) else {
+        return complain(rt, &ConductFault::Memory);
+    };
+    match task_of(rt.alloc(), words.as_slice()) {
+        Ok(task) => run(rt, &task),
+        Err(error) => explain(rt, &error),
+    }
+}
+
+fn main(rt: HostRuntime) -> ExitCode {
+    ExitCode::from(status(&rt))
 }

@@ -2,7 +2,7 @@
 
 ghost use Rattle.std.specs.Prelude.{◌≡◌, [], false, true, Some, ◌==◌};
 
-use crate::{Failed, Sink, Source};
+use snap_program::{Failed, Sink, Source};
 use std::alloc::Global;
 
 /// Gives one byte a call, and fails after so many calls.
@@ -58,7 +58,8 @@ pub struct Narrow {
 
 impl Narrow {
     pub fn new(alloc: Global, step: usize, calls: u64) -> Narrow
-        ensures { result.failed ≡ false }
+        ensures well { result.failed ≡ false }
+        ensures goes_on { result.stalled ≡ false }
     {
         Narrow {
             taken: Vec::new(alloc),

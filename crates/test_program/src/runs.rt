@@ -1,20 +1,20 @@
 //! Whole runs on devices that lie in memory.
-mod devices_of_memory;
-mod images;
-mod kinds;
-
-use super::{Fault, Std, conduct, fault_line, perform};
-use devices_of_memory::{Narrow, Trickle};
-use snap_semantics::{CommandRefusal, ListingRefusal, Refusal, ScheduleRefusal, Sub, Task};
+use crate::devices_of_memory::{Narrow, Trickle};
+use snap_program::{ConductFault, Std, conduct, fault_line, perform};
+use snap_semantics::{
+    CommandRefusal, Fault, ListingRefusal, Refusal, ScheduleRefusal, Sub, Task,
+};
 use snap_words::WordFault;
 use std::test::Fail;
 
-const LISTING: &[u8; 169] =
+/// The listing of the first run.
+pub const LISTING: &[u8; 169] =
     b"kind seq\nscalar j c\nrow\nwords a\nview s\nscan 10\nupdate 10\n10: let j = 1\n11: get a[j] = r[j]\n12: next j n goto 11\n13: let c = c + 1\n14: put r[me] = (arg, c, s)\n15: finish\n";
 
 const SCHEDULE: &[u8; 27] = b"shape 2 2\n1 update 1 7\n1*8\n";
 
-const INPUT: &[u8; 198] =
+/// The listing and the schedule of the first run.
+pub const INPUT: &[u8; 198] =
     b"kind seq\nscalar j c\nrow\nwords a\nview s\nscan 10\nupdate 10\n10: let j = 1\n11: get a[j] = r[j]\n12: next j n goto 11\n13: let c = c + 1\n14: put r[me] = (arg, c, s)\n15: finish\n%\nshape 2 2\n1 update 1 7\n1*8\n";
 
 const OUTPUT: &[u8; 314] =
@@ -46,7 +46,7 @@ fn reader_fails_at_each_call(rt: HostRuntime) {
         let mut source = Trickle::new(INPUT.as_slice(), calls);
         let mut sink = Narrow::new(rt.alloc(), 1, 1000);
         let done = conduct(rt.alloc(), &RUN, &mut source, &mut sink);
-        assert_eq!(rt; done, Err(Fault::Read), "at {calls}");
+        assert_eq!(rt; done, Err(ConductFault::Read), "at {calls}");
         assert_eq!(rt; sink.taken.len(), 0, "at {calls}");
     }
 }
@@ -57,7 +57,7 @@ fn writer_fails_at_each_call(rt: HostRuntime) {
         let mut source = Trickle::new(INPUT.as_slice(), 1000);
         let mut sink = Narrow::new(rt.alloc(), 1, calls);
         let done = conduct(rt.alloc(), &RUN, &mut source, &mut sink);
-        assert_eq!(rt; done, Err(Fault::Write(calls)), "at {calls}");
+        assert_eq!(rt; done, Err(ConductFault::Write(calls)), "at {calls}");
         assert_eq!(rt;
             sink.taken.as_slice(),
             &OUTPUT[..calls as usize],
@@ -72,14 +72,14 @@ fn writer_takes_five_or_none(rt: HostRuntime) {
     let mut sink = Narrow::new(rt.alloc(), 5, 1);
     assert_eq!(rt;
         conduct(rt.alloc(), &RUN, &mut source, &mut sink),
-        Err(Fault::Write(5))
+        Err(ConductFault::Write(5))
     );
     assert_eq!(rt; sink.taken.as_slice(), b"> run".as_slice());
     let mut source = Trickle::new(INPUT.as_slice(), 1000);
     let mut sink = Narrow::new(rt.alloc(), 0, 1000);
     assert_eq!(rt;
         conduct(rt.alloc(), &RUN, &mut source, &mut sink),
-        Err(Fault::Write(0))
+        Err(ConductFault::Write(0))
     );
 }
 
@@ -97,7 +97,7 @@ fn counts_parts(rt: HostRuntime) -> Result<(), Fail> {
         let done = conduct(rt.alloc(), &RUN, &mut source, &mut sink);
         assert_eq!(rt;
             done,
-            Err(Fault::Refused(Refusal::WrongParts(found))),
+            Err(ConductFault::Refused(Refusal::WrongParts(found))),
             "{found}"
         );
     }
@@ -186,33 +186,33 @@ fn refuses_the_first_reason_first(rt: HostRuntime) {
 #[test]
 fn says_why(rt: HostRuntime) -> Result<(), Fail> {
     for (fault, text) in [
-        (Fault::Memory, b"refused: Memory\n".as_slice()),
+        (ConductFault::Memory, b"refused: Memory\n".as_slice()),
         (
-            Fault::Refused(Refusal::InputTooLong),
+            ConductFault::Refused(Refusal::InputTooLong),
             b"refused: P1 InputTooLong\n",
         ),
         (
-            Fault::Refused(Refusal::WrongParts(1)),
+            ConductFault::Refused(Refusal::WrongParts(1)),
             b"refused: P2 WrongParts 1\n",
         ),
         (
-            Fault::Refused(Refusal::Listing(ListingRefusal::NoSuchLine(11))),
+            ConductFault::Refused(Refusal::Listing(ListingRefusal::NoSuchLine(11))),
             b"refused: L8 NoSuchLine 11\n",
         ),
         (
-            Fault::Refused(Refusal::Schedule(ScheduleRefusal::TooManyItems(4))),
+            ConductFault::Refused(Refusal::Schedule(ScheduleRefusal::TooManyItems(4))),
             b"refused: S4 TooManyItems 4\n",
         ),
         (
-            Fault::Refused(Refusal::Words(WordFault::BadShape)),
+            ConductFault::Refused(Refusal::Words(WordFault::BadShape)),
             b"refused: W1 BadShape\n",
         ),
         (
-            Fault::Refused(Refusal::Commands(CommandRefusal::TooLong)),
+            ConductFault::Refused(Refusal::Commands(CommandRefusal::TooLong)),
             b"refused: G7 TooLong\n",
         ),
-        (Fault::Read, b"read fault\n"),
-        (Fault::Write(5), b"write fault after 5\n"),
+        (ConductFault::Read, b"read fault\n"),
+        (ConductFault::Write(5), b"write fault after 5\n"),
     ] {
         assert_eq!(rt; fault_line(rt.alloc(), &fault)?.as_slice(), text);
     }

@@ -1,6 +1,6 @@
 //! Listings of kinds bit and multi.
-use crate::{Fault, perform};
-use snap_semantics::Refusal;
+use snap_program::perform;
+use snap_semantics::{Fault, Refusal};
 use snap_words::WordFault;
 use std::test::Fail;
 

@@ -1,6 +1,6 @@
 //! Listings checked, assembled and listed.
-use super::{INPUT, LISTING};
-use crate::{Fault, Std, conduct, fault_line};
+use crate::runs::{INPUT, LISTING};
+use snap_program::{ConductFault, Std, conduct, fault_line};
 use snap_semantics::{ImageRefusal, ListingRefusal, Refusal, Sub, Task};
 use std::alloc::Global;
 use std::test::Fail;
@@ -16,7 +16,7 @@ const IMAGE: [u8; 25] = [
 ];
 
 /// What a subcommand writes for an input.
-fn written(alloc: Global, sub: Sub, input: &[u8]) -> Result<Vec<u8>, Fault> {
+fn written(alloc: Global, sub: Sub, input: &[u8]) -> Result<Vec<u8>, ConductFault> {
     let mut source = Std::new(input);
     let mut sink = Std::new(Vec::new(alloc));
     conduct(alloc, &Task { sub }, &mut source, &mut sink)?;
@@ -87,7 +87,7 @@ fn refuses_what_is_no_image(rt: HostRuntime) -> Result<(), Fail> {
             b"refused: I6 Extra\n",
         ),
     ] {
-        let fault = Fault::Refused(Refusal::Image(refusal));
+        let fault = ConductFault::Refused(Refusal::Image(refusal));
         assert_eq!(rt; written(rt.alloc(), Sub::List, image).err(), Some(fault));
         assert_eq!(rt; fault_line(rt.alloc(), &fault)?.as_slice(), line);
     }
@@ -101,7 +101,7 @@ fn refuses_what_is_no_listing(rt: HostRuntime) {
         (b"%\n", ListingRefusal::BadHeader(1)),
         (INPUT.as_slice(), ListingRefusal::BadLine(14)),
     ] {
-        let fault = Fault::Refused(Refusal::Listing(refusal));
+        let fault = ConductFault::Refused(Refusal::Listing(refusal));
         assert_eq!(rt; written(rt.alloc(), Sub::Check, text).err(), Some(fault));
         assert_eq!(rt; written(rt.alloc(), Sub::Assemble, text).err(), Some(fault));
     }

@@ -1,0 +1,11 @@
+//! Tests of whole runs of the program, through its public calls.
+#![tactic(auto)]
+
+#[cfg(test)]
+mod devices_of_memory;
+#[cfg(test)]
+mod images;
+#[cfg(test)]
+mod kinds;
+#[cfg(test)]
+mod runs;

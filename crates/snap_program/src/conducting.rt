@@ -6,8 +6,8 @@ ghost use Rattle.snap_program.specs.Conducts.{Reads, Sends, Conducts};
 
 use crate::fault::ConductFault;
 use crate::output::{MAX_INPUT, output};
-use crate::reading::Source;
-use crate::writing::Sink;
+use crate::sink::Sink;
+use crate::source::Source;
 use snap_semantics::Task;
 use std::alloc::Global;
 

@@ -12,21 +12,21 @@ mod output;
 mod parts;
 mod performing;
 mod process_text;
-mod reading;
 mod register_text;
 mod report;
+mod sink;
+mod source;
 mod standard;
 mod word_text;
-mod writing;
 
 pub use conducting::{conduct, write_all};
 pub use fault::ConductFault;
 pub use fault_text::fault_line;
 pub use parts::split_parts;
 pub use performing::perform;
-pub use reading::Source;
+pub use sink::Sink;
+pub use source::Source;
 pub use standard::Std;
-pub use writing::Sink;
 
 /// The device failed.
 #[derive(Clone, Copy, Debug)]

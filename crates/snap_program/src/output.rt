@@ -6,7 +6,7 @@ use crate::checking::check_of;
 use crate::images::{assemble, list};
 use crate::parts::split_parts;
 use crate::performing::perform;
-use snap_semantics::{Fault, Refusal, Sub, Task};
+use snap_semantics::{Fault, Refusal, Subcommand, Task};
 use std::alloc::Global;
 
 /// The most bytes that an input may have.
@@ -33,9 +33,9 @@ pub fn output(alloc: Global, task: &Task, input: &[u8]) -> Result<Vec<u8>, Fault
         return Err(Fault::Refused(Refusal::InputTooLong));
     }
     match task.sub {
-        Sub::Check => check_of(alloc, input),
-        Sub::Assemble => assemble(alloc, input),
-        Sub::List => list(alloc, input),
-        Sub::Run => run(alloc, input),
+        Subcommand::Check => check_of(alloc, input),
+        Subcommand::Assemble => assemble(alloc, input),
+        Subcommand::List => list(alloc, input),
+        Subcommand::Run => run(alloc, input),
     }
 }

@@ -12,7 +12,7 @@ use Rattle.snap_semantics.specs.Output.{output_of, check_of}
 use Rattle.snap_semantics.specs.declared.refusal.ImageRefusal.TheVariants.{Truncated}
 use Rattle.snap_semantics.specs.declared.refusal.ListingRefusal.TheVariants.{BadHeader}
 use Rattle.snap_semantics.specs.declared.refusal.Refusal.TheVariants as refusal
-use Rattle.snap_semantics.specs.declared.text.Sub.TheVariants as sub
+use Rattle.snap_semantics.specs.declared.text.Subcommand.TheVariants as sub
 use Rattle.snap_semantics.proofs.ImageSamples.{small_image}
 
 abbrev small_text : List ℕ

@@ -20,7 +20,7 @@ use Rattle.snap_semantics.specs.declared.process.Outcome.TheVariants.{Skipped, C
 use Rattle.snap_semantics.specs.declared.process.Reason.TheVariants as reason
 use Rattle.snap_semantics.specs.declared.refusal.ListingRefusal.TheVariants as listing
 use Rattle.snap_semantics.specs.declared.refusal.ScheduleRefusal.TheVariants as schedule
-use Rattle.snap_semantics.specs.declared.text.Sub.TheVariants as sub
+use Rattle.snap_semantics.specs.declared.text.Subcommand.TheVariants as sub
 
 -- a listing whose two operations begin at line 10
 abbrev plain : Source

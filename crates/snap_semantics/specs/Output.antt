@@ -2,8 +2,8 @@
 use Rattle.std.specs.Prelude.{ℕ, ◌||◌, Bool, nat_eq, nat_lt, List, [], ◌∷◌, ◌++◌, length, Result, Ok, Err, bytes_eq, codes, decimal, slice_index_or, if◌then◌else◌}
 use Rattle.snap_semantics.specs.declared.refusal.Refusal.{Refusal}
 use Rattle.snap_semantics.specs.declared.refusal.Refusal.TheVariants as refusal
-use Rattle.snap_semantics.specs.declared.text.Sub.{Sub}
-use Rattle.snap_semantics.specs.declared.text.Sub.TheVariants as sub
+use Rattle.snap_semantics.specs.declared.text.Subcommand.{Subcommand}
+use Rattle.snap_semantics.specs.declared.text.Subcommand.TheVariants as sub
 use Rattle.snap_semantics.specs.declared.text.Task.{Task}
 use Rattle.snap_semantics.specs.Answers.{◌>>=◌, refused_as}
 use Rattle.snap_semantics.specs.Assembly.{assembled, listed}
@@ -56,7 +56,7 @@ check_of input = do
   l ← refused_as refusal.Listing (listing_of input)
   Ok (check_line l)
 
-abbrev pub of_sub : Sub → List ℕ → Result (List ℕ) Refusal
+abbrev pub of_sub : Subcommand → List ℕ → Result (List ℕ) Refusal
 of_sub sub.Check input = check_of input
 of_sub sub.Assemble input = refused_as refusal.Listing (assembled input)
 of_sub sub.List input = refused_as refusal.Image (listed input)

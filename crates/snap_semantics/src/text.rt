@@ -35,7 +35,7 @@ pub enum Command {
 
 /// A subcommand of the program.
 #[derive(Clone, Copy, Debug, PartialEq, Eq)]
-pub enum Sub {
+pub enum Subcommand {
     /// Whether a text is a listing.
     Check,
     /// The image of a listing's text.
@@ -49,5 +49,5 @@ pub enum Sub {
 /// What the program is to do with its input.
 #[derive(Clone, Copy, Debug, PartialEq, Eq)]
 pub struct Task {
-    pub sub: Sub,
+    pub sub: Subcommand,
 }

@@ -4,7 +4,7 @@ ghost use Rattle.snaplab.specs.Subcommands.{sub_of};
 
 use clap::error::ErrorKind;
 use clap::{Command, Error};
-use snap_semantics::{Sub, Task};
+use snap_semantics::{Subcommand, Task};
 use std::alloc::{AllocError, Global};
 
 /// The words that the program takes.
@@ -19,14 +19,14 @@ fn command<'a>(alloc: Global) -> Result<Command<'a>, AllocError> {
 }
 
 /// The subcommand of this name.
-fn sub_of(name: &str) -> Option<Sub>
+fn sub_of(name: &str) -> Option<Subcommand>
     ensures { result ≡ sub_of name.now }
 {
     match name {
-        "check" => Some(Sub::Check),
-        "assemble" => Some(Sub::Assemble),
-        "list" => Some(Sub::List),
-        "run" => Some(Sub::Run),
+        "check" => Some(Subcommand::Check),
+        "assemble" => Some(Subcommand::Assemble),
+        "list" => Some(Subcommand::List),
+        "run" => Some(Subcommand::Run),
         _ => None,
     }
 }

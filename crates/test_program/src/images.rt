@@ -1,7 +1,7 @@
 //! Listings checked, assembled and listed.
 use crate::runs::{INPUT, LISTING};
 use snap_program::{ConductFault, Std, conduct, fault_line};
-use snap_semantics::{ImageRefusal, ListingRefusal, Refusal, Sub, Task};
+use snap_semantics::{ImageRefusal, ListingRefusal, Refusal, Subcommand, Task};
 use std::alloc::Global;
 use std::test::Fail;
 
@@ -16,7 +16,7 @@ const IMAGE: [u8; 25] = [
 ];
 
 /// What a subcommand writes for an input.
-fn written(alloc: Global, sub: Sub, input: &[u8]) -> Result<Vec<u8>, ConductFault> {
+fn written(alloc: Global, sub: Subcommand, input: &[u8]) -> Result<Vec<u8>, ConductFault> {
     let mut source = Std::new(input);
     let mut sink = Std::new(Vec::new(alloc));
     conduct(alloc, &Task { sub }, &mut source, &mut sink)?;
@@ -38,19 +38,22 @@ fn says_what_listings_are(rt: HostRuntime) -> Result<(), Fail> {
         (LISTING.as_slice(), b"ok: seq, 6 lines\n".as_slice()),
         (SMALL.as_slice(), b"ok: seq, 2 lines\n"),
     ] {
-        assert_eq!(rt; written(rt.alloc(), Sub::Check, text)?.as_slice(), line);
+        assert_eq!(rt;
+            written(rt.alloc(), Subcommand::Check, text)?.as_slice(),
+            line
+        );
     }
     Ok(())
 }
 
 #[test]
 fn assembles_and_lists(rt: HostRuntime) -> Result<(), Fail> {
-    let image = written(rt.alloc(), Sub::Assemble, SMALL.as_slice())?;
+    let image = written(rt.alloc(), Subcommand::Assemble, SMALL.as_slice())?;
     assert_eq!(rt; image.as_slice(), IMAGE.as_slice());
-    let text = written(rt.alloc(), Sub::List, image.as_slice())?;
+    let text = written(rt.alloc(), Subcommand::List, image.as_slice())?;
     assert_eq!(rt; text.as_slice(), SMALL.as_slice());
-    let image = written(rt.alloc(), Sub::Assemble, LISTING.as_slice())?;
-    let text = written(rt.alloc(), Sub::List, image.as_slice())?;
+    let image = written(rt.alloc(), Subcommand::Assemble, LISTING.as_slice())?;
+    let text = written(rt.alloc(), Subcommand::List, image.as_slice())?;
     assert_eq!(rt; text.as_slice(), LISTING.as_slice());
     Ok(())
 }
@@ -88,7 +91,10 @@ fn refuses_what_is_no_image(rt: HostRuntime) -> Result<(), Fail> {
         ),
     ] {
         let fault = ConductFault::Refused(Refusal::Image(refusal));
-        assert_eq!(rt; written(rt.alloc(), Sub::List, image).err(), Some(fault));
+        assert_eq!(rt;
+            written(rt.alloc(), Subcommand::List, image).err(),
+            Some(fault)
+        );
         assert_eq!(rt; fault_line(rt.alloc(), &fault)?.as_slice(), line);
     }
     Ok(())
@@ -102,7 +108,13 @@ fn refuses_what_is_no_listing(rt: HostRuntime) {
         (INPUT.as_slice(), ListingRefusal::BadLine(14)),
     ] {
         let fault = ConductFault::Refused(Refusal::Listing(refusal));
-        assert_eq!(rt; written(rt.alloc(), Sub::Check, text).err(), Some(fault));
-        assert_eq!(rt; written(rt.alloc(), Sub::Assemble, text).err(), Some(fault));
+        assert_eq!(rt;
+            written(rt.alloc(), Subcommand::Check, text).err(),
+            Some(fault)
+        );
+        assert_eq!(rt;
+            written(rt.alloc(), Subcommand::Assemble, text).err(),
+            Some(fault)
+        );
     }
 }

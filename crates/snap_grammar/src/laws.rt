@@ -1,0 +1,22 @@
+//! The laws of reading and printing listings.
+ghost use Rattle.snap_grammar.specs.Laws.{ReadsAllSpelled, ReadsOnlySpelled, PrintsSpelling, ReadsPrinted};
+
+/// What is read is a listing, and the text spells it.
+pub fn what_is_read_is_spelled()
+    ensures { ReadsOnlySpelled }
+{}
+
+/// Every listing is read from every text that spells it.
+pub fn what_is_spelled_is_read()
+    ensures { ReadsAllSpelled }
+{}
+
+/// What is printed of a listing spells it.
+pub fn what_is_printed_is_spelled()
+    ensures { PrintsSpelling }
+{}
+
+/// What is printed of a listing is read as that listing.
+pub fn what_is_printed_is_read()
+    ensures { ReadsPrinted }
+{}

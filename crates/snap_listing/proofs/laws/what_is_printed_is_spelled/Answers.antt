@@ -1,5 +1,0 @@
-use Rattle.snap_listing.proofs.Laid.{printed_spells}
-use Rattle.snap_listing.proofs.laws.what_is_printed_is_spelled.Goals as goal
-
-pub returns : goal.returns
-returns c = printed_spells

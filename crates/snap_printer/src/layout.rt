@@ -1,0 +1,147 @@
+//! Lines of tokens laid out: where a space stands between two of them.
+ghost use Rattle.std.specs.Prelude.{◌≡◌, ◌<◌, ◌≤◌, ◌++◌, ◌+◌, ◌^◌, OnOk};
+ghost use Rattle.snap_semantics.specs.Layout.{mark_text, token_text, depth_behind, parts_behind, parts_before, gap, layout, line_text, opened, closed};
+ghost use Rattle.snap_text.specs.Tokens.{view_token, view_tokens};
+
+use snap_semantics::Mark;
+use snap_text::{Token, push_number, push_text};
+use std::alloc::AllocError;
+
+/// How a mark is spelled.
+fn mark_text(mark: Mark) -> &'static [u8]
+    ensures { result.now ≡ mark_text mark }
+{
+    match mark {
+        Mark::Colon => b":",
+        Mark::Equal => b"=",
+        Mark::Different => b"!=",
+        Mark::Less => b"<",
+        Mark::Plus => b"+",
+        Mark::Comma => b",",
+        Mark::OpenParenthesis => b"(",
+        Mark::CloseParenthesis => b")",
+        Mark::OpenBracket => b"[",
+        Mark::CloseBracket => b"]",
+        Mark::At => b"@",
+        Mark::Star => b"*",
+    }
+}
+
+/// Adds a token.
+fn push_token(out: &mut Vec<u8>, token: Token<'_>) -> Result<(), AllocError>
+    ensures { OnOk result (out.new.items ≡ out.old.items ++ token_text (view_token token.entry)) }
+{
+    match token {
+        Token::Word(word) => push_text(out, word),
+        Token::Number(number) => push_number(out, number),
+        Token::Sign(mark) => push_text(out, mark_text(mark)),
+    }
+}
+
+/// How deep in the brackets of a tuple the place behind a `(` is.
+fn opened(depth: u64, before: Token<'_>) -> u64
+    requires { depth + 1 < 2 ^ 64 }
+    ensures value { result ≡ opened depth (view_token before.entry) }
+    ensures within { result ≤ depth + 1 }
+{
+    match before {
+        Token::Sign(Mark::Equal) if depth == 0 => 1,
+        _ if depth == 0 => 0,
+        _ => depth + 1,
+    }
+}
+
+/// How deep in the brackets of a tuple the place behind a `)` is.
+fn closed(depth: u64) -> u64
+    ensures value { result ≡ closed depth }
+    ensures within { result ≤ depth }
+{
+    depth.saturating_sub(1)
+}
+
+/// How deep in the brackets of a tuple the place behind a token is.
+fn depth_behind(depth: u64, before: Token<'_>, token: Token<'_>) -> u64
+    requires { depth + 1 < 2 ^ 64 }
+    ensures value { result ≡ depth_behind depth (view_token before.entry) (view_token token.entry) }
+    ensures within { result ≤ depth + 1 }
+{
+    match token {
+        Token::Sign(Mark::OpenParenthesis) => opened(depth, before),
+        Token::Sign(Mark::CloseParenthesis) => closed(depth),
+        _ => depth,
+    }
+}
+
+/// Whether a space may stand behind a token at this depth.
+fn parts_behind(depth: u64, token: Token<'_>) -> bool
+    ensures { result ≡ parts_behind depth (view_token token.entry) }
+{
+    match token {
+        Token::Sign(Mark::OpenParenthesis | Mark::OpenBracket | Mark::Star) => false,
+        Token::Sign(Mark::Comma) => depth == 1,
+        _ => true,
+    }
+}
+
+/// Whether a space may stand before a token, behind the one before it.
+fn parts_before(before: Token<'_>, token: Token<'_>) -> bool
+    ensures { result ≡ parts_before (view_token before.entry) (view_token token.entry) }
+{
+    match (before, token) {
+        (Token::Word(_), Token::Sign(Mark::OpenParenthesis | Mark::OpenBracket)) => false,
+        (
+            _,
+            Token::Sign(
+                Mark::CloseParenthesis
+                | Mark::CloseBracket
+                | Mark::Comma
+                | Mark::Colon
+                | Mark::Star,
+            ),
+        ) => false,
+        _ => true,
+    }
+}
+
+/// Adds a space where one stands between two tokens.
+fn push_gap(
+    out: &mut Vec<u8>,
+    depth: u64,
+    before: Token<'_>,
+    token: Token<'_>,
+) -> Result<(), AllocError>
+    ensures { OnOk result (out.new.items ≡ out.old.items ++ gap depth (view_token before.entry) (view_token token.entry)) }
+{
+    if parts_behind(depth, before) && parts_before(before, token) {
+        push_text(out, b" ")?;
+    }
+    Ok(())
+}
+
+/// Adds the tokens behind one, and the line feed.
+fn push_behind(out: &mut Vec<u8>, first: Token<'_>, tokens: &[Token<'_>]) -> Result<(), AllocError>
+    ensures { OnOk result (out.new.items ≡ out.old.items ++ layout 0 (view_token first.entry) (view_tokens tokens.now)) }
+{
+    let mut depth = 0;
+    let mut before = first;
+    for token in tokens {
+        push_gap(out, depth, before, *token)?;
+        push_token(out, *token)?;
+        depth = depth_behind(depth, before, *token);
+        before = *token;
+    }
+    push_text(out, b"\n")
+}
+
+/// Adds a line of tokens, laid out.
+pub fn push_laid_out(out: &mut Vec<u8>, tokens: &[Token<'_>]) -> Result<(), AllocError>
+    ensures { OnOk result (out.new.items ≡ out.old.items ++ line_text (view_tokens tokens.now)) }
+{
+    match tokens {
+        [] => push_text(out, b"\n"),
+        [first, rest @ ..] => {
+            push_token(out, *first)?;
+            push_behind(out, *first, rest)
+        }
+    }
+}

@@ -1,0 +1,10 @@
+//! Listings printed in their canonical text.
+#![tactic(auto)]
+
+mod instructions;
+mod layout;
+mod printing;
+mod spelling;
+
+pub use instructions::kind_word;
+pub use printing::print;

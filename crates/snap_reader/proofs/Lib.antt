@@ -1,0 +1,4 @@
+pub mod KnownTexts
+pub mod Lines
+pub mod Names
+pub mod TextLength

@@ -1,0 +1,12 @@
+//! What a listing is, and what its lines may speak of.
+#![tactic(auto)]
+
+mod header;
+mod listing;
+mod targets;
+mod uses;
+
+pub use header::{Header, is_among};
+pub use listing::Listing;
+pub use targets::{checked_target, checked_targets, has_line, push_line_copy};
+pub use uses::{checked_uses, has_bank, has_field, has_hands, has_view, same_kind};

@@ -1,0 +1,10 @@
+//! Names, indices, terms, expressions and conditions at the front of the tokens of a line.
+#![tactic(auto)]
+
+mod conditions;
+mod terms;
+
+pub use conditions::{
+    condition_at, expr_at, is_line_number, join_word, range_at, target_at, where_at,
+};
+pub use terms::{index_at, is_reserved, name_at, named_place_at, place_at};

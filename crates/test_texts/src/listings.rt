@@ -1,0 +1,567 @@
+//! Listings: which texts are read, why the others are refused, and what is printed.
+use snap_listing::{Listing, ListingFault, print, read};
+use snap_semantics::{BitBank, Expr, Index, Instr, ListingRefusal, Name, Term, Tuple};
+use snap_text::{push_number, push_text};
+use snap_words::{Field, KindTag};
+use std::alloc::Global;
+use std::test::Fail;
+
+/// A text or lines, and why they are refused: `None` where they are read.
+type Case = (&'static [u8], Option<ListingRefusal>);
+
+/// The header behind the kind: with it seven lines, so that numbered lines begin at text line 8.
+const HEADER: &[u8] = b"\nscalar j c\nrow x\nwords a\nview s\nscan 10\nupdate 10\n";
+
+/// A small listing.
+const SMALL: &[u8] = b"kind seq
+scalar j c
+row
+words a
+view s
+scan 10
+update 10
+10: let j = 1
+11: get a[j] = r[j]
+12: next j n goto 11
+13: let c = c + 1
+14: put r[me] = (arg, c, s)
+15: finish
+";
+
+/// The unbounded snapshot of single-writer registers.
+const UNBOUNDED: &[u8] = b"kind seq
+scalar j c
+row moved
+words a b
+view s
+scan 10
+update 30
+10: each n: moved[@] = 0
+11: let j = 1
+12: get a[j] = r[j]
+13: next j n goto 12
+14: get b[j] = r[j]
+15: next j n goto 14
+16: if all n: seq(a[@]) = seq(b[@]) goto 21
+17: each n: moved[@] = moved[@] + 1 where seq(a[@]) != seq(b[@])
+18: first j n: moved[@] = 2 goto 23
+19: goto 12
+21: view s = data(b)
+22: return s
+23: view s = view(b[j])
+24: return s
+30: call 10
+31: let c = c + 1
+32: put r[me] = (arg, c, s)
+33: finish
+";
+
+/// The bounded snapshot of single-writer registers.
+const BOUNDED: &[u8] = b"kind bit
+scalar j x t
+row moved g f
+words a b
+view s
+scan 10
+update 40
+10: each n: moved[@] = 0
+11: let j = 1
+12: get a[j] = r[j]
+13: let g[j] = hand(a[j],me)
+14: put q[me,j] = g[j]
+15: next j n goto 12
+16: get a[j] = r[j]
+17: next j n goto 16
+18: get b[j] = r[j]
+19: next j n goto 18
+20: if all n: hand(a[@],me) = g[@] and hand(b[@],me) = g[@] and toggle(a[@]) = toggle(b[@]) goto 25
+21: each n: moved[@] = moved[@] + 1 where hand(a[@],me) != g[@] or hand(b[@],me) != g[@] or toggle(a[@]) != toggle(b[@])
+22: first j n: moved[@] = 2 goto 27
+23: goto 12
+25: view s = data(b)
+26: return s
+27: view s = view(b[j])
+28: return s
+40: let j = 1
+41: bit x = q[j,me]
+42: let f[j] = not x
+43: next j n goto 41
+44: call 10
+45: let t = not t
+46: put r[me] = (arg, f, t, s)
+47: finish
+";
+
+/// The bounded snapshot of multi-writer registers.
+const MULTI_WRITER: &[u8] = b"kind multi
+scalar j k x
+row moved g h d tog
+words a b
+view s
+scan 10
+update 50
+10: each n: moved[@] = 0
+11: let j = 1
+12: let k = 1
+13: bit x = p[j,me]
+14: let g[j] = x
+15: put q[me,j] = x
+16: next j n goto 13
+17: get a[k] = r[k]
+18: next k w goto 17
+19: get b[k] = r[k]
+20: next k w goto 19
+21: bit x = p[j,me]
+22: let h[j] = x
+23: next j n goto 21
+24: each n: d[@] = 0
+25: each n: d[@] = 1 where h[@] != g[@]
+26: if id(a[k]) = id(b[k]) and toggle(a[k]) = toggle(b[k]) goto 29
+27: let x = id(b[k])
+28: let d[x] = 1
+29: next k w goto 26
+30: if all n: d[@] = 0 goto 34
+31: each n: moved[@] = moved[@] + 1 where d[@] = 1
+32: first j n: moved[@] = 3 goto 36
+33: goto 13
+34: view s = data(b)
+35: return s
+36: look s = v[j]
+37: return s
+50: let j = 1
+51: bit x = q[j,me]
+52: put p[me,j] = not x
+53: next j n goto 51
+54: call 10
+55: put v[me] = s
+56: let tog[word] = not tog[word]
+57: put r[word] = (arg, me, tog[word])
+58: finish
+";
+
+/// A listing with spaces, comments and empty lines of its own.
+const LOOSE: &[u8] = b"# bits
+
+kind\tbit\r
+scalar  t
+row h
+words a
+view\ts
+scan 9
+update 9
+
+9:each w:h [ @ ]=not toggle( a[@] )where h[@]<t or arg!=1
+10 : first t w : hand(a [@] ,me) = 1 goto 12 # found
+11:if all n:h[@]=0 and h[@]=0 and h[@]=0 and h[@]=0 goto 12
+12:put r[me]=(hand(a[me],t)+n,h,not t,s)
+13:put q[me,w]=data(a[word])";
+
+/// The same listing in the one layout that is printed.
+const LAID_OUT: &[u8] = b"kind bit
+scalar t
+row h
+words a
+view s
+scan 9
+update 9
+9: each w: h[@] = not toggle(a[@]) where h[@] < t or arg != 1
+10: first t w: hand(a[@],me) = 1 goto 12
+11: if all n: h[@] = 0 and h[@] = 0 and h[@] = 0 and h[@] = 0 goto 12
+12: put r[me] = (hand(a[me],t) + n, h, not t, s)
+13: put q[me,w] = data(a[word])
+";
+
+/// The first numbered line has no form.
+const NO_FORM: Option<ListingRefusal> = Some(ListingRefusal::BadLine(8));
+
+/// The first numbered line has a name that is not declared.
+const UNKNOWN: Option<ListingRefusal> = Some(ListingRefusal::UnknownName(8));
+
+/// The first numbered line has a name of another sort, or what the kind does not have.
+const WRONG: Option<ListingRefusal> = Some(ListingRefusal::WrongKind(8));
+
+/// Headers that are refused.
+const HEADERS: [Case; 16] = [
+    (b"", Some(ListingRefusal::BadHeader(1))),
+    (b"\n", Some(ListingRefusal::BadHeader(2))),
+    (b"kind seq\n\n", Some(ListingRefusal::BadHeader(3))),
+    (b"kind foo\n", Some(ListingRefusal::BadHeader(1))),
+    (b"kind\n", Some(ListingRefusal::BadHeader(1))),
+    (b"kind bits\n", Some(ListingRefusal::BadHeader(1))),
+    (b"kind bit multi\n", Some(ListingRefusal::BadHeader(1))),
+    (b"kind bit\n", Some(ListingRefusal::BadHeader(2))),
+    (b"kind multi\n", Some(ListingRefusal::BadHeader(2))),
+    (
+        b"kind seq\nscalar goto 5",
+        Some(ListingRefusal::BadHeader(2)),
+    ),
+    (
+        b"kind seq\n\nscalar abcdefghi x x",
+        Some(ListingRefusal::BadName(3)),
+    ),
+    (b"kind seq\nscalar x goto", Some(ListingRefusal::BadName(2))),
+    (
+        b"kind seq\nscalar x\nrow x\n",
+        Some(ListingRefusal::NameTwice(3)),
+    ),
+    (
+        b"kind seq\nscalar aa ab ac ad ae af ag ah ai aj ak al am an ao ap aq ar as at au av aw ax ay az\nrow ba bb bc bd be bf\nwords bg",
+        Some(ListingRefusal::TooMany(4)),
+    ),
+    (
+        b"kind seq\nscalar\nrow\nwords\nview\n10scan",
+        Some(ListingRefusal::BadHeader(6)),
+    ),
+    (
+        b"kind seq\nscalar\nrow\nwords\nview\nscan 1000",
+        Some(ListingRefusal::BadHeader(6)),
+    ),
+];
+
+/// Lines that are refused in a listing of kind seq.
+const LINES: [Case; 14] = [
+    (
+        b"11: finish\n10: finish",
+        Some(ListingRefusal::NumberNotRising(9)),
+    ),
+    (b"1000: finish", NO_FORM),
+    (b"007: finish", NO_FORM),
+    (b"10: goto9", NO_FORM),
+    (b"10: 9goto", NO_FORM),
+    (b"10: let j = @", NO_FORM),
+    (b"10: if j = 1 and j = 2 or j = 3 goto 10", NO_FORM),
+    (
+        b"10: if j = 1 and j = 2 and j = 3 and j = 4 and j = 5 goto 10",
+        NO_FORM,
+    ),
+    (b"10: let zz = 1", UNKNOWN),
+    (b"10: let abcdefghi = 1", UNKNOWN),
+    (b"10: let s = 1", WRONG),
+    (b"10: goto 11", Some(ListingRefusal::NoSuchLine(11))),
+    (b"11: finish", Some(ListingRefusal::NoSuchLine(10))),
+    (
+        b"10: goto 18446744073709551615",
+        Some(ListingRefusal::NoSuchLine(18_446_744_073_709_551_615)),
+    ),
+];
+
+/// What kind seq lacks.
+const NOT_IN_SEQ: [Case; 11] = [
+    (b"10: bit c = q[1,1]", WRONG),
+    (b"10: bit c = p[1,1]", WRONG),
+    (b"10: look s = v[1]", WRONG),
+    (b"10: put q[1,1] = 0", WRONG),
+    (b"10: put p[1,1] = 0", WRONG),
+    (b"10: put v[1] = s", WRONG),
+    (b"10: let c = hand(a[1],1)", WRONG),
+    (b"10: let c = toggle(a[1])", WRONG),
+    (b"10: let c = id(a[1])", WRONG),
+    (b"10: put r[1] = (arg, x, c, s)", WRONG),
+    (b"10: put r[1] = (arg, me, 1)", WRONG),
+];
+
+/// What kind bit lacks.
+const NOT_IN_BIT: [Case; 8] = [
+    (b"10: let c = seq(a[1])", WRONG),
+    (b"10: let c = id(a[1])", WRONG),
+    (b"10: bit c = p[1,1]", WRONG),
+    (b"10: put p[1,1] = 0", WRONG),
+    (b"10: look s = v[1]", WRONG),
+    (b"10: put v[1] = s", WRONG),
+    (b"10: put r[1] = (arg, c, s)", WRONG),
+    (b"10: put r[1] = (arg, me, 1)", WRONG),
+];
+
+/// What kind multi lacks.
+const NOT_IN_MULTI: [Case; 5] = [
+    (b"10: view s = view(a[1])", WRONG),
+    (b"10: let c = hand(a[1],1)", WRONG),
+    (b"10: let c = seq(a[1])", WRONG),
+    (b"10: put r[1] = (arg, me, s)", WRONG),
+    (b"10: put r[1] = (arg, x, c, s)", WRONG),
+];
+
+/// Lines of kind seq with two faults: what is wrong first, from left to right, decides.
+const TWO_FAULTS: [Case; 9] = [
+    (b"10: put r[1] = (zz, c, c)", UNKNOWN),
+    (b"10: put r[1] = (c, c, c)", WRONG),
+    (b"10: put r[1] = (zz, c, 1)", WRONG),
+    (b"10: put r[zz] = (arg, c, 1)", UNKNOWN),
+    (b"10: bit zz = q[1,1]", UNKNOWN),
+    (b"10: put q[zz,1] = 0", WRONG),
+    (b"10: put v[1] = zz", WRONG),
+    (b"10: let c = hand(zz[1],1)", WRONG),
+    (b"10: let zz = hand(a[1],1)", UNKNOWN),
+];
+
+/// Tuples of kind bit.
+const TUPLES_OF_BITS: [Case; 4] = [
+    (b"10: put r[1] = (arg, zz, c, s)", UNKNOWN),
+    (b"10: put r[1] = (arg, c, c, s)", WRONG),
+    (b"10: put r[1] = (arg, x, c, c)", WRONG),
+    (b"10: put r[1] = (arg, x, c, s)\n11: finish", None),
+];
+
+/// Lines that have no form in a listing of any kind.
+const MALFORMED: [Case; 10] = [
+    (b"10: put r[1] = (1, 2, 3, s)", NO_FORM),
+    (b"10: put r[1] = (1, 2)", NO_FORM),
+    (b"10: put r[1,1] = (1, 2, 3)", NO_FORM),
+    (b"10: bit c = q[1]", NO_FORM),
+    (b"10: bit c = r[1,1]", NO_FORM),
+    (b"10: put q[1,1] = s 1", NO_FORM),
+    (b"10: put v[1] = 1", NO_FORM),
+    (b"10: look s = v[1,1]", NO_FORM),
+    (b"10: let c = hand(a[1])", NO_FORM),
+    (b"10: let c = toggle a[1]", NO_FORM),
+];
+
+/// Why a text is refused, or nothing where it is read.
+fn refusal(alloc: Global, text: &[u8]) -> Result<Option<ListingRefusal>, Fail> {
+    match read(alloc, text) {
+        Ok(_) => Ok(None),
+        Err(ListingFault::Refused(refusal)) => Ok(Some(refusal)),
+        Err(ListingFault::Memory) => Err(Fail::from(ListingFault::Memory)),
+    }
+}
+
+/// Why these lines behind the header of a listing of this kind are refused.
+fn line_refusal(alloc: Global, kind: &[u8], lines: &[u8]) -> Result<Option<ListingRefusal>, Fail> {
+    let mut text = Vec::new(alloc);
+    push_text(&mut text, b"kind ")?;
+    push_text(&mut text, kind)?;
+    push_text(&mut text, HEADER)?;
+    push_text(&mut text, lines)?;
+    refusal(alloc, text.as_slice())
+}
+
+/// The place of the first text that is not refused as it says.
+fn wrong_text(alloc: Global, cases: &[Case]) -> Result<Option<usize>, Fail> {
+    let mut place = 0;
+    for (text, want) in cases {
+        if refusal(alloc, text)? != *want {
+            return Ok(Some(place));
+        }
+        place += 1;
+    }
+    Ok(None)
+}
+
+/// The place of the first lines that are not refused as they say, in a listing of this kind.
+fn wrong_lines(alloc: Global, kind: &[u8], cases: &[Case]) -> Result<Option<usize>, Fail> {
+    let mut place = 0;
+    for (lines, want) in cases {
+        if line_refusal(alloc, kind, lines)? != *want {
+            return Ok(Some(place));
+        }
+        place += 1;
+    }
+    Ok(None)
+}
+
+/// So many spaces.
+fn spaces(alloc: Global, count: usize) -> Result<Vec<u8>, Fail> {
+    let mut text = Vec::new(alloc);
+    for _ in 0..count {
+        text.push(b' ')?;
+    }
+    Ok(text)
+}
+
+/// Why so many spaces are refused.
+fn spaces_refusal(alloc: Global, count: usize) -> Result<Option<ListingRefusal>, Fail> {
+    let text = spaces(alloc, count)?;
+    refusal(alloc, text.as_slice())
+}
+
+/// The lines of these numbers from 1 on, up to before the last.
+fn finish_lines(alloc: Global, last: u64) -> Result<Vec<u8>, Fail> {
+    let mut lines = Vec::new(alloc);
+    for number in 1..last {
+        push_number(&mut lines, number)?;
+        push_text(&mut lines, b": finish\n")?;
+    }
+    Ok(lines)
+}
+
+/// Why the lines of these numbers from 1 on, up to before the last, are refused.
+fn finish_lines_refusal(alloc: Global, last: u64) -> Result<Option<ListingRefusal>, Fail> {
+    let lines = finish_lines(alloc, last)?;
+    line_refusal(alloc, b"seq", lines.as_slice())
+}
+
+/// Whether these are the names.
+fn names_are(names: &[Name], want: &[&[u8]]) -> bool {
+    names.len() == want.len()
+        && names
+            .iter()
+            .zip(want)
+            .all(|(name, letters)| name.letters() == *letters)
+}
+
+/// Whether a listing has the names and lines of the small one.
+fn is_small(listing: &Listing) -> bool {
+    listing.lines().len() == 6
+        && names_are(listing.scalars(), &[b"j", b"c"])
+        && names_are(listing.rows(), &[])
+        && names_are(listing.words(), &[b"a"])
+        && names_are(listing.views(), &[b"s"])
+        && listing.following(14) == Some(15)
+        && listing.update() == 10
+}
+
+/// Whether a listing is of this kind, and has so many lines.
+fn is_of(listing: &Listing, kind: KindTag, lines: usize) -> bool {
+    listing.kind() == kind && listing.lines().len() == lines
+}
+
+/// Whether a listing has the tuple of kind seq.
+fn has_seq_lines(listing: &Listing) -> bool {
+    matches!(
+        listing.instr(32),
+        Some(Instr::Put(Index::Me, Tuple::Seq(Expr::Term(Term::Arg), _, _)))
+    )
+}
+
+/// Whether a listing has the handshake bits and the tuple of kind bit.
+fn has_bit_lines(listing: &Listing) -> bool {
+    matches!(
+        listing.instr(13),
+        Some(Instr::LetPlace(_, _, Expr::Term(Term::Hand(_, Index::Scalar(_), Index::Me))))
+    ) && matches!(
+        listing.instr(14),
+        Some(Instr::PutBit(BitBank::Q, Index::Me, Index::Scalar(_), _))
+    ) && matches!(
+        listing.instr(46),
+        Some(Instr::Put(Index::Me, Tuple::Bits(_, _, _, _)))
+    )
+}
+
+/// Whether a listing has the fields of kind multi.
+fn has_multi_fields(listing: &Listing) -> bool {
+    matches!(
+        listing.instr(13),
+        Some(Instr::Bit(_, BitBank::P, Index::Scalar(_), Index::Me))
+    ) && matches!(
+        listing.instr(27),
+        Some(Instr::Let(_, Expr::Term(Term::Field(Field::Id, _, _))))
+    )
+}
+
+/// Whether a listing has the views and the tuple of kind multi.
+fn has_multi_views(listing: &Listing) -> bool {
+    matches!(listing.instr(36), Some(Instr::Look(_, Index::Scalar(_))))
+        && matches!(listing.instr(55), Some(Instr::PutView(Index::Me, _)))
+        && matches!(
+            listing.instr(57),
+            Some(Instr::Put(Index::Word, Tuple::Multi(_, _, _)))
+        )
+}
+
+/// Whether what is printed of the listing that a text is, is this.
+fn prints(alloc: Global, text: &[u8], want: &[u8]) -> Result<bool, Fail> {
+    let listing = read(alloc, text)?;
+    let printed = print(alloc, &listing)?;
+    Ok(printed.as_slice() == want)
+}
+
+#[test]
+fn refuses_headers(rt: HostRuntime) -> Result<(), Fail> {
+    assert_eq!(rt; wrong_text(rt.alloc(), &HEADERS)?, None);
+    Ok(())
+}
+
+#[test]
+fn refuses_lines(rt: HostRuntime) -> Result<(), Fail> {
+    assert_eq!(rt; wrong_lines(rt.alloc(), b"seq", &LINES)?, None);
+    assert_eq!(rt; wrong_lines(rt.alloc(), b"seq", &TWO_FAULTS)?, None);
+    assert_eq!(rt; wrong_lines(rt.alloc(), b"bit", &TUPLES_OF_BITS)?, None);
+    Ok(())
+}
+
+#[test]
+fn refuses_what_a_kind_lacks(rt: HostRuntime) -> Result<(), Fail> {
+    assert_eq!(rt; wrong_lines(rt.alloc(), b"seq", &NOT_IN_SEQ)?, None);
+    assert_eq!(rt; wrong_lines(rt.alloc(), b"bit", &NOT_IN_BIT)?, None);
+    assert_eq!(rt; wrong_lines(rt.alloc(), b"multi", &NOT_IN_MULTI)?, None);
+    Ok(())
+}
+
+#[test]
+fn refuses_malformed_accesses(rt: HostRuntime) -> Result<(), Fail> {
+    for kind in [b"seq".as_slice(), b"bit".as_slice(), b"multi".as_slice()] {
+        assert_eq!(rt; wrong_lines(rt.alloc(), kind, &MALFORMED)?, None);
+    }
+    Ok(())
+}
+
+#[test]
+fn refuses_long_texts(rt: HostRuntime) -> Result<(), Fail> {
+    let want = Some(ListingRefusal::BadHeader(2));
+    assert_eq!(rt; spaces_refusal(rt.alloc(), 65_536)?, want);
+    let want = Some(ListingRefusal::TooLong);
+    assert_eq!(rt; spaces_refusal(rt.alloc(), 65_537)?, want);
+    Ok(())
+}
+
+#[test]
+fn refuses_the_line_after_200(rt: HostRuntime) -> Result<(), Fail> {
+    assert_eq!(rt; finish_lines_refusal(rt.alloc(), 201)?, None);
+    let want = Some(ListingRefusal::TooMany(208));
+    assert_eq!(rt; finish_lines_refusal(rt.alloc(), 202)?, want);
+    Ok(())
+}
+
+#[test]
+fn reads(rt: HostRuntime) -> Result<(), Fail> {
+    let listing = read(rt.alloc(), SMALL)?;
+    assert!(rt; is_small(&listing));
+    Ok(())
+}
+
+#[test]
+fn copies(rt: HostRuntime) -> Result<(), Fail> {
+    let listing = read(rt.alloc(), SMALL)?;
+    let copy = listing.copy(rt.alloc())?;
+    assert!(rt; is_small(&copy));
+    Ok(())
+}
+
+#[test]
+fn reads_a_listing_of_kind_seq(rt: HostRuntime) -> Result<(), Fail> {
+    let listing = read(rt.alloc(), UNBOUNDED)?;
+    assert!(rt; is_of(&listing, KindTag::Seq, 18));
+    assert!(rt; has_seq_lines(&listing));
+    Ok(())
+}
+
+#[test]
+fn reads_a_listing_of_kind_bit(rt: HostRuntime) -> Result<(), Fail> {
+    let listing = read(rt.alloc(), BOUNDED)?;
+    assert!(rt; is_of(&listing, KindTag::Bits, 26));
+    assert!(rt; has_bit_lines(&listing));
+    Ok(())
+}
+
+#[test]
+fn reads_a_listing_of_kind_multi(rt: HostRuntime) -> Result<(), Fail> {
+    let listing = read(rt.alloc(), MULTI_WRITER)?;
+    assert!(rt; is_of(&listing, KindTag::Multi, 37));
+    assert!(rt; has_multi_fields(&listing));
+    assert!(rt; has_multi_views(&listing));
+    Ok(())
+}
+
+#[test]
+fn prints_what_it_read(rt: HostRuntime) -> Result<(), Fail> {
+    for text in [UNBOUNDED, BOUNDED, MULTI_WRITER] {
+        assert!(rt; prints(rt.alloc(), text, text)?);
+    }
+    Ok(())
+}
+
+#[test]
+fn prints_one_layout(rt: HostRuntime) -> Result<(), Fail> {
+    assert!(rt; prints(rt.alloc(), LOOSE, LAID_OUT)?);
+    Ok(())
+}

@@ -4,7 +4,7 @@ ghost use Rattle.snap_semantics.specs.Answers.{Answers};
 ghost use Rattle.snap_semantics.specs.Assembly.{assembled, listed};
 ghost use Rattle.snap_semantics.specs.ImageListing.{listing_of_image};
 
-use crate::program::Program;
+use snap_code::Program;
 use snap_image::{ImageFault, decode, encode};
 use snap_listing::{ListingFault, print, read};
 use std::alloc::Global;

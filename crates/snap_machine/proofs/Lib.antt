@@ -1,9 +1,5 @@
-pub mod Slots
-pub mod Places
-pub mod Steps
-pub mod Replicas
-pub mod Sizes
 pub mod Found
 pub mod Kept
-pub mod Tuples
+pub mod Replicas
 pub mod Stands
+pub mod Steps

@@ -3,13 +3,13 @@ ghost use Rattle.std.specs.Prelude.{◌≡◌, length, map};
 ghost use Rattle.snap_words.specs.Shape.{IsOneOf};
 ghost use Rattle.snap_semantics.specs.Table.{call_skip, done, entry, owner_skip};
 ghost use Rattle.snap_semantics.specs.declared.process.Item.TheVariants as item;
-ghost use Rattle.snap_machine.specs.Seen.{seen_process, seen_state};
-ghost use Rattle.snap_machine.specs.Sizes.{AllSized};
+ghost use Rattle.snap_values.specs.Seen.{seen_process, seen_state};
+ghost use Rattle.snap_lines.specs.Sizes.{AllSized};
 
-use crate::process::Process;
 use snap_listing::Listing;
 use snap_regs::Registers;
 use snap_semantics::{Activity, Op, Outcome, Reason, Status};
+use snap_values::Process;
 use snap_words::{Kind, KindTag, Shape};
 
 /// A call of process i.

@@ -1,9 +1,9 @@
 //! Equal processes.
 ghost use Rattle.std.specs.Prelude.{◌≡◌, IfOk, map, vec_items};
 ghost use Rattle.snap_semantics.specs.Source.{Source};
-ghost use Rattle.snap_machine.specs.Seen.{seen_process};
+ghost use Rattle.snap_values.specs.Seen.{seen_process};
 
-use crate::process::Process;
+use snap_values::Process;
 use snap_words::{Kind, View};
 use std::alloc::{AllocError, Global};
 

@@ -3,12 +3,11 @@ ghost use Rattle.std.specs.Prelude.{◌≡◌, IfOk, map, replicate, vec_items};
 ghost use Rattle.snap_words.specs.Kind.{initial_word};
 ghost use Rattle.snap_words.specs.Shape.{places};
 ghost use Rattle.snap_semantics.specs.State.{initial_process};
-ghost use Rattle.snap_machine.specs.Seen.{seen_process};
+ghost use Rattle.snap_values.specs.Seen.{seen_process};
 
-use crate::process::Process;
-use crate::value::places;
 use snap_listing::Listing;
 use snap_semantics::Status;
+use snap_values::{Process, places};
 use snap_words::{Kind, Shape, View};
 use std::alloc::{AllocError, Global};
 

@@ -14,18 +14,18 @@ ghost use Rattle.snap_semantics.specs.State.{initial, process_at, values};
 ghost use Rattle.snap_semantics.specs.Table.{done, who};
 ghost use Rattle.snap_regs.specs.declared.fault.RegisterFault.TheVariants.{Index};
 ghost use Rattle.snap_machine.specs.Reading.{seen_contents, seen_local, value_there};
-ghost use Rattle.snap_machine.specs.Seen.{seen_locals};
+ghost use Rattle.snap_values.specs.Seen.{seen_locals};
 
 use crate::call::call;
 use crate::copies::copy_processes;
 use crate::fresh::new_processes;
-use crate::local_lines::data_of;
-use crate::process::Process;
 use crate::reading::{Contents, Local};
 use crate::step::step;
-use snap_asm::Program;
+use snap_code::Program;
+use snap_lines::data_of;
 use snap_regs::{RegisterFault, Registers};
-use snap_semantics::{BitBank, Item, Name, Op, Outcome, Sort, Status};
+use snap_semantics::{Activity, BitBank, Item, Name, Op, Outcome, Sort, Status};
+use snap_values::Process;
 use snap_words::{Address, Bank, Kind, Shape, View};
 use std::alloc::{AllocError, Global};
 use std::marker::Model;
@@ -44,7 +44,7 @@ impl<K: Kind> Model for Machine<K> {
 
     ghost Value = { Standing };
 
-    ghost use Rattle.snap_machine.specs.Seen.{seen_state};
+    ghost use Rattle.snap_values.specs.Seen.{seen_state};
 
     ghost view = { λ m. record {
       source = m.program;
@@ -125,16 +125,23 @@ impl<K: Kind> Machine<K> {
         self.processes[(i - 1) as usize].status
     }
 
+    /// What a process is at, or was at when it trapped.
+    fn activity(&self, i: u32) -> Option<Activity>
+        requires { IsOneOf self.now.shape.n i }
+        ensures { result ≡ activity_of (process_at self.now.state i).status }
+    {
+        match self.status(i) {
+            Status::Idle => None,
+            Status::Busy(activity) | Status::Trapped(_, activity) => Some(activity),
+        }
+    }
+
     /// The number of the line that a process runs next, or at which it trapped.
     pub fn line(&self, i: u32) -> Option<u64>
         requires { IsOneOf self.now.shape.n i }
         ensures { result ≡ line_of (process_at self.now.state i).status }
     {
-        match self.status(i) {
-            Status::Idle => None,
-            Status::Busy(activity) => Some(activity.line),
-            Status::Trapped(_, activity) => Some(activity.line),
-        }
+        Some(self.activity(i)?.line)
     }
 
     /// The operation that a process is at, or was at when it trapped.
@@ -142,11 +149,7 @@ impl<K: Kind> Machine<K> {
         requires { IsOneOf self.now.shape.n i }
         ensures { result ≡ operation_of (process_at self.now.state i).status }
     {
-        match self.status(i) {
-            Status::Idle => None,
-            Status::Busy(activity) => Some(activity.op),
-            Status::Trapped(_, activity) => Some(activity.op),
-        }
+        Some(self.activity(i)?.op)
     }
 
     /// The line to which a process goes back at `return`.
@@ -154,11 +157,7 @@ impl<K: Kind> Machine<K> {
         requires { IsOneOf self.now.shape.n i }
         ensures { result ≡ link_of (activity_of (process_at self.now.state i).status) }
     {
-        match self.status(i) {
-            Status::Idle => None,
-            Status::Busy(activity) => activity.link,
-            Status::Trapped(_, activity) => activity.link,
-        }
+        self.activity(i)?.link
     }
 
     /// The registers.

@@ -1,6 +1,6 @@
 use Rattle.std.proofs.Common.{◌≡◌, map, take}
 use Rattle.snap_semantics.specs.Source.{Source}
-use Rattle.snap_machine.specs.Seen.{seen_process}
+use Rattle.snap_values.specs.Seen.{seen_process}
 use Rattle.snap_machine.proofs.copies.copy_processes.Given as goal
 
 abbrev pub invariant-loop-process : goal.invariant-loop-process

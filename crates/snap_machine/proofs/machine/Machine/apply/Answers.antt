@@ -1,6 +1,6 @@
 use Rattle.std.proofs.Common.{rules, ◌≡◌, length, map, refl, ap, subst, ◌∙◌}
-use Rattle.snap_machine.specs.Seen.{seen_process}
-use Rattle.snap_machine.specs.Sizes.{AllSized}
+use Rattle.snap_values.specs.Seen.{seen_process}
+use Rattle.snap_lines.specs.Sizes.{AllSized}
 use Rattle.snap_machine.proofs.Stands.{stands_after}
 use Rattle.snap_machine.proofs.machine.Machine.apply.Goals as goal
 

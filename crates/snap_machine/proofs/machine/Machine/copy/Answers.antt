@@ -1,6 +1,6 @@
 use Rattle.std.proofs.Common.{map, ap, ◌∙◌}
 use Rattle.snap_regs.specs.Store.{Store}
-use Rattle.snap_machine.specs.Seen.{seen_process}
+use Rattle.snap_values.specs.Seen.{seen_process}
 use Rattle.snap_machine.proofs.Stands.{stands_copy}
 use Rattle.snap_machine.proofs.machine.Machine.copy.Goals as goal
 

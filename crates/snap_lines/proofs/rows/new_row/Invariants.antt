@@ -1,0 +1,13 @@
+use Rattle.std.proofs.Common.{◌≡◌, Ok, ◌++◌, drop}
+use Rattle.snap_semantics.specs.Answers.{◌>>=◌}
+use Rattle.snap_semantics.specs.Table.{each_value}
+use Rattle.snap_semantics.specs.Value.{at_place}
+use Rattle.snap_lines.specs.Rows.{new_row}
+use Rattle.snap_values.specs.Seen.{seen_context}
+use Rattle.snap_values.proofs.PlacesLeft.{left_of}
+use Rattle.snap_lines.proofs.rows.new_row.Given as goal
+
+abbrev pub invariant-loop-passed : goal.invariant-loop-passed
+invariant-loop-passed g l =
+    (left_of (λ p. each_value (at_place (seen_context g.K.Kind.parts l.listing l.context l.process) p) l.name l.expr l.condition) l.passed l.count >>= λ vs. Ok (l.values.items ++ (vs ++ drop l.count l.old)))
+    ≡ new_row (seen_context g.K.Kind.parts l.listing l.context l.process) l.count l.name l.expr l.condition

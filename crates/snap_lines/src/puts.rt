@@ -1,0 +1,147 @@
+//! What a line puts into a register, and what is checked of it.
+ghost use Rattle.std.specs.Prelude.{◌≡◌, ◌&&◌, true, false, Ok, MatchResult, take};
+ghost use Rattle.std.specs.List.{list_all};
+ghost use Rattle.snap_words.specs.Kind.{has_bits, is_bit, is_sized, kept, may_write};
+ghost use Rattle.snap_semantics.specs.Table.{bank_of, tuple_word};
+ghost use Rattle.snap_semantics.specs.declared.process.Cause.TheVariants.{NotABit, Owner};
+ghost use Rattle.snap_lines.specs.Given.{given_word, given_in, parts_in};
+ghost use Rattle.snap_lines.specs.Lines.{IfAnswered};
+ghost use Rattle.snap_values.specs.Seen.{seen_context};
+
+use crate::lines::Halt;
+use crate::local_lines::copy_of;
+use snap_listing::Listing;
+use snap_semantics::{BitBank, Cause, Tuple};
+use snap_values::{Context, Process, expr_value, row, view};
+use snap_words::{Address, Bank, Kind, Parts, Shape};
+use std::alloc::Global;
+
+/// The parts of a word that is to be put, before they are copied.
+#[derive(Clone, Copy)]
+pub struct Given<'a> {
+    pub datum: u64,
+    pub seq: u64,
+    pub id: u64,
+    pub toggle: u64,
+    pub hands: &'a [u64],
+    pub view: &'a [u64],
+}
+
+/// What a tuple gives.
+pub fn given_of<'a, K: Kind>(
+    listing: &Listing,
+    context: &Context,
+    process: &'a Process<K>,
+    tuple: &Tuple,
+) -> Result<Given<'a>, Cause>
+    ensures { given_in result ≡ tuple_word (seen_context K.parts listing.now context.now process.now) tuple.now }
+{
+    match tuple {
+        Tuple::Seq(datum, seq, name) => Ok(Given {
+            datum: expr_value(listing, context, process, datum)?,
+            seq: expr_value(listing, context, process, seq)?,
+            id: 0,
+            toggle: 0,
+            hands: &[],
+            view: view(listing.views(), process.views.as_slice(), *name),
+        }),
+        Tuple::Bits(datum, hands, toggle, name) => {
+            let hands = row(listing.rows(), process.rows.as_slice(), *hands);
+            Ok(Given {
+                datum: expr_value(listing, context, process, datum)?,
+                seq: 0,
+                id: 0,
+                toggle: expr_value(listing, context, process, toggle)?,
+                hands: first_numbers(hands, context.shape.n()),
+                view: view(listing.views(), process.views.as_slice(), *name),
+            })
+        }
+        Tuple::Multi(datum, id, toggle) => Ok(Given {
+            datum: expr_value(listing, context, process, datum)?,
+            seq: 0,
+            id: expr_value(listing, context, process, id)?,
+            toggle: expr_value(listing, context, process, toggle)?,
+            hands: &[],
+            view: &[],
+        }),
+    }
+}
+
+/// The first numbers, or all where there are fewer.
+fn first_numbers(numbers: &[u64], count: u64) -> &[u64]
+    ensures { result.now ≡ take count numbers.now }
+{
+    &numbers[..(count as usize).min(numbers.len())]
+}
+
+/// `NotABit` unless the toggle and the hands are bits.
+pub fn check_bits(given: &Given<'_>) -> Result<(), Cause>
+    ensures { let test = is_bit given.now.toggle && list_all is_bit given.now.hands.now in
+        MatchResult result (λ _. test ≡ true) (λ e. (e ≡ NotABit) × (test ≡ false)) }
+{
+    if given.toggle <= 1 && are_bits(given.hands) {
+        Ok(())
+    } else {
+        Err(Cause::NotABit)
+    }
+}
+
+/// Whether each number is 0 or 1.
+fn are_bits(numbers: &[u64]) -> bool
+    ensures { result ≡ list_all is_bit numbers.now }
+{
+    numbers.iter().all(|&x| x <= 1)
+}
+
+/// `NotABit` unless it is 0 or 1.
+pub fn check_bit(bit: u64) -> Result<(), Cause>
+    ensures { MatchResult result (λ _. is_bit bit ≡ true) (λ e. (e ≡ NotABit) × (is_bit bit ≡ false)) }
+{
+    if bit <= 1 {
+        Ok(())
+    } else {
+        Err(Cause::NotABit)
+    }
+}
+
+/// `Owner` unless the process may write the registers of this bank whose first index is `i`.
+pub fn check_owner<K: Kind>(who: u32, bank: Bank, i: u64) -> Result<(), Cause>
+    ensures { MatchResult result (λ _. may_write K.TAG who bank i ≡ true) (λ e. (e ≡ Owner) × (may_write K.TAG who bank i ≡ false)) }
+{
+    if K::may_write(who, Address { bank, i, j: 0 }) {
+        Ok(())
+    } else {
+        Err(Cause::Owner)
+    }
+}
+
+/// The bank of these bits.
+pub fn bank_of(bits: BitBank) -> Bank
+    ensures { result ≡ bank_of bits }
+{
+    match bits {
+        BitBank::Q => Bank::Q,
+        BitBank::P => Bank::P,
+    }
+}
+
+/// The word of these parts, which are those of the kind.
+pub fn built<K: Kind>(alloc: Global, shape: Shape, given: &Given<'_>) -> Result<K::Word, Halt>
+    requires sized { is_sized K.TAG shape (given_word given.now) ≡ true }
+    requires bits { has_bits K.TAG (given_word given.now) ≡ true }
+    requires kept { kept K.TAG (given_word given.now) ≡ given_word given.now }
+    ensures { IfAnswered result (λ r. parts_in K.parts r ≡ Ok (given_word given.now)) }
+{
+    let parts = Parts {
+        datum: given.datum,
+        seq: given.seq,
+        id: given.id,
+        toggle: given.toggle,
+        hands: copy_of(alloc, given.hands)?,
+        view: copy_of(alloc, given.view)?,
+    };
+    match K::build(shape, parts) {
+        Ok(word) => Ok(word),
+        Err(_) => Err(Halt::Trap(Cause::NotABit)),
+    }
+}

@@ -1,0 +1,66 @@
+//! A row with the new values of its places.
+ghost use Rattle.std.specs.Prelude.{◌≡◌, [], ◌∷◌, ◌++◌, drop, IfOk, OnOk};
+ghost use Rattle.snap_lines.specs.Lines.{IfAnswered};
+ghost use Rattle.snap_lines.specs.Rows.{new_row, items_of};
+ghost use Rattle.snap_values.specs.Seen.{seen_context};
+
+use crate::lines::Halt;
+use snap_listing::Listing;
+use snap_semantics::{Condition, Expr, Name};
+use snap_values::{Context, Process, row, row_value};
+use snap_words::Kind;
+use std::alloc::{AllocError, Global};
+
+/// A row with the new values, and after them the old ones.
+pub fn new_row<K: Kind>(
+    alloc: Global,
+    listing: &Listing,
+    context: &Context,
+    process: &Process<K>,
+    count: u64,
+    name: Name,
+    expr: &Expr,
+    condition: &Option<Condition>,
+) -> Result<Vec<u64>, Halt>
+    ensures { IfAnswered result (λ r.
+        items_of r ≡ new_row (seen_context K.parts listing.now context.now process.now) count name expr.now condition.now) }
+{
+    let old = row(listing.rows(), process.rows.as_slice(), name);
+    let mut values = room(alloc, old.len())?;
+    for passed in 0..count {
+        let value = row_value(
+            listing,
+            &context.at(passed + 1),
+            process,
+            name,
+            expr,
+            condition,
+        )?;
+        push(&mut values, value)?;
+    }
+    push_rest(&mut values, old, count)?;
+    Ok(values)
+}
+
+/// An empty row with room.
+fn room(alloc: Global, count: usize) -> Result<Vec<u64>, AllocError>
+    ensures { IfOk result (λ row. row.items ≡ []) }
+{
+    Vec::with_capacity(alloc, count)
+}
+
+/// A row with one number more.
+fn push(row: &mut Vec<u64>, value: u64) -> Result<(), AllocError>
+    ensures { OnOk result (row.new.items ≡ row.old.items ++ value ∷ []) }
+{
+    row.push(value)?;
+    Ok(())
+}
+
+/// A row with what another has after this many numbers.
+fn push_rest(row: &mut Vec<u64>, other: &[u64], count: u64) -> Result<(), AllocError>
+    ensures { OnOk result (row.new.items ≡ row.old.items ++ drop count other.now) }
+{
+    let from = (count as usize).min(other.len());
+    row.extend_from_slice(&other[from..])
+}

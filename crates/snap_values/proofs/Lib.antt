@@ -1,0 +1,2 @@
+pub mod PlacesLeft
+pub mod Slots

@@ -1,0 +1,13 @@
+use Rattle.std.proofs.Common.{◌≡◌, Ok}
+use Rattle.snap_semantics.specs.Answers.{◌>>=◌}
+use Rattle.snap_semantics.specs.Table.{each_value}
+use Rattle.snap_semantics.specs.Value.{at_place}
+use Rattle.snap_values.specs.Quantifiers.{checked_values}
+use Rattle.snap_values.specs.Seen.{seen_context}
+use Rattle.snap_values.proofs.PlacesLeft.{left_of}
+use Rattle.snap_values.proofs.quantifiers.check_values.Given as goal
+
+abbrev pub invariant-loop-passed : goal.invariant-loop-passed
+invariant-loop-passed g l =
+    (left_of (λ p. each_value (at_place (seen_context g.K.Kind.parts l.listing l.context l.process) p) l.name l.expr l.condition) l.passed l.count >>= λ vs. Ok tt)
+    ≡ checked_values (seen_context g.K.Kind.parts l.listing l.context l.process) l.count l.name l.expr l.condition

@@ -1,0 +1,14 @@
+use Rattle.std.proofs.Common.{◌≡◌, ◌+◌, Ok}
+use Rattle.snap_semantics.specs.Answers.{◌>>=◌}
+use Rattle.snap_semantics.specs.Forms.{or_else}
+use Rattle.snap_semantics.specs.Table.{first_true}
+use Rattle.snap_semantics.specs.Value.{at_place, condition_holds}
+use Rattle.snap_values.specs.Quantifiers.{first_place}
+use Rattle.snap_values.specs.Seen.{seen_context}
+use Rattle.snap_values.proofs.PlacesLeft.{left_of}
+use Rattle.snap_values.proofs.quantifiers.first_place.Given as goal
+
+abbrev pub invariant-loop-passed : goal.invariant-loop-passed
+invariant-loop-passed g l =
+    (left_of (λ p. condition_holds (at_place (seen_context g.K.Kind.parts l.listing l.context l.process) p) l.condition) l.passed l.count >>= λ bs. Ok (or_else l.found (first_true (l.passed + 1) bs)))
+    ≡ first_place (seen_context g.K.Kind.parts l.listing l.context l.process) l.count l.condition

@@ -1,0 +1,123 @@
+//! Quantifiers: what holds, and what the values are, at the places from 1 on. The operands of a place are all taken
+//! before those of the next.
+ghost use Rattle.std.specs.Prelude.{◌≡◌, if◌then◌else◌};
+ghost use Rattle.snap_semantics.specs.Forms.{or_else};
+ghost use Rattle.snap_semantics.specs.Table.{each_value, range_end};
+ghost use Rattle.snap_values.specs.Quantifiers.{first_place, holds_at_all, checked_values};
+ghost use Rattle.snap_values.specs.Seen.{seen_context};
+
+use crate::context::Context;
+use crate::locals::row;
+use crate::process::Process;
+use crate::value::{condition_holds, expr_value, joined, number_at};
+use snap_listing::Listing;
+use snap_semantics::{Cause, Condition, Expr, Join, Name, Range};
+use snap_words::{Kind, Shape};
+
+/// How many places a quantifier goes over.
+pub fn range_end(shape: Shape, range: Range) -> u64
+    ensures { result ≡ range_end shape range }
+{
+    match range {
+        Range::Processes => shape.n(),
+        Range::Words => shape.w(),
+    }
+}
+
+/// The least place at which a condition holds.
+pub fn first_place<K: Kind>(
+    listing: &Listing,
+    context: &Context,
+    process: &Process<K>,
+    count: u64,
+    condition: &Condition,
+) -> Result<Option<u64>, Cause>
+    ensures { result ≡ first_place (seen_context K.parts listing.now context.now process.now) count condition.now }
+{
+    let mut found = None;
+    for passed in 0..count {
+        let place = passed + 1;
+        let holds = condition_holds(listing, &context.at(place), process, condition)?;
+        found = first_of(found, holds, place);
+    }
+    Ok(found)
+}
+
+/// The place that was found, or else this one if it holds.
+fn first_of(found: Option<u64>, holds: bool, place: u64) -> Option<u64>
+    ensures { result ≡ or_else found (if holds then Some place else None) }
+{
+    match found {
+        Some(first) => Some(first),
+        None => if holds { Some(place) } else { None },
+    }
+}
+
+/// Whether a condition holds at every place.
+pub fn holds_at_all<K: Kind>(
+    listing: &Listing,
+    context: &Context,
+    process: &Process<K>,
+    count: u64,
+    condition: &Condition,
+) -> Result<bool, Cause>
+    ensures { result ≡ holds_at_all (seen_context K.parts listing.now context.now process.now) count condition.now }
+{
+    let mut all = true;
+    for passed in 0..count {
+        let holds = condition_holds(listing, &context.at(passed + 1), process, condition)?;
+        all = joined(Join::And, all, holds);
+    }
+    Ok(all)
+}
+
+/// A place's new value: the expression's where the condition holds, else the old one.
+pub fn row_value<K: Kind>(
+    listing: &Listing,
+    context: &Context,
+    process: &Process<K>,
+    name: Name,
+    expr: &Expr,
+    condition: &Option<Condition>,
+) -> Result<u64, Cause>
+    ensures { result ≡ each_value (seen_context K.parts listing.now context.now process.now) name expr.now condition.now }
+{
+    match condition {
+        None => expr_value(listing, context, process, expr),
+        Some(condition) => {
+            let value = expr_value(listing, context, process, expr)?;
+            let holds = condition_holds(listing, context, process, condition)?;
+            if holds {
+                Ok(value)
+            } else {
+                let row = row(listing.rows(), process.rows.as_slice(), name);
+                Ok(number_at(row, context.place.saturating_sub(1) as usize))
+            }
+        }
+    }
+}
+
+/// The trap of the first place that has no new value, if one has none.
+pub fn check_values<K: Kind>(
+    listing: &Listing,
+    context: &Context,
+    process: &Process<K>,
+    count: u64,
+    name: Name,
+    expr: &Expr,
+    condition: &Option<Condition>,
+) -> Result<(), Cause>
+    ensures { result ≡ checked_values (seen_context K.parts listing.now context.now process.now) count name expr.now condition.now }
+{
+    for passed in 0..count {
+        row_value(
+            listing,
+            &context.at(passed + 1),
+            process,
+            name,
+            expr,
+            condition,
+        )?;
+    }
+    Ok(())
+}

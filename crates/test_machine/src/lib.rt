@@ -1,0 +1,5 @@
+//! Tests of machines.
+#![tactic(auto)]
+
+#[cfg(test)]
+mod tests;

@@ -3,20 +3,10 @@ ghost use Rattle.std.specs.Prelude.{◌≡◌, IfOk, map, vec_items};
 ghost use Rattle.snap_semantics.specs.Source.{Source};
 ghost use Rattle.snap_values.specs.Seen.{seen_process};
 
+use snap_regs::{copy_views, copy_words};
 use snap_values::Process;
-use snap_words::{Kind, View};
+use snap_words::Kind;
 use std::alloc::{AllocError, Global};
-
-/// Equal words.
-fn copy_words<K: Kind>(alloc: Global, words: &[K::Word]) -> Result<Vec<K::Word>, AllocError>
-    ensures { IfOk result (λ v. v.items ≡ words.now) }
-{
-    let mut copies = Vec::new(alloc);
-    for word in words {
-        copies.push(K::copy(alloc, word)?)?;
-    }
-    Ok(copies)
-}
 
 /// Equal rows.
 fn copy_rows(alloc: Global, rows: &[Vec<u64>]) -> Result<Vec<Vec<u64>>, AllocError>
@@ -40,17 +30,6 @@ fn copy_word_rows<K: Kind>(
     let mut copies = Vec::new(alloc);
     for row in rows {
         copies.push(copy_words::<K>(alloc, row.as_slice())?)?;
-    }
-    Ok(copies)
-}
-
-/// Equal views.
-fn copy_views(alloc: Global, views: &[View]) -> Result<Vec<View>, AllocError>
-    ensures { IfOk result (λ v. v.items ≡ views.now) }
-{
-    let mut copies = Vec::new(alloc);
-    for view in views {
-        copies.push(view.copy(alloc)?)?;
     }
     Ok(copies)
 }

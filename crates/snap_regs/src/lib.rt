@@ -6,4 +6,5 @@ mod registers;
 mod rows;
 
 pub use fault::RegisterFault;
-pub use registers::Registers;
+pub use registers::{Registers, copy_words};
+pub use rows::copy_views;

@@ -11,7 +11,7 @@ ghost use Rattle.snap_regs.specs.Store.{HasColumns, IsOfShape, rows_in, with_wor
 ghost use Rattle.snap_regs.specs.declared.fault.RegisterFault.TheVariants.{Index, Owner};
 
 use crate::fault::RegisterFault;
-use crate::rows::{bank_of, copy_rows, place_in, set_bit, zero_rows};
+use crate::rows::{bank_of, copy_views, place_in, set_bit, zero_rows};
 use snap_semantics::BitBank;
 use snap_words::{Address, Bank, Kind, Shape, View};
 use std::alloc::{AllocError, Global};
@@ -57,7 +57,7 @@ fn initial_words<K: Kind>(alloc: Global, shape: Shape) -> Result<Vec<K::Word>, A
 }
 
 /// Equal words.
-fn copy_words<K: Kind>(alloc: Global, words: &[K::Word]) -> Result<Vec<K::Word>, AllocError>
+pub fn copy_words<K: Kind>(alloc: Global, words: &[K::Word]) -> Result<Vec<K::Word>, AllocError>
     ensures { IfOk result (λ copies. copies.items ≡ words.now) }
 {
     let mut copies = Vec::new(alloc);
@@ -256,9 +256,9 @@ impl<K: Kind> Registers<K> {
         Ok(Registers {
             shape: self.shape,
             words: copy_words::<K>(alloc, self.words.as_slice())?,
-            q: copy_rows(alloc, self.q.as_slice())?,
-            p: copy_rows(alloc, self.p.as_slice())?,
-            views: copy_rows(alloc, self.views.as_slice())?,
+            q: copy_views(alloc, self.q.as_slice())?,
+            p: copy_views(alloc, self.p.as_slice())?,
+            views: copy_views(alloc, self.views.as_slice())?,
         })
     }
 

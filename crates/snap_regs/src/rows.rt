@@ -43,13 +43,13 @@ pub(crate) fn zero_rows(alloc: Global, count: u64, columns: u64) -> Result<Vec<V
     Ok(rows)
 }
 
-/// Equal rows.
-pub(crate) fn copy_rows(alloc: Global, rows: &[View]) -> Result<Vec<View>, AllocError>
-    ensures { IfOk result (λ copies. copies.items ≡ rows.now) }
+/// Equal views.
+pub fn copy_views(alloc: Global, views: &[View]) -> Result<Vec<View>, AllocError>
+    ensures { IfOk result (λ copies. copies.items ≡ views.now) }
 {
     let mut copies = Vec::new(alloc);
-    for row in rows {
-        copies.push(row.copy(alloc)?)?;
+    for view in views {
+        copies.push(view.copy(alloc)?)?;
     }
     Ok(copies)
 }

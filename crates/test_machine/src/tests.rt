@@ -26,6 +26,13 @@ const UPDATE: Op = Op::Update { word: 1, value: 5 };
 
 const SCAN: Op = Op::Scan;
 
+/// A word has one index alone.
+const LONE: Address = Address {
+    bank: Bank::R,
+    i: 2,
+    j: 1,
+};
+
 /// The lines of a listing, the operation that process 1 of 2 is asked for, the steps that go well, and why the next traps.
 type Trap = (&'static [u8], Op, u64, Cause);
 
@@ -469,16 +476,14 @@ fn multi_lines_trap(rt: HostRuntime) -> Result<(), Fail> {
 fn update_round<K: Kind>(rt: &impl Abort, machine: &mut Machine<K>) -> Result<(), Fail> {
     is_called(rt, machine, Op::Update { word: 2, value: 7 })?;
     goes_on(rt, machine, 6)?;
-    finishes(rt, machine)?;
+    finishes(rt, machine)
+}
+
+/// What the update leaves.
+fn check_round<K: Kind>(rt: &impl Abort, machine: &Machine<K>) -> Result<(), Fail> {
     check_registers(rt, machine.registers())?;
-    values_are(rt, machine, &[0, 7])?;
-    let lone = Address {
-        bank: Bank::R,
-        i: 2,
-        j: 1,
-    };
-    assert!(rt; machine.register(lone).is_err());
-    Ok(())
+    assert!(rt; !has_register(machine, LONE));
+    values_are(rt, machine, &[0, 7])
 }
 
 /// The bits and the view that the update puts.
@@ -487,6 +492,11 @@ fn check_registers<K: Kind>(rt: &impl Abort, registers: &Registers<K>) -> Result
     assert_eq!(rt; registers.bit(BitBank::P, 1, 1)?, 1);
     assert_eq!(rt; registers.view(1)?.as_slice(), [0, 7].as_slice());
     Ok(())
+}
+
+/// Whether there is such a register.
+fn has_register<K: Kind>(machine: &Machine<K>, address: Address) -> bool {
+    machine.register(address).is_ok()
 }
 
 /// A scan by process 1 after that update.
@@ -505,6 +515,7 @@ fn go_round<K: Kind>(rt: &impl Abort, alloc: Global, kind: KindTag) -> Result<()
 {
     let mut machine = machine_of::<K>(rt, alloc, kind, 2, ROUND)?;
     update_round(rt, &mut machine)?;
+    check_round(rt, &machine)?;
     let mut copy = machine.copy()?;
     scan_round(rt, &mut copy)
 }
@@ -515,16 +526,17 @@ fn kinds_go_round_alike(rt: HostRuntime) -> Result<(), Fail> {
     go_round::<Marked>(&rt, rt.alloc(), KindTag::Multi)
 }
 
+/// An update of this word.
+fn update_of(word: u64) -> Op {
+    Op::Update { word, value: 5 }
+}
+
 /// Process 1 is idle, then asked for what is not its own, then busy.
 fn check_skips<K: Kind>(rt: &impl Abort, machine: &mut Machine<K>) -> Result<(), Fail> {
     is_skipped(rt, machine, Reason::Idle)?;
-    for (word, reason) in [
-        (2, Reason::NotOwner),
-        (3, Reason::NoSuchWord),
-        (0, Reason::NoSuchWord),
-    ] {
-        is_not_called(rt, machine, Op::Update { word, value: 5 }, reason)?;
-    }
+    is_not_called(rt, machine, update_of(2), Reason::NotOwner)?;
+    is_not_called(rt, machine, update_of(3), Reason::NoSuchWord)?;
+    is_not_called(rt, machine, update_of(0), Reason::NoSuchWord)?;
     is_called(rt, machine, SCAN)?;
     is_not_called(rt, machine, SCAN, Reason::Busy)
 }

@@ -1,5 +1,5 @@
 //! The machine.
-ghost use Rattle.std.specs.Prelude.{◌≡◌, false, IfOk, IsTrue, MatchResult, OnErr, length, map, nat_eq, option_map, vec_items, zip};
+ghost use Rattle.std.specs.Prelude.{◌≡◌, ◌<◌, false, IfOk, IsTrue, MatchResult, OnErr, OnSome, length, nat_eq, option_map};
 ghost use Rattle.snap_words.specs.Shape.{IsOneOf};
 ghost use Rattle.snap_semantics.specs.Memory.{may_grow};
 ghost use Rattle.snap_semantics.specs.Readers.{
@@ -13,7 +13,7 @@ ghost use Rattle.snap_semantics.specs.Readers.{
 ghost use Rattle.snap_semantics.specs.State.{initial, process_at, values};
 ghost use Rattle.snap_semantics.specs.Table.{done, who};
 ghost use Rattle.snap_regs.specs.declared.fault.RegisterFault.TheVariants.{Index};
-ghost use Rattle.snap_machine.specs.Reading.{seen_contents, seen_local, value_there};
+ghost use Rattle.snap_machine.specs.Reading.{local_at, seen_contents, seen_local, seen_named, value_there};
 ghost use Rattle.snap_values.specs.Seen.{seen_locals};
 
 use crate::call::call;
@@ -26,7 +26,7 @@ use snap_lines::data_of;
 use snap_regs::{RegisterFault, Registers};
 use snap_semantics::{Activity, BitBank, Item, Name, Op, Outcome, Sort, Status};
 use snap_values::Process;
-use snap_words::{Address, Bank, Kind, Shape, View};
+use snap_words::{Address, Bank, Field, Kind, Shape, View, field_of};
 use std::alloc::{AllocError, Global};
 use std::marker::Model;
 
@@ -171,44 +171,14 @@ impl<K: Kind> Machine<K> {
     pub fn values(&self) -> Result<View, AllocError>
         ensures { IfOk result (λ v. v ≡ values self.now.state) }
     {
-        data_of::<K>(
-            self.alloc,
-            self.registers.words(),
-            self.registers.shape().w(),
-        )
-    }
-
-    /// The numbers of the scalars of a process, in the order of declaration.
-    pub fn local_scalars(&self, i: u32) -> &[u64]
-        requires { IsOneOf self.now.shape.n i }
-        ensures { (process_at self.now.state i).locals.scalars ≡ zip self.now.source.scalars result.now }
-    {
-        self.processes[(i - 1) as usize].scalars.as_slice()
-    }
-
-    /// The rows of a process, in the order of declaration.
-    pub fn local_rows(&self, i: u32) -> &[Vec<u64>]
-        requires { IsOneOf self.now.shape.n i }
-        ensures { (process_at self.now.state i).locals.rows ≡ zip self.now.source.rows (map vec_items result.now) }
-    {
-        self.processes[(i - 1) as usize].rows.as_slice()
-    }
-
-    /// The `words` locals of a process, in the order of declaration.
-    pub fn local_words(&self, i: u32) -> &[Vec<K::Word>]
-        requires { IsOneOf self.now.shape.n i }
-        ensures { (process_at self.now.state i).locals.words
-            ≡ zip self.now.source.words (map (λ xs. map K.parts xs.items) result.now) }
-    {
-        self.processes[(i - 1) as usize].words.as_slice()
-    }
-
-    /// The views of a process, in the order of declaration.
-    pub fn local_views(&self, i: u32) -> &[View]
-        requires { IsOneOf self.now.shape.n i }
-        ensures { (process_at self.now.state i).locals.views ≡ zip self.now.source.views result.now }
-    {
-        self.processes[(i - 1) as usize].views.as_slice()
+        let mut values = Vec::new(self.alloc);
+        for k in 0..self.registers.shape().w() {
+            let Ok(word) = self.registers.word(k + 1) else {
+                unreachable!()
+            };
+            values.push(field_of::<K>(word, Field::Datum))?;
+        }
+        Ok(View::of(values))
     }
 
     /// An equal machine.
@@ -259,6 +229,16 @@ impl<K: Kind> Machine<K> {
         let process = &self.processes[(i - 1) as usize];
         find_local(&self.program, process, name)
     }
+
+    /// The name and the value of local `k` of a sort, counted from 0 in the order of declaration.
+    pub fn local_at(&self, i: u32, sort: Sort, k: usize) -> Option<(Name, Local<'_, K>)>
+        requires { IsOneOf self.now.shape.n i }
+        ensures value { option_map (seen_named K.parts) result ≡ local_at (process_at self.now.state i).locals sort k }
+        ensures few { OnSome result (k < 32) }
+    {
+        let process = &self.processes[(i - 1) as usize];
+        named_local(&self.program, process, sort, k)
+    }
 }
 
 /// `Index` where a register that has one index alone is given a second.
@@ -282,6 +262,21 @@ fn find_local<'a, K: Kind>(
 {
     let (sort, k) = program.place(name)?;
     local_there(process, sort, k)
+}
+
+/// The name and the value of a local of a process, at a place among those of a sort.
+fn named_local<'a, K: Kind>(
+    program: &Program,
+    process: &'a Process<K>,
+    sort: Sort,
+    k: usize,
+) -> Option<(Name, Local<'a, K>)>
+    ensures value { option_map (seen_named K.parts) result ≡ local_at (seen_locals K.parts program.now process.now) sort k }
+    ensures few { OnSome result (k < 32) }
+{
+    let name = program.name(sort, k)?;
+    let value = local_there(process, sort, k)?;
+    Some((name, value))
 }
 
 /// The value of the local at a place among those of a sort.

@@ -231,7 +231,7 @@ impl<K: Kind> Registers<K> {
     }
 
     /// The rows of a bank of bits.
-    pub fn bits(&self, bits: BitBank) -> &[View]
+    fn bits(&self, bits: BitBank) -> &[View]
         ensures value { result.now ≡ bits_of bits self.now.memory }
         ensures row_count { length result.now ≡ rows_in K.TAG self.now.shape (bank_of bits) }
         ensures columns { HasColumns self.now.shape.n result.now }
@@ -240,13 +240,6 @@ impl<K: Kind> Registers<K> {
             BitBank::Q => self.q.as_slice(),
             BitBank::P => self.p.as_slice(),
         }
-    }
-
-    /// The words.
-    pub fn words(&self) -> &[K::Word]
-        ensures { map K.parts result.now ≡ self.now.memory.words }
-    {
-        self.words.as_slice()
     }
 
     /// Equal registers.
@@ -260,13 +253,6 @@ impl<K: Kind> Registers<K> {
             p: copy_views(alloc, self.p.as_slice())?,
             views: copy_views(alloc, self.views.as_slice())?,
         })
-    }
-
-    /// The views.
-    pub fn views(&self) -> &[View]
-        ensures { result.now ≡ self.now.memory.views }
-    {
-        self.views.as_slice()
     }
 }
 

@@ -6,9 +6,9 @@ mod marked;
 
 use marked::Marked;
 use snap_asm::{Program, assemble, load};
-use snap_machine::Machine;
+use snap_machine::{Local, Machine};
 use snap_regs::Registers;
-use snap_semantics::{BitBank, Cause, Item, Op, Outcome, Reason};
+use snap_semantics::{BitBank, Cause, Item, Op, Outcome, Reason, Sort};
 use snap_words::{Address, Bank, Bits, Kind, KindTag, Multi, Seq, Shape};
 use std::alloc::{AllocError, Global};
 use std::process::Abort;
@@ -505,7 +505,7 @@ fn scan_round<K: Kind>(rt: &impl Abort, machine: &mut Machine<K>) -> Result<(), 
     goes_on(rt, machine, 4)?;
     answers(rt, machine, &[7, 7])?;
     assert!(rt; has(machine, 1));
-    assert_eq!(rt; machine.local_scalars(1), [1].as_slice());
+    assert!(rt; matches!(machine.local_at(1, Sort::Scalar, 0), Some((_, Local::Number(1)))));
     Ok(())
 }
 

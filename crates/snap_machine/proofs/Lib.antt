@@ -1,4 +1,5 @@
 pub mod Found
+pub mod Numbered
 pub mod Kept
 pub mod Replicas
 pub mod Stands

@@ -12,6 +12,7 @@ ghost use Rattle.snap_semantics.specs.Readers.{
 };
 ghost use Rattle.snap_semantics.specs.State.{initial, process_at, values};
 ghost use Rattle.snap_semantics.specs.Table.{done, who};
+ghost use Rattle.snap_regs.specs.Store.{IsOfShape};
 ghost use Rattle.snap_regs.specs.declared.fault.RegisterFault.TheVariants.{Index};
 ghost use Rattle.snap_machine.specs.Reading.{local_at, seen_contents, seen_local, seen_named, value_there};
 ghost use Rattle.snap_values.specs.Seen.{seen_locals};
@@ -22,7 +23,6 @@ use crate::fresh::new_processes;
 use crate::reading::{Contents, Local};
 use crate::step::step;
 use snap_code::Program;
-use snap_lines::data_of;
 use snap_regs::{RegisterFault, Registers};
 use snap_semantics::{Activity, BitBank, Item, Name, Op, Outcome, Sort, Status};
 use snap_values::Process;
@@ -109,10 +109,11 @@ impl<K: Kind> Machine<K> {
         &self.program
     }
 
-    /// The numbers of processes and of words.
+    /// The numbers of processes and of words, of which all registers are.
     pub fn shape(&self) -> Shape
         ensures shape { result ≡ self.now.shape }
         ensures processes { length self.now.state.processes ≡ self.now.shape.n }
+        ensures registers { IsOfShape K.TAG self.now.shape self.now.state.memory }
     {
         self.registers.shape()
     }
@@ -158,13 +159,6 @@ impl<K: Kind> Machine<K> {
         ensures { result ≡ link_of (activity_of (process_at self.now.state i).status) }
     {
         self.activity(i)?.link
-    }
-
-    /// The registers.
-    pub fn registers(&self) -> &Registers<K>
-        ensures { result.now ≡ record { shape = self.now.shape; memory = self.now.state.memory } }
-    {
-        &self.registers
     }
 
     /// The values of the words.

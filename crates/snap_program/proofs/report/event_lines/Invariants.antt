@@ -1,6 +1,0 @@
-use Rattle.std.proofs.Common.{◌≡◌, ◌++◌, drop}
-use Rattle.snap_semantics.specs.Report.{event_lines}
-use Rattle.snap_program.proofs.report.event_lines.Given as goal
-
-abbrev pub invariant-loop-event : goal.invariant-loop-event
-invariant-loop-event l = l.out.items ++ event_lines (drop l.event-index l.events) ≡ l.fn.out.items ++ event_lines l.events

@@ -1,0 +1,9 @@
+use Rattle.std.proofs.Common.{◌≡◌, ◌++◌, ◌+◌, drop}
+use Rattle.snap_semantics.specs.Report.{row_lines}
+use Rattle.snap_report.specs.ReportLines.{bank_text, row_at}
+use Rattle.snap_report.proofs.register_text.row_lines.Given as goal
+
+abbrev pub invariant-loop-j : goal.invariant-loop-j
+invariant-loop-j g l =
+    l.out.items ++ row_lines (bank_text l.bank) l.i (l.j + 1) (drop l.j (row_at l.bank l.i l.machine.state.memory))
+    ≡ l.fn.out.items ++ row_lines (bank_text l.bank) l.i 1 (row_at l.bank l.i l.machine.state.memory)

@@ -1,0 +1,8 @@
+use Rattle.std.proofs.Common.{◌≡◌, ◌++◌, ◌+◌, drop}
+use Rattle.snap_semantics.specs.Report.{view_lines}
+use Rattle.snap_report.proofs.register_text.view_lines.Given as goal
+
+abbrev pub invariant-loop-i : goal.invariant-loop-i
+invariant-loop-i g l =
+    l.out.items ++ view_lines (l.i + 1) (drop l.i l.machine.state.memory.views)
+    ≡ l.fn.out.items ++ view_lines 1 l.machine.state.memory.views

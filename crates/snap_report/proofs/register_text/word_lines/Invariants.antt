@@ -1,0 +1,8 @@
+use Rattle.std.proofs.Common.{◌≡◌, ◌++◌, ◌+◌, drop}
+use Rattle.snap_semantics.specs.Report.{word_lines}
+use Rattle.snap_report.proofs.register_text.word_lines.Given as goal
+
+abbrev pub invariant-loop-k : goal.invariant-loop-k
+invariant-loop-k g l =
+    l.out.items ++ word_lines l.machine.source.kind (l.k + 1) (drop l.k l.machine.state.memory.words)
+    ≡ l.fn.out.items ++ word_lines l.machine.source.kind 1 l.machine.state.memory.words

@@ -11,13 +11,9 @@ mod images;
 mod output;
 mod parts;
 mod performing;
-mod process_text;
-mod register_text;
-mod report;
 mod sink;
 mod source;
 mod standard;
-mod word_text;
 
 pub use conducting::{conduct, write_all};
 pub use fault::ConductFault;

@@ -11,7 +11,7 @@ use Rattle.snap_words.specs.declared.kind.KindTag.{KindTag}
 use Rattle.snap_semantics.specs.declared.text.Sort.{Sort}
 use Rattle.snap_semantics.specs.declared.text.Sort.TheVariants as sort
 use Rattle.snap_semantics.specs.Readers.{LocalValue, NumberValue, RowValue, WordsValue, ViewValue, Contents, WordContents, BitContents, ViewContents, contents, bit_in, nth}
-use Rattle.snap_semantics.specs.Report.{word_line, word_lines, bit_line, row_lines, bank_lines, view_line, view_lines, locals_lines, number_local, list_local, words_local}
+use Rattle.snap_semantics.specs.Report.{word_line, bit_line, row_lines, view_line, locals_lines, number_local, list_local, words_local}
 use Rattle.snap_semantics.specs.Source.{Name}
 use Rattle.snap_semantics.specs.State.{Locals, Memory, Named}
 use Rattle.snap_regs.specs.Store.{HasColumns, IsOfShape}

@@ -15,7 +15,7 @@ ghost use Rattle.snap_semantics.specs.Report.{
   process_lines,
   processes_lines,
 };
-ghost use Rattle.snap_machine.specs.Reading.{seen_local};
+ghost use Rattle.snap_machine.specs.Reading.{seen_named};
 ghost use Rattle.snap_report.specs.ReportLines.{local_lines, place_text, sort_lines};
 
 use crate::event_text::op_text;
@@ -78,11 +78,7 @@ fn status_text(out: &mut Vec<u8>, status: &Status) -> Result<(), AllocError>
 
 /// `process I` and where it stands.
 #[tactic(auto, using(snap_text::proofs::Texts::joined))]
-pub fn head_line<K: Kind>(
-    out: &mut Vec<u8>,
-    machine: &Machine<K>,
-    i: u32,
-) -> Result<(), AllocError>
+pub fn head_line<K: Kind>(out: &mut Vec<u8>, machine: &Machine<K>, i: u32) -> Result<(), AllocError>
     requires { IsOneOf machine.now.shape.n i }
     ensures { OnOk result (out.new.items ≡ out.old.items ++ head_line i (process_at machine.now.state i).status) }
 {
@@ -166,16 +162,17 @@ fn words_local<K: Kind>(
 fn local_lines<K: Kind>(
     out: &mut Vec<u8>,
     kind: KindTag,
-    name: &Name,
-    value: Local<'_, K>,
+    local: (Name, Local<'_, K>),
 ) -> Result<(), AllocError>
-    ensures { OnOk result (out.new.items ≡ out.old.items ++ local_lines kind name.now (seen_local K.parts value.entry)) }
+    ensures { let e = seen_named K.parts local.entry in
+        OnOk result (out.new.items ≡ out.old.items ++ local_lines kind e.0 e.1) }
 {
+    let (name, value) = local;
     match value {
-        Local::Number(number) => number_local(out, name, number),
-        Local::Row(row) => list_local(out, name, row),
-        Local::Words(words) => words_local::<K>(out, kind, name, words),
-        Local::View(view) => list_local(out, name, view.as_slice()),
+        Local::Number(number) => number_local(out, &name, number),
+        Local::Row(row) => list_local(out, &name, row),
+        Local::Words(words) => words_local::<K>(out, kind, &name, words),
+        Local::View(view) => list_local(out, &name, view.as_slice()),
     }
 }
 
@@ -192,8 +189,8 @@ fn sort_lines<K: Kind>(
 {
     let kind = machine.program().kind();
     let mut k = 0;
-    while let Some((name, value)) = machine.local_at(i, sort, k) {
-        local_lines(out, kind, &name, value)?;
+    while let Some(local) = machine.local_at(i, sort, k) {
+        local_lines(out, kind, local)?;
         k += 1;
     }
     Ok(())

@@ -114,7 +114,15 @@ fn word_lines<K: Kind>(out: &mut Vec<u8>, machine: &Machine<K>) -> Result<(), Al
 {
     let count = machine.shape().w();
     for k in 0..count {
-        register_line(out, machine, Address { bank: Bank::R, i: k + 1, j: 0 })?;
+        register_line(
+            out,
+            machine,
+            Address {
+                bank: Bank::R,
+                i: k + 1,
+                j: 0,
+            },
+        )?;
     }
     Ok(())
 }
@@ -158,7 +166,15 @@ fn view_lines<K: Kind>(out: &mut Vec<u8>, machine: &Machine<K>) -> Result<(), Al
 {
     let count = machine.shape().n();
     for i in 0..count {
-        register_line(out, machine, Address { bank: Bank::V, i: i + 1, j: 0 })?;
+        register_line(
+            out,
+            machine,
+            Address {
+                bank: Bank::V,
+                i: i + 1,
+                j: 0,
+            },
+        )?;
     }
     Ok(())
 }

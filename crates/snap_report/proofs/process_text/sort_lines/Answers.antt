@@ -1,18 +1,23 @@
+use Rattle.std.proofs.Common.{◌++◌, ◌∙◌, ap}
+use Rattle.snap_words.specs.declared.kind.KindTag.{KindTag}
+use Rattle.snap_semantics.specs.Source.{Source}
 use Rattle.snap_semantics.specs.State.{process_at}
-use Rattle.snap_machine.specs.Reading.{seen_local}
+use Rattle.snap_machine.specs.Reading.{seen_named}
+use Rattle.snap_report.specs.ReportLines.{local_lines}
 use Rattle.snap_report.proofs.Lines.{local_pushed, no_local_left}
 use Rattle.snap_report.proofs.process_text.sort_lines.Goals as goal
 
-pub loop-name-preserved : goal.loop-name-preserved
-loop-name-preserved g c =
-    let h1 = c.in-Some.name-is in
-    let h2 = c.in-Some.value-is in
-    let h3 = c.in-Some.ensures.value in
-    let h4 = c.in_ok-local_lines.ensures in
-    ?
+pub loop-local-preserved : goal.loop-local-preserved
+loop-local-preserved g c =
+    let m = c.args.machine.now in
+    let e = seen_named {K = g.row.K.Denot} g.K.Kind.parts c.in-Some.local in
+    let kind = c.kind-kind.ensures ∙ ap (λ (s : Source). s.kind) c.program.ensures.value in
+    local_pushed m.source.kind c.args.sort (process_at m.state c.args.i).locals c.loop-local.k e.0 e.1 c.args.out.now.items
+    c.loop-local.out.items c.local_lines.new.out.items c.in-Some.ensures.value
+    (c.in_ok-local_lines.ensures ∙ ap (λ (t : KindTag). c.loop-local.out.items ++ local_lines t e.0 e.1) kind) c.loop-local.invariant
 
 pub returns : goal.returns
 returns g c =
     let m = c.args.machine.now in
-    no_local_left m.source.kind c.args.sort (process_at m.state c.args.i).locals c.loop-name.k c.args.out.now.items
-    c.loop-name.out.items c.in_default.ensures.value c.loop-name.invariant
+    no_local_left m.source.kind c.args.sort (process_at m.state c.args.i).locals c.loop-local.k c.args.out.now.items
+    c.loop-local.out.items c.in_default.ensures.value c.loop-local.invariant

@@ -4,10 +4,10 @@ use Rattle.snap_report.specs.ReportLines.{sort_lines}
 use Rattle.snap_report.proofs.Lines.{lines_from}
 use Rattle.snap_report.proofs.process_text.sort_lines.Given as goal
 
-abbrev pub invariant-loop-name : goal.invariant-loop-name
-invariant-loop-name g l =
+abbrev pub invariant-loop-local : goal.invariant-loop-local
+invariant-loop-local g l =
     let locals = (process_at l.machine.state l.i).locals in
     l.out.items ++ lines_from l.machine.source.kind l.sort locals l.k ≡ l.fn.out.items ++ sort_lines l.machine.source.kind l.sort locals
 
-abbrev pub decreases-loop-name : goal.decreases-loop-name
-decreases-loop-name g l = 32 - l.k
+abbrev pub decreases-loop-local : goal.decreases-loop-local
+decreases-loop-local g l = 32 - l.k

@@ -1,5 +1,1 @@
-pub mod Fits
-pub mod Head
-pub mod Laws
-pub mod Operands
-pub mod Reading
+pub use Rattle.snap_image_laws.specs.Laws

@@ -1,23 +1,9 @@
-//! Images of listings: encoded and decoded.
+//! Images of listings: encoded and decoded, and their laws.
 #![tactic(auto)]
 
-mod codes;
-mod conditions;
-mod cursor;
-mod decoding;
-mod encoding;
-mod fault;
-mod head;
-mod instrs;
-mod laws;
-mod terms;
-#[cfg(test)]
-mod tests;
-
-pub use decoding::decode;
-pub use encoding::encode;
-pub use fault::ImageFault;
-pub use laws::{
+pub use snap_decoder::{ImageFault, decode};
+pub use snap_encoder::encode;
+pub use snap_image_laws::{
     images_are_bytes, more_than_an_image_is_refused, what_is_decoded_is_an_image,
     what_is_encoded_is_decoded,
 };

@@ -1,0 +1,8 @@
+//! The codes of an image, and how its bytes are gone through.
+#![tactic(auto)]
+
+mod codes;
+mod cursor;
+
+pub use codes::Coded;
+pub use cursor::Cursor;

@@ -1,0 +1,10 @@
+use Rattle.std.proofs.Common.{◌≡◌, ◌+◌, ◌-◌}
+use Rattle.snap_semantics.specs.ImageListing.{lines_in}
+use Rattle.snap_listing.specs.Fields.{header_source}
+use Rattle.snap_decoder.specs.Reading.{onto}
+use Rattle.snap_decoder.proofs.decoding.lines.Given as goal
+
+-- the lines that are left follow those that were read
+abbrev pub invariant-loop-place : goal.invariant-loop-place
+invariant-loop-place l =
+    onto l.lines.items (lines_in (header_source l.header) (l.count - l.place) (l.place + 1) l.last l.cursor) ≡ lines_in (header_source l.header) l.count 1 0 l.fn.cursor

@@ -1,0 +1,6 @@
+//! Listings to images.
+#![tactic(auto)]
+
+mod encoding;
+
+pub use encoding::encode;

@@ -1,5 +1,0 @@
-use Rattle.snap_image.proofs.ImageBytes.{images_are_bytes}
-use Rattle.snap_image.proofs.laws.images_are_bytes.Goals as goal
-
-pub returns : goal.returns
-returns c = images_are_bytes

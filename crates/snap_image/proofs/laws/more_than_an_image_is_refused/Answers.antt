@@ -1,5 +1,0 @@
-use Rattle.snap_image.proofs.AgainListing.{refuses_more}
-use Rattle.snap_image.proofs.laws.more_than_an_image_is_refused.Goals as goal
-
-pub returns : goal.returns
-returns c = refuses_more

@@ -1,5 +1,0 @@
-use Rattle.snap_image.proofs.AgainListing.{decodes_all}
-use Rattle.snap_image.proofs.laws.what_is_encoded_is_decoded.Goals as goal
-
-pub returns : goal.returns
-returns c = decodes_all

@@ -1,0 +1,5 @@
+use Rattle.snap_image_laws.proofs.ImageBytes.{images_are_bytes}
+use Rattle.snap_image_laws.proofs.laws.images_are_bytes.Goals as goal
+
+pub returns : goal.returns
+returns c = images_are_bytes

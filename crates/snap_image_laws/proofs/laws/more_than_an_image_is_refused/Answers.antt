@@ -1,0 +1,5 @@
+use Rattle.snap_image_laws.proofs.AgainListing.{refuses_more}
+use Rattle.snap_image_laws.proofs.laws.more_than_an_image_is_refused.Goals as goal
+
+pub returns : goal.returns
+returns c = refuses_more

@@ -1,0 +1,5 @@
+use Rattle.snap_image_laws.proofs.SaidListing.{decodes_only}
+use Rattle.snap_image_laws.proofs.laws.what_is_decoded_is_an_image.Goals as goal
+
+pub returns : goal.returns
+returns c = decodes_only

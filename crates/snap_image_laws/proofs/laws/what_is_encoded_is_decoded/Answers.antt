@@ -1,0 +1,5 @@
+use Rattle.snap_image_laws.proofs.AgainListing.{decodes_all}
+use Rattle.snap_image_laws.proofs.laws.what_is_encoded_is_decoded.Goals as goal
+
+pub returns : goal.returns
+returns c = decodes_all

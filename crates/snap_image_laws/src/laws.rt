@@ -1,0 +1,22 @@
+//! The laws of images.
+ghost use Rattle.snap_image_laws.specs.Laws.{DecodesAllImages, DecodesOnlyImages, ImagesAreBytes, RefusesMore};
+
+/// What is decoded is a listing, and the bytes are its image.
+pub fn what_is_decoded_is_an_image()
+    ensures { DecodesOnlyImages }
+{}
+
+/// The image of every listing is decoded as that listing.
+pub fn what_is_encoded_is_decoded()
+    ensures { DecodesAllImages }
+{}
+
+/// No image begins another.
+pub fn more_than_an_image_is_refused()
+    ensures { RefusesMore }
+{}
+
+/// An image is bytes.
+pub fn images_are_bytes()
+    ensures { ImagesAreBytes }
+{}

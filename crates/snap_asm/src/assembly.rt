@@ -1,8 +1,13 @@
 //! From texts to images, from images to texts, and from images to programs.
-ghost use Rattle.std.specs.Prelude.{◌≡◌};
+ghost use Rattle.std.specs.Prelude.{◌≡◌, IfOk, Ok};
 ghost use Rattle.snap_semantics.specs.Answers.{Answers};
 ghost use Rattle.snap_semantics.specs.Assembly.{assembled, listed};
+ghost use Rattle.snap_semantics.specs.CanonicalText.{canonical_text};
+ghost use Rattle.snap_semantics.specs.Image.{image_of};
 ghost use Rattle.snap_semantics.specs.ImageListing.{listing_of_image};
+ghost use Rattle.snap_semantics.specs.IsListing.{IsListing};
+ghost use Rattle.snap_semantics.specs.Source.{Source};
+ghost use Rattle.snap_asm.specs.Listed.{HaveOneListing};
 
 use snap_code::Program;
 use snap_image::{ImageFault, decode, encode};
@@ -19,19 +24,24 @@ pub fn assemble(alloc: Global, text: &[u8]) -> Result<Vec<u8>, ListingFault>
     Ok(image)
 }
 
-/// The canonical text of the listing whose image these bytes are, or the first reason why they are none.
+/// The canonical text of the listing whose image these bytes are, or the first reason why they are none: they are refused exactly where no
+/// listing has this image.
 #[tactic(auto, unfolding(snap_semantics::specs::Assembly::listed))]
 pub fn list(alloc: Global, image: &[u8]) -> Result<Vec<u8>, ImageFault>
-    ensures { Answers (λ text. text.items) result (listed image.now) }
+    ensures answer { Answers (λ text. text.items) result (listed image.now) }
+    ensures image { IfOk result (λ text. HaveOneListing image.now text.items) }
+    ensures every { (s : Source) → IsListing s → image.now ≡ image_of s → Answers (λ text. text.items) result (Ok (canonical_text s)) }
 {
     let listing = decode(alloc, image)?;
     let text = print(alloc, &listing)?;
     Ok(text)
 }
 
-/// The program whose image these bytes are, or the first reason why they are none.
+/// The program whose image these bytes are, or the first reason why they are none: they are refused exactly where no listing has this image.
 pub fn load(alloc: Global, image: &[u8]) -> Result<Program, ImageFault>
-    ensures { Answers (λ p. p) result (listing_of_image image.now) }
+    ensures answer { Answers (λ p. p) result (listing_of_image image.now) }
+    ensures image { IfOk result (λ p. image.now ≡ image_of p) }
+    ensures every { (s : Source) → IsListing s → image.now ≡ image_of s → Answers (λ p. p) result (Ok s) }
 {
     let listing = decode(alloc, image)?;
     let program = Program::of(alloc, listing)?;

@@ -3,8 +3,6 @@
 
 mod assembly;
 mod laws;
-#[cfg(test)]
-mod tests;
 
 pub use assembly::{assemble, list, load};
 pub use laws::{what_is_assembled_lists_back, what_is_canonical_is_kept};

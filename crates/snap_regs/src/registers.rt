@@ -255,6 +255,3 @@ impl<K: Kind> Registers<K> {
         })
     }
 }
-
-#[cfg(test)]
-mod tests;

@@ -8,8 +8,6 @@ mod laws;
 mod printing;
 mod reading;
 mod schedule;
-#[cfg(test)]
-mod tests;
 
 pub use fault::ScheduleFault;
 pub use items::{Items, Run};

@@ -58,16 +58,3 @@ impl Name {
         &self.letters[..self.len as usize]
     }
 }
-
-#[cfg(test)]
-mod tests {
-    use super::Name;
-
-    #[test]
-    fn compares(rt: HostRuntime) {
-        let moved = Name::of(b"moved".as_slice());
-        assert!(rt; moved.is(&Name::of(b"moved".as_slice())));
-        assert!(rt; !moved.is(&Name::of(b"move".as_slice())));
-        assert_eq!(rt; moved.letters(), b"moved".as_slice());
-    }
-}

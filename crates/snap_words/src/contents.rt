@@ -31,25 +31,3 @@ pub fn view_of<K: Kind>(word: &K::Word) -> &[u64]
         None => &[],
     }
 }
-
-#[cfg(test)]
-mod tests {
-    use super::{field_of, hands_of, view_of};
-    use crate::kind::Field;
-    use crate::kinds::{Bits, Kind, Multi};
-    use crate::shape::Shape;
-    use std::test::Fail;
-
-    #[test]
-    fn what_kinds_lack(rt: HostRuntime) -> Result<(), Fail> {
-        let shape = Shape::new(2, 2)?;
-        let bits = Bits::initial(rt.alloc(), shape)?;
-        assert_eq!(rt; hands_of::<Bits>(&bits), [0, 0].as_slice());
-        assert_eq!(rt; view_of::<Bits>(&bits), [0, 0].as_slice());
-        let multi = Multi::initial(rt.alloc(), shape)?;
-        assert_eq!(rt; field_of::<Multi>(&multi, Field::Seq), 0);
-        assert_eq!(rt; hands_of::<Multi>(&multi).len(), 0);
-        assert_eq!(rt; view_of::<Multi>(&multi).len(), 0);
-        Ok(())
-    }
-}

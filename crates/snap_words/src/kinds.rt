@@ -83,6 +83,3 @@ pub trait Kind: Send + Sync {
     /// The toggle and the hands of a word are bits.
     ghost has_only_bits: { (x : Self.Word) → has_bits TAG (parts x) ≡ true };
 }
-
-#[cfg(test)]
-mod tests;

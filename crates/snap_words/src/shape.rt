@@ -65,20 +65,3 @@ impl Shape {
         self.w
     }
 }
-
-#[cfg(test)]
-mod tests {
-    use super::{Shape, WordFault};
-    use std::test::Fail;
-
-    #[test]
-    fn bounds(rt: HostRuntime) -> Result<(), Fail> {
-        let largest = Shape::new(16, 1)?;
-        assert_eq!(rt; largest.n(), 16);
-        assert_eq!(rt; largest.w(), 1);
-        for (n, w) in [(0, 1), (1, 0), (17, 1), (1, 17)] {
-            assert_eq!(rt; Shape::new(n, w).err(), Some(WordFault::BadShape));
-        }
-        Ok(())
-    }
-}

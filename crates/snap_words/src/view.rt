@@ -68,17 +68,3 @@ impl View {
         })
     }
 }
-
-#[cfg(test)]
-mod tests {
-    use super::View;
-    use std::test::Fail;
-
-    #[test]
-    fn copies(rt: HostRuntime) -> Result<(), Fail> {
-        let view = View::of(vec![in rt.alloc(); 7, 0]?);
-        let copy = view.copy(rt.alloc())?;
-        assert_eq!(rt; copy.as_slice(), [7, 0].as_slice());
-        Ok(())
-    }
-}

@@ -1,0 +1,138 @@
+//! Registers of each kind.
+ghost use Rattle.std.specs.Prelude.{◌≡◌, length};
+
+use crate::parts::parts;
+use snap_regs::{RegisterFault, Registers};
+use snap_semantics::BitBank;
+use snap_words::{Bits, Field, Kind, Multi, Seq, Shape, View};
+use std::alloc::{AllocError, Global};
+use std::test::Fail;
+
+/// Whether the datum of word `k` is this.
+fn has_datum<K: Kind>(registers: &Registers<K>, k: u64, datum: u64) -> bool {
+    match registers.word(k) {
+        Ok(word) => K::field(word, Field::Datum) == Some(datum),
+        Err(_) => false,
+    }
+}
+
+/// Whether there are two words, with these data.
+fn has_data<K: Kind>(registers: &Registers<K>, first: u64, second: u64) -> bool {
+    has_datum(registers, 1, first)
+        && has_datum(registers, 2, second)
+        && registers.word(3).err() == Some(RegisterFault::Index)
+}
+
+/// What comes of it when a process puts a word of kind seq at place 2.
+fn put_seq(
+    alloc: Global,
+    registers: &mut Registers<Seq>,
+    who: u32,
+) -> Result<Result<(), RegisterFault>, Fail>
+    requires { registers.old.shape ≡ record { n = 2; w = 2 } }
+    ensures { registers.new.shape ≡ registers.old.shape }
+{
+    let word = Seq::build(registers.shape(), parts(alloc, 1, 1)?)?;
+    Ok(registers.put_word(who, 2, word))
+}
+
+/// Whether registers of kind seq have no bits.
+fn has_no_bits(registers: &mut Registers<Seq>) -> bool {
+    registers.bit(BitBank::Q, 1, 1) == Err(RegisterFault::Index)
+        && registers.put_bit(1, BitBank::Q, 1, 1, 1) == Err(RegisterFault::Index)
+}
+
+#[test]
+fn seq(rt: HostRuntime) -> Result<(), Fail> {
+    let mut registers = Registers::<Seq>::new(rt.alloc(), Shape::new(2, 2)?)?;
+    assert!(rt; put_seq(rt.alloc(), &mut registers, 2)? == Ok(()));
+    assert!(rt; put_seq(rt.alloc(), &mut registers, 1)? == Err(RegisterFault::Owner));
+    assert!(rt; has_data(&registers, 0, 7));
+    assert!(rt; has_no_bits(&mut registers));
+    Ok(())
+}
+
+/// Whether bits are put, and refused where they are no bits, another's to write or not there.
+fn puts_bits(registers: &mut Registers<Bits>) -> bool {
+    registers.put_bit(1, BitBank::Q, 1, 2, 1) == Ok(())
+        && registers.put_bit(1, BitBank::Q, 2, 1, 2) == Err(RegisterFault::NotABit)
+        && registers.put_bit(1, BitBank::Q, 2, 1, 1) == Err(RegisterFault::Owner)
+        && registers.put_bit(1, BitBank::Q, 1, 3, 2) == Err(RegisterFault::Index)
+}
+
+/// Whether the bits that were put are there, and kind bits has no bank P and no views.
+fn has_bits(registers: &Registers<Bits>) -> bool {
+    registers.bit(BitBank::Q, 1, 2) == Ok(1)
+        && registers.bit(BitBank::Q, 2, 1) == Ok(0)
+        && registers.bit(BitBank::P, 1, 2) == Err(RegisterFault::Index)
+        && registers.view(1).err() == Some(RegisterFault::Index)
+}
+
+#[test]
+fn bits(rt: HostRuntime) -> Result<(), Fail> {
+    let mut registers = Registers::<Bits>::new(rt.alloc(), Shape::new(2, 2)?)?;
+    assert!(rt; has_data(&registers, 0, 0));
+    assert!(rt; puts_bits(&mut registers));
+    assert!(rt; has_bits(&registers));
+    Ok(())
+}
+
+/// What comes of it when process 1 puts a word of kind multi at place 2.
+fn put_multi(
+    alloc: Global,
+    registers: &mut Registers<Multi>,
+) -> Result<Result<(), RegisterFault>, Fail>
+    requires { registers.old.shape ≡ record { n = 1; w = 2 } }
+    ensures { registers.new.shape ≡ registers.old.shape }
+{
+    let word = Multi::build(registers.shape(), parts(alloc, 1, 1)?)?;
+    Ok(registers.put_word(1, 2, word))
+}
+
+/// What comes of it when a process puts view 1.
+fn put_view(
+    alloc: Global,
+    registers: &mut Registers<Multi>,
+    who: u32,
+) -> Result<Result<(), RegisterFault>, AllocError>
+    requires { registers.old.shape ≡ record { n = 1; w = 2 } }
+    ensures { registers.new.shape ≡ registers.old.shape }
+{
+    let view = View::of(vec![in alloc; 3, 4]?);
+    Ok(registers.put_view(who, 1, view))
+}
+
+/// Whether view 1 has these values.
+fn has_view<K: Kind>(registers: &Registers<K>, want: &[u64]) -> bool {
+    match registers.view(1) {
+        Ok(view) => view.as_slice() == want,
+        Err(_) => false,
+    }
+}
+
+/// Whether everything that was put is there.
+fn has_all(registers: &Registers<Multi>) -> bool {
+    has_data(registers, 0, 7)
+        && registers.bit(BitBank::P, 1, 1) == Ok(1)
+        && registers.bit(BitBank::Q, 1, 1) == Ok(0)
+        && has_view(registers, &[3, 4])
+        && registers.shape().w() == 2
+}
+
+/// Whether a copy has everything too.
+fn copy_has_all(alloc: Global, registers: &Registers<Multi>) -> Result<bool, AllocError> {
+    let copy = registers.copy(alloc)?;
+    Ok(has_all(&copy))
+}
+
+#[test]
+fn multi(rt: HostRuntime) -> Result<(), Fail> {
+    let mut registers = Registers::<Multi>::new(rt.alloc(), Shape::new(1, 2)?)?;
+    assert!(rt; put_multi(rt.alloc(), &mut registers)? == Ok(()));
+    assert!(rt; put_view(rt.alloc(), &mut registers, 2)? == Err(RegisterFault::Owner));
+    assert!(rt; put_view(rt.alloc(), &mut registers, 1)? == Ok(()));
+    assert!(rt; registers.put_bit(1, BitBank::P, 1, 1, 1) == Ok(()));
+    assert!(rt; has_all(&registers));
+    assert!(rt; copy_has_all(rt.alloc(), &registers)?);
+    Ok(())
+}

@@ -1,0 +1,229 @@
+//! Each method of a kind, through its trait, and the parts of words.
+ghost use Rattle.std.specs.Prelude.{◌≡◌, true};
+ghost use Rattle.snap_words.specs.Kind.{is_sized};
+ghost use Rattle.snap_words.specs.Parts.{word_of_parts};
+
+use crate::parts::parts;
+use snap_words::{
+    Address, Bank, Bits, Field, Kind, KindTag, Multi, Parts, Seq, Shape, View, WordFault, field_of,
+    hands_of, view_of,
+};
+use std::alloc::{AllocError, Global};
+use std::test::Fail;
+
+/// What a word is to have: its datum, sequence number, writer and toggle, its second hand, its hands and its view.
+#[derive(Clone, Copy)]
+struct Wanted {
+    datum: Option<u64>,
+    seq: Option<u64>,
+    id: Option<u64>,
+    toggle: Option<u64>,
+    hand: Option<u64>,
+    hands: Option<&'static [u64]>,
+    view: Option<&'static [u64]>,
+}
+
+/// Whether these are the values, or there are none where none are wanted.
+fn is_row(row: Option<&View>, want: Option<&[u64]>) -> bool {
+    match (row, want) {
+        (Some(row), Some(want)) => row.as_slice() == want,
+        (None, None) => true,
+        _ => false,
+    }
+}
+
+/// Whether the fields of a word and its second hand are as wanted.
+fn has_fields<K: Kind>(word: &K::Word, want: &Wanted) -> bool {
+    K::field(word, Field::Datum) == want.datum
+        && K::field(word, Field::Seq) == want.seq
+        && K::field(word, Field::Id) == want.id
+        && K::field(word, Field::Toggle) == want.toggle
+        && K::hand(word, 2) == want.hand
+}
+
+/// Whether a word is as wanted.
+fn is_word<K: Kind>(word: &K::Word, want: &Wanted) -> bool {
+    has_fields::<K>(word, want)
+        && is_row(K::hands(word), want.hands)
+        && is_row(K::view(word), want.view)
+}
+
+/// Whether the copy of a word is as wanted.
+fn copies_as<K: Kind>(alloc: Global, word: &K::Word, want: &Wanted) -> Result<bool, AllocError> {
+    let copy = K::copy(alloc, word)?;
+    Ok(is_word::<K>(&copy, want))
+}
+
+/// Whether a word of these parts is built, and its copy is as wanted.
+fn builds_as<K: Kind>(
+    alloc: Global,
+    shape: Shape,
+    given: Parts,
+    want: &Wanted,
+) -> Result<bool, AllocError>
+    requires { is_sized K.TAG shape (word_of_parts given) ≡ true }
+{
+    match K::build(shape, given) {
+        Ok(word) => copies_as::<K>(alloc, &word, want),
+        Err(_) => Ok(false),
+    }
+}
+
+/// Whether these parts are refused.
+fn is_refused<K: Kind>(shape: Shape, given: Parts) -> bool
+    requires { is_sized K.TAG shape (word_of_parts given) ≡ true }
+{
+    match K::build(shape, given) {
+        Ok(_) => false,
+        Err(fault) => fault == WordFault::NotABit,
+    }
+}
+
+/// Whether a word that nobody has written is as wanted.
+fn begins_as<K: Kind>(alloc: Global, shape: Shape, want: &Wanted) -> Result<bool, AllocError> {
+    let word = K::initial(alloc, shape)?;
+    Ok(is_word::<K>(&word, want))
+}
+
+/// Whether there are these of the banks R, Q, P and V.
+fn has_banks<K: Kind>(r: bool, q: bool, p: bool, v: bool) -> bool {
+    K::has_bank(Bank::R) == r
+        && K::has_bank(Bank::Q) == q
+        && K::has_bank(Bank::P) == p
+        && K::has_bank(Bank::V) == v
+}
+
+/// Whether process 1 may write a word of process 2.
+fn writes_words<K: Kind>() -> bool {
+    let word = Address {
+        bank: Bank::R,
+        i: 2,
+        j: 0,
+    };
+    K::may_write(1, word)
+}
+
+/// Whether process 1 may write a bit of its own.
+fn writes_bits<K: Kind>() -> bool {
+    let bit = Address {
+        bank: Bank::Q,
+        i: 1,
+        j: 2,
+    };
+    K::may_write(1, bit)
+}
+
+/// Whether there are registers of two processes and this many words.
+fn fits_words<K: Kind>(w: u64) -> bool {
+    match Shape::new(2, w) {
+        Ok(shape) => K::fits(shape),
+        Err(_) => false,
+    }
+}
+
+#[test]
+fn kinds(rt: HostRuntime) {
+    assert!(rt;
+        Seq::TAG == KindTag::Seq && Bits::TAG == KindTag::Bits && Multi::TAG == KindTag::Multi
+    );
+    assert!(rt; fits_words::<Seq>(2) && !fits_words::<Seq>(3));
+    assert!(rt; fits_words::<Bits>(2) && !fits_words::<Bits>(3));
+    assert!(rt; fits_words::<Multi>(3));
+    assert!(rt; has_banks::<Seq>(true, false, false, false));
+    assert!(rt; has_banks::<Bits>(true, true, false, false));
+    assert!(rt; has_banks::<Multi>(true, true, true, true));
+    assert!(rt; !writes_words::<Seq>() && writes_bits::<Seq>());
+    assert!(rt; !writes_words::<Bits>() && writes_bits::<Bits>());
+    assert!(rt; writes_words::<Multi>() && writes_bits::<Multi>());
+}
+
+#[test]
+fn seq(rt: HostRuntime) -> Result<(), Fail> {
+    let shape = Shape::new(2, 2)?;
+    let built = Wanted {
+        datum: Some(7),
+        seq: Some(8),
+        id: None,
+        toggle: None,
+        hand: None,
+        hands: None,
+        view: Some(&[5, 6]),
+    };
+    assert!(rt; builds_as::<Seq>(rt.alloc(), shape, parts(rt.alloc(), 2, 2)?, &built)?);
+    let new = Wanted {
+        datum: Some(0),
+        seq: Some(0),
+        view: Some(&[0, 0]),
+        ..built
+    };
+    assert!(rt; begins_as::<Seq>(rt.alloc(), shape, &new)?);
+    Ok(())
+}
+
+#[test]
+fn bits(rt: HostRuntime) -> Result<(), Fail> {
+    let shape = Shape::new(2, 2)?;
+    let built = Wanted {
+        datum: Some(7),
+        seq: None,
+        id: None,
+        toggle: Some(1),
+        hand: Some(1),
+        hands: Some(&[0, 1]),
+        view: Some(&[5, 6]),
+    };
+    assert!(rt; builds_as::<Bits>(rt.alloc(), shape, parts(rt.alloc(), 1, 1)?, &built)?);
+    assert!(rt; is_refused::<Bits>(shape, parts(rt.alloc(), 2, 1)?));
+    assert!(rt; is_refused::<Bits>(shape, parts(rt.alloc(), 1, 2)?));
+    let new = Wanted {
+        datum: Some(0),
+        toggle: Some(0),
+        hand: Some(0),
+        hands: Some(&[0, 0]),
+        view: Some(&[0, 0]),
+        ..built
+    };
+    assert!(rt; begins_as::<Bits>(rt.alloc(), shape, &new)?);
+    Ok(())
+}
+
+#[test]
+fn multi(rt: HostRuntime) -> Result<(), Fail> {
+    let shape = Shape::new(2, 3)?;
+    let built = Wanted {
+        datum: Some(7),
+        seq: None,
+        id: Some(9),
+        toggle: Some(1),
+        hand: None,
+        hands: None,
+        view: None,
+    };
+    assert!(rt; builds_as::<Multi>(rt.alloc(), shape, parts(rt.alloc(), 1, 2)?, &built)?);
+    assert!(rt; is_refused::<Multi>(shape, parts(rt.alloc(), 2, 0)?));
+    let new = Wanted {
+        datum: Some(0),
+        id: Some(0),
+        toggle: Some(0),
+        ..built
+    };
+    assert!(rt; begins_as::<Multi>(rt.alloc(), shape, &new)?);
+    Ok(())
+}
+
+/// Whether a new word of two processes and two words has these hands and this view, and the sequence number 0.
+fn has_parts<K: Kind>(alloc: Global, hands: &[u64], view: &[u64]) -> Result<bool, Fail> {
+    let word = K::initial(alloc, Shape::new(2, 2)?)?;
+    Ok(
+        hands_of::<K>(&word) == hands
+            && view_of::<K>(&word) == view
+            && field_of::<K>(&word, Field::Seq) == 0,
+    )
+}
+
+#[test]
+fn what_kinds_lack(rt: HostRuntime) -> Result<(), Fail> {
+    assert!(rt; has_parts::<Bits>(rt.alloc(), &[0, 0], &[0, 0])?);
+    assert!(rt; has_parts::<Multi>(rt.alloc(), &[], &[])?);
+    Ok(())
+}

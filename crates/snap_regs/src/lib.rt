@@ -2,9 +2,11 @@
 #![tactic(auto)]
 
 mod fault;
+mod laws;
 mod registers;
 mod rows;
 
 pub use fault::RegisterFault;
+pub use laws::what_is_put_is_there;
 pub use registers::{Registers, copy_words};
 pub use rows::copy_views;

@@ -7,6 +7,7 @@ pub mod Table
 pub mod Run
 pub mod Memory
 pub mod Readers
+pub mod Places
 pub mod Token
 pub mod Forms
 pub mod ScheduleForms

@@ -1,2 +1,2 @@
-pub mod ListingB
-pub mod Promises
+pub use Rattle.snap_runs_of_b.specs.ListingB
+pub use Rattle.snap_runs_of_b.specs.Promises

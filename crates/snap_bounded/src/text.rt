@@ -1,6 +1,6 @@
 //! The listing as the program has it.
 ghost use Rattle.std.specs.Prelude.{◌≡◌, IfOk};
-ghost use Rattle.snap_bounded.specs.ListingB.{listing_b};
+ghost use Rattle.snap_runs_of_b.specs.ListingB.{listing_b};
 
 use snap_listing::{Listing, read_known};
 use std::alloc::{AllocError, Global};
@@ -45,18 +45,4 @@ pub fn listing(alloc: Global) -> Result<Listing, AllocError>
     ensures { IfOk result (λ l. l ≡ listing_b) }
 {
     read_known(alloc, TEXT)
-}
-
-#[cfg(test)]
-mod tests {
-    use super::listing;
-    use std::test::Fail;
-
-    #[test]
-    fn reads(rt: HostRuntime) -> Result<(), Fail> {
-        let listing = listing(rt.alloc())?;
-        assert_eq!(rt; listing.lines().len(), 26);
-        assert_eq!(rt; listing.update(), 40);
-        Ok(())
-    }
 }

@@ -10,8 +10,8 @@ use Rattle.snap_runs.specs.Run.{state, before, outcome}
 use Rattle.snap_runs.specs.Scan.{Starts, Ends, HasPoint, double_collects, own_steps}
 use Rattle.snap_runs.specs.Update.{executes}
 use Rattle.snap_runs.specs.Promises.{row_place}
-use Rattle.snap_multi.specs.ListingM as m
-use Rattle.snap_multi.specs.Promises.{run_of, IsEvent}
+use Rattle.snap_runs_of_m.specs.ListingM as m
+use Rattle.snap_runs_of_m.specs.Promises.{run_of, IsEvent}
 
 -- so many steps of a process
 abbrev pub times : ℕ → ℕ → List Item

@@ -1,2 +1,2 @@
-pub mod ListingM
-pub mod Promises
+pub use Rattle.snap_runs_of_m.specs.ListingM
+pub use Rattle.snap_runs_of_m.specs.Promises

@@ -1,54 +1,9 @@
-//! Listing M, and what every run of it keeps.
+//! Listing M, from its text; and what every run of it keeps, as `snap_runs_of_m` has it.
 #![tactic(auto)]
-
-ghost use Rattle.snap_multi.specs.Promises.{NeverTraps, ChangesOnlyAt57, WritesItsUpdate, WritesOnce, HavePoints, FewCollects, FewSteps, SharpCollects, MovesAreEvents};
 
 mod text;
 
+pub use snap_runs_of_m::{
+    changes_only_at_57, few_collects, few_steps, have_points, moves_are_events, never_traps, sharp_collects, writes_its_update, writes_once,
+};
 pub use text::listing;
-
-/// No process ever traps.
-pub fn never_traps()
-    ensures { NeverTraps }
-{}
-
-/// The values change only at an item that executes line 57.
-pub fn changes_only_at_57()
-    ensures { ChangesOnlyAt57 }
-{}
-
-/// An item that executes line 57 lies in an update of its process and writes that update's value at its word, nothing else.
-pub fn writes_its_update()
-    ensures { WritesItsUpdate }
-{}
-
-/// An update executes line 57 at most once, and exactly once if it is done.
-pub fn writes_once()
-    ensures { WritesOnce }
-{}
-
-/// Every finished scan's view is the values at some state from its start to its end.
-pub fn have_points()
-    ensures { HavePoints }
-{}
-
-/// Every scan, finished or not, has at most 2 n + 1 double collects.
-pub fn few_collects()
-    ensures { FewCollects }
-{}
-
-/// Every scan, finished or not, has at most 14 n n + 16 n w + 19 n + 8 w + 10 own steps.
-pub fn few_steps()
-    ensures { FewSteps }
-{}
-
-/// No process sees itself move: every scan has at most 2 n - 1 double collects.
-pub fn sharp_collects()
-    ensures { SharpCollects }
-{}
-
-/// Where a scan sees a process move, that process has written a word or answered the scanner's handshake since the scan's
-/// previous double collect, or since the scan's start where there is none.
-pub fn moves_are_events()
-    ensures { MovesAreEvents }
-{}

@@ -1,6 +1,6 @@
 //! The listing as the program has it.
 ghost use Rattle.std.specs.Prelude.{◌≡◌, IfOk};
-ghost use Rattle.snap_multi.specs.ListingM.{listing_m};
+ghost use Rattle.snap_runs_of_m.specs.ListingM.{listing_m};
 
 use snap_listing::{Listing, read_known};
 use std::alloc::{AllocError, Global};
@@ -56,18 +56,4 @@ pub fn listing(alloc: Global) -> Result<Listing, AllocError>
     ensures { IfOk result (λ l. l ≡ listing_m) }
 {
     read_known(alloc, TEXT)
-}
-
-#[cfg(test)]
-mod tests {
-    use super::listing;
-    use std::test::Fail;
-
-    #[test]
-    fn reads(rt: HostRuntime) -> Result<(), Fail> {
-        let listing = listing(rt.alloc())?;
-        assert_eq!(rt; listing.lines().len(), 37);
-        assert_eq!(rt; listing.update(), 50);
-        Ok(())
-    }
 }

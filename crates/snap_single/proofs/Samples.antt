@@ -10,8 +10,8 @@ use Rattle.snap_runs.specs.Run.{state, before, outcome}
 use Rattle.snap_runs.specs.Scan.{Starts, Ends, HasPoint, double_collects, own_steps}
 use Rattle.snap_runs.specs.Update.{executes}
 use Rattle.snap_runs.specs.Promises.{row_place}
-use Rattle.snap_single.specs.ListingU as u
-use Rattle.snap_single.specs.Promises.{run_of}
+use Rattle.snap_runs_of_u.specs.ListingU as u
+use Rattle.snap_runs_of_u.specs.Promises.{run_of}
 
 -- so many steps of a process
 abbrev pub times : ℕ → ℕ → List Item

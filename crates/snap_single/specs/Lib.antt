@@ -1,2 +1,2 @@
-pub mod ListingU
-pub mod Promises
+pub use Rattle.snap_runs_of_u.specs.ListingU
+pub use Rattle.snap_runs_of_u.specs.Promises

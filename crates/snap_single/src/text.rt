@@ -1,6 +1,6 @@
 //! The listing as the program has it.
 ghost use Rattle.std.specs.Prelude.{◌≡◌, IfOk};
-ghost use Rattle.snap_single.specs.ListingU.{listing_u};
+ghost use Rattle.snap_runs_of_u.specs.ListingU.{listing_u};
 
 use snap_listing::{Listing, read_known};
 use std::alloc::{AllocError, Global};
@@ -37,18 +37,4 @@ pub fn listing(alloc: Global) -> Result<Listing, AllocError>
     ensures { IfOk result (λ l. l ≡ listing_u) }
 {
     read_known(alloc, TEXT)
-}
-
-#[cfg(test)]
-mod tests {
-    use super::listing;
-    use std::test::Fail;
-
-    #[test]
-    fn reads(rt: HostRuntime) -> Result<(), Fail> {
-        let listing = listing(rt.alloc())?;
-        assert_eq!(rt; listing.lines().len(), 18);
-        assert_eq!(rt; listing.update(), 30);
-        Ok(())
-    }
 }

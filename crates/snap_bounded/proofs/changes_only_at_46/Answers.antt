@@ -1,5 +1,0 @@
-use Rattle.snap_bounded.proofs.Updates.{changes_only_at_46_lem}
-use Rattle.snap_bounded.proofs.changes_only_at_46.Goals as goal
-
-pub returns : goal.returns
-returns c = changes_only_at_46_lem

@@ -1,5 +1,0 @@
-use Rattle.snap_multi.proofs.Updates.{changes_only_at_57_lem}
-use Rattle.snap_multi.proofs.changes_only_at_57.Goals as goal
-
-pub returns : goal.returns
-returns c = changes_only_at_57_lem

@@ -1,0 +1,5 @@
+use Rattle.snap_runs_of_b.proofs.Points.{have_points_lem}
+use Rattle.snap_runs_of_b.proofs.have_points.Goals as goal
+
+pub returns : goal.returns
+returns c = have_points_lem

@@ -1,0 +1,5 @@
+use Rattle.snap_runs_of_b.proofs.Updates.{writes_its_update_lem}
+use Rattle.snap_runs_of_b.proofs.writes_its_update.Goals as goal
+
+pub returns : goal.returns
+returns c = writes_its_update_lem

@@ -1,0 +1,2 @@
+pub mod ListingB
+pub mod Promises

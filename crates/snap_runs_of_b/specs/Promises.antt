@@ -1,0 +1,51 @@
+-- What every run of listing B keeps, for every number of processes.
+use Rattle.std.specs.Prelude.{ℕ, ◌+◌, ◌*◌, List}
+use Rattle.snap_words.specs.Shape.{Counts}
+use Rattle.snap_semantics.specs.declared.process.Item.{Item}
+use Rattle.snap_runs.specs.Run.{Run}
+use Rattle.snap_runs.specs.Promises as promises
+use Rattle.snap_runs_of_b.specs.ListingB.{listing_b, moved}
+
+-- a word for each of n processes
+abbrev pub square : ℕ → Counts
+square n = record { n = n; w = n }
+
+-- the run of B by n processes over these items
+abbrev pub run_of : ℕ → List Item → Run
+run_of n items = record { source = listing_b; shape = square n; items = items }
+
+-- No process ever traps.
+abbrev pub NeverTraps : Type 0
+NeverTraps = (n : ℕ) (items : List Item) → promises.NeverTraps (run_of n items)
+
+-- The values change at line 46 alone.
+abbrev pub ChangesOnlyAt46 : Type 0
+ChangesOnlyAt46 = (n : ℕ) (items : List Item) → promises.ChangesOnlyAt 46 (run_of n items)
+
+-- Line 46 is executed in an update, after its call, and writes its value.
+abbrev pub WritesItsUpdate : Type 0
+WritesItsUpdate = (n : ℕ) (items : List Item) → promises.WritesItsUpdate 46 (run_of n items)
+
+-- An update executes line 46 at most once, and exactly once if it is done.
+abbrev pub WritesOnce : Type 0
+WritesOnce = (n : ℕ) (items : List Item) → promises.WritesOnce 46 (run_of n items)
+
+-- Every finished scan has a point, called or embedded in an update.
+abbrev pub HavePoints : Type 0
+HavePoints = (n : ℕ) (items : List Item) → promises.HavePoints (run_of n items)
+
+-- Every scan has at most n + 1 double collects.
+abbrev pub FewCollects : Type 0
+FewCollects = (n : ℕ) (items : List Item) → promises.CollectsAtMost (n + 1) (run_of n items)
+
+-- Every scan takes at most 8 n n + 12 n + 7 steps.
+abbrev pub FewSteps : Type 0
+FewSteps = (n : ℕ) (items : List Item) → promises.StepsAtMost (8 * (n * n) + 12 * n + 7) (run_of n items)
+
+-- Every scan has at most n double collects.
+abbrev pub SharpCollects : Type 0
+SharpCollects = (n : ℕ) (items : List Item) → promises.CollectsAtMost n (run_of n items)
+
+-- A move that a scan sees at line 21 is a write since its previous double collect, or since its start where there is none.
+abbrev pub MovesAreWrites : Type 0
+MovesAreWrites = (n : ℕ) (items : List Item) → promises.MovesAreWrites 21 moved 46 (run_of n items)

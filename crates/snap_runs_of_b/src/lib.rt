@@ -1,0 +1,50 @@
+//! Listing B, and what every run of it keeps.
+#![tactic(auto)]
+
+ghost use Rattle.snap_runs_of_b.specs.Promises.{NeverTraps, ChangesOnlyAt46, WritesItsUpdate, WritesOnce, HavePoints, FewCollects, FewSteps, SharpCollects, MovesAreWrites};
+
+/// No process ever traps.
+pub fn never_traps()
+    ensures { NeverTraps }
+{}
+
+/// The values change only at an item that executes line 46.
+pub fn changes_only_at_46()
+    ensures { ChangesOnlyAt46 }
+{}
+
+/// An item that executes line 46 lies in an update of its process and writes that update's value, nothing else.
+pub fn writes_its_update()
+    ensures { WritesItsUpdate }
+{}
+
+/// An update executes line 46 at most once, and exactly once if it is done.
+pub fn writes_once()
+    ensures { WritesOnce }
+{}
+
+/// Every finished scan's view is the values at some state from its start to its end.
+pub fn have_points()
+    ensures { HavePoints }
+{}
+
+/// Every scan, finished or not, has at most n + 1 double collects.
+pub fn few_collects()
+    ensures { FewCollects }
+{}
+
+/// Every scan, finished or not, has at most 8 n n + 12 n + 7 own steps.
+pub fn few_steps()
+    ensures { FewSteps }
+{}
+
+/// No process sees itself move: every scan has at most n double collects.
+pub fn sharp_collects()
+    ensures { SharpCollects }
+{}
+
+/// Where a scan sees a process move, that process has written since the scan's previous double collect, or since the
+/// scan's start where there is none.
+pub fn moves_are_writes()
+    ensures { MovesAreWrites }
+{}

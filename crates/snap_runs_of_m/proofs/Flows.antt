@@ -1,0 +1,202 @@
+-- How control passes from line to line of M, and what the listing says of each line.
+use Rattle.std.specs.Prelude.{◌≡◌, ℕ, Option, Some, None, nat_eq, nat_lt, if◌then◌else◌, refl}
+use Rattle.std.proofs.Common.{sym, ap, subst, arith, inl, inr}
+use Rattle.snap_words.specs.Shape.{IsOneOf}
+use Rattle.snap_semantics.specs.Source.{instr_at}
+use Rattle.snap_runs.specs.Scan.{Returns}
+use Rattle.snap_runs.proofs.Algorithm.{Task, Scanning, Embedded, Updating, To}
+use Rattle.snap_runs.proofs.Computing.{either, whether}
+use Rattle.snap_runs.proofs.Executing.{Numbered}
+use Rattle.snap_runs.proofs.Flow as flow
+use Rattle.snap_runs.proofs.Flow.{scan_inside}
+use Rattle.snap_runs.proofs.ListedLines as listed_lines
+use Rattle.snap_runs.proofs.ListedLines.{LineListed}
+use Rattle.snap_runs.proofs.Plain.{plain_data}
+use Rattle.snap_runs.proofs.ScanSpan as span
+use Rattle.snap_runs.proofs.Scans as scans
+use Rattle.snap_runs.proofs.WordWrites as word_writes
+use Rattle.snap_runs.proofs.WritesOnce as writes_once
+use Rattle.snap_runs_of_m.specs.ListingM.{listing_m}
+use Rattle.snap_runs_of_m.proofs.Algorithm.{Registers, plain, written, Move, Variables, ProgramCounter, L10, L11, L12, L13, L14, L15, L16, L17, L18, L19, L20, L21, L22, L23, L24, L25, L26, L27, L28, L29, L30, L31, L32, L33, L34, L35, L36, L37, L50, L51, L52, L53, L54, L55, L56, L57, L58, number, locals_of, same_at, all_still, third_move, move, first_to, algorithm, IsScan, IsLineOf, writes, written_at, lines}
+
+abbrev pub Flows : ℕ → ℕ → Task → Registers → Variables → ProgramCounter → Move → Type 0
+Flows n w = flow.Flows lines (algorithm n w)
+
+-- a line of a scan that goes on
+on : (n w : ℕ) (d : Task) (m m' : Registers) (p p' : Variables) (k k' : ProgramCounter) → IsScan w d → writes k ≡ 0 → m'.words ≡ m.words →
+    Flows n w d m p k (To d m' p' k')
+on n w d m m' p p' k k' s quiet kept = flow.within lines (algorithm n w) d m m' p p' k k' (scan_inside (IsOneOf w) d s) quiet kept
+
+pub flows : (n w me : ℕ) (d : Task) (m : Registers) (p : Variables) (k : ProgramCounter) → IsLineOf w d k → Flows n w d m p k (move n w me d m p k)
+flows n w me d m p L10 s = on n w d m _ p _ L10 _ s refl refl
+flows n w me d m p L11 s = on n w d m _ p _ L11 _ s refl refl
+flows n w me d m p L12 s = on n w d m _ p _ L12 _ s refl refl
+flows n w me d m p L13 s = on n w d m _ p _ L13 _ s refl refl
+flows n w me d m p L14 s = on n w d m _ p _ L14 _ s refl refl
+flows n w me d m p L15 s = on n w d m _ p _ L15 _ s refl refl
+flows n w me d m p L16 s = either (Flows n w d m p L16) (nat_lt p.j n) _ _ (λ b. on n w d m _ p _ L16 _ s refl refl) (λ b. on n w d m _ p _ L16 _ s refl refl)
+flows n w me d m p L17 s = on n w d m _ p _ L17 _ s refl refl
+flows n w me d m p L18 s = either (Flows n w d m p L18) (nat_lt p.k w) _ _ (λ b. on n w d m _ p _ L18 _ s refl refl) (λ b. on n w d m _ p _ L18 _ s refl refl)
+flows n w me d m p L19 s = on n w d m _ p _ L19 _ s refl refl
+flows n w me d m p L20 s = either (Flows n w d m p L20) (nat_lt p.k w) _ _ (λ b. on n w d m _ p _ L20 _ s refl refl) (λ b. on n w d m _ p _ L20 _ s refl refl)
+flows n w me d m p L21 s = on n w d m _ p _ L21 _ s refl refl
+flows n w me d m p L22 s = on n w d m _ p _ L22 _ s refl refl
+flows n w me d m p L23 s = either (Flows n w d m p L23) (nat_lt p.j n) _ _ (λ b. on n w d m _ p _ L23 _ s refl refl) (λ b. on n w d m _ p _ L23 _ s refl refl)
+flows n w me d m p L24 s = on n w d m _ p _ L24 _ s refl refl
+flows n w me d m p L25 s = on n w d m _ p _ L25 _ s refl refl
+flows n w me d m p L26 s = either (Flows n w d m p L26) (same_at p.a p.b p.k) _ _ (λ b. on n w d m _ p _ L26 _ s refl refl) (λ b. on n w d m _ p _ L26 _ s refl refl)
+flows n w me d m p L27 s = on n w d m _ p _ L27 _ s refl refl
+flows n w me d m p L28 s = on n w d m _ p _ L28 _ s refl refl
+flows n w me d m p L29 s = either (Flows n w d m p L29) (nat_lt p.k w) _ _ (λ b. on n w d m _ p _ L29 _ s refl refl) (λ b. on n w d m _ p _ L29 _ s refl refl)
+flows n w me d m p L30 s = either (Flows n w d m p L30) (all_still n p) _ _ (λ b. on n w d m _ p _ L30 _ s refl refl) (λ b. on n w d m _ p _ L30 _ s refl refl)
+flows n w me d m p L31 s = on n w d m _ p _ L31 _ s refl refl
+flows n w me d m p L32 s =
+    whether (Flows n w d m p L32) (first_to d m p) (third_move n p) (λ e. on n w d m _ p _ L32 _ s refl refl) (λ k e. on n w d m _ p _ L32 _ s refl refl)
+flows n w me d m p L33 s = on n w d m _ p _ L33 _ s refl refl
+flows n w me d m p L34 s = on n w d m _ p _ L34 _ s refl refl
+flows n w me Scanning m p L35 s = (inl refl, refl)
+flows n w me (Embedded word value) m p L35 s = (refl, refl, inr (refl, inl refl, refl))
+flows n w me (Updating word value) m p L35 s = absurd s
+flows n w me d m p L36 s = on n w d m _ p _ L36 _ s refl refl
+flows n w me Scanning m p L37 s = (inr refl, refl)
+flows n w me (Embedded word value) m p L37 s = (refl, refl, inr (refl, inr refl, refl))
+flows n w me (Updating word value) m p L37 s = absurd s
+flows n w me Scanning m p L50 s = absurd s
+flows n w me (Embedded word value) m p L50 s = absurd s
+flows n w me (Updating word value) m p L50 s = (inl refl, refl, refl, λ late. absurd late)
+flows n w me Scanning m p L51 s = absurd s
+flows n w me (Embedded word value) m p L51 s = absurd s
+flows n w me (Updating word value) m p L51 s = (inl refl, refl, refl, λ late. absurd late)
+flows n w me Scanning m p L52 s = absurd s
+flows n w me (Embedded word value) m p L52 s = absurd s
+flows n w me (Updating word value) m p L52 s = (inl refl, refl, refl, λ late. absurd late)
+flows n w me Scanning m p L53 s = absurd s
+flows n w me (Embedded word value) m p L53 s = absurd s
+flows n w me (Updating word value) m p L53 s =
+    either (Flows n w (Updating word value) m p L53) (nat_lt p.j n) _ _ (λ b. (inl refl, refl, refl, λ late. absurd late)) (λ b. (inl refl, refl, refl, λ late. absurd late))
+flows n w me Scanning m p L54 s = absurd s
+flows n w me (Embedded word value) m p L54 s = absurd s
+flows n w me (Updating word value) m p L54 s = (refl, refl)
+flows n w me Scanning m p L55 s = absurd s
+flows n w me (Embedded word value) m p L55 s = absurd s
+flows n w me (Updating word value) m p L55 s = (inl refl, refl, refl, λ late. absurd late)
+flows n w me Scanning m p L56 s = absurd s
+flows n w me (Embedded word value) m p L56 s = absurd s
+flows n w me (Updating word value) m p L56 s = (inl refl, refl, refl, λ late. absurd late)
+flows n w me Scanning m p L57 s = absurd s
+flows n w me (Embedded word value) m p L57 s = absurd s
+flows n w me (Updating word value) m p L57 s = (inr refl, refl, refl, λ late. absurd late)
+flows n w me Scanning m p L58 s = absurd s
+flows n w me (Embedded word value) m p L58 s = absurd s
+flows n w me (Updating word value) m p L58 s = refl
+
+-- the line with this number
+abbrev pub counter_with : ℕ → Option ProgramCounter
+counter_with k =
+    if nat_eq k 10 then Some L10
+    else if nat_eq k 11 then Some L11
+    else if nat_eq k 12 then Some L12
+    else if nat_eq k 13 then Some L13
+    else if nat_eq k 14 then Some L14
+    else if nat_eq k 15 then Some L15
+    else if nat_eq k 16 then Some L16
+    else if nat_eq k 17 then Some L17
+    else if nat_eq k 18 then Some L18
+    else if nat_eq k 19 then Some L19
+    else if nat_eq k 20 then Some L20
+    else if nat_eq k 21 then Some L21
+    else if nat_eq k 22 then Some L22
+    else if nat_eq k 23 then Some L23
+    else if nat_eq k 24 then Some L24
+    else if nat_eq k 25 then Some L25
+    else if nat_eq k 26 then Some L26
+    else if nat_eq k 27 then Some L27
+    else if nat_eq k 28 then Some L28
+    else if nat_eq k 29 then Some L29
+    else if nat_eq k 30 then Some L30
+    else if nat_eq k 31 then Some L31
+    else if nat_eq k 32 then Some L32
+    else if nat_eq k 33 then Some L33
+    else if nat_eq k 34 then Some L34
+    else if nat_eq k 35 then Some L35
+    else if nat_eq k 36 then Some L36
+    else if nat_eq k 37 then Some L37
+    else if nat_eq k 50 then Some L50
+    else if nat_eq k 51 then Some L51
+    else if nat_eq k 52 then Some L52
+    else if nat_eq k 53 then Some L53
+    else if nat_eq k 54 then Some L54
+    else if nat_eq k 55 then Some L55
+    else if nat_eq k 56 then Some L56
+    else if nat_eq k 57 then Some L57
+    else if nat_eq k 58 then Some L58
+    else None
+
+pub line_listed : (n w : ℕ) (k : ProgramCounter) → LineListed (algorithm n w) lines 57 counter_with k
+line_listed n w L10 = record { alone = refl; tested = refl; wrote = refl; calls = λ h. absurd h; returns = λ p v h. absurd h; once = omega arith }
+line_listed n w L11 = record { alone = refl; tested = refl; wrote = refl; calls = λ h. absurd h; returns = λ p v h. absurd h; once = omega arith }
+line_listed n w L12 = record { alone = refl; tested = refl; wrote = refl; calls = λ h. absurd h; returns = λ p v h. absurd h; once = omega arith }
+line_listed n w L13 = record { alone = refl; tested = refl; wrote = refl; calls = λ h. absurd h; returns = λ p v h. absurd h; once = omega arith }
+line_listed n w L14 = record { alone = refl; tested = refl; wrote = refl; calls = λ h. absurd h; returns = λ p v h. absurd h; once = omega arith }
+line_listed n w L15 = record { alone = refl; tested = refl; wrote = refl; calls = λ h. absurd h; returns = λ p v h. absurd h; once = omega arith }
+line_listed n w L16 = record { alone = refl; tested = refl; wrote = refl; calls = λ h. absurd h; returns = λ p v h. absurd h; once = omega arith }
+line_listed n w L17 = record { alone = refl; tested = refl; wrote = refl; calls = λ h. absurd h; returns = λ p v h. absurd h; once = omega arith }
+line_listed n w L18 = record { alone = refl; tested = refl; wrote = refl; calls = λ h. absurd h; returns = λ p v h. absurd h; once = omega arith }
+line_listed n w L19 = record { alone = refl; tested = refl; wrote = refl; calls = λ h. absurd h; returns = λ p v h. absurd h; once = omega arith }
+line_listed n w L20 = record { alone = refl; tested = refl; wrote = refl; calls = λ h. absurd h; returns = λ p v h. absurd h; once = omega arith }
+line_listed n w L21 = record { alone = refl; tested = refl; wrote = refl; calls = λ h. absurd h; returns = λ p v h. absurd h; once = omega arith }
+line_listed n w L22 = record { alone = refl; tested = refl; wrote = refl; calls = λ h. absurd h; returns = λ p v h. absurd h; once = omega arith }
+line_listed n w L23 = record { alone = refl; tested = refl; wrote = refl; calls = λ h. absurd h; returns = λ p v h. absurd h; once = omega arith }
+line_listed n w L24 = record { alone = refl; tested = refl; wrote = refl; calls = λ h. absurd h; returns = λ p v h. absurd h; once = omega arith }
+line_listed n w L25 = record { alone = refl; tested = refl; wrote = refl; calls = λ h. absurd h; returns = λ p v h. absurd h; once = omega arith }
+line_listed n w L26 = record { alone = refl; tested = refl; wrote = refl; calls = λ h. absurd h; returns = λ p v h. absurd h; once = omega arith }
+line_listed n w L27 = record { alone = refl; tested = refl; wrote = refl; calls = λ h. absurd h; returns = λ p v h. absurd h; once = omega arith }
+line_listed n w L28 = record { alone = refl; tested = refl; wrote = refl; calls = λ h. absurd h; returns = λ p v h. absurd h; once = omega arith }
+line_listed n w L29 = record { alone = refl; tested = refl; wrote = refl; calls = λ h. absurd h; returns = λ p v h. absurd h; once = omega arith }
+line_listed n w L30 = record { alone = refl; tested = refl; wrote = refl; calls = λ h. absurd h; returns = λ p v h. absurd h; once = omega arith }
+line_listed n w L31 = record { alone = refl; tested = refl; wrote = refl; calls = λ h. absurd h; returns = λ p v h. absurd h; once = omega arith }
+line_listed n w L32 = record { alone = refl; tested = refl; wrote = refl; calls = λ h. absurd h; returns = λ p v h. absurd h; once = omega arith }
+line_listed n w L33 = record { alone = refl; tested = refl; wrote = refl; calls = λ h. absurd h; returns = λ p v h. absurd h; once = omega arith }
+line_listed n w L34 = record { alone = refl; tested = refl; wrote = refl; calls = λ h. absurd h; returns = λ p v h. absurd h; once = omega arith }
+line_listed n w L35 = record { alone = refl; tested = refl; wrote = refl; calls = λ h. absurd h; returns = λ p v h. (inl refl, h); once = omega arith }
+line_listed n w L36 = record { alone = refl; tested = refl; wrote = refl; calls = λ h. absurd h; returns = λ p v h. absurd h; once = omega arith }
+line_listed n w L37 = record { alone = refl; tested = refl; wrote = refl; calls = λ h. absurd h; returns = λ p v h. (inr refl, h); once = omega arith }
+line_listed n w L50 = record { alone = refl; tested = refl; wrote = refl; calls = λ h. absurd h; returns = λ p v h. absurd h; once = omega arith }
+line_listed n w L51 = record { alone = refl; tested = refl; wrote = refl; calls = λ h. absurd h; returns = λ p v h. absurd h; once = omega arith }
+line_listed n w L52 = record { alone = refl; tested = refl; wrote = refl; calls = λ h. absurd h; returns = λ p v h. absurd h; once = omega arith }
+line_listed n w L53 = record { alone = refl; tested = refl; wrote = refl; calls = λ h. absurd h; returns = λ p v h. absurd h; once = omega arith }
+line_listed n w L54 = record { alone = refl; tested = refl; wrote = refl; calls = λ h me d m p. span.embeds (algorithm n w) L10 d p; returns = λ p v h. absurd h; once = omega arith }
+line_listed n w L55 = record { alone = refl; tested = refl; wrote = refl; calls = λ h. absurd h; returns = λ p v h. absurd h; once = omega arith }
+line_listed n w L56 = record { alone = refl; tested = refl; wrote = refl; calls = λ h. absurd h; returns = λ p v h. absurd h; once = omega arith }
+line_listed n w L57 = record { alone = refl; tested = refl; wrote = refl; calls = λ h. absurd h; returns = λ p v h. absurd h; once = omega arith }
+line_listed n w L58 = record { alone = refl; tested = refl; wrote = refl; calls = λ h. absurd h; returns = λ p v h. absurd h; once = omega arith }
+
+-- lines 35 and 37 return s
+answers : (p : Variables) (k : ProgramCounter) → lines.IsReturn k → Returns (instr_at listing_m.lines (number k)) (locals_of p) p.s
+answers p k (inl is) = subst (λ y. Returns (instr_at listing_m.lines (number y)) (locals_of p) p.s) (sym is) refl
+answers p k (inr is) = subst (λ y. Returns (instr_at listing_m.lines (number y)) (locals_of p) p.s) (sym is) refl
+
+abbrev pub numbered : (n w : ℕ) → Numbered (algorithm n w)
+numbered n w = listed_lines.numbered (algorithm n w) lines 57 counter_with (line_listed n w)
+
+pub listed : (n w : ℕ) → scans.Listed (algorithm n w) lines
+listed n w = listed_lines.listed (algorithm n w) lines 57 counter_with (line_listed n w) answers
+
+pub once : (n w : ℕ) → writes_once.Once (algorithm n w) lines 57
+once n w = listed_lines.once (algorithm n w) lines 57 counter_with (line_listed n w) (λ k is. (ap written_at is, ap writes is))
+
+-- line 57 writes a word
+abbrev pub writer : (n w : ℕ) → word_writes.Writer (algorithm n w) lines 57
+writer n w = record {
+  words = λ m. m.words;
+  values_are = λ m. plain_data plain (λ x. refl) m.words;
+  kept = λ m m' same. same;
+  counter = L57;
+  number_is = refl;
+  only = λ k is. is;
+  Owned = λ me word. IsOneOf w word;
+  is_word = λ me word one is. is;
+  put = λ me word value m p. written me (Updating word value) m p;
+  datum_is = λ me word value m p. refl;
+  puts = λ me word value m p is. refl;
+}

@@ -1,0 +1,17 @@
+pub mod Algorithm
+pub mod Basics
+pub mod Lines
+pub mod History
+pub mod Control
+pub mod Flows
+pub mod Collect
+pub mod Stage
+pub mod Count
+pub mod Invariant
+pub mod Writes
+pub mod Preserve
+pub mod Runs
+pub mod Points
+pub mod Bounds
+pub mod Updates
+pub mod Moves

@@ -1,0 +1,182 @@
+-- The moves that a scan of M sees are events since its previous double collect.
+use Rattle.snap_runs.proofs.Computing.{either, same_from, raised_only}
+use Rattle.snap_runs.proofs.Places.{for_each_at}
+use Rattle.std.specs.Prelude.{◌≡◌, ℕ, zero, suc, ◌+◌, ◌<◌, ◌≤◌, ◌⊎◌, true, List, length, Option, Some, None, nat_eq, nat_lt, refl}
+use Rattle.std.proofs.Common.{sym, ◌∙◌, ap, subst, arith, inl, inr}
+use Rattle.std.proofs.lemmas.Bool.{cases_eq}
+use Rattle.snap_semantics.specs.State.{Process as NamedProcess, process_at, value_at}
+use Rattle.snap_semantics.specs.declared.process.Item.{Item}
+use Rattle.snap_semantics.specs.declared.process.Item.TheVariants.{Step, Call}
+use Rattle.snap_runs.specs.Run.{Fits, state}
+use Rattle.snap_runs.specs.Scan.{Scan}
+use Rattle.snap_runs.specs.Update.{executes}
+use Rattle.snap_runs.specs.Promises.{ObservedMove}
+use Rattle.snap_runs.proofs.Algorithm.{Idle, At, by_step, memory_after, typed_at, changed, happens, item_at, Task, Scanning, Embedded, Updating}
+use Rattle.snap_runs.proofs.Embedding as embed
+use Rattle.snap_runs.proofs.Executing as executing
+use Rattle.snap_runs.proofs.Moves as moves
+use Rattle.snap_runs.proofs.Scans.{Execution}
+use Rattle.snap_runs_of_m.specs.ListingM as names
+use Rattle.snap_runs_of_m.specs.Promises.{run_of, IsEvent, RecentEvent, MovesAreEvents}
+use Rattle.snap_runs_of_m.proofs.Algorithm.{Registers, Process, Control, Move, State, Variables, ProgramCounter, L10, L11, L12, L13, L14, L15, L16, L17, L18, L19, L20, L21, L22, L23, L24, L25, L26, L27, L28, L29, L30, L31, L32, L33, L34, L35, L36, L37, L50, L51, L52, L53, L54, L55, L56, L57, L58, place, move, first_to, return_to, embed_to, same_at, all_still, third_move, counted, after_52, lines, algorithm}
+use Rattle.snap_runs_of_m.proofs.Collect.{events}
+use Rattle.snap_runs_of_m.proofs.Stage.{Row}
+use Rattle.snap_runs_of_m.proofs.Count.{Count, counted_row}
+use Rattle.snap_runs_of_m.proofs.Writes.{raised_there, raised_at_there, raised_at_elsewhere}
+use Rattle.snap_runs_of_m.proofs.Flows.{numbered, listed}
+use Rattle.snap_runs_of_m.proofs.Runs.{state_at, registers_at, execution, stage_of, counts_of}
+
+abbrev pub SameCounters : Registers → Registers → Type 0
+SameCounters m m' = (m'.writes ≡ m.writes) × (m'.answers ≡ m.answers)
+
+-- Every line but 52 and 57 keeps the counters of writes and answers.
+abbrev pub KeepsCounters : Registers → Move → Type 0
+KeepsCounters m v = SameCounters m (memory_after m v)
+
+counters_return : (d : Task) (m : Registers) (p : Variables) → KeepsCounters m (return_to d m p)
+counters_return Scanning m p = (refl, refl)
+counters_return (Embedded y z) m p = (refl, refl)
+counters_return (Updating y z) m p = (refl, refl)
+
+counters_embed : (d : Task) (m : Registers) (p : Variables) → KeepsCounters m (embed_to d m p)
+counters_embed Scanning m p = (refl, refl)
+counters_embed (Embedded y z) m p = (refl, refl)
+counters_embed (Updating y z) m p = (refl, refl)
+
+counters_first : (d : Task) (m : Registers) (p : Variables) (o : Option ℕ) → KeepsCounters m (first_to d m p o)
+counters_first d m p None = (refl, refl)
+counters_first d m p (Some k) = (refl, refl)
+
+counters_kept : (n w me : ℕ) (d : Task) (m : Registers) (p : Variables) (k : ProgramCounter) →
+    KeepsCounters m (move n w me d m p k) ⊎ ((k ≡ L52) ⊎ (k ≡ L57))
+counters_kept n w me d m p L10 = inl (refl, refl)
+counters_kept n w me d m p L11 = inl (refl, refl)
+counters_kept n w me d m p L12 = inl (refl, refl)
+counters_kept n w me d m p L13 = inl (refl, refl)
+counters_kept n w me d m p L14 = inl (refl, refl)
+counters_kept n w me d m p L15 = inl (refl, refl)
+counters_kept n w me d m p L16 = inl (either (KeepsCounters m) (nat_lt p.j n) _ _ (λ t. (refl, refl)) (λ t. (refl, refl)))
+counters_kept n w me d m p L17 = inl (refl, refl)
+counters_kept n w me d m p L18 = inl (either (KeepsCounters m) (nat_lt p.k w) _ _ (λ t. (refl, refl)) (λ t. (refl, refl)))
+counters_kept n w me d m p L19 = inl (refl, refl)
+counters_kept n w me d m p L20 = inl (either (KeepsCounters m) (nat_lt p.k w) _ _ (λ t. (refl, refl)) (λ t. (refl, refl)))
+counters_kept n w me d m p L21 = inl (refl, refl)
+counters_kept n w me d m p L22 = inl (refl, refl)
+counters_kept n w me d m p L23 = inl (either (KeepsCounters m) (nat_lt p.j n) _ _ (λ t. (refl, refl)) (λ t. (refl, refl)))
+counters_kept n w me d m p L24 = inl (refl, refl)
+counters_kept n w me d m p L25 = inl (refl, refl)
+counters_kept n w me d m p L26 = inl (either (KeepsCounters m) (same_at p.a p.b p.k) _ _ (λ t. (refl, refl)) (λ t. (refl, refl)))
+counters_kept n w me d m p L27 = inl (refl, refl)
+counters_kept n w me d m p L28 = inl (refl, refl)
+counters_kept n w me d m p L29 = inl (either (KeepsCounters m) (nat_lt p.k w) _ _ (λ t. (refl, refl)) (λ t. (refl, refl)))
+counters_kept n w me d m p L30 = inl (either (KeepsCounters m) (all_still n p) _ _ (λ t. (refl, refl)) (λ t. (refl, refl)))
+counters_kept n w me d m p L31 = inl (refl, refl)
+counters_kept n w me d m p L32 = inl (counters_first d m p (third_move n p))
+counters_kept n w me d m p L33 = inl (refl, refl)
+counters_kept n w me d m p L34 = inl (refl, refl)
+counters_kept n w me d m p L35 = inl (counters_return d m p)
+counters_kept n w me d m p L36 = inl (refl, refl)
+counters_kept n w me d m p L37 = inl (counters_return d m p)
+counters_kept n w me d m p L50 = inl (refl, refl)
+counters_kept n w me d m p L51 = inl (refl, refl)
+counters_kept n w me d m p L52 = inr (inl refl)
+counters_kept n w me d m p L53 = inl (either (KeepsCounters m) (nat_lt p.j n) _ _ (λ t. (refl, refl)) (λ t. (refl, refl)))
+counters_kept n w me d m p L54 = inl (counters_embed d m p)
+counters_kept n w me d m p L55 = inl (refl, refl)
+counters_kept n w me d m p L56 = inl (refl, refl)
+counters_kept n w me d m p L57 = inr (inr refl)
+counters_kept n w me d m p L58 = inl (refl, refl)
+
+-- a change of these counters is a step at line 52 or 57
+abbrev pub Raises : ℕ → ℕ → State → Item → Type 0
+Raises n w x y = (a : ℕ) × (d : Task) × (y ≡ Step a) × (((typed_at (algorithm n w) x a).control ≡ At d L52) ⊎ ((typed_at (algorithm n w) x a).control ≡ At d L57))
+
+step_counters : (n w t : ℕ) (x : State) (i : ℕ) (control : Control) → (typed_at (algorithm n w) x i).control ≡ control →
+    SameCounters x.memory (changed x i (by_step (algorithm n w) t x.memory i (typed_at (algorithm n w) x i) control)).memory ⊎ Raises n w x (Step i)
+step_counters n w t x i Idle is = inl (refl, refl)
+step_counters n w t x i (At d k) is =
+    elim (counters_kept n w i d x.memory (typed_at (algorithm n w) x i).variables k) [
+      | inl keeps ↦ (let v = move n w i d x.memory (typed_at (algorithm n w) x i).variables k in inl (subst (SameCounters x.memory) (sym (embed.move_memory (algorithm n w) t x i k v)) keeps))
+      | inr e ↦ inr (
+        i,
+        d,
+        refl,
+        elim e [
+          | inl at52 ↦ inl (is ∙ ap (λ y. At d y) at52)
+          | inr at57 ↦ inr (is ∙ ap (λ y. At d y) at57)
+        ],
+      )
+    ]
+
+happens_counters : (n w t : ℕ) (x : State) (y : Item) → SameCounters x.memory (happens (algorithm n w) t x y).memory ⊎ Raises n w x y
+happens_counters n w t x (Step i) = step_counters n w t x i (typed_at (algorithm n w) x i).control refl
+happens_counters n w t x (Call i op) =
+    let same : (happens (algorithm n w) t x (Call i op)).memory ≡ x.memory = embed.call_memory (algorithm n w) t x i op (typed_at (algorithm n w) x i).control in
+    inl (ap (λ (m : Registers). m.writes) same, ap (λ (m : Registers). m.answers) same)
+
+module _ (n w : ℕ) (items : List Item) (some : 0 < w) (fits : Fits (run_of n w items)) where
+  abbrev pub at : ℕ → ℕ → Process
+  at t i = typed_at (algorithm n w) (state_at n w items t) i
+
+  abbrev run : Execution (algorithm n w) lines
+  run = execution n w items some fits
+
+  -- what process a does at line 52 or 57 is an event of process j that process i can see, or leaves j's events
+  line_57 : (v a i j : ℕ) (d : Task) → v < length items → item_at items v ≡ Step a → (at v a).control ≡ At d L57 →
+      IsEvent (run_of n w items) i j (suc v) ⊎ (events (registers_at n w items (suc v)) j i ≡ events (registers_at n w items v) j i)
+  line_57 v a i j d h is there =
+      elim (cases_eq j a) [
+        | inl same ↦ inl (inl (subst (λ y. executes (run_of n w items) y 57 (suc v) ≡ true) (sym same) (executing.line_executes (algorithm n w) items fits run.does v a 57 d L57 h is there refl)))
+        | inr other ↦ inr (ap (λ (m : Registers). events m j i) (executing.memory_next (algorithm n w) items fits run.does v a d L57 is there)
+            ∙ ap (λ x. x + (registers_at n w items v).answers j i) (raised_there (registers_at n w items v).writes a j other))
+      ]
+
+  line_52 : (v a i j : ℕ) (d : Task) → v < length items → item_at items v ≡ Step a → (at v a).control ≡ At d L52 →
+      IsEvent (run_of n w items) i j (suc v) ⊎ (events (registers_at n w items (suc v)) j i ≡ events (registers_at n w items v) j i)
+  line_52 v a i j d h is there =
+      let m = registers_at n w items v in
+      let p = (at v a).variables in
+      let after : registers_at n w items (suc v) ≡ after_52 a m p = executing.memory_next (algorithm n w) items fits run.does v a d L52 is there in
+      elim (cases_eq j a) [
+        | inl same ↦ elim (cases_eq i p.j) [
+          | inl his ↦ (let counter : value_at names.j (process_at (state (run_of n w items) v) a).locals.scalars 0 ≡ p.j =
+              ap (λ (q : NamedProcess). value_at names.j q.locals.scalars 0) (embed.process_at_is (algorithm n w) items fits run.does v a (omega arith) (executing.one_of (algorithm n w) items fits run.does v a h is)) in
+              let E : ℕ → Type 0 = λ y. (executes (run_of n w items) y 52 (suc v) ≡ true) × (value_at names.j (process_at (state (run_of n w items) v) y).locals.scalars 0 ≡ i) in
+              inl (inr (subst E (sym same) (executing.line_executes (algorithm n w) items fits run.does v a 52 d L52 h is there refl, counter ∙ sym his))))
+          | inr other ↦ inr (ap (λ (x : Registers). events x j i) after ∙ ap (λ y. m.writes j + y) (raised_at_elsewhere m.answers a p.j j i other))
+        ]
+        | inr other ↦ inr (ap (λ (x : Registers). events x j i) after ∙ ap (λ y. m.writes j + y) (raised_at_there m.answers a p.j j i other))
+      ]
+
+  item_does : (v i j : ℕ) → v < length items →
+      IsEvent (run_of n w items) i j (suc v) ⊎ (events (registers_at n w items (suc v)) j i ≡ events (registers_at n w items v) j i)
+  item_does v i j h =
+      elim (happens_counters n w (suc v) (state_at n w items v) (item_at items v)) [
+        | inl same ↦ inr (ap (λ (f : ℕ → ℕ). f j + (registers_at n w items (suc v)).answers j i) same.0 ∙ ap (λ (f : ℕ → ℕ → ℕ). (registers_at n w items v).writes j + f j i) same.1)
+        | inr r ↦ elim r.3 [
+          | inl at52 ↦ line_52 v r.0 i j r.1 h r.2 at52
+          | inr at57 ↦ line_57 v r.0 i j r.1 h r.2 at57
+        ]
+      ]
+
+  pub move_is_event : (i j : ℕ) (link : Option ℕ) (c t : ℕ) → Scan (run_of n w items) i link c (suc t) → c ≤ t →
+      ObservedMove (run_of n w items) 31 names.moved i j (suc t) →
+      RecentEvent (run_of n w items) i j c (suc t)
+  move_is_event i j link c t scan le move =
+      let r = run_of n w items in
+      let one = scan.process in
+      let short : suc t ≤ length items = scan.last in
+      let seen = moves.observed (algorithm n w) lines (listed n w) run (numbered n w) 31 L31 L32 (λ me p. counted_row n p) names.moved refl (λ me d m p. refl) i j t (omega arith) one move in
+      let q = at t i in
+      let p = q.variables in
+      let stage = stage_of n w items some fits t i seen.task L31 (omega arith) one seen.control in
+      let row : Row n w i (registers_at n w items) q.auxiliary.round t p.g p.h p.d p.a p.b (w + 1) = stage.2 in
+      let grows : place p.moved j < counted p j = subst (λ y. place p.moved j < y) (for_each_at n (counted p) p.moved j move.process) seen.grows in
+      let marked : place p.d j ≡ 1 = same_from (place p.d j) 1 (raised_only (nat_eq (place p.d j) 1) (place p.moved j) grows) in
+      let counts : Count n w p q.auxiliary.own q.auxiliary.collects q.auxiliary.tested L31 = counts_of n w items some fits t i seen.task L31 (omega arith) one seen.control in
+      let event = moves.recent (algorithm n w) lines (listed n w) run (IsEvent (run_of n w items) i j) (λ y. events (registers_at n w items y) j i) (λ v h. item_does v i j h) i link c t seen.task L31 scan le seen.control refl counts.3 (row.moved j move.process marked) in
+      record { item = event.item; after_start = event.after_start; before_move = event.before_move; event = event.event; recent = event.recent }
+
+pub moves_are_events_lem : MovesAreEvents
+moves_are_events_lem n w items some fits i j link c zero scan lt move = absurd (omega arith)
+moves_are_events_lem n w items some fits i j link c (suc t) scan lt move = move_is_event n w items some fits i j link c t scan (omega arith) move

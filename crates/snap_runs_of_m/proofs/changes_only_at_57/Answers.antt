@@ -1,0 +1,5 @@
+use Rattle.snap_runs_of_m.proofs.Updates.{changes_only_at_57_lem}
+use Rattle.snap_runs_of_m.proofs.changes_only_at_57.Goals as goal
+
+pub returns : goal.returns
+returns c = changes_only_at_57_lem

@@ -1,0 +1,5 @@
+use Rattle.snap_runs_of_m.proofs.Bounds.{few_collects_lem}
+use Rattle.snap_runs_of_m.proofs.few_collects.Goals as goal
+
+pub returns : goal.returns
+returns c = few_collects_lem

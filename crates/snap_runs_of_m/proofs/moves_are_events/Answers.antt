@@ -1,0 +1,5 @@
+use Rattle.snap_runs_of_m.proofs.Moves.{moves_are_events_lem}
+use Rattle.snap_runs_of_m.proofs.moves_are_events.Goals as goal
+
+pub returns : goal.returns
+returns c = moves_are_events_lem

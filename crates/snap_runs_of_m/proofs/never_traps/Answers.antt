@@ -1,0 +1,5 @@
+use Rattle.snap_runs_of_m.proofs.Runs.{never_traps_lem}
+use Rattle.snap_runs_of_m.proofs.never_traps.Goals as goal
+
+pub returns : goal.returns
+returns c = never_traps_lem

@@ -1,0 +1,5 @@
+use Rattle.snap_runs_of_m.proofs.Bounds.{sharp_collects_lem}
+use Rattle.snap_runs_of_m.proofs.sharp_collects.Goals as goal
+
+pub returns : goal.returns
+returns c = sharp_collects_lem

@@ -1,0 +1,2 @@
+pub mod ListingM
+pub mod Promises

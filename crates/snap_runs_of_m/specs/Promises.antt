@@ -1,0 +1,71 @@
+-- What every run of listing M keeps, for every number of processes and of words. There is at least one word: with none line 17
+-- would have nothing to read.
+use Rattle.std.specs.Prelude.{◌≡◌, ℕ, ◌+◌, ◌-◌, ◌*◌, ◌<◌, ◌≤◌, ◌⊎◌, true, List, Option}
+use Rattle.snap_words.specs.Shape.{Counts}
+use Rattle.snap_semantics.specs.declared.process.Item.{Item}
+use Rattle.snap_semantics.specs.State.{value_at, process_at}
+use Rattle.snap_runs.specs.Run.{Run, Fits, before}
+use Rattle.snap_runs.specs.Scan.{Scan, double_collects}
+use Rattle.snap_runs.specs.Update.{executes}
+use Rattle.snap_runs.specs.Promises as promises
+use Rattle.snap_runs.specs.Promises.{ObservedMove}
+use Rattle.snap_runs_of_m.specs.ListingM.{listing_m, moved, j as counter}
+
+abbrev pub counts : ℕ → ℕ → Counts
+counts n w = record { n = n; w = w }
+
+-- the run of M by n processes with w words over these items
+abbrev pub run_of : ℕ → ℕ → List Item → Run
+run_of n w items = record { source = listing_m; shape = counts n w; items = items }
+
+-- No process ever traps.
+abbrev pub NeverTraps : Type 0
+NeverTraps = (n w : ℕ) (items : List Item) → 0 < w → promises.NeverTraps (run_of n w items)
+
+-- The values change at line 57 alone.
+abbrev pub ChangesOnlyAt57 : Type 0
+ChangesOnlyAt57 = (n w : ℕ) (items : List Item) → 0 < w → promises.ChangesOnlyAt 57 (run_of n w items)
+
+-- Line 57 is executed in an update, after its call, and writes its value at its word.
+abbrev pub WritesItsUpdate : Type 0
+WritesItsUpdate = (n w : ℕ) (items : List Item) → 0 < w → promises.WritesItsUpdate 57 (run_of n w items)
+
+-- An update executes line 57 at most once, and exactly once if it is done.
+abbrev pub WritesOnce : Type 0
+WritesOnce = (n w : ℕ) (items : List Item) → 0 < w → promises.WritesOnce 57 (run_of n w items)
+
+-- Every finished scan has a point, called or embedded in an update.
+abbrev pub HavePoints : Type 0
+HavePoints = (n w : ℕ) (items : List Item) → 0 < w → promises.HavePoints (run_of n w items)
+
+-- Every scan has at most 2 n + 1 double collects.
+abbrev pub FewCollects : Type 0
+FewCollects = (n w : ℕ) (items : List Item) → 0 < w → promises.CollectsAtMost (2 * n + 1) (run_of n w items)
+
+-- Every scan takes at most 14 n n + 16 n w + 19 n + 8 w + 10 steps.
+abbrev pub FewSteps : Type 0
+FewSteps = (n w : ℕ) (items : List Item) → 0 < w →
+    promises.StepsAtMost (14 * (n * n) + 16 * (n * w) + 19 * n + 8 * w + 10) (run_of n w items)
+
+-- Every scan has at most 2 n - 1 double collects.
+abbrev pub SharpCollects : Type 0
+SharpCollects = (n w : ℕ) (items : List Item) → 0 < w → promises.CollectsAtMost (2 * n - 1) (run_of n w items)
+
+-- An event of process j that process i can see: j writes a word, or answers the handshake in the bit that i reads.
+abbrev pub IsEvent : Run → ℕ → ℕ → ℕ → Type 0
+IsEvent r i j t =
+    (executes r j 57 t ≡ true) ⊎ ((executes r j 52 t ≡ true) × (value_at counter (process_at (before r t) j).locals.scalars 0 ≡ i))
+
+-- Between items c and t process j has such an event, and process i has at most one double collect from there to item t.
+pub record RecentEvent (r : Run) (i j c t : ℕ) : Type 0 where
+  pub item : ℕ
+  pub after_start : c < item
+  pub before_move : item < t
+  pub event : IsEvent r i j item
+  pub recent : double_collects r i item t ≤ 1
+
+-- A move that a scan sees at line 31 is an event since its previous double collect, or since its start where there is none.
+abbrev pub MovesAreEvents : Type 0
+MovesAreEvents = (n w : ℕ) (items : List Item) → 0 < w → Fits (run_of n w items) →
+    (i j : ℕ) (link : Option ℕ) (c t : ℕ) → Scan (run_of n w items) i link c t → c < t →
+    ObservedMove (run_of n w items) 31 moved i j t → RecentEvent (run_of n w items) i j c t

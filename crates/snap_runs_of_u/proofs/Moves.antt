@@ -1,0 +1,48 @@
+-- The moves that a scan of U sees are writes since its previous double collect.
+use Rattle.std.specs.Prelude.{ℕ, zero, suc, ◌+◌, ◌<◌, ◌≤◌, not, List, length, Option, refl}
+use Rattle.std.proofs.Common.{subst, arith}
+use Rattle.snap_semantics.specs.declared.process.Item.{Item}
+use Rattle.snap_runs.specs.Run.{Fits}
+use Rattle.snap_runs.specs.Scan.{Scan}
+use Rattle.snap_runs.specs.Promises.{ObservedMove, RecentWrite}
+use Rattle.snap_runs.proofs.Computing.{differs, not_true, raised_only}
+use Rattle.snap_runs.proofs.Held.{word_at, seq_at, before_seq}
+use Rattle.snap_runs.proofs.Moves as moves
+use Rattle.snap_runs.proofs.Places.{for_each_at}
+use Rattle.snap_runs_of_u.specs.ListingU as u
+use Rattle.snap_runs_of_u.specs.Promises.{run_of, MovesAreWrites}
+use Rattle.snap_runs_of_u.proofs.Algorithm.{L17, L18, agree, moved_at, counted, lines, algorithm}
+use Rattle.snap_runs_of_u.proofs.Collect.{Second, Between}
+use Rattle.snap_runs_of_u.proofs.Count.{Count, counted_row}
+use Rattle.snap_runs_of_u.proofs.Flows.{numbered, listed, writer}
+use Rattle.snap_runs_of_u.proofs.Runs.{words_at, process_after, execution, stage_of, counts_of}
+use Rattle.snap_runs_of_u.proofs.Stage.{copies_grow}
+use Rattle.snap_runs_of_u.proofs.Updates.{updates}
+
+move_is_write : (n : ℕ) (items : List Item) → Fits (run_of n items) → (i j : ℕ) (link : Option ℕ) (c t : ℕ) → Scan (run_of n items) i link c (suc t) → c ≤ t →
+    ObservedMove (run_of n items) 17 u.moved i j (suc t) →
+    RecentWrite (run_of n items) 32 i j c (suc t)
+move_is_write n items fits i j link c t scan le move =
+    let one = scan.process in
+    let short : suc t ≤ length items = scan.last in
+    let run = execution n items fits in
+    let seen = moves.observed (algorithm n) lines (listed n) run (numbered n) 17 L17 L18 (λ me p. counted_row n p) u.moved refl (λ me d m p. refl) i j t (omega arith) one move in
+    let q = process_after n items t i in
+    let p = q.variables in
+    let since = q.auxiliary.since in
+    let round = q.auxiliary.round in
+    let stage = stage_of n items fits t i seen.task L17 (omega arith) one seen.control in
+    let between : Between n (words_at n items) t since round (words_at n items t) p.moved p.a p.b (n + 1) = stage.1 in
+    let second : Second n (words_at n items) t since round (words_at n items t) p.moved p.a p.b (n + 1) (words_at n items between.0) = between.3 in
+    let grows : moved_at p j < counted p j = subst (λ y. moved_at p j < y) (for_each_at n (counted p) p.moved j move.process) seen.grows in
+    let differ : seq_at p.a j < seq_at p.b j =
+    differs (seq_at p.a j) (seq_at p.b j) (not_true (agree p j) (raised_only (not (agree p j)) (moved_at p j) grows)) (copies_grow n (words_at n items) t since round (words_at n items t) p between j move.process) in
+    let fresh : seq_at (words_at n items round) j ≤ seq_at p.a j = (second.first j move.process).fresh in
+    let later : seq_at p.b j ≤ seq_at (words_at n items t) j =
+    before_seq (word_at p.b j) (word_at (words_at n items t) j) (second.read j move.process (let i2 = move.process in omega arith)).1 in
+    let counts : Count n p q.auxiliary.own q.auxiliary.collects q.auxiliary.tested L17 = counts_of n items fits t i seen.task L17 (omega arith) one seen.control in
+    moves.recent_write (algorithm n) lines (listed n) run 32 (writer n) (updates n items fits) (λ me word is. is) i j link c t seen.task L17 move.process scan le seen.control refl counts.3 (omega arith)
+
+pub moves_are_writes_lem : MovesAreWrites
+moves_are_writes_lem n items fits i j link c zero scan lt move = absurd (omega arith)
+moves_are_writes_lem n items fits i j link c (suc t) scan lt move = move_is_write n items fits i j link c t scan (omega arith) move

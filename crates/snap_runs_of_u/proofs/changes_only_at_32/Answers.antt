@@ -1,0 +1,5 @@
+use Rattle.snap_runs_of_u.proofs.Updates.{changes_only_at_32_lem}
+use Rattle.snap_runs_of_u.proofs.changes_only_at_32.Goals as goal
+
+pub returns : goal.returns
+returns c = changes_only_at_32_lem

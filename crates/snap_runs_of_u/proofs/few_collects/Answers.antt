@@ -1,0 +1,5 @@
+use Rattle.snap_runs_of_u.proofs.Bounds.{few_collects_lem}
+use Rattle.snap_runs_of_u.proofs.few_collects.Goals as goal
+
+pub returns : goal.returns
+returns c = few_collects_lem

@@ -1,0 +1,5 @@
+use Rattle.snap_runs_of_u.proofs.Moves.{moves_are_writes_lem}
+use Rattle.snap_runs_of_u.proofs.moves_are_writes.Goals as goal
+
+pub returns : goal.returns
+returns c = moves_are_writes_lem

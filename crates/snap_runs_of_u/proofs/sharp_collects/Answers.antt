@@ -1,0 +1,5 @@
+use Rattle.snap_runs_of_u.proofs.Bounds.{sharp_collects_lem}
+use Rattle.snap_runs_of_u.proofs.sharp_collects.Goals as goal
+
+pub returns : goal.returns
+returns c = sharp_collects_lem

@@ -1,0 +1,5 @@
+use Rattle.snap_runs_of_u.proofs.Updates.{writes_once_lem}
+use Rattle.snap_runs_of_u.proofs.writes_once.Goals as goal
+
+pub returns : goal.returns
+returns c = writes_once_lem

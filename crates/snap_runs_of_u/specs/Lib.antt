@@ -1,0 +1,2 @@
+pub mod ListingU
+pub mod Promises

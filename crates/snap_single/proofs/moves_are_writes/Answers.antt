@@ -1,5 +1,0 @@
-use Rattle.snap_single.proofs.Moves.{moves_are_writes_lem}
-use Rattle.snap_single.proofs.moves_are_writes.Goals as goal
-
-pub returns : goal.returns
-returns c = moves_are_writes_lem

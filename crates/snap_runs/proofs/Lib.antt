@@ -20,3 +20,8 @@ pub mod ListedLines
 pub mod Points
 pub mod Bounds
 pub mod Moves
+pub mod Turns
+pub mod Calls
+pub mod Operations
+pub mod Order
+pub mod Linear

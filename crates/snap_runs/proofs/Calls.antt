@@ -1,0 +1,272 @@
+-- The calls of a run, for any listing: under which one a process is, and that no two of a process are open at once.
+use Rattle.std.specs.Prelude.{◌≡◌, ◌≢◌, ℕ, zero, suc, ◌-◌, ◌<◌, ◌≤◌, ◌⊎◌, List, length, Option, Some, None, Result, Ok, Err, slice_set, refl}
+use Rattle.std.proofs.Common.{sym, ◌∙◌, ap, subst, arith, inl, inr}
+use Rattle.std.proofs.lemmas.Bool.{cases_eq, cases_lt}
+use Rattle.std.proofs.lemmas.List.Elements.{All-from_recursion}
+use Rattle.std.proofs.lemmas.List.{length-set, get_or-set_other, length-replicate, get_or-replicate}
+use Rattle.std.proofs.Math.Nat.{eq-or-lt_of_le}
+use Rattle.snap_words.specs.Shape.{Counts, IsOneOf}
+use Rattle.snap_semantics.specs.declared.process.Activity.{Activity}
+use Rattle.snap_semantics.specs.declared.process.Cause.{Cause}
+use Rattle.snap_semantics.specs.declared.process.Item.{Item}
+use Rattle.snap_semantics.specs.declared.process.Item.TheVariants.{Step, Call}
+use Rattle.snap_semantics.specs.declared.process.Op.{Op}
+use Rattle.snap_semantics.specs.declared.process.Op.TheVariants as op
+use Rattle.snap_semantics.specs.declared.process.Outcome.{Outcome}
+use Rattle.snap_semantics.specs.declared.process.Outcome.TheVariants.{Called, Answered, Finished as Done}
+use Rattle.snap_semantics.specs.declared.process.Reason.{Reason}
+use Rattle.snap_semantics.specs.declared.process.Status.{Status}
+use Rattle.snap_semantics.specs.declared.process.Status.TheVariants.{Idle, Busy, Trapped}
+use Rattle.snap_semantics.specs.Source.{Source, instr_at}
+use Rattle.snap_semantics.specs.State.{Locals, Memory, Process, State, nobody, process_at, initial_process}
+use Rattle.snap_semantics.specs.Table.{Effect, Goes, Answers, Finishes, effect_at, leave, step, call_skip, called, call, done, who}
+use Rattle.snap_runs.specs.Run.{Run, Fits, state, item, outcome}
+use Rattle.snap_runs.specs.Scan.{Finished}
+use Rattle.snap_runs.proofs.Embedding.{next_state}
+use Rattle.snap_runs.proofs.Turns.{Turn, skipped, calls, goes, answers, finishes, traps, status_of, own_turn}
+
+-- An item leaves a state, or changes its process and perhaps the memory.
+abbrev pub Touches : State → ℕ → State → Type 0
+Touches S i S' = ((m : Memory) × (p : Process) × (S' ≡ record { memory = m; processes = slice_set S.processes (i - 1) p })) ⊎ (S' ≡ S)
+
+leave_touches : (S : State) (i : ℕ) (a : Activity) (l : Locals) (e : Result Effect Cause) → Touches S i (leave S i a l e).0
+leave_touches S i a l (Ok (Goes m k link line)) = inl (m, _, refl)
+leave_touches S i a l (Ok (Answers v)) = inl (S.memory, _, refl)
+leave_touches S i a l (Ok Finishes) = inl (S.memory, _, refl)
+leave_touches S i a l (Err e) = inl (S.memory, _, refl)
+
+step_touches : (s : Source) (shape : Counts) (S : State) (i : ℕ) (p : Process) (status : Status) → Touches S i (step s shape S i p status).0
+step_touches s shape S i p (Trapped e a) = inr refl
+step_touches s shape S i p Idle = inr refl
+step_touches s shape S i p (Busy a) = leave_touches S i a p.locals
+    (effect_at s (record { shape = shape; me = i; op = a.op; locals = p.locals; place = 0 }) S.memory a (instr_at s.lines a.line))
+
+called_touches : (s : Source) (S : State) (i : ℕ) (p : Process) (o : Op) (why : Option Reason) → Touches S i (called s S i p o why).0
+called_touches s S i p o (Some why) = inr refl
+called_touches s S i p o None = inl (S.memory, _, refl)
+
+call_touches : (s : Source) (shape : Counts) (S : State) (i : ℕ) (o : Op) (p : Process) (status : Status) →
+    Touches S i (call s shape S i o p status).0
+call_touches s shape S i o p (Trapped e a) = inr refl
+call_touches s shape S i o p (Busy a) = inr refl
+call_touches s shape S i o p Idle = called_touches s S i p o (call_skip s.kind shape i o)
+
+touches : (s : Source) (shape : Counts) (S : State) (x : Item) → Touches S (who x) (done s shape S x).0
+touches s shape S (Step i) = step_touches s shape S i (process_at S i) (process_at S i).status
+touches s shape S (Call i o) = call_touches s shape S i o (process_at S i) (process_at S i).status
+
+same_count : (S S' : State) (i : ℕ) → Touches S i S' → length S'.processes ≡ length S.processes
+same_count S S' i (inl h) = ap (λ (x : State). length x.processes) h.2 ∙ length-set S.processes (i - 1) h.1
+same_count S S' i (inr h) = ap (λ (x : State). length x.processes) h
+
+other_status : (S S' : State) (k i : ℕ) → Touches S k S' → 0 < k → 0 < i → k ≢ i → status_of S' i ≡ status_of S i
+other_status S S' k i (inl h) pk pi other =
+    ap (λ (x : State). status_of x i) h.2
+    ∙ ap (λ (p : Process). p.status) (get_or-set_other S.processes (k - 1) (i - 1) h.1 nobody (λ same. other (omega arith)))
+other_status S S' k i (inr h) pk pi other = ap (λ (x : State). status_of x i) h
+
+-- A process is at an operation that was called and has not ended, or has trapped.
+abbrev pub Occupied : Op → Status → Type 0
+Occupied o Idle = ⊥
+Occupied o (Busy a) = a.op ≡ o
+Occupied o (Trapped cause a) = Unit {0}
+
+-- how such an operation ends
+abbrev pub EndsWith : Op → Outcome → Type 0
+EndsWith op.Scan (Answered view) = Unit {0}
+EndsWith (op.Update word value) Done = Unit {0}
+EndsWith _ _ = ⊥
+
+-- how any operation ends
+abbrev pub IsEnd : Outcome → Type 0
+IsEnd (Answered view) = Unit {0}
+IsEnd Done = Unit {0}
+IsEnd _ = ⊥
+
+stays_occupied : {s s' : Status} {x : Item} {out : Outcome} (o : Op) → Turn s x out s' → (EndsWith o out → ⊥) → Occupied o s → Occupied o s'
+stays_occupied o (skipped s x why) not_end h = h
+stays_occupied o (calls i p line) not_end h = absurd h
+stays_occupied o (goes i a line link) not_end h = h
+stays_occupied o (answers i a view is) not_end h = absurd (not_end (subst (λ p. EndsWith p (Answered view)) (sym is ∙ h) tt))
+stays_occupied o (finishes i a word value is) not_end h = absurd (not_end (subst (λ p. EndsWith p Done) (sym is ∙ h) tt))
+stays_occupied o (traps i a cause) not_end h = tt
+
+-- a call finds its process idle, and occupies it
+is_called : {s s' : Status} {x : Item} {out : Outcome} (i : ℕ) (o : Op) → Turn s x out s' → out ≡ Called → x ≡ Call i o →
+    (s ≡ Idle) × Occupied o s'
+is_called i o (skipped s x why) out is = absurd (cc)
+is_called i o (calls k p line) out is = (refl, cc)
+is_called i o (goes k a line link) out is = absurd (cc)
+is_called i o (answers k a view e) out is = absurd (cc)
+is_called i o (finishes k a word value e) out is = absurd (cc)
+is_called i o (traps k a cause) out is = absurd (cc)
+
+-- an answer ends a scan, and a finish an update
+is_answered : {s s' : Status} {x : Item} {out : Outcome} (view : List ℕ) → Turn s x out s' → out ≡ Answered view →
+    (a : Activity) × (s ≡ Busy a) × (a.op ≡ op.Scan)
+is_answered v (skipped s x why) out = absurd (cc)
+is_answered v (calls k p line) out = absurd (cc)
+is_answered v (goes k a line link) out = absurd (cc)
+is_answered v (answers k a view e) out = (a, refl, e)
+is_answered v (finishes k a word value e) out = absurd (cc)
+is_answered v (traps k a cause) out = absurd (cc)
+
+is_finished : {s s' : Status} {x : Item} {out : Outcome} → Turn s x out s' → out ≡ Done →
+    (a : Activity) × (word : ℕ) × (value : ℕ) × (s ≡ Busy a) × (a.op ≡ op.Update word value)
+is_finished (skipped s x why) out = absurd (cc)
+is_finished (calls k p line) out = absurd (cc)
+is_finished (goes k a line link) out = absurd (cc)
+is_finished (answers k a view e) out = absurd (cc)
+is_finished (finishes k a word value e) out = (a, word, value, refl, e)
+is_finished (traps k a cause) out = absurd (cc)
+
+module _ (r : Run) (fits : Fits r) where
+  abbrev pub status : ℕ → ℕ → Status
+  status t i = status_of (state r t) i
+
+  pub item_one : (t : ℕ) → t < length r.items → IsOneOf r.shape.n (who (item r (suc t)))
+  item_one t h = All-from_recursion (λ y. IsOneOf r.shape.n (who y)) r.items fits.all t (Step 0) h
+
+  processes_count : (t : ℕ) → t ≤ length r.items → length (state r t).processes ≡ r.shape.n
+  processes_count zero h = length-replicate r.shape.n (initial_process r.source r.shape)
+  processes_count (suc t) h =
+      ap (λ (S : State). length S.processes) (next_state r t (omega arith))
+      ∙ same_count (state r t) _ (who (item r (suc t))) (touches r.source r.shape (state r t) (item r (suc t)))
+      ∙ processes_count t (omega arith)
+
+  pub turn : (t i : ℕ) → t < length r.items → IsOneOf r.shape.n i → who (item r (suc t)) ≡ i →
+      Turn (status t i) (item r (suc t)) (outcome r (suc t)) (status (suc t) i)
+  turn t i h one his =
+      subst (λ (S : State). Turn (status t i) (item r (suc t)) (outcome r (suc t)) (status_of S i)) (sym (next_state r t h))
+      (own_turn r.source r.shape (state r t) i (processes_count t (omega arith)) one (item r (suc t)) his)
+
+  pub other_turn : (t i : ℕ) → t < length r.items → IsOneOf r.shape.n i → who (item r (suc t)) ≢ i → status (suc t) i ≡ status t i
+  other_turn t i h one other =
+      ap (λ (S : State). status_of S i) (next_state r t h)
+      ∙ other_status (state r t) _ (who (item r (suc t))) i (touches r.source r.shape (state r t) (item r (suc t))) (item_one t h).0 one.0 other
+
+  -- item c is such a call
+  abbrev pub Calls : ℕ → Op → ℕ → Type 0
+  Calls i o c = (item r c ≡ Call i o) × (outcome r c ≡ Called)
+
+  -- item u ends such an operation
+  abbrev pub EndsAt : ℕ → Op → ℕ → Type 0
+  EndsAt i o u = (who (item r u) ≡ i) × EndsWith o (outcome r u)
+
+  -- from its call on a process is occupied until the operation ends
+  pub occupied : (i : ℕ) (o : Op) (c t : ℕ) → IsOneOf r.shape.n i → 0 < c → c ≤ t → t ≤ length r.items → Calls i o c →
+      ((u : ℕ) → c < u → u ≤ t → EndsAt i o u → ⊥) → Occupied o (status t i)
+  occupied i o c zero one pos le short call still = absurd (omega arith)
+  occupied i o c (suc t) one pos le short call still =
+      elim (eq-or-lt_of_le le) [
+        | inl same ↦ (let is : item r (suc t) ≡ Call i o = subst (λ y. item r y ≡ Call i o) same call.0 in
+            let out : outcome r (suc t) ≡ Called = subst (λ y. outcome r y ≡ Called) same call.1 in
+            (is_called i o (turn t i (omega arith) one (ap who is)) out is).1)
+        | inr more ↦ (let past : Occupied o (status t i) = occupied i o c t one pos (omega arith) (omega arith) call (λ u lt less. still u lt (omega arith)) in
+            elim (cases_eq (who (item r (suc t))) i) [
+              | inl his ↦ stays_occupied o (turn t i (omega arith) one his) (λ ends. still (suc t) (omega arith) (omega arith) (his, ends)) past
+              | inr other ↦ subst (Occupied o) (sym (other_turn t i (omega arith) one other)) past
+            ])
+      ]
+
+  -- no call of a process finds an open one
+  not_called : (i : ℕ) (o p : Op) (c d : ℕ) → IsOneOf r.shape.n i → 0 < c → c < d → d ≤ length r.items → Calls i o c → Calls i p d →
+      ((u : ℕ) → c < u → u < d → EndsAt i o u → ⊥) → ⊥
+  not_called i o p c zero one pos lt short call again still = omega arith
+  not_called i o p c (suc t) one pos lt short call again still =
+      let past : Occupied o (status t i) = occupied i o c t one pos (omega arith) (omega arith) call (λ u less le. still u less (omega arith)) in
+      subst (Occupied o) (is_called i p (turn t i (omega arith) one (ap who again.0)) again.1 again.0).0 past
+
+  -- two calls of a process that are open before an item are one
+  pub one_call : (i : ℕ) (o p : Op) (c d t : ℕ) → IsOneOf r.shape.n i → 0 < c → 0 < d → c < t → d < t → t ≤ length r.items → Calls i o c → Calls i p d →
+      ((u : ℕ) → c < u → u < t → EndsAt i o u → ⊥) → ((u : ℕ) → d < u → u < t → EndsAt i p u → ⊥) → c ≡ d
+  one_call i o p c d t one pc pd lc ld short call again still_c still_d =
+      elim (cases_eq c d) [
+        | inl same ↦ same
+        | inr other ↦ elim (cases_lt c d) [
+          | inl less ↦ absurd (not_called i o p c d one pc less (omega arith) call again (λ u lt le. still_c u lt (omega arith)))
+          | inr more ↦ absurd (not_called i p o d c one pd (omega arith) (omega arith) again call (λ u lt le. still_d u lt (omega arith)))
+        ]
+      ]
+
+  -- item c called this operation of process i, and it has not ended up to item t
+  pub record UnderCall (i : ℕ) (o : Op) (t : ℕ) : Type 0 where
+    pub call : ℕ
+    pub is : Calls i o call
+    pub first : 0 < call
+    pub order : call ≤ t
+    pub open_still : (u : ℕ) → call < u → u ≤ t → who (item r u) ≡ i → IsEnd (outcome r u) → ⊥
+
+  abbrev pub UnderAt : ℕ → ℕ → Status → Type 0
+  UnderAt i t Idle = Unit {0}
+  UnderAt i t (Busy a) = UnderCall i a.op t
+  UnderAt i t (Trapped cause a) = Unit {0}
+
+  longer : (i t : ℕ) (o : Op) → (who (item r (suc t)) ≡ i → IsEnd (outcome r (suc t)) → ⊥) → UnderCall i o t → UnderCall i o (suc t)
+  longer i t o not_end h = record {
+    call = h.call;
+    is = h.is;
+    first = h.first;
+    order = (let le : h.call ≤ t = h.order in omega arith);
+    open_still = λ u lt le his ends. elim (eq-or-lt_of_le le) [
+      | inl same ↦ not_end (subst (λ y. who (item r y) ≡ i) same his) (subst (λ y. IsEnd (outcome r y)) same ends)
+      | inr less ↦ h.open_still u lt (omega arith) his ends
+    ];
+  }
+
+  longer_at : (i t : ℕ) (s : Status) → (who (item r (suc t)) ≡ i → IsEnd (outcome r (suc t)) → ⊥) → UnderAt i t s → UnderAt i (suc t) s
+  longer_at i t Idle not_end h = tt
+  longer_at i t (Busy a) not_end h = longer i t a.op not_end h
+  longer_at i t (Trapped cause a) not_end h = tt
+
+  next_under : {s s' : Status} {x : Item} {out : Outcome} (i t : ℕ) → Turn s x out s' → item r (suc t) ≡ x → outcome r (suc t) ≡ out →
+      who (item r (suc t)) ≡ i → UnderAt i t s → UnderAt i (suc t) s'
+  next_under i t (skipped s x why) is comes his h = longer_at i t s (λ own ends. subst IsEnd comes ends) h
+  next_under i t (calls k o line) is comes his h =
+      let same : k ≡ i = sym (ap who is) ∙ his in
+      record {
+        call = suc t;
+        is = (is ∙ ap (λ y. Call y o) same, comes);
+        first = omega arith;
+        order = omega arith;
+        open_still = λ u lt le own ends. absurd (omega arith);
+      }
+  next_under i t (goes k a line link) is comes his h = longer i t a.op (λ own ends. subst IsEnd comes ends) h
+  next_under i t (answers k a view e) is comes his h = tt
+  next_under i t (finishes k a word value e) is comes his h = tt
+  next_under i t (traps k a cause) is comes his h = tt
+
+  -- a busy process is under a call
+  pub under : (t i : ℕ) → t ≤ length r.items → IsOneOf r.shape.n i → UnderAt i t (status t i)
+  under zero i h one =
+      subst (UnderAt i 0) (sym (ap (λ (p : Process). p.status) (get_or-replicate r.shape.n (i - 1) (initial_process r.source r.shape) nobody (omega arith)))) tt
+  under (suc t) i h one =
+      elim (cases_eq (who (item r (suc t))) i) [
+        | inl his ↦ next_under i t (turn t i (omega arith) one his) refl refl his (under t i (omega arith) one)
+        | inr other ↦ subst (UnderAt i (suc t)) (sym (other_turn t i (omega arith) one other))
+            (longer_at i t (status t i) (λ own ends. other own) (under t i (omega arith) one))
+      ]
+
+  -- Each answer is the end of a scan that was called.
+  pub answer_ends : (t : ℕ) (view : List ℕ) → t < length r.items → outcome r (suc t) ≡ Answered view →
+      (c : ℕ) × Finished r (who (item r (suc t))) None c (suc t) view
+  answer_ends t view h out =
+      let i = who (item r (suc t)) in
+      let one = item_one t h in
+      let was = is_answered view (turn t i h one refl) out in
+      let u : UnderCall i op.Scan t = subst (λ o. UnderCall i o t) was.2 (subst (UnderAt i t) was.1 (under t i (omega arith) one)) in
+      let le : u.call ≤ t = u.order in (
+        u.call,
+        record {
+          scan = record {
+            process = one;
+            starts = u.is;
+            first = u.first;
+            order = omega arith;
+            last = omega arith;
+            goes_on = λ y v lt less ends. u.open_still y lt (omega arith) ends.0 (subst IsEnd (sym ends.1) tt);
+          };
+          order = omega arith;
+          ends = (refl, out);
+        },
+      )

@@ -1,0 +1,409 @@
+-- Every run that keeps the promises is linearizable: each update at its write, and each scan at its point.
+use Rattle.std.specs.Prelude.{◌≡◌, ℕ, zero, suc, ◌<◌, ◌≤◌, ◌⊎◌, true, List, [], ◌∷◌, ◌++◌, length, Option, Some, None, replicate, map, refl}
+use Rattle.std.specs.List.{AllByRecursion, Contains}
+use Rattle.std.proofs.Common.{sym, ◌∙◌, ap, subst, arith, inl, inr}
+use Rattle.std.proofs.lemmas.Bool.{cases_eq, cases_lt}
+use Rattle.std.proofs.lemmas.List.{length-replicate}
+use Rattle.std.proofs.lemmas.List.Elements.{All-from_recursion, Contains-append_left, Contains-push}
+use Rattle.snap_words.specs.Shape.{Counts, IsOneOf}
+use Rattle.snap_words.specs.Kind.{initial_word}
+use Rattle.snap_words.specs.Word.{Word}
+use Rattle.snap_words.specs.declared.kind.KindTag.{KindTag}
+use Rattle.snap_words.specs.declared.kind.KindTag.TheVariants as kind
+use Rattle.snap_semantics.specs.declared.process.Item.TheVariants.{Call}
+use Rattle.snap_semantics.specs.declared.process.Op.TheVariants as op
+use Rattle.snap_semantics.specs.State.{initial_memory, values}
+use Rattle.snap_runs.specs.Run.{Run, Fits, state, item}
+use Rattle.snap_runs.specs.Scan.{Finished, count}
+use Rattle.snap_runs.specs.Update.{executes, Updating}
+use Rattle.snap_runs.specs.Promises.{ChangesOnlyAt, WritesItsUpdate, WritesOnce, HavePoints}
+use Rattle.snap_runs.specs.Operation.{Action, Sets, Sees, Operation, TookPlace, IsOperation, HasEnded, EndedBefore}
+use Rattle.snap_runs.specs.Linearization.{after, Allows, RunsFrom, IsLinearization, IsLinearizable}
+use Rattle.snap_runs.proofs.Embedding.{map_same}
+use Rattle.snap_runs.proofs.Operations as operations
+use Rattle.snap_runs.proofs.Operations.{count_two, counted_item}
+use Rattle.snap_runs.proofs.Order.{Pairs, Apart, Sooner, all_pairs, all_push, all_weaker, pairs_push, after_all, after_none, after_push, length_after_all, runs_push, keeps_order, sooner_differs, sooner_next, sooner_item, sooner_item_le, sooner_or_here, sooner_before_item}
+
+-- at the start each word is 0
+first_values : (k : KindTag) (shape : Counts) → map (λ (x : Word). x.datum) (initial_memory k shape).words ≡ replicate shape.w 0
+first_values kind.Seq shape = map_same (λ (x : Word). x.datum) shape.w (initial_word kind.Seq shape)
+first_values kind.Bits shape = map_same (λ (x : Word). x.datum) shape.w (initial_word kind.Bits shape)
+first_values kind.Multi shape = map_same (λ (x : Word). x.datum) shape.w (initial_word kind.Multi shape)
+
+-- an operation by its parts
+same_parts : (i i' c c' : ℕ) (end end' : Option ℕ) (a a' : Action) → i ≡ i' → c ≡ c' → end ≡ end' → a ≡ a' →
+    ◌≡◌ {A = Operation} (record { process = i; call = c; end = end; action = a }) (record { process = i'; call = c'; end = end'; action = a' })
+same_parts i i' c c' end end' a a' p q u v =
+    ap (λ y. let o : Operation = record { process = y; call = c; end = end; action = a } in o) p
+    ∙ ap (λ y. let o : Operation = record { process = i'; call = y; end = end; action = a } in o) q
+    ∙ ap (λ y. let o : Operation = record { process = i'; call = c'; end = y; action = a } in o) u
+    ∙ ap (λ y. let o : Operation = record { process = i'; call = c'; end = end'; action = y } in o) v
+
+same_sets : (word word' value value' : ℕ) → word ≡ word' → value ≡ value' → Sets word value ≡ Sets word' value'
+same_sets word word' value value' p q = ap (λ y. Sets y value) p ∙ ap (λ y. Sets word' y) q
+
+module _ (line : ℕ) (r : Run) (fits : Fits r) (changes : ChangesOnlyAt line r) (writes : WritesItsUpdate line r) (once : WritesOnce line r)
+    (points : HavePoints r) where
+  abbrev AnswerAt : ℕ → Type 0
+  AnswerAt e = operations.AnswerAt r line fits changes writes points e
+
+  abbrev NoAnswer : ℕ → Type 0
+  NoAnswer e = operations.NoAnswer r line fits changes writes points e
+
+  abbrev WriteAt : ℕ → Type 0
+  WriteAt t = operations.WriteAt r line fits changes writes points t
+
+  abbrev NoWrite : ℕ → Type 0
+  NoWrite t = operations.NoWrite r line fits changes writes points t
+
+  abbrev answer_at : (e : ℕ) → AnswerAt e ⊎ NoAnswer e
+  answer_at e = operations.answer_at r line fits changes writes points e
+
+  -- the point of the scan that an item answers
+  abbrev point_in : (e : ℕ) → AnswerAt e ⊎ NoAnswer e → ℕ
+  point_in e (inl a) = a.point
+  point_in e (inr never) = 0
+
+  point : ℕ → ℕ
+  point e = point_in e (answer_at e)
+
+  point_is : (e : ℕ) (d : AnswerAt e ⊎ NoAnswer e) → answer_at e ≡ d → point e ≡ point_in e d
+  unfolding point
+  point_is e d is = ap (point_in e) is
+
+  -- Where an operation stands: an update at its write, and a scan at its point, with the number of its answer.
+  abbrev Spot : Action → ℕ → ℕ → Option ℕ → ℕ → ℕ → Type 0
+  Spot (Sets word value) i c end t s = (s ≡ 0) × (c < t) × (executes r i line t ≡ true)
+  Spot (Sees view) i c end t s = (0 < s) × (end ≡ Some s) × (point s ≡ t)
+
+  record Placed (t s : ℕ) (o : Operation) : Type 0 where
+    operation : IsOperation r o
+    called : o.call ≤ t
+    last : t ≤ length r.items
+    open_still : (e : ℕ) → o.end ≡ Some e → t ≤ e
+    spot : Spot o.action o.process o.call o.end t s
+
+  -- an operation has one spot
+  one_write : (i word value c t t' : ℕ) → Updating r i word value c t' → c < t → t < t' → executes r i line t ≡ true → executes r i line t' ≡ true → ⊥
+  one_write i word value c t t' up lt less ex ex' =
+      let two = count_two (executes r i line) c t t' lt less ex ex' in
+      let most : count (executes r i line) c t' ≤ 1 = (once fits i word value c t' up).0 in omega arith
+
+  finished_of : (i c s : ℕ) (end : Option ℕ) (view : List ℕ) → TookPlace r i c end (Sees view) → end ≡ Some s → Finished r i None c s view
+  finished_of i c s (Some e) view took is = let same : e ≡ s = cc in subst (λ y. Finished r i None c y view) same took
+  finished_of i c s None view took is = absurd took
+
+  same_spot : (a a' : Action) (i i' c c' : ℕ) (end end' : Option ℕ) (t t' s s' : ℕ) → TookPlace r i c end a → TookPlace r i' c' end' a' →
+      Spot a i c end t s → Spot a' i' c' end' t' s' → t ≤ length r.items → t' ≤ length r.items →
+      ((e : ℕ) → end ≡ Some e → t ≤ e) → ((e : ℕ) → end' ≡ Some e → t' ≤ e) → c ≡ c' → (t ≡ t') × (s ≡ s')
+  same_spot (Sets word value) (Sets word' value') i i' c c' end end' t t' s s' took took' spot spot' last last' still still' same =
+      let lt : c < t = spot.1 in
+      let lt' : c' < t' = spot'.1 in
+      let up = operations.open_update r i word value c t end took (omega arith) last still in
+      let up' = operations.open_update r i' word' value' c' t' end' took' (omega arith) last' still' in
+      let call : Call i (op.Update word value) ≡ Call i' (op.Update word' value') = sym up.call ∙ ap (item r) same ∙ up'.call in
+      let his : i ≡ i' = cc in
+      let none : s ≡ 0 = spot.0 in
+      let none' : s' ≡ 0 = spot'.0 in (
+        elim (cases_eq t t') [
+          | inl now ↦ now
+          | inr other ↦ elim (cases_lt t t') [
+            | inl less ↦ absurd (one_write i' word' value' c' t t' up' (omega arith) less (subst (λ y. executes r y line t ≡ true) his spot.2) spot'.2)
+            | inr more ↦ absurd (one_write i word value c t' t up (omega arith) (omega arith) (subst (λ y. executes r y line t' ≡ true) (sym his) spot'.2) spot.2)
+          ]
+        ],
+        omega arith,
+      )
+  same_spot (Sets word value) (Sees view') i i' c c' end end' t t' s s' took took' spot spot' last last' still still' same =
+      let lt : c < t = spot.1 in
+      let up = operations.open_update r i word value c t end took (omega arith) last still in
+      let f = finished_of i' c' s' end' view' took' spot'.1 in
+      absurd (let call : Call i (op.Update word value) ≡ Call i' op.Scan = sym up.call ∙ ap (item r) same ∙ f.scan.starts.0 in cc)
+  same_spot (Sees view) (Sets word' value') i i' c c' end end' t t' s s' took took' spot spot' last last' still still' same =
+      let lt' : c' < t' = spot'.1 in
+      let up' = operations.open_update r i' word' value' c' t' end' took' (omega arith) last' still' in
+      let f = finished_of i c s end view took spot.1 in
+      absurd (let call : Call i op.Scan ≡ Call i' (op.Update word' value') = sym f.scan.starts.0 ∙ ap (item r) same ∙ up'.call in cc)
+  same_spot (Sees view) (Sees view') i i' c c' end end' t t' s s' took took' spot spot' last last' still still' same =
+      let f = finished_of i c s end view took spot.1 in
+      let f' = finished_of i' c' s' end' view' took' spot'.1 in
+      let call : Call i op.Scan ≡ Call i' op.Scan = sym f.scan.starts.0 ∙ ap (item r) same ∙ f'.scan.starts.0 in
+      let his : i ≡ i' = cc in
+      let ends : s ≡ s' =
+      operations.same_answer r i' c' s s' view view' (subst (λ y. Finished r i' None y s view) same (subst (λ y. Finished r y None c s view) his f)) f' in
+      (sym spot.2 ∙ ap point ends ∙ spot'.2, ends)
+
+  -- and a spot has one operation
+  same_at : (a a' : Action) (i i' c c' : ℕ) (end end' : Option ℕ) (t s : ℕ) → TookPlace r i c end a → TookPlace r i' c' end' a' → Spot a i c end t s →
+      Spot a' i' c' end' t s → t ≤ length r.items → ((e : ℕ) → end ≡ Some e → t ≤ e) → ((e : ℕ) → end' ≡ Some e → t ≤ e) →
+      (i ≡ i') × (c ≡ c') × (end ≡ end') × (a ≡ a')
+  same_at (Sets word value) (Sets word' value') i i' c c' end end' t s took took' spot spot' last still still' =
+      let lt : c < t = spot.1 in
+      let lt' : c' < t = spot'.1 in
+      let his : i ≡ i' = operations.executes_who r i line t spot.2 ∙ sym (operations.executes_who r i' line t spot'.2) in
+      let his_took : TookPlace r i c' end' (Sets word' value') = subst (λ y. TookPlace r y c' end' (Sets word' value')) (sym his) took' in
+      let up = operations.open_update r i word value c t end took (omega arith) last still in
+      let up' = operations.open_update r i word' value' c' t end' his_took (omega arith) last still' in
+      let same = operations.same_update r fits i word value word' value' c c' t lt lt' up up' in
+      let at_c : TookPlace r i c end' (Sets word' value') = subst (λ y. TookPlace r i y end' (Sets word' value')) (sym same.0) his_took in
+      let at_word : TookPlace r i c end' (Sets word value') = subst (λ y. TookPlace r i c end' (Sets y value')) (sym same.1) at_c in
+      let at_value : TookPlace r i c end' (Sets word value) = subst (λ y. TookPlace r i c end' (Sets word y)) (sym same.2) at_word in
+      (his, same.0, operations.same_end r i word value c end end' took at_value, same_sets word word' value value' same.1 same.2)
+  same_at (Sets word value) (Sees view') i i' c c' end end' t s took took' spot spot' last still still' =
+      absurd (let none : s ≡ 0 = spot.0 in let some : 0 < s = spot'.0 in omega arith)
+  same_at (Sees view) (Sets word' value') i i' c c' end end' t s took took' spot spot' last still still' =
+      absurd (let none : s ≡ 0 = spot'.0 in let some : 0 < s = spot.0 in omega arith)
+  same_at (Sees view) (Sees view') i i' c c' end end' t s took took' spot spot' last still still' =
+      let f = finished_of i c s end view took spot.1 in
+      let f' = finished_of i' c' s end' view' took' spot'.1 in
+      let same = operations.same_scan r fits i i' c c' s view view' f f' in
+      (same.0, same.1, spot.1 ∙ sym spot'.1, ap (λ y. Sees y) same.2)
+
+  same_operation : (o o' : Operation) (t s : ℕ) → Placed t s o → Placed t s o' → o ≡ o'
+  same_operation o o' t s p p' =
+      let same =
+      same_at o.action o'.action o.process o'.process o.call o'.call o.end o'.end t s p.operation p'.operation p.spot p'.spot p.last p.open_still p'.open_still in
+      same_parts o.process o'.process o.call o'.call o.end o'.end o.action o'.action same.0 same.1 same.2 same.3
+
+  apart : (a b : Operation) (t s t' s' : ℕ) → Placed t s a → Placed t' s' b → Sooner t s t' s' → Apart a b
+  apart a b t s t' s' p q sooner = (
+    λ same. let spots =
+        same_spot a.action b.action a.process b.process a.call b.call a.end b.end t t' s s' p.operation q.operation p.spot q.spot p.last q.last p.open_still q.open_still same in
+        sooner_differs t s t' s' sooner spots.0 spots.1,
+    λ ended. let called : a.call ≤ t = p.called in
+        let le : t' ≤ ended.0 = q.open_still ended.0 ended.1 in
+        let lt : ended.0 < a.call = ended.2 in
+        let before : t ≤ t' = sooner_item_le t s t' s' sooner in
+        omega arith,
+  )
+
+  not_ended_before_itself : (o : Operation) (t s : ℕ) → Placed t s o → EndedBefore o o → ⊥
+  not_ended_before_itself o t s p ended =
+      let called : o.call ≤ t = p.called in
+      let le : t ≤ ended.0 = p.open_still ended.0 ended.1 in
+      let lt : ended.0 < o.call = ended.2 in
+      omega arith
+
+  -- no spot is before the first item, and no number past the last
+  first_item : (a : Action) (i c : ℕ) (end : Option ℕ) (t s : ℕ) → TookPlace r i c end a → Spot a i c end t s → c ≤ t → 0 < t
+  first_item (Sets word value) i c end t s took spot le = let lt : c < t = spot.1 in omega arith
+  first_item (Sees view) i c end t s took spot le =
+      let f = finished_of i c s end view took spot.1 in let pos : 0 < c = f.scan.first in omega arith
+
+  last_number : (a : Action) (i c : ℕ) (end : Option ℕ) (t s : ℕ) → TookPlace r i c end a → Spot a i c end t s → s ≤ length r.items
+  last_number (Sets word value) i c end t s took spot = let none : s ≡ 0 = spot.0 in omega arith
+  last_number (Sees view) i c end t s took spot = let f = finished_of i c s end view took spot.1 in f.scan.last
+
+  abbrev zeros : List ℕ
+  zeros = replicate r.shape.w 0
+
+  abbrev Before : ℕ → ℕ → Operation → Type 0
+  Before t s o = (u : ℕ) × (v : ℕ) × Placed u v o × Sooner u v t s
+
+  -- These are the operations before a spot, in their order, and the object of one process has these values after them.
+  record OrderedUpTo (t s : ℕ) (now : List ℕ) (os : List Operation) : Type 0 where
+    placed : AllByRecursion (Before t s) os
+    pairs : Pairs Apart os
+    runs : RunsFrom zeros os
+    leaves : after_all zeros os ≡ now
+    has : (o : Operation) (u v : ℕ) → Placed u v o → Sooner u v t s → Contains os o
+
+  -- the spot is that of an operation, or of none
+  with_operation : (t s : ℕ) (now : List ℕ) (os : List Operation) (o : Operation) → OrderedUpTo t s now os → Placed t s o → Allows now o.action →
+      OrderedUpTo t (suc s) (after now o.action) (os ++ o ∷ [])
+  with_operation t s now os o h p allows = record {
+    placed = all_push (Before t (suc s)) os o
+        (all_weaker (Before t s) (Before t (suc s)) os (λ x b. (b.0, b.1, b.2, sooner_next b.0 b.1 t s b.3)) h.placed)
+        (t, s, p, inr (refl, omega arith));
+    pairs = pairs_push Apart (Before t s) os o (λ x b. apart x o b.0 b.1 t s b.2 p b.3) h.placed h.pairs;
+    runs = runs_push zeros os o h.runs (subst (λ y. Allows y o.action) (sym h.leaves) allows);
+    leaves = after_push zeros os o ∙ ap (λ y. after y o.action) h.leaves;
+    has = λ x u v q sooner. elim (sooner_or_here u v t s sooner) [
+      | inl less ↦ Contains-append_left os (o ∷ []) x (h.has x u v q less)
+      | inr here ↦ (let same : o ≡ x = same_operation o x t s p (subst (λ y. Placed t y x) here.1 (subst (λ y. Placed y v x) here.0 q)) in
+          subst (λ y. Contains (os ++ o ∷ []) y) same (Contains-push os o))
+    ];
+  }
+
+  with_none : (t s : ℕ) (now : List ℕ) (os : List Operation) → OrderedUpTo t s now os → ((o : Operation) → Placed t s o → ⊥) → OrderedUpTo t (suc s) now os
+  with_none t s now os h none = record {
+    placed = all_weaker (Before t s) (Before t (suc s)) os (λ x b. (b.0, b.1, b.2, sooner_next b.0 b.1 t s b.3)) h.placed;
+    pairs = h.pairs;
+    runs = h.runs;
+    leaves = h.leaves;
+    has = λ x u v q sooner. elim (sooner_or_here u v t s sooner) [
+      | inl less ↦ h.has x u v q less
+      | inr here ↦ absurd (none x (subst (λ y. Placed t y x) here.1 (subst (λ y. Placed y v x) here.0 q)))
+    ];
+  }
+
+  -- once all numbers of an item are passed, the next item's come
+  at_next_item : (t : ℕ) (now : List ℕ) (os : List Operation) → OrderedUpTo t (suc (length r.items)) now os → OrderedUpTo (suc t) 0 now os
+  at_next_item t now os h = record {
+    placed = all_weaker (Before t (suc (length r.items))) (Before (suc t) 0) os
+        (λ x b. (b.0, b.1, b.2, sooner_item b.0 b.1 t (suc (length r.items)) b.3)) h.placed;
+    pairs = h.pairs;
+    runs = h.runs;
+    leaves = h.leaves;
+    has = λ x u v q sooner.
+        let most : v ≤ length r.items = last_number x.action x.process x.call x.end u v q.operation q.spot in
+        h.has x u v q (sooner_before_item u v t (length r.items) most sooner);
+  }
+
+  -- whether an operation has a spot at which a scan, or an update, would have one
+  no_scan_in : (t s i c : ℕ) (end : Option ℕ) (a : Action) → ((view : List ℕ) → Finished r i None c (suc s) view → point (suc s) ≡ t → ⊥) →
+      TookPlace r i c end a → Spot a i c end t (suc s) → ⊥
+  no_scan_in t s i c end (Sets word value) none took spot = let zeroed : suc s ≡ 0 = spot.0 in omega arith
+  no_scan_in t s i c end (Sees view) none took spot = none view (finished_of i c (suc s) end view took spot.1) spot.2
+
+  no_scan : (t s : ℕ) → ((i c : ℕ) (view : List ℕ) → Finished r i None c (suc s) view → point (suc s) ≡ t → ⊥) → (o : Operation) → Placed t (suc s) o → ⊥
+  no_scan t s none o p = no_scan_in t s o.process o.call o.end o.action (none o.process o.call) p.operation p.spot
+
+  no_update_in : (t i c : ℕ) (end : Option ℕ) (a : Action) → (executes r i line t ≡ true → ⊥) → Spot a i c end t 0 → ⊥
+  no_update_in t i c end (Sets word value) none spot = none spot.2
+  no_update_in t i c end (Sees view) none spot = let pos : 0 < 0 = spot.0 in omega arith
+
+  -- the scans with their points at an item, by the numbers of their answers
+  scans_at : (t s : ℕ) (os : List Operation) → s ≤ length r.items → OrderedUpTo t 1 (values (state r t)) os →
+      (more : List Operation) × OrderedUpTo t (suc s) (values (state r t)) more
+  scans_at t zero os le h = (os, h)
+  scans_at t (suc s) os le h =
+      let past = scans_at t s os (omega arith) h in decided past.0 past.1 (answer_at (suc s)) refl
+    where
+      decided : (xs : List Operation) → OrderedUpTo t (suc s) (values (state r t)) xs → (d : AnswerAt (suc s) ⊎ NoAnswer (suc s)) → answer_at (suc s) ≡ d →
+          (more : List Operation) × OrderedUpTo t (suc (suc s)) (values (state r t)) more
+      decided xs past (inr never) is = (xs, with_none t (suc s) (values (state r t)) xs past (no_scan t s (λ i c view f here. never i c view f)))
+      decided xs past (inl a) is =
+          let at_point : point (suc s) ≡ a.point = point_is (suc s) (inl a) is in
+          elim (cases_eq a.point t) [
+            | inr other ↦ (xs, with_none t (suc s) (values (state r t)) xs past (no_scan t s (λ i c view f here. other (sym at_point ∙ here))))
+            | inl here ↦ (let o : Operation = record { process = a.process; call = a.call; end = Some (suc s); action = Sees a.view } in
+                let low : a.call ≤ a.point = a.low in
+                let high : a.point ≤ suc s = a.high in
+                let p : Placed t (suc s) o = record {
+                  operation = a.finished;
+                  called = omega arith;
+                  last = omega arith;
+                  open_still = λ e some. let same : suc s ≡ e = cc in omega arith;
+                  spot = (omega arith, refl, at_point ∙ here);
+                } in
+                let sees : a.view ≡ values (state r t) = sym a.held ∙ ap (λ y. values (state r y)) here in
+                (xs ++ o ∷ [], with_operation t (suc s) (values (state r t)) xs o past p sees))
+          ]
+
+  -- the operations up to an item
+  ordered : (t : ℕ) → t ≤ length r.items → (os : List Operation) × OrderedUpTo (suc t) 0 (values (state r t)) os
+  ordered zero h = (
+    [],
+    record {
+      placed = tt;
+      pairs = tt;
+      runs = tt;
+      leaves = after_none zeros ∙ sym (first_values r.source.kind r.shape);
+      has = λ o u v p sooner.
+          let pos : 0 < u = first_item o.action o.process o.call o.end u v p.operation p.spot p.called in
+          absurd (none_before u v sooner pos);
+    },
+  )
+    where
+      none_before : (u v : ℕ) → Sooner u v 1 0 → 0 < u → ⊥
+      none_before u v (inl less) pos = omega arith
+      none_before u v (inr here) pos = let lt : v < 0 = here.1 in omega arith
+  ordered (suc t) h =
+      let past = ordered t (omega arith) in
+      let first = decided past.0 past.1 (operations.write_at r line fits changes writes points t (omega arith)) in
+      let rest = scans_at (suc t) (length r.items) first.0 (omega arith) first.1 in
+      (rest.0, at_next_item (suc t) (values (state r (suc t))) rest.0 rest.1)
+    where
+      decided : (xs : List Operation) → OrderedUpTo (suc t) 0 (values (state r t)) xs → WriteAt (suc t) ⊎ NoWrite (suc t) →
+          (more : List Operation) × OrderedUpTo (suc t) 1 (values (state r (suc t))) more
+      decided xs past (inl w) =
+          let lt : w.call < suc t = w.before_it in
+          let x = operations.update_operation r w.process w.word w.value w.call (suc t) lt w.updating in
+          let o : Operation = record { process = w.process; call = w.call; end = x.end; action = Sets w.word w.value } in
+          let p : Placed (suc t) 0 o = record {
+            operation = x.took_place;
+            called = omega arith;
+            last = h;
+            open_still = x.open_still;
+            spot = (refl, lt, w.executed);
+          } in
+          let count : length (values (state r t)) ≡ r.shape.w =
+          ap length (sym past.leaves) ∙ length_after_all zeros xs ∙ length-replicate r.shape.w 0 in
+          let is_word : IsOneOf r.shape.w w.word = w.is_word in
+          let sets : IsOneOf (length (values (state r t))) w.word = subst (λ y. IsOneOf y w.word) (sym count) is_word in
+          (xs ++ o ∷ [], subst (λ y. OrderedUpTo (suc t) 1 y (xs ++ o ∷ [])) (sym w.written) (with_operation (suc t) 0 (values (state r t)) xs o past p sets))
+      decided xs past (inr never) =
+          (xs, subst (λ y. OrderedUpTo (suc t) 1 y xs) (sym never.kept) (with_none (suc t) 0 (values (state r t)) xs past (λ o p. no_update_in (suc t) o.process o.call o.end o.action (never.none o.process) p.spot)))
+
+  -- an operation that has ended has a spot
+  spot_of : (a : Action) (i c e : ℕ) → TookPlace r i c (Some e) a →
+      (t : ℕ) × (s : ℕ) × Placed t s (record { process = i; call = c; end = Some e; action = a })
+  spot_of (Sets word value) i c e took =
+      let up = took.0 in
+      let counted : count (executes r i line) c e ≡ 1 = (once fits i word value c e up).1 took.1 took.2 in
+      let w = counted_item (executes r i line) c e (omega arith) in
+      let lt : c < w.0 = w.1 in
+      let le : w.0 ≤ e = w.2 in
+      let last : e ≤ length r.items = up.last in (
+        w.0,
+        0,
+        record {
+          operation = took;
+          called = omega arith;
+          last = omega arith;
+          open_still = λ u is. let same : e ≡ u = cc in omega arith;
+          spot = (refl, lt, w.3);
+        },
+      )
+  spot_of (Sees view) i c e took = decided (answer_at e) refl
+    where
+      decided : (d : AnswerAt e ⊎ NoAnswer e) → answer_at e ≡ d →
+          (t : ℕ) × (s : ℕ) × Placed t s (record { process = i; call = c; end = Some e; action = Sees view })
+      decided (inr never) is = absurd (never i c view took)
+      decided (inl a) is =
+          let same = operations.same_scan r fits i a.process c a.call e view a.view took a.finished in
+          let at_call : c ≡ a.call = same.1 in
+          let low : a.call ≤ a.point = a.low in
+          let high : a.point ≤ e = a.high in
+          let last : e ≤ length r.items = took.scan.last in
+          let lt : c < e = took.order in (
+            a.point,
+            e,
+            record {
+              operation = took;
+              called = omega arith;
+              last = omega arith;
+              open_still = λ u some. let ends : e ≡ u = cc in omega arith;
+              spot = (omega arith, refl, point_is e (inl a) is);
+            },
+          )
+
+  complete : (os : List Operation) → OrderedUpTo (suc (length r.items)) 0 (values (state r (length r.items))) os → (o : Operation) → IsOperation r o →
+      HasEnded o → Contains os o
+  complete os h o took ended =
+      let its : TookPlace r o.process o.call (Some ended.0) o.action = subst (λ y. TookPlace r o.process o.call y o.action) ended.1 took in
+      let p = spot_of o.action o.process o.call ended.0 its in
+      let last : p.0 ≤ length r.items = p.2.last in
+      subst (λ y. Contains os (record { process = o.process; call = o.call; end = y; action = o.action })) (sym ended.1)
+      (h.has (record { process = o.process; call = o.call; end = Some ended.0; action = o.action }) p.0 p.1 p.2 (inl (omega arith)))
+
+  linearization : (os : List Operation) × IsLinearization r os
+  linearization =
+      let x = ordered (length r.items) (omega arith) in
+      let os = x.0 in
+      let h = x.1 in
+      let t = suc (length r.items) in (
+        os,
+        record {
+          took_place = All-from_recursion (IsOperation r) os (all_weaker (Before t 0) (IsOperation r) os (λ o b. b.2.operation) h.placed);
+          once = λ i j d lt short. (all_pairs Apart os h.pairs i j d lt short).0;
+          complete = complete os h;
+          order = keeps_order os
+              (all_weaker (Before t 0) (λ o. EndedBefore o o → ⊥) os (λ o b. not_ended_before_itself o b.0 b.1 b.2) h.placed) h.pairs;
+          runs = h.runs;
+        },
+      )
+
+pub linearizable : (line : ℕ) (r : Run) → ChangesOnlyAt line r → WritesItsUpdate line r → WritesOnce line r → HavePoints r → IsLinearizable r
+linearizable line r changes writes once points fits = linearization line r fits changes writes once points

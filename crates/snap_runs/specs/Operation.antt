@@ -1,0 +1,40 @@
+-- The operations of a run: what each process was asked for, from the call to the end.
+use Rattle.std.specs.Prelude.{◌≡◌, ℕ, ◌<◌, List, length, Option, Some, None}
+use Rattle.snap_runs.specs.Run.{Run}
+use Rattle.snap_runs.specs.Scan.{Finished}
+use Rattle.snap_runs.specs.Update.{IsDone, Updating}
+
+-- what an operation does: an update sets a word to a value, a scan sees a view
+pub data Action : Type 0 where
+  Sets : (word value : ℕ) → Action
+  Sees : (view : List ℕ) → Action
+
+-- An operation: the process that called it, the item of the call, the item of the end, where it has ended, and what it does.
+pub record Operation : Type 0 where
+  pub process : ℕ
+  pub call : ℕ
+  pub end : Option ℕ
+  pub action : Action
+
+-- Process i called such an operation at item c, and it ended so.
+abbrev pub TookPlace : Run → ℕ → ℕ → Option ℕ → Action → Type 0
+-- an update, which was done at item e
+TookPlace r i c (Some e) (Sets word value) = Updating r i word value c e × (c < e) × IsDone r i e
+-- an update, which is not done by the end of the run
+TookPlace r i c None (Sets word value) = Updating r i word value c (length r.items) × (IsDone r i (length r.items) → ⊥)
+-- a scan, which answered this view at item e
+TookPlace r i c (Some e) (Sees view) = Finished r i None c e view
+-- a scan that has not ended has seen no view yet
+TookPlace r i c None (Sees view) = ⊥
+
+-- It is an operation of this run. A scan that is embedded in an update is none.
+abbrev pub IsOperation : Run → Operation → Type 0
+IsOperation r o = TookPlace r o.process o.call o.end o.action
+
+-- It ended at some item.
+abbrev pub HasEnded : Operation → Type 0
+HasEnded o = (e : ℕ) × (o.end ≡ Some e)
+
+-- The first one ended before the second one was called.
+abbrev pub EndedBefore : Operation → Operation → Type 0
+EndedBefore first second = (e : ℕ) × (first.end ≡ Some e) × (e < second.call)

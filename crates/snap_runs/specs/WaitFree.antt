@@ -1,0 +1,18 @@
+-- Wait-free: a call is over after so many turns of its own process, whatever the others do or stop doing.
+use Rattle.std.specs.Prelude.{ℕ, ◌≤◌, None}
+use Rattle.snap_runs.specs.Run.{Run, Fits, item}
+use Rattle.snap_runs.specs.Scan.{Scan, count, steps}
+use Rattle.snap_runs.specs.Update.{Updating}
+
+-- how many turns process i gets after item c and up to item e: its steps, skipped or not
+abbrev pub turns : Run → ℕ → ℕ → ℕ → ℕ
+turns r i = count (λ t. steps i (item r t))
+
+-- A call that has not ended before item e has had at most so many turns up to item e. A turn that is skipped counts, so that a
+-- process that trapped or that stands still for ever would not keep this.
+pub record KeepsGoing (scan_turns update_turns : ℕ) (r : Run) : Type 0 where
+  pub scans : (i c e : ℕ) → Scan r i None c e → turns r i c e ≤ scan_turns
+  pub updates : (i word value c e : ℕ) → Updating r i word value c e → turns r i c e ≤ update_turns
+
+abbrev pub IsWaitFree : ℕ → ℕ → Run → Type 0
+IsWaitFree scan_turns update_turns r = Fits r → KeepsGoing scan_turns update_turns r

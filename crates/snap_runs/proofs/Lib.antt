@@ -25,3 +25,5 @@ pub mod Calls
 pub mod Operations
 pub mod Order
 pub mod Linear
+pub mod OneItem
+pub mod Audits

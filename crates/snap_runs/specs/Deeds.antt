@@ -1,0 +1,59 @@
+-- What a line does, as far as a history of a run has to know.
+use Rattle.std.specs.Prelude.{ℕ, Bool, true, false, List, [], Option, Some, None}
+use Rattle.snap_semantics.specs.Source.{Source, instr_at}
+use Rattle.snap_semantics.specs.State.{Locals, State, process_at, value_at}
+use Rattle.snap_semantics.specs.declared.instr.Instr.{Instr}
+use Rattle.snap_semantics.specs.declared.instr.Instr.TheVariants.{Put, IfAll, Return}
+use Rattle.snap_semantics.specs.declared.process.Activity.{Activity}
+use Rattle.snap_semantics.specs.declared.process.Item.{Item}
+use Rattle.snap_semantics.specs.declared.process.Item.TheVariants.{Step, Call}
+use Rattle.snap_semantics.specs.declared.process.Op.{Op}
+use Rattle.snap_semantics.specs.declared.process.Op.TheVariants.{Scan, Update}
+use Rattle.snap_semantics.specs.declared.process.Status.{Status}
+use Rattle.snap_semantics.specs.declared.process.Status.TheVariants.{Idle, Busy, Trapped}
+
+-- a line that writes a word, one that tests for all, one that answers a scan with this view, or another
+pub data Deed : Type 0 where
+  Write : Deed
+  Test : Deed
+  Answer : (view : List ℕ) → Deed
+  Nothing : Deed
+
+-- what a line `return` does with its view
+abbrev pub returned : List ℕ → Op → Option ℕ → Deed
+returned view Scan None = Answer view
+returned view Scan (Some link) = Nothing
+returned view (Update word value) link = Nothing
+
+-- what a line does
+abbrev pub line_deed : Activity → Locals → Instr → Deed
+line_deed a l (Put i t) = Write
+line_deed a l (IfAll g k target) = Test
+line_deed a l (Return x) = returned (value_at x l.views []) a.op a.link
+line_deed a l _ = Nothing
+
+-- what the line does at which a process stands
+abbrev pub deed_at : Activity → Locals → Option Instr → Deed
+deed_at a l None = Nothing
+deed_at a l (Some i) = line_deed a l i
+
+-- what a step does to a process of this status
+abbrev pub deed_in : Source → Locals → Status → Deed
+deed_in s l Idle = Nothing
+deed_in s l (Busy a) = deed_at a l (instr_at s.lines a.line)
+deed_in s l (Trapped cause a) = Nothing
+
+-- what an item does in a state
+abbrev pub deed_of : Source → State → Item → Deed
+deed_of s S (Step i) = deed_in s (process_at S i).locals (process_at S i).status
+deed_of s S (Call i op) = Nothing
+
+-- a line that tests for all
+abbrev pub is_test : Deed → Bool
+is_test Test = true
+is_test _ = false
+
+-- a line that writes a word
+abbrev pub is_write : Deed → Bool
+is_write Write = true
+is_write _ = false

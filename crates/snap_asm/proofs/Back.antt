@@ -10,7 +10,7 @@ use Rattle.snap_semantics.specs.Image.{image_of}
 use Rattle.snap_semantics.specs.ImageListing.{listing_of_image}
 use Rattle.snap_semantics.specs.Listing.{listing_of}
 use Rattle.snap_semantics.specs.Source.{Source}
-use Rattle.snap_listing.specs.Laws.{ReadsOnlySpelled, ReadsPrinted}
+use Rattle.snap_grammar.specs.Laws.{ReadsOnlySpelled, ReadsPrinted}
 use Rattle.snap_image.specs.Laws.{DecodesAllImages}
 use Rattle.snap_asm.specs.Laws.{KeepsCanonical, ListsBack}
 

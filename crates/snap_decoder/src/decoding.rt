@@ -6,14 +6,15 @@ ghost use Rattle.snap_semantics.specs.ImageListing.{new_number, line_in, lines_i
 ghost use Rattle.snap_semantics.specs.IsListing.{IsListing};
 ghost use Rattle.snap_semantics.specs.Listing.{checked_targets, line_targets};
 ghost use Rattle.snap_semantics.specs.Source.{Source};
-ghost use Rattle.snap_listing.specs.Fields.{header_source};
-ghost use Rattle.snap_codes.specs.Reads.{Reads};
+ghost use Rattle.snap_source.specs.Fields.{header_source};
+ghost use Rattle.snap_image_codes.specs.Reads.{Reads};
 ghost use Rattle.snap_decoder.specs.Reading.{added_line};
 
 use crate::fault::ImageFault;
 use crate::head::head;
-use snap_codes::Cursor;
-use snap_listing::{Header, Listing, checked_target, checked_targets, is_line_number, push_line};
+use snap_image_codes::Cursor;
+use snap_source::{Header, Listing, checked_target, checked_targets, push_line_copy};
+use snap_terms::is_line_number;
 use snap_operands::instr;
 use snap_semantics::{ImageRefusal, Line, ListingRefusal};
 use std::alloc::Global;
@@ -59,7 +60,7 @@ fn add_line(
 {
     match line_at(header, line, last, cursor) {
         Ok(found) => {
-            push_line(lines, &found)?;
+            push_line_copy(lines, &found)?;
             Ok(found.number)
         }
         Err(refusal) => Err(ImageFault::Refused(refusal)),

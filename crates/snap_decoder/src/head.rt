@@ -3,13 +3,14 @@ ghost use Rattle.std.specs.Prelude.{◌≡◌, ◌≤◌, [], ◌++◌, IfOk};
 ghost use Rattle.snap_semantics.specs.Answers.{Answers};
 ghost use Rattle.snap_semantics.specs.ImageListing.{version_in, letter, letters_in, length_in, new_name, name_in, names_in, few_names, table_in, line_count_in, head_in};
 ghost use Rattle.snap_semantics.specs.Uses.{is_among};
-ghost use Rattle.snap_listing.specs.Fields.{header_source};
+ghost use Rattle.snap_source.specs.Fields.{header_source};
 ghost use Rattle.snap_decoder.specs.Head.{known_names};
-ghost use Rattle.snap_codes.specs.Reads.{Passes, Reads};
+ghost use Rattle.snap_image_codes.specs.Reads.{Passes, Reads};
 
 use crate::fault::ImageFault;
-use snap_codes::Cursor;
-use snap_listing::{Header, is_among, is_reserved};
+use snap_image_codes::Cursor;
+use snap_source::{Header, is_among};
+use snap_terms::is_reserved;
 use snap_semantics::{ImageRefusal, ListingRefusal, Name};
 use snap_words::KindTag;
 use std::alloc::Global;

@@ -28,7 +28,7 @@ use Rattle.snap_semantics.specs.RightUses.{IsRight}
 use Rattle.snap_semantics.specs.Source.{Name, Source}
 use Rattle.snap_semantics.specs.Uses.{Use, FieldUse, HandUse, index_uses, term_uses, expr_uses, comparison_uses, condition_uses, where_uses}
 use Rattle.snap_image_laws.proofs.AgainParts.{Gives, then_gives, then_done, gives_if, byte_again, long_again, known_again, code_again, scalar_again, row_again, words_again, Right, allowed_again}
-use Rattle.snap_listing.proofs.Alls.{all_first, all_rest}
+use Rattle.snap_grammar.proofs.Alls.{all_first, all_rest}
 
 -- what stands before the lines of a listing; with it they are read
 abbrev pub head : Source → Source

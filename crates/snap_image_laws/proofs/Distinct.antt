@@ -9,7 +9,7 @@ use Rattle.snap_semantics.specs.Listing.{all_names}
 use Rattle.snap_semantics.specs.ListingForms.{is_reserved}
 use Rattle.snap_semantics.specs.Source.{Name, Source}
 use Rattle.snap_semantics.specs.Uses.{is_among}
-use Rattle.snap_listing.proofs.DistinctNames.{distinct_snoc}
+use Rattle.snap_grammar.proofs.DistinctNames.{distinct_snoc}
 use Rattle.snap_image_laws.proofs.Parts.{Holds, then_with, then_any, holds_if}
 
 abbrev IsNew : List Name → Name → Unit {0} → Type 0

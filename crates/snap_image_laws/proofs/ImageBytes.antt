@@ -38,7 +38,7 @@ use Rattle.snap_image_laws.specs.Fits.{IsTable}
 use Rattle.snap_image_laws.specs.Laws.{AreBytes, ImagesAreBytes}
 use Rattle.snap_image_laws.proofs.Slots.{slot_within}
 use Rattle.snap_image_laws.proofs.Tables.{Tables, tables_of, short_name}
-use Rattle.snap_listing.proofs.Alls.{all_both}
+use Rattle.snap_grammar.proofs.Alls.{all_both}
 
 abbrev IsByte : ℕ → Type 0
 IsByte b = b < 256

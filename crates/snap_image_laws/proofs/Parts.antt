@@ -15,7 +15,7 @@ use Rattle.snap_semantics.specs.RightUses.{IsRight}
 use Rattle.snap_semantics.specs.Source.{Name, Source}
 use Rattle.snap_semantics.specs.Uses.{Use, Named}
 use Rattle.snap_image_laws.specs.Laws.{AreBytes}
-use Rattle.snap_listing.proofs.Alls.{all_both}
+use Rattle.snap_grammar.proofs.Alls.{all_both}
 
 -- what holds of what is read, where something is
 abbrev pub Holds : {A : Type 0} → (A → Type 0) → Result A ImageRefusal → Type 0

@@ -24,7 +24,7 @@ use Rattle.snap_semantics.specs.Source.{Name, Source}
 use Rattle.snap_semantics.specs.Token.{is_letter}
 use Rattle.snap_semantics.specs.Uses.{is_among}
 use Rattle.snap_image_laws.specs.Laws.{AreBytes, DecodesOnlyImages}
-use Rattle.snap_listing.proofs.Alls.{all_both}
+use Rattle.snap_grammar.proofs.Alls.{all_both}
 use Rattle.snap_image_laws.proofs.Parts.{Holds, then_with, holds_as, holds_of, holds_if, Part, U, both, skip, reformed, ByteIs, byte_is, CodeIs, code_is, ShortIs, short_is}
 use Rattle.snap_image_laws.proofs.Distinct.{head_distinct}
 use Rattle.snap_image_laws.proofs.SaidForms.{Slots, behind}

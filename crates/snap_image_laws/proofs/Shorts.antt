@@ -8,7 +8,7 @@ use Rattle.snap_semantics.specs.Listing.{has_line, instr_targets, line_targets}
 use Rattle.snap_semantics.specs.ListingForms.{is_line_number}
 use Rattle.snap_semantics.specs.Source.{Source}
 use Rattle.snap_image_laws.specs.Fits.{IsShort, HasShortNumbers}
-use Rattle.snap_listing.proofs.Alls.{all_first, all_rest}
+use Rattle.snap_grammar.proofs.Alls.{all_first, all_rest}
 
 pub short_number : (k : ℕ) → is_line_number k ≡ true → IsShort k
 short_number k e = grind (arith, e)

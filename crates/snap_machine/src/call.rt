@@ -6,7 +6,7 @@ ghost use Rattle.snap_semantics.specs.declared.process.Item.TheVariants as item;
 ghost use Rattle.snap_values.specs.Seen.{seen_process, seen_state};
 ghost use Rattle.snap_lines.specs.Sizes.{AllSized};
 
-use snap_listing::Listing;
+use snap_source::Listing;
 use snap_regs::Registers;
 use snap_semantics::{Activity, Op, Outcome, Reason, Status};
 use snap_values::Process;

@@ -1,12 +1,12 @@
 //! Comparisons and conditions of an image.
 ghost use Rattle.std.specs.Prelude.{◌≡◌};
 ghost use Rattle.snap_semantics.specs.ImageForms.{comparison_in, one_in, two_in, three_in, four_in, comparisons_in, condition_in, where_of_flag, where_in};
-ghost use Rattle.snap_listing.specs.Fields.{header_source};
-ghost use Rattle.snap_codes.specs.Reads.{Reads};
+ghost use Rattle.snap_source.specs.Fields.{header_source};
+ghost use Rattle.snap_image_codes.specs.Reads.{Reads};
 
 use crate::terms::term;
-use snap_codes::Cursor;
-use snap_listing::Header;
+use snap_image_codes::Cursor;
+use snap_source::Header;
 use snap_semantics::{Comparison, Condition, ImageRefusal, Join, Relation};
 
 /// A comparison.

@@ -2,14 +2,14 @@
 ghost use Rattle.std.specs.Prelude.{◌≡◌};
 ghost use Rattle.snap_semantics.specs.ImageForms.{allowed};
 ghost use Rattle.snap_semantics.specs.ImageInstrs.{form_uses, let_in, let_place_in, get_in, bit_in, look_in, put_seq_in, put_bits_in, put_multi_in, put_bit_in, put_view_in, view_data_in, view_of_in, each_in, first_in, next_in, if_in, if_all_in, goto_in, call_in, return_in, operands_in, instr_in};
-ghost use Rattle.snap_listing.specs.Fields.{header_source};
-ghost use Rattle.snap_codes.specs.Reads.{Reads};
+ghost use Rattle.snap_source.specs.Fields.{header_source};
+ghost use Rattle.snap_image_codes.specs.Reads.{Reads};
 ghost use Rattle.snap_operands.specs.HasForm.{has_form};
 
 use crate::conditions::{condition, optional_condition};
 use crate::terms::{expr, index};
-use snap_codes::Cursor;
-use snap_listing::{Header, has_bank, has_view, same_kind};
+use snap_image_codes::Cursor;
+use snap_source::{Header, has_bank, has_view, same_kind};
 use snap_semantics::{BitBank, Form, ImageRefusal, Instr, ListingRefusal, Range, Tuple};
 use snap_words::{Bank, KindTag};
 

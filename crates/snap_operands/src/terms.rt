@@ -2,11 +2,11 @@
 ghost use Rattle.std.specs.Prelude.{◌≡◌, [], ◌∷◌};
 ghost use Rattle.snap_semantics.specs.ImageForms.{allowed, number_index, scalar_index, index_of_tag, index_in, row_term, field_term, hand_term, index_term, term_of_tag, term_in, plain_expr, sum_expr, not_expr, expr_of_tag, expr_in};
 ghost use Rattle.snap_semantics.specs.Uses.{FieldUse, HandUse};
-ghost use Rattle.snap_listing.specs.Fields.{header_source};
-ghost use Rattle.snap_codes.specs.Reads.{Reads};
+ghost use Rattle.snap_source.specs.Fields.{header_source};
+ghost use Rattle.snap_image_codes.specs.Reads.{Reads};
 
-use snap_codes::Cursor;
-use snap_listing::{Header, has_field, has_hands};
+use snap_image_codes::Cursor;
+use snap_source::{Header, has_field, has_hands};
 use snap_semantics::{Expr, ExprTag, ImageRefusal, Index, ListingRefusal, Term, TermTag};
 use snap_words::Field;
 

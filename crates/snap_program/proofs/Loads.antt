@@ -10,7 +10,7 @@ use Rattle.snap_semantics.specs.declared.refusal.ImageRefusal.{ImageRefusal}
 use Rattle.snap_semantics.specs.declared.refusal.ListingRefusal.{ListingRefusal}
 use Rattle.snap_semantics.specs.declared.refusal.Refusal.{Refusal}
 use Rattle.snap_semantics.specs.declared.refusal.Refusal.TheVariants as refusal
-use Rattle.snap_listing.specs.Laws.{ReadsOnlySpelled}
+use Rattle.snap_grammar.specs.Laws.{ReadsOnlySpelled}
 use Rattle.snap_image.specs.Laws.{DecodesAllImages}
 use Rattle.snap_semantics.specs.declared.fault.Fault.{Fault}
 use Rattle.snap_semantics.specs.declared.fault.Fault.TheVariants as fault

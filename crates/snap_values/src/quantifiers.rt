@@ -10,7 +10,7 @@ use crate::context::Context;
 use crate::locals::row;
 use crate::process::Process;
 use crate::value::{condition_holds, expr_value, joined, number_at};
-use snap_listing::Listing;
+use snap_source::Listing;
 use snap_semantics::{Cause, Condition, Expr, Join, Name, Range};
 use snap_words::{Kind, Shape};
 

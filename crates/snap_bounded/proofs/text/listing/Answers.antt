@@ -1,4 +1,4 @@
-use Rattle.snap_listing.proofs.KnownTexts.{is_listing_text, if_read}
+use Rattle.snap_reader.proofs.KnownTexts.{is_listing_text, if_read}
 use Rattle.snap_runs_of_b.specs.ListingB.{listing_b}
 use Rattle.snap_bounded.proofs.TextOfB.{text, text_is_b}
 use Rattle.snap_bounded.proofs.text.listing.Goals as goal

@@ -1,7 +1,7 @@
 use Rattle.std.proofs.Common.{◌≡◌, List, ◌∷◌, Ok, sym, subst}
 use Rattle.snap_semantics.specs.declared.instr.Line.{Line}
 use Rattle.snap_semantics.specs.Listing.{checked_targets, line_targets}
-use Rattle.snap_listing.specs.Fields.{header_source}
+use Rattle.snap_source.specs.Fields.{header_source}
 use Rattle.snap_image_laws.proofs.SaidListing.{decoded_is_listing}
 use Rattle.snap_decoder.proofs.decoding.decoded.Goals as goal
 

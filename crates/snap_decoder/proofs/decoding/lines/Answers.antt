@@ -2,7 +2,7 @@ use Rattle.std.proofs.Common.{sym, ◌∙◌, arith}
 use Rattle.std.proofs.lemmas.Grind.{common_steps}
 use Rattle.snap_semantics.specs.Answers.{IsRefusal}
 use Rattle.snap_semantics.specs.ImageListing.{lines_in}
-use Rattle.snap_listing.specs.Fields.{header_source}
+use Rattle.snap_source.specs.Fields.{header_source}
 use Rattle.snap_decoder.proofs.Lines.{lines_step, fault_stops, lines_end}
 use Rattle.snap_decoder.proofs.decoding.lines.Goals as goal
 

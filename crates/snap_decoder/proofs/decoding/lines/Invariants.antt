@@ -1,6 +1,6 @@
 use Rattle.std.proofs.Common.{◌≡◌, ◌+◌, ◌-◌}
 use Rattle.snap_semantics.specs.ImageListing.{lines_in}
-use Rattle.snap_listing.specs.Fields.{header_source}
+use Rattle.snap_source.specs.Fields.{header_source}
 use Rattle.snap_decoder.specs.Reading.{onto}
 use Rattle.snap_decoder.proofs.decoding.lines.Given as goal
 

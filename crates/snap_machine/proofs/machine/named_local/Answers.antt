@@ -1,5 +1,5 @@
 use Rattle.std.proofs.Common.{◌∙◌}
-use Rattle.snap_asm.specs.Slot.{names_of}
+use Rattle.snap_code.specs.Slot.{names_of}
 use Rattle.snap_machine.specs.Reading.{seen_local}
 use Rattle.snap_machine.proofs.Numbered.{few, numbered_there, numbered_without_name, numbered_without_value}
 use Rattle.snap_machine.proofs.machine.named_local.Goals as goal

@@ -1,4 +1,4 @@
-use Rattle.snap_listing.proofs.KnownTexts.{is_listing_text, if_read}
+use Rattle.snap_reader.proofs.KnownTexts.{is_listing_text, if_read}
 use Rattle.snap_runs_of_m.specs.ListingM.{listing_m}
 use Rattle.snap_multi.proofs.TextOfM.{text, text_is_m}
 use Rattle.snap_multi.proofs.text.listing.Goals as goal

@@ -1,4 +1,4 @@
-use Rattle.snap_listing.proofs.KnownTexts.{is_listing_text, if_read}
+use Rattle.snap_reader.proofs.KnownTexts.{is_listing_text, if_read}
 use Rattle.snap_runs_of_u.specs.ListingU.{listing_u}
 use Rattle.snap_single.proofs.TextOfU.{text, text_is_u}
 use Rattle.snap_single.proofs.text.listing.Goals as goal

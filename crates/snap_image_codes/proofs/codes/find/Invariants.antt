@@ -1,6 +1,6 @@
 use Rattle.std.proofs.Common.{◌≡◌, drop}
 use Rattle.snap_semantics.specs.ImageCodes.{coded}
-use Rattle.snap_codes.proofs.codes.find.Given as goal
+use Rattle.snap_image_codes.proofs.codes.find.Given as goal
 
 abbrev pub invariant-loop-value : goal.invariant-loop-value
 invariant-loop-value g l = coded g.T.Coded.table.code (drop l.value-index l.all) l.code ≡ coded g.T.Coded.table.code l.all l.code

@@ -2,7 +2,7 @@
 ghost use Rattle.std.specs.Prelude.{◌≡◌, Bool, if◌then◌else◌};
 ghost use Rattle.snap_semantics.specs.ImageForms.{byte_in, bytes_in, short_in, long_in, code_in, slot_in, count_in, flag_in};
 ghost use Rattle.snap_semantics.specs.ImageListing.{signature_in, ended};
-ghost use Rattle.snap_codes.specs.Reads.{Reads};
+ghost use Rattle.snap_image_codes.specs.Reads.{Reads};
 
 use crate::codes::{Coded, with_code};
 use snap_semantics::{ImageRefusal, ListingRefusal, Name};

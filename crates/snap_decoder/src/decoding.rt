@@ -13,10 +13,10 @@ ghost use Rattle.snap_decoder.specs.Reading.{added_line};
 use crate::fault::ImageFault;
 use crate::head::head;
 use snap_image_codes::Cursor;
-use snap_source::{Header, Listing, checked_target, checked_targets, push_line_copy};
-use snap_terms::is_line_number;
 use snap_operands::instr;
 use snap_semantics::{ImageRefusal, Line, ListingRefusal};
+use snap_source::{Header, Listing, checked_target, checked_targets, push_line_copy};
+use snap_terms::is_line_number;
 use std::alloc::Global;
 
 /// A line number above the last one.

@@ -9,9 +9,9 @@ ghost use Rattle.snap_image_codes.specs.Reads.{Passes, Reads};
 
 use crate::fault::ImageFault;
 use snap_image_codes::Cursor;
+use snap_semantics::{ImageRefusal, ListingRefusal, Name};
 use snap_source::{Header, is_among};
 use snap_terms::is_reserved;
-use snap_semantics::{ImageRefusal, ListingRefusal, Name};
 use snap_words::KindTag;
 use std::alloc::Global;
 

@@ -4,9 +4,9 @@ ghost use Rattle.snap_semantics.specs.Source.{following};
 ghost use Rattle.snap_lines.specs.Lines.{cause_of, next_line};
 ghost use Rattle.snap_lines.specs.declared.lines.Halt.TheVariants.{Trap, NoMemory};
 
-use snap_source::Listing;
 use snap_regs::RegisterFault;
 use snap_semantics::Cause;
+use snap_source::Listing;
 use snap_values::Context;
 use snap_words::View;
 use std::alloc::AllocError;

@@ -10,8 +10,8 @@ ghost use Rattle.snap_values.specs.Seen.{seen_context};
 
 use crate::lines::Halt;
 use crate::local_lines::copy_of;
-use snap_source::Listing;
 use snap_semantics::{BitBank, Cause, Tuple};
+use snap_source::Listing;
 use snap_values::{Context, Process, expr_value, row, view};
 use snap_words::{Address, Bank, Kind, Parts, Shape};
 use std::alloc::Global;

@@ -5,8 +5,8 @@ ghost use Rattle.snap_lines.specs.Rows.{new_row, items_of};
 ghost use Rattle.snap_values.specs.Seen.{seen_context};
 
 use crate::lines::Halt;
-use snap_source::Listing;
 use snap_semantics::{Condition, Expr, Name};
+use snap_source::Listing;
 use snap_values::{Context, Process, row, row_value};
 use snap_words::Kind;
 use std::alloc::{AllocError, Global};

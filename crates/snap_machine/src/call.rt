@@ -6,9 +6,9 @@ ghost use Rattle.snap_semantics.specs.declared.process.Item.TheVariants as item;
 ghost use Rattle.snap_values.specs.Seen.{seen_process, seen_state};
 ghost use Rattle.snap_lines.specs.Sizes.{AllSized};
 
-use snap_source::Listing;
 use snap_regs::Registers;
 use snap_semantics::{Activity, Op, Outcome, Reason, Status};
+use snap_source::Listing;
 use snap_values::Process;
 use snap_words::{Kind, KindTag, Shape};
 

@@ -5,8 +5,8 @@ ghost use Rattle.snap_words.specs.Shape.{places};
 ghost use Rattle.snap_semantics.specs.State.{initial_process};
 ghost use Rattle.snap_values.specs.Seen.{seen_process};
 
-use snap_source::Listing;
 use snap_semantics::Status;
+use snap_source::Listing;
 use snap_values::{Process, places};
 use snap_words::{Kind, Shape, View};
 use std::alloc::{AllocError, Global};

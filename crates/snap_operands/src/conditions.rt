@@ -6,8 +6,8 @@ ghost use Rattle.snap_image_codes.specs.Reads.{Reads};
 
 use crate::terms::term;
 use snap_image_codes::Cursor;
-use snap_source::Header;
 use snap_semantics::{Comparison, Condition, ImageRefusal, Join, Relation};
+use snap_source::Header;
 
 /// A comparison.
 #[tactic(auto, unfolding(snap_semantics::specs::ImageForms::comparison_in))]

@@ -9,8 +9,8 @@ ghost use Rattle.snap_operands.specs.HasForm.{has_form};
 use crate::conditions::{condition, optional_condition};
 use crate::terms::{expr, index};
 use snap_image_codes::Cursor;
-use snap_source::{Header, has_bank, has_view, same_kind};
 use snap_semantics::{BitBank, Form, ImageRefusal, Instr, ListingRefusal, Range, Tuple};
+use snap_source::{Header, has_bank, has_view, same_kind};
 use snap_words::{Bank, KindTag};
 
 /// `let X = E`.

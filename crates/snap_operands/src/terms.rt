@@ -6,8 +6,8 @@ ghost use Rattle.snap_source.specs.Fields.{header_source};
 ghost use Rattle.snap_image_codes.specs.Reads.{Reads};
 
 use snap_image_codes::Cursor;
-use snap_source::{Header, has_field, has_hands};
 use snap_semantics::{Expr, ExprTag, ImageRefusal, Index, ListingRefusal, Term, TermTag};
+use snap_source::{Header, has_field, has_hands};
 use snap_words::Field;
 
 /// A number as an index.

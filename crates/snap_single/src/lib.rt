@@ -4,6 +4,7 @@
 mod text;
 
 pub use snap_runs_of_u::{
-    changes_only_at_32, few_collects, few_steps, have_points, moves_are_writes, never_traps, sharp_collects, writes_its_update, writes_once,
+    changes_only_at_32, few_collects, few_steps, have_points, moves_are_writes, never_traps,
+    sharp_collects, writes_its_update, writes_once,
 };
 pub use text::listing;

@@ -10,8 +10,8 @@ use crate::context::Context;
 use crate::locals::row;
 use crate::process::Process;
 use crate::value::{condition_holds, expr_value, joined, number_at};
-use snap_source::Listing;
 use snap_semantics::{Cause, Condition, Expr, Join, Name, Range};
+use snap_source::Listing;
 use snap_words::{Kind, Shape};
 
 /// How many places a quantifier goes over.

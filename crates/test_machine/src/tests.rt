@@ -514,7 +514,12 @@ fn scan_round<K: Kind>(rt: &impl Abort, machine: &mut Machine<K>) -> Result<(), 
     goes_on(rt, machine, 4)?;
     answers(rt, machine, &[7, 7])?;
     assert!(rt; has(machine, 1));
-    assert!(rt; matches!(machine.local_at(1, Sort::Scalar, 0), Some((_, Local::Number(1)))));
+    assert!(rt;
+        matches!(
+            machine.local_at(1, Sort::Scalar, 0),
+            Some((_, Local::Number(1)))
+        )
+    );
     Ok(())
 }
 

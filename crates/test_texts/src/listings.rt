@@ -337,24 +337,22 @@ fn line_refusal(alloc: Global, kind: &[u8], lines: &[u8]) -> Result<Option<Listi
 
 /// The place of the first text that is not refused as it says.
 fn wrong_text(alloc: Global, cases: &[Case]) -> Result<Option<usize>, Fail> {
-    let mut place = 0;
-    for (text, want) in cases {
+    for place in 0..cases.len() {
+        let (text, want) = &cases[place];
         if refusal(alloc, text)? != *want {
             return Ok(Some(place));
         }
-        place += 1;
     }
     Ok(None)
 }
 
 /// The place of the first lines that are not refused as they say, in a listing of this kind.
 fn wrong_lines(alloc: Global, kind: &[u8], cases: &[Case]) -> Result<Option<usize>, Fail> {
-    let mut place = 0;
-    for (lines, want) in cases {
+    for place in 0..cases.len() {
+        let (lines, want) = &cases[place];
         if line_refusal(alloc, kind, lines)? != *want {
             return Ok(Some(place));
         }
-        place += 1;
     }
     Ok(None)
 }
@@ -415,12 +413,20 @@ fn is_of(listing: &Listing, kind: KindTag, lines: usize) -> bool {
     listing.kind() == kind && listing.lines().len() == lines
 }
 
-/// Whether a listing has the tuple of kind seq.
+/// Whether a tuple is of kind seq, and begins with the argument.
+fn begins_with_argument(tuple: &Tuple) -> bool {
+    match tuple {
+        Tuple::Seq(Expr::Term(datum), _, _) => matches!(datum, Term::Arg),
+        _ => false,
+    }
+}
+
+/// Whether a listing has such a tuple of kind seq.
 fn has_seq_lines(listing: &Listing) -> bool {
-    matches!(
-        listing.instr(32),
-        Some(Instr::Put(Index::Me, Tuple::Seq(Expr::Term(Term::Arg), _, _)))
-    )
+    match listing.instr(32) {
+        Some(Instr::Put(Index::Me, tuple)) => begins_with_argument(tuple),
+        _ => false,
+    }
 }
 
 /// Whether a listing has the handshake bits and the tuple of kind bit.

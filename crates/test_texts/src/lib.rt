@@ -2,6 +2,10 @@
 #![tactic(auto)]
 
 #[cfg(test)]
+mod assembly;
+#[cfg(test)]
+mod images;
+#[cfg(test)]
 mod listings;
 #[cfg(test)]
 mod schedules;

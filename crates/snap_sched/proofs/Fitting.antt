@@ -1,27 +1,18 @@
 -- The numbers of a schedule that was read have 64 bits.
-use Rattle.std.proofs.Common.{◌≡◌, ℕ, zero, suc, ◌≤◌, List, [], ◌∷◌, ◌++◌, length, replicate, Option, Some, None, Ok, subst}
+use Rattle.std.proofs.Common.{◌≡◌, ℕ, ◌≤◌, List, [], ◌∷◌, length, Option, Some, None, Ok, subst}
 use Rattle.std.specs.List.{AllByRecursion, flat_map}
 use Rattle.snap_semantics.specs.declared.process.Item.{Item}
-use Rattle.snap_semantics.specs.declared.process.Item.TheVariants as item
 use Rattle.snap_semantics.specs.declared.process.Op.{Op}
 use Rattle.snap_semantics.specs.declared.process.Op.TheVariants as op
 use Rattle.snap_semantics.specs.Schedule.{Schedule, schedule_of, form_items}
 use Rattle.snap_semantics.specs.ScheduleForms.{Form, Steps, Calls, spelled_call}
-use Rattle.snap_semantics.specs.ScheduleText.{IsSchedule}
+use Rattle.snap_semantics.specs.ScheduleText.{IsSchedule, FitsWords, FitsItem}
 use Rattle.snap_semantics.specs.Token.{Token, TextLine, text_lines}
 use Rattle.snap_text.specs.Tokens.{IsSound}
 use Rattle.snap_text.proofs.Sound.{AreSound, lines_sound}
-use Rattle.snap_sched.specs.Laws.{FitsWords, FitsItem}
 use Rattle.snap_sched.specs.Spelling.{IsSpelling, IsLineOf, AreLinesOf, IsSpelled, line_tokens}
+use Rattle.snap_sched.proofs.Fits.{joined_fit, steps_fit}
 use Rattle.snap_sched.proofs.Spelled.{read_is_spelled}
-
-joined_fit : (xs ys : List Item) → AllByRecursion FitsItem xs → AllByRecursion FitsItem ys → AllByRecursion FitsItem (xs ++ ys)
-joined_fit [] ys h g = g
-joined_fit (x ∷ xs) ys h g = (h.0, joined_fit xs ys h.1 g)
-
-steps_fit : (count i : ℕ) → AllByRecursion FitsItem (replicate count (item.Step i))
-steps_fit zero i = tt
-steps_fit (suc count) i = (tt, steps_fit count i)
 
 call_fits : (i : ℕ) (o : Op) → AllByRecursion IsSound (spelled_call i o) → FitsWords o
 call_fits i op.Scan h = tt
@@ -46,7 +37,8 @@ spelled_fit s [] h g = absurd h
 spelled_fit s (line ∷ lines) h g = subst (AllByRecursion FitsItem) h.1.2 (lines_are h.1.0 lines h.1.1 g.1)
 
 pub read_is_spelled_and_fits : (text : List ℕ) (s : Schedule) → schedule_of text ≡ Ok s →
-    (length text ≤ 4194304) × IsSchedule s × AllByRecursion FitsItem s.items × IsSpelled s (line_tokens (text_lines text))
+    (length text ≤ 4194304) × IsSchedule s × IsSpelled s (line_tokens (text_lines text))
 read_is_spelled_and_fits text s e =
     let h = read_is_spelled text s e in
-    (h.0, h.1, spelled_fit s (text_lines text) h.2 (lines_sound text), h.2)
+    let kept = h.1 in
+    (h.0, record { shape = kept.0; processes = kept.1; few = kept.2; fits = spelled_fit s (text_lines text) h.2 (lines_sound text) }, h.2)

@@ -3,6 +3,7 @@ pub mod Greatest
 pub mod Lines
 pub mod Found
 pub mod Spelled
+pub mod Fits
 pub mod Fitting
 pub mod Again
 pub mod Round

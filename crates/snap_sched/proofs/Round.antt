@@ -11,13 +11,12 @@ use Rattle.snap_semantics.specs.declared.text.Mark.TheVariants as mark
 use Rattle.snap_semantics.specs.Layout.{token_text}
 use Rattle.snap_semantics.specs.Schedule.{Schedule, schedule_of, form_count, form_items}
 use Rattle.snap_semantics.specs.ScheduleForms.{Form, Steps, Calls, spelled_shape, spelled_steps, spelled_form}
-use Rattle.snap_semantics.specs.ScheduleText.{IsSchedule, step_onto, item_onto, forms_of, is_sign, gap, behind, line_text, forms_text, schedule_text}
+use Rattle.snap_semantics.specs.ScheduleText.{IsSchedule, step_onto, item_onto, forms_of, is_sign, gap, behind, line_text, forms_text, schedule_text, FitsWords, FitsItem}
 use Rattle.snap_semantics.specs.Table.{who}
 use Rattle.snap_semantics.specs.Token.{Token, Word, Number, Sign, tokens_of, lines_of, numbered, text_lines}
 use Rattle.snap_text.specs.Tokens.{IsSound}
 use Rattle.snap_text.proofs.Before.{is_plain}
 use Rattle.snap_text.proofs.Printed.{Reads, space, reads_end, reads_first, reads_more, token_plain, space_plain, joined_plain, line_read}
-use Rattle.snap_sched.specs.Laws.{FitsWords, FitsItem}
 use Rattle.snap_sched.specs.Spelling.{IsSpelling, AreLinesOf, IsSpelled, line_tokens}
 use Rattle.snap_sched.proofs.Again.{spelled_is_read}
 use Rattle.snap_sched.proofs.Apart.{AreApart, forms_apart}
@@ -162,15 +161,15 @@ shape_printed s rest h =
     printed_line 1 (Word (codes "shape")) (Number s.n ∷ Number s.w ∷ []) rest (omega arith, refl) (omega (arith, n), (omega (arith, w), tt))
 
 -- the lines of the text of a schedule
-printed_lines : (s : Schedule) → IsSchedule s → AllByRecursion FitsItem s.items → line_tokens (text_lines (schedule_text s)) ≡ Some (spelled_shape s.shape) ∷ forms_lines (forms_of s.items)
-printed_lines s h fits =
+printed_lines : (s : Schedule) → IsSchedule s → line_tokens (text_lines (schedule_text s)) ≡ Some (spelled_shape s.shape) ∷ forms_lines (forms_of s.items)
+printed_lines s h =
     let same = forms_items s.items in
-    let all = items_fit s.shape.n s.items h.shape.0.1 h.processes fits in
+    let all = items_fit s.shape.n s.items h.shape.0.1 h.processes h.fits in
     let forms = forms_fit (forms_of s.items) (forms_apart s.items) (subst (AllByRecursion Fits) (sym same) all) (subst (λ (xs : List Item). length xs ≤ 1000000) (sym same) h.few) in
     shape_printed s.shape (forms_text (forms_of s.items)) h.shape
     ∙ ap (λ (ls : List (Option (List Token))). Some (spelled_shape s.shape) ∷ ls) (forms_printed (1 + 1) (forms_of s.items) forms)
 
-pub printed_again : (s : Schedule) → IsSchedule s → AllByRecursion FitsItem s.items → length (schedule_text s) ≤ 4194304 → schedule_of (schedule_text s) ≡ Ok s
-printed_again s h fits few =
+pub printed_again : (s : Schedule) → IsSchedule s → length (schedule_text s) ≤ 4194304 → schedule_of (schedule_text s) ≡ Ok s
+printed_again s h few =
     spelled_is_read (schedule_text s) s few h
-    (subst (IsSpelled s) (sym (printed_lines s h fits)) (refl, (forms_of s.items, forms_spelled (forms_of s.items) (forms_apart s.items), forms_items s.items)))
+    (subst (IsSpelled s) (sym (printed_lines s h)) (refl, (forms_of s.items, forms_spelled (forms_of s.items) (forms_apart s.items), forms_items s.items)))

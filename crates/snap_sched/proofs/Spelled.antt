@@ -3,7 +3,7 @@ use Rattle.std.proofs.Common.{◌≡◌, ℕ, ◌+◌, ◌-◌, ◌≤◌, Bool,
 use Rattle.std.proofs.lemmas.Bool.{ltb-false}
 use Rattle.std.proofs.lemmas.List.{length-append}
 use Rattle.std.specs.List.{AllByRecursion, flat_map}
-use Rattle.snap_words.specs.Shape.{IsOneOf}
+use Rattle.snap_words.specs.Shape.{IsOneOf, IsShape}
 use Rattle.snap_semantics.specs.declared.process.Item.{Item}
 use Rattle.snap_semantics.specs.declared.refusal.ScheduleRefusal.{ScheduleRefusal}
 use Rattle.snap_semantics.specs.declared.refusal.ScheduleRefusal.TheVariants as refusal
@@ -11,7 +11,6 @@ use Rattle.snap_semantics.specs.Answers.{◌>>=◌}
 use Rattle.snap_semantics.specs.Forms.{form_or, found_or}
 use Rattle.snap_semantics.specs.Schedule.{Schedule, admitted, items_of, schedule_of_lines, schedule_of, form_process, form_count, form_items}
 use Rattle.snap_semantics.specs.ScheduleForms.{Form, shape_form, item_form}
-use Rattle.snap_semantics.specs.ScheduleText.{IsSchedule}
 use Rattle.snap_semantics.specs.Table.{who}
 use Rattle.snap_semantics.specs.Token.{Token, TextLine, text_lines}
 use Rattle.snap_sched.specs.Spelling.{IsSpelling, IsLineOf, AreLinesOf, IsSpelled, line_tokens}
@@ -75,9 +74,13 @@ items_found n left (line ∷ lines) items e =
 ok_schedule : (x y : Schedule) → (let r : Result Schedule ScheduleRefusal = Ok x in r) ≡ Ok y → x ≡ y
 ok_schedule x y e = cc
 
+-- what a schedule keeps besides that its numbers have 64 bits
+abbrev pub IsPlaced : Schedule → Type 0
+IsPlaced s = IsShape s.shape.n s.shape.w × AllByRecursion (λ x. IsOneOf s.shape.n (who x)) s.items × (length s.items ≤ 1000000)
+
 -- a schedule that lines spell
 abbrev pub SpelledBy : Schedule → List TextLine → Type 0
-SpelledBy s lines = IsSchedule s × IsSpelled s (line_tokens lines)
+SpelledBy s lines = IsPlaced s × IsSpelled s (line_tokens lines)
 
 pub lines_found : (lines : List TextLine) (s : Schedule) → schedule_of_lines lines ≡ Ok s → SpelledBy s lines
 lines_found [] s e = absurd cc
@@ -88,14 +91,14 @@ lines_found (line ∷ lines) s e =
     let shape = shape_found h.0 a.0 h.2 in
     let reads = items_found a.0.n 1000000 lines b.0 b.1 in
     subst (λ (x : Schedule). SpelledBy x (line ∷ lines)) (ok_schedule (record { shape = a.0; items = b.0 }) s b.2) (
-      record { shape = shape.1; processes = reads.processes; few = reads.few },
+      (shape.1, reads.processes, reads.few),
       (h.1 ∙ ap (λ (ts : List Token). let o : Option (List Token) = Some ts in o) shape.0, (reads.forms, reads.spelled, reads.made)),
     )
 
 within : (n : ℕ) (lines : List TextLine) (s : Schedule) (b : Bool) → nat_lt 4194304 n ≡ b → (if b then Err refusal.TooLong else schedule_of_lines lines) ≡ Ok s →
-    (n ≤ 4194304) × IsSchedule s × IsSpelled s (line_tokens lines)
+    (n ≤ 4194304) × IsPlaced s × IsSpelled s (line_tokens lines)
 within n lines s true b e = absurd cc
 within n lines s false b e = let h = lines_found lines s e in (ltb-false 4194304 n b, h.0, h.1)
 
-pub read_is_spelled : (text : List ℕ) (s : Schedule) → schedule_of text ≡ Ok s → (length text ≤ 4194304) × IsSchedule s × IsSpelled s (line_tokens (text_lines text))
+pub read_is_spelled : (text : List ℕ) (s : Schedule) → schedule_of text ≡ Ok s → (length text ≤ 4194304) × IsPlaced s × IsSpelled s (line_tokens (text_lines text))
 read_is_spelled text s e = within (length text) (text_lines text) s (nat_lt 4194304 (length text)) refl e

@@ -1,8 +1,8 @@
 //! The items of a schedule or of a history, kept as runs.
 ghost use Rattle.std.specs.Prelude.{◌≡◌, ◌+◌, ◌<◌, ◌^◌, ◌↔◌, ℕ, List, [], ◌∷◌, ◌++◌, length, map, replicate, IsTrue, OnOk, OnErr};
-ghost use Rattle.std.specs.List.{flat_map};
+ghost use Rattle.std.specs.List.{AllByRecursion, flat_map};
 ghost use Rattle.snap_semantics.specs.declared.process.Item.TheVariants.{Step, Call};
-ghost use Rattle.snap_semantics.specs.ScheduleText.{forms_of};
+ghost use Rattle.snap_semantics.specs.ScheduleText.{forms_of, FitsItem, FitsWords};
 ghost use Rattle.snap_sched.specs.Runs.{run_items, view_run, items_of_runs, steps_of, last_count, AreGreatest};
 
 use snap_semantics::Op;
@@ -25,6 +25,8 @@ pub struct Items {
 
 impl Model for Items {
     ghost use Rattle.std.specs.Prelude.{◌≡◌, List, length};
+    ghost use Rattle.std.specs.List.{AllByRecursion};
+    ghost use Rattle.snap_semantics.specs.ScheduleText.{FitsItem};
     ghost use Rattle.snap_semantics.specs.declared.process.Item.{Item};
     ghost use Rattle.snap_sched.specs.Runs.{items_of_runs, AreGreatest};
 
@@ -32,7 +34,7 @@ impl Model for Items {
 
     ghost view = { λ x. items_of_runs x.runs.items };
 
-    ghost invariant = { λ x. (x.len ≡ length (items_of_runs x.runs.items)) × AreGreatest x.runs.items };
+    ghost invariant = { λ x. (x.len ≡ length (items_of_runs x.runs.items)) × AreGreatest x.runs.items × AllByRecursion FitsItem (items_of_runs x.runs.items) };
 }
 
 /// How many steps a run is, where it is steps of this process.
@@ -64,6 +66,7 @@ fn push_run(runs: &mut Vec<Run>, process: u32, count: u64) -> Result<(), AllocEr
     requires few { length (items_of_runs runs.old.items) + count < 2 ^ 64 }
     ensures added { OnOk result (items_of_runs runs.new.items ≡ items_of_runs runs.old.items ++ replicate count (Step process)) }
     ensures greatest { OnOk result (AreGreatest runs.old.items → AreGreatest runs.new.items) }
+    ensures fits { OnOk result (AllByRecursion FitsItem (items_of_runs runs.old.items) → AllByRecursion FitsItem (items_of_runs runs.new.items)) }
     ensures unchanged { OnErr result (runs.new.items ≡ runs.old.items) }
 {
     match last_steps(runs.as_slice(), process) {
@@ -77,6 +80,17 @@ fn push_run(runs: &mut Vec<Run>, process: u32, count: u64) -> Result<(), AllocEr
         None => runs.push(Run::Steps { process, count })?,
     }
     Ok(())
+}
+
+/// The operation, whose numbers have 64 bits.
+fn fitting(op: Op) -> Op
+    ensures same { result ≡ op }
+    ensures fits { FitsWords op }
+{
+    match op {
+        Op::Scan => Op::Scan,
+        Op::Update { word, value } => Op::Update { word, value },
+    }
 }
 
 impl Items {
@@ -107,6 +121,7 @@ impl Items {
     pub fn runs(&self) -> &[Run]
         ensures items { flat_map run_items result.now ≡ self.now }
         ensures greatest { map view_run result.now ≡ forms_of self.now }
+        ensures fits { AllByRecursion FitsItem self.now }
     {
         self.runs.as_slice()
     }
@@ -115,13 +130,15 @@ impl Items {
     pub fn push_steps(&mut self, process: u32, count: u64) -> Result<(), AllocError>
         requires { length self.old + count < 2 ^ 64 }
         ensures added { OnOk result (self.new ≡ self.old ++ replicate count (Step process)) }
+        ensures fits { AllByRecursion FitsItem self.new }
         ensures unchanged { OnErr result (self.new ≡ self.old) }
     {
+        let len = self.len + count;
         if count == 0 {
             return Ok(());
         }
         push_run(&mut self.runs, process, count)?;
-        self.len += count;
+        self.len = len;
         Ok(())
     }
 
@@ -129,8 +146,10 @@ impl Items {
     pub fn push_call(&mut self, process: u32, op: Op) -> Result<(), AllocError>
         requires { length self.old + 1 < 2 ^ 64 }
         ensures added { OnOk result (self.new ≡ self.old ++ Call process op ∷ []) }
+        ensures fits { AllByRecursion FitsItem self.new }
         ensures unchanged { OnErr result (self.new ≡ self.old) }
     {
+        let op = fitting(op);
         self.runs.push(Run::Call { process, op })?;
         self.len += 1;
         Ok(())

@@ -1,7 +1,7 @@
 //! Laws of the definitions, which hold of every text and every schedule.
 ghost use Rattle.snap_sched.specs.Laws.{ReadsOnlySpelled, ReadsAllSpelled, PrintsAgain};
 
-/// What is read is a schedule with numbers of 64 bits, and its text spells it.
+/// What is read is a schedule, and its text spells it.
 pub fn reads_only_spelled()
     ensures { ReadsOnlySpelled }
 {}

@@ -1,10 +1,13 @@
 //! Schedules read from texts.
-ghost use Rattle.std.specs.Prelude.{◌≡◌, ◌≤◌, ◌<◌, ◌+◌, ◌^◌, ◌++◌, length, Some, IfOk, OnOk};
+ghost use Rattle.std.specs.Prelude.{◌≡◌, ◌≤◌, ◌<◌, ◌+◌, ◌^◌, ◌++◌, length, Some, Err, IfOk, OnOk};
 ghost use Rattle.std.specs.List.{AllByRecursion};
 ghost use Rattle.snap_words.specs.Shape.{IsOneOf};
 ghost use Rattle.snap_semantics.specs.Answers.{Answers, Gives};
 ghost use Rattle.snap_semantics.specs.Schedule.{admitted, items_of, schedule_of, form_process, form_count, form_items};
+ghost use Rattle.snap_semantics.specs.ScheduleText.{FitsItem};
 ghost use Rattle.snap_semantics.specs.Table.{who};
+ghost use Rattle.snap_semantics.specs.declared.fault.Fault.TheVariants.{Refused};
+ghost use Rattle.snap_semantics.specs.declared.refusal.ScheduleRefusal.TheVariants.{TooLong};
 ghost use Rattle.snap_text.specs.Lines.{view_line};
 ghost use Rattle.snap_sched.specs.Reading.{view_form, line_form, first_shape};
 
@@ -52,7 +55,8 @@ fn line_form(n: u64, left: u64, line: &TokenLine<'_>) -> Result<Form, ScheduleRe
 fn push_form(items: &mut Items, form: Form) -> Result<(), AllocError>
     requires process { form_process (view_form form) < 2 ^ 32 }
     requires few { length items.old + form_count (view_form form) < 2 ^ 64 }
-    ensures { OnOk result (items.new ≡ items.old ++ form_items (view_form form)) }
+    ensures added { OnOk result (items.new ≡ items.old ++ form_items (view_form form)) }
+    ensures fits { AllByRecursion FitsItem items.new }
 {
     match form {
         Form::Steps { process, count } => items.push_steps(process as u32, count),
@@ -83,6 +87,7 @@ fn items_of(alloc: Global, n: u64, lines: &mut TextLines<'_>) -> Result<Items, S
     ensures items { Answers (λ items. items) result (items_of n 1000000 lines.old) }
     ensures processes { IfOk result (λ items. AllByRecursion (λ x. IsOneOf n (who x)) items) }
     ensures few { IfOk result (λ items. length items ≤ 1000000) }
+    ensures fits { IfOk result (λ items. AllByRecursion FitsItem items) }
 {
     let mut items = Items::new(alloc);
     while let Some(line) = lines.next_line(alloc)? {
@@ -96,7 +101,8 @@ fn items_of(alloc: Global, n: u64, lines: &mut TextLines<'_>) -> Result<Items, S
 
 /// Reads a schedule.
 pub fn read(alloc: Global, text: &[u8]) -> Result<Schedule, ScheduleFault>
-    ensures { Answers (λ s. s) result (schedule_of text.now) }
+    ensures schedule { Answers (λ s. s) result (schedule_of text.now) }
+    ensures too_long { 4194304 < length text.now → result ≡ Err (Refused TooLong) }
 {
     if text.len() > MAX_BYTES {
         return Err(ScheduleFault::Refused(ScheduleRefusal::TooLong));

@@ -1,9 +1,11 @@
 -- The canonical text of a schedule: its shape, and then each greatest run of steps of one process and each call on a line.
-use Rattle.std.specs.Prelude.{ℕ, suc, ◌≤◌, Bool, true, false, List, [], ◌∷◌, ◌++◌, length, nat_eq, if◌then◌else◌}
+use Rattle.std.specs.Prelude.{ℕ, suc, ◌≤◌, ◌<◌, ◌^◌, ⊤, Bool, true, false, List, [], ◌∷◌, ◌++◌, length, nat_eq, if◌then◌else◌}
 use Rattle.std.specs.List.{AllByRecursion}
 use Rattle.snap_words.specs.Shape.{IsOneOf, IsShape}
 use Rattle.snap_semantics.specs.declared.process.Item.{Item}
 use Rattle.snap_semantics.specs.declared.process.Item.TheVariants as item
+use Rattle.snap_semantics.specs.declared.process.Op.{Op}
+use Rattle.snap_semantics.specs.declared.process.Op.TheVariants as op
 use Rattle.snap_semantics.specs.Layout.{token_text}
 use Rattle.snap_semantics.specs.Schedule.{Schedule}
 use Rattle.snap_semantics.specs.ScheduleForms.{Form, Steps, Calls, spelled_shape, spelled_form}
@@ -53,8 +55,19 @@ forms_text (form ∷ forms) = line_text (spelled_form form) ++ forms_text forms
 abbrev pub schedule_text : Schedule → List ℕ
 schedule_text s = line_text (spelled_shape s.shape) ++ forms_text (forms_of s.items)
 
--- what a schedule keeps: its processes are there, and there are at most a million items
+-- its numbers have 64 bits
+abbrev pub FitsWords : Op → Type 0
+FitsWords op.Scan = ⊤
+FitsWords (op.Update word value) = (word < 2 ^ 64) × (value < 2 ^ 64)
+
+-- the numbers of an item have 64 bits, as those of the machine have
+abbrev pub FitsItem : Item → Type 0
+FitsItem (item.Step i) = ⊤
+FitsItem (item.Call i o) = FitsWords o
+
+-- what a schedule keeps: its processes are there, there are at most a million items, and their numbers have 64 bits
 pub record IsSchedule (s : Schedule) : Type 0 where
   pub shape : IsShape s.shape.n s.shape.w
   pub processes : AllByRecursion (λ x. IsOneOf s.shape.n (who x)) s.items
   pub few : length s.items ≤ 1000000
+  pub fits : AllByRecursion FitsItem s.items

@@ -1,5 +1,7 @@
 use Rattle.std.proofs.Common.{◌<◌, ◌+◌, ◌-◌, length, refl, sym, ap, ◌∙◌, arith, Some, None}
-use Rattle.snap_sched.proofs.Greatest.{last_fits, last_place, found_in, grown_items, grown_greatest, steps_greatest}
+use Rattle.snap_sched.proofs.Fits.{steps_join_fit}
+use Rattle.snap_sched.proofs.Greatest.{added_items, last_fits, last_place, found_in, grown_items, grown_greatest, steps_greatest}
+use Rattle.snap_sched.specs.declared.items.Run.TheVariants.{Steps}
 use Rattle.snap_sched.proofs.items.push_run.Goals as goal
 
 pub overflow_add-steps : goal.overflow_add-steps
@@ -29,3 +31,14 @@ returns-in_ok-push-in-None-clause-greatest c =
     let rs = c.args.runs.now.items in
     let none = found_in rs c.as_slice.result.now c.args.process c.last_steps.result None c.last_steps.ensures c.as_slice.ensures.value c.in-None.is in
     λ h. steps_greatest rs c.push.new.self.items c.args.process c.args.count c.in_ok-push-in-None.ensures.items c.requires.some none h
+
+pub returns-in-Some-clause-fits : goal.returns-in-Some-clause-fits
+returns-in-Some-clause-fits c =
+    let rs = c.args.runs.now.items in
+    let found = found_in rs c.as_slice.result.now c.args.process c.last_steps.result (Some c.in-Some.steps) c.last_steps.ensures c.as_slice.ensures.value c.in-Some.is in
+    let last = last_place rs c.args.process c.in-Some.steps c.len-last.result found (ap length (sym c.as_slice.ensures.value) ∙ c.as_slice.ensures.len ∙ sym c.len-last.ensures) in
+    λ h. steps_join_fit _ _ c.args.count c.args.process (grown_items rs _ (c.len-last.result - 1) c.args.process c.in-Some.steps c.args.count refl last found) h
+
+pub returns-in_ok-push-in-None-clause-fits : goal.returns-in_ok-push-in-None-clause-fits
+returns-in_ok-push-in-None-clause-fits c =
+    λ h. steps_join_fit _ _ c.args.count c.args.process (added_items c.args.runs.now.items c.push.new.self.items (Steps c.args.process c.args.count) c.in_ok-push-in-None.ensures.items) h

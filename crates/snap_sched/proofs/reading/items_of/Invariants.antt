@@ -2,6 +2,7 @@ use Rattle.std.proofs.Common.{◌≡◌, ◌-◌, ◌≤◌, length}
 use Rattle.std.specs.List.{AllByRecursion}
 use Rattle.snap_words.specs.Shape.{IsOneOf}
 use Rattle.snap_semantics.specs.Schedule.{items_of}
+use Rattle.snap_semantics.specs.ScheduleText.{FitsItem}
 use Rattle.snap_semantics.specs.Table.{who}
 use Rattle.snap_sched.proofs.Lines.{prefixed}
 use Rattle.snap_sched.proofs.reading.items_of.Given as goal
@@ -12,6 +13,7 @@ invariant-loop-items l = record {
   reads : prefixed l.items (items_of l.n (1000000 - length l.items) l.lines) ≡ items_of l.fn.n 1000000 l.fn.lines;
   few : length l.items ≤ 1000000;
   processes : AllByRecursion (λ x. IsOneOf l.n (who x)) l.items;
+  fits : AllByRecursion FitsItem l.items;
   same : l.n ≡ l.fn.n;
 }
 

@@ -1,8 +1,9 @@
 //! The registers.
-ghost use Rattle.std.specs.Prelude.{◌≡◌, ◌-◌, ◌<◌, true, false, [], length, Some, None, map, replicate, IfOk, MatchResult, OnErr, slice_index_or, slice_set};
+ghost use Rattle.std.specs.Prelude.{◌≡◌, ◌-◌, ◌<◌, true, false, [], length, Some, None, map, replicate, IfOk, MatchResult, OnErr, OnOk, slice_index_or, slice_set};
 ghost use Rattle.snap_words.specs.Kind.{initial_word, is_bit, is_sized, may_write};
 ghost use Rattle.snap_words.specs.Word.{no_word};
 ghost use Rattle.snap_words.specs.declared.address.Bank.TheVariants as bank;
+ghost use Rattle.snap_semantics.specs.Places.{with_contents};
 ghost use Rattle.snap_semantics.specs.Readers.{contents, WordContents, BitContents, ViewContents};
 ghost use Rattle.snap_semantics.specs.State.{initial_memory};
 ghost use Rattle.snap_semantics.specs.Table.{bank_of, bit_at, bits_of};
@@ -180,6 +181,7 @@ impl<K: Kind> Registers<K> {
         ensures put { MatchResult result
             (λ _. (is_place self.old.shape.w k ≡ true) × (may_write K.TAG who bank.R k ≡ true) × (self.new ≡ with_word k (K.parts word) self.old))
             (λ e. IsWordRefused K.TAG self.old.shape who k e × (self.new ≡ self.old)) }
+        ensures place { OnOk result (self.new.memory ≡ with_contents self.old.memory bank.R k 0 (WordContents (K.parts word))) }
         ensures shape { self.new.shape ≡ self.old.shape }
     {
         let place = place_in(self.shape.w(), k)?;
@@ -202,6 +204,7 @@ impl<K: Kind> Registers<K> {
             (λ _. (is_bit_place K.TAG self.old.shape bits i j ≡ true) × (is_bit bit ≡ true) × (may_write K.TAG who (bank_of bits) i ≡ true)
             × (self.new ≡ with_bit bits i j bit self.old))
             (λ e. IsBitRefused K.TAG self.old.shape who bits i j bit e × (self.new ≡ self.old)) }
+        ensures place { OnOk result (self.new.memory ≡ with_contents self.old.memory (bank_of bits) i j (BitContents bit)) }
         ensures shape { self.new.shape ≡ self.old.shape }
     {
         let (row, column) = bit_place::<K>(self.shape, bits, i, j)?;
@@ -222,6 +225,7 @@ impl<K: Kind> Registers<K> {
         ensures put { MatchResult result
             (λ _. (is_view_place K.TAG self.old.shape i ≡ true) × (may_write K.TAG who bank.V i ≡ true) × (self.new ≡ with_view i view self.old))
             (λ e. IsViewRefused K.TAG self.old.shape who i e × (self.new ≡ self.old)) }
+        ensures place { OnOk result (self.new.memory ≡ with_contents self.old.memory bank.V i 0 (ViewContents view)) }
         ensures shape { self.new.shape ≡ self.old.shape }
     {
         let place = view_place::<K>(self.shape, i)?;

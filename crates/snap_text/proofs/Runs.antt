@@ -137,19 +137,6 @@ pub space_first : (bs : List ℕ) (d : ℕ) → 0 < length bs → is_run_byte (g
 space_first [] d some w s = absurd (omega arith)
 space_first (b ∷ bs) d some w s = space_by b bs (is_run_byte b) (is_space b) _ w s
 
-comment_by : (b : ℕ) (bs : List ℕ) (w s c : Bool) (f g : Front) → w ≡ false → s ≡ false → c ≡ true →
-    front_tokens (if w then longer_run b (front_of bs) else if s then f else if c then Some ([], []) else g) ≡ Some []
-comment_by b bs true s c f g e i j = absurd cc
-comment_by b bs false true c f g e i j = absurd cc
-comment_by b bs false false true f g e i j = refl
-comment_by b bs false false false f g e i j = absurd cc
-
--- a comment
-pub comment_first : (bs : List ℕ) (d : ℕ) → 0 < length bs → is_run_byte (get_or bs 0 d) ≡ false → is_space (get_or bs 0 d) ≡ false → get_or bs 0 d ≡ 35 →
-    tokens_of bs ≡ Some []
-comment_first [] d some w s c = absurd (omega arith)
-comment_first (b ∷ bs) d some w s c = comment_by b bs (is_run_byte b) (is_space b) (nat_eq b 35) _ _ w s (eq-eqb b 35 c)
-
 -- the tokens from a mark on
 abbrev pub signed : Option (Mark × List ℕ) → Option (List Token)
 signed None = None

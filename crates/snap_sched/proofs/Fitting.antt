@@ -1,7 +1,6 @@
 -- The numbers of a schedule that was read have 64 bits.
 use Rattle.std.proofs.Common.{◌≡◌, ℕ, ◌≤◌, List, [], ◌∷◌, length, Option, Some, None, Ok, subst}
 use Rattle.std.specs.List.{AllByRecursion, flat_map}
-use Rattle.snap_semantics.specs.declared.process.Item.{Item}
 use Rattle.snap_semantics.specs.declared.process.Op.{Op}
 use Rattle.snap_semantics.specs.declared.process.Op.TheVariants as op
 use Rattle.snap_semantics.specs.Schedule.{Schedule, schedule_of, form_items}

@@ -9,37 +9,37 @@ use Rattle.snap_semantics.specs.declared.process.Item.TheVariants as item
 use Rattle.snap_semantics.specs.declared.process.Op.{Op}
 use Rattle.snap_semantics.specs.Schedule.{form_items}
 use Rattle.snap_semantics.specs.ScheduleText.{forms_of}
-use Rattle.snap_sched.specs.declared.items.Run.{Run}
-use Rattle.snap_sched.specs.declared.items.Run.TheVariants as runs
+use Rattle.snap_sched.specs.declared.items.Stretch.{Stretch}
+use Rattle.snap_sched.specs.declared.items.Stretch.TheVariants as runs
 use Rattle.snap_sched.specs.Runs.{view_run, run_items, items_of_runs, steps_of, last_count, AreGreatest}
 use Rattle.snap_sched.proofs.Apart.{AreApart, forms_apart, apart_forms, steps_added, call_added, steps_grown, items_grown, last_within}
 
 -- the items of runs are those of their forms
-pub form_items_of : (rs : List Run) → flat_map form_items (map view_run rs) ≡ items_of_runs rs
+pub form_items_of : (rs : List Stretch) → flat_map form_items (map view_run rs) ≡ items_of_runs rs
 form_items_of rs = flat_map-map form_items view_run rs
 
-greatest_apart : (rs : List Run) → AreGreatest rs → AreApart (map view_run rs)
+greatest_apart : (rs : List Stretch) → AreGreatest rs → AreApart (map view_run rs)
 greatest_apart rs h = subst AreApart h (forms_apart (items_of_runs rs))
 
-apart_greatest : (rs : List Run) → AreApart (map view_run rs) → AreGreatest rs
+apart_greatest : (rs : List Stretch) → AreApart (map view_run rs) → AreGreatest rs
 apart_greatest rs h = ap forms_of (sym (form_items_of rs)) ∙ apart_forms (map view_run rs) h
 
 -- one run more
-run_added : (old new : List Run) (r : Run) → new ≡ old ++ r ∷ [] → AreApart (map view_run old ++ view_run r ∷ []) → AreGreatest new
+run_added : (old new : List Stretch) (r : Stretch) → new ≡ old ++ r ∷ [] → AreApart (map view_run old ++ view_run r ∷ []) → AreGreatest new
 run_added old new r is h = apart_greatest new (subst AreApart (sym (ap (map view_run) is ∙ map-append view_run old (r ∷ []))) h)
 
-pub call_greatest : (old new : List Run) (p : ℕ) (op : Op) → new ≡ old ++ runs.Call p op ∷ [] → AreGreatest old → AreGreatest new
+pub call_greatest : (old new : List Stretch) (p : ℕ) (op : Op) → new ≡ old ++ runs.Call p op ∷ [] → AreGreatest old → AreGreatest new
 call_greatest old new p op is h = run_added old new (runs.Call p op) is (call_added (map view_run old) p op (greatest_apart old h))
 
-pub steps_greatest : (old new : List Run) (p c : ℕ) → new ≡ old ++ runs.Steps p c ∷ [] → 0 < c → last_count p (map view_run old) ≡ None → AreGreatest old → AreGreatest new
+pub steps_greatest : (old new : List Stretch) (p c : ℕ) → new ≡ old ++ runs.Steps p c ∷ [] → 0 < c → last_count p (map view_run old) ≡ None → AreGreatest old → AreGreatest new
 steps_greatest old new p c is some none h = run_added old new (runs.Steps p c) is (steps_added (map view_run old) p c (greatest_apart old h) some none)
 
-pub grown_greatest : (old new : List Run) (k p a b : ℕ) → new ≡ set old k (runs.Steps p b) → suc k ≡ length old → last_count p (map view_run old) ≡ Some a → 0 < b → AreGreatest old → AreGreatest new
+pub grown_greatest : (old new : List Stretch) (k p a b : ℕ) → new ≡ set old k (runs.Steps p b) → suc k ≡ length old → last_count p (map view_run old) ≡ Some a → 0 < b → AreGreatest old → AreGreatest new
 grown_greatest old new k p a b is last found some h =
     apart_greatest new (subst AreApart (sym (ap (map view_run) is ∙ map-set view_run old k (runs.Steps p b)))
     (steps_grown (map view_run old) k p a b (last ∙ sym (length-map old view_run)) (greatest_apart old h) found some))
 
-pub grown_items : (old new : List Run) (k p a c : ℕ) → new ≡ set old k (runs.Steps p (a + c)) → suc k ≡ length old → last_count p (map view_run old) ≡ Some a →
+pub grown_items : (old new : List Stretch) (k p a c : ℕ) → new ≡ set old k (runs.Steps p (a + c)) → suc k ≡ length old → last_count p (map view_run old) ≡ Some a →
     items_of_runs new ≡ items_of_runs old ++ replicate c (item.Step p)
 grown_items old new k p a c is last found =
     sym (form_items_of new) ∙ ap (flat_map form_items) (ap (map view_run) is ∙ map-set view_run old k (runs.Steps p (a + c)))
@@ -47,14 +47,14 @@ grown_items old new k p a c is last found =
     ∙ ap (λ (xs : List Item). xs ++ replicate c (item.Step p)) (form_items_of old)
 
 -- the items of one run more
-pub added_items : (old new : List Run) (r : Run) → new ≡ old ++ r ∷ [] → items_of_runs new ≡ items_of_runs old ++ run_items r
+pub added_items : (old new : List Stretch) (r : Stretch) → new ≡ old ++ r ∷ [] → items_of_runs new ≡ items_of_runs old ++ run_items r
 added_items old new r is =
     ap items_of_runs is ∙ flat_map-append run_items old (r ∷ []) ∙ ap (λ (xs : List Item). items_of_runs old ++ xs) (append-nil (run_items r))
 
-pub last_fits : (rs : List Run) (p a : ℕ) → last_count p (map view_run rs) ≡ Some a → a ≤ length (items_of_runs rs)
+pub last_fits : (rs : List Stretch) (p a : ℕ) → last_count p (map view_run rs) ≡ Some a → a ≤ length (items_of_runs rs)
 last_fits rs p a found = let h = last_within (map view_run rs) p a found in let e : length (flat_map form_items (map view_run rs)) ≡ length (items_of_runs rs) = ap length (form_items_of rs) in omega (arith, h, e)
 
-last_of : (rs : List Run) (k p : ℕ) (d : Run) → suc k ≡ length rs → last_count p (map view_run rs) ≡ steps_of p (view_run (get_or rs k d))
+last_of : (rs : List Stretch) (k p : ℕ) (d : Stretch) → suc k ≡ length rs → last_count p (map view_run rs) ≡ steps_of p (view_run (get_or rs k d))
 last_of [] k p d is = absurd (omega arith)
 last_of (r ∷ []) zero p d is = refl
 last_of (r ∷ []) (suc k) p d is = absurd (omega arith)
@@ -62,16 +62,16 @@ last_of (r ∷ s ∷ rs) zero p d is = absurd (omega arith)
 last_of (r ∷ s ∷ rs) (suc k) p d is = last_of (s ∷ rs) k p d (omega arith)
 
 -- the last run is the one at the last place
-pub last_at : (rs : List Run) (p : ℕ) (d : Run) → 0 < length rs → steps_of p (view_run (get_or rs (length rs - 1) d)) ≡ last_count p (map view_run rs)
+pub last_at : (rs : List Stretch) (p : ℕ) (d : Stretch) → 0 < length rs → steps_of p (view_run (get_or rs (length rs - 1) d)) ≡ last_count p (map view_run rs)
 last_at rs p d some = sym (last_of rs (length rs - 1) p d (omega arith))
 
-pub some_runs : (rs : List Run) (p a : ℕ) → last_count p (map view_run rs) ≡ Some a → 0 < length rs
+pub some_runs : (rs : List Stretch) (p a : ℕ) → last_count p (map view_run rs) ≡ Some a → 0 < length rs
 some_runs [] p a found = absurd cc
 some_runs (r ∷ rs) p a found = omega arith
 
 -- what was found in a slice of the runs
-pub found_in : (rs slice : List Run) (p : ℕ) (r found : Option ℕ) → r ≡ last_count p (map view_run slice) → slice ≡ rs → r ≡ found → last_count p (map view_run rs) ≡ found
-found_in rs slice p r found e is r_is = ap (λ (xs : List Run). last_count p (map view_run xs)) (sym is) ∙ sym e ∙ r_is
+pub found_in : (rs slice : List Stretch) (p : ℕ) (r found : Option ℕ) → r ≡ last_count p (map view_run slice) → slice ≡ rs → r ≡ found → last_count p (map view_run rs) ≡ found
+found_in rs slice p r found e is r_is = ap (λ (xs : List Stretch). last_count p (map view_run xs)) (sym is) ∙ sym e ∙ r_is
 
-pub last_place : (rs : List Run) (p a n : ℕ) → last_count p (map view_run rs) ≡ Some a → length rs ≡ n → suc (n - 1) ≡ length rs
+pub last_place : (rs : List Stretch) (p a n : ℕ) → last_count p (map view_run rs) ≡ Some a → length rs ≡ n → suc (n - 1) ≡ length rs
 last_place rs p a n found is = let some = some_runs rs p a found in omega (arith, some, is)

@@ -8,10 +8,10 @@ use Rattle.snap_semantics.specs.Forms.{form_or}
 use Rattle.snap_semantics.specs.Schedule.{admitted}
 use Rattle.snap_semantics.specs.ScheduleForms.{Form, Steps, Calls, is_count, shape_form, item_form}
 use Rattle.snap_semantics.specs.Token.{TextLine}
-use Rattle.snap_sched.specs.declared.forms.Form.{Form as Given}
-use Rattle.snap_sched.specs.declared.forms.Form.TheVariants as given
+use Rattle.snap_sched.specs.declared.forms.ItemForm.{ItemForm}
+use Rattle.snap_sched.specs.declared.forms.ItemForm.TheVariants as given
 
-abbrev pub view_form : Given → Form
+abbrev pub view_form : ItemForm → Form
 view_form (given.Steps i count) = Steps i count
 view_form (given.Call i op) = Calls i op
 

@@ -5,22 +5,22 @@ use Rattle.snap_semantics.specs.declared.process.Item.{Item}
 use Rattle.snap_semantics.specs.Schedule.{form_items}
 use Rattle.snap_semantics.specs.ScheduleForms.{Form, Steps, Calls}
 use Rattle.snap_semantics.specs.ScheduleText.{forms_of}
-use Rattle.snap_sched.specs.declared.items.Run.{Run}
-use Rattle.snap_sched.specs.declared.items.Run.TheVariants as runs
+use Rattle.snap_sched.specs.declared.items.Stretch.{Stretch}
+use Rattle.snap_sched.specs.declared.items.Stretch.TheVariants as runs
 
 -- a run as the form of a line that it is
-abbrev pub view_run : Run → Form
+abbrev pub view_run : Stretch → Form
 view_run (runs.Steps i count) = Steps i count
 view_run (runs.Call i op) = Calls i op
 
-abbrev pub run_items : Run → List Item
+abbrev pub run_items : Stretch → List Item
 run_items r = form_items (view_run r)
 
-abbrev pub items_of_runs : List Run → List Item
+abbrev pub items_of_runs : List Stretch → List Item
 items_of_runs rs = flat_map run_items rs
 
 -- the runs are the greatest ones: no two beside one another are steps of one process, and none is empty
-abbrev pub AreGreatest : List Run → Type 0
+abbrev pub AreGreatest : List Stretch → Type 0
 AreGreatest rs = forms_of (items_of_runs rs) ≡ map view_run rs
 
 -- how many steps a form is, where it is steps of this process

@@ -10,7 +10,7 @@ use snap_words::Shape;
 
 /// What a line asks for, whether or not its process is there.
 #[derive(Clone, Copy, Debug)]
-pub enum Form {
+pub enum ItemForm {
     Steps { process: u64, count: u64 },
     Call { process: u64, op: Op },
 }
@@ -36,17 +36,17 @@ pub fn shape_form(tokens: &[Token<'_>]) -> Option<Shape>
 
 /// `I`.
 #[tactic(auto, unfolding(snap_semantics::specs::ScheduleForms::step_form))]
-fn step_form(tokens: &[Token<'_>]) -> Option<Form>
+fn step_form(tokens: &[Token<'_>]) -> Option<ItemForm>
     ensures { Finds view_form result (step_form (view_tokens tokens.now)) }
 {
     let (process, rest) = number_at(tokens)?;
     end_at(rest)?;
-    Some(Form::Steps { process, count: 1 })
+    Some(ItemForm::Steps { process, count: 1 })
 }
 
 /// `I*K`.
 #[tactic(auto, unfolding(snap_semantics::specs::ScheduleForms::steps_form))]
-fn steps_form(tokens: &[Token<'_>]) -> Option<Form>
+fn steps_form(tokens: &[Token<'_>]) -> Option<ItemForm>
     ensures { Finds view_form result (steps_form (view_tokens tokens.now)) }
 {
     let (process, rest) = number_at(tokens)?;
@@ -56,18 +56,18 @@ fn steps_form(tokens: &[Token<'_>]) -> Option<Form>
     if count == 0 {
         return None;
     }
-    Some(Form::Steps { process, count })
+    Some(ItemForm::Steps { process, count })
 }
 
 /// `I scan`.
 #[tactic(auto, unfolding(snap_semantics::specs::ScheduleForms::scan_form))]
-fn scan_form(tokens: &[Token<'_>]) -> Option<Form>
+fn scan_form(tokens: &[Token<'_>]) -> Option<ItemForm>
     ensures { Finds view_form result (scan_form (view_tokens tokens.now)) }
 {
     let (process, rest) = number_at(tokens)?;
     let rest = keyword_at(b"scan", rest)?;
     end_at(rest)?;
-    Some(Form::Call {
+    Some(ItemForm::Call {
         process,
         op: Op::Scan,
     })
@@ -75,7 +75,7 @@ fn scan_form(tokens: &[Token<'_>]) -> Option<Form>
 
 /// `I update K X`.
 #[tactic(auto, unfolding(snap_semantics::specs::ScheduleForms::update_form))]
-fn update_form(tokens: &[Token<'_>]) -> Option<Form>
+fn update_form(tokens: &[Token<'_>]) -> Option<ItemForm>
     ensures { Finds view_form result (update_form (view_tokens tokens.now)) }
 {
     let (process, rest) = number_at(tokens)?;
@@ -83,7 +83,7 @@ fn update_form(tokens: &[Token<'_>]) -> Option<Form>
     let (word, rest) = number_at(rest)?;
     let (value, rest) = number_at(rest)?;
     end_at(rest)?;
-    Some(Form::Call {
+    Some(ItemForm::Call {
         process,
         op: Op::Update { word, value },
     })
@@ -91,7 +91,7 @@ fn update_form(tokens: &[Token<'_>]) -> Option<Form>
 
 /// The form that a line is.
 #[tactic(auto, unfolding(snap_semantics::specs::ScheduleForms::item_form))]
-pub fn item_form(tokens: &[Token<'_>]) -> Option<Form>
+pub fn item_form(tokens: &[Token<'_>]) -> Option<ItemForm>
     ensures { Finds view_form result (item_form (view_tokens tokens.now)) }
 {
     if let Some(form) = step_form(tokens) {

@@ -11,7 +11,7 @@ use std::marker::Model;
 
 /// Items that stand side by side: steps of one process, or one call.
 #[derive(Clone, Copy, Debug, PartialEq, Eq)]
-pub enum Run {
+pub enum Stretch {
     Steps { process: u32, count: u64 },
     Call { process: u32, op: Op },
 }
@@ -19,7 +19,7 @@ pub enum Run {
 /// A list of items, kept as its greatest runs: steps of one process side by side take no more room than one.
 #[derive(Debug, Drop)]
 pub struct Items {
-    runs: Vec<Run>,
+    runs: Vec<Stretch>,
     len: u64,
 }
 
@@ -38,11 +38,11 @@ impl Model for Items {
 }
 
 /// How many steps a run is, where it is steps of this process.
-fn steps_of(run: &Run, process: u32) -> Option<u64>
+fn steps_of(run: &Stretch, process: u32) -> Option<u64>
     ensures { result ≡ steps_of process (view_run run.now) }
 {
     match run {
-        Run::Steps {
+        Stretch::Steps {
             process: other,
             count,
         } if *other == process => Some(*count),
@@ -51,7 +51,7 @@ fn steps_of(run: &Run, process: u32) -> Option<u64>
 }
 
 /// How many steps the last run is, where it is steps of this process.
-fn last_steps(runs: &[Run], process: u32) -> Option<u64>
+fn last_steps(runs: &[Stretch], process: u32) -> Option<u64>
     ensures { result ≡ last_count process (map view_run runs.now) }
 {
     if runs.is_empty() {
@@ -61,7 +61,7 @@ fn last_steps(runs: &[Run], process: u32) -> Option<u64>
 }
 
 /// Adds so many steps of a process to greatest runs.
-fn push_run(runs: &mut Vec<Run>, process: u32, count: u64) -> Result<(), AllocError>
+fn push_run(runs: &mut Vec<Stretch>, process: u32, count: u64) -> Result<(), AllocError>
     requires some { 0 < count }
     requires few { length (items_of_runs runs.old.items) + count < 2 ^ 64 }
     ensures added { OnOk result (items_of_runs runs.new.items ≡ items_of_runs runs.old.items ++ replicate count (Step process)) }
@@ -72,12 +72,12 @@ fn push_run(runs: &mut Vec<Run>, process: u32, count: u64) -> Result<(), AllocEr
     match last_steps(runs.as_slice(), process) {
         Some(steps) => {
             let last = runs.len() - 1;
-            runs[last] = Run::Steps {
+            runs[last] = Stretch::Steps {
                 process,
                 count: steps + count,
             };
         }
-        None => runs.push(Run::Steps { process, count })?,
+        None => runs.push(Stretch::Steps { process, count })?,
     }
     Ok(())
 }
@@ -118,7 +118,7 @@ impl Items {
     }
 
     /// The greatest runs of steps, and the calls.
-    pub fn runs(&self) -> &[Run]
+    pub fn runs(&self) -> &[Stretch]
         ensures items { flat_map run_items result.now ≡ self.now }
         ensures greatest { map view_run result.now ≡ forms_of self.now }
         ensures fits { AllByRecursion FitsItem self.now }
@@ -150,7 +150,7 @@ impl Items {
         ensures unchanged { OnErr result (self.new ≡ self.old) }
     {
         let op = fitting(op);
-        self.runs.push(Run::Call { process, op })?;
+        self.runs.push(Stretch::Call { process, op })?;
         self.len += 1;
         Ok(())
     }

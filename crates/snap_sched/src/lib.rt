@@ -10,7 +10,7 @@ mod reading;
 mod schedule;
 
 pub use fault::ScheduleFault;
-pub use items::{Items, Run};
+pub use items::{Items, Stretch};
 pub use laws::{prints_again, reads_all_spelled, reads_only_spelled};
 pub use printing::print;
 pub use reading::read;

@@ -6,7 +6,7 @@ ghost use Rattle.snap_sched.specs.Runs.{view_run};
 ghost use Rattle.snap_sched.specs.Printing.{repeat_text};
 ghost use Rattle.snap_semantics.specs.declared.process.Op.TheVariants.{Scan, Update};
 
-use crate::items::Run;
+use crate::items::Stretch;
 use crate::schedule::Schedule;
 use snap_semantics::Op;
 use snap_text::{push_number, push_text};
@@ -57,16 +57,16 @@ fn push_update(out: &mut Vec<u8>, process: u64, word: u64, value: u64) -> Result
 }
 
 /// Adds the line of a run.
-fn push_run(out: &mut Vec<u8>, run: Run) -> Result<(), AllocError>
+fn push_run(out: &mut Vec<u8>, run: Stretch) -> Result<(), AllocError>
     ensures { OnOk result (out.new.items ≡ out.old.items ++ line_text (spelled_form (view_run run))) }
 {
     match run {
-        Run::Steps { process, count } => push_steps(out, u64::from(process), count),
-        Run::Call {
+        Stretch::Steps { process, count } => push_steps(out, u64::from(process), count),
+        Stretch::Call {
             process,
             op: Op::Scan,
         } => push_scan(out, u64::from(process)),
-        Run::Call {
+        Stretch::Call {
             process,
             op: Op::Update { word, value },
         } => push_update(out, u64::from(process), word, value),
@@ -74,7 +74,7 @@ fn push_run(out: &mut Vec<u8>, run: Run) -> Result<(), AllocError>
 }
 
 /// Adds the lines of runs.
-fn push_runs(out: &mut Vec<u8>, runs: &[Run]) -> Result<(), AllocError>
+fn push_runs(out: &mut Vec<u8>, runs: &[Stretch]) -> Result<(), AllocError>
     ensures { OnOk result (out.new.items ≡ out.old.items ++ forms_text (map view_run runs.now)) }
 {
     for run in runs {

@@ -12,7 +12,7 @@ ghost use Rattle.snap_text.specs.Lines.{view_line};
 ghost use Rattle.snap_sched.specs.Reading.{view_form, line_form, first_shape};
 
 use crate::fault::ScheduleFault;
-use crate::forms::{Form, item_form, shape_form};
+use crate::forms::{ItemForm, item_form, shape_form};
 use crate::items::Items;
 use crate::schedule::{MAX_BYTES, MAX_ITEMS, Schedule};
 use snap_semantics::ScheduleRefusal;
@@ -21,12 +21,12 @@ use snap_words::Shape;
 use std::alloc::{AllocError, Global};
 
 /// The form, where its process is one of `n` and no more than `left` items come of it.
-fn admitted(n: u64, left: u64, line: u64, form: Form) -> Result<Form, ScheduleRefusal>
+fn admitted(n: u64, left: u64, line: u64, form: ItemForm) -> Result<ItemForm, ScheduleRefusal>
     ensures { Gives view_form result (admitted n left line (view_form form)) }
 {
     let (process, count) = match form {
-        Form::Steps { process, count } => (process, count),
-        Form::Call { process, .. } => (process, 1),
+        ItemForm::Steps { process, count } => (process, count),
+        ItemForm::Call { process, .. } => (process, 1),
     };
     if process == 0 || n < process {
         return Err(ScheduleRefusal::NoSuchProcess(line));
@@ -38,7 +38,7 @@ fn admitted(n: u64, left: u64, line: u64, form: Form) -> Result<Form, ScheduleRe
 }
 
 /// The form that a line is.
-fn line_form(n: u64, left: u64, line: &TokenLine<'_>) -> Result<Form, ScheduleRefusal>
+fn line_form(n: u64, left: u64, line: &TokenLine<'_>) -> Result<ItemForm, ScheduleRefusal>
     ensures { Gives view_form result (line_form n left (view_line line.now)) }
 {
     let found = match &line.tokens {
@@ -52,15 +52,15 @@ fn line_form(n: u64, left: u64, line: &TokenLine<'_>) -> Result<Form, ScheduleRe
 }
 
 /// Adds the items of a form.
-fn push_form(items: &mut Items, form: Form) -> Result<(), AllocError>
+fn push_form(items: &mut Items, form: ItemForm) -> Result<(), AllocError>
     requires process { form_process (view_form form) < 2 ^ 32 }
     requires few { length items.old + form_count (view_form form) < 2 ^ 64 }
     ensures added { OnOk result (items.new ≡ items.old ++ form_items (view_form form)) }
     ensures fits { AllByRecursion FitsItem items.new }
 {
     match form {
-        Form::Steps { process, count } => items.push_steps(process as u32, count),
-        Form::Call { process, op } => items.push_call(process as u32, op),
+        ItemForm::Steps { process, count } => items.push_steps(process as u32, count),
+        ItemForm::Call { process, op } => items.push_call(process as u32, op),
     }
 }
 

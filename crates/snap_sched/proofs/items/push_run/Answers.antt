@@ -1,7 +1,7 @@
 use Rattle.std.proofs.Common.{◌<◌, ◌+◌, ◌-◌, length, refl, sym, ap, ◌∙◌, arith, Some, None}
 use Rattle.snap_sched.proofs.Fits.{steps_join_fit}
 use Rattle.snap_sched.proofs.Greatest.{added_items, last_fits, last_place, found_in, grown_items, grown_greatest, steps_greatest}
-use Rattle.snap_sched.specs.declared.items.Run.TheVariants.{Steps}
+use Rattle.snap_sched.specs.declared.items.Stretch.TheVariants.{Steps}
 use Rattle.snap_sched.proofs.items.push_run.Goals as goal
 
 pub overflow_add-steps : goal.overflow_add-steps

@@ -3,7 +3,7 @@ use Rattle.std.proofs.lemmas.List.{length-append}
 use Rattle.std.specs.List.{AllByRecursion}
 use Rattle.snap_semantics.specs.ScheduleText.{FitsItem, FitsWords}
 use Rattle.snap_sched.specs.Runs.{items_of_runs}
-use Rattle.snap_sched.specs.declared.items.Run.TheVariants.{Call}
+use Rattle.snap_sched.specs.declared.items.Stretch.TheVariants.{Call}
 use Rattle.snap_sched.proofs.Fits.{joined_fit}
 use Rattle.snap_sched.proofs.Greatest.{call_greatest, added_items}
 use Rattle.snap_sched.proofs.items.Items.push_call.Goals as goal

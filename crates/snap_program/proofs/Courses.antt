@@ -12,8 +12,8 @@ use Rattle.snap_semantics.specs.Run.{after, events, event_of}
 use Rattle.snap_semantics.specs.Source.{Source}
 use Rattle.snap_semantics.specs.State.{State}
 use Rattle.snap_semantics.specs.Table.{done, who}
-use Rattle.snap_sched.specs.declared.items.Run.{Run}
-use Rattle.snap_sched.specs.declared.items.Run.TheVariants as runs
+use Rattle.snap_sched.specs.declared.items.Stretch.{Stretch}
+use Rattle.snap_sched.specs.declared.items.Stretch.TheVariants as runs
 use Rattle.snap_sched.specs.Runs.{run_items, items_of_runs}
 use Rattle.snap_semantics.specs.declared.event.Event.{Event}
 use Rattle.snap_semantics.specs.declared.process.Item.{Item}
@@ -102,7 +102,7 @@ first_steps most count i = first_steps_by most count i (cases_lt most count)
         ∙ ap (λ n. steps n i) (let e : count ≡ min most count = omega (arith, h) in e)
 
 -- the first steps of a run of them
-pub steps_of_run : {K W : Type 0} (old new : Course K W) (run : Run) (most count i : ℕ) → run ≡ runs.Steps i count → GoesOn old (steps (min most count) i) new → GoesOn old (take most (run_items run)) new
+pub steps_of_run : {K W : Type 0} (old new : Course K W) (run : Stretch) (most count i : ℕ) → run ≡ runs.Steps i count → GoesOn old (steps (min most count) i) new → GoesOn old (take most (run_items run)) new
 steps_of_run old new run most count i is h =
     let P : List Item → Type 0 = λ xs. GoesOn old xs new in
     subst P (sym (ap (λ r. take most (run_items r)) is ∙ first_steps most count i)) h
@@ -121,7 +121,7 @@ take_past n xs ys = take_past_by n xs ys (cases_lt n (length xs))
         ∙ ap (λ zs. zs ++ take (n - length xs) ys) (sym (take_all n xs h))
 
 -- the items of the first runs, and those of one run more
-items_of_more : (rs : List Run) (k : ℕ) (d : Run) → k < length rs
+items_of_more : (rs : List Stretch) (k : ℕ) (d : Stretch) → k < length rs
     → items_of_runs (take (k + 1) rs) ≡ items_of_runs (take k rs) ++ run_items (get_or rs k d)
 items_of_more rs k d lt =
     ap items_of_runs (take_more rs k d lt) ∙ flat_map-append run_items (take k rs) (get_or rs k d ∷ [])
@@ -132,7 +132,7 @@ pub within : {K W : Type 0} (old mid : Course K W) (count : ℕ) (xs : List Item
 within old mid count xs h = let e = h.position in let l = length-take count xs in omega (arith, e, l)
 
 -- one run more
-pub one_more_run : {K W : Type 0} (old mid new : Course K W) (count k : ℕ) (rs : List Run) (d : Run) → k < length rs
+pub one_more_run : {K W : Type 0} (old mid new : Course K W) (count k : ℕ) (rs : List Stretch) (d : Stretch) → k < length rs
     → GoesOn old (take count (items_of_runs (take k rs))) mid
     → GoesOn mid (take (old.position + count - mid.position) (run_items (get_or rs k d))) new
     → GoesOn old (take count (items_of_runs (take (k + 1) rs))) new
@@ -147,7 +147,7 @@ one_more_run old mid new count k rs d lt h more =
     subst P (sym taken) (goes_further old mid new (take count before) (take (old.position + count - mid.position) next) h more)
 
 -- all runs
-pub all_runs : {K W : Type 0} (old new : Course K W) (count k : ℕ) (rs : List Run) (xs : List Item) → length rs ≤ k → items_of_runs rs ≡ xs
+pub all_runs : {K W : Type 0} (old new : Course K W) (count k : ℕ) (rs : List Stretch) (xs : List Item) → length rs ≤ k → items_of_runs rs ≡ xs
     → GoesOn old (take count (items_of_runs (take k rs))) new → GoesOn old (take count xs) new
 all_runs old new count k rs xs all is h =
     let P : List Item → Type 0 = λ ys. GoesOn old ys new in
@@ -157,13 +157,13 @@ front_all : (P : Item → Type 0) (xs ys : List Item) → AllByRecursion P (xs +
 front_all P [] ys h = (tt, h)
 front_all P (x ∷ xs) ys h = let r = front_all P xs ys h.1 in ((h.0, r.0), r.1)
 
-run_all : (P : Item → Type 0) (rs : List Run) (k : ℕ) (d : Run) → k < length rs → AllByRecursion P (items_of_runs rs) → AllByRecursion P (run_items (get_or rs k d))
+run_all : (P : Item → Type 0) (rs : List Stretch) (k : ℕ) (d : Stretch) → k < length rs → AllByRecursion P (items_of_runs rs) → AllByRecursion P (run_items (get_or rs k d))
 run_all P [] k d lt h = absurd (omega (arith, lt))
 run_all P (r ∷ rs) zero d lt h = (front_all P (run_items r) (items_of_runs rs) h).0
 run_all P (r ∷ rs) (suc k) d lt h = run_all P rs k d (omega (arith, lt)) (front_all P (run_items r) (items_of_runs rs) h).1
 
 -- the processes of a run are there
-pub run_processes : (n m : ℕ) (rs : List Run) (k : ℕ) (d : Run) (xs : List Item) → k < length rs → items_of_runs rs ≡ xs → m ≡ n
+pub run_processes : (n m : ℕ) (rs : List Stretch) (k : ℕ) (d : Stretch) (xs : List Item) → k < length rs → items_of_runs rs ≡ xs → m ≡ n
     → AllByRecursion (λ x. IsOneOf n (who x)) xs → AllByRecursion (λ x. IsOneOf m (who x)) (run_items (get_or rs k d))
 run_processes n m rs k d xs lt is same h =
     let P : List Item → Type 0 = λ ys. AllByRecursion (λ x. IsOneOf n (who x)) ys in

@@ -11,7 +11,7 @@ ghost use Rattle.snap_program.specs.Courses.{GoesOn, of_option, steps};
 
 use snap_asm::Program;
 use snap_machine::Machine;
-use snap_sched::{Items, Run};
+use snap_sched::{Items, Stretch};
 use snap_semantics::{Event, Happening, Item, Outcome};
 use snap_words::{Kind, Shape};
 use std::alloc::{AllocError, Global};
@@ -126,7 +126,7 @@ impl<K: Kind> Course<K> {
 
     /// Does the first items of a run, at most so many.
     #[tactic(auto, using(crate::proofs::Courses::no_items))]
-    fn apply_run(&mut self, run: &Run, most: u64) -> Result<(), AllocError>
+    fn apply_run(&mut self, run: &Stretch, most: u64) -> Result<(), AllocError>
         requires process { AllByRecursion (λ x. IsOneOf self.old.machine.shape.n (who x)) (run_items run.now) }
         requires few { self.old.position + most < 2 ^ 64 }
         ensures { OnOk result (GoesOn self.old (take most (run_items run.now)) self.new) }
@@ -135,8 +135,8 @@ impl<K: Kind> Course<K> {
             return Ok(());
         }
         match run {
-            Run::Steps { process, count } => self.apply_steps(*process, most.min(*count)),
-            Run::Call { process, op } => self.apply(Item::Call(*process, *op)),
+            Stretch::Steps { process, count } => self.apply_steps(*process, most.min(*count)),
+            Stretch::Call { process, op } => self.apply(Item::Call(*process, *op)),
         }
     }
 

@@ -1,4 +1,3 @@
 pub mod Contents
-pub mod Places
 pub mod Puts
 pub mod Words

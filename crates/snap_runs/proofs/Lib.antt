@@ -27,3 +27,7 @@ pub mod Order
 pub mod Linear
 pub mod OneItem
 pub mod Audits
+pub mod ItemCases
+pub mod OwnUpdates
+pub mod EmbeddedScans
+pub mod Lenders

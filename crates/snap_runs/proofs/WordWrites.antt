@@ -116,7 +116,7 @@ module _ {V P M : Type 0} (a : Algorithm V P M) (lines : Lines V P M) (line : �
           pub control : (at t i).control ≡ At (Updating word value) writer.counter
           pub words_are : words_at (suc t) ≡ slice_set (words_at t) (word - 1) (writer.put i word value (typed_state a items t).memory (at t i).variables)
 
-        written : (t i : ℕ) (d : Task) → t < length items → item_at items t ≡ Step i → (at t i).control ≡ At d writer.counter → Written t i
+        pub written : (t i : ℕ) (d : Task) → t < length items → item_at items t ≡ Step i → (at t i).control ≡ At d writer.counter → Written t i
         written t i d h is there =
             let up = update_of (writer.Owned i) d (updates t i d h (executing.one_of a items run.fits run.does t i h is) there) in
             let control : (at t i).control ≡ At (Updating up.0 up.1) writer.counter = there ∙ ap (λ y. At y writer.counter) up.3 in

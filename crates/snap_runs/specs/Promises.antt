@@ -1,14 +1,15 @@
 -- What a snapshot promises of a run.
-use Rattle.std.specs.Prelude.{◌≡◌, ℕ, suc, ◌-◌, ◌<◌, ◌≤◌, ◌⊎◌, true, List, [], length, Option, slice_index, slice_set}
+use Rattle.std.specs.Prelude.{◌≡◌, ◌≢◌, ℕ, suc, ◌-◌, ◌<◌, ◌≤◌, ◌⊎◌, true, List, [], length, Option, Some, None, slice_index, slice_set}
 use Rattle.snap_words.specs.Shape.{IsOneOf}
+use Rattle.snap_semantics.specs.declared.process.Op.TheVariants.{Update}
 use Rattle.snap_semantics.specs.declared.process.Status.{Status}
-use Rattle.snap_semantics.specs.declared.process.Status.TheVariants.{Trapped}
+use Rattle.snap_semantics.specs.declared.process.Status.TheVariants.{Busy, Trapped}
 use Rattle.snap_semantics.specs.Source.{Name}
 use Rattle.snap_semantics.specs.State.{Locals, value_at, process_at, values}
 use Rattle.snap_semantics.specs.Table.{who}
 use Rattle.snap_runs.specs.Run.{Run, Fits, state, before, item}
 use Rattle.snap_runs.specs.Scan.{Scan, Finished, HasPoint, count, double_collects, own_steps}
-use Rattle.snap_runs.specs.Update.{executes, IsDone, Updating}
+use Rattle.snap_runs.specs.Update.{is_at, executes, IsDone, Updating}
 
 -- a process that has trapped
 abbrev pub HasTrapped : Status → Type 0
@@ -70,3 +71,70 @@ pub record RecentWrite (r : Run) (line : ℕ) (i j c t : ℕ) : Type 0 where
 abbrev pub MovesAreWrites : ℕ → Name → ℕ → Run → Type 0
 MovesAreWrites raises row writes r = Fits r → (i j : ℕ) (link : Option ℕ) (c t : ℕ) → Scan r i link c t → c < t →
     ObservedMove r raises row i j t → RecentWrite r writes i j c t
+
+-- The lines of a listing's double collect: line `first` reads word k into the first copies and line `second` reads it into the
+-- second ones, where k is this scalar; line `test` leads to line `passed` where the copies agree.
+pub record CollectLines : Type 0 where
+  pub first : ℕ
+  pub second : ℕ
+  pub scalar : Name
+  pub test : ℕ
+  pub passed : ℕ
+
+-- At item t process i executes this line with k in this scalar.
+abbrev pub ExecutesFor : Run → ℕ → ℕ → Name → ℕ → ℕ → Type 0
+ExecutesFor r i line scalar k t = (executes r i line t ≡ true) × (value_at scalar (process_at (before r t) i).locals.scalars 0 ≡ k)
+
+-- in an update of this word
+abbrev pub IsUpdating : ℕ → Status → Type 0
+IsUpdating word (Busy a) = (value : ℕ) × (a.op ≡ Update word value)
+IsUpdating word _ = ⊥
+
+-- At item t some process executes this line in an update of word k.
+abbrev pub WritesWord : Run → ℕ → ℕ → ℕ → Type 0
+WritesWord r line k t = (i : ℕ) × IsOneOf r.shape.n i × (executes r i line t ≡ true) × IsUpdating k (process_at (before r t) i).status
+
+-- Process i reads word k twice in the double collect that ends at item t, before and after state `middle`, and in between
+-- nobody writes that word.
+pub record CleanReads (r : Run) (lines : CollectLines) (writes i c t middle k : ℕ) : Type 0 where
+  pub first : ℕ
+  pub second : ℕ
+  pub reads_first : ExecutesFor r i lines.first lines.scalar k first
+  pub reads_second : ExecutesFor r i lines.second lines.scalar k second
+  -- from the scan's start on, and since its previous double collect
+  pub after_start : c < first
+  pub recent : double_collects r i first t ≤ 1
+  pub before_middle : first ≤ middle
+  pub after_middle : middle < second
+  pub before_test : second < t
+  pub unwritten : (u : ℕ) → first < u → u < second → WritesWord r writes k u → ⊥
+
+-- A passed test of a scan is clean: there is a state between its collects, and no word is written between the scan's two reads of it.
+abbrev pub PassedTestsAreClean : CollectLines → ℕ → Run → Type 0
+PassedTestsAreClean lines writes r = Fits r → (i : ℕ) (link : Option ℕ) (c t : ℕ) → Scan r i link c t → c < t →
+    executes r i lines.test t ≡ true → is_at lines.passed (process_at (state r t) i).status ≡ true →
+    (middle : ℕ) × ((k : ℕ) → IsOneOf r.shape.w k → CleanReads r lines writes i c t middle k)
+
+-- The view is that of an embedded scan of another process which lies within items c to e.
+pub record LentView (r : Run) (i c e : ℕ) (view : List ℕ) : Type 0 where
+  pub lender : ℕ
+  pub other : lender ≢ i
+  pub link : ℕ
+  pub from : ℕ
+  pub to : ℕ
+  pub after_start : c < from
+  pub before_end : to < e
+  pub scan : Finished r lender (Some link) from to view
+
+-- A scan that ends at this line has the view of a whole embedded scan of another process within it.
+abbrev pub BorrowedViewsAreLent : ℕ → Run → Type 0
+BorrowedViewsAreLent line r = Fits r → (i : ℕ) (link : Option ℕ) (c e : ℕ) (view : List ℕ) → Finished r i link c e view →
+    executes r i line e ≡ true → LentView r i c e view
+
+-- A scan that a process calls after an update of its own shows that update's value, where no other one of its updates is done
+-- between.
+abbrev pub OwnUpdatesAreSeen : Run → Type 0
+OwnUpdatesAreSeen r = Fits r → (i word value called done c e : ℕ) (view : List ℕ) →
+    Updating r i word value called done → called < done → IsDone r i done →
+    done < c → ((t : ℕ) → done < t → t < c → IsDone r i t → ⊥) →
+    Finished r i None c e view → slice_index view (word - 1) ≡ value

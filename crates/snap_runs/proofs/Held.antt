@@ -22,6 +22,25 @@ Held history t lo v = (u : ℕ) × (lo ≤ u) × (u ≤ t) × (data_of (history 
 pub held_wider : (history : ℕ → List Word) (t t' lo lo' : ℕ) (v : List ℕ) → t ≤ t' → lo' ≤ lo → Held history t lo v → Held history t' lo' v
 held_wider history t t' lo lo' v e f h = (h.0, omega arith, omega arith, h.3)
 
+-- after two writes or more since item lo this view stood beside a word of process k
+abbrev pub Beside : (ℕ → List Word) → ℕ → ℕ → ℕ → List ℕ → Type 0
+Beside history t lo k v = (u : ℕ) × (lo ≤ u) × (u ≤ t) × (seq_at (history lo) k + 2 ≤ seq_at (history u) k) × ((word_at (history u) k).view ≡ v)
+
+pub beside_wider : (history : ℕ → List Word) (t t' lo k : ℕ) (v : List ℕ) → t ≤ t' → Beside history t lo k v → Beside history t' lo k v
+beside_wider history t t' lo k v e h = (h.0, h.1, omega arith, h.3, h.4)
+
+pub beside_now : (history : ℕ → List Word) (t lo k : ℕ) (words : List Word) → history t ≡ words → lo ≤ t → seq_at (history lo) k + 2 ≤ seq_at words k →
+    Beside history t lo k (word_at words k).view
+beside_now history t lo k words now le two =
+    (t, le, omega arith, subst (λ ws. seq_at (history lo) k + 2 ≤ seq_at ws k) (sym now) two, ap (λ ws. (word_at ws k).view) now)
+
+-- it was held, and stood so
+abbrev pub Lent : (ℕ → List Word) → ℕ → ℕ → ℕ → List ℕ → Type 0
+Lent history t lo k v = Held history t lo v × Beside history t lo k v
+
+pub lent_wider : (history : ℕ → List Word) (t t' lo k : ℕ) (v : List ℕ) → t ≤ t' → Lent history t lo k v → Lent history t' lo k v
+lent_wider history t t' lo k v e h = (held_wider history t t' lo lo v e (omega arith) h.0, beside_wider history t t' lo k v e h.1)
+
 -- the words at item t are the words now
 pub at_most_now : (history : ℕ → List Word) (words : List Word) (t : ℕ) → history t ≡ words → (k : ℕ) → seq_at (history t) k ≤ seq_at words k
 at_most_now history words t now k = let e : seq_at (history t) k ≡ seq_at words k = ap (λ w. seq_at w k) now in omega arith

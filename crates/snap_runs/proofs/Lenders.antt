@@ -125,7 +125,7 @@ module _ {V P M : Type 0} (a : Algorithm V P M) (lines : Lines V P M) (line : �
           link = a.back;
           from = (at v j).auxiliary.since;
           to = lent.to;
-          after_start = (elim (eq-or-lt_of_le no_earlier) [ | inl same ↦ absurd (differ (sym same)) | inr less ↦ less ]);
+          after_start = (elim (eq-or-lt_of_le no_earlier) [ inl same ↦ absurd (differ (sym same)) | inr less ↦ less ]);
           before_end = omega arith;
           scan = subst (λ y. Finished r j (Some a.back) (at v j).auxiliary.since lent.to y) its_view lent.scan;
         }

@@ -151,7 +151,7 @@ module _ {V P M : Type 0} (a : Algorithm V P M) (lines : Lines V P M) (line : �
           first = under.first;
           order = omega arith;
           last = short;
-          goes_on = λ u after before ends. elim (cases_lt t u) [ | inl late ↦ none u (omega arith) before ends | inr early ↦ under.open_still u after early ends ];
+          goes_on = λ u after before ends. elim (cases_lt t u) [ inl late ↦ none u (omega arith) before ends | inr early ↦ under.open_still u after early ends ];
         })
         (omega arith) call out
 

@@ -7,7 +7,7 @@ use Rattle.std.proofs.lemmas.List.{get_or-set_other}
 use Rattle.snap_words.specs.Shape.{IsOneOf}
 use Rattle.snap_words.specs.Word.{Word, no_word}
 use Rattle.snap_semantics.specs.Table.{places_to, all_true}
-use Rattle.snap_runs.proofs.Held.{word_at, Held, data_of, seq_at, WordBefore, squeezed, same_data}
+use Rattle.snap_runs.proofs.Held.{word_at, Held, Lent, beside_now, data_of, seq_at, WordBefore, squeezed, same_data}
 use Rattle.snap_runs.proofs.Computing.{same_from, differs}
 use Rattle.snap_runs.proofs.Places.{all_pass}
 use Rattle.snap_runs_of_u.proofs.Algorithm.{Words, Variables, compared, agree}
@@ -45,7 +45,7 @@ pub record Second (n : ℕ) (history : ℕ → Words) (t since round : ℕ) (wor
   pub read : (k : ℕ) → IsOneOf n k → k < j → WordBefore (word_at between k) (word_at b k) × WordBefore (word_at b k) (word_at words k)
   pub now : (k : ℕ) → IsOneOf n k → WordBefore (word_at between k) (word_at words k)
   -- the views that the second collect read are as those of the registers
-  pub views : (k : ℕ) → IsOneOf n k → k < j → seq_at (history since) k + 2 ≤ seq_at b k → Held history t since (word_at b k).view
+  pub views : (k : ℕ) → IsOneOf n k → k < j → seq_at (history since) k + 2 ≤ seq_at b k → Lent history t since k (word_at b k).view
 
 -- There is such a state since the scan's start.
 abbrev pub Between : ℕ → (ℕ → Words) → ℕ → ℕ → ℕ → Words → List ℕ → Words → Words → ℕ → Type 0
@@ -58,7 +58,7 @@ pub record Gained (n : ℕ) (history : ℕ → Words) (t since : ℕ) (words : W
   -- the words now are not older than the second collect
   pub before : (k : ℕ) → IsOneOf n k → WordBefore (word_at b k) (word_at words k)
   -- the views that it read are as those of the registers
-  pub views : (k : ℕ) → IsOneOf n k → seq_at (history since) k + 2 ≤ seq_at b k → Held history t since (word_at b k).view
+  pub views : (k : ℕ) → IsOneOf n k → seq_at (history since) k + 2 ≤ seq_at b k → Lent history t since k (word_at b k).view
 
 -- a first copy has the same word and the same number of moves
 same_copy : (base opening : Words) (moved : List ℕ) (x y now : Words) (k : ℕ) → word_at x k ≡ word_at y k → FirstCopy base opening moved x now k →
@@ -97,10 +97,10 @@ second_starts n history t since round words moved a b now le h =
 
 -- line 14 reads one more word
 pub second_more : (n : ℕ) (history : ℕ → Words) (t since round : ℕ) (words : Words) (moved : List ℕ) (a b : Words) (j : ℕ) → IsOneOf n j →
-    n ≤ length b →
+    n ≤ length b → history t ≡ words → since ≤ t →
     Viewed n history t since words → Between n history t since round words moved a b j →
     Between n history t since round words moved a (slice_set b (j - 1) (word_at words j)) (j + 1)
-second_more n history t since round words moved a b j i len v h =
+second_more n history t since round words moved a b j i len now le v h =
     let s : Second n history t since round words moved a b j (history h.0) = h.3 in (
       h.0,
       h.1,
@@ -116,10 +116,10 @@ second_more n history t since round words moved a b j i len v h =
               | inr other ↦ subst P (sym (get_or-set_other b (j - 1) (k - 1) (word_at words j) no_word (λ same. other (omega arith)))) (s.read k ik (omega arith))
             ];
         views = λ k ik lt.
-            let P : Word → Type 0 = λ w. seq_at (history since) k + 2 ≤ w.seq → Held history t since w.view in
+            let P : Word → Type 0 = λ w. seq_at (history since) k + 2 ≤ w.seq → Lent history t since k w.view in
             elim (cases_eq k j) [
               | inl same ↦ subst P (sym (get_or-set_at b (j - 1) (k - 1) (word_at words j) no_word (omega arith) (omega arith)))
-                  (subst (λ x. P (word_at words x)) same (v k ik))
+                  (subst (λ x. P (word_at words x)) same (λ more. (v k ik more, beside_now history t since k words now le more)))
               | inr other ↦ subst P (sym (get_or-set_other b (j - 1) (k - 1) (word_at words j) no_word (λ same. other (omega arith)))) (s.views k ik (omega arith))
             ];
       },

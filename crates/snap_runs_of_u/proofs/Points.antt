@@ -13,7 +13,7 @@ use Rattle.snap_runs_of_u.proofs.Stage.{Stage}
 return_held : (n : ℕ) (history : ℕ → Words) (t since round : ℕ) (m : Words) (p : Variables) (k : ProgramCounter) → lines.IsReturn k →
     Stage n history t since round m p k → Held history t since p.s
 return_held n history t since round m p k (inl is) h = subst (Stage n history t since round m p) is h
-return_held n history t since round m p k (inr is) h = subst (Stage n history t since round m p) is h
+return_held n history t since round m p k (inr is) h = (subst (Stage n history t since round m p) is h).0
 
 pub have_points_lem : HavePoints
 have_points_lem n items fits =

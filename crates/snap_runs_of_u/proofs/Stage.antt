@@ -5,7 +5,7 @@ use Rattle.std.proofs.lemmas.List.{length-set}
 use Rattle.snap_semantics.specs.Table.{places_to, all_true, first_true}
 use Rattle.snap_runs.proofs.Algorithm.{Task, Scanning, Embedded, Updating, To, Begin, Answer, Finish}
 use Rattle.snap_runs.proofs.Computing.{not_lt, same_from, either, whether}
-use Rattle.snap_runs.proofs.Held.{word_at, Held, held_wider, data_of, seq_at, before_trans, before_seq, Grows}
+use Rattle.snap_runs.proofs.Held.{word_at, Held, held_wider, Beside, beside_wider, Lent, lent_wider, data_of, seq_at, before_trans, before_seq, Grows}
 use Rattle.snap_runs.proofs.Places.{for_each_at, first_found}
 use Rattle.snap_words.specs.Shape.{IsOneOf}
 use Rattle.snap_runs_of_u.proofs.Algorithm.{Words, Move, Variables, ProgramCounter, L10, L11, L12, L13, L14, L15, L16, L17, L18, L19, L21, L22, L23, L24, L30, L31, L32, L33, move, first_to, agree, limit, moved_at, counted, at_limit, IsLineOf, restarts, writes}
@@ -33,9 +33,9 @@ Stage n history t since round words p L19 = Low n (history since) words p.moved
 -- the double collect has passed: the second copies were the values at some state since the scan's start; then so is s
 Stage n history t since round words p L21 = Held history t since (data_of (take n p.b))
 Stage n history t since round words p L22 = Held history t since p.s
--- process j has moved up to the limit, so that the view beside its second write will do; then so does s
+-- process j has moved up to the limit, so that the view beside its second write will do; then s is that view
 Stage n history t since round words p L23 = Gained n history t since words p.moved p.b × (moved_at p p.j ≡ limit)
-Stage n history t since round words p L24 = Held history t since p.s
+Stage n history t since round words p L24 = Held history t since p.s × ((k : ℕ) × IsOneOf n k × Beside history t since k p.s)
 -- an update has no view yet, then that of its embedded scan, until it has written it
 Stage n history t since round words p L30 = Unit {0}
 Stage n history t since round words p L31 = Held history t since p.s
@@ -92,7 +92,7 @@ stage_move n me history t since round words d p L13 known h =
     ))
 stage_move n me history t since round words d p L14 known h =
     let len : length p.b ≡ max n n = known.length_b in
-    (h.0, second_more n history t since round words p.moved p.a p.b p.j known.keeps.0 (omega arith) known.views h.1)
+    (h.0, second_more n history t since round words p.moved p.a p.b p.j known.keeps.0 (omega arith) known.now known.since_le known.views h.1)
 stage_move n me history t since round words d p L15 known h =
     let inside : IsOneOf n p.j = known.keeps.0 in
     either (StageMove n history t since round) (nat_lt p.j n) _ _ (λ b. h)
@@ -128,9 +128,12 @@ stage_move n me history t since round words (Embedded w x) p L22 known h = h
 stage_move n me history t since round words (Updating w x) p L22 known h = absurd known.line
 stage_move n me history t since round words d p L23 known h =
     let g : Gained n history t since words p.moved p.b = h.0 in
-    g.views p.j known.keeps (let l : floor (history since) p.moved p.j ≤ seq_at p.b p.j = g.low p.j known.keeps in let moves : moved_at p p.j ≡ limit = h.1 in omega arith)
-stage_move n me history t since round words Scanning p L24 known h = h
-stage_move n me history t since round words (Embedded w x) p L24 known h = h
+    let l : floor (history since) p.moved p.j ≤ seq_at p.b p.j = g.low p.j known.keeps in
+    let moves : moved_at p p.j ≡ limit = h.1 in
+    let lent : Lent history t since p.j (word_at p.b p.j).view = g.views p.j known.keeps (omega arith) in
+    (lent.0, (p.j, known.keeps, lent.1))
+stage_move n me history t since round words Scanning p L24 known h = h.0
+stage_move n me history t since round words (Embedded w x) p L24 known h = h.0
 stage_move n me history t since round words (Updating w x) p L24 known h = absurd known.line
 stage_move n me history t since round words Scanning p L30 known h = absurd known.line
 stage_move n me history t since round words (Embedded w x) p L30 known h = absurd known.line
@@ -165,7 +168,7 @@ between_kept n history t t' since round words words' moved a b j le g h =
         first = s.first;
         read = λ k i lt. let r = s.read k i lt in (r.0, before_trans (word_at b k) (word_at words k) (word_at words' k) r.1 (g k i));
         now = λ k i. before_trans (word_at (history h.0) k) (word_at words k) (word_at words' k) (s.now k i) (g k i);
-        views = λ k i lt more. held_wider history t t' since since (word_at b k).view le (omega arith) (s.views k i lt more);
+        views = λ k i lt more. lent_wider history t t' since k (word_at b k).view le (s.views k i lt more);
       },
     )
 
@@ -174,7 +177,7 @@ pub gained_kept : (n : ℕ) (history : ℕ → Words) (t t' since : ℕ) (words 
 gained_kept n history t t' since words words' moved b le g h = record {
   low = h.low;
   before = λ k i. before_trans (word_at b k) (word_at words k) (word_at words' k) (h.before k i) (g k i);
-  views = λ k i more. held_wider history t t' since since (word_at b k).view le (omega arith) (h.views k i more);
+  views = λ k i more. lent_wider history t t' since k (word_at b k).view le (h.views k i more);
 }
 
 pub stage_kept : (n : ℕ) (history : ℕ → Words) (t t' since round : ℕ) (words words' : Words) (p : Variables) (k : ProgramCounter) → t ≤ t' →
@@ -199,7 +202,8 @@ stage_kept n history t t' since round words words' p L19 le g h = low_kept n (hi
 stage_kept n history t t' since round words words' p L21 le g h = held_wider history t t' since since (data_of (take n p.b)) le (omega arith) h
 stage_kept n history t t' since round words words' p L22 le g h = held_wider history t t' since since p.s le (omega arith) h
 stage_kept n history t t' since round words words' p L23 le g h = (gained_kept n history t t' since words words' p.moved p.b le g h.0, h.1)
-stage_kept n history t t' since round words words' p L24 le g h = held_wider history t t' since since p.s le (omega arith) h
+stage_kept n history t t' since round words words' p L24 le g h =
+    (held_wider history t t' since since p.s le (omega arith) h.0, (h.1.0, h.1.1, beside_wider history t t' since h.1.0 p.s le h.1.2))
 stage_kept n history t t' since round words words' p L30 le g h = tt
 stage_kept n history t t' since round words words' p L31 le g h = held_wider history t t' since since p.s le (omega arith) h
 stage_kept n history t t' since round words words' p L32 le g h = held_wider history t t' since since p.s le (omega arith) h

@@ -49,3 +49,11 @@ MovesAreWrites = (n : ℕ) (items : List Item) → promises.MovesAreWrites 17 mo
 -- The sharp bound: no process sees itself move, so that every scan has at most n double collects.
 abbrev pub SharpCollects : Type 0
 SharpCollects = (n : ℕ) (items : List Item) → promises.CollectsAtMost n (run_of n items)
+
+-- A scan that returns at line 24 has the view of an embedded scan of another process, all within it.
+abbrev pub BorrowedViewsAreLent : Type 0
+BorrowedViewsAreLent = (n : ℕ) (items : List Item) → promises.BorrowedViewsAreLent 24 (run_of n items)
+
+-- A scan shows the value of its process's last update.
+abbrev pub OwnUpdatesAreSeen : Type 0
+OwnUpdatesAreSeen = (n : ℕ) (items : List Item) → promises.OwnUpdatesAreSeen (run_of n items)

@@ -1,7 +1,7 @@
 //! Listing U, and what every run of it keeps.
 #![tactic(auto)]
 
-ghost use Rattle.snap_runs_of_u.specs.Promises.{NeverTraps, ChangesOnlyAt32, WritesItsUpdate, WritesOnce, HavePoints, FewCollects, FewSteps, MovesAreWrites, SharpCollects};
+ghost use Rattle.snap_runs_of_u.specs.Promises.{NeverTraps, ChangesOnlyAt32, WritesItsUpdate, WritesOnce, HavePoints, FewCollects, FewSteps, MovesAreWrites, SharpCollects, BorrowedViewsAreLent, OwnUpdatesAreSeen};
 
 /// No process ever traps.
 pub fn never_traps()
@@ -47,4 +47,14 @@ pub fn moves_are_writes()
 /// No process sees itself move: every scan has at most n double collects.
 pub fn sharp_collects()
     ensures { SharpCollects }
+{}
+
+/// A scan that borrows a view, and returns it at line 24, has that of an embedded scan of another process, all within it.
+pub fn borrowed_views_are_lent()
+    ensures { BorrowedViewsAreLent }
+{}
+
+/// A scan that a process calls after an update of its own shows that update's value.
+pub fn own_updates_are_seen()
+    ensures { OwnUpdatesAreSeen }
 {}

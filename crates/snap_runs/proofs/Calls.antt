@@ -1,5 +1,5 @@
 -- The calls of a run, for any listing: under which one a process is, and that no two of a process are open at once.
-use Rattle.std.specs.Prelude.{◌≡◌, ◌≢◌, ℕ, zero, suc, ◌-◌, ◌<◌, ◌≤◌, ◌⊎◌, List, length, Option, Some, None, Result, Ok, Err, slice_set, refl}
+use Rattle.std.specs.Prelude.{◌≡◌, ◌≢◌, ℕ, zero, suc, ◌-◌, ◌<◌, ◌≤◌, ◌⊎◌, true, List, length, Option, Some, None, Result, Ok, Err, slice_set, refl}
 use Rattle.std.proofs.Common.{sym, ◌∙◌, ap, subst, arith, inl, inr}
 use Rattle.std.proofs.lemmas.Bool.{cases_eq, cases_lt}
 use Rattle.std.proofs.lemmas.List.Elements.{All-from_recursion}
@@ -21,9 +21,9 @@ use Rattle.snap_semantics.specs.Source.{Source, instr_at}
 use Rattle.snap_semantics.specs.State.{Locals, Memory, Process, State, nobody, process_at, initial_process}
 use Rattle.snap_semantics.specs.Table.{Effect, Goes, Answers, Finishes, effect_at, leave, step, call_skip, called, call, done, who}
 use Rattle.snap_runs.specs.Run.{Run, Fits, state, item, outcome}
-use Rattle.snap_runs.specs.Scan.{Finished}
+use Rattle.snap_runs.specs.Scan.{Finished, is_not_skipped}
 use Rattle.snap_runs.proofs.Embedding.{next_state}
-use Rattle.snap_runs.proofs.Turns.{Turn, skipped, calls, goes, answers, finishes, traps, status_of, own_turn}
+use Rattle.snap_runs.proofs.Turns.{MaySkip, Turn, skipped, calls, goes, answers, finishes, traps, status_of, own_turn}
 
 -- An item leaves a state, or changes its process and perhaps the memory.
 abbrev pub Touches : State → ℕ → State → Type 0
@@ -84,7 +84,7 @@ IsEnd Done = Unit {0}
 IsEnd _ = ⊥
 
 stays_occupied : {s s' : Status} {x : Item} {out : Outcome} (o : Op) → Turn s x out s' → (EndsWith o out → ⊥) → Occupied o s → Occupied o s'
-stays_occupied o (skipped s x why) not_end h = h
+stays_occupied o (skipped s x why may) not_end h = h
 stays_occupied o (calls i p line) not_end h = absurd h
 stays_occupied o (goes i a line link) not_end h = h
 stays_occupied o (answers i a view is) not_end h = absurd (not_end (subst (λ p. EndsWith p (Answered view)) (sym is ∙ h) tt))
@@ -94,7 +94,7 @@ stays_occupied o (traps i a cause) not_end h = tt
 -- a call finds its process idle, and occupies it
 is_called : {s s' : Status} {x : Item} {out : Outcome} (i : ℕ) (o : Op) → Turn s x out s' → out ≡ Called → x ≡ Call i o →
     (s ≡ Idle) × Occupied o s'
-is_called i o (skipped s x why) out is = absurd (cc)
+is_called i o (skipped s x why may) out is = absurd (cc)
 is_called i o (calls k p line) out is = (refl, cc)
 is_called i o (goes k a line link) out is = absurd (cc)
 is_called i o (answers k a view e) out is = absurd (cc)
@@ -104,7 +104,7 @@ is_called i o (traps k a cause) out is = absurd (cc)
 -- an answer ends a scan, and a finish an update
 is_answered : {s s' : Status} {x : Item} {out : Outcome} (view : List ℕ) → Turn s x out s' → out ≡ Answered view →
     (a : Activity) × (s ≡ Busy a) × (a.op ≡ op.Scan)
-is_answered v (skipped s x why) out = absurd (cc)
+is_answered v (skipped s x why may) out = absurd (cc)
 is_answered v (calls k p line) out = absurd (cc)
 is_answered v (goes k a line link) out = absurd (cc)
 is_answered v (answers k a view e) out = (a, refl, e)
@@ -113,12 +113,22 @@ is_answered v (traps k a cause) out = absurd (cc)
 
 is_finished : {s s' : Status} {x : Item} {out : Outcome} → Turn s x out s' → out ≡ Done →
     (a : Activity) × (word : ℕ) × (value : ℕ) × (s ≡ Busy a) × (a.op ≡ op.Update word value)
-is_finished (skipped s x why) out = absurd (cc)
+is_finished (skipped s x why may) out = absurd (cc)
 is_finished (calls k p line) out = absurd (cc)
 is_finished (goes k a line link) out = absurd (cc)
 is_finished (answers k a view e) out = absurd (cc)
 is_finished (finishes k a word value e) out = (a, word, value, refl, e)
 is_finished (traps k a cause) out = absurd (cc)
+
+-- a busy process that steps is not skipped
+pub is_not_skipped_there : {s s' : Status} {x : Item} {out : Outcome} (i : ℕ) (a : Activity) → Turn s x out s' → s ≡ Busy a → x ≡ Step i →
+    is_not_skipped out ≡ true
+is_not_skipped_there i a (skipped s x why may) is step = absurd (subst (λ y. MaySkip (Busy a) y) step (subst (λ y. MaySkip y x) is may))
+is_not_skipped_there i a (calls k p line) is step = refl
+is_not_skipped_there i a (goes k b line link) is step = refl
+is_not_skipped_there i a (answers k b view e) is step = refl
+is_not_skipped_there i a (finishes k b word value e) is step = refl
+is_not_skipped_there i a (traps k b cause) is step = refl
 
 module _ (r : Run) (fits : Fits r) where
   abbrev pub status : ℕ → ℕ → Status
@@ -221,7 +231,7 @@ module _ (r : Run) (fits : Fits r) where
 
   next_under : {s s' : Status} {x : Item} {out : Outcome} (i t : ℕ) → Turn s x out s' → item r (suc t) ≡ x → outcome r (suc t) ≡ out →
       who (item r (suc t)) ≡ i → UnderAt i t s → UnderAt i (suc t) s'
-  next_under i t (skipped s x why) is comes his h = longer_at i t s (λ own ends. subst IsEnd comes ends) h
+  next_under i t (skipped s x why may) is comes his h = longer_at i t s (λ own ends. subst IsEnd comes ends) h
   next_under i t (calls k o line) is comes his h =
       let same : k ≡ i = sym (ap who is) ∙ his in
       record {

@@ -31,3 +31,5 @@ pub mod ItemCases
 pub mod OwnUpdates
 pub mod EmbeddedScans
 pub mod Lenders
+pub mod UpdateSteps
+pub mod WaitFree

@@ -91,7 +91,7 @@ step_of i (Step k) h = sym (same_from k i h)
 step_of i (Call k o) h = absurd (cc)
 
 -- how an update ends, and how a scan does
-ends_done : (word value : ℕ) (out : Outcome) → EndsWith (op.Update word value) out → out ≡ outcome.Finished
+pub ends_done : (word value : ℕ) (out : Outcome) → EndsWith (op.Update word value) out → out ≡ outcome.Finished
 ends_done word value outcome.Called h = absurd h
 ends_done word value outcome.Stepped h = absurd h
 ends_done word value (outcome.Answered view) h = absurd h
@@ -99,7 +99,7 @@ ends_done word value outcome.Finished h = refl
 ends_done word value (outcome.Trapped cause) h = absurd h
 ends_done word value (outcome.Skipped why) h = absurd h
 
-ends_answer : (out : Outcome) → EndsWith op.Scan out → (view : List ℕ) × (out ≡ outcome.Answered view)
+pub ends_answer : (out : Outcome) → EndsWith op.Scan out → (view : List ℕ) × (out ≡ outcome.Answered view)
 ends_answer outcome.Called h = absurd h
 ends_answer outcome.Stepped h = absurd h
 ends_answer (outcome.Answered view) h = (view, refl)

@@ -131,9 +131,14 @@ unfolding EndsOnly
 update_of Scan h = absurd h
 update_of (Update word value) h = (word, value, refl)
 
+-- a busy process is not skipped at its step
+abbrev pub MaySkip : Status → Item → Type 0
+MaySkip (Busy a) (Step i) = ⊥
+MaySkip _ _ = Unit {0}
+
 -- what an item may do to the status of its process, and what comes of it
 pub data Turn : Status → Item → Outcome → Status → Type 0 where
-  skipped : (s : Status) (x : Item) (why : Reason) → Turn s x (outcome.Skipped why) s
+  skipped : (s : Status) (x : Item) (why : Reason) → MaySkip s x → Turn s x (outcome.Skipped why) s
   calls : (i : ℕ) (op : Op) (line : ℕ) → Turn Idle (Call i op) outcome.Called (Busy (record { op = op; line = line; link = None }))
   goes : (i : ℕ) (a : Activity) (line : ℕ) (link : Option ℕ) →
       Turn (Busy a) (Step i) outcome.Stepped (Busy (record { op = a.op; line = line; link = link }))
@@ -169,23 +174,23 @@ module _ (s : Source) (shape : Counts) (S : State) (i : ℕ) (count : length S.p
 
   steps : (status : Status) → status_of S i ≡ status →
       Turn status (Step i) (step s shape S i (process_at S i) status).1 (status_of (step s shape S i (process_at S i) status).0 i)
-  steps (Trapped e a) is = subst (Turn (Trapped e a) (Step i) _) (sym is) (skipped (Trapped e a) (Step i) reason.Trapped)
-  steps Idle is = subst (Turn Idle (Step i) _) (sym is) (skipped Idle (Step i) reason.Idle)
+  steps (Trapped e a) is = subst (Turn (Trapped e a) (Step i) _) (sym is) (skipped (Trapped e a) (Step i) reason.Trapped tt)
+  steps Idle is = subst (Turn Idle (Step i) _) (sym is) (skipped Idle (Step i) reason.Idle tt)
   steps (Busy a) is =
       leaves a (process_at S i).locals _
       (line_at_ends s (record { shape = shape; me = i; op = a.op; locals = (process_at S i).locals; place = 0 }) S.memory a (instr_at s.lines a.line))
 
   admits : (op : Op) (why : Option Reason) → status_of S i ≡ Idle →
       Turn Idle (Call i op) (called s S i (process_at S i) op why).1 (status_of (called s S i (process_at S i) op why).0 i)
-  admits op (Some why) is = subst (Turn Idle (Call i op) _) (sym is) (skipped Idle (Call i op) why)
+  admits op (Some why) is = subst (Turn Idle (Call i op) _) (sym is) (skipped Idle (Call i op) why tt)
   admits op None is =
       subst (Turn Idle (Call i op) outcome.Called) (sym (own_status S.memory (record { status = Busy (record { op = op; line = entry s op; link = None }); locals = (process_at S i).locals })))
       (calls i op (entry s op))
 
   is_called : (op : Op) (status : Status) → status_of S i ≡ status →
       Turn status (Call i op) (call s shape S i op (process_at S i) status).1 (status_of (call s shape S i op (process_at S i) status).0 i)
-  is_called op (Trapped e a) is = subst (Turn (Trapped e a) (Call i op) _) (sym is) (skipped (Trapped e a) (Call i op) reason.Trapped)
-  is_called op (Busy a) is = subst (Turn (Busy a) (Call i op) _) (sym is) (skipped (Busy a) (Call i op) reason.Busy)
+  is_called op (Trapped e a) is = subst (Turn (Trapped e a) (Call i op) _) (sym is) (skipped (Trapped e a) (Call i op) reason.Trapped tt)
+  is_called op (Busy a) is = subst (Turn (Busy a) (Call i op) _) (sym is) (skipped (Busy a) (Call i op) reason.Busy tt)
   is_called op Idle is = admits op (call_skip s.kind shape i op) is
 
   pub own_turn : (x : Item) → who x ≡ i → Turn (status_of S i) x (done s shape S x).1 (status_of (done s shape S x).0 i)

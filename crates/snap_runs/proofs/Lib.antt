@@ -33,3 +33,4 @@ pub mod EmbeddedScans
 pub mod Lenders
 pub mod UpdateSteps
 pub mod WaitFree
+pub mod Collecting

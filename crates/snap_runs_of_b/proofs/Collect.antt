@@ -8,7 +8,7 @@ use Rattle.snap_words.specs.Shape.{IsOneOf}
 use Rattle.snap_words.specs.Word.{Word, no_word}
 use Rattle.snap_semantics.specs.Table.{places_to, all_true}
 use Rattle.snap_runs.proofs.Computing.{same_number, same_from, both}
-use Rattle.snap_runs.proofs.Held.{word_at, Held, data_of, seq_at, same_data}
+use Rattle.snap_runs.proofs.Held.{word_at, Held, Lent, beside_now, data_of, seq_at, same_data}
 use Rattle.snap_runs.proofs.Places.{all_pass}
 use Rattle.snap_runs_of_b.proofs.Algorithm.{Words, Variables, place, hand_at, agree}
 use Rattle.snap_runs_of_b.proofs.Follow.{Follows, follows_trans, same_word, toggled, squeezed}
@@ -78,7 +78,7 @@ pub record Second (n i : ℕ) (history : ℕ → Words) (t since round : ℕ) (w
   pub read : (k : ℕ) → IsOneOf n k → k < j → SecondCopy (history round) g marks i k (word_at between k) (word_at b k) (word_at words k)
   pub now : (k : ℕ) → IsOneOf n k → Follows (word_at between k) (word_at words k)
   -- the views that the second collect read are as those of the registers
-  pub views : (k : ℕ) → IsOneOf n k → k < j → seq_at (history since) k + 2 ≤ seq_at b k → Held history t since (word_at b k).view
+  pub views : (k : ℕ) → IsOneOf n k → k < j → seq_at (history since) k + 2 ≤ seq_at b k → Lent history t since k (word_at b k).view
 
 -- There is such a state since the scan's start.
 abbrev pub Between : ℕ → ℕ → (ℕ → Words) → ℕ → ℕ → ℕ → Words → List ℕ → List ℕ → Words → Words → ℕ → Type 0
@@ -91,7 +91,7 @@ pub record Gained (n : ℕ) (history : ℕ → Words) (t since : ℕ) (words : W
   -- the words now are not older than the second collect
   pub before : (k : ℕ) → IsOneOf n k → Follows (word_at b k) (word_at words k)
   -- the views that it read are as those of the registers
-  pub views : (k : ℕ) → IsOneOf n k → seq_at (history since) k + 2 ≤ seq_at b k → Held history t since (word_at b k).view
+  pub views : (k : ℕ) → IsOneOf n k → seq_at (history since) k + 2 ≤ seq_at b k → Lent history t since k (word_at b k).view
 
 -- places that are set, and places that are kept
 pub word_set : (ws : Words) (j k : ℕ) (w : Word) → 0 < j → j ≤ length ws → k ≡ j → word_at (slice_set ws (j - 1) w) k ≡ w
@@ -191,11 +191,11 @@ still_says opening words g i k d le =
 
 -- line 18 reads one more word
 pub second_more : (n i : ℕ) (history : ℕ → Words) (t since round : ℕ) (words : Words) (g marks : List ℕ) (a b : Words) (j : ℕ) → IsOneOf n j →
-    n ≤ length b →
+    n ≤ length b → history t ≡ words → since ≤ t →
     Viewed n history t since words → PutTo n (history round) words g marks i (n + 1) → Late n words g marks i (n + 1) →
     Between n i history t since round words g marks a b j →
     Between n i history t since round words g marks a (slice_set b (j - 1) (word_at words j)) (j + 1)
-second_more n i history t since round words g marks a b j one len v shaken late h =
+second_more n i history t since round words g marks a b j one len at_t le v shaken late h =
     let s : Second n i history t since round words g marks a b j (history h.0) = h.3 in (
       h.0,
       h.1,
@@ -216,9 +216,10 @@ second_more n i history t since round words g marks a b j one len v shaken late 
               | inr other ↦ subst P (sym (word_kept b j k (word_at words j) one.0 ik.0 other)) (s.read k ik (omega arith))
             ];
         views = λ k ik lt.
-            let P : Word → Type 0 = λ w. seq_at (history since) k + 2 ≤ w.seq → Held history t since w.view in
+            let P : Word → Type 0 = λ w. seq_at (history since) k + 2 ≤ w.seq → Lent history t since k w.view in
             elim (cases_eq k j) [
-              | inl same ↦ subst P (ap (word_at words) same ∙ sym (word_set b j k (word_at words j) one.0 (omega arith) same)) (v k ik)
+              | inl same ↦ subst P (ap (word_at words) same ∙ sym (word_set b j k (word_at words j) one.0 (omega arith) same))
+                  (λ more. (v k ik more, beside_now history t since k words at_t le more))
               | inr other ↦ subst P (sym (word_kept b j k (word_at words j) one.0 ik.0 other)) (s.views k ik (omega arith))
             ];
       },

@@ -7,6 +7,7 @@ use Rattle.snap_semantics.specs.Table.{places_to, all_true, first_true}
 use Rattle.snap_runs.specs.Scan.{Returns}
 use Rattle.snap_runs.proofs.Algorithm.{Task, Scanning, Embedded, Updating, To}
 use Rattle.snap_runs.proofs.Computing.{either, whether}
+use Rattle.snap_runs.proofs.EmbeddedScans as embedded
 use Rattle.snap_runs.proofs.Executing.{Numbered}
 use Rattle.snap_runs.proofs.Flow as flow
 use Rattle.snap_runs.proofs.Flow.{scan_inside}
@@ -153,6 +154,65 @@ line_listed n L47 = record { alone = refl; tested = refl; wrote = refl; calls = 
 answers : (p : Variables) (k : ProgramCounter) → lines.IsReturn k → Returns (instr_at listing_b.lines (number k)) (locals_of p) p.s
 answers p k (inl is) = subst (λ y. Returns (instr_at listing_b.lines (number y)) (locals_of p) p.s) (sym is) refl
 answers p k (inr is) = subst (λ y. Returns (instr_at listing_b.lines (number y)) (locals_of p) p.s) (sym is) refl
+
+-- what each line does to an embedded scan and to its view
+abbrev pub Embeds : ℕ → Task → Variables → ProgramCounter → Move → Type 0
+Embeds n = embedded.Embeds (algorithm n) lines
+
+-- a line of a scan that goes on
+stay : (n me : ℕ) (d : Task) (m : Registers) (p p' : Variables) (k k' : ProgramCounter) → IsScan me d → (lines.IsReturn k → ⊥) → Embeds n d p k (To d m p' k')
+stay n me Scanning m p p' k k' s none = refl
+stay n me (Embedded word value) m p p' k k' s none = inl (refl, none)
+stay n me (Updating word value) m p p' k k' s none = absurd s
+
+-- a line of an update that goes on before its scan
+early : (n me : ℕ) (d : Task) (m : Registers) (p p' : Variables) (k k' : ProgramCounter) → IsUpdate me d → (IsLate k' → ⊥) → Embeds n d p k (To d m p' k')
+early n me Scanning m p p' k k' s none = absurd s
+early n me (Embedded word value) m p p' k k' s none = absurd s
+early n me (Updating word value) m p p' k k' s none = (refl, λ late. absurd (none late))
+
+pub embeds : (n me : ℕ) (d : Task) (m : Registers) (p : Variables) (k : ProgramCounter) → IsLineOf me d k → Embeds n d p k (move n me d m p k)
+embeds n me d m p L10 s = stay n me d _ p _ L10 _ s (answers p L10)
+embeds n me d m p L11 s = stay n me d _ p _ L11 _ s (answers p L11)
+embeds n me d m p L12 s = stay n me d _ p _ L12 _ s (answers p L12)
+embeds n me d m p L13 s = stay n me d _ p _ L13 _ s (answers p L13)
+embeds n me d m p L14 s = stay n me d _ p _ L14 _ s (answers p L14)
+embeds n me d m p L15 s = either (Embeds n d p L15) (nat_lt p.j n) _ _ (λ b. stay n me d _ p _ L15 _ s (answers p L15)) (λ b. stay n me d _ p _ L15 _ s (answers p L15))
+embeds n me d m p L16 s = stay n me d _ p _ L16 _ s (answers p L16)
+embeds n me d m p L17 s = either (Embeds n d p L17) (nat_lt p.j n) _ _ (λ b. stay n me d _ p _ L17 _ s (answers p L17)) (λ b. stay n me d _ p _ L17 _ s (answers p L17))
+embeds n me d m p L18 s = stay n me d _ p _ L18 _ s (answers p L18)
+embeds n me d m p L19 s = either (Embeds n d p L19) (nat_lt p.j n) _ _ (λ b. stay n me d _ p _ L19 _ s (answers p L19)) (λ b. stay n me d _ p _ L19 _ s (answers p L19))
+embeds n me d m p L20 s =
+    either (Embeds n d p L20) (all_true (map (agree me p) (places_to n))) _ _ (λ b. stay n me d _ p _ L20 _ s (answers p L20)) (λ b. stay n me d _ p _ L20 _ s (answers p L20))
+embeds n me d m p L21 s = stay n me d _ p _ L21 _ s (answers p L21)
+embeds n me d m p L22 s =
+    whether (Embeds n d p L22) (first_to d m p) (first_true 1 (map (at_limit p) (places_to n)))
+    (λ e. stay n me d _ p _ L22 _ s (answers p L22)) (λ k e. stay n me d _ p _ L22 _ s (answers p L22))
+embeds n me d m p L23 s = stay n me d _ p _ L23 _ s (answers p L23)
+embeds n me d m p L25 s = stay n me d _ p _ L25 _ s (answers p L25)
+embeds n me Scanning m p L26 s = tt
+embeds n me (Embedded word value) m p L26 s = inr (refl, inl refl, refl)
+embeds n me (Updating word value) m p L26 s = absurd s
+embeds n me d m p L27 s = stay n me d _ p _ L27 _ s (answers p L27)
+embeds n me Scanning m p L28 s = tt
+embeds n me (Embedded word value) m p L28 s = inr (refl, inr refl, refl)
+embeds n me (Updating word value) m p L28 s = absurd s
+embeds n me d m p L40 s = early n me d _ p _ L40 _ s (λ h. h)
+embeds n me d m p L41 s = early n me d _ p _ L41 _ s (λ h. h)
+embeds n me d m p L42 s = early n me d _ p _ L42 _ s (λ h. h)
+embeds n me d m p L43 s = either (Embeds n d p L43) (nat_lt p.j n) _ _ (λ b. early n me d _ p _ L43 _ s (λ h. h)) (λ b. early n me d _ p _ L43 _ s (λ h. h))
+embeds n me Scanning m p L44 s = absurd s
+embeds n me (Embedded word value) m p L44 s = absurd s
+embeds n me (Updating word value) m p L44 s = (refl, tt)
+embeds n me Scanning m p L45 s = absurd s
+embeds n me (Embedded word value) m p L45 s = absurd s
+embeds n me (Updating word value) m p L45 s = (refl, λ late. (tt, refl))
+embeds n me Scanning m p L46 s = absurd s
+embeds n me (Embedded word value) m p L46 s = absurd s
+embeds n me (Updating word value) m p L46 s = (refl, λ late. absurd late)
+embeds n me Scanning m p L47 s = absurd s
+embeds n me (Embedded word value) m p L47 s = absurd s
+embeds n me (Updating word value) m p L47 s = tt
 
 abbrev pub numbered : (n : ℕ) → Numbered (algorithm n)
 numbered n = listed_lines.numbered (algorithm n) lines 46 counter_with (line_listed n)

@@ -16,3 +16,5 @@ pub mod Points
 pub mod Bounds
 pub mod Updates
 pub mod Moves
+pub mod OwnUpdates
+pub mod Lenders

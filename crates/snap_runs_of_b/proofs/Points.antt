@@ -13,7 +13,7 @@ use Rattle.snap_runs_of_b.proofs.Stage.{Stage}
 return_held : (n i : ℕ) (history : ℕ → Words) (t since round : ℕ) (words : Words) (p : Variables) (k : ProgramCounter) → lines.IsReturn k →
     Stage n i history t since round words p k → Held history t since p.s
 return_held n i history t since round words p k (inl is) h = subst (Stage n i history t since round words p) is h
-return_held n i history t since round words p k (inr is) h = subst (Stage n i history t since round words p) is h
+return_held n i history t since round words p k (inr is) h = (subst (Stage n i history t since round words p) is h).0
 
 pub have_points_lem : HavePoints
 have_points_lem n items fits =

@@ -8,7 +8,7 @@ use Rattle.snap_words.specs.Word.{Word}
 use Rattle.snap_semantics.specs.Table.{places_to, all_true, first_true}
 use Rattle.snap_runs.proofs.Algorithm.{Task, Scanning, Embedded, Updating, To, Begin, Answer, Finish}
 use Rattle.snap_runs.proofs.Computing.{not_lt, same_from, either, whether}
-use Rattle.snap_runs.proofs.Held.{word_at, Held, held_wider, data_of, seq_at}
+use Rattle.snap_runs.proofs.Held.{word_at, Held, held_wider, Beside, beside_wider, Lent, lent_wider, data_of, seq_at}
 use Rattle.snap_runs.proofs.Places.{for_each_at, first_found}
 use Rattle.snap_runs_of_b.proofs.Algorithm.{Words, Registers, Move, Variables, ProgramCounter, L10, L11, L12, L13, L14, L15, L16, L17, L18, L19, L20, L21, L22, L23, L25, L26, L27, L28, L40, L41, L42, L43, L44, L45, L46, L47, move, first_to, place, hand_at, answer, flipped, agree, limit, moved_at, counted, at_limit, IsLineOf, restarts, writes}
 use Rattle.snap_runs_of_b.proofs.Control.{VariablesAt, Sized}
@@ -77,7 +77,7 @@ Stage n i history t since round words p L25 = Held history t since (data_of (tak
 Stage n i history t since round words p L26 = Held history t since p.s
 -- process j has moved up to the limit, so that the view beside its second write will do; then so does s
 Stage n i history t since round words p L27 = Gained n history t since words p.moved p.b × (moved_at p p.j ≡ limit)
-Stage n i history t since round words p L28 = Held history t since p.s
+Stage n i history t since round words p L28 = Held history t since p.s × ((k : ℕ) × IsOneOf n k × Beside history t since k p.s)
 -- an update has no view yet, then that of its embedded scan, until it has written it
 Stage n i history t since round words p L40 = Unit {0}
 Stage n i history t since round words p L41 = Unit {0}
@@ -150,7 +150,7 @@ stage_move n i history t since round d m p L17 known h =
     ))
 stage_move n i history t since round d m p L18 known h =
     let len : length p.b ≡ max n n = known.sized.1 in
-    (h.0, h.1, second_more n i history t since round m.words p.g p.marks p.a p.b p.j known.keeps.0 (omega arith) known.views h.1 known.late h.2)
+    (h.0, h.1, second_more n i history t since round m.words p.g p.marks p.a p.b p.j known.keeps.0 (omega arith) known.now known.since_le known.views h.1 known.late h.2)
 stage_move n i history t since round d m p L19 known h =
     let inside : IsOneOf n p.j = known.keeps.0 in
     either (StageMove n i history t since round) (nat_lt p.j n) _ _ (λ b. h)
@@ -192,9 +192,12 @@ stage_move n i history t since round (Embedded word value) m p L26 known h = h
 stage_move n i history t since round (Updating word value) m p L26 known h = absurd known.line
 stage_move n i history t since round d m p L27 known h =
     let g : Gained n history t since m.words p.moved p.b = h.0 in
-    g.views p.j known.keeps (let l : floor (history since) p.moved p.j ≤ seq_at p.b p.j = g.low p.j known.keeps in let two : moved_at p p.j ≡ limit = h.1 in omega arith)
-stage_move n i history t since round Scanning m p L28 known h = h
-stage_move n i history t since round (Embedded word value) m p L28 known h = h
+    let l : floor (history since) p.moved p.j ≤ seq_at p.b p.j = g.low p.j known.keeps in
+    let two : moved_at p p.j ≡ limit = h.1 in
+    let lent : Lent history t since p.j (word_at p.b p.j).view = g.views p.j known.keeps (omega arith) in
+    (lent.0, (p.j, known.keeps, lent.1))
+stage_move n i history t since round Scanning m p L28 known h = h.0
+stage_move n i history t since round (Embedded word value) m p L28 known h = h.0
 stage_move n i history t since round (Updating word value) m p L28 known h = absurd known.line
 stage_move n i history t since round d m p L40 known h = tt
 stage_move n i history t since round d m p L41 known h = tt
@@ -258,7 +261,7 @@ between_kept n i history t t' since round words words' g marks a b j le grows h 
           same = (s.read k ik lt).same;
         };
         now = λ k ik. follows_trans (word_at (history h.0) k) (word_at words k) (word_at words' k) (s.now k ik) (grows k ik);
-        views = λ k ik lt more. held_wider history t t' since since (word_at b k).view le (omega arith) (s.views k ik lt more);
+        views = λ k ik lt more. lent_wider history t t' since k (word_at b k).view le (s.views k ik lt more);
       },
     )
 
@@ -267,7 +270,7 @@ gained_kept : (n : ℕ) (history : ℕ → Words) (t t' since : ℕ) (words word
 gained_kept n history t t' since words words' moved b le grows h = record {
   low = h.low;
   before = λ k ik. follows_trans (word_at b k) (word_at words k) (word_at words' k) (h.before k ik) (grows k ik);
-  views = λ k ik more. held_wider history t t' since since (word_at b k).view le (omega arith) (h.views k ik more);
+  views = λ k ik more. lent_wider history t t' since k (word_at b k).view le (h.views k ik more);
 }
 
 -- lines 13 and 14 speak of place j
@@ -338,7 +341,8 @@ stage_kept n i history t t' since round words words' p L23 le g one h = low_kept
 stage_kept n i history t t' since round words words' p L25 le g one h = held_wider history t t' since since (data_of (take n p.b)) le (omega arith) h
 stage_kept n i history t t' since round words words' p L26 le g one h = held_wider history t t' since since p.s le (omega arith) h
 stage_kept n i history t t' since round words words' p L27 le g one h = (gained_kept n history t t' since words words' p.moved p.b le g h.0, h.1)
-stage_kept n i history t t' since round words words' p L28 le g one h = held_wider history t t' since since p.s le (omega arith) h
+stage_kept n i history t t' since round words words' p L28 le g one h =
+    (held_wider history t t' since since p.s le (omega arith) h.0, (h.1.0, h.1.1, beside_wider history t t' since h.1.0 p.s le h.1.2))
 stage_kept n i history t t' since round words words' p L40 le g one h = tt
 stage_kept n i history t t' since round words words' p L41 le g one h = tt
 stage_kept n i history t t' since round words words' p L42 le g one h = tt

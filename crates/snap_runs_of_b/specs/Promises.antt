@@ -49,3 +49,11 @@ SharpCollects = (n : ℕ) (items : List Item) → promises.CollectsAtMost n (run
 -- A move that a scan sees at line 21 is a write since its previous double collect, or since its start where there is none.
 abbrev pub MovesAreWrites : Type 0
 MovesAreWrites = (n : ℕ) (items : List Item) → promises.MovesAreWrites 21 moved 46 (run_of n items)
+
+-- A scan that returns at line 28 has the view of an embedded scan of another process, all within it.
+abbrev pub BorrowedViewsAreLent : Type 0
+BorrowedViewsAreLent = (n : ℕ) (items : List Item) → promises.BorrowedViewsAreLent 28 (run_of n items)
+
+-- A scan shows the value of its process's last update.
+abbrev pub OwnUpdatesAreSeen : Type 0
+OwnUpdatesAreSeen = (n : ℕ) (items : List Item) → promises.OwnUpdatesAreSeen (run_of n items)

@@ -1,7 +1,7 @@
 //! Listing B, and what every run of it keeps.
 #![tactic(auto)]
 
-ghost use Rattle.snap_runs_of_b.specs.Promises.{NeverTraps, ChangesOnlyAt46, WritesItsUpdate, WritesOnce, HavePoints, FewCollects, FewSteps, SharpCollects, MovesAreWrites};
+ghost use Rattle.snap_runs_of_b.specs.Promises.{NeverTraps, ChangesOnlyAt46, WritesItsUpdate, WritesOnce, HavePoints, FewCollects, FewSteps, SharpCollects, MovesAreWrites, BorrowedViewsAreLent, OwnUpdatesAreSeen};
 
 /// No process ever traps.
 pub fn never_traps()
@@ -47,4 +47,14 @@ pub fn sharp_collects()
 /// scan's start where there is none.
 pub fn moves_are_writes()
     ensures { MovesAreWrites }
+{}
+
+/// A scan that borrows a view, and returns it at line 28, has that of an embedded scan of another process, all within it.
+pub fn borrowed_views_are_lent()
+    ensures { BorrowedViewsAreLent }
+{}
+
+/// A scan that a process calls after an update of its own shows that update's value.
+pub fn own_updates_are_seen()
+    ensures { OwnUpdatesAreSeen }
 {}

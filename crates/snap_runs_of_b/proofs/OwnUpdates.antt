@@ -1,0 +1,14 @@
+-- A scan of B shows the value of its process's last update.
+use Rattle.std.specs.Prelude.{refl}
+use Rattle.snap_runs.proofs.OwnUpdates as own
+use Rattle.snap_runs_of_b.specs.Promises.{OwnUpdatesAreSeen}
+use Rattle.snap_runs_of_b.proofs.Algorithm.{lines, algorithm}
+use Rattle.snap_runs_of_b.proofs.Flows.{numbered, listed, once, writer}
+use Rattle.snap_runs_of_b.proofs.Points.{have_points_lem}
+use Rattle.snap_runs_of_b.proofs.Runs.{invariant, execution}
+use Rattle.snap_runs_of_b.proofs.Updates.{updates}
+
+pub own_updates_are_seen_lem : OwnUpdatesAreSeen
+own_updates_are_seen_lem n items fits =
+    own.own_updates_are_seen (algorithm n) lines 46 (writer n) (listed n) (execution n items fits) (updates n items fits) (once n) (numbered n) refl
+    (λ i word is. is) (λ t short. (invariant n items fits t short).size) (have_points_lem n items) fits

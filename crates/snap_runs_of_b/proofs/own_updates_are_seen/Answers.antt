@@ -1,0 +1,5 @@
+use Rattle.snap_runs_of_b.proofs.OwnUpdates.{own_updates_are_seen_lem}
+use Rattle.snap_runs_of_b.proofs.own_updates_are_seen.Goals as goal
+
+pub returns : goal.returns
+returns c = own_updates_are_seen_lem

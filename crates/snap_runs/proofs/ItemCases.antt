@@ -96,6 +96,14 @@ module _ {V P M : Type 0} (a : Algorithm V P M) where
         let is2 : item_at items t ≡ Call i op = is ∙ ap (λ u. Call u op) w in
         call_case t op (his t).control is2 refl (ap (happens a (suc t) (typed_state a items t)) is2)
 
+    -- a step at a line, by the line
+    pub after_step : (t : ℕ) (d : Task) (k : P) → item_at items t ≡ Step i → (his t).control ≡ At d k →
+        his (suc t) ≡ moved (suc t) (his t) k (move_at t d k)
+    after_step t d k is at =
+        move_case t k (move_at t d k)
+        (ap (happens a (suc t) (typed_state a items t)) is
+        ∙ ap (λ (p : Control P). changed (typed_state a items t) i (by_step a (suc t) (typed_state a items t).memory i (his t) p)) at)
+
     pub item_case : (t : ℕ) → t < length items → Case t
     item_case t short =
         elim (cases_eq (who (item_at items t)) i) [

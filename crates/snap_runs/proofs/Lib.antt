@@ -34,3 +34,4 @@ pub mod Lenders
 pub mod UpdateSteps
 pub mod WaitFree
 pub mod Collecting
+pub mod CleanTests

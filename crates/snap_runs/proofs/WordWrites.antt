@@ -93,7 +93,7 @@ module _ {V P M : Type 0} (a : Algorithm V P M) (lines : Lines V P M) (line : �
       item_writes t (Call i op) h one = inl (ap writer.words (embed.call_memory a (suc t) (typed_state a items t) i op (at t i).control))
 
       -- an item that changes the words is a step at this line
-      words_change : (t : ℕ) → t < length items → (words_at (suc t) ≡ words_at t) ⊎ Writes (typed_state a items t) (item_at items t)
+      pub words_change : (t : ℕ) → t < length items → (words_at (suc t) ≡ words_at t) ⊎ Writes (typed_state a items t) (item_at items t)
       words_change t h = item_writes t (item_at items t) h (embed.one_at a items run.fits t h)
 
       write_executes : (t i : ℕ) (d : Task) → t < length items → item_at items t ≡ Step i → (at t i).control ≡ At d writer.counter →

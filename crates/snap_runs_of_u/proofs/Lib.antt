@@ -15,3 +15,4 @@ pub mod Updates
 pub mod Moves
 pub mod OwnUpdates
 pub mod Lenders
+pub mod CleanTests

@@ -4,7 +4,8 @@ use Rattle.snap_words.specs.Shape.{Counts}
 use Rattle.snap_semantics.specs.declared.process.Item.{Item}
 use Rattle.snap_runs.specs.Run.{Run}
 use Rattle.snap_runs.specs.Promises as promises
-use Rattle.snap_runs_of_u.specs.ListingU.{listing_u, moved}
+use Rattle.snap_runs.specs.Promises.{CollectLines}
+use Rattle.snap_runs_of_u.specs.ListingU.{listing_u, j, moved}
 
 -- a word for each of n processes
 abbrev pub square : ℕ → Counts
@@ -57,3 +58,11 @@ BorrowedViewsAreLent = (n : ℕ) (items : List Item) → promises.BorrowedViewsA
 -- A scan shows the value of its process's last update.
 abbrev pub OwnUpdatesAreSeen : Type 0
 OwnUpdatesAreSeen = (n : ℕ) (items : List Item) → promises.OwnUpdatesAreSeen (run_of n items)
+
+-- line 12 reads word j into a, and line 14 into b; line 16 compares them, and goes to line 21 where they agree
+abbrev pub double_collect : CollectLines
+double_collect = record { first = 12; second = 14; scalar = j; test = 16; passed = 21 }
+
+-- A test that passes is clean: no word is written between its two reads.
+abbrev pub PassedTestsAreClean : Type 0
+PassedTestsAreClean = (n : ℕ) (items : List Item) → promises.PassedTestsAreClean double_collect 32 (run_of n items)

@@ -16,3 +16,6 @@ pub mod Moves
 pub mod OwnUpdates
 pub mod Lenders
 pub mod CleanTests
+pub mod Linear
+pub mod WaitFree
+pub mod LinearSample

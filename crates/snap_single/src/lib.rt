@@ -5,7 +5,7 @@ mod text;
 
 pub use snap_runs_of_u::{
     borrowed_views_are_lent, changes_only_at_32, few_collects, few_steps, have_points,
-    moves_are_writes, never_traps, own_updates_are_seen, passed_tests_are_clean, sharp_collects,
-    writes_its_update, writes_once,
+    linearizable, moves_are_writes, never_traps, own_updates_are_seen, passed_tests_are_clean,
+    sharp_collects, wait_free, writes_its_update, writes_once,
 };
 pub use text::listing;

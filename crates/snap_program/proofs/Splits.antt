@@ -58,6 +58,23 @@ part_goes_on before whole front bytes line rest some is_line is_rest ends so_far
     ap (λ ps. before ++ ps) (sym (onto_again front line (parts_of rest)) ∙ ap (onto_part front) (sym (first_goes_on bytes line rest some is_line is_rest ends)))
     ∙ so_far
 
+-- a part that has a front has no more parts
+length_onto : (front : List ℕ) (lines : List (List ℕ)) → length (onto_part front (parts_of_lines lines)) ≡ length (parts_of_lines lines)
+length_onto front [] = refl
+length_onto front (line ∷ lines) =
+    elim (ends_part line) as (λ v. length (onto_part front (cond v ([] ∷ parts_of_lines lines) (onto_part line (parts_of_lines lines)))) ≡ length (cond v ([] ∷ parts_of_lines lines) (onto_part line (parts_of_lines lines))))
+    [ true ↦ refl
+    | false ↦ ap length (onto_again front line (parts_of_lines lines)) ∙ length_onto (front ++ line) lines ∙ sym (length_onto line lines) ]
+
+-- a line that ends a part is one part more
+pub one_part_more : (bytes line rest : List ℕ) → 0 < length bytes → line ≡ take_through 10 bytes → rest ≡ drop_through 10 bytes → ends_part line ≡ true → length (parts_of bytes) ≡ length (parts_of rest) + 1
+one_part_more bytes line rest some is_line is_rest ends =
+    let e = ap length (first_ends bytes line rest some is_line is_rest ends) in omega (arith, e)
+
+-- another line is none
+pub no_part_more : (bytes line rest : List ℕ) → 0 < length bytes → line ≡ take_through 10 bytes → rest ≡ drop_through 10 bytes → ends_part line ≡ false → length (parts_of bytes) ≡ length (parts_of rest)
+no_part_more bytes line rest some is_line is_rest ends = ap length (first_goes_on bytes line rest some is_line is_rest ends) ∙ length_onto line (full_lines rest)
+
 pub some_left : (n : ℕ) (b : Bool) → b ≡ (n == 0) → b ≡ false → 0 < n
 some_left n b is not_empty = let not_none : n ≡ 0 → ⊥ = λ e. eqb-false n 0 (sym is ∙ not_empty) e in omega (arith, not_none)
 

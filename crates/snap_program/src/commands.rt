@@ -1,8 +1,10 @@
 //! Debugger commands, read.
-ghost use Rattle.std.specs.Prelude.{◌≡◌};
+ghost use Rattle.std.specs.Prelude.{◌≡◌, ◌<◌, Err, length};
 ghost use Rattle.snap_semantics.specs.Answers.{Answers, refused_as};
 ghost use Rattle.snap_semantics.specs.CommandForms.{run_form, command_form};
 ghost use Rattle.snap_semantics.specs.Commands.{command_at, commands_of};
+ghost use Rattle.snap_semantics.specs.declared.fault.Fault.TheVariants.{Refused};
+ghost use Rattle.snap_semantics.specs.declared.refusal.CommandRefusal.TheVariants.{TooLong};
 ghost use Rattle.snap_semantics.specs.declared.refusal.Refusal.TheVariants as refusal;
 ghost use Rattle.snap_text.specs.Lines.{view_line};
 ghost use Rattle.snap_text.specs.Tokens.{Finds, view_tokens};
@@ -61,7 +63,8 @@ fn admitted_at(count: usize, line: &TokenLine<'_>) -> Result<Command, CommandRef
 
 /// Reads commands.
 pub fn read_commands(alloc: Global, text: &[u8]) -> Result<Vec<Command>, Fault<Refusal>>
-    ensures { Answers (λ commands. commands.items) result (refused_as refusal.Commands (commands_of text.now)) }
+    ensures commands { Answers (λ commands. commands.items) result (refused_as refusal.Commands (commands_of text.now)) }
+    ensures too_long { 1048576 < length text.now → result ≡ Err (Refused (refusal.Commands TooLong)) }
 {
     if text.len() > MAX_BYTES {
         return Err(Fault::from(CommandRefusal::TooLong));

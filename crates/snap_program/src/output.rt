@@ -1,10 +1,13 @@
 //! What the program writes for an input.
+ghost use Rattle.std.specs.Prelude.{◌≡◌, ◌≤◌, ◌⊎◌, Err, length};
 ghost use Rattle.snap_semantics.specs.Answers.{Answers};
-ghost use Rattle.snap_semantics.specs.Output.{run_of, of_sub, output_of};
+ghost use Rattle.snap_semantics.specs.Output.{parts_of, run_of, of_sub, output_of};
+ghost use Rattle.snap_semantics.specs.declared.fault.Fault.TheVariants.{Refused};
+ghost use Rattle.snap_semantics.specs.declared.refusal.Refusal.TheVariants.{WrongParts};
 
 use crate::checking::check_of;
 use crate::images::{assemble, list};
-use crate::parts::split_parts;
+use crate::parts::{count_separators, split_parts};
 use crate::performing::perform;
 use snap_semantics::{Fault, Refusal, Subcommand, Task};
 use std::alloc::Global;
@@ -15,12 +18,15 @@ pub const MAX_INPUT: usize = 16_777_216;
 /// Runs a listing under a schedule.
 #[tactic(auto, unfolding(snap_semantics::specs::Output::run_of))]
 fn run(alloc: Global, input: &[u8]) -> Result<Vec<u8>, Fault<Refusal>>
-    ensures { Answers (λ out. out.items) result (run_of input.now) }
+    requires { length input.now ≤ 16777216 }
+    ensures output { Answers (λ out. out.items) result (run_of input.now) }
+    ensures parts { (length (parts_of input.now) ≡ 2) ⊎ (result ≡ Err (Refused (WrongParts (length (parts_of input.now))))) }
 {
-    let parts = split_parts(alloc, input)?;
-    if parts.len() != 2 {
-        return Err(Fault::Refused(Refusal::WrongParts(parts.len() as u64)));
+    let count = count_separators(input) + 1;
+    if count != 2 {
+        return Err(Fault::Refused(Refusal::WrongParts(count as u64)));
     }
+    let parts = split_parts(alloc, input)?;
     perform(alloc, parts[0], parts[1], b"run\n")
 }
 

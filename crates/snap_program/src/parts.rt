@@ -1,5 +1,5 @@
 //! The parts of an input.
-ghost use Rattle.std.specs.Prelude.{◌≡◌, ◌≤◌, ◌<◌, ℕ, IfOk, map, length, take, drop, IsTrue, true, ◌↔◌};
+ghost use Rattle.std.specs.Prelude.{◌≡◌, ◌+◌, ◌≤◌, ◌<◌, ℕ, IfOk, map, length, take, drop, IsTrue, true, ◌↔◌};
 ghost use Rattle.std.specs.Io.BufRead.{take_through, drop_through};
 ghost use Rattle.snap_semantics.specs.Output.{ends_part, parts_of};
 
@@ -30,6 +30,23 @@ fn is_separator(line: &[u8]) -> bool
         || line == b"%\r\n".as_slice()
         || line == b"%".as_slice()
         || line == b"%\r".as_slice()
+}
+
+/// How many lines of an input end a part: one less than it has parts. It takes no memory.
+pub fn count_separators(input: &[u8]) -> usize
+    ensures parts { result + 1 ≡ length (parts_of input.now) }
+    ensures few { result ≤ length input.now }
+{
+    let mut count = 0;
+    let mut rest = input;
+    while !rest.is_empty() {
+        let (line, after) = rest.split_at(first_line_len(rest));
+        if is_separator(line) {
+            count += 1;
+        }
+        rest = after;
+    }
+    count
 }
 
 /// The parts of an input.

@@ -1,9 +1,11 @@
 //! Reads listings.
-ghost use Rattle.std.specs.Prelude.{◌≡◌};
+ghost use Rattle.std.specs.Prelude.{◌≡◌, ◌<◌, Err, length};
 ghost use Rattle.snap_semantics.specs.Answers.{Answers};
 ghost use Rattle.snap_semantics.specs.Listing.{numbered_lines, with_lines, listing_of_lines, listing_of};
 ghost use Rattle.snap_source.specs.Fields.{header_source};
 ghost use Rattle.snap_reader.specs.Reading.{numbered_line, added_line};
+ghost use Rattle.snap_semantics.specs.declared.fault.Fault.TheVariants.{Refused};
+ghost use Rattle.snap_semantics.specs.declared.refusal.ListingRefusal.TheVariants.{TooLong};
 ghost use Rattle.snap_text.specs.Lines.{view_line};
 
 use crate::fault::ListingFault;
@@ -99,7 +101,8 @@ fn header_and_lines(
 /// The listing that a text is, or the first reason why it is none.
 #[tactic(auto, using(crate::proofs::TextLength::few_lines), unfolding(snap_semantics::specs::Listing::listing_of))]
 pub fn read(alloc: Global, text: &[u8]) -> Result<Listing, ListingFault>
-    ensures { Answers (λ l. l) result (listing_of text.now) }
+    ensures listing { Answers (λ l. l) result (listing_of text.now) }
+    ensures too_long { 65536 < length text.now → result ≡ Err (Refused TooLong) }
 {
     if text.len() > MOST_BYTES {
         return Err(ListingFault::Refused(ListingRefusal::TooLong));

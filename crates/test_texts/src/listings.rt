@@ -357,18 +357,9 @@ fn wrong_lines(alloc: Global, kind: &[u8], cases: &[Case]) -> Result<Option<usiz
     Ok(None)
 }
 
-/// So many spaces.
-fn spaces(alloc: Global, count: usize) -> Result<Vec<u8>, Fail> {
-    let mut text = Vec::new(alloc);
-    for _ in 0..count {
-        text.push(b' ')?;
-    }
-    Ok(text)
-}
-
 /// Why so many spaces are refused.
 fn spaces_refusal(alloc: Global, count: usize) -> Result<Option<ListingRefusal>, Fail> {
-    let text = spaces(alloc, count)?;
+    let text = vec![in alloc; b' '; count]?;
     refusal(alloc, text.as_slice())
 }
 
@@ -390,11 +381,15 @@ fn finish_lines_refusal(alloc: Global, last: u64) -> Result<Option<ListingRefusa
 
 /// Whether these are the names.
 fn names_are(names: &[Name], want: &[&[u8]]) -> bool {
-    names.len() == want.len()
-        && names
-            .iter()
-            .zip(want)
-            .all(|(name, letters)| name.letters() == *letters)
+    if names.len() != want.len() {
+        return false;
+    }
+    for place in 0..names.len() {
+        if names[place].letters() != want[place] {
+            return false;
+        }
+    }
+    true
 }
 
 /// Whether a listing has the names and lines of the small one.
@@ -462,6 +457,11 @@ fn has_multi_views(listing: &Listing) -> bool {
             listing.instr(57),
             Some(Instr::Put(Index::Word, Tuple::Multi(_, _, _)))
         )
+}
+
+/// Whether a listing has the lines that are of kind multi alone.
+fn has_multi_lines(listing: &Listing) -> bool {
+    has_multi_fields(listing) && has_multi_views(listing)
 }
 
 /// Whether what is printed of the listing that a text is, is this.
@@ -536,25 +536,21 @@ fn copies(rt: HostRuntime) -> Result<(), Fail> {
 #[test]
 fn reads_a_listing_of_kind_seq(rt: HostRuntime) -> Result<(), Fail> {
     let listing = read(rt.alloc(), UNBOUNDED)?;
-    assert!(rt; is_of(&listing, KindTag::Seq, 18));
-    assert!(rt; has_seq_lines(&listing));
+    assert!(rt; is_of(&listing, KindTag::Seq, 18) && has_seq_lines(&listing));
     Ok(())
 }
 
 #[test]
 fn reads_a_listing_of_kind_bit(rt: HostRuntime) -> Result<(), Fail> {
     let listing = read(rt.alloc(), BOUNDED)?;
-    assert!(rt; is_of(&listing, KindTag::Bits, 26));
-    assert!(rt; has_bit_lines(&listing));
+    assert!(rt; is_of(&listing, KindTag::Bits, 26) && has_bit_lines(&listing));
     Ok(())
 }
 
 #[test]
 fn reads_a_listing_of_kind_multi(rt: HostRuntime) -> Result<(), Fail> {
     let listing = read(rt.alloc(), MULTI_WRITER)?;
-    assert!(rt; is_of(&listing, KindTag::Multi, 37));
-    assert!(rt; has_multi_fields(&listing));
-    assert!(rt; has_multi_views(&listing));
+    assert!(rt; is_of(&listing, KindTag::Multi, 37) && has_multi_lines(&listing));
     Ok(())
 }
 

@@ -1,5 +1,4 @@
 //! The instructions of a listing. A form begins behind the instruction's first word, and goes to the end of the line.
-ghost use Rattle.std.specs.Prelude.{◌≡◌};
 ghost use Rattle.snap_semantics.specs.Forms.{or_else};
 ghost use Rattle.snap_semantics.specs.ListingForms.{let_form, let_place_form, get_form, pair_at, bit_bank_at, bit_form, look_form, put_form, put_bit_form, put_view_form, view_data_form, view_of_form, each_form, first_form, next_form, if_form, if_all_form, goto_form, call_form, return_form, finish_form, form_of_word, line_form};
 ghost use Rattle.snap_text.specs.Tokens.{Finds, view_tokens};

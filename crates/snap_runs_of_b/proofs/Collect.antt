@@ -11,7 +11,7 @@ use Rattle.snap_runs.proofs.Computing.{same_number, same_from, both}
 use Rattle.snap_runs.proofs.Held.{word_at, Held, Lent, beside_now, data_of, seq_at, same_data}
 use Rattle.snap_runs.proofs.Places.{all_pass}
 use Rattle.snap_runs_of_b.proofs.Algorithm.{Words, Variables, place, hand_at, agree}
-use Rattle.snap_runs_of_b.proofs.Follow.{Follows, follows_trans, same_word, toggled, squeezed}
+use Rattle.snap_runs_of_b.proofs.Follow.{follows_seq, Follows, follows_trans, same_word, toggled, squeezed}
 
 -- In all that follows `history u` are the words after u items, t is the number of items so far and `words` the words now;
 -- `since` is the item that started the scan, `round` the item that started its double collect, and `opening` the words
@@ -258,7 +258,21 @@ agreed_of i p k h =
       toggles = same_from (word_at p.a k).toggle (word_at p.b k).toggle rest.1;
     }
 
--- a passed test: the second collect is the words between the collects
+-- a passed test: both copies of a word have equal counts
+pub equal_counts : (n i : ℕ) (history : ℕ → Words) (t since round : ℕ) (words : Words) (p : Variables) →
+    Between n i history t since round words p.g p.marks p.a p.b (n + 1) → all_true (map (agree i p) (places_to n)) ≡ true →
+    (k : ℕ) → IsOneOf n k → seq_at p.a k ≡ seq_at p.b k
+equal_counts n i history t since round words p h test k ik =
+    let s : Second n i history t since round words p.g p.marks p.a p.b (n + 1) (history h.0) = h.3 in
+    let says : Agreed i p k = agreed_of i p k (all_pass (agree i p) 1 n test k (omega arith) (omega arith)) in
+    let follows = copies_follow n i history t since round words p h k ik in
+    let le : seq_at p.a k ≤ seq_at p.b k = follows_seq (word_at p.a k) (word_at p.b k) follows in
+    let ge : seq_at p.b k ≤ seq_at p.a k =
+    agreed (word_at p.a k) (word_at p.b k) (place p.marks k) (place p.g k) i follows (s.first k ik).marked (s.read k ik (omega arith)).late
+    says.hand_b (let same : (word_at p.a k).toggle ≡ (word_at p.b k).toggle = omega arith in same) in
+    omega arith
+
+-- so the second collect is the words between the collects
 pub passed : (n i : ℕ) (history : ℕ → Words) (t since round : ℕ) (words : Words) (p : Variables) → ((u : ℕ) → u ≤ t → length (history u) ≡ n) →
     n ≤ length p.b →
     Between n i history t since round words p.g p.marks p.a p.b (n + 1) → all_true (map (agree i p) (places_to n)) ≡ true →
@@ -269,11 +283,8 @@ passed n i history t since round words p lengths len h test =
       h.1,
       h.2,
       same_data n (history h.0) p.b (lengths h.0 h.2) len (λ k ik.
-          let copy = s.read k ik (omega arith) in
-          let says : Agreed i p k = agreed_of i p k (all_pass (agree i p) 1 n test k (omega arith) (omega arith)) in
-          squeezed (word_at p.a k) (word_at (history h.0) k) (word_at p.b k) (s.first k ik).before copy.after
-          (agreed (word_at p.a k) (word_at p.b k) (place p.marks k) (place p.g k) i (copies_follow n i history t since round words p h k ik) (s.first k ik).marked copy.late
-          says.hand_b (let same : (word_at p.a k).toggle ≡ (word_at p.b k).toggle = omega arith in same))),
+          let equal : seq_at p.a k ≡ seq_at p.b k = equal_counts n i history t since round words p h test k ik in
+          squeezed (word_at p.a k) (word_at (history h.0) k) (word_at p.b k) (s.first k ik).before (s.read k ik (omega arith)).after (omega arith)),
     )
 
 equal : (x y : ℕ) → x ≡ y → nat_eq x y ≡ true

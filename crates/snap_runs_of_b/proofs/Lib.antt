@@ -18,3 +18,4 @@ pub mod Updates
 pub mod Moves
 pub mod OwnUpdates
 pub mod Lenders
+pub mod CleanTests

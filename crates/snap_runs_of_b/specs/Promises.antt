@@ -4,7 +4,8 @@ use Rattle.snap_words.specs.Shape.{Counts}
 use Rattle.snap_semantics.specs.declared.process.Item.{Item}
 use Rattle.snap_runs.specs.Run.{Run}
 use Rattle.snap_runs.specs.Promises as promises
-use Rattle.snap_runs_of_b.specs.ListingB.{listing_b, moved}
+use Rattle.snap_runs.specs.Promises.{CollectLines}
+use Rattle.snap_runs_of_b.specs.ListingB.{listing_b, j, moved}
 
 -- a word for each of n processes
 abbrev pub square : ℕ → Counts
@@ -57,3 +58,11 @@ BorrowedViewsAreLent = (n : ℕ) (items : List Item) → promises.BorrowedViewsA
 -- A scan shows the value of its process's last update.
 abbrev pub OwnUpdatesAreSeen : Type 0
 OwnUpdatesAreSeen = (n : ℕ) (items : List Item) → promises.OwnUpdatesAreSeen (run_of n items)
+
+-- line 16 reads word j into a, and line 18 into b; line 20 compares them, and goes to line 25 where they agree
+abbrev pub double_collect : CollectLines
+double_collect = record { first = 16; second = 18; scalar = j; test = 20; passed = 25 }
+
+-- A test that passes is clean: no word is written between its two reads.
+abbrev pub PassedTestsAreClean : Type 0
+PassedTestsAreClean = (n : ℕ) (items : List Item) → promises.PassedTestsAreClean double_collect 46 (run_of n items)

@@ -1,7 +1,7 @@
 //! Listing B, and what every run of it keeps.
 #![tactic(auto)]
 
-ghost use Rattle.snap_runs_of_b.specs.Promises.{NeverTraps, ChangesOnlyAt46, WritesItsUpdate, WritesOnce, HavePoints, FewCollects, FewSteps, SharpCollects, MovesAreWrites, BorrowedViewsAreLent, OwnUpdatesAreSeen};
+ghost use Rattle.snap_runs_of_b.specs.Promises.{NeverTraps, ChangesOnlyAt46, WritesItsUpdate, WritesOnce, HavePoints, FewCollects, FewSteps, SharpCollects, MovesAreWrites, BorrowedViewsAreLent, OwnUpdatesAreSeen, PassedTestsAreClean};
 
 /// No process ever traps.
 pub fn never_traps()
@@ -57,4 +57,10 @@ pub fn borrowed_views_are_lent()
 /// A scan that a process calls after an update of its own shows that update's value.
 pub fn own_updates_are_seen()
     ensures { OwnUpdatesAreSeen }
+{}
+
+/// Where a scan's test passes, there is a state between its two collects, and no word was written between the scan's two
+/// reads of it.
+pub fn passed_tests_are_clean()
+    ensures { PassedTestsAreClean }
 {}

@@ -280,6 +280,19 @@ module _ (n w me : ℕ) (history : ℕ → Registers) (from : ℕ) where
     ];
   }
 
+-- what line 26 compares of the two copies of a word
+record Alike (x y : Word) : Type 0 where
+  ids : x.id ≡ y.id
+  toggles : x.toggle ≡ y.toggle
+
+alike_of : (x y : Word) → same_words x y ≡ true → Alike x y
+alike_of x y same =
+    let parts = both _ _ same in
+    record {
+      ids = same_from x.id y.id parts.0;
+      toggles = same_from x.toggle y.toggle parts.1;
+    }
+
 same_self : (x : Word) → same_words x x ≡ true
 same_self x = grind (arith, common_steps)
 
@@ -348,11 +361,11 @@ module _ (n w me : ℕ) (history : ℕ → Registers) (from t : ℕ) (g : List �
       let b2 : second.at ≤ x.ended = second.until in
       let c = id_at (history second.at) k in
       let named : IsOneOf n c = (laws second.at (omega arith)).now.named k o (omega arith) in
-      let parts = both _ _ same in
-      let ids : id_at (history first.at) k ≡ c =
-      ap (λ (y : Word). y.id) (sym first.is) ∙ same_from (word_at a k).id (word_at b k).id parts.0 ∙ ap (λ (y : Word). y.id) second.is in
+      let alike : Alike (word_at a k) (word_at b k) = alike_of (word_at a k) (word_at b k) same in
+      let copied : (word_at a k).id ≡ (word_at b k).id = omega arith in
+      let ids : id_at (history first.at) k ≡ c = ap (λ (y : Word). y.id) (sym first.is) ∙ copied ∙ ap (λ (y : Word). y.id) second.is in
       let toggles : (word_at (history first.at).words k).toggle ≡ (word_at (history second.at).words k).toggle =
-      ap (λ (y : Word). y.toggle) (sym first.is) ∙ same_from (word_at a k).toggle (word_at b k).toggle parts.1 ∙ ap (λ (y : Word). y.toggle) second.is in
+      ap (λ (y : Word). y.toggle) (sym first.is) ∙ alike.toggles ∙ ap (λ (y : Word). y.toggle) second.is in
       let twice : (history first.at).writes c + 2 ≤ (history second.at).writes c = ((laws second.at (omega arith)).since first.at (omega arith)).twice k o lt ids toggles in
       let hand = x.hands c named (let le : c ≤ n = named.1 in omega arith) in
       let h1 : hand.at ≤ x.shaken = hand.until in
@@ -386,6 +399,20 @@ module _ (n w me : ℕ) (history : ℕ → Registers) (from t : ℕ) (g : List �
         | inl lt ↦ absurd (no_write k o still same first second lt)
         | inr e ↦ squeezed (word_at (history first.at).words k) (word_at (history x.middle).words k) (word_at (history second.at).words k) before after (ap (λ (y : Word). y.seq) e)
             ∙ sym second.is
+      ]
+
+  -- so both copies are one
+  pub same_copies : (k : ℕ) → IsOneOf w k → ((c : ℕ) → IsOneOf n c → place h c ≡ place g c) → same_at a b k ≡ true → word_at a k ≡ word_at b k
+  same_copies k o still same =
+      let now : x.ended ≤ t = x.now in
+      let first = x.firsts k o (omega arith) in
+      let second = x.seconds k o (omega arith) in
+      let a2 : first.at ≤ x.middle = first.until in
+      let b1 : x.middle ≤ second.at = second.after in
+      let b2 : second.at ≤ x.ended = second.until in
+      elim (((laws second.at (omega arith)).since first.at (omega arith)).before k o) [
+        | inl lt ↦ absurd (no_write k o still same first second lt)
+        | inr e ↦ first.is ∙ e ∙ sym second.is
       ]
 
   pub passed : (since : ℕ) → since ≤ from → w ≤ length b → ((c : ℕ) → IsOneOf n c → place h c ≡ place g c) →

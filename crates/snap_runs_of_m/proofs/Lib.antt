@@ -15,3 +15,4 @@ pub mod Points
 pub mod Bounds
 pub mod Updates
 pub mod Moves
+pub mod CleanTests

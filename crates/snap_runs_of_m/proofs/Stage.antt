@@ -179,7 +179,7 @@ row_marks n w me history round t g h d a b k x one len is named event r =
     }
 
 -- where nothing is marked, no late bit and no word differs
-still_bits : (n w me : ℕ) (history : ℕ → Registers) (round t : ℕ) (p : Variables) (k : ℕ) → Marks n w me history round t p k → all_still n p ≡ true →
+pub still_bits : (n w me : ℕ) (history : ℕ → Registers) (round t : ℕ) (p : Variables) (k : ℕ) → Marks n w me history round t p k → all_still n p ≡ true →
     (c : ℕ) → IsOneOf n c → place p.h c ≡ place p.g c
 still_bits n w me history round t p k r still c o =
     elim (cases_eq (place p.h c) (place p.g c)) [
@@ -189,7 +189,7 @@ still_bits n w me history round t p k r still c o =
           let one : place p.d c ≡ 1 = r.shown c o differ in omega arith)
     ]
 
-still_words : (n w me : ℕ) (history : ℕ → Registers) (round t : ℕ) (p : Variables) → IsOneOf n me → ((u : ℕ) → u ≤ t → Laws n w history u) →
+pub still_words : (n w me : ℕ) (history : ℕ → Registers) (round t : ℕ) (p : Variables) → IsOneOf n me → ((u : ℕ) → u ≤ t → Laws n w history u) →
     Gathered n w me history round t p (n + 1) (w + 1) (w + 1) (n + 1) → Marks n w me history round t p (w + 1) → all_still n p ≡ true →
     (y : ℕ) → IsOneOf w y → same_at p.a p.b y ≡ true
 still_words n w me history round t p one laws x r still y o =

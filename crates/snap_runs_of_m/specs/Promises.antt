@@ -8,8 +8,8 @@ use Rattle.snap_runs.specs.Run.{Run, Fits, before}
 use Rattle.snap_runs.specs.Scan.{Scan, double_collects}
 use Rattle.snap_runs.specs.Update.{executes}
 use Rattle.snap_runs.specs.Promises as promises
-use Rattle.snap_runs.specs.Promises.{ObservedMove}
-use Rattle.snap_runs_of_m.specs.ListingM.{listing_m, moved, j as counter}
+use Rattle.snap_runs.specs.Promises.{ObservedMove, CollectLines}
+use Rattle.snap_runs_of_m.specs.ListingM.{listing_m, k, moved, j as counter}
 
 abbrev pub counts : ℕ → ℕ → Counts
 counts n w = record { n = n; w = w }
@@ -69,3 +69,11 @@ abbrev pub MovesAreEvents : Type 0
 MovesAreEvents = (n w : ℕ) (items : List Item) → 0 < w → Fits (run_of n w items) →
     (i j : ℕ) (link : Option ℕ) (c t : ℕ) → Scan (run_of n w items) i link c t → c < t →
     ObservedMove (run_of n w items) 31 moved i j t → RecentEvent (run_of n w items) i j c t
+
+-- line 17 reads word k into a, and line 19 into b; line 30 looks for marks, and goes to line 34 where there are none
+abbrev pub double_collect : CollectLines
+double_collect = record { first = 17; second = 19; scalar = k; test = 30; passed = 34 }
+
+-- A test that passes is clean: no word is written between its two reads.
+abbrev pub PassedTestsAreClean : Type 0
+PassedTestsAreClean = (n w : ℕ) (items : List Item) → 0 < w → promises.PassedTestsAreClean double_collect 57 (run_of n w items)

@@ -1,7 +1,7 @@
 //! Listing M, and what every run of it keeps.
 #![tactic(auto)]
 
-ghost use Rattle.snap_runs_of_m.specs.Promises.{NeverTraps, ChangesOnlyAt57, WritesItsUpdate, WritesOnce, HavePoints, FewCollects, FewSteps, SharpCollects, MovesAreEvents};
+ghost use Rattle.snap_runs_of_m.specs.Promises.{NeverTraps, ChangesOnlyAt57, WritesItsUpdate, WritesOnce, HavePoints, FewCollects, FewSteps, SharpCollects, MovesAreEvents, PassedTestsAreClean};
 
 /// No process ever traps.
 pub fn never_traps()
@@ -47,4 +47,10 @@ pub fn sharp_collects()
 /// previous double collect, or since the scan's start where there is none.
 pub fn moves_are_events()
     ensures { MovesAreEvents }
+{}
+
+/// Where a scan's test passes, there is a state between its two collects, and no word was written between the scan's two
+/// reads of it.
+pub fn passed_tests_are_clean()
+    ensures { PassedTestsAreClean }
 {}

@@ -31,7 +31,7 @@ first_values kind.Bits shape = map_same (λ (x : Word). x.datum) shape.w (initia
 first_values kind.Multi shape = map_same (λ (x : Word). x.datum) shape.w (initial_word kind.Multi shape)
 
 -- an operation by its parts
-same_parts : (i i' c c' : ℕ) (end end' : Option ℕ) (a a' : Action) → i ≡ i' → c ≡ c' → end ≡ end' → a ≡ a' →
+pub same_parts : (i i' c c' : ℕ) (end end' : Option ℕ) (a a' : Action) → i ≡ i' → c ≡ c' → end ≡ end' → a ≡ a' →
     ◌≡◌ {A = Operation} (record { process = i; call = c; end = end; action = a }) (record { process = i'; call = c'; end = end'; action = a' })
 same_parts i i' c c' end end' a a' p q u v =
     ap (λ y. let o : Operation = record { process = y; call = c; end = end; action = a } in o) p
@@ -39,7 +39,7 @@ same_parts i i' c c' end end' a a' p q u v =
     ∙ ap (λ y. let o : Operation = record { process = i'; call = c'; end = y; action = a } in o) u
     ∙ ap (λ y. let o : Operation = record { process = i'; call = c'; end = end'; action = y } in o) v
 
-same_sets : (word word' value value' : ℕ) → word ≡ word' → value ≡ value' → Sets word value ≡ Sets word' value'
+pub same_sets : (word word' value value' : ℕ) → word ≡ word' → value ≡ value' → Sets word value ≡ Sets word' value'
 same_sets word word' value value' p q = ap (λ y. Sets y value) p ∙ ap (λ y. Sets word' y) q
 
 module _ (line : ℕ) (r : Run) (fits : Fits r) (changes : ChangesOnlyAt line r) (writes : WritesItsUpdate line r) (once : WritesOnce line r)

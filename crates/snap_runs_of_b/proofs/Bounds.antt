@@ -19,7 +19,7 @@ abbrev pub most_steps : ℕ → ℕ
 most_steps n = 8 * (n * n) + 12 * n + 7
 
 -- the bounds at each line
-within : (n : ℕ) (items : List Item) → Fits (run_of n items) → (t i : ℕ) (d : Task) (k : ProgramCounter) → t ≤ length items → IsOneOf n i →
+pub within : (n : ℕ) (items : List Item) → Fits (run_of n items) → (t i : ℕ) (d : Task) (k : ProgramCounter) → t ≤ length items → IsOneOf n i →
     (process_after n items t i).control ≡ At d k → IsInScan d →
     ((process_after n items t i).auxiliary.collects + tests k ≤ n) × ((process_after n items t i).auxiliary.own + 1 ≤ most_steps n)
 within n items fits t i d k le one at scan =

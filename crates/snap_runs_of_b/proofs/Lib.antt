@@ -19,3 +19,5 @@ pub mod Moves
 pub mod OwnUpdates
 pub mod Lenders
 pub mod CleanTests
+pub mod Linear
+pub mod WaitFree

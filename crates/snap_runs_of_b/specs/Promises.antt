@@ -3,7 +3,9 @@ use Rattle.std.specs.Prelude.{ℕ, ◌+◌, ◌*◌, List}
 use Rattle.snap_words.specs.Shape.{Counts}
 use Rattle.snap_semantics.specs.declared.process.Item.{Item}
 use Rattle.snap_runs.specs.Run.{Run}
+use Rattle.snap_runs.specs.Linearization.{IsLinearizable}
 use Rattle.snap_runs.specs.Promises as promises
+use Rattle.snap_runs.specs.WaitFree.{IsWaitFree}
 use Rattle.snap_runs.specs.Promises.{CollectLines}
 use Rattle.snap_runs_of_b.specs.ListingB.{listing_b, j, moved}
 
@@ -66,3 +68,12 @@ double_collect = record { first = 16; second = 18; scalar = j; test = 20; passed
 -- A test that passes is clean: no word is written between its two reads.
 abbrev pub PassedTestsAreClean : Type 0
 PassedTestsAreClean = (n : ℕ) (items : List Item) → promises.PassedTestsAreClean double_collect 46 (run_of n items)
+
+-- Every run is linearizable: its operations are as if each took place at one moment between its call and its end.
+abbrev pub Linearizable : Type 0
+Linearizable = (n : ℕ) (items : List Item) → IsLinearizable (run_of n items)
+
+-- Every call is over after so many turns of its process, whatever the others do: a scan after the steps above, and an update after
+-- 8 n n + 15 n + 12.
+abbrev pub WaitFree : Type 0
+WaitFree = (n : ℕ) (items : List Item) → IsWaitFree (8 * (n * n) + 12 * n + 7) (8 * (n * n) + 15 * n + 12) (run_of n items)

@@ -1,7 +1,7 @@
 //! Listing B, and what every run of it keeps.
 #![tactic(auto)]
 
-ghost use Rattle.snap_runs_of_b.specs.Promises.{NeverTraps, ChangesOnlyAt46, WritesItsUpdate, WritesOnce, HavePoints, FewCollects, FewSteps, SharpCollects, MovesAreWrites, BorrowedViewsAreLent, OwnUpdatesAreSeen, PassedTestsAreClean};
+ghost use Rattle.snap_runs_of_b.specs.Promises.{NeverTraps, ChangesOnlyAt46, WritesItsUpdate, WritesOnce, HavePoints, FewCollects, FewSteps, SharpCollects, MovesAreWrites, BorrowedViewsAreLent, OwnUpdatesAreSeen, PassedTestsAreClean, Linearizable, WaitFree};
 
 /// No process ever traps.
 pub fn never_traps()
@@ -63,4 +63,15 @@ pub fn own_updates_are_seen()
 /// reads of it.
 pub fn passed_tests_are_clean()
     ensures { PassedTestsAreClean }
+{}
+
+/// Every run is linearizable: some order of its operations, in which one that ended before another was called stands before
+/// it, is a run of the snapshot object of one process, with the answers that were given.
+pub fn linearizable()
+    ensures { Linearizable }
+{}
+
+/// Every call is over after so many turns of its process, whatever the others do or stop doing: at most 8 n n + 15 n + 12.
+pub fn wait_free()
+    ensures { WaitFree }
 {}

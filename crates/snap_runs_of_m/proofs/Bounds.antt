@@ -20,7 +20,7 @@ abbrev pub most_steps : ℕ → ℕ → ℕ
 most_steps n w = 14 * (n * n) + 16 * (n * w) + 19 * n + 8 * w + 10
 
 -- the bounds at each line
-within : (n w : ℕ) (items : List Item) → 0 < w → Fits (run_of n w items) → (t i : ℕ) (d : Task) (k : ProgramCounter) → t ≤ length items → IsOneOf n i →
+pub within : (n w : ℕ) (items : List Item) → 0 < w → Fits (run_of n w items) → (t i : ℕ) (d : Task) (k : ProgramCounter) → t ≤ length items → IsOneOf n i →
     (typed_at (algorithm n w) (state_at n w items t) i).control ≡ At d k → IsInScan d →
     ((typed_at (algorithm n w) (state_at n w items t) i).auxiliary.collects + tests k ≤ 2 * n - 1)
     × ((typed_at (algorithm n w) (state_at n w items t) i).auxiliary.own + 1 ≤ most_steps n w)

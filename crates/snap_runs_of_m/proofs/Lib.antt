@@ -16,3 +16,5 @@ pub mod Bounds
 pub mod Updates
 pub mod Moves
 pub mod CleanTests
+pub mod Linear
+pub mod WaitFree

@@ -7,7 +7,9 @@ use Rattle.snap_semantics.specs.State.{value_at, process_at}
 use Rattle.snap_runs.specs.Run.{Run, Fits, before}
 use Rattle.snap_runs.specs.Scan.{Scan, double_collects}
 use Rattle.snap_runs.specs.Update.{executes}
+use Rattle.snap_runs.specs.Linearization.{IsLinearizable}
 use Rattle.snap_runs.specs.Promises as promises
+use Rattle.snap_runs.specs.WaitFree.{IsWaitFree}
 use Rattle.snap_runs.specs.Promises.{ObservedMove, CollectLines}
 use Rattle.snap_runs_of_m.specs.ListingM.{listing_m, k, moved, j as counter}
 
@@ -77,3 +79,13 @@ double_collect = record { first = 17; second = 19; scalar = k; test = 30; passed
 -- A test that passes is clean: no word is written between its two reads.
 abbrev pub PassedTestsAreClean : Type 0
 PassedTestsAreClean = (n w : ℕ) (items : List Item) → 0 < w → promises.PassedTestsAreClean double_collect 57 (run_of n w items)
+
+-- Every run is linearizable: its operations are as if each took place at one moment between its call and its end.
+abbrev pub Linearizable : Type 0
+Linearizable = (n w : ℕ) (items : List Item) → 0 < w → IsLinearizable (run_of n w items)
+
+-- Every call is over after so many turns of its process, whatever the others do: a scan after the steps above, and an update after
+-- 14 n n + 16 n w + 22 n + 8 w + 16.
+abbrev pub WaitFree : Type 0
+WaitFree = (n w : ℕ) (items : List Item) → 0 < w →
+    IsWaitFree (14 * (n * n) + 16 * (n * w) + 19 * n + 8 * w + 10) (14 * (n * n) + 16 * (n * w) + 22 * n + 8 * w + 16) (run_of n w items)

@@ -1,7 +1,7 @@
 //! Listing M, and what every run of it keeps.
 #![tactic(auto)]
 
-ghost use Rattle.snap_runs_of_m.specs.Promises.{NeverTraps, ChangesOnlyAt57, WritesItsUpdate, WritesOnce, HavePoints, FewCollects, FewSteps, SharpCollects, MovesAreEvents, PassedTestsAreClean};
+ghost use Rattle.snap_runs_of_m.specs.Promises.{NeverTraps, ChangesOnlyAt57, WritesItsUpdate, WritesOnce, HavePoints, FewCollects, FewSteps, SharpCollects, MovesAreEvents, PassedTestsAreClean, Linearizable, WaitFree};
 
 /// No process ever traps.
 pub fn never_traps()
@@ -53,4 +53,15 @@ pub fn moves_are_events()
 /// reads of it.
 pub fn passed_tests_are_clean()
     ensures { PassedTestsAreClean }
+{}
+
+/// Every run is linearizable: some order of its operations, in which one that ended before another was called stands before
+/// it, is a run of the snapshot object of one process, with the answers that were given.
+pub fn linearizable()
+    ensures { Linearizable }
+{}
+
+/// Every call is over after so many turns of its process, whatever the others do or stop doing: at most 14 n n + 16 n w + 22 n + 8 w + 16.
+pub fn wait_free()
+    ensures { WaitFree }
 {}

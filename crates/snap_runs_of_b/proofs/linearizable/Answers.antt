@@ -1,0 +1,5 @@
+use Rattle.snap_runs_of_b.proofs.Linear.{linearizable_lem}
+use Rattle.snap_runs_of_b.proofs.linearizable.Goals as goal
+
+pub returns : goal.returns
+returns c = linearizable_lem

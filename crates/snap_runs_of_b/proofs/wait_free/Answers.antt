@@ -1,0 +1,5 @@
+use Rattle.snap_runs_of_b.proofs.WaitFree.{wait_free_lem}
+use Rattle.snap_runs_of_b.proofs.wait_free.Goals as goal
+
+pub returns : goal.returns
+returns c = wait_free_lem

@@ -21,7 +21,9 @@ use Rattle.snap_semantics.specs.Source.{Source, instr_at}
 use Rattle.snap_semantics.specs.State.{Locals, Memory, Process, State, nobody, process_at, initial_process}
 use Rattle.snap_semantics.specs.Table.{Effect, Goes, Answers, Finishes, effect_at, leave, step, call_skip, called, call, done, who}
 use Rattle.snap_runs.specs.Run.{Run, Fits, state, item, outcome}
+use Rattle.snap_runs.specs.Operation.{EndsAreOfOperations}
 use Rattle.snap_runs.specs.Scan.{Finished, is_not_skipped}
+use Rattle.snap_runs.specs.Update.{Updating}
 use Rattle.snap_runs.proofs.Embedding.{next_state}
 use Rattle.snap_runs.proofs.Turns.{MaySkip, Turn, skipped, calls, goes, answers, finishes, traps, status_of, own_turn}
 
@@ -280,3 +282,33 @@ module _ (r : Run) (fits : Fits r) where
           ends = (refl, out);
         },
       )
+
+  -- Each end of an update is that of one that was called.
+  pub finish_ends : (t : ℕ) → t < length r.items → outcome r (suc t) ≡ Done →
+      (c : ℕ) × (word : ℕ) × (value : ℕ) × Updating r (who (item r (suc t))) word value c (suc t) × (c < suc t)
+  finish_ends t h out =
+      let i = who (item r (suc t)) in
+      let one = item_one t h in
+      let was = is_finished (turn t i h one refl) out in
+      let u : UnderCall i (op.Update was.1 was.2) t = subst (λ o. UnderCall i o t) was.4 (subst (UnderAt i t) was.3 (under t i (omega arith) one)) in
+      let le : u.call ≤ t = u.order in (
+        u.call,
+        was.1,
+        was.2,
+        record {
+          process = one;
+          call = u.is.0;
+          called = u.is.1;
+          first = u.first;
+          order = omega arith;
+          last = omega arith;
+          goes_on = λ y lt less done. u.open_still y lt (omega arith) done.0 (subst IsEnd (sym done.1) tt);
+        },
+        omega arith,
+      )
+
+pub ends_are_of_operations : EndsAreOfOperations
+ends_are_of_operations r fits t h = (
+  λ view out. answer_ends r fits t view h out,
+  λ out. let x = finish_ends r fits t h out in (x.0, x.1, x.2, (x.3, x.4, (refl, out))),
+)

@@ -5,17 +5,17 @@ use Rattle.snap_words.specs.Shape.{IsOneOf}
 use Rattle.snap_runs.specs.Run.{Run, Fits}
 use Rattle.snap_runs.specs.Operation.{Action, Sets, Sees, Operation, IsOperation, HasEnded, EndedBefore}
 
--- The snapshot object of one process is the list of its values. An update sets one of its words,
+-- The snapshot object as one process alone would have it, a list of values. What it is after an update or a scan:
 abbrev pub after : List ℕ → Action → List ℕ
 after values (Sets word value) = slice_set values (word - 1) value
 after values (Sees view) = values
 
--- and a scan answers all of them.
+-- What may be done to it: an update sets one of its words, and a scan sees all of them.
 abbrev pub Allows : List ℕ → Action → Type 0
 Allows values (Sets word value) = IsOneOf (length values) word
 Allows values (Sees view) = view ≡ values
 
--- From these values it runs the operations one after another, each with what it set or answered.
+-- From these values on it runs the operations one after another, and each scan sees what is there.
 abbrev pub RunsFrom : List ℕ → List Operation → Type 0
 RunsFrom values [] = Unit {0}
 RunsFrom values (o ∷ os) = Allows values o.action × RunsFrom (after values o.action) os
@@ -35,7 +35,7 @@ pub record IsLinearization (r : Run) (os : List Operation) : Type 0 where
   pub complete : (o : Operation) → IsOperation r o → HasEnded o → Contains os o
   -- the order in time is kept
   pub order : KeepsOrder os
-  -- the object of one process runs them, from w zeros
+  -- the object runs them, from w zeros on, with these answers
   pub runs : RunsFrom (replicate r.shape.w 0) os
 
 -- There is one.

@@ -1,6 +1,8 @@
 -- The operations of a run: what each process was asked for, from the call to the end.
-use Rattle.std.specs.Prelude.{◌≡◌, ℕ, ◌<◌, List, length, Option, Some, None}
-use Rattle.snap_runs.specs.Run.{Run}
+use Rattle.std.specs.Prelude.{◌≡◌, ℕ, suc, ◌<◌, List, length, Option, Some, None}
+use Rattle.snap_semantics.specs.declared.process.Outcome.TheVariants.{Answered, Finished as Done}
+use Rattle.snap_semantics.specs.Table.{who}
+use Rattle.snap_runs.specs.Run.{Run, Fits, item, outcome}
 use Rattle.snap_runs.specs.Scan.{Finished}
 use Rattle.snap_runs.specs.Update.{IsDone, Updating}
 
@@ -38,3 +40,11 @@ HasEnded o = (e : ℕ) × (o.end ≡ Some e)
 -- The first one ended before the second one was called.
 abbrev pub EndedBefore : Operation → Operation → Type 0
 EndedBefore first second = (e : ℕ) × (first.end ≡ Some e) × (e < second.call)
+
+-- Each answer of a run, and each end of an update, is the end of one of its operations.
+abbrev pub EndsAreOfOperations : Type 0
+EndsAreOfOperations = (r : Run) → Fits r → (t : ℕ) → t < length r.items →
+    ((view : List ℕ) → outcome r (suc t) ≡ Answered view →
+    (c : ℕ) × IsOperation r (record { process = who (item r (suc t)); call = c; end = Some (suc t); action = Sees view }))
+    × (outcome r (suc t) ≡ Done →
+    (c : ℕ) × (word : ℕ) × (value : ℕ) × IsOperation r (record { process = who (item r (suc t)); call = c; end = Some (suc t); action = Sets word value }))

@@ -1,0 +1,5 @@
+use Rattle.snap_runs.proofs.Calls.{ends_are_of_operations}
+use Rattle.snap_runs.proofs.ends_are_of_operations.Goals as goal
+
+pub returns : goal.returns
+returns c = ends_are_of_operations

@@ -1,5 +1,5 @@
 -- Every call of B is over after so many turns of its process.
-use Rattle.std.specs.Prelude.{◌≡◌, ℕ, ◌+◌, ◌-◌, ◌*◌, ◌<◌, ◌≤◌, Bool, true, false, List, nat_lt, refl}
+use Rattle.std.specs.Prelude.{ℕ, ◌+◌, ◌-◌, ◌*◌, ◌<◌, ◌≤◌, Bool, true, false, List, nat_lt, refl}
 use Rattle.std.proofs.Common.{sym, subst, arith, inl, inr}
 use Rattle.snap_semantics.specs.declared.process.Item.{Item}
 use Rattle.snap_runs.specs.Run.{Fits}
@@ -11,7 +11,7 @@ use Rattle.snap_runs.proofs.UpdateSteps as updates
 use Rattle.snap_runs.proofs.UpdateSteps.{Ahead, Nearer, Resumes}
 use Rattle.snap_runs.proofs.WaitFree.{wait_free}
 use Rattle.snap_runs_of_b.specs.Promises.{run_of, WaitFree}
-use Rattle.snap_runs_of_b.proofs.Algorithm.{Registers, Variables, ProgramCounter, L26, L28, L40, L41, L42, L43, L44, L45, L46, L47, move, algorithm, IsLineOf, lines}
+use Rattle.snap_runs_of_b.proofs.Algorithm.{Registers, Variables, ProgramCounter, L40, L41, L42, L43, L44, L45, L46, L47, move, algorithm, IsLineOf, lines}
 use Rattle.snap_runs_of_b.proofs.Bounds.{most_steps, within, few_steps_lem}
 use Rattle.snap_runs_of_b.proofs.Runs.{state_at, process_after, well_of, execution, never_traps_lem}
 

@@ -1,5 +1,5 @@
 -- Every call of M is over after so many turns of its process.
-use Rattle.std.specs.Prelude.{◌≡◌, ℕ, ◌+◌, ◌-◌, ◌*◌, ◌<◌, ◌≤◌, Bool, true, false, List, nat_lt, refl}
+use Rattle.std.specs.Prelude.{ℕ, ◌+◌, ◌-◌, ◌*◌, ◌<◌, ◌≤◌, Bool, true, false, List, nat_lt, refl}
 use Rattle.std.proofs.Common.{sym, subst, arith, inl, inr}
 use Rattle.snap_semantics.specs.declared.process.Item.{Item}
 use Rattle.snap_runs.specs.Run.{Fits}
@@ -12,7 +12,7 @@ use Rattle.snap_runs.proofs.UpdateSteps.{Ahead, Nearer, Resumes}
 use Rattle.snap_runs.proofs.WaitFree.{wait_free}
 use Rattle.snap_runs.proofs.Algorithm.{typed_at}
 use Rattle.snap_runs_of_m.specs.Promises.{run_of, WaitFree}
-use Rattle.snap_runs_of_m.proofs.Algorithm.{Registers, Variables, ProgramCounter, L35, L37, L50, L51, L52, L53, L54, L55, L56, L57, L58, move, algorithm, IsLineOf, lines}
+use Rattle.snap_runs_of_m.proofs.Algorithm.{Registers, Variables, ProgramCounter, L50, L51, L52, L53, L54, L55, L56, L57, L58, move, algorithm, IsLineOf, lines}
 use Rattle.snap_runs_of_m.proofs.Bounds.{most_steps, within, few_steps_lem}
 use Rattle.snap_runs_of_m.proofs.Runs.{state_at, well_of, execution, never_traps_lem}
 

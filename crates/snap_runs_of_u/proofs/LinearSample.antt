@@ -8,7 +8,7 @@ use Rattle.snap_semantics.specs.declared.process.Item.{Item}
 use Rattle.snap_semantics.specs.declared.process.Item.TheVariants.{Step, Call}
 use Rattle.snap_semantics.specs.declared.process.Op.TheVariants.{Scan as ScanOp, Update}
 use Rattle.snap_semantics.specs.declared.process.Outcome.{Outcome}
-use Rattle.snap_semantics.specs.declared.process.Outcome.TheVariants.{Called, Answered, Finished}
+use Rattle.snap_semantics.specs.declared.process.Outcome.TheVariants.{Answered, Finished}
 use Rattle.snap_runs.specs.Run.{Run, item, outcome}
 use Rattle.snap_runs.specs.Linearization.{RunsFrom, KeepsOrder, IsLinearization}
 use Rattle.snap_runs.specs.Operation.{Action, Sets, Sees, Operation, TookPlace, IsOperation, HasEnded, EndedBefore}
@@ -225,3 +225,15 @@ not_empty : IsLinearization run [] → ⊥
 not_empty h =
     let there = h.complete scan scan_took_place (64, refl) in
     let lt : there.0 < 0 = there.1 in omega arith
+
+-- Another answer is none of the run's, and no update was called at item 9; there the embedded scan starts, which is no operation.
+wrong_answer : IsOperation run (record { process = 1; call = 1; end = Some 64; action = Sees (0 ∷ 6 ∷ []) }) → ⊥
+wrong_answer took =
+    let out : Answered (0 ∷ 5 ∷ []) ≡ Answered (0 ∷ 6 ∷ []) = took.ends.1 in
+    let same : ◌≡◌ {A = ℕ} 5 6 = cc in omega arith
+
+never_called : IsOperation run (record { process = 2; call = 9; end = Some 25; action = Sets 2 5 }) → ⊥
+never_called took = let call : Step 2 ≡ Call 2 (Update 2 5) = took.0.call in cc
+
+embedded : (e : ℕ) (view : List ℕ) → IsOperation run (record { process = 2; call = 9; end = Some e; action = Sees view }) → ⊥
+embedded e view took = let call : Step 2 ≡ Call 2 ScanOp = took.scan.starts.0 in cc

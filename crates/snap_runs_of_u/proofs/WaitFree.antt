@@ -1,5 +1,5 @@
 -- Every call of U is over after so many turns of its process.
-use Rattle.std.specs.Prelude.{◌≡◌, ℕ, ◌+◌, ◌*◌, ◌<◌, ◌≤◌, Bool, true, false, List, refl}
+use Rattle.std.specs.Prelude.{ℕ, ◌+◌, ◌*◌, ◌≤◌, Bool, true, false, List, refl}
 use Rattle.std.proofs.Common.{sym, subst, arith, inl, inr}
 use Rattle.snap_semantics.specs.declared.process.Item.{Item}
 use Rattle.snap_runs.specs.Run.{Fits}
@@ -10,7 +10,7 @@ use Rattle.snap_runs.proofs.UpdateSteps as updates
 use Rattle.snap_runs.proofs.UpdateSteps.{Ahead, Nearer, Resumes}
 use Rattle.snap_runs.proofs.WaitFree.{wait_free}
 use Rattle.snap_runs_of_u.specs.Promises.{run_of, WaitFree}
-use Rattle.snap_runs_of_u.proofs.Algorithm.{Words, Variables, ProgramCounter, L22, L24, L30, L31, L32, L33, move, algorithm, IsLineOf, lines}
+use Rattle.snap_runs_of_u.proofs.Algorithm.{Words, Variables, ProgramCounter, L30, L31, L32, L33, move, algorithm, IsLineOf, lines}
 use Rattle.snap_runs_of_u.proofs.Bounds.{most_steps, within, few_steps_lem}
 use Rattle.snap_runs_of_u.proofs.Runs.{words_at, process_after, well_of, execution, never_traps_lem}
 

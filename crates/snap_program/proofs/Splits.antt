@@ -62,9 +62,10 @@ part_goes_on before whole front bytes line rest some is_line is_rest ends so_far
 length_onto : (front : List ℕ) (lines : List (List ℕ)) → length (onto_part front (parts_of_lines lines)) ≡ length (parts_of_lines lines)
 length_onto front [] = refl
 length_onto front (line ∷ lines) =
-    elim (ends_part line) as (λ v. length (onto_part front (cond v ([] ∷ parts_of_lines lines) (onto_part line (parts_of_lines lines)))) ≡ length (cond v ([] ∷ parts_of_lines lines) (onto_part line (parts_of_lines lines))))
-    [ true ↦ refl
-    | false ↦ ap length (onto_again front line (parts_of_lines lines)) ∙ length_onto (front ++ line) lines ∙ sym (length_onto line lines) ]
+    elim (ends_part line) as (λ v. length (onto_part front (cond v ([] ∷ parts_of_lines lines) (onto_part line (parts_of_lines lines)))) ≡ length (cond v ([] ∷ parts_of_lines lines) (onto_part line (parts_of_lines lines)))) [
+      | true ↦ refl
+      | false ↦ ap length (onto_again front line (parts_of_lines lines)) ∙ length_onto (front ++ line) lines ∙ sym (length_onto line lines)
+    ]
 
 -- a line that ends a part is one part more
 pub one_part_more : (bytes line rest : List ℕ) → 0 < length bytes → line ≡ take_through 10 bytes → rest ≡ drop_through 10 bytes → ends_part line ≡ true → length (parts_of bytes) ≡ length (parts_of rest) + 1

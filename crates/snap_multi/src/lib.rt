@@ -4,7 +4,8 @@
 mod text;
 
 pub use snap_runs_of_m::{
-    changes_only_at_57, few_collects, few_steps, have_points, linearizable, moves_are_events,
-    never_traps, passed_tests_are_clean, sharp_collects, wait_free, writes_its_update, writes_once,
+    borrowed_views_are_lent, changes_only_at_57, few_collects, few_steps, have_points,
+    linearizable, moves_are_events, never_traps, passed_tests_are_clean, sharp_collects, wait_free,
+    writes_its_update, writes_once,
 };
 pub use text::listing;

@@ -429,12 +429,18 @@ module _ (n w me : ℕ) (history : ℕ → Registers) (from t : ℕ) (g : List �
         same_data w (words_of history x.middle) b (laws x.middle (omega arith)).now.size len (λ k o. unchanged k o still (same k o)),
       )
 
--- Three events of one process since a scan's start: its view is the values at some state since.
+-- Three events of one process since a scan's start: it has put a view after it had answered the scan's process.
+pub borrowed_put : (n w me c since t : ℕ) (history : ℕ → Registers) → Laws n w history since → Laws n w history t → IsOneOf n c → IsOneOf n me →
+    events (history since) c me + 3 ≤ events (history t) c me → (history since).answers c me < (history t).puts c
+borrowed_put n w me c since t history then now one i three =
+    let a : (history t).answers c me ≤ (history t).writes c + 1 = now.now.answers_to c me one i in
+    let b : (history since).answers c me ≤ (history since).writes c + 1 = then.now.answers_to c me one i in
+    let p : (history t).writes c ≤ (history t).puts c = now.now.puts_from c one in
+    omega arith
+
+-- so its view is the values at some state since
 pub borrowed : (n w me c since t : ℕ) (history : ℕ → Registers) → Laws n w history since → Laws n w history t → since ≤ t → IsOneOf n c →
     IsOneOf n me →
     events (history since) c me + 3 ≤ events (history t) c me → Held (words_of history) t since (view_at (history t).views c)
 borrowed n w me c since t history then now le one i three =
-    let a : (history t).answers c me ≤ (history t).writes c + 1 = now.now.answers_to c me one i in
-    let b : (history since).answers c me ≤ (history since).writes c + 1 = then.now.answers_to c me one i in
-    let p : (history t).writes c ≤ (history t).puts c = now.now.puts_from c one in
-    (now.since since le).viewed c me one i (omega arith)
+    (now.since since le).viewed c me one i (borrowed_put n w me c since t history then now one i three)

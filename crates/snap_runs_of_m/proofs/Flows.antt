@@ -6,6 +6,7 @@ use Rattle.snap_semantics.specs.Source.{instr_at}
 use Rattle.snap_runs.specs.Scan.{Returns}
 use Rattle.snap_runs.proofs.Algorithm.{Task, Scanning, Embedded, Updating, To}
 use Rattle.snap_runs.proofs.Computing.{either, whether}
+use Rattle.snap_runs.proofs.EmbeddedScans as embedded
 use Rattle.snap_runs.proofs.Executing.{Numbered}
 use Rattle.snap_runs.proofs.Flow as flow
 use Rattle.snap_runs.proofs.Flow.{scan_inside}
@@ -17,7 +18,7 @@ use Rattle.snap_runs.proofs.Scans as scans
 use Rattle.snap_runs.proofs.WordWrites as word_writes
 use Rattle.snap_runs.proofs.WritesOnce as writes_once
 use Rattle.snap_runs_of_m.specs.ListingM.{listing_m}
-use Rattle.snap_runs_of_m.proofs.Algorithm.{Registers, plain, written, Move, Variables, ProgramCounter, L10, L11, L12, L13, L14, L15, L16, L17, L18, L19, L20, L21, L22, L23, L24, L25, L26, L27, L28, L29, L30, L31, L32, L33, L34, L35, L36, L37, L50, L51, L52, L53, L54, L55, L56, L57, L58, number, locals_of, same_at, all_still, third_move, move, first_to, algorithm, IsScan, IsLineOf, writes, written_at, lines}
+use Rattle.snap_runs_of_m.proofs.Algorithm.{Registers, plain, written, Move, Variables, ProgramCounter, L10, L11, L12, L13, L14, L15, L16, L17, L18, L19, L20, L21, L22, L23, L24, L25, L26, L27, L28, L29, L30, L31, L32, L33, L34, L35, L36, L37, L50, L51, L52, L53, L54, L55, L56, L57, L58, number, locals_of, same_at, all_still, third_move, move, first_to, algorithm, IsScan, IsUpdate, IsLineOf, IsLate, writes, written_at, lines}
 
 abbrev pub Flows : ℕ → ℕ → Task → Registers → Variables → ProgramCounter → Move → Type 0
 Flows n w = flow.Flows lines (algorithm n w)
@@ -175,6 +176,70 @@ line_listed n w L58 = record { alone = refl; tested = refl; wrote = refl; calls 
 answers : (p : Variables) (k : ProgramCounter) → lines.IsReturn k → Returns (instr_at listing_m.lines (number k)) (locals_of p) p.s
 answers p k (inl is) = subst (λ y. Returns (instr_at listing_m.lines (number y)) (locals_of p) p.s) (sym is) refl
 answers p k (inr is) = subst (λ y. Returns (instr_at listing_m.lines (number y)) (locals_of p) p.s) (sym is) refl
+
+-- what each line does to an embedded scan and to its view
+abbrev pub Embeds : ℕ → ℕ → Task → Variables → ProgramCounter → Move → Type 0
+Embeds n w = embedded.Embeds (algorithm n w) lines
+
+-- a line of a scan that goes on
+stay : (n w : ℕ) (d : Task) (m : Registers) (p p' : Variables) (k k' : ProgramCounter) → IsScan w d → (lines.IsReturn k → ⊥) → Embeds n w d p k (To d m p' k')
+stay n w Scanning m p p' k k' s none = refl
+stay n w (Embedded word value) m p p' k k' s none = inl (refl, none)
+stay n w (Updating word value) m p p' k k' s none = absurd s
+
+-- a line of an update that goes on to a line with no view that is to be put
+early : (n w : ℕ) (d : Task) (m : Registers) (p p' : Variables) (k k' : ProgramCounter) → IsUpdate w d → (IsLate k' → ⊥) → Embeds n w d p k (To d m p' k')
+early n w Scanning m p p' k k' s none = absurd s
+early n w (Embedded word value) m p p' k k' s none = absurd s
+early n w (Updating word value) m p p' k k' s none = (refl, λ late. absurd (none late))
+
+pub embeds : (n w me : ℕ) (d : Task) (m : Registers) (p : Variables) (k : ProgramCounter) → IsLineOf w d k → Embeds n w d p k (move n w me d m p k)
+embeds n w me d m p L10 s = stay n w d _ p _ L10 _ s (answers p L10)
+embeds n w me d m p L11 s = stay n w d _ p _ L11 _ s (answers p L11)
+embeds n w me d m p L12 s = stay n w d _ p _ L12 _ s (answers p L12)
+embeds n w me d m p L13 s = stay n w d _ p _ L13 _ s (answers p L13)
+embeds n w me d m p L14 s = stay n w d _ p _ L14 _ s (answers p L14)
+embeds n w me d m p L15 s = stay n w d _ p _ L15 _ s (answers p L15)
+embeds n w me d m p L16 s = either (Embeds n w d p L16) (nat_lt p.j n) _ _ (λ b. stay n w d _ p _ L16 _ s (answers p L16)) (λ b. stay n w d _ p _ L16 _ s (answers p L16))
+embeds n w me d m p L17 s = stay n w d _ p _ L17 _ s (answers p L17)
+embeds n w me d m p L18 s = either (Embeds n w d p L18) (nat_lt p.k w) _ _ (λ b. stay n w d _ p _ L18 _ s (answers p L18)) (λ b. stay n w d _ p _ L18 _ s (answers p L18))
+embeds n w me d m p L19 s = stay n w d _ p _ L19 _ s (answers p L19)
+embeds n w me d m p L20 s = either (Embeds n w d p L20) (nat_lt p.k w) _ _ (λ b. stay n w d _ p _ L20 _ s (answers p L20)) (λ b. stay n w d _ p _ L20 _ s (answers p L20))
+embeds n w me d m p L21 s = stay n w d _ p _ L21 _ s (answers p L21)
+embeds n w me d m p L22 s = stay n w d _ p _ L22 _ s (answers p L22)
+embeds n w me d m p L23 s = either (Embeds n w d p L23) (nat_lt p.j n) _ _ (λ b. stay n w d _ p _ L23 _ s (answers p L23)) (λ b. stay n w d _ p _ L23 _ s (answers p L23))
+embeds n w me d m p L24 s = stay n w d _ p _ L24 _ s (answers p L24)
+embeds n w me d m p L25 s = stay n w d _ p _ L25 _ s (answers p L25)
+embeds n w me d m p L26 s = either (Embeds n w d p L26) (same_at p.a p.b p.k) _ _ (λ b. stay n w d _ p _ L26 _ s (answers p L26)) (λ b. stay n w d _ p _ L26 _ s (answers p L26))
+embeds n w me d m p L27 s = stay n w d _ p _ L27 _ s (answers p L27)
+embeds n w me d m p L28 s = stay n w d _ p _ L28 _ s (answers p L28)
+embeds n w me d m p L29 s = either (Embeds n w d p L29) (nat_lt p.k w) _ _ (λ b. stay n w d _ p _ L29 _ s (answers p L29)) (λ b. stay n w d _ p _ L29 _ s (answers p L29))
+embeds n w me d m p L30 s = either (Embeds n w d p L30) (all_still n p) _ _ (λ b. stay n w d _ p _ L30 _ s (answers p L30)) (λ b. stay n w d _ p _ L30 _ s (answers p L30))
+embeds n w me d m p L31 s = stay n w d _ p _ L31 _ s (answers p L31)
+embeds n w me d m p L32 s =
+    whether (Embeds n w d p L32) (first_to d m p) (third_move n p) (λ e. stay n w d _ p _ L32 _ s (answers p L32)) (λ k e. stay n w d _ p _ L32 _ s (answers p L32))
+embeds n w me d m p L33 s = stay n w d _ p _ L33 _ s (answers p L33)
+embeds n w me d m p L34 s = stay n w d _ p _ L34 _ s (answers p L34)
+embeds n w me Scanning m p L35 s = tt
+embeds n w me (Embedded word value) m p L35 s = inr (refl, inl refl, refl)
+embeds n w me (Updating word value) m p L35 s = absurd s
+embeds n w me d m p L36 s = stay n w d _ p _ L36 _ s (answers p L36)
+embeds n w me Scanning m p L37 s = tt
+embeds n w me (Embedded word value) m p L37 s = inr (refl, inr refl, refl)
+embeds n w me (Updating word value) m p L37 s = absurd s
+embeds n w me d m p L50 s = early n w d _ p _ L50 _ s (λ h. h)
+embeds n w me d m p L51 s = early n w d _ p _ L51 _ s (λ h. h)
+embeds n w me d m p L52 s = early n w d _ p _ L52 _ s (λ h. h)
+embeds n w me d m p L53 s = either (Embeds n w d p L53) (nat_lt p.j n) _ _ (λ b. early n w d _ p _ L53 _ s (λ h. h)) (λ b. early n w d _ p _ L53 _ s (λ h. h))
+embeds n w me Scanning m p L54 s = absurd s
+embeds n w me (Embedded word value) m p L54 s = absurd s
+embeds n w me (Updating word value) m p L54 s = (refl, tt)
+embeds n w me d m p L55 s = early n w d _ p _ L55 _ s (λ h. h)
+embeds n w me d m p L56 s = early n w d _ p _ L56 _ s (λ h. h)
+embeds n w me d m p L57 s = early n w d _ p _ L57 _ s (λ h. h)
+embeds n w me Scanning m p L58 s = absurd s
+embeds n w me (Embedded word value) m p L58 s = absurd s
+embeds n w me (Updating word value) m p L58 s = tt
 
 abbrev pub numbered : (n w : ℕ) → Numbered (algorithm n w)
 numbered n w = listed_lines.numbered (algorithm n w) lines 57 counter_with (line_listed n w)

@@ -15,7 +15,7 @@ use Rattle.snap_runs_of_m.proofs.Stage.{Stage}
 return_held : (n w i : ℕ) (history : ℕ → Registers) (t since round : ℕ) (p : Variables) (k : ProgramCounter) → lines.IsReturn k →
     Stage n w i history t since round p k → Held (words_of history) t since p.s
 return_held n w i history t since round p k (inl is) h = subst (Stage n w i history t since round p) is h
-return_held n w i history t since round p k (inr is) h = subst (Stage n w i history t since round p) is h
+return_held n w i history t since round p k (inr is) h = (subst (Stage n w i history t since round p) is h).0
 
 pub have_points_lem : HavePoints
 have_points_lem n w items some fits =

@@ -13,7 +13,7 @@ use Rattle.snap_runs_of_m.proofs.Algorithm.{Words, Registers, Move, Variables, P
 use Rattle.snap_runs_of_m.proofs.Basics.{other_from, set_here, set_there}
 use Rattle.snap_runs_of_m.proofs.Control.{Keeps, Long}
 use Rattle.snap_runs_of_m.proofs.History.{words_of, Since, Laws}
-use Rattle.snap_runs_of_m.proofs.Collect.{events, ReadBit, Collected, collected_starts, collected_as, collected_kept, ended_kept, asked_row, asked_more, first_more, second_more, late_more, seen_by_words, seen_by_bits, passed, borrowed}
+use Rattle.snap_runs_of_m.proofs.Collect.{events, ReadBit, Collected, collected_starts, collected_as, collected_kept, ended_kept, asked_row, asked_more, first_more, second_more, late_more, seen_by_words, seen_by_bits, passed, borrowed_put, borrowed}
 
 -- The moves that the scan has seen are events since its start: up to its last double collect's start, and up to now.
 abbrev pub Low : ℕ → ℕ → (ℕ → Registers) → ℕ → ℕ → List ℕ → Type 0
@@ -34,6 +34,16 @@ pub record Seen (history : ℕ → Registers) (t me : ℕ) (p : Variables) : Typ
   pub until : at ≤ t
   pub is : p.x ≡ bit (history at).q p.j me
   pub same : (history at).writes me ≡ (history t).writes me
+
+-- a process has put this view after it had answered one that came later than all that it had answered at the scan's start
+pub record Shown (n me : ℕ) (history : ℕ → Registers) (t since : ℕ) (view : List ℕ) : Type 0 where
+  pub lender : ℕ
+  pub inside : IsOneOf n lender
+  pub time : ℕ
+  pub after : since ≤ time
+  pub before : time ≤ t
+  pub put : (history since).answers lender me < (history time).puts lender
+  pub is : view_at (history time).views lender ≡ view
 
 abbrev pub Gathered : ℕ → ℕ → ℕ → (ℕ → Registers) → ℕ → ℕ → Variables → ℕ → ℕ → ℕ → ℕ → Type 0
 Gathered n w me history round t p asked first second late = Collected n w me history round t p.g p.a p.b p.h asked first second late
@@ -68,7 +78,7 @@ Stage n w me history t since round p L33 = Low n me history since t p.moved
 Stage n w me history t since round p L34 = Held (words_of history) t since (map (λ (r : Word). r.datum) (take w (map plain p.b)))
 Stage n w me history t since round p L35 = Held (words_of history) t since p.s
 Stage n w me history t since round p L36 = Low n me history since t p.moved × (place p.moved p.j ≡ limit)
-Stage n w me history t since round p L37 = Held (words_of history) t since p.s
+Stage n w me history t since round p L37 = Held (words_of history) t since p.s × Shown n me history t since p.s
 Stage n w me history t since round p L52 = Seen history t me p
 Stage n w me history t since round p L55 = Held (words_of history) t since p.s
 Stage n w me history t since round p _ = Unit {0}
@@ -308,11 +318,25 @@ stage_move n w me history t since round m (Updating y z) p L35 e h = absurd e.li
 stage_move n w me history t since round m d p L36 e h =
     let opened : since ≤ round = e.opened in
     let closed : round ≤ t = e.round_le in
-    subst (λ (x : Registers). Held (words_of history) t since (view_at x.views p.j)) e.now
-    (borrowed n w me p.j since t history (e.laws since (omega arith)) (e.laws t (omega arith)) (omega arith) e.keeps e.one
-    (let three : place p.moved p.j ≡ limit = h.1 in let low : events (history since) p.j me + place p.moved p.j ≤ events (history t) p.j me = h.0 p.j e.keeps in omega arith))
-stage_move n w me history t since round m Scanning p L37 e h = h
-stage_move n w me history t since round m (Embedded y z) p L37 e h = h
+    let moves : place p.moved p.j ≡ limit = h.1 in
+    let low : events (history since) p.j me + place p.moved p.j ≤ events (history t) p.j me = h.0 p.j e.keeps in
+    let three : events (history since) p.j me + 3 ≤ events (history t) p.j me = omega arith in
+    let start = e.laws since (omega arith) in
+    let now = e.laws t (omega arith) in (
+      subst (λ (x : Registers). Held (words_of history) t since (view_at x.views p.j)) e.now
+          (borrowed n w me p.j since t history start now (omega arith) e.keeps e.one three),
+      record {
+        lender = p.j;
+        inside = e.keeps;
+        time = t;
+        after = omega arith;
+        before = omega arith;
+        put = borrowed_put n w me p.j since t history start now e.keeps e.one three;
+        is = ap (λ (x : Registers). view_at x.views p.j) e.now;
+      },
+    )
+stage_move n w me history t since round m Scanning p L37 e h = h.0
+stage_move n w me history t since round m (Embedded y z) p L37 e h = h.0
 stage_move n w me history t since round m (Updating y z) p L37 e h = absurd e.line
 stage_move n w me history t since round m d p L50 e h = tt
 stage_move n w me history t since round m d p L51 e h = record { at = t; until = omega arith; is = ap (λ (x : Registers). bit x.q p.j me) (sym e.now); same = refl }
@@ -388,7 +412,20 @@ stage_kept n w me history t since round p L33 i s o h = high_kept n w me history
 stage_kept n w me history t since round p L34 i s o h = held_wider (words_of history) t (suc t) since since (map (λ (r : Word). r.datum) (take w (map plain p.b))) (omega arith) (omega arith) h
 stage_kept n w me history t since round p L35 i s o h = held_wider (words_of history) t (suc t) since since p.s (omega arith) (omega arith) h
 stage_kept n w me history t since round p L36 i s o h = (high_kept n w me history since t p.moved i s h.0, h.1)
-stage_kept n w me history t since round p L37 i s o h = held_wider (words_of history) t (suc t) since since p.s (omega arith) (omega arith) h
+stage_kept n w me history t since round p L37 i s o h =
+    let shown : Shown n me history t since p.s = h.1 in
+    let before : shown.time ≤ t = shown.before in (
+      held_wider (words_of history) t (suc t) since since p.s (omega arith) (omega arith) h.0,
+      record {
+        lender = shown.lender;
+        inside = shown.inside;
+        time = shown.time;
+        after = shown.after;
+        before = omega arith;
+        put = shown.put;
+        is = shown.is;
+      },
+    )
 stage_kept n w me history t since round p L50 i s o h = tt
 stage_kept n w me history t since round p L51 i s o h = tt
 stage_kept n w me history t since round p L52 i s o h = record { at = h.at; until = (let u : h.at ≤ t = h.until in omega arith); is = h.is; same = h.same ∙ sym o.writes }

@@ -89,3 +89,7 @@ Linearizable = (n w : ℕ) (items : List Item) → 0 < w → IsLinearizable (run
 abbrev pub WaitFree : Type 0
 WaitFree = (n w : ℕ) (items : List Item) → 0 < w →
     IsWaitFree (14 * (n * n) + 16 * (n * w) + 19 * n + 8 * w + 10) (14 * (n * n) + 16 * (n * w) + 22 * n + 8 * w + 16) (run_of n w items)
+
+-- A scan that returns at line 37 has the view of an embedded scan of another process, all within it.
+abbrev pub BorrowedViewsAreLent : Type 0
+BorrowedViewsAreLent = (n w : ℕ) (items : List Item) → 0 < w → promises.BorrowedViewsAreLent 37 (run_of n w items)

@@ -1,7 +1,7 @@
 //! Listing M, and what every run of it keeps.
 #![tactic(auto)]
 
-ghost use Rattle.snap_runs_of_m.specs.Promises.{NeverTraps, ChangesOnlyAt57, WritesItsUpdate, WritesOnce, HavePoints, FewCollects, FewSteps, SharpCollects, MovesAreEvents, PassedTestsAreClean, Linearizable, WaitFree};
+ghost use Rattle.snap_runs_of_m.specs.Promises.{NeverTraps, ChangesOnlyAt57, WritesItsUpdate, WritesOnce, HavePoints, FewCollects, FewSteps, SharpCollects, MovesAreEvents, PassedTestsAreClean, Linearizable, WaitFree, BorrowedViewsAreLent};
 
 /// No process ever traps.
 pub fn never_traps()
@@ -64,4 +64,9 @@ pub fn linearizable()
 /// Every call is over after so many turns of its process, whatever the others do or stop doing: at most 14 n n + 16 n w + 22 n + 8 w + 16.
 pub fn wait_free()
     ensures { WaitFree }
+{}
+
+/// A scan that borrows a view, and returns it at line 37, has that of an embedded scan of another process, all within it.
+pub fn borrowed_views_are_lent()
+    ensures { BorrowedViewsAreLent }
 {}

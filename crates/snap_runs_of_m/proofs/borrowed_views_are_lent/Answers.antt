@@ -1,0 +1,5 @@
+use Rattle.snap_runs_of_m.proofs.Lenders.{borrowed_views_are_lent_lem}
+use Rattle.snap_runs_of_m.proofs.borrowed_views_are_lent.Goals as goal
+
+pub returns : goal.returns
+returns c = borrowed_views_are_lent_lem

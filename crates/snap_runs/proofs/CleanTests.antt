@@ -22,7 +22,7 @@ use Rattle.snap_runs.proofs.Counting.{count_later}
 use Rattle.snap_runs.proofs.Embedding as embed
 use Rattle.snap_runs.proofs.Executing as executing
 use Rattle.snap_runs.proofs.Flow.{Lines, IsUpdateOf}
-use Rattle.snap_runs.proofs.Held.{word_at, seq_at}
+use Rattle.snap_runs.proofs.Held.{seq_at}
 use Rattle.snap_runs.proofs.ItemCases as cases
 use Rattle.snap_runs.proofs.ScanSpan as span
 use Rattle.snap_runs.proofs.Scans as scans

@@ -1,5 +1,5 @@
 -- The embedded scans of a run: an update that has made its view and not yet written it has the view of one that is finished.
-use Rattle.std.specs.Prelude.{◌≡◌, ℕ, zero, suc, ◌<◌, ◌≤◌, ◌⊎◌, List, length, Option, Some, None, refl}
+use Rattle.std.specs.Prelude.{◌≡◌, ℕ, zero, suc, ◌<◌, ◌≤◌, ◌⊎◌, List, length, Some, refl}
 use Rattle.std.proofs.Common.{sym, ◌∙◌, ap, subst, arith, inl, inr}
 use Rattle.std.proofs.Math.Nat.{eq-or-lt_of_le}
 use Rattle.snap_words.specs.Shape.{IsOneOf}
@@ -9,9 +9,9 @@ use Rattle.snap_semantics.specs.declared.process.Item.{Item}
 use Rattle.snap_semantics.specs.declared.process.Item.TheVariants.{Step}
 use Rattle.snap_semantics.specs.declared.process.Op.{Op}
 use Rattle.snap_semantics.specs.declared.process.Op.TheVariants.{Scan as ScanOp, Update}
-use Rattle.snap_runs.specs.Run.{Run, state, item, outcome}
-use Rattle.snap_runs.specs.Scan.{Starts, Ends, Scan, Finished, IsCallLine, Returns, line_in, link_in}
-use Rattle.snap_runs.proofs.Algorithm.{Task, Scanning, Embedded, Updating, task_of, Control, Idle, At, WhenBusy, Move, To, Begin, Answer, Finish, TypedProcess, Algorithm, by_move, typed_at, outcome_of, item_at, typed_state, process_of, stepped_auxiliary, begun_auxiliary, called_auxiliary}
+use Rattle.snap_runs.specs.Run.{Run, state, outcome}
+use Rattle.snap_runs.specs.Scan.{Starts, Ends, Finished, IsCallLine, Returns, line_in, link_in}
+use Rattle.snap_runs.proofs.Algorithm.{Task, Scanning, Embedded, Updating, task_of, Control, Idle, At, WhenBusy, Move, To, Begin, Answer, Finish, TypedProcess, Algorithm, by_move, typed_at, outcome_of, item_at, typed_state, process_of, begun_auxiliary, called_auxiliary}
 use Rattle.snap_runs.proofs.Embedding as embed
 use Rattle.snap_runs.proofs.Flow.{Lines}
 use Rattle.snap_runs.proofs.ItemCases as cases

@@ -9,10 +9,10 @@ use Rattle.snap_semantics.specs.Table.{who}
 use Rattle.snap_semantics.specs.declared.process.Item.{Item}
 use Rattle.snap_semantics.specs.declared.process.Op.{Op}
 use Rattle.snap_runs.specs.Run.{Run, item}
-use Rattle.snap_runs.specs.Scan.{Starts, Scan, Finished}
+use Rattle.snap_runs.specs.Scan.{Starts, Finished}
 use Rattle.snap_runs.specs.Update.{executes}
 use Rattle.snap_runs.specs.Promises.{LentView}
-use Rattle.snap_runs.proofs.Algorithm.{Task, Updating, Control, At, WhenBusy, TypedProcess, Algorithm, typed_at, typed_state}
+use Rattle.snap_runs.proofs.Algorithm.{Task, Updating, At, WhenBusy, TypedProcess, Algorithm, typed_at, typed_state}
 use Rattle.snap_runs.proofs.EmbeddedScans as embedded
 use Rattle.snap_runs.proofs.Embedding as embed
 use Rattle.snap_runs.proofs.Executing as executing

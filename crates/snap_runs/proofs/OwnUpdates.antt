@@ -1,5 +1,5 @@
 -- A scan that a process calls after an update of its own shows that update's value.
-use Rattle.std.specs.Prelude.{◌≡◌, ℕ, zero, suc, ◌-◌, ◌<◌, ◌≤◌, Bool, true, false, List, length, Option, Some, None, slice_index, refl}
+use Rattle.std.specs.Prelude.{◌≡◌, ℕ, zero, suc, ◌-◌, ◌<◌, ◌≤◌, Bool, true, false, List, length, Some, None, slice_index, refl}
 use Rattle.std.proofs.Common.{sym, ◌∙◌, ap, subst, arith, inl, inr}
 use Rattle.std.proofs.lemmas.Bool.{cases_lt}
 use Rattle.std.proofs.lemmas.Grind.{get_or-set_at}
@@ -9,12 +9,12 @@ use Rattle.snap_words.specs.Shape.{IsOneOf}
 use Rattle.snap_words.specs.Word.{Word, no_word}
 use Rattle.snap_semantics.specs.State.{values}
 use Rattle.snap_semantics.specs.declared.process.Item.{Item}
-use Rattle.snap_semantics.specs.declared.process.Item.TheVariants.{Step, Call}
+use Rattle.snap_semantics.specs.declared.process.Item.TheVariants.{Call}
 use Rattle.snap_semantics.specs.declared.process.Op.{Op}
 use Rattle.snap_semantics.specs.declared.process.Op.TheVariants.{Scan as ScanOp, Update}
 use Rattle.snap_semantics.specs.declared.process.Outcome.TheVariants.{Called}
 use Rattle.snap_runs.specs.Run.{Run, state, item, outcome}
-use Rattle.snap_runs.specs.Scan.{Scan, Finished, HasPoint, count}
+use Rattle.snap_runs.specs.Scan.{Scan, HasPoint, count}
 use Rattle.snap_runs.specs.Update.{executes, IsDone, Updating as UpdateOf}
 use Rattle.snap_runs.specs.Promises.{HavePoints, OwnUpdatesAreSeen}
 use Rattle.snap_runs.proofs.Algorithm.{Task, Updating, op_of, Control, At, TypedProcess, Algorithm, by_call, typed_at, by_item, outcome_of, item_at, typed_state}

@@ -1,18 +1,17 @@
 -- A borrowed view of a scan of B is that of an embedded scan of the lender within it.
-use Rattle.std.specs.Prelude.{◌≡◌, ℕ, zero, suc, ◌+◌, ◌<◌, ◌≤◌, List, length, refl}
+use Rattle.std.specs.Prelude.{ℕ, zero, suc, ◌<◌, ◌≤◌, List, length, refl}
 use Rattle.std.proofs.Common.{subst, arith}
-use Rattle.snap_words.specs.Shape.{IsOneOf}
 use Rattle.snap_semantics.specs.declared.process.Item.{Item}
 use Rattle.snap_semantics.specs.declared.process.Op.{Op}
 use Rattle.snap_semantics.specs.declared.process.Op.TheVariants.{Scan, Update}
 use Rattle.snap_runs.specs.Run.{Fits}
-use Rattle.snap_runs.proofs.Algorithm.{Task, Updating, At, WhenBusy, when_busy}
+use Rattle.snap_runs.proofs.Algorithm.{when_busy}
 use Rattle.snap_runs.proofs.Executing as executing
 use Rattle.snap_runs.proofs.Held.{Beside}
 use Rattle.snap_runs.proofs.Lenders as lenders
 use Rattle.snap_runs.proofs.Scans as scans
 use Rattle.snap_runs_of_b.specs.Promises.{run_of, BorrowedViewsAreLent}
-use Rattle.snap_runs_of_b.proofs.Algorithm.{L28, L46, IsLate, counter, lines, algorithm}
+use Rattle.snap_runs_of_b.proofs.Algorithm.{L28, IsLate, counter, lines, algorithm}
 use Rattle.snap_runs_of_b.proofs.Flows.{numbered, listed, writer, embeds}
 use Rattle.snap_runs_of_b.proofs.Runs.{words_at, registers_at, process_after, invariant, invariant_of, execution, stage_of}
 use Rattle.snap_runs_of_b.proofs.Updates.{updates}

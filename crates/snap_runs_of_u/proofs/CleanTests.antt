@@ -1,14 +1,13 @@
 -- The double collects of U: which line reads which copy, and that a passed test is clean.
-use Rattle.std.specs.Prelude.{◌≡◌, ℕ, zero, suc, ◌-◌, ◌+◌, ◌≤◌, ◌⊎◌, max, Bool, true, false, List, length, map, nat_eq, nat_lt, if◌then◌else◌, refl}
+use Rattle.std.specs.Prelude.{◌≡◌, ℕ, zero, suc, ◌+◌, ◌≤◌, ◌⊎◌, max, Bool, true, false, List, length, map, nat_eq, nat_lt, if◌then◌else◌, refl}
 use Rattle.std.proofs.Common.{sym, ◌∙◌, ap, arith, inl, inr}
-use Rattle.snap_words.specs.Shape.{IsOneOf}
 use Rattle.snap_semantics.specs.Table.{places_to, all_true, first_true}
 use Rattle.snap_semantics.specs.declared.process.Item.{Item}
 use Rattle.snap_semantics.specs.declared.process.Op.{Op}
 use Rattle.snap_semantics.specs.declared.process.Op.TheVariants.{Scan, Update}
 use Rattle.snap_runs.specs.Run.{Fits}
 use Rattle.snap_runs.specs.Update.{is_at}
-use Rattle.snap_runs.proofs.Algorithm.{Task, Scanning, Embedded, Updating, At, To, when_busy, status_of}
+use Rattle.snap_runs.proofs.Algorithm.{Task, Scanning, Embedded, Updating, To, when_busy, status_of}
 use Rattle.snap_runs.proofs.CleanTests as clean
 use Rattle.snap_runs.proofs.Collecting as collecting
 use Rattle.snap_runs.proofs.Collecting.{Copies, Phase, Away, ReadsFirst, HasFirst, ReadsSecond, HasSecond, Collected}

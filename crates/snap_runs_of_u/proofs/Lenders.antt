@@ -1,18 +1,17 @@
 -- A borrowed view of a scan of U is that of an embedded scan of the lender within it.
-use Rattle.std.specs.Prelude.{◌≡◌, ℕ, zero, suc, ◌+◌, ◌<◌, ◌≤◌, List, length, refl}
+use Rattle.std.specs.Prelude.{ℕ, zero, suc, ◌+◌, ◌<◌, ◌≤◌, List, length, refl}
 use Rattle.std.proofs.Common.{◌∙◌, ap, subst, arith}
-use Rattle.snap_words.specs.Shape.{IsOneOf}
 use Rattle.snap_semantics.specs.declared.process.Item.{Item}
 use Rattle.snap_semantics.specs.declared.process.Op.{Op}
 use Rattle.snap_semantics.specs.declared.process.Op.TheVariants.{Scan, Update}
 use Rattle.snap_runs.specs.Run.{Fits}
-use Rattle.snap_runs.proofs.Algorithm.{Task, Updating, At, WhenBusy, when_busy}
+use Rattle.snap_runs.proofs.Algorithm.{when_busy}
 use Rattle.snap_runs.proofs.Executing as executing
 use Rattle.snap_runs.proofs.Held.{seq_at, Beside}
 use Rattle.snap_runs.proofs.Lenders as lenders
 use Rattle.snap_runs.proofs.Scans as scans
 use Rattle.snap_runs_of_u.specs.Promises.{run_of, BorrowedViewsAreLent}
-use Rattle.snap_runs_of_u.proofs.Algorithm.{Control, L24, L32, IsLate, counter, lines, algorithm}
+use Rattle.snap_runs_of_u.proofs.Algorithm.{Control, L24, IsLate, counter, lines, algorithm}
 use Rattle.snap_runs_of_u.proofs.Flows.{numbered, listed, writer, embeds}
 use Rattle.snap_runs_of_u.proofs.Invariant.{pending}
 use Rattle.snap_runs_of_u.proofs.Runs.{words_at, process_after, invariant, invariant_of, execution, stage_of}

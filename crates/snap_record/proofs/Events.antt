@@ -1,0 +1,74 @@
+-- The events of a run from an item on.
+use Rattle.std.proofs.Common.{◌≡◌, ℕ, zero, suc, ◌+◌, ◌<◌, ◌≤◌, List, [], ◌∷◌, ◌++◌, length, take, drop, slice_index_or, refl, sym, ap, ◌∙◌, arith}
+use Rattle.std.proofs.lemmas.List.{take_all, drop_all}
+use Rattle.std.specs.List.{AllByRecursion}
+use Rattle.snap_words.specs.Shape.{Counts, IsOneOf}
+use Rattle.snap_semantics.specs.Run.{events, event_of}
+use Rattle.snap_semantics.specs.Source.{Source}
+use Rattle.snap_semantics.specs.State.{State, initial}
+use Rattle.snap_semantics.specs.Table.{done, who}
+use Rattle.snap_semantics.specs.declared.event.Event.{Event}
+use Rattle.snap_semantics.specs.declared.process.Item.{Item}
+use Rattle.snap_semantics.specs.declared.process.Item.TheVariants.{Step, Call}
+use Rattle.snap_semantics.specs.declared.process.Outcome.{Outcome}
+use Rattle.snap_semantics.specs.declared.process.Outcome.TheVariants as outcomes
+use Rattle.snap_runs.specs.Run.{Run, Fits, state, item, outcome}
+use Rattle.snap_runs.proofs.Embedding.{next_state}
+use Rattle.snap_record.specs.Record.{events_of}
+use Rattle.snap_record.proofs.Histories.{join_all}
+
+-- the events of the items after item t
+abbrev pub events_from : Run → ℕ → List Event
+events_from r t = events r.source r.shape (state r t) (suc t) (drop t r.items)
+
+-- the next item, and those behind it
+next_item : (xs : List Item) (t : ℕ) → t < length xs → drop t xs ≡ slice_index_or xs t (Step 0) ∷ drop (suc t) xs
+next_item [] t lt = absurd (omega (arith, lt))
+next_item (x ∷ xs) zero lt = refl
+next_item (x ∷ xs) (suc t) lt = next_item xs t (omega (arith, lt))
+
+-- the event of the next item, where it has one, and then those behind it
+pub next_events : (r : Run) (t : ℕ) → t < length r.items → events_from r t ≡ event_of (suc t) (item r (suc t)) (outcome r (suc t)) ++ events_from r (suc t)
+next_events r t lt =
+    let s = r.source in
+    let n = r.shape in
+    let x = item r (suc t) in
+    let event = event_of (suc t) x (outcome r (suc t)) in
+    let place : suc t + 1 ≡ suc (suc t) = omega arith in
+    ap (events s n (state r t) (suc t)) (next_item r.items t lt)
+    ∙ ap (λ k. event ++ events s n (done s n (state r t) x).0 k (drop (suc t) r.items)) place
+    ∙ ap (λ (S : State). event ++ events s n S (suc (suc t)) (drop (suc t) r.items)) (sym (next_state r t lt))
+
+-- after the last item there are none
+pub no_events : (r : Run) (t : ℕ) → length r.items ≤ t → events_from r t ≡ []
+no_events r t le = ap (events r.source r.shape (state r t) (suc t)) (drop_all t r.items le)
+
+-- all events
+pub all_events : (r : Run) → events_of r (length r.items) ≡ events_from r 0
+all_events r =
+    ap (events r.source r.shape (initial r.source r.shape) 1) (take_all (length r.items) r.items (omega arith))
+
+-- an event is of one of the processes, and of one of the items
+abbrev pub IsWithin : (processes items : ℕ) → Event → Type 0
+IsWithin processes items e = IsOneOf processes e.process × (e.item ≤ items)
+
+event_within : (n u t : ℕ) (x : Item) (o : Outcome) → IsOneOf n (who x) → t ≤ u → AllByRecursion (IsWithin n u) (event_of t x o)
+event_within n u t (Step i) outcomes.Called one le = tt
+event_within n u t (Call i op) outcomes.Called one le = ((one, le), tt)
+event_within n u t x outcomes.Stepped one le = tt
+event_within n u t x (outcomes.Answered v) one le = ((one, le), tt)
+event_within n u t x outcomes.Finished one le = ((one, le), tt)
+event_within n u t x (outcomes.Trapped c) one le = tt
+event_within n u t x (outcomes.Skipped c) one le = tt
+
+events_within : (s : Source) (n : Counts) (S : State) (t u : ℕ) (xs : List Item) → AllByRecursion (λ x. IsOneOf n.n (who x)) xs → t + length xs ≤ suc u →
+    AllByRecursion (IsWithin n.n u) (events s n S t xs)
+events_within s n S t u [] all le = tt
+events_within s n S t u (x ∷ xs) all le =
+    join_all (IsWithin n.n u) (event_of t x (done s n S x).1) (events s n (done s n S x).0 (t + 1) xs)
+    (event_within n.n u t x (done s n S x).1 all.0 (omega (arith, le)))
+    (events_within s n (done s n S x).0 (t + 1) u xs all.1 (omega (arith, le)))
+
+-- so is each event of a run
+pub all_within_run : (r : Run) → Fits r → AllByRecursion (IsWithin r.shape.n (length r.items)) (events_from r 0)
+all_within_run r fits = events_within r.source r.shape (state r 0) 1 (length r.items) r.items fits.all (omega arith)

@@ -1,0 +1,6 @@
+pub mod Locals
+pub mod Histories
+pub mod Values
+pub mod Recording
+pub mod Walks
+pub mod Events

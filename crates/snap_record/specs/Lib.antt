@@ -1,0 +1,3 @@
+pub mod Record
+pub mod History
+pub mod SeenDeed

@@ -1,0 +1,81 @@
+//! What has to be noted of an item before it is done.
+ghost use Rattle.std.specs.Prelude.{◌≡◌, IfOk, []};
+ghost use Rattle.snap_words.specs.Shape.{IsOneOf};
+ghost use Rattle.snap_semantics.specs.Source.{instr_at};
+ghost use Rattle.snap_semantics.specs.State.{process_at, value_at};
+ghost use Rattle.snap_semantics.specs.Table.{who};
+ghost use Rattle.snap_runs.specs.Deeds.{deed_at, deed_of, line_deed, returned};
+ghost use Rattle.snap_record.specs.SeenDeed.{seen_deed};
+
+use snap_machine::{Local, Machine};
+use snap_semantics::{Activity, Instr, Item, Name, Op, Status};
+use snap_words::{Kind, View};
+use std::alloc::{AllocError, Global};
+
+/// A line that writes a word, one that tests for all, one that answers a scan with a view, or another.
+#[derive(Debug, Drop)]
+pub enum Deed {
+    Write,
+    Test,
+    Answer(View),
+    Nothing,
+}
+
+/// What a line `return` does with a view.
+fn returned(alloc: Global, view: &View, activity: &Activity) -> Result<Deed, AllocError>
+    ensures { IfOk result (λ d. seen_deed d ≡ returned view.now activity.now.op activity.now.link) }
+{
+    match (activity.op, activity.link) {
+        (Op::Scan, None) => Ok(Deed::Answer(view.copy(alloc)?)),
+        (Op::Scan, Some(_)) => Ok(Deed::Nothing),
+        (Op::Update { .. }, _) => Ok(Deed::Nothing),
+    }
+}
+
+/// The view of a process that has this name.
+#[tactic(auto, using(crate::proofs::Locals::view_named))]
+fn view_named<K: Kind>(machine: &Machine<K>, i: u32, name: Name) -> Result<&View, AllocError>
+    requires { IsOneOf machine.now.shape.n i }
+    ensures { IfOk result (λ v. v.now ≡ value_at name (process_at machine.now.state i).locals.views []) }
+{
+    match machine.local(i, name) {
+        Some(Local::View(view)) => Ok(view),
+        _ => Err(AllocError),
+    }
+}
+
+/// What a line of a process does.
+fn line_deed<K: Kind>(
+    alloc: Global,
+    machine: &Machine<K>,
+    i: u32,
+    activity: &Activity,
+    instr: &Instr,
+) -> Result<Deed, AllocError>
+    requires { IsOneOf machine.now.shape.n i }
+    ensures { IfOk result (λ d. seen_deed d ≡ line_deed activity.now (process_at machine.now.state i).locals instr.now) }
+{
+    match instr {
+        Instr::Put(_, _) => Ok(Deed::Write),
+        Instr::IfAll(_, _, _) => Ok(Deed::Test),
+        Instr::Return(name) => returned(alloc, view_named(machine, i, *name)?, activity),
+        _ => Ok(Deed::Nothing),
+    }
+}
+
+/// What an item is to do.
+pub fn deed_of<K: Kind>(alloc: Global, machine: &Machine<K>, item: Item) -> Result<Deed, AllocError>
+    requires { IsOneOf machine.now.shape.n (who item) }
+    ensures { IfOk result (λ d. seen_deed d ≡ deed_of machine.now.source machine.now.state item) }
+{
+    let Item::Step(i) = item else {
+        return Ok(Deed::Nothing);
+    };
+    let Status::Busy(activity) = machine.status(i) else {
+        return Ok(Deed::Nothing);
+    };
+    match machine.program().listing().instr(activity.line) {
+        Some(instr) => line_deed(alloc, machine, i, &activity, instr),
+        None => Ok(Deed::Nothing),
+    }
+}

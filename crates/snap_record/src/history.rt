@@ -1,0 +1,189 @@
+//! What a record keeps of its run besides the items.
+ghost use Rattle.std.specs.Prelude.{◌≡◌, ◌+◌, ◌-◌, ◌<◌, ◌≤◌, ◌++◌, ◌∷◌, [], length, map, vec_capacity, vec_len, slice_index, slice_set};
+ghost use Rattle.snap_words.specs.Shape.{IsOneOf};
+ghost use Rattle.snap_words.specs.Word.{Word};
+ghost use Rattle.snap_semantics.specs.Run.{call_event, event_of};
+ghost use Rattle.snap_semantics.specs.Table.{who};
+ghost use Rattle.snap_semantics.specs.declared.event.Event.{Event};
+ghost use Rattle.snap_semantics.specs.declared.process.Outcome.TheVariants as outcomes;
+ghost use Rattle.std.specs.Prelude.{ℕ, List, ◌&&◌, ◌^◌, false};
+ghost use Rattle.snap_runs.specs.Deeds.{Answer, is_test, is_write};
+ghost use Rattle.snap_runs.specs.Scan.{is_stepped};
+ghost use Rattle.snap_record.specs.History.{change_at, changes_to, counted};
+ghost use Rattle.snap_record.specs.SeenDeed.{of_option, seen_deed};
+
+use crate::deed::Deed;
+use snap_regs::Registers;
+use snap_semantics::{Event, Happening, Item, Outcome};
+use snap_words::{Field, Kind, View, field_of};
+use std::alloc::{AllocError, Global};
+
+/// A change of a value by an item. Items count from 1, places of values from 0.
+#[derive(Clone, Copy, Debug)]
+pub struct Change {
+    pub item: u64,
+    pub place: u64,
+    pub value: u64,
+}
+
+/// The process of an item.
+pub fn who(item: Item) -> u32
+    ensures { result ≡ who item }
+{
+    match item {
+        Item::Step(i) => i,
+        Item::Call(i, _) => i,
+    }
+}
+
+/// The event of a call.
+fn call_event(number: u64, item: Item) -> Option<Event>
+    ensures { of_option result ≡ call_event number item }
+{
+    match item {
+        Item::Step(_) => None,
+        Item::Call(process, op) => Some(Event {
+            item: number,
+            process,
+            what: Happening::Call(op),
+        }),
+    }
+}
+
+/// The event of the item of this number, where it has one. An answer's view is the one that was to be answered.
+pub fn event_of(number: u64, item: Item, outcome: &Outcome, deed: Deed) -> Option<Event>
+    requires { (v : List ℕ) → outcome.now ≡ outcomes.Answered v → seen_deed deed ≡ Answer v }
+    ensures { of_option result ≡ event_of number item outcome.now }
+{
+    match outcome {
+        Outcome::Called => call_event(number, item),
+        Outcome::Answered(_) => match deed {
+            Deed::Answer(view) => Some(Event {
+                item: number,
+                process: who(item),
+                what: Happening::Answer(view),
+            }),
+            _ => unreachable!(),
+        },
+        Outcome::Finished => Some(Event {
+            item: number,
+            process: who(item),
+            what: Happening::Done,
+        }),
+        Outcome::Stepped => None,
+        Outcome::Trapped(_) => None,
+        Outcome::Skipped(_) => None,
+    }
+}
+
+/// Notes what a value is after an item.
+#[tactic(auto, using(crate::proofs::Values::value_again))]
+fn note_value(now: &mut View, changes: &mut Vec<Change>, item: u64, place: usize, value: u64)
+    requires place { place < length now.old }
+    requires room { vec_len changes.old < vec_capacity changes.old }
+    ensures now { now.new ≡ slice_set now.old place value }
+    ensures changes { changes.new.items ≡ changes.old.items ++ change_at item place (slice_index now.old place) value }
+    ensures room { (vec_len changes.new ≤ vec_len changes.old + 1) × (vec_capacity changes.new ≡ vec_capacity changes.old) }
+{
+    if now.as_slice()[place] == value {
+        return;
+    }
+    changes.push_reserved(Change {
+        item,
+        place: place as u64,
+        value,
+    });
+    now.set(place, value);
+}
+
+/// Notes the changes of values to the data of these words.
+pub fn note_values<K: Kind>(now: &mut View, changes: &mut Vec<Change>, item: u64, words: &[K::Word])
+    requires count { length now.old ≡ length words.now }
+    requires room { vec_len changes.old + length words.now ≤ vec_capacity changes.old }
+    ensures now { now.new ≡ map (λ (x : Word). x.datum) (map K.parts words.now) }
+    ensures changes { changes.new.items ≡ changes.old.items ++ changes_to item 0 now.old (map (λ (x : Word). x.datum) (map K.parts words.now)) }
+{
+    let mut k = 0;
+    while k < words.len() {
+        note_value(
+            now,
+            changes,
+            item,
+            k,
+            field_of::<K>(&words[k], Field::Datum),
+        );
+        k += 1;
+    }
+}
+
+/// Whether a line writes a word.
+fn is_write(deed: &Deed) -> bool
+    ensures { result ≡ is_write (seen_deed deed.now) }
+{
+    match deed {
+        Deed::Write => true,
+        Deed::Test => false,
+        Deed::Answer(_) => false,
+        Deed::Nothing => false,
+    }
+}
+
+/// Notes the values after an item that leaves these registers. They stay where it writes no word.
+pub fn note_words<K: Kind>(
+    now: &mut View,
+    changes: &mut Vec<Change>,
+    item: u64,
+    deed: &Deed,
+    registers: &Registers<K>,
+)
+    requires count { length now.old ≡ registers.now.shape.w }
+    requires room { vec_len changes.old + registers.now.shape.w ≤ vec_capacity changes.old }
+    requires stay { is_write (seen_deed deed.now) ≡ false → map (λ (x : Word). x.datum) registers.now.memory.words ≡ now.old }
+    ensures now { now.new ≡ map (λ (x : Word). x.datum) registers.now.memory.words }
+    ensures changes { changes.new.items ≡ changes.old.items ++ changes_to item 0 now.old (map (λ (x : Word). x.datum) registers.now.memory.words) }
+    ensures count { length now.new ≡ registers.now.shape.w }
+{
+    let _shape = registers.shape();
+    if is_write(deed) {
+        note_values::<K>(now, changes, item, registers.words());
+    }
+}
+
+/// Counts a double collect, where an item ends one.
+pub fn note_collect(collects: &mut Vec<u64>, i: u32, deed: &Deed, outcome: &Outcome)
+    requires process { IsOneOf (length collects.old.items) i }
+    requires few { slice_index collects.old.items (i - 1) + 1 < 2 ^ 64 }
+    ensures { collects.new.items ≡ counted (seen_deed deed.now) outcome.now i collects.old.items }
+{
+    if ends_collect(deed, outcome) {
+        collects[(i - 1) as usize] += 1;
+    }
+}
+
+/// Notes an event, where there is one, and how many double collects its process has had.
+pub fn note_event(
+    events: &mut Vec<Event>,
+    at_events: &mut Vec<u64>,
+    event: Option<Event>,
+    collects: u64,
+)
+    requires events { vec_len events.old < vec_capacity events.old }
+    requires at_events { vec_len at_events.old < vec_capacity at_events.old }
+    ensures events { events.new.items ≡ events.old.items ++ of_option event }
+    ensures at_events { at_events.new.items ≡ at_events.old.items ++ map (λ (e : Event). collects) (of_option event) }
+{
+    if let Some(event) = event {
+        events.push_reserved(event);
+        at_events.push_reserved(collects);
+    }
+}
+
+/// Whether a test for all goes on.
+pub fn ends_collect(deed: &Deed, outcome: &Outcome) -> bool
+    ensures { result ≡ (is_test (seen_deed deed.now) && is_stepped outcome.now) }
+{
+    match (deed, outcome) {
+        (Deed::Test, Outcome::Stepped) => true,
+        _ => false,
+    }
+}

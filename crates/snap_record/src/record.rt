@@ -1,0 +1,161 @@
+//! A machine with its history.
+ghost use Rattle.std.specs.Prelude.{◌≡◌, ◌↔◌, [], length, map, replicate, Err, IfOk, OnErr};
+ghost use Rattle.snap_words.specs.Shape.{IsOneOf};
+ghost use Rattle.snap_semantics.specs.State.{initial};
+ghost use Rattle.snap_semantics.specs.Table.{who};
+ghost use Rattle.snap_runs.specs.Run.{outcome, state, Fits};
+ghost use Rattle.snap_record.specs.Record.{with_item, events_of, values_after};
+ghost use Rattle.snap_record.specs.History.{LeadsAlong, collects_at};
+ghost use Rattle.snap_record.specs.declared.fault.RecordFault.TheVariants.{Full};
+
+use crate::deed::deed_of;
+use crate::fault::RecordFault;
+use crate::history::{Change, event_of, note_collect, note_event, note_words, who};
+use crate::walk::advance;
+use snap_asm::Program;
+use snap_machine::Machine;
+use snap_semantics::{Event, Item, Outcome};
+use snap_words::{Kind, Shape, View};
+use std::alloc::{AllocError, Global};
+use std::marker::Model;
+
+/// The most items that a record keeps.
+pub const MAX_ITEMS: usize = 1_000_000;
+
+/// A machine with the items that it has done, seen as their run.
+#[derive(Drop)]
+pub struct Record<K: Kind> {
+    alloc: Global,
+    machine: Machine<K>,
+    items: Vec<Item>,
+    values: View,
+    /// The changes of values, in order.
+    changes: Vec<Change>,
+    events: Vec<Event>,
+    /// How many double collects each process has had.
+    collects: Vec<u64>,
+    /// At each event, how many double collects its process had had.
+    at_events: Vec<u64>,
+}
+
+impl<K: Kind> Model for Record<K> {
+    ghost use Rattle.snap_runs.specs.Run.{Run};
+    ghost use Rattle.snap_record.specs.History.{IsRecord};
+
+    ghost Value = { Run };
+
+    ghost view = { λ r. record { source = r.machine.source; shape = r.machine.shape; items = r.items.items } };
+
+    ghost invariant = { λ r. IsRecord (record { source = r.machine.source; shape = r.machine.shape; items = r.items.items })
+        K.TAG r.machine.state r.values r.changes.items r.events.items r.collects.items r.at_events.items };
+}
+
+/// So many zeros.
+fn zeros(alloc: Global, count: u64) -> Result<Vec<u64>, AllocError>
+    ensures { IfOk result (λ v. v.items ≡ replicate count 0) }
+{
+    Ok(vec![in alloc; 0; count as usize]?)
+}
+
+impl<K: Kind> Record<K> {
+    /// Before the first item.
+    pub fn new(alloc: Global, program: &Program, shape: Shape) -> Result<Record<K>, AllocError>
+        requires { program.now.kind ≡ K.TAG }
+        ensures { IfOk result (λ r. r ≡ record { source = program.now; shape = shape; items = [] }) }
+    {
+        Ok(Record {
+            alloc,
+            machine: Machine::new(alloc, program, shape)?,
+            items: Vec::new(alloc),
+            values: View::zeros(alloc, shape.w())?,
+            changes: Vec::new(alloc),
+            events: Vec::new(alloc),
+            collects: zeros(alloc, shape.n())?,
+            at_events: Vec::new(alloc),
+        })
+    }
+
+    /// Does one item, where fewer than 1,000,000 are kept.
+    pub fn apply(&mut self, item: Item) -> Result<Outcome, RecordFault>
+        requires { IsOneOf self.old.shape.n (who item) }
+        ensures done { IfOk result (λ o. (self.new ≡ with_item self.old item) × (o ≡ outcome self.new (length self.new.items))) }
+        ensures full { (length self.old.items ≡ 1000000) ↔ (result ≡ Err Full) }
+        ensures unchanged { OnErr result (self.new ≡ self.old) }
+    {
+        if self.items.len() == MAX_ITEMS {
+            return Err(RecordFault::Full);
+        }
+        let deed = deed_of(self.alloc, &self.machine, item)?;
+        self.items.reserve(1)?;
+        self.changes.reserve(self.values.as_slice().len())?;
+        self.events.reserve(1)?;
+        self.at_events.reserve(1)?;
+        let outcome = self.machine.apply(item)?;
+        self.items.push_reserved(item);
+        let number = self.items.len() as u64;
+        note_words::<K>(
+            &mut self.values,
+            &mut self.changes,
+            number,
+            &deed,
+            self.machine.registers(),
+        );
+        note_collect(&mut self.collects, who(item), &deed, &outcome);
+        let event = event_of(number, item, &outcome, deed);
+        note_event(
+            &mut self.events,
+            &mut self.at_events,
+            event,
+            self.collects[(who(item) - 1) as usize],
+        );
+        Ok(outcome)
+    }
+
+    /// The items, in order.
+    pub fn items(&self) -> &[Item]
+        ensures items { result.now ≡ self.now.items }
+        ensures fits { Fits self.now }
+    {
+        self.items.as_slice()
+    }
+
+    /// What callers saw, in order.
+    pub fn events(&self) -> &[Event]
+        ensures { result.now ≡ events_of self.now (length self.now.items) }
+    {
+        self.events.as_slice()
+    }
+
+    /// At each event, how many double collects its process had had.
+    pub fn event_collects(&self) -> &[u64]
+        ensures { result.now ≡ map (collects_at self.now) (events_of self.now (length self.now.items)) }
+    {
+        self.at_events.as_slice()
+    }
+
+    /// The changes of values, in order.
+    pub fn changes(&self) -> &[Change]
+        ensures { LeadsAlong self.now result.now }
+    {
+        self.changes.as_slice()
+    }
+
+    /// The machine after the last item.
+    pub fn machine(&self) -> &Machine<K>
+        ensures { result.now ≡ record { source = self.now.source; shape = self.now.shape; state = state self.now (length self.now.items) } }
+    {
+        &self.machine
+    }
+
+    /// The values after `t` items, where there are so many.
+    pub fn values_after(&self, t: u64) -> Result<Option<View>, AllocError>
+        ensures { IfOk result (λ v. v ≡ values_after self.now t) }
+    {
+        if t > self.items.len() as u64 {
+            return Ok(None);
+        }
+        let mut values = View::zeros(self.alloc, self.machine.shape().w())?;
+        let _next = advance(&mut values, self.changes.as_slice(), 0, t);
+        Ok(Some(values))
+    }
+}

@@ -14,6 +14,7 @@ use Rattle.snap_semantics.specs.declared.process.Outcome.{Outcome}
 use Rattle.snap_semantics.specs.declared.process.Outcome.TheVariants as outcomes
 use Rattle.snap_runs.specs.Run.{Run, Fits, state, item, outcome}
 use Rattle.snap_runs.proofs.Embedding.{next_state}
+use Rattle.snap_record.specs.History.{IsRising, IsWithin}
 use Rattle.snap_record.specs.Record.{events_of}
 use Rattle.snap_record.proofs.Histories.{join_all}
 
@@ -48,10 +49,7 @@ pub all_events : (r : Run) → events_of r (length r.items) ≡ events_from r 0
 all_events r =
     ap (events r.source r.shape (initial r.source r.shape) 1) (take_all (length r.items) r.items (omega arith))
 
--- an event is of one of the processes, and of one of the items
-abbrev pub IsWithin : (processes items : ℕ) → Event → Type 0
-IsWithin processes items e = IsOneOf processes e.process × (e.item ≤ items)
-
+-- an event of an item that is one of so many
 event_within : (n u t : ℕ) (x : Item) (o : Outcome) → IsOneOf n (who x) → t ≤ u → AllByRecursion (IsWithin n u) (event_of t x o)
 event_within n u t (Step i) outcomes.Called one le = tt
 event_within n u t (Call i op) outcomes.Called one le = ((one, le), tt)
@@ -61,6 +59,7 @@ event_within n u t x outcomes.Finished one le = ((one, le), tt)
 event_within n u t x (outcomes.Trapped c) one le = tt
 event_within n u t x (outcomes.Skipped c) one le = tt
 
+-- events of items, the first of which is item t
 events_within : (s : Source) (n : Counts) (S : State) (t u : ℕ) (xs : List Item) → AllByRecursion (λ x. IsOneOf n.n (who x)) xs → t + length xs ≤ suc u →
     AllByRecursion (IsWithin n.n u) (events s n S t xs)
 events_within s n S t u [] all le = tt
@@ -72,3 +71,41 @@ events_within s n S t u (x ∷ xs) all le =
 -- so is each event of a run
 pub all_within_run : (r : Run) → Fits r → AllByRecursion (IsWithin r.shape.n (length r.items)) (events_from r 0)
 all_within_run r fits = events_within r.source r.shape (state r 0) 1 (length r.items) r.items fits.all (omega arith)
+
+-- an event of item t is not before it
+event_after : (t u : ℕ) (x : Item) (o : Outcome) → t ≤ u → AllByRecursion (λ (e : Event). t ≤ e.item) (event_of u x o)
+event_after t u (Step i) outcomes.Called le = tt
+event_after t u (Call i op) outcomes.Called le = (le, tt)
+event_after t u x outcomes.Stepped le = tt
+event_after t u x (outcomes.Answered v) le = (le, tt)
+event_after t u x outcomes.Finished le = (le, tt)
+event_after t u x (outcomes.Trapped c) le = tt
+event_after t u x (outcomes.Skipped c) le = tt
+
+-- nor are the events of later items
+events_after : (s : Source) (n : Counts) (S : State) (t u : ℕ) (xs : List Item) → t ≤ u → AllByRecursion (λ (e : Event). t ≤ e.item) (events s n S u xs)
+events_after s n S t u [] le = tt
+events_after s n S t u (x ∷ xs) le =
+    join_all (λ (e : Event). t ≤ e.item) (event_of u x (done s n S x).1) (events s n (done s n S x).0 (u + 1) xs)
+    (event_after t u x (done s n S x).1 le)
+    (events_after s n (done s n S x).0 t (u + 1) xs (omega (arith, le)))
+
+-- one event at most, and then later ones
+event_rises : (t : ℕ) (x : Item) (o : Outcome) (es : List Event) → AllByRecursion (λ (e : Event). t ≤ e.item) es → IsRising es → IsRising (event_of t x o ++ es)
+event_rises t (Step i) outcomes.Called es later rises = rises
+event_rises t (Call i op) outcomes.Called es later rises = (later, rises)
+event_rises t x outcomes.Stepped es later rises = rises
+event_rises t x (outcomes.Answered v) es later rises = (later, rises)
+event_rises t x outcomes.Finished es later rises = (later, rises)
+event_rises t x (outcomes.Trapped c) es later rises = rises
+event_rises t x (outcomes.Skipped c) es later rises = rises
+
+events_rise : (s : Source) (n : Counts) (S : State) (t : ℕ) (xs : List Item) → IsRising (events s n S t xs)
+events_rise s n S t [] = tt
+events_rise s n S t (x ∷ xs) =
+    event_rises t x (done s n S x).1 (events s n (done s n S x).0 (t + 1) xs) (events_after s n (done s n S x).0 t (t + 1) xs (omega arith))
+    (events_rise s n (done s n S x).0 (t + 1) xs)
+
+-- the events of a run rise
+pub rising_run : (r : Run) → IsRising (events_from r 0)
+rising_run r = events_rise r.source r.shape (state r 0) 1 r.items

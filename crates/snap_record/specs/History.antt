@@ -56,3 +56,12 @@ pub record IsRecord (r : Run) (k : KindTag) (S : State) (now : List ℕ) (change
   pub state_is : S ≡ state r (length r.items)
   pub fits : Fits r
   pub tells : Tells r now changes events collects at_events
+
+-- each event is of one of so many processes, and of one of so many items
+abbrev pub IsWithin : (processes items : ℕ) → Event → Type 0
+IsWithin processes items e = IsOneOf processes e.process × (e.item ≤ items)
+
+-- no event is of an earlier item than the one before it
+abbrev pub IsRising : List Event → Type 0
+IsRising [] = Unit {0}
+IsRising (e ∷ es) = AllByRecursion (λ (f : Event). e.item ≤ f.item) es × IsRising es

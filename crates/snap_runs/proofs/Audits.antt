@@ -23,14 +23,14 @@ use Rattle.snap_semantics.specs.declared.process.Reason.TheVariants as reason
 use Rattle.snap_semantics.specs.declared.instr.Instr.{Instr}
 use Rattle.snap_semantics.specs.declared.instr.Instr.TheVariants.{Put, IfAll, Return}
 use Rattle.snap_runs.specs.Deeds.{Answer, returned, deed_at, deed_in, deed_of}
-use Rattle.snap_runs.proofs.Computing.{same_number}
+use Rattle.snap_runs.proofs.Computing.{both, same_number}
 use Rattle.snap_runs.proofs.OneItem.{answer_is}
 use Rattle.snap_semantics.specs.declared.process.Status.{Status}
 use Rattle.snap_semantics.specs.declared.process.Status.TheVariants.{Idle, Busy, Trapped}
 use Rattle.snap_runs.specs.Run.{Run, Fits, state, item, outcome as outcome_at}
 use Rattle.snap_runs.specs.Scan.{Ends}
 use Rattle.snap_runs.specs.Promises.{HavePoints}
-use Rattle.snap_runs.specs.Audit.{is_called, last_call, least_point, verdict_of, verdict_at, verdicts, audit, HasFoundPoint, IsOfScan, VerdictsHavePoints}
+use Rattle.snap_runs.specs.Audit.{is_called, last_call, least_point, verdict_of, verdict_at, verdicts, audit, HasFoundPoint, IsLeastPoint, IsOfScan, VerdictsHavePoints}
 use Rattle.snap_runs.specs.declared.verdict.Verdict.{Verdict}
 use Rattle.snap_runs.proofs.Embedding.{next_state, all_index}
 
@@ -191,6 +191,69 @@ answered_scan s n S x v e = answered_as s S x v (answer_is s n S x v e)
     answered_as : (s : Source) (S : State) (x : Item) (v : List ℕ) → deed_of s S x ≡ Answer v → WasBusy op.Scan (process_at S (who x)).status
     answered_as s S (Step k) v h = scanning s (process_at S k).locals v (process_at S k).status h
     answered_as s S (Call k o) v h = absurd cc
+
+-- numbers that are found to be equal
+equal_numbers : (xs ys : List ℕ) → bytes_eq xs ys ≡ true → xs ≡ ys
+equal_numbers [] [] h = refl
+equal_numbers [] (y ∷ ys) h = absurd cc
+equal_numbers (x ∷ xs) [] h = absurd cc
+equal_numbers (x ∷ xs) (y ∷ ys) h =
+    let parts = both (nat_eq x y) (bytes_eq xs ys) h in
+    ap (λ z. z ∷ xs) (eqb-true x y parts.0) ∙ ap (λ zs. y ∷ zs) (equal_numbers xs ys parts.1)
+
+-- numbers are equal to themselves
+bytes_eq-refl : (xs : List ℕ) → bytes_eq xs xs ≡ true
+bytes_eq-refl [] = refl
+bytes_eq-refl (x ∷ xs) = ap (λ b. b && bytes_eq xs xs) (same_number x) ∙ bytes_eq-refl xs
+
+-- what is right of the least of so many items
+IsLeastOf : Run → List ℕ → ℕ → ℕ → Option ℕ → Type 0
+IsLeastOf r view t more None = (u : ℕ) → t ≤ u → u < t + more → values (state r u) ≡ view → ⊥
+IsLeastOf r view t more (Some p) =
+    (t ≤ p) × (p < t + more) × (values (state r p) ≡ view) × ((u : ℕ) → t ≤ u → u < p → values (state r u) ≡ view → ⊥)
+
+-- an item more before them, after which the values are not the view
+one_before : (r : Run) (view : List ℕ) (t more : ℕ) (o : Option ℕ) → (values (state r t) ≡ view → ⊥) → IsLeastOf r view (suc t) more o → IsLeastOf r view t (suc more) o
+unfolding IsLeastOf
+one_before r view t more None other h = λ u low high e. elim (eq-or-lt_of_le low) [
+  | inl same ↦ other (subst (λ k. values (state r k) ≡ view) (sym same) e)
+  | inr less ↦ h u less (omega (arith, high)) e
+]
+one_before r view t more (Some p) other h =
+    let after : suc t ≤ p = h.0 in
+    let before : p < suc t + more = h.1 in (
+      omega (arith, after),
+      omega (arith, before),
+      h.2,
+      λ u low high e. elim (eq-or-lt_of_le low) [
+        | inl same ↦ other (subst (λ k. values (state r k) ≡ view) (sym same) e)
+        | inr less ↦ h.3 u less high e
+      ],
+    )
+
+-- the least point is the least
+least_of : (r : Run) (view : List ℕ) (t more : ℕ) → IsLeastOf r view t more (least_point r view t more)
+unfolding IsLeastOf
+least_of r view t zero = λ u low high e. absurd (omega (arith, low, high))
+least_of r view t (suc more) = by_here (bytes_eq (values (state r t)) view) refl (least_of r view (suc t) more)
+  where
+    by_here : (b : Bool) → bytes_eq (values (state r t)) view ≡ b → IsLeastOf r view (suc t) more (least_point r view (suc t) more) →
+        IsLeastOf r view t (suc more) (if b then Some t else least_point r view (suc t) more)
+    by_here true e rest = (omega arith, omega arith, equal_numbers (values (state r t)) view e, λ u low high is. absurd (omega (arith, low, high)))
+    by_here false e rest =
+        one_before r view t more (least_point r view (suc t) more)
+        (λ same. let found : true ≡ false = sym (ap (λ vs. bytes_eq vs view) same ∙ bytes_eq-refl view) ∙ e in cc) rest
+
+-- so it is of a scan
+least_of_scan : (r : Run) (view : List ℕ) (c e : ℕ) (o : Option ℕ) → c ≤ e → IsLeastOf r view c (suc (e - c)) o → IsLeastPoint r c e view o
+unfolding IsLeastOf
+least_of_scan r view c e None order h = λ point.
+    let low : c ≤ point.0 = point.1 in
+    let high : point.0 ≤ e = point.2 in
+    h point.0 low (omega (arith, low, high)) point.3
+least_of_scan r view c e (Some p) order h =
+    let high : p < c + suc (e - c) = h.1 in
+    (h.0, omega (arith, high, order), h.2, h.3)
 
 module _ (r : Run) (fits : Fits r) where
   -- process i was called at item c and has not been answered up to item t
@@ -357,6 +420,7 @@ module _ (r : Run) (fits : Fits r) where
           ends = (refl, is);
         };
         point_is = refl;
+        point_is_least = least_of_scan r view c (suc t) (least_point r view c (suc (suc t - c))) (omega (arith, le)) (least_of r view c (suc (suc t - c)));
         collects_are = refl;
       } in
       (subst (λ k. IsOfScan r (verdict_of r i k (suc t) view)) (sym before) verdict, tt)
@@ -378,11 +442,6 @@ module _ (r : Run) (fits : Fits r) where
   -- each verdict is of a finished scan
   pub of_scans : AllByRecursion (IsOfScan r) (audit r)
   of_scans = all_verdicts (length r.items) (omega arith)
-
--- numbers are equal to themselves
-bytes_eq-refl : (xs : List ℕ) → bytes_eq xs xs ≡ true
-bytes_eq-refl [] = refl
-bytes_eq-refl (x ∷ xs) = ap (λ b. b && bytes_eq xs xs) (same_number x) ∙ bytes_eq-refl xs
 
 -- a point that is there is found
 found_by : (r : Run) (view : List ℕ) (t u more : ℕ) → t ≤ u → u < t + more → values (state r u) ≡ view → IsSome (least_point r view t more)

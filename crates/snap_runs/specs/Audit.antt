@@ -1,13 +1,13 @@
 -- The audit of a run: of each scan that was called and has been answered, whether it has a point, and how many double
 -- collects it took.
 use Rattle.std.specs.List.{AllByRecursion}
-use Rattle.std.specs.Prelude.{◌≡◌, IsSome, ℕ, zero, suc, ◌-◌, Bool, true, false, ◌&&◌, List, [], ◌∷◌, ◌++◌, length, Option, Some, None, bytes_eq, nat_eq, if◌then◌else◌}
+use Rattle.std.specs.Prelude.{◌≡◌, IsSome, ℕ, zero, suc, ◌-◌, ◌<◌, ◌≤◌, Bool, true, false, ◌&&◌, List, [], ◌∷◌, ◌++◌, length, Option, Some, None, bytes_eq, nat_eq, if◌then◌else◌}
 use Rattle.snap_semantics.specs.declared.process.Outcome.{Outcome}
 use Rattle.snap_semantics.specs.declared.process.Outcome.TheVariants as outcome
 use Rattle.snap_semantics.specs.State.{values}
 use Rattle.snap_semantics.specs.Table.{who}
 use Rattle.snap_runs.specs.Run.{Run, Fits, state, item, outcome as outcome_at}
-use Rattle.snap_runs.specs.Scan.{Finished, double_collects}
+use Rattle.snap_runs.specs.Scan.{Finished, HasPoint, double_collects}
 use Rattle.snap_runs.specs.declared.verdict.Verdict.{Verdict}
 
 -- a call that is not skipped
@@ -48,11 +48,19 @@ verdicts r (suc t) = verdicts r t ++ verdict_at r (suc t) (outcome_at r (suc t))
 abbrev pub audit : Run → List Verdict
 audit r = verdicts r (length r.items)
 
+-- What is found of a scan's point is right: the least item from its start to its end after which the values are its view,
+-- and none where there is none.
+abbrev pub IsLeastPoint : Run → (c e : ℕ) → List ℕ → Option ℕ → Type 0
+IsLeastPoint r c e view None = HasPoint r c e view → ⊥
+IsLeastPoint r c e view (Some t) =
+    (c ≤ t) × (t ≤ e) × (values (state r t) ≡ view) × ((u : ℕ) → c ≤ u → u < t → values (state r u) ≡ view → ⊥)
+
 -- a verdict is of a finished scan that answers this view
 pub record IsOfScan (r : Run) (v : Verdict) : Type 0 where
   pub view : List ℕ
   pub finished : Finished r v.process None v.call v.answer view
   pub point_is : v.point ≡ least_point r view v.call (suc (v.answer - v.call))
+  pub point_is_least : IsLeastPoint r v.call v.answer view v.point
   pub collects_are : v.collects ≡ double_collects r v.process v.call v.answer
 
 -- its point was found
@@ -62,3 +70,7 @@ HasFoundPoint v = IsSome v.point
 -- Every verdict of the audit has a point.
 abbrev pub VerdictsHavePoints : Run → Type 0
 VerdictsHavePoints r = Fits r → AllByRecursion HasFoundPoint (audit r)
+
+-- Every verdict of the audit is of a finished scan.
+abbrev pub VerdictsAreOfScans : Run → Type 0
+VerdictsAreOfScans r = Fits r → AllByRecursion (IsOfScan r) (audit r)

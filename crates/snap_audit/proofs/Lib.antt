@@ -1,0 +1,3 @@
+pub mod Between
+pub mod Events
+pub mod Sweeping

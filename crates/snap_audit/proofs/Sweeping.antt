@@ -1,0 +1,193 @@
+-- What an audit keeps, from event to event.
+use Rattle.std.proofs.Common.{◌≡◌, ℕ, zero, suc, ◌+◌, ◌-◌, ◌<◌, ◌≤◌, Bool, true, false, List, [], ◌∷◌, ◌++◌, length, map, drop, get_or, nat_eq, replicate, slice_index, slice_set, refl, sym, ap, subst, ◌∙◌, append_assoc, append-nil, arith}
+use Rattle.std.proofs.lemmas.Bool.{eqb-true, eqb-false}
+use Rattle.std.proofs.lemmas.Grind.{get_or-set_at}
+use Rattle.std.proofs.lemmas.List.{get_or-map, get_or-set_other, length-set, length-replicate, get_or-replicate, map-set}
+use Rattle.std.specs.List.{AllByRecursion}
+use Rattle.snap_words.specs.Shape.{IsOneOf}
+use Rattle.snap_semantics.specs.declared.event.Event.{Event}
+use Rattle.snap_semantics.specs.declared.event.Happening.{Happening}
+use Rattle.snap_semantics.specs.declared.event.Happening.TheVariants.{Call, Answer, Done}
+use Rattle.snap_semantics.specs.declared.process.Op.{Op}
+use Rattle.snap_runs.specs.Audit.{audit, least_point, verdict_of}
+use Rattle.snap_runs.specs.Run.{Run, Fits}
+use Rattle.snap_runs.specs.Scan.{double_collects, ends_double_collect}
+use Rattle.snap_runs.specs.declared.verdict.Verdict.{Verdict}
+use Rattle.snap_runs.proofs.Embedding.{map_same}
+use Rattle.snap_record.specs.History.{IsRising, IsWithin, LeadsAlong, collects_at, values_by}
+use Rattle.snap_record.specs.Record.{events_of}
+use Rattle.snap_record.specs.declared.history.Change.{Change}
+use Rattle.snap_record.proofs.Events.{all_events, all_within_run, rising_run}
+use Rattle.snap_audit.specs.Sweep.{verdicts_at, calls_after, by_events, least_by, fresh, IsCaller, Sweeps}
+use Rattle.snap_audit.specs.declared.caller.Caller.{Caller}
+use Rattle.snap_audit.proofs.Between.{count_split, least_is}
+use Rattle.snap_audit.proofs.Events.{audit_by_events}
+
+-- the last calls
+abbrev pub calls_of : List Caller → List ℕ
+calls_of cs = map (λ (c : Caller). c.call) cs
+
+all_past : (es : List Event) → AllByRecursion (λ (e : Event). 0 ≤ e.item) es
+all_past [] = tt
+all_past (e ∷ es) = (omega arith, all_past es)
+
+-- at the start all events are left
+pub started : (r : Run) (xs : List Change) (cs : List Caller) (es : List Event) → Fits r → LeadsAlong r xs → cs ≡ replicate r.shape.n (fresh r.shape.w) →
+    es ≡ events_of r (length r.items) → Sweeps r xs cs [] es
+started r xs cs es fits leads new all =
+    subst (λ (l : List Caller). Sweeps r xs l [] es) (sym new)
+    (let whole : Sweeps r xs (replicate r.shape.n (fresh r.shape.w)) [] es = record {
+      goes_on =
+          ap (λ calls. by_events r calls es) (map_same (λ (c : Caller). c.call) r.shape.n (fresh r.shape.w))
+          ∙ ap (by_events r (replicate r.shape.n 0)) all ∙ audit_by_events r fits;
+      count = length-replicate r.shape.n (fresh r.shape.w);
+      each = λ i one d.
+          let low : 0 < i = one.0 in
+          let high : i ≤ r.shape.n = one.1 in
+          let here : IsCaller r xs es i (fresh r.shape.w) = record { follows = λ u le top. leads u top; past = all_past es; collects_are = refl } in
+          subst (IsCaller r xs es i) (sym (get_or-replicate r.shape.n (i - 1) (fresh r.shape.w) d (omega (arith, low, high)))) here;
+      within = subst (λ (l : List Event). AllByRecursion (IsWithin r.shape.n (length r.items)) l) (sym (all ∙ all_events r)) (all_within_run r fits);
+      rises = subst (λ (l : List Event). IsRising l) (sym (all ∙ all_events r)) (rising_run r);
+    } in whole)
+
+-- the next event that is left
+pub next_left : (es : List Event) (k : ℕ) (e : Event) → k < length es → e ≡ get_or es k e → drop k es ≡ e ∷ drop (k + 1) es
+next_left es k e lt is = (let next : suc k ≡ k + 1 = omega arith in by_place es k lt is ∙ ap (λ m. e ∷ drop m es) next)
+  where
+    by_place : (es : List Event) (k : ℕ) → k < length es → e ≡ get_or es k e → drop k es ≡ e ∷ drop (suc k) es
+    by_place [] k lt is = absurd (omega (arith, lt))
+    by_place (x ∷ es) zero lt is = ap (λ y. y ∷ es) (sym is)
+    by_place (x ∷ es) (suc k) lt is = by_place es k (omega (arith, lt)) is
+
+-- the double collects at it
+pub collects_left : (r : Run) (es : List Event) (ks : List ℕ) (k d : ℕ) (e : Event) → ks ≡ map (collects_at r) es → k < length es → e ≡ get_or es k e →
+    get_or ks k d ≡ collects_at r e
+collects_left r es ks k d e are lt is = ap (λ l. get_or l k d) are ∙ get_or-map (collects_at r) es k e d lt ∙ ap (collects_at r) (sym is)
+
+module _ (r : Run) (xs : List Change) (cs : List Caller) (found : List Verdict) (e : Event) (left : List Event) (h : Sweeps r xs cs found (e ∷ left)) where
+  -- the process of the event
+  pub its_process : IsOneOf (length cs) e.process
+  its_process = subst (λ m. IsOneOf m e.process) (sym h.count) h.within.0.0
+
+  its_caller : (d : Caller) → IsCaller r xs (e ∷ left) e.process (get_or cs (e.process - 1) d)
+  its_caller d = h.each e.process h.within.0.0 d
+
+  -- its last call is not after the event
+  pub its_order : (d : Caller) → (get_or cs (e.process - 1) d).call ≤ e.item
+  its_order d = (its_caller d).past.0
+
+  pub its_item : e.item ≤ length r.items
+  its_item = h.within.0.1
+
+  -- the double collects since
+  since : (d : Caller) → double_collects r e.process 0 e.item
+      ≡ double_collects r e.process 0 (get_or cs (e.process - 1) d).call + double_collects r e.process (get_or cs (e.process - 1) d).call e.item
+  since d = count_split (ends_double_collect r e.process) (get_or cs (e.process - 1) d).call e.item (its_order d)
+
+  pub its_collects : (k : ℕ) → k ≡ collects_at r e → (d : Caller) → (get_or cs (e.process - 1) d).collects ≤ k
+  its_collects k is d = (let all = since d in let before = (its_caller d).collects_are in omega (arith, all, before, is))
+
+  -- what is kept of a process that the event leaves
+  passed : (i : ℕ) (c : Caller) → IsCaller r xs (e ∷ left) i c → IsCaller r xs left i c
+  passed i c k = record { follows = k.follows; past = k.past.1; collects_are = k.collects_are }
+
+  remaining : (w : Happening) → e.what ≡ w → found ++ (verdicts_at r e.process (slice_index (calls_of cs) (e.process - 1)) e.item w
+      ++ by_events r (calls_after (calls_of cs) e.process e.item w) left) ≡ audit r
+  remaining w is =
+      ap (λ y. found ++ (verdicts_at r e.process (slice_index (calls_of cs) (e.process - 1)) e.item y
+      ++ by_events r (calls_after (calls_of cs) e.process e.item y) left)) (sym is)
+      ∙ h.goes_on
+
+  -- the end of an update
+  pub done_swept : e.what ≡ Done → Sweeps r xs cs found left
+  done_swept is = record {
+    goes_on = remaining Done is;
+    count = h.count;
+    each = λ i one d. passed i (get_or cs (i - 1) d) (h.each i one d);
+    within = h.within.1;
+    rises = h.rises.1;
+  }
+
+  call_there : (d : Caller) → slice_index (calls_of cs) (e.process - 1) ≡ (get_or cs (e.process - 1) d).call
+  call_there d =
+      let one = its_process in
+      let low : 0 < e.process = one.0 in
+      let high : e.process ≤ length cs = one.1 in
+      get_or-map (λ (c : Caller). c.call) cs (e.process - 1) d 0 (omega (arith, low, high))
+
+  -- an answer
+  pub answer_swept : (view : List ℕ) (v : Verdict) (k : ℕ) (d : Caller) → e.what ≡ Answer view → k ≡ collects_at r e →
+      (let c = get_or cs (e.process - 1) d in
+      v ≡ record {
+        process = e.process;
+        call = c.call;
+        answer = e.item;
+        point = least_by c.values (drop c.next xs) view c.call (suc (e.item - c.call));
+        collects = k - c.collects;
+      }) →
+      Sweeps r xs cs (found ++ v ∷ []) left
+  answer_swept view v k d is counted given =
+      let c = get_or cs (e.process - 1) d in
+      let mine = its_caller d in
+      let order = its_order d in
+      let last = its_item in
+      let point = least_is r c.values (drop c.next xs) view c.call (suc (e.item - c.call)) (λ u low high. mine.follows u low (omega (arith, high, order, last))) in
+      let collects : k - c.collects ≡ double_collects r e.process c.call e.item = (let all = since d in let before = mine.collects_are in omega (arith, all, before, counted)) in
+      let same : v ≡ verdict_of r e.process c.call e.item view =
+      given
+      ∙ ap (λ p. let w : Verdict = record { process = e.process; call = c.call; answer = e.item; point = p; collects = k - c.collects } in w) point
+      ∙ ap (λ m. let w : Verdict = record { process = e.process; call = c.call; answer = e.item; point = least_point r view c.call (suc (e.item - c.call)); collects = m } in w) collects in
+      record {
+        goes_on =
+            append_assoc found (v ∷ []) (by_events r (calls_of cs) left)
+            ∙ ap (λ w. found ++ (w ∷ by_events r (calls_of cs) left)) (same ∙ ap (λ t. verdict_of r e.process t e.item view) (sym (call_there d)))
+            ∙ remaining (Answer view) is;
+        count = h.count;
+        each = λ i one b. passed i (get_or cs (i - 1) b) (h.each i one b);
+        within = h.within.1;
+        rises = h.rises.1;
+      }
+
+  set_caller : (c : Caller) (i : ℕ) (b : Bool) (d : Caller) → nat_eq e.process i ≡ b → IsOneOf r.shape.n i → IsCaller r xs left e.process c →
+      IsCaller r xs left i (get_or (slice_set cs (e.process - 1) c) (i - 1) d)
+  set_caller c i true d same one now =
+      let is : e.process ≡ i = eqb-true e.process i same in
+      let there = its_process in
+      let low : 0 < e.process = there.0 in
+      let high : e.process ≤ length cs = there.1 in
+      subst (IsCaller r xs left i) (sym (get_or-set_at cs (e.process - 1) (i - 1) c d (ap (λ y. y - 1) (sym is)) (omega (arith, low, high))))
+      (subst (λ j. IsCaller r xs left j c) is now)
+  set_caller c i false d same one now =
+      let differ : (e.process ≡ i) → ⊥ = eqb-false e.process i same in
+      let there = its_process in
+      let low : 0 < e.process = there.0 in
+      let pos : 0 < i = one.0 in
+      subst (IsCaller r xs left i) (sym (get_or-set_other cs (e.process - 1) (i - 1) c d (λ y. differ (omega (arith, y, low, pos)))))
+      (passed i (get_or cs (i - 1) d) (h.each i one d))
+
+  -- a call
+  pub call_swept : (op : Op) (c : Caller) (k : ℕ) (d : Caller) → e.what ≡ Call op → k ≡ collects_at r e → c.call ≡ e.item → c.collects ≡ k →
+      ((u : ℕ) → e.item ≤ u → values_by c.values (drop c.next xs) u ≡ values_by (get_or cs (e.process - 1) d).values (drop (get_or cs (e.process - 1) d).next xs) u) →
+      Sweeps r xs (slice_set cs (e.process - 1) c) found left
+  call_swept op c k d is counted call collects later =
+      let mine = its_caller d in
+      let order = its_order d in
+      let now : IsCaller r xs left e.process c = record {
+        follows = λ u low top. mine.follows u (omega (arith, low, call, order)) top ∙ sym (later u (omega (arith, low, call)));
+        past = subst (λ t. AllByRecursion (λ (f : Event). t ≤ f.item) left) (sym call) h.rises.0;
+        collects_are = collects ∙ counted ∙ ap (double_collects r e.process 0) (sym call);
+      } in
+      record {
+        goes_on =
+            ap (λ calls. found ++ by_events r calls left) (map-set (λ (x : Caller). x.call) cs (e.process - 1) c ∙ ap (slice_set (calls_of cs) (e.process - 1)) call)
+            ∙ remaining (Call op) is;
+        count = length-set cs (e.process - 1) c ∙ h.count;
+        each = λ i one b. set_caller c i (nat_eq e.process i) b refl one now;
+        within = h.within.1;
+        rises = h.rises.1;
+      }
+
+-- at the end all verdicts are found
+pub swept : (r : Run) (xs : List Change) (cs : List Caller) (found : List Verdict) (left : List Event) → left ≡ [] → Sweeps r xs cs found left → found ≡ audit r
+swept r xs cs found left none h =
+    sym (append-nil found) ∙ ap (λ (l : List Event). found ++ by_events r (calls_of cs) l) (sym none) ∙ h.goes_on

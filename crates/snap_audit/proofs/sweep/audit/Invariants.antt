@@ -1,0 +1,10 @@
+use Rattle.std.proofs.Common.{length, drop, ◌-◌}
+use Rattle.snap_audit.specs.Sweep.{Sweeps}
+use Rattle.snap_audit.proofs.sweep.audit.Given as goal
+
+-- the events from here on are left
+abbrev pub invariant-loop-k : goal.invariant-loop-k
+invariant-loop-k g l = Sweeps l.history l.changes l.callers.items l.verdicts.items (drop l.k l.events)
+
+abbrev pub decreases-loop-k : goal.decreases-loop-k
+decreases-loop-k g l = length l.events - l.k

@@ -1,0 +1,6 @@
+use Rattle.std.proofs.Common.{◌≡◌, replicate}
+use Rattle.snap_audit.specs.Sweep.{fresh}
+use Rattle.snap_audit.proofs.sweep.new_callers.Given as goal
+
+abbrev pub invariant-loop-k : goal.invariant-loop-k
+invariant-loop-k l = l.callers.items ≡ replicate l._k (fresh l.shape.w)

@@ -1,0 +1,101 @@
+//! What an audit keeps of each process.
+ghost use Rattle.std.specs.Prelude.{◌≡◌, ◌≤◌, ◌<◌, ◌+◌, ◌-◌, ◌^◌, ℕ, IfOk, drop, suc, replicate};
+ghost use Rattle.snap_record.specs.History.{values_by};
+ghost use Rattle.snap_audit.specs.Sweep.{fresh, least_by};
+ghost use Rattle.snap_runs.specs.declared.verdict.Verdict.{Verdict as Found};
+
+use snap_record::{Change, advance};
+use snap_runs::Verdict;
+use snap_words::View;
+use std::alloc::{AllocError, Global};
+
+/// The last call of a process, with the values then, the next change, and how many double collects the process had had.
+#[derive(Debug, Drop)]
+pub(crate) struct Caller {
+    pub(crate) values: View,
+    pub(crate) next: usize,
+    pub(crate) call: u64,
+    pub(crate) collects: u64,
+}
+
+/// The least of so many items, the first of which is this one, after which the values are a view. The values are those
+/// before that item, with the next change to come.
+fn find_point(
+    values: &mut View,
+    changes: &[Change],
+    next: usize,
+    view: &[u64],
+    item: u64,
+    count: u64,
+) -> Option<u64>
+    requires { item + count < 2 ^ 64 }
+    ensures { result ≡ least_by values.old (drop next changes.now) view.now item count }
+{
+    let mut k = next;
+    for t in item..item + count {
+        k = advance(values, changes, k, t);
+        if values.as_slice() == view {
+            return Some(t);
+        }
+    }
+    None
+}
+
+impl Caller {
+    /// Before its first call.
+    pub(crate) fn new(alloc: Global, words: u64) -> Result<Caller, AllocError>
+        ensures { IfOk result (λ c. c ≡ fresh words) }
+    {
+        Ok(Caller {
+            values: View::zeros(alloc, words)?,
+            next: 0,
+            call: 0,
+            collects: 0,
+        })
+    }
+
+    /// Goes on to its next call.
+    pub(crate) fn go_on(&mut self, changes: &[Change], call: u64, collects: u64)
+        ensures values { (u : ℕ) → call ≤ u → values_by self.new.values (drop self.new.next changes.now) u
+            ≡ values_by self.old.values (drop self.old.next changes.now) u }
+        ensures call { self.new.call ≡ call }
+        ensures collects { self.new.collects ≡ collects }
+    {
+        self.next = advance(&mut self.values, changes, self.next, call);
+        self.call = call;
+        self.collects = collects;
+    }
+
+    /// What is found of the scan that it called last, once it is answered.
+    pub(crate) fn verdict(
+        &self,
+        alloc: Global,
+        changes: &[Change],
+        process: u32,
+        answer: u64,
+        view: &[u64],
+        collects: u64,
+    ) -> Result<Verdict, AllocError>
+        requires order { self.now.call ≤ answer }
+        requires few { answer + 1 < 2 ^ 64 }
+        requires collects { self.now.collects ≤ collects }
+        ensures { IfOk result (λ v. v ≡ record {
+          process = process;
+          call = self.now.call;
+          answer = answer;
+          point = least_by self.now.values (drop self.now.next changes.now) view.now self.now.call (suc (answer - self.now.call));
+          collects = collects - self.now.collects;
+        }) }
+    {
+        let mut values = self.values.copy(alloc)?;
+        let count = answer - self.call + 1;
+        let point = find_point(&mut values, changes, self.next, view, self.call, count);
+        Ok(Verdict {
+            process,
+            call: self.call,
+            answer,
+            point,
+            collects: collects - self.collects,
+        })
+    }
+}

@@ -1,0 +1,27 @@
+//! Audits: whether each scan that a record answered has a point, and how many double collects it took.
+#![tactic(auto)]
+
+ghost use Rattle.snap_runs.specs.Audit.{VerdictsAreOfScans, VerdictsHavePoints};
+ghost use Rattle.snap_runs.specs.Promises.{HavePoints};
+ghost use Rattle.snap_runs.specs.Run.{Run};
+
+mod caller;
+mod sweep;
+mod text;
+
+pub use snap_runs::Verdict;
+pub use sweep::audit;
+pub use text::verdict_line;
+
+/// A verdict is of a finished scan: its point is the least that the scan has, none where it has none, and its count is
+/// that of the scan's double collects.
+#[tactic(auto, using(snap_runs::proofs::Audits::of_scans))]
+pub fn verdicts_are_of_scans()
+    ensures { (r : Run) → VerdictsAreOfScans r }
+{}
+
+/// Where each finished scan has a point, each verdict has one.
+#[tactic(auto, using(snap_runs::proofs::Audits::verdicts_have_points))]
+pub fn every_verdict_has_a_point()
+    ensures { (r : Run) → HavePoints r → VerdictsHavePoints r }
+{}

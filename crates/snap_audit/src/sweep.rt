@@ -1,0 +1,94 @@
+//! The audit of a record.
+ghost use Rattle.std.specs.Prelude.{◌≡◌, ◌≤◌, ◌<◌, ◌+◌, ◌-◌, ◌^◌, ◌∷◌, List, IfOk, OnOk, get_or, length, replicate};
+ghost use Rattle.snap_words.specs.Shape.{IsOneOf};
+ghost use Rattle.snap_semantics.specs.declared.event.Event.{Event as Happened};
+ghost use Rattle.snap_runs.specs.Audit.{audit};
+ghost use Rattle.snap_runs.specs.Run.{Run};
+ghost use Rattle.snap_record.specs.History.{collects_at};
+ghost use Rattle.snap_audit.specs.Sweep.{Sweeps, fresh};
+ghost use Rattle.snap_audit.specs.declared.caller.Caller.{Caller as Kept};
+
+use crate::caller::Caller;
+use snap_record::{Change, Record};
+use snap_runs::Verdict;
+use snap_semantics::{Event, Happening};
+use snap_words::{Kind, Shape};
+use std::alloc::{AllocError, Global};
+
+/// Each process, before its first call.
+#[tactic(auto, using(snap_machine::proofs::Replicas::one_again))]
+fn new_callers(alloc: Global, shape: Shape) -> Result<Vec<Caller>, AllocError>
+    ensures { IfOk result (λ cs. cs.items ≡ replicate shape.n (fresh shape.w)) }
+{
+    let mut callers = Vec::new(alloc);
+    for _k in 0..shape.n() {
+        callers.push(Caller::new(alloc, shape.w())?)?;
+    }
+    Ok(callers)
+}
+
+/// Notes an event: a call is kept, and of an answer it is found out whether the scan has a point.
+fn note_event(
+    alloc: Global,
+    changes: &[Change],
+    callers: &mut Vec<Caller>,
+    verdicts: &mut Vec<Verdict>,
+    event: &Event,
+    collects: u64,
+) -> Result<(), AllocError>
+    requires process { IsOneOf (length callers.old.items) event.now.process }
+    requires order { (d : Kept) → (get_or callers.old.items (event.now.process - 1) d).call ≤ event.now.item }
+    requires few { event.now.item + 1 < 2 ^ 64 }
+    requires collects { (d : Kept) → (get_or callers.old.items (event.now.process - 1) d).collects ≤ collects }
+    ensures { OnOk result ((r : Run) (left : List Happened) → collects ≡ collects_at r event.now →
+        Sweeps r changes.now callers.old.items verdicts.old.items (event.now ∷ left) →
+        Sweeps r changes.now callers.new.items verdicts.new.items left) }
+{
+    let k = (event.process - 1) as usize;
+    match &event.what {
+        Happening::Call(_) => {
+            callers[k].go_on(changes, event.item, collects);
+            Ok(())
+        }
+        Happening::Answer(view) => {
+            let caller = &callers[k];
+            let verdict = caller.verdict(
+                alloc,
+                changes,
+                event.process,
+                event.item,
+                view.as_slice(),
+                collects,
+            )?;
+            verdicts.push(verdict)?;
+            Ok(())
+        }
+        Happening::Done => Ok(()),
+    }
+}
+
+/// Of each scan that was called and has been answered, in the order of the answers: the least item from its call to its
+/// answer after which the values were what it answered, if there is one, and how many double collects it took.
+pub fn audit<K: Kind>(alloc: Global, history: &Record<K>) -> Result<Vec<Verdict>, AllocError>
+    ensures { IfOk result (λ v. v.items ≡ audit history.now) }
+{
+    let _items = history.items();
+    let changes = history.changes();
+    let events = history.events();
+    let collects = history.event_collects();
+    let mut callers = new_callers(alloc, history.machine().shape())?;
+    let mut verdicts = Vec::new(alloc);
+    let mut k = 0;
+    while k < events.len() {
+        note_event(
+            alloc,
+            changes,
+            &mut callers,
+            &mut verdicts,
+            &events[k],
+            collects[k],
+        )?;
+        k += 1;
+    }
+    Ok(verdicts)
+}

@@ -1,8 +1,12 @@
 -- Values, place by place.
-use Rattle.std.proofs.Common.{◌≡◌, ℕ, zero, suc, ◌+◌, ◌-◌, ◌<◌, ◌≤◌, Bool, true, false, List, [], ◌∷◌, ◌++◌, length, take, drop, get_or, map, slice_set, nat_eq, if◌then◌else◌, refl, sym, ap, ◌∙◌, arith, append_assoc, add-one}
-use Rattle.std.proofs.lemmas.Bool.{eqb-true}
-use Rattle.std.proofs.lemmas.List.{take_all, length-append, length-drop, length-map, length-take-le}
+use Rattle.std.proofs.Common.{Option, Some, None, ◌≡◌, ℕ, zero, suc, ◌+◌, ◌-◌, ◌<◌, ◌≤◌, List, [], ◌∷◌, ◌++◌, length, take, drop, get_or, map, slice_set, if◌then◌else◌, refl, sym, ap, ◌∙◌, arith, append_assoc}
+use Rattle.std.proofs.lemmas.Bool.{lt-ltb}
+use Rattle.std.proofs.lemmas.List.{take_all, length-append, length-drop, length-take-le}
+use Rattle.std.specs.Prelude.{option_map, slice_get}
 use Rattle.snap_words.specs.Word.{Word}
+use Rattle.snap_words.specs.declared.address.Bank.TheVariants as bank
+use Rattle.snap_semantics.specs.Readers.{contents, WordContents}
+use Rattle.snap_semantics.specs.State.{Memory}
 use Rattle.snap_record.specs.History.{change_at, changes_to}
 use Rattle.snap_record.specs.declared.history.Change.{Change}
 
@@ -82,9 +86,23 @@ module _ (t : ℕ) (old new : List ℕ) (len : length old ≡ length new) where
       let left = length-drop k old in
       ap length h.now_is ∙ length-append (take k new) (drop k old) ∙ (let e : length (take k new) + length (drop k old) ≡ length old = omega (arith, taken, left, le, len) in e)
 
--- the datum of a word
-pub datum_at : {W : Type 0} (parts : W → Word) (ws : List W) (k : ℕ) (w : W) → k < length ws → w ≡ get_or ws k w →
-    (parts w).datum ≡ get_or (map (λ (x : Word). x.datum) (map parts ws)) k 0
-datum_at parts [] k w lt is = absurd (omega (arith, lt))
-datum_at parts (v ∷ ws) zero w lt is = ap (λ x. (parts x).datum) is
-datum_at parts (v ∷ ws) (suc k) w lt is = datum_at parts ws k w (omega (arith, lt)) is
+-- the datum of the word at a place
+datum_there : (words : List Word) (k : ℕ) (w : Word) → slice_get words k ≡ Some w → w.datum ≡ get_or (map (λ (x : Word). x.datum) words) k 0
+datum_there [] k w h = absurd cc
+datum_there (x ∷ words) zero w h = let same : w ≡ x = cc in ap (λ (y : Word). y.datum) same
+datum_there (x ∷ words) (suc k) w h = datum_there words k w h
+
+same_word : (o : Option Word) (w : Word) → option_map (λ x. WordContents x) o ≡ Some (WordContents w) → o ≡ Some w
+same_word (Some x) w h = cc
+same_word None w h = absurd cc
+
+-- what is read of register R with index i, which counts from 1, is the word at place k
+read_word : (m : Memory) (i k : ℕ) → i ≡ k + 1 → contents m bank.R i 0 ≡ option_map (λ x. WordContents x) (slice_get m.words k)
+read_word m i k at =
+    let place : i - 1 ≡ k = omega (arith, at) in
+    ap (λ b. option_map (λ x. WordContents x) (if b then slice_get m.words (i - 1) else None)) (lt-ltb 0 i (omega (arith, at)))
+    ∙ ap (λ j. option_map (λ x. WordContents x) (slice_get m.words j)) place
+
+pub datum_read : (m : Memory) (i k : ℕ) (w : Word) → i ≡ k + 1 → contents m bank.R i 0 ≡ Some (WordContents w) →
+    w.datum ≡ get_or (map (λ (x : Word). x.datum) m.words) k 0
+datum_read m i k w at h = datum_there m.words k w (same_word (slice_get m.words k) w (sym (read_word m i k at) ∙ h))

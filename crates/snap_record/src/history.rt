@@ -1,8 +1,8 @@
 //! What a record keeps of its run besides the items.
-ghost use Rattle.std.specs.Prelude.{◌≡◌, ◌+◌, ◌-◌, ◌<◌, ◌≤◌, ◌++◌, ◌∷◌, [], length, map, vec_capacity, vec_len, slice_index, slice_set};
+ghost use Rattle.std.specs.Prelude.{◌≡◌, ◌+◌, ◌-◌, ◌<◌, ◌≤◌, ◌++◌, ◌∷◌, [], get_or, length, map, vec_capacity, vec_len, slice_index, slice_set};
 ghost use Rattle.snap_words.specs.Shape.{IsOneOf};
-ghost use Rattle.snap_words.specs.Word.{Word};
 ghost use Rattle.snap_semantics.specs.Run.{call_event, event_of};
+ghost use Rattle.snap_semantics.specs.State.{values};
 ghost use Rattle.snap_semantics.specs.Table.{who};
 ghost use Rattle.snap_semantics.specs.declared.event.Event.{Event};
 ghost use Rattle.snap_semantics.specs.declared.process.Outcome.TheVariants as outcomes;
@@ -13,9 +13,9 @@ ghost use Rattle.snap_record.specs.History.{change_at, changes_to, counted};
 ghost use Rattle.snap_record.specs.SeenDeed.{of_option, seen_deed};
 
 use crate::deed::Deed;
-use snap_regs::Registers;
+use snap_machine::{Contents, Machine};
 use snap_semantics::{Event, Happening, Item, Outcome};
-use snap_words::{Field, Kind, View, field_of};
+use snap_words::{Address, Bank, Field, Kind, View, field_of};
 use std::alloc::{AllocError, Global};
 
 /// A change of a value by an item. Items count from 1, places of values from 0.
@@ -96,22 +96,40 @@ fn note_value(now: &mut View, changes: &mut Vec<Change>, item: u64, place: usize
     now.set(place, value);
 }
 
-/// Notes the changes of values to the data of these words.
-pub fn note_values<K: Kind>(now: &mut View, changes: &mut Vec<Change>, item: u64, words: &[K::Word])
-    requires count { length now.old ≡ length words.now }
-    requires room { vec_len changes.old + length words.now ≤ vec_capacity changes.old }
-    ensures now { now.new ≡ map (λ (x : Word). x.datum) (map K.parts words.now) }
-    ensures changes { changes.new.items ≡ changes.old.items ++ changes_to item 0 now.old (map (λ (x : Word). x.datum) (map K.parts words.now)) }
+/// The value at place `k`, counted from 0. It takes no memory.
+fn value_of<K: Kind>(machine: &Machine<K>, k: usize) -> u64
+    requires { k < machine.now.shape.w }
+    ensures { result ≡ get_or (values machine.now.state) k 0 }
 {
+    let _shape = machine.shape();
+    let i = k as u64 + 1;
+    match machine.register(Address {
+        bank: Bank::R,
+        i,
+        j: 0,
+    }) {
+        Ok(Contents::Word(word)) => field_of::<K>(word, Field::Datum),
+        _ => unreachable!(),
+    }
+}
+
+/// Notes the changes of values to those of a machine.
+pub fn note_values<K: Kind>(
+    now: &mut View,
+    changes: &mut Vec<Change>,
+    item: u64,
+    machine: &Machine<K>,
+)
+    requires count { length now.old ≡ machine.now.shape.w }
+    requires room { vec_len changes.old + machine.now.shape.w ≤ vec_capacity changes.old }
+    ensures now { now.new ≡ values machine.now.state }
+    ensures changes { changes.new.items ≡ changes.old.items ++ changes_to item 0 now.old (values machine.now.state) }
+    ensures count { length now.new ≡ machine.now.shape.w }
+{
+    let count = machine.shape().w() as usize;
     let mut k = 0;
-    while k < words.len() {
-        note_value(
-            now,
-            changes,
-            item,
-            k,
-            field_of::<K>(&words[k], Field::Datum),
-        );
+    while k < count {
+        note_value(now, changes, item, k, value_of(machine, k));
         k += 1;
     }
 }
@@ -128,24 +146,23 @@ fn is_write(deed: &Deed) -> bool
     }
 }
 
-/// Notes the values after an item that leaves these registers. They stay where it writes no word.
-pub fn note_words<K: Kind>(
+/// Notes the values after an item that leaves this machine. They stay where it writes no word.
+pub fn note_item<K: Kind>(
     now: &mut View,
     changes: &mut Vec<Change>,
     item: u64,
     deed: &Deed,
-    registers: &Registers<K>,
+    machine: &Machine<K>,
 )
-    requires count { length now.old ≡ registers.now.shape.w }
-    requires room { vec_len changes.old + registers.now.shape.w ≤ vec_capacity changes.old }
-    requires stay { is_write (seen_deed deed.now) ≡ false → map (λ (x : Word). x.datum) registers.now.memory.words ≡ now.old }
-    ensures now { now.new ≡ map (λ (x : Word). x.datum) registers.now.memory.words }
-    ensures changes { changes.new.items ≡ changes.old.items ++ changes_to item 0 now.old (map (λ (x : Word). x.datum) registers.now.memory.words) }
-    ensures count { length now.new ≡ registers.now.shape.w }
+    requires count { length now.old ≡ machine.now.shape.w }
+    requires room { vec_len changes.old + machine.now.shape.w ≤ vec_capacity changes.old }
+    requires stay { is_write (seen_deed deed.now) ≡ false → values machine.now.state ≡ now.old }
+    ensures now { now.new ≡ values machine.now.state }
+    ensures changes { changes.new.items ≡ changes.old.items ++ changes_to item 0 now.old (values machine.now.state) }
+    ensures count { length now.new ≡ machine.now.shape.w }
 {
-    let _shape = registers.shape();
     if is_write(deed) {
-        note_values::<K>(now, changes, item, registers.words());
+        note_values(now, changes, item, machine);
     }
 }
 

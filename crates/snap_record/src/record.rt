@@ -10,9 +10,9 @@ ghost use Rattle.snap_record.specs.declared.fault.RecordFault.TheVariants.{Full}
 
 use crate::deed::deed_of;
 use crate::fault::RecordFault;
-use crate::history::{Change, event_of, note_collect, note_event, note_words, who};
+use crate::history::{Change, event_of, note_collect, note_event, note_item, who};
 use crate::walk::advance;
-use snap_asm::Program;
+use snap_code::Program;
 use snap_machine::Machine;
 use snap_semantics::{Event, Item, Outcome};
 use snap_words::{Kind, Shape, View};
@@ -93,12 +93,12 @@ impl<K: Kind> Record<K> {
         let outcome = self.machine.apply(item)?;
         self.items.push_reserved(item);
         let number = self.items.len() as u64;
-        note_words::<K>(
+        note_item(
             &mut self.values,
             &mut self.changes,
             number,
             &deed,
-            self.machine.registers(),
+            &self.machine,
         );
         note_collect(&mut self.collects, who(item), &deed, &outcome);
         let event = event_of(number, item, &outcome, deed);

@@ -1,5 +1,5 @@
 -- The events of a run from an item on.
-use Rattle.std.proofs.Common.{◌≡◌, ℕ, zero, suc, ◌+◌, ◌<◌, ◌≤◌, List, [], ◌∷◌, ◌++◌, length, take, drop, slice_index_or, refl, sym, ap, ◌∙◌, arith}
+use Rattle.std.proofs.Common.{◌≡◌, ℕ, zero, suc, ◌+◌, ◌<◌, ◌≤◌, List, [], ◌∷◌, ◌++◌, length, drop, get_or, slice_index_or, refl, sym, ap, ◌∙◌, arith}
 use Rattle.std.proofs.lemmas.List.{take_all, drop_all}
 use Rattle.std.specs.List.{AllByRecursion}
 use Rattle.snap_words.specs.Shape.{Counts, IsOneOf}
@@ -27,6 +27,15 @@ next_item : (xs : List Item) (t : ℕ) → t < length xs → drop t xs ≡ slice
 next_item [] t lt = absurd (omega (arith, lt))
 next_item (x ∷ xs) zero lt = refl
 next_item (x ∷ xs) (suc t) lt = next_item xs t (omega (arith, lt))
+
+-- the next event
+pub next_left : (es : List Event) (k : ℕ) (e : Event) → k < length es → e ≡ get_or es k e → drop k es ≡ e ∷ drop (k + 1) es
+next_left es k e lt is = (let next : suc k ≡ k + 1 = omega arith in by_place es k lt is ∙ ap (λ m. e ∷ drop m es) next)
+  where
+    by_place : (es : List Event) (k : ℕ) → k < length es → e ≡ get_or es k e → drop k es ≡ e ∷ drop (suc k) es
+    by_place [] k lt is = absurd (omega (arith, lt))
+    by_place (x ∷ es) zero lt is = ap (λ y. y ∷ es) (sym is)
+    by_place (x ∷ es) (suc k) lt is = by_place es k (omega (arith, lt)) is
 
 -- the event of the next item, where it has one, and then those behind it
 pub next_events : (r : Run) (t : ℕ) → t < length r.items → events_from r t ≡ event_of (suc t) (item r (suc t)) (outcome r (suc t)) ++ events_from r (suc t)
@@ -83,7 +92,7 @@ event_after t u x (outcomes.Trapped c) le = tt
 event_after t u x (outcomes.Skipped c) le = tt
 
 -- nor are the events of later items
-events_after : (s : Source) (n : Counts) (S : State) (t u : ℕ) (xs : List Item) → t ≤ u → AllByRecursion (λ (e : Event). t ≤ e.item) (events s n S u xs)
+pub events_after : (s : Source) (n : Counts) (S : State) (t u : ℕ) (xs : List Item) → t ≤ u → AllByRecursion (λ (e : Event). t ≤ e.item) (events s n S u xs)
 events_after s n S t u [] le = tt
 events_after s n S t u (x ∷ xs) le =
     join_all (λ (e : Event). t ≤ e.item) (event_of u x (done s n S x).1) (events s n (done s n S x).0 (u + 1) xs)

@@ -3,4 +3,6 @@ pub mod Histories
 pub mod Values
 pub mod Recording
 pub mod Walks
+pub mod Counts
 pub mod Events
+pub mod Searches

@@ -1,8 +1,8 @@
 -- The views of a process, by name.
-use Rattle.std.specs.Prelude.{◌≡◌, ℕ, Bool, true, false, List, [], ◌∷◌, Option, Some, None, option_map, bytes_eq, if◌then◌else◌, refl}
+use Rattle.std.specs.Prelude.{◌≡◌, ℕ, Bool, true, false, List, [], ◌∷◌, Option, Some, None, option_map, bytes_eq, if◌then◌else◌}
 use Rattle.snap_words.specs.Word.{Word}
 use Rattle.snap_semantics.specs.Forms.{or_else}
-use Rattle.snap_semantics.specs.Readers.{LocalValue, NumberValue, RowValue, WordsValue, ViewValue, find_name, local_value}
+use Rattle.snap_semantics.specs.Readers.{NumberValue, RowValue, WordsValue, ViewValue, find_name, local_value}
 use Rattle.snap_semantics.specs.Source.{Name}
 use Rattle.snap_semantics.specs.State.{Locals, Named, value_at}
 

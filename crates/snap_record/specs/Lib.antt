@@ -1,3 +1,4 @@
 pub mod Record
 pub mod History
 pub mod SeenDeed
+pub mod Searches

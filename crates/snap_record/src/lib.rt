@@ -5,6 +5,7 @@ mod deed;
 mod fault;
 mod history;
 mod record;
+mod search;
 mod walk;
 
 pub use fault::RecordFault;

@@ -1,16 +1,19 @@
 //! A machine with its history.
-ghost use Rattle.std.specs.Prelude.{◌≡◌, ◌↔◌, [], length, map, replicate, Err, IfOk, OnErr};
+ghost use Rattle.std.specs.Prelude.{◌≡◌, ◌↔◌, ◌<◌, ◌+◌, [], drop, get_or, length, map, replicate, Err, IfOk, OnErr};
 ghost use Rattle.snap_words.specs.Shape.{IsOneOf};
 ghost use Rattle.snap_semantics.specs.State.{initial};
 ghost use Rattle.snap_semantics.specs.Table.{who};
 ghost use Rattle.snap_runs.specs.Run.{outcome, state, Fits};
-ghost use Rattle.snap_record.specs.Record.{with_item, events_of, values_after};
+ghost use Rattle.snap_record.specs.Record.{collects_of, with_item, events_of, values_after};
+ghost use Rattle.snap_record.specs.Searches.{scan_collects};
+ghost use Rattle.snap_semantics.specs.declared.event.Event.{Event as Happened};
 ghost use Rattle.snap_record.specs.History.{LeadsAlong, collects_at};
 ghost use Rattle.snap_record.specs.declared.fault.RecordFault.TheVariants.{Full};
 
 use crate::deed::deed_of;
 use crate::fault::RecordFault;
 use crate::history::{Change, event_of, note_collect, note_event, note_item, who};
+use crate::search::{collects_until, scans};
 use crate::walk::advance;
 use snap_code::Program;
 use snap_machine::Machine;
@@ -157,5 +160,40 @@ impl<K: Kind> Record<K> {
         let mut values = View::zeros(self.alloc, self.machine.shape().w())?;
         let _next = advance(&mut values, self.changes.as_slice(), 0, t);
         Ok(Some(values))
+    }
+
+    /// How many double collects the scan takes that the event at a place calls, where it calls one.
+    fn scan_collects(&self, k: usize) -> Option<u64>
+        requires { k < length (events_of self.now (length self.now.items)) }
+        ensures { (d : Happened) → let events = events_of self.now (length self.now.items) in
+            result ≡ scan_collects self.now (get_or events k d) (drop (k + 1) events) }
+    {
+        let event = &self.events[k];
+        let i = scans(event.process, &event.what)?;
+        let all = self.collects[(i - 1) as usize];
+        let until = collects_until(
+            self.events.as_slice(),
+            self.at_events.as_slice(),
+            k + 1,
+            i,
+            all,
+        );
+        Some(until.saturating_sub(self.at_events[k]))
+    }
+
+    /// How many double collects the scan takes that an item calls, where it calls one: up to its answer, or up to now.
+    pub fn collects_of(&self, call: u64) -> Option<u64>
+        ensures { result ≡ collects_of self.now call }
+    {
+        let _items = self.items();
+        let events = self.events();
+        let mut k = 0;
+        while k < events.len() {
+            if events[k].item == call {
+                return self.scan_collects(k);
+            }
+            k += 1;
+        }
+        None
     }
 }

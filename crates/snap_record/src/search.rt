@@ -1,0 +1,55 @@
+//! What is found of a scan among events.
+ghost use Rattle.std.specs.Prelude.{◌≡◌, drop, length, map};
+ghost use Rattle.snap_runs.specs.Run.{Run};
+ghost use Rattle.snap_runs.specs.Scan.{double_collects};
+ghost use Rattle.snap_record.specs.History.{collects_at};
+ghost use Rattle.snap_record.specs.Searches.{collects_until, is_answer, is_answer_of, scans};
+
+use snap_semantics::{Event, Happening, Op};
+
+/// Whether this is an answer.
+fn is_answer(what: &Happening) -> bool
+    ensures { result ≡ is_answer what.now }
+{
+    match what {
+        Happening::Call(_) => false,
+        Happening::Answer(_) => true,
+        Happening::Done => false,
+    }
+}
+
+/// Whether this is an answer of a process.
+fn is_answer_of(event: &Event, i: u32) -> bool
+    ensures { result ≡ is_answer_of i event.now }
+{
+    event.process == i && is_answer(&event.what)
+}
+
+/// The process whose scan is called.
+pub fn scans(i: u32, what: &Happening) -> Option<u32>
+    ensures { result ≡ scans i what.now }
+{
+    match what {
+        Happening::Call(Op::Scan) => Some(i),
+        Happening::Call(Op::Update { .. }) => None,
+        Happening::Answer(_) => None,
+        Happening::Done => None,
+    }
+}
+
+/// How many double collects a process had had at its first answer among the events from a place on, and otherwise all of
+/// them.
+pub fn collects_until(events: &[Event], at_events: &[u64], from: usize, i: u32, all: u64) -> u64
+    requires { length at_events.now ≡ length events.now }
+    ensures { (r : Run) → at_events.now ≡ map (collects_at r) events.now → all ≡ double_collects r i 0 (length r.items) →
+        result ≡ collects_until r i (drop from events.now) }
+{
+    let mut k = from;
+    while k < events.len() {
+        if is_answer_of(&events[k], i) {
+            return at_events[k];
+        }
+        k += 1;
+    }
+    all
+}

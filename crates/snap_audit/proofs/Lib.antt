@@ -1,3 +1,3 @@
-pub mod Between
+pub mod Points
 pub mod Events
 pub mod Sweeping

@@ -1,5 +1,5 @@
 -- What an audit keeps, from event to event.
-use Rattle.std.proofs.Common.{◌≡◌, ℕ, zero, suc, ◌+◌, ◌-◌, ◌<◌, ◌≤◌, Bool, true, false, List, [], ◌∷◌, ◌++◌, length, map, drop, get_or, nat_eq, replicate, slice_index, slice_set, refl, sym, ap, subst, ◌∙◌, append_assoc, append-nil, arith}
+use Rattle.std.proofs.Common.{◌≡◌, ℕ, suc, ◌+◌, ◌-◌, ◌<◌, ◌≤◌, Bool, true, false, List, [], ◌∷◌, ◌++◌, length, map, drop, get_or, nat_eq, replicate, slice_index, slice_set, refl, sym, ap, subst, ◌∙◌, append_assoc, append-nil, arith}
 use Rattle.std.proofs.lemmas.Bool.{eqb-true, eqb-false}
 use Rattle.std.proofs.lemmas.Grind.{get_or-set_at}
 use Rattle.std.proofs.lemmas.List.{get_or-map, get_or-set_other, length-set, length-replicate, get_or-replicate, map-set}
@@ -17,10 +17,11 @@ use Rattle.snap_runs.proofs.Embedding.{map_same}
 use Rattle.snap_record.specs.History.{IsRising, IsWithin, LeadsAlong, collects_at, values_by}
 use Rattle.snap_record.specs.Record.{events_of}
 use Rattle.snap_record.specs.declared.history.Change.{Change}
+use Rattle.snap_record.proofs.Counts.{count_split}
 use Rattle.snap_record.proofs.Events.{all_events, all_within_run, rising_run}
 use Rattle.snap_audit.specs.Sweep.{verdicts_at, calls_after, by_events, least_by, fresh, IsCaller, Sweeps}
 use Rattle.snap_audit.specs.declared.caller.Caller.{Caller}
-use Rattle.snap_audit.proofs.Between.{count_split, least_is}
+use Rattle.snap_audit.proofs.Points.{least_is}
 use Rattle.snap_audit.proofs.Events.{audit_by_events}
 
 -- the last calls
@@ -49,15 +50,6 @@ started r xs cs es fits leads new all =
       within = subst (λ (l : List Event). AllByRecursion (IsWithin r.shape.n (length r.items)) l) (sym (all ∙ all_events r)) (all_within_run r fits);
       rises = subst (λ (l : List Event). IsRising l) (sym (all ∙ all_events r)) (rising_run r);
     } in whole)
-
--- the next event that is left
-pub next_left : (es : List Event) (k : ℕ) (e : Event) → k < length es → e ≡ get_or es k e → drop k es ≡ e ∷ drop (k + 1) es
-next_left es k e lt is = (let next : suc k ≡ k + 1 = omega arith in by_place es k lt is ∙ ap (λ m. e ∷ drop m es) next)
-  where
-    by_place : (es : List Event) (k : ℕ) → k < length es → e ≡ get_or es k e → drop k es ≡ e ∷ drop (suc k) es
-    by_place [] k lt is = absurd (omega (arith, lt))
-    by_place (x ∷ es) zero lt is = ap (λ y. y ∷ es) (sym is)
-    by_place (x ∷ es) (suc k) lt is = by_place es k (omega (arith, lt)) is
 
 -- the double collects at it
 pub collects_left : (r : Run) (es : List Event) (ks : List ℕ) (k d : ℕ) (e : Event) → ks ≡ map (collects_at r) es → k < length es → e ≡ get_or es k e →

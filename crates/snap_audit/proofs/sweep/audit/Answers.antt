@@ -3,8 +3,9 @@ use Rattle.snap_words.specs.Shape.{Counts}
 use Rattle.snap_semantics.specs.declared.event.Event.{Event}
 use Rattle.snap_machine.specs.Standing.{Standing}
 use Rattle.snap_record.specs.History.{collects_at}
+use Rattle.snap_record.proofs.Events.{next_left}
 use Rattle.snap_audit.specs.Sweep.{fresh, Sweeps}
-use Rattle.snap_audit.proofs.Sweeping.{collects_left, its_collects, next_left, started}
+use Rattle.snap_audit.proofs.Sweeping.{collects_left, its_collects, started}
 use Rattle.snap_audit.proofs.sweep.audit.Goals as goal
 
 pub loop-k-init : goal.loop-k-init

@@ -1,0 +1,18 @@
+-- The least point is found by the changes.
+use Rattle.std.proofs.Common.{◌≡◌, ℕ, zero, suc, ◌+◌, ◌<◌, ◌≤◌, List, Some, if◌then◌else◌, refl, sym, ap, ◌∙◌, arith}
+use Rattle.std.specs.Prelude.{bytes_eq}
+use Rattle.snap_semantics.specs.State.{values}
+use Rattle.snap_runs.specs.Audit.{least_point}
+use Rattle.snap_runs.specs.Run.{Run, state}
+use Rattle.snap_record.specs.History.{values_by}
+use Rattle.snap_record.specs.declared.history.Change.{Change}
+use Rattle.snap_audit.specs.Sweep.{least_by}
+
+-- the least point is found by the changes
+pub least_is : (r : Run) (vs : List ℕ) (xs : List Change) (view : List ℕ) (t more : ℕ) →
+    ((u : ℕ) → t ≤ u → u < t + more → values (state r u) ≡ values_by vs xs u) → least_by vs xs view t more ≡ least_point r view t more
+least_is r vs xs view t zero h = refl
+least_is r vs xs view t (suc more) h =
+    let here : values_by vs xs t ≡ values (state r t) = sym (h t (omega arith) (omega arith)) in
+    ap (λ v. if bytes_eq v view then Some t else least_by vs xs view (suc t) more) here
+    ∙ ap (λ o. if bytes_eq (values (state r t)) view then Some t else o) (least_is r vs xs view (suc t) more (λ u low high. h u (omega (arith, low)) (omega (arith, high))))

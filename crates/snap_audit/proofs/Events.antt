@@ -31,6 +31,7 @@ left_uncalled S i a l (Ok (Answers v)) e = absurd cc
 left_uncalled S i a l (Ok Finishes) e = absurd cc
 left_uncalled S i a l (Err c) e = absurd cc
 
+-- nor does a step of any process
 step_uncalled : (s : Source) (n : Counts) (S : State) (i : ℕ) (p : Process) (t : Status) → (step s n S i p t).1 ≡ outcomes.Called → ⊥
 step_uncalled s n S i p Idle e = absurd cc
 step_uncalled s n S i p (Trapped c a) e = absurd cc
@@ -43,6 +44,7 @@ module _ (r : Run) (fits : Fits r) where
   verdicts_from t zero = []
   verdicts_from t (suc more) = verdict_at r (suc t) (outcome r (suc t)) ++ verdicts_from (suc t) more
 
+  -- the verdicts of the first items, and of those behind them
   joined : (t more u : ℕ) → t + more ≡ u → verdicts r u ≡ verdicts r t ++ verdicts_from t more
   unfolding verdicts_from
   joined t zero u e = (let same : u ≡ t = omega (arith, e) in ap (verdicts r) same ∙ sym (append-nil (verdicts r t)))
@@ -54,6 +56,7 @@ module _ (r : Run) (fits : Fits r) where
   and_false true x y = refl
   and_false false x y = refl
 
+  -- where an item calls nothing
   last_kept : (i t : ℕ) (o : Outcome) → outcome r (suc t) ≡ o → is_called o ≡ false → last_call r i (suc t) ≡ last_call r i t
   last_kept i t o is quiet =
       ap (λ (y : Outcome). if nat_eq (who (item r (suc t))) i && is_called y then suc t else last_call r i t) is
@@ -64,6 +67,7 @@ module _ (r : Run) (fits : Fits r) where
   abbrev AreLast : List ℕ → ℕ → Type 0
   AreLast calls t = (length calls ≡ r.shape.n) × ((i : ℕ) → IsOneOf r.shape.n i → slice_index calls (i - 1) ≡ last_call r i t)
 
+  -- the last calls stay right
   kept : (calls : List ℕ) (t : ℕ) (o : Outcome) → outcome r (suc t) ≡ o → is_called o ≡ false → AreLast calls t → AreLast calls (suc t)
   kept calls t o is quiet h = (h.0, λ i one. h.1 i one ∙ sym (last_kept i t o is quiet))
 
@@ -82,6 +86,7 @@ module _ (r : Run) (fits : Fits r) where
       let pos : 0 < j = there.0 in
       get_or-set_other calls (k - 1) (j - 1) (suc t) 0 (λ same. differ (omega (arith, same, low, pos))) ∙ h.1 j there
 
+  -- and with the call's item they are right again
   set_last : (calls : List ℕ) (t k : ℕ) → who (item r (suc t)) ≡ k → outcome r (suc t) ≡ outcomes.Called → IsOneOf r.shape.n k → AreLast calls t →
       AreLast (slice_set calls (k - 1) (suc t)) (suc t)
   set_last calls t k mine is one h = (
@@ -96,6 +101,7 @@ module _ (r : Run) (fits : Fits r) where
   abbrev Rest : ℕ → ℕ → Type 0
   Rest t more = (calls : List ℕ) → AreLast calls t → by_events r calls (events_from r t) ≡ verdicts_from t more
 
+  -- one item
   one_item : (t more : ℕ) (x : Item) (o : Outcome) (calls : List ℕ) → item r (suc t) ≡ x → outcome r (suc t) ≡ o → IsOneOf r.shape.n (who x) → AreLast calls t →
       Rest (suc t) more → by_events r calls (event_of (suc t) x o ++ events_from r (suc t)) ≡ verdict_at r (suc t) o ++ verdicts_from (suc t) more
   one_item t more (Step k) outcomes.Called calls at is one h rest =
@@ -114,6 +120,7 @@ module _ (r : Run) (fits : Fits r) where
   one_item t more x (outcomes.Trapped c) calls at is one h rest = rest calls (kept calls t (outcomes.Trapped c) is refl h)
   one_item t more x (outcomes.Skipped c) calls at is one h rest = rest calls (kept calls t (outcomes.Skipped c) is refl h)
 
+  -- from any item on
   from_item : (t more : ℕ) → t + more ≡ length r.items → Rest t more
   unfolding verdicts_from
   from_item t zero e calls h = ap (by_events r calls) (no_events r t (omega (arith, e)))

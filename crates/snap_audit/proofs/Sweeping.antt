@@ -28,6 +28,7 @@ use Rattle.snap_audit.proofs.Events.{audit_by_events}
 abbrev pub calls_of : List Caller → List ℕ
 calls_of cs = map (λ (c : Caller). c.call) cs
 
+-- no event is before the first item
 all_past : (es : List Event) → AllByRecursion (λ (e : Event). 0 ≤ e.item) es
 all_past [] = tt
 all_past (e ∷ es) = (omega arith, all_past es)
@@ -61,6 +62,7 @@ module _ (r : Run) (xs : List Change) (cs : List Caller) (found : List Verdict) 
   pub its_process : IsOneOf (length cs) e.process
   its_process = subst (λ m. IsOneOf m e.process) (sym h.count) h.within.0.0
 
+  -- what is kept of it
   its_caller : (d : Caller) → IsCaller r xs (e ∷ left) e.process (get_or cs (e.process - 1) d)
   its_caller d = h.each e.process h.within.0.0 d
 
@@ -68,6 +70,7 @@ module _ (r : Run) (xs : List Change) (cs : List Caller) (found : List Verdict) 
   pub its_order : (d : Caller) → (get_or cs (e.process - 1) d).call ≤ e.item
   its_order d = (its_caller d).past.0
 
+  -- its item is one of the run's
   pub its_item : e.item ≤ length r.items
   its_item = h.within.0.1
 
@@ -76,6 +79,7 @@ module _ (r : Run) (xs : List Change) (cs : List Caller) (found : List Verdict) 
       ≡ double_collects r e.process 0 (get_or cs (e.process - 1) d).call + double_collects r e.process (get_or cs (e.process - 1) d).call e.item
   since d = count_split (ends_double_collect r e.process) (get_or cs (e.process - 1) d).call e.item (its_order d)
 
+  -- no fewer double collects than at the last call
   pub its_collects : (k : ℕ) → k ≡ collects_at r e → (d : Caller) → (get_or cs (e.process - 1) d).collects ≤ k
   its_collects k is d = (let all = since d in let before = (its_caller d).collects_are in omega (arith, all, before, is))
 
@@ -83,6 +87,7 @@ module _ (r : Run) (xs : List Change) (cs : List Caller) (found : List Verdict) 
   passed : (i : ℕ) (c : Caller) → IsCaller r xs (e ∷ left) i c → IsCaller r xs left i c
   passed i c k = record { follows = k.follows; past = k.past.1; collects_are = k.collects_are }
 
+  -- what is found, with the event's own verdict
   remaining : (w : Happening) → e.what ≡ w → found ++ (verdicts_at r e.process (slice_index (calls_of cs) (e.process - 1)) e.item w
       ++ by_events r (calls_after (calls_of cs) e.process e.item w) left) ≡ audit r
   remaining w is =
@@ -100,6 +105,7 @@ module _ (r : Run) (xs : List Change) (cs : List Caller) (found : List Verdict) 
     rises = h.rises.1;
   }
 
+  -- the item of the last call
   call_there : (d : Caller) → slice_index (calls_of cs) (e.process - 1) ≡ (get_or cs (e.process - 1) d).call
   call_there d =
       let one = its_process in
@@ -140,6 +146,7 @@ module _ (r : Run) (xs : List Change) (cs : List Caller) (found : List Verdict) 
         rises = h.rises.1;
       }
 
+  -- once a process is called, what is kept of each
   set_caller : (c : Caller) (i : ℕ) (b : Bool) (d : Caller) → nat_eq e.process i ≡ b → IsOneOf r.shape.n i → IsCaller r xs left e.process c →
       IsCaller r xs left i (get_or (slice_set cs (e.process - 1) c) (i - 1) d)
   set_caller c i true d same one now =

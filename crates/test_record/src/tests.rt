@@ -1,0 +1,189 @@
+//! Runs of listing U.
+ghost use Rattle.std.specs.Prelude.{◌≡◌, IsTrue, ◌↔◌};
+ghost use Rattle.snap_words.specs.Shape.{IsOneOf};
+ghost use Rattle.snap_semantics.specs.Table.{who};
+
+use snap_asm::{Program, assemble, load};
+use snap_audit::{audit, verdict_line};
+use snap_record::{MAX_ITEMS, Record, RecordFault};
+use snap_semantics::{Item, Op, Outcome, Reason};
+use snap_words::{KindTag, Seq, Shape};
+use std::alloc::Global;
+use std::process::Abort;
+use std::test::Fail;
+
+/// The snapshot listing.
+const LISTING: &[u8] = b"kind seq\n\
+scalar j c\n\
+row moved\n\
+words a b\n\
+view s\n\
+scan 10\n\
+update 30\n\
+10: each n: moved[@] = 0\n\
+11: let j = 1\n\
+12: get a[j] = r[j]\n\
+13: next j n goto 12\n\
+14: get b[j] = r[j]\n\
+15: next j n goto 14\n\
+16: if all n: seq(a[@]) = seq(b[@]) goto 21\n\
+17: each n: moved[@] = moved[@] + 1 where seq(a[@]) != seq(b[@])\n\
+18: first j n: moved[@] = 2 goto 23\n\
+19: goto 12\n\
+21: view s = data(b)\n\
+22: return s\n\
+23: view s = view(b[j])\n\
+24: return s\n\
+30: call 10\n\
+31: let c = c + 1\n\
+32: put r[me] = (arg, c, s)\n\
+33: finish\n";
+
+/// The program of the listing.
+fn program(alloc: Global) -> Result<Program, Fail> {
+    let image = assemble(alloc, LISTING)?;
+    Ok(load(alloc, image.as_slice())?)
+}
+
+/// A record of the listing with two processes, before the first item.
+fn new_record(rt: &impl Abort, alloc: Global) -> Result<Record<Seq>, Fail> {
+    let program = program(alloc)?;
+    assert!(rt; program.kind() == KindTag::Seq);
+    Ok(Record::new(alloc, &program, Shape::new(2, 2)?)?)
+}
+
+/// The process of an item.
+fn process(item: Item) -> u32
+    ensures { result ≡ who item }
+{
+    match item {
+        Item::Step(i) => i,
+        Item::Call(i, _) => i,
+    }
+}
+
+/// Whether there is a process of this number.
+fn has(record: &Record<Seq>, i: u32) -> bool
+    ensures { IsTrue result ↔ IsOneOf «record».now.shape.n i }
+{
+    0 < i && u64::from(i) <= record.machine().shape().n()
+}
+
+/// Does an item.
+fn apply(rt: &impl Abort, record: &mut Record<Seq>, item: Item) -> Result<Outcome, RecordFault> {
+    assert!(rt; has(record, process(item)));
+    record.apply(item)
+}
+
+/// So many steps of a process.
+fn step(rt: &impl Abort, record: &mut Record<Seq>, i: u32, count: u64) -> Result<(), Fail> {
+    for _ in 0..count {
+        let _outcome = apply(rt, record, Item::Step(i))?;
+    }
+    Ok(())
+}
+
+/// A call.
+fn call(rt: &impl Abort, record: &mut Record<Seq>, i: u32, op: Op) -> Result<(), Fail> {
+    match apply(rt, record, Item::Call(i, op))? {
+        Outcome::Called => {}
+        other => assert!(rt; false, "{other:?}"),
+    }
+    Ok(())
+}
+
+/// Whether the audit of a record is this text.
+fn check_audit(
+    rt: &impl Abort,
+    alloc: Global,
+    record: &Record<Seq>,
+    wanted: &[u8],
+) -> Result<(), Fail> {
+    let mut text = Vec::new(alloc);
+    for verdict in &audit(alloc, record)? {
+        verdict_line(&mut text, verdict)?;
+    }
+    assert_eq!(rt; text.as_slice(), wanted);
+    Ok(())
+}
+
+/// Process 1 scans, and nobody writes.
+fn scan_alone(rt: &impl Abort, record: &mut Record<Seq>) -> Result<(), Fail> {
+    call(rt, record, 1, Op::Scan)?;
+    step(rt, record, 1, 13)
+}
+
+#[test]
+fn a_scan_alone_has_its_call_as_its_point(rt: HostRuntime) -> Result<(), Fail> {
+    let mut record = new_record(&rt, rt.alloc())?;
+    scan_alone(&rt, &mut record)?;
+    assert_eq!(rt; record.events().len(), 2);
+    check_audit(
+        &rt,
+        rt.alloc(),
+        &record,
+        b"scan 1 call 1 answer 14 point 1 collects 1\n",
+    )
+}
+
+/// Process 2 updates its word to a value, while process 1 scans.
+fn update_between(
+    rt: &impl Abort,
+    record: &mut Record<Seq>,
+    value: u64,
+    steps: u64,
+) -> Result<(), Fail> {
+    call(rt, record, 2, Op::Update { word: 2, value })?;
+    step(rt, record, 2, 17)?;
+    step(rt, record, 1, steps)
+}
+
+/// Process 1 scans, while process 2 updates its word twice.
+fn scan_that_borrows(rt: &impl Abort, record: &mut Record<Seq>) -> Result<(), Fail> {
+    call(rt, record, 1, Op::Scan)?;
+    step(rt, record, 1, 6)?;
+    update_between(rt, record, 5, 12)?;
+    update_between(rt, record, 6, 9)
+}
+
+#[test]
+fn a_borrowed_view_has_a_point(rt: HostRuntime) -> Result<(), Fail> {
+    let mut record = new_record(&rt, rt.alloc())?;
+    scan_that_borrows(&rt, &mut record)?;
+    check_audit(
+        &rt,
+        rt.alloc(),
+        &record,
+        b"scan 1 call 1 answer 64 point 24 collects 2\n",
+    )?;
+    match record.values_after(24)? {
+        Some(values) => assert_eq!(rt; values.as_slice(), [0, 5].as_slice()),
+        None => assert!(rt; false),
+    }
+    assert!(rt; record.values_after(65)?.is_none());
+    Ok(())
+}
+
+/// Items of a process that is idle.
+fn skip(rt: &impl Abort, record: &mut Record<Seq>, count: usize) -> Result<(), Fail> {
+    for _ in 0..count {
+        match apply(rt, record, Item::Step(1))? {
+            Outcome::Skipped(Reason::Idle) => {}
+            other => assert!(rt; false, "{other:?}"),
+        }
+    }
+    Ok(())
+}
+
+#[test]
+fn a_million_items_are_kept(rt: HostRuntime) -> Result<(), Fail> {
+    let mut record = new_record(&rt, rt.alloc())?;
+    skip(&rt, &mut record, MAX_ITEMS)?;
+    assert_eq!(rt; record.items().len(), MAX_ITEMS);
+    match apply(&rt, &mut record, Item::Step(1)) {
+        Err(RecordFault::Full) => {}
+        other => assert!(rt; false, "{other:?}"),
+    }
+    assert_eq!(rt; record.items().len(), MAX_ITEMS);
+    Ok(())
+}

@@ -109,6 +109,7 @@ event_rises t x outcomes.Finished es later rises = (later, rises)
 event_rises t x (outcomes.Trapped c) es later rises = rises
 event_rises t x (outcomes.Skipped c) es later rises = rises
 
+-- the events of items rise
 events_rise : (s : Source) (n : Counts) (S : State) (t : ℕ) (xs : List Item) → IsRising (events s n S t xs)
 events_rise s n S t [] = tt
 events_rise s n S t (x ∷ xs) =

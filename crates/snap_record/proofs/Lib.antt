@@ -1,4 +1,5 @@
 pub mod Locals
+pub mod Names
 pub mod Histories
 pub mod Values
 pub mod Recording

@@ -22,10 +22,12 @@ use Rattle.snap_record.specs.Searches.{collects_until, found_collects, is_answer
 use Rattle.snap_record.proofs.Counts.{count_split}
 use Rattle.snap_record.proofs.Events.{next_left, events_after, events_from, next_events, no_events, all_events, all_within_run}
 
+-- a choice that is not made
 and_false : {A : Type 0} (b : Bool) (x y : A) → (if b && false then x else y) ≡ y
 and_false true x y = refl
 and_false false x y = refl
 
+-- numbers that differ
 apart : (m c : ℕ) (b : Bool) → nat_eq m c ≡ b → (m ≡ c → ⊥) → nat_eq m c ≡ false
 apart m c true e differ = absurd (differ (eqb-true m c e))
 apart m c false e differ = e
@@ -89,6 +91,7 @@ module _ (r : Run) where
   none_found c (e ∷ es) all =
       ap (λ b. if b then scan_collects r e es else found_collects r c es) (apart e.item c (nat_eq e.item c) refl all.0) ∙ none_found c es all.1
 
+  -- events of which something else is known
   others : (P : Event → Type 0) (c : ℕ) (es : List Event) → ((e : Event) → P e → e.item ≡ c → ⊥) → AllByRecursion P es → AllByRecursion (λ (e : Event). e.item ≡ c → ⊥) es
   others P c [] h all = tt
   others P c (e ∷ es) h all = (h e all.0, others P c es h all.1)
@@ -113,6 +116,7 @@ module _ (r : Run) where
   passed c t x (outcomes.Trapped k) es differ = refl
   passed c t x (outcomes.Skipped k) es differ = refl
 
+  -- the item itself
   same_item : {A : Type 0} (c : ℕ) (x y : A) → (if nat_eq c c then x else y) ≡ x
   same_item c x y = ap (λ b. if b then x else y) (eq-eqb c c refl)
 
@@ -148,6 +152,7 @@ module _ (r : Run) where
   no_scan (outcomes.Trapped x) c k = refl
   no_scan (outcomes.Skipped x) c k = refl
 
+  -- behind the last item
   past_items : (c : ℕ) → length r.items < c → item r c ≡ Step 0
   past_items zero lt = absurd (omega (arith, lt))
   past_items (suc t) lt = get_or_past r.items t (Step 0) (omega (arith, lt))
@@ -162,6 +167,7 @@ module _ (r : Run) where
       none_found (suc t) (events_from r 0) (others (IsWithin r.shape.n (length r.items)) (suc t) (events_from r 0) (λ e within same. absurd (let le = within.1 in omega (arith, le, same, past))) (all_within_run r fits))
       ∙ sym (ap (λ (x : Item). collects_from r (suc t) (scan_called (outcome r (suc t)) x)) (past_items (suc t) past) ∙ no_scan (outcome r (suc t)) (suc t) 0)
 
+  -- what is found among all events
   pub found : Fits r → (c : ℕ) (es : List Event) → es ≡ events_of r (length r.items) → found_collects r c es ≡ collects_of r c
   found fits c es all = ap (found_collects r c) (all ∙ all_events r) ∙ by_place fits c (nat_le c (length r.items)) refl
 
@@ -191,6 +197,7 @@ module _ (r : Run) where
   pub until_all : (i : ℕ) (es : List Event) (k : ℕ) → length es ≤ k → double_collects r i 0 (length r.items) ≡ collects_until r i (drop k es)
   until_all i es k le = sym (ap (collects_until r i) (drop_all k es le))
 
+  -- nothing is found
   pub none_there : (c : ℕ) (es : List Event) (k : ℕ) → length es ≤ k → None ≡ found_collects r c (drop k es)
   none_there c es k le = sym (ap (found_collects r c) (drop_all k es le))
 
@@ -201,6 +208,7 @@ scans_itself p i (what.Call (op.Update word value)) h = absurd cc
 scans_itself p i (what.Answer view) h = absurd cc
 scans_itself p i what.Done h = absurd cc
 
+-- an event of a list
 event_there : (P : Event → Type 0) (es : List Event) (k : ℕ) (e : Event) → AllByRecursion P es → k < length es → e ≡ get_or es k e → P e
 event_there P [] k e all lt is = absurd (omega (arith, lt))
 event_there P (x ∷ es) zero e all lt is = subst P (sym is) all.0

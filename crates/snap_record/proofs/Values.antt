@@ -16,12 +16,14 @@ value_again [] k v e lt = absurd (omega (arith, lt))
 value_again (x ∷ xs) zero v e lt = ap (λ y. y ∷ xs) (sym e)
 value_again (x ∷ xs) (suc k) v e lt = ap (λ l. x ∷ l) (value_again xs k v e (omega (arith, lt)))
 
+-- a place that is not yet set
 pub value_there : (old new : List ℕ) (k : ℕ) → k < length old → length old ≡ length new → get_or (take k new ++ drop k old) k 0 ≡ get_or old k 0
 value_there [] new k lt len = absurd (omega (arith, lt))
 value_there (x ∷ old) [] k lt len = absurd (omega (arith, len))
 value_there (x ∷ old) (y ∷ new) zero lt len = refl
 value_there (x ∷ old) (y ∷ new) (suc k) lt len = value_there old new k (omega (arith, lt)) (omega (arith, len))
 
+-- once a place is set, one more is new
 pub value_set : (old new : List ℕ) (k : ℕ) → k < length old → length old ≡ length new →
     slice_set (take k new ++ drop k old) k (get_or new k 0) ≡ take (suc k) new ++ drop (suc k) old
 value_set [] new k lt len = absurd (omega (arith, lt))
@@ -61,12 +63,14 @@ module _ (t : ℕ) (old new : List ℕ) (len : length old ≡ length new) where
             ∙ h.changes_are;
       }
 
+  -- behind the end nothing is left
   drop_end : {A : Type 0} (xs : List A) (k : ℕ) → length xs ≤ k → drop k xs ≡ []
   drop_end [] zero h = refl
   drop_end [] (suc k) h = refl
   drop_end (x ∷ xs) zero h = absurd (omega (arith, h))
   drop_end (x ∷ xs) (suc k) h = drop_end xs k (omega (arith, h))
 
+  -- nothing more
   append_none : {A : Type 0} (xs : List A) → xs ++ [] ≡ xs
   append_none [] = refl
   append_none (x ∷ xs) = ap (λ l. x ∷ l) (append_none xs)

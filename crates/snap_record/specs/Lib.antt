@@ -2,3 +2,4 @@ pub mod Record
 pub mod History
 pub mod SeenDeed
 pub mod Searches
+pub mod Names

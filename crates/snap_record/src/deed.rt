@@ -5,6 +5,8 @@ ghost use Rattle.snap_semantics.specs.Source.{instr_at};
 ghost use Rattle.snap_semantics.specs.State.{process_at, value_at};
 ghost use Rattle.snap_semantics.specs.Table.{who};
 ghost use Rattle.snap_runs.specs.Deeds.{deed_at, deed_of, line_deed, returned};
+ghost use Rattle.snap_semantics.specs.RightUses.{HasRightUses};
+ghost use Rattle.snap_record.specs.Names.{Lacks, ViewsAlone};
 ghost use Rattle.snap_record.specs.SeenDeed.{seen_deed};
 
 use snap_machine::{Local, Machine};
@@ -22,25 +24,29 @@ pub enum Deed {
 }
 
 /// What a line `return` does with a view.
-fn returned(alloc: Global, view: &View, activity: &Activity) -> Result<Deed, AllocError>
+fn returned(alloc: Global, view: &[u64], activity: &Activity) -> Result<Deed, AllocError>
     ensures { IfOk result (λ d. seen_deed d ≡ returned view.now activity.now.op activity.now.link) }
 {
     match (activity.op, activity.link) {
-        (Op::Scan, None) => Ok(Deed::Answer(view.copy(alloc)?)),
+        (Op::Scan, None) => Ok(Deed::Answer(View::of(Vec::from_slice(alloc, view)?))),
         (Op::Scan, Some(_)) => Ok(Deed::Nothing),
         (Op::Update { .. }, _) => Ok(Deed::Nothing),
     }
 }
 
-/// The view of a process that has this name.
-#[tactic(auto, using(crate::proofs::Locals::view_named))]
-fn view_named<K: Kind>(machine: &Machine<K>, i: u32, name: Name) -> Result<&View, AllocError>
-    requires { IsOneOf machine.now.shape.n i }
-    ensures { IfOk result (λ v. v.now ≡ value_at name (process_at machine.now.state i).locals.views []) }
+/// The view of a process that has this name, where no other local has it.
+#[tactic(auto, using(crate::proofs::Locals::view_named, crate::proofs::Locals::no_number, crate::proofs::Locals::no_row, crate::proofs::Locals::no_words, crate::proofs::Locals::none_there))]
+fn view_named<K: Kind>(machine: &Machine<K>, i: u32, name: Name) -> &[u64]
+    requires process { IsOneOf machine.now.shape.n i }
+    requires alone { Lacks name (process_at machine.now.state i).locals }
+    ensures { result.now ≡ value_at name (process_at machine.now.state i).locals.views [] }
 {
     match machine.local(i, name) {
-        Some(Local::View(view)) => Ok(view),
-        _ => Err(AllocError),
+        Some(Local::View(view)) => view.as_slice(),
+        Some(Local::Number(_)) => &[],
+        Some(Local::Row(_)) => &[],
+        Some(Local::Words(_)) => &[],
+        None => &[],
     }
 }
 
@@ -52,20 +58,23 @@ fn line_deed<K: Kind>(
     activity: &Activity,
     instr: &Instr,
 ) -> Result<Deed, AllocError>
-    requires { IsOneOf machine.now.shape.n i }
+    requires process { IsOneOf machine.now.shape.n i }
+    requires right { HasRightUses machine.now.source instr.now }
+    requires alone { ViewsAlone machine.now.source machine.now.state }
     ensures { IfOk result (λ d. seen_deed d ≡ line_deed activity.now (process_at machine.now.state i).locals instr.now) }
 {
     match instr {
         Instr::Put(_, _) => Ok(Deed::Write),
         Instr::IfAll(_, _, _) => Ok(Deed::Test),
-        Instr::Return(name) => returned(alloc, view_named(machine, i, *name)?, activity),
+        Instr::Return(name) => returned(alloc, view_named(machine, i, *name), activity),
         _ => Ok(Deed::Nothing),
     }
 }
 
 /// What an item is to do.
 pub fn deed_of<K: Kind>(alloc: Global, machine: &Machine<K>, item: Item) -> Result<Deed, AllocError>
-    requires { IsOneOf machine.now.shape.n (who item) }
+    requires process { IsOneOf machine.now.shape.n (who item) }
+    requires alone { ViewsAlone machine.now.source machine.now.state }
     ensures { IfOk result (λ d. seen_deed d ≡ deed_of machine.now.source machine.now.state item) }
 {
     let Item::Step(i) = item else {

@@ -1,3 +1,4 @@
 pub mod Samples
 pub mod ImageSamples
 pub mod OutputSamples
+pub mod KindSamples

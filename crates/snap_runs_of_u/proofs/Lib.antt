@@ -18,4 +18,3 @@ pub mod Lenders
 pub mod CleanTests
 pub mod Linear
 pub mod WaitFree
-pub mod LinearSample

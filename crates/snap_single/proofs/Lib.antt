@@ -1,2 +1,3 @@
 pub mod TextOfU
 pub mod Samples
+pub mod LinearSample

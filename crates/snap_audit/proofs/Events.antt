@@ -22,6 +22,7 @@ use Rattle.snap_runs.specs.declared.verdict.Verdict.{Verdict}
 use Rattle.snap_runs.proofs.Embedding.{all_index}
 use Rattle.snap_record.specs.Record.{events_of}
 use Rattle.snap_record.proofs.Events.{events_from, next_events, no_events, all_events}
+use Rattle.snap_record.proofs.Searches.{and_false}
 use Rattle.snap_audit.specs.Sweep.{by_events}
 
 -- a step calls nothing
@@ -52,11 +53,6 @@ module _ (r : Run) (fits : Fits r) where
       joined (suc t) more u (omega (arith, e)) ∙ append_assoc (verdicts r t) (verdict_at r (suc t) (outcome r (suc t))) (verdicts_from (suc t) more)
 
   -- an item that calls nothing leaves the last calls
-  and_false : {A : Type 0} (b : Bool) (x y : A) → (if b && false then x else y) ≡ y
-  and_false true x y = refl
-  and_false false x y = refl
-
-  -- where an item calls nothing
   last_kept : (i t : ℕ) (o : Outcome) → outcome r (suc t) ≡ o → is_called o ≡ false → last_call r i (suc t) ≡ last_call r i t
   last_kept i t o is quiet =
       ap (λ (y : Outcome). if nat_eq (who (item r (suc t))) i && is_called y then suc t else last_call r i t) is

@@ -23,7 +23,7 @@ use Rattle.snap_record.proofs.Counts.{count_split}
 use Rattle.snap_record.proofs.Events.{next_left, events_after, events_from, next_events, no_events, all_events, all_within_run}
 
 -- a choice that is not made
-and_false : {A : Type 0} (b : Bool) (x y : A) → (if b && false then x else y) ≡ y
+pub and_false : {A : Type 0} (b : Bool) (x y : A) → (if b && false then x else y) ≡ y
 and_false true x y = refl
 and_false false x y = refl
 

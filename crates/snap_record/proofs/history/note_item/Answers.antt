@@ -1,4 +1,4 @@
-use Rattle.std.proofs.Common.{◌≡◌, append-nil, sym, ◌∙◌, ap, ◌++◌}
+use Rattle.std.proofs.Common.{append-nil, sym, ◌∙◌, ap, ◌++◌}
 use Rattle.snap_record.specs.History.{changes_to}
 use Rattle.snap_record.proofs.Recording.{none_changed}
 use Rattle.snap_record.proofs.history.note_item.Goals as goal

@@ -27,8 +27,15 @@ fn status_of(fault: &ConductFault) -> u8
 
 /// Says why nothing, or not all, was written, and gives the status of that. Where standard error does not take it, nothing is said.
 fn complain(rt: &HostRuntime, fault: &ConductFault) -> u8 {
-    if let Ok(line) = fault_line(rt.alloc(), fault) {
-        let _said = rt.stderr().write_all(line.as_slice());
+    match (fault, fault_line(rt.alloc(), fault)) {
+        (_, Ok(line)) => {
+            let _said = rt.stderr().write_all(line.as_slice());
+        }
+        // There may be no memory for its line either.
+        (ConductFault::Memory, Err(_)) => {
+            let _said = rt.stderr().write_all(b"refused: Memory\n");
+        }
+        (_, Err(_)) => {}
     }
     status_of(fault)
 }

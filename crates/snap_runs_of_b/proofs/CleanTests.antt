@@ -16,7 +16,7 @@ use Rattle.snap_runs.proofs.Held.{seq_at}
 use Rattle.snap_runs.proofs.ItemCases.{moved}
 use Rattle.snap_runs_of_b.specs.Promises.{run_of, double_collect, PassedTestsAreClean}
 use Rattle.snap_runs_of_b.proofs.Algorithm.{Registers, Move, Process, Variables, ProgramCounter, L10, L11, L12, L13, L14, L15, L16, L17, L18, L19, L20, L21, L22, L23, L25, L26, L27, L28, L40, L41, L42, L43, L44, L45, L46, L47, number, agree, at_limit, move, first_to, counter, restarts, IsLineOf, lines, algorithm}
-use Rattle.snap_runs_of_b.proofs.Collect.{equal_counts}
+use Rattle.snap_runs_of_b.proofs.PassedTests.{equal_counts}
 use Rattle.snap_runs_of_b.proofs.Control.{VariablesAt}
 use Rattle.snap_runs_of_b.proofs.Flows.{numbered, listed, writer}
 use Rattle.snap_runs_of_b.proofs.Runs.{words_at, registers_at, process_after, invariant, invariant_of, execution, stage_of, counts_of}

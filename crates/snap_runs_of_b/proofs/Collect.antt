@@ -234,7 +234,7 @@ copies_follow n i history t since round words p h k ik =
     follows_trans (word_at p.a k) (word_at (history h.0) k) (word_at p.b k) (s.first k ik).before (s.read k ik (omega arith)).after
 
 -- copies that agree have equal counts
-agreed : (a b : Word) (mark bit i : ℕ) → Follows a b → mark ≤ a.seq → (mark + 2 ≤ b.seq → hand_at b i ≡ bit → ⊥) → hand_at b i ≡ bit →
+pub agreed : (a b : Word) (mark bit i : ℕ) → Follows a b → mark ≤ a.seq → (mark + 2 ≤ b.seq → hand_at b i ≡ bit → ⊥) → hand_at b i ≡ bit →
     a.toggle ≡ b.toggle → b.seq ≤ a.seq
 agreed a b mark bit i f marked late hand toggle =
     elim (cases_lt a.seq b.seq) [
@@ -243,12 +243,12 @@ agreed a b mark bit i f marked late hand toggle =
     ]
 
 -- what line 20 tests of one process
-record Agreed (i : ℕ) (p : Variables) (k : ℕ) : Type 0 where
-  hand_a : hand_at (word_at p.a k) i ≡ place p.g k
-  hand_b : hand_at (word_at p.b k) i ≡ place p.g k
-  toggles : (word_at p.a k).toggle ≡ (word_at p.b k).toggle
+pub record Agreed (i : ℕ) (p : Variables) (k : ℕ) : Type 0 where
+  pub hand_a : hand_at (word_at p.a k) i ≡ place p.g k
+  pub hand_b : hand_at (word_at p.b k) i ≡ place p.g k
+  pub toggles : (word_at p.a k).toggle ≡ (word_at p.b k).toggle
 
-agreed_of : (i : ℕ) (p : Variables) (k : ℕ) → agree i p k ≡ true → Agreed i p k
+pub agreed_of : (i : ℕ) (p : Variables) (k : ℕ) → agree i p k ≡ true → Agreed i p k
 agreed_of i p k h =
     let same = both (nat_eq (hand_at (word_at p.a k) i) (place p.g k)) (nat_eq (hand_at (word_at p.b k) i) (place p.g k) && nat_eq (word_at p.a k).toggle (word_at p.b k).toggle) h in
     let rest = both (nat_eq (hand_at (word_at p.b k) i) (place p.g k)) (nat_eq (word_at p.a k).toggle (word_at p.b k).toggle) same.1 in
@@ -257,35 +257,6 @@ agreed_of i p k h =
       hand_b = same_from (hand_at (word_at p.b k) i) (place p.g k) rest.0;
       toggles = same_from (word_at p.a k).toggle (word_at p.b k).toggle rest.1;
     }
-
--- a passed test: both copies of a word have equal counts
-pub equal_counts : (n i : ℕ) (history : ℕ → Words) (t since round : ℕ) (words : Words) (p : Variables) →
-    Between n i history t since round words p.g p.marks p.a p.b (n + 1) → all_true (map (agree i p) (places_to n)) ≡ true →
-    (k : ℕ) → IsOneOf n k → seq_at p.a k ≡ seq_at p.b k
-equal_counts n i history t since round words p h test k ik =
-    let s : Second n i history t since round words p.g p.marks p.a p.b (n + 1) (history h.0) = h.3 in
-    let says : Agreed i p k = agreed_of i p k (all_pass (agree i p) 1 n test k (omega arith) (omega arith)) in
-    let follows = copies_follow n i history t since round words p h k ik in
-    let le : seq_at p.a k ≤ seq_at p.b k = follows_seq (word_at p.a k) (word_at p.b k) follows in
-    let ge : seq_at p.b k ≤ seq_at p.a k =
-    agreed (word_at p.a k) (word_at p.b k) (place p.marks k) (place p.g k) i follows (s.first k ik).marked (s.read k ik (omega arith)).late
-    says.hand_b (let same : (word_at p.a k).toggle ≡ (word_at p.b k).toggle = omega arith in same) in
-    omega arith
-
--- so the second collect is the words between the collects
-pub passed : (n i : ℕ) (history : ℕ → Words) (t since round : ℕ) (words : Words) (p : Variables) → ((u : ℕ) → u ≤ t → length (history u) ≡ n) →
-    n ≤ length p.b →
-    Between n i history t since round words p.g p.marks p.a p.b (n + 1) → all_true (map (agree i p) (places_to n)) ≡ true →
-    Held history t since (data_of (take n p.b))
-passed n i history t since round words p lengths len h test =
-    let s : Second n i history t since round words p.g p.marks p.a p.b (n + 1) (history h.0) = h.3 in (
-      h.0,
-      h.1,
-      h.2,
-      same_data n (history h.0) p.b (lengths h.0 h.2) len (λ k ik.
-          let equal : seq_at p.a k ≡ seq_at p.b k = equal_counts n i history t since round words p h test k ik in
-          squeezed (word_at p.a k) (word_at (history h.0) k) (word_at p.b k) (s.first k ik).before (s.read k ik (omega arith)).after (omega arith)),
-    )
 
 equal : (x y : ℕ) → x ≡ y → nat_eq x y ≡ true
 equal x y e = ap (λ z. nat_eq x z) (sym e) ∙ same_number x

@@ -4,6 +4,7 @@ pub mod Control
 pub mod Flows
 pub mod Follow
 pub mod Collect
+pub mod PassedTests
 pub mod Stage
 pub mod Handshake
 pub mod Count

@@ -14,7 +14,8 @@ use Rattle.snap_runs_of_b.proofs.Algorithm.{Words, Registers, Move, Variables, P
 use Rattle.snap_runs_of_b.proofs.Control.{VariablesAt, Sized}
 use Rattle.snap_runs_of_b.proofs.Lines.{Bits, SaysBits}
 use Rattle.snap_runs_of_b.proofs.Follow.{Follows, follows_trans, follows_seq, Grows}
-use Rattle.snap_runs_of_b.proofs.Collect.{floor, Low, Drawn, Put, PutTo, Late, First, Viewed, Second, Between, Gained, word_set, place_set, place_kept, put_drawn, just_drawn, put_more, first_more, second_starts, second_more, copies_follow, passed, moved_since, gained_at}
+use Rattle.snap_runs_of_b.proofs.Collect.{floor, Low, Drawn, Put, PutTo, Late, First, Viewed, Second, Between, Gained, word_set, place_set, place_kept, put_drawn, just_drawn, put_more, first_more, second_starts, second_more, copies_follow, moved_since, gained_at}
+use Rattle.snap_runs_of_b.proofs.PassedTests.{passed}
 
 -- The copy of the word at place j was read since the double collect's start.
 abbrev pub Copied : Words → Words → Words → ℕ → Type 0

@@ -1,5 +1,4 @@
 -- The handshake and the two collects of a double collect of M, and what a scan learns of them.
-use Rattle.snap_runs.proofs.Computing.{both, same_from}
 use Rattle.std.specs.Prelude.{◌≡◌, ◌≢◌, ℕ, suc, ◌+◌, ◌-◌, ◌<◌, ◌≤◌, true, false, List, take, length, slice_set, refl}
 use Rattle.std.proofs.Common.{sym, ◌∙◌, ap, subst, arith, inl, inr}
 use Rattle.std.proofs.lemmas.Bool.{cases_eq}
@@ -12,6 +11,7 @@ use Rattle.snap_runs.proofs.Held.{word_at, seq_at, Held, data_of, WordBefore, sq
 use Rattle.snap_runs_of_m.proofs.Algorithm.{Words, Registers, place, bit, same_words, same_at, view_at}
 use Rattle.snap_runs_of_m.proofs.Basics.{less_or_not, set_here, set_there}
 use Rattle.snap_runs_of_m.proofs.History.{words_of, id_at, Laws}
+use Rattle.snap_runs_of_m.proofs.SameWords.{Alike, alike_of}
 
 -- In all that follows `history u` are the registers after u items, t is the number of items so far, and `me` the process.
 
@@ -279,19 +279,6 @@ module _ (n w me : ℕ) (history : ℕ → Registers) (from : ℕ) where
       | inr other ↦ subst (ReadBit history x.ended t me c) (sym (set_there h j c v one.0 o.0 other)) (x.lates c o (omega arith))
     ];
   }
-
--- what line 26 compares of the two copies of a word
-record Alike (x y : Word) : Type 0 where
-  ids : x.id ≡ y.id
-  toggles : x.toggle ≡ y.toggle
-
-alike_of : (x y : Word) → same_words x y ≡ true → Alike x y
-alike_of x y same =
-    let parts = both _ _ same in
-    record {
-      ids = same_from x.id y.id parts.0;
-      toggles = same_from x.toggle y.toggle parts.1;
-    }
 
 same_self : (x : Word) → same_words x x ≡ true
 same_self x = grind (arith, common_steps)

@@ -4,6 +4,7 @@ pub mod Lines
 pub mod History
 pub mod Control
 pub mod Flows
+pub mod SameWords
 pub mod Collect
 pub mod Stage
 pub mod Count

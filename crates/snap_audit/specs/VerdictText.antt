@@ -1,5 +1,7 @@
 -- The printed text of a verdict.
-use Rattle.std.specs.Prelude.{ℕ, List, ◌++◌, Option, Some, None, codes, decimal}
+use Rattle.std.specs.Prelude.{ℕ, List, [], ◌∷◌, ◌++◌, Option, Some, None, codes, decimal}
+use Rattle.snap_runs.specs.Audit.{audit}
+use Rattle.snap_runs.specs.Run.{Run}
 use Rattle.snap_runs.specs.declared.verdict.Verdict.{Verdict}
 
 -- a point, or that there is none
@@ -12,3 +14,11 @@ abbrev pub verdict_line : Verdict → List ℕ
 verdict_line v =
     codes "scan " ++ decimal v.process ++ codes " call " ++ decimal v.call ++ codes " answer " ++ decimal v.answer ++ codes " point " ++ point_text v.point
     ++ codes " collects " ++ decimal v.collects ++ codes "\n"
+
+abbrev pub verdict_lines : List Verdict → List ℕ
+verdict_lines [] = []
+verdict_lines (v ∷ vs) = verdict_line v ++ verdict_lines vs
+
+-- the verdicts of a run
+abbrev pub audit_text : Run → List ℕ
+audit_text r = verdict_lines (audit r)

@@ -1,1 +1,2 @@
 pub mod ReportLines
+pub mod OutcomeText

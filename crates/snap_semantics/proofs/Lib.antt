@@ -1,4 +1,2 @@
 pub mod Samples
 pub mod ImageSamples
-pub mod OutputSamples
-pub mod KindSamples

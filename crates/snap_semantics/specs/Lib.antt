@@ -29,7 +29,3 @@ pub mod ImageInstrs
 pub mod ImageListing
 pub mod Assembly
 pub mod Report
-pub mod CommandForms
-pub mod Commands
-pub mod Perform
-pub mod Output

@@ -66,11 +66,11 @@ impl From<Refusal> for Fault<Refusal> {
     }
 }
 
-impl From<CommandRefusal> for Fault<Refusal> {
-    ghost from_gives = { λ found fault. fault ≡ Refused (refusal.Commands found) };
+impl From<CommandRefusal> for Fault<CommandRefusal> {
+    ghost from_gives = { λ refusal fault. fault ≡ Refused refusal };
 
-    fn from(refusal: CommandRefusal) -> Fault<Refusal> {
-        Fault::Refused(Refusal::Commands(refusal))
+    fn from(refusal: CommandRefusal) -> Fault<CommandRefusal> {
+        Fault::Refused(refusal)
     }
 }
 
@@ -103,6 +103,17 @@ impl From<Fault<ScheduleRefusal>> for Fault<Refusal> {
         match fault {
             Fault::Memory => Fault::Memory,
             Fault::Refused(refusal) => Fault::Refused(Refusal::Schedule(refusal)),
+        }
+    }
+}
+
+impl From<Fault<CommandRefusal>> for Fault<Refusal> {
+    ghost from_gives = { λ found fault. fault ≡ fault_as refusal.Commands found };
+
+    fn from(fault: Fault<CommandRefusal>) -> Fault<Refusal> {
+        match fault {
+            Fault::Memory => Fault::Memory,
+            Fault::Refused(refusal) => Fault::Refused(Refusal::Commands(refusal)),
         }
     }
 }

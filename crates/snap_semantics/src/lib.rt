@@ -19,4 +19,4 @@ pub use instr::{
 pub use name::Name;
 pub use process::{Activity, Cause, Item, Op, Outcome, Reason, Status};
 pub use refusal::{CommandRefusal, ImageRefusal, ListingRefusal, Refusal, ScheduleRefusal};
-pub use text::{Command, Mark, Sort, Subcommand, Task};
+pub use text::{Mark, Sort};

@@ -57,12 +57,27 @@ pub enum ScheduleRefusal {
     NoSuchProcess(u64),
 }
 
-/// Why a text of commands is refused. The number is that of a text line, from 1.
+/// Why a text of commands, or a command, is refused.
 #[derive(Clone, Copy, Debug, PartialEq, Eq, Error)]
 pub enum CommandRefusal {
-    /// No form of a command.
+    /// No form of a command. The number is that of a text line, from 1.
     #[error("G1 BadCommand {0}")]
     BadCommand(u64),
+    /// No line of the listing has this number.
+    #[error("G2 NoSuchLine")]
+    NoSuchLine,
+    /// A process that is not there.
+    #[error("G3 NoSuchProcess")]
+    NoSuchProcess,
+    /// A register that is not there.
+    #[error("G4 NoSuchRegister")]
+    NoSuchRegister,
+    /// A position behind the last item.
+    #[error("G5 NoSuchPosition")]
+    NoSuchPosition,
+    /// A 65th mark.
+    #[error("G6 TooManyMarks")]
+    TooManyMarks,
     /// More than 1,048,576 bytes, or more than 10,000 commands.
     #[error("G7 TooLong")]
     TooLong,

@@ -1,0 +1,18 @@
+-- The texts of refused commands.
+use Rattle.std.specs.Prelude.{ℕ, List, ◌++◌, codes, decimal}
+use Rattle.snap_semantics.specs.declared.refusal.CommandRefusal.{CommandRefusal}
+use Rattle.snap_semantics.specs.declared.refusal.CommandRefusal.TheVariants as refusal
+
+-- the code of a refusal, its name and its number
+abbrev pub refusal_text : CommandRefusal → List ℕ
+refusal_text (refusal.BadCommand line) = codes "G1 BadCommand " ++ decimal line
+refusal_text refusal.NoSuchLine = codes "G2 NoSuchLine"
+refusal_text refusal.NoSuchProcess = codes "G3 NoSuchProcess"
+refusal_text refusal.NoSuchRegister = codes "G4 NoSuchRegister"
+refusal_text refusal.NoSuchPosition = codes "G5 NoSuchPosition"
+refusal_text refusal.TooManyMarks = codes "G6 TooManyMarks"
+refusal_text refusal.TooLong = codes "G7 TooLong"
+
+-- the reply to a command that is refused
+abbrev pub refusal_line : CommandRefusal → List ℕ
+refusal_line r = codes "refused: " ++ refusal_text r ++ codes "\n"

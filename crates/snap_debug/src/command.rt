@@ -1,0 +1,33 @@
+//! What the debugger is asked.
+use snap_words::Address;
+
+/// A line at which a process is to stop. Both are as they were written: neither need be there.
+#[derive(Clone, Copy, Debug, PartialEq, Eq)]
+pub struct Breakpoint {
+    pub process: u64,
+    pub line: u64,
+}
+
+/// A command of the debugger.
+#[derive(Clone, Copy, Debug, PartialEq, Eq)]
+pub enum Command {
+    /// So many items on.
+    Step(u64),
+    /// So many items back.
+    Back(u64),
+    /// To a position.
+    Goto(u64),
+    /// On to the next stop.
+    Run,
+    /// Back to the last stop.
+    ReverseRun,
+    Break(Breakpoint),
+    Clear(Breakpoint),
+    Watch(Address),
+    Unwatch(Address),
+    ShowRegister(Address),
+    ShowProcess(u64),
+    Values,
+    Events,
+    Where,
+}

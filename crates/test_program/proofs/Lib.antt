@@ -1,0 +1,3 @@
+pub mod RunSamples
+pub mod KindSamples
+pub mod OutputSamples

@@ -1,4 +1,3 @@
-pub mod Courses
 pub mod Loads
 pub mod Runs
 pub mod Splits

@@ -8,10 +8,9 @@ use Rattle.snap_semantics.specs.declared.refusal.ListingRefusal.{ListingRefusal}
 use Rattle.snap_semantics.specs.declared.refusal.ListingRefusal.TheVariants as listing
 use Rattle.snap_semantics.specs.declared.refusal.ScheduleRefusal.{ScheduleRefusal}
 use Rattle.snap_semantics.specs.declared.refusal.ScheduleRefusal.TheVariants as schedule
-use Rattle.snap_semantics.specs.declared.refusal.CommandRefusal.{CommandRefusal}
-use Rattle.snap_semantics.specs.declared.refusal.CommandRefusal.TheVariants as commands
 use Rattle.snap_semantics.specs.declared.refusal.Refusal.{Refusal}
 use Rattle.snap_semantics.specs.declared.refusal.Refusal.TheVariants as refusal
+use Rattle.snap_debug.specs.FaultText.{refusal_text as command_refusal_text}
 use Rattle.snap_program.specs.declared.fault.ConductFault.{ConductFault}
 use Rattle.snap_program.specs.declared.fault.ConductFault.TheVariants as fault
 
@@ -46,10 +45,6 @@ schedule_refusal_text schedule.BadShape = codes "S2 BadShape"
 schedule_refusal_text (schedule.BadItem line) = numbered (codes "S3 BadItem") line
 schedule_refusal_text (schedule.TooManyItems line) = numbered (codes "S4 TooManyItems") line
 schedule_refusal_text (schedule.NoSuchProcess line) = numbered (codes "S5 NoSuchProcess") line
-
-abbrev pub command_refusal_text : CommandRefusal → List ℕ
-command_refusal_text (commands.BadCommand line) = numbered (codes "G1 BadCommand") line
-command_refusal_text commands.TooLong = codes "G7 TooLong"
 
 abbrev pub word_fault_text : WordFault → List ℕ
 word_fault_text words.BadShape = codes "W1 BadShape"

@@ -1,5 +1,7 @@
 pub mod CommandsInTurn
 pub mod Conducts
 pub mod FaultText
-pub mod Courses
+pub mod Parts
+pub mod Perform
 pub mod Replies
+pub mod Output

@@ -1,5 +1,5 @@
 -- What the program writes for what it reads, or why it refuses.
-use Rattle.std.specs.Prelude.{ℕ, ◌+◌, nat_eq, nat_lt, List, ◌++◌, length, drop, Result, Ok, Err, codes, decimal, if◌then◌else◌}
+use Rattle.std.specs.Prelude.{ℕ, nat_eq, nat_lt, List, ◌++◌, length, drop, Result, Ok, Err, codes, decimal, if◌then◌else◌}
 use Rattle.snap_words.specs.declared.kind.KindTag.{KindTag}
 use Rattle.snap_words.specs.declared.kind.KindTag.TheVariants as kind
 use Rattle.snap_semantics.specs.declared.refusal.Refusal.{Refusal}
@@ -12,9 +12,10 @@ use Rattle.snap_semantics.specs.Spelling.{kind_word}
 use Rattle.snap_runs_of_u.specs.ListingU.{listing_u}
 use Rattle.snap_runs_of_b.specs.ListingB.{listing_b}
 use Rattle.snap_runs_of_m.specs.ListingM.{listing_m}
+use Rattle.snap_record.specs.Record.{run_over}
 use Rattle.snap_audit.specs.VerdictText.{audit_text}
 use Rattle.snap_program.specs.Parts.{part, parts_of}
-use Rattle.snap_program.specs.Perform.{perform_listing, run_over, schedule_for}
+use Rattle.snap_program.specs.Perform.{perform_listing, schedule_for}
 use Rattle.snap_program.specs.declared.task.Subject.{Subject}
 use Rattle.snap_program.specs.declared.task.Subject.TheVariants as subject
 use Rattle.snap_program.specs.declared.task.Task.{Task}
@@ -36,12 +37,16 @@ abbrev pub texts_for : Subject → List (List ℕ) → List (List ℕ)
 texts_for subject.FirstPart parts = drop 1 parts
 texts_for (subject.Shipped g) parts = parts
 
+-- so many texts behind the listing
+abbrev pub checked_parts : Subject → (count : ℕ) → List (List ℕ) → Result (Unit {0}) Refusal
+checked_parts s count parts = if nat_eq (length (texts_for s parts)) count then Ok tt else Err (refusal.WrongParts (length parts))
+
 -- a task on a listing and so many texts
 unfoldable pub parted : Subject → (count : ℕ) → List (List ℕ) → (Source → List (List ℕ) → Result (List ℕ) Refusal) → Result (List ℕ) Refusal
-parted s count parts f =
-    if nat_eq (length (texts_for s parts)) count
-    then listing_for s parts >>= λ l. f l (texts_for s parts)
-    else Err (refusal.WrongParts (length parts))
+parted s count parts f = do
+  there ← checked_parts s count parts
+  l ← listing_for s parts
+  f l (texts_for s parts)
 
 -- a schedule, with the one command `run`
 abbrev pub run_text : Source → List (List ℕ) → Result (List ℕ) Refusal

@@ -8,13 +8,9 @@ use Rattle.snap_semantics.specs.Answers.{◌>>=◌, refused_as}
 use Rattle.snap_semantics.specs.Listing.{listing_of}
 use Rattle.snap_semantics.specs.Schedule.{Schedule, schedule_of}
 use Rattle.snap_semantics.specs.Source.{Source}
-use Rattle.snap_runs.specs.Run.{Run}
+use Rattle.snap_record.specs.Record.{run_over}
 use Rattle.snap_debug.specs.Commands.{commands_of}
 use Rattle.snap_debug.specs.Session.{performance}
-
--- the run of a listing under a schedule
-abbrev pub run_over : Source → Schedule → Run
-run_over l s = record { source = l; shape = s.shape; items = s.items }
 
 -- a schedule whose shape fits the kind of the listing
 abbrev pub fitting : Source → Schedule → Result Schedule Refusal

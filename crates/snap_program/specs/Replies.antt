@@ -1,8 +1,10 @@
--- The replies to commands.
+-- A command's reply, written behind the command.
 use Rattle.std.specs.Prelude.{ℕ, List, ◌++◌, codes}
-use Rattle.snap_semantics.specs.Perform.{command_text, reply_text}
-use Rattle.snap_semantics.specs.declared.text.Command.{Command}
+use Rattle.snap_semantics.specs.Layout.{line_text}
+use Rattle.snap_debug.specs.CommandForms.{spelled_command}
+use Rattle.snap_debug.specs.Session.{Session, answer}
+use Rattle.snap_debug.specs.declared.command.Command.{Command}
 
--- a command behind `> `, and its reply
-abbrev pub command_reply : ℕ → ℕ → Command → List ℕ
-command_reply total position c = codes "> " ++ command_text c ++ codes "\n" ++ reply_text total position c
+-- a command behind `> `, and what a session answers to it
+abbrev pub command_reply : Session → Command → List ℕ
+command_reply s c = codes "> " ++ line_text (spelled_command c) ++ (answer s c).1

@@ -1,14 +1,14 @@
 //! A whole run of the program.
 ghost use Rattle.std.specs.Prelude.{◌≡◌, ◌≤◌, ◌<◌, ◌++◌, ◌⊎◌, ℕ, List, [], true, false, length, take, IfOk, IfErr, OnOk, OnErr, MatchResult};
 ghost use Rattle.std.specs.Io.KnownBytes.{Consumes, Appends, IsAtEnd};
-ghost use Rattle.snap_semantics.specs.Output.{output_of};
+ghost use Rattle.snap_program.specs.Output.{output_of};
 ghost use Rattle.snap_program.specs.Conducts.{Reads, Sends, Conducts};
 
 use crate::fault::ConductFault;
 use crate::output::{MAX_INPUT, output};
 use crate::sink::Sink;
 use crate::source::Source;
-use snap_semantics::Task;
+use crate::task::Task;
 use std::alloc::Global;
 
 /// The bytes of one read.

@@ -5,14 +5,14 @@ ghost use Rattle.snap_program.specs.FaultText.{
   listing_refusal_text,
   image_refusal_text,
   schedule_refusal_text,
-  command_refusal_text,
   word_fault_text,
   refusal_text,
   fault_text,
 };
 
 use crate::fault::ConductFault;
-use snap_semantics::{CommandRefusal, ImageRefusal, ListingRefusal, Refusal, ScheduleRefusal};
+use snap_debug::push_refusal as push_command_refusal;
+use snap_semantics::{ImageRefusal, ListingRefusal, Refusal, ScheduleRefusal};
 use snap_text::{push_number, push_text};
 use snap_words::WordFault;
 use std::alloc::{AllocError, Global};
@@ -69,15 +69,6 @@ fn push_schedule_refusal(out: &mut Vec<u8>, refusal: &ScheduleRefusal) -> Result
         ScheduleRefusal::BadItem(line) => push_numbered(out, b"S3 BadItem", *line),
         ScheduleRefusal::TooManyItems(line) => push_numbered(out, b"S4 TooManyItems", *line),
         ScheduleRefusal::NoSuchProcess(line) => push_numbered(out, b"S5 NoSuchProcess", *line),
-    }
-}
-
-fn push_command_refusal(out: &mut Vec<u8>, refusal: &CommandRefusal) -> Result<(), AllocError>
-    ensures { OnOk result (out.new.items ≡ out.old.items ++ command_refusal_text refusal.now) }
-{
-    match refusal {
-        CommandRefusal::BadCommand(line) => push_numbered(out, b"G1 BadCommand", *line),
-        CommandRefusal::TooLong => push_text(out, b"G7 TooLong"),
     }
 }
 

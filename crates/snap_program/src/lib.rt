@@ -1,10 +1,9 @@
-//! What the program does between a source of bytes and a sink: whole runs, from texts to a report.
+//! What the program does between a source of bytes and a sink: whole runs, from texts to what is written.
 #![tactic(auto)]
 
+mod auditing;
 mod checking;
-mod commands;
 mod conducting;
-mod course;
 mod fault;
 mod fault_text;
 mod images;
@@ -14,6 +13,8 @@ mod performing;
 mod sink;
 mod source;
 mod standard;
+mod subject;
+mod task;
 
 pub use conducting::{conduct, write_all};
 pub use fault::ConductFault;
@@ -23,6 +24,8 @@ pub use performing::perform;
 pub use sink::Sink;
 pub use source::Source;
 pub use standard::Std;
+pub use subject::shipped;
+pub use task::{Subject, Task};
 
 /// The device failed.
 #[derive(Clone, Copy, Debug)]

@@ -1,27 +1,19 @@
 //! A listing under a schedule, with debugger commands.
 ghost use Rattle.std.specs.Prelude.{◌≡◌, ◌++◌, IfOk, OnOk};
+ghost use Rattle.snap_record.specs.Record.{run_over};
 ghost use Rattle.snap_semantics.specs.Answers.{Answers, refused_as};
-ghost use Rattle.snap_semantics.specs.Perform.{
-  command_text,
-  perform_listing,
-  perform_of,
-  performance,
-  position_after,
-  reached,
-  replies_text,
-  reply_text,
-};
 ghost use Rattle.snap_semantics.specs.Schedule.{schedule_of};
 ghost use Rattle.snap_semantics.specs.declared.refusal.Refusal.TheVariants as refusal;
+ghost use Rattle.snap_debug.specs.Commands.{commands_of};
+ghost use Rattle.snap_debug.specs.Session.{answer, performance};
+ghost use Rattle.snap_program.specs.Perform.{perform_listing, perform_of, schedule_for};
 ghost use Rattle.snap_program.specs.Replies.{command_reply};
 
-use crate::commands::read_commands;
-use crate::course::Course;
 use crate::images::program_of;
-use snap_asm::Program;
-use snap_report::{position_line, report};
+use snap_code::Program;
+use snap_debug::{Command, Session, push_command, push_refusal_line};
 use snap_sched::Schedule;
-use snap_semantics::{Command, Fault, Refusal};
+use snap_semantics::{Fault, Refusal};
 use snap_text::push_text;
 use snap_words::{Bits, Kind, KindTag, Multi, Seq, WordFault};
 use std::alloc::{AllocError, Global};
@@ -33,66 +25,47 @@ fn read_schedule(alloc: Global, text: &[u8]) -> Result<Schedule, Fault<Refusal>>
     Ok(snap_sched::read(alloc, text)?)
 }
 
-/// The position that a command leads to.
-fn position_after(total: u64, position: u64, command: Command) -> u64
-    ensures { result ≡ position_after total position command }
+/// Reads commands.
+fn read_commands(alloc: Global, text: &[u8]) -> Result<Vec<Command>, Fault<Refusal>>
+    ensures { Answers (λ commands. commands.items) result (refused_as refusal.Commands (commands_of text.now)) }
 {
-    let _before = position;
-    match command {
-        Command::Run => total,
-    }
+    Ok(snap_debug::read_commands(alloc, text)?)
 }
 
-/// A command.
-fn command_text(out: &mut Vec<u8>, command: Command) -> Result<(), AllocError>
-    ensures { OnOk result (out.new.items ≡ out.old.items ++ command_text command) }
+/// Reads a schedule whose shape fits the kind of a program.
+#[tactic(auto, unfolding(snap_program::specs::Perform::schedule_for))]
+pub fn schedule_for<K: Kind>(
+    alloc: Global,
+    program: &Program,
+    text: &[u8],
+) -> Result<Schedule, Fault<Refusal>>
+    requires { program.now.kind ≡ K.TAG }
+    ensures { Answers (λ s. s) result (schedule_for program.now text.now) }
 {
-    match command {
-        Command::Run => push_text(out, b"run"),
+    let schedule = read_schedule(alloc, text)?;
+    if !K::fits(schedule.shape()) {
+        return Err(Fault::Refused(Refusal::Words(WordFault::BadShape)));
     }
+    Ok(schedule)
 }
 
-/// What a command at a position is answered.
-fn reply_text(
-    out: &mut Vec<u8>,
-    total: u64,
-    position: u64,
-    command: Command,
-) -> Result<(), AllocError>
-    ensures { OnOk result (out.new.items ≡ out.old.items ++ reply_text total position command) }
-{
-    match command {
-        Command::Run => position_line(out, position_after(total, position, command), total),
-    }
-}
-
-/// A command behind `> `, and what it is answered.
+/// A command behind `> `, and what a session answers to it.
 #[tactic(auto, using(snap_text::proofs::Texts::joined))]
-fn command_reply(
+fn push_answer<K: Kind>(
     out: &mut Vec<u8>,
-    total: u64,
-    position: u64,
-    command: Command,
+    session: &mut Session<K>,
+    command: &Command,
 ) -> Result<(), AllocError>
-    ensures { OnOk result (out.new.items ≡ out.old.items ++ command_reply total position command) }
+    ensures reply { OnOk result (out.new.items ≡ out.old.items ++ command_reply session.old command.now) }
+    ensures session { OnOk result (session.new ≡ (answer session.old command.now).0) }
 {
     push_text(out, b"> ")?;
-    command_text(out, command)?;
-    push_text(out, b"\n")?;
-    reply_text(out, total, position, command)
-}
-
-/// The replies, and the position to which the commands lead.
-fn replies_text(out: &mut Vec<u8>, total: u64, commands: &[Command]) -> Result<u64, AllocError>
-    ensures replies { OnOk result (out.new.items ≡ out.old.items ++ replies_text total 0 commands.now) }
-    ensures position { IfOk result (λ position. position ≡ reached total 0 commands.now) }
-{
-    let mut position = 0;
-    for command in commands {
-        command_reply(out, total, position, *command)?;
-        position = position_after(total, position, *command);
+    push_command(out, command)?;
+    match session.command(command) {
+        Ok(reply) => push_text(out, reply.as_slice()),
+        Err(Fault::Refused(refusal)) => push_refusal_line(out, &refusal),
+        Err(Fault::Memory) => Err(AllocError),
     }
-    Ok(position)
 }
 
 /// What a program does under a schedule, as commands ask for it.
@@ -103,26 +76,20 @@ fn performance<K: Kind>(
     commands: &[Command],
 ) -> Result<Vec<u8>, AllocError>
     requires { program.now.kind ≡ K.TAG }
-    ensures { IfOk result (λ out. out.items ≡ performance program.now schedule.now commands.now) }
+    ensures { IfOk result (λ out. out.items ≡ performance (run_over program.now schedule.now) commands.now) }
 {
-    let items = schedule.items();
-    let total = items.len();
+    let mut session = Session::<K>::open(alloc, program, schedule)?;
     let mut out = Vec::new(alloc);
-    let position = replies_text(&mut out, total, commands)?;
-    let mut course = Course::<K>::new(alloc, program, schedule.shape())?;
-    course.apply_first(items, position)?;
-    report(
-        &mut out,
-        &course.machine,
-        course.events.as_slice(),
-        position,
-        total,
-    )?;
+    for command in commands {
+        push_answer(&mut out, &mut session, command)?;
+    }
+    let report = session.report()?;
+    push_text(&mut out, report.as_slice())?;
     Ok(out)
 }
 
 /// What commands are answered on a program of a kind under a schedule, and the report of the position reached.
-#[tactic(auto, unfolding(snap_semantics::specs::Perform::perform_listing))]
+#[tactic(auto, unfolding(snap_program::specs::Perform::perform_listing))]
 fn perform_kind<K: Kind>(
     alloc: Global,
     program: &Program,
@@ -132,16 +99,34 @@ fn perform_kind<K: Kind>(
     requires { program.now.kind ≡ K.TAG }
     ensures { Answers (λ out. out.items) result (perform_listing program.now schedule.now commands.now) }
 {
-    let schedule = read_schedule(alloc, schedule)?;
-    if !K::fits(schedule.shape()) {
-        return Err(Fault::Refused(Refusal::Words(WordFault::BadShape)));
-    }
+    let schedule = schedule_for::<K>(alloc, program, schedule)?;
     let commands = read_commands(alloc, commands)?;
-    Ok(performance::<K>(alloc, program, &schedule, commands.as_slice())?)
+    Ok(performance::<K>(
+        alloc,
+        program,
+        &schedule,
+        commands.as_slice(),
+    )?)
+}
+
+/// What commands are answered on a program under a schedule, and the report of the position reached.
+pub fn perform_program(
+    alloc: Global,
+    program: &Program,
+    schedule: &[u8],
+    commands: &[u8],
+) -> Result<Vec<u8>, Fault<Refusal>>
+    ensures { Answers (λ out. out.items) result (perform_listing program.now schedule.now commands.now) }
+{
+    match program.kind() {
+        KindTag::Seq => perform_kind::<Seq>(alloc, program, schedule, commands),
+        KindTag::Bits => perform_kind::<Bits>(alloc, program, schedule, commands),
+        KindTag::Multi => perform_kind::<Multi>(alloc, program, schedule, commands),
+    }
 }
 
 /// What commands are answered on a listing under a schedule, and the report of the position reached, as text.
-#[tactic(auto, unfolding(snap_semantics::specs::Perform::perform_of))]
+#[tactic(auto, unfolding(snap_program::specs::Perform::perform_of))]
 pub fn perform(
     alloc: Global,
     listing: &[u8],
@@ -151,9 +136,5 @@ pub fn perform(
     ensures { Answers (λ out. out.items) result (perform_of listing.now schedule.now commands.now) }
 {
     let program = program_of(alloc, listing)?;
-    match program.kind() {
-        KindTag::Seq => perform_kind::<Seq>(alloc, &program, schedule, commands),
-        KindTag::Bits => perform_kind::<Bits>(alloc, &program, schedule, commands),
-        KindTag::Multi => perform_kind::<Multi>(alloc, &program, schedule, commands),
-    }
+    perform_program(alloc, &program, schedule, commands)
 }

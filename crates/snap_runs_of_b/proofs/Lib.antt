@@ -22,3 +22,4 @@ pub mod Lenders
 pub mod CleanTests
 pub mod Linear
 pub mod WaitFree
+pub mod Snapshot

@@ -1,10 +1,13 @@
 -- What every run of listing B keeps, for every number of processes.
-use Rattle.std.specs.Prelude.{ℕ, ◌+◌, ◌*◌, List}
-use Rattle.snap_words.specs.Shape.{Counts}
+use Rattle.std.specs.Prelude.{◌≡◌, ℕ, ◌+◌, ◌*◌, List, true}
+use Rattle.snap_words.specs.Kind.{fits}
+use Rattle.snap_words.specs.Shape.{Counts, IsShape}
+use Rattle.snap_words.specs.declared.kind.KindTag.TheVariants.{Bits}
 use Rattle.snap_semantics.specs.declared.process.Item.{Item}
 use Rattle.snap_runs.specs.Run.{Run}
 use Rattle.snap_runs.specs.Linearization.{IsLinearizable}
 use Rattle.snap_runs.specs.Promises as promises
+use Rattle.snap_runs.specs.Snapshot.{Bounds, IsSnapshotRun}
 use Rattle.snap_runs.specs.WaitFree.{IsWaitFree}
 use Rattle.snap_runs.specs.Promises.{CollectLines}
 use Rattle.snap_runs_of_b.specs.ListingB.{listing_b, j, moved}
@@ -77,3 +80,12 @@ Linearizable = (n : ℕ) (items : List Item) → IsLinearizable (run_of n items)
 -- 8 n n + 15 n + 12.
 abbrev pub WaitFree : Type 0
 WaitFree = (n : ℕ) (items : List Item) → IsWaitFree (8 * (n * n) + 12 * n + 7) (8 * (n * n) + 15 * n + 12) (run_of n items)
+
+-- the line at which an update writes, and the bounds of scans
+abbrev pub bounds : Counts → Bounds
+bounds s = record { writes = 46; collects = s.n + 1; sharp = s.n; steps = 8 * (s.n * s.n) + 12 * s.n + 7 }
+
+-- Every run of B, of whatever shape fits, is a run of a snapshot.
+abbrev pub RunsAreSnapshots : Type 0
+RunsAreSnapshots = (s : Counts) (items : List Item) → IsShape s.n s.w → fits Bits s ≡ true →
+    IsSnapshotRun (bounds s) (record { source = listing_b; shape = s; items = items })

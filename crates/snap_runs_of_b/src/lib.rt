@@ -1,7 +1,7 @@
 //! Listing B, and what every run of it keeps.
 #![tactic(auto)]
 
-ghost use Rattle.snap_runs_of_b.specs.Promises.{NeverTraps, ChangesOnlyAt46, WritesItsUpdate, WritesOnce, HavePoints, FewCollects, FewSteps, SharpCollects, MovesAreWrites, BorrowedViewsAreLent, OwnUpdatesAreSeen, PassedTestsAreClean, Linearizable, WaitFree};
+ghost use Rattle.snap_runs_of_b.specs.Promises.{NeverTraps, ChangesOnlyAt46, WritesItsUpdate, WritesOnce, HavePoints, FewCollects, FewSteps, SharpCollects, MovesAreWrites, BorrowedViewsAreLent, OwnUpdatesAreSeen, PassedTestsAreClean, Linearizable, WaitFree, RunsAreSnapshots};
 
 /// No process ever traps.
 pub fn never_traps()
@@ -74,4 +74,10 @@ pub fn linearizable()
 /// Every call is over after so many turns of its process, whatever the others do or stop doing: at most 8 n n + 15 n + 12.
 pub fn wait_free()
     ensures { WaitFree }
+{}
+
+/// All that a snapshot promises, of every run of B.
+#[tactic(auto, using(crate::proofs::Snapshot::runs_are_snapshots_lem))]
+pub fn runs_are_snapshots()
+    ensures { RunsAreSnapshots }
 {}

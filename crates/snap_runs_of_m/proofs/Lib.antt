@@ -20,3 +20,4 @@ pub mod CleanTests
 pub mod Linear
 pub mod WaitFree
 pub mod Lenders
+pub mod Snapshot

@@ -1,7 +1,9 @@
 -- What every run of listing M keeps, for every number of processes and of words. There is at least one word: with none line 17
 -- would have nothing to read.
 use Rattle.std.specs.Prelude.{◌≡◌, ℕ, ◌+◌, ◌-◌, ◌*◌, ◌<◌, ◌≤◌, ◌⊎◌, true, List, Option}
-use Rattle.snap_words.specs.Shape.{Counts}
+use Rattle.snap_words.specs.Kind.{fits}
+use Rattle.snap_words.specs.Shape.{Counts, IsShape}
+use Rattle.snap_words.specs.declared.kind.KindTag.TheVariants.{Multi}
 use Rattle.snap_semantics.specs.declared.process.Item.{Item}
 use Rattle.snap_semantics.specs.State.{value_at, process_at}
 use Rattle.snap_runs.specs.Run.{Run, Fits, before}
@@ -9,6 +11,7 @@ use Rattle.snap_runs.specs.Scan.{Scan, double_collects}
 use Rattle.snap_runs.specs.Update.{executes}
 use Rattle.snap_runs.specs.Linearization.{IsLinearizable}
 use Rattle.snap_runs.specs.Promises as promises
+use Rattle.snap_runs.specs.Snapshot.{Bounds, IsSnapshotRun}
 use Rattle.snap_runs.specs.WaitFree.{IsWaitFree}
 use Rattle.snap_runs.specs.Promises.{ObservedMove, CollectLines}
 use Rattle.snap_runs_of_m.specs.ListingM.{listing_m, k, moved, j as counter}
@@ -93,3 +96,12 @@ WaitFree = (n w : ℕ) (items : List Item) → 0 < w →
 -- A scan that returns at line 37 has the view of an embedded scan of another process, all within it.
 abbrev pub BorrowedViewsAreLent : Type 0
 BorrowedViewsAreLent = (n w : ℕ) (items : List Item) → 0 < w → promises.BorrowedViewsAreLent 37 (run_of n w items)
+
+-- the line at which an update writes, and the bounds of scans
+abbrev pub bounds : Counts → Bounds
+bounds s = record { writes = 57; collects = 2 * s.n + 1; sharp = 2 * s.n - 1; steps = 14 * (s.n * s.n) + 16 * (s.n * s.w) + 19 * s.n + 8 * s.w + 10 }
+
+-- Every run of M, of whatever shape fits, is a run of a snapshot.
+abbrev pub RunsAreSnapshots : Type 0
+RunsAreSnapshots = (s : Counts) (items : List Item) → IsShape s.n s.w → fits Multi s ≡ true →
+    IsSnapshotRun (bounds s) (record { source = listing_m; shape = s; items = items })

@@ -1,7 +1,7 @@
 //! Listing M, and what every run of it keeps.
 #![tactic(auto)]
 
-ghost use Rattle.snap_runs_of_m.specs.Promises.{NeverTraps, ChangesOnlyAt57, WritesItsUpdate, WritesOnce, HavePoints, FewCollects, FewSteps, SharpCollects, MovesAreEvents, PassedTestsAreClean, Linearizable, WaitFree, BorrowedViewsAreLent};
+ghost use Rattle.snap_runs_of_m.specs.Promises.{NeverTraps, ChangesOnlyAt57, WritesItsUpdate, WritesOnce, HavePoints, FewCollects, FewSteps, SharpCollects, MovesAreEvents, PassedTestsAreClean, Linearizable, WaitFree, BorrowedViewsAreLent, RunsAreSnapshots};
 
 /// No process ever traps.
 pub fn never_traps()
@@ -69,4 +69,10 @@ pub fn wait_free()
 /// A scan that borrows a view, and returns it at line 37, has that of an embedded scan of another process, all within it.
 pub fn borrowed_views_are_lent()
     ensures { BorrowedViewsAreLent }
+{}
+
+/// All that a snapshot promises, of every run of M.
+#[tactic(auto, using(crate::proofs::Snapshot::runs_are_snapshots_lem))]
+pub fn runs_are_snapshots()
+    ensures { RunsAreSnapshots }
 {}

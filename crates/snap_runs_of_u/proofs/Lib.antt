@@ -18,3 +18,4 @@ pub mod Lenders
 pub mod CleanTests
 pub mod Linear
 pub mod WaitFree
+pub mod Snapshot

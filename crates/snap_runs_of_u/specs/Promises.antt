@@ -1,10 +1,13 @@
 -- What every run of listing U keeps, for every number of processes.
-use Rattle.std.specs.Prelude.{ℕ, ◌+◌, ◌*◌, List}
-use Rattle.snap_words.specs.Shape.{Counts}
+use Rattle.std.specs.Prelude.{◌≡◌, ℕ, ◌+◌, ◌*◌, List, true}
+use Rattle.snap_words.specs.Kind.{fits}
+use Rattle.snap_words.specs.Shape.{Counts, IsShape}
+use Rattle.snap_words.specs.declared.kind.KindTag.TheVariants.{Seq}
 use Rattle.snap_semantics.specs.declared.process.Item.{Item}
 use Rattle.snap_runs.specs.Run.{Run}
 use Rattle.snap_runs.specs.Linearization.{IsLinearizable}
 use Rattle.snap_runs.specs.Promises as promises
+use Rattle.snap_runs.specs.Snapshot.{Bounds, IsSnapshotRun}
 use Rattle.snap_runs.specs.WaitFree.{IsWaitFree}
 use Rattle.snap_runs.specs.Promises.{CollectLines}
 use Rattle.snap_runs_of_u.specs.ListingU.{listing_u, j, moved}
@@ -77,3 +80,12 @@ Linearizable = (n : ℕ) (items : List Item) → IsLinearizable (run_of n items)
 -- 4 n n + 8 n + 11.
 abbrev pub WaitFree : Type 0
 WaitFree = (n : ℕ) (items : List Item) → IsWaitFree (4 * (n * n) + 8 * n + 7) (4 * (n * n) + 8 * n + 11) (run_of n items)
+
+-- the line at which an update writes, and the bounds of scans
+abbrev pub bounds : Counts → Bounds
+bounds s = record { writes = 32; collects = s.n + 1; sharp = s.n; steps = 4 * (s.n * s.n) + 8 * s.n + 7 }
+
+-- Every run of U, of whatever shape fits, is a run of a snapshot.
+abbrev pub RunsAreSnapshots : Type 0
+RunsAreSnapshots = (s : Counts) (items : List Item) → IsShape s.n s.w → fits Seq s ≡ true →
+    IsSnapshotRun (bounds s) (record { source = listing_u; shape = s; items = items })

@@ -1,2 +1,2 @@
 pub mod Status
-pub mod Subcommands
+pub mod Tasks

@@ -8,9 +8,8 @@ mod command_line;
 
 use clap::Error;
 use clap::error::ErrorKind;
-use command_line::task_of;
-use snap_program::{ConductFault, Std, conduct, fault_line, write_all};
-use snap_semantics::Task;
+use command_line::task_of_words;
+use snap_program::{ConductFault, Std, Task, conduct, fault_line, write_all};
 use std::io;
 use std::io::Write;
 use std::process::ExitCode;
@@ -88,7 +87,7 @@ fn status(rt: &HostRuntime) -> u8 {
     let Ok(words) = words.collect::<Vec<String>>(rt.alloc()) else {
         return complain(rt, &ConductFault::Memory);
     };
-    match task_of(rt.alloc(), words.as_slice()) {
+    match task_of_words(rt.alloc(), words.as_slice()) {
         Ok(task) => run(rt, &task),
         Err(error) => explain(rt, &error),
     }

@@ -1,5 +1,5 @@
 use Rattle.std.proofs.Common.{length, ◌≡◌, ◌≤◌, ◌+◌}
-use Rattle.snap_semantics.specs.Output.{parts_of}
+use Rattle.snap_program.specs.Parts.{parts_of}
 use Rattle.snap_program.proofs.parts.count_separators.Given as goal
 
 -- the separators so far, and the parts of the rest

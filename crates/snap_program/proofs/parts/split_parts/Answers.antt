@@ -1,6 +1,6 @@
 use Rattle.std.proofs.Common.{map, length, take, [], ◌++◌, refl, sym, ◌∙◌, ap, arith}
 use Rattle.std.proofs.lemmas.List.{map-append}
-use Rattle.snap_semantics.specs.Output.{parts_of, onto_part, full_lines}
+use Rattle.snap_program.specs.Parts.{parts_of, onto_part, full_lines}
 use Rattle.snap_program.proofs.Splits.{onto_none, part_ends, part_goes_on, some_left, further_on, rest_again, front_again}
 use Rattle.snap_program.proofs.parts.split_parts.Goals as goal
 

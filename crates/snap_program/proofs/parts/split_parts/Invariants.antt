@@ -1,5 +1,5 @@
 use Rattle.std.proofs.Common.{length, ◌≡◌, ◌≤◌, map, take, drop, ◌++◌}
-use Rattle.snap_semantics.specs.Output.{onto_part, parts_of}
+use Rattle.snap_program.specs.Parts.{onto_part, parts_of}
 use Rattle.snap_program.proofs.parts.split_parts.Given as goal
 
 -- the parts so far, and those of the rest behind what the part in hand has

@@ -1,0 +1,29 @@
+//! Runs of M over schedules.
+ghost use Rattle.std.specs.Prelude.{◌≡◌, IfOk, true};
+ghost use Rattle.snap_words.specs.Kind.{fits};
+ghost use Rattle.snap_words.specs.declared.kind.KindTag.TheVariants.{Multi as Tag};
+ghost use Rattle.snap_runs.specs.Run.{Fits};
+ghost use Rattle.snap_runs.specs.Snapshot.{IsSnapshotRun};
+ghost use Rattle.snap_record.specs.Record.{run_over};
+ghost use Rattle.snap_runs_of_m.specs.ListingM.{listing_m};
+ghost use Rattle.snap_runs_of_m.specs.Promises.{bounds};
+
+use crate::text::listing;
+use snap_code::Program;
+use snap_record::{Record, record_over};
+use snap_runs_of_m::runs_are_snapshots;
+use snap_sched::Schedule;
+use snap_words::Multi;
+use std::alloc::{AllocError, Global};
+
+/// The record of M over a schedule, whatever its interleaving: a run of a snapshot.
+pub fn run(alloc: Global, schedule: &Schedule) -> Result<Record<Multi>, AllocError>
+    requires { fits Tag schedule.now.shape ≡ true }
+    ensures record { IfOk result (λ r. r ≡ run_over listing_m schedule.now) }
+    ensures fits { Fits (run_over listing_m schedule.now) }
+    ensures snapshot { IsSnapshotRun (bounds schedule.now.shape) (run_over listing_m schedule.now) }
+{
+    runs_are_snapshots();
+    let program = Program::of(alloc, listing(alloc)?)?;
+    record_over(alloc, &program, schedule)
+}

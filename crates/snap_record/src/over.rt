@@ -1,0 +1,23 @@
+//! The record of a program over a schedule.
+ghost use Rattle.std.specs.Prelude.{◌≡◌, IfOk};
+ghost use Rattle.snap_record.specs.Record.{run_over};
+
+use crate::record::Record;
+use snap_code::Program;
+use snap_sched::Schedule;
+use snap_words::Kind;
+use std::alloc::{AllocError, Global};
+
+/// The record of a program over a whole schedule.
+pub fn record_over<K: Kind>(
+    alloc: Global,
+    program: &Program,
+    schedule: &Schedule,
+) -> Result<Record<K>, AllocError>
+    requires { program.now.kind ≡ K.TAG }
+    ensures { IfOk result (λ r. r ≡ run_over program.now schedule.now) }
+{
+    let mut record = Record::new(alloc, program, schedule.shape())?;
+    record.apply_first(schedule.items(), schedule.items().len())?;
+    Ok(record)
+}

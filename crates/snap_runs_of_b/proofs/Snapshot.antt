@@ -1,0 +1,36 @@
+-- All that a snapshot promises, of every run of B.
+use Rattle.std.proofs.Common.{◌≡◌, ℕ, true, List, subst, sym}
+use Rattle.std.proofs.lemmas.Bool.{eqb-true}
+use Rattle.snap_words.specs.Kind.{fits}
+use Rattle.snap_words.specs.Shape.{Counts, IsShape}
+use Rattle.snap_words.specs.declared.kind.KindTag.TheVariants.{Bits}
+use Rattle.snap_semantics.specs.declared.process.Item.{Item}
+use Rattle.snap_runs.specs.Snapshot.{IsSnapshotRun}
+use Rattle.snap_runs.proofs.Audits.{verdicts_have_points}
+use Rattle.snap_runs_of_b.specs.ListingB.{listing_b}
+use Rattle.snap_runs_of_b.specs.Promises.{RunsAreSnapshots, bounds, run_of, square}
+use Rattle.snap_runs_of_b.proofs.Bounds.{few_collects_lem, few_steps_lem, sharp_collects_lem}
+use Rattle.snap_runs_of_b.proofs.Linear.{linearizable_lem}
+use Rattle.snap_runs_of_b.proofs.Points.{have_points_lem}
+use Rattle.snap_runs_of_b.proofs.Runs.{never_traps_lem}
+use Rattle.snap_runs_of_b.proofs.Updates.{changes_only_at_46_lem, writes_its_update_lem, writes_once_lem}
+
+-- where there is a word for each process
+of_square : (n : ℕ) (items : List Item) → IsSnapshotRun (bounds (square n)) (run_of n items)
+of_square n items = record {
+  never_traps = never_traps_lem n items;
+  changes_only_at = changes_only_at_46_lem n items;
+  writes_its_update = writes_its_update_lem n items;
+  writes_once = writes_once_lem n items;
+  have_points = have_points_lem n items;
+  verdicts_have_points = verdicts_have_points (run_of n items) (have_points_lem n items);
+  few_collects = few_collects_lem n items;
+  sharp_collects = sharp_collects_lem n items;
+  few_steps = few_steps_lem n items;
+  linearizable = linearizable_lem n items;
+}
+
+pub runs_are_snapshots_lem : RunsAreSnapshots
+runs_are_snapshots_lem s items shape fit =
+    subst (λ (w : ℕ). IsSnapshotRun (bounds s) (record { source = listing_b; shape = record { n = s.n; w = w }; items = items }))
+    (sym (eqb-true s.w s.n fit)) (of_square s.n items)

@@ -77,7 +77,6 @@ pub fn wait_free()
 {}
 
 /// All that a snapshot promises, of every run of B.
-#[tactic(auto, using(crate::proofs::Snapshot::runs_are_snapshots_lem))]
 pub fn runs_are_snapshots()
     ensures { RunsAreSnapshots }
 {}

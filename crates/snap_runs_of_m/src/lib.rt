@@ -72,7 +72,6 @@ pub fn borrowed_views_are_lent()
 {}
 
 /// All that a snapshot promises, of every run of M.
-#[tactic(auto, using(crate::proofs::Snapshot::runs_are_snapshots_lem))]
 pub fn runs_are_snapshots()
     ensures { RunsAreSnapshots }
 {}

@@ -1,0 +1,5 @@
+use Rattle.snap_runs_of_b.proofs.Snapshot.{runs_are_snapshots_lem}
+use Rattle.snap_runs_of_b.proofs.runs_are_snapshots.Goals as goal
+
+pub returns : goal.returns
+returns c = runs_are_snapshots_lem

@@ -1,0 +1,5 @@
+use Rattle.snap_runs_of_u.proofs.Snapshot.{runs_are_snapshots_lem}
+use Rattle.snap_runs_of_u.proofs.runs_are_snapshots.Goals as goal
+
+pub returns : goal.returns
+returns c = runs_are_snapshots_lem

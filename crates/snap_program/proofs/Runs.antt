@@ -8,11 +8,11 @@ use Rattle.snap_semantics.specs.Answers.{Answers}
 use Rattle.snap_semantics.specs.declared.fault.Fault.{Fault}
 use Rattle.snap_semantics.specs.declared.fault.Fault.TheVariants as inner
 use Rattle.snap_semantics.specs.declared.refusal.Refusal.{Refusal}
-use Rattle.snap_program.specs.Output.{output_of}
+use Rattle.snap_output.specs.Output.{output_of}
 use Rattle.snap_program.specs.Conducts.{of_fault, IsWhole, Takes, Reads, Sends, Conducts}
 use Rattle.snap_program.specs.declared.fault.ConductFault.{ConductFault}
 use Rattle.snap_program.specs.declared.fault.ConductFault.TheVariants as fault
-use Rattle.snap_program.specs.declared.task.Task.{Task}
+use Rattle.snap_output.specs.declared.task.Task.{Task}
 
 -- no memory for what was read
 pub no_room : (answer : Result (Vec ℕ Global) ConductFault) (input : List ℕ) (before after : Option (List ℕ)) (failed : Bool)

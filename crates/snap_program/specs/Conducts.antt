@@ -2,9 +2,9 @@
 use Rattle.std.specs.Prelude.{◌≡◌, ℕ, ◌<◌, ◌≤◌, Vec, Bool, true, List, [], false, take, Option, Result, Ok, Err, length, ⊤, ◌⊎◌}
 use Rattle.std.specs.Global.{Global}
 use Rattle.std.specs.Io.KnownBytes.{Consumes, Appends, IsAtEnd}
-use Rattle.snap_program.specs.Output.{output_of}
+use Rattle.snap_output.specs.Output.{output_of}
 use Rattle.snap_semantics.specs.declared.refusal.Refusal.{Refusal}
-use Rattle.snap_program.specs.declared.task.Task.{Task}
+use Rattle.snap_output.specs.declared.task.Task.{Task}
 use Rattle.snap_semantics.specs.declared.fault.Fault.{Fault}
 use Rattle.snap_semantics.specs.declared.fault.Fault.TheVariants as inner
 use Rattle.snap_program.specs.declared.fault.ConductFault.{ConductFault}

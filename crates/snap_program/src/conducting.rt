@@ -1,14 +1,13 @@
 //! A whole run of the program.
 ghost use Rattle.std.specs.Prelude.{◌≡◌, ◌≤◌, ◌<◌, ◌++◌, ◌⊎◌, ℕ, List, [], true, false, length, take, IfOk, IfErr, OnOk, OnErr, MatchResult};
 ghost use Rattle.std.specs.Io.KnownBytes.{Consumes, Appends, IsAtEnd};
-ghost use Rattle.snap_program.specs.Output.{output_of};
+ghost use Rattle.snap_output.specs.Output.{output_of};
 ghost use Rattle.snap_program.specs.Conducts.{Reads, Sends, Conducts};
 
 use crate::fault::ConductFault;
-use crate::output::{MAX_INPUT, output};
 use crate::sink::Sink;
 use crate::source::Source;
-use crate::task::Task;
+use snap_output::{MAX_INPUT, Task, output};
 use std::alloc::Global;
 
 /// The bytes of one read.

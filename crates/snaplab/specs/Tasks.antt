@@ -2,9 +2,9 @@
 use Rattle.std.specs.Prelude.{ℕ, List, Option, Some, None, bytes_eq, codes, if◌then◌else◌}
 use Rattle.snap_words.specs.declared.kind.KindTag.{KindTag}
 use Rattle.snap_words.specs.declared.kind.KindTag.TheVariants as kind
-use Rattle.snap_program.specs.declared.task.Subject.{Subject}
-use Rattle.snap_program.specs.declared.task.Task.{Task}
-use Rattle.snap_program.specs.declared.task.Task.TheVariants as task
+use Rattle.snap_output.specs.declared.task.Subject.{Subject}
+use Rattle.snap_output.specs.declared.task.Task.{Task}
+use Rattle.snap_output.specs.declared.task.Task.TheVariants as task
 
 -- the kind of this name
 abbrev pub kind_of : List ℕ → Option KindTag

@@ -6,10 +6,10 @@ use Rattle.snap_semantics.specs.Listing.{listing_of, listing_of_lines, header_of
 use Rattle.snap_semantics.specs.ListingForms as forms
 use Rattle.snap_semantics.specs.ScheduleForms as schedules
 use Rattle.snap_debug.specs.CommandForms as commands
-use Rattle.snap_program.specs.Output.{output_of, parted}
-use Rattle.snap_program.specs.Perform.{perform_listing, schedule_for}
-use Rattle.snap_program.specs.declared.task.Subject.TheVariants as subject
-use Rattle.snap_program.specs.declared.task.Task.TheVariants as task
+use Rattle.snap_output.specs.Output.{output_of, parted}
+use Rattle.snap_output.specs.Perform.{perform_listing, schedule_for}
+use Rattle.snap_output.specs.declared.task.Subject.TheVariants as subject
+use Rattle.snap_output.specs.declared.task.Task.TheVariants as task
 
 -- an update of kind bit: hands, a toggle and a handshake bit
 bit_run : output_of (task.Run subject.FirstPart) (codes "kind bit\nscalar t\nrow f\nwords a\nview s\nscan 10\nupdate 10\n10: put q[me,2] = 1\n11: let f[2] = 1\n12: let t = not t\n13: put r[me] = (arg, f, t, s)\n14: get a[1] = r[2]\n15: finish\n%\nshape 2 2\n2 update 2 7\n2*6\n")

@@ -8,11 +8,11 @@ use Rattle.snap_semantics.specs.ImageInstrs as instrs
 use Rattle.snap_semantics.specs.ImageListing as images
 use Rattle.snap_semantics.specs.Listing.{listing_of, listing_of_lines, header_of}
 use Rattle.snap_semantics.specs.ListingForms as forms
-use Rattle.snap_program.specs.Output.{output_of, check_of}
+use Rattle.snap_output.specs.Output.{output_of, check_of}
 use Rattle.snap_semantics.specs.declared.refusal.ImageRefusal.TheVariants.{Truncated}
 use Rattle.snap_semantics.specs.declared.refusal.ListingRefusal.TheVariants.{BadHeader}
 use Rattle.snap_semantics.specs.declared.refusal.Refusal.TheVariants as refusal
-use Rattle.snap_program.specs.declared.task.Task.TheVariants as task
+use Rattle.snap_output.specs.declared.task.Task.TheVariants as task
 use Rattle.snap_semantics.proofs.ImageSamples.{small_image}
 
 abbrev small_text : List ℕ

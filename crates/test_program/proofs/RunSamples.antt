@@ -6,10 +6,10 @@ use Rattle.snap_semantics.specs.Listing.{listing_of, listing_of_lines, header_of
 use Rattle.snap_semantics.specs.ListingForms as forms
 use Rattle.snap_semantics.specs.ScheduleForms as schedules
 use Rattle.snap_debug.specs.CommandForms as commands
-use Rattle.snap_program.specs.Output.{output_of, parted}
-use Rattle.snap_program.specs.Perform.{perform_listing, schedule_for}
-use Rattle.snap_program.specs.declared.task.Subject.TheVariants as subject
-use Rattle.snap_program.specs.declared.task.Task.TheVariants as task
+use Rattle.snap_output.specs.Output.{output_of, parted}
+use Rattle.snap_output.specs.Perform.{perform_listing, schedule_for}
+use Rattle.snap_output.specs.declared.task.Subject.TheVariants as subject
+use Rattle.snap_output.specs.declared.task.Task.TheVariants as task
 
 -- one update by process 1 of 2
 first_run : output_of (task.Run subject.FirstPart) (codes "kind seq\nscalar j c\nrow\nwords a\nview s\nscan 10\nupdate 10\n10: let j = 1\n11: get a[j] = r[j]\n12: next j n goto 11\n13: let c = c + 1\n14: put r[me] = (arg, c, s)\n15: finish\n%\nshape 2 2\n1 update 1 7\n1*8\n")

@@ -1,6 +1,6 @@
 use Rattle.std.proofs.Common.{length, ◌≡◌, ◌≤◌, map, take, drop, ◌++◌}
-use Rattle.snap_program.specs.Parts.{onto_part, parts_of}
-use Rattle.snap_program.proofs.parts.split_parts.Given as goal
+use Rattle.snap_output.specs.Parts.{onto_part, parts_of}
+use Rattle.snap_output.proofs.parts.split_parts.Given as goal
 
 -- the parts so far, and those of the rest behind what the part in hand has
 abbrev pub invariant-loop-rest : goal.invariant-loop-rest

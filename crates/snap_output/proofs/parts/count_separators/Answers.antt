@@ -1,6 +1,6 @@
 use Rattle.std.proofs.Common.{length, sym, ◌∙◌, arith}
-use Rattle.snap_program.proofs.Splits.{some_left, one_part_more, no_part_more}
-use Rattle.snap_program.proofs.parts.count_separators.Goals as goal
+use Rattle.snap_output.proofs.Splits.{some_left, one_part_more, no_part_more}
+use Rattle.snap_output.proofs.parts.count_separators.Goals as goal
 
 pub loop-rest-preserved-then-is_separator : goal.loop-rest-preserved-then-is_separator
 loop-rest-preserved-then-is_separator c =

@@ -3,7 +3,7 @@ ghost use Rattle.std.specs.Prelude.{◌≡◌, IfOk};
 ghost use Rattle.snap_record.specs.Record.{run_over};
 ghost use Rattle.snap_semantics.specs.Answers.{Answers};
 ghost use Rattle.snap_audit.specs.VerdictText.{audit_text};
-ghost use Rattle.snap_program.specs.Output.{audit_listing};
+ghost use Rattle.snap_output.specs.Output.{audit_listing};
 
 use crate::performing::schedule_for;
 use snap_audit::audit_text;
@@ -28,7 +28,7 @@ fn audit_run<K: Kind>(
 }
 
 /// What each finished scan of a program of a kind stands for.
-#[tactic(auto, unfolding(snap_program::specs::Output::audit_listing))]
+#[tactic(auto, unfolding(snap_output::specs::Output::audit_listing))]
 fn audit_kind<K: Kind>(
     alloc: Global,
     program: &Program,

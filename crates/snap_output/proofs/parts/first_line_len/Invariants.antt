@@ -1,6 +1,6 @@
 use Rattle.std.proofs.Common.{length, ◌-◌, ◌≡◌, ◌≤◌, take, drop, ◌++◌}
 use Rattle.std.specs.Io.BufRead.{take_through, drop_through}
-use Rattle.snap_program.proofs.parts.first_line_len.Given as goal
+use Rattle.snap_output.proofs.parts.first_line_len.Given as goal
 
 -- no line feed stands before the place reached
 abbrev pub invariant-loop-len : goal.invariant-loop-len

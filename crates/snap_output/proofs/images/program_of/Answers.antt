@@ -1,6 +1,6 @@
 use Rattle.std.proofs.Common.{Ok, sym, ◌∙◌, ap}
-use Rattle.snap_program.proofs.Loads.{loaded, never_refused}
-use Rattle.snap_program.proofs.images.program_of.Goals as goal
+use Rattle.snap_output.proofs.Loads.{loaded, never_refused}
+use Rattle.snap_output.proofs.images.program_of.Goals as goal
 
 pub returns-in-Ok : goal.returns-in-Ok
 returns-in-Ok c =

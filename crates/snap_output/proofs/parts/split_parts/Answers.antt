@@ -1,8 +1,8 @@
 use Rattle.std.proofs.Common.{map, length, take, [], ◌++◌, refl, sym, ◌∙◌, ap, arith}
 use Rattle.std.proofs.lemmas.List.{map-append}
-use Rattle.snap_program.specs.Parts.{parts_of, onto_part, full_lines}
-use Rattle.snap_program.proofs.Splits.{onto_none, part_ends, part_goes_on, some_left, further_on, rest_again, front_again}
-use Rattle.snap_program.proofs.parts.split_parts.Goals as goal
+use Rattle.snap_output.specs.Parts.{parts_of, onto_part, full_lines}
+use Rattle.snap_output.proofs.Splits.{onto_none, part_ends, part_goes_on, some_left, further_on, rest_again, front_again}
+use Rattle.snap_output.proofs.parts.split_parts.Goals as goal
 
 pub loop-rest-init : goal.loop-rest-init
 loop-rest-init c = (refl, omega arith, rw c.new-parts.ensures.items (onto_none (full_lines c.args.input.now)))

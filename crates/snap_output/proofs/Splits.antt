@@ -6,7 +6,7 @@ use Rattle.std.proofs.Math.Seq.{take-add}
 use Rattle.std.proofs.lemmas.Bool.{eqb-false}
 use Rattle.std.specs.Io.BufRead.{take_through, drop_through}
 use Rattle.snap_semantics.specs.Token.{onto_line}
-use Rattle.snap_program.specs.Parts.{full_lines, ends_part, onto_part, parts_of_lines, parts_of}
+use Rattle.snap_output.specs.Parts.{full_lines, ends_part, onto_part, parts_of_lines, parts_of}
 
 pub onto_again : (front more : List ℕ) (parts : List (List ℕ)) → onto_part front (onto_part more parts) ≡ onto_part (front ++ more) parts
 onto_again front more [] = refl

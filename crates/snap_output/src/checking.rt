@@ -2,7 +2,7 @@
 ghost use Rattle.std.specs.Prelude.{◌≡◌, IfOk};
 ghost use Rattle.snap_semantics.specs.Answers.{Answers, refused_as};
 ghost use Rattle.snap_semantics.specs.Listing.{listing_of};
-ghost use Rattle.snap_program.specs.Output.{check_line, check_of};
+ghost use Rattle.snap_output.specs.Output.{check_line, check_of};
 ghost use Rattle.snap_semantics.specs.declared.refusal.Refusal.TheVariants as refusal;
 
 use snap_listing::{Listing, kind_word};
@@ -32,7 +32,7 @@ fn check_line(alloc: Global, listing: &Listing) -> Result<Vec<u8>, AllocError>
 }
 
 /// What is said of a text that is a listing, or why it is none.
-#[tactic(auto, unfolding(snap_program::specs::Output::check_of))]
+#[tactic(auto, unfolding(snap_output::specs::Output::check_of))]
 pub fn check_of(alloc: Global, text: &[u8]) -> Result<Vec<u8>, Fault<Refusal>>
     ensures { Answers (λ out. out.items) result (check_of text.now) }
 {

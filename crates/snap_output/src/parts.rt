@@ -1,7 +1,7 @@
 //! The parts of an input.
 ghost use Rattle.std.specs.Prelude.{◌≡◌, ◌+◌, ◌≤◌, ◌<◌, ℕ, IfOk, map, length, take, drop, IsTrue, true, ◌↔◌};
 ghost use Rattle.std.specs.Io.BufRead.{take_through, drop_through};
-ghost use Rattle.snap_program.specs.Parts.{ends_part, parts_of};
+ghost use Rattle.snap_output.specs.Parts.{ends_part, parts_of};
 
 use std::alloc::{AllocError, Global};
 

@@ -1,8 +1,8 @@
 //! The listing that a task runs, and the texts behind it.
 ghost use Rattle.std.specs.Prelude.{◌≡◌, ◌<◌, IfOk, length, map};
 ghost use Rattle.snap_semantics.specs.Answers.{Answers};
-ghost use Rattle.snap_program.specs.Output.{listing_for, shipped, texts_for};
-ghost use Rattle.snap_program.specs.declared.task.Subject.TheVariants.{FirstPart};
+ghost use Rattle.snap_output.specs.Output.{listing_for, shipped, texts_for};
+ghost use Rattle.snap_output.specs.declared.task.Subject.TheVariants.{FirstPart};
 
 use crate::images::program_of;
 use crate::task::Subject;

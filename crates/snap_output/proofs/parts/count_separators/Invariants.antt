@@ -1,6 +1,6 @@
 use Rattle.std.proofs.Common.{length, ◌≡◌, ◌≤◌, ◌+◌}
-use Rattle.snap_program.specs.Parts.{parts_of}
-use Rattle.snap_program.proofs.parts.count_separators.Given as goal
+use Rattle.snap_output.specs.Parts.{parts_of}
+use Rattle.snap_output.proofs.parts.count_separators.Given as goal
 
 -- the separators so far, and the parts of the rest
 abbrev pub invariant-loop-rest : goal.invariant-loop-rest

@@ -14,12 +14,12 @@ use Rattle.snap_runs_of_b.specs.ListingB.{listing_b}
 use Rattle.snap_runs_of_m.specs.ListingM.{listing_m}
 use Rattle.snap_record.specs.Record.{run_over}
 use Rattle.snap_audit.specs.VerdictText.{audit_text}
-use Rattle.snap_program.specs.Parts.{part, parts_of}
-use Rattle.snap_program.specs.Perform.{perform_listing, schedule_for}
-use Rattle.snap_program.specs.declared.task.Subject.{Subject}
-use Rattle.snap_program.specs.declared.task.Subject.TheVariants as subject
-use Rattle.snap_program.specs.declared.task.Task.{Task}
-use Rattle.snap_program.specs.declared.task.Task.TheVariants as task
+use Rattle.snap_output.specs.Parts.{part, parts_of}
+use Rattle.snap_output.specs.Perform.{perform_listing, schedule_for}
+use Rattle.snap_output.specs.declared.task.Subject.{Subject}
+use Rattle.snap_output.specs.declared.task.Subject.TheVariants as subject
+use Rattle.snap_output.specs.declared.task.Task.{Task}
+use Rattle.snap_output.specs.declared.task.Task.TheVariants as task
 
 -- the listing that is shipped for a kind
 abbrev pub shipped : KindTag → Source

@@ -3,8 +3,8 @@ ghost use Rattle.std.specs.Prelude.{◌≡◌, ◌≤◌, ◌<◌, Err, Ok, leng
 ghost use Rattle.snap_semantics.specs.Answers.{Answers, ◌>>=◌};
 ghost use Rattle.snap_semantics.specs.declared.fault.Fault.TheVariants.{Refused};
 ghost use Rattle.snap_semantics.specs.declared.refusal.Refusal.{Refusal as Reason};
-ghost use Rattle.snap_program.specs.Output.{checked_parts, debug_text, of_task, output_of, parted, run_text, verdicts_text};
-ghost use Rattle.snap_program.specs.Parts.{parts_of};
+ghost use Rattle.snap_output.specs.Output.{checked_parts, debug_text, of_task, output_of, parted, run_text, verdicts_text};
+ghost use Rattle.snap_output.specs.Parts.{parts_of};
 
 use crate::auditing::audit_program;
 use crate::checking::check_of;
@@ -54,7 +54,7 @@ fn parts_for(
 }
 
 /// A listing under a schedule.
-#[tactic(auto, unfolding(snap_program::specs::Output::parted))]
+#[tactic(auto, unfolding(snap_output::specs::Output::parted))]
 fn run(alloc: Global, subject: Subject, input: &[u8]) -> Result<Vec<u8>, Fault<Refusal>>
     requires { length input.now ≤ 16777216 }
     ensures output { Answers (λ out. out.items) result (parted subject 1 (parts_of input.now) run_text) }
@@ -67,7 +67,7 @@ fn run(alloc: Global, subject: Subject, input: &[u8]) -> Result<Vec<u8>, Fault<R
 }
 
 /// A listing under a schedule, as commands ask for it.
-#[tactic(auto, unfolding(snap_program::specs::Output::parted))]
+#[tactic(auto, unfolding(snap_output::specs::Output::parted))]
 fn debug(alloc: Global, subject: Subject, input: &[u8]) -> Result<Vec<u8>, Fault<Refusal>>
     requires { length input.now ≤ 16777216 }
     ensures output { Answers (λ out. out.items) result (parted subject 2 (parts_of input.now) debug_text) }
@@ -80,7 +80,7 @@ fn debug(alloc: Global, subject: Subject, input: &[u8]) -> Result<Vec<u8>, Fault
 }
 
 /// The verdicts of a listing under a schedule.
-#[tactic(auto, unfolding(snap_program::specs::Output::parted))]
+#[tactic(auto, unfolding(snap_output::specs::Output::parted))]
 fn audit(alloc: Global, subject: Subject, input: &[u8]) -> Result<Vec<u8>, Fault<Refusal>>
     requires { length input.now ≤ 16777216 }
     ensures output { Answers (λ out. out.items) result (parted subject 1 (parts_of input.now) verdicts_text) }
@@ -93,7 +93,7 @@ fn audit(alloc: Global, subject: Subject, input: &[u8]) -> Result<Vec<u8>, Fault
 }
 
 /// The whole output for an input, or why there is none.
-#[tactic(auto, unfolding(snap_program::specs::Output::output_of))]
+#[tactic(auto, unfolding(snap_output::specs::Output::output_of))]
 pub fn output(alloc: Global, task: &Task, input: &[u8]) -> Result<Vec<u8>, Fault<Refusal>>
     ensures { Answers (λ out. out.items) result (output_of task.now input.now) }
 {

@@ -1,0 +1,4 @@
+pub mod Parts
+pub mod Perform
+pub mod Replies
+pub mod Output

@@ -16,7 +16,8 @@ use Rattle.snap_semantics.specs.Source.{Source}
 use Rattle.snap_semantics.specs.Spelling.{spelled_line, spelled_source}
 use Rattle.snap_semantics.specs.Token.{Token, TextLine, text_lines, lines_of}
 use Rattle.snap_semantics.specs.Uses.{Use, Named, BankUse, FieldUse, HandUse, ViewUse, TupleUse, instr_uses, kind_has, use_of_sort, checked_use, checked_uses}
-use Rattle.snap_grammar.specs.Laws.{line_tokens, ReadsAllSpelled}
+use Rattle.snap_text.specs.Lines.{line_tokens}
+use Rattle.snap_grammar.specs.Laws.{ReadsAllSpelled}
 use Rattle.snap_grammar.proofs.AgainHeader.{bind_by, pass_by, form_again, header_again}
 use Rattle.snap_grammar.proofs.AgainTerms.{Names}
 use Rattle.snap_grammar.proofs.Declared.{uses_named}

@@ -36,6 +36,7 @@ use Rattle.snap_semantics.specs.Source.{Name, Source}
 use Rattle.snap_semantics.specs.Spelling.{in_parentheses, in_brackets, spelled_index, spelled_place, field_word, spelled_term, spelled_expr, spelled_relation, spelled_comparison, spelled_condition, spelled_where, spelled_range, spelled_target, spelled_tuple, bank_word, spelled_pair, spelled_instr, spelled_line, kind_word, spelled_names, spelled_entry, spelled_source}
 use Rattle.snap_semantics.specs.Token.{Token, Word, Sign, IsWord}
 use Rattle.snap_semantics.specs.Uses.{index_uses, term_uses, expr_uses, comparison_uses, condition_uses, where_uses, tuple_uses, instr_uses, row, view}
+use Rattle.snap_text.specs.Laws.{IsSoundLine}
 use Rattle.snap_text.specs.Tokens.{IsSound}
 use Rattle.snap_grammar.proofs.AgainTerms.{Names, names_first, names_rest}
 use Rattle.snap_grammar.proofs.Alls.{all_first, all_rest, all_both}
@@ -259,17 +260,14 @@ targets_fit : (s : Source) (lines : List Line) (ks : List ℕ) → AllByRecursio
 targets_fit s lines [] h g = tt
 targets_fit s lines (k ∷ ks) h g = (target_fits s lines k h g.0, targets_fit s lines ks h g.1)
 
-abbrev pub AreSoundLines : List (List Token) → Type 0
-AreSoundLines lines = AllByRecursion Sounds lines
-
 lines_sound : (s : Source) (lines : List Line) → AllByRecursion IsName (all_names s) → AllByRecursion (IsLine s) lines → AllByRecursion Fits (line_targets lines) →
-    AreSoundLines (map spelled_line lines)
+    AllByRecursion IsSoundLine (map spelled_line lines)
 lines_sound s [] all h fit = tt
 lines_sound s (line ∷ lines) all h fit =
     let first = all_first Fits (instr_targets line.instr) (line_targets lines) fit in
     let rest = all_rest Fits (instr_targets line.instr) (line_targets lines) fit in
     let names = uses_named s (instr_uses line.instr) all h.0.uses in
-    ((line_number_fits line.number h.0.number, (tt, instr_sound line.instr h.0.form names first)), lines_sound s lines all h.1 rest)
+    ((refl, (line_number_fits line.number h.0.number, (tt, instr_sound line.instr h.0.form names first))), lines_sound s lines all h.1 rest)
 
 kind_sound : (k : KindTag) → IsWord (kind_word k)
 kind_sound kind.Seq = (omega arith, refl)
@@ -281,7 +279,7 @@ names_sound [] h = tt
 names_sound (x ∷ names) h = (h.0.0, names_sound names h.1)
 
 -- the tokens of a listing
-pub listing_sound : (s : Source) → IsListing s → AreSoundLines (spelled_source s)
+pub listing_sound : (s : Source) → IsListing s → AllByRecursion IsSoundLine (spelled_source s)
 listing_sound s h =
     let behind_scalars = all_rest IsName s.scalars (s.rows ++ (s.words ++ s.views)) h.names in
     let behind_rows = all_rest IsName s.rows (s.words ++ s.views) behind_scalars in
@@ -294,4 +292,4 @@ listing_sound s h =
     let scan : Sounds (spelled_entry (codes "scan") s.scan) = ((omega arith, refl), (line_number_fits s.scan h.scan, tt)) in
     let update : Sounds (spelled_entry (codes "update") s.update) = ((omega arith, refl), (line_number_fits s.update h.update, tt)) in
     let lines = lines_sound s s.lines h.names h.lines (targets_fit s s.lines (line_targets s.lines) h.lines h.targets.1.1) in
-    (kind_line, (scalars, (rows, (words, (views, (scan, (update, lines)))))))
+    ((refl, kind_line), ((refl, scalars), ((refl, rows), ((refl, words), ((refl, views), ((refl, scan), ((refl, update), lines)))))))

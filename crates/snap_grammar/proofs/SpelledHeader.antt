@@ -16,8 +16,8 @@ use Rattle.snap_semantics.specs.Source.{Name, Source}
 use Rattle.snap_semantics.specs.Spelling.{kind_word, spelled_names, spelled_entry}
 use Rattle.snap_semantics.specs.Token.{Token, Word, Number, Sign, IsWord, TextLine}
 use Rattle.snap_semantics.specs.Uses.{is_among}
+use Rattle.snap_text.specs.Lines.{line_tokens}
 use Rattle.snap_text.proofs.Sound.{AreSound}
-use Rattle.snap_grammar.specs.Laws.{line_tokens}
 use Rattle.snap_grammar.proofs.Alls.{all_both}
 use Rattle.snap_grammar.proofs.HasForms.{Holds, then_with, Sounds}
 use Rattle.snap_grammar.proofs.RightSources.{HoldsOk, ok_with}

@@ -15,8 +15,9 @@ use Rattle.snap_semantics.specs.Source.{Source}
 use Rattle.snap_semantics.specs.Spelling.{spelled_names, spelled_entry, spelled_instr, spelled_line, spelled_source}
 use Rattle.snap_semantics.specs.Token.{Token, TextLine, text_lines, lines_of}
 use Rattle.snap_semantics.specs.Uses.{Use, Named, BankUse, FieldUse, HandUse, ViewUse, TupleUse, instr_uses, checked_uses}
+use Rattle.snap_text.specs.Lines.{line_tokens}
 use Rattle.snap_text.proofs.Sound.{AreSound, lines_sound}
-use Rattle.snap_grammar.specs.Laws.{line_tokens, Spells}
+use Rattle.snap_grammar.specs.Laws.{Spells}
 use Rattle.snap_grammar.proofs.AgainTerms.{IsNamed, Names, short_name}
 use Rattle.snap_grammar.proofs.Declared.{uses_named}
 use Rattle.snap_grammar.proofs.HasForms.{Holds, Sounds, LineFound, line_has}

@@ -1,19 +1,16 @@
 -- The laws of reading and printing listings.
-use Rattle.std.specs.Prelude.{◌≡◌, ℕ, ◌≤◌, List, length, map, Option, Some, Ok}
+use Rattle.std.specs.Prelude.{◌≡◌, ℕ, ◌≤◌, List, length, Ok}
 use Rattle.snap_semantics.specs.CanonicalText.{canonical_text}
 use Rattle.snap_semantics.specs.IsListing.{IsListing}
 use Rattle.snap_semantics.specs.Listing.{listing_of}
 use Rattle.snap_semantics.specs.Source.{Source}
 use Rattle.snap_semantics.specs.Spelling.{spelled_source}
-use Rattle.snap_semantics.specs.Token.{Token, TextLine, text_lines}
-
--- the tokens of the lines
-abbrev pub line_tokens : List TextLine → List (Option (List Token))
-line_tokens lines = map (λ (line : TextLine). line.tokens) lines
+use Rattle.snap_semantics.specs.Token.{text_lines}
+use Rattle.snap_text.specs.Lines.{line_tokens, found_lines}
 
 -- the lines with tokens are the spelling of the listing
 abbrev pub Spells : List ℕ → Source → Type 0
-Spells text s = line_tokens (text_lines text) ≡ map (λ (ts : List Token). let line : Option (List Token) = Some ts in line) (spelled_source s)
+Spells text s = line_tokens (text_lines text) ≡ found_lines (spelled_source s)
 
 -- what is read is a listing, and the text spells it
 abbrev pub ReadsOnlySpelled : Type 0

@@ -2,7 +2,6 @@
 #![tactic(auto)]
 
 mod instructions;
-mod layout;
 mod printing;
 mod spelling;
 

@@ -4,10 +4,10 @@ ghost use Rattle.snap_semantics.specs.CanonicalText.{canonical_text};
 ghost use Rattle.snap_semantics.specs.Layout.{line_text, lines_text};
 ghost use Rattle.snap_semantics.specs.Spelling.{spelled_line, spelled_names, spelled_entry, kind_word};
 
-use crate::layout::push_laid_out;
 use crate::spelling::Spelling;
 use snap_semantics::{Line, Name};
 use snap_source::Listing;
+use snap_text::push_laid_out;
 use snap_words::KindTag;
 use std::alloc::{AllocError, Global};
 

@@ -18,7 +18,8 @@ use Rattle.snap_semantics.specs.ScheduleForms.{Form, Steps, Calls, spelled_shape
 use Rattle.snap_semantics.specs.ScheduleText.{IsSchedule}
 use Rattle.snap_semantics.specs.Table.{who}
 use Rattle.snap_semantics.specs.Token.{Token, Number, Sign, TextLine, text_lines}
-use Rattle.snap_sched.specs.Spelling.{IsSpelling, IsLineOf, AreLinesOf, IsSpelled, line_tokens}
+use Rattle.snap_text.specs.Lines.{line_tokens}
+use Rattle.snap_sched.specs.Spelling.{IsSpelling, IsLineOf, AreLinesOf, IsSpelled}
 use Rattle.snap_sched.proofs.Lines.{length_items}
 
 is_count_of : (k : ℕ) → IsOneOf 16 k → is_count k ≡ true

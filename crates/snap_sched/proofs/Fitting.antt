@@ -7,9 +7,10 @@ use Rattle.snap_semantics.specs.Schedule.{Schedule, schedule_of, form_items}
 use Rattle.snap_semantics.specs.ScheduleForms.{Form, Steps, Calls, spelled_call}
 use Rattle.snap_semantics.specs.ScheduleText.{IsSchedule, FitsWords, FitsItem}
 use Rattle.snap_semantics.specs.Token.{Token, TextLine, text_lines}
+use Rattle.snap_text.specs.Lines.{line_tokens}
 use Rattle.snap_text.specs.Tokens.{IsSound}
 use Rattle.snap_text.proofs.Sound.{AreSound, lines_sound}
-use Rattle.snap_sched.specs.Spelling.{IsSpelling, IsLineOf, AreLinesOf, IsSpelled, line_tokens}
+use Rattle.snap_sched.specs.Spelling.{IsSpelling, IsLineOf, AreLinesOf, IsSpelled}
 use Rattle.snap_sched.proofs.Fits.{joined_fit, steps_fit}
 use Rattle.snap_sched.proofs.Spelled.{read_is_spelled}
 

@@ -13,7 +13,8 @@ use Rattle.snap_semantics.specs.Schedule.{Schedule, admitted, items_of, schedule
 use Rattle.snap_semantics.specs.ScheduleForms.{Form, shape_form, item_form}
 use Rattle.snap_semantics.specs.Table.{who}
 use Rattle.snap_semantics.specs.Token.{Token, TextLine, text_lines}
-use Rattle.snap_sched.specs.Spelling.{IsSpelling, IsLineOf, AreLinesOf, IsSpelled, line_tokens}
+use Rattle.snap_text.specs.Lines.{line_tokens}
+use Rattle.snap_sched.specs.Spelling.{IsSpelling, IsLineOf, AreLinesOf, IsSpelled}
 use Rattle.snap_sched.proofs.Found.{shape_found, item_found}
 use Rattle.snap_sched.proofs.Lines.{is_admitted, admitted_is, length_items, all_more, all_form}
 

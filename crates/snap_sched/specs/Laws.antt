@@ -3,7 +3,8 @@ use Rattle.std.specs.Prelude.{◌≡◌, ℕ, ◌≤◌, List, length, Ok}
 use Rattle.snap_semantics.specs.Schedule.{Schedule, schedule_of}
 use Rattle.snap_semantics.specs.ScheduleText.{IsSchedule, schedule_text}
 use Rattle.snap_semantics.specs.Token.{text_lines}
-use Rattle.snap_sched.specs.Spelling.{IsSpelled, line_tokens}
+use Rattle.snap_text.specs.Lines.{line_tokens}
+use Rattle.snap_sched.specs.Spelling.{IsSpelled}
 
 -- what is read is a schedule, and the text spells it
 abbrev pub ReadsOnlySpelled : Type 0

@@ -1,5 +1,4 @@
 pub mod Runs
 pub mod Reading
-pub mod Printing
 pub mod Spelling
 pub mod Laws

@@ -1,10 +1,10 @@
 -- How lines may spell a schedule: the grammar of schedules as a relation between forms and tokens.
-use Rattle.std.specs.Prelude.{◌≡◌, ◌<◌, ◌⊎◌, List, [], ◌∷◌, map, Option, Some, None, ⊤}
+use Rattle.std.specs.Prelude.{◌≡◌, ◌<◌, ◌⊎◌, List, [], ◌∷◌, Option, Some, None, ⊤}
 use Rattle.std.specs.List.{flat_map}
 use Rattle.snap_semantics.specs.declared.text.Mark.TheVariants as mark
 use Rattle.snap_semantics.specs.Schedule.{Schedule, form_items}
 use Rattle.snap_semantics.specs.ScheduleForms.{Form, Steps, Calls, spelled_shape, spelled_steps, spelled_call}
-use Rattle.snap_semantics.specs.Token.{Token, Number, Sign, TextLine}
+use Rattle.snap_semantics.specs.Token.{Token, Number, Sign}
 
 -- A form may be spelled so: steps, of which there is one at least, with their count or, where they are one, without it.
 abbrev pub IsSpelling : Form → List Token → Type 0
@@ -26,7 +26,3 @@ AreLinesOf (f ∷ fs) (line ∷ lines) = IsLineOf f line × AreLinesOf fs lines
 abbrev pub IsSpelled : Schedule → List (Option (List Token)) → Type 0
 IsSpelled s [] = ⊥
 IsSpelled s (line ∷ lines) = (line ≡ Some (spelled_shape s.shape)) × ((forms : List Form) × AreLinesOf forms lines × (flat_map form_items forms ≡ s.items))
-
--- what the lines of a text have in tokens
-abbrev pub line_tokens : List TextLine → List (Option (List Token))
-line_tokens lines = map (λ line. line.tokens) lines

@@ -1,5 +1,6 @@
 pub mod Before
 pub mod Decimals
+pub mod Laid
 pub mod Printed
 pub mod Runs
 pub mod Sound

@@ -6,11 +6,15 @@ use Rattle.std.specs.List.{list_all}
 use Rattle.snap_semantics.specs.declared.text.Mark.{Mark}
 use Rattle.snap_semantics.specs.declared.text.Mark.TheVariants as mark
 use Rattle.snap_semantics.specs.Layout.{mark_text, token_text}
-use Rattle.snap_semantics.specs.ScheduleText.{is_sign}
 use Rattle.snap_semantics.specs.Token.{Token, Word, Number, Sign, is_letter, is_digit, front_of, front_tokens, tokens_of, lines_of, numbered}
 use Rattle.snap_text.specs.Tokens.{IsSound}
 use Rattle.snap_text.proofs.Before.{number_before, word_before, space_before, sign_before, is_plain, line_before, numbered_before}
 use Rattle.snap_text.proofs.Decimals.{decimal_digits}
+
+abbrev pub is_sign : Token → Bool
+is_sign (Word w) = false
+is_sign (Number k) = false
+is_sign (Sign m) = true
 
 -- What stands behind a token is read as these tokens, and begins with no letter or digit where that would join.
 pub record Reads (t : Token) (bs : List ℕ) (ts : List Token) : Type 0 where

@@ -1,6 +1,6 @@
 -- The lines of a text as they are seen.
-use Rattle.std.specs.Prelude.{◌≡◌, List, [], ◌∷◌, Option, Some, None, option_map}
-use Rattle.snap_semantics.specs.Token.{TextLine}
+use Rattle.std.specs.Prelude.{◌≡◌, List, [], ◌∷◌, map, Option, Some, None, option_map}
+use Rattle.snap_semantics.specs.Token.{Token, TextLine}
 use Rattle.snap_text.specs.declared.lines.TokenLine.{TokenLine}
 use Rattle.snap_text.specs.Tokens.{view_tokens}
 
@@ -11,3 +11,11 @@ view_line line = record { number = line.number; tokens = option_map (λ ts. view
 abbrev pub IsNext : Option TokenLine → List TextLine → List TextLine → Type 0
 IsNext None old new = (old ≡ []) × (new ≡ [])
 IsNext (Some line) old new = old ≡ view_line line ∷ new
+
+-- what lines have in tokens
+abbrev pub line_tokens : List TextLine → List (Option (List Token))
+line_tokens lines = map (λ (line : TextLine). line.tokens) lines
+
+-- these tokens, line by line, as they are found in a text
+abbrev pub found_lines : List (List Token) → List (Option (List Token))
+found_lines lines = map (λ (ts : List Token). let line : Option (List Token) = Some ts in line) lines

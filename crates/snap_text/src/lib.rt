@@ -1,11 +1,15 @@
 //! Texts in tokens and lines, and texts put together.
 #![tactic(auto)]
 
+mod laws;
+mod layout;
 mod lexer;
 mod lines;
 mod push;
 mod rules;
 
+pub use laws::what_is_laid_out_is_read;
+pub use layout::push_laid_out;
 pub use lexer::{Token, tokens};
 pub use lines::{TextLines, TokenLine, line_count};
 pub use push::{push_number, push_numbers, push_text};

@@ -1,4 +1,4 @@
-use Rattle.snap_grammar.proofs.Laid.{printed_spells}
+use Rattle.snap_grammar.proofs.Printed.{printed_spells}
 use Rattle.snap_grammar.proofs.laws.what_is_printed_is_spelled.Goals as goal
 
 pub returns : goal.returns

@@ -1,18 +1,13 @@
--- The lines of a canonical text are read as the tokens that were laid out.
-use Rattle.std.proofs.Common.{◌≡◌, ℕ, ◌+◌, Bool, true, false, ◌&&◌, List, [], ◌∷◌, ◌++◌, map, Option, Some, codes, if◌then◌else◌, refl, sym, ap, ◌∙◌, subst, append_assoc}
+-- Lines that are laid out are read as the tokens that were laid out.
+use Rattle.std.proofs.Common.{◌≡◌, ℕ, ◌+◌, Bool, true, false, ◌&&◌, List, [], ◌∷◌, ◌++◌, Option, Some, codes, if◌then◌else◌, refl, sym, ap, ◌∙◌, subst, append_assoc}
 use Rattle.std.specs.List.{AllByRecursion, list_all}
-use Rattle.snap_semantics.specs.CanonicalText.{canonical_text}
-use Rattle.snap_semantics.specs.declared.instr.Line.{Line}
 use Rattle.snap_semantics.specs.Layout.{token_text, depth_behind, parts_behind, parts_before, gap, layout, line_text, lines_text}
-use Rattle.snap_semantics.specs.ScheduleText.{is_sign}
-use Rattle.snap_semantics.specs.Spelling.{spelled_line, spelled_source}
 use Rattle.snap_semantics.specs.Token.{Token, Word, Number, Sign, lines_of, numbered}
-use Rattle.snap_text.specs.Tokens.{IsSound, is_some_token}
+use Rattle.snap_text.specs.Laws.{IsSoundLine, ReadsLaidOut}
+use Rattle.snap_text.specs.Lines.{line_tokens, found_lines}
+use Rattle.snap_text.specs.Tokens.{IsSound}
 use Rattle.snap_text.proofs.Before.{is_plain}
-use Rattle.snap_text.proofs.Printed.{Reads, space, reads_end, reads_first, reads_more, token_plain, space_plain, joined_plain, line_read}
-use Rattle.snap_grammar.specs.Laws.{line_tokens, ReadsAllSpelled, PrintsSpelling, ReadsPrinted}
-use Rattle.snap_grammar.proofs.HasForms.{Sounds}
-use Rattle.snap_grammar.proofs.SoundForms.{AreSoundLines, listing_sound}
+use Rattle.snap_text.proofs.Printed.{is_sign, Reads, space, reads_end, reads_first, reads_more, token_plain, space_plain, joined_plain, line_read}
 
 -- the tokens behind one, laid out without the line feed
 abbrev laid : ℕ → Token → List Token → List ℕ
@@ -53,14 +48,14 @@ both_parted depth (Sign m) u e d = absurd cc
 both_parted depth (Word w) (Sign m) e d = absurd cc
 both_parted depth (Number j) (Sign m) e d = absurd cc
 
-laid_reads : (depth : ℕ) (t : Token) (us : List Token) → Sounds us → Reads t (laid depth t us) us
+laid_reads : (depth : ℕ) (t : Token) (us : List Token) → AllByRecursion IsSound us → Reads t (laid depth t us) us
 laid_reads depth t [] h = reads_end t
 laid_reads depth t (u ∷ us) h =
     let behind = laid (depth_behind depth t u) u us in
     subst (λ (g : List ℕ). Reads t (g ++ (token_text u ++ behind)) (u ∷ us)) (sym (gap_is depth t u))
     (reads_more t u (are_parted depth t u) behind us (both_parted depth t u) h.0 (laid_reads (depth_behind depth t u) u us h.1))
 
-laid_plain : (depth : ℕ) (t : Token) (us : List Token) → Sounds us → list_all is_plain (laid depth t us) ≡ true
+laid_plain : (depth : ℕ) (t : Token) (us : List Token) → AllByRecursion IsSound us → list_all is_plain (laid depth t us) ≡ true
 laid_plain depth t [] h = refl
 laid_plain depth t (u ∷ us) h =
     let behind = laid (depth_behind depth t u) u us in
@@ -69,39 +64,22 @@ laid_plain depth t (u ∷ us) h =
     (joined_plain (token_text u) behind (token_plain u h.0) (laid_plain (depth_behind depth t u) u us h.1))
 
 -- the first of the lines, and the others
-line_printed : (k : ℕ) (t : Token) (ts : List Token) (rest : List ℕ) → IsSound t → Sounds ts →
+pub line_laid : (k : ℕ) (t : Token) (ts : List Token) (rest : List ℕ) → IsSound t → AllByRecursion IsSound ts →
     line_tokens (numbered k (lines_of (line_text (t ∷ ts) ++ rest))) ≡ Some (t ∷ ts) ∷ line_tokens (numbered (k + 1) (lines_of rest))
-line_printed k t ts rest h hs =
+line_laid k t ts rest h hs =
     let behind = laid 0 t ts in
     let plain = joined_plain (token_text t) behind (token_plain t h) (laid_plain 0 t ts hs) in
     let tokens = reads_first t behind ts h (laid_reads 0 t ts hs) in
     ap (λ (bs : List ℕ). line_tokens (numbered k (lines_of bs))) (piece_before (token_text t) (layout 0 t ts) behind rest (layout_is 0 t ts rest))
     ∙ ap line_tokens (line_read k (token_text t ++ behind) rest t ts plain tokens)
 
-abbrev AreSome : List (List Token) → Type 0
-AreSome lines = AllByRecursion (λ (ts : List Token). is_some_token ts ≡ true) lines
+lines_laid : (k : ℕ) (lines : List (List Token)) → AllByRecursion IsSoundLine lines → line_tokens (numbered k (lines_of (lines_text lines))) ≡ found_lines lines
+lines_laid k [] h = refl
+lines_laid k ([] ∷ lines) h = absurd (let no = h.0.0 in cc)
+lines_laid k ((t ∷ ts) ∷ lines) h =
+    line_laid k t ts (lines_text lines) h.0.1.0 h.0.1.1
+    ∙ ap (λ (ls : List (Option (List Token))). Some (t ∷ ts) ∷ ls) (lines_laid (k + 1) lines h.1)
 
--- the lines as they are found in a text
-abbrev found_lines : List (List Token) → List (Option (List Token))
-found_lines lines = map (λ (ts : List Token). let line : Option (List Token) = Some ts in line) lines
-
-lines_printed : (k : ℕ) (lines : List (List Token)) → AreSome lines → AreSoundLines lines →
-    line_tokens (numbered k (lines_of (lines_text lines))) ≡ found_lines lines
-lines_printed k [] some h = refl
-lines_printed k ([] ∷ lines) some h = absurd (let no = some.0 in cc)
-lines_printed k ((t ∷ ts) ∷ lines) some h =
-    line_printed k t ts (lines_text lines) h.0.0 h.0.1
-    ∙ ap (λ (ls : List (Option (List Token))). Some (t ∷ ts) ∷ ls) (lines_printed (k + 1) lines some.1 h.1)
-
-lines_some : (lines : List Line) → AreSome (map spelled_line lines)
-lines_some [] = tt
-lines_some (line ∷ lines) = (refl, lines_some lines)
-
--- what is printed of a listing spells it
-pub printed_spells : PrintsSpelling
-printed_spells s h =
-    lines_printed 1 (spelled_source s) (refl, (refl, (refl, (refl, (refl, (refl, (refl, lines_some s.lines))))))) (listing_sound s h)
-
--- so it is read
-pub printed_read : ReadsAllSpelled → ReadsPrinted
-printed_read read s h short = read (canonical_text s) s short h (printed_spells s h)
+-- the lines of a text that was laid out
+pub laid_read : ReadsLaidOut
+laid_read lines h = lines_laid 1 lines h

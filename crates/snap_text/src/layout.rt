@@ -3,8 +3,9 @@ ghost use Rattle.std.specs.Prelude.{◌≡◌, ◌<◌, ◌≤◌, ◌++◌, ◌
 ghost use Rattle.snap_semantics.specs.Layout.{mark_text, token_text, depth_behind, parts_behind, parts_before, gap, layout, line_text, opened, closed};
 ghost use Rattle.snap_text.specs.Tokens.{view_token, view_tokens};
 
+use crate::lexer::Token;
+use crate::push::{push_number, push_text};
 use snap_semantics::Mark;
-use snap_text::{Token, push_number, push_text};
 use std::alloc::AllocError;
 
 /// How a mark is spelled.

@@ -1,7 +1,7 @@
 use Rattle.std.proofs.Common.{◌≡◌, ◌≤◌, ◌++◌, drop}
 use Rattle.snap_semantics.specs.Layout.{layout}
 use Rattle.snap_text.specs.Tokens.{view_token, view_tokens}
-use Rattle.snap_printer.proofs.layout.push_behind.Given as goal
+use Rattle.snap_text.proofs.layout.push_behind.Given as goal
 
 abbrev pub invariant-loop-token : goal.invariant-loop-token
 invariant-loop-token l =

@@ -1,17 +1,17 @@
 //! Schedules and their items: read from texts, kept as runs, and printed.
 #![tactic(auto)]
 
+mod canonical_text;
 mod fault;
 mod forms;
 mod items;
 mod laws;
-mod printing;
-mod reading;
+mod reader;
 mod schedule;
 
+pub use canonical_text::print;
 pub use fault::ScheduleFault;
 pub use items::{Items, Stretch};
 pub use laws::{prints_again, reads_all_spelled, reads_only_spelled};
-pub use printing::print;
-pub use reading::read;
+pub use reader::read;
 pub use schedule::{MAX_BYTES, MAX_ITEMS, Schedule};

@@ -2,7 +2,7 @@ use Rattle.std.proofs.Common.{◌≡◌, ◌-◌, length, ap, sym, ◌∙◌, Ok
 use Rattle.snap_text.specs.Lines.{view_line}
 use Rattle.snap_sched.specs.Reading.{view_form, line_form}
 use Rattle.snap_sched.proofs.Lines.{turn, kept, next_is}
-use Rattle.snap_sched.proofs.reading.items_of.Goals as goal
+use Rattle.snap_sched.proofs.reader.items_of.Goals as goal
 
 pub loop-items-preserved-in_ok-push_form-in-Ok : goal.loop-items-preserved-in_ok-push_form-in-Ok
 loop-items-preserved-in_ok-push_form-in-Ok c =

@@ -5,7 +5,7 @@ use Rattle.snap_semantics.specs.Schedule.{items_of}
 use Rattle.snap_semantics.specs.ScheduleText.{FitsItem}
 use Rattle.snap_semantics.specs.Table.{who}
 use Rattle.snap_sched.proofs.Lines.{prefixed}
-use Rattle.snap_sched.proofs.reading.items_of.Given as goal
+use Rattle.snap_sched.proofs.reader.items_of.Given as goal
 
 -- the items so far, and those of the lines that are left
 abbrev pub invariant-loop-items : goal.invariant-loop-items

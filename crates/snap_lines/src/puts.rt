@@ -1,19 +1,19 @@
 //! What a line puts into a register, and what is checked of it.
 ghost use Rattle.std.specs.Prelude.{◌≡◌, ◌&&◌, true, false, Ok, MatchResult, take};
 ghost use Rattle.std.specs.List.{list_all};
-ghost use Rattle.snap_words.specs.Kind.{has_bits, is_bit, is_sized, kept, may_write};
-ghost use Rattle.snap_semantics.specs.Table.{bank_of, tuple_word};
-ghost use Rattle.snap_semantics.specs.declared.process.Cause.TheVariants.{NotABit, Owner};
+ghost use Rattle.snap_words.specs.Kind.{has_bits, is_bit, is_sized, kept};
+ghost use Rattle.snap_semantics.specs.Table.{tuple_word};
+ghost use Rattle.snap_semantics.specs.declared.process.Cause.TheVariants.{NotABit};
 ghost use Rattle.snap_lines.specs.Given.{given_word, given_in, parts_in};
 ghost use Rattle.snap_lines.specs.Lines.{IfAnswered};
 ghost use Rattle.snap_values.specs.Seen.{seen_context};
 
 use crate::lines::Halt;
 use crate::local_lines::copy_of;
-use snap_semantics::{BitBank, Cause, Tuple};
+use snap_semantics::{Cause, Tuple};
 use snap_source::Listing;
 use snap_values::{Context, Process, expr_value, row, view};
-use snap_words::{Address, Bank, Kind, Parts, Shape};
+use snap_words::{Kind, Parts, Shape};
 use std::alloc::Global;
 
 /// The parts of a word that is to be put, before they are copied.
@@ -101,27 +101,6 @@ pub fn check_bit(bit: u64) -> Result<(), Cause>
         Ok(())
     } else {
         Err(Cause::NotABit)
-    }
-}
-
-/// `Owner` unless the process may write the registers of this bank whose first index is `i`.
-pub fn check_owner<K: Kind>(who: u32, bank: Bank, i: u64) -> Result<(), Cause>
-    ensures { MatchResult result (λ _. may_write K.TAG who bank i ≡ true) (λ e. (e ≡ Owner) × (may_write K.TAG who bank i ≡ false)) }
-{
-    if K::may_write(who, Address { bank, i, j: 0 }) {
-        Ok(())
-    } else {
-        Err(Cause::Owner)
-    }
-}
-
-/// The bank of these bits.
-pub fn bank_of(bits: BitBank) -> Bank
-    ensures { result ≡ bank_of bits }
-{
-    match bits {
-        BitBank::Q => Bank::Q,
-        BitBank::P => Bank::P,
     }
 }
 

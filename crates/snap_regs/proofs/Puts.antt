@@ -2,13 +2,12 @@
 use Rattle.std.proofs.Common.{◌≡◌, ◌∙◌, ℕ, ◌-◌, Bool, true, false, List, nat_lt, nat_le, if◌then◌else◌, refl, ap}
 use Rattle.std.proofs.lemmas.Bool.{and_parts}
 use Rattle.std.specs.Prelude.{slice_set}
-use Rattle.snap_words.specs.Shape.{Counts}
+use Rattle.snap_words.specs.Shape.{Counts, is_place}
 use Rattle.snap_words.specs.Word.{Word}
 use Rattle.snap_words.specs.declared.address.Bank.TheVariants as bank
 use Rattle.snap_semantics.specs.Places.{with_nth, with_contents}
 use Rattle.snap_semantics.specs.Readers.{WordContents}
 use Rattle.snap_semantics.specs.State.{with_memory_words}
-use Rattle.snap_regs.specs.Access.{is_place}
 use Rattle.snap_regs.specs.Store.{Store, with_word}
 
 nth_by : {A : Type 0} (v : Bool) (k : ℕ) (x : A) (xs : List A) → v ≡ true → slice_set xs (k - 1) x ≡ (if v then slice_set xs (k - 1) x else xs)

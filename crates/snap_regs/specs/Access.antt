@@ -1,17 +1,13 @@
 -- Which registers there are, and when one is not written.
 use Rattle.std.specs.Prelude.{◌≡◌, ℕ, Bool, true, false, ◌&&◌, nat_lt, nat_le}
 use Rattle.snap_words.specs.Kind.{has_bank, is_bit, may_write}
-use Rattle.snap_words.specs.Shape.{Counts}
+use Rattle.snap_words.specs.Shape.{Counts, is_place}
 use Rattle.snap_words.specs.declared.address.Bank.TheVariants as bank
 use Rattle.snap_words.specs.declared.kind.KindTag.{KindTag}
 use Rattle.snap_semantics.specs.Table.{bank_of}
 use Rattle.snap_semantics.specs.declared.instr.BitBank.{BitBank}
 use Rattle.snap_regs.specs.declared.fault.RegisterFault.{RegisterFault}
 use Rattle.snap_regs.specs.declared.fault.RegisterFault.TheVariants.{Index, Owner, NotABit}
-
--- whether k is one of this many places, counted from 1
-abbrev pub is_place : ℕ → ℕ → Bool
-is_place count k = nat_lt 0 k && nat_le k count
 
 -- whether there is such a bit
 abbrev pub is_bit_place : KindTag → Counts → BitBank → ℕ → ℕ → Bool

@@ -1,20 +1,21 @@
 //! The registers.
 ghost use Rattle.std.specs.Prelude.{◌≡◌, ◌-◌, ◌<◌, true, false, [], length, Some, None, map, replicate, IfOk, MatchResult, OnErr, OnOk, slice_index_or, slice_set};
 ghost use Rattle.snap_words.specs.Kind.{initial_word, is_bit, is_sized, may_write};
+ghost use Rattle.snap_words.specs.Shape.{is_place};
 ghost use Rattle.snap_words.specs.Word.{no_word};
 ghost use Rattle.snap_words.specs.declared.address.Bank.TheVariants as bank;
 ghost use Rattle.snap_semantics.specs.Places.{with_contents};
 ghost use Rattle.snap_semantics.specs.Readers.{contents, WordContents, BitContents, ViewContents};
 ghost use Rattle.snap_semantics.specs.State.{initial_memory};
 ghost use Rattle.snap_semantics.specs.Table.{bank_of, bit_at, bits_of};
-ghost use Rattle.snap_regs.specs.Access.{is_place, is_bit_place, is_view_place, IsWordRefused, IsBitRefused, IsViewRefused};
+ghost use Rattle.snap_regs.specs.Access.{is_bit_place, is_view_place, IsWordRefused, IsBitRefused, IsViewRefused};
 ghost use Rattle.snap_regs.specs.Store.{HasColumns, IsOfShape, rows_in, with_word, with_bit, with_view};
 ghost use Rattle.snap_regs.specs.declared.fault.RegisterFault.TheVariants.{Index, Owner};
 
 use crate::fault::RegisterFault;
-use crate::rows::{bank_of, copy_views, place_in, set_bit, zero_rows};
+use crate::rows::{copy_views, set_bit, zero_rows};
 use snap_semantics::BitBank;
-use snap_words::{Address, Bank, Kind, Shape, View};
+use snap_words::{Address, Bank, Kind, Shape, View, place_in};
 use std::alloc::{AllocError, Global};
 use std::marker::Model;
 
@@ -79,11 +80,11 @@ fn bit_place<K: Kind>(
         (λ at. (is_bit_place K.TAG shape bits i j ≡ true) × (at.0 ≡ i - 1) × (at.1 ≡ j - 1) × (at.0 < rows_in K.TAG shape (bank_of bits)) × (at.1 < shape.n))
         (λ e. (e ≡ Index) × (is_bit_place K.TAG shape bits i j ≡ false)) }
 {
-    if !K::has_bank(bank_of(bits)) {
+    if !K::has_bank(bits.bank()) {
         return Err(RegisterFault::Index);
     }
-    let row = place_in(shape.n(), i)?;
-    let column = place_in(shape.n(), j)?;
+    let row = place_in(shape.n(), i, RegisterFault::Index)?;
+    let column = place_in(shape.n(), j, RegisterFault::Index)?;
     Ok((row, column))
 }
 
@@ -96,11 +97,11 @@ fn view_place<K: Kind>(shape: Shape, i: u64) -> Result<usize, RegisterFault>
     if !K::has_bank(Bank::V) {
         return Err(RegisterFault::Index);
     }
-    place_in(shape.n(), i)
+    place_in(shape.n(), i, RegisterFault::Index)
 }
 
 /// `Owner` unless the process may write the registers of this bank whose first index is `i`.
-fn check_owner<K: Kind>(who: u32, bank: Bank, i: u64) -> Result<(), RegisterFault>
+pub fn check_owner<K: Kind>(who: u32, bank: Bank, i: u64) -> Result<(), RegisterFault>
     ensures { MatchResult result (λ _. may_write K.TAG who bank i ≡ true) (λ e. (e ≡ Owner) × (may_write K.TAG who bank i ≡ false)) }
 {
     if K::may_write(who, Address { bank, i, j: 0 }) {
@@ -143,7 +144,7 @@ impl<K: Kind> Registers<K> {
             (λ _. contents self.now.memory bank.R k 0 ≡ None) }
         ensures sized { IfOk result (λ word. is_sized K.TAG self.now.shape (K.parts word.now) ≡ true) }
     {
-        let place = place_in(self.shape.w(), k)?;
+        let place = place_in(self.shape.w(), k, RegisterFault::Index)?;
         Ok(&self.words[place])
     }
 
@@ -184,7 +185,7 @@ impl<K: Kind> Registers<K> {
         ensures place { OnOk result (self.new.memory ≡ with_contents self.old.memory bank.R k 0 (WordContents (K.parts word))) }
         ensures shape { self.new.shape ≡ self.old.shape }
     {
-        let place = place_in(self.shape.w(), k)?;
+        let place = place_in(self.shape.w(), k, RegisterFault::Index)?;
         check_owner::<K>(who, Bank::R, k)?;
         self.words[place] = word;
         Ok(())
@@ -211,7 +212,7 @@ impl<K: Kind> Registers<K> {
         if bit > 1 {
             return Err(RegisterFault::NotABit);
         }
-        check_owner::<K>(who, bank_of(bits), i)?;
+        check_owner::<K>(who, bits.bank(), i)?;
         match bits {
             BitBank::Q => set_bit(&mut self.q, row, column, bit),
             BitBank::P => set_bit(&mut self.p, row, column, bit),

@@ -1,36 +1,9 @@
 //! Rows of bits and views.
-ghost use Rattle.std.specs.Prelude.{◌≡◌, ◌<◌, ◌-◌, true, false, [], IfOk, MatchResult, length, replicate, slice_index_or};
-ghost use Rattle.snap_semantics.specs.Table.{bank_of, bit_at, with_bit_at};
-ghost use Rattle.snap_regs.specs.Access.{is_place};
-ghost use Rattle.snap_regs.specs.declared.fault.RegisterFault.TheVariants.{Index};
+ghost use Rattle.std.specs.Prelude.{◌≡◌, ◌<◌, [], IfOk, length, replicate, slice_index_or};
+ghost use Rattle.snap_semantics.specs.Table.{with_bit_at};
 
-use crate::fault::RegisterFault;
-use snap_semantics::BitBank;
-use snap_words::{Bank, View};
+use snap_words::View;
 use std::alloc::{AllocError, Global};
-
-/// The bank of these bits.
-pub(crate) fn bank_of(bits: BitBank) -> Bank
-    ensures { result ≡ bank_of bits }
-{
-    match bits {
-        BitBank::Q => Bank::Q,
-        BitBank::P => Bank::P,
-    }
-}
-
-/// Place `k`, counted from 1, as one counted from 0.
-pub(crate) fn place_in(count: u64, k: u64) -> Result<usize, RegisterFault>
-    ensures { MatchResult result
-        (λ place. (is_place count k ≡ true) × (place ≡ k - 1) × (place < count))
-        (λ e. (e ≡ Index) × (is_place count k ≡ false)) }
-{
-    if 1 <= k && k <= count {
-        Ok((k - 1) as usize)
-    } else {
-        Err(RegisterFault::Index)
-    }
-}
 
 /// This many rows of this many zeros.
 pub(crate) fn zero_rows(alloc: Global, count: u64, columns: u64) -> Result<Vec<View>, AllocError>

@@ -1,6 +1,9 @@
 //! The lines of a listing.
+ghost use Rattle.std.specs.Prelude.{◌≡◌};
+ghost use Rattle.snap_semantics.specs.Table.{bank_of};
+
 use crate::name::Name;
-use snap_words::Field;
+use snap_words::{Bank, Field};
 
 /// A number that can stand for a place.
 #[derive(Clone, Copy, Debug)]
@@ -86,6 +89,18 @@ pub enum Range {
 pub enum BitBank {
     Q,
     P,
+}
+
+impl BitBank {
+    /// The bank of these bits.
+    pub fn bank(self) -> Bank
+        ensures { result ≡ bank_of self }
+    {
+        match self {
+            BitBank::Q => Bank::Q,
+            BitBank::P => Bank::P,
+        }
+    }
 }
 
 /// The parts of a word to be written, as the word's kind has them.

@@ -2,14 +2,13 @@
 //! each bank, field and tuple.
 ghost use Rattle.std.specs.Prelude.{◌≡◌};
 ghost use Rattle.snap_words.specs.Kind.{has_bank, has_field, has_hands, has_view};
-ghost use Rattle.snap_semantics.specs.Table.{bank_of};
 ghost use Rattle.snap_semantics.specs.Uses.{sort_of, same_sort, same_kind, instr_uses, checked_uses};
 ghost use Rattle.snap_source.specs.Checks.{checked_name, checked_kind, checked_index, checked_indexes, checked_place, checked_term, checked_expr, checked_comparison, checked_condition, checked_where, checked_tuple, checked_access, checked_assignment, checked_instr};
 ghost use Rattle.snap_source.specs.Fields.{header_source};
 
 use crate::header::{Header, is_among};
 use snap_semantics::{
-    BitBank, Comparison, Condition, Expr, Index, Instr, ListingRefusal, Name, Sort, Term, Tuple,
+    Comparison, Condition, Expr, Index, Instr, ListingRefusal, Name, Sort, Term, Tuple,
 };
 use snap_words::{Bank, Bits, Field, Kind, KindTag, Multi, Seq};
 
@@ -54,16 +53,6 @@ pub fn same_kind(one: KindTag, other: KindTag) -> bool
     ensures { result ≡ same_kind one other }
 {
     one == other
-}
-
-/// The bank of these bits.
-fn bank_of(bits: BitBank) -> Bank
-    ensures { result ≡ bank_of bits }
-{
-    match bits {
-        BitBank::Q => Bank::Q,
-        BitBank::P => Bank::P,
-    }
 }
 
 /// Whether a kind has this bank.
@@ -277,7 +266,7 @@ fn checked_access(header: &Header, line: u64, instr: &Instr) -> Result<(), Listi
         }
         Instr::Bit(scalar, bits, first, second) => {
             checked_name(header, line, Sort::Scalar, scalar)?;
-            checked_kind(line, has_bank(header.kind, bank_of(*bits)))?;
+            checked_kind(line, has_bank(header.kind, bits.bank()))?;
             checked_indexes(header, line, first, second)
         }
         Instr::Look(view, register) => {
@@ -290,7 +279,7 @@ fn checked_access(header: &Header, line: u64, instr: &Instr) -> Result<(), Listi
             checked_tuple(header, line, tuple)
         }
         Instr::PutBit(bits, first, second, value) => {
-            checked_kind(line, has_bank(header.kind, bank_of(*bits)))?;
+            checked_kind(line, has_bank(header.kind, bits.bank()))?;
             checked_indexes(header, line, first, second)?;
             checked_expr(header, line, value)
         }

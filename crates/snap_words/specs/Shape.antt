@@ -1,5 +1,5 @@
 -- How many processes and words there are.
-use Rattle.std.specs.Prelude.{ℕ, ◌<◌, ◌≤◌, max}
+use Rattle.std.specs.Prelude.{ℕ, ◌<◌, ◌≤◌, ◌-◌, max, Bool, ◌&&◌, Result, Ok, Err, nat_lt, nat_le, if◌then◌else◌}
 
 -- the numbers of processes and of words
 pub record Counts : Type 0 where
@@ -17,3 +17,11 @@ IsShape n w = IsOneOf 16 n × IsOneOf 16 w
 -- how many places a row or a `words` local has
 abbrev pub places : Counts → ℕ
 places s = max s.n s.w
+
+-- whether k is one of this many places, counted from 1
+abbrev pub is_place : ℕ → ℕ → Bool
+is_place count k = nat_lt 0 k && nat_le k count
+
+-- place k, counted from 1, as one counted from 0; the fault where there is none
+abbrev pub place_in : {E : Type 0} → ℕ → ℕ → E → Result ℕ E
+place_in count k fault = if is_place count k then Ok (k - 1) else Err fault

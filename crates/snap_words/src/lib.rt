@@ -6,6 +6,7 @@ mod contents;
 mod kind;
 mod kinds;
 mod parts;
+mod place;
 mod shape;
 mod view;
 
@@ -14,5 +15,6 @@ pub use contents::{field_of, hands_of, view_of};
 pub use kind::{Field, KindTag};
 pub use kinds::{Bits, BitsWord, Kind, Multi, MultiWord, Seq, SeqWord};
 pub use parts::Parts;
+pub use place::place_in;
 pub use shape::{MAX_COUNT, Shape, WordFault};
 pub use view::View;

@@ -2,10 +2,10 @@
 use Rattle.std.proofs.Common.{◌≡◌, ◌∙◌, ℕ, ap, map, subst, true}
 use Rattle.std.proofs.lemmas.List.{map-set}
 use Rattle.snap_words.specs.Kind.{is_sized}
+use Rattle.snap_words.specs.Shape.{is_place}
 use Rattle.snap_regs.specs.Store.{Store}
 use Rattle.snap_regs.proofs.Puts.{word_put}
 use Rattle.snap_regs.proofs.Words.{IsOfShape-set_word, with_word-parts}
-use Rattle.snap_regs.specs.Access.{is_place}
 use Rattle.snap_regs.proofs.registers.Registers.put_word.Goals as goal
 
 pub invariant_of-self : goal.invariant_of-self
@@ -18,7 +18,7 @@ invariant_of-self g c =
 pub returns-clause-put : goal.returns-clause-put
 returns-clause-put g c =
     let count = c.w.ensures ∙ ap (λ (r : Store). r.shape.w) c.self.view_is in
-    (subst (λ (n : ℕ). is_place n c.args.k ≡ true) count c.in_ok-place.ensures.0, c.in_ok-check_owner.ensures, with_word-parts g.K.Kind.parts c.self.inside.words.items c.self.inside.shape c.self.inside.q.items c.self.inside.p.items c.self.inside.views.items c.in_ok-place.place c.args.k c.args.word c.args.self.now c.self.view_is c.in_ok-place.ensures.1)
+    (subst (λ (n : ℕ). is_place n c.args.k ≡ true) count c.in_ok-place.ensures.place.0, c.in_ok-check_owner.ensures, with_word-parts g.K.Kind.parts c.self.inside.words.items c.self.inside.shape c.self.inside.q.items c.self.inside.p.items c.self.inside.views.items c.in_ok-place.place c.args.k c.args.word c.args.self.now c.self.view_is c.in_ok-place.ensures.place.1)
 
 pub returns-clause-place : goal.returns-clause-place
 returns-clause-place g c =

@@ -3,9 +3,8 @@ ghost use Rattle.std.specs.Prelude.{◌≡◌, IfOk, map, vec_items};
 ghost use Rattle.snap_semantics.specs.Source.{Source};
 ghost use Rattle.snap_values.specs.Seen.{seen_process};
 
-use snap_regs::{copy_views, copy_words};
 use snap_values::Process;
-use snap_words::Kind;
+use snap_words::{Kind, copy_views, copy_words};
 use std::alloc::{AllocError, Global};
 
 /// Equal rows.

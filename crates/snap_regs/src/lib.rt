@@ -8,5 +8,4 @@ mod rows;
 
 pub use fault::RegisterFault;
 pub use laws::what_is_put_is_there;
-pub use registers::{Registers, check_owner, copy_words};
-pub use rows::copy_views;
+pub use registers::{Registers, check_owner};

@@ -13,9 +13,9 @@ ghost use Rattle.snap_regs.specs.Store.{HasColumns, IsOfShape, rows_in, with_wor
 ghost use Rattle.snap_regs.specs.declared.fault.RegisterFault.TheVariants.{Index, Owner};
 
 use crate::fault::RegisterFault;
-use crate::rows::{copy_views, set_bit, zero_rows};
+use crate::rows::{set_bit, zero_rows};
 use snap_semantics::BitBank;
-use snap_words::{Address, Bank, Kind, Shape, View, place_in};
+use snap_words::{Address, Bank, Kind, Shape, View, copy_views, copy_words, place_in};
 use std::alloc::{AllocError, Global};
 use std::marker::Model;
 
@@ -56,17 +56,6 @@ fn initial_words<K: Kind>(alloc: Global, shape: Shape) -> Result<Vec<K::Word>, A
         words.push(K::initial(alloc, shape)?)?;
     }
     Ok(words)
-}
-
-/// Equal words.
-pub fn copy_words<K: Kind>(alloc: Global, words: &[K::Word]) -> Result<Vec<K::Word>, AllocError>
-    ensures { IfOk result (λ copies. copies.items ≡ words.now) }
-{
-    let mut copies = Vec::new(alloc);
-    for word in words {
-        copies.push(K::copy(alloc, word)?)?;
-    }
-    Ok(copies)
 }
 
 /// The place of a bit, its row and column counted from 0.

@@ -16,17 +16,6 @@ pub(crate) fn zero_rows(alloc: Global, count: u64, columns: u64) -> Result<Vec<V
     Ok(rows)
 }
 
-/// Equal views.
-pub fn copy_views(alloc: Global, views: &[View]) -> Result<Vec<View>, AllocError>
-    ensures { IfOk result (λ copies. copies.items ≡ views.now) }
-{
-    let mut copies = Vec::new(alloc);
-    for view in views {
-        copies.push(view.copy(alloc)?)?;
-    }
-    Ok(copies)
-}
-
 /// Sets a bit of the rows, its place counted from 0.
 pub(crate) fn set_bit(rows: &mut [View], row: usize, column: usize, bit: u64)
     requires row_in { row < length rows.old }

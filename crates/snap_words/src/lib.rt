@@ -3,6 +3,7 @@
 
 mod address;
 mod contents;
+mod copies;
 mod kind;
 mod kinds;
 mod parts;
@@ -12,6 +13,7 @@ mod view;
 
 pub use address::{Address, Bank};
 pub use contents::{field_of, hands_of, view_of};
+pub use copies::{copy_views, copy_words};
 pub use kind::{Field, KindTag};
 pub use kinds::{Bits, BitsWord, Kind, Multi, MultiWord, Seq, SeqWord};
 pub use parts::Parts;

@@ -1,5 +1,5 @@
 use Rattle.std.proofs.Common.{◌≡◌, take}
-use Rattle.snap_regs.proofs.registers.copy_words.Given as goal
+use Rattle.snap_words.proofs.copies.copy_words.Given as goal
 
 abbrev pub invariant-loop-word : goal.invariant-loop-word
 invariant-loop-word g l = l.copies.items ≡ take l.word-index l.words

@@ -1,5 +1,5 @@
 use Rattle.std.proofs.Common.{◌≡◌, take}
-use Rattle.snap_regs.proofs.rows.copy_views.Given as goal
+use Rattle.snap_words.proofs.copies.copy_views.Given as goal
 
 abbrev pub invariant-loop-view : goal.invariant-loop-view
 invariant-loop-view l = l.copies.items ≡ take l.view-index l.views

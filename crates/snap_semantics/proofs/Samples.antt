@@ -1,17 +1,20 @@
 -- The definitions at work: worked inputs, computed.
-use Rattle.std.specs.Prelude.{◌≡◌, [], ◌∷◌, Ok, Err, codes, refl}
+use Rattle.std.specs.Prelude.{◌≡◌, List, [], ◌∷◌, Ok, Err, codes, refl}
 use Rattle.snap_words.specs.Shape.{Counts}
 use Rattle.snap_words.specs.declared.kind.KindTag.TheVariants.{Seq}
 use Rattle.snap_semantics.specs.HeaderForms as headers
 use Rattle.snap_semantics.specs.Listing.{listing_of, listing_of_lines, header_of}
 use Rattle.snap_semantics.specs.ListingForms as forms
-use Rattle.snap_semantics.specs.Run.{outcomes}
+use Rattle.snap_semantics.specs.Run.{after}
 use Rattle.snap_semantics.specs.Schedule.{schedule_of}
 use Rattle.snap_semantics.specs.ScheduleForms as schedules
 use Rattle.snap_semantics.specs.Source.{Source}
 use Rattle.snap_semantics.specs.State.{initial}
+use Rattle.snap_semantics.specs.Table.{done}
+use Rattle.snap_semantics.specs.declared.process.Item.{Item}
 use Rattle.snap_semantics.specs.declared.process.Item.TheVariants.{Step, Call}
 use Rattle.snap_semantics.specs.declared.process.Op.TheVariants.{Scan, Update}
+use Rattle.snap_semantics.specs.declared.process.Outcome.{Outcome}
 use Rattle.snap_semantics.specs.declared.process.Outcome.TheVariants.{Skipped, Called}
 use Rattle.snap_semantics.specs.declared.process.Reason.TheVariants as reason
 use Rattle.snap_semantics.specs.declared.refusal.ListingRefusal.TheVariants as listing
@@ -24,10 +27,18 @@ plain = record { kind = Seq; scalars = []; rows = []; words = []; views = []; sc
 abbrev two : Counts
 two = record { n = 2; w = 2 }
 
--- a step of an idle process, an update of another's word, one of no word, and then a scan that is called twice
-skips : outcomes plain two (initial plain two) (Step 1 ∷ Call 1 (Update 2 5) ∷ Call 1 (Update 3 5) ∷ Call 1 Scan ∷ Call 1 Scan ∷ [])
-    ≡ Skipped reason.Idle ∷ Skipped reason.NotOwner ∷ Skipped reason.NoSuchWord ∷ Called ∷ Skipped reason.Busy ∷ []
-skips = refl
+-- what comes of an item after these
+abbrev comes : List Item → Item → Outcome
+comes xs x = (done plain two (after plain two (initial plain two) xs) x).1
+
+-- a step of an idle process, an update of another's word, one of no word, and a scan that is called twice
+skips :
+    (comes [] (Step 1) ≡ Skipped reason.Idle)
+    × (comes [] (Call 1 (Update 2 5)) ≡ Skipped reason.NotOwner)
+    × (comes [] (Call 1 (Update 3 5)) ≡ Skipped reason.NoSuchWord)
+    × (comes [] (Call 1 Scan) ≡ Called)
+    × (comes (Call 1 Scan ∷ []) (Call 1 Scan) ≡ Skipped reason.Busy)
+skips = (refl, refl, refl, refl, refl)
 
 -- the empty text; a target that is no line; numbers that don't rise; a 201st line
 listings_refused :

@@ -1,4 +1,4 @@
--- Runs: the states, outcomes and events of a list of items.
+-- Runs: the states and events of a list of items.
 use Rattle.std.specs.Prelude.{ℕ, ◌+◌, List, [], ◌∷◌, ◌++◌}
 use Rattle.snap_words.specs.Shape.{Counts}
 use Rattle.snap_semantics.specs.declared.event.Event.{Event}
@@ -15,11 +15,6 @@ use Rattle.snap_semantics.specs.Table.{done, who}
 abbrev pub after : Source → Counts → State → List Item → State
 after s shape S [] = S
 after s shape S (x ∷ xs) = after s shape (done s shape S x).0 xs
-
--- the outcome of each of these items
-abbrev pub outcomes : Source → Counts → State → List Item → List Outcome
-outcomes s shape S [] = []
-outcomes s shape S (x ∷ xs) = (done s shape S x).1 ∷ outcomes s shape (done s shape S x).0 xs
 
 -- a call at item t is an event
 abbrev pub call_event : ℕ → Item → List Event

@@ -11,11 +11,12 @@ use Rattle.snap_semantics.specs.ScheduleForms as schedules
 use Rattle.snap_semantics.specs.Source.{Source}
 use Rattle.snap_semantics.specs.State.{initial}
 use Rattle.snap_semantics.specs.Table.{done}
+use Rattle.snap_semantics.specs.declared.process.Cause.TheVariants.{OffEnd}
 use Rattle.snap_semantics.specs.declared.process.Item.{Item}
-use Rattle.snap_semantics.specs.declared.process.Item.TheVariants.{Step, Call}
+use Rattle.snap_semantics.specs.declared.process.Item.TheVariants.{Step, Call, Crash}
 use Rattle.snap_semantics.specs.declared.process.Op.TheVariants.{Scan, Update}
 use Rattle.snap_semantics.specs.declared.process.Outcome.{Outcome}
-use Rattle.snap_semantics.specs.declared.process.Outcome.TheVariants.{Skipped, Called}
+use Rattle.snap_semantics.specs.declared.process.Outcome.TheVariants.{Skipped, Called, Trapped, Crashed}
 use Rattle.snap_semantics.specs.declared.process.Reason.TheVariants as reason
 use Rattle.snap_semantics.specs.declared.refusal.ListingRefusal.TheVariants as listing
 use Rattle.snap_semantics.specs.declared.refusal.ScheduleRefusal.TheVariants as schedule
@@ -40,6 +41,18 @@ skips :
     × (comes (Call 1 Scan ∷ []) (Call 1 Scan) ≡ Skipped reason.Busy)
 skips = (refl, refl, refl, refl, refl)
 
+-- a crash of an idle process, after which it is neither stepped, called nor crashed; one of a busy process; one that has trapped
+crashes :
+    (comes [] (Crash 1) ≡ Crashed)
+    × (comes (Crash 1 ∷ []) (Step 1) ≡ Skipped reason.Crashed)
+    × (comes (Crash 1 ∷ []) (Call 1 Scan) ≡ Skipped reason.Crashed)
+    × (comes (Crash 1 ∷ []) (Crash 1) ≡ Skipped reason.Crashed)
+    × (comes (Call 2 Scan ∷ []) (Crash 2) ≡ Crashed)
+    × (comes (Call 2 Scan ∷ Crash 2 ∷ []) (Step 2) ≡ Skipped reason.Crashed)
+    × (comes (Call 2 Scan ∷ []) (Step 2) ≡ Trapped OffEnd)
+    × (comes (Call 2 Scan ∷ Step 2 ∷ []) (Crash 2) ≡ Skipped reason.Trapped)
+crashes = (refl, refl, refl, refl, refl, refl, refl, refl)
+
 -- the empty text; a target that is no line; numbers that don't rise; a 201st line
 listings_refused :
     (listing_of [] ≡ Err (listing.BadHeader 1))
@@ -56,6 +69,9 @@ schedules_read :
     × (schedule_of (codes "shape 2 2\n2*0\n") ≡ Err (schedule.BadItem 2))
     × (schedule_of (codes "shape 3 3\n3*1000001\n") ≡ Err (schedule.TooManyItems 2))
     × (schedule_of (codes "shape 3 3\n4\n") ≡ Err (schedule.NoSuchProcess 2))
+    × (schedule_of (codes "shape 2 2\n2 crash 1\n") ≡ Err (schedule.BadItem 2))
+    × (schedule_of (codes "shape 2 2\n3 crash\n") ≡ Err (schedule.NoSuchProcess 2))
+    × (schedule_of (codes "shape 2 2\n2\n2 crash\n") ≡ Ok (record { shape = record { n = 2; w = 2 }; items = Step 2 ∷ Crash 2 ∷ [] }))
     × (schedule_of (codes "shape 2 2 # two\n 2 * 3\n2\n") ≡ Ok (record { shape = record { n = 2; w = 2 }; items = Step 2 ∷ Step 2 ∷ Step 2 ∷ Step 2 ∷ [] }))
-unfolding schedules.shape_form schedules.step_form schedules.steps_form schedules.scan_form schedules.update_form schedules.item_form
-schedules_read = (refl, refl, refl, refl, refl, refl)
+unfolding schedules.shape_form schedules.step_form schedules.steps_form schedules.scan_form schedules.update_form schedules.crash_form schedules.item_form
+schedules_read = (refl, refl, refl, refl, refl, refl, refl, refl, refl)

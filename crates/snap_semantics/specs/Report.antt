@@ -5,13 +5,14 @@ use Rattle.snap_words.specs.declared.kind.KindTag.{KindTag}
 use Rattle.snap_words.specs.declared.kind.KindTag.TheVariants as kind
 use Rattle.snap_semantics.specs.declared.event.Event.{Event}
 use Rattle.snap_semantics.specs.declared.event.Happening.{Happening}
-use Rattle.snap_semantics.specs.declared.event.Happening.TheVariants.{Call, Answer, Done}
+use Rattle.snap_semantics.specs.declared.event.Happening.TheVariants.{Call, Answer, Done, Crash}
+use Rattle.snap_semantics.specs.declared.process.Activity.{Activity}
 use Rattle.snap_semantics.specs.declared.process.Cause.{Cause}
 use Rattle.snap_semantics.specs.declared.process.Cause.TheVariants as cause
 use Rattle.snap_semantics.specs.declared.process.Op.{Op}
 use Rattle.snap_semantics.specs.declared.process.Op.TheVariants as op
 use Rattle.snap_semantics.specs.declared.process.Status.{Status}
-use Rattle.snap_semantics.specs.declared.process.Status.TheVariants.{Idle, Busy, Trapped}
+use Rattle.snap_semantics.specs.declared.process.Status.TheVariants.{Idle, Busy, Trapped, Crashed}
 use Rattle.snap_semantics.specs.Source.{Name}
 use Rattle.snap_semantics.specs.State.{Locals, Memory, Named, Process, State, values}
 
@@ -85,11 +86,17 @@ abbrev pub link_text : Option ℕ → List ℕ
 link_text None = []
 link_text (Some link) = codes " link " ++ decimal link
 
+-- the line at which a process stopped, where it was busy
+abbrev pub stop_text : Option Activity → List ℕ
+stop_text None = []
+stop_text (Some a) = codes " at " ++ decimal a.line
+
 -- where a process stands
 abbrev pub status_text : Status → List ℕ
 status_text Idle = codes "idle"
 status_text (Busy a) = op_text a.op ++ codes " at " ++ decimal a.line ++ link_text a.link
 status_text (Trapped c a) = codes "trapped " ++ cause_text c ++ codes " at " ++ decimal a.line
+status_text (Crashed was) = codes "crashed" ++ stop_text was
 
 abbrev pub head_line : ℕ → Status → List ℕ
 head_line i s = codes "process " ++ decimal i ++ codes " " ++ status_text s ++ codes "\n"
@@ -134,6 +141,7 @@ abbrev pub happening_text : Happening → List ℕ
 happening_text (Call op) = op_text op
 happening_text (Answer view) = codes "answer" ++ numbers_text view
 happening_text Done = codes "done"
+happening_text Crash = codes "crash"
 
 abbrev pub event_line : Event → List ℕ
 event_line e =

@@ -7,7 +7,7 @@ use Rattle.snap_semantics.specs.declared.refusal.ScheduleRefusal.{ScheduleRefusa
 use Rattle.snap_semantics.specs.declared.refusal.ScheduleRefusal.TheVariants as refusal
 use Rattle.snap_semantics.specs.Answers.{◌>>=◌}
 use Rattle.snap_semantics.specs.Forms.{form_or}
-use Rattle.snap_semantics.specs.ScheduleForms.{Form, Steps, Calls, shape_form, item_form}
+use Rattle.snap_semantics.specs.ScheduleForms.{Form, Steps, Calls, Crashes, shape_form, item_form}
 use Rattle.snap_semantics.specs.Token.{TextLine, text_lines}
 
 -- a schedule: how many processes and words there are, and the items in order
@@ -18,15 +18,18 @@ pub record Schedule : Type 0 where
 abbrev pub form_process : Form → ℕ
 form_process (Steps i count) = i
 form_process (Calls i op) = i
+form_process (Crashes i) = i
 
 -- how many items a form is
 abbrev pub form_count : Form → ℕ
 form_count (Steps i count) = count
 form_count (Calls i op) = 1
+form_count (Crashes i) = 1
 
 abbrev pub form_items : Form → List Item
 form_items (Steps i count) = replicate count (item.Step i)
 form_items (Calls i op) = item.Call i op ∷ []
+form_items (Crashes i) = item.Crash i ∷ []
 
 -- a form of a process that is there, and of no more items than are left
 abbrev pub admitted : ℕ → ℕ → ℕ → Form → Result Form ScheduleRefusal

@@ -7,10 +7,11 @@ use Rattle.snap_semantics.specs.declared.text.Mark.TheVariants as mark
 use Rattle.snap_semantics.specs.Forms.{◌>>=◌, or_else, number_at, keyword_at, mark_at, end_at}
 use Rattle.snap_semantics.specs.Token.{Token, Word, Number, Sign}
 
--- the form of a line: steps of a process, or a call
+-- the form of a line: steps of a process, a call, or a crash
 pub data Form : Type 0 where
   Steps : (process count : ℕ) → Form
   Calls : (process : ℕ) (op : Op) → Form
+  Crashes : (process : ℕ) → Form
 
 -- how each form is spelled; one step is the process alone
 abbrev pub spelled_steps : ℕ → ℕ → List Token
@@ -23,6 +24,7 @@ spelled_call i (op.Update word value) = Number i ∷ Word (codes "update") ∷ N
 abbrev pub spelled_form : Form → List Token
 spelled_form (Steps i count) = spelled_steps i count
 spelled_form (Calls i op) = spelled_call i op
+spelled_form (Crashes i) = Number i ∷ Word (codes "crash") ∷ []
 
 abbrev pub spelled_shape : Counts → List Token
 spelled_shape s = Word (codes "shape") ∷ Number s.n ∷ Number s.w ∷ []
@@ -74,6 +76,14 @@ update_form ts = do
   end ← end_at value.1
   Some (Calls i.0 (op.Update word.0 value.0))
 
+-- `I crash`
+unfoldable pub crash_form : List Token → Option Form
+crash_form ts = do
+  i ← number_at ts
+  rest ← keyword_at (codes "crash") i.1
+  end ← end_at rest
+  Some (Crashes i.0)
+
 -- the form that a line is, where it is one
 unfoldable pub item_form : List Token → Option Form
-item_form ts = or_else (step_form ts) (or_else (steps_form ts) (or_else (scan_form ts) (update_form ts)))
+item_form ts = or_else (step_form ts) (or_else (steps_form ts) (or_else (scan_form ts) (or_else (update_form ts) (crash_form ts))))

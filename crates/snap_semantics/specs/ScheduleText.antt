@@ -1,4 +1,5 @@
--- The canonical text of a schedule: its shape, and then each greatest run of steps of one process and each call on a line.
+-- The canonical text of a schedule: its shape, and then each greatest run of steps of one process, each call and each crash on
+-- a line.
 use Rattle.std.specs.Prelude.{ℕ, suc, ◌≤◌, ◌<◌, ◌^◌, ⊤, List, [], ◌∷◌, ◌++◌, length, map, nat_eq, if◌then◌else◌}
 use Rattle.std.specs.List.{AllByRecursion}
 use Rattle.snap_words.specs.Shape.{IsOneOf, IsShape}
@@ -8,7 +9,7 @@ use Rattle.snap_semantics.specs.declared.process.Op.{Op}
 use Rattle.snap_semantics.specs.declared.process.Op.TheVariants as op
 use Rattle.snap_semantics.specs.Layout.{line_text, lines_text}
 use Rattle.snap_semantics.specs.Schedule.{Schedule}
-use Rattle.snap_semantics.specs.ScheduleForms.{Form, Steps, Calls, spelled_shape, spelled_form}
+use Rattle.snap_semantics.specs.ScheduleForms.{Form, Steps, Calls, Crashes, spelled_shape, spelled_form}
 use Rattle.snap_semantics.specs.Table.{who}
 
 -- a step goes into the run of its process where that comes next
@@ -16,12 +17,14 @@ abbrev pub step_onto : ℕ → List Form → List Form
 step_onto i [] = Steps i 1 ∷ []
 step_onto i (Steps k count ∷ forms) = if nat_eq i k then Steps k (suc count) ∷ forms else Steps i 1 ∷ Steps k count ∷ forms
 step_onto i (Calls k op ∷ forms) = Steps i 1 ∷ Calls k op ∷ forms
+step_onto i (Crashes k ∷ forms) = Steps i 1 ∷ Crashes k ∷ forms
 
 abbrev pub item_onto : Item → List Form → List Form
 item_onto (item.Step i) forms = step_onto i forms
 item_onto (item.Call i op) forms = Calls i op ∷ forms
+item_onto (item.Crash i) forms = Crashes i ∷ forms
 
--- the greatest runs of steps of one process, and the calls
+-- the greatest runs of steps of one process, the calls and the crashes
 abbrev pub forms_of : List Item → List Form
 forms_of [] = []
 forms_of (x ∷ xs) = item_onto x (forms_of xs)
@@ -43,6 +46,7 @@ FitsWords (op.Update word value) = (word < 2 ^ 64) × (value < 2 ^ 64)
 abbrev pub FitsItem : Item → Type 0
 FitsItem (item.Step i) = ⊤
 FitsItem (item.Call i o) = FitsWords o
+FitsItem (item.Crash i) = ⊤
 
 -- what a schedule keeps: its processes are there, there are at most a million items, and their numbers have 64 bits
 pub record IsSchedule (s : Schedule) : Type 0 where

@@ -1,8 +1,8 @@
-//! What the callers of operations see.
+//! What the callers of operations see, and the crashes of processes.
 use crate::process::Op;
 use snap_words::View;
 
-/// A call, or how it ended.
+/// A call, how it ended, or a crash.
 #[derive(Debug, Drop)]
 pub enum Happening {
     Call(Op),
@@ -10,6 +10,8 @@ pub enum Happening {
     Answer(View),
     /// The end of an update.
     Done,
+    /// The process has stopped for good.
+    Crash,
 }
 
 /// An event of a process at an item, counted from 1.

@@ -16,6 +16,8 @@ pub enum Item {
     Step(u32),
     /// The process is asked for an operation.
     Call(u32, Op),
+    /// The process stops for good.
+    Crash(u32),
 }
 
 /// Why a process trapped.
@@ -54,12 +56,15 @@ pub enum Status {
     Busy(Activity),
     /// Trapped for good, at what it was at.
     Trapped(Cause, Activity),
+    /// Crashed for good, at what it was at, where it was busy.
+    Crashed(Option<Activity>),
 }
 
 /// Why an item was skipped.
 #[derive(Clone, Copy, Debug, PartialEq, Eq)]
 pub enum Reason {
     Trapped,
+    Crashed,
     Busy,
     Idle,
     NoSuchWord,
@@ -74,5 +79,6 @@ pub enum Outcome {
     Answered(View),
     Finished,
     Trapped(Cause),
+    Crashed,
     Skipped(Reason),
 }

@@ -64,6 +64,7 @@ fn note_event(
             Ok(())
         }
         Happening::Done => Ok(()),
+        Happening::Crash => Ok(()),
     }
 }
 

@@ -1,4 +1,4 @@
-//! A call of a process.
+//! A call of a process, and a crash of one.
 ghost use Rattle.std.specs.Prelude.{◌≡◌, length, map};
 ghost use Rattle.snap_words.specs.Shape.{IsOneOf};
 ghost use Rattle.snap_semantics.specs.Table.{call_skip, done, entry, owner_skip};
@@ -32,6 +32,7 @@ pub fn call<K: Kind>(
     let process = &mut processes[k];
     match process.status {
         Status::Trapped(_, _) => Outcome::Skipped(Reason::Trapped),
+        Status::Crashed(_) => Outcome::Skipped(Reason::Crashed),
         Status::Busy(_) => Outcome::Skipped(Reason::Busy),
         Status::Idle => match call_skip(listing.kind(), shape, u64::from(i), op) {
             Some(reason) => Outcome::Skipped(reason),
@@ -45,6 +46,36 @@ pub fn call<K: Kind>(
                 Outcome::Called
             }
         },
+    }
+}
+
+/// A crash of process i.
+pub fn crash<K: Kind>(
+    listing: &Listing,
+    registers: &Registers<K>,
+    processes: &mut [Process<K>],
+    i: u32,
+) -> Outcome
+    requires process { IsOneOf (length processes.old) i }
+    requires sized { AllSized listing.now registers.now.shape (map (seen_process K.parts listing.now) processes.old) }
+    ensures done { done listing.now registers.now.shape
+        (seen_state K.parts listing.now registers.now.memory processes.old) (item.Crash i)
+        ≡ (seen_state K.parts listing.now registers.now.memory processes.new, result) }
+    ensures sized { AllSized listing.now registers.now.shape (map (seen_process K.parts listing.now) processes.new) }
+{
+    let k = (i - 1) as usize;
+    let process = &mut processes[k];
+    match process.status {
+        Status::Trapped(_, _) => Outcome::Skipped(Reason::Trapped),
+        Status::Crashed(_) => Outcome::Skipped(Reason::Crashed),
+        Status::Busy(activity) => {
+            process.status = Status::Crashed(Some(activity));
+            Outcome::Crashed
+        }
+        Status::Idle => {
+            process.status = Status::Crashed(None);
+            Outcome::Crashed
+        }
     }
 }
 

@@ -17,7 +17,7 @@ ghost use Rattle.snap_regs.specs.declared.fault.RegisterFault.TheVariants.{Index
 ghost use Rattle.snap_machine.specs.Reading.{local_at, seen_contents, seen_local, seen_named, value_there};
 ghost use Rattle.snap_values.specs.Seen.{seen_locals};
 
-use crate::call::call;
+use crate::call::{call, crash};
 use crate::copies::copy_processes;
 use crate::fresh::new_processes;
 use crate::reading::{Contents, Local};
@@ -98,6 +98,12 @@ impl<K: Kind> Machine<K> {
                 i,
                 op,
             )),
+            Item::Crash(i) => Ok(crash(
+                self.program.listing(),
+                &self.registers,
+                self.processes.as_mut_slice(),
+                i,
+            )),
         }
     }
 
@@ -126,7 +132,7 @@ impl<K: Kind> Machine<K> {
         self.processes[(i - 1) as usize].status
     }
 
-    /// What a process is at, or was at when it trapped.
+    /// What a process is at, or was at when it trapped or crashed.
     fn activity(&self, i: u32) -> Option<Activity>
         requires { IsOneOf self.now.shape.n i }
         ensures { result ≡ activity_of (process_at self.now.state i).status }
@@ -134,10 +140,11 @@ impl<K: Kind> Machine<K> {
         match self.status(i) {
             Status::Idle => None,
             Status::Busy(activity) | Status::Trapped(_, activity) => Some(activity),
+            Status::Crashed(was) => was,
         }
     }
 
-    /// The number of the line that a process runs next, or at which it trapped.
+    /// The number of the line that a process runs next, or at which it trapped or crashed.
     pub fn line(&self, i: u32) -> Option<u64>
         requires { IsOneOf self.now.shape.n i }
         ensures { result ≡ line_of (process_at self.now.state i).status }
@@ -145,7 +152,7 @@ impl<K: Kind> Machine<K> {
         Some(self.activity(i)?.line)
     }
 
-    /// The operation that a process is at, or was at when it trapped.
+    /// The operation that a process is at, or was at when it trapped or crashed.
     pub fn operation(&self, i: u32) -> Option<Op>
         requires { IsOneOf self.now.shape.n i }
         ensures { result ≡ operation_of (process_at self.now.state i).status }

@@ -33,6 +33,7 @@ pub fn who(item: Item) -> u32
     match item {
         Item::Step(i) => i,
         Item::Call(i, _) => i,
+        Item::Crash(i) => i,
     }
 }
 
@@ -47,6 +48,7 @@ fn call_event(number: u64, item: Item) -> Option<Event>
             process,
             what: Happening::Call(op),
         }),
+        Item::Crash(_) => None,
     }
 }
 
@@ -72,6 +74,11 @@ pub fn event_of(number: u64, item: Item, outcome: &Outcome, deed: Deed) -> Optio
         }),
         Outcome::Stepped => None,
         Outcome::Trapped(_) => None,
+        Outcome::Crashed => Some(Event {
+            item: number,
+            process: who(item),
+            what: Happening::Crash,
+        }),
         Outcome::Skipped(_) => None,
     }
 }

@@ -15,6 +15,7 @@ fn is_answer(what: &Happening) -> bool
         Happening::Call(_) => false,
         Happening::Answer(_) => true,
         Happening::Done => false,
+        Happening::Crash => false,
     }
 }
 
@@ -34,6 +35,7 @@ pub fn scans(i: u32, what: &Happening) -> Option<u32>
         Happening::Call(Op::Update { .. }) => None,
         Happening::Answer(_) => None,
         Happening::Done => None,
+        Happening::Crash => None,
     }
 }
 

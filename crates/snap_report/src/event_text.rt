@@ -34,6 +34,7 @@ fn happening_text(out: &mut Vec<u8>, what: &Happening) -> Result<(), AllocError>
             push_numbers(out, view.as_slice())
         }
         Happening::Done => push_text(out, b"done"),
+        Happening::Crash => push_text(out, b"crash"),
     }
 }
 

@@ -5,6 +5,7 @@ ghost use Rattle.snap_semantics.specs.State.{process_at};
 ghost use Rattle.snap_semantics.specs.Report.{
   cause_text,
   link_text,
+  stop_text,
   status_text,
   head_line,
   number_local,
@@ -21,7 +22,7 @@ ghost use Rattle.snap_report.specs.ReportLines.{local_lines, place_text, sort_li
 use crate::event_text::op_text;
 use crate::word_text::word_text;
 use snap_machine::{Local, Machine};
-use snap_semantics::{Cause, Name, Sort, Status};
+use snap_semantics::{Activity, Cause, Name, Sort, Status};
 use snap_text::{push_number, push_numbers, push_text};
 use snap_words::{Kind, KindTag};
 use std::alloc::AllocError;
@@ -54,6 +55,20 @@ fn link_text(out: &mut Vec<u8>, link: Option<u64>) -> Result<(), AllocError>
     }
 }
 
+/// The line at which a process stopped, where it was busy.
+#[tactic(auto, using(snap_text::proofs::Texts::joined))]
+fn stop_text(out: &mut Vec<u8>, was: &Option<Activity>) -> Result<(), AllocError>
+    ensures { OnOk result (out.new.items ≡ out.old.items ++ stop_text was.now) }
+{
+    match was {
+        Some(activity) => {
+            push_text(out, b" at ")?;
+            push_number(out, activity.line)
+        }
+        None => Ok(()),
+    }
+}
+
 /// Where a process stands.
 #[tactic(auto, using(snap_text::proofs::Texts::joined))]
 fn status_text(out: &mut Vec<u8>, status: &Status) -> Result<(), AllocError>
@@ -72,6 +87,10 @@ fn status_text(out: &mut Vec<u8>, status: &Status) -> Result<(), AllocError>
             cause_text(out, *cause)?;
             push_text(out, b" at ")?;
             push_number(out, activity.line)
+        }
+        Status::Crashed(was) => {
+            push_text(out, b"crashed")?;
+            stop_text(out, was)
         }
     }
 }

@@ -3,7 +3,7 @@ use Rattle.std.specs.Prelude.{◌≡◌, ℕ, zero, suc, ◌+◌, ◌-◌, Bool,
 use Rattle.snap_words.specs.Shape.{Counts}
 use Rattle.snap_semantics.specs.declared.process.Cause.{Cause}
 use Rattle.snap_semantics.specs.declared.process.Item.{Item}
-use Rattle.snap_semantics.specs.declared.process.Item.TheVariants.{Step, Call}
+use Rattle.snap_semantics.specs.declared.process.Item.TheVariants.{Step, Call, Crash}
 use Rattle.snap_semantics.specs.declared.process.Op.{Op}
 use Rattle.snap_semantics.specs.declared.process.Op.TheVariants.{Scan, Update}
 use Rattle.snap_semantics.specs.declared.process.Outcome.{Outcome}
@@ -226,9 +226,11 @@ first_state a = record { memory = a.first_memory; processes = replicate a.shape.
 abbrev pub typed_at : {V P M : Type 0} → Algorithm V P M → TypedState V P M → ℕ → TypedProcess V P M
 typed_at a x i = slice_index_or x.processes (i - 1) (first_process a)
 
+-- No process crashes here: a run with crashes is looked at through one without them.
 abbrev pub by_item : {V P M : Type 0} → Algorithm V P M → ℕ → TypedState V P M → Item → Change V P M
 by_item a time x (Step i) = by_step a time x.memory i (typed_at a x i) (typed_at a x i).control
 by_item a time x (Call i op) = by_call a time x.memory i op (typed_at a x i) (typed_at a x i).control
+by_item a time x (Crash i) = Same reason.Crashed
 
 abbrev pub changed : {V P M : Type 0} → TypedState V P M → ℕ → Change V P M → TypedState V P M
 changed x i (Same why) = x

@@ -9,11 +9,11 @@ use Rattle.std.specs.List.{AllByRecursion}
 use Rattle.snap_words.specs.Shape.{Counts, IsOneOf}
 use Rattle.snap_semantics.specs.Source.{Source, instr_at}
 use Rattle.snap_semantics.specs.State.{value_at, Locals, Process, State, process_at, nobody, initial_process, values}
-use Rattle.snap_semantics.specs.Table.{Effect, Goes, Answers, Finishes, effect_at, leave, step, call, called, call_skip, entry, done, who}
+use Rattle.snap_semantics.specs.Table.{Effect, Goes, Answers, Finishes, effect_at, leave, step, call, called, call_skip, entry, crash, crashed, done, who}
 use Rattle.snap_semantics.specs.declared.process.Activity.{Activity}
 use Rattle.snap_semantics.specs.declared.process.Cause.{Cause}
 use Rattle.snap_semantics.specs.declared.process.Item.{Item}
-use Rattle.snap_semantics.specs.declared.process.Item.TheVariants.{Step, Call}
+use Rattle.snap_semantics.specs.declared.process.Item.TheVariants.{Step, Call, Crash}
 use Rattle.snap_semantics.specs.declared.process.Op.{Op}
 use Rattle.snap_semantics.specs.declared.process.Op.TheVariants as op
 use Rattle.snap_semantics.specs.declared.process.Outcome.{Outcome}
@@ -26,7 +26,7 @@ use Rattle.snap_runs.specs.Deeds.{Answer, returned, deed_at, deed_in, deed_of}
 use Rattle.snap_runs.proofs.Computing.{both, same_number}
 use Rattle.snap_runs.proofs.OneItem.{answer_is}
 use Rattle.snap_semantics.specs.declared.process.Status.{Status}
-use Rattle.snap_semantics.specs.declared.process.Status.TheVariants.{Idle, Busy, Trapped}
+use Rattle.snap_semantics.specs.declared.process.Status.TheVariants.{Idle, Busy, Trapped, Crashed}
 use Rattle.snap_runs.specs.Run.{Run, Fits, state, item, outcome as outcome_at}
 use Rattle.snap_runs.specs.Scan.{Ends}
 use Rattle.snap_runs.specs.Promises.{HavePoints}
@@ -79,6 +79,7 @@ touches_by S S' k p e = record {
 step_touches : (s : Source) (n : Counts) (S : State) (k : ℕ) (p : Process) (t : Status) → Touches S (step s n S k p t).0 k
 step_touches s n S k p Idle = touches_nothing S k
 step_touches s n S k p (Trapped c a) = touches_nothing S k
+step_touches s n S k p (Crashed was) = touches_nothing S k
 step_touches s n S k p (Busy a) =
     let r = effect_at s (record { shape = n; me = k; op = a.op; locals = p.locals; place = 0 }) S.memory a (instr_at s.lines a.line) in
     touches_by S (leave S k a p.locals r).0 k (left_by a p.locals r) (left_processes S k a p.locals r)
@@ -93,11 +94,24 @@ call_touches : (s : Source) (n : Counts) (S : State) (k : ℕ) (o : Op) (p : Pro
 call_touches s n S k o p Idle = called_touches s S k p o (call_skip s.kind n k o)
 call_touches s n S k o p (Busy a) = touches_nothing S k
 call_touches s n S k o p (Trapped c a) = touches_nothing S k
+call_touches s n S k o p (Crashed was) = touches_nothing S k
+
+-- a process that stops
+crashed_touches : (S : State) (k : ℕ) (p : Process) (was : Option Activity) → Touches S (crashed S k p was).0 k
+crashed_touches S k p was = touches_by S _ k (record { status = Crashed was; locals = p.locals }) refl
+
+-- an item that crashes
+crash_touches : (S : State) (k : ℕ) (p : Process) (t : Status) → Touches S (crash S k p t).0 k
+crash_touches S k p Idle = crashed_touches S k p None
+crash_touches S k p (Busy a) = crashed_touches S k p (Some a)
+crash_touches S k p (Trapped c a) = touches_nothing S k
+crash_touches S k p (Crashed was) = touches_nothing S k
 
 -- any item
 touches : (s : Source) (n : Counts) (S : State) (x : Item) → Touches S (done s n S x).0 (who x)
 touches s n S (Step k) = step_touches s n S k (process_at S k) (process_at S k).status
 touches s n S (Call k o) = call_touches s n S k o (process_at S k) (process_at S k).status
+touches s n S (Crash k) = crash_touches S k (process_at S k) (process_at S k).status
 
 -- neither called nor answered
 is_quiet : Outcome → Bool
@@ -110,11 +124,13 @@ WasBusy : Op → Status → Type 0
 WasBusy o (Busy a) = a.op ≡ o
 WasBusy o Idle = ⊥
 WasBusy o (Trapped c a) = ⊥
+WasBusy o (Crashed was) = ⊥
 
 -- a process that is busy after an item has just been called, or goes on with what it was at
 Turned : Status → ℕ → Item → Outcome → Status → Type 0
 Turned old i x o Idle = Unit {0}
 Turned old i x o (Trapped c a) = Unit {0}
+Turned old i x o (Crashed was) = Unit {0}
 Turned old i x o (Busy b) = ((x ≡ Call i b.op) × (o ≡ outcome.Called)) ⊎ (WasBusy b.op old × (is_quiet o ≡ true))
 
 -- nothing happens
@@ -122,6 +138,7 @@ stays : (i : ℕ) (x : Item) (r : Reason) (t : Status) → Turned t i x (outcome
 unfolding is_quiet WasBusy Turned
 stays i x r Idle = tt
 stays i x r (Trapped c a) = tt
+stays i x r (Crashed was) = tt
 stays i x r (Busy b) = inr (refl, refl)
 
 -- a step of a busy process
@@ -137,6 +154,7 @@ step_turned : (s : Source) (n : Counts) (S : State) (k : ℕ) (p : Process) (t :
     Turned t k (Step k) (step s n S k p t).1 (process_at (step s n S k p t).0 k).status
 step_turned s n S k p Idle one is = subst (Turned Idle k (Step k) (outcome.Skipped reason.Idle)) (sym is) (stays k (Step k) reason.Idle Idle)
 step_turned s n S k p (Trapped c a) one is = subst (Turned (Trapped c a) k (Step k) (outcome.Skipped reason.Trapped)) (sym is) (stays k (Step k) reason.Trapped (Trapped c a))
+step_turned s n S k p (Crashed was) one is = subst (Turned (Crashed was) k (Step k) (outcome.Skipped reason.Crashed)) (sym is) (stays k (Step k) reason.Crashed (Crashed was))
 step_turned s n S k p (Busy a) one is =
     let r = effect_at s (record { shape = n; me = k; op = a.op; locals = p.locals; place = 0 }) S.memory a (instr_at s.lines a.line) in
     let there : process_at (leave S k a p.locals r).0 k ≡ left_by a p.locals r =
@@ -158,12 +176,30 @@ call_turned : (s : Source) (n : Counts) (S : State) (k : ℕ) (o : Op) (p : Proc
 call_turned s n S k o p Idle one is = called_turned s S k p o (call_skip s.kind n k o) one is
 call_turned s n S k o p (Busy a) one is = subst (Turned (Busy a) k (Call k o) (outcome.Skipped reason.Busy)) (sym is) (stays k (Call k o) reason.Busy (Busy a))
 call_turned s n S k o p (Trapped c a) one is = subst (Turned (Trapped c a) k (Call k o) (outcome.Skipped reason.Trapped)) (sym is) (stays k (Call k o) reason.Trapped (Trapped c a))
+call_turned s n S k o p (Crashed was) one is = subst (Turned (Crashed was) k (Call k o) (outcome.Skipped reason.Crashed)) (sym is) (stays k (Call k o) reason.Crashed (Crashed was))
+
+-- a process that stops
+crashed_turned : (S : State) (k : ℕ) (p : Process) (was : Option Activity) (t : Status) → IsOneOf (length S.processes) k →
+    Turned t k (Crash k) outcome.Crashed (process_at (crashed S k p was).0 k).status
+unfolding Turned
+crashed_turned S k p was t one =
+    let q : Process = record { status = Crashed was; locals = p.locals } in
+    subst (λ (y : Process). Turned t k (Crash k) outcome.Crashed y.status) (sym (set_there S.processes k q one)) tt
+
+-- an item that crashes
+crash_turned : (S : State) (k : ℕ) (p : Process) (t : Status) → IsOneOf (length S.processes) k → (process_at S k).status ≡ t →
+    Turned t k (Crash k) (crash S k p t).1 (process_at (crash S k p t).0 k).status
+crash_turned S k p Idle one is = crashed_turned S k p None Idle one
+crash_turned S k p (Busy a) one is = crashed_turned S k p (Some a) (Busy a) one
+crash_turned S k p (Trapped c a) one is = subst (Turned (Trapped c a) k (Crash k) (outcome.Skipped reason.Trapped)) (sym is) (stays k (Crash k) reason.Trapped (Trapped c a))
+crash_turned S k p (Crashed was) one is = subst (Turned (Crashed was) k (Crash k) (outcome.Skipped reason.Crashed)) (sym is) (stays k (Crash k) reason.Crashed (Crashed was))
 
 -- any item
 turned : (s : Source) (n : Counts) (S : State) (x : Item) → IsOneOf (length S.processes) (who x) →
     Turned (process_at S (who x)).status (who x) x (done s n S x).1 (process_at (done s n S x).0 (who x)).status
 turned s n S (Step k) one = step_turned s n S k (process_at S k) (process_at S k).status one refl
 turned s n S (Call k o) one = call_turned s n S k o (process_at S k) (process_at S k).status one refl
+turned s n S (Crash k) one = crash_turned S k (process_at S k) (process_at S k).status one refl
 
 -- an answer is given to a scan
 scanning_by : (a : Activity) (l : Locals) (v : List ℕ) (i : Option Instr) → deed_at a l i ≡ Answer v → a.op ≡ op.Scan
@@ -182,6 +218,7 @@ scanning : (s : Source) (l : Locals) (v : List ℕ) (t : Status) → deed_in s l
 unfolding WasBusy
 scanning s l v Idle h = absurd cc
 scanning s l v (Trapped c a) h = absurd cc
+scanning s l v (Crashed was) h = absurd cc
 scanning s l v (Busy a) h = scanning_by a l v (instr_at s.lines a.line) h
 
 -- who is answered was at a scan
@@ -191,6 +228,7 @@ answered_scan s n S x v e = answered_as s S x v (answer_is s n S x v e)
     answered_as : (s : Source) (S : State) (x : Item) (v : List ℕ) → deed_of s S x ≡ Answer v → WasBusy op.Scan (process_at S (who x)).status
     answered_as s S (Step k) v h = scanning s (process_at S k).locals v (process_at S k).status h
     answered_as s S (Call k o) v h = absurd cc
+    answered_as s S (Crash k) v h = absurd cc
 
 -- numbers that are found to be equal
 equal_numbers : (xs ys : List ℕ) → bytes_eq xs ys ≡ true → xs ≡ ys
@@ -268,6 +306,7 @@ module _ (r : Run) (fits : Fits r) where
   Holds : ℕ → ℕ → Status → Type 0
   Holds i t Idle = Unit {0}
   Holds i t (Trapped c a) = Unit {0}
+  Holds i t (Crashed was) = Unit {0}
   Holds i t (Busy a) = Running i (last_call r i t) t a.op
 
   -- an item more, which answers nothing to the process
@@ -288,6 +327,7 @@ module _ (r : Run) (fits : Fits r) where
   unfolding Holds
   holds_beside i t Idle other h = tt
   holds_beside i t (Trapped c a) other h = tt
+  holds_beside i t (Crashed was) other h = tt
   holds_beside i t (Busy a) other h =
       let kept : last_call r i (suc t) ≡ last_call r i t = ap (λ b. if b && is_called (outcome_at r (suc t)) then suc t else last_call r i t) other in
       subst (λ c. Running i c (suc t) a.op) (sym kept) (further i (last_call r i t) t a.op h (λ view e. eqb-false (who (item r (suc t))) i other e.0))
@@ -306,6 +346,7 @@ module _ (r : Run) (fits : Fits r) where
       quiet_by (outcome.Answered v) q true = absurd cc
       quiet_by outcome.Finished q true = refl
       quiet_by (outcome.Trapped c) q true = refl
+      quiet_by outcome.Crashed q true = refl
       quiet_by (outcome.Skipped c) q true = refl
 
   -- and ends no scan
@@ -316,6 +357,7 @@ module _ (r : Run) (fits : Fits r) where
   quiet_end (outcome.Answered v) view q e = absurd cc
   quiet_end outcome.Finished view q e = absurd cc
   quiet_end (outcome.Trapped c) view q e = absurd cc
+  quiet_end outcome.Crashed view q e = absurd cc
   quiet_end (outcome.Skipped c) view q e = absurd cc
 
   -- a busy process was called
@@ -323,6 +365,7 @@ module _ (r : Run) (fits : Fits r) where
   unfolding WasBusy Holds
   busy_before i t o Idle was h = absurd was
   busy_before i t o (Trapped c a) was h = absurd was
+  busy_before i t o (Crashed stopped) was h = absurd was
   busy_before i t o (Busy a) was h = subst (Running i (last_call r i t) t) was h
 
   -- an item of its own
@@ -330,6 +373,7 @@ module _ (r : Run) (fits : Fits r) where
   unfolding Turned Holds
   holds_own i t old Idle mine turn h = tt
   holds_own i t old (Trapped c a) mine turn h = tt
+  holds_own i t old (Crashed was) mine turn h = tt
   holds_own i t old (Busy b) mine turn h = elim turn [
     | inl now ↦
         let here : last_call r i (suc t) ≡ suc t =
@@ -395,6 +439,7 @@ module _ (r : Run) (fits : Fits r) where
   one_verdict t outcome.Stepped lt is = tt
   one_verdict t outcome.Finished lt is = tt
   one_verdict t (outcome.Trapped c) lt is = tt
+  one_verdict t outcome.Crashed lt is = tt
   one_verdict t (outcome.Skipped c) lt is = tt
   one_verdict t (outcome.Answered view) lt is =
       let i = who (item r (suc t)) in

@@ -9,23 +9,23 @@ use Rattle.snap_words.specs.Shape.{Counts, IsOneOf}
 use Rattle.snap_semantics.specs.declared.process.Activity.{Activity}
 use Rattle.snap_semantics.specs.declared.process.Cause.{Cause}
 use Rattle.snap_semantics.specs.declared.process.Item.{Item}
-use Rattle.snap_semantics.specs.declared.process.Item.TheVariants.{Step, Call}
+use Rattle.snap_semantics.specs.declared.process.Item.TheVariants.{Step, Call, Crash}
 use Rattle.snap_semantics.specs.declared.process.Op.{Op}
 use Rattle.snap_semantics.specs.declared.process.Op.TheVariants as op
 use Rattle.snap_semantics.specs.declared.process.Outcome.{Outcome}
 use Rattle.snap_semantics.specs.declared.process.Outcome.TheVariants.{Called, Answered, Finished as Done}
 use Rattle.snap_semantics.specs.declared.process.Reason.{Reason}
 use Rattle.snap_semantics.specs.declared.process.Status.{Status}
-use Rattle.snap_semantics.specs.declared.process.Status.TheVariants.{Idle, Busy, Trapped}
+use Rattle.snap_semantics.specs.declared.process.Status.TheVariants.{Idle, Busy, Trapped, Crashed}
 use Rattle.snap_semantics.specs.Source.{Source, instr_at}
 use Rattle.snap_semantics.specs.State.{Locals, Memory, Process, State, nobody, process_at, initial_process}
-use Rattle.snap_semantics.specs.Table.{Effect, Goes, Answers, Finishes, effect_at, leave, step, call_skip, called, call, done, who}
+use Rattle.snap_semantics.specs.Table.{Effect, Goes, Answers, Finishes, effect_at, leave, step, call_skip, called, call, crash, done, who}
 use Rattle.snap_runs.specs.Run.{Run, Fits, state, item, outcome}
 use Rattle.snap_runs.specs.Operation.{EndsAreOfOperations}
 use Rattle.snap_runs.specs.Scan.{Finished, is_not_skipped}
 use Rattle.snap_runs.specs.Update.{Updating}
 use Rattle.snap_runs.proofs.Embedding.{next_state}
-use Rattle.snap_runs.proofs.Turns.{MaySkip, Turn, skipped, calls, goes, answers, finishes, traps, status_of, own_turn}
+use Rattle.snap_runs.proofs.Turns.{MaySkip, Turn, skipped, calls, goes, answers, finishes, traps, crashes, status_of, own_turn}
 
 -- An item leaves a state, or changes its process and perhaps the memory.
 abbrev pub Touches : State → ℕ → State → Type 0
@@ -39,6 +39,7 @@ leave_touches S i a l (Err e) = inl (S.memory, _, refl)
 
 step_touches : (s : Source) (shape : Counts) (S : State) (i : ℕ) (p : Process) (status : Status) → Touches S i (step s shape S i p status).0
 step_touches s shape S i p (Trapped e a) = inr refl
+step_touches s shape S i p (Crashed was) = inr refl
 step_touches s shape S i p Idle = inr refl
 step_touches s shape S i p (Busy a) = leave_touches S i a p.locals
     (effect_at s (record { shape = shape; me = i; op = a.op; locals = p.locals; place = 0 }) S.memory a (instr_at s.lines a.line))
@@ -50,12 +51,20 @@ called_touches s S i p o None = inl (S.memory, _, refl)
 call_touches : (s : Source) (shape : Counts) (S : State) (i : ℕ) (o : Op) (p : Process) (status : Status) →
     Touches S i (call s shape S i o p status).0
 call_touches s shape S i o p (Trapped e a) = inr refl
+call_touches s shape S i o p (Crashed was) = inr refl
 call_touches s shape S i o p (Busy a) = inr refl
 call_touches s shape S i o p Idle = called_touches s S i p o (call_skip s.kind shape i o)
+
+crash_touches : (S : State) (i : ℕ) (p : Process) (status : Status) → Touches S i (crash S i p status).0
+crash_touches S i p (Trapped e a) = inr refl
+crash_touches S i p (Crashed was) = inr refl
+crash_touches S i p (Busy a) = inl (S.memory, _, refl)
+crash_touches S i p Idle = inl (S.memory, _, refl)
 
 touches : (s : Source) (shape : Counts) (S : State) (x : Item) → Touches S (who x) (done s shape S x).0
 touches s shape S (Step i) = step_touches s shape S i (process_at S i) (process_at S i).status
 touches s shape S (Call i o) = call_touches s shape S i o (process_at S i) (process_at S i).status
+touches s shape S (Crash i) = crash_touches S i (process_at S i) (process_at S i).status
 
 same_count : (S S' : State) (i : ℕ) → Touches S i S' → length S'.processes ≡ length S.processes
 same_count S S' i (inl h) = ap (λ (x : State). length x.processes) h.2 ∙ length-set S.processes (i - 1) h.1
@@ -67,11 +76,12 @@ other_status S S' k i (inl h) pk pi other =
     ∙ ap (λ (p : Process). p.status) (get_or-set_other S.processes (k - 1) (i - 1) h.1 nobody (λ same. other (omega arith)))
 other_status S S' k i (inr h) pk pi other = ap (λ (x : State). status_of x i) h
 
--- A process is at an operation that was called and has not ended, or has trapped.
+-- A process is at an operation that was called and has not ended, or has trapped or crashed.
 abbrev pub Occupied : Op → Status → Type 0
 Occupied o Idle = ⊥
 Occupied o (Busy a) = a.op ≡ o
 Occupied o (Trapped cause a) = Unit {0}
+Occupied o (Crashed was) = Unit {0}
 
 -- how such an operation ends
 abbrev pub EndsWith : Op → Outcome → Type 0
@@ -92,6 +102,7 @@ stays_occupied o (goes i a line link) not_end h = h
 stays_occupied o (answers i a view is) not_end h = absurd (not_end (subst (λ p. EndsWith p (Answered view)) (sym is ∙ h) tt))
 stays_occupied o (finishes i a word value is) not_end h = absurd (not_end (subst (λ p. EndsWith p Done) (sym is ∙ h) tt))
 stays_occupied o (traps i a cause) not_end h = tt
+stays_occupied o (crashes i s was) not_end h = tt
 
 -- a call finds its process idle, and occupies it
 is_called : {s s' : Status} {x : Item} {out : Outcome} (i : ℕ) (o : Op) → Turn s x out s' → out ≡ Called → x ≡ Call i o →
@@ -102,6 +113,7 @@ is_called i o (goes k a line link) out is = absurd (cc)
 is_called i o (answers k a view e) out is = absurd (cc)
 is_called i o (finishes k a word value e) out is = absurd (cc)
 is_called i o (traps k a cause) out is = absurd (cc)
+is_called i o (crashes k s was) out is = absurd (cc)
 
 -- an answer ends a scan, and a finish an update
 is_answered : {s s' : Status} {x : Item} {out : Outcome} (view : List ℕ) → Turn s x out s' → out ≡ Answered view →
@@ -112,6 +124,7 @@ is_answered v (goes k a line link) out = absurd (cc)
 is_answered v (answers k a view e) out = (a, refl, e)
 is_answered v (finishes k a word value e) out = absurd (cc)
 is_answered v (traps k a cause) out = absurd (cc)
+is_answered v (crashes k s was) out = absurd (cc)
 
 is_finished : {s s' : Status} {x : Item} {out : Outcome} → Turn s x out s' → out ≡ Done →
     (a : Activity) × (word : ℕ) × (value : ℕ) × (s ≡ Busy a) × (a.op ≡ op.Update word value)
@@ -121,6 +134,7 @@ is_finished (goes k a line link) out = absurd (cc)
 is_finished (answers k a view e) out = absurd (cc)
 is_finished (finishes k a word value e) out = (a, word, value, refl, e)
 is_finished (traps k a cause) out = absurd (cc)
+is_finished (crashes k s was) out = absurd (cc)
 
 -- a busy process that steps is not skipped
 pub is_not_skipped_there : {s s' : Status} {x : Item} {out : Outcome} (i : ℕ) (a : Activity) → Turn s x out s' → s ≡ Busy a → x ≡ Step i →
@@ -131,6 +145,7 @@ is_not_skipped_there i a (goes k b line link) is step = refl
 is_not_skipped_there i a (answers k b view e) is step = refl
 is_not_skipped_there i a (finishes k b word value e) is step = refl
 is_not_skipped_there i a (traps k b cause) is step = refl
+is_not_skipped_there i a (crashes k s was) is step = refl
 
 module _ (r : Run) (fits : Fits r) where
   abbrev pub status : ℕ → ℕ → Status
@@ -213,6 +228,7 @@ module _ (r : Run) (fits : Fits r) where
   UnderAt i t Idle = Unit {0}
   UnderAt i t (Busy a) = UnderCall i a.op t
   UnderAt i t (Trapped cause a) = Unit {0}
+  UnderAt i t (Crashed was) = Unit {0}
 
   longer : (i t : ℕ) (o : Op) → (who (item r (suc t)) ≡ i → IsEnd (outcome r (suc t)) → ⊥) → UnderCall i o t → UnderCall i o (suc t)
   longer i t o not_end h = record {
@@ -230,6 +246,7 @@ module _ (r : Run) (fits : Fits r) where
   longer_at i t Idle not_end h = tt
   longer_at i t (Busy a) not_end h = longer i t a.op not_end h
   longer_at i t (Trapped cause a) not_end h = tt
+  longer_at i t (Crashed was) not_end h = tt
 
   next_under : {s s' : Status} {x : Item} {out : Outcome} (i t : ℕ) → Turn s x out s' → item r (suc t) ≡ x → outcome r (suc t) ≡ out →
       who (item r (suc t)) ≡ i → UnderAt i t s → UnderAt i (suc t) s'
@@ -247,6 +264,7 @@ module _ (r : Run) (fits : Fits r) where
   next_under i t (answers k a view e) is comes his h = tt
   next_under i t (finishes k a word value e) is comes his h = tt
   next_under i t (traps k a cause) is comes his h = tt
+  next_under i t (crashes k s was) is comes his h = tt
 
   -- a busy process is under a call
   pub under : (t i : ℕ) → t ≤ length r.items → IsOneOf r.shape.n i → UnderAt i t (status t i)

@@ -10,12 +10,13 @@ use Rattle.snap_semantics.specs.declared.process.Item.{Item}
 use Rattle.snap_semantics.specs.declared.process.Item.TheVariants.{Step}
 use Rattle.snap_semantics.specs.declared.process.Op.{Op}
 use Rattle.snap_semantics.specs.declared.process.Op.TheVariants.{Scan, Update}
-use Rattle.snap_runs.specs.Run.{Fits}
+use Rattle.snap_runs.specs.Run.{}
 use Rattle.snap_runs.proofs.Algorithm.{Task, Control, Idle, At, WhenBusy, Move, To, Begin, Answer, Finish, TypedProcess, Algorithm, typed_at, item_at, typed_state, called_auxiliary}
 use Rattle.snap_runs.proofs.Computing.{either}
 use Rattle.snap_runs.proofs.Embedding as embed
 use Rattle.snap_runs.proofs.Held.{word_at}
 use Rattle.snap_runs.proofs.ItemCases as cases
+use Rattle.snap_runs.proofs.Steady.{Steady}
 
 -- what a line is in a double collect: it reads a word into the first copies, or has read it; the same of the second ones; or all
 -- copies are there
@@ -59,7 +60,7 @@ module _ {V P M : Type 0} (a : Algorithm V P M) (c : Copies V P M) where
   Reaches m p k (Answer v) = Unit {0}
   Reaches m p k Finish = Unit {0}
 
-  module _ (items : List Item) (fits : Fits (embed.run_of a items)) (does : embed.AllDo a items)
+  module _ (items : List Item) (fits : Steady (embed.run_of a items)) (does : embed.AllDo a items)
       (reaches : (t i : ℕ) → t < length items → IsOneOf a.shape.n i → WhenBusy (λ d k. Reaches (typed_state a items t).memory (typed_at a (typed_state a items t) i).variables k (a.move i d (typed_state a items t).memory (typed_at a (typed_state a items t) i).variables k)) (typed_at a (typed_state a items t) i).control)
       (quiet : (k : P) → (c.phase k ≡ Away) ⊎ (a.restarts k ≡ false)) (away : (op : Op) → c.phase (a.counter op) ≡ Away)
       (i : ℕ) (one : IsOneOf a.shape.n i) where

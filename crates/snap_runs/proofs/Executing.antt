@@ -5,18 +5,20 @@ use Rattle.snap_words.specs.Shape.{IsOneOf}
 use Rattle.snap_semantics.specs.State.{Process, process_at}
 use Rattle.snap_semantics.specs.Table.{who}
 use Rattle.snap_semantics.specs.declared.process.Item.{Item}
-use Rattle.snap_semantics.specs.declared.process.Item.TheVariants.{Step, Call}
+use Rattle.snap_semantics.specs.declared.process.Item.TheVariants.{Step, Call, Crash}
 use Rattle.snap_semantics.specs.declared.process.Outcome.TheVariants.{Stepped}
-use Rattle.snap_runs.specs.Run.{Run, Fits, state, item}
+use Rattle.snap_runs.specs.Run.{Run, state, item}
 use Rattle.snap_runs.specs.Scan.{steps}
 use Rattle.snap_runs.specs.Update.{is_at, executes}
 use Rattle.snap_runs.proofs.Algorithm.{Task, Control, Idle, At, Move, To, TypedProcess, TypedState, Algorithm, by_move, by_step, typed_at, changed, happens, item_at, typed_state, status_of, stepped_auxiliary, memory_after}
 use Rattle.snap_runs.proofs.Computing.{both, same_number, same_from}
 use Rattle.snap_runs.proofs.Embedding as embed
+use Rattle.snap_runs.proofs.Steady.{Steady}
 
 step_of : (i : ℕ) (y : Item) → steps i y ≡ true → y ≡ Step i
 step_of i (Step k) h = ap (λ u. Step u) (same_from k i h)
 step_of i (Call k op) h = absurd (cc)
+step_of i (Crash k) h = absurd (cc)
 
 module _ {V P M : Type 0} (a : Algorithm V P M) where
   -- each line by its number
@@ -36,7 +38,7 @@ module _ {V P M : Type 0} (a : Algorithm V P M) where
   busy_at numbered line there Idle is h = absurd (cc)
   busy_at numbered line there (At d k) is h = (d, ap (λ y. At d y) (at_number numbered k line there is h))
 
-  module _ (items : List Item) (fits : Fits (embed.run_of a items)) (does : embed.AllDo a items) where
+  module _ (items : List Item) (fits : Steady (embed.run_of a items)) (does : embed.AllDo a items) where
     abbrev pub r : Run
     r = embed.run_of a items
 

@@ -5,13 +5,14 @@ use Rattle.std.proofs.lemmas.Bool.{cases_eq}
 use Rattle.snap_words.specs.Shape.{IsOneOf}
 use Rattle.snap_semantics.specs.Table.{call_skip, who}
 use Rattle.snap_semantics.specs.declared.process.Item.{Item}
-use Rattle.snap_semantics.specs.declared.process.Item.TheVariants.{Step, Call}
+use Rattle.snap_semantics.specs.declared.process.Item.TheVariants.{Step, Call, Crash}
 use Rattle.snap_semantics.specs.declared.process.Op.{Op}
 use Rattle.snap_semantics.specs.declared.process.Outcome.TheVariants.{Called, Stepped, Answered, Finished}
 use Rattle.snap_semantics.specs.declared.process.Reason.{Reason}
-use Rattle.snap_runs.specs.Run.{Run, Fits, outcome}
+use Rattle.snap_runs.specs.Run.{Run, outcome}
 use Rattle.snap_runs.proofs.Algorithm.{Task, task_of, Control, Idle, At, Move, To, Begin, Answer, Finish, TypedProcess, TypedState, Algorithm, by_move, by_step, by_admission, by_call, typed_at, by_item, changed, outcome_of, happens, item_at, typed_state, stepped_auxiliary, begun_auxiliary, called_auxiliary}
 use Rattle.snap_runs.proofs.Embedding as embed
+use Rattle.snap_runs.proofs.Steady.{Steady}
 
 module _ {V P M : Type 0} (a : Algorithm V P M) where
   -- the process after a move at line k
@@ -21,7 +22,7 @@ module _ {V P M : Type 0} (a : Algorithm V P M) where
   moved time q k (Answer v) = record { control = Idle; variables = q.variables; auxiliary = stepped_auxiliary a k time q.auxiliary }
   moved time q k Finish = record { control = Idle; variables = q.variables; auxiliary = stepped_auxiliary a k time q.auxiliary }
 
-  module _ (items : List Item) (fits : Fits (embed.run_of a items)) (does : embed.AllDo a items) (i : ℕ) (one : IsOneOf a.shape.n i) where
+  module _ (items : List Item) (fits : Steady (embed.run_of a items)) (does : embed.AllDo a items) (i : ℕ) (one : IsOneOf a.shape.n i) where
     abbrev pub r : Run
     r = embed.run_of a items
 
@@ -95,6 +96,11 @@ module _ {V P M : Type 0} (a : Algorithm V P M) where
     his_case t (Call k op) short is w =
         let is2 : item_at items t ≡ Call i op = is ∙ ap (λ u. Call u op) w in
         call_case t op (his t).control is2 refl (ap (happens a (suc t) (typed_state a items t)) is2)
+    his_case t (Crash k) short is w =
+        inl (record {
+          same = ap (λ (y : TypedState V P M). typed_at a y i) (ap (happens a (suc t) (typed_state a items t)) is);
+          idle = λ h. absurd (let f = sym is ∙ h in cc);
+        })
 
     -- a step at a line, by the line
     pub after_step : (t : ℕ) (d : Task) (k : P) → item_at items t ≡ Step i → (his t).control ≡ At d k →

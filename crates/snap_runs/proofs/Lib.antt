@@ -4,6 +4,7 @@ pub mod Places
 pub mod Totals
 pub mod Budget
 pub mod States
+pub mod Steady
 pub mod Held
 pub mod Plain
 pub mod Algorithm

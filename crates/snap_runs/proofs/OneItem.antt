@@ -4,7 +4,7 @@ use Rattle.snap_words.specs.Shape.{Counts}
 use Rattle.snap_semantics.specs.Answers.{◌>>=◌}
 use Rattle.snap_semantics.specs.Source.{Source, instr_at, following}
 use Rattle.snap_semantics.specs.State.{Locals, Memory, Process, State, process_at, value_at, values, with_scalar}
-use Rattle.snap_semantics.specs.Table.{Effect, Goes, Answers, Finishes, on, first_true, first_goes, call_goes, return_goes, finish_goes, with_memory_bits, effect, effect_at, leave, step, call, called, call_skip, done, conditions, range_end, all_true, tuple_word, with_bits, owned, bit_value, bank_of, bits_of, with_bit_at, with_memory_views, each_value, places_to}
+use Rattle.snap_semantics.specs.Table.{Effect, Goes, Answers, Finishes, on, first_true, first_goes, call_goes, return_goes, finish_goes, with_memory_bits, effect, effect_at, leave, step, call, called, call_skip, crash, done, conditions, range_end, all_true, tuple_word, with_bits, owned, bit_value, bank_of, bits_of, with_bit_at, with_memory_views, each_value, places_to}
 use Rattle.snap_semantics.specs.Value.{Context, at_place, condition_holds, each_of, expr_value, index_value, place_in}
 use Rattle.snap_words.specs.Word.{Word}
 use Rattle.snap_words.specs.Shape.{places}
@@ -23,7 +23,7 @@ use Rattle.snap_semantics.specs.declared.process.Op.TheVariants as op
 use Rattle.snap_semantics.specs.declared.process.Outcome.TheVariants as outcome
 use Rattle.snap_semantics.specs.declared.process.Reason.{Reason}
 use Rattle.snap_semantics.specs.declared.process.Status.{Status}
-use Rattle.snap_semantics.specs.declared.process.Status.TheVariants.{Idle, Busy, Trapped}
+use Rattle.snap_semantics.specs.declared.process.Status.TheVariants.{Idle, Busy, Trapped, Crashed}
 use Rattle.snap_runs.specs.Deeds.{Deed, Write, Test, Answer, Nothing, line_deed, returned, deed_at, deed_in, deed_of}
 
 -- other words only of a line that writes them, and an answer only of a line that gives it
@@ -175,6 +175,7 @@ context shape i p a = record { shape = shape; me = i; op = a.op; locals = p.loca
 step_values : (s : Source) (shape : Counts) (S : State) (i : ℕ) (p : Process) (t : Status) → (deed_in s p.locals t ≡ Write) ⊎ (values (step s shape S i p t).0 ≡ values S)
 step_values s shape S i p Idle = inr refl
 step_values s shape S i p (Trapped c a) = inr refl
+step_values s shape S i p (Crashed was) = inr refl
 step_values s shape S i p (Busy a) =
     after_step S i a p.locals (deed_in s p.locals (Busy a)) (effect_at s (context shape i p a) S.memory a (instr_at s.lines a.line))
     (leaves_at s (context shape i p a) S.memory a (instr_at s.lines a.line))
@@ -183,6 +184,7 @@ step_values s shape S i p (Busy a) =
 step_answers : (s : Source) (shape : Counts) (S : State) (i : ℕ) (p : Process) (v : List ℕ) (t : Status) → (step s shape S i p t).1 ≡ outcome.Answered v → deed_in s p.locals t ≡ Answer v
 step_answers s shape S i p v Idle e = absurd cc
 step_answers s shape S i p v (Trapped c a) e = absurd cc
+step_answers s shape S i p v (Crashed was) e = absurd cc
 step_answers s shape S i p v (Busy a) e =
     answered_step S i a p.locals (deed_in s p.locals (Busy a)) v (effect_at s (context shape i p a) S.memory a (instr_at s.lines a.line))
     (leaves_at s (context shape i p a) S.memory a (instr_at s.lines a.line)) e
@@ -197,6 +199,14 @@ call_values : (s : Source) (shape : Counts) (S : State) (i : ℕ) (o : Op) (p : 
 call_values s shape S i o p Idle = called_values s S i p o (call_skip s.kind shape i o)
 call_values s shape S i o p (Busy a) = refl
 call_values s shape S i o p (Trapped c a) = refl
+call_values s shape S i o p (Crashed was) = refl
+
+-- and so does a crash
+crash_values : (S : State) (i : ℕ) (p : Process) (t : Status) → values (crash S i p t).0 ≡ values S
+crash_values S i p Idle = refl
+crash_values S i p (Busy a) = refl
+crash_values S i p (Trapped c a) = refl
+crash_values S i p (Crashed was) = refl
 
 -- a call answers nothing
 called_answers : (s : Source) (S : State) (i : ℕ) (p : Process) (o : Op) (v : List ℕ) (r : Option Reason) → (called s S i p o r).1 ≡ outcome.Answered v → ⊥
@@ -208,13 +218,23 @@ call_answers : (s : Source) (shape : Counts) (S : State) (i : ℕ) (o : Op) (p :
 call_answers s shape S i o p v Idle e = called_answers s S i p o v (call_skip s.kind shape i o) e
 call_answers s shape S i o p v (Busy a) e = absurd cc
 call_answers s shape S i o p v (Trapped c a) e = absurd cc
+call_answers s shape S i o p v (Crashed was) e = absurd cc
+
+-- nor a crash
+crash_answers : (S : State) (i : ℕ) (p : Process) (v : List ℕ) (t : Status) → (crash S i p t).1 ≡ outcome.Answered v → ⊥
+crash_answers S i p v Idle e = absurd cc
+crash_answers S i p v (Busy a) e = absurd cc
+crash_answers S i p v (Trapped c a) e = absurd cc
+crash_answers S i p v (Crashed was) e = absurd cc
 
 -- the values stay, unless the item is a step at a line that writes a word
 pub values_stay : (s : Source) (shape : Counts) (S : State) (x : Item) → (deed_of s S x ≡ Write) ⊎ (values (done s shape S x).0 ≡ values S)
 values_stay s shape S (item.Step i) = step_values s shape S i (process_at S i) (process_at S i).status
 values_stay s shape S (item.Call i o) = inr (call_values s shape S i o (process_at S i) (process_at S i).status)
+values_stay s shape S (item.Crash i) = inr (crash_values S i (process_at S i) (process_at S i).status)
 
 -- an answer is the view of the line that answers
 pub answer_is : (s : Source) (shape : Counts) (S : State) (x : Item) (v : List ℕ) → (done s shape S x).1 ≡ outcome.Answered v → deed_of s S x ≡ Answer v
 answer_is s shape S (item.Step i) v e = step_answers s shape S i (process_at S i) v (process_at S i).status e
 answer_is s shape S (item.Call i o) v e = absurd (call_answers s shape S i o (process_at S i) v (process_at S i).status e)
+answer_is s shape S (item.Crash i) v e = absurd (crash_answers S i (process_at S i) v (process_at S i).status e)

@@ -5,7 +5,7 @@ use Rattle.std.proofs.lemmas.Bool.{cases_eq, cases_lt}
 use Rattle.std.proofs.Math.Nat.{eq-or-lt_of_le}
 use Rattle.snap_words.specs.Shape.{IsOneOf}
 use Rattle.snap_semantics.specs.declared.process.Item.{Item}
-use Rattle.snap_semantics.specs.declared.process.Item.TheVariants.{Step, Call}
+use Rattle.snap_semantics.specs.declared.process.Item.TheVariants.{Step, Call, Crash}
 use Rattle.snap_semantics.specs.declared.process.Op.TheVariants as op
 use Rattle.snap_semantics.specs.declared.process.Outcome.{Outcome}
 use Rattle.snap_semantics.specs.declared.process.Outcome.TheVariants as outcome
@@ -75,6 +75,7 @@ answering outcome.Stepped = inr (λ view is. absurd (cc))
 answering (outcome.Answered view) = inl (view, refl)
 answering outcome.Finished = inr (λ view is. absurd (cc))
 answering (outcome.Trapped cause) = inr (λ view is. absurd (cc))
+answering outcome.Crashed = inr (λ view is. absurd (cc))
 answering (outcome.Skipped why) = inr (λ view is. absurd (cc))
 
 finishing : (out : Outcome) → (out ≡ outcome.Finished) ⊎ (out ≡ outcome.Finished → ⊥)
@@ -83,12 +84,14 @@ finishing outcome.Stepped = inr (λ is. absurd (cc))
 finishing (outcome.Answered view) = inr (λ is. absurd (cc))
 finishing outcome.Finished = inl refl
 finishing (outcome.Trapped cause) = inr (λ is. absurd (cc))
+finishing outcome.Crashed = inr (λ is. absurd (cc))
 finishing (outcome.Skipped why) = inr (λ is. absurd (cc))
 
 -- the process of an item that executes a line
 step_of : (i : ℕ) (y : Item) → steps i y ≡ true → i ≡ who y
 step_of i (Step k) h = sym (same_from k i h)
 step_of i (Call k o) h = absurd (cc)
+step_of i (Crash k) h = absurd (cc)
 
 -- how an update ends, and how a scan does
 pub ends_done : (word value : ℕ) (out : Outcome) → EndsWith (op.Update word value) out → out ≡ outcome.Finished
@@ -97,6 +100,7 @@ ends_done word value outcome.Stepped h = absurd h
 ends_done word value (outcome.Answered view) h = absurd h
 ends_done word value outcome.Finished h = refl
 ends_done word value (outcome.Trapped cause) h = absurd h
+ends_done word value outcome.Crashed h = absurd h
 ends_done word value (outcome.Skipped why) h = absurd h
 
 pub ends_answer : (out : Outcome) → EndsWith op.Scan out → (view : List ℕ) × (out ≡ outcome.Answered view)
@@ -105,6 +109,7 @@ ends_answer outcome.Stepped h = absurd h
 ends_answer (outcome.Answered view) h = (view, refl)
 ends_answer outcome.Finished h = absurd h
 ends_answer (outcome.Trapped cause) h = absurd h
+ends_answer outcome.Crashed h = absurd h
 ends_answer (outcome.Skipped why) h = absurd h
 
 module _ (r : Run) where

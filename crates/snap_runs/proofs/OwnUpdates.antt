@@ -27,6 +27,7 @@ use Rattle.snap_runs.proofs.Scans as scans
 use Rattle.snap_runs.proofs.UpdateSpan as called
 use Rattle.snap_runs.proofs.WordWrites as writes
 use Rattle.snap_runs.proofs.WritesOnce as writes_once
+use Rattle.snap_runs.proofs.Steady.{fits_of}
 
 -- the last item that passes a test
 record LastOf (test : ℕ → Bool) (c e : ℕ) : Type 0 where
@@ -194,7 +195,7 @@ module _ {V P M : Type 0} (a : Algorithm V P M) (lines : Lines V P M) (line : �
     wrote : (word value c e : ℕ) → UpdateOf r i word value c e → c < e → IsDone r i e → Wrote word value c e
     wrote word value c e up lt done =
         let last : e ≤ length items = up.last in
-        let two = writes.once_in_update a lines line writer run updates once numbered its run.fits i word value c e up in
+        let two = writes.once_in_update a lines line writer run updates once numbered its (fits_of r run.fits) i word value c e up in
         let one_write : count (executes r i line) c e ≡ 1 = two.1 lt done in
         let l : LastOf (executes r i line) c e = last_of (executes r i line) c e (omega arith) in
         let v = l.item in

@@ -6,24 +6,26 @@ use Rattle.std.proofs.Math.Nat.{eq-or-lt_of_le}
 use Rattle.snap_semantics.specs.Source.{instr_at}
 use Rattle.snap_semantics.specs.declared.process.Op.TheVariants.{Scan as ScanOp}
 use Rattle.snap_semantics.specs.declared.process.Item.{Item}
-use Rattle.snap_semantics.specs.declared.process.Item.TheVariants.{Step, Call}
+use Rattle.snap_semantics.specs.declared.process.Item.TheVariants.{Step, Call, Crash}
 use Rattle.snap_semantics.specs.declared.process.Outcome.{Outcome}
 use Rattle.snap_semantics.specs.declared.process.Outcome.TheVariants.{Called, Stepped}
 use Rattle.snap_semantics.specs.State.{Process}
 use Rattle.snap_semantics.specs.State.{process_at}
 use Rattle.snap_semantics.specs.Table.{who}
 use Rattle.snap_words.specs.Shape.{IsOneOf}
-use Rattle.snap_runs.specs.Run.{Run, Fits, state, before, item, outcome}
+use Rattle.snap_runs.specs.Run.{Run, state, before, item, outcome}
 use Rattle.snap_runs.specs.Scan.{line_in, link_in, IsCallLine, Returns, Starts, Scan, steps, is_if_all, is_stepped, is_not_skipped, ends_double_collect, takes_step, double_collects, own_steps}
 use Rattle.snap_runs.proofs.Algorithm.{Task, Scanning, Embedded, Updating, op_of, link_of, task_of, op_is, link_is, Control, Idle, At, Move, To, Begin, Answer, Finish, embedding, TypedProcess, TypedState, Algorithm, by_move, by_step, by_call, typed_at, by_item, changed, outcome_of, happens, item_at, typed_state, status_of, process_of, stepped_auxiliary, begun_auxiliary, called_auxiliary}
 use Rattle.snap_runs.proofs.Counting.{count_none, count_next, count_not}
 use Rattle.snap_runs.proofs.Computing.{same_number, other_number}
 use Rattle.snap_runs.proofs.Embedding as embed
+use Rattle.snap_runs.proofs.Steady.{Steady}
 
 -- another process's item is no step of process i
 pub not_his : (i : ℕ) (y : Item) → who y ≢ i → steps i y ≡ false
 not_his i (Step k) h = other_number k i h
 not_his i (Call k op) h = refl
+not_his i (Crash k) h = refl
 
 module _ {V P M : Type 0} (a : Algorithm V P M) where
   -- in a scan with this link
@@ -71,7 +73,7 @@ module _ {V P M : Type 0} (a : Algorithm V P M) where
   LawfulAt me m p (At d k) = Lawful me d m p k
 
   module _ (tests_is : (k : P) → (if is_if_all (instr_at a.source.lines (a.number k)) then 1 else 0) ≡ a.tests k)
-      (items : List Item) (fits : Fits (embed.run_of a items)) (does : embed.AllDo a items)
+      (items : List Item) (fits : Steady (embed.run_of a items)) (does : embed.AllDo a items)
       (lawful : (t i : ℕ) → t < length items → IsOneOf a.shape.n i → LawfulAt i (typed_state a items t).memory (typed_at a (typed_state a items t) i).variables (typed_at a (typed_state a items t) i).control)
       (i : ℕ) (one : IsOneOf a.shape.n i) where
     abbrev pub r : Run
@@ -251,6 +253,9 @@ module _ {V P M : Type 0} (a : Algorithm V P M) where
         let state_becomes : typed_state a items (suc t) ≡ x =
         ap (happens a (suc t) x) is2 ∙ ap (λ (p : Control P). changed x i (by_call a (suc t) x.memory i op (his t) p)) g.control in
         same_goes link c t le (ap (λ (y : TypedState V P M). typed_at a y i) state_becomes) (inr (ap (steps i) is2)) g
+    item_goes link c e t (Crash k) scan le lt is w g =
+        let x = typed_state a items t in
+        same_goes link c t le (ap (λ (y : TypedState V P M). typed_at a y i) (ap (happens a (suc t) x) is)) (inr (ap (steps i) is)) g
 
     next_goes : (link : Option ℕ) (c e t : ℕ) → Scan r i link c e → c ≤ t → suc t < e → Goes link c t → Goes link c (suc t)
     next_goes link c e t scan le lt g =

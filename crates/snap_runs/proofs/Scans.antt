@@ -6,15 +6,16 @@ use Rattle.snap_semantics.specs.Source.{instr_at}
 use Rattle.snap_semantics.specs.State.{Process, process_at}
 use Rattle.snap_semantics.specs.Table.{who}
 use Rattle.snap_semantics.specs.declared.process.Item.{Item}
-use Rattle.snap_semantics.specs.declared.process.Item.TheVariants.{Step, Call}
+use Rattle.snap_semantics.specs.declared.process.Item.TheVariants.{Step, Call, Crash}
 use Rattle.snap_semantics.specs.declared.process.Outcome.TheVariants.{Answered}
-use Rattle.snap_runs.specs.Run.{Fits, state, outcome}
+use Rattle.snap_runs.specs.Run.{state, outcome}
 use Rattle.snap_runs.specs.Scan.{IsCallLine, Returns, Ends, Scan, Finished, line_in, is_if_all}
 use Rattle.snap_runs.proofs.Algorithm.{Task, Control, Idle, At, WhenBusy, Move, To, Begin, Answer, Finish, TypedProcess, Algorithm, by_move, by_step, by_call, typed_at, by_item, outcome_of, item_at, typed_state, process_of}
 use Rattle.snap_runs.proofs.Embedding as embed
 use Rattle.snap_runs.proofs.Flow.{Lines}
 use Rattle.snap_runs.proofs.Flow as flow
 use Rattle.snap_runs.proofs.ScanSpan as span
+use Rattle.snap_runs.proofs.Steady.{Steady}
 
 module _ {V P M : Type 0} (a : Algorithm V P M) (lines : Lines V P M) where
   -- what the listing says of its lines
@@ -43,7 +44,7 @@ module _ {V P M : Type 0} (a : Algorithm V P M) (lines : Lines V P M) where
   -- A run in which each line that is met does its move, and passes control on as the lines of the listing do.
   pub record Execution : Type 0 where
     pub items : List Item
-    pub fits : Fits (embed.run_of a items)
+    pub fits : Steady (embed.run_of a items)
     pub does : embed.AllDo a items
     pub flows : AllFlow items
     pub wrote : AllWrite items
@@ -106,6 +107,9 @@ module _ {V P M : Type 0} (a : Algorithm V P M) (lines : Lines V P M) where
           let e : outcome_of (by_item a (suc t) (typed_state a items t) (item_at items t)) ≡ outcome_of (by_call a (suc t) (typed_state a items t).memory i op (his t) (At g.task g.counter)) =
           ap (λ (y : Item). outcome_of (by_item a (suc t) (typed_state a items t) y)) is2
           ∙ ap (λ (p : Control P). outcome_of (by_call a (suc t) (typed_state a items t).memory i op (his t) p)) g.control in
+          absurd (let f = sym out ∙ embed.outcome_is a items run.fits run.does t short ∙ e in cc)
+      called_ending c t view short g (Crash k) is w out =
+          let e = ap (λ (y : Item). outcome_of (by_item a (suc t) (typed_state a items t) y)) is in
           absurd (let f = sym out ∙ embed.outcome_is a items run.fits run.does t short ∙ e in cc)
       called_ending c t view short g (Step k) is w out =
           let is2 : item_at items t ≡ Step i = is ∙ ap (λ u. Step u) w in

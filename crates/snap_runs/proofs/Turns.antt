@@ -10,7 +10,7 @@ use Rattle.snap_semantics.specs.declared.instr.Instr.TheVariants.{Let, LetPlace,
 use Rattle.snap_semantics.specs.declared.process.Activity.{Activity}
 use Rattle.snap_semantics.specs.declared.process.Cause.{Cause}
 use Rattle.snap_semantics.specs.declared.process.Item.{Item}
-use Rattle.snap_semantics.specs.declared.process.Item.TheVariants.{Step, Call}
+use Rattle.snap_semantics.specs.declared.process.Item.TheVariants.{Step, Call, Crash}
 use Rattle.snap_semantics.specs.declared.process.Op.{Op}
 use Rattle.snap_semantics.specs.declared.process.Op.TheVariants.{Scan, Update}
 use Rattle.snap_semantics.specs.declared.process.Outcome.{Outcome}
@@ -18,11 +18,11 @@ use Rattle.snap_semantics.specs.declared.process.Outcome.TheVariants as outcome
 use Rattle.snap_semantics.specs.declared.process.Reason.{Reason}
 use Rattle.snap_semantics.specs.declared.process.Reason.TheVariants as reason
 use Rattle.snap_semantics.specs.declared.process.Status.{Status}
-use Rattle.snap_semantics.specs.declared.process.Status.TheVariants.{Idle, Busy, Trapped}
+use Rattle.snap_semantics.specs.declared.process.Status.TheVariants.{Idle, Busy, Trapped, Crashed}
 use Rattle.snap_semantics.specs.Answers.{◌>>=◌}
 use Rattle.snap_semantics.specs.Source.{Name, Source, following, instr_at}
 use Rattle.snap_semantics.specs.State.{Locals, Memory, Process, State, nobody, process_at, value_at}
-use Rattle.snap_semantics.specs.Table.{Effect, Goes, Answers, Finishes, on, range_end, places_to, all_true, first_true, conditions, each_value, tuple_word, with_bits, bit_value, owned, bank_of, first_goes, call_goes, return_goes, finish_goes, effect, effect_at, leave, step, entry, call_skip, called, call, done, who}
+use Rattle.snap_semantics.specs.Table.{Effect, Goes, Answers, Finishes, on, range_end, places_to, all_true, first_true, conditions, each_value, tuple_word, with_bits, bit_value, owned, bank_of, first_goes, call_goes, return_goes, finish_goes, effect, effect_at, leave, step, entry, call_skip, called, call, crashed, crash, done, who}
 use Rattle.snap_semantics.specs.Value.{Context, at_place, place_in, index_value, expr_value, condition_holds, each_of}
 
 -- which operation a line may end, where it does not trap or go on
@@ -145,6 +145,7 @@ pub data Turn : Status → Item → Outcome → Status → Type 0 where
   answers : (i : ℕ) (a : Activity) (view : List ℕ) → a.op ≡ Scan → Turn (Busy a) (Step i) (outcome.Answered view) Idle
   finishes : (i : ℕ) (a : Activity) (word value : ℕ) → a.op ≡ Update word value → Turn (Busy a) (Step i) outcome.Finished Idle
   traps : (i : ℕ) (a : Activity) (cause : Cause) → Turn (Busy a) (Step i) (outcome.Trapped cause) (Trapped cause a)
+  crashes : (i : ℕ) (s : Status) (was : Option Activity) → Turn s (Crash i) outcome.Crashed (Crashed was)
 
 -- process i's status in a state
 abbrev pub status_of : State → ℕ → Status
@@ -175,6 +176,7 @@ module _ (s : Source) (shape : Counts) (S : State) (i : ℕ) (count : length S.p
   steps : (status : Status) → status_of S i ≡ status →
       Turn status (Step i) (step s shape S i (process_at S i) status).1 (status_of (step s shape S i (process_at S i) status).0 i)
   steps (Trapped e a) is = subst (Turn (Trapped e a) (Step i) _) (sym is) (skipped (Trapped e a) (Step i) reason.Trapped tt)
+  steps (Crashed was) is = subst (Turn (Crashed was) (Step i) _) (sym is) (skipped (Crashed was) (Step i) reason.Crashed tt)
   steps Idle is = subst (Turn Idle (Step i) _) (sym is) (skipped Idle (Step i) reason.Idle tt)
   steps (Busy a) is =
       leaves a (process_at S i).locals _
@@ -190,8 +192,22 @@ module _ (s : Source) (shape : Counts) (S : State) (i : ℕ) (count : length S.p
   is_called : (op : Op) (status : Status) → status_of S i ≡ status →
       Turn status (Call i op) (call s shape S i op (process_at S i) status).1 (status_of (call s shape S i op (process_at S i) status).0 i)
   is_called op (Trapped e a) is = subst (Turn (Trapped e a) (Call i op) _) (sym is) (skipped (Trapped e a) (Call i op) reason.Trapped tt)
+  is_called op (Crashed was) is = subst (Turn (Crashed was) (Call i op) _) (sym is) (skipped (Crashed was) (Call i op) reason.Crashed tt)
   is_called op (Busy a) is = subst (Turn (Busy a) (Call i op) _) (sym is) (skipped (Busy a) (Call i op) reason.Busy tt)
   is_called op Idle is = admits op (call_skip s.kind shape i op) is
+
+  stops : (status : Status) (was : Option Activity) →
+      Turn status (Crash i) (crashed S i (process_at S i) was).1 (status_of (crashed S i (process_at S i) was).0 i)
+  stops status was =
+      subst (Turn status (Crash i) outcome.Crashed) (sym (own_status S.memory (record { status = Crashed was; locals = (process_at S i).locals })))
+      (crashes i status was)
+
+  is_crashed : (status : Status) → status_of S i ≡ status →
+      Turn status (Crash i) (crash S i (process_at S i) status).1 (status_of (crash S i (process_at S i) status).0 i)
+  is_crashed (Trapped e a) is = subst (Turn (Trapped e a) (Crash i) _) (sym is) (skipped (Trapped e a) (Crash i) reason.Trapped tt)
+  is_crashed (Crashed was) is = subst (Turn (Crashed was) (Crash i) _) (sym is) (skipped (Crashed was) (Crash i) reason.Crashed tt)
+  is_crashed (Busy a) is = stops (Busy a) (Some a)
+  is_crashed Idle is = stops Idle None
 
   pub own_turn : (x : Item) → who x ≡ i → Turn (status_of S i) x (done s shape S x).1 (status_of (done s shape S x).0 i)
   own_turn (Step k) e =
@@ -199,3 +215,6 @@ module _ (s : Source) (shape : Counts) (S : State) (i : ℕ) (count : length S.p
   own_turn (Call k op) e =
       subst (λ y. Turn (status_of S i) (Call y op) (done s shape S (Call y op)).1 (status_of (done s shape S (Call y op)).0 i)) (sym e)
       (is_called op (status_of S i) refl)
+  own_turn (Crash k) e =
+      subst (λ y. Turn (status_of S i) (Crash y) (done s shape S (Crash y)).1 (status_of (done s shape S (Crash y)).0 i)) (sym e)
+      (is_crashed (status_of S i) refl)

@@ -7,13 +7,13 @@ use Rattle.snap_semantics.specs.declared.process.Op.{Op}
 use Rattle.snap_semantics.specs.declared.process.Op.TheVariants.{Scan as ScanOp, Update}
 use Rattle.snap_semantics.specs.declared.process.Reason.{Reason}
 use Rattle.snap_semantics.specs.declared.process.Item.{Item}
-use Rattle.snap_semantics.specs.declared.process.Item.TheVariants.{Step, Call}
+use Rattle.snap_semantics.specs.declared.process.Item.TheVariants.{Step, Call, Crash}
 use Rattle.snap_semantics.specs.declared.process.Outcome.TheVariants.{Called, Stepped, Answered, Finished as Done}
 use Rattle.snap_semantics.specs.State.{Process}
 use Rattle.snap_semantics.specs.State.{process_at}
 use Rattle.snap_semantics.specs.Table.{call_skip, who}
 use Rattle.snap_words.specs.Shape.{IsOneOf}
-use Rattle.snap_runs.specs.Run.{Run, Fits, before, item, outcome}
+use Rattle.snap_runs.specs.Run.{Run, before, item, outcome}
 use Rattle.snap_runs.specs.Scan.{count, steps}
 use Rattle.snap_runs.specs.Update.{is_at, executes, IsDone, Updating}
 use Rattle.snap_runs.proofs.Algorithm.{Task, op_of, task_of, op_is, Control, Idle, At, Move, To, Begin, Answer, Finish, Auxiliary, TypedProcess, TypedState, Algorithm, by_move, by_step, by_admission, by_call, typed_at, by_item, changed, outcome_of, happens, item_at, typed_state, status_of, stepped_auxiliary, begun_auxiliary, called_auxiliary, SameOp}
@@ -21,6 +21,7 @@ use Rattle.snap_runs.proofs.Computing.{same_number}
 use Rattle.snap_runs.proofs.Embedding as embed
 use Rattle.snap_runs.proofs.Counting.{count_none, count_next, count_not}
 use Rattle.snap_runs.proofs.ScanSpan.{not_his}
+use Rattle.snap_runs.proofs.Steady.{Steady}
 
 add_one : (b : Bool) (x : ℕ) → (if b then suc x else x) ≡ x + (if b then 1 else 0)
 add_one true x = omega arith
@@ -35,7 +36,7 @@ module _ {V P M : Type 0} (a : Algorithm V P M) where
   NoAnswer Finish = Unit {0}
 
   module _ (line : ℕ) (writes_is : (k : P) → (if nat_eq (a.number k) line then 1 else 0) ≡ a.writes k)
-      (items : List Item) (fits : Fits (embed.run_of a items)) (does : embed.AllDo a items)
+      (items : List Item) (fits : Steady (embed.run_of a items)) (does : embed.AllDo a items)
       (i : ℕ) (one : IsOneOf a.shape.n i)
       (silent : (t : ℕ) → t < length items → (d : Task) (k : P) → (typed_at a (typed_state a items t) i).control ≡ At d k → (word value : ℕ) → op_of d ≡ Update word value →
       NoAnswer (a.move i d (typed_state a items t).memory (typed_at a (typed_state a items t) i).variables k)) where
@@ -160,6 +161,10 @@ module _ {V P M : Type 0} (a : Algorithm V P M) where
         calling_under t op (his t).control is2 refl (ap (happens a (suc t) (typed_state a items t)) is2)
         (embed.outcome_is a items fits does t short ∙ ap (λ (y : Item). outcome_of (by_item a (suc t) (typed_state a items t) y)) is2) h
 
+    item_under t (Crash k) short is w h =
+        same_under t (ap (λ (y : TypedState V P M). typed_at a y i) (ap (happens a (suc t) (typed_state a items t)) is))
+        (λ done. absurd (let e = sym done.1 ∙ embed.outcome_is a items fits does t short ∙ ap (λ (y : Item). outcome_of (by_item a (suc t) (typed_state a items t) y)) is in cc)) h
+
     process_kept : (t : ℕ) → t < length items → who (item_at items t) ≢ i → his (suc t) ≡ his t
     process_kept t short other =
         let his_one : IsOneOf a.shape.n (who (item_at items t)) = embed.one_at a items fits t short in
@@ -258,6 +263,8 @@ module _ {V P M : Type 0} (a : Algorithm V P M) where
         let x = typed_state a items t in
         same_going word value c t le (ap (λ (y : TypedState V P M). typed_at a y i) (ap (happens a (suc t) x) is2 ∙ ap (λ (p : Control P). changed x i (by_call a (suc t) x.memory i op (his t) p)) g.control))
         (ap (steps i) is2) g
+    item_going word value c e t (Crash k) up le lt is w g =
+        same_going word value c t le (ap (λ (y : TypedState V P M). typed_at a y i) (ap (happens a (suc t) (typed_state a items t)) is)) (ap (steps i) is) g
 
     called_going : (word value c : ℕ) (control : Control P) →
         typed_state a items (suc c) ≡ changed (typed_state a items c) i (by_call a (suc c) (memory c) i (Update word value) (his c) control) →

@@ -6,7 +6,7 @@ use Rattle.std.proofs.Math.Nat.{eq-or-lt_of_le}
 use Rattle.snap_words.specs.Shape.{IsOneOf}
 use Rattle.snap_semantics.specs.Table.{call_skip, who}
 use Rattle.snap_semantics.specs.declared.process.Item.{Item}
-use Rattle.snap_semantics.specs.declared.process.Item.TheVariants.{Step, Call}
+use Rattle.snap_semantics.specs.declared.process.Item.TheVariants.{Step, Call, Crash}
 use Rattle.snap_semantics.specs.declared.process.Op.TheVariants.{Update}
 use Rattle.snap_semantics.specs.declared.process.Outcome.TheVariants.{Called, Stepped}
 use Rattle.snap_semantics.specs.declared.process.Reason.{Reason}
@@ -213,6 +213,8 @@ module _ {V P M : Type 0} (a : Algorithm V P M) (lines : Lines V P M) where
         let x = typed_state a items t in
         same_spent word value c t le (ap (λ (y : TypedState V P M). typed_at a y i) (ap (happens a (suc t) x) is2 ∙ ap (λ (p : Control P). changed x i (by_call a (suc t) x.memory i o (his t) p)) g.control))
         (ap (steps i) is2) g
+    item_spent word value c e t (Crash j) up le lt is w g =
+        same_spent word value c t le (ap (λ (y : TypedState V P M). typed_at a y i) (ap (happens a (suc t) (typed_state a items t)) is)) (ap (steps i) is) g
 
     -- at its call nothing is spent
     admitted : (word value c : ℕ) (o : Option Reason) →

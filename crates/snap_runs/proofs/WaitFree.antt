@@ -1,20 +1,24 @@
--- Where no process traps, a call has as many turns as it takes steps, so that bounds on steps are bounds on turns.
-use Rattle.std.specs.Prelude.{◌≡◌, ℕ, zero, suc, ◌<◌, ◌≤◌, Bool, true, false, ◌&&◌, length, None, nat_lt, if◌then◌else◌, refl}
-use Rattle.std.proofs.Common.{sym, ◌∙◌, ap, subst, arith}
+-- Where no process traps, a call has as many turns as it takes steps, up to a crash, so that bounds on steps are bounds on turns.
+use Rattle.std.specs.Prelude.{◌≡◌, ℕ, zero, suc, ◌<◌, ◌≤◌, Bool, true, false, ◌&&◌, ◌⊎◌, length, Option, None, nat_lt, if◌then◌else◌, refl}
+use Rattle.std.proofs.Common.{sym, ◌∙◌, ap, subst, arith, inl, inr}
 use Rattle.snap_words.specs.Shape.{IsOneOf}
 use Rattle.snap_semantics.specs.declared.process.Activity.{Activity}
 use Rattle.snap_semantics.specs.declared.process.Item.{Item}
-use Rattle.snap_semantics.specs.declared.process.Item.TheVariants.{Step, Call}
+use Rattle.snap_semantics.specs.declared.process.Item.TheVariants.{Step, Call, Crash}
 use Rattle.snap_semantics.specs.declared.process.Op.{Op}
 use Rattle.snap_semantics.specs.declared.process.Op.TheVariants as op
+use Rattle.snap_semantics.specs.declared.process.Outcome.{Outcome}
+use Rattle.snap_semantics.specs.declared.process.Outcome.TheVariants as outcomes
+use Rattle.snap_semantics.specs.declared.process.Reason.TheVariants as reason
 use Rattle.snap_semantics.specs.declared.process.Status.{Status}
-use Rattle.snap_semantics.specs.declared.process.Status.TheVariants.{Idle, Busy, Trapped}
-use Rattle.snap_semantics.specs.Table.{who}
-use Rattle.snap_runs.specs.Run.{Run, Fits, item, outcome}
+use Rattle.snap_semantics.specs.declared.process.Status.TheVariants.{Idle, Busy, Trapped, Crashed}
+use Rattle.snap_semantics.specs.State.{process_at}
+use Rattle.snap_semantics.specs.Table.{step, done, who}
+use Rattle.snap_runs.specs.Run.{Run, Fits, state, item, outcome}
 use Rattle.snap_runs.specs.Scan.{count, steps, is_not_skipped, takes_step, own_steps}
 use Rattle.snap_runs.specs.Update.{Updating}
 use Rattle.snap_runs.specs.Promises.{HasTrapped, NeverTraps, StepsAtMost}
-use Rattle.snap_runs.specs.WaitFree.{turns, IsWaitFree}
+use Rattle.snap_runs.specs.WaitFree.{is_alive, turns, IsWaitFree}
 use Rattle.snap_runs.proofs.Calls.{Occupied, Calls, EndsAt, status, occupied, turn, is_not_skipped_there}
 use Rattle.snap_runs.proofs.Computing.{lt_from, same_from}
 use Rattle.snap_runs.proofs.Operations.{ends_done, ends_answer}
@@ -32,36 +36,59 @@ same_counts test other c (suc e) h =
         ∙ ap (λ y. if other (suc e) then suc y else y) past
     at_last false is past = past
 
-and_when : (b x : Bool) → (b ≡ true → x ≡ true) → b ≡ (b && x)
-and_when true x h = sym (h refl)
-and_when false x h = refl
+and_when : (b x y : Bool) → (b ≡ true → x ≡ y) → (b && x) ≡ (b && y)
+and_when true x y h = h refl
+and_when false x y h = refl
+
+-- a turn that is not skipped is one of a process that has not crashed
+alive : (out : Outcome) → is_not_skipped out ≡ true → is_alive out ≡ is_not_skipped out
+alive outcomes.Called h = refl
+alive outcomes.Stepped h = refl
+alive (outcomes.Answered view) h = refl
+alive outcomes.Finished h = refl
+alive (outcomes.Trapped cause) h = refl
+alive outcomes.Crashed h = refl
+alive (outcomes.Skipped why) h = absurd (cc)
 
 step_is : (i : ℕ) (y : Item) → steps i y ≡ true → y ≡ Step i
 step_is i (Step k) h = ap (λ u. Step u) (same_from k i h)
 step_is i (Call k o) h = absurd (cc)
+step_is i (Crash k) h = absurd (cc)
 
--- who is occupied and has not trapped is busy
-busy_then : (o : Op) (s : Status) → Occupied o s → (HasTrapped s → ⊥) → (a : Activity) × (s ≡ Busy a)
+-- who is occupied and has not trapped is busy or has crashed
+busy_then : (o : Op) (s : Status) → Occupied o s → (HasTrapped s → ⊥) →
+    ((a : Activity) × (s ≡ Busy a)) ⊎ ((was : Option Activity) × (s ≡ Crashed was))
 busy_then o Idle h not_trapped = absurd h
-busy_then o (Busy a) h not_trapped = (a, refl)
+busy_then o (Busy a) h not_trapped = inl (a, refl)
 busy_then o (Trapped cause a) h not_trapped = absurd (not_trapped tt)
+busy_then o (Crashed was) h not_trapped = inr (was, refl)
 
 module _ (r : Run) (fits : Fits r) (safe : NeverTraps r) where
-  -- while a call is open, no turn of its process is skipped
+  -- a step of a process that has crashed is skipped
+  crashed_step : (i t : ℕ) (was : Option Activity) → item r (suc t) ≡ Step i → status r fits t i ≡ Crashed was →
+      outcome r (suc t) ≡ outcomes.Skipped reason.Crashed
+  crashed_step i t was is at =
+      ap (λ (y : Item). (done r.source r.shape (state r t) y).1) is
+      ∙ ap (λ (y : Status). (step r.source r.shape (state r t) i (process_at (state r t) i) y).1) at
+
+  -- while a call is open, no turn of its process is skipped before it crashes
   turn_counts : (i : ℕ) (o : Op) (c t : ℕ) → IsOneOf r.shape.n i → 0 < c → c < t → t ≤ length r.items → Calls r fits i o c →
-      ((u : ℕ) → c < u → u < t → EndsAt r fits i o u → ⊥) → steps i (item r t) ≡ takes_step r i t
+      ((u : ℕ) → c < u → u < t → EndsAt r fits i o u → ⊥) →
+      (steps i (item r t) && is_alive (outcome r t)) ≡ takes_step r i t
   turn_counts i o c zero one pos lt short call still = absurd (omega arith)
   turn_counts i o c (suc t) one pos lt short call still =
-      and_when (steps i (item r (suc t))) (is_not_skipped (outcome r (suc t))) (λ his.
+      and_when (steps i (item r (suc t))) (is_alive (outcome r (suc t))) (is_not_skipped (outcome r (suc t))) (λ his.
       let step = step_is i (item r (suc t)) his in
       let there = occupied r fits i o c t one pos (omega arith) (omega arith) call (λ u more le ends. still u more (omega arith) ends) in
-      let busy = busy_then o (status r fits t i) there (safe fits i t one (omega arith)) in
-      is_not_skipped_there i busy.0 (turn r fits t i (omega arith) one (ap who step)) busy.1 step)
+      elim (busy_then o (status r fits t i) there (safe fits i t one (omega arith))) [
+        | inl busy ↦ alive (outcome r (suc t)) (is_not_skipped_there i busy.0 (turn r fits t i (omega arith) one (ap who step)) busy.1 step)
+        | inr stopped ↦ (let out = crashed_step i t stopped.0 step stopped.1 in ap is_alive out ∙ sym (ap is_not_skipped out))
+      ])
 
   turns_are_steps : (i : ℕ) (o : Op) (c e : ℕ) → IsOneOf r.shape.n i → 0 < c → e ≤ length r.items → Calls r fits i o c →
       ((u : ℕ) → c < u → u < e → EndsAt r fits i o u → ⊥) → turns r i c e ≡ own_steps r i c e
   turns_are_steps i o c e one pos short call still =
-      same_counts (λ t. steps i (item r t)) (takes_step r i) c e
+      same_counts (λ t. steps i (item r t) && is_alive (outcome r t)) (takes_step r i) c e
       (λ t lt le. turn_counts i o c t one pos lt (omega arith) call (λ u more less ends. still u more (omega arith) ends))
 
 pub wait_free : (scan_steps update_steps : ℕ) (r : Run) → NeverTraps r → StepsAtMost scan_steps r →

@@ -8,7 +8,7 @@ use Rattle.snap_words.specs.Word.{Word, no_word}
 use Rattle.snap_semantics.specs.State.{values}
 use Rattle.snap_semantics.specs.Table.{who}
 use Rattle.snap_semantics.specs.declared.process.Item.{Item}
-use Rattle.snap_semantics.specs.declared.process.Item.TheVariants.{Step, Call}
+use Rattle.snap_semantics.specs.declared.process.Item.TheVariants.{Step, Call, Crash}
 use Rattle.snap_semantics.specs.declared.process.Op.TheVariants.{Update}
 use Rattle.snap_runs.specs.Run.{Run, state}
 use Rattle.snap_runs.specs.Update.{executes}
@@ -91,6 +91,7 @@ module _ {V P M : Type 0} (a : Algorithm V P M) (lines : Lines V P M) (line : �
           (writer.words (happens a (suc t) (typed_state a items t) y).memory ≡ words_at t) ⊎ Writes (typed_state a items t) y
       item_writes t (Step i) h one = step_writes (suc t) (typed_state a items t) i (at t i).control refl (run.flows t i h one)
       item_writes t (Call i op) h one = inl (ap writer.words (embed.call_memory a (suc t) (typed_state a items t) i op (at t i).control))
+      item_writes t (Crash i) h one = inl refl
 
       -- an item that changes the words is a step at this line
       pub words_change : (t : ℕ) → t < length items → (words_at (suc t) ≡ words_at t) ⊎ Writes (typed_state a items t) (item_at items t)

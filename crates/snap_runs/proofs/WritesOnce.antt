@@ -5,7 +5,7 @@ use Rattle.std.proofs.Math.Nat.{eq-or-lt_of_le}
 use Rattle.snap_words.specs.Shape.{IsOneOf}
 use Rattle.snap_semantics.specs.Table.{who}
 use Rattle.snap_semantics.specs.declared.process.Item.{Item}
-use Rattle.snap_semantics.specs.declared.process.Item.TheVariants.{Step, Call}
+use Rattle.snap_semantics.specs.declared.process.Item.TheVariants.{Step, Call, Crash}
 use Rattle.snap_semantics.specs.declared.process.Op.TheVariants.{Update}
 use Rattle.snap_semantics.specs.declared.process.Outcome.TheVariants.{Finished as Done}
 use Rattle.snap_runs.specs.Run.{outcome}
@@ -69,6 +69,9 @@ module _ {V P M : Type 0} (a : Algorithm V P M) (lines : Lines V P M) (line : �
         let e : outcome_of (by_item a (suc t) (typed_state a items t) (item_at items t)) ≡ outcome_of (by_call a (suc t) (typed_state a items t).memory i op (his t) (At g.task g.counter)) =
         ap (λ (y : Item). outcome_of (by_item a (suc t) (typed_state a items t) y)) is2
         ∙ ap (λ (p : Control P). outcome_of (by_call a (suc t) (typed_state a items t).memory i op (his t) p)) g.control in
+        absurd (let f = sym out ∙ embed.outcome_is a items run.fits run.does t short ∙ e in cc)
+    done_once word value c t le short g (Crash k) is w out =
+        let e = ap (λ (y : Item). outcome_of (by_item a (suc t) (typed_state a items t) y)) is in
         absurd (let f = sym out ∙ embed.outcome_is a items run.fits run.does t short ∙ e in cc)
     done_once word value c t le short g (Step k) is w out =
         let is2 : item_at items t ≡ Step i = is ∙ ap (λ u. Step u) w in

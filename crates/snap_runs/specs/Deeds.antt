@@ -6,11 +6,11 @@ use Rattle.snap_semantics.specs.declared.instr.Instr.{Instr}
 use Rattle.snap_semantics.specs.declared.instr.Instr.TheVariants.{Put, IfAll, Return}
 use Rattle.snap_semantics.specs.declared.process.Activity.{Activity}
 use Rattle.snap_semantics.specs.declared.process.Item.{Item}
-use Rattle.snap_semantics.specs.declared.process.Item.TheVariants.{Step, Call}
+use Rattle.snap_semantics.specs.declared.process.Item.TheVariants.{Step, Call, Crash}
 use Rattle.snap_semantics.specs.declared.process.Op.{Op}
 use Rattle.snap_semantics.specs.declared.process.Op.TheVariants.{Scan, Update}
 use Rattle.snap_semantics.specs.declared.process.Status.{Status}
-use Rattle.snap_semantics.specs.declared.process.Status.TheVariants.{Idle, Busy, Trapped}
+use Rattle.snap_semantics.specs.declared.process.Status.TheVariants.{Idle, Busy, Trapped, Crashed}
 
 -- a line that writes a word, one that tests for all, one that answers a scan with this view, or another
 pub data Deed : Type 0 where
@@ -42,11 +42,13 @@ abbrev pub deed_in : Source → Locals → Status → Deed
 deed_in s l Idle = Nothing
 deed_in s l (Busy a) = deed_at a l (instr_at s.lines a.line)
 deed_in s l (Trapped cause a) = Nothing
+deed_in s l (Crashed was) = Nothing
 
 -- what an item does in a state
 abbrev pub deed_of : Source → State → Item → Deed
 deed_of s S (Step i) = deed_in s (process_at S i).locals (process_at S i).status
 deed_of s S (Call i op) = Nothing
+deed_of s S (Crash i) = Nothing
 
 -- a line that tests for all
 abbrev pub is_test : Deed → Bool

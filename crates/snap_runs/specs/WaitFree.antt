@@ -1,12 +1,20 @@
 -- Wait-free: a call is over after so many turns of its own process, whatever the others do or stop doing.
-use Rattle.std.specs.Prelude.{ℕ, ◌≤◌, None}
-use Rattle.snap_runs.specs.Run.{Run, Fits, item}
+use Rattle.std.specs.Prelude.{ℕ, ◌≤◌, Bool, true, false, ◌&&◌, None}
+use Rattle.snap_semantics.specs.declared.process.Outcome.{Outcome}
+use Rattle.snap_semantics.specs.declared.process.Outcome.TheVariants.{Skipped}
+use Rattle.snap_semantics.specs.declared.process.Reason.TheVariants.{Crashed}
+use Rattle.snap_runs.specs.Run.{Run, Fits, item, outcome}
 use Rattle.snap_runs.specs.Scan.{Scan, count, steps}
 use Rattle.snap_runs.specs.Update.{Updating}
 
--- how many turns process i gets after item c and up to item e: its steps, skipped or not
+-- what comes of a turn of a process that has not crashed
+abbrev pub is_alive : Outcome → Bool
+is_alive (Skipped Crashed) = false
+is_alive _ = true
+
+-- how many turns process i gets after item c and up to item e: its steps, skipped or not, as long as it has not crashed
 abbrev pub turns : Run → ℕ → ℕ → ℕ → ℕ
-turns r i = count (λ t. steps i (item r t))
+turns r i = count (λ t. steps i (item r t) && is_alive (outcome r t))
 
 -- A call that has not ended before item e has had at most so many turns up to item e. A turn that is skipped counts, so that a
 -- process that trapped or that stands still for ever would not keep this.

@@ -13,3 +13,13 @@ invariant_of-self-in-Call g c =
     subst (λ s. AllSized s inside.registers.shape (map (seen_process g.K.Kind.parts s) c.call.new.processes)) c.listing-in-Call.ensures
     c.call.ensures.sized in
     stands_after g.K.Kind.TAG g.K.Kind.parts inside.program inside.registers.shape inside.registers.shape inside.processes.items c.call.new.processes inside.processes.len c.self.invariant len_is same refl sized
+
+pub invariant_of-self-in-Crash : goal.invariant_of-self-in-Crash
+invariant_of-self-in-Crash g c =
+    let inside = c.self.inside in
+    let len_is : inside.processes.len ≡ length inside.processes.items = search rules in
+    let same : length c.crash.new.processes ≡ length inside.processes.items = c.crash.auto.processes ∙ ap length c.as_mut_slice-in-Crash.ensures.value in
+    let sized =
+    subst (λ s. AllSized s inside.registers.shape (map (seen_process g.K.Kind.parts s) c.crash.new.processes)) c.listing-in-Crash.ensures
+    c.crash.ensures.sized in
+    stands_after g.K.Kind.TAG g.K.Kind.parts inside.program inside.registers.shape inside.registers.shape inside.processes.items c.crash.new.processes inside.processes.len c.self.invariant len_is same refl sized

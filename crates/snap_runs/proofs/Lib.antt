@@ -26,6 +26,7 @@ pub mod Calls
 pub mod Operations
 pub mod Order
 pub mod Linear
+pub mod Calm
 pub mod OneItem
 pub mod Audits
 pub mod ItemCases

@@ -15,7 +15,7 @@ use Rattle.snap_runs.proofs.Computing.{both, same_number, same_from}
 use Rattle.snap_runs.proofs.Embedding as embed
 use Rattle.snap_runs.proofs.Steady.{Steady}
 
-step_of : (i : ℕ) (y : Item) → steps i y ≡ true → y ≡ Step i
+pub step_of : (i : ℕ) (y : Item) → steps i y ≡ true → y ≡ Step i
 step_of i (Step k) h = ap (λ u. Step u) (same_from k i h)
 step_of i (Call k op) h = absurd (cc)
 step_of i (Crash k) h = absurd (cc)

@@ -35,5 +35,7 @@ pub mod EmbeddedScans
 pub mod Lenders
 pub mod UpdateSteps
 pub mod WaitFree
+pub mod CalmItems
+pub mod CalmPromises
 pub mod Collecting
 pub mod CleanTests

@@ -24,7 +24,7 @@ use Rattle.snap_runs.proofs.Computing.{lt_from, same_from}
 use Rattle.snap_runs.proofs.Operations.{ends_done, ends_answer}
 
 -- tests that agree at each item count the same
-same_counts : (test other : ℕ → Bool) (c e : ℕ) → ((t : ℕ) → c < t → t ≤ e → test t ≡ other t) → count test c e ≡ count other c e
+pub same_counts : (test other : ℕ → Bool) (c e : ℕ) → ((t : ℕ) → c < t → t ≤ e → test t ≡ other t) → count test c e ≡ count other c e
 same_counts test other c zero h = refl
 same_counts test other c (suc e) h =
     at_last (nat_lt c (suc e)) refl (same_counts test other c e (λ t lt le. h t lt (omega arith)))

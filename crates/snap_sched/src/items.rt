@@ -1,5 +1,5 @@
 //! The items of a schedule or of a history, kept as runs.
-ghost use Rattle.std.specs.Prelude.{◌≡◌, ◌+◌, ◌<◌, ◌^◌, ◌↔◌, ℕ, List, [], ◌∷◌, ◌++◌, length, map, replicate, IsTrue, OnOk, OnErr};
+ghost use Rattle.std.specs.Prelude.{◌≡◌, ◌+◌, ◌<◌, ◌^◌, ◌↔◌, ℕ, List, [], ◌∷◌, ◌++◌, length, map, replicate, IsTrue, IfOk, OnOk, OnErr};
 ghost use Rattle.std.specs.List.{AllByRecursion, flat_map};
 ghost use Rattle.snap_semantics.specs.declared.process.Item.TheVariants.{Step, Call};
 ghost use Rattle.snap_semantics.specs.ScheduleText.{forms_of, FitsItem, FitsWords};
@@ -124,6 +124,16 @@ impl Items {
         ensures fits { AllByRecursion FitsItem self.now }
     {
         self.runs.as_slice()
+    }
+
+    /// An equal list.
+    pub fn copy(&self, alloc: Global) -> Result<Items, AllocError>
+        ensures { IfOk result (λ items. items ≡ self.now) }
+    {
+        Ok(Items {
+            runs: Vec::from_slice(alloc, self.runs.as_slice())?,
+            len: self.len,
+        })
     }
 
     /// Adds so many steps of a process.

@@ -1,9 +1,10 @@
 //! Schedules.
-ghost use Rattle.std.specs.Prelude.{◌≡◌};
+ghost use Rattle.std.specs.Prelude.{◌≡◌, IfOk};
 ghost use Rattle.snap_semantics.specs.ScheduleText.{IsSchedule};
 
 use crate::items::Items;
 use snap_words::Shape;
+use std::alloc::{AllocError, Global};
 use std::marker::Model;
 
 /// The most items of a schedule.
@@ -37,6 +38,16 @@ impl Schedule {
         ensures { result ≡ record { shape = shape; items = items } }
     {
         Schedule { shape, items }
+    }
+
+    /// An equal schedule.
+    pub fn copy(&self, alloc: Global) -> Result<Schedule, AllocError>
+        ensures { IfOk result (λ s. s ≡ self.now) }
+    {
+        Ok(Schedule {
+            shape: self.shape,
+            items: self.items.copy(alloc)?,
+        })
     }
 
     /// The numbers of processes and of words.

@@ -18,7 +18,7 @@ use Rattle.snap_sched.proofs.Apart.{AreApart, forms_apart, apart_forms, steps_ad
 pub form_items_of : (rs : List Stretch) → flat_map form_items (map view_run rs) ≡ items_of_runs rs
 form_items_of rs = flat_map-map form_items view_run rs
 
-greatest_apart : (rs : List Stretch) → AreGreatest rs → AreApart (map view_run rs)
+pub greatest_apart : (rs : List Stretch) → AreGreatest rs → AreApart (map view_run rs)
 greatest_apart rs h = subst AreApart h (forms_apart (items_of_runs rs))
 
 apart_greatest : (rs : List Stretch) → AreApart (map view_run rs) → AreGreatest rs

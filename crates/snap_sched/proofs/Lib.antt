@@ -7,3 +7,4 @@ pub mod Fits
 pub mod Fitting
 pub mod Again
 pub mod Round
+pub mod Cursors

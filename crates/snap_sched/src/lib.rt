@@ -2,6 +2,7 @@
 #![tactic(auto)]
 
 mod canonical_text;
+mod cursor;
 mod fault;
 mod forms;
 mod items;
@@ -10,6 +11,7 @@ mod reader;
 mod schedule;
 
 pub use canonical_text::print;
+pub use cursor::Cursor;
 pub use fault::ScheduleFault;
 pub use items::{Items, Stretch};
 pub use laws::{prints_again, reads_all_spelled, reads_only_spelled};

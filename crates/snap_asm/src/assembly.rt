@@ -1,12 +1,14 @@
 //! From texts to images, from images to texts, and from images to programs.
-ghost use Rattle.std.specs.Prelude.{◌≡◌, IfOk, Ok};
+ghost use Rattle.std.specs.Prelude.{◌≡◌, ◌≢◌, ℕ, List, ◌∷◌, ◌++◌, IfOk, Ok, Err, take};
 ghost use Rattle.snap_semantics.specs.Answers.{Answers};
 ghost use Rattle.snap_semantics.specs.Assembly.{assembled, listed};
 ghost use Rattle.snap_semantics.specs.CanonicalText.{canonical_text};
-ghost use Rattle.snap_semantics.specs.Image.{image_of};
+ghost use Rattle.snap_semantics.specs.Image.{image_of, signature, version};
 ghost use Rattle.snap_semantics.specs.ImageListing.{listing_of_image};
 ghost use Rattle.snap_semantics.specs.IsListing.{IsListing};
 ghost use Rattle.snap_semantics.specs.Source.{Source};
+ghost use Rattle.snap_semantics.specs.declared.fault.Fault.TheVariants.{Refused};
+ghost use Rattle.snap_semantics.specs.declared.refusal.ImageRefusal.TheVariants.{NotAnImage, Version};
 ghost use Rattle.snap_asm.specs.Listed.{HaveOneListing};
 
 use snap_code::Program;
@@ -31,6 +33,8 @@ pub fn list(alloc: Global, image: &[u8]) -> Result<Vec<u8>, ImageFault>
     ensures answer { Answers (λ text. text.items) result (listed image.now) }
     ensures image { IfOk result (λ text. HaveOneListing image.now text.items) }
     ensures every { (s : Source) → IsListing s → image.now ≡ image_of s → Answers (λ text. text.items) result (Ok (canonical_text s)) }
+    ensures not_an_image { take 4 image.now ≢ signature → result ≡ Err (Refused NotAnImage) }
+    ensures version { (v : ℕ) (rest : List ℕ) → image.now ≡ signature ++ v ∷ rest → v ≢ version → result ≡ Err (Refused Version) }
 {
     let listing = decode(alloc, image)?;
     let text = print(alloc, &listing)?;
@@ -42,6 +46,8 @@ pub fn load(alloc: Global, image: &[u8]) -> Result<Program, ImageFault>
     ensures answer { Answers (λ p. p) result (listing_of_image image.now) }
     ensures image { IfOk result (λ p. image.now ≡ image_of p) }
     ensures every { (s : Source) → IsListing s → image.now ≡ image_of s → Answers (λ p. p) result (Ok s) }
+    ensures not_an_image { take 4 image.now ≢ signature → result ≡ Err (Refused NotAnImage) }
+    ensures version { (v : ℕ) (rest : List ℕ) → image.now ≡ signature ++ v ∷ rest → v ≢ version → result ≡ Err (Refused Version) }
 {
     let listing = decode(alloc, image)?;
     let program = Program::of(alloc, listing)?;

@@ -1,13 +1,17 @@
 //! Decodes images.
-ghost use Rattle.std.specs.Prelude.{◌≡◌, ◌∷◌, IfOk, Ok};
+ghost use Rattle.std.specs.Prelude.{◌≡◌, ◌≢◌, ℕ, List, ◌∷◌, ◌++◌, IfOk, Ok, Err, take};
 ghost use Rattle.snap_semantics.specs.Answers.{Answers};
-ghost use Rattle.snap_semantics.specs.Image.{image_of};
+ghost use Rattle.snap_semantics.specs.Image.{image_of, signature, version};
 ghost use Rattle.snap_semantics.specs.ImageListing.{new_number, line_in, lines_in, listing_of_image};
 ghost use Rattle.snap_semantics.specs.IsListing.{IsListing};
 ghost use Rattle.snap_semantics.specs.Listing.{checked_targets, line_targets};
 ghost use Rattle.snap_semantics.specs.Source.{Source};
+ghost use Rattle.snap_semantics.specs.declared.fault.Fault.TheVariants.{Refused};
+ghost use Rattle.snap_semantics.specs.declared.refusal.ImageRefusal.{ImageRefusal as Refusal};
+ghost use Rattle.snap_semantics.specs.declared.refusal.ImageRefusal.TheVariants.{NotAnImage, Version};
 ghost use Rattle.snap_source.specs.Fields.{header_source};
 ghost use Rattle.snap_image_codes.specs.Reads.{Reads};
+ghost use Rattle.snap_decoder.specs.Head.{opened};
 ghost use Rattle.snap_decoder.specs.Reading.{added_line};
 
 use crate::fault::ImageFault;
@@ -96,7 +100,8 @@ fn targets(header: &Header, lines: &[Line]) -> Result<(), ListingRefusal>
 /// The listing whose image these bytes are, or the first reason why they are none.
 #[tactic(auto, unfolding(snap_semantics::specs::ImageListing::listing_of_image))]
 fn decoded(alloc: Global, image: &[u8]) -> Result<Listing, ImageFault>
-    ensures { Answers (λ l. l) result (listing_of_image image.now) }
+    ensures answer { Answers (λ l. l) result (listing_of_image image.now) }
+    ensures opened { (e : Refusal) → opened image.now ≡ Err e → result ≡ Err (Refused e) }
 {
     let (header, count, mut cursor) = head(alloc, image)?;
     let lines = lines(alloc, &header, count, &mut cursor)?;
@@ -113,6 +118,8 @@ pub fn decode(alloc: Global, image: &[u8]) -> Result<Listing, ImageFault>
     ensures answer { Answers (λ l. l) result (listing_of_image image.now) }
     ensures image { IfOk result (λ l. image.now ≡ image_of l) }
     ensures every { (s : Source) → IsListing s → image.now ≡ image_of s → Answers (λ l. l) result (Ok s) }
+    ensures not_an_image { take 4 image.now ≢ signature → result ≡ Err (Refused NotAnImage) }
+    ensures version { (v : ℕ) (rest : List ℕ) → image.now ≡ signature ++ v ∷ rest → v ≢ version → result ≡ Err (Refused Version) }
 {
     decoded(alloc, image)
 }

@@ -1,10 +1,12 @@
 //! What stands before the lines of an image.
-ghost use Rattle.std.specs.Prelude.{◌≡◌, ◌≤◌, [], ◌++◌, IfOk};
+ghost use Rattle.std.specs.Prelude.{◌≡◌, ◌≤◌, [], ◌++◌, Err, IfOk};
 ghost use Rattle.snap_semantics.specs.Answers.{Answers};
 ghost use Rattle.snap_semantics.specs.ImageListing.{version_in, letter, letters_in, length_in, new_name, name_in, names_in, few_names, table_in, line_count_in, head_in};
 ghost use Rattle.snap_semantics.specs.Uses.{is_among};
 ghost use Rattle.snap_source.specs.Fields.{header_source};
-ghost use Rattle.snap_decoder.specs.Head.{known_names};
+ghost use Rattle.snap_semantics.specs.declared.fault.Fault.TheVariants.{Refused};
+ghost use Rattle.snap_semantics.specs.declared.refusal.ImageRefusal.{ImageRefusal as Refusal};
+ghost use Rattle.snap_decoder.specs.Head.{known_names, opened};
 ghost use Rattle.snap_image_codes.specs.Reads.{Passes, Reads};
 
 use crate::fault::ImageFault;
@@ -219,7 +221,8 @@ fn line_count(cursor: &mut Cursor<'_>) -> Result<u64, ImageRefusal>
 /// What stands before the lines, how many lines follow, and what is left.
 #[tactic(auto, unfolding(snap_semantics::specs::ImageListing::head_in))]
 pub fn head(alloc: Global, image: &[u8]) -> Result<(Header, u64, Cursor<'_>), ImageFault>
-    ensures { Answers (λ x. ((header_source x.0, x.1), x.2)) result (head_in image.now) }
+    ensures answer { Answers (λ x. ((header_source x.0, x.1), x.2)) result (head_in image.now) }
+    ensures opened { (e : Refusal) → opened image.now ≡ Err e → result ≡ Err (Refused e) }
 {
     let mut cursor = Cursor::new(image)?;
     version(&mut cursor)?;

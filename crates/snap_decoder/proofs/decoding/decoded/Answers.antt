@@ -11,4 +11,4 @@ of-requires c =
     let targets : checked_targets c.in_ok-lines.lines.items (header.scan ∷ header.update ∷ line_targets c.in_ok-lines.lines.items) ≡ Ok tt =
     subst (λ (ls : List Line). checked_targets ls (header.scan ∷ header.update ∷ line_targets ls) ≡ Ok tt) c.as_slice.ensures.value (sym c.in-Ok.ensures) in
     decoded_is_listing c.args.image.now c.type_inv.image (header_source header) c.in_ok-header.count c.in_ok-header.cursor c.lines.new.cursor c.in_ok-lines.lines.items
-    c.in_ok-header.ensures c.in_ok-lines.ensures (sym c.in_ok-ended.ensures) targets
+    c.in_ok-header.ensures.answer c.in_ok-lines.ensures (sym c.in_ok-ended.ensures) targets

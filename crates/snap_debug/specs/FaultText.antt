@@ -1,5 +1,7 @@
 -- The texts of refused commands.
 use Rattle.std.specs.Prelude.{ℕ, List, ◌++◌, codes, decimal}
+use Rattle.snap_semantics.specs.declared.fault.Fault.{Fault}
+use Rattle.snap_semantics.specs.declared.fault.Fault.TheVariants as fault
 use Rattle.snap_semantics.specs.declared.refusal.CommandRefusal.{CommandRefusal}
 use Rattle.snap_semantics.specs.declared.refusal.CommandRefusal.TheVariants as refusal
 
@@ -16,3 +18,8 @@ refusal_text refusal.TooLong = codes "G7 TooLong"
 -- the reply to a command that is refused
 abbrev pub refusal_line : CommandRefusal → List ℕ
 refusal_line r = codes "refused: " ++ refusal_text r ++ codes "\n"
+
+-- the line of a fault; a want of memory has no number
+abbrev pub fault_text : Fault CommandRefusal → List ℕ
+fault_text fault.Memory = codes "refused: Memory\n"
+fault_text (fault.Refused r) = refusal_line r

@@ -2,5 +2,12 @@
 #![tactic(auto)]
 
 mod command;
+mod command_forms;
+mod command_text;
+mod commands;
+mod fault_text;
 
 pub use command::{Breakpoint, Command};
+pub use command_text::push_command;
+pub use commands::read_commands;
+pub use fault_text::{fault_line, push_refusal, push_refusal_line};

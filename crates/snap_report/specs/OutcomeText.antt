@@ -9,6 +9,7 @@ use Rattle.snap_semantics.specs.State.{Process}
 
 abbrev pub reason_text : Reason → List ℕ
 reason_text reason.Trapped = codes "Trapped"
+reason_text reason.Crashed = codes "Crashed"
 reason_text reason.Busy = codes "Busy"
 reason_text reason.Idle = codes "Idle"
 reason_text reason.NoSuchWord = codes "NoSuchWord"
@@ -21,6 +22,7 @@ outcome_text outcome.Stepped = codes "stepped"
 outcome_text (outcome.Answered view) = codes "answered" ++ numbers_text view
 outcome_text outcome.Finished = codes "finished"
 outcome_text (outcome.Trapped cause) = codes "trapped " ++ cause_text cause
+outcome_text outcome.Crashed = codes "crashed"
 outcome_text (outcome.Skipped reason) = codes "skipped " ++ reason_text reason
 
 -- where processes stand, the first of which is process i

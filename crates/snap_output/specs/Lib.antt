@@ -2,3 +2,4 @@ pub mod Parts
 pub mod Perform
 pub mod Replies
 pub mod Output
+pub mod Headline

@@ -3,6 +3,7 @@
 
 mod auditing;
 mod checking;
+mod headline;
 mod images;
 mod output;
 mod parts;
@@ -10,6 +11,7 @@ mod performing;
 mod subject;
 mod task;
 
+pub use headline::headline;
 pub use output::{MAX_INPUT, output};
 pub use parts::split_parts;
 pub use performing::perform;

@@ -1,13 +1,15 @@
-//! The printed texts of positions, registers, processes and events, and the report of a machine.
+//! The printed texts of positions, registers, processes, events and outcomes, and the report of a machine.
 #![tactic(auto)]
 
 mod event_text;
+mod outcomes;
 mod process_text;
 mod register_text;
 mod reports;
 mod word_text;
 
 pub use event_text::{event_line, event_lines, op_text};
+pub use outcomes::{head_lines, outcome_text};
 pub use process_text::{head_line, process_lines};
 pub use register_text::{register_line, register_lines, values_line};
 pub use reports::{position_line, report};

@@ -28,7 +28,7 @@ use snap_words::{Kind, KindTag};
 use std::alloc::AllocError;
 
 /// Why a process trapped.
-fn cause_text(out: &mut Vec<u8>, cause: Cause) -> Result<(), AllocError>
+pub(crate) fn cause_text(out: &mut Vec<u8>, cause: Cause) -> Result<(), AllocError>
     ensures { OnOk result (out.new.items ≡ out.old.items ++ cause_text cause) }
 {
     match cause {

@@ -1,0 +1,8 @@
+use Rattle.std.proofs.Common.{◌≡◌, ◌++◌, ◌+◌, drop}
+use Rattle.snap_report.specs.OutcomeText.{head_lines}
+use Rattle.snap_report.proofs.outcomes.head_lines.Given as goal
+
+abbrev pub invariant-loop-k : goal.invariant-loop-k
+invariant-loop-k g l =
+    l.out.items ++ head_lines (l.k + 1) (drop l.k l.machine.state.processes)
+    ≡ l.fn.out.items ++ head_lines 1 l.machine.state.processes

@@ -1,1 +1,3 @@
 mod CommandSamples
+pub mod CommandsAgain
+pub mod CommandsFound

@@ -15,6 +15,7 @@ fn reason_text(out: &mut Vec<u8>, reason: Reason) -> Result<(), AllocError>
 {
     match reason {
         Reason::Trapped => push_text(out, b"Trapped"),
+        Reason::Crashed => push_text(out, b"Crashed"),
         Reason::Busy => push_text(out, b"Busy"),
         Reason::Idle => push_text(out, b"Idle"),
         Reason::NoSuchWord => push_text(out, b"NoSuchWord"),
@@ -39,6 +40,7 @@ pub fn outcome_text(out: &mut Vec<u8>, outcome: &Outcome) -> Result<(), AllocErr
             push_text(out, b"trapped ")?;
             cause_text(out, *cause)
         }
+        Outcome::Crashed => push_text(out, b"crashed"),
         Outcome::Skipped(reason) => {
             push_text(out, b"skipped ")?;
             reason_text(out, *reason)

@@ -1,7 +1,7 @@
 //! Listings checked, assembled and listed.
 use crate::runs::{INPUT, LISTING};
-use snap_program::{ConductFault, Std, conduct, fault_line};
-use snap_semantics::{ImageRefusal, ListingRefusal, Refusal, Subcommand, Task};
+use snap_program::{ConductFault, Std, Task, conduct, fault_line};
+use snap_semantics::{ImageRefusal, ListingRefusal, Refusal};
 use std::alloc::Global;
 use std::test::Fail;
 
@@ -15,11 +15,11 @@ const IMAGE: [u8; 25] = [
     0x00, 0x02, 0x00, 0x01, 0x16, 0x00, 0x00, 0x02, 0x17,
 ];
 
-/// What a subcommand writes for an input.
-fn written(alloc: Global, sub: Subcommand, input: &[u8]) -> Result<Vec<u8>, ConductFault> {
+/// What a task writes for an input.
+pub fn written(alloc: Global, task: Task, input: &[u8]) -> Result<Vec<u8>, ConductFault> {
     let mut source = Std::new(input);
     let mut sink = Std::new(Vec::new(alloc));
-    conduct(alloc, &Task { sub }, &mut source, &mut sink)?;
+    conduct(alloc, &task, &mut source, &mut sink)?;
     Ok(sink.into_inner())
 }
 
@@ -39,7 +39,7 @@ fn says_what_listings_are(rt: HostRuntime) -> Result<(), Fail> {
         (SMALL.as_slice(), b"ok: seq, 2 lines\n"),
     ] {
         assert_eq!(rt;
-            written(rt.alloc(), Subcommand::Check, text)?.as_slice(),
+            written(rt.alloc(), Task::Check, text)?.as_slice(),
             line
         );
     }
@@ -48,12 +48,12 @@ fn says_what_listings_are(rt: HostRuntime) -> Result<(), Fail> {
 
 #[test]
 fn assembles_and_lists(rt: HostRuntime) -> Result<(), Fail> {
-    let image = written(rt.alloc(), Subcommand::Assemble, SMALL.as_slice())?;
+    let image = written(rt.alloc(), Task::Assemble, SMALL.as_slice())?;
     assert_eq!(rt; image.as_slice(), IMAGE.as_slice());
-    let text = written(rt.alloc(), Subcommand::List, image.as_slice())?;
+    let text = written(rt.alloc(), Task::List, image.as_slice())?;
     assert_eq!(rt; text.as_slice(), SMALL.as_slice());
-    let image = written(rt.alloc(), Subcommand::Assemble, LISTING.as_slice())?;
-    let text = written(rt.alloc(), Subcommand::List, image.as_slice())?;
+    let image = written(rt.alloc(), Task::Assemble, LISTING.as_slice())?;
+    let text = written(rt.alloc(), Task::List, image.as_slice())?;
     assert_eq!(rt; text.as_slice(), LISTING.as_slice());
     Ok(())
 }
@@ -92,7 +92,7 @@ fn refuses_what_is_no_image(rt: HostRuntime) -> Result<(), Fail> {
     ] {
         let fault = ConductFault::Refused(Refusal::Image(refusal));
         assert_eq!(rt;
-            written(rt.alloc(), Subcommand::List, image).err(),
+            written(rt.alloc(), Task::List, image).err(),
             Some(fault)
         );
         assert_eq!(rt; fault_line(rt.alloc(), &fault)?.as_slice(), line);
@@ -109,11 +109,11 @@ fn refuses_what_is_no_listing(rt: HostRuntime) {
     ] {
         let fault = ConductFault::Refused(Refusal::Listing(refusal));
         assert_eq!(rt;
-            written(rt.alloc(), Subcommand::Check, text).err(),
+            written(rt.alloc(), Task::Check, text).err(),
             Some(fault)
         );
         assert_eq!(rt;
-            written(rt.alloc(), Subcommand::Assemble, text).err(),
+            written(rt.alloc(), Task::Assemble, text).err(),
             Some(fault)
         );
     }

@@ -9,3 +9,5 @@ mod images;
 mod kinds;
 #[cfg(test)]
 mod runs;
+#[cfg(test)]
+mod shipped;

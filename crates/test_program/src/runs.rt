@@ -1,9 +1,7 @@
 //! Whole runs on devices that lie in memory.
 use crate::devices_of_memory::{Narrow, Trickle};
-use snap_program::{ConductFault, Std, conduct, fault_line, perform};
-use snap_semantics::{
-    CommandRefusal, Fault, ListingRefusal, Refusal, ScheduleRefusal, Subcommand, Task,
-};
+use snap_program::{ConductFault, Std, Subject, Task, conduct, fault_line, perform};
+use snap_semantics::{CommandRefusal, Fault, ListingRefusal, Refusal, ScheduleRefusal};
 use snap_words::WordFault;
 use std::test::Fail;
 
@@ -20,9 +18,7 @@ pub const INPUT: &[u8; 198] =
 const OUTPUT: &[u8; 314] =
     b"> run\nposition 9 of 9\nreport at 9 of 9\nvalues 7 0\nr 1 = 7 seq 1 view 0 0\nr 2 = 0 seq 0 view 0 0\nprocess 1 idle\n  j = 1\n  c = 1\n  a 1 = 0 seq 0 view 0 0\n  a 2 = 0 seq 0 view 0 0\n  s = 0 0\nprocess 2 idle\n  j = 0\n  c = 0\n  a 1 = 0 seq 0 view 0 0\n  a 2 = 0 seq 0 view 0 0\n  s = 0 0\nevent 1 1 update 1 7\nevent 9 1 done\n";
 
-const RUN: Task = Task {
-    sub: Subcommand::Run,
-};
+pub const RUN: Task = Task::Run(Subject::FirstPart);
 
 #[test]
 fn writes_what_std_takes(rt: HostRuntime) -> Result<(), Fail> {

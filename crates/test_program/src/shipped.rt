@@ -1,0 +1,104 @@
+//! Shipped listings: run, debugged and audited.
+use crate::images::written;
+use snap_program::{ConductFault, Subject, Task};
+use snap_semantics::Refusal;
+use snap_words::{KindTag, WordFault};
+use std::test::Fail;
+
+const U: Subject = Subject::Shipped(KindTag::Seq);
+const B: Subject = Subject::Shipped(KindTag::Bits);
+const M: Subject = Subject::Shipped(KindTag::Multi);
+
+/// A scan of U that borrows its view, between two updates.
+const BORROWED: &[u8; 82] =
+    b"shape 2 2\n1 scan\n1*6\n2 update 2 5\n2*17\n1*8\n1*4\n2 update 2 6\n2*17\n1*9\n# borrowed\n";
+
+#[test]
+fn audits_shipped_listings(rt: HostRuntime) -> Result<(), Fail> {
+    for (subject, schedule, verdicts) in [
+        (
+            U,
+            b"shape 1 1\n1 scan\n1*9\n".as_slice(),
+            b"scan 1 call 1 answer 10 point 1 collects 1\n".as_slice(),
+        ),
+        (
+            U,
+            BORROWED.as_slice(),
+            b"scan 1 call 1 answer 64 point 24 collects 2\n",
+        ),
+        (
+            B,
+            b"shape 1 1\n1 scan\n1*13\n",
+            b"scan 1 call 1 answer 14 point 1 collects 1\n",
+        ),
+        (
+            M,
+            b"shape 1 1\n1 scan\n1*21\n",
+            b"scan 1 call 1 answer 22 point 1 collects 1\n",
+        ),
+        (
+            U,
+            b"shape 2 2\n1 scan\n1*13\n",
+            b"scan 1 call 1 answer 14 point 1 collects 1\n",
+        ),
+        (
+            B,
+            b"shape 3 3\n2 update 2 1\n2*43\n3 update 3 1\n3*43\n2 update 2 2\n2*41\n3 update 3 2\n3*41\n1 scan\n1*24\n2\n3\n1*33\n",
+            b"scan 1 call 173 answer 232 point 199 collects 2\n",
+        ),
+        (
+            M,
+            b"shape 2 3\n2 update 3 7\n2*52\n2 update 1 8\n2*52\n2 update 3 9\n2*52\n1 scan\n1*40\n",
+            b"scan 1 call 160 answer 200 point 160 collects 1\n",
+        ),
+        (
+            M,
+            b"shape 3 2\n3 update 2 1\n3*56\n1 scan\n1*21\n2 update 1 5\n2*56\n3 update 2 8\n3*56\n3 update 2 9\n3*56\n1*59\n",
+            b"scan 1 call 58 answer 309 point 249 collects 2\n",
+        ),
+        (
+            M,
+            b"shape 2 1\n2 update 1 5\n2*38\n1 update 1 3\n1*40\n1 scan\n1*13\n2\n1*26\n2\n2 update 1 6\n2*3\n1*43\n",
+            b"scan 1 call 81 answer 169 point 95 collects 3\n",
+        ),
+        (
+            M,
+            b"shape 2 1\n2 update 1 5\n2*38\n1 update 1 3\n1*40\n1 scan\n1*13\n2\n1*26\n2\n2 update 1 6\n1*28\n2*36\n1*19\n",
+            b"scan 1 call 81 answer 209 point 95 collects 3\n",
+        ),
+    ] {
+        let found = written(&rt, Task::Audit(subject), schedule)?;
+        assert_eq!(rt; found.as_slice(), verdicts);
+    }
+    Ok(())
+}
+
+#[test]
+fn debugs_a_shipped_listing(rt: HostRuntime) -> Result<(), Fail> {
+    let input = b"shape 2 2\n1 scan\n1*6\n2 update 2 5\n2*17\n1*8\n1*4\n2 update 2 6\n2*17\n1*9\n%\nwatch r 2\nrun\nrun\nrun\nrrun\nback 1\ngoto 0\ngoto 65\n";
+    let out = written(&rt, Task::Debug(U), input.as_slice())?;
+    assert!(rt; out.as_slice().starts_with(
+        b"> watch r 2\nmarks 1\n> run\nposition 24 of 64\n> run\nposition 54 of 64\n> run\nposition 64 of 64\n> rrun\nposition 54 of 64\n> back 1\nposition 53 of 64\n> goto 0\nposition 0 of 64\n> goto 65\nrefused: G5 NoSuchPosition\nreport at 0 of 64\nvalues 0 0\n".as_slice()
+    ));
+    Ok(())
+}
+
+#[test]
+fn refuses_what_does_not_fit(rt: HostRuntime) {
+    assert_eq!(rt;
+        written(&rt, Task::Run(U), b"shape 2 3\n").err(),
+        Some(ConductFault::Refused(Refusal::Words(WordFault::BadShape)))
+    );
+    assert_eq!(rt;
+        written(&rt, Task::Run(U), b"kind seq\n%\nshape 2 2\n").err(),
+        Some(ConductFault::Refused(Refusal::WrongParts(2)))
+    );
+    assert_eq!(rt;
+        written(&rt, Task::Debug(U), b"shape 2 2\n").err(),
+        Some(ConductFault::Refused(Refusal::WrongParts(1)))
+    );
+    assert_eq!(rt;
+        written(&rt, Task::Audit(Subject::FirstPart), b"shape 2 2\n").err(),
+        Some(ConductFault::Refused(Refusal::WrongParts(1)))
+    );
+}

@@ -7,15 +7,15 @@ use Rattle.snap_words.specs.Shape.{Counts, IsOneOf}
 use Rattle.snap_semantics.specs.Run.{event_of}
 use Rattle.snap_semantics.specs.Source.{Source, instr_at}
 use Rattle.snap_semantics.specs.State.{Locals, Process, State, process_at}
-use Rattle.snap_semantics.specs.Table.{Effect, Goes, Answers, Finishes, effect_at, leave, step, done, who}
+use Rattle.snap_semantics.specs.Table.{Effect, Goes, Answers, Finishes, effect_at, leave, step, done, who, crash}
 use Rattle.snap_semantics.specs.declared.process.Activity.{Activity}
 use Rattle.snap_semantics.specs.declared.process.Cause.{Cause}
 use Rattle.snap_semantics.specs.declared.process.Item.{Item}
-use Rattle.snap_semantics.specs.declared.process.Item.TheVariants.{Step, Call}
+use Rattle.snap_semantics.specs.declared.process.Item.TheVariants.{Step, Call, Crash}
 use Rattle.snap_semantics.specs.declared.process.Outcome.{Outcome}
 use Rattle.snap_semantics.specs.declared.process.Outcome.TheVariants as outcomes
 use Rattle.snap_semantics.specs.declared.process.Status.{Status}
-use Rattle.snap_semantics.specs.declared.process.Status.TheVariants.{Idle, Busy, Trapped}
+use Rattle.snap_semantics.specs.declared.process.Status.TheVariants.{Idle, Busy, Trapped, Crashed}
 use Rattle.snap_runs.specs.Audit.{audit, is_called, last_call, verdict_at, verdict_of, verdicts}
 use Rattle.snap_runs.specs.Run.{Run, Fits, state, item, outcome}
 use Rattle.snap_runs.specs.declared.verdict.Verdict.{Verdict}
@@ -36,8 +36,16 @@ left_uncalled S i a l (Err c) e = absurd cc
 step_uncalled : (s : Source) (n : Counts) (S : State) (i : ℕ) (p : Process) (t : Status) → (step s n S i p t).1 ≡ outcomes.Called → ⊥
 step_uncalled s n S i p Idle e = absurd cc
 step_uncalled s n S i p (Trapped c a) e = absurd cc
+step_uncalled s n S i p (Crashed was) e = absurd cc
 step_uncalled s n S i p (Busy a) e =
     left_uncalled S i a p.locals (effect_at s (record { shape = n; me = i; op = a.op; locals = p.locals; place = 0 }) S.memory a (instr_at s.lines a.line)) e
+
+-- nor does a crash
+crash_uncalled : (S : State) (i : ℕ) (p : Process) (t : Status) → (crash S i p t).1 ≡ outcomes.Called → ⊥
+crash_uncalled S i p Idle e = absurd cc
+crash_uncalled S i p (Trapped c a) e = absurd cc
+crash_uncalled S i p (Crashed was) e = absurd cc
+crash_uncalled S i p (Busy a) e = absurd cc
 
 module _ (r : Run) (fits : Fits r) where
   -- of the scans that so many items after item t answer
@@ -103,6 +111,9 @@ module _ (r : Run) (fits : Fits r) where
   one_item t more (Step k) outcomes.Called calls at is one h rest =
       let e = sym (ap (λ (y : Item). (done r.source r.shape (state r t) y).1) at) ∙ is in
       absurd (step_uncalled r.source r.shape (state r t) k (process_at (state r t) k) (process_at (state r t) k).status e)
+  one_item t more (Crash k) outcomes.Called calls at is one h rest =
+      let e = sym (ap (λ (y : Item). (done r.source r.shape (state r t) y).1) at) ∙ is in
+      absurd (crash_uncalled (state r t) k (process_at (state r t) k) (process_at (state r t) k).status e)
   one_item t more (Call k op) outcomes.Called calls at is one h rest =
       rest (slice_set calls (k - 1) (suc t)) (set_last calls t k (ap who at) is one h)
   one_item t more x (outcomes.Answered v) calls at is one h rest =
@@ -114,6 +125,7 @@ module _ (r : Run) (fits : Fits r) where
   one_item t more x outcomes.Stepped calls at is one h rest = rest calls (kept calls t outcomes.Stepped is refl h)
   one_item t more x outcomes.Finished calls at is one h rest = rest calls (kept calls t outcomes.Finished is refl h)
   one_item t more x (outcomes.Trapped c) calls at is one h rest = rest calls (kept calls t (outcomes.Trapped c) is refl h)
+  one_item t more x outcomes.Crashed calls at is one h rest = rest calls (kept calls t outcomes.Crashed is refl h)
   one_item t more x (outcomes.Skipped c) calls at is one h rest = rest calls (kept calls t (outcomes.Skipped c) is refl h)
 
   -- from any item on

@@ -9,7 +9,7 @@ use Rattle.snap_semantics.specs.State.{State, initial}
 use Rattle.snap_semantics.specs.Table.{done, who}
 use Rattle.snap_semantics.specs.declared.event.Event.{Event}
 use Rattle.snap_semantics.specs.declared.process.Item.{Item}
-use Rattle.snap_semantics.specs.declared.process.Item.TheVariants.{Step, Call}
+use Rattle.snap_semantics.specs.declared.process.Item.TheVariants.{Step, Call, Crash}
 use Rattle.snap_semantics.specs.declared.process.Outcome.{Outcome}
 use Rattle.snap_semantics.specs.declared.process.Outcome.TheVariants as outcomes
 use Rattle.snap_runs.specs.Run.{Run, Fits, state, item, outcome}
@@ -62,10 +62,12 @@ all_events r =
 event_within : (n u t : ℕ) (x : Item) (o : Outcome) → IsOneOf n (who x) → t ≤ u → AllByRecursion (IsWithin n u) (event_of t x o)
 event_within n u t (Step i) outcomes.Called one le = tt
 event_within n u t (Call i op) outcomes.Called one le = ((one, le), tt)
+event_within n u t (Crash i) outcomes.Called one le = tt
 event_within n u t x outcomes.Stepped one le = tt
 event_within n u t x (outcomes.Answered v) one le = ((one, le), tt)
 event_within n u t x outcomes.Finished one le = ((one, le), tt)
 event_within n u t x (outcomes.Trapped c) one le = tt
+event_within n u t x outcomes.Crashed one le = ((one, le), tt)
 event_within n u t x (outcomes.Skipped c) one le = tt
 
 -- events of items, the first of which is item t
@@ -85,10 +87,12 @@ all_within_run r fits = events_within r.source r.shape (state r 0) 1 (length r.i
 event_after : (t u : ℕ) (x : Item) (o : Outcome) → t ≤ u → AllByRecursion (λ (e : Event). t ≤ e.item) (event_of u x o)
 event_after t u (Step i) outcomes.Called le = tt
 event_after t u (Call i op) outcomes.Called le = (le, tt)
+event_after t u (Crash i) outcomes.Called le = tt
 event_after t u x outcomes.Stepped le = tt
 event_after t u x (outcomes.Answered v) le = (le, tt)
 event_after t u x outcomes.Finished le = (le, tt)
 event_after t u x (outcomes.Trapped c) le = tt
+event_after t u x outcomes.Crashed le = (le, tt)
 event_after t u x (outcomes.Skipped c) le = tt
 
 -- nor are the events of later items
@@ -103,10 +107,12 @@ events_after s n S t u (x ∷ xs) le =
 event_rises : (t : ℕ) (x : Item) (o : Outcome) (es : List Event) → AllByRecursion (λ (e : Event). t ≤ e.item) es → IsRising es → IsRising (event_of t x o ++ es)
 event_rises t (Step i) outcomes.Called es later rises = rises
 event_rises t (Call i op) outcomes.Called es later rises = (later, rises)
+event_rises t (Crash i) outcomes.Called es later rises = rises
 event_rises t x outcomes.Stepped es later rises = rises
 event_rises t x (outcomes.Answered v) es later rises = (later, rises)
 event_rises t x outcomes.Finished es later rises = (later, rises)
 event_rises t x (outcomes.Trapped c) es later rises = rises
+event_rises t x outcomes.Crashed es later rises = (later, rises)
 event_rises t x (outcomes.Skipped c) es later rises = rises
 
 -- the events of items rise

@@ -9,7 +9,7 @@ use Rattle.snap_semantics.specs.Readers.{find_name}
 use Rattle.snap_semantics.specs.Run.{after}
 use Rattle.snap_semantics.specs.Source.{Name, Source, instr_at, following}
 use Rattle.snap_semantics.specs.State.{Locals, Memory, Named, Process, State, all_at, initial, initial_process, nobody, process_at, value_at, with_scalar, with_row, with_value}
-use Rattle.snap_semantics.specs.Table.{Effect, Goes, Answers, Finishes, on, first_true, first_goes, call_goes, return_goes, finish_goes, effect, effect_at, leave, step, call, called, call_skip, done, conditions, range_end, all_true, tuple_word, with_bits, owned, bit_value, bank_of, each_value, places_to}
+use Rattle.snap_semantics.specs.Table.{Effect, Goes, Answers, Finishes, on, first_true, first_goes, call_goes, return_goes, finish_goes, effect, effect_at, leave, step, call, called, call_skip, done, conditions, range_end, all_true, tuple_word, with_bits, owned, bit_value, bank_of, each_value, places_to, crash}
 use Rattle.snap_semantics.specs.Uses.{is_among, sort_of}
 use Rattle.snap_semantics.specs.Value.{Context, at_place, condition_holds, each_of, expr_value, index_value, place_in}
 use Rattle.snap_semantics.specs.declared.instr.Instr.{Instr}
@@ -22,7 +22,7 @@ use Rattle.snap_semantics.specs.declared.process.Op.{Op}
 use Rattle.snap_semantics.specs.declared.process.Op.TheVariants as op
 use Rattle.snap_semantics.specs.declared.process.Reason.{Reason}
 use Rattle.snap_semantics.specs.declared.process.Status.{Status}
-use Rattle.snap_semantics.specs.declared.process.Status.TheVariants.{Idle, Busy, Trapped}
+use Rattle.snap_semantics.specs.declared.process.Status.TheVariants.{Idle, Busy, Trapped, Crashed}
 use Rattle.snap_semantics.specs.declared.text.Sort.TheVariants as sort
 use Rattle.snap_runs.specs.Run.{Run, state}
 use Rattle.snap_record.specs.Names.{Lacks, ViewsAlone}
@@ -180,6 +180,7 @@ module _ (x : Name) where
   stepped : (s : Source) (n : Counts) (S : State) (i : ℕ) (p : Process) (t : Status) → AllLack S.processes → Lacks x p.locals → AllLack (step s n S i p t).0.processes
   stepped s n S i p Idle all h = all
   stepped s n S i p (Trapped c a) all h = all
+  stepped s n S i p (Crashed was) all h = all
   stepped s n S i p (Busy a) all h =
       let c : Context = record { shape = n; me = i; op = a.op; locals = p.locals; place = 0 } in
       left S i a p.locals (effect_at s c S.memory a (instr_at s.lines a.line)) all h (keeps_at s c S.memory a (instr_at s.lines a.line) h)
@@ -194,11 +195,20 @@ module _ (x : Name) where
   calls s n S i o p Idle all h = asked s S i p o (call_skip s.kind n i o) all h
   calls s n S i o p (Busy a) all h = all
   calls s n S i o p (Trapped c a) all h = all
+  calls s n S i o p (Crashed was) all h = all
+
+  -- an item that crashes
+  crashes : (S : State) (i : ℕ) (p : Process) (t : Status) → AllLack S.processes → Lacks x p.locals → AllLack (crash S i p t).0.processes
+  crashes S i p Idle all h = set_all S.processes _ _ all h
+  crashes S i p (Busy a) all h = set_all S.processes _ _ all h
+  crashes S i p (Trapped c a) all h = all
+  crashes S i p (Crashed was) all h = all
 
   -- any item
   after_item : (s : Source) (n : Counts) (S : State) (y : Item) → AllLack S.processes → AllLack (done s n S y).0.processes
   after_item s n S (item.Step i) all = stepped s n S i (process_at S i) (process_at S i).status all (one_of S.processes _ all)
   after_item s n S (item.Call i o) all = calls s n S i o (process_at S i) (process_at S i).status all (one_of S.processes _ all)
+  after_item s n S (item.Crash i) all = crashes S i (process_at S i) (process_at S i).status all (one_of S.processes _ all)
 
   -- any items
   after_items : (s : Source) (n : Counts) (S : State) (ys : List Item) → AllLack S.processes → AllLack (after s n S ys).processes

@@ -10,7 +10,7 @@ use Rattle.snap_semantics.specs.declared.event.Event.{Event}
 use Rattle.snap_semantics.specs.declared.event.Happening.{Happening}
 use Rattle.snap_semantics.specs.declared.event.Happening.TheVariants as what
 use Rattle.snap_semantics.specs.declared.process.Item.{Item}
-use Rattle.snap_semantics.specs.declared.process.Item.TheVariants.{Step, Call}
+use Rattle.snap_semantics.specs.declared.process.Item.TheVariants.{Step, Call, Crash}
 use Rattle.snap_semantics.specs.declared.process.Op.TheVariants as op
 use Rattle.snap_semantics.specs.declared.process.Outcome.{Outcome}
 use Rattle.snap_semantics.specs.declared.process.Outcome.TheVariants as outcomes
@@ -42,6 +42,7 @@ module _ (r : Run) where
   until_item : (i t : ℕ) (x : Item) (o : Outcome) (es : List Event) →
       collects_until r i (event_of t x o ++ es) ≡ (if nat_eq (who x) i && is_answer o then double_collects r i 0 t else collects_until r i es)
   until_item i t (Step k) outcomes.Called es = sym (and_false (nat_eq k i) (double_collects r i 0 t) (collects_until r i es))
+  until_item i t (Crash k) outcomes.Called es = sym (and_false (nat_eq k i) (double_collects r i 0 t) (collects_until r i es))
   until_item i t (Call k o) outcomes.Called es =
       and_false (nat_eq k i) (double_collects r k 0 t) (collects_until r i es) ∙ sym (and_false (nat_eq k i) (double_collects r i 0 t) (collects_until r i es))
   until_item i t x (outcomes.Answered v) es = until_answer i (who x) t (collects_until r i es) (nat_eq (who x) i) refl
@@ -49,6 +50,8 @@ module _ (r : Run) where
       and_false (nat_eq (who x) i) (double_collects r (who x) 0 t) (collects_until r i es) ∙ sym (and_false (nat_eq (who x) i) (double_collects r i 0 t) (collects_until r i es))
   until_item i t x outcomes.Stepped es = sym (and_false (nat_eq (who x) i) (double_collects r i 0 t) (collects_until r i es))
   until_item i t x (outcomes.Trapped c) es = sym (and_false (nat_eq (who x) i) (double_collects r i 0 t) (collects_until r i es))
+  until_item i t x outcomes.Crashed es =
+      and_false (nat_eq (who x) i) (double_collects r (who x) 0 t) (collects_until r i es) ∙ sym (and_false (nat_eq (who x) i) (double_collects r i 0 t) (collects_until r i es))
   until_item i t x (outcomes.Skipped c) es = sym (and_false (nat_eq (who x) i) (double_collects r i 0 t) (collects_until r i es))
 
   -- of a choice
@@ -109,10 +112,12 @@ module _ (r : Run) where
   -- an item before item c
   passed : (c t : ℕ) (x : Item) (o : Outcome) (es : List Event) → (t ≡ c → ⊥) → found_collects r c (event_of t x o ++ es) ≡ found_collects r c es
   passed c t (Step k) outcomes.Called es differ = refl
+  passed c t (Crash k) outcomes.Called es differ = refl
   passed c t (Call k o) outcomes.Called es differ = other_event c (record { item = t; process = k; what = what.Call o }) es differ
   passed c t x outcomes.Stepped es differ = refl
   passed c t x (outcomes.Answered v) es differ = other_event c (record { item = t; process = who x; what = what.Answer v }) es differ
   passed c t x outcomes.Finished es differ = other_event c (record { item = t; process = who x; what = what.Done }) es differ
+  passed c t x outcomes.Crashed es differ = other_event c (record { item = t; process = who x; what = what.Crash }) es differ
   passed c t x (outcomes.Trapped k) es differ = refl
   passed c t x (outcomes.Skipped k) es differ = refl
 
@@ -123,11 +128,13 @@ module _ (r : Run) where
   -- item c itself
   here : (c : ℕ) (x : Item) (o : Outcome) → c ≤ length r.items → found_collects r c (event_of c x o ++ events_from r c) ≡ collects_from r c (scan_called o x)
   here c (Step k) outcomes.Called le = none_later c
+  here c (Crash k) outcomes.Called le = none_later c
   here c (Call i op.Scan) outcomes.Called le = same_item c _ _ ∙ ap (λ k. Some k) (of_scan i c le)
   here c (Call i (op.Update word value)) outcomes.Called le = same_item c _ _
   here c x outcomes.Stepped le = none_later c
   here c x (outcomes.Answered v) le = same_item c _ _
   here c x outcomes.Finished le = same_item c _ _
+  here c x outcomes.Crashed le = same_item c _ _
   here c x (outcomes.Trapped k) le = none_later c
   here c x (outcomes.Skipped k) le = none_later c
 
@@ -150,6 +157,7 @@ module _ (r : Run) where
   no_scan (outcomes.Answered v) c k = refl
   no_scan outcomes.Finished c k = refl
   no_scan (outcomes.Trapped x) c k = refl
+  no_scan outcomes.Crashed c k = refl
   no_scan (outcomes.Skipped x) c k = refl
 
   -- behind the last item
@@ -207,6 +215,7 @@ scans_itself p i (what.Call op.Scan) h = cc
 scans_itself p i (what.Call (op.Update word value)) h = absurd cc
 scans_itself p i (what.Answer view) h = absurd cc
 scans_itself p i what.Done h = absurd cc
+scans_itself p i what.Crash h = absurd cc
 
 -- an event of a list
 event_there : (P : Event → Type 0) (es : List Event) (k : ℕ) (e : Event) → AllByRecursion P es → k < length es → e ≡ get_or es k e → P e

@@ -5,7 +5,6 @@ use Rattle.snap_semantics.specs.Table.{places_to, all_true, first_true}
 use Rattle.snap_semantics.specs.declared.process.Item.{Item}
 use Rattle.snap_semantics.specs.declared.process.Op.{Op}
 use Rattle.snap_semantics.specs.declared.process.Op.TheVariants.{Scan, Update}
-use Rattle.snap_runs.specs.Run.{Fits}
 use Rattle.snap_runs.specs.Update.{is_at}
 use Rattle.snap_runs.proofs.Algorithm.{Task, Scanning, Embedded, Updating, To, when_busy, status_of}
 use Rattle.snap_runs.proofs.CleanTests as clean
@@ -21,6 +20,10 @@ use Rattle.snap_runs_of_b.proofs.Control.{VariablesAt}
 use Rattle.snap_runs_of_b.proofs.Flows.{numbered, listed, writer}
 use Rattle.snap_runs_of_b.proofs.Runs.{words_at, registers_at, process_after, invariant, invariant_of, execution, stage_of, counts_of}
 use Rattle.snap_runs_of_b.proofs.Updates.{updates}
+use Rattle.snap_runs.proofs.Steady.{Steady}
+use Rattle.snap_runs.proofs.Calm.{calm_list}
+use Rattle.snap_runs.proofs.CalmPromises as calm
+use Rattle.snap_runs.specs.Promises as promises
 
 abbrev pub phase : ProgramCounter → Phase
 phase L16 = ReadsFirst
@@ -120,14 +123,14 @@ away : (op : Op) → phase (counter op) ≡ Away
 away Scan = refl
 away (Update word value) = refl
 
-counts : (n : ℕ) (items : List Item) (fits : Fits (run_of n items)) →
+counts : (n : ℕ) (items : List Item) (fits : Steady (run_of n items)) →
     clean.Counts (algorithm n) lines 46 (writer n) (listed n) (execution n items fits) (updates n items fits) (numbered n) refl
 counts n items fits = record {
   sizes = λ t short. (invariant n items fits t short).size;
   counts = λ t k word value short one is owned. ap (λ y. seq_at (words_at n items t) y + 1) (sym owned);
 }
 
-collects : (n : ℕ) (items : List Item) (fits : Fits (run_of n items)) →
+collects : (n : ℕ) (items : List Item) (fits : Steady (run_of n items)) →
     clean.Collects (algorithm n) lines 46 (writer n) (listed n) (execution n items fits) (updates n items fits) (numbered n) refl (counts n items fits) (copies n) double_collect L20
 collects n items fits = record {
   words_are = λ t. refl;
@@ -154,8 +157,11 @@ collects n items fits = record {
       equal_counts n i (words_at n items) t q.auxiliary.since q.auxiliary.round (words_at n items t) p (stage_of n items fits t i d L20 short one is).1 all k one_k;
 }
 
-pub passed_tests_are_clean_lem : PassedTestsAreClean
-passed_tests_are_clean_lem n items fits i link c zero scan lt ex to = absurd (omega arith)
-passed_tests_are_clean_lem n items fits i link c (suc t) scan lt ex to =
+steady_passed_tests_are_clean : (n : ℕ) (items : List Item) → Steady (run_of n items) → promises.PassedTestsAreClean double_collect 46 (run_of n items)
+steady_passed_tests_are_clean n items fits whole i link c zero scan lt ex to = absurd (omega arith)
+steady_passed_tests_are_clean n items fits whole i link c (suc t) scan lt ex to =
     clean.passed_test (algorithm n) lines 46 (writer n) (listed n) (execution n items fits) (updates n items fits) (numbered n) refl (counts n items fits) (copies n) double_collect L20
     (collects n items fits) i scan.process link c t scan (omega arith) ex to
+
+pub passed_tests_are_clean_lem : PassedTestsAreClean
+passed_tests_are_clean_lem n items = calm.passed_tests_are_clean (run_of n items) double_collect 46 (steady_passed_tests_are_clean n (calm_list (run_of n items)))

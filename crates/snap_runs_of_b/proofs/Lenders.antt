@@ -4,7 +4,6 @@ use Rattle.std.proofs.Common.{subst, arith}
 use Rattle.snap_semantics.specs.declared.process.Item.{Item}
 use Rattle.snap_semantics.specs.declared.process.Op.{Op}
 use Rattle.snap_semantics.specs.declared.process.Op.TheVariants.{Scan, Update}
-use Rattle.snap_runs.specs.Run.{Fits}
 use Rattle.snap_runs.proofs.Algorithm.{when_busy}
 use Rattle.snap_runs.proofs.Executing as executing
 use Rattle.snap_runs.proofs.Held.{Beside}
@@ -15,12 +14,16 @@ use Rattle.snap_runs_of_b.proofs.Algorithm.{L28, IsLate, counter, lines, algorit
 use Rattle.snap_runs_of_b.proofs.Flows.{numbered, listed, writer, embeds}
 use Rattle.snap_runs_of_b.proofs.Runs.{words_at, registers_at, process_after, invariant, invariant_of, execution, stage_of}
 use Rattle.snap_runs_of_b.proofs.Updates.{updates}
+use Rattle.snap_runs.proofs.Steady.{Steady}
+use Rattle.snap_runs.proofs.Calm.{calm_list}
+use Rattle.snap_runs.proofs.CalmPromises as calm
+use Rattle.snap_runs.specs.Promises as promises
 
 not_late : (op : Op) → IsLate (counter op) → ⊥
 not_late Scan late = late
 not_late (Update word value) late = late
 
-lends : (n : ℕ) (items : List Item) (fits : Fits (run_of n items)) →
+lends : (n : ℕ) (items : List Item) (fits : Steady (run_of n items)) →
     lenders.Lends (algorithm n) lines 46 (writer n) (listed n) (execution n items fits) (updates n items fits) (numbered n) refl (λ i word is. is)
 lends n items fits = record {
   sizes = λ t short. (invariant n items fits t short).size;
@@ -34,9 +37,9 @@ lends n items fits = record {
       when_busy _ _ (λ d k well. embeds n i d (registers_at n items t) q.variables k well.0) q.control (invariant_of n items fits t i (omega arith) one).well;
 }
 
-pub borrowed_views_are_lent_lem : BorrowedViewsAreLent
-borrowed_views_are_lent_lem n items fits i link c zero view ends ex = absurd (let order : c < 0 = ends.order in omega arith)
-borrowed_views_are_lent_lem n items fits i link c (suc t) view ends ex =
+steady_borrowed_views_are_lent : (n : ℕ) (items : List Item) → Steady (run_of n items) → promises.BorrowedViewsAreLent 28 (run_of n items)
+steady_borrowed_views_are_lent n items fits whole i link c zero view ends ex = absurd (let order : c < 0 = ends.order in omega arith)
+steady_borrowed_views_are_lent n items fits whole i link c (suc t) view ends ex =
     let one = ends.scan.process in
     let last : suc t ≤ length items = ends.scan.last in
     let run = execution n items fits in
@@ -49,3 +52,6 @@ borrowed_views_are_lent_lem n items fits i link c (suc t) view ends ex =
     subst (λ y. Beside (words_at n items) t y k view) ending.goes_on.since (subst (Beside (words_at n items) t since k) ending.answers stage.1.2) in
     lenders.lent_view (algorithm n) lines 46 (writer n) (listed n) run (updates n items fits) (numbered n) refl (λ i word is. is) (lends n items fits)
     i link c t view ends k beside.0 stage.1.1 beside.1 beside.2 beside.3 beside.4
+
+pub borrowed_views_are_lent_lem : BorrowedViewsAreLent
+borrowed_views_are_lent_lem n items = calm.borrowed_views_are_lent (run_of n items) 28 (steady_borrowed_views_are_lent n (calm_list (run_of n items)))

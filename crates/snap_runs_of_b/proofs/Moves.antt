@@ -2,7 +2,6 @@
 use Rattle.std.specs.Prelude.{ℕ, zero, suc, ◌+◌, ◌<◌, ◌≤◌, not, List, length, Option, refl}
 use Rattle.std.proofs.Common.{subst, arith}
 use Rattle.snap_semantics.specs.declared.process.Item.{Item}
-use Rattle.snap_runs.specs.Run.{Fits}
 use Rattle.snap_runs.specs.Scan.{Scan}
 use Rattle.snap_runs.specs.Promises.{ObservedMove, RecentWrite}
 use Rattle.snap_runs.proofs.Held.{word_at, seq_at}
@@ -18,8 +17,12 @@ use Rattle.snap_runs_of_b.proofs.Flows.{numbered, listed, writer}
 use Rattle.snap_runs_of_b.proofs.Follow.{follows_seq}
 use Rattle.snap_runs_of_b.proofs.Runs.{words_at, process_after, execution, stage_of, counts_of}
 use Rattle.snap_runs_of_b.proofs.Updates.{updates}
+use Rattle.snap_runs.proofs.Steady.{Steady}
+use Rattle.snap_runs.proofs.Calm.{calm_list}
+use Rattle.snap_runs.proofs.CalmPromises as calm
+use Rattle.snap_runs.specs.Promises as promises
 
-move_is_write : (n : ℕ) (items : List Item) → Fits (run_of n items) → (i j : ℕ) (link : Option ℕ) (c t : ℕ) → Scan (run_of n items) i link c (suc t) → c ≤ t →
+move_is_write : (n : ℕ) (items : List Item) → Steady (run_of n items) → (i j : ℕ) (link : Option ℕ) (c t : ℕ) → Scan (run_of n items) i link c (suc t) → c ≤ t →
     ObservedMove (run_of n items) 21 listing.moved i j (suc t) →
     RecentWrite (run_of n items) 46 i j c (suc t)
 move_is_write n items fits i j link c t scan le move =
@@ -42,6 +45,9 @@ move_is_write n items fits i j link c t scan le move =
     let counts : Count n i p q.auxiliary.own q.auxiliary.collects q.auxiliary.tested L21 = counts_of n items fits t i seen.task L21 (omega arith) one seen.control in
     moves.recent_write (algorithm n) lines (listed n) run 46 (writer n) (updates n items fits) (λ me word is. is) i j link c t seen.task L21 move.process scan le seen.control refl counts.3 (omega arith)
 
+steady_moves_are_writes : (n : ℕ) (items : List Item) → Steady (run_of n items) → promises.MovesAreWrites 21 listing.moved 46 (run_of n items)
+steady_moves_are_writes n items fits whole i j link c zero scan lt move = absurd (omega arith)
+steady_moves_are_writes n items fits whole i j link c (suc t) scan lt move = move_is_write n items fits i j link c t scan (omega arith) move
+
 pub moves_are_writes_lem : MovesAreWrites
-moves_are_writes_lem n items fits i j link c zero scan lt move = absurd (omega arith)
-moves_are_writes_lem n items fits i j link c (suc t) scan lt move = move_is_write n items fits i j link c t scan (omega arith) move
+moves_are_writes_lem n items = calm.moves_are_writes (run_of n items) 21 listing.moved 46 (steady_moves_are_writes n (calm_list (run_of n items)))

@@ -2,7 +2,6 @@
 use Rattle.std.specs.Prelude.{ℕ, ◌+◌, ◌-◌, ◌*◌, ◌<◌, ◌≤◌, Bool, true, false, List, nat_lt, refl}
 use Rattle.std.proofs.Common.{sym, subst, arith, inl, inr}
 use Rattle.snap_semantics.specs.declared.process.Item.{Item}
-use Rattle.snap_runs.specs.Run.{Fits}
 use Rattle.snap_runs.specs.Scan.{own_steps}
 use Rattle.snap_runs.specs.Update.{Updating as UpdateOf}
 use Rattle.snap_runs.proofs.Algorithm.{Embedded, Updating}
@@ -14,6 +13,10 @@ use Rattle.snap_runs_of_b.specs.Promises.{run_of, WaitFree}
 use Rattle.snap_runs_of_b.proofs.Algorithm.{Registers, Variables, ProgramCounter, L40, L41, L42, L43, L44, L45, L46, L47, move, algorithm, IsLineOf, lines}
 use Rattle.snap_runs_of_b.proofs.Bounds.{most_steps, within, few_steps_lem}
 use Rattle.snap_runs_of_b.proofs.Runs.{state_at, process_after, well_of, execution, never_traps_lem}
+use Rattle.snap_runs.proofs.Steady.{Steady}
+use Rattle.snap_runs.specs.Run.{Fits}
+use Rattle.snap_runs.proofs.Calm.{calm_list}
+use Rattle.snap_runs.proofs.CalmPromises as calm
 
 -- the steps that an update has ahead at its own lines: three for each bit that is still to be answered
 abbrev ahead : ℕ → Variables → ProgramCounter → ℕ
@@ -59,7 +62,7 @@ resumes n me word value m p k (inr is) =
     subst (λ y. Resumes (algorithm n) lines (its n) (move n me (Embedded word value) m p y)) (sym is) (omega arith, refl)
 
 -- the steps of an update
-update_steps : (n : ℕ) (items : List Item) → Fits (run_of n items) → (i word value c e : ℕ) → UpdateOf (run_of n items) i word value c e →
+update_steps : (n : ℕ) (items : List Item) → Steady (run_of n items) → (i word value c e : ℕ) → UpdateOf (run_of n items) i word value c e →
     own_steps (run_of n items) i c e ≤ 8 + 3 * (n - 1) + most_steps n
 update_steps n items fits i word value c e up =
     let one = up.process in
@@ -69,10 +72,13 @@ update_steps n items fits i word value c e up =
     (λ t d k le at inside. (within n items fits t i d k le one at inside).1)
     (λ p word value. (omega arith, refl)) word value c e up
 
+every_update : (n : ℕ) (items : List Item) → Fits (run_of n items) → calm.UpdatesAtMost (run_of n items) (8 + 3 * (n - 1) + most_steps n) (run_of n items)
+every_update n items = calm.updates_at_most (run_of n items) (8 + 3 * (n - 1) + most_steps n) (update_steps n (calm_list (run_of n items)))
+
 pub wait_free_lem : WaitFree
 wait_free_lem n items =
     wait_free (most_steps n) (8 * (n * n) + 15 * n + 12) (run_of n items) (never_traps_lem n items) (few_steps_lem n items)
     (λ fits i word value c e up.
-    let few = update_steps n items fits i word value c e up in
+    let few = every_update n items fits i word value c e up in
     let one = up.process in
     let some : 0 < n = omega arith in omega arith)

@@ -5,7 +5,6 @@ use Rattle.snap_words.specs.Word.{Word}
 use Rattle.snap_semantics.specs.declared.process.Item.{Item}
 use Rattle.snap_semantics.specs.declared.process.Op.{Op}
 use Rattle.snap_semantics.specs.declared.process.Op.TheVariants.{Scan, Update}
-use Rattle.snap_runs.specs.Run.{Fits}
 use Rattle.snap_runs.specs.Update.{is_at}
 use Rattle.snap_runs.proofs.Algorithm.{Task, Scanning, Embedded, Updating, To, when_busy, status_of, typed_at}
 use Rattle.snap_runs.proofs.CleanTests as clean
@@ -21,6 +20,10 @@ use Rattle.snap_runs_of_m.proofs.Flows.{numbered, listed, writer}
 use Rattle.snap_runs_of_m.proofs.Runs.{state_at, registers_at, inv, own, execution, stage_of, counts_of}
 use Rattle.snap_runs_of_m.proofs.Stage.{still_bits, still_words}
 use Rattle.snap_runs_of_m.proofs.Updates.{updates}
+use Rattle.snap_runs.proofs.Steady.{Steady}
+use Rattle.snap_runs.proofs.Calm.{calm_list}
+use Rattle.snap_runs.proofs.CalmPromises as calm
+use Rattle.snap_runs.specs.Promises as promises
 
 abbrev pub phase : ProgramCounter → Phase
 phase L17 = ReadsFirst
@@ -150,14 +153,14 @@ away : (op : Op) → phase (counter op) ≡ Away
 away Scan = refl
 away (Update word value) = refl
 
-counts : (n w : ℕ) (items : List Item) (some : 0 < w) (fits : Fits (run_of n w items)) →
+counts : (n w : ℕ) (items : List Item) (some : 0 < w) (fits : Steady (run_of n w items)) →
     clean.Counts (algorithm n w) lines 57 (writer n w) (listed n w) (execution n w items some fits) (updates n w items some fits) (numbered n w) refl
 counts n w items some fits = record {
   sizes = λ t short. ((inv n w items some fits t short).laws t (omega arith)).now.size;
   counts = λ t k word value short one is owned. refl;
 }
 
-collects : (n w : ℕ) (items : List Item) (some : 0 < w) (fits : Fits (run_of n w items)) →
+collects : (n w : ℕ) (items : List Item) (some : 0 < w) (fits : Steady (run_of n w items)) →
     clean.Collects (algorithm n w) lines 57 (writer n w) (listed n w) (execution n w items some fits) (updates n w items some fits) (numbered n w) refl (counts n w items some fits) (copies w) double_collect L30
 collects n w items some fits = record {
   words_are = λ t. refl;
@@ -189,8 +192,11 @@ collects n w items some fits = record {
       (still_bits n w i history round t p (w + 1) stage.2 still) (still_words n w i history round t p one laws stage.1 stage.2 still k one_k));
 }
 
-pub passed_tests_are_clean_lem : PassedTestsAreClean
-passed_tests_are_clean_lem n w items some fits i link c zero scan lt ex to = absurd (omega arith)
-passed_tests_are_clean_lem n w items some fits i link c (suc t) scan lt ex to =
+steady_passed_tests_are_clean : (n w : ℕ) (items : List Item) → 0 < w → Steady (run_of n w items) → promises.PassedTestsAreClean double_collect 57 (run_of n w items)
+steady_passed_tests_are_clean n w items some fits whole i link c zero scan lt ex to = absurd (omega arith)
+steady_passed_tests_are_clean n w items some fits whole i link c (suc t) scan lt ex to =
     clean.passed_test (algorithm n w) lines 57 (writer n w) (listed n w) (execution n w items some fits) (updates n w items some fits) (numbered n w) refl (counts n w items some fits) (copies w) double_collect L30
     (collects n w items some fits) i scan.process link c t scan (omega arith) ex to
+
+pub passed_tests_are_clean_lem : PassedTestsAreClean
+passed_tests_are_clean_lem n w items some = calm.passed_tests_are_clean (run_of n w items) double_collect 57 (steady_passed_tests_are_clean n w (calm_list (run_of n w items)) some)

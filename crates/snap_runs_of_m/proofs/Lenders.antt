@@ -7,10 +7,9 @@ use Rattle.std.proofs.lemmas.List.{get_or-set_other}
 use Rattle.std.proofs.Math.Nat.{eq-or-lt_of_le}
 use Rattle.snap_words.specs.Shape.{IsOneOf}
 use Rattle.snap_semantics.specs.declared.process.Item.{Item}
-use Rattle.snap_semantics.specs.declared.process.Item.TheVariants.{Step, Call}
+use Rattle.snap_semantics.specs.declared.process.Item.TheVariants.{Step, Call, Crash}
 use Rattle.snap_semantics.specs.declared.process.Op.{Op}
 use Rattle.snap_semantics.specs.declared.process.Op.TheVariants.{Scan as ScanOp, Update}
-use Rattle.snap_runs.specs.Run.{Fits}
 use Rattle.snap_runs.specs.Scan.{Finished}
 use Rattle.snap_runs.specs.Promises.{LentView}
 use Rattle.snap_runs.proofs.Algorithm.{Task, Scanning, Embedded, Updating, Idle, At, when_busy, by_step, memory_after, typed_at, changed, happens, item_at}
@@ -28,6 +27,10 @@ use Rattle.snap_runs_of_m.proofs.Invariant.{Books, BooksAt}
 use Rattle.snap_runs_of_m.proofs.Runs.{state_at, registers_at, inv, own, well_of, execution, stage_of}
 use Rattle.snap_runs_of_m.proofs.Stage.{Shown}
 use Rattle.snap_runs_of_m.proofs.Writes.{raised_here, raised_there}
+use Rattle.snap_runs.proofs.Steady.{Steady}
+use Rattle.snap_runs.proofs.Calm.{calm_list}
+use Rattle.snap_runs.proofs.CalmPromises as calm
+use Rattle.snap_runs.specs.Promises as promises
 
 -- Every line but 55 keeps the views.
 abbrev pub SameViews : Registers → Registers → Type 0
@@ -107,12 +110,13 @@ happens_views n w t x (Step i) = step_views n w t x i (typed_at (algorithm n w) 
 happens_views n w t x (Call i op) =
     let same : (happens (algorithm n w) t x (Call i op)).memory ≡ x.memory = embed.call_memory (algorithm n w) t x i op (typed_at (algorithm n w) x i).control in
     inl (ap (λ (m : Registers). m.views) same, ap (λ (m : Registers). m.puts) same)
+happens_views n w t x (Crash i) = inl (refl, refl)
 
 not_late : (op : Op) → IsLate (counter op) → ⊥
 not_late ScanOp late = late
 not_late (Update word value) late = late
 
-module _ (n w : ℕ) (items : List Item) (some : 0 < w) (fits : Fits (run_of n w items)) where
+module _ (n w : ℕ) (items : List Item) (some : 0 < w) (fits : Steady (run_of n w items)) where
   abbrev at : ℕ → ℕ → Process
   at t i = typed_at (algorithm n w) (state_at n w items t) i
 
@@ -238,9 +242,9 @@ module _ (n w : ℕ) (items : List Item) (some : 0 < w) (fits : Fits (run_of n w
         scan = subst (λ z. Finished (run_of n w items) j (Some 55) since lent.to z) its_view lent.scan;
       }
 
-pub borrowed_views_are_lent_lem : BorrowedViewsAreLent
-borrowed_views_are_lent_lem n w items some fits i link c zero view ends ex = absurd (let order : c < 0 = ends.order in omega arith)
-borrowed_views_are_lent_lem n w items some fits i link c (suc t) view ends ex =
+steady_borrowed_views_are_lent : (n w : ℕ) (items : List Item) → 0 < w → Steady (run_of n w items) → promises.BorrowedViewsAreLent 37 (run_of n w items)
+steady_borrowed_views_are_lent n w items some fits whole i link c zero view ends ex = absurd (let order : c < 0 = ends.order in omega arith)
+steady_borrowed_views_are_lent n w items some fits whole i link c (suc t) view ends ex =
     let one = ends.scan.process in
     let last : suc t ≤ length items = ends.scan.last in
     let run = execution n w items some fits in
@@ -251,3 +255,6 @@ borrowed_views_are_lent_lem n w items some fits i link c (suc t) view ends ex =
     lent_view n w items some fits i link c t view ends
     (subst (λ y. Shown n i (registers_at n w items) t y view) ending.goes_on.since
     (subst (Shown n i (registers_at n w items) t since) ending.answers stage.1))
+
+pub borrowed_views_are_lent_lem : BorrowedViewsAreLent
+borrowed_views_are_lent_lem n w items some = calm.borrowed_views_are_lent (run_of n w items) 37 (steady_borrowed_views_are_lent n w (calm_list (run_of n w items)) some)

@@ -4,10 +4,10 @@ use Rattle.snap_runs.proofs.Places.{for_each_at}
 use Rattle.std.specs.Prelude.{◌≡◌, ℕ, zero, suc, ◌+◌, ◌<◌, ◌≤◌, ◌⊎◌, true, List, length, Option, Some, None, nat_eq, nat_lt, refl}
 use Rattle.std.proofs.Common.{sym, ◌∙◌, ap, subst, arith, inl, inr}
 use Rattle.std.proofs.lemmas.Bool.{cases_eq}
-use Rattle.snap_semantics.specs.State.{Process as NamedProcess, process_at, value_at}
+use Rattle.snap_semantics.specs.State.{Process as NamedProcess, process_at, value_at, Locals}
 use Rattle.snap_semantics.specs.declared.process.Item.{Item}
-use Rattle.snap_semantics.specs.declared.process.Item.TheVariants.{Step, Call}
-use Rattle.snap_runs.specs.Run.{Fits, state}
+use Rattle.snap_semantics.specs.declared.process.Item.TheVariants.{Step, Call, Crash}
+use Rattle.snap_runs.specs.Run.{state, Run, Fits}
 use Rattle.snap_runs.specs.Scan.{Scan}
 use Rattle.snap_runs.specs.Update.{executes}
 use Rattle.snap_runs.specs.Promises.{ObservedMove}
@@ -25,6 +25,10 @@ use Rattle.snap_runs_of_m.proofs.Count.{Count, counted_row}
 use Rattle.snap_runs_of_m.proofs.Writes.{raised_there, raised_at_there, raised_at_elsewhere}
 use Rattle.snap_runs_of_m.proofs.Flows.{numbered, listed}
 use Rattle.snap_runs_of_m.proofs.Runs.{state_at, registers_at, execution, stage_of, counts_of}
+use Rattle.snap_runs.proofs.Steady.{Steady, fits_of}
+use Rattle.snap_runs.proofs.Calm.{calm_list, steady_of, calm as calm_run}
+use Rattle.snap_runs.proofs.CalmItems.{at_executes, locals_before, scan_to, same_collects}
+use Rattle.snap_runs.proofs.CalmPromises as calm
 
 abbrev pub SameCounters : Registers → Registers → Type 0
 SameCounters m m' = (m'.writes ≡ m.writes) × (m'.answers ≡ m.answers)
@@ -113,8 +117,9 @@ happens_counters n w t x (Step i) = step_counters n w t x i (typed_at (algorithm
 happens_counters n w t x (Call i op) =
     let same : (happens (algorithm n w) t x (Call i op)).memory ≡ x.memory = embed.call_memory (algorithm n w) t x i op (typed_at (algorithm n w) x i).control in
     inl (ap (λ (m : Registers). m.writes) same, ap (λ (m : Registers). m.answers) same)
+happens_counters n w t x (Crash i) = inl (refl, refl)
 
-module _ (n w : ℕ) (items : List Item) (some : 0 < w) (fits : Fits (run_of n w items)) where
+module _ (n w : ℕ) (items : List Item) (some : 0 < w) (fits : Steady (run_of n w items)) where
   abbrev pub at : ℕ → ℕ → Process
   at t i = typed_at (algorithm n w) (state_at n w items t) i
 
@@ -177,6 +182,33 @@ module _ (n w : ℕ) (items : List Item) (some : 0 < w) (fits : Fits (run_of n w
       let event = moves.recent (algorithm n w) lines (listed n w) run (IsEvent (run_of n w items) i j) (λ y. events (registers_at n w items y) j i) (λ v h. item_does v i j h) i link c t seen.task L31 scan le seen.control refl counts.3 (row.moved j move.process marked) in
       record { item = event.item; after_start = event.after_start; before_move = event.before_move; event = event.event; recent = event.recent }
 
+-- the same, stated of a run
+abbrev MoveIsEvent : Run → Type 0
+MoveIsEvent r = Fits r → (i j : ℕ) (link : Option ℕ) (c t : ℕ) → Scan r i link c t → c < t → ObservedMove r 31 names.moved i j t → RecentEvent r i j c t
+
+steady_moves_are_events : (n w : ℕ) (items : List Item) → Steady (run_of n w items) → 0 < w → MoveIsEvent (run_of n w items)
+steady_moves_are_events n w items fits some whole i j link c zero scan lt move = absurd (omega arith)
+steady_moves_are_events n w items fits some whole i j link c (suc t) scan lt move = move_is_event n w items some fits i j link c t scan (omega arith) move
+
+event_from : (r : Run) → Fits r → (i j t : ℕ) → 0 < t → t ≤ length r.items → IsEvent (calm_run r) i j t → IsEvent r i j t
+event_from r fits i j t pos h (inl wrote) = inl (sym (at_executes r fits j 57 t pos h) ∙ wrote)
+event_from r fits i j t pos h (inr answered) = inr (
+  sym (at_executes r fits j 52 t pos h) ∙ answered.0,
+  sym (ap (λ (l : Locals). value_at names.j l.scalars 0) (locals_before r t j)) ∙ answered.1,
+)
+
 pub moves_are_events_lem : MovesAreEvents
-moves_are_events_lem n w items some fits i j link c zero scan lt move = absurd (omega arith)
-moves_are_events_lem n w items some fits i j link c (suc t) scan lt move = move_is_event n w items some fits i j link c t scan (omega arith) move
+moves_are_events_lem n w items some fits i j link c t scan lt move =
+    let r = run_of n w items in
+    let last : t ≤ length items = scan.last in
+    let e = steady_moves_are_events n w (calm_list r) (steady_of r fits) some (fits_of (calm_run r) (steady_of r fits)) i j link c t
+    (scan_to r fits i link c t scan) lt (calm.observed_to r fits 31 names.moved i j t (omega arith) last move) in
+    let after_start : c < e.item = e.after_start in
+    let before_move : e.item < t = e.before_move in
+    record {
+      item = e.item;
+      after_start = after_start;
+      before_move = before_move;
+      event = event_from r fits i j e.item (omega arith) (omega arith) e.event;
+      recent = subst (λ y. y ≤ 1) (same_collects r fits i e.item t last) e.recent;
+    }

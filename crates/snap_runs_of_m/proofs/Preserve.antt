@@ -12,7 +12,7 @@ use Rattle.snap_semantics.specs.declared.process.Op.{Op}
 use Rattle.snap_semantics.specs.declared.process.Op.TheVariants.{Scan, Update}
 use Rattle.snap_semantics.specs.declared.process.Reason.{Reason}
 use Rattle.snap_semantics.specs.declared.process.Item.{Item}
-use Rattle.snap_semantics.specs.declared.process.Item.TheVariants.{Step, Call}
+use Rattle.snap_semantics.specs.declared.process.Item.TheVariants.{Step, Call, Crash}
 use Rattle.snap_semantics.specs.declared.process.Outcome.TheVariants.{Called, Stepped, Answered, Finished}
 use Rattle.snap_semantics.specs.Table.{call_skip, who}
 use Rattle.snap_runs.proofs.Algorithm.{Idle, At, To, Begin, Answer, Finish, New, by_move, by_step, by_admission, by_call, memory_after, typed_at, changed, happens, stepped_auxiliary, begun_auxiliary, called_auxiliary, Task, Scanning, Embedded, Updating, op_of}
@@ -612,3 +612,7 @@ happens_inv n w t history x (Step i) some count one now h next = step_inv n w t 
 happens_inv n w t history x (Call i op) some count one now h next =
     let same : history (suc t) ≡ history t = next ∙ embed.call_memory (algorithm n w) (suc t) x i op (at n w x i).control ∙ sym now in
     asked_inv n w t history x i op (at n w x i).control count one same (laws_same n w t history same h.laws) h refl
+happens_inv n w t history x (Crash i) some count one now h next =
+    let same : history (suc t) ≡ history t = next ∙ sym now in
+    let laws = laws_same n w t history same h.laws in
+    inv_later n w t history x (laws (suc t) (omega arith)) same laws h

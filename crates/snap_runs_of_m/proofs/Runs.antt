@@ -5,7 +5,6 @@ use Rattle.std.proofs.lemmas.List.{get_or-replicate, length-replicate}
 use Rattle.snap_words.specs.Shape.{IsOneOf}
 use Rattle.snap_words.specs.Word.{Word, no_word}
 use Rattle.snap_semantics.specs.declared.process.Item.{Item}
-use Rattle.snap_runs.specs.Run.{Fits}
 use Rattle.snap_runs.proofs.Algorithm.{Task, Idle, At, when_busy, first_process, first_state, typed_at, item_at, typed_state}
 use Rattle.snap_runs.proofs.Embedding as embed
 use Rattle.snap_runs.proofs.Held.{word_at, seq_at}
@@ -21,6 +20,10 @@ use Rattle.snap_runs_of_m.proofs.Collect.{seen_by_words}
 use Rattle.snap_runs_of_m.proofs.Stage.{Stage}
 use Rattle.snap_runs_of_m.proofs.Invariant.{ProcessInvariant, Invariant, StageAt, CountAt}
 use Rattle.snap_runs_of_m.proofs.Preserve.{happens_inv}
+use Rattle.snap_runs.proofs.Steady.{Steady}
+use Rattle.snap_runs.proofs.Calm.{calm_list}
+use Rattle.snap_runs.proofs.CalmPromises as calm
+use Rattle.snap_runs.specs.Promises as promises
 
 abbrev pub state_at : ℕ → ℕ → List Item → ℕ → State
 state_at n w items t = typed_state (algorithm n w) items t
@@ -94,14 +97,14 @@ inv0 n w items = record {
   each = λ i h. subst (λ (q : Process). ProcessInvariant n w 0 (registers_at n w items) i q) (sym (embed.first_process_is (algorithm n w) i h)) (own0 n w items i);
 }
 
-pub inv : (n w : ℕ) (items : List Item) → 0 < w → Fits (run_of n w items) → (t : ℕ) → t ≤ length items →
+pub inv : (n w : ℕ) (items : List Item) → 0 < w → Steady (run_of n w items) → (t : ℕ) → t ≤ length items →
     Invariant n w t (registers_at n w items) (state_at n w items t)
 inv n w items some fits zero h = inv0 n w items
 inv n w items some fits (suc t) h =
     happens_inv n w t (registers_at n w items) (state_at n w items t) (item_at items t) some (embed.count (algorithm n w) items t)
     (embed.one_at (algorithm n w) items fits t (omega arith)) refl (inv n w items some fits t (omega arith)) refl
 
-pub own : (n w : ℕ) (items : List Item) → 0 < w → Fits (run_of n w items) → (t i : ℕ) → t ≤ length items → IsOneOf n i →
+pub own : (n w : ℕ) (items : List Item) → 0 < w → Steady (run_of n w items) → (t i : ℕ) → t ≤ length items → IsOneOf n i →
     ProcessInvariant n w t (registers_at n w items) i (typed_at (algorithm n w) (state_at n w items t) i)
 own n w items some fits t i h one = (inv n w items some fits t h).each i one
 
@@ -115,7 +118,7 @@ named_28 n w i history t since round p (At d k) one laws well h = λ e.
     let keeps = (subst (λ y. ControlWell n w p (At d y)) e well).1 in
     subst (IsOneOf n) (sym at28.4) (seen_by_words n w i history round t p.g p.a p.b p.h one laws at28.1 p.k keeps.1 at28.3).0
 
-pub all_do : (n w : ℕ) (items : List Item) → 0 < w → Fits (run_of n w items) → embed.AllDo (algorithm n w) items
+pub all_do : (n w : ℕ) (items : List Item) → 0 < w → Steady (run_of n w items) → embed.AllDo (algorithm n w) items
 all_do n w items some fits t i h one =
     let v = inv n w items some fits t (omega arith) in
     let o = v.each i one in
@@ -124,11 +127,14 @@ all_do n w items some fits t i h one =
     (record { one = one; some = some; bits = λ c k. (v.laws t (omega arith)).now.bits c i k one; long = o.long }) o.well
     (named_28 n w i (registers_at n w items) t q.auxiliary.since q.auxiliary.round q.variables q.control one v.laws o.well o.stage)
 
+steady_never_traps : (n w : ℕ) (items : List Item) → 0 < w → Steady (run_of n w items) → promises.NeverTraps (run_of n w items)
+steady_never_traps n w items some fits whole = embed.never_traps (algorithm n w) items fits (all_do n w items some fits)
+
 pub never_traps_lem : NeverTraps
-never_traps_lem n w items some fits = embed.never_traps (algorithm n w) items fits (all_do n w items some fits)
+never_traps_lem n w items some = calm.never_traps (run_of n w items) (steady_never_traps n w (calm_list (run_of n w items)) some)
 
 -- the run, with what is known of its lines
-abbrev pub execution : (n w : ℕ) (items : List Item) → 0 < w → Fits (run_of n w items) → scans.Execution (algorithm n w) lines
+abbrev pub execution : (n w : ℕ) (items : List Item) → 0 < w → Steady (run_of n w items) → scans.Execution (algorithm n w) lines
 execution n w items some fits = record {
   items = items;
   fits = fits;
@@ -140,7 +146,7 @@ execution n w items some fits = record {
 }
 
 -- what a process at a line keeps there
-pub well_of : (n w : ℕ) (items : List Item) → 0 < w → Fits (run_of n w items) → (t i : ℕ) (d : Task) (k : ProgramCounter) → t ≤ length items →
+pub well_of : (n w : ℕ) (items : List Item) → 0 < w → Steady (run_of n w items) → (t i : ℕ) (d : Task) (k : ProgramCounter) → t ≤ length items →
     IsOneOf n i →
     (typed_at (algorithm n w) (state_at n w items t) i).control ≡ At d k →
     IsLineOf w d k × Keeps n w d (typed_at (algorithm n w) (state_at n w items t) i).variables k
@@ -148,7 +154,7 @@ well_of n w items some fits t i d k le one e =
     let q = typed_at (algorithm n w) (state_at n w items t) i in subst (ControlWell n w q.variables) e (own n w items some fits t i le one).well
 
 -- a busy process is at the stage of its line
-pub stage_of : (n w : ℕ) (items : List Item) → 0 < w → Fits (run_of n w items) → (t i : ℕ) (d : Task) (k : ProgramCounter) → t ≤ length items →
+pub stage_of : (n w : ℕ) (items : List Item) → 0 < w → Steady (run_of n w items) → (t i : ℕ) (d : Task) (k : ProgramCounter) → t ≤ length items →
     IsOneOf n i →
     (typed_at (algorithm n w) (state_at n w items t) i).control ≡ At d k →
     Stage n w i (registers_at n w items) t (typed_at (algorithm n w) (state_at n w items t) i).auxiliary.since (typed_at (algorithm n w) (state_at n w items t) i).auxiliary.round (typed_at (algorithm n w) (state_at n w items t) i).variables k
@@ -157,7 +163,7 @@ stage_of n w items some fits t i d k le one e =
     subst (StageAt n w i (registers_at n w items) t q.auxiliary.since q.auxiliary.round q.variables) e (own n w items some fits t i le one).stage
 
 -- and its counts are those of its line
-pub counts_of : (n w : ℕ) (items : List Item) → 0 < w → Fits (run_of n w items) → (t i : ℕ) (d : Task) (k : ProgramCounter) → t ≤ length items →
+pub counts_of : (n w : ℕ) (items : List Item) → 0 < w → Steady (run_of n w items) → (t i : ℕ) (d : Task) (k : ProgramCounter) → t ≤ length items →
     IsOneOf n i →
     (typed_at (algorithm n w) (state_at n w items t) i).control ≡ At d k →
     Count n w (typed_at (algorithm n w) (state_at n w items t) i).variables (typed_at (algorithm n w) (state_at n w items t) i).auxiliary.own (typed_at (algorithm n w) (state_at n w items t) i).auxiliary.collects (typed_at (algorithm n w) (state_at n w items t) i).auxiliary.tested k

@@ -2,7 +2,6 @@
 use Rattle.std.specs.Prelude.{ℕ, ◌+◌, ◌-◌, ◌*◌, ◌<◌, ◌≤◌, Bool, true, false, List, nat_lt, refl}
 use Rattle.std.proofs.Common.{sym, subst, arith, inl, inr}
 use Rattle.snap_semantics.specs.declared.process.Item.{Item}
-use Rattle.snap_runs.specs.Run.{Fits}
 use Rattle.snap_runs.specs.Scan.{own_steps}
 use Rattle.snap_runs.specs.Update.{Updating as UpdateOf}
 use Rattle.snap_runs.proofs.Algorithm.{Embedded, Updating}
@@ -15,6 +14,10 @@ use Rattle.snap_runs_of_m.specs.Promises.{run_of, WaitFree}
 use Rattle.snap_runs_of_m.proofs.Algorithm.{Registers, Variables, ProgramCounter, L50, L51, L52, L53, L54, L55, L56, L57, L58, move, algorithm, IsLineOf, lines}
 use Rattle.snap_runs_of_m.proofs.Bounds.{most_steps, within, few_steps_lem}
 use Rattle.snap_runs_of_m.proofs.Runs.{state_at, well_of, execution, never_traps_lem}
+use Rattle.snap_runs.proofs.Steady.{Steady}
+use Rattle.snap_runs.specs.Run.{Fits}
+use Rattle.snap_runs.proofs.Calm.{calm_list}
+use Rattle.snap_runs.proofs.CalmPromises as calm
 
 -- the steps that an update has ahead at its own lines: three for each bit that is still to be answered
 abbrev ahead : ℕ → Variables → ProgramCounter → ℕ
@@ -62,7 +65,7 @@ resumes n w me word value m p k (inr is) =
     subst (λ y. Resumes (algorithm n w) lines (its n w) (move n w me (Embedded word value) m p y)) (sym is) (omega arith, refl)
 
 -- the steps of an update
-update_steps : (n w : ℕ) (items : List Item) → 0 < w → Fits (run_of n w items) → (i word value c e : ℕ) →
+update_steps : (n w : ℕ) (items : List Item) → 0 < w → Steady (run_of n w items) → (i word value c e : ℕ) →
     UpdateOf (run_of n w items) i word value c e →
     own_steps (run_of n w items) i c e ≤ 9 + 3 * (n - 1) + most_steps n w
 update_steps n w items some fits i word value c e up =
@@ -73,10 +76,13 @@ update_steps n w items some fits i word value c e up =
     (λ t d k le at inside. (within n w items some fits t i d k le one at inside).1)
     (λ p word value. (omega arith, refl)) word value c e up
 
+every_update : (n w : ℕ) (items : List Item) → 0 < w → Fits (run_of n w items) → calm.UpdatesAtMost (run_of n w items) (9 + 3 * (n - 1) + most_steps n w) (run_of n w items)
+every_update n w items some = calm.updates_at_most (run_of n w items) (9 + 3 * (n - 1) + most_steps n w) (update_steps n w (calm_list (run_of n w items)) some)
+
 pub wait_free_lem : WaitFree
 wait_free_lem n w items some =
     wait_free (most_steps n w) (14 * (n * n) + 16 * (n * w) + 22 * n + 8 * w + 16) (run_of n w items) (never_traps_lem n w items some) (few_steps_lem n w items some)
     (λ fits i word value c e up.
-    let few = update_steps n w items some fits i word value c e up in
+    let few = every_update n w items some fits i word value c e up in
     let one = up.process in
     let many : 0 < n = omega arith in omega arith)

@@ -2,7 +2,6 @@
 use Rattle.std.specs.Prelude.{ℕ, zero, suc, ◌+◌, ◌<◌, ◌≤◌, not, List, length, Option, refl}
 use Rattle.std.proofs.Common.{subst, arith}
 use Rattle.snap_semantics.specs.declared.process.Item.{Item}
-use Rattle.snap_runs.specs.Run.{Fits}
 use Rattle.snap_runs.specs.Scan.{Scan}
 use Rattle.snap_runs.specs.Promises.{ObservedMove, RecentWrite}
 use Rattle.snap_runs.proofs.Computing.{differs, not_true, raised_only}
@@ -18,8 +17,12 @@ use Rattle.snap_runs_of_u.proofs.Flows.{numbered, listed, writer}
 use Rattle.snap_runs_of_u.proofs.Runs.{words_at, process_after, execution, stage_of, counts_of}
 use Rattle.snap_runs_of_u.proofs.Stage.{copies_grow}
 use Rattle.snap_runs_of_u.proofs.Updates.{updates}
+use Rattle.snap_runs.proofs.Steady.{Steady}
+use Rattle.snap_runs.proofs.Calm.{calm_list}
+use Rattle.snap_runs.proofs.CalmPromises as calm
+use Rattle.snap_runs.specs.Promises as promises
 
-move_is_write : (n : ℕ) (items : List Item) → Fits (run_of n items) → (i j : ℕ) (link : Option ℕ) (c t : ℕ) → Scan (run_of n items) i link c (suc t) → c ≤ t →
+move_is_write : (n : ℕ) (items : List Item) → Steady (run_of n items) → (i j : ℕ) (link : Option ℕ) (c t : ℕ) → Scan (run_of n items) i link c (suc t) → c ≤ t →
     ObservedMove (run_of n items) 17 u.moved i j (suc t) →
     RecentWrite (run_of n items) 32 i j c (suc t)
 move_is_write n items fits i j link c t scan le move =
@@ -43,6 +46,9 @@ move_is_write n items fits i j link c t scan le move =
     let counts : Count n p q.auxiliary.own q.auxiliary.collects q.auxiliary.tested L17 = counts_of n items fits t i seen.task L17 (omega arith) one seen.control in
     moves.recent_write (algorithm n) lines (listed n) run 32 (writer n) (updates n items fits) (λ me word is. is) i j link c t seen.task L17 move.process scan le seen.control refl counts.3 (omega arith)
 
+steady_moves_are_writes : (n : ℕ) (items : List Item) → Steady (run_of n items) → promises.MovesAreWrites 17 u.moved 32 (run_of n items)
+steady_moves_are_writes n items fits whole i j link c zero scan lt move = absurd (omega arith)
+steady_moves_are_writes n items fits whole i j link c (suc t) scan lt move = move_is_write n items fits i j link c t scan (omega arith) move
+
 pub moves_are_writes_lem : MovesAreWrites
-moves_are_writes_lem n items fits i j link c zero scan lt move = absurd (omega arith)
-moves_are_writes_lem n items fits i j link c (suc t) scan lt move = move_is_write n items fits i j link c t scan (omega arith) move
+moves_are_writes_lem n items = calm.moves_are_writes (run_of n items) 17 u.moved 32 (steady_moves_are_writes n (calm_list (run_of n items)))

@@ -6,7 +6,7 @@ use Rattle.snap_words.specs.Shape.{IsOneOf}
 use Rattle.snap_words.specs.declared.kind.KindTag.TheVariants as kind
 use Rattle.snap_semantics.specs.Table.{call_skip, who}
 use Rattle.snap_semantics.specs.declared.process.Item.{Item}
-use Rattle.snap_semantics.specs.declared.process.Item.TheVariants.{Step, Call}
+use Rattle.snap_semantics.specs.declared.process.Item.TheVariants.{Step, Call, Crash}
 use Rattle.snap_semantics.specs.declared.process.Op.{Op}
 use Rattle.snap_semantics.specs.declared.process.Op.TheVariants.{Scan, Update}
 use Rattle.snap_semantics.specs.declared.process.Outcome.TheVariants.{Called, Stepped, Answered, Finished}
@@ -276,3 +276,4 @@ pub item_keeps : (n t : ℕ) (history : ℕ → Words) (x : State) (y : Item) �
     Invariant n (suc t) history (happens (algorithm n) (suc t) x y)
 item_keeps n t history x (Step i) lengths count one h now = step_keeps n t history x i (at n x i).control lengths count one h refl now
 item_keeps n t history x (Call i op) lengths count one h now = call_keeps n t history x i op (at n x i).control count one h refl now
+item_keeps n t history x (Crash i) lengths count one h now = time_passes n t history x h

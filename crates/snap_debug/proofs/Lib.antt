@@ -1,3 +1,4 @@
 mod CommandSamples
 pub mod CommandsAgain
 pub mod CommandsFound
+pub mod Along

@@ -1,0 +1,150 @@
+//! What commands are answered.
+ghost use Rattle.std.specs.Prelude.{◌≡◌, ◌++◌, IfOk, OnOk, length, zero};
+ghost use Rattle.snap_words.specs.Shape.{IsOneOf};
+ghost use Rattle.snap_semantics.specs.Readers.{contents};
+ghost use Rattle.snap_semantics.specs.Report.{position_line, process_lines, values_line};
+ghost use Rattle.snap_semantics.specs.State.{process_at, values};
+ghost use Rattle.snap_report.specs.OutcomeText.{head_lines};
+ghost use Rattle.snap_report.specs.ReportLines.{register_line};
+ghost use Rattle.snap_debug.specs.Replies.{last_text};
+ghost use Rattle.snap_debug.specs.Session.{events_text, marks_line};
+
+use crate::marks::Marks;
+use snap_machine::Machine;
+use snap_report::{event_lines, head_lines, outcome_text, position_line, process_lines, register_line, values_line};
+use snap_semantics::{Event, Outcome};
+use snap_text::{push_number, push_text};
+use snap_words::{Address, Kind};
+use std::alloc::{AllocError, Global};
+use std::marker::Model;
+
+/// The text of a reply, each of whose lines ends with a line feed.
+#[derive(Debug, Drop)]
+pub struct Reply {
+    text: Vec<u8>,
+}
+
+impl Model for Reply {
+    ghost use Rattle.std.specs.Prelude.{List, ℕ};
+
+    ghost Value = { List ℕ };
+
+    ghost view = { λ r. r.text.items };
+}
+
+impl Reply {
+    /// Its bytes.
+    pub fn as_slice(&self) -> &[u8]
+        ensures { result.now ≡ self.now }
+    {
+        self.text.as_slice()
+    }
+}
+
+/// `marks M`.
+#[tactic(auto, using(snap_text::proofs::Texts::joined))]
+pub(crate) fn marks_reply(alloc: Global, marks: &Marks) -> Result<Reply, AllocError>
+    ensures { IfOk result (λ r. r ≡ marks_line marks.now) }
+{
+    let mut text = Vec::new(alloc);
+    push_text(&mut text, b"marks ")?;
+    push_number(&mut text, marks.count() as u64)?;
+    push_text(&mut text, b"\n")?;
+    Ok(Reply { text })
+}
+
+/// The line of a position.
+pub(crate) fn position_reply(alloc: Global, position: u64, total: u64) -> Result<Reply, AllocError>
+    ensures { IfOk result (λ r. r ≡ position_line position total) }
+{
+    let mut text = Vec::new(alloc);
+    position_line(&mut text, position, total)?;
+    Ok(Reply { text })
+}
+
+/// The line of a register.
+pub(crate) fn register_reply<K: Kind>(
+    alloc: Global,
+    machine: &Machine<K>,
+    a: Address,
+) -> Result<Reply, AllocError>
+    ensures { IfOk result (λ r. r ≡ register_line machine.now.source.kind a.bank a.i a.j (contents machine.now.state.memory a.bank a.i a.j)) }
+{
+    let mut text = Vec::new(alloc);
+    register_line(&mut text, machine, a)?;
+    Ok(Reply { text })
+}
+
+/// The lines of a process.
+pub(crate) fn process_reply<K: Kind>(
+    alloc: Global,
+    machine: &Machine<K>,
+    i: u32,
+) -> Result<Reply, AllocError>
+    requires { IsOneOf machine.now.shape.n i }
+    ensures { IfOk result (λ r. r ≡ process_lines machine.now.source.kind i (process_at machine.now.state i)) }
+{
+    let mut text = Vec::new(alloc);
+    process_lines(&mut text, machine, i)?;
+    Ok(Reply { text })
+}
+
+/// The line of the values.
+pub(crate) fn values_reply<K: Kind>(
+    alloc: Global,
+    machine: &Machine<K>,
+) -> Result<Reply, AllocError>
+    ensures { IfOk result (λ r. r ≡ values_line (values machine.now.state)) }
+{
+    let mut text = Vec::new(alloc);
+    values_line(&mut text, machine)?;
+    Ok(Reply { text })
+}
+
+/// How many events there are, and their lines.
+#[tactic(auto, using(snap_text::proofs::Texts::joined))]
+pub(crate) fn events_reply(alloc: Global, events: &[Event]) -> Result<Reply, AllocError>
+    ensures { IfOk result (λ r. r ≡ events_text events.now) }
+{
+    let mut text = Vec::new(alloc);
+    push_text(&mut text, b"events ")?;
+    push_number(&mut text, events.len() as u64)?;
+    push_text(&mut text, b"\n")?;
+    event_lines(&mut text, events)?;
+    Ok(Reply { text })
+}
+
+/// The last item's process, and what came of it.
+#[tactic(auto, using(snap_text::proofs::Texts::joined))]
+fn last_text(out: &mut Vec<u8>, last: &Option<(u32, Outcome)>) -> Result<(), AllocError>
+    ensures { OnOk result (out.new.items ≡ out.old.items ++ last_text last.now) }
+{
+    match last {
+        None => push_text(out, b"last none\n"),
+        Some((process, outcome)) => {
+            push_text(out, b"last ")?;
+            push_number(out, u64::from(*process))?;
+            push_text(out, b" ")?;
+            outcome_text(out, outcome)?;
+            push_text(out, b"\n")
+        }
+    }
+}
+
+/// The line of the position, the last item and where the processes stand.
+#[tactic(auto, using(snap_text::proofs::Texts::joined))]
+pub(crate) fn where_reply<K: Kind>(
+    alloc: Global,
+    machine: &Machine<K>,
+    position: u64,
+    total: u64,
+    last: &Option<(u32, Outcome)>,
+) -> Result<Reply, AllocError>
+    ensures { IfOk result (λ r. r ≡ position_line position total ++ last_text last.now ++ head_lines 1 machine.now.state.processes) }
+{
+    let mut text = Vec::new(alloc);
+    position_line(&mut text, position, total)?;
+    last_text(&mut text, last)?;
+    head_lines(&mut text, machine)?;
+    Ok(Reply { text })
+}

@@ -1,0 +1,351 @@
+//! A debugger's session over a listing and a schedule.
+ghost use Rattle.std.specs.Prelude.{◌≡◌, ◌≤◌, ◌<◌, ◌+◌, ◌-◌, IfOk, Ok, OnErr, length, min};
+ghost use Rattle.snap_semantics.specs.Answers.{Answers};
+ghost use Rattle.snap_record.specs.Record.{report_at, run_over};
+ghost use Rattle.snap_debug.specs.Marks.{contents_at, last_stop, next_stop};
+ghost use Rattle.snap_debug.specs.Replies.{first_of, last_of, machine_of};
+ghost use Rattle.snap_debug.specs.Session.{
+  Obeys,
+  at_position,
+  checked_breakpoint,
+  checked_register,
+  has_process,
+  opened,
+  position_text,
+};
+ghost use Rattle.snap_debug.specs.declared.command.Command.TheVariants as command;
+
+use crate::command::{Breakpoint, Command};
+use crate::marks::Marks;
+use crate::reply::{
+    Reply, events_reply, marks_reply, position_reply, process_reply, register_reply, values_reply,
+    where_reply,
+};
+use crate::stops::{last_stop, next_stop, outcome_at};
+use snap_code::Program;
+use snap_machine::Machine;
+use snap_record::{Record, Report};
+use snap_report::report;
+use snap_sched::Schedule;
+use snap_semantics::{CommandRefusal, Fault, Outcome};
+use snap_words::{Address, Kind};
+use std::alloc::{AllocError, Global};
+use std::marker::Model;
+
+/// A schedule with marks, and the record of its items up to a position.
+#[derive(Drop)]
+pub struct Session<K: Kind> {
+    alloc: Global,
+    schedule: Schedule,
+    marks: Marks,
+    record: Record<K>,
+}
+
+impl<K: Kind> Model for Session<K> {
+    ghost use Rattle.std.specs.Prelude.{length};
+    ghost use Rattle.snap_record.specs.Record.{run_over};
+    ghost use Rattle.snap_debug.specs.Replies.{IsAlong};
+    ghost use Rattle.snap_debug.specs.Session.{Session as Seen};
+
+    ghost Value = { Seen };
+
+    ghost view = { λ s. record { run = run_over s.record.source s.schedule; marks = s.marks; position = length s.record.items } };
+
+    ghost invariant = { λ s. IsAlong s.record s.schedule };
+}
+
+impl<K: Kind> Session<K> {
+    /// Before the first item, with no marks.
+    pub fn open(
+        alloc: Global,
+        program: &Program,
+        schedule: &Schedule,
+    ) -> Result<Session<K>, AllocError>
+        requires { program.now.kind ≡ K.TAG }
+        ensures { IfOk result (λ s. s ≡ opened (run_over program.now schedule.now)) }
+    {
+        Ok(Session {
+            alloc,
+            schedule: schedule.copy(alloc)?,
+            marks: Marks::new(alloc),
+            record: Record::new(alloc, program, schedule.shape())?,
+        })
+    }
+
+    /// How many items lie before.
+    pub fn position(&self) -> u64
+        ensures position { result ≡ self.now.position }
+        ensures within { result ≤ length self.now.run.items }
+    {
+        self.record.items().len() as u64
+    }
+
+    /// How many items there are.
+    fn total(&self) -> u64
+        ensures { result ≡ length self.now.run.items }
+    {
+        self.schedule.items().len()
+    }
+
+    /// The program that runs.
+    fn program(&self) -> &Program
+        ensures value { result.now ≡ self.now.run.source }
+        ensures kind { self.now.run.source.kind ≡ K.TAG }
+    {
+        self.record.machine().program()
+    }
+
+    /// The machine at the position.
+    fn machine(&self) -> &Machine<K>
+        ensures { result.now ≡ machine_of self.now }
+    {
+        self.record.machine()
+    }
+
+    /// The record of the first items, so many of them: the one place where a session runs them again.
+    fn record_at(&self, position: u64) -> Result<Record<K>, AllocError>
+        requires { position ≤ length self.now.run.items }
+        ensures { IfOk result (λ r. r ≡ first_of position self.now.run) }
+    {
+        let mut record = Record::new(self.alloc, self.program(), self.schedule.shape())?;
+        record.apply_first(self.schedule.items(), position)?;
+        Ok(record)
+    }
+
+    /// Goes to a position.
+    fn move_to(&mut self, position: u64) -> Result<Reply, AllocError>
+        requires { position ≤ length self.old.run.items }
+        ensures moved { IfOk result (λ reply. self.new ≡ at_position position self.old) }
+        ensures reply { IfOk result (λ reply. reply ≡ position_text (at_position position self.old)) }
+        ensures unchanged { OnErr result (self.new ≡ self.old) }
+    {
+        let record = self.record_at(position)?;
+        let reply = position_reply(self.alloc, position, self.total())?;
+        self.record = record;
+        Ok(reply)
+    }
+
+    /// So many items on, at most to the end.
+    fn step(&mut self, count: u64) -> Result<Reply, Fault<CommandRefusal>>
+        ensures { Obeys (λ r. r) result self.old (command.Step count) self.new }
+    {
+        let left = self.total() - self.position();
+        let position = self.position() + count.min(left);
+        Ok(self.move_to(position)?)
+    }
+
+    /// So many items back, at most to the beginning.
+    fn back(&mut self, count: u64) -> Result<Reply, Fault<CommandRefusal>>
+        ensures { Obeys (λ r. r) result self.old (command.Back count) self.new }
+    {
+        let position = self.position().saturating_sub(count);
+        Ok(self.move_to(position)?)
+    }
+
+    /// To a position, where there is one.
+    fn goto(&mut self, position: u64) -> Result<Reply, Fault<CommandRefusal>>
+        ensures { Obeys (λ r. r) result self.old (command.Goto position) self.new }
+    {
+        if position > self.total() {
+            return Err(Fault::Refused(CommandRefusal::NoSuchPosition));
+        }
+        Ok(self.move_to(position)?)
+    }
+
+    /// On to the next stop.
+    fn run(&mut self) -> Result<Reply, Fault<CommandRefusal>>
+        ensures { Obeys (λ r. r) result self.old command.Run self.new }
+    {
+        let stop = next_stop::<K>(
+            self.alloc,
+            self.program(),
+            &self.schedule,
+            &self.marks,
+            self.position(),
+        )?;
+        Ok(self.move_to(stop)?)
+    }
+
+    /// Back to the last stop.
+    fn reverse_run(&mut self) -> Result<Reply, Fault<CommandRefusal>>
+        ensures { Obeys (λ r. r) result self.old command.ReverseRun self.new }
+    {
+        let stop = last_stop::<K>(
+            self.alloc,
+            self.program(),
+            &self.schedule,
+            &self.marks,
+            self.position(),
+        )?;
+        Ok(self.move_to(stop)?)
+    }
+
+    /// Whether there is this process.
+    fn has_process(&self, i: u64) -> bool
+        ensures { result ≡ has_process self.now i }
+    {
+        0 < i && i <= self.schedule.shape().n()
+    }
+
+    /// Whether there is this process, and this line.
+    fn check_breakpoint(&self, b: Breakpoint) -> Result<(), CommandRefusal>
+        ensures { result ≡ checked_breakpoint self.now b }
+    {
+        if !self.has_process(b.process) {
+            return Err(CommandRefusal::NoSuchProcess);
+        }
+        if !self.program().has_line(b.line) {
+            return Err(CommandRefusal::NoSuchLine);
+        }
+        Ok(())
+    }
+
+    /// Whether there is this register.
+    fn check_register(&self, a: Address) -> Result<(), CommandRefusal>
+        ensures { result ≡ checked_register self.now a }
+    {
+        match self.machine().register(a) {
+            Ok(_) => Ok(()),
+            Err(_) => Err(CommandRefusal::NoSuchRegister),
+        }
+    }
+
+    /// Sets a breakpoint.
+    fn set_break(&mut self, b: Breakpoint) -> Result<Reply, Fault<CommandRefusal>>
+        ensures { Obeys (λ r. r) result self.old (command.Break b) self.new }
+    {
+        self.check_breakpoint(b)?;
+        let marks = self.marks.with_break(self.alloc, b)?;
+        let reply = marks_reply(self.alloc, &marks)?;
+        self.marks = marks;
+        Ok(reply)
+    }
+
+    /// Takes a breakpoint away.
+    fn clear_break(&mut self, b: Breakpoint) -> Result<Reply, Fault<CommandRefusal>>
+        ensures { Obeys (λ r. r) result self.old (command.Clear b) self.new }
+    {
+        self.check_breakpoint(b)?;
+        let marks = self.marks.without_break(self.alloc, b)?;
+        let reply = marks_reply(self.alloc, &marks)?;
+        self.marks = marks;
+        Ok(reply)
+    }
+
+    /// Watches a register.
+    fn set_watch(&mut self, a: Address) -> Result<Reply, Fault<CommandRefusal>>
+        ensures { Obeys (λ r. r) result self.old (command.Watch a) self.new }
+    {
+        self.check_register(a)?;
+        let marks = self.marks.with_watch(self.alloc, a)?;
+        let reply = marks_reply(self.alloc, &marks)?;
+        self.marks = marks;
+        Ok(reply)
+    }
+
+    /// Watches a register no more.
+    fn clear_watch(&mut self, a: Address) -> Result<Reply, Fault<CommandRefusal>>
+        ensures { Obeys (λ r. r) result self.old (command.Unwatch a) self.new }
+    {
+        self.check_register(a)?;
+        let marks = self.marks.without_watch(self.alloc, a)?;
+        let reply = marks_reply(self.alloc, &marks)?;
+        self.marks = marks;
+        Ok(reply)
+    }
+
+    /// Shows a register.
+    fn show_register(&self, a: Address) -> Result<Reply, Fault<CommandRefusal>>
+        ensures { Obeys (λ r. r) result self.now (command.ShowRegister a) self.now }
+    {
+        self.check_register(a)?;
+        Ok(register_reply(self.alloc, self.machine(), a)?)
+    }
+
+    /// Shows a process.
+    fn show_process(&self, i: u64) -> Result<Reply, Fault<CommandRefusal>>
+        ensures { Obeys (λ r. r) result self.now (command.ShowProcess i) self.now }
+    {
+        if !self.has_process(i) {
+            return Err(Fault::Refused(CommandRefusal::NoSuchProcess));
+        }
+        Ok(process_reply(self.alloc, self.machine(), i as u32)?)
+    }
+
+    /// Shows the values.
+    fn show_values(&self) -> Result<Reply, Fault<CommandRefusal>>
+        ensures { Obeys (λ r. r) result self.now command.Values self.now }
+    {
+        Ok(values_reply(self.alloc, self.machine())?)
+    }
+
+    /// Shows the events up to the position.
+    fn show_events(&self) -> Result<Reply, Fault<CommandRefusal>>
+        ensures { Obeys (λ r. r) result self.now command.Events self.now }
+    {
+        Ok(events_reply(self.alloc, self.record.events())?)
+    }
+
+    /// The last item's process, and what came of it, where there is one.
+    fn last(&self) -> Result<Option<(u32, Outcome)>, AllocError>
+        ensures { IfOk result (λ last. last ≡ last_of self.now.run self.now.position) }
+    {
+        let position = self.position();
+        if position == 0 {
+            return Ok(None);
+        }
+        let last = outcome_at::<K>(self.alloc, self.program(), &self.schedule, position)?;
+        Ok(Some(last))
+    }
+
+    /// Shows where the session and the processes stand.
+    fn show_where(&self) -> Result<Reply, Fault<CommandRefusal>>
+        ensures { Obeys (λ r. r) result self.now command.Where self.now }
+    {
+        let last = self.last()?;
+        Ok(where_reply(
+            self.alloc,
+            self.machine(),
+            self.position(),
+            self.total(),
+            &last,
+        )?)
+    }
+
+    /// Does a command, and answers it. A command that is refused, and one for which there is no memory, leaves all as it was.
+    pub fn command(&mut self, command: &Command) -> Result<Reply, Fault<CommandRefusal>>
+        ensures { Obeys (λ r. r) result self.old command.now self.new }
+    {
+        match *command {
+            Command::Step(count) => self.step(count),
+            Command::Back(count) => self.back(count),
+            Command::Goto(position) => self.goto(position),
+            Command::Run => self.run(),
+            Command::ReverseRun => self.reverse_run(),
+            Command::Break(b) => self.set_break(b),
+            Command::Clear(b) => self.clear_break(b),
+            Command::Watch(a) => self.set_watch(a),
+            Command::Unwatch(a) => self.clear_watch(a),
+            Command::ShowRegister(a) => self.show_register(a),
+            Command::ShowProcess(i) => self.show_process(i),
+            Command::Values => self.show_values(),
+            Command::Events => self.show_events(),
+            Command::Where => self.show_where(),
+        }
+    }
+
+    /// The report of the position.
+    pub fn report(&self) -> Result<Report, AllocError>
+        ensures { IfOk result (λ t. t ≡ report_at self.now.run self.now.position) }
+    {
+        let mut text = Vec::new(self.alloc);
+        report(
+            &mut text,
+            self.machine(),
+            self.record.events(),
+            self.position(),
+            self.total(),
+        )?;
+        Ok(Report::of(text))
+    }
+}

@@ -7,3 +7,5 @@ pub mod Walks
 pub mod Counts
 pub mod Events
 pub mod Searches
+pub mod Kept
+pub mod Doing

@@ -1,4 +1,5 @@
 pub mod Record
+pub mod Items
 pub mod History
 pub mod SeenDeed
 pub mod Searches

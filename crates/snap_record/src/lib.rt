@@ -1,14 +1,23 @@
-//! A machine with its history: the items that it has done, what callers saw of them, and how the values changed.
+//! A machine with its history: the items that it has done, what callers saw of them, and how the values changed; and the
+//! printed texts of both.
 #![tactic(auto)]
 
 mod deed;
 mod fault;
 mod history;
+mod items;
+mod printed;
 mod record;
 mod search;
 mod walk;
 
 pub use fault::RecordFault;
 pub use history::Change;
+pub use items::History;
+pub use printed::Report;
 pub use record::{MAX_ITEMS, Record};
+pub use snap_report::{
+    event_line, event_lines, head_line, head_lines, op_text, outcome_text, position_line,
+    process_lines, register_line, report, values_line,
+};
 pub use walk::advance;

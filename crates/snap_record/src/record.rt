@@ -1,10 +1,11 @@
 //! A machine with its history.
-ghost use Rattle.std.specs.Prelude.{◌≡◌, ◌↔◌, ◌<◌, ◌+◌, [], drop, get_or, length, map, replicate, Err, IfOk, OnErr};
+ghost use Rattle.std.specs.Prelude.{◌≡◌, ◌↔◌, ◌<◌, ◌≤◌, ◌+◌, ℕ, [], drop, get_or, length, map, replicate, take, Err, IfOk, OnOk, OnErr};
+ghost use Rattle.std.specs.List.{AllByRecursion};
 ghost use Rattle.snap_words.specs.Shape.{IsOneOf};
 ghost use Rattle.snap_semantics.specs.State.{initial};
 ghost use Rattle.snap_semantics.specs.Table.{who};
 ghost use Rattle.snap_runs.specs.Run.{outcome, state, Fits};
-ghost use Rattle.snap_record.specs.Record.{collects_of, with_item, events_of, values_after};
+ghost use Rattle.snap_record.specs.Record.{collects_of, with_item, with_items, events_of, report_at, values_after};
 ghost use Rattle.snap_record.specs.Searches.{scan_collects};
 ghost use Rattle.snap_semantics.specs.declared.event.Event.{Event as Happened};
 ghost use Rattle.snap_record.specs.History.{LeadsAlong, collects_at};
@@ -13,10 +14,14 @@ ghost use Rattle.snap_record.specs.declared.fault.RecordFault.TheVariants.{Full}
 use crate::deed::deed_of;
 use crate::fault::RecordFault;
 use crate::history::{Change, event_of, note_collect, note_event, note_item, who};
+use crate::items::History;
+use crate::printed::Report;
 use crate::search::{collects_until, scans};
 use crate::walk::advance;
 use snap_code::Program;
 use snap_machine::Machine;
+use snap_report::report;
+use snap_sched::Items;
 use snap_semantics::{Event, Item, Outcome};
 use snap_words::{Kind, Shape, View};
 use std::alloc::{AllocError, Global};
@@ -30,7 +35,7 @@ pub const MAX_ITEMS: usize = 1_000_000;
 pub struct Record<K: Kind> {
     alloc: Global,
     machine: Machine<K>,
-    items: Vec<Item>,
+    items: History,
     values: View,
     /// The changes of values, in order.
     changes: Vec<Change>,
@@ -69,7 +74,7 @@ impl<K: Kind> Record<K> {
         Ok(Record {
             alloc,
             machine: Machine::new(alloc, program, shape)?,
-            items: Vec::new(alloc),
+            items: History::new(alloc),
             values: View::zeros(alloc, shape.w())?,
             changes: Vec::new(alloc),
             events: Vec::new(alloc),
@@ -78,18 +83,15 @@ impl<K: Kind> Record<K> {
         })
     }
 
-    /// Does one item, where fewer than 1,000,000 are kept.
-    pub fn apply(&mut self, item: Item) -> Result<Outcome, RecordFault>
-        requires { IsOneOf self.old.shape.n (who item) }
+    /// Does one item, for which there is a number.
+    fn add(&mut self, item: Item) -> Result<Outcome, AllocError>
+        requires process { IsOneOf self.old.shape.n (who item) }
+        requires few { length self.old.items < 1000000 }
         ensures done { IfOk result (λ o. (self.new ≡ with_item self.old item) × (o ≡ outcome self.new (length self.new.items))) }
-        ensures full { (length self.old.items ≡ 1000000) ↔ (result ≡ Err Full) }
         ensures unchanged { OnErr result (self.new ≡ self.old) }
     {
-        if self.items.len() == MAX_ITEMS {
-            return Err(RecordFault::Full);
-        }
         let deed = deed_of(self.alloc, &self.machine, item)?;
-        self.items.reserve(1)?;
+        self.items.reserve()?;
         self.changes.reserve(self.values.as_slice().len())?;
         self.events.reserve(1)?;
         self.at_events.reserve(1)?;
@@ -114,12 +116,44 @@ impl<K: Kind> Record<K> {
         Ok(outcome)
     }
 
+    /// Does one item, where fewer than 1,000,000 are kept.
+    pub fn apply(&mut self, item: Item) -> Result<Outcome, RecordFault>
+        requires { IsOneOf self.old.shape.n (who item) }
+        ensures done { IfOk result (λ o. (self.new ≡ with_item self.old item) × (o ≡ outcome self.new (length self.new.items))) }
+        ensures full { (length self.old.items ≡ 1000000) ↔ (result ≡ Err Full) }
+        ensures unchanged { OnErr result (self.new ≡ self.old) }
+    {
+        if self.items.len() == MAX_ITEMS {
+            return Err(RecordFault::Full);
+        }
+        Ok(self.add(item)?)
+    }
+
+    /// Does the first of these items, so many of them. Where there is no memory for one, those before it stay done.
+    pub fn apply_first(&mut self, items: &Items, count: u64) -> Result<(), AllocError>
+        requires processes { AllByRecursion (λ x. IsOneOf self.old.shape.n (who x)) items.now }
+        requires few { length self.old.items + count ≤ 1000000 }
+        ensures done { OnOk result (self.new ≡ with_items self.old (take count items.now)) }
+        ensures begun { OnErr result ((m : ℕ) × (m ≤ count) × (self.new ≡ with_items self.old (take m items.now))) }
+    {
+        let mut left = items.iter();
+        let mut k = 0;
+        while k < count {
+            let Some(item) = left.next() else {
+                return Ok(());
+            };
+            let _outcome = self.add(item)?;
+            k += 1;
+        }
+        Ok(())
+    }
+
     /// The items, in order.
-    pub fn items(&self) -> &[Item]
-        ensures items { result.now ≡ self.now.items }
+    pub fn items(&self) -> &History
+        ensures items { result.now.items ≡ self.now.items }
         ensures fits { Fits self.now }
     {
-        self.items.as_slice()
+        &self.items
     }
 
     /// What callers saw, in order.
@@ -160,6 +194,22 @@ impl<K: Kind> Record<K> {
         let mut values = View::zeros(self.alloc, self.machine.shape().w())?;
         let _next = advance(&mut values, self.changes.as_slice(), 0, t);
         Ok(Some(values))
+    }
+
+    /// The report of the position after all items.
+    pub fn report(&self) -> Result<Report, AllocError>
+        ensures { IfOk result (λ t. t ≡ report_at self.now (length self.now.items)) }
+    {
+        let mut text = Vec::new(self.alloc);
+        let position = self.items.len() as u64;
+        report(
+            &mut text,
+            &self.machine,
+            self.events.as_slice(),
+            position,
+            position,
+        )?;
+        Ok(Report::of(text))
     }
 
     /// How many double collects the scan takes that the event at a place calls, where it calls one.

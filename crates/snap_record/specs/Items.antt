@@ -1,0 +1,40 @@
+-- Items as a record keeps them.
+use Rattle.std.specs.Prelude.{ℕ, ◌<◌, ◌≤◌, Bool, List, [], ◌∷◌, length, map, get_or, ⊤}
+use Rattle.std.specs.List.{AllByRecursion}
+use Rattle.snap_semantics.specs.declared.process.Item.{Item}
+use Rattle.snap_semantics.specs.declared.process.Item.TheVariants as item
+use Rattle.snap_semantics.specs.declared.process.Op.TheVariants.{Scan}
+use Rattle.snap_record.specs.declared.items.Called.{Called}
+use Rattle.snap_record.specs.declared.items.Kept.{Kept}
+use Rattle.snap_record.specs.declared.items.Kept.TheVariants as kept
+
+-- what is seen of a history: its items, and whether there is room for one more
+pub record Shelf : Type 0 where
+  pub items : List Item
+  pub ready : Bool
+
+-- no call is seen behind the last one
+abbrev pub nobody : Called
+nobody = record { process = 0; op = Scan }
+
+-- the item of a call
+abbrev pub call_item : Called → Item
+call_item c = item.Call c.process c.op
+
+-- the item that is kept so, where these are the calls
+abbrev pub kept_item : List Called → Kept → Item
+kept_item calls (kept.Step i) = item.Step i
+kept_item calls (kept.Call k) = call_item (get_or calls k nobody)
+
+abbrev pub kept_items : List Called → List Kept → List Item
+kept_items calls xs = map (kept_item calls) xs
+
+-- a call is one of so many
+abbrev pub IsThere : ℕ → Kept → Type 0
+IsThere n (kept.Step i) = ⊤
+IsThere n (kept.Call k) = k < n
+
+-- each call that an item names is there, and there are no more calls than items
+pub record AreKept (calls : List Called) (xs : List Kept) : Type 0 where
+  pub there : AllByRecursion (IsThere (length calls)) xs
+  pub few : length calls ≤ length xs

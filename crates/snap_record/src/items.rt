@@ -1,0 +1,113 @@
+//! The items of a record, kept in little room.
+ghost use Rattle.std.specs.Prelude.{◌≡◌, ◌<◌, ◌++◌, ◌∷◌, ◌^◌, [], true, length, OnOk};
+ghost use Rattle.snap_semantics.specs.Readers.{nth};
+ghost use Rattle.snap_record.specs.Items.{IsThere, kept_item};
+
+use snap_semantics::{Item, Op};
+use std::alloc::{AllocError, Global};
+use std::marker::Model;
+
+/// A call of an operation.
+#[derive(Clone, Copy, Debug)]
+pub(crate) struct Called {
+    process: u32,
+    op: Op,
+}
+
+/// An item as it is kept: a step of a process, or the call at a place among the calls.
+#[derive(Clone, Copy, Debug)]
+pub(crate) enum Kept {
+    Step(u32),
+    Call(u32),
+}
+
+/// Items in order, seen as their list and as whether there is room for one more. Operations are kept for calls alone.
+#[derive(Debug, Drop)]
+pub struct History {
+    items: Vec<Kept>,
+    calls: Vec<Called>,
+}
+
+impl Model for History {
+    ghost use Rattle.std.specs.Prelude.{◌&&◌, nat_lt, vec_len, vec_capacity};
+    ghost use Rattle.snap_record.specs.Items.{AreKept, Shelf, kept_items};
+
+    ghost Value = { Shelf };
+
+    ghost view = { λ h. record {
+      items = kept_items h.calls.items h.items.items;
+      ready = nat_lt (vec_len h.items) (vec_capacity h.items) && nat_lt (vec_len h.calls) (vec_capacity h.calls);
+    } };
+
+    ghost invariant = { λ h. AreKept h.calls.items h.items.items };
+}
+
+/// The item that is kept so.
+fn kept_item(calls: &[Called], kept: Kept) -> Item
+    requires { IsThere (length calls.now) kept }
+    ensures { result ≡ kept_item calls.now kept }
+{
+    match kept {
+        Kept::Step(i) => Item::Step(i),
+        Kept::Call(k) => {
+            let call = calls[k as usize];
+            Item::Call(call.process, call.op)
+        }
+    }
+}
+
+impl History {
+    /// No items.
+    pub(crate) fn new(alloc: Global) -> History
+        ensures items { result.items ≡ [] }
+    {
+        History {
+            items: Vec::new(alloc),
+            calls: Vec::new(alloc),
+        }
+    }
+
+    /// How many items there are.
+    pub fn len(&self) -> usize
+        ensures { result ≡ length self.now.items }
+    {
+        self.items.len()
+    }
+
+    /// Item `t`, counted from 1, where there are so many.
+    pub fn item(&self, t: u64) -> Option<Item>
+        ensures { result ≡ nth t self.now.items }
+    {
+        if t == 0 {
+            return None;
+        }
+        let kept = self.items.get((t - 1) as usize)?;
+        Some(kept_item(self.calls.as_slice(), *kept))
+    }
+
+    /// Makes room for one more.
+    pub(crate) fn reserve(&mut self) -> Result<(), AllocError>
+        ensures items { self.new.items ≡ self.old.items }
+        ensures ready { OnOk result (self.new.ready ≡ true) }
+    {
+        self.items.reserve(1)?;
+        self.calls.reserve(1)?;
+        Ok(())
+    }
+
+    /// Adds an item, for which there is room.
+    pub(crate) fn push_reserved(&mut self, item: Item)
+        requires room { self.old.ready ≡ true }
+        requires few { length self.old.items < 2 ^ 32 }
+        ensures items { self.new.items ≡ self.old.items ++ item ∷ [] }
+    {
+        match item {
+            Item::Step(i) => self.items.push_reserved(Kept::Step(i)),
+            Item::Call(process, op) => {
+                let place = self.calls.len() as u32;
+                self.calls.push_reserved(Called { process, op });
+                self.items.push_reserved(Kept::Call(place));
+            }
+        }
+    }
+}

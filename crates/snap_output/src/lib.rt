@@ -2,6 +2,7 @@
 #![tactic(auto)]
 
 mod auditing;
+mod batching;
 mod checking;
 mod headline;
 mod images;

@@ -1,12 +1,13 @@
 //! What the program writes for an input.
-ghost use Rattle.std.specs.Prelude.{◌≡◌, ◌≤◌, ◌<◌, Err, Ok, length, map};
+ghost use Rattle.std.specs.Prelude.{◌≡◌, ◌≤◌, ◌<◌, ℕ, List, Err, Ok, length, map};
 ghost use Rattle.snap_semantics.specs.Answers.{Answers, ◌>>=◌};
 ghost use Rattle.snap_semantics.specs.declared.fault.Fault.TheVariants.{Refused};
 ghost use Rattle.snap_semantics.specs.declared.refusal.Refusal.{Refusal as Reason};
-ghost use Rattle.snap_output.specs.Output.{checked_parts, debug_text, of_task, output_of, parted, run_text, verdicts_text};
+ghost use Rattle.snap_output.specs.Output.{batched, checked_parts, checked_schedules, debug_text, of_task, output_of, parted, run_text, texts_for, verdicts_text};
 ghost use Rattle.snap_output.specs.Parts.{parts_of};
 
 use crate::auditing::audit_program;
+use crate::batching::batch_program;
 use crate::checking::check_of;
 use crate::images::{assemble, list};
 use crate::parts::{count_separators, split_parts};
@@ -15,9 +16,24 @@ use crate::subject::{program_for, texts_for};
 use crate::task::{Subject, Task};
 use snap_semantics::{Fault, Refusal};
 use std::alloc::Global;
+use std::thread::Threads;
 
 /// The most bytes that an input may have.
 pub const MAX_INPUT: usize = 16_777_216;
+
+/// The most schedules of a batch.
+const MAX_SCHEDULES: usize = 4096;
+
+/// How many texts of so many parts stand behind the listing.
+fn count_texts(subject: Subject, parts: usize) -> usize
+    requires { 0 < parts }
+    ensures { (ps : List (List ℕ)) → parts ≡ length ps → result ≡ length (texts_for subject ps) }
+{
+    match subject {
+        Subject::FirstPart => parts - 1,
+        Subject::Shipped(_) => parts,
+    }
+}
 
 /// Whether so many texts stand behind the listing.
 fn check_parts(subject: Subject, count: usize, input: &[u8]) -> Result<(), Refusal>
@@ -25,11 +41,21 @@ fn check_parts(subject: Subject, count: usize, input: &[u8]) -> Result<(), Refus
     ensures { result ≡ checked_parts subject count (parts_of input.now) }
 {
     let found = count_separators(input) + 1;
-    let texts = match subject {
-        Subject::FirstPart => found - 1,
-        Subject::Shipped(_) => found,
-    };
-    if texts == count {
+    if count_texts(subject, found) == count {
+        Ok(())
+    } else {
+        Err(Refusal::WrongParts(found as u64))
+    }
+}
+
+/// Whether 1 to 4,096 texts stand behind the listing.
+fn check_schedules(subject: Subject, input: &[u8]) -> Result<(), Refusal>
+    requires { length input.now ≤ 16777216 }
+    ensures { result ≡ checked_schedules subject (parts_of input.now) }
+{
+    let found = count_separators(input) + 1;
+    let texts = count_texts(subject, found);
+    if 0 < texts && texts <= MAX_SCHEDULES {
         Ok(())
     } else {
         Err(Refusal::WrongParts(found as u64))
@@ -92,9 +118,33 @@ fn audit(alloc: Global, subject: Subject, input: &[u8]) -> Result<Vec<u8>, Fault
     audit_program(alloc, &program, texts[0])
 }
 
+/// A listing under many schedules. Another number of parts is found before they are collected.
+#[tactic(auto, unfolding(snap_output::specs::Output::batched))]
+fn batch(
+    rt: &(impl Threads + Sync),
+    alloc: Global,
+    subject: Subject,
+    input: &[u8],
+) -> Result<Vec<u8>, Fault<Refusal>>
+    requires { length input.now ≤ 16777216 }
+    ensures output { Answers (λ out. out.items) result (batched subject (parts_of input.now)) }
+    ensures counted { (r : Reason) → checked_schedules subject (parts_of input.now) ≡ Err r → result ≡ Err (Refused r) }
+{
+    check_schedules(subject, input)?;
+    let parts = split_parts(alloc, input)?;
+    let program = program_for(alloc, subject, parts.as_slice())?;
+    let texts = texts_for(subject, parts.as_slice());
+    batch_program(rt, alloc, &program, texts)
+}
+
 /// The whole output for an input, or why there is none.
 #[tactic(auto, unfolding(snap_output::specs::Output::output_of))]
-pub fn output(alloc: Global, task: &Task, input: &[u8]) -> Result<Vec<u8>, Fault<Refusal>>
+pub fn output(
+    rt: &(impl Threads + Sync),
+    alloc: Global,
+    task: &Task,
+    input: &[u8],
+) -> Result<Vec<u8>, Fault<Refusal>>
     ensures { Answers (λ out. out.items) result (output_of task.now input.now) }
 {
     if input.len() > MAX_INPUT {
@@ -107,5 +157,6 @@ pub fn output(alloc: Global, task: &Task, input: &[u8]) -> Result<Vec<u8>, Fault
         Task::Run(subject) => run(alloc, subject, input),
         Task::Debug(subject) => debug(alloc, subject, input),
         Task::Audit(subject) => audit(alloc, subject, input),
+        Task::Batch(subject) => batch(rt, alloc, subject, input),
     }
 }

@@ -19,7 +19,7 @@ impl Model for Report {
 
 impl Report {
     /// The report that this text is.
-    pub(crate) fn of(text: Vec<u8>) -> Report
+    pub fn of(text: Vec<u8>) -> Report
         ensures { result ≡ text.items }
     {
         Report { text }

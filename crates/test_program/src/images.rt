@@ -16,10 +16,10 @@ const IMAGE: [u8; 25] = [
 ];
 
 /// What a task writes for an input.
-pub fn written(alloc: Global, task: Task, input: &[u8]) -> Result<Vec<u8>, ConductFault> {
+pub fn written(rt: &HostRuntime, task: Task, input: &[u8]) -> Result<Vec<u8>, ConductFault> {
     let mut source = Std::new(input);
-    let mut sink = Std::new(Vec::new(alloc));
-    conduct(alloc, &task, &mut source, &mut sink)?;
+    let mut sink = Std::new(Vec::new(rt.alloc()));
+    conduct(rt, rt.alloc(), &task, &mut source, &mut sink)?;
     Ok(sink.into_inner())
 }
 
@@ -39,7 +39,7 @@ fn says_what_listings_are(rt: HostRuntime) -> Result<(), Fail> {
         (SMALL.as_slice(), b"ok: seq, 2 lines\n"),
     ] {
         assert_eq!(rt;
-            written(rt.alloc(), Task::Check, text)?.as_slice(),
+            written(&rt, Task::Check, text)?.as_slice(),
             line
         );
     }
@@ -48,12 +48,12 @@ fn says_what_listings_are(rt: HostRuntime) -> Result<(), Fail> {
 
 #[test]
 fn assembles_and_lists(rt: HostRuntime) -> Result<(), Fail> {
-    let image = written(rt.alloc(), Task::Assemble, SMALL.as_slice())?;
+    let image = written(&rt, Task::Assemble, SMALL.as_slice())?;
     assert_eq!(rt; image.as_slice(), IMAGE.as_slice());
-    let text = written(rt.alloc(), Task::List, image.as_slice())?;
+    let text = written(&rt, Task::List, image.as_slice())?;
     assert_eq!(rt; text.as_slice(), SMALL.as_slice());
-    let image = written(rt.alloc(), Task::Assemble, LISTING.as_slice())?;
-    let text = written(rt.alloc(), Task::List, image.as_slice())?;
+    let image = written(&rt, Task::Assemble, LISTING.as_slice())?;
+    let text = written(&rt, Task::List, image.as_slice())?;
     assert_eq!(rt; text.as_slice(), LISTING.as_slice());
     Ok(())
 }
@@ -92,7 +92,7 @@ fn refuses_what_is_no_image(rt: HostRuntime) -> Result<(), Fail> {
     ] {
         let fault = ConductFault::Refused(Refusal::Image(refusal));
         assert_eq!(rt;
-            written(rt.alloc(), Task::List, image).err(),
+            written(&rt, Task::List, image).err(),
             Some(fault)
         );
         assert_eq!(rt; fault_line(rt.alloc(), &fault)?.as_slice(), line);
@@ -109,11 +109,11 @@ fn refuses_what_is_no_listing(rt: HostRuntime) {
     ] {
         let fault = ConductFault::Refused(Refusal::Listing(refusal));
         assert_eq!(rt;
-            written(rt.alloc(), Task::Check, text).err(),
+            written(&rt, Task::Check, text).err(),
             Some(fault)
         );
         assert_eq!(rt;
-            written(rt.alloc(), Task::Assemble, text).err(),
+            written(&rt, Task::Assemble, text).err(),
             Some(fault)
         );
     }

@@ -2,7 +2,6 @@
 use crate::runs::{INPUT, LISTING};
 use snap_program::{ConductFault, Std, Task, conduct, fault_line};
 use snap_semantics::{ImageRefusal, ListingRefusal, Refusal};
-use std::alloc::Global;
 use std::test::Fail;
 
 /// A small listing.

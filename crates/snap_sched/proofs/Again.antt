@@ -14,7 +14,7 @@ use Rattle.snap_semantics.specs.Answers.{◌>>=◌}
 use Rattle.snap_semantics.specs.Forms.{or_else}
 use Rattle.snap_semantics.specs.Forms.{form_or, found_or}
 use Rattle.snap_semantics.specs.Schedule.{Schedule, admitted, items_of, schedule_of_lines, schedule_of, form_process, form_count, form_items}
-use Rattle.snap_semantics.specs.ScheduleForms.{Form, Steps, Calls, spelled_shape, spelled_steps, spelled_call, is_count, shape_form, step_form, steps_form, scan_form, update_form, item_form}
+use Rattle.snap_semantics.specs.ScheduleForms.{Form, Steps, Calls, Crashes, spelled_shape, spelled_steps, spelled_call, spelled_form, is_count, shape_form, step_form, steps_form, scan_form, update_form, crash_form, item_form}
 use Rattle.snap_semantics.specs.ScheduleText.{IsSchedule}
 use Rattle.snap_semantics.specs.Table.{who}
 use Rattle.snap_semantics.specs.Token.{Token, Number, Sign, TextLine, text_lines}
@@ -38,11 +38,11 @@ counted_by x true o e = refl
 counted_by x false o e = absurd cc
 
 counted_again : (i count : ℕ) → 0 < count → item_form (Number i ∷ Sign mark.Star ∷ Number count ∷ []) ≡ Some (Steps i count)
-unfolding item_form step_form steps_form scan_form update_form
+unfolding item_form step_form steps_form scan_form update_form crash_form
 counted_again i count some = counted_by (Steps i count) (nat_lt 0 count) None (lt-ltb 0 count some)
 
 one_again : (i : ℕ) → item_form (Number i ∷ []) ≡ Some (Steps i 1)
-unfolding item_form step_form steps_form scan_form update_form
+unfolding item_form step_form steps_form scan_form update_form crash_form
 one_again i = refl
 
 steps_again_by : (i count : ℕ) (v : Bool) → nat_eq count 1 ≡ v → 0 < count → item_form (if v then Number i ∷ [] else Number i ∷ Sign mark.Star ∷ Number count ∷ []) ≡ Some (Steps i count)
@@ -50,9 +50,13 @@ steps_again_by i count true e some = one_again i ∙ ap (λ (k : ℕ). let o : O
 steps_again_by i count false e some = counted_again i count some
 
 call_again : (i : ℕ) (o : Op) → item_form (spelled_call i o) ≡ Some (Calls i o)
-unfolding item_form step_form steps_form scan_form update_form
+unfolding item_form step_form steps_form scan_form update_form crash_form
 call_again i op.Scan = refl
 call_again i (op.Update word value) = refl
+
+crash_again : (i : ℕ) → item_form (spelled_form (Crashes i)) ≡ Some (Crashes i)
+unfolding item_form step_form steps_form scan_form update_form crash_form
+crash_again i = refl
 
 steps_again : (i count : ℕ) (ts : List Token) → 0 < count → (ts ≡ spelled_steps i count) ⊎ (ts ≡ Number i ∷ Sign mark.Star ∷ Number count ∷ []) → item_form ts ≡ Some (Steps i count)
 steps_again i count ts some (inl e) = ap item_form e ∙ steps_again_by i count (nat_eq count 1) refl some
@@ -61,6 +65,7 @@ steps_again i count ts some (inr e) = ap item_form e ∙ counted_again i count s
 pub item_again : (f : Form) (ts : List Token) → IsSpelling f ts → item_form ts ≡ Some f
 item_again (Steps i count) ts h = steps_again i count ts h.0 h.1
 item_again (Calls i o) ts h = ap item_form h ∙ call_again i o
+item_again (Crashes i) ts h = ap item_form h ∙ crash_again i
 
 pub line_again : (e : ScheduleRefusal) (f : Form) (line : Option (List Token)) → IsLineOf f line → form_or e item_form line ≡ Ok f
 line_again e f None h = absurd h
@@ -69,6 +74,7 @@ line_again e f (Some ts) h = ap (found_or e) (item_again f ts h)
 spelled_some : (f : Form) (ts : List Token) → IsSpelling f ts → 0 < form_count f
 spelled_some (Steps i count) ts h = h.0
 spelled_some (Calls i o) ts h = omega arith
+spelled_some (Crashes i) ts h = omega arith
 
 line_some : (f : Form) (line : Option (List Token)) → IsLineOf f line → 0 < form_count f
 line_some f None h = absurd h
@@ -95,6 +101,7 @@ pub first_of : (P : ℕ → Type 0) (f : Form) (xs : List Item) → 0 < form_cou
 first_of P (Steps i zero) xs some h = absurd (omega arith)
 first_of P (Steps i (suc count)) xs some h = h.0
 first_of P (Calls i o) xs some h = h.0
+first_of P (Crashes i) xs some h = h.0
 
 pub items_again : (n left : ℕ) (fs : List Form) (lines : List TextLine) → AreLinesOf fs (line_tokens lines) → AllByRecursion (λ x. IsOneOf n (who x)) (flat_map form_items fs) → length (flat_map form_items fs) ≤ left →
     items_of n left lines ≡ Ok (flat_map form_items fs)

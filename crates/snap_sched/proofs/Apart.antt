@@ -7,7 +7,7 @@ use Rattle.snap_semantics.specs.declared.process.Item.{Item}
 use Rattle.snap_semantics.specs.declared.process.Item.TheVariants as item
 use Rattle.snap_semantics.specs.declared.process.Op.{Op}
 use Rattle.snap_semantics.specs.Schedule.{form_count, form_items}
-use Rattle.snap_semantics.specs.ScheduleForms.{Form, Steps, Calls}
+use Rattle.snap_semantics.specs.ScheduleForms.{Form, Steps, Calls, Crashes}
 use Rattle.snap_semantics.specs.ScheduleText.{step_onto, item_onto, forms_of}
 use Rattle.snap_sched.specs.Runs.{steps_of, last_count}
 
@@ -15,7 +15,9 @@ use Rattle.snap_sched.specs.Runs.{steps_of, last_count}
 abbrev pub joins : Form → Form → Bool
 joins (Steps i a) (Steps k b) = nat_eq i k
 joins (Steps i a) (Calls k op) = false
+joins (Steps i a) (Crashes k) = false
 joins (Calls i op) f = false
+joins (Crashes i) f = false
 
 -- whether a form does not take in the next one
 abbrev pub stands : Form → List Form → Bool
@@ -31,10 +33,15 @@ stands_same : (i a b : ℕ) (fs : List Form) → stands (Steps i a) fs ≡ stand
 stands_same i a b [] = refl
 stands_same i a b (Steps k c ∷ fs) = refl
 stands_same i a b (Calls k op ∷ fs) = refl
+stands_same i a b (Crashes k ∷ fs) = refl
 
 call_stands : (i : ℕ) (op : Op) (fs : List Form) → stands (Calls i op) fs ≡ true
 call_stands i op [] = refl
 call_stands i op (f ∷ fs) = refl
+
+crash_stands : (i : ℕ) (fs : List Form) → stands (Crashes i) fs ≡ true
+crash_stands i [] = refl
+crash_stands i (f ∷ fs) = refl
 
 step_apart_by : (i k a : ℕ) (fs : List Form) (v : Bool) → nat_eq i k ≡ v → AreApart (Steps k a ∷ fs) →
     AreApart (if v then Steps k (suc a) ∷ fs else Steps i 1 ∷ Steps k a ∷ fs)
@@ -45,10 +52,12 @@ step_apart : (i : ℕ) (fs : List Form) → AreApart fs → AreApart (step_onto 
 step_apart i [] h = (omega arith, refl, tt)
 step_apart i (Steps k a ∷ fs) h = step_apart_by i k a fs (nat_eq i k) refl h
 step_apart i (Calls k op ∷ fs) h = (omega arith, refl, h)
+step_apart i (Crashes k ∷ fs) h = (omega arith, refl, h)
 
 item_apart : (x : Item) (fs : List Form) → AreApart fs → AreApart (item_onto x fs)
 item_apart (item.Step i) fs h = step_apart i fs h
 item_apart (item.Call i op) fs h = (omega arith, call_stands i op fs, h)
+item_apart (item.Crash i) fs h = (omega arith, crash_stands i fs, h)
 
 -- the greatest runs are apart
 pub forms_apart : (xs : List Item) → AreApart (forms_of xs)
@@ -64,6 +73,7 @@ one_step : (i b : ℕ) (fs : List Form) → stands (Steps i b) fs ≡ true → s
 one_step i b [] e = refl
 one_step i b (Steps k a ∷ fs) e = one_step_by i k a fs (nat_eq i k) e
 one_step i b (Calls k op ∷ fs) e = refl
+one_step i b (Crashes k ∷ fs) e = refl
 
 next_step_by : (i a : ℕ) (fs : List Form) (v : Bool) → v ≡ true →
     (if v then Steps i (suc a) ∷ fs else Steps i 1 ∷ Steps i a ∷ fs) ≡ Steps i (suc a) ∷ fs
@@ -84,6 +94,7 @@ apart_forms [] h = refl
 apart_forms (Steps i zero ∷ fs) h = absurd (omega (arith, h.0))
 apart_forms (Steps i (suc count) ∷ fs) h = steps_forms count i (suc count) (flat_map form_items fs) fs (apart_forms fs h.2) h.1
 apart_forms (Calls i op ∷ fs) h = ap (λ (gs : List Form). Calls i op ∷ gs) (apart_forms fs h.2)
+apart_forms (Crashes i ∷ fs) h = ap (λ (gs : List Form). Crashes i ∷ gs) (apart_forms fs h.2)
 
 abbrev one_count : Bool → ℕ → Option ℕ
 one_count v a = if v then Some a else None
@@ -95,6 +106,7 @@ not_joined false a e = refl
 not_joins : (f : Form) (p c : ℕ) → steps_of p f ≡ None → not (joins f (Steps p c)) ≡ true
 not_joins (Steps i a) p c e = not_joined (nat_eq i p) a e
 not_joins (Calls i op) p c e = refl
+not_joins (Crashes i) p c e = refl
 
 -- steps may be added behind a form that is not of their process
 pub steps_added : (fs : List Form) (p c : ℕ) → AreApart fs → 0 < c → last_count p fs ≡ None → AreApart (fs ++ Steps p c ∷ [])
@@ -105,12 +117,24 @@ steps_added (f ∷ g ∷ fs) p c h some e = (h.0, h.1, steps_added (g ∷ fs) p 
 joins_no_call : (f : Form) (p : ℕ) (op : Op) → not (joins f (Calls p op)) ≡ true
 joins_no_call (Steps i a) p op = refl
 joins_no_call (Calls i o) p op = refl
+joins_no_call (Crashes i) p op = refl
 
 -- a call may be added
 pub call_added : (fs : List Form) (p : ℕ) (op : Op) → AreApart fs → AreApart (fs ++ Calls p op ∷ [])
 call_added [] p op h = (omega arith, refl, tt)
 call_added (f ∷ []) p op h = (h.0, joins_no_call f p op, (omega arith, refl, tt))
 call_added (f ∷ g ∷ fs) p op h = (h.0, h.1, call_added (g ∷ fs) p op h.2)
+
+joins_no_crash : (f : Form) (p : ℕ) → not (joins f (Crashes p)) ≡ true
+joins_no_crash (Steps i a) p = refl
+joins_no_crash (Calls i o) p = refl
+joins_no_crash (Crashes i) p = refl
+
+-- and a crash
+pub crash_added : (fs : List Form) (p : ℕ) → AreApart fs → AreApart (fs ++ Crashes p ∷ [])
+crash_added [] p h = (omega arith, refl, tt)
+crash_added (f ∷ []) p h = (h.0, joins_no_crash f p, (omega arith, refl, tt))
+crash_added (f ∷ g ∷ fs) p h = (h.0, h.1, crash_added (g ∷ fs) p h.2)
 
 one_found : (v : Bool) (a b : ℕ) → one_count v a ≡ Some b → (v ≡ true) × (a ≡ b)
 one_found true a b e = (refl, cc)
@@ -120,10 +144,12 @@ one_found false a b e = absurd cc
 found_steps : (g : Form) (p a : ℕ) → steps_of p g ≡ Some a → g ≡ Steps p a
 found_steps (Steps i b) p a e = let h = one_found (nat_eq i p) b a e in let same = eqb-true i p h.0 in cc (same, h.1)
 found_steps (Calls i op) p a e = absurd cc
+found_steps (Crashes i) p a e = absurd cc
 
 stands_with : (f g : Form) (p a b : ℕ) → g ≡ Steps p a → not (joins f g) ≡ true → not (joins f (Steps p b)) ≡ true
 stands_with (Steps i c) g p a b is e = ap (λ x. not (joins (Steps i c) x)) (sym is) ∙ e
 stands_with (Calls i op) g p a b is e = refl
+stands_with (Crashes i) g p a b is e = refl
 
 -- the last steps may become more
 pub steps_grown : (fs : List Form) (k p a b : ℕ) → suc k ≡ length fs → AreApart fs → last_count p fs ≡ Some a → 0 < b → AreApart (set fs k (Steps p b))

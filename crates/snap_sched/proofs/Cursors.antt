@@ -15,6 +15,7 @@ apart_more : (rs : List Stretch) → AreApart (map view_run rs) → AllByRecursi
 apart_more [] h = tt
 apart_more (runs.Steps i count ∷ rs) h = (h.0, apart_more rs h.2)
 apart_more (runs.Call i op ∷ rs) h = (refl, apart_more rs h.2)
+apart_more (runs.Crash i ∷ rs) h = (refl, apart_more rs h.2)
 
 first_more : (rs : List Stretch) → AllByRecursion (HasMore 0) rs → IsWithinFirst 0 rs
 first_more [] h = tt

@@ -4,7 +4,7 @@ use Rattle.std.specs.List.{AllByRecursion, flat_map}
 use Rattle.snap_semantics.specs.declared.process.Op.{Op}
 use Rattle.snap_semantics.specs.declared.process.Op.TheVariants as op
 use Rattle.snap_semantics.specs.Schedule.{Schedule, schedule_of, form_items}
-use Rattle.snap_semantics.specs.ScheduleForms.{Form, Steps, Calls, spelled_call}
+use Rattle.snap_semantics.specs.ScheduleForms.{Form, Steps, Calls, Crashes, spelled_call}
 use Rattle.snap_semantics.specs.ScheduleText.{IsSchedule, FitsWords, FitsItem}
 use Rattle.snap_semantics.specs.Token.{Token, TextLine, text_lines}
 use Rattle.snap_text.specs.Lines.{line_tokens}
@@ -21,6 +21,7 @@ call_fits i (op.Update word value) h = (h.1.1.0, h.1.1.1.0)
 form_fits : (f : Form) (ts : List Token) → IsSpelling f ts → AllByRecursion IsSound ts → AllByRecursion FitsItem (form_items f)
 form_fits (Steps i count) ts h g = steps_fit count i
 form_fits (Calls i o) ts h g = (call_fits i o (subst (AllByRecursion IsSound) h g), tt)
+form_fits (Crashes i) ts h g = (tt, tt)
 
 line_fits : (f : Form) (line : Option (List Token)) → IsLineOf f line → AreSound line → AllByRecursion FitsItem (form_items f)
 line_fits f None h g = absurd h

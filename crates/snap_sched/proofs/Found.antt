@@ -7,7 +7,7 @@ use Rattle.snap_semantics.specs.declared.process.Op.TheVariants as op
 use Rattle.snap_semantics.specs.declared.text.Mark.{Mark}
 use Rattle.snap_semantics.specs.declared.text.Mark.TheVariants as mark
 use Rattle.snap_semantics.specs.Forms.{◌>>=◌, or_else, Found, number_at, keyword_at, mark_at, end_at}
-use Rattle.snap_semantics.specs.ScheduleForms.{Form, Steps, Calls, spelled_shape, is_count, shape_form, step_form, steps_form, scan_form, update_form, item_form}
+use Rattle.snap_semantics.specs.ScheduleForms.{Form, Steps, Calls, Crashes, spelled_shape, is_count, shape_form, step_form, steps_form, scan_form, update_form, crash_form, item_form}
 use Rattle.snap_semantics.specs.Token.{Token, Word, Number, Sign, same_mark}
 use Rattle.snap_sched.specs.Spelling.{IsSpelling}
 
@@ -149,22 +149,41 @@ update_found ts f e =
     ∙ ap (λ (t : List Token). Number i.0.0 ∷ Word (codes "update") ∷ Number k.0.0 ∷ Number x.0.0 ∷ t) (end_found x.0.1 z.0 z.1))
     (some_is (Calls i.0.0 (op.Update k.0.0 x.0.0)) f z.2)
 
+crash_found : (ts : List Token) (f : Form) → crash_form ts ≡ Some f → IsSpelling f ts
+unfolding crash_form
+crash_found ts f e =
+    let i = bind_found (number_at ts) _ f e in
+    let a = bind_found (keyword_at (codes "crash") i.0.1) _ f i.2 in
+    let z = bind_found (end_at a.0) _ f a.2 in
+    is_spelling ts (Crashes i.0.0) f
+    (number_found ts i.0 i.1
+    ∙ ap (λ (t : List Token). Number i.0.0 ∷ t) (keyword_found (codes "crash") i.0.1 a.0 a.1)
+    ∙ ap (λ (t : List Token). Number i.0.0 ∷ Word (codes "crash") ∷ t) (end_found a.0 z.0 z.1))
+    (some_is (Crashes i.0.0) f z.2)
+
 first_found : (o p : Option Form) (f : Form) → or_else o p ≡ Some f → (o ≡ Some f) ⊎ (p ≡ Some f)
 first_found None p f e = inr e
 first_found (Some x) p f e = inl e
 
-item_by3 : (ts : List Token) (f : Form) → (scan_form ts ≡ Some f) ⊎ (update_form ts ≡ Some f) → IsSpelling f ts
+item_by4 : (ts : List Token) (f : Form) → (update_form ts ≡ Some f) ⊎ (crash_form ts ≡ Some f) → IsSpelling f ts
+item_by4 ts f (inl e) = update_found ts f e
+item_by4 ts f (inr e) = crash_found ts f e
+
+item_by3 : (ts : List Token) (f : Form) → (scan_form ts ≡ Some f) ⊎ (or_else (update_form ts) (crash_form ts) ≡ Some f) → IsSpelling f ts
 item_by3 ts f (inl e) = scan_found ts f e
-item_by3 ts f (inr e) = update_found ts f e
+item_by3 ts f (inr e) = item_by4 ts f (first_found (update_form ts) (crash_form ts) f e)
 
-item_by2 : (ts : List Token) (f : Form) → (steps_form ts ≡ Some f) ⊎ (or_else (scan_form ts) (update_form ts) ≡ Some f) → IsSpelling f ts
+item_by2 : (ts : List Token) (f : Form) → (steps_form ts ≡ Some f) ⊎ (or_else (scan_form ts) (or_else (update_form ts) (crash_form ts)) ≡ Some f) →
+    IsSpelling f ts
 item_by2 ts f (inl e) = steps_found ts f e
-item_by2 ts f (inr e) = item_by3 ts f (first_found (scan_form ts) (update_form ts) f e)
+item_by2 ts f (inr e) = item_by3 ts f (first_found (scan_form ts) (or_else (update_form ts) (crash_form ts)) f e)
 
-item_by1 : (ts : List Token) (f : Form) → (step_form ts ≡ Some f) ⊎ (or_else (steps_form ts) (or_else (scan_form ts) (update_form ts)) ≡ Some f) → IsSpelling f ts
+item_by1 : (ts : List Token) (f : Form) →
+    (step_form ts ≡ Some f) ⊎ (or_else (steps_form ts) (or_else (scan_form ts) (or_else (update_form ts) (crash_form ts))) ≡ Some f) → IsSpelling f ts
 item_by1 ts f (inl e) = step_found ts f e
-item_by1 ts f (inr e) = item_by2 ts f (first_found (steps_form ts) (or_else (scan_form ts) (update_form ts)) f e)
+item_by1 ts f (inr e) = item_by2 ts f (first_found (steps_form ts) (or_else (scan_form ts) (or_else (update_form ts) (crash_form ts))) f e)
 
 pub item_found : (ts : List Token) (f : Form) → item_form ts ≡ Some f → IsSpelling f ts
 unfolding item_form
-item_found ts f e = item_by1 ts f (first_found (step_form ts) (or_else (steps_form ts) (or_else (scan_form ts) (update_form ts))) f e)
+item_found ts f e =
+    item_by1 ts f (first_found (step_form ts) (or_else (steps_form ts) (or_else (scan_form ts) (or_else (update_form ts) (crash_form ts)))) f e)

@@ -12,7 +12,7 @@ use Rattle.snap_semantics.specs.ScheduleText.{forms_of}
 use Rattle.snap_sched.specs.declared.items.Stretch.{Stretch}
 use Rattle.snap_sched.specs.declared.items.Stretch.TheVariants as runs
 use Rattle.snap_sched.specs.Runs.{view_run, run_items, items_of_runs, steps_of, last_count, AreGreatest}
-use Rattle.snap_sched.proofs.Apart.{AreApart, forms_apart, apart_forms, steps_added, call_added, steps_grown, items_grown, last_within}
+use Rattle.snap_sched.proofs.Apart.{AreApart, forms_apart, apart_forms, steps_added, call_added, crash_added, steps_grown, items_grown, last_within}
 
 -- the items of runs are those of their forms
 pub form_items_of : (rs : List Stretch) → flat_map form_items (map view_run rs) ≡ items_of_runs rs
@@ -30,6 +30,9 @@ run_added old new r is h = apart_greatest new (subst AreApart (sym (ap (map view
 
 pub call_greatest : (old new : List Stretch) (p : ℕ) (op : Op) → new ≡ old ++ runs.Call p op ∷ [] → AreGreatest old → AreGreatest new
 call_greatest old new p op is h = run_added old new (runs.Call p op) is (call_added (map view_run old) p op (greatest_apart old h))
+
+pub crash_greatest : (old new : List Stretch) (p : ℕ) → new ≡ old ++ runs.Crash p ∷ [] → AreGreatest old → AreGreatest new
+crash_greatest old new p is h = run_added old new (runs.Crash p) is (crash_added (map view_run old) p (greatest_apart old h))
 
 pub steps_greatest : (old new : List Stretch) (p c : ℕ) → new ≡ old ++ runs.Steps p c ∷ [] → 0 < c → last_count p (map view_run old) ≡ None → AreGreatest old → AreGreatest new
 steps_greatest old new p c is some none h = run_added old new (runs.Steps p c) is (steps_added (map view_run old) p c (greatest_apart old h) some none)

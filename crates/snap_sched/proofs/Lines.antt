@@ -11,7 +11,7 @@ use Rattle.snap_semantics.specs.declared.refusal.ScheduleRefusal.TheVariants as 
 use Rattle.snap_semantics.specs.Answers.{◌>>=◌}
 use Rattle.snap_semantics.specs.Forms.{form_or}
 use Rattle.snap_semantics.specs.Schedule.{admitted, items_of, form_process, form_count, form_items}
-use Rattle.snap_semantics.specs.ScheduleForms.{Form, Steps, Calls, item_form}
+use Rattle.snap_semantics.specs.ScheduleForms.{Form, Steps, Calls, Crashes, item_form}
 use Rattle.snap_semantics.specs.Table.{who}
 use Rattle.snap_semantics.specs.Token.{TextLine}
 use Rattle.snap_text.specs.declared.lines.TokenLine.{TokenLine}
@@ -39,6 +39,7 @@ first_line n left line lines = bind_assoc (form_or (refusal.BadItem line.number)
 pub length_items : (f : Form) → length (form_items f) ≡ form_count f
 length_items (Steps i count) = length-replicate count (item.Step i)
 length_items (Calls i op) = refl
+length_items (Crashes i) = refl
 
 prefixed_more : (xs ys : List Item) (r : Result (List Item) ScheduleRefusal) → prefixed (xs ++ ys) r ≡ prefixed xs (r >>= λ items. Ok (ys ++ items))
 prefixed_more xs ys (Ok zs) = ap (λ (items : List Item). let r : Result (List Item) ScheduleRefusal = Ok items in r) (append_assoc xs ys zs)
@@ -119,6 +120,7 @@ all_steps P (suc count) i h = (h, all_steps P count i h)
 pub all_form : (P : ℕ → Type 0) (f : Form) → P (form_process f) → AllByRecursion (λ x. P (who x)) (form_items f)
 all_form P (Steps i count) h = all_steps P count i h
 all_form P (Calls i op) h = (h, tt)
+all_form P (Crashes i) h = (h, tt)
 
 -- the items are of processes that are there, and few
 pub kept : (n : ℕ) (line : TextLine) (items more : List Item) (f : Form) → line_form n (1000000 - length items) line ≡ Ok f → more ≡ items ++ form_items f →

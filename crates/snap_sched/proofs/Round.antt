@@ -9,7 +9,7 @@ use Rattle.snap_semantics.specs.declared.process.Item.TheVariants as item
 use Rattle.snap_semantics.specs.declared.process.Op.TheVariants as op
 use Rattle.snap_semantics.specs.declared.text.Mark.TheVariants as mark
 use Rattle.snap_semantics.specs.Schedule.{Schedule, schedule_of, form_count, form_items}
-use Rattle.snap_semantics.specs.ScheduleForms.{Form, Steps, Calls, spelled_shape, spelled_form}
+use Rattle.snap_semantics.specs.ScheduleForms.{Form, Steps, Calls, Crashes, spelled_shape, spelled_form}
 use Rattle.snap_semantics.specs.ScheduleText.{IsSchedule, step_onto, item_onto, forms_of, schedule_text, FitsWords, FitsItem}
 use Rattle.snap_semantics.specs.Table.{who}
 use Rattle.snap_semantics.specs.Token.{Token, Number, Sign, text_lines}
@@ -25,6 +25,7 @@ use Rattle.snap_sched.proofs.Lines.{length_items}
 abbrev pub FitsForm : Form → Type 0
 FitsForm (Steps i count) = (i < 2 ^ 64) × (count < 2 ^ 64)
 FitsForm (Calls i o) = (i < 2 ^ 64) × FitsWords o
+FitsForm (Crashes i) = i < 2 ^ 64
 
 steps_stand : (i count : ℕ) (v : Bool) → i < 2 ^ 64 → count < 2 ^ 64 → IsSoundLine (if v then Number i ∷ [] else Number i ∷ Sign mark.Star ∷ Number count ∷ [])
 steps_stand i count true h g = (refl, (h, tt))
@@ -34,6 +35,7 @@ form_stands : (f : Form) → FitsForm f → IsSoundLine (spelled_form f)
 form_stands (Steps i count) h = steps_stand i count (nat_eq count 1) h.0 h.1
 form_stands (Calls i op.Scan) h = (refl, (h.0, ((omega arith, refl), tt)))
 form_stands (Calls i (op.Update word value)) h = (refl, (h.0, ((omega arith, refl), (h.1.0, (h.1.1, tt)))))
+form_stands (Crashes i) h = (refl, (h, ((omega arith, refl), tt)))
 
 forms_stand : (fs : List Form) → AllByRecursion FitsForm fs → AllByRecursion IsSoundLine (map spelled_form fs)
 forms_stand [] h = tt
@@ -42,6 +44,7 @@ forms_stand (f ∷ fs) h = (form_stands f h.0, forms_stand fs h.1)
 form_spelled : (f : Form) → 0 < form_count f → IsSpelling f (spelled_form f)
 form_spelled (Steps i count) some = (some, inl refl)
 form_spelled (Calls i o) some = refl
+form_spelled (Crashes i) some = refl
 
 forms_spelled : (fs : List Form) → AreApart fs → AreLinesOf fs (found_lines (map spelled_form fs))
 forms_spelled [] h = tt
@@ -56,10 +59,12 @@ step_items : (i : ℕ) (fs : List Form) → flat_map form_items (step_onto i fs)
 step_items i [] = refl
 step_items i (Steps k a ∷ fs) = step_items_by i k a fs (nat_eq i k) refl
 step_items i (Calls k o ∷ fs) = refl
+step_items i (Crashes k ∷ fs) = refl
 
 item_items : (x : Item) (fs : List Form) → flat_map form_items (item_onto x fs) ≡ x ∷ flat_map form_items fs
 item_items (item.Step i) fs = step_items i fs
 item_items (item.Call i o) fs = refl
+item_items (item.Crash i) fs = refl
 
 -- the items of the greatest runs are the items
 pub forms_items : (xs : List Item) → flat_map form_items (forms_of xs) ≡ xs
@@ -78,6 +83,7 @@ form_fits : (f : Form) (xs : List Item) → 0 < form_count f → form_count f �
 form_fits (Steps i zero) xs some few h = absurd (omega arith)
 form_fits (Steps i (suc count)) xs some few h = (h.0.0, omega arith)
 form_fits (Calls i o) xs some few h = h.0
+form_fits (Crashes i) xs some few h = h.0.0
 
 forms_fit : (fs : List Form) → AreApart fs → AllByRecursion Fits (flat_map form_items fs) → length (flat_map form_items fs) ≤ 1000000 → AllByRecursion FitsForm fs
 forms_fit [] apart h few = tt

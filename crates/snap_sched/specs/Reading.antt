@@ -6,7 +6,7 @@ use Rattle.snap_semantics.specs.declared.refusal.ScheduleRefusal.TheVariants as 
 use Rattle.snap_semantics.specs.Answers.{◌>>=◌}
 use Rattle.snap_semantics.specs.Forms.{form_or}
 use Rattle.snap_semantics.specs.Schedule.{admitted}
-use Rattle.snap_semantics.specs.ScheduleForms.{Form, Steps, Calls, is_count, shape_form, item_form}
+use Rattle.snap_semantics.specs.ScheduleForms.{Form, Steps, Calls, Crashes, is_count, shape_form, item_form}
 use Rattle.snap_semantics.specs.Token.{TextLine}
 use Rattle.snap_sched.specs.declared.forms.ItemForm.{ItemForm}
 use Rattle.snap_sched.specs.declared.forms.ItemForm.TheVariants as given
@@ -14,6 +14,7 @@ use Rattle.snap_sched.specs.declared.forms.ItemForm.TheVariants as given
 abbrev pub view_form : ItemForm → Form
 view_form (given.Steps i count) = Steps i count
 view_form (given.Call i op) = Calls i op
+view_form (given.Crash i) = Crashes i
 
 -- the shape of these counts, where both are 1 to 16
 abbrev pub shape_of : ℕ → ℕ → Option Counts

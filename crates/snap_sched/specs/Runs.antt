@@ -3,7 +3,7 @@ use Rattle.std.specs.Prelude.{◌≡◌, ℕ, List, [], ◌∷◌, map, Option, 
 use Rattle.std.specs.List.{flat_map}
 use Rattle.snap_semantics.specs.declared.process.Item.{Item}
 use Rattle.snap_semantics.specs.Schedule.{form_items}
-use Rattle.snap_semantics.specs.ScheduleForms.{Form, Steps, Calls}
+use Rattle.snap_semantics.specs.ScheduleForms.{Form, Steps, Calls, Crashes}
 use Rattle.snap_semantics.specs.ScheduleText.{forms_of}
 use Rattle.snap_sched.specs.declared.items.Stretch.{Stretch}
 use Rattle.snap_sched.specs.declared.items.Stretch.TheVariants as runs
@@ -12,6 +12,7 @@ use Rattle.snap_sched.specs.declared.items.Stretch.TheVariants as runs
 abbrev pub view_run : Stretch → Form
 view_run (runs.Steps i count) = Steps i count
 view_run (runs.Call i op) = Calls i op
+view_run (runs.Crash i) = Crashes i
 
 abbrev pub run_items : Stretch → List Item
 run_items r = form_items (view_run r)
@@ -27,6 +28,7 @@ AreGreatest rs = forms_of (items_of_runs rs) ≡ map view_run rs
 abbrev pub steps_of : ℕ → Form → Option ℕ
 steps_of p (Steps i count) = if nat_eq i p then Some count else None
 steps_of p (Calls i op) = None
+steps_of p (Crashes i) = None
 
 -- how many steps the last form is, where it is steps of this process
 abbrev pub last_count : ℕ → List Form → Option ℕ

@@ -3,13 +3,14 @@ use Rattle.std.specs.Prelude.{◌≡◌, ◌<◌, ◌⊎◌, List, [], ◌∷◌
 use Rattle.std.specs.List.{flat_map}
 use Rattle.snap_semantics.specs.declared.text.Mark.TheVariants as mark
 use Rattle.snap_semantics.specs.Schedule.{Schedule, form_items}
-use Rattle.snap_semantics.specs.ScheduleForms.{Form, Steps, Calls, spelled_shape, spelled_steps, spelled_call}
+use Rattle.snap_semantics.specs.ScheduleForms.{Form, Steps, Calls, Crashes, spelled_shape, spelled_steps, spelled_call, spelled_form}
 use Rattle.snap_semantics.specs.Token.{Token, Number, Sign}
 
 -- A form may be spelled so: steps, of which there is one at least, with their count or, where they are one, without it.
 abbrev pub IsSpelling : Form → List Token → Type 0
 IsSpelling (Steps i count) ts = (0 < count) × ((ts ≡ spelled_steps i count) ⊎ (ts ≡ Number i ∷ Sign mark.Star ∷ Number count ∷ []))
 IsSpelling (Calls i op) ts = ts ≡ spelled_call i op
+IsSpelling (Crashes i) ts = ts ≡ spelled_form (Crashes i)
 
 abbrev pub IsLineOf : Form → Option (List Token) → Type 0
 IsLineOf f None = ⊥

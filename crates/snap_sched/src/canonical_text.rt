@@ -1,6 +1,6 @@
 //! Schedules in their canonical text.
 ghost use Rattle.std.specs.Prelude.{◌≡◌, ◌++◌, map, OnOk, IfOk};
-ghost use Rattle.snap_semantics.specs.ScheduleForms.{spelled_shape, spelled_steps, spelled_call, spelled_form};
+ghost use Rattle.snap_semantics.specs.ScheduleForms.{Crashes, spelled_shape, spelled_steps, spelled_call, spelled_form};
 ghost use Rattle.snap_semantics.specs.Layout.{line_text};
 ghost use Rattle.snap_semantics.specs.ScheduleText.{forms_text, schedule_text};
 ghost use Rattle.snap_sched.specs.Runs.{view_run};
@@ -52,6 +52,13 @@ fn push_update(out: &mut Vec<u8>, process: u64, word: u64, value: u64) -> Result
     )
 }
 
+/// Adds the line of a crash: `I crash`.
+fn push_crash(out: &mut Vec<u8>, process: u64) -> Result<(), AllocError>
+    ensures { OnOk result (out.new.items ≡ out.old.items ++ line_text (spelled_form (Crashes process))) }
+{
+    push_laid_out(out, &[Token::Number(process), Token::Word(b"crash")])
+}
+
 /// Adds the line of a run.
 fn push_run(out: &mut Vec<u8>, run: Stretch) -> Result<(), AllocError>
     ensures { OnOk result (out.new.items ≡ out.old.items ++ line_text (spelled_form (view_run run))) }
@@ -66,6 +73,7 @@ fn push_run(out: &mut Vec<u8>, run: Stretch) -> Result<(), AllocError>
             process,
             op: Op::Update { word, value },
         } => push_update(out, u64::from(process), word, value),
+        Stretch::Crash { process } => push_crash(out, u64::from(process)),
     }
 }
 

@@ -42,6 +42,10 @@ impl<'a> Iterator for Cursor<'a> {
                 self.runs = rest;
                 Some(Item::Call(process, op))
             }
+            Stretch::Crash { process } => {
+                self.runs = rest;
+                Some(Item::Crash(process))
+            }
             Stretch::Steps { process, count } => {
                 self.done += 1;
                 if self.done == count {

@@ -1,6 +1,6 @@
 //! The forms of the lines of a schedule.
 ghost use Rattle.std.specs.Prelude.{◌≡◌};
-ghost use Rattle.snap_semantics.specs.ScheduleForms.{shape_form, step_form, steps_form, scan_form, update_form, item_form};
+ghost use Rattle.snap_semantics.specs.ScheduleForms.{shape_form, step_form, steps_form, scan_form, update_form, crash_form, item_form};
 ghost use Rattle.snap_text.specs.Tokens.{Finds, view_tokens};
 ghost use Rattle.snap_sched.specs.Reading.{view_form, shape_of};
 
@@ -13,6 +13,7 @@ use snap_words::Shape;
 pub enum ItemForm {
     Steps { process: u64, count: u64 },
     Call { process: u64, op: Op },
+    Crash { process: u64 },
 }
 
 /// The shape of these counts, where both are 1 to 16.
@@ -89,6 +90,17 @@ fn update_form(tokens: &[Token<'_>]) -> Option<ItemForm>
     })
 }
 
+/// `I crash`.
+#[tactic(auto, unfolding(snap_semantics::specs::ScheduleForms::crash_form))]
+fn crash_form(tokens: &[Token<'_>]) -> Option<ItemForm>
+    ensures { Finds view_form result (crash_form (view_tokens tokens.now)) }
+{
+    let (process, rest) = number_at(tokens)?;
+    let rest = keyword_at(b"crash", rest)?;
+    end_at(rest)?;
+    Some(ItemForm::Crash { process })
+}
+
 /// The form that a line is.
 #[tactic(auto, unfolding(snap_semantics::specs::ScheduleForms::item_form))]
 pub fn item_form(tokens: &[Token<'_>]) -> Option<ItemForm>
@@ -103,5 +115,8 @@ pub fn item_form(tokens: &[Token<'_>]) -> Option<ItemForm>
     if let Some(form) = scan_form(tokens) {
         return Some(form);
     }
-    update_form(tokens)
+    if let Some(form) = update_form(tokens) {
+        return Some(form);
+    }
+    crash_form(tokens)
 }

@@ -1,7 +1,7 @@
 //! The items of a schedule or of a history, kept as runs.
 ghost use Rattle.std.specs.Prelude.{◌≡◌, ◌+◌, ◌<◌, ◌^◌, ◌↔◌, ℕ, List, [], ◌∷◌, ◌++◌, length, map, replicate, IsTrue, IfOk, OnOk, OnErr};
 ghost use Rattle.std.specs.List.{AllByRecursion, flat_map};
-ghost use Rattle.snap_semantics.specs.declared.process.Item.TheVariants.{Step, Call};
+ghost use Rattle.snap_semantics.specs.declared.process.Item.TheVariants.{Step, Call, Crash};
 ghost use Rattle.snap_semantics.specs.ScheduleText.{forms_of, FitsItem, FitsWords};
 ghost use Rattle.snap_sched.specs.Runs.{run_items, view_run, items_of_runs, steps_of, last_count, AreGreatest};
 
@@ -9,11 +9,12 @@ use snap_semantics::Op;
 use std::alloc::{AllocError, Global};
 use std::marker::Model;
 
-/// Items that stand side by side: steps of one process, or one call.
+/// Items that stand side by side: steps of one process, or one call or crash.
 #[derive(Clone, Copy, Debug, PartialEq, Eq)]
 pub enum Stretch {
     Steps { process: u32, count: u64 },
     Call { process: u32, op: Op },
+    Crash { process: u32 },
 }
 
 /// A list of items, kept as its greatest runs: steps of one process side by side take no more room than one.
@@ -117,7 +118,7 @@ impl Items {
         self.len == 0
     }
 
-    /// The greatest runs of steps, and the calls.
+    /// The greatest runs of steps, the calls and the crashes.
     pub fn runs(&self) -> &[Stretch]
         ensures items { flat_map run_items result.now ≡ self.now }
         ensures greatest { map view_run result.now ≡ forms_of self.now }
@@ -161,6 +162,17 @@ impl Items {
     {
         let op = fitting(op);
         self.runs.push(Stretch::Call { process, op })?;
+        self.len += 1;
+        Ok(())
+    }
+    /// Adds a crash.
+    pub fn push_crash(&mut self, process: u32) -> Result<(), AllocError>
+        requires { length self.old + 1 < 2 ^ 64 }
+        ensures added { OnOk result (self.new ≡ self.old ++ Crash process ∷ []) }
+        ensures fits { AllByRecursion FitsItem self.new }
+        ensures unchanged { OnErr result (self.new ≡ self.old) }
+    {
+        self.runs.push(Stretch::Crash { process })?;
         self.len += 1;
         Ok(())
     }

@@ -27,6 +27,7 @@ fn admitted(n: u64, left: u64, line: u64, form: ItemForm) -> Result<ItemForm, Sc
     let (process, count) = match form {
         ItemForm::Steps { process, count } => (process, count),
         ItemForm::Call { process, .. } => (process, 1),
+        ItemForm::Crash { process } => (process, 1),
     };
     if process == 0 || n < process {
         return Err(ScheduleRefusal::NoSuchProcess(line));
@@ -61,6 +62,7 @@ fn push_form(items: &mut Items, form: ItemForm) -> Result<(), AllocError>
     match form {
         ItemForm::Steps { process, count } => items.push_steps(process as u32, count),
         ItemForm::Call { process, op } => items.push_call(process as u32, op),
+        ItemForm::Crash { process } => items.push_crash(process as u32),
     }
 }
 

@@ -2,3 +2,4 @@ mod CommandSamples
 pub mod CommandsAgain
 pub mod CommandsFound
 pub mod Along
+pub mod Walks

@@ -1,0 +1,8 @@
+use Rattle.std.proofs.Common.{◌≡◌, not, take}
+use Rattle.std.specs.List.{filter}
+use Rattle.snap_debug.specs.Marks.{same_address}
+use Rattle.snap_debug.proofs.marks.watches_without.Given as goal
+
+-- what was kept of those passed
+abbrev pub invariant-loop-c : goal.invariant-loop-c
+invariant-loop-c l = l.kept.items ≡ filter (λ c. not (same_address l.a c)) (take l.c-index l.watches)

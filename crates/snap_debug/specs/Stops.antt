@@ -1,0 +1,44 @@
+-- How stops are searched for: by machines that walk along a run.
+use Rattle.std.specs.Prelude.{◌≡◌, ℕ, Bool, not, ◌&&◌, ◌||◌, List, drop, nat_eq}
+use Rattle.std.specs.List.{list_any}
+use Rattle.snap_words.specs.declared.address.Address.{Address}
+use Rattle.snap_semantics.specs.declared.process.Item.{Item}
+use Rattle.snap_semantics.specs.declared.process.Status.{Status}
+use Rattle.snap_semantics.specs.Schedule.{Schedule}
+use Rattle.snap_semantics.specs.Source.{Source}
+use Rattle.snap_semantics.specs.State.{State, process_at}
+use Rattle.snap_machine.specs.Standing.{Standing}
+use Rattle.snap_runs.specs.Run.{Run, Fits, state}
+use Rattle.snap_runs.specs.Update.{is_at}
+use Rattle.snap_debug.specs.Marks.{Marks, contents_at, same_contents}
+use Rattle.snap_debug.specs.declared.command.Breakpoint.{Breakpoint}
+use Rattle.snap_debug.specs.declared.stops.Walk.{Walk}
+
+-- the run of a listing along a schedule
+abbrev pub run_along : Source → Schedule → Run
+run_along s x = record { source = s; shape = x.shape; items = x.items }
+
+-- whether process i, which stands so, is at the line of a breakpoint for it
+abbrev pub stands_at : ℕ → Status → Breakpoint → Bool
+stands_at i s b = nat_eq i b.process && is_at b.line s
+
+-- whether a register has other contents in another state
+abbrev pub differs : State → State → Address → Bool
+differs S T a = not (same_contents (contents_at S a) (contents_at T a))
+
+-- whether marks stop at an item of process i that leads from one state to another
+abbrev pub stops_between : State → State → ℕ → Marks → Bool
+stops_between S T i m = list_any (stands_at i (process_at T i).status) m.breaks || list_any (differs S T) m.watches
+
+-- a machine has done t items of a run, and these are to come
+pub record HasDone (r : Run) (t : ℕ) (m : Standing) (xs : List Item) : Type 0 where
+  pub fits : Fits r
+  pub source : m.source ≡ r.source
+  pub shape : m.shape ≡ r.shape
+  pub state : m.state ≡ state r t
+  pub to_come : xs ≡ drop t r.items
+
+-- both machines of a walk have done t items of a run
+pub record AreAt {K W : Type 0} (r : Run) (t : ℕ) (w : Walk K W) : Type 0 where
+  pub before : HasDone r t w.before w.to_come
+  pub after : HasDone r t w.after w.to_come

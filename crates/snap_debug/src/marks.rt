@@ -1,0 +1,212 @@
+//! Marks: breakpoints and watched registers.
+ghost use Rattle.std.specs.Prelude.{◌≡◌, IfOk, length, not};
+ghost use Rattle.std.specs.List.{filter, list_any};
+ghost use Rattle.snap_semantics.specs.Answers.{Answers};
+ghost use Rattle.snap_debug.specs.Marks.{
+  mark_count,
+  no_marks,
+  same_address,
+  same_bank,
+  same_breakpoint,
+};
+ghost use Rattle.snap_debug.specs.Session.{
+  has_break,
+  has_watch,
+  with_break,
+  with_watch,
+  without_break,
+  without_watch,
+};
+
+use crate::command::Breakpoint;
+use snap_semantics::{CommandRefusal, Fault};
+use snap_words::{Address, Bank};
+use std::alloc::{AllocError, Global};
+use std::marker::Model;
+
+/// The most marks.
+pub const MAX_MARKS: usize = 64;
+
+/// Breakpoints and watched registers, each in the order in which they were set.
+#[derive(Debug, Drop)]
+pub struct Marks {
+    breaks: Vec<Breakpoint>,
+    watches: Vec<Address>,
+}
+
+impl Model for Marks {
+    ghost use Rattle.snap_debug.specs.Marks.{Marks as Seen};
+
+    ghost Value = { Seen };
+
+    ghost view = { λ m. record { breaks = m.breaks.items; watches = m.watches.items } };
+}
+
+/// Whether these are one breakpoint.
+fn same_breakpoint(a: Breakpoint, b: Breakpoint) -> bool
+    ensures { result ≡ same_breakpoint a b }
+{
+    a.process == b.process && a.line == b.line
+}
+
+/// Whether these are one bank.
+fn same_bank(a: Bank, b: Bank) -> bool
+    ensures { result ≡ same_bank a b }
+{
+    match (a, b) {
+        (Bank::R, Bank::R) | (Bank::Q, Bank::Q) | (Bank::P, Bank::P) | (Bank::V, Bank::V) => true,
+        _ => false,
+    }
+}
+
+/// Whether these are one register.
+fn same_address(a: Address, b: Address) -> bool
+    ensures { result ≡ same_address a b }
+{
+    same_bank(a.bank, b.bank) && a.i == b.i && a.j == b.j
+}
+
+/// The breakpoints but this one.
+fn breaks_without(
+    alloc: Global,
+    breaks: &[Breakpoint],
+    b: Breakpoint,
+) -> Result<Vec<Breakpoint>, AllocError>
+    ensures { IfOk result (λ kept. kept.items ≡ filter (λ c. not (same_breakpoint b c)) breaks.now) }
+{
+    let mut kept = Vec::new(alloc);
+    for c in breaks {
+        if !same_breakpoint(b, *c) {
+            kept.push(*c)?;
+        }
+    }
+    Ok(kept)
+}
+
+/// The registers but this one.
+fn watches_without(
+    alloc: Global,
+    watches: &[Address],
+    a: Address,
+) -> Result<Vec<Address>, AllocError>
+    ensures { IfOk result (λ kept. kept.items ≡ filter (λ c. not (same_address a c)) watches.now) }
+{
+    let mut kept = Vec::new(alloc);
+    for c in watches {
+        if !same_address(a, *c) {
+            kept.push(*c)?;
+        }
+    }
+    Ok(kept)
+}
+
+/// Whether a breakpoint is among these.
+fn has_break(breaks: &[Breakpoint], b: Breakpoint) -> bool
+    ensures { result ≡ list_any (same_breakpoint b) breaks.now }
+{
+    breaks.iter().any(|c| same_breakpoint(b, *c))
+}
+
+/// Whether a register is among these.
+fn has_watch(watches: &[Address], a: Address) -> bool
+    ensures { result ≡ list_any (same_address a) watches.now }
+{
+    watches.iter().any(|c| same_address(a, *c))
+}
+
+impl Marks {
+    /// None.
+    pub fn new(alloc: Global) -> Marks
+        ensures { result ≡ no_marks }
+    {
+        Marks {
+            breaks: Vec::new(alloc),
+            watches: Vec::new(alloc),
+        }
+    }
+
+    /// The breakpoints.
+    pub fn breaks(&self) -> &[Breakpoint]
+        ensures { result.now ≡ self.now.breaks }
+    {
+        self.breaks.as_slice()
+    }
+
+    /// The watched registers.
+    pub fn watches(&self) -> &[Address]
+        ensures { result.now ≡ self.now.watches }
+    {
+        self.watches.as_slice()
+    }
+
+    /// How many there are.
+    pub fn count(&self) -> usize
+        ensures { result ≡ mark_count self.now }
+    {
+        self.breaks.len() + self.watches.len()
+    }
+
+    /// Equal marks.
+    fn copy(&self, alloc: Global) -> Result<Marks, AllocError>
+        ensures { IfOk result (λ m. m ≡ self.now) }
+    {
+        Ok(Marks {
+            breaks: Vec::from_slice(alloc, self.breaks.as_slice())?,
+            watches: Vec::from_slice(alloc, self.watches.as_slice())?,
+        })
+    }
+
+    /// These and a breakpoint, where it is not set yet.
+    pub fn with_break(
+        &self,
+        alloc: Global,
+        b: Breakpoint,
+    ) -> Result<Marks, Fault<CommandRefusal>>
+        ensures { Answers (λ m. m) result (with_break self.now b) }
+    {
+        if has_break(self.breaks(), b) {
+            return Ok(self.copy(alloc)?);
+        }
+        if self.count() >= MAX_MARKS {
+            return Err(Fault::Refused(CommandRefusal::TooManyMarks));
+        }
+        let mut marks = self.copy(alloc)?;
+        marks.breaks.push(b)?;
+        Ok(marks)
+    }
+
+    /// These and a watched register, where it is not set yet.
+    pub fn with_watch(&self, alloc: Global, a: Address) -> Result<Marks, Fault<CommandRefusal>>
+        ensures { Answers (λ m. m) result (with_watch self.now a) }
+    {
+        if has_watch(self.watches(), a) {
+            return Ok(self.copy(alloc)?);
+        }
+        if self.count() >= MAX_MARKS {
+            return Err(Fault::Refused(CommandRefusal::TooManyMarks));
+        }
+        let mut marks = self.copy(alloc)?;
+        marks.watches.push(a)?;
+        Ok(marks)
+    }
+
+    /// These but a breakpoint.
+    pub fn without_break(&self, alloc: Global, b: Breakpoint) -> Result<Marks, AllocError>
+        ensures { IfOk result (λ m. m ≡ without_break self.now b) }
+    {
+        Ok(Marks {
+            breaks: breaks_without(alloc, self.breaks.as_slice(), b)?,
+            watches: Vec::from_slice(alloc, self.watches.as_slice())?,
+        })
+    }
+
+    /// These but a watched register.
+    pub fn without_watch(&self, alloc: Global, a: Address) -> Result<Marks, AllocError>
+        ensures { IfOk result (λ m. m ≡ without_watch self.now a) }
+    {
+        Ok(Marks {
+            breaks: Vec::from_slice(alloc, self.breaks.as_slice())?,
+            watches: watches_without(alloc, self.watches.as_slice(), a)?,
+        })
+    }
+}

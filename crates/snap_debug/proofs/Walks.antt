@@ -16,7 +16,8 @@ use Rattle.snap_machine.specs.Standing.{Standing}
 use Rattle.snap_runs.specs.Run.{Run, Fits, state, item, outcome}
 use Rattle.snap_runs.proofs.Embedding.{all_index, next_state}
 use Rattle.snap_debug.specs.Marks.{Marks, mark_count, reaches, changes, is_stop, next_stop, last_stop}
-use Rattle.snap_debug.specs.Stops.{AreAt, HasDone, run_along, stops_between}
+use Rattle.snap_record.specs.Record.{run_over}
+use Rattle.snap_debug.specs.Stops.{AreAt, HasDone, stops_between}
 use Rattle.snap_debug.specs.declared.command.Breakpoint.{Breakpoint}
 use Rattle.snap_debug.specs.declared.stops.Walk.{Walk}
 
@@ -74,7 +75,7 @@ one_more r t m m' xs ys x o i h lt more is_done source shape process =
 
 -- before the first item
 pub none_done : (s : Source) (x : Schedule) (m : Standing) (n : Counts) (xs ys : List Item) → IsSchedule x → n ≡ x.shape → ys ≡ x.items →
-    m ≡ record { source = s; shape = n; state = initial s n } → xs ≡ ys → HasDone (run_along s x) 0 m xs
+    m ≡ record { source = s; shape = n; state = initial s n } → xs ≡ ys → HasDone (run_over s x) 0 m xs
 none_done s x m n xs ys is shape items begins all = record {
   fits = record { all = is.processes; few = is.few };
   source = ap (λ (y : Standing). y.source) begins;

@@ -4,8 +4,6 @@ use Rattle.std.specs.List.{list_any}
 use Rattle.snap_words.specs.declared.address.Address.{Address}
 use Rattle.snap_semantics.specs.declared.process.Item.{Item}
 use Rattle.snap_semantics.specs.declared.process.Status.{Status}
-use Rattle.snap_semantics.specs.Schedule.{Schedule}
-use Rattle.snap_semantics.specs.Source.{Source}
 use Rattle.snap_semantics.specs.State.{State, process_at}
 use Rattle.snap_machine.specs.Standing.{Standing}
 use Rattle.snap_runs.specs.Run.{Run, Fits, state}
@@ -13,10 +11,6 @@ use Rattle.snap_runs.specs.Update.{is_at}
 use Rattle.snap_debug.specs.Marks.{Marks, contents_at, same_contents}
 use Rattle.snap_debug.specs.declared.command.Breakpoint.{Breakpoint}
 use Rattle.snap_debug.specs.declared.stops.Walk.{Walk}
-
--- the run of a listing along a schedule
-abbrev pub run_along : Source → Schedule → Run
-run_along s x = record { source = s; shape = x.shape; items = x.items }
 
 -- whether process i, which stands so, is at the line of a breakpoint for it
 abbrev pub stands_at : ℕ → Status → Breakpoint → Bool

@@ -16,14 +16,8 @@ ghost use Rattle.snap_debug.specs.Marks.{
   same_word,
 };
 ghost use Rattle.std.specs.Prelude.{bytes_eq};
-ghost use Rattle.snap_debug.specs.Stops.{
-  AreAt,
-  HasDone,
-  differs,
-  run_along,
-  stands_at,
-  stops_between,
-};
+ghost use Rattle.snap_record.specs.Record.{run_over};
+ghost use Rattle.snap_debug.specs.Stops.{AreAt, HasDone, differs, stands_at, stops_between};
 
 use crate::command::Breakpoint;
 use crate::marks::Marks;
@@ -202,7 +196,7 @@ fn machine_at<'a, K: Kind>(
 ) -> Result<(Machine<K>, Cursor<'a>), AllocError>
     requires kind { program.now.kind ≡ K.TAG }
     requires position { position ≤ length schedule.now.items }
-    ensures { IfOk result (λ m. HasDone (run_along program.now schedule.now) position m.0 m.1) }
+    ensures { IfOk result (λ m. HasDone (run_over program.now schedule.now) position m.0 m.1) }
 {
     let mut machine = Machine::new(alloc, program, schedule.shape())?;
     let mut items = schedule.items().iter();
@@ -222,7 +216,7 @@ pub fn outcome_at<K: Kind>(
     requires kind { program.now.kind ≡ K.TAG }
     requires first { 0 < t }
     requires last { t ≤ length schedule.now.items }
-    ensures { let r = run_along program.now schedule.now in
+    ensures { let r = run_over program.now schedule.now in
         IfOk result (λ o. (o.0 ≡ who (item r t)) × (o.1 ≡ outcome r t)) }
 {
     let (mut machine, mut items) = machine_at::<K>(alloc, program, schedule, t - 1)?;
@@ -239,7 +233,7 @@ impl<'a, K: Kind> Walk<'a, K> {
     ) -> Result<Walk<'a, K>, AllocError>
         requires kind { program.now.kind ≡ K.TAG }
         requires position { position ≤ length schedule.now.items }
-        ensures { IfOk result (λ w. AreAt (run_along program.now schedule.now) position w) }
+        ensures { IfOk result (λ w. AreAt (run_over program.now schedule.now) position w) }
     {
         let (before, to_come) = machine_at::<K>(alloc, program, schedule, position)?;
         let after = before.copy()?;
@@ -274,7 +268,7 @@ pub fn next_stop<K: Kind>(
 ) -> Result<u64, AllocError>
     requires kind { program.now.kind ≡ K.TAG }
     requires position { position ≤ length schedule.now.items }
-    ensures { IfOk result (λ t. t ≡ next_stop (run_along program.now schedule.now) marks.now position (length schedule.now.items - position)) }
+    ensures { IfOk result (λ t. t ≡ next_stop (run_over program.now schedule.now) marks.now position (length schedule.now.items - position)) }
 {
     let total = schedule.items().len();
     if marks.count() == 0 {
@@ -306,7 +300,7 @@ pub fn last_stop<K: Kind>(
 ) -> Result<u64, AllocError>
     requires kind { program.now.kind ≡ K.TAG }
     requires position { position ≤ length schedule.now.items }
-    ensures { IfOk result (λ t. t ≡ last_stop (run_along program.now schedule.now) marks.now position) }
+    ensures { IfOk result (λ t. t ≡ last_stop (run_over program.now schedule.now) marks.now position) }
 {
     if position == 0 {
         return Ok(0);

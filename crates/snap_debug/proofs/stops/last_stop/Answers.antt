@@ -1,6 +1,7 @@
 use Rattle.std.proofs.Common.{◌≡◌, ℕ, ◌+◌, ◌-◌, ◌<◌, ◌≤◌, length, sym, ◌∙◌, ap, arith}
 use Rattle.snap_debug.specs.Marks.{is_stop, last_stop}
-use Rattle.snap_debug.specs.Stops.{AreAt, run_along}
+use Rattle.snap_record.specs.Record.{run_over}
+use Rattle.snap_debug.specs.Stops.{AreAt}
 use Rattle.snap_debug.proofs.Walks.{last_first, last_more, no_last, walk_at}
 use Rattle.snap_debug.proofs.stops.last_stop.Goals as goal
 
@@ -8,11 +9,11 @@ pub returns-then-count-eq0 : goal.returns-then-count-eq0
 returns-then-count-eq0 g c =
     let count = c.count.ensures in
     let none = c.if-count-eq0.true in
-    sym (no_last (run_along c.args.program.now c.args.schedule.now) c.args.marks.now c.args.position (sym count ∙ none))
+    sym (no_last (run_over c.args.program.now c.args.schedule.now) c.args.marks.now c.args.position (sym count ∙ none))
 
 pub loop-t-preserved : goal.loop-t-preserved
 loop-t-preserved g c =
-    let r = run_along c.args.program.now c.args.schedule.now in
+    let r = run_over c.args.program.now c.args.schedule.now in
     let m = c.args.marks.now in
     let t = c.loop-t.t in
     let start : 1 ≤ t = c.loop-t.auto.t in
@@ -35,4 +36,4 @@ returns g c =
     let end = c.loop-t.auto.t-end in
     let some = c.if-position-eq0.false in
     let e : t ≡ c.args.position = omega (arith, past, start, end, some) in
-    c.loop-t.invariant.found ∙ ap (last_stop (run_along c.args.program.now c.args.schedule.now) c.args.marks.now) e
+    c.loop-t.invariant.found ∙ ap (last_stop (run_over c.args.program.now c.args.schedule.now) c.args.marks.now) e

@@ -1,11 +1,11 @@
 use Rattle.std.proofs.Common.{◌≡◌, ℕ, ◌+◌, ◌-◌, ◌<◌, ◌≤◌, length, sym, ◌∙◌, ap, arith}
-use Rattle.snap_debug.specs.Stops.{run_along}
+use Rattle.snap_record.specs.Record.{run_over}
 use Rattle.snap_debug.proofs.Walks.{next_end, next_here, next_later, no_next}
 use Rattle.snap_debug.proofs.stops.next_stop.Goals as goal
 
 pub returns-then-count-eq0 : goal.returns-then-count-eq0
 returns-then-count-eq0 g c =
-    let r = run_along c.args.program.now c.args.schedule.now in
+    let r = run_over c.args.program.now c.args.schedule.now in
     let size = c.len-total.ensures ∙ ap length c.items.ensures.items in
     let within = c.requires.position in
     let all : c.len-total.result ≡ c.args.position + (length r.items - c.args.position) = omega (arith, size, within) in
@@ -13,7 +13,7 @@ returns-then-count-eq0 g c =
 
 pub loop-t-preserved : goal.loop-t-preserved
 loop-t-preserved g c =
-    let r = run_along c.args.program.now c.args.schedule.now in
+    let r = run_over c.args.program.now c.args.schedule.now in
     let t = c.loop-t.t in
     let size = c.len-total.ensures ∙ ap length c.items.ensures.items in
     let below = c.loop-t-test.true in
@@ -26,7 +26,7 @@ loop-t-preserved g c =
 
 pub returns-then-branch : goal.returns-then-branch
 returns-then-branch g c =
-    let r = run_along c.args.program.now c.args.schedule.now in
+    let r = run_over c.args.program.now c.args.schedule.now in
     let t = c.loop-t.t in
     let size = c.len-total.ensures ∙ ap length c.items.ensures.items in
     let below = c.loop-t-test.true in
@@ -36,7 +36,7 @@ returns-then-branch g c =
 
 pub returns : goal.returns
 returns g c =
-    let r = run_along c.args.program.now c.args.schedule.now in
+    let r = run_over c.args.program.now c.args.schedule.now in
     let t = c.loop-t.t in
     let size = c.len-total.ensures ∙ ap length c.items.ensures.items in
     let past = c.loop-t-test.false in

@@ -2,12 +2,12 @@ use Rattle.std.proofs.Common.{◌≡◌, ℕ, ◌<◌, ◌+◌, ◌-◌, ◌∙�
 use Rattle.std.proofs.lemmas.Result.{IfOk-weaker}
 use Rattle.snap_semantics.specs.Table.{who}
 use Rattle.snap_runs.specs.Run.{item, outcome}
-use Rattle.snap_debug.specs.Stops.{run_along}
+use Rattle.snap_record.specs.Record.{run_over}
 use Rattle.snap_debug.proofs.stops.outcome_at.Goals as goal
 
 pub returns : goal.returns
 returns g c =
-    let r = run_along c.args.program.now c.args.schedule.now in
+    let r = run_over c.args.program.now c.args.schedule.now in
     let t = c.args.t in
     let first = c.requires.first in
     let last = c.requires.last in

@@ -1,10 +1,11 @@
 # Completion of snaplab for fish: put this file into ~/.config/fish/completions.
-set -l commands check assemble list run audit help
+set -l commands check assemble list run debug audit help
 complete -c snaplab -f
 complete -c snaplab -s h -l help -d 'print help'
 complete -c snaplab -n "not __fish_seen_subcommand_from $commands" -a check -d 'say whether a text is a listing'
 complete -c snaplab -n "not __fish_seen_subcommand_from $commands" -a assemble -d 'write the image of a listing'
 complete -c snaplab -n "not __fish_seen_subcommand_from $commands" -a list -d 'write the text of an image'
 complete -c snaplab -n "not __fish_seen_subcommand_from $commands" -a run -d 'run a listing under a schedule'
+complete -c snaplab -n "not __fish_seen_subcommand_from $commands" -a debug -d 'run a listing under a schedule, by debugger commands'
 complete -c snaplab -n "not __fish_seen_subcommand_from $commands" -a audit -d 'say of each finished scan when it took place'
 complete -c snaplab -n "not __fish_seen_subcommand_from $commands" -a help -d 'print help'

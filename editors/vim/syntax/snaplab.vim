@@ -1,4 +1,4 @@
-" Vim syntax file for snaplab: listings, a line %, schedules.
+" Vim syntax file for snaplab: listings, schedules and debugger commands, with lines % between them.
 if exists('b:current_syntax')
   finish
 endif
@@ -25,6 +25,9 @@ syntax match snaplabBank /\<[rqpv]\ze\s*\[/
 syntax match snaplabHeader /^\s*\zsshape\ze\s\+\d/
 syntax match snaplabCall /\(^\s*\d\+\s\+\)\@<=\(scan\|update\)\>/
 
+" Debugger commands.
+syntax match snaplabCommand /^\s*\zs\(step\|back\|goto\|run\|rrun\|break\|clear\|watch\|unwatch\|show\|values\|events\|where\)\>/
+
 syntax match snaplabComment /#.*$/ contains=@Spell
 
 highlight default link snaplabNumber Number
@@ -40,6 +43,7 @@ highlight default link snaplabGiven Identifier
 highlight default link snaplabField Function
 highlight default link snaplabBank Identifier
 highlight default link snaplabCall Statement
+highlight default link snaplabCommand Statement
 highlight default link snaplabComment Comment
 
 let b:current_syntax = 'snaplab'

@@ -7,8 +7,14 @@ _snaplab() {
         mapfile -t COMPREPLY < <(compgen -W "$commands -h --help" -- "$word")
     elif [ "${COMP_WORDS[1]}" = help ]; then
         [ "$COMP_CWORD" -ne 2 ] || mapfile -t COMPREPLY < <(compgen -W "$commands" -- "$word")
+    elif [ "${COMP_WORDS[COMP_CWORD - 1]}" = --shipped ]; then
+        mapfile -t COMPREPLY < <(compgen -W "seq bit multi" -- "$word")
     else
-        mapfile -t COMPREPLY < <(compgen -W "-h --help" -- "$word")
+        local options="-h --help"
+        case ${COMP_WORDS[1]} in
+            run | debug | audit) options="--shipped $options" ;;
+        esac
+        mapfile -t COMPREPLY < <(compgen -W "$options" -- "$word")
     fi
 }
 complete -F _snaplab snaplab

@@ -9,3 +9,4 @@ complete -c snaplab -n "not __fish_seen_subcommand_from $commands" -a run -d 'ru
 complete -c snaplab -n "not __fish_seen_subcommand_from $commands" -a debug -d 'run a listing under a schedule, by debugger commands'
 complete -c snaplab -n "not __fish_seen_subcommand_from $commands" -a audit -d 'say of each finished scan when it took place'
 complete -c snaplab -n "not __fish_seen_subcommand_from $commands" -a help -d 'print help'
+complete -c snaplab -n '__fish_seen_subcommand_from run debug audit' -l shipped -x -a 'seq bit multi' -d 'take the shipped listing of this kind'

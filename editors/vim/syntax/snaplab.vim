@@ -23,7 +23,7 @@ syntax match snaplabBank /\<[rqpv]\ze\s*\[/
 
 " Schedules: the shape, the process of an item, calls.
 syntax match snaplabHeader /^\s*\zsshape\ze\s\+\d/
-syntax match snaplabCall /\(^\s*\d\+\s\+\)\@<=\(scan\|update\)\>/
+syntax match snaplabCall /\(^\s*\d\+\s\+\)\@<=\(scan\|update\|crash\)\>/
 
 " Debugger commands.
 syntax match snaplabCommand /^\s*\zs\(step\|back\|goto\|run\|rrun\|break\|clear\|watch\|unwatch\|show\|values\|events\|where\)\>/

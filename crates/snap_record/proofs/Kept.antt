@@ -19,12 +19,14 @@ same_items calls c (kept.Step i ∷ xs) h = ap (λ l. item.Step i ∷ l) (same_i
 same_items calls c (kept.Call k ∷ xs) h =
     ap (λ x. call_item x ∷ kept_items (calls ++ c ∷ []) xs) (get_or-append calls (c ∷ []) nobody k h.0)
     ∙ ap (λ l. call_item (get_or calls k nobody) ∷ l) (same_items calls c xs h.1)
+same_items calls c (kept.Crash i ∷ xs) h = ap (λ l. item.Crash i ∷ l) (same_items calls c xs h.1)
 
 -- what is there stays there
 still_there : (n m : ℕ) (xs : List Kept) → n ≤ m → AllByRecursion (IsThere n) xs → AllByRecursion (IsThere m) xs
 still_there n m [] le h = tt
 still_there n m (kept.Step i ∷ xs) le h = (tt, still_there n m xs le h.1)
 still_there n m (kept.Call k ∷ xs) le h = (let lt : k < n = h.0 in let e : k < m = omega (arith, lt, le) in e, still_there n m xs le h.1)
+still_there n m (kept.Crash i ∷ xs) le h = (tt, still_there n m xs le h.1)
 
 -- a step more
 pub step_kept : (calls : List Called) (old new : List Kept) (i : ℕ) → new ≡ old ++ kept.Step i ∷ [] → AreKept calls old →

@@ -25,6 +25,7 @@ call_item c = item.Call c.process c.op
 abbrev pub kept_item : List Called → Kept → Item
 kept_item calls (kept.Step i) = item.Step i
 kept_item calls (kept.Call k) = call_item (get_or calls k nobody)
+kept_item calls (kept.Crash i) = item.Crash i
 
 abbrev pub kept_items : List Called → List Kept → List Item
 kept_items calls xs = map (kept_item calls) xs
@@ -33,6 +34,7 @@ kept_items calls xs = map (kept_item calls) xs
 abbrev pub IsThere : ℕ → Kept → Type 0
 IsThere n (kept.Step i) = ⊤
 IsThere n (kept.Call k) = k < n
+IsThere n (kept.Crash i) = ⊤
 
 -- each call that an item names is there, and there are no more calls than items
 pub record AreKept (calls : List Called) (xs : List Kept) : Type 0 where

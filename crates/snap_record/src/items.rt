@@ -14,11 +14,12 @@ pub(crate) struct Called {
     op: Op,
 }
 
-/// An item as it is kept: a step of a process, or the call at a place among the calls.
+/// An item as it is kept: a step of a process, the call at a place among the calls, or a crash of a process.
 #[derive(Clone, Copy, Debug)]
 pub(crate) enum Kept {
     Step(u32),
     Call(u32),
+    Crash(u32),
 }
 
 /// Items in order, seen as their list and as whether there is room for one more. Operations are kept for calls alone.
@@ -53,6 +54,7 @@ fn kept_item(calls: &[Called], kept: Kept) -> Item
             let call = calls[k as usize];
             Item::Call(call.process, call.op)
         }
+        Kept::Crash(i) => Item::Crash(i),
     }
 }
 
@@ -108,6 +110,7 @@ impl History {
                 self.calls.push_reserved(Called { process, op });
                 self.items.push_reserved(Kept::Call(place));
             }
+            Item::Crash(i) => self.items.push_reserved(Kept::Crash(i)),
         }
     }
 }

@@ -6,6 +6,7 @@ mod deed;
 mod fault;
 mod history;
 mod items;
+mod over;
 mod printed;
 mod record;
 mod search;
@@ -14,6 +15,7 @@ mod walk;
 pub use fault::RecordFault;
 pub use history::Change;
 pub use items::History;
+pub use over::record_over;
 pub use printed::Report;
 pub use record::{MAX_ITEMS, Record};
 pub use snap_report::{

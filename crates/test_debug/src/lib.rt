@@ -1,0 +1,5 @@
+//! What is read and written of debugger commands.
+#![tactic(auto)]
+
+#[cfg(test)]
+mod commands;

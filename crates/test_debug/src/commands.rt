@@ -13,7 +13,7 @@ const MAX_BYTES: usize = 1_048_576;
 
 /// So many seconds of a processor are much for a reader that goes through a text once, and few for one that begins again at
 /// each line.
-const SECONDS: u64 = 5;
+const SECONDS: u64 = 3;
 
 /// A line of 104 bytes.
 const LONG_LINE: &[u8] =

@@ -3,3 +3,4 @@ pub mod CommandsAgain
 pub mod CommandsFound
 pub mod Along
 pub mod Walks
+pub mod Bounds

@@ -1,5 +1,5 @@
 //! A debugger's session over a listing and a schedule.
-ghost use Rattle.std.specs.Prelude.{◌≡◌, ◌≤◌, ◌<◌, ◌+◌, ◌-◌, IfOk, Ok, OnErr, length, min};
+ghost use Rattle.std.specs.Prelude.{◌≡◌, ◌≤◌, ◌-◌, IfOk, None, OnErr, Some, if◌then◌else◌, length};
 ghost use Rattle.snap_semantics.specs.Answers.{Answers};
 ghost use Rattle.snap_record.specs.Record.{report_at, run_over};
 ghost use Rattle.snap_debug.specs.Marks.{contents_at, last_stop, next_stop};
@@ -152,17 +152,39 @@ impl<K: Kind> Session<K> {
         Ok(self.move_to(position)?)
     }
 
-    /// On to the next stop.
-    fn run(&mut self) -> Result<Reply, Fault<CommandRefusal>>
-        ensures { Obeys (λ r. r) result self.old command.Run self.new }
+    /// The first stop after the position, and the end where there is none.
+    fn next_stop(&self) -> Result<u64, AllocError>
+        ensures stop { let s = self.now in IfOk result (λ t. t ≡ next_stop s.run s.marks s.position (length s.run.items - s.position)) }
+        ensures within { IfOk result (λ t. t ≤ length self.now.run.items) }
     {
-        let stop = next_stop::<K>(
+        next_stop::<K>(
             self.alloc,
             self.program(),
             &self.schedule,
             &self.marks,
             self.position(),
-        )?;
+        )
+    }
+
+    /// The last stop before the position, and 0 where there is none.
+    fn last_stop(&self) -> Result<u64, AllocError>
+        ensures stop { let s = self.now in IfOk result (λ t. t ≡ last_stop s.run s.marks s.position) }
+        ensures within { IfOk result (λ t. t ≤ length self.now.run.items) }
+    {
+        last_stop::<K>(
+            self.alloc,
+            self.program(),
+            &self.schedule,
+            &self.marks,
+            self.position(),
+        )
+    }
+
+    /// On to the next stop.
+    fn run(&mut self) -> Result<Reply, Fault<CommandRefusal>>
+        ensures { Obeys (λ r. r) result self.old command.Run self.new }
+    {
+        let stop = self.next_stop()?;
         Ok(self.move_to(stop)?)
     }
 
@@ -170,28 +192,26 @@ impl<K: Kind> Session<K> {
     fn reverse_run(&mut self) -> Result<Reply, Fault<CommandRefusal>>
         ensures { Obeys (λ r. r) result self.old command.ReverseRun self.new }
     {
-        let stop = last_stop::<K>(
-            self.alloc,
-            self.program(),
-            &self.schedule,
-            &self.marks,
-            self.position(),
-        )?;
+        let stop = self.last_stop()?;
         Ok(self.move_to(stop)?)
     }
 
-    /// Whether there is this process.
-    fn has_process(&self, i: u64) -> bool
-        ensures { result ≡ has_process self.now i }
+    /// The process of this number, where there is one.
+    fn process(&self, i: u64) -> Option<u32>
+        ensures { result ≡ (if has_process self.now i then Some i else None) }
     {
-        0 < i && i <= self.schedule.shape().n()
+        if 0 < i && i <= self.schedule.shape().n() {
+            Some(i as u32)
+        } else {
+            None
+        }
     }
 
     /// Whether there is this process, and this line.
     fn check_breakpoint(&self, b: Breakpoint) -> Result<(), CommandRefusal>
         ensures { result ≡ checked_breakpoint self.now b }
     {
-        if !self.has_process(b.process) {
+        if self.process(b.process).is_none() {
             return Err(CommandRefusal::NoSuchProcess);
         }
         if !self.program().has_line(b.line) {
@@ -266,10 +286,10 @@ impl<K: Kind> Session<K> {
     fn show_process(&self, i: u64) -> Result<Reply, Fault<CommandRefusal>>
         ensures { Obeys (λ r. r) result self.now (command.ShowProcess i) self.now }
     {
-        if !self.has_process(i) {
+        let Some(i) = self.process(i) else {
             return Err(Fault::Refused(CommandRefusal::NoSuchProcess));
-        }
-        Ok(process_reply(self.alloc, self.machine(), i as u32)?)
+        };
+        Ok(process_reply(self.alloc, self.machine(), i)?)
     }
 
     /// Shows the values.

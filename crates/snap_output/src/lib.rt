@@ -4,16 +4,16 @@
 mod auditing;
 mod batching;
 mod checking;
-mod headline;
+mod headlines;
 mod images;
-mod output;
+mod outputs;
 mod parts;
 mod performing;
 mod subject;
 mod task;
 
-pub use headline::headline;
-pub use output::{MAX_INPUT, output};
+pub use headlines::headline;
+pub use outputs::{MAX_INPUT, output};
 pub use parts::split_parts;
 pub use performing::perform;
 pub use subject::shipped;

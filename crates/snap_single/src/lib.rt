@@ -1,10 +1,10 @@
 //! Listing U, from its text; and what every run of it keeps, as `snap_runs_of_u` has it.
 #![tactic(auto)]
 
-mod run;
+mod runs;
 mod text;
 
-pub use run::run;
+pub use runs::run;
 pub use snap_runs_of_u::{
     borrowed_views_are_lent, changes_only_at_32, few_collects, few_steps, have_points,
     linearizable, moves_are_writes, never_traps, own_updates_are_seen, passed_tests_are_clean,

@@ -1,5 +1,5 @@
 use Rattle.snap_output.proofs.Headlines.{prints_the_run, lists_back, shipped_runs}
-use Rattle.snap_output.proofs.headline.headline.Goals as goal
+use Rattle.snap_output.proofs.headlines.headline.Goals as goal
 
 pub returns : goal.returns
 returns c = record {

@@ -1,7 +1,12 @@
+use Rattle.std.proofs.Common.{◌≤◌, length, subst, sym}
+use Rattle.std.specs.Prelude.{IfOk}
 use Rattle.snap_record.specs.Record.{run_over}
+use Rattle.snap_debug.specs.Session.{Session}
 use Rattle.snap_debug.proofs.Bounds.{next_found}
 use Rattle.snap_debug.proofs.session.Session.next_stop.Goals as goal
 
 pub returns-clause-within : goal.returns-clause-within
 returns-clause-within g c =
-    next_found (run_over c.program.result.now c.self.inside.schedule) c.self.inside.marks c.position.result c.next_stop.result c.position.ensures.within c.next_stop.ensures
+    let within = subst (λ (s : Session). c.position.result ≤ length s.run.items) (sym c.self.view_is) c.position.ensures.within in
+    subst (λ (s : Session). IfOk c.next_stop.result (λ t. t ≤ length s.run.items)) c.self.view_is
+    (next_found (run_over c.program.result.now c.self.inside.schedule) c.self.inside.marks c.position.result c.next_stop.result within c.next_stop.ensures)

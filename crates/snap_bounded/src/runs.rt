@@ -16,6 +16,17 @@ use snap_sched::Schedule;
 use snap_words::Bits;
 use std::alloc::{AllocError, Global};
 
+/// What is promised of the run over a schedule.
+fn keeps_promises(schedule: &Schedule)
+    requires { fits Tag schedule.now.shape ≡ true }
+    ensures fits { Fits (run_over listing_b schedule.now) }
+    ensures snapshot { IsSnapshotRun (bounds schedule.now.shape) (run_over listing_b schedule.now) }
+{
+    runs_are_snapshots();
+    // A schedule's rules come with its shape.
+    let _shape = schedule.shape();
+}
+
 /// The record of B over a schedule, whatever its interleaving: a run of a snapshot.
 pub fn run(alloc: Global, schedule: &Schedule) -> Result<Record<Bits>, AllocError>
     requires { fits Tag schedule.now.shape ≡ true }
@@ -23,7 +34,7 @@ pub fn run(alloc: Global, schedule: &Schedule) -> Result<Record<Bits>, AllocErro
     ensures fits { Fits (run_over listing_b schedule.now) }
     ensures snapshot { IsSnapshotRun (bounds schedule.now.shape) (run_over listing_b schedule.now) }
 {
-    runs_are_snapshots();
+    keeps_promises(schedule);
     let program = Program::of(alloc, listing(alloc)?)?;
     record_over(alloc, &program, schedule)
 }

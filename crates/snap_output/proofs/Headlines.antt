@@ -17,11 +17,12 @@ use Rattle.snap_semantics.specs.declared.refusal.Refusal.{Refusal}
 use Rattle.snap_semantics.specs.declared.refusal.Refusal.TheVariants as refusal
 use Rattle.snap_asm.specs.Laws.{ListsBack}
 use Rattle.snap_sched.specs.Laws.{ReadsOnlySpelled}
-use Rattle.snap_runs.specs.Run.{Run, Fits}
+use Rattle.snap_runs.specs.Run.{Run}
 use Rattle.snap_runs_of_u.specs.Promises as u
 use Rattle.snap_runs_of_b.specs.Promises as b
 use Rattle.snap_runs_of_m.specs.Promises as m
 use Rattle.snap_record.specs.Record.{run_over}
+use Rattle.snap_record.proofs.Over.{run_fits}
 use Rattle.snap_audit.specs.VerdictText.{audit_text}
 use Rattle.snap_debug.specs.CommandForms as forms
 use Rattle.snap_debug.specs.Commands.{commands_of}
@@ -76,10 +77,6 @@ schedule_from l y s e =
     let fit = fits_from (fits l.kind read.0.shape) read.0 s read.2 in
     (subst (λ (x : Schedule). schedule_of y ≡ Ok x) fit.1 (not_refused refusal.Schedule (schedule_of y) read.0 read.1),
         subst (λ (x : Schedule). fits l.kind x.shape ≡ true) fit.1 fit.0)
-
--- a schedule's run is within what is said of runs
-run_fits : (l : Source) (s : Schedule) → IsSchedule s → Fits (run_over l s)
-run_fits l s h = record { all = h.processes; few = h.few }
 
 -- the one command
 is_run : commands_of (codes "run\n") ≡ Ok (command.Run ∷ [])

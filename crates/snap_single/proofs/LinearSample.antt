@@ -5,7 +5,7 @@ use Rattle.std.proofs.lemmas.Bool.{cases_eq, cases_lt}
 use Rattle.std.proofs.lemmas.List.Elements.{All-from_recursion}
 use Rattle.std.proofs.Common.{sym, ◌∙◌, ap, subst, arith, inl, inr}
 use Rattle.snap_semantics.specs.declared.process.Item.{Item}
-use Rattle.snap_semantics.specs.declared.process.Item.TheVariants.{Step, Call}
+use Rattle.snap_semantics.specs.declared.process.Item.TheVariants.{Step, Call, Crash}
 use Rattle.snap_semantics.specs.declared.process.Op.TheVariants.{Scan as ScanOp, Update}
 use Rattle.snap_semantics.specs.declared.process.Outcome.{Outcome}
 use Rattle.snap_semantics.specs.declared.process.Outcome.TheVariants.{Answered, Finished}
@@ -51,6 +51,7 @@ answers _ = false
 abbrev is_call : Item → Bool
 is_call (Call i op) = true
 is_call (Step i) = false
+is_call (Crash i) = false
 
 -- each took place so: its call, its end, and no end between
 scan_took_place : Finished_scan run 1 None 1 64 (0 ∷ 5 ∷ [])

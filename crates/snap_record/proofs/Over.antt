@@ -1,0 +1,9 @@
+-- A schedule's run is within what is said of runs.
+use Rattle.snap_semantics.specs.Schedule.{Schedule}
+use Rattle.snap_semantics.specs.ScheduleText.{IsSchedule}
+use Rattle.snap_semantics.specs.Source.{Source}
+use Rattle.snap_runs.specs.Run.{Fits}
+use Rattle.snap_record.specs.Record.{run_over}
+
+pub run_fits : (l : Source) (s : Schedule) → IsSchedule s → Fits (run_over l s)
+run_fits l s h = record { all = h.processes; few = h.few }

@@ -22,7 +22,7 @@ use Rattle.snap_runs_of_u.specs.Promises as u
 use Rattle.snap_runs_of_b.specs.Promises as b
 use Rattle.snap_runs_of_m.specs.Promises as m
 use Rattle.snap_record.specs.Record.{run_over}
-use Rattle.snap_record.proofs.Over.{run_fits}
+use Rattle.snap_record.proofs.Within.{run_fits}
 use Rattle.snap_audit.specs.VerdictText.{audit_text}
 use Rattle.snap_debug.specs.CommandForms as forms
 use Rattle.snap_debug.specs.Commands.{commands_of}

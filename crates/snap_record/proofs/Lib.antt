@@ -9,4 +9,4 @@ pub mod Events
 pub mod Searches
 pub mod Kept
 pub mod Doing
-pub mod Over
+pub mod Within

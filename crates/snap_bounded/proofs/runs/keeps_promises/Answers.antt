@@ -1,4 +1,4 @@
-use Rattle.snap_record.proofs.Over.{run_fits}
+use Rattle.snap_record.proofs.Within.{run_fits}
 use Rattle.snap_runs_of_b.specs.ListingB.{listing_b}
 use Rattle.snap_bounded.proofs.runs.keeps_promises.Goals as goal
 

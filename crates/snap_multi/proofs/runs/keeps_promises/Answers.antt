@@ -1,4 +1,4 @@
-use Rattle.snap_record.proofs.Over.{run_fits}
+use Rattle.snap_record.proofs.Within.{run_fits}
 use Rattle.snap_runs_of_m.specs.ListingM.{listing_m}
 use Rattle.snap_multi.proofs.runs.keeps_promises.Goals as goal
 

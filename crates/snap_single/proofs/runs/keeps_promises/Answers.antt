@@ -1,4 +1,4 @@
-use Rattle.snap_record.proofs.Over.{run_fits}
+use Rattle.snap_record.proofs.Within.{run_fits}
 use Rattle.snap_runs_of_u.specs.ListingU.{listing_u}
 use Rattle.snap_single.proofs.runs.keeps_promises.Goals as goal
 

@@ -11,7 +11,7 @@ mod text;
 
 pub use snap_runs::Verdict;
 pub use sweep::audit;
-pub use text::verdict_line;
+pub use text::{audit_text, verdict_line};
 
 /// A verdict is of a finished scan: its point is the least that the scan has, none where it has none, and its count is
 /// that of the scan's double collects.

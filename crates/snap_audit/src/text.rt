@@ -1,10 +1,13 @@
-//! The printed text of a verdict.
-ghost use Rattle.std.specs.Prelude.{◌≡◌, ◌++◌, OnOk};
-ghost use Rattle.snap_audit.specs.VerdictText.{point_text, verdict_line};
+//! The printed texts of verdicts.
+ghost use Rattle.std.specs.Prelude.{◌≡◌, ◌++◌, IfOk, OnOk};
+ghost use Rattle.snap_audit.specs.VerdictText.{audit_text, point_text, verdict_line, verdict_lines};
 
+use crate::sweep::audit;
+use snap_record::Record;
 use snap_runs::Verdict;
 use snap_text::{push_number, push_text};
-use std::alloc::AllocError;
+use snap_words::Kind;
+use std::alloc::{AllocError, Global};
 
 /// A point, or that there is none.
 fn point_text(out: &mut Vec<u8>, point: Option<u64>) -> Result<(), AllocError>
@@ -32,4 +35,24 @@ pub fn verdict_line(out: &mut Vec<u8>, verdict: &Verdict) -> Result<(), AllocErr
     push_text(out, b" collects ")?;
     push_number(out, verdict.collects)?;
     push_text(out, b"\n")
+}
+
+/// The lines of verdicts.
+fn verdict_lines(out: &mut Vec<u8>, verdicts: &[Verdict]) -> Result<(), AllocError>
+    ensures { OnOk result (out.new.items ≡ out.old.items ++ verdict_lines verdicts.now) }
+{
+    for verdict in verdicts {
+        verdict_line(out, verdict)?;
+    }
+    Ok(())
+}
+
+/// The audit of a record, a line for each verdict.
+pub fn audit_text<K: Kind>(alloc: Global, history: &Record<K>) -> Result<Vec<u8>, AllocError>
+    ensures { IfOk result (λ out. out.items ≡ audit_text history.now) }
+{
+    let verdicts = audit(alloc, history)?;
+    let mut out = Vec::new(alloc);
+    verdict_lines(&mut out, verdicts.as_slice())?;
+    Ok(out)
 }

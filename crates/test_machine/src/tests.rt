@@ -585,3 +585,89 @@ fn copies_go_on_alike(rt: HostRuntime) -> Result<(), Fail> {
     let mut copy = machine.copy()?;
     go_on_apart(&rt, &mut machine, &mut copy)
 }
+
+/// A crash of process 1.
+fn crash<K: Kind>(rt: &impl Abort, machine: &mut Machine<K>) -> Result<Outcome, Fail> {
+    assert!(rt; has(machine, 1));
+    Ok(machine.apply(Item::Crash(1))?)
+}
+
+/// Process 1 crashes.
+fn crashes<K: Kind>(rt: &impl Abort, machine: &mut Machine<K>) -> Result<(), Fail> {
+    match crash(rt, machine)? {
+        Outcome::Crashed => Ok(()),
+        other => differs(rt, &other),
+    }
+}
+
+/// A crash of process 1 is skipped for this reason.
+fn is_not_crashed<K: Kind>(
+    rt: &impl Abort,
+    machine: &mut Machine<K>,
+    reason: Reason,
+) -> Result<(), Fail> {
+    match crash(rt, machine)? {
+        Outcome::Skipped(found) => {
+            assert_eq!(rt; found, reason);
+            Ok(())
+        }
+        other => differs(rt, &other),
+    }
+}
+
+/// No item of process 1 does anything more.
+fn stands_still<K: Kind>(rt: &impl Abort, machine: &mut Machine<K>) -> Result<(), Fail> {
+    is_skipped(rt, machine, Reason::Crashed)?;
+    is_not_called(rt, machine, SCAN, Reason::Crashed)?;
+    is_not_crashed(rt, machine, Reason::Crashed)
+}
+
+/// An update by process 1 that crashes after so many steps, at this line and with this link.
+fn crash_update(
+    rt: &impl Abort,
+    alloc: Global,
+    steps: u64,
+    line: u64,
+    link: Option<u64>,
+) -> Result<Machine<Seq>, Fail> {
+    let mut machine = machine_of::<Seq>(rt, alloc, KindTag::Seq, 1, SNAPSHOT)?;
+    is_called(rt, &mut machine, UPDATE)?;
+    goes_on(rt, &mut machine, steps)?;
+    crashes(rt, &mut machine)?;
+    stands_still(rt, &mut machine)?;
+    assert!(rt; has(&machine, 1));
+    assert_eq!(rt; machine.line(1), Some(line));
+    assert_eq!(rt; machine.operation(1), Some(UPDATE));
+    assert_eq!(rt; machine.link(1), link);
+    Ok(machine)
+}
+
+#[test]
+fn crashed_updates_stop(rt: HostRuntime) -> Result<(), Fail> {
+    let inside = crash_update(&rt, rt.alloc(), 3, 12, Some(31))?;
+    values_are(&rt, &inside, &[0])?;
+    let before = crash_update(&rt, rt.alloc(), 11, 32, None)?;
+    values_are(&rt, &before, &[0])?;
+    let behind = crash_update(&rt, rt.alloc(), 12, 33, None)?;
+    values_are(&rt, &behind, &[5])
+}
+
+#[test]
+fn an_idle_process_crashes(rt: HostRuntime) -> Result<(), Fail> {
+    let mut machine = machine_of::<Seq>(&rt, rt.alloc(), KindTag::Seq, 1, SNAPSHOT)?;
+    crashes(&rt, &mut machine)?;
+    stands_still(&rt, &mut machine)?;
+    assert!(rt; has(&machine, 1));
+    assert_eq!(rt; machine.line(1), None);
+    assert_eq!(rt; machine.operation(1), None);
+    Ok(())
+}
+
+#[test]
+fn a_trapped_process_does_not_crash(rt: HostRuntime) -> Result<(), Fail> {
+    let text = text_of(rt.alloc(), SEQ, NAMES, b"1: let x = 1\n")?;
+    let mut machine = machine_of::<Seq>(&rt, rt.alloc(), KindTag::Seq, 2, text.as_slice())?;
+    is_called(&rt, &mut machine, SCAN)?;
+    traps(&rt, &mut machine, b"1: let x = 1\n", Cause::OffEnd)?;
+    is_not_crashed(&rt, &mut machine, Reason::Trapped)
+}

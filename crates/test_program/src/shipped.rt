@@ -6,7 +6,9 @@ use snap_words::{KindTag, WordFault};
 use std::test::Fail;
 
 const U: Subject = Subject::Shipped(KindTag::Seq);
+
 const B: Subject = Subject::Shipped(KindTag::Bits);
+
 const M: Subject = Subject::Shipped(KindTag::Multi);
 
 /// A scan of U that borrows its view, between two updates.
@@ -25,6 +27,16 @@ fn audits_shipped_listings(rt: HostRuntime) -> Result<(), Fail> {
             U,
             BORROWED.as_slice(),
             b"scan 1 call 1 answer 64 point 24 collects 2\n",
+        ),
+        (
+            U,
+            b"shape 2 2\n2 update 2 5\n2*16\n2 crash\n2\n1 scan\n1*13\n",
+            b"scan 1 call 20 answer 33 point 20 collects 1\n",
+        ),
+        (
+            U,
+            b"shape 2 2\n2 update 2 5\n2*15\n2 crash\n2\n1 scan\n1*13\n",
+            b"scan 1 call 19 answer 32 point 19 collects 1\n",
         ),
         (
             B,
@@ -75,11 +87,14 @@ fn audits_shipped_listings(rt: HostRuntime) -> Result<(), Fail> {
 
 #[test]
 fn debugs_a_shipped_listing(rt: HostRuntime) -> Result<(), Fail> {
-    let input = b"shape 2 2\n1 scan\n1*6\n2 update 2 5\n2*17\n1*8\n1*4\n2 update 2 6\n2*17\n1*9\n%\nwatch r 2\nrun\nrun\nrun\nrrun\nback 1\ngoto 0\ngoto 65\n";
+    let input =
+        b"shape 2 2\n1 scan\n1*6\n2 update 2 5\n2*17\n1*8\n1*4\n2 update 2 6\n2*17\n1*9\n%\nwatch r 2\nrun\nrun\nrun\nrrun\nback 1\ngoto 0\ngoto 65\n";
     let out = written(&rt, Task::Debug(U), input.as_slice())?;
-    assert!(rt; out.as_slice().starts_with(
-        b"> watch r 2\nmarks 1\n> run\nposition 24 of 64\n> run\nposition 54 of 64\n> run\nposition 64 of 64\n> rrun\nposition 54 of 64\n> back 1\nposition 53 of 64\n> goto 0\nposition 0 of 64\n> goto 65\nrefused: G5 NoSuchPosition\nreport at 0 of 64\nvalues 0 0\n".as_slice()
-    ));
+    assert!(rt;
+        out.as_slice().starts_with(
+            b"> watch r 2\nmarks 1\n> run\nposition 24 of 64\n> run\nposition 54 of 64\n> run\nposition 64 of 64\n> rrun\nposition 54 of 64\n> back 1\nposition 53 of 64\n> goto 0\nposition 0 of 64\n> goto 65\nrefused: G5 NoSuchPosition\nreport at 0 of 64\nvalues 0 0\n".as_slice()
+        )
+    );
     Ok(())
 }
 
@@ -101,4 +116,26 @@ fn refuses_what_does_not_fit(rt: HostRuntime) {
         written(&rt, Task::Audit(Subject::FirstPart), b"shape 2 2\n").err(),
         Some(ConductFault::Refused(Refusal::WrongParts(1)))
     );
+}
+
+#[test]
+fn runs_over_a_crash(rt: HostRuntime) -> Result<(), Fail> {
+    let schedule = b"shape 2 2\n2 update 2 5\n2*16\n2 crash\n2\n1 scan\n1*13\n";
+    let out = written(&rt, Task::Run(U), schedule.as_slice())?;
+    assert_eq!(rt;
+        out.as_slice(),
+        b"> run\nposition 33 of 33\nreport at 33 of 33\nvalues 0 5\nr 1 = 0 seq 0 view 0 0\nr 2 = 5 seq 1 view 0 0\nprocess 1 idle\n  j = 1\n  c = 0\n  moved = 0 0\n  a 1 = 0 seq 0 view 0 0\n  a 2 = 5 seq 1 view 0 0\n  b 1 = 0 seq 0 view 0 0\n  b 2 = 5 seq 1 view 0 0\n  s = 0 5\nprocess 2 crashed at 33\n  j = 1\n  c = 1\n  moved = 0 0\n  a 1 = 0 seq 0 view 0 0\n  a 2 = 0 seq 0 view 0 0\n  b 1 = 0 seq 0 view 0 0\n  b 2 = 0 seq 0 view 0 0\n  s = 0 0\nevent 1 2 update 2 5\nevent 18 2 crash\nevent 20 1 scan\nevent 33 1 answer 0 5\n".as_slice()
+    );
+    Ok(())
+}
+
+#[test]
+fn goes_back_over_a_crash(rt: HostRuntime) -> Result<(), Fail> {
+    let input = b"shape 2 2\n2 update 2 5\n2*16\n2 crash\n2\n1 scan\n1*13\n%\ngoto 18\nback 1\n";
+    let out = written(&rt, Task::Debug(U), input.as_slice())?;
+    assert_eq!(rt;
+        out.as_slice(),
+        b"> goto 18\nposition 18 of 33\n> back 1\nposition 17 of 33\nreport at 17 of 33\nvalues 0 5\nr 1 = 0 seq 0 view 0 0\nr 2 = 5 seq 1 view 0 0\nprocess 1 idle\n  j = 0\n  c = 0\n  moved = 0 0\n  a 1 = 0 seq 0 view 0 0\n  a 2 = 0 seq 0 view 0 0\n  b 1 = 0 seq 0 view 0 0\n  b 2 = 0 seq 0 view 0 0\n  s = 0 0\nprocess 2 update 2 5 at 33\n  j = 1\n  c = 1\n  moved = 0 0\n  a 1 = 0 seq 0 view 0 0\n  a 2 = 0 seq 0 view 0 0\n  b 1 = 0 seq 0 view 0 0\n  b 2 = 0 seq 0 view 0 0\n  s = 0 0\nevent 1 2 update 2 5\n".as_slice()
+    );
+    Ok(())
 }

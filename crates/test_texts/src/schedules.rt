@@ -21,6 +21,10 @@ fn refuses_what_fits_no_form(rt: HostRuntime) {
         (b"shape 17 1".as_slice(), ScheduleRefusal::BadShape),
         (b"shape 2 2\n2*0".as_slice(), ScheduleRefusal::BadItem(2)),
         (
+            b"shape 2 2\n2\n2 crash 1".as_slice(),
+            ScheduleRefusal::BadItem(3),
+        ),
+        (
             b"shape 3 3\n\n# 4\n007".as_slice(),
             ScheduleRefusal::BadItem(4),
         ),
@@ -47,6 +51,14 @@ fn refuses_too_many_items_and_missing_processes(rt: HostRuntime) {
         (
             b"shape 3 3\n3*1000000\n1 scan\n".as_slice(),
             ScheduleRefusal::TooManyItems(3),
+        ),
+        (
+            b"shape 3 3\n3*1000000\n1 crash\n".as_slice(),
+            ScheduleRefusal::TooManyItems(3),
+        ),
+        (
+            b"shape 3 3\n4 crash".as_slice(),
+            ScheduleRefusal::NoSuchProcess(2),
         ),
         (
             b"shape 3 3\n4".as_slice(),
@@ -85,6 +97,11 @@ fn prints_greatest_runs(rt: HostRuntime) -> Result<(), Fail> {
             b"shape 2 2 # two\n 2 * 3\n2\n".as_slice(),
             4,
             b"shape 2 2\n2*4\n".as_slice(),
+        ),
+        (
+            b"shape 2 2\n2\n2\n2 crash\n2\n1 crash".as_slice(),
+            5,
+            b"shape 2 2\n2*2\n2 crash\n2\n1 crash\n".as_slice(),
         ),
         (
             b"\r\n\tshape 16 3\r\n1\n2\n1*1\n\n16 update 3 18446744073709551615\n16 scan\n16".as_slice(),

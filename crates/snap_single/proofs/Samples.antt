@@ -2,16 +2,21 @@
 use Rattle.std.specs.Prelude.{◌≡◌, ℕ, List, [], ◌∷◌, ◌++◌, Some, None, replicate, true, refl}
 use Rattle.std.proofs.Common.{arith}
 use Rattle.snap_semantics.specs.declared.process.Item.{Item}
-use Rattle.snap_semantics.specs.declared.process.Item.TheVariants.{Step, Call}
+use Rattle.snap_semantics.specs.declared.process.Item.TheVariants.{Step, Call, Crash}
 use Rattle.snap_semantics.specs.declared.process.Op.TheVariants.{Scan as ScanOp, Update}
-use Rattle.snap_semantics.specs.declared.process.Outcome.TheVariants.{Finished}
-use Rattle.snap_semantics.specs.State.{values, value_at, process_at}
+use Rattle.snap_semantics.specs.declared.event.Happening.TheVariants as what
+use Rattle.snap_semantics.specs.declared.process.Outcome.TheVariants.{Finished, Skipped, Crashed}
+use Rattle.snap_semantics.specs.declared.process.Reason.TheVariants as reason
+use Rattle.snap_semantics.specs.declared.process.Status.TheVariants as status
+use Rattle.snap_semantics.specs.Run.{events}
+use Rattle.snap_semantics.specs.State.{values, value_at, process_at, initial}
 use Rattle.snap_runs.specs.Run.{state, before, outcome}
 use Rattle.snap_runs.specs.Scan.{Starts, Ends, HasPoint, double_collects, own_steps}
 use Rattle.snap_runs.specs.Update.{executes}
 use Rattle.snap_runs.specs.Promises.{row_place}
 use Rattle.snap_runs_of_u.specs.ListingU as u
-use Rattle.snap_runs_of_u.specs.Promises.{run_of}
+use Rattle.snap_runs_of_u.specs.ListingU.{listing_u}
+use Rattle.snap_runs_of_u.specs.Promises.{run_of, square}
 
 -- so many steps of a process
 abbrev pub times : ℕ → ℕ → List Item
@@ -88,3 +93,35 @@ second_move = (refl, refl, refl)
 
 its_write : (executes (run_of 2 scan_borrows) 2 32 54 ≡ true) × (double_collects (run_of 2 scan_borrows) 1 54 61 ≡ 1)
 its_write = (refl, refl)
+
+-- Process 2 crashes right after its write; its next item is skipped. The scan that process 1 calls then sees the value.
+abbrev pub crash_after_write : List Item
+crash_after_write = Call 2 (Update 2 5) ∷ (times 16 2 ++ (Crash 2 ∷ Step 2 ∷ Call 1 ScanOp ∷ times 13 1))
+
+after_write_outcomes : (executes (run_of 2 crash_after_write) 2 32 17 ≡ true) × (outcome (run_of 2 crash_after_write) 18 ≡ Crashed)
+    × (outcome (run_of 2 crash_after_write) 19 ≡ Skipped reason.Crashed)
+after_write_outcomes = (refl, refl, refl)
+
+after_write_ends : Starts (run_of 2 crash_after_write) 1 20 None × Ends (run_of 2 crash_after_write) 1 33 None (0 ∷ 5 ∷ [])
+after_write_ends = ((refl, refl), (refl, refl))
+
+after_write_point : HasPoint (run_of 2 crash_after_write) 20 33 (0 ∷ 5 ∷ []) × (double_collects (run_of 2 crash_after_write) 1 20 33 ≡ 1)
+after_write_point = ((20, omega arith, omega arith, refl), refl)
+
+after_write_stands : (process_at (state (run_of 2 crash_after_write) 33) 2).status ≡ status.Crashed (Some (record { op = Update 2 5; line = 33; link = None }))
+after_write_stands = refl
+
+after_write_events : events listing_u (square 2) (initial listing_u (square 2)) 1 crash_after_write
+    ≡ record { item = 1; process = 2; what = what.Call (Update 2 5) } ∷ record { item = 18; process = 2; what = what.Crash }
+    ∷ record { item = 20; process = 1; what = what.Call ScanOp } ∷ record { item = 33; process = 1; what = what.Answer (0 ∷ 5 ∷ []) } ∷ []
+after_write_events = refl
+
+-- It crashes one step earlier, between its scan and its write: the scan sees nothing of it.
+abbrev pub crash_before_write : List Item
+crash_before_write = Call 2 (Update 2 5) ∷ (times 15 2 ++ (Crash 2 ∷ Step 2 ∷ Call 1 ScanOp ∷ times 13 1))
+
+before_write_ends : Starts (run_of 2 crash_before_write) 1 19 None × Ends (run_of 2 crash_before_write) 1 32 None (0 ∷ 0 ∷ [])
+before_write_ends = ((refl, refl), (refl, refl))
+
+before_write_point : HasPoint (run_of 2 crash_before_write) 19 32 (0 ∷ 0 ∷ [])
+before_write_point = (19, omega arith, omega arith, refl)

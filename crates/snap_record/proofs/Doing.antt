@@ -1,7 +1,6 @@
 -- The first items of a list, done one after the other.
-use Rattle.std.proofs.Common.{◌≡◌, ℕ, zero, suc, ◌+◌, ◌-◌, ◌<◌, ◌≤◌, List, [], ◌∷◌, ◌++◌, length, take, drop, refl, sym, ap, subst, ◌∙◌, append_assoc, append-nil, arith}
-use Rattle.std.proofs.lemmas.List.{length-append, length-take-le, take_all}
-use Rattle.std.specs.List.{AllByRecursion}
+use Rattle.std.proofs.Common.{◌≡◌, ℕ, zero, suc, ◌+◌, ◌<◌, ◌≤◌, List, [], ◌∷◌, ◌++◌, length, take, drop, sym, ap, ◌∙◌, append_assoc, arith}
+use Rattle.std.proofs.lemmas.List.{take_all}
 use Rattle.snap_semantics.specs.declared.process.Item.{Item}
 use Rattle.snap_runs.specs.Run.{Run}
 use Rattle.snap_record.specs.Record.{with_item, with_items}
@@ -11,15 +10,6 @@ pub record Doing (r : Run) (xs : List Item) (count k : ℕ) (now : Run) (left : 
   pub few : k ≤ count
   pub done : now ≡ with_items r (take k xs)
   pub left_are : left ≡ drop k xs
-
--- none is done
-pub none_done : (r : Run) (xs : List Item) (count : ℕ) (left : List Item) → left ≡ xs → Doing r xs count 0 r left
-none_done r xs count left all =
-    record {
-      few = omega arith;
-      done = ap (λ (l : List Item). let made : Run = record { source = r.source; shape = r.shape; items = l } in made) (sym (append-nil r.items));
-      left_are = all;
-    }
 
 -- the first k items and the next one
 next_taken : (xs : List Item) (k : ℕ) (x : Item) (rest : List Item) → x ∷ rest ≡ drop k xs → (take k xs ++ x ∷ [] ≡ take (k + 1) xs) × (rest ≡ drop (k + 1) xs)
@@ -57,32 +47,3 @@ all_done r xs count k now left h none =
     let few = nothing_left xs k (sym none ∙ h.left_are) in
     let le = h.few in
     h.done ∙ ap (with_items r) (take_all k xs few ∙ sym (take_all count xs (omega (arith, few, le))))
-
--- so many are done
-pub enough_done : (r : Run) (xs : List Item) (count k : ℕ) (now : Run) (left : List Item) → Doing r xs count k now left → count ≤ k → now ≡ with_items r (take count xs)
-enough_done r xs count k now left h le =
-    let few = h.few in
-    let e : k ≡ count = omega (arith, few, le) in
-    h.done ∙ ap (λ m. with_items r (take m xs)) e
-
-short_take : (xs : List Item) (k : ℕ) → length (take k xs) ≤ k
-short_take [] zero = omega arith
-short_take [] (suc k) = omega arith
-short_take (x ∷ xs) zero = omega arith
-short_take (x ∷ xs) (suc k) = let e = short_take xs k in omega (arith, e)
-
-all_left : (P : Item → Type 0) (xs : List Item) (k : ℕ) → AllByRecursion P xs → AllByRecursion P (drop k xs)
-all_left P [] zero h = tt
-all_left P [] (suc k) h = tt
-all_left P (x ∷ xs) zero h = h
-all_left P (x ∷ xs) (suc k) h = all_left P xs k h.1
-
--- the next item is one of them, and there is a number for it
-pub next_fits : (P : Item → Type 0) (r : Run) (xs : List Item) (count k most : ℕ) (now : Run) (left left' : List Item) (x : Item) →
-    Doing r xs count k now left → k < count → left ≡ x ∷ left' → AllByRecursion P xs → length r.items + count ≤ most → P x × (length now.items < most)
-next_fits P r xs count k most now left left' x h lt next all few =
-    let done = ap (λ (y : Run). length y.items) h.done ∙ length-append r.items (take k xs) in
-    let short = short_take xs k in (
-      (subst (AllByRecursion P) (sym h.left_are ∙ next) (all_left P xs k all)).0,
-      omega (arith, done, short, lt, few),
-    )

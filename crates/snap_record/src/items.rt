@@ -14,7 +14,7 @@ pub(crate) struct Called {
     op: Op,
 }
 
-/// An item as it is kept: a step of a process, the call at a place among the calls, or a crash of a process.
+/// An item as it is kept: a step or a crash of a process, or the call at a place among the calls.
 #[derive(Clone, Copy, Debug)]
 pub(crate) enum Kept {
     Step(u32),

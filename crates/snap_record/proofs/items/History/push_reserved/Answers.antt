@@ -1,4 +1,4 @@
-use Rattle.std.proofs.Common.{[], ◌∷◌, ◌++◌, length, sym, ap, ◌∙◌}
+use Rattle.std.proofs.Common.{[], ◌∷◌, ◌++◌, sym, ap, ◌∙◌}
 use Rattle.snap_semantics.specs.declared.process.Item.{Item}
 use Rattle.snap_record.specs.Items.{Shelf, kept_items}
 use Rattle.snap_record.proofs.Kept.{call_kept}
@@ -11,5 +11,5 @@ returns-in-Call c =
     let xs' = c.push_reserved-in-Call-2.new.self.items in
     let kept = call_kept i.calls.items calls' _ c.len-place.result i.items.items xs' c.push_reserved-in-Call.ensures.items (c.len-place.ensures ∙ i.calls.ok.0) c.push_reserved-in-Call-2.ensures.items c.self.invariant in
     record {
-      items = kept.1 ∙ ap (λ (x : Item). kept_items i.calls.items i.items.items ++ x ∷ []) (sym c.in-Call.is) ∙ ap (λ (s : Shelf). s.items ++ c.args.item ∷ []) c.self.view_is;
+      items = kept ∙ ap (λ (x : Item). kept_items i.calls.items i.items.items ++ x ∷ []) (sym c.in-Call.is) ∙ ap (λ (s : Shelf). s.items ++ c.args.item ∷ []) c.self.view_is;
     }

@@ -3,7 +3,7 @@ use Rattle.snap_runs_of_m.specs.ListingM.{listing_m}
 use Rattle.snap_multi.proofs.runs.keeps_promises.Goals as goal
 
 pub returns-clause-fits : goal.returns-clause-fits
-returns-clause-fits c = run_fits listing_m c.args.schedule.now c.shape.ensures.schedule
+returns-clause-fits c = run_fits listing_m c.args.schedule.now c.shape-shape.ensures.schedule
 
 pub returns-clause-snapshot : goal.returns-clause-snapshot
-returns-clause-snapshot c = c.runs_are_snapshots.ensures c.args.schedule.now.shape c.args.schedule.now.items c.shape.ensures.schedule.shape c.requires
+returns-clause-snapshot c = c.runs_are_snapshots.ensures c.args.schedule.now.shape c.args.schedule.now.items c.shape-shape.ensures.schedule.shape c.requires

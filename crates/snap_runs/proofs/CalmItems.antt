@@ -146,11 +146,11 @@ module _ (r : Run) where
     starts_to i (Some l) t h s =
         elim (kept_or_paused r fits t h) [
           | inl k ↦ (
-              k.item_is ∙ s.0,
-              subst (λ (p : Process). IsCallLine (line_in r.source p.status)) (sym (stands_before t i k (ap who s.0))) s.1,
-              k.outcome_is ∙ s.2,
-              ap (λ (p : Process). link_in p.status) (stands_after t i k (ap who s.0)) ∙ s.3,
-            )
+            k.item_is ∙ s.0,
+            subst (λ (p : Process). IsCallLine (line_in r.source p.status)) (sym (stands_before t i k (ap who s.0))) s.1,
+            k.outcome_is ∙ s.2,
+            ap (λ (p : Process). link_in p.status) (stands_after t i k (ap who s.0)) ∙ s.3,
+          )
           | inr k ↦ absurd (not_dead t outcomes.Stepped k s.2 (λ e. absurd (cc)) (λ why e. absurd (cc)))
         ]
 
@@ -163,11 +163,11 @@ module _ (r : Run) where
     starts_from i (Some l) t h s =
         elim (kept_or_paused r fits t h) [
           | inl k ↦ (let mine : who (item r (suc t)) ≡ i = ap who (sym k.item_is ∙ s.0) in (
-              sym k.item_is ∙ s.0,
-              subst (λ (p : Process). IsCallLine (line_in r.source p.status)) (stands_before t i k mine) s.1,
-              sym k.outcome_is ∙ s.2,
-              ap (λ (p : Process). link_in p.status) (sym (stands_after t i k mine)) ∙ s.3,
-            ))
+            sym k.item_is ∙ s.0,
+            subst (λ (p : Process). IsCallLine (line_in r.source p.status)) (stands_before t i k mine) s.1,
+            sym k.outcome_is ∙ s.2,
+            ap (λ (p : Process). link_in p.status) (sym (stands_after t i k mine)) ∙ s.3,
+          ))
           | inr k ↦ absurd (let e = sym k.outcome_is ∙ s.2 in cc)
         ]
 
@@ -180,10 +180,10 @@ module _ (r : Run) where
     ends_to i (Some l) view t h s =
         elim (kept_or_paused r fits t h) [
           | inl k ↦ (let same = stands_before t i k (ap who s.0) in (
-              k.item_is ∙ s.0,
-              subst (λ (p : Process). Returns (line_in r.source p.status) p.locals view) (sym same) s.1,
-              ap (λ (p : Process). link_in p.status) same ∙ s.2,
-            ))
+            k.item_is ∙ s.0,
+            subst (λ (p : Process). Returns (line_in r.source p.status) p.locals view) (sym same) s.1,
+            ap (λ (p : Process). link_in p.status) same ∙ s.2,
+          ))
           | inr k ↦ absurd (let d = dead_at t i k (ap (steps i) s.0 ∙ same_number i) in
               let e : ◌≡◌ {A = Option ℕ} None (Some l) = sym (ap link_in d.1.1) ∙ s.2 in cc)
         ]
@@ -197,10 +197,10 @@ module _ (r : Run) where
     ends_from i (Some l) view t h s =
         elim (kept_or_paused r fits t h) [
           | inl k ↦ (let same = stands_before t i k (ap who (sym k.item_is ∙ s.0)) in (
-              sym k.item_is ∙ s.0,
-              subst (λ (p : Process). Returns (line_in r.source p.status) p.locals view) same s.1,
-              ap (λ (p : Process). link_in p.status) (sym same) ∙ s.2,
-            ))
+            sym k.item_is ∙ s.0,
+            subst (λ (p : Process). Returns (line_in r.source p.status) p.locals view) same s.1,
+            ap (λ (p : Process). link_in p.status) (sym same) ∙ s.2,
+          ))
           | inr k ↦ absurd (let e = sym k.item_is ∙ s.0 in cc)
         ]
 

@@ -160,7 +160,6 @@ module _ {V P M : Type 0} (a : Algorithm V P M) where
         let is2 : item_at items t ≡ Call i op = is ∙ ap (λ u. Call u op) w in
         calling_under t op (his t).control is2 refl (ap (happens a (suc t) (typed_state a items t)) is2)
         (embed.outcome_is a items fits does t short ∙ ap (λ (y : Item). outcome_of (by_item a (suc t) (typed_state a items t) y)) is2) h
-
     item_under t (Crash k) short is w h =
         same_under t (ap (λ (y : TypedState V P M). typed_at a y i) (ap (happens a (suc t) (typed_state a items t)) is))
         (λ done. absurd (let e = sym done.1 ∙ embed.outcome_is a items fits does t short ∙ ap (λ (y : Item). outcome_of (by_item a (suc t) (typed_state a items t) y)) is in cc)) h

@@ -1,6 +1,6 @@
 -- A run with crashes, looked at through one without them: instead of a crash, and of each item of a process that has crashed,
 -- comes a call that is skipped. The states are the same, but that who has crashed is still at what it was at.
-use Rattle.std.specs.Prelude.{◌≡◌, ℕ, zero, suc, ◌-◌, ◌<◌, ◌≤◌, ◌⊎◌, Bool, true, false, ◌&&◌, List, [], ◌∷◌, length, map, take, Option, Some, None, Result, Ok, Err, replicate, nat_eq, nat_lt, nat_le, slice_index_or, slice_set, if◌then◌else◌, refl}
+use Rattle.std.specs.Prelude.{◌≡◌, ℕ, zero, suc, ◌-◌, ◌<◌, ◌≤◌, ◌⊎◌, Bool, true, false, ◌&&◌, List, [], ◌∷◌, length, map, take, Option, Some, None, Result, Ok, Err, nat_eq, nat_lt, nat_le, slice_index_or, slice_set, if◌then◌else◌, refl}
 use Rattle.std.specs.List.{AllByRecursion}
 use Rattle.std.proofs.Common.{sym, ◌∙◌, ap, subst, arith, inl, inr}
 use Rattle.std.proofs.lemmas.List.{map-set}
@@ -23,7 +23,7 @@ use Rattle.snap_semantics.specs.declared.process.Status.{Status}
 use Rattle.snap_semantics.specs.declared.process.Status.TheVariants.{Idle, Busy, Trapped, Crashed}
 use Rattle.snap_semantics.specs.Run.{after}
 use Rattle.snap_semantics.specs.Source.{Source, instr_at}
-use Rattle.snap_semantics.specs.State.{Locals, Memory, Process, State, nobody, process_at, with_process, initial, initial_process}
+use Rattle.snap_semantics.specs.State.{Locals, Memory, Process, State, nobody, process_at, initial, initial_process}
 use Rattle.snap_semantics.specs.Table.{Effect, Goes, Answers, Finishes, effect_at, leave, step, entry, owner_skip, call_skip, called, call, crashed, crash, done, who}
 use Rattle.snap_runs.specs.Run.{Run, Fits, state, item, outcome}
 use Rattle.snap_runs.specs.WaitFree.{is_alive}

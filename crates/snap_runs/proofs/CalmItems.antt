@@ -11,13 +11,13 @@ use Rattle.snap_semantics.specs.declared.process.Outcome.TheVariants as outcomes
 use Rattle.snap_semantics.specs.declared.process.Reason.{Reason}
 use Rattle.snap_semantics.specs.declared.process.Reason.TheVariants as reason
 use Rattle.snap_semantics.specs.declared.process.Status.{Status}
-use Rattle.snap_semantics.specs.declared.process.Status.TheVariants.{Idle, Busy, Trapped, Crashed}
-use Rattle.snap_semantics.specs.State.{Locals, Process, process_at, values}
+use Rattle.snap_semantics.specs.declared.process.Status.TheVariants.{Crashed}
+use Rattle.snap_semantics.specs.State.{Process, process_at, values}
 use Rattle.snap_semantics.specs.Table.{who}
 use Rattle.snap_runs.specs.Run.{Run, Fits, state, before, item, outcome}
 use Rattle.snap_runs.specs.Scan.{line_in, link_in, IsCallLine, Returns, Starts, Ends, Scan, Finished, count, steps, is_if_all, is_stepped, is_not_skipped, ends_double_collect, takes_step, double_collects, own_steps}
 use Rattle.snap_runs.specs.Update.{is_at, executes, IsDone, Updating}
-use Rattle.snap_runs.proofs.Calm.{IsDead, calm, pause, revived, same_length, state_is, process_is, Kept, Paused, kept_or_paused}
+use Rattle.snap_runs.proofs.Calm.{IsDead, calm, same_length, state_is, process_is, Kept, Paused, kept_or_paused}
 use Rattle.snap_runs.proofs.Computing.{same_number, same_from}
 use Rattle.snap_runs.proofs.Executing.{step_of}
 use Rattle.snap_runs.proofs.WaitFree.{same_counts}

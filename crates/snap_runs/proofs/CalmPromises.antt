@@ -1,18 +1,17 @@
 -- What every run without crashes promises, every run promises.
-use Rattle.std.specs.Prelude.{◌≡◌, ℕ, zero, suc, ◌-◌, ◌<◌, ◌≤◌, ◌⊎◌, true, List, length, Option, Some, None, slice_index, slice_set, refl}
+use Rattle.std.specs.Prelude.{◌≡◌, ℕ, zero, suc, ◌-◌, ◌<◌, ◌≤◌, true, length, Some, None, slice_set}
 use Rattle.std.proofs.Common.{sym, ◌∙◌, ap, subst, arith, inl, inr}
-use Rattle.snap_words.specs.Shape.{IsOneOf}
 use Rattle.snap_semantics.specs.declared.process.Status.{Status}
 use Rattle.snap_semantics.specs.declared.process.Status.TheVariants.{Idle, Busy, Trapped, Crashed}
 use Rattle.snap_semantics.specs.Source.{Name}
-use Rattle.snap_semantics.specs.State.{Locals, Process, value_at, process_at, values}
+use Rattle.snap_semantics.specs.State.{Locals, Process, value_at, process_at}
 use Rattle.snap_semantics.specs.Table.{who}
 use Rattle.snap_runs.specs.Run.{Run, Fits, state, before, item}
-use Rattle.snap_runs.specs.Scan.{Scan, Finished, HasPoint, count, double_collects, own_steps}
-use Rattle.snap_runs.specs.Update.{is_at, executes, IsDone, Updating}
-use Rattle.snap_runs.specs.Promises.{HasTrapped, NeverTraps, ChangesOnlyAt, WritesItsUpdate, WritesOnce, HavePoints, CollectsAtMost, StepsAtMost, row_place, ObservedMove, RecentWrite, MovesAreWrites, CollectLines, ExecutesFor, IsUpdating, WritesWord, CleanReads, PassedTestsAreClean, LentView, BorrowedViewsAreLent, OwnUpdatesAreSeen}
+use Rattle.snap_runs.specs.Scan.{own_steps}
+use Rattle.snap_runs.specs.Update.{is_at, executes, Updating}
+use Rattle.snap_runs.specs.Promises.{HasTrapped, NeverTraps, ChangesOnlyAt, WritesItsUpdate, WritesOnce, HavePoints, CollectsAtMost, StepsAtMost, row_place, ObservedMove, MovesAreWrites, CollectLines, ExecutesFor, IsUpdating, WritesWord, CleanReads, PassedTestsAreClean, BorrowedViewsAreLent, OwnUpdatesAreSeen}
 use Rattle.snap_runs.proofs.Calm.{calm, uncrashed, same_length, process_is, steady_of}
-use Rattle.snap_runs.proofs.CalmItems.{values_same, locals_same, locals_before, who_same, executes_same, same_executions, same_collects, same_steps, at_executes, scan_to, scan_from, finished_to, finished_from, done_to, done_from, updating_to, updating_from}
+use Rattle.snap_runs.proofs.CalmItems.{values_same, locals_same, locals_before, who_same, executes_same, same_executions, same_collects, same_steps, at_executes, scan_to, finished_to, finished_from, done_to, done_from, updating_to, updating_from}
 use Rattle.snap_runs.proofs.Steady.{Steady, fits_of}
 
 trapped_too : (st : Status) → HasTrapped st → HasTrapped (uncrashed st)

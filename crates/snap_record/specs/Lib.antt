@@ -2,5 +2,6 @@ pub mod Record
 pub mod Items
 pub mod History
 pub mod SeenDeed
+pub mod Marks
 pub mod Searches
 pub mod Names

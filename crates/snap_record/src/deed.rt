@@ -7,8 +7,10 @@ ghost use Rattle.snap_semantics.specs.Table.{who};
 ghost use Rattle.snap_runs.specs.Deeds.{deed_at, deed_of, line_deed, returned};
 ghost use Rattle.snap_semantics.specs.RightUses.{HasRightUses};
 ghost use Rattle.snap_record.specs.Names.{Lacks, ViewsAlone};
+ghost use Rattle.snap_record.specs.Marks.{AreMarks};
 ghost use Rattle.snap_record.specs.SeenDeed.{seen_deed};
 
+use crate::marks::{Mark, deed_by};
 use snap_machine::{Local, Machine};
 use snap_semantics::{Activity, Instr, Item, Name, Op, Status};
 use snap_words::{Kind, View};
@@ -71,10 +73,34 @@ fn line_deed<K: Kind>(
     }
 }
 
-/// What an item is to do.
-pub fn deed_of<K: Kind>(alloc: Global, machine: &Machine<K>, item: Item) -> Result<Deed, AllocError>
+/// What the line of a process does, at which it stands.
+fn found_deed<K: Kind>(
+    alloc: Global,
+    machine: &Machine<K>,
+    i: u32,
+    activity: &Activity,
+) -> Result<Deed, AllocError>
+    requires process { IsOneOf machine.now.shape.n i }
+    requires alone { ViewsAlone machine.now.source machine.now.state }
+    ensures { IfOk result (λ d. seen_deed d
+        ≡ deed_at activity.now (process_at machine.now.state i).locals (instr_at machine.now.source.lines activity.now.line)) }
+{
+    match machine.program().listing().instr(activity.line) {
+        Some(instr) => line_deed(alloc, machine, i, activity, instr),
+        None => Ok(Deed::Nothing),
+    }
+}
+
+/// What an item is to do. Of most lines that is known by their marks.
+pub fn deed_of<K: Kind>(
+    alloc: Global,
+    machine: &Machine<K>,
+    marks: &[Mark],
+    item: Item,
+) -> Result<Deed, AllocError>
     requires process { IsOneOf machine.now.shape.n (who item) }
     requires alone { ViewsAlone machine.now.source machine.now.state }
+    requires marks { AreMarks machine.now.source marks.now }
     ensures { IfOk result (λ d. seen_deed d ≡ deed_of machine.now.source machine.now.state item) }
 {
     let Item::Step(i) = item else {
@@ -83,8 +109,8 @@ pub fn deed_of<K: Kind>(alloc: Global, machine: &Machine<K>, item: Item) -> Resu
     let Status::Busy(activity) = machine.status(i) else {
         return Ok(Deed::Nothing);
     };
-    match machine.program().listing().instr(activity.line) {
-        Some(instr) => line_deed(alloc, machine, i, &activity, instr),
-        None => Ok(Deed::Nothing),
+    match deed_by(marks, activity.line) {
+        Some(deed) => Ok(deed),
+        None => found_deed(alloc, machine, i, &activity),
     }
 }

@@ -53,6 +53,7 @@ fn call_event(number: u64, item: Item) -> Option<Event>
 }
 
 /// The event of the item of this number, where it has one. An answer's view is the one that was to be answered.
+#[inline(always)]
 pub fn event_of(number: u64, item: Item, outcome: &Outcome, deed: Deed) -> Option<Event>
     requires { (v : List ℕ) → outcome.now ≡ outcomes.Answered v → seen_deed deed ≡ Answer v }
     ensures { of_option result ≡ event_of number item outcome.now }
@@ -154,6 +155,7 @@ fn is_write(deed: &Deed) -> bool
 }
 
 /// Notes the values after an item that leaves this machine. They stay where it writes no word.
+#[inline(always)]
 pub fn note_item<K: Kind>(
     now: &mut View,
     changes: &mut Vec<Change>,
@@ -174,6 +176,7 @@ pub fn note_item<K: Kind>(
 }
 
 /// Counts a double collect, where an item ends one.
+#[inline(always)]
 pub fn note_collect(collects: &mut Vec<u64>, i: u32, deed: &Deed, outcome: &Outcome)
     requires process { IsOneOf (length collects.old.items) i }
     requires few { slice_index collects.old.items (i - 1) + 1 < 2 ^ 64 }
@@ -185,6 +188,7 @@ pub fn note_collect(collects: &mut Vec<u64>, i: u32, deed: &Deed, outcome: &Outc
 }
 
 /// Notes an event, where there is one, and how many double collects its process has had.
+#[inline(always)]
 pub fn note_event(
     events: &mut Vec<Event>,
     at_events: &mut Vec<u64>,

@@ -6,6 +6,7 @@ mod deed;
 mod fault;
 mod history;
 mod items;
+mod marks;
 mod over;
 mod printed;
 mod record;

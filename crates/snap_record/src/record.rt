@@ -15,6 +15,7 @@ use crate::deed::deed_of;
 use crate::fault::RecordFault;
 use crate::history::{Change, event_of, note_collect, note_event, note_item, who};
 use crate::items::History;
+use crate::marks::{Mark, new_marks};
 use crate::printed::Report;
 use crate::search::{collects_until, scans};
 use crate::walk::advance;
@@ -44,18 +45,22 @@ pub struct Record<K: Kind> {
     collects: Vec<u64>,
     /// At each event, how many double collects its process had had.
     at_events: Vec<u64>,
+    /// What the lines are, by their numbers.
+    marks: Vec<Mark>,
 }
 
 impl<K: Kind> Model for Record<K> {
     ghost use Rattle.snap_runs.specs.Run.{Run};
     ghost use Rattle.snap_record.specs.History.{IsRecord};
+    ghost use Rattle.snap_record.specs.Marks.{AreMarks};
 
     ghost Value = { Run };
 
     ghost view = { λ r. record { source = r.machine.source; shape = r.machine.shape; items = r.items.items } };
 
     ghost invariant = { λ r. IsRecord (record { source = r.machine.source; shape = r.machine.shape; items = r.items.items })
-        K.TAG r.machine.state r.values r.changes.items r.events.items r.collects.items r.at_events.items };
+        K.TAG r.machine.state r.values r.changes.items r.events.items r.collects.items r.at_events.items
+        × AreMarks r.machine.source r.marks.items };
 }
 
 /// So many zeros.
@@ -80,6 +85,7 @@ impl<K: Kind> Record<K> {
             events: Vec::new(alloc),
             collects: zeros(alloc, shape.n())?,
             at_events: Vec::new(alloc),
+            marks: new_marks(alloc, program)?,
         })
     }
 
@@ -90,7 +96,7 @@ impl<K: Kind> Record<K> {
         ensures done { IfOk result (λ o. (self.new ≡ with_item self.old item) × (o ≡ outcome self.new (length self.new.items))) }
         ensures unchanged { OnErr result (self.new ≡ self.old) }
     {
-        let deed = deed_of(self.alloc, &self.machine, item)?;
+        let deed = deed_of(self.alloc, &self.machine, self.marks.as_slice(), item)?;
         self.items.reserve()?;
         self.changes.reserve(self.values.as_slice().len())?;
         self.events.reserve(1)?;

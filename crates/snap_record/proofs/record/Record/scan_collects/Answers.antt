@@ -13,9 +13,9 @@ pub overflow_sub-i : goal.overflow_sub-i
 overflow_sub-i g c =
     let i = c.self.inside in
     let r : Run = record { source = i.machine.source; shape = i.machine.shape; items = i.items.items } in
-    let all = c.self.invariant.tells.events_are in
+    let all = c.self.invariant.0.tells.events_are in
     let lt : c.args.k < length i.events.items = subst (λ (l : List Event). c.args.k < length l) (sym (all ∙ ap (λ (y : Run). events_of y (length y.items)) c.self.view_is)) c.requires in
-    let one = scan_process r c.self.invariant.fits i.events.items c.args.k c.in_ok-i.i c.index-event.result.now all lt c.index-event.ensures c.in_ok-i.ensures in
+    let one = scan_process r c.self.invariant.0.fits i.events.items c.args.k c.in_ok-i.i c.index-event.result.now all lt c.index-event.ensures c.in_ok-i.ensures in
     let low : 0 < c.in_ok-i.i = one.0 in
     omega (arith, low)
 
@@ -23,12 +23,12 @@ pub index-all-requires : goal.index-all-requires
 index-all-requires g c =
     let i = c.self.inside in
     let r : Run = record { source = i.machine.source; shape = i.machine.shape; items = i.items.items } in
-    let all = c.self.invariant.tells.events_are in
+    let all = c.self.invariant.0.tells.events_are in
     let lt : c.args.k < length i.events.items = subst (λ (l : List Event). c.args.k < length l) (sym (all ∙ ap (λ (y : Run). events_of y (length y.items)) c.self.view_is)) c.requires in
-    let one = scan_process r c.self.invariant.fits i.events.items c.args.k c.in_ok-i.i c.index-event.result.now all lt c.index-event.ensures c.in_ok-i.ensures in
+    let one = scan_process r c.self.invariant.0.fits i.events.items c.args.k c.in_ok-i.i c.index-event.result.now all lt c.index-event.ensures c.in_ok-i.ensures in
     let low : 0 < c.in_ok-i.i = one.0 in
     let high : c.in_ok-i.i ≤ i.machine.shape.n = one.1 in
-    let count = c.self.invariant.tells.process_count in
+    let count = c.self.invariant.0.tells.process_count in
     omega (arith, low, high, count, i.collects.ok)
 
 pub returns : goal.returns
@@ -38,7 +38,7 @@ returns g c = λ d.
     let k = c.args.k in
     let es = i.events.items in
     let e = c.index-event.result.now in
-    let inv = c.self.invariant in
+    let inv = c.self.invariant.0 in
     let all = inv.tells.events_are in
     let lt : k < length es = subst (λ (l : List Event). k < length l) (sym (all ∙ ap (λ (y : Run). events_of y (length y.items)) c.self.view_is)) c.requires in
     let one = scan_process r inv.fits es k c.in_ok-i.i e all lt c.index-event.ensures c.in_ok-i.ensures in

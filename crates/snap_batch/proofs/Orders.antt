@@ -5,12 +5,12 @@ use Rattle.std.specs.List.{AllZip, Contains}
 use Rattle.std.specs.Global.{Global}
 
 -- every answer is a report, and it is the report of the schedule at its place
-in_order : {S R E : Type 0} (f : S → R) (schedules : List S) (reports : List R)
+in_order : {S R : Type 0} (E : Type 0) (f : S → R) (schedules : List S) (reports : List R)
     → AllZip {A = S} {B = Result R E} (λ s r. IfOk r (λ report. report ≡ f s)) schedules (map (λ v. Ok v) reports) → reports ≡ map f schedules
-in_order f [] [] h = refl
-in_order f [] (r ∷ reports) h = absurd h
-in_order f (s ∷ schedules) [] h = absurd h
-in_order f (s ∷ schedules) (r ∷ reports) h = ap (λ x. x ∷ reports) h.0 ∙ ap (λ xs. f s ∷ xs) (in_order f schedules reports h.1)
+in_order E f [] [] h = refl
+in_order E f [] (r ∷ reports) h = absurd h
+in_order E f (s ∷ schedules) [] h = absurd h
+in_order E f (s ∷ schedules) (r ∷ reports) h = ap (λ x. x ∷ reports) h.0 ∙ ap (λ xs. f s ∷ xs) (in_order E f schedules reports h.1)
 
 -- what is collected from answers that are each as it should be
 pub gathered : {S R E : Type 0} (f : S → R) (schedules : List S) (answers : List (Result R E)) (result : Result (Vec R Global) E)
@@ -19,5 +19,5 @@ pub gathered : {S R E : Type 0} (f : S → R) (schedules : List S) (answers : Li
     → IfOk result (λ v. v.items ≡ map f schedules)
 gathered {S = S} {R = R} {E = E} f schedules answers (Ok v) each all =
     let P : List (Result R E) → Type 0 = λ l. AllZip (λ s r. IfOk r (λ report. report ≡ f s)) schedules l in
-    all.2 ∙ in_order f schedules all.0 (subst P all.1 each)
+    all.2 ∙ in_order E f schedules all.0 (subst P all.1 each)
 gathered f schedules answers (Err e) each all = tt

@@ -5,7 +5,7 @@ use Rattle.snap_semantics.specs.Source.{Source}
 use Rattle.snap_record.specs.Record.{report_at, run_over}
 
 -- the report of the end of a listing's run over a schedule
-abbrev pub end_report : Source → Schedule → List ℕ
+unfoldable pub end_report : Source → Schedule → List ℕ
 end_report l s = report_at (run_over l s) (length s.items)
 
 -- a report behind the line of its number

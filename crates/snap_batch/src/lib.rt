@@ -8,12 +8,13 @@ use rayon::prelude::*;
 use snap_code::Program;
 use snap_record::{Report, record_over};
 use snap_sched::Schedule;
-use snap_words::Kind;
+use snap_words::{Bits, Kind, KindTag, Multi, Seq};
 use std::alloc::{AllocError, Global};
 use std::thread::Threads;
 
-/// The report of the end of a schedule. The record is dropped when it stands.
-fn end_report<K: Kind>(
+/// The report of the end of a schedule, over registers of a kind.
+#[tactic(auto, unfolding(snap_batch::specs::Reports::end_report))]
+fn report_of<K: Kind>(
     alloc: Global,
     program: &Program,
     schedule: &Schedule,
@@ -21,17 +22,32 @@ fn end_report<K: Kind>(
     requires { program.now.kind ≡ K.TAG }
     ensures { IfOk result (λ report. report ≡ end_report program.now schedule.now) }
 {
-    record_over::<K>(alloc, program, schedule)?.report()
+    let record = record_over::<K>(alloc, program, schedule)?;
+    record.report()
+}
+
+/// The report of the end of a schedule. Its record is dropped when it stands.
+fn end_report(
+    alloc: Global,
+    program: &Program,
+    schedule: &Schedule,
+) -> Result<Report, AllocError>
+    ensures { IfOk result (λ report. report ≡ end_report program.now schedule.now) }
+{
+    match program.kind() {
+        KindTag::Seq => report_of::<Seq>(alloc, program, schedule),
+        KindTag::Bits => report_of::<Bits>(alloc, program, schedule),
+        KindTag::Multi => report_of::<Multi>(alloc, program, schedule),
+    }
 }
 
 /// The report of each schedule's end, in the order of the schedules, whichever thread made it and when.
-pub fn batch<K: Kind + Send + Sync>(
+pub fn batch(
     rt: &(impl Threads + Sync),
     alloc: Global,
     program: &Program,
     schedules: &[Schedule],
 ) -> Result<Vec<Report>, AllocError>
-    requires { program.now.kind ≡ K.TAG }
     ensures { IfOk result (λ reports. reports.items ≡ map (end_report program.now) schedules.now) }
 {
     let reports: Result<Vec<Report>, AllocError> = schedules
@@ -39,7 +55,7 @@ pub fn batch<K: Kind + Send + Sync>(
         .map(
             |schedule: &Schedule| -> Result<Report, AllocError>
                 ensures { IfOk result (λ report. report ≡ end_report program.entry.now schedule.now) }
-            { end_report::<K>(alloc, program, schedule) },
+            { end_report(alloc, program, schedule) },
         )
         .collect(rt, alloc)?;
     reports

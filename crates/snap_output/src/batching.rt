@@ -56,7 +56,7 @@ fn push_reports(out: &mut Vec<u8>, reports: &[Report]) -> Result<(), AllocError>
 
 /// The reports of a program of a kind under many schedules.
 #[tactic(auto, unfolding(snap_output::specs::Output::batch_text))]
-fn batch_kind<K: Kind + Send + Sync>(
+fn batch_kind<K: Kind>(
     rt: &(impl Threads + Sync),
     alloc: Global,
     program: &Program,
@@ -66,7 +66,7 @@ fn batch_kind<K: Kind + Send + Sync>(
     ensures { Answers (λ out. out.items) result (batch_text program.now (map (λ text. text.now) texts.now)) }
 {
     let schedules = schedules_for::<K>(alloc, program, texts)?;
-    let reports = batch::<K>(rt, alloc, program, schedules.as_slice())?;
+    let reports = batch(rt, alloc, program, schedules.as_slice())?;
     let mut out = Vec::new(alloc);
     push_reports(&mut out, reports.as_slice())?;
     Ok(out)

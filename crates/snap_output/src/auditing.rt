@@ -28,7 +28,7 @@ fn audit_run<K: Kind>(
 }
 
 /// What each finished scan of a program of a kind stands for.
-#[tactic(auto, unfolding(snap_output::specs::Output::audit_listing))]
+#[tactic(auto, unfolding(crate::specs::Output::audit_listing))]
 fn audit_kind<K: Kind>(
     alloc: Global,
     program: &Program,

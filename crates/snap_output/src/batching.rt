@@ -55,7 +55,7 @@ fn push_reports(out: &mut Vec<u8>, reports: &[Report]) -> Result<(), AllocError>
 }
 
 /// The reports of a program of a kind under many schedules.
-#[tactic(auto, unfolding(snap_output::specs::Output::batch_text))]
+#[tactic(auto, unfolding(crate::specs::Output::batch_text))]
 fn batch_kind<K: Kind>(
     rt: &(impl Threads + Sync),
     alloc: Global,

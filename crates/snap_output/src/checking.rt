@@ -32,7 +32,7 @@ fn check_line(alloc: Global, listing: &Listing) -> Result<Vec<u8>, AllocError>
 }
 
 /// What is said of a text that is a listing, or why it is none.
-#[tactic(auto, unfolding(snap_output::specs::Output::check_of))]
+#[tactic(auto, unfolding(crate::specs::Output::check_of))]
 pub fn check_of(alloc: Global, text: &[u8]) -> Result<Vec<u8>, Fault<Refusal>>
     ensures { Answers (λ out. out.items) result (check_of text.now) }
 {

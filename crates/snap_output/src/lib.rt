@@ -2,7 +2,6 @@
 #![tactic(auto)]
 
 mod auditing;
-mod batching;
 mod checking;
 mod headlines;
 mod images;

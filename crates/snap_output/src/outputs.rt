@@ -3,11 +3,10 @@ ghost use Rattle.std.specs.Prelude.{◌≡◌, ◌≤◌, ◌<◌, ℕ, List, Er
 ghost use Rattle.snap_semantics.specs.Answers.{Answers, ◌>>=◌};
 ghost use Rattle.snap_semantics.specs.declared.fault.Fault.TheVariants.{Refused};
 ghost use Rattle.snap_semantics.specs.declared.refusal.Refusal.{Refusal as Reason};
-ghost use Rattle.snap_output.specs.Output.{batched, checked_parts, checked_schedules, debug_text, of_task, output_of, parted, run_text, texts_for, verdicts_text};
+ghost use Rattle.snap_output.specs.Output.{checked_parts, debug_text, of_task, output_of, parted, run_text, texts_for, verdicts_text};
 ghost use Rattle.snap_output.specs.Parts.{parts_of};
 
 use crate::auditing::audit_program;
-use crate::batching::batch_program;
 use crate::checking::check_of;
 use crate::images::{assemble, list};
 use crate::parts::{count_separators, split_parts};
@@ -16,13 +15,9 @@ use crate::subject::{program_for, texts_for};
 use crate::task::{Subject, Task};
 use snap_semantics::{Fault, Refusal};
 use std::alloc::Global;
-use std::thread::Threads;
 
 /// The most bytes that an input may have.
 pub const MAX_INPUT: usize = 16_777_216;
-
-/// The most schedules of a batch.
-const MAX_SCHEDULES: usize = 4096;
 
 /// How many texts of so many parts stand behind the listing.
 fn count_texts(subject: Subject, parts: usize) -> usize
@@ -48,20 +43,6 @@ fn check_parts(subject: Subject, count: usize, input: &[u8]) -> Result<(), Refus
     }
 }
 
-/// Whether 1 to 4,096 texts stand behind the listing.
-fn check_schedules(subject: Subject, input: &[u8]) -> Result<(), Refusal>
-    requires { length input.now ≤ 16777216 }
-    ensures { result ≡ checked_schedules subject (parts_of input.now) }
-{
-    let found = count_separators(input) + 1;
-    let texts = count_texts(subject, found);
-    if 0 < texts && texts <= MAX_SCHEDULES {
-        Ok(())
-    } else {
-        Err(Refusal::WrongParts(found as u64))
-    }
-}
-
 /// The parts of an input that has so many texts behind the listing. Another number of parts is found before they are
 /// collected.
 fn parts_for(
@@ -80,7 +61,7 @@ fn parts_for(
 }
 
 /// A listing under a schedule.
-#[tactic(auto, unfolding(snap_output::specs::Output::parted))]
+#[tactic(auto, unfolding(crate::specs::Output::parted))]
 fn run(alloc: Global, subject: Subject, input: &[u8]) -> Result<Vec<u8>, Fault<Refusal>>
     requires { length input.now ≤ 16777216 }
     ensures output { Answers (λ out. out.items) result (parted subject 1 (parts_of input.now) run_text) }
@@ -93,7 +74,7 @@ fn run(alloc: Global, subject: Subject, input: &[u8]) -> Result<Vec<u8>, Fault<R
 }
 
 /// A listing under a schedule, as commands ask for it.
-#[tactic(auto, unfolding(snap_output::specs::Output::parted))]
+#[tactic(auto, unfolding(crate::specs::Output::parted))]
 fn debug(alloc: Global, subject: Subject, input: &[u8]) -> Result<Vec<u8>, Fault<Refusal>>
     requires { length input.now ≤ 16777216 }
     ensures output { Answers (λ out. out.items) result (parted subject 2 (parts_of input.now) debug_text) }
@@ -106,7 +87,7 @@ fn debug(alloc: Global, subject: Subject, input: &[u8]) -> Result<Vec<u8>, Fault
 }
 
 /// The verdicts of a listing under a schedule.
-#[tactic(auto, unfolding(snap_output::specs::Output::parted))]
+#[tactic(auto, unfolding(crate::specs::Output::parted))]
 fn audit(alloc: Global, subject: Subject, input: &[u8]) -> Result<Vec<u8>, Fault<Refusal>>
     requires { length input.now ≤ 16777216 }
     ensures output { Answers (λ out. out.items) result (parted subject 1 (parts_of input.now) verdicts_text) }
@@ -118,29 +99,9 @@ fn audit(alloc: Global, subject: Subject, input: &[u8]) -> Result<Vec<u8>, Fault
     audit_program(alloc, &program, texts[0])
 }
 
-/// A listing under many schedules. Another number of parts is found before they are collected.
-#[tactic(auto, unfolding(snap_output::specs::Output::batched))]
-fn batch(
-    rt: &(impl Threads + Sync),
-    alloc: Global,
-    subject: Subject,
-    input: &[u8],
-) -> Result<Vec<u8>, Fault<Refusal>>
-    requires { length input.now ≤ 16777216 }
-    ensures output { Answers (λ out. out.items) result (batched subject (parts_of input.now)) }
-    ensures counted { (r : Reason) → checked_schedules subject (parts_of input.now) ≡ Err r → result ≡ Err (Refused r) }
-{
-    check_schedules(subject, input)?;
-    let parts = split_parts(alloc, input)?;
-    let program = program_for(alloc, subject, parts.as_slice())?;
-    let texts = texts_for(subject, parts.as_slice());
-    batch_program(rt, alloc, &program, texts)
-}
-
 /// The whole output for an input, or why there is none.
-#[tactic(auto, unfolding(snap_output::specs::Output::output_of))]
+#[tactic(auto, unfolding(crate::specs::Output::output_of))]
 pub fn output(
-    rt: &(impl Threads + Sync),
     alloc: Global,
     task: &Task,
     input: &[u8],
@@ -157,6 +118,5 @@ pub fn output(
         Task::Run(subject) => run(alloc, subject, input),
         Task::Debug(subject) => debug(alloc, subject, input),
         Task::Audit(subject) => audit(alloc, subject, input),
-        Task::Batch(subject) => batch(rt, alloc, subject, input),
     }
 }

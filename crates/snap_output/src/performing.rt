@@ -33,7 +33,7 @@ fn read_commands(alloc: Global, text: &[u8]) -> Result<Vec<Command>, Fault<Refus
 }
 
 /// Reads a schedule whose shape fits the kind of a program.
-#[tactic(auto, unfolding(snap_output::specs::Perform::schedule_for))]
+#[tactic(auto, unfolding(crate::specs::Perform::schedule_for))]
 pub fn schedule_for<K: Kind>(
     alloc: Global,
     program: &Program,
@@ -89,7 +89,7 @@ fn performance<K: Kind>(
 }
 
 /// What commands are answered on a program of a kind under a schedule, and the report of the position reached.
-#[tactic(auto, unfolding(snap_output::specs::Perform::perform_listing))]
+#[tactic(auto, unfolding(crate::specs::Perform::perform_listing))]
 fn perform_kind<K: Kind>(
     alloc: Global,
     program: &Program,
@@ -126,7 +126,7 @@ pub fn perform_program(
 }
 
 /// What commands are answered on a listing under a schedule, and the report of the position reached, as text.
-#[tactic(auto, unfolding(snap_output::specs::Perform::perform_of))]
+#[tactic(auto, unfolding(crate::specs::Perform::perform_of))]
 pub fn perform(
     alloc: Global,
     listing: &[u8],

@@ -23,6 +23,4 @@ pub enum Task {
     Debug(Subject),
     /// Each finished scan of a listing under a schedule: whether it has a point.
     Audit(Subject),
-    /// A listing under many schedules: the report of the end of each.
-    Batch(Subject),
 }

@@ -9,7 +9,6 @@ use crate::sink::Sink;
 use crate::source::Source;
 use snap_output::{MAX_INPUT, Task, output};
 use std::alloc::Global;
-use std::thread::Threads;
 
 /// The bytes of one read.
 const CHUNK: usize = 4096;
@@ -50,7 +49,6 @@ pub fn write_all<W: Sink>(sink: &mut W, text: &[u8]) -> Result<(), ConductFault>
 
 /// Reads the input, and then writes its whole output and nothing else.
 pub fn conduct<R: Source, W: Sink>(
-    rt: &(impl Threads + Sync),
     alloc: Global,
     task: &Task,
     source: &mut R,
@@ -63,6 +61,6 @@ pub fn conduct<R: Source, W: Sink>(
         (R.has_failed source.new) (W.has_failed sink.new) (W.is_stalled sink.new) }
 {
     let input = read_all(alloc, source)?;
-    let text = output(rt, alloc, task, input.as_slice())?;
+    let text = output(alloc, task, input.as_slice())?;
     write_all(sink, text.as_slice())
 }

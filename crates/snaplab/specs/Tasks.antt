@@ -21,5 +21,4 @@ task_of name s =
     if bytes_eq name (codes "list") then Some task.List else
     if bytes_eq name (codes "run") then Some (task.Run s) else
     if bytes_eq name (codes "debug") then Some (task.Debug s) else
-    if bytes_eq name (codes "audit") then Some (task.Audit s) else
-    if bytes_eq name (codes "batch") then Some (task.Batch s) else None
+    if bytes_eq name (codes "audit") then Some (task.Audit s) else None

@@ -31,8 +31,7 @@ fn command<'a>(alloc: Global) -> Result<Command<'a>, AllocError> {
         .subcommand(Command::new(alloc, "list").about("Writes the text of an image"))?
         .subcommand(running(alloc, "run", "Runs a listing under a schedule")?)?
         .subcommand(running(alloc, "debug", "Runs a listing under a schedule, by debugger commands")?)?
-        .subcommand(running(alloc, "audit", "Says of each finished scan which state it stands for")?)?
-        .subcommand(running(alloc, "batch", "Runs a listing under many schedules")?)
+        .subcommand(running(alloc, "audit", "Says of each finished scan which state it stands for")?)
 }
 
 /// The kind of this name.
@@ -58,7 +57,6 @@ fn task_of(name: &str, subject: Subject) -> Option<Task>
         "run" => Some(Task::Run(subject)),
         "debug" => Some(Task::Debug(subject)),
         "audit" => Some(Task::Audit(subject)),
-        "batch" => Some(Task::Batch(subject)),
         _ => None,
     }
 }

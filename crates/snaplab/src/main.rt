@@ -66,7 +66,7 @@ fn explain(rt: &HostRuntime, error: &Error) -> u8 {
 fn run(rt: &HostRuntime, task: &Task) -> u8 {
     let mut source = Std::new(rt.reader());
     let mut sink = Std::new(io::writer(rt));
-    match conduct(rt, rt.alloc(), task, &mut source, &mut sink) {
+    match conduct(rt.alloc(), task, &mut source, &mut sink) {
         Ok(()) => 0,
         Err(fault) => complain(rt, &fault),
     }

@@ -18,7 +18,7 @@ const IMAGE: [u8; 25] = [
 pub fn written(rt: &HostRuntime, task: Task, input: &[u8]) -> Result<Vec<u8>, ConductFault> {
     let mut source = Std::new(input);
     let mut sink = Std::new(Vec::new(rt.alloc()));
-    conduct(rt, rt.alloc(), &task, &mut source, &mut sink)?;
+    conduct(rt.alloc(), &task, &mut source, &mut sink)?;
     Ok(sink.into_inner())
 }
 

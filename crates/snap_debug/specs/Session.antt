@@ -166,9 +166,13 @@ abbrev pub replies_text : Session → List Command → List ℕ
 replies_text s [] = []
 replies_text s (c ∷ cs) = codes "> " ++ line_text (spelled_command c) ++ (answer s c).1 ++ replies_text (answer s c).0 cs
 
+-- the report of a session's position
+abbrev pub session_report : Session → List ℕ
+session_report s = report_at s.run s.position
+
 -- what commands are answered over a run, and the report of the position that they reach
 abbrev pub performance : Run → List Command → List ℕ
-performance r cs = replies_text (opened r) cs ++ report_at r (after_commands (opened r) cs).position
+performance r cs = replies_text (opened r) cs ++ session_report (after_commands (opened r) cs)
 
 -- What a session answered to a command, and what it left: by the definition, or nothing is left changed for want of memory.
 abbrev pub Obeys : {X : Type 0} → (X → List ℕ) → Result X (Fault CommandRefusal) → Session → Command → Session → Type 0

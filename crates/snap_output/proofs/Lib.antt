@@ -1,3 +1,4 @@
 pub mod Loads
 pub mod Splits
-pub mod Headlines
+pub mod Shipping
+pub mod Parting

@@ -41,6 +41,10 @@ texts_for (subject.Shipped g) parts = parts
 abbrev pub checked_parts : Subject → (count : ℕ) → List (List ℕ) → Result (Unit {0}) Refusal
 checked_parts s count parts = if nat_eq (length (texts_for s parts)) count then Ok tt else Err (refusal.WrongParts (length parts))
 
+-- the parts, where there are so many
+abbrev pub counted_parts : Subject → (count : ℕ) → List (List ℕ) → Result (List (List ℕ)) Refusal
+counted_parts s count parts = checked_parts s count parts >>= λ there. Ok parts
+
 -- a task on a listing and so many texts
 unfoldable pub parted : Subject → (count : ℕ) → List (List ℕ) → (Source → List (List ℕ) → Result (List ℕ) Refusal) → Result (List ℕ) Refusal
 parted s count parts f = do

@@ -1,9 +1,9 @@
 //! What the program writes for an input.
 ghost use Rattle.std.specs.Prelude.{◌≡◌, ◌≤◌, ◌<◌, ℕ, List, Err, Ok, length, map};
-ghost use Rattle.snap_semantics.specs.Answers.{Answers, ◌>>=◌};
+ghost use Rattle.snap_semantics.specs.Answers.{Answers};
 ghost use Rattle.snap_semantics.specs.declared.fault.Fault.TheVariants.{Refused};
 ghost use Rattle.snap_semantics.specs.declared.refusal.Refusal.{Refusal as Reason};
-ghost use Rattle.snap_output.specs.Output.{checked_parts, debug_text, of_task, output_of, parted, run_text, texts_for, verdicts_text};
+ghost use Rattle.snap_output.specs.Output.{checked_parts, counted_parts, debug_text, of_task, output_of, parted, run_text, texts_for, verdicts_text};
 ghost use Rattle.snap_output.specs.Parts.{parts_of};
 
 use crate::auditing::audit_program;
@@ -13,6 +13,7 @@ use crate::parts::{count_separators, split_parts};
 use crate::performing::perform_program;
 use crate::subject::{program_for, texts_for};
 use crate::task::{Subject, Task};
+use snap_code::Program;
 use snap_semantics::{Fault, Refusal};
 use std::alloc::Global;
 
@@ -53,11 +54,23 @@ fn parts_for(
 ) -> Result<Vec<&[u8]>, Fault<Refusal>>
     requires { length input.now ≤ 16777216 }
     ensures parts { Answers (λ parts. map (λ part. part.now) parts.items) result
-        (checked_parts subject count (parts_of input.now) >>= λ there. Ok (parts_of input.now)) }
+        (counted_parts subject count (parts_of input.now)) }
     ensures counted { (r : Reason) → checked_parts subject count (parts_of input.now) ≡ Err r → result ≡ Err (Refused r) }
 {
     check_parts(subject, count, input)?;
     Ok(split_parts(alloc, input)?)
+}
+
+/// A program under the schedule that a text is.
+fn run_texts(
+    alloc: Global,
+    program: &Program,
+    texts: &[&[u8]],
+) -> Result<Vec<u8>, Fault<Refusal>>
+    requires { 0 < length texts.now }
+    ensures { Answers (λ out. out.items) result (run_text program.now (map (λ text. text.now) texts.now)) }
+{
+    perform_program(alloc, program, texts[0], b"run\n")
 }
 
 /// A listing under a schedule.
@@ -70,7 +83,19 @@ fn run(alloc: Global, subject: Subject, input: &[u8]) -> Result<Vec<u8>, Fault<R
     let parts = parts_for(alloc, subject, 1, input)?;
     let program = program_for(alloc, subject, parts.as_slice())?;
     let texts = texts_for(subject, parts.as_slice());
-    perform_program(alloc, &program, texts[0], b"run\n")
+    run_texts(alloc, &program, texts)
+}
+
+/// A program under the schedule that a text is, as the commands of another ask for it.
+fn debug_texts(
+    alloc: Global,
+    program: &Program,
+    texts: &[&[u8]],
+) -> Result<Vec<u8>, Fault<Refusal>>
+    requires { 1 < length texts.now }
+    ensures { Answers (λ out. out.items) result (debug_text program.now (map (λ text. text.now) texts.now)) }
+{
+    perform_program(alloc, program, texts[0], texts[1])
 }
 
 /// A listing under a schedule, as commands ask for it.
@@ -83,7 +108,19 @@ fn debug(alloc: Global, subject: Subject, input: &[u8]) -> Result<Vec<u8>, Fault
     let parts = parts_for(alloc, subject, 2, input)?;
     let program = program_for(alloc, subject, parts.as_slice())?;
     let texts = texts_for(subject, parts.as_slice());
-    perform_program(alloc, &program, texts[0], texts[1])
+    debug_texts(alloc, &program, texts)
+}
+
+/// The verdicts of a program under the schedule that a text is.
+fn audit_texts(
+    alloc: Global,
+    program: &Program,
+    texts: &[&[u8]],
+) -> Result<Vec<u8>, Fault<Refusal>>
+    requires { 0 < length texts.now }
+    ensures { Answers (λ out. out.items) result (verdicts_text program.now (map (λ text. text.now) texts.now)) }
+{
+    audit_program(alloc, program, texts[0])
 }
 
 /// The verdicts of a listing under a schedule.
@@ -96,7 +133,7 @@ fn audit(alloc: Global, subject: Subject, input: &[u8]) -> Result<Vec<u8>, Fault
     let parts = parts_for(alloc, subject, 1, input)?;
     let program = program_for(alloc, subject, parts.as_slice())?;
     let texts = texts_for(subject, parts.as_slice());
-    audit_program(alloc, &program, texts[0])
+    audit_texts(alloc, &program, texts)
 }
 
 /// The whole output for an input, or why there is none.

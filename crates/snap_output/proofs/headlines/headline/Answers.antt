@@ -1,4 +1,4 @@
-use Rattle.snap_output.proofs.Headlines.{prints_the_run, lists_back, shipped_runs}
+use Rattle.snap_output.proofs.Shipping.{prints_the_run, lists_back, shipped_runs}
 use Rattle.snap_output.proofs.headlines.headline.Goals as goal
 
 pub returns : goal.returns

@@ -69,6 +69,10 @@ fits_from : (fit : Bool) (s found : Schedule) → (if fit then Ok s else Err (re
 fits_from true s found e = (refl, cc)
 fits_from false s found e = absurd cc
 
+-- two answers are one
+told : {A E : Type 0} (answer : Result A E) (x y : A) → answer ≡ Ok x → answer ≡ Ok y → y ≡ x
+told answer x y is_x is_y = cc
+
 -- the schedule that a text is, of a shape that fits
 schedule_from : (l : Source) (y : List ℕ) (s : Schedule) → schedule_for l y ≡ Ok s → (schedule_of y ≡ Ok s) × (fits l.kind s.shape ≡ true)
 unfolding schedule_for
@@ -84,7 +88,8 @@ unfolding forms.keyword_form forms.number_form forms.numbers_form forms.place_fo
 is_run = refl
 
 only_run : (r : Run) (cs : List Command) (text : List ℕ) → commands_of (codes "run\n") ≡ Ok cs → text ≡ performance r cs → text ≡ performance r (command.Run ∷ [])
-only_run r cs text read e = let same : cs ≡ command.Run ∷ [] = cc in rw (sym same) e
+only_run r cs text read e =
+    subst (λ (asked : List Command). text ≡ performance r asked) (told (commands_of (codes "run\n")) (command.Run ∷ []) cs is_run read) e
 
 -- the promises of the three listings
 module _ (of_u : u.RunsAreSnapshots) (of_b : b.RunsAreSnapshots) (of_m : m.RunsAreSnapshots) (reads : ReadsOnlySpelled) where
@@ -104,15 +109,15 @@ module _ (of_u : u.RunsAreSnapshots) (of_b : b.RunsAreSnapshots) (of_m : m.RunsA
   performed g y z text e =
       let read = both (schedule_for (shipped g) y) _ text e in
       let asked = both (refused_as refusal.Commands (commands_of z)) _ text read.2 in
-      let same : Ok {E = Refusal} (performance (run_over (shipped g) read.0) asked.0) ≡ Ok text = asked.2 in
-      (run_over (shipped g) read.0, asked.0, run_from g y read.0 read.1, not_refused refusal.Commands (commands_of z) asked.0 asked.1, cc)
+      (run_over (shipped g) read.0, asked.0, run_from g y read.0 read.1, not_refused refusal.Commands (commands_of z) asked.0 asked.1,
+          told (Ok (performance (run_over (shipped g) read.0) asked.0)) (performance (run_over (shipped g) read.0) asked.0) text refl asked.2)
 
   audited : (g : KindTag) (y text : List ℕ) → audit_listing (shipped g) y ≡ Ok text → (r : Run) × ShippedRun g r × (text ≡ audit_text r)
   unfolding audit_listing
   audited g y text e =
       let read = both (schedule_for (shipped g) y) _ text e in
-      let same : Ok {E = Refusal} (audit_text (run_over (shipped g) read.0)) ≡ Ok text = read.2 in
-      (run_over (shipped g) read.0, run_from g y read.0 read.1, cc)
+      (run_over (shipped g) read.0, run_from g y read.0 read.1,
+          told (Ok (audit_text (run_over (shipped g) read.0))) (audit_text (run_over (shipped g) read.0)) text refl read.2)
 
   -- the output is that of the parts
   of_parts : (t : Task) (input text : List ℕ) → output_of t input ≡ Ok text → of_task t input ≡ Ok text

@@ -1,10 +1,8 @@
 -- A record of the first items of a schedule is at that position of the schedule's run.
-use Rattle.std.proofs.Common.{◌≡◌, ℕ, List, [], ◌∷◌, length, take, refl, sym, ◌∙◌, ap}
+use Rattle.std.proofs.Common.{◌≡◌, List, [], ◌∷◌, length, take, refl, ◌∙◌, ap}
 use Rattle.snap_words.specs.Shape.{Counts}
-use Rattle.snap_semantics.specs.declared.process.Item.{Item}
 use Rattle.snap_semantics.specs.Run.{after, events}
 use Rattle.snap_semantics.specs.Schedule.{Schedule}
-use Rattle.snap_semantics.specs.Source.{Source}
 use Rattle.snap_semantics.specs.State.{initial}
 use Rattle.snap_runs.specs.Run.{Run, state}
 use Rattle.snap_record.specs.Record.{events_of, run_over}

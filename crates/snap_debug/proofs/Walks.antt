@@ -7,13 +7,13 @@ use Rattle.snap_words.specs.declared.address.Address.{Address}
 use Rattle.snap_semantics.specs.Schedule.{Schedule}
 use Rattle.snap_semantics.specs.ScheduleText.{IsSchedule}
 use Rattle.snap_semantics.specs.Source.{Source}
-use Rattle.snap_semantics.specs.State.{State, initial, process_at}
+use Rattle.snap_semantics.specs.State.{State, initial}
 use Rattle.snap_semantics.specs.Table.{done, who}
 use Rattle.snap_semantics.specs.declared.process.Item.{Item}
 use Rattle.snap_semantics.specs.declared.process.Item.TheVariants.{Step}
 use Rattle.snap_semantics.specs.declared.process.Outcome.{Outcome}
 use Rattle.snap_machine.specs.Standing.{Standing}
-use Rattle.snap_runs.specs.Run.{Run, Fits, state, item, outcome}
+use Rattle.snap_runs.specs.Run.{Run, state, item, outcome}
 use Rattle.snap_runs.proofs.Embedding.{all_index, next_state}
 use Rattle.snap_debug.specs.Marks.{Marks, mark_count, reaches, changes, is_stop, next_stop, last_stop}
 use Rattle.snap_record.specs.Record.{run_over}

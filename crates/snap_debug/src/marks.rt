@@ -157,11 +157,7 @@ impl Marks {
     }
 
     /// These and a breakpoint, where it is not set yet.
-    pub fn with_break(
-        &self,
-        alloc: Global,
-        b: Breakpoint,
-    ) -> Result<Marks, Fault<CommandRefusal>>
+    pub fn with_break(&self, alloc: Global, b: Breakpoint) -> Result<Marks, Fault<CommandRefusal>>
         ensures { Answers (λ m. m) result (with_break self.now b) }
     {
         if has_break(self.breaks(), b) {

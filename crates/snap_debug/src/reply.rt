@@ -11,7 +11,9 @@ ghost use Rattle.snap_debug.specs.Session.{events_text, marks_line};
 
 use crate::marks::Marks;
 use snap_machine::Machine;
-use snap_report::{event_lines, head_lines, outcome_text, position_line, process_lines, register_line, values_line};
+use snap_report::{
+    event_lines, head_lines, outcome_text, position_line, process_lines, register_line, values_line,
+};
 use snap_semantics::{Event, Outcome};
 use snap_text::{push_number, push_text};
 use snap_words::{Address, Kind};

@@ -138,12 +138,7 @@ fn any_stands_at(i: u32, status: &Status, breaks: &[Breakpoint]) -> bool
 }
 
 /// Whether marks stop at an item of process `i` that leads from one machine to the other.
-fn stops_between<K: Kind>(
-    before: &Machine<K>,
-    after: &Machine<K>,
-    i: u32,
-    marks: &Marks,
-) -> bool
+fn stops_between<K: Kind>(before: &Machine<K>, after: &Machine<K>, i: u32, marks: &Marks) -> bool
     requires { IsOneOf after.now.shape.n i }
     ensures { result ≡ stops_between before.now.state after.now.state i marks.now }
 {

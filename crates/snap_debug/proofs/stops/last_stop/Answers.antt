@@ -1,8 +1,7 @@
-use Rattle.std.proofs.Common.{◌≡◌, ℕ, ◌+◌, ◌-◌, ◌<◌, ◌≤◌, length, sym, ◌∙◌, ap, arith}
+use Rattle.std.proofs.Common.{◌≡◌, ◌+◌, ◌-◌, ◌<◌, ◌≤◌, length, sym, ◌∙◌, ap, arith}
 use Rattle.snap_debug.specs.Marks.{is_stop, last_stop}
 use Rattle.snap_record.specs.Record.{run_over}
-use Rattle.snap_debug.specs.Stops.{AreAt}
-use Rattle.snap_debug.proofs.Walks.{last_first, last_more, no_last, walk_at}
+use Rattle.snap_debug.proofs.Walks.{last_more, no_last, walk_at}
 use Rattle.snap_debug.proofs.stops.last_stop.Goals as goal
 
 pub returns-then-count-eq0 : goal.returns-then-count-eq0

@@ -1,4 +1,4 @@
-use Rattle.std.proofs.Common.{◌≡◌, ℕ, ◌+◌, ◌-◌, ◌<◌, ◌≤◌, length, sym, ◌∙◌, ap, arith}
+use Rattle.std.proofs.Common.{◌≡◌, ◌+◌, ◌-◌, ◌<◌, ◌≤◌, length, sym, ◌∙◌, ap, arith}
 use Rattle.snap_record.specs.Record.{run_over}
 use Rattle.snap_debug.proofs.Walks.{next_end, next_here, next_later, no_next}
 use Rattle.snap_debug.proofs.stops.next_stop.Goals as goal

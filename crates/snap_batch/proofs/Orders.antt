@@ -1,8 +1,9 @@
 -- Reports in the order of their schedules.
-use Rattle.std.proofs.Common.{◌≡◌, List, [], ◌∷◌, map, Vec, Result, Ok, Err, refl, ◌∙◌, ap, subst}
+use Rattle.std.proofs.Common.{◌≡◌, List, [], ◌∷◌, map, Vec, Result, Ok, Err, Bor, refl, ◌∙◌, ap, subst}
 use Rattle.std.specs.Prelude.{IfOk, MatchResult}
 use Rattle.std.specs.List.{AllZip, Contains}
 use Rattle.std.specs.Global.{Global}
+use Rattle.rayon.proofs.ToStd.{slice-AllZip}
 
 -- every answer is a report, and it is the report of the schedule at its place
 in_order : {S R : Type 0} (E : Type 0) (f : S → R) (schedules : List S) (reports : List R)
@@ -21,3 +22,14 @@ gathered {S = S} {R = R} {E = E} f schedules answers (Ok v) each all =
     let P : List (Result R E) → Type 0 = λ l. AllZip (λ s r. IfOk r (λ report. report ≡ f s)) schedules l in
     all.2 ∙ in_order E f schedules all.0 (subst P all.1 each)
 gathered f schedules answers (Err e) each all = tt
+
+-- the same of a chain over references that show the schedules, whose closure has its program by another way
+pub side_by_side : {P S R E : Type 0} (f : P → S → R) (held program : P) → held ≡ program
+    → (seen : List (Bor S)) (schedules : List S) → map (λ (z : Bor S). z.now) seen ≡ schedules
+    → (answers : List (Result R E)) (result : Result (Vec R Global) E)
+    → AllZip {A = Bor S} {B = Result R E} (λ z r. IfOk r (λ report. report ≡ f held z.now)) seen answers
+    → MatchResult result (λ v. (reports : List R) × (answers ≡ map (λ v. Ok v) reports) × (v.items ≡ reports)) (λ e. Contains answers (Err e))
+    → IfOk result (λ v. v.items ≡ map (f program) schedules)
+side_by_side {S = S} {R = R} f held program same seen schedules shown answers result each all =
+    let zipped = slice-AllZip seen schedules shown (λ s r. IfOk r (λ report. report ≡ f held s)) answers each in
+    subst (λ p. IfOk result (λ v. v.items ≡ map (f p) schedules)) same (gathered (f held) schedules answers result zipped all)

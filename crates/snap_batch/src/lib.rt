@@ -13,7 +13,7 @@ use std::alloc::{AllocError, Global};
 use std::thread::Threads;
 
 /// The report of the end of a schedule, over registers of a kind.
-#[tactic(auto, unfolding(snap_batch::specs::Reports::end_report))]
+#[tactic(auto, unfolding(crate::specs::Reports::end_report))]
 fn report_of<K: Kind>(
     alloc: Global,
     program: &Program,

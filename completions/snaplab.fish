@@ -1,5 +1,5 @@
 # Completion of snaplab for fish: put this file into ~/.config/fish/completions.
-set -l commands check assemble list run debug audit batch help
+set -l commands check assemble list run debug audit help
 complete -c snaplab -f
 complete -c snaplab -s h -l help -d 'print help'
 complete -c snaplab -n "not __fish_seen_subcommand_from $commands" -a check -d 'say whether a text is a listing'
@@ -8,6 +8,5 @@ complete -c snaplab -n "not __fish_seen_subcommand_from $commands" -a list -d 'w
 complete -c snaplab -n "not __fish_seen_subcommand_from $commands" -a run -d 'run a listing under a schedule'
 complete -c snaplab -n "not __fish_seen_subcommand_from $commands" -a debug -d 'run a listing under a schedule, by debugger commands'
 complete -c snaplab -n "not __fish_seen_subcommand_from $commands" -a audit -d 'say of each finished scan when it took place'
-complete -c snaplab -n "not __fish_seen_subcommand_from $commands" -a batch -d 'run a listing under many schedules'
 complete -c snaplab -n "not __fish_seen_subcommand_from $commands" -a help -d 'print help'
-complete -c snaplab -n '__fish_seen_subcommand_from run debug audit batch' -l shipped -x -a 'seq bit multi' -d 'take the shipped listing of this kind'
+complete -c snaplab -n '__fish_seen_subcommand_from run debug audit' -l shipped -x -a 'seq bit multi' -d 'take the shipped listing of this kind'

@@ -27,11 +27,7 @@ fn report_of<K: Kind>(
 }
 
 /// The report of the end of a schedule. Its record is dropped when it stands.
-fn end_report(
-    alloc: Global,
-    program: &Program,
-    schedule: &Schedule,
-) -> Result<Report, AllocError>
+fn end_report(alloc: Global, program: &Program, schedule: &Schedule) -> Result<Report, AllocError>
     ensures { IfOk result (λ report. report ≡ end_report program.now schedule.now) }
 {
     match program.kind() {

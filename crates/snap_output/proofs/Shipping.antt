@@ -78,9 +78,10 @@ schedule_from : (l : Source) (y : List ℕ) (s : Schedule) → schedule_for l y 
 unfolding schedule_for
 schedule_from l y s e =
     let read = both (refused_as refusal.Schedule (schedule_of y)) (fitting l) s e in
-    let fit = fits_from (fits l.kind read.0.shape) read.0 s read.2 in
-    (subst (λ (x : Schedule). schedule_of y ≡ Ok x) fit.1 (not_refused refusal.Schedule (schedule_of y) read.0 read.1),
-        subst (λ (x : Schedule). fits l.kind x.shape ≡ true) fit.1 fit.0)
+    let fit = fits_from (fits l.kind read.0.shape) read.0 s read.2 in (
+      subst (λ (x : Schedule). schedule_of y ≡ Ok x) fit.1 (not_refused refusal.Schedule (schedule_of y) read.0 read.1),
+      subst (λ (x : Schedule). fits l.kind x.shape ≡ true) fit.1 fit.0,
+    )
 
 -- the one command
 is_run : commands_of (codes "run\n") ≡ Ok (command.Run ∷ [])
@@ -108,16 +109,22 @@ module _ (of_u : u.RunsAreSnapshots) (of_b : b.RunsAreSnapshots) (of_m : m.RunsA
   unfolding perform_listing
   performed g y z text e =
       let read = both (schedule_for (shipped g) y) _ text e in
-      let asked = both (refused_as refusal.Commands (commands_of z)) _ text read.2 in
-      (run_over (shipped g) read.0, asked.0, run_from g y read.0 read.1, not_refused refusal.Commands (commands_of z) asked.0 asked.1,
-          told (Ok (performance (run_over (shipped g) read.0) asked.0)) (performance (run_over (shipped g) read.0) asked.0) text refl asked.2)
+      let asked = both (refused_as refusal.Commands (commands_of z)) _ text read.2 in (
+        run_over (shipped g) read.0,
+        asked.0,
+        run_from g y read.0 read.1,
+        not_refused refusal.Commands (commands_of z) asked.0 asked.1,
+        told (Ok (performance (run_over (shipped g) read.0) asked.0)) (performance (run_over (shipped g) read.0) asked.0) text refl asked.2,
+      )
 
   audited : (g : KindTag) (y text : List ℕ) → audit_listing (shipped g) y ≡ Ok text → (r : Run) × ShippedRun g r × (text ≡ audit_text r)
   unfolding audit_listing
   audited g y text e =
-      let read = both (schedule_for (shipped g) y) _ text e in
-      (run_over (shipped g) read.0, run_from g y read.0 read.1,
-          told (Ok (audit_text (run_over (shipped g) read.0))) (audit_text (run_over (shipped g) read.0)) text refl read.2)
+      let read = both (schedule_for (shipped g) y) _ text e in (
+        run_over (shipped g) read.0,
+        run_from g y read.0 read.1,
+        told (Ok (audit_text (run_over (shipped g) read.0))) (audit_text (run_over (shipped g) read.0)) text refl read.2,
+      )
 
   -- the output is that of the parts
   of_parts : (t : Task) (input text : List ℕ) → output_of t input ≡ Ok text → of_task t input ≡ Ok text
@@ -133,10 +140,10 @@ module _ (of_u : u.RunsAreSnapshots) (of_b : b.RunsAreSnapshots) (of_m : m.RunsA
   pub shipped_runs : (g : KindTag) (input text : List ℕ) → WritesShippedRuns g input text
   shipped_runs g input text = record {
     runs = λ e.
-      let found = performed g (part 0 (parts_of input)) (codes "run\n") text (of_texts g 1 (parts_of input) _ text (of_parts (task.Run (Shipped g)) input text e)) in
-      (found.0, found.2, only_run found.0 found.1 text found.3 found.4);
+        let found = performed g (part 0 (parts_of input)) (codes "run\n") text (of_texts g 1 (parts_of input) _ text (of_parts (task.Run (Shipped g)) input text e)) in
+        (found.0, found.2, only_run found.0 found.1 text found.3 found.4);
     debugs = λ e.
-      let found = performed g (part 0 (parts_of input)) (part 1 (parts_of input)) text (of_texts g 2 (parts_of input) _ text (of_parts (task.Debug (Shipped g)) input text e)) in
-      (found.0, found.1, found.2, found.4);
+        let found = performed g (part 0 (parts_of input)) (part 1 (parts_of input)) text (of_texts g 2 (parts_of input) _ text (of_parts (task.Debug (Shipped g)) input text e)) in
+        (found.0, found.1, found.2, found.4);
     audits = λ e. audited g (part 0 (parts_of input)) text (of_texts g 1 (parts_of input) _ text (of_parts (task.Audit (Shipped g)) input text e));
   }

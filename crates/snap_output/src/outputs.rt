@@ -62,11 +62,7 @@ fn parts_for(
 }
 
 /// A program under the schedule that a text is.
-fn run_texts(
-    alloc: Global,
-    program: &Program,
-    texts: &[&[u8]],
-) -> Result<Vec<u8>, Fault<Refusal>>
+fn run_texts(alloc: Global, program: &Program, texts: &[&[u8]]) -> Result<Vec<u8>, Fault<Refusal>>
     requires { 0 < length texts.now }
     ensures { Answers (λ out. out.items) result (run_text program.now (map (λ text. text.now) texts.now)) }
 {
@@ -87,11 +83,7 @@ fn run(alloc: Global, subject: Subject, input: &[u8]) -> Result<Vec<u8>, Fault<R
 }
 
 /// A program under the schedule that a text is, as the commands of another ask for it.
-fn debug_texts(
-    alloc: Global,
-    program: &Program,
-    texts: &[&[u8]],
-) -> Result<Vec<u8>, Fault<Refusal>>
+fn debug_texts(alloc: Global, program: &Program, texts: &[&[u8]]) -> Result<Vec<u8>, Fault<Refusal>>
     requires { 1 < length texts.now }
     ensures { Answers (λ out. out.items) result (debug_text program.now (map (λ text. text.now) texts.now)) }
 {
@@ -112,11 +104,7 @@ fn debug(alloc: Global, subject: Subject, input: &[u8]) -> Result<Vec<u8>, Fault
 }
 
 /// The verdicts of a program under the schedule that a text is.
-fn audit_texts(
-    alloc: Global,
-    program: &Program,
-    texts: &[&[u8]],
-) -> Result<Vec<u8>, Fault<Refusal>>
+fn audit_texts(alloc: Global, program: &Program, texts: &[&[u8]]) -> Result<Vec<u8>, Fault<Refusal>>
     requires { 0 < length texts.now }
     ensures { Answers (λ out. out.items) result (verdicts_text program.now (map (λ text. text.now) texts.now)) }
 {
@@ -138,11 +126,7 @@ fn audit(alloc: Global, subject: Subject, input: &[u8]) -> Result<Vec<u8>, Fault
 
 /// The whole output for an input, or why there is none.
 #[tactic(auto, unfolding(crate::specs::Output::output_of))]
-pub fn output(
-    alloc: Global,
-    task: &Task,
-    input: &[u8],
-) -> Result<Vec<u8>, Fault<Refusal>>
+pub fn output(alloc: Global, task: &Task, input: &[u8]) -> Result<Vec<u8>, Fault<Refusal>>
     ensures { Answers (λ out. out.items) result (output_of task.now input.now) }
 {
     if input.len() > MAX_INPUT {

@@ -101,12 +101,7 @@ fn perform_kind<K: Kind>(
 {
     let schedule = schedule_for::<K>(alloc, program, schedule)?;
     let commands = read_commands(alloc, commands)?;
-    Ok(performance::<K>(
-        alloc,
-        program,
-        &schedule,
-        commands.as_slice(),
-    )?)
+    Ok(performance::<K>(alloc, program, &schedule, commands.as_slice())?)
 }
 
 /// What commands are answered on a program under a schedule, and the report of the position reached.

@@ -30,8 +30,16 @@ fn command<'a>(alloc: Global) -> Result<Command<'a>, AllocError> {
         .subcommand(Command::new(alloc, "assemble").about("Writes the image of a listing"))?
         .subcommand(Command::new(alloc, "list").about("Writes the text of an image"))?
         .subcommand(running(alloc, "run", "Runs a listing under a schedule")?)?
-        .subcommand(running(alloc, "debug", "Runs a listing under a schedule, by debugger commands")?)?
-        .subcommand(running(alloc, "audit", "Says of each finished scan which state it stands for")?)
+        .subcommand(running(
+            alloc,
+            "debug",
+            "Runs a listing under a schedule, by debugger commands",
+        )?)?
+        .subcommand(running(
+            alloc,
+            "audit",
+            "Says of each finished scan which state it stands for",
+        )?)
 }
 
 /// The kind of this name.

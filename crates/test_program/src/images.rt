@@ -37,10 +37,7 @@ fn says_what_listings_are(rt: HostRuntime) -> Result<(), Fail> {
         (LISTING.as_slice(), b"ok: seq, 6 lines\n".as_slice()),
         (SMALL.as_slice(), b"ok: seq, 2 lines\n"),
     ] {
-        assert_eq!(rt;
-            written(&rt, Task::Check, text)?.as_slice(),
-            line
-        );
+        assert_eq!(rt; written(&rt, Task::Check, text)?.as_slice(), line);
     }
     Ok(())
 }
@@ -90,10 +87,7 @@ fn refuses_what_is_no_image(rt: HostRuntime) -> Result<(), Fail> {
         ),
     ] {
         let fault = ConductFault::Refused(Refusal::Image(refusal));
-        assert_eq!(rt;
-            written(&rt, Task::List, image).err(),
-            Some(fault)
-        );
+        assert_eq!(rt; written(&rt, Task::List, image).err(), Some(fault));
         assert_eq!(rt; fault_line(rt.alloc(), &fault)?.as_slice(), line);
     }
     Ok(())
@@ -107,13 +101,7 @@ fn refuses_what_is_no_listing(rt: HostRuntime) {
         (INPUT.as_slice(), ListingRefusal::BadLine(14)),
     ] {
         let fault = ConductFault::Refused(Refusal::Listing(refusal));
-        assert_eq!(rt;
-            written(&rt, Task::Check, text).err(),
-            Some(fault)
-        );
-        assert_eq!(rt;
-            written(&rt, Task::Assemble, text).err(),
-            Some(fault)
-        );
+        assert_eq!(rt; written(&rt, Task::Check, text).err(), Some(fault));
+        assert_eq!(rt; written(&rt, Task::Assemble, text).err(), Some(fault));
     }
 }

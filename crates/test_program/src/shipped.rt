@@ -12,7 +12,7 @@ const B: Subject = Subject::Shipped(KindTag::Bits);
 const M: Subject = Subject::Shipped(KindTag::Multi);
 
 /// A scan of U that borrows its view, between two updates.
-const BORROWED: &[u8; 82] =
+const BORROWED: &[u8; 80] =
     b"shape 2 2\n1 scan\n1*6\n2 update 2 5\n2*17\n1*8\n1*4\n2 update 2 6\n2*17\n1*9\n# borrowed\n";
 
 #[test]
@@ -75,7 +75,7 @@ fn audits_shipped_listings(rt: HostRuntime) -> Result<(), Fail> {
         ),
         (
             M,
-            b"shape 2 1\n2 update 1 5\n2*38\n1 update 1 3\n1*40\n1 scan\n1*13\n2\n1*26\n2\n2 update 1 6\n1*28\n2*36\n1*19\n",
+            b"shape 2 1\n2 update 1 5\n2*38\n1 update 1 3\n1*40\n1 scan\n1*13\n2\n1*26\n2\n2 update 1 6\n2*3\n1*28\n2*36\n1*19\n",
             b"scan 1 call 81 answer 209 point 95 collects 3\n",
         ),
     ] {

@@ -55,7 +55,7 @@ impl<K: Kind> Model for Session<K> {
 }
 
 impl<K: Kind> Session<K> {
-    /// Before the first item, with no marks.
+    /// Before the first item of a schedule, with no marks.
     pub fn open(
         alloc: Global,
         program: &Program,
@@ -64,11 +64,24 @@ impl<K: Kind> Session<K> {
         requires { program.now.kind ≡ K.TAG }
         ensures { IfOk result (λ s. s ≡ opened (run_over program.now schedule.now)) }
     {
+        Session::over(alloc, program, schedule.copy(alloc)?)
+    }
+
+    /// Before the first item of a schedule, which it takes, with no marks.
+    pub fn over(
+        alloc: Global,
+        program: &Program,
+        schedule: Schedule,
+    ) -> Result<Session<K>, AllocError>
+        requires { program.now.kind ≡ K.TAG }
+        ensures { IfOk result (λ s. s ≡ opened (run_over program.now schedule)) }
+    {
+        let shape = schedule.shape();
         Ok(Session {
             alloc,
-            schedule: schedule.copy(alloc)?,
+            schedule,
             marks: Marks::new(alloc),
-            record: Record::new(alloc, program, schedule.shape())?,
+            record: Record::new(alloc, program, shape)?,
         })
     }
 

@@ -72,13 +72,13 @@ fn push_answer<K: Kind>(
 fn performance<K: Kind>(
     alloc: Global,
     program: &Program,
-    schedule: &Schedule,
+    schedule: Schedule,
     commands: &[Command],
 ) -> Result<Vec<u8>, AllocError>
     requires { program.now.kind ≡ K.TAG }
-    ensures { IfOk result (λ out. out.items ≡ performance (run_over program.now schedule.now) commands.now) }
+    ensures { IfOk result (λ out. out.items ≡ performance (run_over program.now schedule) commands.now) }
 {
-    let mut session = Session::<K>::open(alloc, program, schedule)?;
+    let mut session = Session::<K>::over(alloc, program, schedule)?;
     let mut out = Vec::new(alloc);
     for command in commands {
         push_answer(&mut out, &mut session, command)?;
@@ -101,7 +101,7 @@ fn perform_kind<K: Kind>(
 {
     let schedule = schedule_for::<K>(alloc, program, schedule)?;
     let commands = read_commands(alloc, commands)?;
-    Ok(performance::<K>(alloc, program, &schedule, commands.as_slice())?)
+    Ok(performance::<K>(alloc, program, schedule, commands.as_slice())?)
 }
 
 /// What commands are answered on a program under a schedule, and the report of the position reached.

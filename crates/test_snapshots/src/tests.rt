@@ -1,3 +1,5 @@
+use snap_audit::audit_text;
+use snap_words::{Bits, Kind, Multi, Seq};
 use std::test::Fail;
 
 #[test]
@@ -21,5 +23,91 @@ fn multi_reads(rt: HostRuntime) -> Result<(), Fail> {
     let listing = snap_multi::listing(rt.alloc())?;
     assert_eq!(rt; listing.lines().len(), 37);
     assert_eq!(rt; listing.update(), 50);
+    Ok(())
+}
+
+/// Schedules of U, and what an audit says of their scans.
+const SINGLE: [(&[u8], &[u8]); 4] = [
+    (
+        b"shape 1 1\n1 scan\n1*9\n",
+        b"scan 1 call 1 answer 10 point 1 collects 1\n",
+    ),
+    (b"shape 1 1\n1 update 1 7\n1*13\n", b""),
+    (
+        b"shape 2 2\n1 scan\n1*6\n2 update 2 5\n2*17\n1*8\n1*4\n2 update 2 6\n2*17\n1*9\n",
+        b"scan 1 call 1 answer 64 point 24 collects 2\n",
+    ),
+    (
+        b"shape 2 2\n1 scan\n1*13\n",
+        b"scan 1 call 1 answer 14 point 1 collects 1\n",
+    ),
+];
+
+#[test]
+fn single_runs(rt: HostRuntime) -> Result<(), Fail> {
+    for (text, verdicts) in SINGLE {
+        let schedule = snap_sched::read(rt.alloc(), text)?;
+        assert!(rt; Seq::fits(schedule.shape()));
+        let record = snap_single::run(rt.alloc(), &schedule)?;
+        assert_eq!(rt; audit_text(rt.alloc(), &record)?.as_slice(), verdicts);
+    }
+    Ok(())
+}
+
+/// Schedules of B, and what an audit says of their scans.
+const BOUNDED: [(&[u8], &[u8]); 2] = [
+    (
+        b"shape 1 1\n1 scan\n1*13\n",
+        b"scan 1 call 1 answer 14 point 1 collects 1\n",
+    ),
+    (
+        b"shape 3 3\n2 update 2 1\n2*43\n3 update 3 1\n3*43\n2 update 2 2\n2*41\n3 update 3 2\n3*41\n1 scan\n1*24\n2\n3\n1*33\n",
+        b"scan 1 call 173 answer 232 point 199 collects 2\n",
+    ),
+];
+
+#[test]
+fn bounded_runs(rt: HostRuntime) -> Result<(), Fail> {
+    for (text, verdicts) in BOUNDED {
+        let schedule = snap_sched::read(rt.alloc(), text)?;
+        assert!(rt; Bits::fits(schedule.shape()));
+        let record = snap_bounded::run(rt.alloc(), &schedule)?;
+        assert_eq!(rt; audit_text(rt.alloc(), &record)?.as_slice(), verdicts);
+    }
+    Ok(())
+}
+
+/// Schedules of M, and what an audit says of their scans.
+const MULTI: [(&[u8], &[u8]); 5] = [
+    (
+        b"shape 1 1\n1 scan\n1*21\n",
+        b"scan 1 call 1 answer 22 point 1 collects 1\n",
+    ),
+    (
+        b"shape 2 3\n2 update 3 7\n2*52\n2 update 1 8\n2*52\n2 update 3 9\n2*52\n1 scan\n1*40\n",
+        b"scan 1 call 160 answer 200 point 160 collects 1\n",
+    ),
+    (
+        b"shape 3 2\n3 update 2 1\n3*56\n1 scan\n1*21\n2 update 1 5\n2*56\n3 update 2 8\n3*56\n3 update 2 9\n3*56\n1*59\n",
+        b"scan 1 call 58 answer 309 point 249 collects 2\n",
+    ),
+    (
+        b"shape 2 1\n2 update 1 5\n2*38\n1 update 1 3\n1*40\n1 scan\n1*13\n2\n1*26\n2\n2 update 1 6\n2*3\n1*43\n",
+        b"scan 1 call 81 answer 169 point 95 collects 3\n",
+    ),
+    (
+        b"shape 2 1\n2 update 1 5\n2*38\n1 update 1 3\n1*40\n1 scan\n1*13\n2\n1*26\n2\n2 update 1 6\n2*3\n1*28\n2*36\n1*19\n",
+        b"scan 1 call 81 answer 209 point 95 collects 3\n",
+    ),
+];
+
+#[test]
+fn multi_runs(rt: HostRuntime) -> Result<(), Fail> {
+    for (text, verdicts) in MULTI {
+        let schedule = snap_sched::read(rt.alloc(), text)?;
+        assert!(rt; Multi::fits(schedule.shape()));
+        let record = snap_multi::run(rt.alloc(), &schedule)?;
+        assert_eq!(rt; audit_text(rt.alloc(), &record)?.as_slice(), verdicts);
+    }
     Ok(())
 }

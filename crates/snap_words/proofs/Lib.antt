@@ -1,1 +1,3 @@
+pub mod HandLists
+pub mod Masks
 pub mod Words

@@ -82,10 +82,6 @@ field_in k f w = if has_field k f then Some (field_of f w) else None
 abbrev pub hand_in : KindTag → ℕ → Word → Option ℕ
 hand_in k i w = if has_hands k && nat_lt 0 i then slice_get w.hands (i - 1) else None
 
--- the hands, where the kind has them
-abbrev pub hands_in : KindTag → Word → Option (List ℕ)
-hands_in k w = if has_hands k then Some w.hands else None
-
 -- the view, where the kind has one
 abbrev pub view_in : KindTag → Word → Option (List ℕ)
 view_in k w = if has_view k then Some w.view else None

@@ -10,9 +10,13 @@ pub record Counts : Type 0 where
 abbrev pub IsOneOf : ℕ → ℕ → Type 0
 IsOneOf count i = (0 < i) × (i ≤ count)
 
--- both are 1 to 16
+-- the most processes, and the most words
+abbrev pub max_count : ℕ
+max_count = 64
+
+-- both are 1 to that many
 abbrev pub IsShape : ℕ → ℕ → Type 0
-IsShape n w = IsOneOf 16 n × IsOneOf 16 w
+IsShape n w = IsOneOf max_count n × IsOneOf max_count w
 
 -- how many places a row or a `words` local has
 abbrev pub places : Counts → ℕ

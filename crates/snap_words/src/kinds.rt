@@ -1,6 +1,6 @@
 //! What a kind of registers has to offer, and the three kinds.
-ghost use Rattle.std.specs.Prelude.{◌≡◌, true, false, IfOk, MatchResult, option_map};
-ghost use Rattle.snap_words.specs.Kind.{fits, initial_word, may_write, has_bank, field_in, hand_in, hands_in, view_in, kept, has_bits, is_sized};
+ghost use Rattle.std.specs.Prelude.{◌≡◌, true, false, IfOk, MatchResult, length, option_map};
+ghost use Rattle.snap_words.specs.Kind.{fits, initial_word, may_write, has_bank, field_in, hand_in, has_hands, view_in, kept, has_bits, is_sized};
 ghost use Rattle.snap_words.specs.Parts.{word_of_parts};
 ghost use Rattle.snap_words.specs.Word.{Word};
 ghost use Rattle.snap_words.specs.declared.kind.KindTag.{KindTag};
@@ -47,9 +47,10 @@ pub trait Kind: Send + Sync {
     fn hand(word: &Self::Word, i: u32) -> Option<u64>
         ensures { result ≡ hand_in TAG i (parts word.now) };
 
-    /// The hands, where the kind has them.
-    fn hands(word: &Self::Word) -> Option<&View>
-        ensures { option_map (λ h. h.now) result ≡ hands_in TAG (parts word.now) };
+    /// How many hands it has, 0 where the kind has none.
+    fn hand_count(word: &Self::Word) -> u32
+        ensures count { result ≡ length (parts word.now).hands }
+        ensures lack { has_hands TAG ≡ false → result ≡ 0 };
 
     /// The view, where the kind has one.
     fn view(word: &Self::Word) -> Option<&View>

@@ -4,6 +4,7 @@
 mod address;
 mod contents;
 mod copies;
+mod hands;
 mod kind;
 mod kinds;
 mod parts;
@@ -12,7 +13,7 @@ mod shape;
 mod view;
 
 pub use address::{Address, Bank};
-pub use contents::{field_of, hands_of, view_of};
+pub use contents::{field_of, hand_of, same_hands, view_of};
 pub use copies::{copy_views, copy_words};
 pub use kind::{Field, KindTag};
 pub use kinds::{Bits, BitsWord, Kind, Multi, MultiWord, Seq, SeqWord};

@@ -1,18 +1,18 @@
 //! How many processes and words there are.
 ghost use Rattle.std.specs.Prelude.{◌≡◌, MatchResult};
-ghost use Rattle.snap_words.specs.Shape.{IsShape};
+ghost use Rattle.snap_words.specs.Shape.{IsOneOf, IsShape, max_count};
 ghost use Rattle.snap_words.specs.declared.shape.WordFault.TheVariants.{BadShape};
 
 use std::marker::Model;
 use thiserror::Error;
 
 /// The most processes, and the most words.
-pub const MAX_COUNT: u64 = 16;
+pub const MAX_COUNT: u64 = 64;
 
 /// Why a shape or a word is refused.
 #[derive(Clone, Copy, Debug, PartialEq, Eq, Error)]
 pub enum WordFault {
-    /// A count of processes or of words outside 1 to 16.
+    /// A count of processes or of words outside 1 to `MAX_COUNT`.
     #[error("W1 BadShape")]
     BadShape,
     /// A toggle or a hand that is not 0 or 1.
@@ -20,7 +20,7 @@ pub enum WordFault {
     NotABit,
 }
 
-/// The numbers of processes and of words, each 1 to 16.
+/// The numbers of processes and of words, each 1 to `MAX_COUNT`.
 #[derive(Clone, Copy, Debug)]
 pub struct Shape {
     n: u64,
@@ -40,7 +40,7 @@ impl Model for Shape {
 }
 
 impl Shape {
-    /// The shape of `n` processes and `w` words, or `BadShape` unless both are 1 to 16.
+    /// The shape of `n` processes and `w` words, or `BadShape` unless both are 1 to `MAX_COUNT`.
     pub fn new(n: u64, w: u64) -> Result<Shape, WordFault>
         ensures { MatchResult result (λ s. (s ≡ record { n = n; w = w }) × IsShape n w) (λ e. (e ≡ BadShape) × (IsShape n w → ⊥)) }
     {
@@ -56,6 +56,14 @@ impl Shape {
         ensures { result ≡ self.now.n }
     {
         self.n
+    }
+
+    /// The number of processes, which is at most `MAX_COUNT`.
+    pub fn process_count(&self) -> u32
+        ensures value { result ≡ self.now.n }
+        ensures bound { IsOneOf max_count result }
+    {
+        self.n as u32
     }
 
     /// The number of words.

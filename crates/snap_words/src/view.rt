@@ -1,23 +1,33 @@
 //! Views, and other rows of numbers.
-ghost use Rattle.std.specs.Prelude.{◌≡◌, ◌<◌, IfOk, length, replicate, slice_set};
+ghost use Rattle.std.specs.Prelude.{◌≡◌, IfOk, replicate};
 ghost use Rattle.std.specs.List.{list_all};
 ghost use Rattle.snap_words.specs.Kind.{is_bit};
+ghost use Rattle.snap_words.specs.Places.{places_items};
 
 use std::alloc::{AllocError, Global};
 use std::marker::Model;
+use std::sync::Arc;
+
+/// Where the values of a view stand: on their own, or shared by all its copies.
+#[derive(Debug, Drop)]
+enum Places {
+    Own(Vec<u64>),
+    Shared(Arc<Vec<u64>>),
+}
 
 /// A list of numbers: a view has a value for each word, and hands are one for each process.
 #[derive(Debug, Drop)]
 pub struct View {
-    places: Vec<u64>,
+    places: Places,
 }
 
 impl Model for View {
     ghost use Rattle.std.specs.Prelude.{List, ℕ};
+    ghost use Rattle.snap_words.specs.Places.{places_items};
 
     ghost Value = { List ℕ };
 
-    ghost view = { λ v. v.places.items };
+    ghost view = { λ v. places_items v.places };
 }
 
 impl View {
@@ -25,46 +35,53 @@ impl View {
     pub fn of(places: Vec<u64>) -> View
         ensures { result ≡ places.items }
     {
-        View { places }
+        View {
+            places: Places::Own(places),
+        }
+    }
+
+    /// The view with these values, whose copies share them.
+    pub fn shared(alloc: Global, places: Vec<u64>) -> Result<View, AllocError>
+        ensures { IfOk result (λ v. v ≡ places.items) }
+    {
+        Ok(View {
+            places: Places::Shared(Arc::new(alloc, places)?),
+        })
     }
 
     /// The view of `count` zeros.
     pub fn zeros(alloc: Global, count: u64) -> Result<View, AllocError>
         ensures { IfOk result (λ v. v ≡ replicate count 0) }
     {
-        Ok(View {
-            places: vec![in alloc; 0; count as usize]?,
-        })
+        View::shared(alloc, vec![in alloc; 0; count as usize]?)
     }
 
     /// Whether each of its values is 0 or 1.
     pub fn has_bits(&self) -> bool
         ensures { result ≡ list_all is_bit self.now }
     {
-        self.places.iter().all(|&x| x <= 1)
+        self.as_slice().iter().all(|&x| x <= 1)
     }
 
     /// Its values.
     pub fn as_slice(&self) -> &[u64]
         ensures { result.now ≡ self.now }
     {
-        self.places.as_slice()
-    }
-
-    /// Sets the value at a place, counted from 0.
-    pub fn set(&mut self, place: usize, value: u64)
-        requires { place < length self.old }
-        ensures { self.new ≡ slice_set self.old place value }
-    {
-        self.places[place] = value;
+        match &self.places {
+            Places::Own(places) => places.as_slice(),
+            Places::Shared(places) => places.as_slice(),
+        }
     }
 
     /// An equal view.
     pub fn copy(&self, alloc: Global) -> Result<View, AllocError>
         ensures { IfOk result (λ v. v ≡ self.now) }
     {
-        Ok(View {
-            places: Vec::from_slice(alloc, self.places.as_slice())?,
-        })
+        match &self.places {
+            Places::Own(places) => View::shared(alloc, Vec::from_slice(alloc, places.as_slice())?),
+            Places::Shared(places) => Ok(View {
+                places: Places::Shared(Arc::try_clone(places)?),
+            }),
+        }
     }
 }

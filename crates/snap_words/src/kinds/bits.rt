@@ -4,6 +4,7 @@ ghost use Rattle.std.specs.List.{list_all};
 ghost use Rattle.snap_words.specs.Kind.{is_bit};
 
 use crate::address::{Address, Bank};
+use crate::hands::Hands;
 use crate::kind::{Field, KindTag};
 use crate::kinds::Kind;
 use crate::parts::Parts;
@@ -19,7 +20,7 @@ pub struct Bits;
 pub struct BitsWord {
     datum: u64,
     toggle: u64,
-    hands: View,
+    hands: Hands,
     view: View,
     ghost bits: { (is_bit toggle && list_all is_bit hands) ≡ true },
 }
@@ -46,7 +47,7 @@ impl Kind for Bits {
         Ok(BitsWord {
             datum: 0,
             toggle: 0,
-            hands: View::zeros(alloc, shape.n())?,
+            hands: Hands::zeros(shape.process_count()),
             view: View::zeros(alloc, shape.w())?,
         })
     }
@@ -63,23 +64,23 @@ impl Kind for Bits {
         if i == 0 {
             return None;
         }
-        word.hands.as_slice().get((i - 1) as usize).copied()
+        word.hands.get(i - 1)
     }
 
-    fn hands(word: &BitsWord) -> Option<&View> {
-        Some(&word.hands)
+    fn hand_count(word: &BitsWord) -> u32 {
+        word.hands.count()
     }
 
     fn view(word: &BitsWord) -> Option<&View> {
         Some(&word.view)
     }
 
-    fn build(_shape: Shape, given: Parts) -> Result<BitsWord, WordFault> {
+    fn build(shape: Shape, given: Parts) -> Result<BitsWord, WordFault> {
         if given.toggle <= 1 && given.hands.has_bits() {
             Ok(BitsWord {
                 datum: given.datum,
                 toggle: given.toggle,
-                hands: given.hands,
+                hands: Hands::of(shape.process_count(), given.hands.as_slice()),
                 view: given.view,
             })
         } else {
@@ -91,7 +92,7 @@ impl Kind for Bits {
         Ok(BitsWord {
             datum: word.datum,
             toggle: word.toggle,
-            hands: word.hands.copy(alloc)?,
+            hands: word.hands.copy(),
             view: word.view.copy(alloc)?,
         })
     }

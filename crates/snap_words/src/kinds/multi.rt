@@ -61,8 +61,8 @@ impl Kind for Multi {
         None
     }
 
-    fn hands(_word: &MultiWord) -> Option<&View> {
-        None
+    fn hand_count(_word: &MultiWord) -> u32 {
+        0
     }
 
     fn view(_word: &MultiWord) -> Option<&View> {

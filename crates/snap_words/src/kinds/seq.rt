@@ -56,8 +56,8 @@ impl Kind for Seq {
         None
     }
 
-    fn hands(_word: &SeqWord) -> Option<&View> {
-        None
+    fn hand_count(_word: &SeqWord) -> u32 {
+        0
     }
 
     fn view(word: &SeqWord) -> Option<&View> {

@@ -1,12 +1,15 @@
 -- The image of a listing: one string of bytes. Numbers have two or eight bytes, the highest first. A name is said by its slot,
 -- its place among the names of its sort from 0; a target by its line number.
 use Rattle.std.specs.Int.{w16, w64, to_be_bytes}
-use Rattle.std.specs.Prelude.{ℕ, ◌+◌, List, [], ◌∷◌, ◌++◌, length, Option, Some, None, bytes_eq, codes, if◌then◌else◌}
+use Rattle.std.specs.Prelude.{◌≡◌, ℕ, ◌+◌, Bool, true, ◌&&◌, List, [], ◌∷◌, ◌++◌, length, map, Option, Some, None, nat_le, bytes_eq, codes, if◌then◌else◌}
+use Rattle.std.specs.List.{AllByRecursion}
 use Rattle.snap_words.specs.declared.kind.Field.{Field}
 use Rattle.snap_words.specs.declared.kind.Field.TheVariants as field
 use Rattle.snap_semantics.specs.declared.image.ExprTag.TheVariants as exprs
 use Rattle.snap_semantics.specs.declared.image.Form.{Form}
 use Rattle.snap_semantics.specs.declared.image.Form.TheVariants as form
+use Rattle.snap_semantics.specs.declared.image.ImageVersion.{ImageVersion}
+use Rattle.snap_semantics.specs.declared.image.ImageVersion.TheVariants as version
 use Rattle.snap_semantics.specs.declared.image.TermTag.{TermTag}
 use Rattle.snap_semantics.specs.declared.image.TermTag.TheVariants as tag
 use Rattle.snap_semantics.specs.declared.instr.BitBank.{BitBank}
@@ -25,7 +28,9 @@ use Rattle.snap_semantics.specs.declared.instr.Term.{Term}
 use Rattle.snap_semantics.specs.declared.instr.Term.TheVariants as term
 use Rattle.snap_semantics.specs.declared.instr.Tuple.{Tuple}
 use Rattle.snap_semantics.specs.declared.instr.Tuple.TheVariants as tuple
-use Rattle.snap_semantics.specs.ImageCodes.{kind_code, term_code, expr_code, relation_code, join_code, range_code, form_code}
+use Rattle.snap_semantics.specs.Comments.{Comment, Commented, first_comment, other_comments, no_comment}
+use Rattle.snap_semantics.specs.ImageCodes.{version_code, kind_code, term_code, expr_code, relation_code, join_code, range_code, form_code}
+use Rattle.snap_semantics.specs.ListingForms.{is_line_number}
 use Rattle.snap_semantics.specs.Source.{Name, Source}
 
 -- the place of a name, counted from 0; as many as there are for a name that is not among them
@@ -140,9 +145,19 @@ operands_image s Finish = []
 abbrev pub line_image : Source → Line → List ℕ
 line_image s line = to_be_bytes w16 line.number ++ form_code (form_of line.instr) ∷ operands_image s line.instr
 
-abbrev pub lines_image : Source → List Line → List ℕ
-lines_image s [] = []
-lines_image s (line ∷ lines) = line_image s line ++ lines_image s lines
+-- 0 for none; or 1, how many bytes the comment has, and these bytes
+abbrev pub comment_image : Comment → List ℕ
+comment_image None = 0 ∷ []
+comment_image (Some bytes) = 1 ∷ (to_be_bytes w16 (length bytes) ++ bytes)
+
+-- what stands behind a line: in the second version its comment
+abbrev pub behind_line : ImageVersion → Comment → List ℕ
+behind_line version.First c = []
+behind_line version.Second c = comment_image c
+
+abbrev pub lines_image : ImageVersion → Source → List Line → List Comment → List ℕ
+lines_image v s [] cs = []
+lines_image v s (line ∷ lines) cs = line_image s line ++ (behind_line v (first_comment cs) ++ lines_image v s lines (other_comments cs))
 
 -- each name behind its length
 abbrev pub names_image : List Name → List ℕ
@@ -153,18 +168,38 @@ names_image (x ∷ xs) = length x ∷ (x ++ names_image xs)
 abbrev pub table_image : List Name → List ℕ
 table_image xs = length xs ∷ names_image xs
 
--- the first four bytes of an image, and its version
+-- the first four bytes of an image
 abbrev pub signature : List ℕ
 signature = codes "SNAP"
 
-abbrev pub version : ℕ
-version = 1
-
 -- the bytes before the first line
-abbrev pub head_image : Source → List ℕ
-head_image s =
-    signature ++ version ∷ kind_code s.kind ∷ (table_image s.scalars ++ (table_image s.rows ++ (table_image s.words ++ (table_image s.views
+abbrev pub head_image : ImageVersion → Source → List ℕ
+head_image v s =
+    signature ++ version_code v ∷ kind_code s.kind ∷ (table_image s.scalars ++ (table_image s.rows ++ (table_image s.words ++ (table_image s.views
     ++ (to_be_bytes w16 s.scan ++ (to_be_bytes w16 s.update ++ to_be_bytes w16 (length s.lines)))))))
 
-abbrev pub image_of : Source → List ℕ
-image_of s = head_image s ++ lines_image s s.lines
+-- the image of a version
+abbrev pub image_in : ImageVersion → Commented → List ℕ
+image_in v c = head_image v c.source ++ lines_image v c.source c.source.lines c.comments
+
+-- the image of a listing, in the version that is written
+abbrev pub image_of : Commented → List ℕ
+image_of c = image_in version.Second c
+
+-- the largest line number that the first version has
+abbrev pub max_first_number : ℕ
+max_first_number = 999
+
+-- a line number of a version
+abbrev pub is_number_in : ImageVersion → ℕ → Bool
+is_number_in version.First k = nat_le 1 k && nat_le k max_first_number
+is_number_in version.Second k = is_line_number k
+
+-- what a version can say: the first has no comments, and fewer line numbers
+abbrev pub CanSay : ImageVersion → Commented → Type 0
+CanSay version.First c = (c.comments ≡ map no_comment c.source.lines) × AllByRecursion (λ (line : Line). is_number_in version.First line.number ≡ true) c.source.lines
+CanSay version.Second c = Unit {0}
+
+-- the bytes are an image of this listing
+abbrev pub IsImageOf : List ℕ → Commented → Type 0
+IsImageOf bytes c = (v : ImageVersion) × CanSay v c × (bytes ≡ image_in v c)

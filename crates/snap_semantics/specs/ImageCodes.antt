@@ -6,6 +6,8 @@ use Rattle.snap_semantics.specs.declared.image.ExprTag.{ExprTag}
 use Rattle.snap_semantics.specs.declared.image.ExprTag.TheVariants as expr
 use Rattle.snap_semantics.specs.declared.image.Form.{Form}
 use Rattle.snap_semantics.specs.declared.image.Form.TheVariants as form
+use Rattle.snap_semantics.specs.declared.image.ImageVersion.{ImageVersion}
+use Rattle.snap_semantics.specs.declared.image.ImageVersion.TheVariants as version
 use Rattle.snap_semantics.specs.declared.image.TermTag.{TermTag}
 use Rattle.snap_semantics.specs.declared.image.TermTag.TheVariants as term
 use Rattle.snap_semantics.specs.declared.instr.Join.{Join}
@@ -28,6 +30,13 @@ coded code (x ∷ xs) b = if nat_eq (code x) b then Some x else coded code xs b
 -- what a byte is the code of
 abbrev pub of_code : {A : Type 0} → Codes A → ℕ → Option A
 of_code codes b = coded codes.code codes.all b
+
+abbrev pub version_code : ImageVersion → ℕ
+version_code version.First = 1
+version_code version.Second = 2
+
+abbrev pub versions : Codes ImageVersion
+versions = record { all = version.First ∷ version.Second ∷ []; code = version_code }
 
 abbrev pub kind_code : KindTag → ℕ
 kind_code kind.Seq = 0

@@ -65,15 +65,19 @@ parts_before t u = true
 abbrev pub gap : ℕ → Token → Token → List ℕ
 gap depth t u = if parts_behind depth t then (if parts_before t u then codes " " else []) else []
 
--- the tokens behind one, at this depth, up to the line feed
-abbrev pub layout : ℕ → Token → List Token → List ℕ
-layout depth t [] = codes "\n"
-layout depth t (u ∷ us) = gap depth t u ++ (token_text u ++ layout (depth_behind depth t u) u us)
+-- the tokens behind one, at this depth, and the end of the line
+abbrev pub layout : List ℕ → ℕ → Token → List Token → List ℕ
+layout end depth t [] = end
+layout end depth t (u ∷ us) = gap depth t u ++ (token_text u ++ layout end (depth_behind depth t u) u us)
+
+-- a line that ends so
+abbrev pub line_to : List ℕ → List Token → List ℕ
+line_to end [] = end
+line_to end (t ∷ ts) = token_text t ++ layout end 0 t ts
 
 -- a line
 abbrev pub line_text : List Token → List ℕ
-line_text [] = codes "\n"
-line_text (t ∷ ts) = token_text t ++ layout 0 t ts
+line_text ts = line_to (codes "\n") ts
 
 abbrev pub lines_text : List (List Token) → List ℕ
 lines_text [] = []

@@ -20,6 +20,7 @@ pub mod RightUses
 pub mod Listing
 pub mod Spelling
 pub mod IsListing
+pub mod Comments
 pub mod Layout
 pub mod CanonicalText
 pub mod ImageCodes

@@ -494,9 +494,12 @@ form_of_word k w ts =
     if bytes_eq w (codes "return") then return_form ts else
     if bytes_eq w (codes "finish") then finish_form ts else None
 
+abbrev pub max_line_number : ℕ
+max_line_number = 9999
+
 -- a line number
 abbrev pub is_line_number : ℕ → Bool
-is_line_number k = nat_le 1 k && nat_le k 999
+is_line_number k = nat_le 1 k && nat_le k max_line_number
 
 -- `N: instruction`, in a listing of this kind
 unfoldable pub line_form : KindTag → List Token → Option Line

@@ -1,6 +1,6 @@
 -- The forms of the lines of a schedule.
 use Rattle.std.specs.Prelude.{ℕ, Bool, ◌&&◌, List, [], ◌∷◌, Option, Some, None, nat_eq, nat_lt, nat_le, codes, if◌then◌else◌}
-use Rattle.snap_words.specs.Shape.{Counts}
+use Rattle.snap_words.specs.Shape.{Counts, max_count}
 use Rattle.snap_semantics.specs.declared.process.Op.{Op}
 use Rattle.snap_semantics.specs.declared.process.Op.TheVariants as op
 use Rattle.snap_semantics.specs.declared.text.Mark.TheVariants as mark
@@ -31,7 +31,7 @@ spelled_shape s = Word (codes "shape") ∷ Number s.n ∷ Number s.w ∷ []
 
 -- a number of processes or of words
 abbrev pub is_count : ℕ → Bool
-is_count k = nat_le 1 k && nat_le k 16
+is_count k = nat_le 1 k && nat_le k max_count
 
 -- `shape N W`
 unfoldable pub shape_form : List Token → Option Counts

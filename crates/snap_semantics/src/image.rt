@@ -1,5 +1,14 @@
 //! What the codes of an image stand for.
 
+/// The version of an image.
+#[derive(Clone, Copy, Debug, PartialEq, Eq)]
+pub enum ImageVersion {
+    /// Without comments, and with line numbers up to 999.
+    First,
+    /// With a comment, or none, behind each line.
+    Second,
+}
+
 /// The tag of a term.
 #[derive(Clone, Copy, Debug, PartialEq, Eq)]
 pub enum TermTag {

@@ -12,7 +12,7 @@ mod text;
 
 pub use event::{Event, Happening};
 pub use fault::Fault;
-pub use image::{ExprTag, Form, TermTag};
+pub use image::{ExprTag, Form, ImageVersion, TermTag};
 pub use instr::{
     BitBank, Comparison, Condition, Expr, Index, Instr, Join, Line, Range, Relation, Term, Tuple,
 };

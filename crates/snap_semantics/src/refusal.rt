@@ -43,7 +43,7 @@ pub enum ScheduleRefusal {
     /// More than 4,194,304 bytes.
     #[error("S1 TooLong")]
     TooLong,
-    /// The first form is not a shape of 1 to 16 processes and words.
+    /// The first form is not a shape of 1 to `snap_words::MAX_COUNT` processes and words.
     #[error("S2 BadShape")]
     BadShape,
     /// No form of an item.

@@ -3,7 +3,7 @@ use Rattle.std.proofs.Common.{◌≡◌, ℕ, zero, suc, ◌+◌, ◌-◌, ◌<�
 use Rattle.std.proofs.lemmas.Bool.{eqb-true, le-leb, le-ltb, lt-ltb, and_from}
 use Rattle.std.proofs.lemmas.List.{length-append}
 use Rattle.std.specs.List.{AllByRecursion, flat_map}
-use Rattle.snap_words.specs.Shape.{Counts, IsOneOf, IsShape}
+use Rattle.snap_words.specs.Shape.{Counts, IsOneOf, IsShape, max_count}
 use Rattle.snap_semantics.specs.declared.process.Item.{Item}
 use Rattle.snap_semantics.specs.declared.process.Op.{Op}
 use Rattle.snap_semantics.specs.declared.process.Op.TheVariants as op
@@ -22,8 +22,8 @@ use Rattle.snap_text.specs.Lines.{line_tokens}
 use Rattle.snap_sched.specs.Spelling.{IsSpelling, IsLineOf, AreLinesOf, IsSpelled}
 use Rattle.snap_sched.proofs.Lines.{length_items}
 
-is_count_of : (k : ℕ) → IsOneOf 16 k → is_count k ≡ true
-is_count_of k h = let low = h.0 in let high = h.1 in and_from (nat_le 1 k) (nat_le k 16) (le-leb 1 k (omega (arith, low))) (le-leb k 16 high)
+is_count_of : (k : ℕ) → IsOneOf max_count k → is_count k ≡ true
+is_count_of k h = let low = h.0 in let high = h.1 in and_from (nat_le 1 k) (nat_le k max_count) (le-leb 1 k (omega (arith, low))) (le-leb k max_count high)
 
 shape_by : (s : Counts) (b : Bool) → b ≡ true → (let r : Option Counts = if b then Some (record { n = s.n; w = s.w }) else None in r) ≡ Some s
 shape_by s true e = refl

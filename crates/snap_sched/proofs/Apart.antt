@@ -141,7 +141,7 @@ one_found true a b e = (refl, cc)
 one_found false a b e = absurd cc
 
 -- the form that was found
-found_steps : (g : Form) (p a : ℕ) → steps_of p g ≡ Some a → g ≡ Steps p a
+pub found_steps : (g : Form) (p a : ℕ) → steps_of p g ≡ Some a → g ≡ Steps p a
 found_steps (Steps i b) p a e = let h = one_found (nat_eq i p) b a e in let same = eqb-true i p h.0 in cc (same, h.1)
 found_steps (Calls i op) p a e = absurd cc
 found_steps (Crashes i) p a e = absurd cc

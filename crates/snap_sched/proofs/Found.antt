@@ -2,7 +2,7 @@
 use Rattle.std.proofs.Common.{◌≡◌, ℕ, ◌<◌, Bool, true, false, ◌&&◌, List, [], ◌∷◌, Option, Some, None, nat_le, nat_lt, bytes_eq, codes, if◌then◌else◌, refl, sym, ap, ◌∙◌, arith, subst, ◌⊎◌, inl, inr}
 use Rattle.std.proofs.lemmas.Bool.{leb-true, ltb-true, and_parts}
 use Rattle.std.specs.Cmp.Lexicographic.{same_text}
-use Rattle.snap_words.specs.Shape.{Counts, IsOneOf, IsShape}
+use Rattle.snap_words.specs.Shape.{Counts, IsOneOf, IsShape, max_count}
 use Rattle.snap_semantics.specs.declared.process.Op.TheVariants as op
 use Rattle.snap_semantics.specs.declared.text.Mark.{Mark}
 use Rattle.snap_semantics.specs.declared.text.Mark.TheVariants as mark
@@ -61,8 +61,8 @@ star_found (Number k ∷ ts) us e = absurd cc
 star_found (Word w ∷ ts) us e = absurd cc
 star_found (Sign m ∷ ts) us e = star_by m ts us e
 
-count_is : (k : ℕ) → is_count k ≡ true → IsOneOf 16 k
-count_is k e = let p = and_parts (nat_le 1 k) (nat_le k 16) e in let low = leb-true 1 k p.0 in let high = leb-true k 16 p.1 in (omega (arith, low), high)
+count_is : (k : ℕ) → is_count k ≡ true → IsOneOf max_count k
+count_is k e = let p = and_parts (nat_le 1 k) (nat_le k max_count) e in let low = leb-true 1 k p.0 in let high = leb-true k max_count p.1 in (omega (arith, low), high)
 
 shape_if : (n w : ℕ) (s : Counts) (b : Bool) → (is_count n && is_count w) ≡ b →
     (let r : Option Counts = if b then Some (record { n = n; w = w }) else None in r) ≡ Some s → (s ≡ record { n = n; w = w }) × IsShape n w

@@ -1,5 +1,5 @@
 -- Runs that grow.
-use Rattle.std.proofs.Common.{◌≡◌, ℕ, zero, suc, ◌+◌, ◌-◌, ◌<◌, ◌≤◌, List, [], ◌∷◌, ◌++◌, length, map, replicate, set, get_or, Option, Some, None, refl, sym, ap, ◌∙◌, arith, append-nil, subst}
+use Rattle.std.proofs.Common.{◌≡◌, ℕ, suc, ◌+◌, ◌<◌, List, [], ◌∷◌, ◌++◌, length, map, replicate, set, Some, None, sym, ap, ◌∙◌, append-nil, subst}
 use Rattle.std.proofs.lemmas.List.{map-set, map-append, length-map}
 use Rattle.std.proofs.lemmas.List.Folds.{flat_map-map}
 use Rattle.std.proofs.lemmas.Grind.{flat_map-append}
@@ -9,10 +9,10 @@ use Rattle.snap_semantics.specs.declared.process.Item.TheVariants as item
 use Rattle.snap_semantics.specs.declared.process.Op.{Op}
 use Rattle.snap_semantics.specs.Schedule.{form_items}
 use Rattle.snap_semantics.specs.ScheduleText.{forms_of}
-use Rattle.snap_sched.specs.declared.items.Stretch.{Stretch}
-use Rattle.snap_sched.specs.declared.items.Stretch.TheVariants as runs
-use Rattle.snap_sched.specs.Runs.{view_run, run_items, items_of_runs, steps_of, last_count, AreGreatest}
-use Rattle.snap_sched.proofs.Apart.{AreApart, forms_apart, apart_forms, steps_added, call_added, crash_added, steps_grown, items_grown, last_within}
+use Rattle.snap_sched.specs.declared.stretches.Stretch.{Stretch}
+use Rattle.snap_sched.specs.declared.stretches.Stretch.TheVariants as runs
+use Rattle.snap_sched.specs.Runs.{view_run, run_items, items_of_runs, last_count, AreGreatest}
+use Rattle.snap_sched.proofs.Apart.{AreApart, forms_apart, apart_forms, steps_added, call_added, crash_added, steps_grown, items_grown}
 
 -- the items of runs are those of their forms
 pub form_items_of : (rs : List Stretch) → flat_map form_items (map view_run rs) ≡ items_of_runs rs
@@ -53,28 +53,3 @@ grown_items old new k p a c is last found =
 pub added_items : (old new : List Stretch) (r : Stretch) → new ≡ old ++ r ∷ [] → items_of_runs new ≡ items_of_runs old ++ run_items r
 added_items old new r is =
     ap items_of_runs is ∙ flat_map-append run_items old (r ∷ []) ∙ ap (λ (xs : List Item). items_of_runs old ++ xs) (append-nil (run_items r))
-
-pub last_fits : (rs : List Stretch) (p a : ℕ) → last_count p (map view_run rs) ≡ Some a → a ≤ length (items_of_runs rs)
-last_fits rs p a found = let h = last_within (map view_run rs) p a found in let e : length (flat_map form_items (map view_run rs)) ≡ length (items_of_runs rs) = ap length (form_items_of rs) in omega (arith, h, e)
-
-last_of : (rs : List Stretch) (k p : ℕ) (d : Stretch) → suc k ≡ length rs → last_count p (map view_run rs) ≡ steps_of p (view_run (get_or rs k d))
-last_of [] k p d is = absurd (omega arith)
-last_of (r ∷ []) zero p d is = refl
-last_of (r ∷ []) (suc k) p d is = absurd (omega arith)
-last_of (r ∷ s ∷ rs) zero p d is = absurd (omega arith)
-last_of (r ∷ s ∷ rs) (suc k) p d is = last_of (s ∷ rs) k p d (omega arith)
-
--- the last run is the one at the last place
-pub last_at : (rs : List Stretch) (p : ℕ) (d : Stretch) → 0 < length rs → steps_of p (view_run (get_or rs (length rs - 1) d)) ≡ last_count p (map view_run rs)
-last_at rs p d some = sym (last_of rs (length rs - 1) p d (omega arith))
-
-pub some_runs : (rs : List Stretch) (p a : ℕ) → last_count p (map view_run rs) ≡ Some a → 0 < length rs
-some_runs [] p a found = absurd cc
-some_runs (r ∷ rs) p a found = omega arith
-
--- what was found in a slice of the runs
-pub found_in : (rs slice : List Stretch) (p : ℕ) (r found : Option ℕ) → r ≡ last_count p (map view_run slice) → slice ≡ rs → r ≡ found → last_count p (map view_run rs) ≡ found
-found_in rs slice p r found e is r_is = ap (λ (xs : List Stretch). last_count p (map view_run xs)) (sym is) ∙ sym e ∙ r_is
-
-pub last_place : (rs : List Stretch) (p a n : ℕ) → last_count p (map view_run rs) ≡ Some a → length rs ≡ n → suc (n - 1) ≡ length rs
-last_place rs p a n found is = let some = some_runs rs p a found in omega (arith, some, is)

@@ -7,4 +7,6 @@ pub mod Fits
 pub mod Fitting
 pub mod Again
 pub mod Round
+pub mod Keeping
 pub mod Cursors
+pub mod Told

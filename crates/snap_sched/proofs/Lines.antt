@@ -1,5 +1,5 @@
 -- The items of lines, one line after another.
-use Rattle.std.proofs.Common.{◌≡◌, ℕ, zero, suc, ◌+◌, ◌-◌, ◌≤◌, Bool, true, false, not, ◌&&◌, List, [], ◌∷◌, ◌++◌, length, replicate, Option, Some, Result, Ok, Err, nat_le, nat_lt, if◌then◌else◌, refl, sym, ap, ◌∙◌, arith, append_assoc, append-nil, subst}
+use Rattle.std.proofs.Common.{◌≡◌, ℕ, zero, suc, ◌+◌, ◌-◌, ◌≤◌, Bool, true, false, not, ◌&&◌, List, [], ◌∷◌, ◌++◌, length, replicate, Option, Some, None, Result, Ok, Err, nat_le, nat_lt, if◌then◌else◌, refl, sym, ap, ◌∙◌, arith, append_assoc, append-nil, subst}
 use Rattle.std.proofs.lemmas.Bool.{leb-true, ltb-false, and_parts}
 use Rattle.std.proofs.lemmas.List.{length-append, length-replicate}
 use Rattle.std.specs.List.{AllByRecursion}
@@ -11,12 +11,11 @@ use Rattle.snap_semantics.specs.declared.refusal.ScheduleRefusal.TheVariants as 
 use Rattle.snap_semantics.specs.Answers.{◌>>=◌}
 use Rattle.snap_semantics.specs.Forms.{form_or}
 use Rattle.snap_semantics.specs.Schedule.{admitted, items_of, form_process, form_count, form_items}
-use Rattle.snap_semantics.specs.ScheduleForms.{Form, Steps, Calls, Crashes, item_form}
+use Rattle.snap_semantics.specs.declared.text.Mark.TheVariants as mark
+use Rattle.snap_semantics.specs.ScheduleForms.{Form, Steps, Calls, Crashes, step_form, steps_form, scan_form, update_form, crash_form, item_form}
 use Rattle.snap_semantics.specs.Table.{who}
-use Rattle.snap_semantics.specs.Token.{TextLine}
-use Rattle.snap_text.specs.declared.lines.TokenLine.{TokenLine}
-use Rattle.snap_text.specs.Lines.{IsNext, view_line}
-use Rattle.snap_sched.specs.Reading.{line_form}
+use Rattle.snap_semantics.specs.Token.{TextLine, Number, Sign}
+use Rattle.snap_sched.specs.Reading.{line_form, next_form}
 
 -- items before those that were read
 abbrev pub prefixed : List Item → Result (List Item) ScheduleRefusal → Result (List Item) ScheduleRefusal
@@ -132,6 +131,56 @@ kept n line items more f found added few h =
       subst (λ (xs : List Item). AllByRecursion (λ x. IsOneOf n (who x)) xs) (sym added) (all_more (λ i. IsOneOf n i) items (form_items f) h (all_form (λ i. IsOneOf n i) f ok.0)),
     )
 
--- the next line, where there is one
-pub next_is : (o : Option TokenLine) (line : TokenLine) (old new : List TextLine) → IsNext o old new → o ≡ Some line → old ≡ view_line line ∷ new
-next_is o line old new h is = subst (λ (x : Option TokenLine). IsNext x old new) is h
+-- the line of which the next form comes
+pub record Next (n left : ℕ) (lines rest : List TextLine) (f : Form) : Type 0 where
+  pub line : TextLine
+  pub is : lines ≡ line ∷ rest
+  pub form : line_form n left line ≡ Ok f
+
+-- what was found: a form and the lines behind it, or that no line is left
+abbrev Found : Type 0
+Found = Result (Option (Form × List TextLine)) ScheduleRefusal
+
+some_found : (f g : Form) (xs ys : List TextLine) → (let r : Found = Ok (Some (f, xs)) in r) ≡ Ok (Some (g, ys)) → (let p : Form × List TextLine = (f, xs) in p) ≡ (g, ys)
+some_found f g xs ys e = cc
+
+next_by : (n left : ℕ) (line : TextLine) (lines rest : List TextLine) (r : Result Form ScheduleRefusal) (f : Form) → line_form n left line ≡ r →
+    (let x : Found = r >>= λ form. Ok (Some (form, lines)) in x) ≡ Ok (Some (f, rest)) → Next n left (line ∷ lines) rest f
+next_by n left line lines rest (Ok g) f e h =
+    let same = some_found g f lines rest h in
+    record {
+      line = line;
+      is = ap (λ (p : Form × List TextLine). line ∷ p.1) same;
+      form = e ∙ ap (λ (p : Form × List TextLine). let r : Result Form ScheduleRefusal = Ok p.0 in r) same;
+    }
+next_by n left line lines rest (Err d) f e h = absurd cc
+
+pub next_found : (n left : ℕ) (lines rest : List TextLine) (f : Form) → next_form n left lines ≡ Ok (Some (f, rest)) → Next n left lines rest f
+next_found n left [] rest f h = absurd cc
+next_found n left (line ∷ lines) rest f h = next_by n left line lines rest (line_form n left line) f refl h
+
+none_by : (lines : List TextLine) (r : Result Form ScheduleRefusal) → (let x : Found = r >>= λ form. Ok (Some (form, lines)) in x) ≡ Ok None → ⊥
+none_by lines (Ok f) e = cc
+none_by lines (Err d) e = cc
+
+-- no line is left where there is no next form
+pub next_none : (n left : ℕ) (lines : List TextLine) → next_form n left lines ≡ Ok None → lines ≡ []
+next_none n left [] e = refl
+next_none n left (line ∷ lines) e = absurd (none_by lines (line_form n left line) e)
+
+refused_by : (n left : ℕ) (lines : List TextLine) (r : Result Form ScheduleRefusal) (d : ScheduleRefusal) → (let x : Found = r >>= λ form. Ok (Some (form, lines)) in x) ≡ Err d →
+    (r >>= rest_of n left lines) ≡ Err d
+refused_by n left lines (Ok f) d e = absurd cc
+refused_by n left lines (Err c) d e = cc
+
+-- the next form is refused, and so are the items
+pub next_refused : (n : ℕ) (lines : List TextLine) (items : List Item) (d : ScheduleRefusal) → next_form n (1000000 - length items) lines ≡ Err d →
+    prefixed items (items_of n (1000000 - length items) lines) ≡ Err d
+next_refused n [] items d e = absurd cc
+next_refused n (line ∷ lines) items d e =
+    let left = 1000000 - length items in
+    ap (prefixed items) (first_line n left line lines ∙ refused_by n left lines (line_form n left line) d e)
+
+pub no_steps : (i : ℕ) → item_form (Number i ∷ Sign mark.Star ∷ Number 0 ∷ []) ≡ None
+unfolding item_form step_form steps_form scan_form update_form crash_form
+no_steps i = refl

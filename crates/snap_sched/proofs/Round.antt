@@ -3,7 +3,7 @@ use Rattle.std.proofs.Common.{◌≡◌, ℕ, zero, suc, ◌+◌, ◌<◌, ◌�
 use Rattle.std.proofs.lemmas.Bool.{eqb-true}
 use Rattle.std.proofs.lemmas.List.{length-append}
 use Rattle.std.specs.List.{AllByRecursion, flat_map}
-use Rattle.snap_words.specs.Shape.{Counts, IsOneOf, IsShape}
+use Rattle.snap_words.specs.Shape.{Counts, IsOneOf, IsShape, max_count}
 use Rattle.snap_semantics.specs.declared.process.Item.{Item}
 use Rattle.snap_semantics.specs.declared.process.Item.TheVariants as item
 use Rattle.snap_semantics.specs.declared.process.Op.TheVariants as op
@@ -93,7 +93,7 @@ forms_fit (f ∷ fs) apart h few =
       forms_fit fs apart.2 (all_behind (form_items f) (flat_map form_items fs) h) (omega (arith, all, few)),
     )
 
-items_fit : (n : ℕ) (xs : List Item) → n ≤ 16 → AllByRecursion (λ x. IsOneOf n (who x)) xs → AllByRecursion FitsItem xs → AllByRecursion Fits xs
+items_fit : (n : ℕ) (xs : List Item) → n ≤ max_count → AllByRecursion (λ x. IsOneOf n (who x)) xs → AllByRecursion FitsItem xs → AllByRecursion Fits xs
 items_fit n [] small h g = tt
 items_fit n (x ∷ xs) small h g = let within = h.0.1 in ((omega (arith, within, small), g.0), items_fit n xs small h.1 g.1)
 

@@ -16,13 +16,18 @@ view_form (given.Steps i count) = Steps i count
 view_form (given.Call i op) = Calls i op
 view_form (given.Crash i) = Crashes i
 
--- the shape of these counts, where both are 1 to 16
+-- the shape of these counts, where they are one
 abbrev pub shape_of : ℕ → ℕ → Option Counts
 shape_of n w = if is_count n && is_count w then Some (record { n = n; w = w }) else None
 
 -- the form of a line, of which so many items may still come
 abbrev pub line_form : ℕ → ℕ → TextLine → Result Form ScheduleRefusal
 line_form n left line = form_or (refusal.BadItem line.number) item_form line.tokens >>= λ form. admitted n left line.number form
+
+-- the form of the first line, of which so many items may still come, and the lines behind it; none where there is no line
+abbrev pub next_form : ℕ → ℕ → List TextLine → Result (Option (Form × List TextLine)) ScheduleRefusal
+next_form n left [] = Ok None
+next_form n left (line ∷ lines) = line_form n left line >>= λ form. Ok (Some (form, lines))
 
 abbrev pub shape_then : List TextLine → Result Counts ScheduleRefusal → Result (Counts × List TextLine) ScheduleRefusal
 shape_then lines (Ok s) = Ok (s, lines)

@@ -5,8 +5,8 @@ use Rattle.snap_semantics.specs.declared.process.Item.{Item}
 use Rattle.snap_semantics.specs.Schedule.{form_items}
 use Rattle.snap_semantics.specs.ScheduleForms.{Form, Steps, Calls, Crashes}
 use Rattle.snap_semantics.specs.ScheduleText.{forms_of}
-use Rattle.snap_sched.specs.declared.items.Stretch.{Stretch}
-use Rattle.snap_sched.specs.declared.items.Stretch.TheVariants as runs
+use Rattle.snap_sched.specs.declared.stretches.Stretch.{Stretch}
+use Rattle.snap_sched.specs.declared.stretches.Stretch.TheVariants as runs
 
 -- a run as the form of a line that it is
 abbrev pub view_run : Stretch → Form

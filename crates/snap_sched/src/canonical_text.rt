@@ -6,8 +6,8 @@ ghost use Rattle.snap_semantics.specs.ScheduleText.{forms_text, schedule_text};
 ghost use Rattle.snap_sched.specs.Runs.{view_run};
 ghost use Rattle.snap_semantics.specs.declared.process.Op.TheVariants.{Scan, Update};
 
-use crate::items::Stretch;
 use crate::schedule::Schedule;
+use crate::stretches::{Stretch, Stretches};
 use snap_semantics::{Mark, Op};
 use snap_text::{Token, push_laid_out};
 use snap_words::Shape;
@@ -78,11 +78,11 @@ fn push_run(out: &mut Vec<u8>, run: Stretch) -> Result<(), AllocError>
 }
 
 /// Adds the lines of runs.
-fn push_runs(out: &mut Vec<u8>, runs: &[Stretch]) -> Result<(), AllocError>
-    ensures { OnOk result (out.new.items ≡ out.old.items ++ forms_text (map view_run runs.now)) }
+fn push_runs(out: &mut Vec<u8>, runs: Stretches<'_>) -> Result<(), AllocError>
+    ensures { OnOk result (out.new.items ≡ out.old.items ++ forms_text (map view_run runs.entry)) }
 {
     for run in runs {
-        push_run(out, *run)?;
+        push_run(out, run)?;
     }
     Ok(())
 }

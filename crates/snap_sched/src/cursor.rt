@@ -1,29 +1,33 @@
 //! Goes through items, one by one.
 ghost use Rattle.std.specs.Prelude.{◌≡◌};
 
-use crate::items::{Items, Stretch};
+use crate::items::Items;
+use crate::stretches::{Stretch, Stretches};
 use snap_semantics::Item;
 use std::marker::Model;
 
 /// Goes through items in order; seen as the list of those that are still to come.
 #[derive(Debug, Drop)]
 pub struct Cursor<'a> {
-    /// The runs that are not yet gone through.
-    runs: &'a [Stretch],
-    /// How many steps of the first of them are.
-    done: u64,
+    /// The process whose run was begun last.
+    process: u32,
+    /// How many of its steps are left.
+    steps: u64,
+    /// The runs behind them.
+    rest: Stretches<'a>,
 }
 
 impl<'a> Model for Cursor<'a> {
     ghost use Rattle.std.specs.Prelude.{List};
+    ghost use Rattle.std.specs.List.{AllByRecursion};
     ghost use Rattle.snap_semantics.specs.declared.process.Item.{Item};
-    ghost use Rattle.snap_sched.specs.Cursors.{IsWithinFirst, items_left};
+    ghost use Rattle.snap_sched.specs.Cursors.{IsSome, items_left};
 
     ghost Value = { List Item };
 
-    ghost view = { λ c. items_left c.done c.runs.now };
+    ghost view = { λ c. items_left c.process c.steps c.rest };
 
-    ghost invariant = { λ c. IsWithinFirst c.done c.runs.now };
+    ghost invariant = { λ c. AllByRecursion IsSome c.rest };
 }
 
 impl<'a> Iterator for Cursor<'a> {
@@ -36,24 +40,18 @@ impl<'a> Iterator for Cursor<'a> {
     ghost remaining = { item_count (λ s. s) };
 
     fn next(&mut self) -> Option<Item> {
-        let (first, rest) = self.runs.split_first()?;
-        match *first {
-            Stretch::Call { process, op } => {
-                self.runs = rest;
-                Some(Item::Call(process, op))
-            }
-            Stretch::Crash { process } => {
-                self.runs = rest;
-                Some(Item::Crash(process))
-            }
+        if self.steps > 0 {
+            self.steps -= 1;
+            return Some(Item::Step(self.process));
+        }
+        match self.rest.next()? {
             Stretch::Steps { process, count } => {
-                self.done += 1;
-                if self.done == count {
-                    self.runs = rest;
-                    self.done = 0;
-                }
+                self.process = process;
+                self.steps = count - 1;
                 Some(Item::Step(process))
             }
+            Stretch::Call { process, op } => Some(Item::Call(process, op)),
+            Stretch::Crash { process } => Some(Item::Crash(process)),
         }
     }
 }
@@ -64,8 +62,9 @@ impl Items {
         ensures { result ≡ self.now }
     {
         Cursor {
-            runs: self.runs(),
-            done: 0,
+            process: 0,
+            steps: 0,
+            rest: self.runs(),
         }
     }
 }

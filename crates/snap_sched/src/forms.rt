@@ -16,7 +16,7 @@ pub enum ItemForm {
     Crash { process: u64 },
 }
 
-/// The shape of these counts, where both are 1 to 16.
+/// The shape of these counts, where they are one.
 fn shape_of(n: u64, w: u64) -> Option<Shape>
     ensures { Finds (λ s. s) result (shape_of n w) }
 {

@@ -1,86 +1,39 @@
 //! The items of a schedule or of a history, kept as runs.
-ghost use Rattle.std.specs.Prelude.{◌≡◌, ◌+◌, ◌<◌, ◌^◌, ◌↔◌, ℕ, List, [], ◌∷◌, ◌++◌, length, map, replicate, IsTrue, IfOk, OnOk, OnErr};
+ghost use Rattle.std.specs.Prelude.{◌≡◌, ◌+◌, ◌<◌, ◌^◌, ◌↔◌, [], ◌∷◌, ◌++◌, length, map, replicate, IsTrue, IfOk, OnOk, OnErr};
 ghost use Rattle.std.specs.List.{AllByRecursion, flat_map};
 ghost use Rattle.snap_semantics.specs.declared.process.Item.TheVariants.{Step, Call, Crash};
 ghost use Rattle.snap_semantics.specs.ScheduleText.{forms_of, FitsItem, FitsWords};
-ghost use Rattle.snap_sched.specs.Runs.{run_items, view_run, items_of_runs, steps_of, last_count, AreGreatest};
+ghost use Rattle.snap_sched.specs.Runs.{run_items, view_run};
+ghost use Rattle.snap_sched.specs.Kept.{single_stretch};
 
+use crate::stretches::{Deed, Run, Single, Stretches};
 use snap_semantics::Op;
 use std::alloc::{AllocError, Global};
 use std::marker::Model;
 
-/// Items that stand side by side: steps of one process, or one call or crash.
-#[derive(Clone, Copy, Debug, PartialEq, Eq)]
-pub enum Stretch {
-    Steps { process: u32, count: u64 },
-    Call { process: u32, op: Op },
-    Crash { process: u32 },
-}
-
-/// A list of items, kept as its greatest runs: steps of one process side by side take no more room than one.
+/// A list of fewer than 2^32 items, kept as its greatest runs: steps of one process side by side take 8 bytes, however
+/// many they are.
 #[derive(Debug, Drop)]
 pub struct Items {
-    runs: Vec<Stretch>,
-    len: u64,
+    runs: Vec<Run>,
+    /// The runs that are calls and crashes.
+    singles: Vec<Single>,
+    len: u32,
+    /// The process whose steps the last run is, where it is steps.
+    stepping: Option<u32>,
 }
 
 impl Model for Items {
-    ghost use Rattle.std.specs.Prelude.{◌≡◌, List, length};
-    ghost use Rattle.std.specs.List.{AllByRecursion};
-    ghost use Rattle.snap_semantics.specs.ScheduleText.{FitsItem};
+    ghost use Rattle.std.specs.Prelude.{List};
     ghost use Rattle.snap_semantics.specs.declared.process.Item.{Item};
-    ghost use Rattle.snap_sched.specs.Runs.{items_of_runs, AreGreatest};
+    ghost use Rattle.snap_sched.specs.Runs.{items_of_runs};
+    ghost use Rattle.snap_sched.specs.Kept.{stretches_of, Keeps};
 
     ghost Value = { List Item };
 
-    ghost view = { λ x. items_of_runs x.runs.items };
+    ghost view = { λ x. items_of_runs (stretches_of x.runs.items x.singles.items x.len) };
 
-    ghost invariant = { λ x. (x.len ≡ length (items_of_runs x.runs.items)) × AreGreatest x.runs.items × AllByRecursion FitsItem (items_of_runs x.runs.items) };
-}
-
-/// How many steps a run is, where it is steps of this process.
-fn steps_of(run: &Stretch, process: u32) -> Option<u64>
-    ensures { result ≡ steps_of process (view_run run.now) }
-{
-    match run {
-        Stretch::Steps {
-            process: other,
-            count,
-        } if *other == process => Some(*count),
-        _ => None,
-    }
-}
-
-/// How many steps the last run is, where it is steps of this process.
-fn last_steps(runs: &[Stretch], process: u32) -> Option<u64>
-    ensures { result ≡ last_count process (map view_run runs.now) }
-{
-    if runs.is_empty() {
-        return None;
-    }
-    steps_of(&runs[runs.len() - 1], process)
-}
-
-/// Adds so many steps of a process to greatest runs.
-fn push_run(runs: &mut Vec<Stretch>, process: u32, count: u64) -> Result<(), AllocError>
-    requires some { 0 < count }
-    requires few { length (items_of_runs runs.old.items) + count < 2 ^ 64 }
-    ensures added { OnOk result (items_of_runs runs.new.items ≡ items_of_runs runs.old.items ++ replicate count (Step process)) }
-    ensures greatest { OnOk result (AreGreatest runs.old.items → AreGreatest runs.new.items) }
-    ensures fits { OnOk result (AllByRecursion FitsItem (items_of_runs runs.old.items) → AllByRecursion FitsItem (items_of_runs runs.new.items)) }
-    ensures unchanged { OnErr result (runs.new.items ≡ runs.old.items) }
-{
-    match last_steps(runs.as_slice(), process) {
-        Some(steps) => {
-            let last = runs.len() - 1;
-            runs[last] = Stretch::Steps {
-                process,
-                count: steps + count,
-            };
-        }
-        None => runs.push(Stretch::Steps { process, count })?,
-    }
-    Ok(())
+    ghost invariant = { λ x. Keeps x.runs.items x.singles.items x.len x.stepping (stretches_of x.runs.items x.singles.items x.len) };
 }
 
 /// The operation, whose numbers have 64 bits.
@@ -101,15 +54,18 @@ impl Items {
     {
         Items {
             runs: Vec::new(alloc),
+            singles: Vec::new(alloc),
             len: 0,
+            stepping: None,
         }
     }
 
     /// How many items there are.
     pub fn len(&self) -> u64
-        ensures { result ≡ length self.now }
+        ensures len { result ≡ length self.now }
+        ensures few { result < 2 ^ 32 }
     {
-        self.len
+        u64::from(self.len)
     }
 
     pub fn is_empty(&self) -> bool
@@ -118,13 +74,13 @@ impl Items {
         self.len == 0
     }
 
-    /// The greatest runs of steps, the calls and the crashes.
-    pub fn runs(&self) -> &[Stretch]
-        ensures items { flat_map run_items result.now ≡ self.now }
-        ensures greatest { map view_run result.now ≡ forms_of self.now }
+    /// The greatest runs of steps, the calls and the crashes, in order.
+    pub fn runs(&self) -> Stretches<'_>
+        ensures items { flat_map run_items result ≡ self.now }
+        ensures greatest { map view_run result ≡ forms_of self.now }
         ensures fits { AllByRecursion FitsItem self.now }
     {
-        self.runs.as_slice()
+        Stretches::new(self.runs.as_slice(), self.singles.as_slice(), self.len)
     }
 
     /// An equal list.
@@ -133,47 +89,75 @@ impl Items {
     {
         Ok(Items {
             runs: Vec::from_slice(alloc, self.runs.as_slice())?,
+            singles: Vec::from_slice(alloc, self.singles.as_slice())?,
             len: self.len,
+            stepping: self.stepping,
         })
     }
 
     /// Adds so many steps of a process.
     pub fn push_steps(&mut self, process: u32, count: u64) -> Result<(), AllocError>
-        requires { length self.old + count < 2 ^ 64 }
+        requires { length self.old + count < 2 ^ 32 }
         ensures added { OnOk result (self.new ≡ self.old ++ replicate count (Step process)) }
         ensures fits { AllByRecursion FitsItem self.new }
         ensures unchanged { OnErr result (self.new ≡ self.old) }
     {
-        let len = self.len + count;
+        let len = self.len + count as u32;
         if count == 0 {
             return Ok(());
         }
-        push_run(&mut self.runs, process, count)?;
+        if self.stepping == Some(process) {
+            self.len = len;
+            return Ok(());
+        }
+        self.runs.push(Run {
+            start: self.len,
+            process,
+        })?;
+        self.stepping = Some(process);
         self.len = len;
+        Ok(())
+    }
+
+    /// Adds a call or a crash.
+    fn push_single(&mut self, process: u32, deed: Deed) -> Result<(), AllocError>
+        requires few { length self.old + 1 < 2 ^ 32 }
+        requires fits { AllByRecursion FitsItem (run_items (single_stretch process deed)) }
+        ensures added { OnOk result (self.new ≡ self.old ++ run_items (single_stretch process deed)) }
+        ensures fits { AllByRecursion FitsItem self.new }
+        ensures unchanged { OnErr result (self.new ≡ self.old) }
+    {
+        self.singles.reserve(1)?;
+        self.runs.push(Run {
+            start: self.len,
+            process,
+        })?;
+        self.singles.push_reserved(Single {
+            start: self.len,
+            deed,
+        });
+        self.len += 1;
+        self.stepping = None;
         Ok(())
     }
 
     /// Adds a call.
     pub fn push_call(&mut self, process: u32, op: Op) -> Result<(), AllocError>
-        requires { length self.old + 1 < 2 ^ 64 }
+        requires { length self.old + 1 < 2 ^ 32 }
         ensures added { OnOk result (self.new ≡ self.old ++ Call process op ∷ []) }
         ensures fits { AllByRecursion FitsItem self.new }
         ensures unchanged { OnErr result (self.new ≡ self.old) }
     {
-        let op = fitting(op);
-        self.runs.push(Stretch::Call { process, op })?;
-        self.len += 1;
-        Ok(())
+        self.push_single(process, Deed::Call(fitting(op)))
     }
+
     /// Adds a crash.
     pub fn push_crash(&mut self, process: u32) -> Result<(), AllocError>
-        requires { length self.old + 1 < 2 ^ 64 }
+        requires { length self.old + 1 < 2 ^ 32 }
         ensures added { OnOk result (self.new ≡ self.old ++ Crash process ∷ []) }
         ensures fits { AllByRecursion FitsItem self.new }
         ensures unchanged { OnErr result (self.new ≡ self.old) }
     {
-        self.runs.push(Stretch::Crash { process })?;
-        self.len += 1;
-        Ok(())
+        self.push_single(process, Deed::Crash)
     }
 }

@@ -1,4 +1,4 @@
-//! Schedules and their items: read from texts, kept as runs, and printed.
+//! Schedules and their items: read from texts, kept as runs, and printed; and scripts of live runs, read.
 #![tactic(auto)]
 
 mod canonical_text;
@@ -9,11 +9,18 @@ mod items;
 mod laws;
 mod reader;
 mod schedule;
+mod script_forms;
+mod script_reader;
+mod scripts;
+mod stretches;
 
 pub use canonical_text::print;
 pub use cursor::Cursor;
 pub use fault::ScheduleFault;
-pub use items::{Items, Stretch};
+pub use items::Items;
 pub use laws::{prints_again, reads_all_spelled, reads_only_spelled};
 pub use reader::read;
 pub use schedule::{MAX_BYTES, MAX_ITEMS, Schedule};
+pub use script_reader::read_scripts;
+pub use scripts::{Script, Scripts};
+pub use stretches::{Stretch, Stretches};

@@ -1,22 +1,25 @@
 //! Schedules read from texts.
-ghost use Rattle.std.specs.Prelude.{◌≡◌, ◌≤◌, ◌<◌, ◌+◌, ◌^◌, ◌++◌, length, Some, Err, IfOk, OnOk};
+ghost use Rattle.std.specs.Prelude.{◌≡◌, ◌≤◌, ◌<◌, ◌+◌, ◌^◌, ◌++◌, length, option_map, Some, Err, IfOk, OnOk};
 ghost use Rattle.std.specs.List.{AllByRecursion};
-ghost use Rattle.snap_words.specs.Shape.{IsOneOf};
+ghost use Rattle.snap_words.specs.Shape.{IsOneOf, max_count};
 ghost use Rattle.snap_semantics.specs.Answers.{Answers, Gives};
 ghost use Rattle.snap_semantics.specs.Schedule.{admitted, items_of, schedule_of, form_process, form_count, form_items};
 ghost use Rattle.snap_semantics.specs.ScheduleText.{FitsItem};
 ghost use Rattle.snap_semantics.specs.Table.{who};
 ghost use Rattle.snap_semantics.specs.declared.fault.Fault.TheVariants.{Refused};
 ghost use Rattle.snap_semantics.specs.declared.refusal.ScheduleRefusal.TheVariants.{TooLong};
+ghost use Rattle.snap_semantics.specs.ScheduleForms.{item_form};
 ghost use Rattle.snap_text.specs.Lines.{view_line};
-ghost use Rattle.snap_sched.specs.Reading.{view_form, line_form, first_shape};
+ghost use Rattle.snap_text.specs.Numbers.{number_tokens};
+ghost use Rattle.snap_text.specs.Tokens.{Finds};
+ghost use Rattle.snap_sched.specs.Reading.{view_form, line_form, next_form, first_shape};
 
 use crate::fault::ScheduleFault;
 use crate::forms::{ItemForm, item_form, shape_form};
 use crate::items::Items;
 use crate::schedule::{MAX_BYTES, MAX_ITEMS, Schedule};
 use snap_semantics::ScheduleRefusal;
-use snap_text::{TextLines, TokenLine};
+use snap_text::{NumberLine, TextLines, TokenLine};
 use snap_words::Shape;
 use std::alloc::{AllocError, Global};
 
@@ -55,7 +58,7 @@ fn line_form(n: u64, left: u64, line: &TokenLine<'_>) -> Result<ItemForm, Schedu
 /// Adds the items of a form.
 fn push_form(items: &mut Items, form: ItemForm) -> Result<(), AllocError>
     requires process { form_process (view_form form) < 2 ^ 32 }
-    requires few { length items.old + form_count (view_form form) < 2 ^ 64 }
+    requires few { length items.old + form_count (view_form form) < 2 ^ 32 }
     ensures added { OnOk result (items.new ≡ items.old ++ form_items (view_form form)) }
     ensures fits { AllByRecursion FitsItem items.new }
 {
@@ -67,7 +70,7 @@ fn push_form(items: &mut Items, form: ItemForm) -> Result<(), AllocError>
 }
 
 /// The shape that the first line is.
-fn first_shape(alloc: Global, lines: &mut TextLines<'_>) -> Result<Shape, ScheduleFault>
+pub(crate) fn first_shape(alloc: Global, lines: &mut TextLines<'_>) -> Result<Shape, ScheduleFault>
     ensures { Answers (λ s. (s, lines.new)) result (first_shape lines.old) }
 {
     let Some(line) = lines.next_line(alloc)? else {
@@ -83,20 +86,56 @@ fn first_shape(alloc: Global, lines: &mut TextLines<'_>) -> Result<Shape, Schedu
     }
 }
 
+/// The form that a line of one or two numbers is.
+#[tactic(auto, unfolding(snap_semantics::specs::ScheduleForms::item_form, snap_semantics::specs::ScheduleForms::step_form, snap_semantics::specs::ScheduleForms::steps_form))]
+fn numbers_form(line: &NumberLine) -> Option<ItemForm>
+    ensures { Finds view_form result (item_form (number_tokens line.now.first line.now.second)) }
+{
+    match line.second {
+        Some(0) => None,
+        Some(count) => Some(ItemForm::Steps {
+            process: line.first,
+            count,
+        }),
+        None => Some(ItemForm::Steps {
+            process: line.first,
+            count: 1,
+        }),
+    }
+}
+
+/// The form of the next line, of which `left` items may come. It takes memory only where the line is not `I` or `I*K` alone.
+fn next_form(
+    alloc: Global,
+    n: u64,
+    left: u64,
+    lines: &mut TextLines<'_>,
+) -> Result<Option<ItemForm>, ScheduleFault>
+    ensures { Answers (option_map (λ f. (view_form f, lines.new))) result (next_form n left lines.old) }
+{
+    if let Some(line) = lines.next_numbers() {
+        return match numbers_form(&line) {
+            Some(form) => Ok(Some(admitted(n, left, line.number, form)?)),
+            None => Err(ScheduleFault::Refused(ScheduleRefusal::BadItem(line.number))),
+        };
+    }
+    match lines.next_line(alloc)? {
+        Some(line) => Ok(Some(line_form(n, left, &line)?)),
+        None => Ok(None),
+    }
+}
+
 /// The items of the lines.
 fn items_of(alloc: Global, n: u64, lines: &mut TextLines<'_>) -> Result<Items, ScheduleFault>
-    requires { n ≤ 16 }
+    requires { n ≤ max_count }
     ensures items { Answers (λ items. items) result (items_of n 1000000 lines.old) }
     ensures processes { IfOk result (λ items. AllByRecursion (λ x. IsOneOf n (who x)) items) }
     ensures few { IfOk result (λ items. length items ≤ 1000000) }
     ensures fits { IfOk result (λ items. AllByRecursion FitsItem items) }
 {
     let mut items = Items::new(alloc);
-    while let Some(line) = lines.next_line(alloc)? {
-        match line_form(n, MAX_ITEMS - items.len(), &line) {
-            Ok(form) => push_form(&mut items, form)?,
-            Err(refusal) => return Err(ScheduleFault::Refused(refusal)),
-        }
+    while let Some(form) = next_form(alloc, n, MAX_ITEMS - items.len(), lines)? {
+        push_form(&mut items, form)?;
     }
     Ok(items)
 }

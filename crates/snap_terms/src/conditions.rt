@@ -238,9 +238,12 @@ pub fn target_at<'a, 'b>(tokens: &'a [Token<'b>]) -> Option<(u64, &'a [Token<'b>
     number_at(rest)
 }
 
+/// The largest number of a line.
+pub const MAX_LINE_NUMBER: u64 = 9_999;
+
 /// Whether a line may have this number.
 pub fn is_line_number(number: u64) -> bool
     ensures { result ≡ is_line_number number }
 {
-    1 <= number && number <= 999
+    1 <= number && number <= MAX_LINE_NUMBER
 }

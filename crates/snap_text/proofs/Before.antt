@@ -1,5 +1,5 @@
 -- The tokens of a line that is put together from its end: each piece before tokens that are there.
-use Rattle.std.proofs.Common.{◌≡◌, ℕ, ◌+◌, ◌<◌, ◌^◌, Bool, true, false, not, ◌||◌, List, [], ◌∷◌, ◌++◌, length, Option, Some, nat_eq, decimal, if◌then◌else◌, refl, ap, ◌∙◌, arith}
+use Rattle.std.proofs.Common.{◌≡◌, ℕ, ◌+◌, ◌<◌, ◌^◌, Bool, true, false, not, ◌&&◌, ◌||◌, List, [], ◌∷◌, ◌++◌, length, Option, Some, nat_eq, decimal, if◌then◌else◌, refl, ap, ◌∙◌, arith}
 use Rattle.std.proofs.lemmas.Bool.{and_parts, and_from}
 use Rattle.std.specs.List.{list_all}
 use Rattle.snap_semantics.specs.declared.text.Mark.{Mark}
@@ -68,6 +68,16 @@ sign_before mark.Star bs ts e = ap (λ (o : Option (List Token)). no_run (with_t
 -- any byte but a line feed
 abbrev pub is_plain : ℕ → Bool
 is_plain b = not (nat_eq b 10)
+
+-- any byte but a line feed and `#`
+abbrev pub is_bare : ℕ → Bool
+is_bare b = is_plain b && not (nat_eq b 35)
+
+pub bare_plain : (xs : List ℕ) → list_all is_bare xs ≡ true → list_all is_plain xs ≡ true
+bare_plain [] h = refl
+bare_plain (b ∷ xs) h =
+    let parts = and_parts (is_bare b) (list_all is_bare xs) h in
+    and_from (is_plain b) (list_all is_plain xs) (and_parts (is_plain b) (not (nat_eq b 35)) parts.0).0 (bare_plain xs parts.1)
 
 feed_by : (b : ℕ) (bytes : List ℕ) (v : Bool) → not v ≡ true → (if v then [] ∷ lines_of bytes else onto_line b (lines_of bytes)) ≡ onto_line b (lines_of bytes)
 feed_by b bytes true e = absurd cc

@@ -11,7 +11,7 @@ use Rattle.snap_semantics.specs.Token.{Word, Number, is_letter, is_digit, is_run
 is_digit_of : (d : ℕ) → d < 10 → is_digit (48 + d) ≡ true
 is_digit_of d small = and_from (nat_le 48 (48 + d)) (nat_le (48 + d) 57) (le-leb 48 (48 + d) (omega arith)) (le-leb (48 + d) 57 (omega arith))
 
-number_by : (x : ℕ) (b c : Bool) → b ≡ true → c ≡ false → (if b then (if c then None else Some x) else None) ≡ Some x
+pub number_by : (x : ℕ) (b c : Bool) → b ≡ true → c ≡ false → (if b then (if c then None else Some x) else None) ≡ Some x
 number_by x true false e d = refl
 number_by x true true e d = absurd cc
 number_by x false c e d = absurd cc
@@ -30,7 +30,7 @@ append_by true false o f = refl
 append_by false c o f = refl
 
 -- digits behind digits
-number_append : (value : ℕ) (xs ys : List ℕ) → number_of value (xs ++ ys) ≡ (number_of value xs >>= λ v. number_of v ys)
+pub number_append : (value : ℕ) (xs ys : List ℕ) → number_of value (xs ++ ys) ≡ (number_of value xs >>= λ v. number_of v ys)
 number_append value [] ys = refl
 number_append value (b ∷ xs) ys =
     ap (λ (o : Option ℕ). if is_digit b then (if nat_lt ((2 ^ 64 - 1 - (b - 48)) / 10) value then None else o) else None) (number_append (value * 10 + (b - 48)) xs ys)
@@ -69,7 +69,7 @@ no_leading_zero : (n : ℕ) → n < 2 ^ 64 → (n < 10) ⊎ (10 ≤ n) → has_l
 no_leading_zero n fits (inl small) = ap has_leading_zero (decimal_digit n small)
 no_leading_zero n fits (inr large) = no_zero_first (decimal n) (first_decimal n (omega arith) fits)
 
-not_letters : (ds : List ℕ) → 0 < length ds → list_all is_digit ds ≡ true → list_all is_letter ds ≡ false
+pub not_letters : (ds : List ℕ) → 0 < length ds → list_all is_digit ds ≡ true → list_all is_letter ds ≡ false
 not_letters [] some h = absurd (omega arith)
 not_letters (b ∷ ds) some h =
     let first = (and_parts (is_digit b) (list_all is_digit ds) h).0 in
@@ -80,13 +80,13 @@ run_digit : (b c : Bool) → c ≡ true → (b || c) ≡ true
 run_digit true c e = refl
 run_digit false c e = e
 
-digits_run : (ds : List ℕ) → list_all is_digit ds ≡ true → list_all is_run_byte ds ≡ true
+pub digits_run : (ds : List ℕ) → list_all is_digit ds ≡ true → list_all is_run_byte ds ≡ true
 digits_run [] h = refl
 digits_run (b ∷ ds) h =
     let parts = and_parts (is_digit b) (list_all is_digit ds) h in
     and_from (is_run_byte b) (list_all is_run_byte ds) (run_digit (is_letter b) (is_digit b) parts.0) (digits_run ds parts.1)
 
-run_number_by : (run : List ℕ) (l z : Bool) (o : Option ℕ) → l ≡ false → z ≡ false →
+pub run_number_by : (run : List ℕ) (l z : Bool) (o : Option ℕ) → l ≡ false → z ≡ false →
     (if l then Some (Word run) else if z then None else number_token o) ≡ number_token o
 run_number_by run false false o e d = refl
 run_number_by run false true o e d = absurd cc

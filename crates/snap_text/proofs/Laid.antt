@@ -1,30 +1,22 @@
--- Lines that are laid out are read as the tokens that were laid out.
-use Rattle.std.proofs.Common.{◌≡◌, ℕ, ◌+◌, Bool, true, false, ◌&&◌, List, [], ◌∷◌, ◌++◌, Option, Some, codes, if◌then◌else◌, refl, sym, ap, ◌∙◌, subst, append_assoc}
+-- Lines that are laid out are read as the tokens that were laid out, and with their comments.
+use Rattle.std.proofs.Common.{◌≡◌, ℕ, ◌+◌, Bool, true, false, ◌&&◌, List, [], ◌∷◌, ◌++◌, length, Option, Some, codes, if◌then◌else◌, refl, sym, ap, ◌∙◌, subst, arith}
+use Rattle.std.proofs.lemmas.Bool.{and_from}
+use Rattle.std.proofs.lemmas.List.Folds.{list_all-append}
 use Rattle.std.specs.List.{AllByRecursion, list_all}
-use Rattle.snap_semantics.specs.Layout.{token_text, depth_behind, parts_behind, parts_before, gap, layout, line_text, lines_text}
-use Rattle.snap_semantics.specs.Token.{Token, Word, Number, Sign, lines_of, numbered}
-use Rattle.snap_text.specs.Laws.{IsSoundLine, ReadsLaidOut}
+use Rattle.snap_semantics.specs.CanonicalText.{comment_end, commented_text}
+use Rattle.snap_semantics.specs.Comments.{Comment, IsComment, first_comment, other_comments, comment_of, with_comment, line_comments}
+use Rattle.snap_semantics.specs.Layout.{token_text, depth_behind, parts_behind, parts_before, gap, layout, line_to, line_text, lines_text}
+use Rattle.snap_semantics.specs.Token.{Token, Word, Number, Sign, tokens_of, lines_of, numbered}
+use Rattle.snap_text.specs.Laws.{IsSoundLine, ReadsCommented, ReadsLaidOut}
 use Rattle.snap_text.specs.Lines.{line_tokens, found_lines}
 use Rattle.snap_text.specs.Tokens.{IsSound}
-use Rattle.snap_text.proofs.Before.{is_plain}
-use Rattle.snap_text.proofs.Printed.{is_sign, Reads, space, reads_end, reads_first, reads_more, token_plain, space_plain, joined_plain, line_read}
+use Rattle.snap_text.proofs.Before.{is_plain, is_bare, bare_plain, line_before, numbered_before}
+use Rattle.snap_text.proofs.Commented.{comment_text, commented_line, tokens_same, comment_found, comment_plain}
+use Rattle.snap_text.proofs.Printed.{is_sign, Reads, space, reads_end, reads_first, reads_more, token_bare, space_bare, joined_bare}
 
--- the tokens behind one, laid out without the line feed
+-- the tokens behind one, laid out without an end
 abbrev laid : ℕ → Token → List Token → List ℕ
-laid depth t [] = []
-laid depth t (u ∷ us) = gap depth t u ++ (token_text u ++ laid (depth_behind depth t u) u us)
-
--- a piece before two texts of which one ends with the line feed
-piece_before : (piece xs ys rest : List ℕ) → xs ++ rest ≡ ys ++ 10 ∷ rest → (piece ++ xs) ++ rest ≡ (piece ++ ys) ++ 10 ∷ rest
-piece_before piece xs ys rest e =
-    append_assoc piece xs rest ∙ ap (λ (zs : List ℕ). piece ++ zs) e ∙ sym (append_assoc piece ys (10 ∷ rest))
-
-layout_is : (depth : ℕ) (t : Token) (us : List Token) (rest : List ℕ) → layout depth t us ++ rest ≡ laid depth t us ++ 10 ∷ rest
-layout_is depth t [] rest = refl
-layout_is depth t (u ∷ us) rest =
-    let next = depth_behind depth t u in
-    piece_before (gap depth t u) (token_text u ++ layout next u us) (token_text u ++ laid next u us) rest
-    (piece_before (token_text u) (layout next u us) (laid next u us) rest (layout_is next u us rest))
+laid depth t us = layout [] depth t us
 
 -- whether a space stands between two tokens
 abbrev are_parted : ℕ → Token → Token → Bool
@@ -55,31 +47,83 @@ laid_reads depth t (u ∷ us) h =
     subst (λ (g : List ℕ). Reads t (g ++ (token_text u ++ behind)) (u ∷ us)) (sym (gap_is depth t u))
     (reads_more t u (are_parted depth t u) behind us (both_parted depth t u) h.0 (laid_reads (depth_behind depth t u) u us h.1))
 
-laid_plain : (depth : ℕ) (t : Token) (us : List Token) → AllByRecursion IsSound us → list_all is_plain (laid depth t us) ≡ true
-laid_plain depth t [] h = refl
-laid_plain depth t (u ∷ us) h =
+laid_bare : (depth : ℕ) (t : Token) (us : List Token) → AllByRecursion IsSound us → list_all is_bare (laid depth t us) ≡ true
+laid_bare depth t [] h = refl
+laid_bare depth t (u ∷ us) h =
     let behind = laid (depth_behind depth t u) u us in
-    joined_plain (gap depth t u) (token_text u ++ behind)
-    (ap (list_all is_plain) (gap_is depth t u) ∙ space_plain (are_parted depth t u))
-    (joined_plain (token_text u) behind (token_plain u h.0) (laid_plain (depth_behind depth t u) u us h.1))
+    joined_bare (gap depth t u) (token_text u ++ behind)
+    (ap (list_all is_bare) (gap_is depth t u) ∙ space_bare (are_parted depth t u))
+    (joined_bare (token_text u) behind (token_bare u h.0) (laid_bare (depth_behind depth t u) u us h.1))
+
+-- a line that is laid out: no line feed and no `#` stands in it, and it has these tokens
+record IsLaid (line : List ℕ) (t : Token) (ts : List Token) : Type 0 where
+  bare : list_all is_bare line ≡ true
+  tokens : tokens_of line ≡ Some (t ∷ ts)
+
+line_laid : (t : Token) (ts : List Token) → IsSound t → AllByRecursion IsSound ts → IsLaid (line_to [] (t ∷ ts)) t ts
+line_laid t ts h hs =
+    record {
+      bare = joined_bare (token_text t) (laid 0 t ts) (token_bare t h) (laid_bare 0 t ts hs);
+      tokens = reads_first t (laid 0 t ts) ts h (laid_reads 0 t ts hs);
+    }
 
 -- the first of the lines, and the others
-pub line_laid : (k : ℕ) (t : Token) (ts : List Token) (rest : List ℕ) → IsSound t → AllByRecursion IsSound ts →
-    line_tokens (numbered k (lines_of (line_text (t ∷ ts) ++ rest))) ≡ Some (t ∷ ts) ∷ line_tokens (numbered (k + 1) (lines_of rest))
-line_laid k t ts rest h hs =
-    let behind = laid 0 t ts in
-    let plain = joined_plain (token_text t) behind (token_plain t h) (laid_plain 0 t ts hs) in
-    let tokens = reads_first t behind ts h (laid_reads 0 t ts hs) in
-    ap (λ (bs : List ℕ). line_tokens (numbered k (lines_of bs))) (piece_before (token_text t) (layout 0 t ts) behind rest (layout_is 0 t ts rest))
-    ∙ ap line_tokens (line_read k (token_text t ++ behind) rest t ts plain tokens)
+lines_laid : (c : Comment) (t : Token) (ts : List Token) (rest : List ℕ) → IsComment c → IsSound t → AllByRecursion IsSound ts →
+    lines_of (line_to (comment_end c) (t ∷ ts) ++ rest) ≡ (line_to [] (t ∷ ts) ++ comment_text c) ∷ lines_of rest
+lines_laid c t ts rest good h hs =
+    let line = line_to [] (t ∷ ts) in
+    let plain = bare_plain line (line_laid t ts h hs).bare in
+    let all = list_all-append is_plain line (comment_text c) ∙ and_from (list_all is_plain line) (list_all is_plain (comment_text c)) plain (comment_plain c good) in
+    ap lines_of (commented_line c (t ∷ ts) rest) ∙ line_before (line ++ comment_text c) rest all
 
-lines_laid : (k : ℕ) (lines : List (List Token)) → AllByRecursion IsSoundLine lines → line_tokens (numbered k (lines_of (lines_text lines))) ≡ found_lines lines
-lines_laid k [] h = refl
-lines_laid k ([] ∷ lines) h = absurd (let no = h.0.0 in cc)
-lines_laid k ((t ∷ ts) ∷ lines) h =
-    line_laid k t ts (lines_text lines) h.0.1.0 h.0.1.1
-    ∙ ap (λ (ls : List (Option (List Token))). Some (t ∷ ts) ∷ ls) (lines_laid (k + 1) lines h.1)
+first_good : (cs : List Comment) → AllByRecursion IsComment cs → IsComment (first_comment cs)
+first_good [] h = tt
+first_good (c ∷ cs) h = h.0
 
--- the lines of a text that was laid out
+others_good : (cs : List Comment) → AllByRecursion IsComment cs → AllByRecursion IsComment (other_comments cs)
+others_good [] h = tt
+others_good (c ∷ cs) h = h.1
+
+-- the tokens of lines with comments
+tokens_laid : (k : ℕ) (cs : List Comment) (lines : List (List Token)) → AllByRecursion IsComment cs → AllByRecursion IsSoundLine lines →
+    line_tokens (numbered k (lines_of (commented_text cs lines))) ≡ found_lines lines
+tokens_laid k cs [] good h = refl
+tokens_laid k cs ([] ∷ lines) good h = absurd (let no = h.0.0 in cc)
+tokens_laid k cs ((t ∷ ts) ∷ lines) good h =
+    let c = first_comment cs in
+    let line = line_to [] (t ∷ ts) in
+    let rest = commented_text (other_comments cs) lines in
+    let tokens = tokens_same line c ∙ (line_laid t ts h.0.1.0 h.0.1.1).tokens in
+    ap (λ (ls : List (List ℕ)). line_tokens (numbered k ls)) (lines_laid c t ts rest (first_good cs good) h.0.1.0 h.0.1.1)
+    ∙ ap line_tokens (numbered_before k (line ++ comment_text c) (lines_of rest) t ts tokens)
+    ∙ ap (λ (ls : List (Option (List Token))). Some (t ∷ ts) ∷ ls) (tokens_laid (k + 1) (other_comments cs) lines (others_good cs good) h.1)
+
+-- and their comments
+comments_laid : (cs : List Comment) (lines : List (List Token)) → length cs ≡ length lines → AllByRecursion IsComment cs → AllByRecursion IsSoundLine lines →
+    line_comments (lines_of (commented_text cs lines)) ≡ cs
+comments_laid [] [] e good h = refl
+comments_laid [] (ts ∷ lines) e good h = absurd (omega (arith, e))
+comments_laid (c ∷ cs) [] e good h = absurd (omega (arith, e))
+comments_laid (c ∷ cs) ([] ∷ lines) e good h = absurd (let no = h.0.0 in cc)
+comments_laid (c ∷ cs) ((t ∷ ts) ∷ lines) e good h =
+    let line = line_to [] (t ∷ ts) in
+    let is_laid = line_laid t ts h.0.1.0 h.0.1.1 in
+    let rest = commented_text cs lines in
+    let others = line_comments (lines_of rest) in
+    ap line_comments (lines_laid c t ts rest good.0 h.0.1.0 h.0.1.1)
+    ∙ ap (λ (o : Option (List Token)). with_comment o (comment_of (line ++ comment_text c)) others) (tokens_same line c ∙ is_laid.tokens)
+    ∙ ap (λ (d : Comment). d ∷ others) (comment_found line c is_laid.bare)
+    ∙ ap (λ (ds : List Comment). c ∷ ds) (comments_laid cs lines (omega (arith, e)) good.1 h.1)
+
+-- the lines of a text that was laid out with comments
+pub commented_read : ReadsCommented
+commented_read cs lines e good h = (tokens_laid 1 cs lines good h, comments_laid cs lines e good h)
+
+-- lines for which there are no comments
+uncommented_text : (lines : List (List Token)) → commented_text [] lines ≡ lines_text lines
+uncommented_text [] = refl
+uncommented_text (ts ∷ lines) = ap (λ (z : List ℕ). line_text ts ++ z) (uncommented_text lines)
+
+-- the lines of a text that was laid out without comments
 pub laid_read : ReadsLaidOut
-laid_read lines h = lines_laid 1 lines h
+laid_read lines h = ap (λ (z : List ℕ). line_tokens (numbered 1 (lines_of z))) (sym (uncommented_text lines)) ∙ tokens_laid 1 [] lines tt h

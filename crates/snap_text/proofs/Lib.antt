@@ -1,8 +1,13 @@
 pub mod Before
+pub mod Commented
 pub mod Decimals
+pub mod Digits
+pub mod Ends
 pub mod Laid
+pub mod LineComments
 pub mod Printed
 pub mod Runs
 pub mod Sound
+pub mod Space
 pub mod Splits
 pub mod Texts

@@ -1,14 +1,14 @@
 -- Tokens that are printed, one behind the other, are read as those tokens.
-use Rattle.std.proofs.Common.{◌≡◌, ℕ, ◌+◌, Bool, true, false, not, List, [], ◌∷◌, ◌++◌, Some, decimal, nat_le, if◌then◌else◌, refl, ap, ◌∙◌, arith}
+use Rattle.std.proofs.Common.{◌≡◌, ℕ, ◌<◌, Bool, true, false, not, List, [], ◌∷◌, ◌++◌, Some, decimal, nat_eq, nat_le, if◌then◌else◌, refl, ap, ◌∙◌, arith}
 use Rattle.std.proofs.lemmas.Bool.{and_parts, and_from, ne_eqb, leb-true}
 use Rattle.std.proofs.lemmas.List.Folds.{list_all-append}
 use Rattle.std.specs.List.{list_all}
 use Rattle.snap_semantics.specs.declared.text.Mark.{Mark}
 use Rattle.snap_semantics.specs.declared.text.Mark.TheVariants as mark
 use Rattle.snap_semantics.specs.Layout.{mark_text, token_text}
-use Rattle.snap_semantics.specs.Token.{Token, Word, Number, Sign, is_letter, is_digit, front_of, front_tokens, tokens_of, lines_of, numbered}
+use Rattle.snap_semantics.specs.Token.{Token, Word, Number, Sign, is_letter, is_digit, front_of, front_tokens, tokens_of}
 use Rattle.snap_text.specs.Tokens.{IsSound}
-use Rattle.snap_text.proofs.Before.{number_before, word_before, space_before, sign_before, is_plain, line_before, numbered_before}
+use Rattle.snap_text.proofs.Before.{number_before, word_before, space_before, sign_before, is_plain, is_bare}
 use Rattle.snap_text.proofs.Decimals.{decimal_digits}
 
 abbrev pub is_sign : Token → Bool
@@ -61,49 +61,48 @@ reads_more t u b bs us parted h rest =
       apart = λ e. apart_by b (is_sign u) (token_text u ++ bs) (u ∷ us) (parted e) first (sign_apart u bs us rest);
     }
 
-digits_plain : (ds : List ℕ) → list_all is_digit ds ≡ true → list_all is_plain ds ≡ true
-digits_plain [] h = refl
-digits_plain (b ∷ ds) h =
+-- a byte above `#`
+above_bare : (b : ℕ) → 35 < b → is_bare b ≡ true
+above_bare b above =
+    and_from (is_plain b) (not (nat_eq b 35)) (ap not (ne_eqb b 10 (λ e. omega (arith, above, e)))) (ap not (ne_eqb b 35 (λ e. omega (arith, above, e))))
+
+pub digits_bare : (ds : List ℕ) → list_all is_digit ds ≡ true → list_all is_bare ds ≡ true
+digits_bare [] h = refl
+digits_bare (b ∷ ds) h =
     let parts = and_parts (is_digit b) (list_all is_digit ds) h in
     let low = leb-true 48 b (and_parts (nat_le 48 b) (nat_le b 57) parts.0).0 in
-    and_from (is_plain b) (list_all is_plain ds) (ap not (ne_eqb b 10 (λ e. omega (arith, low, e)))) (digits_plain ds parts.1)
+    and_from (is_bare b) (list_all is_bare ds) (above_bare b (omega (arith, low))) (digits_bare ds parts.1)
 
-letters_plain : (w : List ℕ) → list_all is_letter w ≡ true → list_all is_plain w ≡ true
-letters_plain [] h = refl
-letters_plain (b ∷ w) h =
+letters_bare : (w : List ℕ) → list_all is_letter w ≡ true → list_all is_bare w ≡ true
+letters_bare [] h = refl
+letters_bare (b ∷ w) h =
     let parts = and_parts (is_letter b) (list_all is_letter w) h in
     let low = leb-true 97 b (and_parts (nat_le 97 b) (nat_le b 122) parts.0).0 in
-    and_from (is_plain b) (list_all is_plain w) (ap not (ne_eqb b 10 (λ e. omega (arith, low, e)))) (letters_plain w parts.1)
+    and_from (is_bare b) (list_all is_bare w) (above_bare b (omega (arith, low))) (letters_bare w parts.1)
 
-mark_plain : (m : Mark) → list_all is_plain (mark_text m) ≡ true
-mark_plain mark.Colon = refl
-mark_plain mark.Equal = refl
-mark_plain mark.Different = refl
-mark_plain mark.Less = refl
-mark_plain mark.Plus = refl
-mark_plain mark.Comma = refl
-mark_plain mark.OpenParenthesis = refl
-mark_plain mark.CloseParenthesis = refl
-mark_plain mark.OpenBracket = refl
-mark_plain mark.CloseBracket = refl
-mark_plain mark.At = refl
-mark_plain mark.Star = refl
+mark_bare : (m : Mark) → list_all is_bare (mark_text m) ≡ true
+mark_bare mark.Colon = refl
+mark_bare mark.Equal = refl
+mark_bare mark.Different = refl
+mark_bare mark.Less = refl
+mark_bare mark.Plus = refl
+mark_bare mark.Comma = refl
+mark_bare mark.OpenParenthesis = refl
+mark_bare mark.CloseParenthesis = refl
+mark_bare mark.OpenBracket = refl
+mark_bare mark.CloseBracket = refl
+mark_bare mark.At = refl
+mark_bare mark.Star = refl
 
--- no line feed stands in a token, before one, or in what is put together without one
-pub token_plain : (t : Token) → IsSound t → list_all is_plain (token_text t) ≡ true
-token_plain (Word w) h = letters_plain w h.1
-token_plain (Number k) h = digits_plain (decimal k) (decimal_digits k h)
-token_plain (Sign m) h = mark_plain m
+-- no line feed and no `#` stands in a token, before one, or in what is put together without one
+pub token_bare : (t : Token) → IsSound t → list_all is_bare (token_text t) ≡ true
+token_bare (Word w) h = letters_bare w h.1
+token_bare (Number k) h = digits_bare (decimal k) (decimal_digits k h)
+token_bare (Sign m) h = mark_bare m
 
-pub space_plain : (b : Bool) → list_all is_plain (space b) ≡ true
-space_plain true = refl
-space_plain false = refl
+pub space_bare : (b : Bool) → list_all is_bare (space b) ≡ true
+space_bare true = refl
+space_bare false = refl
 
-pub joined_plain : (xs ys : List ℕ) → list_all is_plain xs ≡ true → list_all is_plain ys ≡ true → list_all is_plain (xs ++ ys) ≡ true
-joined_plain xs ys h g = list_all-append is_plain xs ys ∙ and_from (list_all is_plain xs) (list_all is_plain ys) h g
-
--- the first line of a text, and the lines behind it
-pub line_read : (k : ℕ) (line rest : List ℕ) (t : Token) (ts : List Token) →
-    list_all is_plain line ≡ true → tokens_of line ≡ Some (t ∷ ts) →
-    numbered k (lines_of (line ++ 10 ∷ rest)) ≡ record { number = k; tokens = Some (t ∷ ts) } ∷ numbered (k + 1) (lines_of rest)
-line_read k line rest t ts plain e = ap (numbered k) (line_before line rest plain) ∙ numbered_before k line (lines_of rest) t ts e
+pub joined_bare : (xs ys : List ℕ) → list_all is_bare xs ≡ true → list_all is_bare ys ≡ true → list_all is_bare (xs ++ ys) ≡ true
+joined_bare xs ys h g = list_all-append is_bare xs ys ∙ and_from (list_all is_bare xs) (list_all is_bare ys) h g

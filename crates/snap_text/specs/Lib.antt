@@ -1,3 +1,4 @@
 pub mod Tokens
 pub mod Lines
+pub mod Numbers
 pub mod Laws

@@ -1,6 +1,6 @@
 //! Lines of tokens laid out: where a space stands between two of them.
-ghost use Rattle.std.specs.Prelude.{◌≡◌, ◌<◌, ◌≤◌, ◌++◌, ◌+◌, ◌^◌, OnOk};
-ghost use Rattle.snap_semantics.specs.Layout.{mark_text, token_text, depth_behind, parts_behind, parts_before, gap, layout, line_text, opened, closed};
+ghost use Rattle.std.specs.Prelude.{◌≡◌, ◌<◌, ◌≤◌, [], ◌++◌, ◌+◌, ◌^◌, OnOk};
+ghost use Rattle.snap_semantics.specs.Layout.{mark_text, token_text, depth_behind, parts_behind, parts_before, gap, layout, line_to, line_text, opened, closed};
 ghost use Rattle.snap_text.specs.Tokens.{view_token, view_tokens};
 
 use crate::lexer::Token;
@@ -119,9 +119,9 @@ fn push_gap(
     Ok(())
 }
 
-/// Adds the tokens behind one, and the line feed.
+/// Adds the tokens behind one.
 fn push_behind(out: &mut Vec<u8>, first: Token<'_>, tokens: &[Token<'_>]) -> Result<(), AllocError>
-    ensures { OnOk result (out.new.items ≡ out.old.items ++ layout 0 (view_token first.entry) (view_tokens tokens.now)) }
+    ensures { OnOk result (out.new.items ≡ out.old.items ++ layout [] 0 (view_token first.entry) (view_tokens tokens.now)) }
 {
     let mut depth = 0;
     let mut before = first;
@@ -131,18 +131,26 @@ fn push_behind(out: &mut Vec<u8>, first: Token<'_>, tokens: &[Token<'_>]) -> Res
         depth = depth_behind(depth, before, *token);
         before = *token;
     }
-    push_text(out, b"\n")
+    Ok(())
+}
+
+/// Adds the tokens of a line, laid out, without its end.
+pub fn push_tokens(out: &mut Vec<u8>, tokens: &[Token<'_>]) -> Result<(), AllocError>
+    ensures { OnOk result (out.new.items ≡ out.old.items ++ line_to [] (view_tokens tokens.now)) }
+{
+    match tokens {
+        [] => Ok(()),
+        [first, rest @ ..] => {
+            push_token(out, *first)?;
+            push_behind(out, *first, rest)
+        }
+    }
 }
 
 /// Adds a line of tokens, laid out.
 pub fn push_laid_out(out: &mut Vec<u8>, tokens: &[Token<'_>]) -> Result<(), AllocError>
     ensures { OnOk result (out.new.items ≡ out.old.items ++ line_text (view_tokens tokens.now)) }
 {
-    match tokens {
-        [] => push_text(out, b"\n"),
-        [first, rest @ ..] => {
-            push_token(out, *first)?;
-            push_behind(out, *first, rest)
-        }
-    }
+    push_tokens(out, tokens)?;
+    push_text(out, b"\n")
 }

@@ -21,7 +21,7 @@ fn is_letter(b: u8) -> bool
     b'a' <= b && b <= b'z'
 }
 
-fn is_digit(b: u8) -> bool
+pub(crate) fn is_digit(b: u8) -> bool
     ensures { result ≡ is_digit b }
 {
     b'0' <= b && b <= b'9'
@@ -34,7 +34,7 @@ fn is_run_byte(b: u8) -> bool
     is_letter(b) || is_digit(b)
 }
 
-fn is_space(b: u8) -> bool
+pub(crate) fn is_space(b: u8) -> bool
     ensures { result ≡ is_space b }
 {
     b == b' ' || b == b'\t' || b == b'\r'
@@ -58,7 +58,7 @@ fn all_letters(run: &[u8]) -> bool
     run.iter().all(|b| is_letter(*b))
 }
 
-fn has_leading_zero(run: &[u8]) -> bool
+pub(crate) fn has_leading_zero(run: &[u8]) -> bool
     ensures { result ≡ has_leading_zero run.now }
 {
     match run {

@@ -3,8 +3,10 @@ ghost use Rattle.std.specs.Prelude.{◌≡◌, ◌<◌, ℕ, length, IfOk, OnErr
 ghost use Rattle.snap_semantics.specs.Token.{TextLine, lines_of, numbered, text_lines};
 ghost use Rattle.snap_text.specs.Tokens.{view_tokens, has_tokens};
 ghost use Rattle.snap_text.specs.Lines.{IsNext};
+ghost use Rattle.snap_text.specs.Numbers.{IsNextNumbers};
 
 use crate::lexer::{Token, tokens};
+use crate::numbers::numbers_front;
 use std::alloc::{AllocError, Global};
 use std::marker::Model;
 
@@ -13,6 +15,14 @@ use std::marker::Model;
 pub struct TokenLine<'a> {
     pub number: u64,
     pub tokens: Option<Vec<Token<'a>>>,
+}
+
+/// A line that is a number, or a number, `*` and a second one: the line's own number, and those.
+#[derive(Clone, Copy, Debug)]
+pub struct NumberLine {
+    pub number: u64,
+    pub first: u64,
+    pub second: Option<u64>,
 }
 
 /// Goes through the lines of a text that have tokens; seen as the list of those that are left.
@@ -34,7 +44,7 @@ impl<'a> Model for TextLines<'a> {
 }
 
 /// The first line, without its line feed, and the lines behind it.
-fn split_line(bytes: &[u8]) -> (&[u8], &[u8])
+pub(crate) fn split_line(bytes: &[u8]) -> (&[u8], &[u8])
     requires { 0 < length bytes.now }
     ensures lines { lines_of bytes.now ≡ result.0.now ∷ lines_of result.1.now }
     ensures shorter { length result.1.now < length bytes.now }
@@ -68,6 +78,22 @@ impl<'a> TextLines<'a> {
             number: 1,
             rest: text,
         }
+    }
+
+    /// Takes the next line, where it is `I` or `I*K` and its line feed, with no space or comment and numbers of nine digits
+    /// at most; else leaves all lines.
+    pub fn next_numbers(&mut self) -> Option<NumberLine>
+        ensures { IsNextNumbers result self.old self.new }
+    {
+        let (first, second, after) = numbers_front(self.rest)?;
+        let number = self.number;
+        self.rest = after;
+        self.number = number + 1;
+        Some(NumberLine {
+            number,
+            first,
+            second,
+        })
     }
 
     /// Takes the next line that has tokens.

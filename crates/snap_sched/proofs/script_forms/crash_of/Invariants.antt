@@ -1,0 +1,6 @@
+use Rattle.std.proofs.Common.{◌≡◌, drop}
+use Rattle.snap_sched.specs.ScriptForms.{crash_of}
+use Rattle.snap_sched.proofs.script_forms.crash_of.Given as goal
+
+abbrev pub invariant-loop-form : goal.invariant-loop-form
+invariant-loop-form l = crash_of l.process (drop l.form-index l.forms) ≡ crash_of l.process l.forms

@@ -1,0 +1,94 @@
+//! The forms of the lines of scripts.
+ghost use Rattle.std.specs.Prelude.{◌≡◌, IfOk};
+ghost use Rattle.snap_text.specs.Tokens.{Finds, view_tokens};
+ghost use Rattle.snap_sched.specs.ScriptForms.{call_form, crash_at_form, script_form, ops_of, crash_of};
+
+use crate::forms::{ItemForm, item_form};
+use snap_semantics::Op;
+use snap_text::{Token, end_at, keyword_at, number_at};
+use std::alloc::{AllocError, Global};
+
+/// The last turn at which a process may crash.
+const LAST_TURN: u64 = 1_000_000;
+
+/// What a line of scripts says, whether or not its process is there.
+#[derive(Clone, Copy, Debug)]
+pub enum ScriptForm {
+    Call { process: u64, op: Op },
+    /// The process crashes at a turn, counted from 1.
+    Crash { process: u64, turn: u64 },
+}
+
+/// `I scan` or `I update K X`.
+#[tactic(auto, unfolding(crate::specs::ScriptForms::call_form))]
+fn call_form(tokens: &[Token<'_>]) -> Option<ScriptForm>
+    ensures { Finds (λ x. x) result (call_form (view_tokens tokens.now)) }
+{
+    match item_form(tokens)? {
+        ItemForm::Call { process, op } => Some(ScriptForm::Call { process, op }),
+        ItemForm::Steps { .. } | ItemForm::Crash { .. } => None,
+    }
+}
+
+/// `I crash K`.
+#[tactic(auto, unfolding(crate::specs::ScriptForms::crash_at_form))]
+fn crash_at_form(tokens: &[Token<'_>]) -> Option<ScriptForm>
+    ensures { Finds (λ x. x) result (crash_at_form (view_tokens tokens.now)) }
+{
+    let (process, rest) = number_at(tokens)?;
+    let rest = keyword_at(b"crash", rest)?;
+    let (turn, rest) = number_at(rest)?;
+    end_at(rest)?;
+    if turn < 1 || LAST_TURN < turn {
+        return None;
+    }
+    Some(ScriptForm::Crash { process, turn })
+}
+
+/// The form that a line is.
+#[tactic(auto, unfolding(crate::specs::ScriptForms::script_form))]
+pub fn script_form(tokens: &[Token<'_>]) -> Option<ScriptForm>
+    ensures { Finds (λ x. x) result (script_form (view_tokens tokens.now)) }
+{
+    if let Some(form) = call_form(tokens) {
+        return Some(form);
+    }
+    crash_at_form(tokens)
+}
+
+/// The operations that a process asks for, in order.
+pub fn ops_of(alloc: Global, forms: &[ScriptForm], process: u64) -> Result<Vec<Op>, AllocError>
+    ensures { IfOk result (λ ops. ops.items ≡ ops_of process forms.now) }
+{
+    let mut ops = Vec::new(alloc);
+    for form in forms {
+        if let ScriptForm::Call {
+            process: caller,
+            op,
+        } = *form
+        {
+            if caller == process {
+                ops.push(op)?;
+            }
+        }
+    }
+    Ok(ops)
+}
+
+/// The turn at which a process crashes, where it does.
+pub fn crash_of(forms: &[ScriptForm], process: u64) -> Option<u64>
+    ensures { result ≡ crash_of process forms.now }
+{
+    for form in forms {
+        if let ScriptForm::Crash {
+            process: crashing,
+            turn,
+        } = *form
+        {
+            if crashing == process {
+                return Some(turn);
+            }
+        }
+    }
+    None
+}

@@ -1,0 +1,88 @@
+//! Scripts of live runs: what each process asks for.
+ghost use Rattle.std.specs.Prelude.{◌≡◌, length};
+ghost use Rattle.snap_sched.specs.ScriptText.{AreScripts};
+
+use snap_semantics::Op;
+use snap_words::Shape;
+use std::marker::Model;
+
+/// What a process asks for, in order, and the turn at which it crashes, counted from 1, where it does.
+#[derive(Debug, Drop)]
+pub struct Script {
+    operations: Vec<Op>,
+    crash: Option<u64>,
+}
+
+impl Model for Script {
+    ghost use Rattle.snap_sched.specs.ScriptText.{Script as Seen};
+
+    ghost Value = { Seen };
+
+    ghost view = { λ s. record { operations = s.operations.items; crash = s.crash } };
+}
+
+/// A shape, and a script for each of its processes.
+#[derive(Debug, Drop)]
+pub struct Scripts {
+    shape: Shape,
+    scripts: Vec<Script>,
+}
+
+impl Model for Scripts {
+    ghost use Rattle.snap_sched.specs.ScriptText.{Scripts as Seen, AreScripts};
+
+    ghost Value = { Seen };
+
+    ghost view = { λ s. record { shape = s.shape; scripts = s.scripts.items } };
+
+    ghost invariant = { λ s. AreScripts (record { shape = s.shape; scripts = s.scripts.items }) };
+}
+
+impl Script {
+    /// The script of these operations and this crash.
+    pub(crate) fn new(operations: Vec<Op>, crash: Option<u64>) -> Script
+        ensures { result ≡ record { operations = operations.items; crash = crash } }
+    {
+        Script { operations, crash }
+    }
+
+    /// The operations in order.
+    pub fn operations(&self) -> &[Op]
+        ensures { result.now ≡ self.now.operations }
+    {
+        self.operations.as_slice()
+    }
+
+    /// The turn at which the process crashes, counted from 1, where it does.
+    pub fn crash(&self) -> Option<u64>
+        ensures { result ≡ self.now.crash }
+    {
+        self.crash
+    }
+}
+
+impl Scripts {
+    /// The scripts of the processes of a shape.
+    pub(crate) fn new(shape: Shape, scripts: Vec<Script>) -> Scripts
+        requires { AreScripts (record { shape = shape; scripts = scripts.items }) }
+        ensures { result ≡ record { shape = shape; scripts = scripts.items } }
+    {
+        Scripts { shape, scripts }
+    }
+
+    /// The numbers of processes and of words.
+    pub fn shape(&self) -> Shape
+        ensures shape { result ≡ self.now.shape }
+        ensures scripts { AreScripts self.now }
+    {
+        self.shape
+    }
+
+    /// The scripts, that of process 1 first.
+    pub fn scripts(&self) -> &[Script]
+        ensures scripts { result.now ≡ self.now.scripts }
+        ensures each { length result.now ≡ self.now.shape.n }
+    {
+        self.scripts.as_slice()
+    }
+}

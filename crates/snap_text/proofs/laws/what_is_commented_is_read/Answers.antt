@@ -1,0 +1,5 @@
+use Rattle.snap_text.proofs.Laid.{commented_read}
+use Rattle.snap_text.proofs.laws.what_is_commented_is_read.Goals as goal
+
+pub returns : goal.returns
+returns c = commented_read

@@ -1,0 +1,49 @@
+//! Lines that are a number, or a number, `*` and a number, with nothing between them: most lines of a schedule.
+ghost use Rattle.std.specs.Prelude.{◌≡◌, IfSome};
+ghost use Rattle.snap_text.specs.Numbers.{BeginsWithNumber, BeginsWithNumbers};
+
+use crate::lexer::{has_leading_zero, is_digit};
+
+/// The most that a number may be before one digit more, so that it has nine digits at most.
+const MOST_BEFORE_DIGIT: u64 = 99_999_999;
+
+/// The number that the digits at the front spell, and what stands behind them. None where there are none or more than
+/// nine of them, or zero before others.
+fn number_front(bytes: &[u8]) -> Option<(u64, &[u8])>
+    ensures { IfSome result (λ x. BeginsWithNumber bytes.now x.0 x.1.now) }
+{
+    let mut value = 0u64;
+    let mut len = 0;
+    while len < bytes.len() && is_digit(bytes[len]) {
+        if value > MOST_BEFORE_DIGIT {
+            return None;
+        }
+        value = value * 10 + u64::from(bytes[len] - b'0');
+        len += 1;
+    }
+    let (digits, behind) = bytes.split_at(len);
+    if len == 0 || has_leading_zero(digits) {
+        return None;
+    }
+    Some((value, behind))
+}
+
+/// The numbers that the first line spells as `I` or `I*K`, where it has its line feed, and the lines behind it.
+pub fn numbers_front(bytes: &[u8]) -> Option<(u64, Option<u64>, &[u8])>
+    ensures { IfSome result (λ x. BeginsWithNumbers bytes.now x.0 x.1 x.2.now) }
+{
+    let (first, behind) = number_front(bytes)?;
+    let (mark, rest) = behind.split_first()?;
+    if *mark == b'\n' {
+        return Some((first, None, rest));
+    }
+    if *mark != b'*' {
+        return None;
+    }
+    let (second, behind) = number_front(rest)?;
+    let (end, rest) = behind.split_first()?;
+    if *end != b'\n' {
+        return None;
+    }
+    Some((first, Some(second), rest))
+}

@@ -6,6 +6,7 @@ pub mod Alls
 pub mod Declared
 pub mod DistinctNames
 pub mod HasForms
+pub mod OnlyCommented
 pub mod Printed
 pub mod ReadsAll
 pub mod RightSources

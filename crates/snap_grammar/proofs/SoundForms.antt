@@ -31,7 +31,7 @@ use Rattle.snap_semantics.specs.declared.instr.Tuple.TheVariants as tuple
 use Rattle.snap_semantics.specs.declared.text.Mark.TheVariants as mark
 use Rattle.snap_semantics.specs.IsListing.{IsName, HasIndex, HasTerm, HasExpr, HasComparison, HasCondition, HasWhere, HasTuple, HasForm, IsLine, IsListing}
 use Rattle.snap_semantics.specs.Listing.{all_names, has_line, instr_targets, line_targets}
-use Rattle.snap_semantics.specs.ListingForms.{is_line_number, join_word}
+use Rattle.snap_semantics.specs.ListingForms.{is_line_number, max_line_number, join_word}
 use Rattle.snap_semantics.specs.Source.{Name, Source}
 use Rattle.snap_semantics.specs.Spelling.{in_parentheses, in_brackets, spelled_index, spelled_place, field_word, spelled_term, spelled_expr, spelled_relation, spelled_comparison, spelled_condition, spelled_where, spelled_range, spelled_target, spelled_tuple, bank_word, spelled_pair, spelled_instr, spelled_line, kind_word, spelled_names, spelled_entry, spelled_source}
 use Rattle.snap_semantics.specs.Token.{Token, Word, Sign, IsWord}
@@ -244,7 +244,7 @@ instr_sound Finish h names fit = ((omega arith, refl), tt)
 
 -- a line number has 64 bits, and so a target, which is the number of a line
 line_number_fits : (k : ℕ) → is_line_number k ≡ true → Fits k
-line_number_fits k h = let most = leb-true k 999 (and_parts (nat_le 1 k) (nat_le k 999) h).1 in omega (arith, most)
+line_number_fits k h = let most = leb-true k max_line_number (and_parts (nat_le 1 k) (nat_le k max_line_number) h).1 in omega (arith, most)
 
 target_by : (n k : ℕ) (b c : Bool) → nat_eq n k ≡ b → Fits n → (c ≡ true → Fits k) → (b || c) ≡ true → Fits k
 target_by n k true c h fits rest e = let same : n ≡ k = eqb-true n k h in omega (arith, fits, same)

@@ -1,6 +1,8 @@
 -- The laws of reading and printing listings.
-use Rattle.std.specs.Prelude.{◌≡◌, ℕ, ◌≤◌, List, length, Ok}
+use Rattle.std.specs.Prelude.{◌≡◌, ℕ, ◌<◌, ◌≤◌, List, length, Ok}
+use Rattle.std.specs.List.{AllByRecursion}
 use Rattle.snap_semantics.specs.CanonicalText.{canonical_text}
+use Rattle.snap_semantics.specs.Comments.{Commented, IsCommented, commented_of}
 use Rattle.snap_semantics.specs.IsListing.{IsListing}
 use Rattle.snap_semantics.specs.Listing.{listing_of}
 use Rattle.snap_semantics.specs.Source.{Source}
@@ -22,8 +24,12 @@ ReadsAllSpelled = (text : List ℕ) (s : Source) → length text ≤ 65536 → I
 
 -- what is printed of a listing spells it
 abbrev pub PrintsSpelling : Type 0
-PrintsSpelling = (s : Source) → IsListing s → Spells (canonical_text s) s
+PrintsSpelling = (c : Commented) → IsCommented c → Spells (canonical_text c) c.source
 
--- what is printed of a listing is read as that listing, where it is within the size of a text
+-- what is read with its comments is a listing with comments
+abbrev pub ReadsOnlyCommented : Type 0
+ReadsOnlyCommented = (text : List ℕ) (c : Commented) → commented_of text ≡ Ok c → IsCommented c × (listing_of text ≡ Ok c.source)
+
+-- what is printed of a listing is read as that listing with its comments, where it is within the size of a text
 abbrev pub ReadsPrinted : Type 0
-ReadsPrinted = (s : Source) → IsListing s → length (canonical_text s) ≤ 65536 → listing_of (canonical_text s) ≡ Ok s
+ReadsPrinted = (c : Commented) → IsCommented c → length (canonical_text c) ≤ 65536 → commented_of (canonical_text c) ≡ Ok c

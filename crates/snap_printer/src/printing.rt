@@ -1,13 +1,14 @@
 //! Listings in their canonical text.
-ghost use Rattle.std.specs.Prelude.{◌≡◌, [], ◌∷◌, ◌++◌, map, codes, OnOk, IfOk};
-ghost use Rattle.snap_semantics.specs.CanonicalText.{canonical_text};
-ghost use Rattle.snap_semantics.specs.Layout.{line_text, lines_text};
+ghost use Rattle.std.specs.Prelude.{◌≡◌, [], ◌∷◌, ◌++◌, length, map, codes, OnOk, IfOk};
+ghost use Rattle.snap_semantics.specs.CanonicalText.{comment_end, commented_text, canonical_text};
+ghost use Rattle.snap_semantics.specs.Layout.{line_to, line_text};
 ghost use Rattle.snap_semantics.specs.Spelling.{spelled_line, spelled_names, spelled_entry, kind_word};
+ghost use Rattle.snap_source.specs.Fields.{seen_comment};
 
 use crate::spelling::Spelling;
 use snap_semantics::{Line, Name};
-use snap_source::Listing;
-use snap_text::push_laid_out;
+use snap_source::CommentedListing;
+use snap_text::{push_laid_out, push_text, push_tokens};
 use snap_words::KindTag;
 use std::alloc::{AllocError, Global};
 
@@ -48,37 +49,61 @@ fn push_entry_line(
     push_laid_out(out, line.tokens())
 }
 
-/// Adds a numbered line.
-fn push_numbered_line(out: &mut Vec<u8>, alloc: Global, numbered: &Line) -> Result<(), AllocError>
-    ensures { OnOk result (out.new.items ≡ out.old.items ++ line_text (spelled_line numbered.now)) }
+/// Adds the end of a line with this comment.
+fn push_comment_end(out: &mut Vec<u8>, comment: &Option<Vec<u8>>) -> Result<(), AllocError>
+    ensures { OnOk result (out.new.items ≡ out.old.items ++ comment_end (seen_comment comment.now)) }
+{
+    if let Some(bytes) = comment {
+        push_text(out, b" #")?;
+        push_text(out, bytes.as_slice())?;
+    }
+    push_text(out, b"\n")
+}
+
+/// Adds a numbered line with its comment.
+fn push_numbered_line(
+    out: &mut Vec<u8>,
+    alloc: Global,
+    numbered: &Line,
+    comment: &Option<Vec<u8>>,
+) -> Result<(), AllocError>
+    ensures { OnOk result (out.new.items ≡ out.old.items ++ line_to (comment_end (seen_comment comment.now)) (spelled_line numbered.now)) }
 {
     let mut line = Spelling::new(alloc);
     line.push_line(numbered)?;
-    push_laid_out(out, line.tokens())
+    push_tokens(out, line.tokens())?;
+    push_comment_end(out, comment)
 }
 
-/// Adds the numbered lines.
-fn push_lines(out: &mut Vec<u8>, alloc: Global, lines: &[Line]) -> Result<(), AllocError>
-    ensures { OnOk result (out.new.items ≡ out.old.items ++ lines_text (map spelled_line lines.now)) }
+/// Adds the numbered lines, each with its comment.
+fn push_lines(
+    out: &mut Vec<u8>,
+    alloc: Global,
+    lines: &[Line],
+    comments: &[Option<Vec<u8>>],
+) -> Result<(), AllocError>
+    requires { length comments.now ≡ length lines.now }
+    ensures { OnOk result (out.new.items ≡ out.old.items ++ commented_text (map seen_comment comments.now) (map spelled_line lines.now)) }
 {
-    for line in lines {
-        push_numbered_line(out, alloc, line)?;
+    for (line, comment) in lines.iter().zip(comments) {
+        push_numbered_line(out, alloc, line, comment)?;
     }
     Ok(())
 }
 
-/// The canonical text of a listing.
-pub fn print(alloc: Global, listing: &Listing) -> Result<Vec<u8>, AllocError>
+/// The canonical text of a listing, with its comments.
+pub fn print(alloc: Global, listing: &CommentedListing) -> Result<Vec<u8>, AllocError>
     ensures { IfOk result (λ text. text.items ≡ canonical_text listing.now) }
 {
+    let source = listing.listing();
     let mut out = Vec::new(alloc);
-    push_kind_line(&mut out, alloc, listing.kind())?;
-    push_names_line(&mut out, alloc, b"scalar", listing.scalars())?;
-    push_names_line(&mut out, alloc, b"row", listing.rows())?;
-    push_names_line(&mut out, alloc, b"words", listing.words())?;
-    push_names_line(&mut out, alloc, b"view", listing.views())?;
-    push_entry_line(&mut out, alloc, b"scan", listing.scan())?;
-    push_entry_line(&mut out, alloc, b"update", listing.update())?;
-    push_lines(&mut out, alloc, listing.lines())?;
+    push_kind_line(&mut out, alloc, source.kind())?;
+    push_names_line(&mut out, alloc, b"scalar", source.scalars())?;
+    push_names_line(&mut out, alloc, b"row", source.rows())?;
+    push_names_line(&mut out, alloc, b"words", source.words())?;
+    push_names_line(&mut out, alloc, b"view", source.views())?;
+    push_entry_line(&mut out, alloc, b"scan", source.scan())?;
+    push_entry_line(&mut out, alloc, b"update", source.update())?;
+    push_lines(&mut out, alloc, source.lines(), listing.comments())?;
     Ok(out)
 }

@@ -8,4 +8,4 @@ mod reader;
 
 pub use fault::ListingFault;
 pub use known::read_known;
-pub use reader::read;
+pub use reader::{read, read_commented};

@@ -1,6 +1,7 @@
 //! Reads listings.
-ghost use Rattle.std.specs.Prelude.{◌≡◌, ◌<◌, Err, length};
+ghost use Rattle.std.specs.Prelude.{◌≡◌, ◌<◌, Err, IfOk, drop, length};
 ghost use Rattle.snap_semantics.specs.Answers.{Answers};
+ghost use Rattle.snap_semantics.specs.Comments.{header_lines, commented_of};
 ghost use Rattle.snap_semantics.specs.Listing.{numbered_lines, with_lines, listing_of_lines, listing_of};
 ghost use Rattle.snap_source.specs.Fields.{header_source};
 ghost use Rattle.snap_reader.specs.Reading.{numbered_line, added_line};
@@ -12,15 +13,21 @@ use crate::fault::ListingFault;
 use crate::header::header_of;
 use snap_forms::line_form;
 use snap_semantics::{Line, ListingRefusal};
-use snap_source::{Header, Listing, checked_target, checked_targets, checked_uses, push_line_copy};
-use snap_text::{TextLines, TokenLine, line_count};
-use std::alloc::Global;
+use snap_source::{
+    CommentedListing, Header, Listing, checked_target, checked_targets, checked_uses,
+    push_line_copy,
+};
+use snap_text::{TextLines, TokenLine, line_comments, line_count};
+use std::alloc::{AllocError, Global};
 
 /// The most bytes of a listing's text.
 const MOST_BYTES: usize = 65_536;
 
 /// The most numbered lines.
 const MOST_LINES: usize = 200;
+
+/// The lines of the header.
+const HEADER_LINES: usize = 7;
 
 /// The numbered line that a text line is, behind line number `last`, with so many lines before it.
 fn numbered_line(
@@ -111,4 +118,29 @@ pub fn read(alloc: Global, text: &[u8]) -> Result<Listing, ListingFault>
     let mut texts = TextLines::new(text);
     let (header, lines) = header_and_lines(alloc, after, &mut texts)?;
     Ok(Listing::of(header, lines))
+}
+
+/// The comments of the lines behind those of the header.
+fn behind_header(
+    alloc: Global,
+    mut comments: Vec<Option<Vec<u8>>>,
+) -> Result<Vec<Option<Vec<u8>>>, AllocError>
+    ensures { IfOk result (λ behind. behind.items ≡ drop header_lines comments.items) }
+{
+    if comments.len() < HEADER_LINES {
+        return Ok(Vec::new(alloc));
+    }
+    comments.split_off(HEADER_LINES)
+}
+
+/// The listing that a text is, with the comments of its numbered lines, or the first reason why it is none.
+#[tactic(auto, using(crate::proofs::ReadComments::with_comments), unfolding(snap_semantics::specs::Comments::commented_of))]
+pub fn read_commented(alloc: Global, text: &[u8]) -> Result<CommentedListing, ListingFault>
+    ensures listing { Answers (λ l. l) result (commented_of text.now) }
+    ensures too_long { 65536 < length text.now → result ≡ Err (Refused TooLong) }
+{
+    let listing = read(alloc, text)?;
+    let found = line_comments(alloc, text)?;
+    let comments = behind_header(alloc, found)?;
+    Ok(CommentedListing::of(listing, comments))
 }

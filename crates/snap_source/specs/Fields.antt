@@ -1,5 +1,7 @@
--- A listing is seen as its source, and its header as a source with no lines.
-use Rattle.std.specs.Prelude.{[]}
+-- A listing is seen as its source, its header as a source with no lines, and a listing with comments as both.
+use Rattle.std.specs.Prelude.{ℕ, List, [], Vec, Option, map, option_map, vec_items}
+use Rattle.std.specs.Global.{Global}
+use Rattle.snap_semantics.specs.Comments.{Comment, Commented}
 use Rattle.snap_semantics.specs.Source.{Source}
 use Rattle.snap_source.specs.declared.header.Header.{Header}
 use Rattle.snap_source.specs.declared.listing.Listing.TheInside.{Inside}
@@ -27,3 +29,11 @@ header_source h = record {
   update = h.update;
   lines = [];
 }
+
+-- a comment, as it is kept
+abbrev pub seen_comment : Option (Vec ℕ Global) → Comment
+seen_comment c = option_map vec_items c
+
+-- a listing with these comments
+abbrev pub commented : Source → List (Option (Vec ℕ Global)) → Commented
+commented s comments = record { source = s; comments = map seen_comment comments }

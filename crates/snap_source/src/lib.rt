@@ -1,11 +1,13 @@
 //! What a listing is, and what its lines may speak of.
 #![tactic(auto)]
 
+mod commented;
 mod header;
 mod listing;
 mod targets;
 mod uses;
 
+pub use commented::CommentedListing;
 pub use header::{Header, is_among};
 pub use listing::Listing;
 pub use targets::{checked_target, checked_targets, has_line, push_line_copy};

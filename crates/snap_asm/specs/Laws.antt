@@ -1,21 +1,24 @@
--- The laws of assembling, listing and loading.
+-- The laws of assembling, listing, loading and upgrading.
 use Rattle.std.specs.Prelude.{◌≡◌, ℕ, ◌≤◌, List, length, Ok}
-use Rattle.snap_semantics.specs.Assembly.{assembled, listed}
+use Rattle.snap_semantics.specs.declared.image.ImageVersion.{ImageVersion}
+use Rattle.snap_semantics.specs.Assembly.{assembled, listed, upgraded}
 use Rattle.snap_semantics.specs.CanonicalText.{canonical_text}
-use Rattle.snap_semantics.specs.Image.{image_of}
-use Rattle.snap_semantics.specs.ImageListing.{listing_of_image}
-use Rattle.snap_semantics.specs.IsListing.{IsListing}
-use Rattle.snap_semantics.specs.Listing.{listing_of}
-use Rattle.snap_semantics.specs.Source.{Source}
+use Rattle.snap_semantics.specs.Comments.{Commented, IsCommented, commented_of}
+use Rattle.snap_semantics.specs.Image.{CanSay, image_in, image_of}
+use Rattle.snap_semantics.specs.ImageListing.{commented_in}
 
--- what is assembled lists back as the canonical text of the text's listing, and loads as that listing
+-- what is assembled lists back as the canonical text of the text's listing, loads as that listing, and is upgraded to itself
 abbrev pub ListsBack : Type 0
 ListsBack =
-    (text image : List ℕ) (s : Source) → listing_of text ≡ Ok s → assembled text ≡ Ok image →
-    (listed image ≡ Ok (canonical_text s)) × (listing_of_image image ≡ Ok s)
+    (text image : List ℕ) (c : Commented) → commented_of text ≡ Ok c → assembled text ≡ Ok image →
+    (listed image ≡ Ok (canonical_text c)) × (commented_in image ≡ Ok c) × (upgraded image ≡ Ok image)
 
 -- a canonical text that is within the size of a text lists back as itself
 abbrev pub KeepsCanonical : Type 0
 KeepsCanonical =
-    (s : Source) → IsListing s → length (canonical_text s) ≤ 65536 →
-    (assembled (canonical_text s) ≡ Ok (image_of s)) × (listed (image_of s) ≡ Ok (canonical_text s))
+    (c : Commented) → IsCommented c → length (canonical_text c) ≤ 65536 →
+    (assembled (canonical_text c) ≡ Ok (image_of c)) × (listed (image_of c) ≡ Ok (canonical_text c))
+
+-- an image of either version is upgraded to that of the second
+abbrev pub Upgrades : Type 0
+Upgrades = (v : ImageVersion) (c : Commented) → IsCommented c → CanSay v c → upgraded (image_in v c) ≡ Ok (image_of c)

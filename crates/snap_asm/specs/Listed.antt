@@ -1,10 +1,14 @@
--- What is listed.
+-- What is listed, and what is loaded.
 use Rattle.std.specs.Prelude.{◌≡◌, ℕ, List}
 use Rattle.snap_semantics.specs.CanonicalText.{canonical_text}
-use Rattle.snap_semantics.specs.Image.{image_of}
-use Rattle.snap_semantics.specs.IsListing.{IsListing}
+use Rattle.snap_semantics.specs.Comments.{Commented, IsCommented}
+use Rattle.snap_semantics.specs.Image.{IsImageOf}
 use Rattle.snap_semantics.specs.Source.{Source}
 
 -- a listing has this image, and this canonical text
 abbrev pub HaveOneListing : List ℕ → List ℕ → Type 0
-HaveOneListing image text = (s : Source) × IsListing s × (image ≡ image_of s) × (text ≡ canonical_text s)
+HaveOneListing image text = (c : Commented) × IsCommented c × IsImageOf image c × (text ≡ canonical_text c)
+
+-- a listing of this source has this image
+abbrev pub HasListing : List ℕ → Source → Type 0
+HasListing image s = (c : Commented) × IsCommented c × IsImageOf image c × (c.source ≡ s)

@@ -1,55 +1,71 @@
-//! From texts to images, from images to texts, and from images to programs.
-ghost use Rattle.std.specs.Prelude.{◌≡◌, ◌≢◌, ℕ, List, ◌∷◌, ◌++◌, IfOk, Ok, Err, take};
+//! From texts to images, from images to texts and to images of the version that is written, and from images to programs.
+ghost use Rattle.std.specs.Prelude.{◌≡◌, ◌≢◌, ℕ, List, ◌∷◌, ◌++◌, IfOk, None, Ok, Err, take};
 ghost use Rattle.snap_semantics.specs.Answers.{Answers};
-ghost use Rattle.snap_semantics.specs.Assembly.{assembled, listed};
+ghost use Rattle.snap_semantics.specs.Assembly.{assembled, listed, upgraded};
 ghost use Rattle.snap_semantics.specs.CanonicalText.{canonical_text};
-ghost use Rattle.snap_semantics.specs.Image.{image_of, signature, version};
+ghost use Rattle.snap_semantics.specs.Comments.{Commented, IsCommented};
+ghost use Rattle.snap_semantics.specs.Image.{CanSay, image_in, image_of, signature};
+ghost use Rattle.snap_semantics.specs.ImageCodes.{of_code, versions};
 ghost use Rattle.snap_semantics.specs.ImageListing.{listing_of_image};
-ghost use Rattle.snap_semantics.specs.IsListing.{IsListing};
-ghost use Rattle.snap_semantics.specs.Source.{Source};
 ghost use Rattle.snap_semantics.specs.declared.fault.Fault.TheVariants.{Refused};
+ghost use Rattle.snap_semantics.specs.declared.image.ImageVersion.{ImageVersion};
 ghost use Rattle.snap_semantics.specs.declared.refusal.ImageRefusal.TheVariants.{NotAnImage, Version};
-ghost use Rattle.snap_asm.specs.Listed.{HaveOneListing};
+ghost use Rattle.snap_asm.specs.Listed.{HasListing, HaveOneListing};
 
 use snap_code::Program;
 use snap_image::{ImageFault, decode, encode};
-use snap_listing::{ListingFault, print, read};
+use snap_listing::{ListingFault, print, read_commented};
 use std::alloc::Global;
 
-/// The image of the listing that a text is, or the first reason why it is none.
+/// The image of the listing that a text is, with its comments, or the first reason why it is none.
 #[tactic(auto, unfolding(snap_semantics::specs::Assembly::assembled))]
 pub fn assemble(alloc: Global, text: &[u8]) -> Result<Vec<u8>, ListingFault>
     ensures { Answers (λ image. image.items) result (assembled text.now) }
 {
-    let listing = read(alloc, text)?;
+    let listing = read_commented(alloc, text)?;
     let image = encode(alloc, &listing)?;
     Ok(image)
 }
 
-/// The canonical text of the listing whose image these bytes are, or the first reason why they are none: they are refused exactly where no
-/// listing has this image.
+/// The canonical text of the listing whose image these bytes are, in either version, or the first reason why they are none: they are refused
+/// exactly where no listing has this image.
 #[tactic(auto, unfolding(snap_semantics::specs::Assembly::listed))]
 pub fn list(alloc: Global, image: &[u8]) -> Result<Vec<u8>, ImageFault>
     ensures answer { Answers (λ text. text.items) result (listed image.now) }
     ensures image { IfOk result (λ text. HaveOneListing image.now text.items) }
-    ensures every { (s : Source) → IsListing s → image.now ≡ image_of s → Answers (λ text. text.items) result (Ok (canonical_text s)) }
+    ensures every { (v : ImageVersion) (c : Commented) → IsCommented c → CanSay v c → image.now ≡ image_in v c → Answers (λ text. text.items) result (Ok (canonical_text c)) }
     ensures not_an_image { take 4 image.now ≢ signature → result ≡ Err (Refused NotAnImage) }
-    ensures version { (v : ℕ) (rest : List ℕ) → image.now ≡ signature ++ v ∷ rest → v ≢ version → result ≡ Err (Refused Version) }
+    ensures version { (b : ℕ) (rest : List ℕ) → image.now ≡ signature ++ b ∷ rest → of_code versions b ≡ None → result ≡ Err (Refused Version) }
 {
     let listing = decode(alloc, image)?;
     let text = print(alloc, &listing)?;
     Ok(text)
 }
 
-/// The program whose image these bytes are, or the first reason why they are none: they are refused exactly where no listing has this image.
-pub fn load(alloc: Global, image: &[u8]) -> Result<Program, ImageFault>
-    ensures answer { Answers (λ p. p) result (listing_of_image image.now) }
-    ensures image { IfOk result (λ p. image.now ≡ image_of p) }
-    ensures every { (s : Source) → IsListing s → image.now ≡ image_of s → Answers (λ p. p) result (Ok s) }
+/// The image, in the second version, of the listing whose image these bytes are in either version, or the first reason why they are none.
+#[tactic(auto, unfolding(snap_semantics::specs::Assembly::upgraded))]
+pub fn upgrade(alloc: Global, image: &[u8]) -> Result<Vec<u8>, ImageFault>
+    ensures answer { Answers (λ image. image.items) result (upgraded image.now) }
+    ensures every { (v : ImageVersion) (c : Commented) → IsCommented c → CanSay v c → image.now ≡ image_in v c → Answers (λ image. image.items) result (Ok (image_of c)) }
     ensures not_an_image { take 4 image.now ≢ signature → result ≡ Err (Refused NotAnImage) }
-    ensures version { (v : ℕ) (rest : List ℕ) → image.now ≡ signature ++ v ∷ rest → v ≢ version → result ≡ Err (Refused Version) }
+    ensures version { (b : ℕ) (rest : List ℕ) → image.now ≡ signature ++ b ∷ rest → of_code versions b ≡ None → result ≡ Err (Refused Version) }
 {
     let listing = decode(alloc, image)?;
-    let program = Program::of(alloc, listing)?;
+    let upgraded = encode(alloc, &listing)?;
+    Ok(upgraded)
+}
+
+/// The program whose image these bytes are, in either version, or the first reason why they are none: they are refused exactly where no listing
+/// has this image.
+#[tactic(auto, unfolding(snap_semantics::specs::ImageListing::listing_of_image))]
+pub fn load(alloc: Global, image: &[u8]) -> Result<Program, ImageFault>
+    ensures answer { Answers (λ p. p) result (listing_of_image image.now) }
+    ensures image { IfOk result (λ p. HasListing image.now p) }
+    ensures every { (v : ImageVersion) (c : Commented) → IsCommented c → CanSay v c → image.now ≡ image_in v c → Answers (λ p. p) result (Ok c.source) }
+    ensures not_an_image { take 4 image.now ≢ signature → result ≡ Err (Refused NotAnImage) }
+    ensures version { (b : ℕ) (rest : List ℕ) → image.now ≡ signature ++ b ∷ rest → of_code versions b ≡ None → result ≡ Err (Refused Version) }
+{
+    let listing = decode(alloc, image)?;
+    let program = Program::of(alloc, listing.into_listing())?;
     Ok(program)
 }

@@ -1,14 +1,14 @@
-//! The laws of assembling, listing and loading.
-ghost use Rattle.snap_asm.specs.Laws.{KeepsCanonical, ListsBack};
+//! The laws of assembling, listing, loading and upgrading.
+ghost use Rattle.snap_asm.specs.Laws.{KeepsCanonical, ListsBack, Upgrades};
 
 use snap_image::what_is_encoded_is_decoded;
-use snap_listing::{what_is_printed_is_read, what_is_read_is_spelled};
+use snap_listing::{what_is_printed_is_read, what_is_read_with_comments_is_a_listing};
 
-/// What is assembled lists back as the canonical text of its listing, and loads as that listing.
+/// What is assembled lists back as the canonical text of its listing, loads as that listing, and is upgraded to itself.
 pub fn what_is_assembled_lists_back()
     ensures { ListsBack }
 {
-    what_is_read_is_spelled();
+    what_is_read_with_comments_is_a_listing();
     what_is_encoded_is_decoded();
 }
 
@@ -17,5 +17,12 @@ pub fn what_is_canonical_is_kept()
     ensures { KeepsCanonical }
 {
     what_is_printed_is_read();
+    what_is_encoded_is_decoded();
+}
+
+/// An image of either version is upgraded to that of the second.
+pub fn what_is_encoded_is_upgraded()
+    ensures { Upgrades }
+{
     what_is_encoded_is_decoded();
 }

@@ -1,9 +1,11 @@
-//! Texts to images, images to texts, and images to programs.
+//! Texts to images, images to texts, to images of the version that is written, and to programs.
 #![tactic(auto)]
 
 mod assembly;
 mod laws;
 
-pub use assembly::{assemble, list, load};
-pub use laws::{what_is_assembled_lists_back, what_is_canonical_is_kept};
+pub use assembly::{assemble, list, load, upgrade};
+pub use laws::{
+    what_is_assembled_lists_back, what_is_canonical_is_kept, what_is_encoded_is_upgraded,
+};
 pub use snap_code::Program;

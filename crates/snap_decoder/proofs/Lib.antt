@@ -1,4 +1,5 @@
+pub mod CommentBytes
 pub mod Exact
-pub mod Lines
+pub mod LineSteps
 pub mod Names
 pub mod Opened

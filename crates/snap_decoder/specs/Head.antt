@@ -1,14 +1,14 @@
 -- How an image begins, and the names that it has declared.
-use Rattle.std.specs.Prelude.{ℕ, List, ◌++◌, Result}
-use Rattle.snap_semantics.specs.declared.refusal.ImageRefusal.{ImageRefusal}
+use Rattle.std.specs.Prelude.{ℕ, List, ◌++◌}
+use Rattle.snap_semantics.specs.declared.image.ImageVersion.{ImageVersion}
 use Rattle.snap_semantics.specs.Answers.{◌>>=◌}
-use Rattle.snap_semantics.specs.ImageForms.{Rest}
+use Rattle.snap_semantics.specs.ImageForms.{Read}
 use Rattle.snap_semantics.specs.ImageListing.{signature_in, version_in}
 use Rattle.snap_semantics.specs.Source.{Name}
 use Rattle.snap_decoder.specs.declared.head.Known.{Known}
 
--- what stands behind the signature and the version of an image, or why bytes do not begin as one
-abbrev pub opened : List ℕ → Result Rest ImageRefusal
+-- the version of an image, and what stands behind it, or why bytes do not begin as an image
+abbrev pub opened : List ℕ → Read ImageVersion
 opened bytes = signature_in bytes >>= version_in
 
 -- the names of the tables before one

@@ -7,18 +7,15 @@ ghost use Rattle.snap_source.specs.Fields.{header_source};
 ghost use Rattle.snap_semantics.specs.declared.fault.Fault.TheVariants.{Refused};
 ghost use Rattle.snap_semantics.specs.declared.refusal.ImageRefusal.{ImageRefusal as Refusal};
 ghost use Rattle.snap_decoder.specs.Head.{known_names, opened};
-ghost use Rattle.snap_image_codes.specs.Reads.{Passes, Reads};
+ghost use Rattle.snap_image_codes.specs.Reads.{Reads};
 
 use crate::fault::ImageFault;
-use snap_image_codes::Cursor;
-use snap_semantics::{ImageRefusal, ListingRefusal, Name};
+use snap_image_codes::{Cursor, with_code};
+use snap_semantics::{ImageRefusal, ImageVersion, ListingRefusal, Name};
 use snap_source::{Header, is_among};
 use snap_terms::is_reserved;
 use snap_words::KindTag;
 use std::alloc::Global;
-
-/// The version of an image.
-const VERSION: u8 = 1;
 
 /// The most names.
 const MOST_NAMES: usize = 32;
@@ -36,14 +33,13 @@ struct Known<'a> {
 
 /// The version.
 #[tactic(auto, unfolding(snap_semantics::specs::ImageListing::version_in))]
-fn version(cursor: &mut Cursor<'_>) -> Result<(), ImageRefusal>
-    ensures { Passes result cursor.new (version_in cursor.old) }
+fn version(cursor: &mut Cursor<'_>) -> Result<ImageVersion, ImageRefusal>
+    ensures { Reads result cursor.new (version_in cursor.old) }
 {
     let byte = cursor.byte()?;
-    if byte == VERSION {
-        Ok(())
-    } else {
-        Err(ImageRefusal::Version)
+    match with_code::<ImageVersion>(byte) {
+        Some(version) => Ok(version),
+        None => Err(ImageRefusal::Version),
     }
 }
 
@@ -218,14 +214,17 @@ fn line_count(cursor: &mut Cursor<'_>) -> Result<u64, ImageRefusal>
     }
 }
 
-/// What stands before the lines, how many lines follow, and what is left.
+/// The version, what stands before the lines, how many lines follow, and what is left.
 #[tactic(auto, unfolding(snap_semantics::specs::ImageListing::head_in))]
-pub fn head(alloc: Global, image: &[u8]) -> Result<(Header, u64, Cursor<'_>), ImageFault>
-    ensures answer { Answers (λ x. ((header_source x.0, x.1), x.2)) result (head_in image.now) }
+pub fn head(
+    alloc: Global,
+    image: &[u8],
+) -> Result<(ImageVersion, Header, u64, Cursor<'_>), ImageFault>
+    ensures answer { Answers (λ x. ((x.0, header_source x.1, x.2), x.3)) result (head_in image.now) }
     ensures opened { (e : Refusal) → opened image.now ≡ Err e → result ≡ Err (Refused e) }
 {
     let mut cursor = Cursor::new(image)?;
-    version(&mut cursor)?;
+    let version = version(&mut cursor)?;
     let kind = cursor.code::<KindTag>()?;
     let scalars = scalar_table(alloc, &mut cursor)?;
     let rows = row_table(alloc, scalars.as_slice(), &mut cursor)?;
@@ -248,5 +247,5 @@ pub fn head(alloc: Global, image: &[u8]) -> Result<(Header, u64, Cursor<'_>), Im
         scan,
         update,
     };
-    Ok((header, count, cursor))
+    Ok((version, header, count, cursor))
 }

@@ -1,8 +1,8 @@
 //! The codes of an image: each stands here once, and is read by looking for it.
 ghost use Rattle.std.specs.Prelude.{◌≡◌};
-ghost use Rattle.snap_semantics.specs.ImageCodes.{Codes, coded, of_code, kinds, terms, exprs, relations, joins, ranges, forms};
+ghost use Rattle.snap_semantics.specs.ImageCodes.{Codes, coded, of_code, versions, kinds, terms, exprs, relations, joins, ranges, forms};
 
-use snap_semantics::{ExprTag, Form, Join, Range, Relation, TermTag};
+use snap_semantics::{ExprTag, Form, ImageVersion, Join, Range, Relation, TermTag};
 use snap_words::KindTag;
 
 /// A type whose values have codes.
@@ -35,6 +35,24 @@ pub fn with_code<T: Coded>(code: u8) -> Option<T>
     ensures { result ≡ of_code T.table code }
 {
     find(T::all(), code)
+}
+
+/// All versions.
+const VERSIONS: [ImageVersion; 2] = [ImageVersion::First, ImageVersion::Second];
+
+impl Coded for ImageVersion {
+    ghost table = { versions };
+
+    fn all() -> &'static [Self] {
+        &VERSIONS
+    }
+
+    fn code(self) -> u8 {
+        match self {
+            ImageVersion::First => 1,
+            ImageVersion::Second => 2,
+        }
+    }
 }
 
 /// All kinds.

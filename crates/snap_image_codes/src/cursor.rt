@@ -135,7 +135,7 @@ impl<'a> Cursor<'a> {
         }
     }
 
-    /// Whether a condition follows: a byte that is 0 or 1.
+    /// Whether what may be left out follows: a byte that is 0 or 1.
     #[tactic(auto, unfolding(snap_semantics::specs::ImageForms::flag_in))]
     pub fn flag(&mut self) -> Result<bool, ImageRefusal>
         ensures { Reads result self.new (flag_in self.old) }

@@ -4,5 +4,5 @@
 mod codes;
 mod cursor;
 
-pub use codes::Coded;
+pub use codes::{Coded, with_code};
 pub use cursor::Cursor;

@@ -334,20 +334,18 @@ condition_again g line q (Four j k l m o) after r h uses e =
     opened_again g line q 4 j (Four j k l m o) _ after r refl e
     (λ at t p. four_again g line q j k l m o after t h uses p)
 
-flag_again : (g : Source) (line : ℕ) (flag : Bool) (k : Option Condition) (b : ℕ) (mid after : List ℕ) (r : Rest) →
-    (if nat_eq b 0 then Some false else if nat_eq b 1 then Some true else None) ≡ Some flag → r.bytes ≡ b ∷ mid →
-    ((t : Rest) → t.bytes ≡ mid → Gives (where_of_flag (head g) line flag t) k after) → Gives (where_in (head g) line r) k after
-unfolding where_in flag_in
-flag_again g line flag k b mid after r known e h =
-    then_gives flag mid (flag_in r) _ k after
-    (then_gives b mid (byte_in r) _ flag mid (byte_again b mid r e) (λ t p. known_again r.passed t _ flag mid known p))
-    (λ t p. h t p)
+pub flag_again : (flag : Bool) (b : ℕ) (after : List ℕ) (r : Rest) →
+    (if nat_eq b 0 then Some false else if nat_eq b 1 then Some true else None) ≡ Some flag → r.bytes ≡ b ∷ after → Gives (flag_in r) flag after
+unfolding flag_in
+flag_again flag b after r known e =
+    then_gives b after (byte_in r) _ flag after (byte_again b after r e) (λ t p. known_again r.passed t _ flag after known p)
 
 pub where_again : (g : Source) (line : ℕ) (k : Option Condition) (after : List ℕ) (r : Rest) → HasWhere k → Right g (where_uses k) →
     r.bytes ≡ where_image g k ++ after → Gives (where_in (head g) line r) k after
-unfolding where_of_flag
-where_again g line None after r h uses e = flag_again g line false None 0 after after r refl e (λ t p. (t, refl, p))
+unfolding where_in where_of_flag
+where_again g line None after r h uses e =
+    then_gives false after (flag_in r) _ None after (flag_again false 0 after r refl e) (λ t p. (t, refl, p))
 where_again g line (Some k) after r h uses e =
-    flag_again g line true (Some k) 1 (condition_image g k ++ after) after r refl e (λ t p.
+    then_gives true _ (flag_in r) _ (Some k) after (flag_again true 1 (condition_image g k ++ after) r refl e) (λ t p.
     then_gives k after (condition_in (head g) line true t) _ (Some k) after (condition_again g line true k after t h uses p)
     (λ a s. (a, refl, s)))

@@ -1,33 +1,38 @@
 -- What an image says is read from it again: names, lines and the whole listing.
-use Rattle.std.proofs.Common.{◌≡◌, ℕ, ◌+◌, ◌<◌, ◌≤◌, Bool, true, false, ◌&&◌, List, [], ◌∷◌, ◌++◌, length, Some, Result, Ok, Err, bytes_eq, nat_eq, nat_le, nat_lt, if◌then◌else◌, refl, sym, ap, ◌∙◌, append_assoc, subst, arith}
+use Rattle.std.proofs.Common.{◌≡◌, ℕ, ◌+◌, ◌<◌, ◌≤◌, Bool, true, false, ◌&&◌, List, [], ◌∷◌, ◌++◌, length, map, Some, Result, Ok, Err, bytes_eq, nat_le, nat_lt, if◌then◌else◌, refl, sym, ap, ◌∙◌, append_assoc, subst, arith}
 use Rattle.std.proofs.lemmas.Bool.{and_parts, or_parts, or_left, and_from, lt-leb, le-ltb}
 use Rattle.std.proofs.lemmas.List.{length-append, append-nil}
 use Rattle.std.specs.Int.{w16, to_be_bytes}
 use Rattle.std.specs.List.{AllByRecursion, list_all}
 use Rattle.snap_words.specs.declared.kind.KindTag.{KindTag}
 use Rattle.snap_words.specs.declared.kind.KindTag.TheVariants as kind
+use Rattle.snap_semantics.specs.declared.image.ImageVersion.{ImageVersion}
+use Rattle.snap_semantics.specs.declared.image.ImageVersion.TheVariants as version
 use Rattle.snap_semantics.specs.declared.instr.Line.{Line}
 use Rattle.snap_semantics.specs.declared.refusal.ImageRefusal.{ImageRefusal}
-use Rattle.snap_semantics.specs.declared.refusal.ImageRefusal.TheVariants.{Version, Invalid}
+use Rattle.snap_semantics.specs.declared.refusal.ImageRefusal.TheVariants.{Invalid}
 use Rattle.snap_semantics.specs.declared.refusal.ListingRefusal.{ListingRefusal}
 use Rattle.snap_semantics.specs.declared.refusal.ListingRefusal.TheVariants as refusal
 use Rattle.snap_semantics.specs.Answers.{◌>>=◌, refused_as}
-use Rattle.snap_semantics.specs.Image.{line_image, lines_image, names_image, table_image, signature, version, head_image, image_of}
+use Rattle.snap_semantics.specs.Comments.{Comment, Commented, IsComment, IsCommented, no_comment}
+use Rattle.snap_semantics.specs.Image.{line_image, behind_line, lines_image, names_image, table_image, signature, head_image, image_in, is_number_in, CanSay}
 use Rattle.snap_semantics.specs.ImageCodes.{of_code, kinds, kind_code}
 use Rattle.snap_semantics.specs.ImageForms.{Rest, Read, byte_in, short_in, code_in}
 use Rattle.snap_semantics.specs.ImageInstrs.{instr_in}
-use Rattle.snap_semantics.specs.ImageListing.{signature_in, version_in, letter, letters_in, length_in, new_name, name_in, names_in, few_names, table_in, line_count_in, head_in, new_number, line_in, lines_in, ended, listing_of_image}
+use Rattle.snap_semantics.specs.ImageListing.{signature_in, version_in, letter, letters_in, length_in, new_name, name_in, names_in, few_names, table_in, line_count_in, head_in, new_number, behind_line_in, line_in, lines_in, ended, commented_in}
 use Rattle.snap_semantics.specs.IsListing.{IsName, AreDistinct, AreRising, IsLine, IsListing}
 use Rattle.snap_semantics.specs.Listing.{has_line, checked_targets, line_targets}
-use Rattle.snap_semantics.specs.ListingForms.{is_line_number, is_reserved}
+use Rattle.snap_semantics.specs.ListingForms.{is_reserved}
 use Rattle.snap_semantics.specs.Source.{Name, Source}
 use Rattle.snap_semantics.specs.Token.{is_letter}
 use Rattle.snap_semantics.specs.Uses.{is_among}
 use Rattle.snap_image_laws.specs.Fits.{HasShortTargets, HasShortNumbers}
 use Rattle.snap_image_laws.specs.Laws.{DecodesAllImages, RefusesMore}
+use Rattle.snap_image_laws.proofs.AgainComments.{version_again, behind_again}
 use Rattle.snap_image_laws.proofs.AgainForms.{head, two}
 use Rattle.snap_image_laws.proofs.AgainInstrs.{instr_again}
 use Rattle.snap_image_laws.proofs.AgainParts.{Gives, then_gives, then_done, gives_if, byte_again, short_again, code_again}
+use Rattle.snap_image_laws.proofs.SaidComments.{IsSayable}
 use Rattle.snap_image_laws.proofs.Shorts.{short_number, short_lines}
 use Rattle.snap_image_laws.proofs.Slots.{name_same, distinct_first, apart}
 use Rattle.snap_image_laws.proofs.Tables.{tables_of}
@@ -49,26 +54,90 @@ accepted true true d e g h = absurd cc
 accepted true false d e g h = refl
 accepted false c d e g h = absurd cc
 
-line_again : (g : Source) (place last : ℕ) (x : Line) (after : List ℕ) (r : Rest) → IsLine g x → last < x.number → HasShortTargets x.instr →
-    r.bytes ≡ line_image g x ++ after → Gives (line_in (head g) place last r) x after
+line_again : (g : Source) (v : ImageVersion) (place last : ℕ) (x : Line) (after : List ℕ) (r : Rest) → IsLine g x →
+    is_number_in v x.number ≡ true → last < x.number → HasShortTargets x.instr → r.bytes ≡ line_image g x ++ after →
+    Gives (line_in (head g) v place last r) x after
 unfolding line_in
-line_again g place last x after r h rising shorts e =
+line_again g v place last x after r h number rising shorts e =
     then_gives x.number _ (short_in r) _ x after (short_again x.number (short_number x.number h.number) _ r e) (λ a p.
-    then_done tt (new_number place last x.number) _ x after
-    (accepted (is_line_number x.number) (nat_le x.number last) _ _ h.number (lt-leb x.number last rising))
+    then_done tt (new_number v place last x.number) _ x after
+    (accepted (is_number_in v x.number) (nat_le x.number last) _ _ number (lt-leb x.number last rising))
     (then_gives x.instr after (instr_in (head g) place a) _ x after (instr_again g place x.instr after a h.form h.uses shorts p)
     (λ b q. (b, refl, q))))
 
-lines_again : (g : Source) (place last : ℕ) (xs : List Line) (after : List ℕ) (r : Rest) → AllByRecursion (IsLine g) xs →
-    AreRising last xs → AllByRecursion HasShortNumbers xs → r.bytes ≡ lines_image g xs ++ after →
-    Gives (lines_in (head g) (length xs) place last r) xs after
+-- lines behind line number `last`, with their comments, that a version can say
+record AreSayable (g : Source) (v : ImageVersion) (last : ℕ) (xs : List Line) (cs : List Comment) : Type 0 where
+  lines : AllByRecursion (IsLine g) xs
+  numbers : AllByRecursion (λ (line : Line). is_number_in v line.number ≡ true) xs
+  rising : AreRising last xs
+  shorts : AllByRecursion HasShortNumbers xs
+  each_line : length cs ≡ length xs
+  comments : AllByRecursion IsComment cs
+  sayable : AllByRecursion (IsSayable v) cs
+
+lines_again : (g : Source) (v : ImageVersion) (place last : ℕ) (xs : List Line) (cs : List Comment) (after : List ℕ) (r : Rest) →
+    AreSayable g v last xs cs → r.bytes ≡ lines_image v g xs cs ++ after → Gives (lines_in (head g) v (length xs) place last r) (xs, cs) after
 unfolding lines_in
-lines_again g place last [] after r h rising shorts e = (r, refl, e)
-lines_again g place last (x ∷ xs) after r h rising shorts e =
-    then_gives x _ (line_in (head g) place last r) _ (x ∷ xs) after
-    (line_again g place last x _ r h.0 rising.0 shorts.0.1 (two (line_image g x) _ _ _ e)) (λ a p.
-    then_gives xs after (lines_in (head g) (length xs) (place + 1) x.number a) _ (x ∷ xs) after
-    (lines_again g (place + 1) x.number xs after a h.1 rising.1 shorts.1 p) (λ b q. (b, refl, q)))
+lines_again g v place last [] [] after r h e = (r, refl, e)
+lines_again g v place last [] (c ∷ cs) after r h e = let n = h.each_line in absurd cc
+lines_again g v place last (x ∷ xs) [] after r h e = let n = h.each_line in absurd cc
+lines_again g v place last (x ∷ xs) (c ∷ cs) after r h e =
+    let behind = behind_line v c in
+    let others = lines_image v g xs cs in
+    let later : AreSayable g v x.number xs cs = record {
+      lines = h.lines.1;
+      numbers = h.numbers.1;
+      rising = h.rising.1;
+      shorts = h.shorts.1;
+      each_line = omega (arith, h.each_line);
+      comments = h.comments.1;
+      sayable = h.sayable.1;
+    } in
+    let y : List Line × List Comment = (x ∷ xs, c ∷ cs) in
+    then_gives x _ (line_in (head g) v place last r) _ y after
+    (line_again g v place last x _ r h.lines.0 h.numbers.0 h.rising.0 h.shorts.0.1 (two (line_image g x) (behind ++ others) after r.bytes e)) (λ a p.
+    then_gives c _ (behind_line_in v a) _ y after
+    (behind_again v c _ a h.comments.0 h.sayable.0 (two behind others after a.bytes p)) (λ b q.
+    then_gives (xs, cs) after (lines_in (head g) v (length xs) (place + 1) x.number b) _ y after
+    (lines_again g v (place + 1) x.number xs cs after b later q) (λ d s. (d, refl, s))))
+
+-- the first version says no comments, and the second any
+none_sayable : (lines : List Line) → AllByRecursion (IsSayable version.First) (map no_comment lines)
+none_sayable [] = tt
+none_sayable (x ∷ xs) = (refl, none_sayable xs)
+
+no_comments : (lines : List Line) (cs : List Comment) → cs ≡ map no_comment lines → AllByRecursion (IsSayable version.First) cs
+no_comments lines cs e = subst (AllByRecursion (IsSayable version.First)) (sym e) (none_sayable lines)
+
+numbered_lines : (g : Source) (lines : List Line) → AllByRecursion (IsLine g) lines →
+    AllByRecursion (λ (line : Line). is_number_in version.Second line.number ≡ true) lines
+numbered_lines g [] h = tt
+numbered_lines g (x ∷ xs) h = (h.0.number, numbered_lines g xs h.1)
+
+any_sayable : (cs : List Comment) → AllByRecursion (IsSayable version.Second) cs
+any_sayable [] = tt
+any_sayable (c ∷ cs) = (tt, any_sayable cs)
+
+-- the lines of a listing that a version can say
+lines_of : (v : ImageVersion) (c : Commented) → IsCommented c → CanSay v c → AreSayable c.source v 0 c.source.lines c.comments
+lines_of version.First c h say = record {
+  lines = h.listing.lines;
+  numbers = say.1;
+  rising = h.listing.rising;
+  shorts = short_lines c.source h.listing;
+  each_line = h.each_line;
+  comments = h.comments;
+  sayable = no_comments c.source.lines c.comments say.0;
+}
+lines_of version.Second c h say = record {
+  lines = h.listing.lines;
+  numbers = numbered_lines c.source c.source.lines h.listing.lines;
+  rising = h.listing.rising;
+  shorts = short_lines c.source h.listing;
+  each_line = h.each_line;
+  comments = h.comments;
+  sayable = any_sayable c.comments;
+}
 
 letter_again : (b : ℕ) → is_letter b ≡ true → letter b ≡ Ok tt
 letter_again b e = ap (λ (t : Bool). let m : Checked = if t then Ok tt else Err (Invalid (refusal.BadName 0)) in m) e
@@ -138,12 +207,6 @@ Leaves m after = (r : Rest) × (m ≡ Ok r) × (r.bytes ≡ after)
 signature_again : (after bytes : List ℕ) → bytes ≡ signature ++ after → Leaves (signature_in bytes) after
 signature_again after bytes e = subst (λ (z : List ℕ). Leaves (signature_in z) after) (sym e) (_, refl, refl)
 
-version_again : (after : List ℕ) (r : Rest) → r.bytes ≡ version ∷ after → Leaves (version_in r) after
-unfolding version_in
-version_again after r e =
-    let b = byte_again version after r e in
-    (b.0, subst (λ (m : Read ℕ). (m >>= λ x. if nat_eq x.0 version then Ok x.1 else Err Version) ≡ Ok b.0) (sym b.1) refl, b.2)
-
 count_again : (n : ℕ) (after : List ℕ) (r : Rest) → n ≤ 200 → r.bytes ≡ to_be_bytes w16 n ++ after → Gives (line_count_in r) n after
 unfolding line_count_in
 count_again n after r few e =
@@ -185,22 +248,21 @@ sorts a b c d distinct few =
       few_views = omega (arith, few, p, q, r, t, u);
     }
 
-head_again : (g : Source) → IsListing g → (after bytes : List ℕ) → bytes ≡ head_image g ++ after →
-    Gives (head_in bytes) (head g, length g.lines) after
+head_again : (v : ImageVersion) (g : Source) → IsListing g → (after bytes : List ℕ) → bytes ≡ head_image v g ++ after →
+    Gives (head_in bytes) (v, head g, length g.lines) after
 unfolding head_in
-head_again g h after bytes e =
+head_again v g h after bytes e =
     let a = g.scalars in
     let b = g.rows in
     let c = g.words in
     let d = g.views in
     let s = sorts a b c d h.distinct h.few_names in
     let t = tables_of g h in
-    let y : Source × ℕ = (head g, length g.lines) in
+    let y : ImageVersion × Source × ℕ = (v, head g, length g.lines) in
     let opened = signature_again _ bytes e in
-    let v = version_again _ opened.0 opened.2 in
     then_done opened.0 (signature_in bytes) _ y after opened.1
-    (then_done v.0 (version_in opened.0) _ y after v.1
-    (then_gives g.kind _ (code_in kinds v.0) _ y after (code_again kinds g.kind (kind_coded g.kind) _ v.0 v.2) (λ r0 e0.
+    (then_gives v _ (version_in opened.0) _ y after (version_again v _ opened.0 opened.2) (λ w ew.
+    then_gives g.kind _ (code_in kinds w) _ y after (code_again kinds g.kind (kind_coded g.kind) _ w ew) (λ r0 e0.
     then_gives a _ (table_in [] r0) _ y after (table_again [] a _ r0 t.scalars.1 s.distinct_scalars s.few_scalars
     (two (table_image a) _ _ _ e0)) (λ r1 e1.
     then_gives b _ (table_in a r1) _ y after (table_again a b _ r1 t.rows.1 s.distinct_rows s.few_rows (two (table_image b) _ _ _ e1))
@@ -229,24 +291,26 @@ then_is : {A B : Type 0} (m : Result A ImageRefusal) (x : A) (f : A → Result B
 then_is {A} m x f p e h = subst (λ (n : Result A ImageRefusal). (n >>= f) ≡ p) (sym e) h
 
 -- an image, and bytes behind it
-with_more : (s : Source) → IsListing s → (after : List ℕ) →
-    listing_of_image (image_of s ++ after) ≡ (ended after >>= λ end. (let m : Result Source ImageRefusal = Ok s in m))
-unfolding listing_of_image
-with_more s h after =
-    let bytes = image_of s ++ after in
-    let a = head_again s h (lines_image s s.lines ++ after) bytes (append_assoc (head_image s) (lines_image s s.lines) after) in
-    let b = lines_again s 1 0 s.lines after a.0 h.lines h.rising (short_lines s h) a.2 in
+with_more : (v : ImageVersion) (c : Commented) → IsCommented c → CanSay v c → (after : List ℕ) →
+    commented_in (image_in v c ++ after) ≡ (ended after >>= λ end. (let m : Result Commented ImageRefusal = Ok c in m))
+unfolding commented_in
+with_more v c h say after =
+    let s = c.source in
+    let bytes = image_in v c ++ after in
+    let said = lines_image v s s.lines c.comments in
+    let a = head_again v s h.listing (said ++ after) bytes (append_assoc (head_image v s) said after) in
+    let b = lines_again s v 1 0 s.lines c.comments after a.0 (lines_of v c h say) a.2 in
     let ks = s.scan ∷ s.update ∷ line_targets s.lines in
-    let all = ended after >>= λ end. (let m : Result Source ImageRefusal = Ok s in m) in
-    then_is (head_in bytes) ((head s, length s.lines), a.0) _ all a.1
-    (then_is (lines_in (head s) (length s.lines) 1 0 a.0) (s.lines, b.0) _ all b.1
+    let all = ended after >>= λ end. (let m : Result Commented ImageRefusal = Ok c in m) in
+    then_is (head_in bytes) ((v, head s, length s.lines), a.0) _ all a.1
+    (then_is (lines_in (head s) v (length s.lines) 1 0 a.0) ((s.lines, c.comments), b.0) _ all b.1
     (ap (λ (z : List ℕ). ended z >>= λ end. refused_as Invalid (checked_targets s.lines ks) >>= λ done.
-    (let m : Result Source ImageRefusal = Ok s in m)) b.2
-    ∙ ap (λ (d : Done). ended after >>= λ end. refused_as Invalid d >>= λ done. (let m : Result Source ImageRefusal = Ok s in m))
-    (targets_again s.lines ks h.targets)))
+    (let m : Result Commented ImageRefusal = Ok c in m)) b.2
+    ∙ ap (λ (d : Done). ended after >>= λ end. refused_as Invalid d >>= λ done. (let m : Result Commented ImageRefusal = Ok c in m))
+    (targets_again s.lines ks h.listing.targets)))
 
 pub decodes_all : DecodesAllImages
-decodes_all s h = ap (λ (z : List ℕ). listing_of_image z) (sym (append-nil (image_of s))) ∙ with_more s h []
+decodes_all v c h say = ap (λ (z : List ℕ). commented_in z) (sym (append-nil (image_in v c))) ∙ with_more v c h say []
 
 pub refuses_more : RefusesMore
-refuses_more s b bytes h = with_more s h (b ∷ bytes)
+refuses_more v c b bytes h say = with_more v c h say (b ∷ bytes)

@@ -1,6 +1,7 @@
 -- The names that are read from an image are declared once.
 use Rattle.std.proofs.Common.{◌≡◌, ℕ, zero, suc, false, List, [], ◌∷◌, ◌++◌, sym, ap, ◌∙◌, append_assoc, subst}
 use Rattle.std.proofs.lemmas.List.{append-nil}
+use Rattle.snap_semantics.specs.declared.image.ImageVersion.{ImageVersion}
 use Rattle.snap_semantics.specs.ImageCodes.{kinds}
 use Rattle.snap_semantics.specs.ImageForms.{Rest, byte_in, short_in, code_in}
 use Rattle.snap_semantics.specs.ImageListing.{signature_in, version_in, letters_in, length_in, new_name, name_in, names_in, few_names, table_in, line_count_in, head_in}
@@ -43,11 +44,11 @@ table_distinct known r d =
     let P : (List Name × Rest) → Type 0 = λ x. AreDistinct (known ++ x.0) in
     then_any P (byte_in r) _ (λ count. then_any P (few_names known count.0) _ (λ few. names_distinct count.0 known count.1 d))
 
-pub head_distinct : (bytes : List ℕ) → Holds (λ x. AreDistinct (all_names x.0.0)) (head_in bytes)
+pub head_distinct : (bytes : List ℕ) → Holds (λ x. AreDistinct (all_names x.0.1)) (head_in bytes)
 unfolding head_in
 head_distinct bytes =
-    let P : ((Source × ℕ) × Rest) → Type 0 = λ x. AreDistinct (all_names x.0.0) in
-    then_any P (signature_in bytes) _ (λ s. then_any P (version_in s) _ (λ v. then_any P (code_in kinds v) _ (λ k.
+    let P : ((ImageVersion × Source × ℕ) × Rest) → Type 0 = λ x. AreDistinct (all_names x.0.1) in
+    then_any P (signature_in bytes) _ (λ s. then_any P (version_in s) _ (λ v. then_any P (code_in kinds v.1) _ (λ k.
     then_with (λ x. AreDistinct x.0) P (table_in [] k.1) _ (table_distinct [] k.1 tt) (λ a da.
     then_with (λ x. AreDistinct (a.0 ++ x.0)) P (table_in a.0 a.1) _ (table_distinct a.0 a.1 da) (λ b db.
     then_with (λ x. AreDistinct ((a.0 ++ b.0) ++ x.0)) P (table_in (a.0 ++ b.0) b.1) _ (table_distinct (a.0 ++ b.0) b.1 db) (λ c dc.

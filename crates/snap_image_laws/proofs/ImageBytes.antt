@@ -9,6 +9,8 @@ use Rattle.snap_words.specs.declared.kind.KindTag.{KindTag}
 use Rattle.snap_words.specs.declared.kind.KindTag.TheVariants as kind
 use Rattle.snap_semantics.specs.declared.image.Form.{Form}
 use Rattle.snap_semantics.specs.declared.image.Form.TheVariants as form
+use Rattle.snap_semantics.specs.declared.image.ImageVersion.{ImageVersion}
+use Rattle.snap_semantics.specs.declared.image.ImageVersion.TheVariants as version
 use Rattle.snap_semantics.specs.declared.instr.Comparison.{Comparison}
 use Rattle.snap_semantics.specs.declared.instr.Condition.{Condition}
 use Rattle.snap_semantics.specs.declared.instr.Condition.TheVariants.{One, Two, Three, Four}
@@ -29,13 +31,14 @@ use Rattle.snap_semantics.specs.declared.instr.Term.{Term}
 use Rattle.snap_semantics.specs.declared.instr.Term.TheVariants as term
 use Rattle.snap_semantics.specs.declared.instr.Tuple.{Tuple}
 use Rattle.snap_semantics.specs.declared.instr.Tuple.TheVariants as tuple
-use Rattle.snap_semantics.specs.Image.{slot, index_image, field_tag, term_image, expr_image, comparison_image, condition_image, where_image, tuple_image, form_of, operands_image, line_image, lines_image, names_image, table_image, head_image}
-use Rattle.snap_semantics.specs.ImageCodes.{kind_code, term_code, relation_code, join_code, range_code, form_code}
+use Rattle.snap_semantics.specs.Comments.{Comment}
+use Rattle.snap_semantics.specs.Image.{slot, index_image, field_tag, term_image, expr_image, comparison_image, condition_image, where_image, tuple_image, form_of, operands_image, line_image, comment_image, behind_line, lines_image, names_image, table_image, head_image}
+use Rattle.snap_semantics.specs.ImageCodes.{version_code, kind_code, term_code, relation_code, join_code, range_code, form_code}
 use Rattle.snap_semantics.specs.IsListing.{IsName, IsListing}
 use Rattle.snap_semantics.specs.Source.{Name, Source}
 use Rattle.snap_semantics.specs.Token.{is_letter}
 use Rattle.snap_image_laws.specs.Fits.{IsTable}
-use Rattle.snap_image_laws.specs.Laws.{AreBytes, ImagesAreBytes}
+use Rattle.snap_image_laws.specs.Laws.{AreBytes, HasBytes, ImagesAreBytes, HasBytes}
 use Rattle.snap_image_laws.proofs.Slots.{slot_within}
 use Rattle.snap_image_laws.proofs.Tables.{Tables, tables_of, short_name}
 use Rattle.snap_grammar.proofs.Alls.{all_both}
@@ -216,13 +219,32 @@ operands_bytes g tables (Call target) = short_bytes target
 operands_bytes g tables (Return x) = (slot_is_byte g.views x tables.views, tt)
 operands_bytes g tables Finish = tt
 
-lines_bytes : (g : Source) → Tables g → (xs : List Line) → AreBytes (lines_image g xs)
-lines_bytes g tables [] = tt
-lines_bytes g tables (x ∷ xs) =
-    let instr : AreBytes (form_code (form_of x.instr) ∷ operands_image g x.instr) =
-    (form_is_byte (form_of x.instr), operands_bytes g tables x.instr) in
-    let line = behind (to_be_bytes w16 x.number) (form_code (form_of x.instr) ∷ operands_image g x.instr) (short_bytes x.number) instr in
-    behind (line_image g x) (lines_image g xs) line (lines_bytes g tables xs)
+comment_bytes : (c : Comment) → HasBytes c → AreBytes (comment_image c)
+comment_bytes None h = (omega arith, tt)
+comment_bytes (Some xs) h = (omega arith, behind (to_be_bytes w16 (length xs)) xs (short_bytes (length xs)) h)
+
+behind_line_bytes : (v : ImageVersion) (c : Comment) → HasBytes c → AreBytes (behind_line v c)
+behind_line_bytes version.First c h = tt
+behind_line_bytes version.Second c h = comment_bytes c h
+
+line_bytes : (g : Source) → Tables g → (x : Line) → AreBytes (line_image g x)
+line_bytes g tables x =
+    let operands = operands_image g x.instr in
+    behind (to_be_bytes w16 x.number) (form_code (form_of x.instr) ∷ operands) (short_bytes x.number)
+    (form_is_byte (form_of x.instr), operands_bytes g tables x.instr)
+
+-- where the comments are used up there is none
+lines_bytes : (v : ImageVersion) (g : Source) → Tables g → (xs : List Line) (cs : List Comment) → AllByRecursion HasBytes cs →
+    AreBytes (lines_image v g xs cs)
+lines_bytes v g tables [] cs h = tt
+lines_bytes v g tables (x ∷ xs) [] h =
+    let others = lines_image v g xs [] in
+    behind (line_image g x) (behind_line v None ++ others) (line_bytes g tables x)
+    (behind (behind_line v None) others (behind_line_bytes v None tt) (lines_bytes v g tables xs [] tt))
+lines_bytes v g tables (x ∷ xs) (c ∷ cs) h =
+    let others = lines_image v g xs cs in
+    behind (line_image g x) (behind_line v c ++ others) (line_bytes g tables x)
+    (behind (behind_line v c) others (behind_line_bytes v c h.0) (lines_bytes v g tables xs cs h.1))
 
 letter_is_byte : (b : ℕ) → is_letter b ≡ true → IsByte b
 letter_is_byte b e = grind (arith, e)
@@ -242,8 +264,12 @@ names_bytes (x ∷ xs) h = (length_is_byte x h.0, behind x (names_image xs) (let
 table_bytes : (xs : List Name) → IsTable xs → AreBytes (table_image xs)
 table_bytes xs h = (omega (arith, h.0), names_bytes xs h.1)
 
-head_bytes : (s : Source) → IsListing s → AreBytes (head_image s)
-head_bytes s h =
+version_is_byte : (v : ImageVersion) → IsByte (version_code v)
+version_is_byte version.First = omega arith
+version_is_byte version.Second = omega arith
+
+head_bytes : (v : ImageVersion) (s : Source) → IsListing s → AreBytes (head_image v s)
+head_bytes v s h =
     let tables = tables_of s h in
     let count : List ℕ = to_be_bytes w16 (length s.lines) in
     let last_two : List ℕ = to_be_bytes w16 s.update ++ count in
@@ -254,7 +280,10 @@ head_bytes s h =
     let words = behind (table_image s.words) _ (table_bytes s.words tables.words) views in
     let rows = behind (table_image s.rows) _ (table_bytes s.rows tables.rows) words in
     let names = behind (table_image s.scalars) _ (table_bytes s.scalars tables.scalars) rows in
-    (omega arith, (omega arith, (omega arith, (omega arith, (omega arith, (kind_is_byte s.kind, names))))))
+    (omega arith, (omega arith, (omega arith, (omega arith, (version_is_byte v, (kind_is_byte s.kind, names))))))
 
 pub images_are_bytes : ImagesAreBytes
-images_are_bytes s h = behind (head_image s) (lines_image s s.lines) (head_bytes s h) (lines_bytes s (tables_of s h) s.lines)
+images_are_bytes v c h bytes =
+    let s = c.source in
+    behind (head_image v s) (lines_image v s s.lines c.comments) (head_bytes v s h.listing)
+    (lines_bytes v s (tables_of s h.listing) s.lines c.comments bytes)

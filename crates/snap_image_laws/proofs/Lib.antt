@@ -1,3 +1,4 @@
+pub mod AgainComments
 pub mod AgainForms
 pub mod AgainInstrs
 pub mod AgainListing
@@ -6,6 +7,7 @@ pub mod Distinct
 pub mod FormUses
 pub mod ImageBytes
 pub mod Parts
+pub mod SaidComments
 pub mod SaidForms
 pub mod SaidInstrs
 pub mod SaidListing

@@ -109,7 +109,7 @@ pub byte_is : (r : Rest) → Holds (ByteIs r) (byte_in r)
 byte_is r = byte_from_is r.passed r.bytes
 
 -- a code that is found is that of the byte
-abbrev Known : {A : Type 0} → (A → Type 0) → Option A → Type 0
+abbrev pub Known : {A : Type 0} → (A → Type 0) → Option A → Type 0
 Known P None = Unit {0}
 Known P (Some x) = P x
 
@@ -118,7 +118,7 @@ coded_if : {A : Type 0} (code : A → ℕ) (x : A) (b : ℕ) (o : Option A) (q :
 coded_if code x b o true e h = eqb-true (code x) b e
 coded_if code x b o false e h = h
 
-coded_is : {A : Type 0} (code : A → ℕ) (xs : List A) (b : ℕ) → Known (λ y. code y ≡ b) (coded code xs b)
+pub coded_is : {A : Type 0} (code : A → ℕ) (xs : List A) (b : ℕ) → Known (λ y. code y ≡ b) (coded code xs b)
 coded_is code [] b = tt
 coded_is code (x ∷ xs) b = coded_if code x b (coded code xs b) (nat_eq (code x) b) refl (coded_is code xs b)
 
@@ -181,19 +181,28 @@ bytes_are n r =
     (length-take-le n r.bytes le, sym (take-append-drop n r.bytes), λ small. (small_take n r.bytes small, small_drop n r.bytes small)))
     (λ e. tt)
 
+below_16 : (bs : List ℕ) → ((i : ℕ) → get_or bs i 0 < 256) → from_be_bytes w16 bs < 2 ^ 16
+below_16 bs small = let a = small 0 in let b = small 1 in omega arith
+
+abbrev pub ShortFits : Source → Rest → (ℕ × Rest) → Type 0
+ShortFits s r x = Part s r.bytes (to_be_bytes w16 x.0) x.1.bytes [] (x.0 < 2 ^ 16)
+
+pub short_fits : (s : Source) (r : Rest) → Holds (ShortFits s r) (short_in r)
+unfolding short_in
+short_fits s r =
+    then_with (BytesAre 2 r) (ShortFits s r) (bytes_in 2 r) _ (bytes_are 2 r) (λ x h. record {
+      bytes = λ small.
+          let t = h.2 small in
+          let w : to_be_bytes w16 (from_be_bytes w16 x.0) ≡ x.0 = be_bytes_2 x.0 (from_be_bytes w16 x.0) h.0 (small_at x.0 t.0) refl in
+          (h.1 ∙ ap (λ (z : List ℕ). z ++ x.1.bytes) (sym w), t.1, below_16 x.0 (small_at x.0 t.0));
+      uses = tt;
+    })
+
 abbrev pub ShortIs : Source → Rest → (ℕ × Rest) → Type 0
 ShortIs s r x = Part s r.bytes (to_be_bytes w16 x.0) x.1.bytes [] U
 
 pub short_is : (s : Source) (r : Rest) → Holds (ShortIs s r) (short_in r)
-unfolding short_in
-short_is s r =
-    then_with (BytesAre 2 r) (ShortIs s r) (bytes_in 2 r) _ (bytes_are 2 r) (λ x h. record {
-      bytes = λ small.
-          let t = h.2 small in
-          let w : to_be_bytes w16 (from_be_bytes w16 x.0) ≡ x.0 = be_bytes_2 x.0 (from_be_bytes w16 x.0) h.0 (small_at x.0 t.0) refl in
-          (h.1 ∙ ap (λ (z : List ℕ). z ++ x.1.bytes) (sym w), t.1, tt);
-      uses = tt;
-    })
+short_is s r = holds_as (ShortFits s r) (ShortIs s r) (short_in r) (short_fits s r) (λ x p. reformed (λ f. tt) p)
 
 below_64 : (bs : List ℕ) → ((i : ℕ) → get_or bs i 0 < 256) → from_be_bytes w64 bs < 2 ^ 64
 below_64 bs small =

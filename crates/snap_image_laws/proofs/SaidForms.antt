@@ -284,11 +284,11 @@ condition_is ls s h line q r =
     then_with (CodeIs joins n.1) C (code_in joins n.1) _ (code_is joins n.1) (λ j f.
     counted_is ls s h line q n.1.passed n.0 j.0 r j.1 e.1 (e.0 ∙ ap (λ (z : List ℕ). n.0 ∷ z) f)))
 
-abbrev flag_byte : Bool → ℕ
+abbrev pub flag_byte : Bool → ℕ
 flag_byte false = 0
 flag_byte true = 1
 
-abbrev FlagIs : Rest → (Bool × Rest) → Type 0
+abbrev pub FlagIs : Rest → (Bool × Rest) → Type 0
 FlagIs r x = r.bytes ≡ flag_byte x.0 ∷ x.1.bytes
 
 flag_if : (r after : Rest) (at b : ℕ) (t u : Bool) → nat_eq b 0 ≡ t → nat_eq b 1 ≡ u → r.bytes ≡ b ∷ after.bytes →
@@ -297,7 +297,7 @@ flag_if r after at b true u f g e = e ∙ ap (λ (k : ℕ). k ∷ after.bytes) (
 flag_if r after at b false true f g e = e ∙ ap (λ (k : ℕ). k ∷ after.bytes) (eqb-true b 1 g)
 flag_if r after at b false false f g e = tt
 
-flag_is : (r : Rest) → Holds (FlagIs r) (flag_in r)
+pub flag_is : (r : Rest) → Holds (FlagIs r) (flag_in r)
 unfolding flag_in
 flag_is r = then_with (ByteIs r) (FlagIs r) (byte_in r) _ (byte_is r) (λ b e. flag_if r b.1 r.passed b.0 (nat_eq b.0 0) (nat_eq b.0 1) refl refl e)
 

@@ -1,12 +1,12 @@
 //! The laws of images.
 ghost use Rattle.snap_image_laws.specs.Laws.{DecodesAllImages, DecodesOnlyImages, ImagesAreBytes, RefusesMore};
 
-/// What is decoded is a listing, and the bytes are its image.
+/// What is decoded is a listing with comments, and the bytes are its image in some version.
 pub fn what_is_decoded_is_an_image()
     ensures { DecodesOnlyImages }
 {}
 
-/// The image of every listing is decoded as that listing.
+/// Each image of every listing is decoded as that listing.
 pub fn what_is_encoded_is_decoded()
     ensures { DecodesAllImages }
 {}

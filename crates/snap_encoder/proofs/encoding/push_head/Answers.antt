@@ -5,6 +5,6 @@ use Rattle.snap_encoder.proofs.encoding.push_head.Goals as goal
 pub returns : goal.returns
 returns c =
     on_ok_as c.push_entries.result _ _
-    (λ e. e ∙ head_pushed c.args.listing.now c.kind.result c.args.out.now.items _ _ _ c.in_ok-extend_from_slice.ensures.items c.kind.ensures c.in_ok-push_code.ensures
-    c.in_ok-push_tables.ensures)
+    (λ e. e ∙ head_pushed c.args.listing.now c.kind.result c.args.out.now.items _ _ _ _ c.in_ok-extend_from_slice.ensures.items c.in_ok-push_code.ensures
+    c.kind.ensures c.in_ok-push_code-2.ensures c.in_ok-push_tables.ensures)
     c.push_entries.ensures

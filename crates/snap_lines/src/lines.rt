@@ -4,9 +4,9 @@ ghost use Rattle.snap_semantics.specs.Source.{following};
 ghost use Rattle.snap_lines.specs.Lines.{cause_of, next_line};
 ghost use Rattle.snap_lines.specs.declared.lines.Halt.TheVariants.{Trap, NoMemory};
 
+use snap_code::Program;
 use snap_regs::RegisterFault;
 use snap_semantics::Cause;
-use snap_source::Listing;
 use snap_values::Context;
 use snap_words::View;
 use std::alloc::AllocError;
@@ -55,10 +55,10 @@ impl From<RegisterFault> for Halt {
 }
 
 /// The line after this one.
-pub(crate) fn next_line(listing: &Listing, context: &Context) -> Result<Next, Cause>
-    ensures { result ≡ next_line context.now.activity (following listing.now.lines context.now.activity.line) }
+pub(crate) fn next_line(program: &Program, context: &Context) -> Result<Next, Cause>
+    ensures { result ≡ next_line context.now.activity (following program.now.lines context.now.activity.line) }
 {
-    match listing.following(context.activity.line) {
+    match program.following(context.activity.line) {
         Some(line) => Ok(goto(context, line)),
         None => Err(Cause::OffEnd),
     }

@@ -4,16 +4,17 @@ ghost use Rattle.std.specs.List.{list_all};
 ghost use Rattle.snap_words.specs.Kind.{has_bits, is_bit, is_sized, kept};
 ghost use Rattle.snap_semantics.specs.Table.{tuple_word};
 ghost use Rattle.snap_semantics.specs.declared.process.Cause.TheVariants.{NotABit};
+ghost use Rattle.snap_code.specs.Named.{named_tuple};
 ghost use Rattle.snap_lines.specs.Given.{given_word, given_in, parts_in};
 ghost use Rattle.snap_lines.specs.Lines.{IfAnswered};
 ghost use Rattle.snap_values.specs.Seen.{seen_context};
 
 use crate::lines::Halt;
 use crate::local_lines::copy_of;
-use snap_semantics::{Cause, Tuple};
-use snap_source::Listing;
+use snap_code::{Program, SlotTuple};
+use snap_semantics::Cause;
 use snap_values::{Context, Process, expr_value, row, view};
-use snap_words::{Kind, Parts, Shape};
+use snap_words::{Kind, Parts, Shape, View};
 use std::alloc::Global;
 
 /// The parts of a word that is to be put, before they are copied.
@@ -29,38 +30,38 @@ pub struct Given<'a> {
 
 /// What a tuple gives.
 pub fn given_of<'a, K: Kind>(
-    listing: &Listing,
+    program: &Program,
     context: &Context,
     process: &'a Process<K>,
-    tuple: &Tuple,
+    tuple: &SlotTuple,
 ) -> Result<Given<'a>, Cause>
-    ensures { given_in result ≡ tuple_word (seen_context K.parts listing.now context.now process.now) tuple.now }
+    ensures { given_in result ≡ tuple_word (seen_context K.parts program.now context.now process.now) (named_tuple program.now tuple.now) }
 {
     match tuple {
-        Tuple::Seq(datum, seq, name) => Ok(Given {
-            datum: expr_value(listing, context, process, datum)?,
-            seq: expr_value(listing, context, process, seq)?,
+        SlotTuple::Seq(datum, seq, slot) => Ok(Given {
+            datum: expr_value(program, context, process, datum)?,
+            seq: expr_value(program, context, process, seq)?,
             id: 0,
             toggle: 0,
             hands: &[],
-            view: view(listing.views(), process.views.as_slice(), *name),
+            view: view(program.views(), process.views.as_slice(), *slot),
         }),
-        Tuple::Bits(datum, hands, toggle, name) => {
-            let hands = row(listing.rows(), process.rows.as_slice(), *hands);
+        SlotTuple::Bits(datum, hands, toggle, slot) => {
+            let hands = row(program.rows(), process.rows.as_slice(), *hands);
             Ok(Given {
-                datum: expr_value(listing, context, process, datum)?,
+                datum: expr_value(program, context, process, datum)?,
                 seq: 0,
                 id: 0,
-                toggle: expr_value(listing, context, process, toggle)?,
+                toggle: expr_value(program, context, process, toggle)?,
                 hands: first_numbers(hands, context.shape.n()),
-                view: view(listing.views(), process.views.as_slice(), *name),
+                view: view(program.views(), process.views.as_slice(), *slot),
             })
         }
-        Tuple::Multi(datum, id, toggle) => Ok(Given {
-            datum: expr_value(listing, context, process, datum)?,
+        SlotTuple::Multi(datum, id, toggle) => Ok(Given {
+            datum: expr_value(program, context, process, datum)?,
             seq: 0,
-            id: expr_value(listing, context, process, id)?,
-            toggle: expr_value(listing, context, process, toggle)?,
+            id: expr_value(program, context, process, id)?,
+            toggle: expr_value(program, context, process, toggle)?,
             hands: &[],
             view: &[],
         }),
@@ -116,7 +117,7 @@ pub fn built<K: Kind>(alloc: Global, shape: Shape, given: &Given<'_>) -> Result<
         seq: given.seq,
         id: given.id,
         toggle: given.toggle,
-        hands: copy_of(alloc, given.hands)?,
+        hands: View::of(Vec::from_slice(alloc, given.hands)?),
         view: copy_of(alloc, given.view)?,
     };
     match K::build(shape, parts) {

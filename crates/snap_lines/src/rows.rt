@@ -1,12 +1,12 @@
 //! A row with the new values of its places.
 ghost use Rattle.std.specs.Prelude.{◌≡◌, [], ◌∷◌, ◌++◌, drop, IfOk, OnOk};
+ghost use Rattle.snap_code.specs.Named.{name_at, named_expr, named_where};
 ghost use Rattle.snap_lines.specs.Lines.{IfAnswered};
 ghost use Rattle.snap_lines.specs.Rows.{new_row, items_of};
 ghost use Rattle.snap_values.specs.Seen.{seen_context};
 
 use crate::lines::Halt;
-use snap_semantics::{Condition, Expr, Name};
-use snap_source::Listing;
+use snap_code::{Program, SlotCondition, SlotExpr};
 use snap_values::{Context, Process, row, row_value};
 use snap_words::Kind;
 use std::alloc::{AllocError, Global};
@@ -14,25 +14,26 @@ use std::alloc::{AllocError, Global};
 /// A row with the new values, and after them the old ones.
 pub fn new_row<K: Kind>(
     alloc: Global,
-    listing: &Listing,
+    program: &Program,
     context: &Context,
     process: &Process<K>,
     count: u64,
-    name: Name,
-    expr: &Expr,
-    condition: &Option<Condition>,
+    slot: usize,
+    expr: &SlotExpr,
+    condition: &Option<SlotCondition>,
 ) -> Result<Vec<u64>, Halt>
     ensures { IfAnswered result (λ r.
-        items_of r ≡ new_row (seen_context K.parts listing.now context.now process.now) count name expr.now condition.now) }
+        items_of r ≡ new_row (seen_context K.parts program.now context.now process.now)
+        count (name_at program.now.rows slot) (named_expr program.now expr.now) (named_where program.now condition.now)) }
 {
-    let old = row(listing.rows(), process.rows.as_slice(), name);
+    let old = row(program.rows(), process.rows.as_slice(), slot);
     let mut values = room(alloc, old.len())?;
     for passed in 0..count {
         let value = row_value(
-            listing,
+            program,
             &context.at(passed + 1),
             process,
-            name,
+            slot,
             expr,
             condition,
         )?;

@@ -86,7 +86,7 @@ impl<K: Kind> Machine<K> {
         match item {
             Item::Step(i) => step(
                 self.alloc,
-                self.program.listing(),
+                &self.program,
                 &mut self.registers,
                 self.processes.as_mut_slice(),
                 i,

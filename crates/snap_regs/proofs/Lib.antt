@@ -1,3 +1,5 @@
 pub mod Contents
+pub mod NewRegisters
 pub mod Puts
+pub mod RowsOfBits
 pub mod Words

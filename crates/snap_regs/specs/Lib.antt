@@ -1,2 +1,3 @@
 pub mod Store
 pub mod Access
+pub mod Rows

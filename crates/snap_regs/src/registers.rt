@@ -1,7 +1,7 @@
 //! The registers.
-ghost use Rattle.std.specs.Prelude.{◌≡◌, ◌-◌, ◌<◌, true, false, [], length, Some, None, map, replicate, IfOk, MatchResult, OnErr, OnOk, slice_index_or, slice_set};
+ghost use Rattle.std.specs.Prelude.{◌≡◌, ◌-◌, ◌<◌, ◌≤◌, true, false, [], length, Some, None, map, replicate, IfOk, MatchResult, OnErr, OnOk, slice_index_or, slice_set};
 ghost use Rattle.snap_words.specs.Kind.{initial_word, is_bit, is_sized, may_write};
-ghost use Rattle.snap_words.specs.Shape.{is_place};
+ghost use Rattle.snap_words.specs.Shape.{is_place, max_count};
 ghost use Rattle.snap_words.specs.Word.{no_word};
 ghost use Rattle.snap_words.specs.declared.address.Bank.TheVariants as bank;
 ghost use Rattle.snap_semantics.specs.Places.{with_contents};
@@ -13,7 +13,7 @@ ghost use Rattle.snap_regs.specs.Store.{HasColumns, IsOfShape, rows_in, with_wor
 ghost use Rattle.snap_regs.specs.declared.fault.RegisterFault.TheVariants.{Index, Owner};
 
 use crate::fault::RegisterFault;
-use crate::rows::{set_bit, zero_rows};
+use crate::rows::{BitRows, zero_views};
 use snap_semantics::BitBank;
 use snap_words::{Address, Bank, Kind, Shape, View, copy_views, copy_words, place_in};
 use std::alloc::{AllocError, Global};
@@ -24,8 +24,8 @@ use std::marker::Model;
 pub struct Registers<K: Kind> {
     shape: Shape,
     words: Vec<K::Word>,
-    q: Vec<View>,
-    p: Vec<View>,
+    q: BitRows,
+    p: BitRows,
     views: Vec<View>,
 }
 
@@ -35,16 +35,21 @@ impl<K: Kind> Model for Registers<K> {
 
     ghost Value = { Store };
 
-    ghost view = { λ r. record { shape = r.shape; memory = record { words = map K.parts r.words.items; q = r.q.items; p = r.p.items; views = r.views.items } } };
+    ghost view = { λ r. record { shape = r.shape; memory = record { words = map K.parts r.words.items; q = r.q; p = r.p; views = r.views.items } } };
 
-    ghost invariant = { λ r. IsOfShape K.TAG r.shape (record { words = map K.parts r.words.items; q = r.q.items; p = r.p.items; views = r.views.items }) };
+    ghost invariant = { λ r. IsOfShape K.TAG r.shape (record { words = map K.parts r.words.items; q = r.q; p = r.p; views = r.views.items }) };
 }
 
 /// How many rows of bits, or views, a bank has.
 fn rows_in<K: Kind>(shape: Shape, bank: Bank) -> u64
-    ensures { result ≡ rows_in K.TAG shape bank }
+    ensures value { result ≡ rows_in K.TAG shape bank }
+    ensures bound { result ≤ max_count }
 {
-    if K::has_bank(bank) { shape.n() } else { 0 }
+    if K::has_bank(bank) {
+        u64::from(shape.process_count())
+    } else {
+        0
+    }
 }
 
 /// A word for each place of the shape, none of them written.
@@ -105,13 +110,13 @@ impl<K: Kind> Registers<K> {
     pub fn new(alloc: Global, shape: Shape) -> Result<Registers<K>, AllocError>
         ensures { IfOk result (λ r. (r.shape ≡ shape) × (r.memory ≡ initial_memory K.TAG shape)) }
     {
-        let columns = shape.n();
+        let columns = u64::from(shape.process_count());
         Ok(Registers {
             shape,
             words: initial_words::<K>(alloc, shape)?,
-            q: zero_rows(alloc, rows_in::<K>(shape, Bank::Q), columns)?,
-            p: zero_rows(alloc, rows_in::<K>(shape, Bank::P), columns)?,
-            views: zero_rows(alloc, rows_in::<K>(shape, Bank::V), shape.w())?,
+            q: BitRows::zeros(alloc, rows_in::<K>(shape, Bank::Q), columns)?,
+            p: BitRows::zeros(alloc, rows_in::<K>(shape, Bank::P), columns)?,
+            views: zero_views(alloc, rows_in::<K>(shape, Bank::V), shape.w())?,
         })
     }
 
@@ -147,7 +152,7 @@ impl<K: Kind> Registers<K> {
             (λ _. contents self.now.memory (bank_of bits) i j ≡ None) }
     {
         let (row, column) = bit_place::<K>(self.shape, bits, i, j)?;
-        Ok(self.bits(bits)[row].as_slice()[column])
+        Ok(self.bits(bits).get(row, column))
     }
 
     /// View `i`, or `Index` where there is none.
@@ -203,8 +208,8 @@ impl<K: Kind> Registers<K> {
         }
         check_owner::<K>(who, bits.bank(), i)?;
         match bits {
-            BitBank::Q => set_bit(&mut self.q, row, column, bit),
-            BitBank::P => set_bit(&mut self.p, row, column, bit),
+            BitBank::Q => self.q.set(row, column, bit),
+            BitBank::P => self.p.set(row, column, bit),
         }
         Ok(())
     }
@@ -225,14 +230,14 @@ impl<K: Kind> Registers<K> {
     }
 
     /// The rows of a bank of bits.
-    fn bits(&self, bits: BitBank) -> &[View]
+    fn bits(&self, bits: BitBank) -> &BitRows
         ensures value { result.now ≡ bits_of bits self.now.memory }
         ensures row_count { length result.now ≡ rows_in K.TAG self.now.shape (bank_of bits) }
         ensures columns { HasColumns self.now.shape.n result.now }
     {
         match bits {
-            BitBank::Q => self.q.as_slice(),
-            BitBank::P => self.p.as_slice(),
+            BitBank::Q => &self.q,
+            BitBank::P => &self.p,
         }
     }
 
@@ -243,8 +248,8 @@ impl<K: Kind> Registers<K> {
         Ok(Registers {
             shape: self.shape,
             words: copy_words::<K>(alloc, self.words.as_slice())?,
-            q: copy_views(alloc, self.q.as_slice())?,
-            p: copy_views(alloc, self.p.as_slice())?,
+            q: self.q.copy(alloc)?,
+            p: self.p.copy(alloc)?,
             views: copy_views(alloc, self.views.as_slice())?,
         })
     }

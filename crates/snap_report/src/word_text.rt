@@ -1,10 +1,21 @@
 //! The printed texts of words, of any kind.
 ghost use Rattle.std.specs.Prelude.{◌≡◌, ◌++◌, OnOk};
-ghost use Rattle.snap_semantics.specs.Report.{word_text};
+ghost use Rattle.snap_semantics.specs.Report.{numbers_text, word_text};
 
 use snap_text::{push_number, push_numbers, push_text};
-use snap_words::{Field, Kind, KindTag, field_of, hands_of, view_of};
+use snap_words::{Field, Kind, KindTag, field_of, hand_of, view_of};
 use std::alloc::AllocError;
+
+/// Adds each hand behind a space.
+fn push_hands<K: Kind>(out: &mut Vec<u8>, word: &K::Word) -> Result<(), AllocError>
+    ensures { OnOk result (out.new.items ≡ out.old.items ++ numbers_text (K.parts word.now).hands) }
+{
+    for place in 0..K::hand_count(word) as usize {
+        push_text(out, b" ")?;
+        push_number(out, hand_of::<K>(word, place))?;
+    }
+    Ok(())
+}
 
 /// A word.
 #[tactic(auto, using(snap_text::proofs::Texts::joined))]
@@ -25,7 +36,7 @@ pub fn word_text<K: Kind>(
         }
         KindTag::Bits => {
             push_text(out, b" hands")?;
-            push_numbers(out, hands_of::<K>(word))?;
+            push_hands::<K>(out, word)?;
             push_text(out, b" toggle ")?;
             push_number(out, field_of::<K>(word, Field::Toggle))?;
             push_text(out, b" view")?;

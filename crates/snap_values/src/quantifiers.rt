@@ -3,6 +3,7 @@
 ghost use Rattle.std.specs.Prelude.{◌≡◌, if◌then◌else◌};
 ghost use Rattle.snap_semantics.specs.Forms.{or_else};
 ghost use Rattle.snap_semantics.specs.Table.{each_value, range_end};
+ghost use Rattle.snap_code.specs.Named.{name_at, named_condition, named_expr, named_where};
 ghost use Rattle.snap_values.specs.Quantifiers.{first_place, holds_at_all, checked_values};
 ghost use Rattle.snap_values.specs.Seen.{seen_context};
 
@@ -10,8 +11,8 @@ use crate::context::Context;
 use crate::locals::row;
 use crate::process::Process;
 use crate::value::{condition_holds, expr_value, joined, number_at};
-use snap_semantics::{Cause, Condition, Expr, Join, Name, Range};
-use snap_source::Listing;
+use snap_code::{Program, SlotCondition, SlotExpr};
+use snap_semantics::{Cause, Join, Range};
 use snap_words::{Kind, Shape};
 
 /// How many places a quantifier goes over.
@@ -26,18 +27,18 @@ pub fn range_end(shape: Shape, range: Range) -> u64
 
 /// The least place at which a condition holds.
 pub fn first_place<K: Kind>(
-    listing: &Listing,
+    program: &Program,
     context: &Context,
     process: &Process<K>,
     count: u64,
-    condition: &Condition,
+    condition: &SlotCondition,
 ) -> Result<Option<u64>, Cause>
-    ensures { result ≡ first_place (seen_context K.parts listing.now context.now process.now) count condition.now }
+    ensures { result ≡ first_place (seen_context K.parts program.now context.now process.now) count (named_condition program.now condition.now) }
 {
     let mut found = None;
     for passed in 0..count {
         let place = passed + 1;
-        let holds = condition_holds(listing, &context.at(place), process, condition)?;
+        let holds = condition_holds(program, &context.at(place), process, condition)?;
         found = first_of(found, holds, place);
     }
     Ok(found)
@@ -55,17 +56,17 @@ fn first_of(found: Option<u64>, holds: bool, place: u64) -> Option<u64>
 
 /// Whether a condition holds at every place.
 pub fn holds_at_all<K: Kind>(
-    listing: &Listing,
+    program: &Program,
     context: &Context,
     process: &Process<K>,
     count: u64,
-    condition: &Condition,
+    condition: &SlotCondition,
 ) -> Result<bool, Cause>
-    ensures { result ≡ holds_at_all (seen_context K.parts listing.now context.now process.now) count condition.now }
+    ensures { result ≡ holds_at_all (seen_context K.parts program.now context.now process.now) count (named_condition program.now condition.now) }
 {
     let mut all = true;
     for passed in 0..count {
-        let holds = condition_holds(listing, &context.at(passed + 1), process, condition)?;
+        let holds = condition_holds(program, &context.at(passed + 1), process, condition)?;
         all = joined(Join::And, all, holds);
     }
     Ok(all)
@@ -73,24 +74,25 @@ pub fn holds_at_all<K: Kind>(
 
 /// A place's new value: the expression's where the condition holds, else the old one.
 pub fn row_value<K: Kind>(
-    listing: &Listing,
+    program: &Program,
     context: &Context,
     process: &Process<K>,
-    name: Name,
-    expr: &Expr,
-    condition: &Option<Condition>,
+    slot: usize,
+    expr: &SlotExpr,
+    condition: &Option<SlotCondition>,
 ) -> Result<u64, Cause>
-    ensures { result ≡ each_value (seen_context K.parts listing.now context.now process.now) name expr.now condition.now }
+    ensures { result ≡ each_value (seen_context K.parts program.now context.now process.now)
+        (name_at program.now.rows slot) (named_expr program.now expr.now) (named_where program.now condition.now) }
 {
     match condition {
-        None => expr_value(listing, context, process, expr),
+        None => expr_value(program, context, process, expr),
         Some(condition) => {
-            let value = expr_value(listing, context, process, expr)?;
-            let holds = condition_holds(listing, context, process, condition)?;
+            let value = expr_value(program, context, process, expr)?;
+            let holds = condition_holds(program, context, process, condition)?;
             if holds {
                 Ok(value)
             } else {
-                let row = row(listing.rows(), process.rows.as_slice(), name);
+                let row = row(program.rows(), process.rows.as_slice(), slot);
                 Ok(number_at(row, context.place.saturating_sub(1) as usize))
             }
         }
@@ -99,22 +101,23 @@ pub fn row_value<K: Kind>(
 
 /// The trap of the first place that has no new value, if one has none.
 pub fn check_values<K: Kind>(
-    listing: &Listing,
+    program: &Program,
     context: &Context,
     process: &Process<K>,
     count: u64,
-    name: Name,
-    expr: &Expr,
-    condition: &Option<Condition>,
+    slot: usize,
+    expr: &SlotExpr,
+    condition: &Option<SlotCondition>,
 ) -> Result<(), Cause>
-    ensures { result ≡ checked_values (seen_context K.parts listing.now context.now process.now) count name expr.now condition.now }
+    ensures { result ≡ checked_values (seen_context K.parts program.now context.now process.now)
+        count (name_at program.now.rows slot) (named_expr program.now expr.now) (named_where program.now condition.now) }
 {
     for passed in 0..count {
         row_value(
-            listing,
+            program,
             &context.at(passed + 1),
             process,
-            name,
+            slot,
             expr,
             condition,
         )?;

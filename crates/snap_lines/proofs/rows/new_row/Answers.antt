@@ -1,5 +1,6 @@
 use Rattle.std.proofs.Common.{◌≡◌, ℕ, ◌+◌, List, [], ◌∷◌, ◌++◌, drop, Ok, Err, sym, ap, ◌∙◌, arith, append_assoc}
 use Rattle.std.proofs.lemmas.Result.{err_from_is_err_and}
+use Rattle.snap_code.specs.Named.{name_at, named_expr, named_where}
 use Rattle.snap_semantics.specs.Table.{each_value}
 use Rattle.snap_semantics.specs.State.{value_at}
 use Rattle.snap_semantics.specs.Value.{Context, at_place}
@@ -10,11 +11,11 @@ use Rattle.snap_lines.proofs.rows.new_row.Goals as goal
 
 pub returns-in_err-value : goal.returns-in_err-value
 returns-in_err-value g c =
-    let s = c.args.listing.now in
+    let s = c.args.program.now in
     let p = c.args.process.now in
-    let x = c.args.name in
-    let v = c.args.expr.now in
-    let k = c.args.condition.now in
+    let x = name_at c.args.program.now.rows c.args.slot in
+    let v = named_expr s c.args.expr.now in
+    let k = named_where s c.args.condition.now in
     let passed = c.loop-passed.passed in
     let context : Context = seen_context g.K.Kind.parts s c.args.context.now p in
     let rest : List ℕ = drop c.args.count c.row-old.result.now in
@@ -26,11 +27,11 @@ returns-in_err-value g c =
 
 pub loop-passed-preserved : goal.loop-passed-preserved
 loop-passed-preserved g c =
-    let s = c.args.listing.now in
+    let s = c.args.program.now in
     let p = c.args.process.now in
-    let x = c.args.name in
-    let v = c.args.expr.now in
-    let k = c.args.condition.now in
+    let x = name_at c.args.program.now.rows c.args.slot in
+    let v = named_expr s c.args.expr.now in
+    let k = named_where s c.args.condition.now in
     let passed = c.loop-passed.passed in
     let context : Context = seen_context g.K.Kind.parts s c.args.context.now p in
     let rest : List ℕ = drop c.args.count c.row-old.result.now in
@@ -48,9 +49,9 @@ loop-passed-preserved g c =
 
 pub loop-passed-init : goal.loop-passed-init
 loop-passed-init g c =
-    let x = c.args.name in
+    let x = name_at c.args.program.now.rows c.args.slot in
     let count = c.args.count in
-    let context : Context = seen_context g.K.Kind.parts c.args.listing.now c.args.context.now c.args.process.now in
-    let old_is : c.row-old.result.now ≡ value_at x context.locals.rows [] = c.row-old.ensures ∙ cc (c.rows.ensures, c.as_slice.ensures.value) in
-    all_places (λ p. each_value (at_place context p) x c.args.expr.now c.args.condition.now) (λ vs. c.in_ok-values.values.items ++ (vs ++ drop count c.row-old.result.now)) (λ vs. vs ++ drop count (value_at x context.locals.rows [])) count
+    let context : Context = seen_context g.K.Kind.parts c.args.program.now c.args.context.now c.args.process.now in
+    let old_is : c.row-old.result.now ≡ value_at x context.locals.rows [] = c.row-old.ensures ∙ cc (c.rows.ensures.rows, c.as_slice.ensures.value) in
+    all_places (λ p. each_value (at_place context p) x (named_expr c.args.program.now c.args.expr.now) (named_where c.args.program.now c.args.condition.now)) (λ vs. c.in_ok-values.values.items ++ (vs ++ drop count c.row-old.result.now)) (λ vs. vs ++ drop count (value_at x context.locals.rows [])) count
     (λ vs. ap (λ (ys : List ℕ). ys ++ (vs ++ drop count c.row-old.result.now)) c.in_ok-values.ensures ∙ ap (λ (ys : List ℕ). vs ++ drop count ys) old_is)

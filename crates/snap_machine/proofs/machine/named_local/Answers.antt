@@ -1,4 +1,3 @@
-use Rattle.std.proofs.Common.{◌∙◌}
 use Rattle.snap_code.specs.Slot.{names_of}
 use Rattle.snap_machine.specs.Reading.{seen_local}
 use Rattle.snap_machine.proofs.Numbered.{few, numbered_there, numbered_without_name, numbered_without_value}

@@ -1,5 +1,6 @@
 use Rattle.std.proofs.Common.{◌≡◌, ℕ, ◌+◌, List, Ok, Err, refl, sym, ap, ◌∙◌, arith}
 use Rattle.std.proofs.lemmas.Result.{err_from_is_err_and}
+use Rattle.snap_code.specs.Named.{name_at, named_expr, named_where}
 use Rattle.snap_semantics.specs.Table.{each_value}
 use Rattle.snap_semantics.specs.Value.{Context, at_place}
 use Rattle.snap_values.specs.declared.context.Context.{Context as Surroundings}
@@ -12,11 +13,11 @@ nothing vs = tt
 
 pub returns-in_err-row_value : goal.returns-in_err-row_value
 returns-in_err-row_value g c =
-    let s = c.args.listing.now in
+    let s = c.args.program.now in
     let p = c.args.process.now in
-    let x = c.args.name in
-    let v = c.args.expr.now in
-    let k = c.args.condition.now in
+    let x = name_at s.rows c.args.slot in
+    let v = named_expr s c.args.expr.now in
+    let k = named_where s c.args.condition.now in
     let passed = c.loop-passed.passed in
     let context : Context = seen_context g.K.Kind.parts s c.args.context.now p in
     let is : each_value (at_place context (passed + 1)) x v k ≡ Err c.in_err-row_value.field-0.0 =
@@ -26,11 +27,11 @@ returns-in_err-row_value g c =
 
 pub loop-passed-preserved : goal.loop-passed-preserved
 loop-passed-preserved g c =
-    let s = c.args.listing.now in
+    let s = c.args.program.now in
     let p = c.args.process.now in
-    let x = c.args.name in
-    let v = c.args.expr.now in
-    let k = c.args.condition.now in
+    let x = name_at s.rows c.args.slot in
+    let v = named_expr s c.args.expr.now in
+    let k = named_where s c.args.condition.now in
     let passed = c.loop-passed.passed in
     let context : Context = seen_context g.K.Kind.parts s c.args.context.now p in
     let is : each_value (at_place context (passed + 1)) x v k ≡ Ok c.in_ok-row_value.field-0 =

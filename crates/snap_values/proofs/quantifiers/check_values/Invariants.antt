@@ -1,4 +1,5 @@
 use Rattle.std.proofs.Common.{◌≡◌, Ok}
+use Rattle.snap_code.specs.Named.{name_at, named_expr, named_where}
 use Rattle.snap_semantics.specs.Answers.{◌>>=◌}
 use Rattle.snap_semantics.specs.Table.{each_value}
 use Rattle.snap_semantics.specs.Value.{at_place}
@@ -9,5 +10,5 @@ use Rattle.snap_values.proofs.quantifiers.check_values.Given as goal
 
 abbrev pub invariant-loop-passed : goal.invariant-loop-passed
 invariant-loop-passed g l =
-    (left_of (λ p. each_value (at_place (seen_context g.K.Kind.parts l.listing l.context l.process) p) l.name l.expr l.condition) l.passed l.count >>= λ vs. Ok tt)
-    ≡ checked_values (seen_context g.K.Kind.parts l.listing l.context l.process) l.count l.name l.expr l.condition
+    (left_of (λ p. each_value (at_place (seen_context g.K.Kind.parts l.program l.context l.process) p) (name_at l.program.rows l.slot) (named_expr l.program l.expr) (named_where l.program l.condition)) l.passed l.count >>= λ vs. Ok tt)
+    ≡ checked_values (seen_context g.K.Kind.parts l.program l.context l.process) l.count (name_at l.program.rows l.slot) (named_expr l.program l.expr) (named_where l.program l.condition)

@@ -1,4 +1,5 @@
 use Rattle.std.proofs.Common.{◌≡◌, ℕ, ◌+◌, Bool, List, Option, Ok, Err, sym, ap, ◌∙◌, arith}
+use Rattle.snap_code.specs.Named.{named_condition}
 use Rattle.snap_semantics.specs.Forms.{or_else}
 use Rattle.snap_semantics.specs.Table.{first_true}
 use Rattle.snap_semantics.specs.Value.{Context, at_place, condition_holds}
@@ -10,9 +11,9 @@ use Rattle.snap_values.proofs.quantifiers.first_place.Goals as goal
 
 pub returns-in_err-holds : goal.returns-in_err-holds
 returns-in_err-holds g c =
-    let s = c.args.listing.now in
+    let s = c.args.program.now in
     let p = c.args.process.now in
-    let k = c.args.condition.now in
+    let k = named_condition s c.args.condition.now in
     let passed = c.loop-passed.passed in
     let context : Context = seen_context g.K.Kind.parts s c.args.context.now p in
     let is : condition_holds (at_place context (passed + 1)) k ≡ Err c.in_err-holds.field-0.0 =
@@ -23,9 +24,9 @@ returns-in_err-holds g c =
 
 pub loop-passed-preserved : goal.loop-passed-preserved
 loop-passed-preserved g c =
-    let s = c.args.listing.now in
+    let s = c.args.program.now in
     let p = c.args.process.now in
-    let k = c.args.condition.now in
+    let k = named_condition s c.args.condition.now in
     let passed = c.loop-passed.passed in
     let context : Context = seen_context g.K.Kind.parts s c.args.context.now p in
     let is : condition_holds (at_place context (passed + 1)) k ≡ Ok c.in_ok-holds.holds =

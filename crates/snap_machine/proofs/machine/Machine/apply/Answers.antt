@@ -10,7 +10,7 @@ invariant_of-self-in-Call g c =
     let len_is : inside.processes.len ≡ length inside.processes.items = search rules in
     let same : length c.call.new.processes ≡ length inside.processes.items = c.call.auto.processes ∙ ap length c.as_mut_slice-in-Call.ensures.value in
     let sized =
-    subst (λ s. AllSized s inside.registers.shape (map (seen_process g.K.Kind.parts s) c.call.new.processes)) c.listing-in-Call.ensures
+    subst (λ s. AllSized s inside.registers.shape (map (seen_process g.K.Kind.parts s) c.call.new.processes)) c.listing.ensures
     c.call.ensures.sized in
     stands_after g.K.Kind.TAG g.K.Kind.parts inside.program inside.registers.shape inside.registers.shape inside.processes.items c.call.new.processes inside.processes.len c.self.invariant len_is same refl sized
 

@@ -4,15 +4,14 @@ ghost use Rattle.snap_record.specs.History.{values_by};
 ghost use Rattle.snap_audit.specs.Sweep.{fresh, least_by};
 ghost use Rattle.snap_runs.specs.declared.verdict.Verdict.{Verdict as Found};
 
-use snap_record::{Change, advance};
+use snap_record::{Change, Row, advance};
 use snap_runs::Verdict;
-use snap_words::View;
 use std::alloc::{AllocError, Global};
 
 /// The last call of a process, with the values then, the next change, and how many double collects the process had had.
 #[derive(Debug, Drop)]
 pub(crate) struct Caller {
-    pub(crate) values: View,
+    pub(crate) values: Row,
     pub(crate) next: usize,
     pub(crate) call: u64,
     pub(crate) collects: u64,
@@ -21,7 +20,7 @@ pub(crate) struct Caller {
 /// The least of so many items, the first of which is this one, after which the values are a view. The values are those
 /// before that item, with the next change to come.
 fn find_point(
-    values: &mut View,
+    values: &mut Row,
     changes: &[Change],
     next: usize,
     view: &[u64],
@@ -47,7 +46,7 @@ impl Caller {
         ensures { IfOk result (λ c. c ≡ fresh words) }
     {
         Ok(Caller {
-            values: View::zeros(alloc, words)?,
+            values: Row::zeros(alloc, words)?,
             next: 0,
             call: 0,
             collects: 0,

@@ -10,4 +10,4 @@ pub mod Searches
 pub mod Kept
 pub mod Doing
 pub mod Within
-pub mod LineMarks
+pub mod LineRoles

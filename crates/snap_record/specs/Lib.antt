@@ -2,6 +2,6 @@ pub mod Record
 pub mod Items
 pub mod History
 pub mod SeenDeed
-pub mod Marks
+pub mod Roles
 pub mod Searches
 pub mod Names

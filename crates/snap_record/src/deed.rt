@@ -7,10 +7,10 @@ ghost use Rattle.snap_semantics.specs.Table.{who};
 ghost use Rattle.snap_runs.specs.Deeds.{deed_at, deed_of, line_deed, returned};
 ghost use Rattle.snap_semantics.specs.RightUses.{HasRightUses};
 ghost use Rattle.snap_record.specs.Names.{Lacks, ViewsAlone};
-ghost use Rattle.snap_record.specs.Marks.{AreMarks};
+ghost use Rattle.snap_record.specs.Roles.{AreRoles};
 ghost use Rattle.snap_record.specs.SeenDeed.{seen_deed};
 
-use crate::marks::{Mark, deed_by};
+use crate::roles::{Role, deed_by};
 use snap_machine::{Local, Machine};
 use snap_semantics::{Activity, Instr, Item, Name, Op, Status};
 use snap_words::{Kind, View};
@@ -91,16 +91,16 @@ fn found_deed<K: Kind>(
     }
 }
 
-/// What an item is to do. Of most lines that is known by their marks.
+/// What an item is to do. Of most lines that is known by their roles.
 pub fn deed_of<K: Kind>(
     alloc: Global,
     machine: &Machine<K>,
-    marks: &[Mark],
+    roles: &[Role],
     item: Item,
 ) -> Result<Deed, AllocError>
     requires process { IsOneOf machine.now.shape.n (who item) }
     requires alone { ViewsAlone machine.now.source machine.now.state }
-    requires marks { AreMarks machine.now.source marks.now }
+    requires roles { AreRoles machine.now.source roles.now }
     ensures { IfOk result (λ d. seen_deed d ≡ deed_of machine.now.source machine.now.state item) }
 {
     let Item::Step(i) = item else {
@@ -109,7 +109,7 @@ pub fn deed_of<K: Kind>(
     let Status::Busy(activity) = machine.status(i) else {
         return Ok(Deed::Nothing);
     };
-    match deed_by(marks, activity.line) {
+    match deed_by(roles, activity.line) {
         Some(deed) => Ok(deed),
         None => found_deed(alloc, machine, i, &activity),
     }

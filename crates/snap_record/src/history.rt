@@ -13,9 +13,10 @@ ghost use Rattle.snap_record.specs.History.{change_at, changes_to, counted};
 ghost use Rattle.snap_record.specs.SeenDeed.{of_option, seen_deed};
 
 use crate::deed::Deed;
+use crate::row::Row;
 use snap_machine::{Contents, Machine};
 use snap_semantics::{Event, Happening, Item, Outcome};
-use snap_words::{Address, Bank, Field, Kind, View, field_of};
+use snap_words::{Address, Bank, Field, Kind, field_of};
 use std::alloc::{AllocError, Global};
 
 /// A change of a value by an item. Items count from 1, places of values from 0.
@@ -86,7 +87,7 @@ pub fn event_of(number: u64, item: Item, outcome: &Outcome, deed: Deed) -> Optio
 
 /// Notes what a value is after an item.
 #[tactic(auto, using(crate::proofs::Values::value_again))]
-fn note_value(now: &mut View, changes: &mut Vec<Change>, item: u64, place: usize, value: u64)
+fn note_value(now: &mut Row, changes: &mut Vec<Change>, item: u64, place: usize, value: u64)
     requires place { place < length now.old }
     requires room { vec_len changes.old < vec_capacity changes.old }
     ensures now { now.new ≡ slice_set now.old place value }
@@ -123,7 +124,7 @@ fn value_of<K: Kind>(machine: &Machine<K>, k: usize) -> u64
 
 /// Notes the changes of values to those of a machine.
 pub fn note_values<K: Kind>(
-    now: &mut View,
+    now: &mut Row,
     changes: &mut Vec<Change>,
     item: u64,
     machine: &Machine<K>,
@@ -157,7 +158,7 @@ fn is_write(deed: &Deed) -> bool
 /// Notes the values after an item that leaves this machine. They stay where it writes no word.
 #[inline(always)]
 pub fn note_item<K: Kind>(
-    now: &mut View,
+    now: &mut Row,
     changes: &mut Vec<Change>,
     item: u64,
     deed: &Deed,

@@ -15,8 +15,9 @@ use crate::deed::deed_of;
 use crate::fault::RecordFault;
 use crate::history::{Change, event_of, note_collect, note_event, note_item, who};
 use crate::items::History;
-use crate::marks::{Mark, new_marks};
 use crate::printed::Report;
+use crate::roles::{Role, new_roles};
+use crate::row::Row;
 use crate::search::{collects_until, scans};
 use crate::walk::advance;
 use snap_code::Program;
@@ -37,7 +38,7 @@ pub struct Record<K: Kind> {
     alloc: Global,
     machine: Machine<K>,
     items: History,
-    values: View,
+    values: Row,
     /// The changes of values, in order.
     changes: Vec<Change>,
     events: Vec<Event>,
@@ -46,13 +47,13 @@ pub struct Record<K: Kind> {
     /// At each event, how many double collects its process had had.
     at_events: Vec<u64>,
     /// What the lines are, by their numbers.
-    marks: Vec<Mark>,
+    roles: Vec<Role>,
 }
 
 impl<K: Kind> Model for Record<K> {
     ghost use Rattle.snap_runs.specs.Run.{Run};
     ghost use Rattle.snap_record.specs.History.{IsRecord};
-    ghost use Rattle.snap_record.specs.Marks.{AreMarks};
+    ghost use Rattle.snap_record.specs.Roles.{AreRoles};
 
     ghost Value = { Run };
 
@@ -60,7 +61,7 @@ impl<K: Kind> Model for Record<K> {
 
     ghost invariant = { λ r. IsRecord (record { source = r.machine.source; shape = r.machine.shape; items = r.items.items })
         K.TAG r.machine.state r.values r.changes.items r.events.items r.collects.items r.at_events.items
-        × AreMarks r.machine.source r.marks.items };
+        × AreRoles r.machine.source r.roles.items };
 }
 
 /// So many zeros.
@@ -80,12 +81,12 @@ impl<K: Kind> Record<K> {
             alloc,
             machine: Machine::new(alloc, program, shape)?,
             items: History::new(alloc),
-            values: View::zeros(alloc, shape.w())?,
+            values: Row::zeros(alloc, shape.w())?,
             changes: Vec::new(alloc),
             events: Vec::new(alloc),
             collects: zeros(alloc, shape.n())?,
             at_events: Vec::new(alloc),
-            marks: new_marks(alloc, program)?,
+            roles: new_roles(alloc, program)?,
         })
     }
 
@@ -96,7 +97,7 @@ impl<K: Kind> Record<K> {
         ensures done { IfOk result (λ o. (self.new ≡ with_item self.old item) × (o ≡ outcome self.new (length self.new.items))) }
         ensures unchanged { OnErr result (self.new ≡ self.old) }
     {
-        let deed = deed_of(self.alloc, &self.machine, self.marks.as_slice(), item)?;
+        let deed = deed_of(self.alloc, &self.machine, self.roles.as_slice(), item)?;
         self.items.reserve()?;
         self.changes.reserve(self.values.as_slice().len())?;
         self.events.reserve(1)?;
@@ -197,9 +198,9 @@ impl<K: Kind> Record<K> {
         if t > self.items.len() as u64 {
             return Ok(None);
         }
-        let mut values = View::zeros(self.alloc, self.machine.shape().w())?;
+        let mut values = Row::zeros(self.alloc, self.machine.shape().w())?;
         let _next = advance(&mut values, self.changes.as_slice(), 0, t);
-        Ok(Some(values))
+        Ok(Some(values.into_view()))
     }
 
     /// The report of the position after all items.

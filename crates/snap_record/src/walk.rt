@@ -3,10 +3,10 @@ ghost use Rattle.std.specs.Prelude.{◌≡◌, ◌≤◌, ℕ, drop, slice_set};
 ghost use Rattle.snap_record.specs.History.{values_by};
 
 use crate::history::Change;
-use snap_words::View;
+use crate::row::Row;
 
 /// Makes a change.
-fn make_change(values: &mut View, change: Change)
+fn make_change(values: &mut Row, change: Change)
     ensures { values.new ≡ slice_set values.old change.place change.value }
 {
     let place = change.place as usize;
@@ -16,7 +16,7 @@ fn make_change(values: &mut View, change: Change)
 }
 
 /// Makes the next changes up to an item, and answers which one is next then.
-pub fn advance(values: &mut View, changes: &[Change], next: usize, item: u64) -> usize
+pub fn advance(values: &mut Row, changes: &[Change], next: usize, item: u64) -> usize
     ensures later { (u : ℕ) → item ≤ u → values_by values.new (drop result changes.now) u ≡ values_by values.old (drop next changes.now) u }
     ensures now { values_by values.new (drop result changes.now) item ≡ values.new }
 {

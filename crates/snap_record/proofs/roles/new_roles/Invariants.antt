@@ -1,0 +1,7 @@
+use Rattle.std.proofs.Common.{◌≡◌, length}
+use Rattle.snap_record.specs.Roles.{AreRoles}
+use Rattle.snap_record.proofs.roles.new_roles.Given as goal
+
+-- the numbers so far have their roles
+abbrev pub invariant-loop-number : goal.invariant-loop-number
+invariant-loop-number l = (l.number ≡ length l.roles.items) × AreRoles l.program l.roles.items

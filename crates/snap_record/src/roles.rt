@@ -1,0 +1,61 @@
+//! What the lines of a listing are to a record.
+ghost use Rattle.std.specs.Prelude.{◌≡◌, IfOk, IfSome, option_map};
+ghost use Rattle.snap_semantics.specs.Source.{Source, instr_at};
+ghost use Rattle.snap_semantics.specs.State.{Locals};
+ghost use Rattle.snap_semantics.specs.declared.process.Activity.{Activity as Doing};
+ghost use Rattle.snap_runs.specs.Deeds.{deed_at};
+ghost use Rattle.snap_record.specs.Roles.{AreRoles, role_of};
+ghost use Rattle.snap_record.specs.SeenDeed.{seen_deed};
+
+use crate::deed::Deed;
+use snap_code::Program;
+use snap_semantics::Instr;
+use std::alloc::{AllocError, Global};
+
+/// How many numbers of lines are looked up beforehand: more than a listing has.
+const NUMBERS: u64 = 1000;
+
+/// A line that writes a word, one that tests for all, one that may answer a scan, or another.
+#[derive(Clone, Copy, Debug)]
+pub enum Role {
+    Write,
+    Test,
+    Return,
+    Nothing,
+}
+
+/// What an instruction is.
+fn role_of(instr: Option<&Instr>) -> Role
+    ensures { result ≡ role_of (option_map (λ i. i.now) instr.entry) }
+{
+    match instr {
+        Some(Instr::Put(_, _)) => Role::Write,
+        Some(Instr::IfAll(_, _, _)) => Role::Test,
+        Some(Instr::Return(_)) => Role::Return,
+        _ => Role::Nothing,
+    }
+}
+
+/// What the lines of a program are, by their numbers.
+pub fn new_roles(alloc: Global, program: &Program) -> Result<Vec<Role>, AllocError>
+    ensures { IfOk result (λ m. AreRoles program.now m.items) }
+{
+    let mut roles = Vec::new(alloc);
+    for number in 0..NUMBERS {
+        roles.push(role_of(program.listing().instr(number)))?;
+    }
+    Ok(roles)
+}
+
+/// What a line does, where its number tells that.
+pub fn deed_by(roles: &[Role], line: u64) -> Option<Deed>
+    ensures { (a : Doing) (l : Locals) (s : Source) → AreRoles s roles.now → IfSome result (λ d. seen_deed d ≡ deed_at a l (instr_at s.lines line)) }
+{
+    let role = *roles.get(line as usize)?;
+    match role {
+        Role::Write => Some(Deed::Write),
+        Role::Test => Some(Deed::Test),
+        Role::Return => None,
+        Role::Nothing => Some(Deed::Nothing),
+    }
+}

@@ -1,18 +1,12 @@
 -- Stops lie within the run.
-use Rattle.std.proofs.Common.{◌≡◌, ◌≤◌, ◌+◌, ◌-◌, ℕ, zero, suc, Bool, true, false, if◌then◌else◌, length, Result, Ok, Err, arith, subst, sym}
+use Rattle.std.proofs.Common.{◌≡◌, ◌≤◌, ℕ, zero, suc, Bool, true, false, if◌then◌else◌, length, Result, Ok, Err, arith, subst, sym}
 use Rattle.std.specs.Prelude.{IfOk}
 use Rattle.snap_runs.specs.Run.{Run}
-use Rattle.snap_debug.specs.Marks.{Marks, is_stop, last_stop, next_stop}
+use Rattle.snap_debug.specs.Marks.{Marks, is_stop, last_stop}
 
 either : (b : Bool) (x y z : ℕ) → x ≤ z → y ≤ z → (if b then x else y) ≤ z
 either true x y z h k = h
 either false x y z h k = k
-
-next_within : (r : Run) (m : Marks) (t more : ℕ) → next_stop r m t more ≤ t + more
-next_within r m t zero = omega arith
-next_within r m t (suc more) =
-    let later = next_within r m (suc t) more in
-    either (is_stop r m (suc t)) (suc t) (next_stop r m (suc t) more) (t + suc more) (omega arith) (omega (arith, later))
 
 last_within : (r : Run) (m : Marks) (t : ℕ) → last_stop r m t ≤ t
 last_within r m zero = omega arith
@@ -24,12 +18,6 @@ last_within r m (suc t) =
 found_within : {E : Type 0} (found : Result ℕ E) (x y : ℕ) → x ≤ y → IfOk found (λ t. t ≡ x) → IfOk found (λ t. t ≤ y)
 found_within (Ok t) x y within is = subst (λ (k : ℕ). k ≤ y) (sym is) within
 found_within (Err e) x y within is = tt
-
-pub next_found : {E : Type 0} (r : Run) (m : Marks) (t : ℕ) (found : Result ℕ E) → t ≤ length r.items →
-    IfOk found (λ k. k ≡ next_stop r m t (length r.items - t)) → IfOk found (λ k. k ≤ length r.items)
-next_found r m t found within is =
-    let last = next_within r m t (length r.items - t) in
-    found_within found (next_stop r m t (length r.items - t)) (length r.items) (omega (arith, last, within)) is
 
 pub last_found : {E : Type 0} (r : Run) (m : Marks) (t : ℕ) (found : Result ℕ E) → t ≤ length r.items →
     IfOk found (λ k. k ≡ last_stop r m t) → IfOk found (λ k. k ≤ length r.items)

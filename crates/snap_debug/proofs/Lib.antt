@@ -1,6 +1,6 @@
 mod CommandSamples
 pub mod CommandsAgain
 pub mod CommandsFound
-pub mod Along
+pub mod Trails
 pub mod Walks
 pub mod Bounds

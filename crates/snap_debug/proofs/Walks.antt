@@ -1,103 +1,25 @@
 -- Walks along a run, and the stops that they find.
-use Rattle.std.proofs.Common.{◌≡◌, ℕ, zero, suc, ◌+◌, ◌-◌, ◌<◌, ◌≤◌, Bool, true, false, ◌||◌, List, [], ◌∷◌, length, drop, slice_index_or, if◌then◌else◌, refl, sym, ap, subst, ◌∙◌, arith}
-use Rattle.std.proofs.lemmas.List.{length-drop}
+use Rattle.std.proofs.Common.{◌≡◌, ℕ, zero, suc, ◌+◌, ◌-◌, ◌<◌, ◌≤◌, Bool, true, false, not, ◌&&◌, ◌||◌, List, [], ◌∷◌, length, Option, Some, None, nat_eq, if◌then◌else◌, refl, sym, ap, subst, ◌∙◌, arith}
+use Rattle.std.specs.Prelude.{bytes_eq}
 use Rattle.std.specs.List.{list_any}
-use Rattle.snap_words.specs.Shape.{Counts, IsOneOf}
+use Rattle.std.proofs.lemmas.Bool.{eq-eqb, eqb-true}
+use Rattle.std.proofs.lemmas.Slice.Eq.{bytes_eq-Decides}
+use Rattle.snap_words.specs.Word.{Word}
 use Rattle.snap_words.specs.declared.address.Address.{Address}
-use Rattle.snap_semantics.specs.Schedule.{Schedule}
-use Rattle.snap_semantics.specs.ScheduleText.{IsSchedule}
-use Rattle.snap_semantics.specs.Source.{Source}
-use Rattle.snap_semantics.specs.State.{State, initial}
-use Rattle.snap_semantics.specs.Table.{done, who}
-use Rattle.snap_semantics.specs.declared.process.Item.{Item}
-use Rattle.snap_semantics.specs.declared.process.Item.TheVariants.{Step}
-use Rattle.snap_semantics.specs.declared.process.Outcome.{Outcome}
+use Rattle.snap_semantics.specs.Readers.{Contents, WordContents, BitContents, ViewContents}
+use Rattle.snap_semantics.specs.State.{State, process_at}
+use Rattle.snap_semantics.specs.Table.{who}
 use Rattle.snap_machine.specs.Standing.{Standing}
-use Rattle.snap_runs.specs.Run.{Run, state, item, outcome}
-use Rattle.snap_runs.proofs.Embedding.{all_index, next_state}
-use Rattle.snap_debug.specs.Marks.{Marks, mark_count, reaches, changes, is_stop, next_stop, last_stop}
-use Rattle.snap_record.specs.Record.{run_over}
-use Rattle.snap_debug.specs.Stops.{AreAt, HasDone, stops_between}
+use Rattle.snap_runs.specs.Run.{Run, state, item}
+use Rattle.snap_debug.specs.Marks.{Marks, mark_count, reaches, changes, contents_at, is_stop, next_stop, last_stop, same_contents, same_word}
+use Rattle.snap_debug.specs.Stops.{differs, or_before, stands_at, stops_between}
+use Rattle.snap_debug.specs.Trail.{StandsAt}
+use Rattle.snap_debug.specs.declared.stand.Stand.{Stand}
 use Rattle.snap_debug.specs.declared.command.Breakpoint.{Breakpoint}
-use Rattle.snap_debug.specs.declared.stops.Walk.{Walk}
 
--- the next item, and those behind it
-next_left : (xs : List Item) (t : ℕ) → t < length xs → drop t xs ≡ slice_index_or xs t (Step 0) ∷ drop (suc t) xs
-next_left [] t lt = absurd (omega (arith, lt))
-next_left (x ∷ xs) zero lt = refl
-next_left (x ∷ xs) (suc t) lt = next_left xs t (omega (arith, lt))
-
--- there is an item to come
-pub some_left : (r : Run) (t : ℕ) (m : Standing) (xs : List Item) → HasDone r t m xs → t < length r.items → 0 < length xs
-some_left r t m xs h lt = let size = ap length h.to_come in let l = length-drop t r.items in omega (arith, size, l, lt)
-
--- and it is this one
-next_is : (r : Run) (t : ℕ) (m : Standing) (xs ys : List Item) (x : Item) → HasDone r t m xs → t < length r.items → xs ≡ x ∷ ys → (x ≡ item r (suc t)) × (ys ≡ drop (suc t) r.items)
-next_is r t m xs ys x h lt more =
-    let lists : x ∷ ys ≡ item r (suc t) ∷ drop (suc t) r.items = sym more ∙ h.to_come ∙ next_left r.items t lt in
-    (cc, cc)
-
--- of one of the processes
-pub one_there : (r : Run) (t : ℕ) (m : Standing) (xs ys : List Item) (x : Item) → HasDone r t m xs → t < length r.items → xs ≡ x ∷ ys → IsOneOf m.shape.n (who x)
-one_there r t m xs ys x h lt more =
-    let is = (next_is r t m xs ys x h lt more).0 in
-    subst (λ (n : Counts). IsOneOf n.n (who x)) (sym h.shape)
-    (subst (λ (y : Item). IsOneOf r.shape.n (who y)) (sym is) (all_index (λ y. IsOneOf r.shape.n (who y)) r.items t (Step 0) h.fits.all lt))
-
--- the process of an item that is done is there
-pub one_done : (r : Run) (t : ℕ) (m : Standing) (xs : List Item) (i : ℕ) → HasDone r (t + 1) m xs → t < length r.items → i ≡ who (item r (t + 1)) → IsOneOf m.shape.n i
-one_done r t m xs i h lt is =
-    let e : t + 1 ≡ suc t = omega arith in
-    subst (λ (n : Counts). IsOneOf n.n i) (sym h.shape)
-    (subst (λ k. IsOneOf r.shape.n k) (sym (is ∙ ap (λ k. who (item r k)) e)) (all_index (λ y. IsOneOf r.shape.n (who y)) r.items t (Step 0) h.fits.all lt))
-
--- one item more is done
-pub one_more : (r : Run) (t : ℕ) (m m' : Standing) (xs ys : List Item) (x : Item) (o : Outcome) (i : ℕ) → HasDone r t m xs → t < length r.items → xs ≡ x ∷ ys →
-    done m.source m.shape m.state x ≡ (m'.state, o) → m'.source ≡ m.source → m'.shape ≡ m.shape → i ≡ who x →
-    HasDone r (t + 1) m' ys × (i ≡ who (item r (t + 1))) × (o ≡ outcome r (t + 1))
-one_more r t m m' xs ys x o i h lt more is_done source shape process =
-    let is = next_is r t m xs ys x h lt more in
-    let e : suc t ≡ t + 1 = omega arith in
-    let did : done r.source r.shape (state r t) (item r (suc t)) ≡ (m'.state, o) =
-    sym (ap (λ (s : Source). done s m.shape m.state x) h.source ∙ ap (λ (n : Counts). done r.source n m.state x) h.shape
-    ∙ ap (λ (S : State). done r.source r.shape S x) h.state ∙ ap (done r.source r.shape (state r t)) is.0) ∙ is_done in
-    let next : HasDone r (suc t) m' ys = record {
-      fits = h.fits;
-      source = source ∙ h.source;
-      shape = shape ∙ h.shape;
-      state = sym (ap (λ (p : State × Outcome). p.0) did) ∙ sym (next_state r t lt);
-      to_come = is.1;
-    } in (
-      subst (λ k. HasDone r k m' ys) e next,
-      process ∙ ap who is.0 ∙ ap (λ k. who (item r k)) e,
-      sym (ap (λ (p : State × Outcome). p.1) did) ∙ ap (outcome r) e,
-    )
-
--- before the first item
-pub none_done : (s : Source) (x : Schedule) (m : Standing) (n : Counts) (xs ys : List Item) → IsSchedule x → n ≡ x.shape → ys ≡ x.items →
-    m ≡ record { source = s; shape = n; state = initial s n } → xs ≡ ys → HasDone (run_over s x) 0 m xs
-none_done s x m n xs ys is shape items begins all = record {
-  fits = record { all = is.processes; few = is.few };
-  source = ap (λ (y : Standing). y.source) begins;
-  shape = ap (λ (y : Standing). y.shape) begins ∙ shape;
-  state = ap (λ (y : Standing). y.state) begins ∙ ap (initial s) shape;
-  to_come = all ∙ items;
-}
-
--- what is done at one position is done at an equal one
-pub done_at : (r : Run) (t u : ℕ) (m : Standing) (xs : List Item) → t ≡ u → HasDone r t m xs → HasDone r u m xs
-done_at r t u m xs e h = subst (λ k. HasDone r k m xs) e h
-
--- two machines side by side
-pub side_by_side : {K W : Type 0} (r : Run) (t : ℕ) (w : Walk K W) (xs : List Item) → HasDone r t w.before xs → HasDone r t w.after w.to_come → AreAt r t w
-side_by_side r t w xs b a = record {
-  before = record { fits = b.fits; source = b.source; shape = b.shape; state = b.state; to_come = a.to_come };
-  after = a;
-}
-
--- a walk that stands at one position stands at an equal one
-pub walk_at : {K W : Type 0} (r : Run) (t u : ℕ) (w : Walk K W) → t ≡ u → AreAt r t w → AreAt r u w
-walk_at r t u w e h = subst (λ k. AreAt r k w) e h
+-- whether process i stands at a breakpoint
+abbrev stands_any : ℕ → State → Marks → Bool
+stands_any i T m = list_any (stands_at i (process_at T i).status) m.breaks
 
 -- marks stop at the item that two machines stand before and after
 pub stop_is : (r : Run) (m : Marks) (t : ℕ) (S T : State) (i : ℕ) → S ≡ state r t → T ≡ state r (t + 1) → i ≡ who (item r (t + 1)) → stops_between S T i m ≡ is_stop r m (t + 1)
@@ -107,6 +29,14 @@ stop_is r m t S T i before after process =
     ∙ ap (λ (T : State). stops_between (state r t) T i m) (after ∙ ap (state r) e)
     ∙ ap (λ k. stops_between (state r t) (state r (suc t)) k m) (process ∙ ap (λ k. who (item r k)) e)
     ∙ ap (is_stop r m) (sym e)
+
+-- and so they do between a machine that was stepped and the one before it
+pub stop_between : {K W : Type 0} (r : Run) (m : Marks) (before after next : Stand K W) (i : ℕ) → StandsAt r before → StandsAt r next → next.position ≡ after.position + 1 →
+    after.position ≡ before.position → i ≡ who (item r (after.position + 1)) → stops_between before.machine.state next.machine.state i m ≡ is_stop r m (before.position + 1)
+stop_between r m before after next i here there at same process =
+    let e : after.position + 1 ≡ before.position + 1 = omega (arith, same) in
+    stop_is r m before.position before.machine.state next.machine.state i (ap (λ (s : Standing). s.state) here.machine)
+    (ap (λ (s : Standing). s.state) there.machine ∙ ap (state r) (at ∙ e)) (process ∙ ap (λ k. who (item r k)) e)
 
 -- no marks
 none_set : (bs : List Breakpoint) (ws : List Address) → length bs + length ws ≡ 0 → (bs ≡ []) × (ws ≡ [])
@@ -164,8 +94,133 @@ either false n = refl
 pub last_first : (r : Run) (m : Marks) → last_stop r m 1 ≡ 0
 last_first r m = either (is_stop r m 0) 0
 
+-- a first item or none
+pub last_none : (r : Run) (m : Marks) (t : ℕ) → t ≤ 1 → last_stop r m t ≡ 0
+last_none r m zero le = refl
+last_none r m (suc zero) le = last_first r m
+last_none r m (suc (suc t)) le = absurd (omega (arith, le))
+
 -- one item more is looked at
-pub last_more : (r : Run) (m : Marks) (t last found : ℕ) (stop : Bool) → last ≡ last_stop r m t → stop ≡ is_stop r m t → found ≡ (if stop then t else last) → found ≡ last_stop r m (t + 1)
-last_more r m t last found stop before is now =
-    let e : suc t ≡ t + 1 = omega arith in
-    now ∙ ap (λ b. if b then t else last) is ∙ ap (λ k. if is_stop r m t then t else k) before ∙ ap (last_stop r m) e
+pub last_more : (r : Run) (m : Marks) (u before : ℕ) (last found : Option ℕ) (stop : Bool) → last_stop r m u ≡ or_before last before → stop ≡ is_stop r m u →
+    found ≡ (if stop then Some u else last) → last_stop r m (u + 1) ≡ or_before found before
+last_more r m u before last found stop so_far is now =
+    let e : u + 1 ≡ suc u = omega arith in
+    ap (last_stop r m) e ∙ ap (λ b. if b then u else last_stop r m u) (sym is) ∙ by_stop stop ∙ ap (λ o. or_before o before) (sym now)
+  where
+    by_stop : (b : Bool) → (if b then u else last_stop r m u) ≡ or_before (if b then Some u else last) before
+    by_stop true = refl
+    by_stop false = so_far
+
+-- both hold
+both : (a b : Bool) → (a && b) ≡ true → (a ≡ true) × (b ≡ true)
+both true b h = (refl, h)
+both false b h = absurd cc
+
+-- words of the same parts are one
+word_is : (x y : Word) → same_word x y ≡ true → x ≡ y
+word_is x y h =
+    let a = both (nat_eq x.datum y.datum) _ h in
+    let b = both (nat_eq x.seq y.seq) _ a.1 in
+    let c = both (nat_eq x.id y.id) _ b.1 in
+    let d = both (nat_eq x.toggle y.toggle) _ c.1 in
+    let e = both (bytes_eq x.hands y.hands) _ d.1 in
+    let datum = eqb-true x.datum y.datum a.0 in
+    let seq = eqb-true x.seq y.seq b.0 in
+    let id = eqb-true x.id y.id c.0 in
+    let toggle = eqb-true x.toggle y.toggle d.0 in
+    let hands = (bytes_eq-Decides x.hands y.hands).0 e.0 in
+    let view = (bytes_eq-Decides x.view y.view).0 e.1 in
+    ap (λ k. let w : Word = record { datum = k; seq = x.seq; id = x.id; toggle = x.toggle; hands = x.hands; view = x.view } in w) datum
+    ∙ ap (λ k. let w : Word = record { datum = y.datum; seq = k; id = x.id; toggle = x.toggle; hands = x.hands; view = x.view } in w) seq
+    ∙ ap (λ k. let w : Word = record { datum = y.datum; seq = y.seq; id = k; toggle = x.toggle; hands = x.hands; view = x.view } in w) id
+    ∙ ap (λ k. let w : Word = record { datum = y.datum; seq = y.seq; id = y.id; toggle = k; hands = x.hands; view = x.view } in w) toggle
+    ∙ ap (λ k. let w : Word = record { datum = y.datum; seq = y.seq; id = y.id; toggle = y.toggle; hands = k; view = x.view } in w) hands
+    ∙ ap (λ k. let w : Word = record { datum = y.datum; seq = y.seq; id = y.id; toggle = y.toggle; hands = y.hands; view = k } in w) view
+
+-- so are contents
+contents_are : (x y : Option Contents) → same_contents x y ≡ true → x ≡ y
+contents_are (Some (WordContents x)) (Some (WordContents y)) h = ap (λ (w : Word). Some (WordContents w)) (word_is x y h)
+contents_are (Some (BitContents x)) (Some (BitContents y)) h = ap (λ k. Some (BitContents k)) (eqb-true x y h)
+contents_are (Some (ViewContents x)) (Some (ViewContents y)) h = ap (λ v. Some (ViewContents v)) ((bytes_eq-Decides x y).0 h)
+contents_are (Some (WordContents x)) (Some (BitContents y)) h = absurd cc
+contents_are (Some (WordContents x)) (Some (ViewContents y)) h = absurd cc
+contents_are (Some (BitContents x)) (Some (WordContents y)) h = absurd cc
+contents_are (Some (BitContents x)) (Some (ViewContents y)) h = absurd cc
+contents_are (Some (ViewContents x)) (Some (WordContents y)) h = absurd cc
+contents_are (Some (ViewContents x)) (Some (BitContents y)) h = absurd cc
+contents_are (Some (WordContents x)) None h = absurd cc
+contents_are (Some (BitContents x)) None h = absurd cc
+contents_are (Some (ViewContents x)) None h = absurd cc
+contents_are None (Some (WordContents y)) h = absurd cc
+contents_are None (Some (BitContents y)) h = absurd cc
+contents_are None (Some (ViewContents y)) h = absurd cc
+contents_are None None h = refl
+
+-- and each has the parts of itself
+bytes_same : (xs : List ℕ) → bytes_eq xs xs ≡ true
+bytes_same xs = (bytes_eq-Decides xs xs).1 refl
+
+all_six : (a b c d e f : Bool) → a ≡ true → b ≡ true → c ≡ true → d ≡ true → e ≡ true → f ≡ true → (a && (b && (c && (d && (e && f))))) ≡ true
+all_six a b c d e f g h i j k l = cc
+
+contents_same : (x : Option Contents) → same_contents x x ≡ true
+contents_same (Some (WordContents x)) =
+    all_six _ _ _ _ _ _ (eq-eqb x.datum x.datum refl) (eq-eqb x.seq x.seq refl) (eq-eqb x.id x.id refl) (eq-eqb x.toggle x.toggle refl) (bytes_same x.hands) (bytes_same x.view)
+contents_same (Some (BitContents x)) = eq-eqb x x refl
+contents_same (Some (ViewContents x)) = bytes_same x
+contents_same None = refl
+
+-- a state has the contents of itself
+pub none_differs : (S : State) (ws : List Address) → list_any (differs S S) ws ≡ false
+none_differs S [] = refl
+none_differs S (a ∷ ws) = ap (λ b. not b || list_any (differs S S) ws) (contents_same (contents_at S a)) ∙ none_differs S ws
+
+neither : (a b : Bool) → (a || b) ≡ false → (a ≡ false) × (b ≡ false)
+neither true b h = absurd cc
+neither false b h = (refl, h)
+
+negated : (b : Bool) → not b ≡ false → b ≡ true
+negated true h = refl
+negated false h = absurd cc
+
+-- where two states have the same contents, a third differs from both or from neither
+same_differs : (S T U : State) (ws : List Address) → list_any (differs S T) ws ≡ false → list_any (differs S U) ws ≡ list_any (differs T U) ws
+same_differs S T U [] h = refl
+same_differs S T U (a ∷ ws) h =
+    let each = neither (differs S T a) (list_any (differs S T) ws) h in
+    let one = contents_are (contents_at S a) (contents_at T a) (negated (same_contents (contents_at S a) (contents_at T a)) each.0) in
+    ap (λ (x : Option Contents). not (same_contents x (contents_at U a)) || list_any (differs S U) ws) one
+    ∙ ap (λ b. differs T U a || b) (same_differs S T U ws each.1)
+
+-- marks stop at an item, by a machine since which the watched registers have not changed
+pub stop_since : {K W : Type 0} (r : Run) (m : Marks) (start before after : Stand K W) (i : ℕ) → StandsAt r before → StandsAt r after → after.position ≡ before.position + 1 →
+    i ≡ who (item r (before.position + 1)) → list_any (differs start.machine.state before.machine.state) m.watches ≡ false →
+    stops_between start.machine.state after.machine.state i m ≡ is_stop r m (before.position + 1)
+stop_since r m start before after i here there at process unchanged =
+    ap (λ b. stands_any i after.machine.state m || b) (same_differs start.machine.state before.machine.state after.machine.state m.watches unchanged)
+    ∙ stop_between r m before before after i here there at refl process
+
+-- no stop is no change
+pub unchanged_still : (S T : State) (i : ℕ) (m : Marks) (stop : Bool) → stop ≡ stops_between S T i m → stop ≡ false → list_any (differs S T) m.watches ≡ false
+unchanged_still S T i m stop is none = (neither (stands_any i T m) (list_any (differs S T) m.watches) (sym is ∙ none)).1
+
+-- what comes of an item that a machine did, since which the watched registers have not changed
+pub record Walked {K W : Type 0} (r : Run) (m : Marks) (start before after : Stand K W) (stop : Bool) : Type 0 where
+  pub stands : StandsAt r after
+  pub here : stop ≡ true → after.position ≡ next_stop r m before.position (length r.items - before.position)
+  pub later : stop ≡ false → next_stop r m after.position (length r.items - after.position) ≡ next_stop r m before.position (length r.items - before.position)
+  pub unchanged : stop ≡ false → list_any (differs start.machine.state after.machine.state) m.watches ≡ false
+
+pub walked : {K W : Type 0} (r q : Run) (m : Marks) (start before after : Stand K W) (i : ℕ) (stop : Bool) → q ≡ r → StandsAt r before → before.position < length r.items →
+    list_any (differs start.machine.state before.machine.state) m.watches ≡ false → StandsAt q after → after.position ≡ before.position + 1 →
+    i ≡ who (item q (before.position + 1)) → stop ≡ stops_between start.machine.state after.machine.state i m → Walked r m start before after stop
+walked r q m start before after i stop same stands lt unchanged there at process is =
+    let next : StandsAt r after = subst (λ (x : Run). StandsAt x after) same there in
+    let one : i ≡ who (item r (before.position + 1)) = process ∙ ap (λ (x : Run). who (item x (before.position + 1))) same in
+    let met : stop ≡ is_stop r m (before.position + 1) = is ∙ stop_since r m start before after i stands next at one unchanged in
+    record {
+      stands = next;
+      here = λ h. at ∙ sym (next_here r m before.position (length r.items) stop lt met h);
+      later = λ h. ap (λ k. next_stop r m k (length r.items - k)) at ∙ sym (next_later r m before.position (length r.items) stop lt met h);
+      unchanged = λ h. unchanged_still start.machine.state after.machine.state i m stop is h;
+    }

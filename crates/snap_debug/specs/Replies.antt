@@ -1,21 +1,11 @@
 -- What a session is seen by, and parts of its replies.
-use Rattle.std.specs.Prelude.{◌≡◌, ℕ, zero, suc, List, ◌++◌, Option, Some, None, codes, decimal, length, take}
+use Rattle.std.specs.Prelude.{ℕ, zero, suc, List, ◌++◌, Option, Some, None, codes, decimal}
 use Rattle.snap_semantics.specs.declared.process.Outcome.{Outcome}
-use Rattle.snap_semantics.specs.Schedule.{Schedule}
 use Rattle.snap_semantics.specs.Table.{who}
 use Rattle.snap_machine.specs.Standing.{Standing}
 use Rattle.snap_report.specs.OutcomeText.{outcome_text}
 use Rattle.snap_runs.specs.Run.{Run, item, outcome}
 use Rattle.snap_debug.specs.Session.{Session, state_of}
-
--- the run of the first t items
-abbrev pub first_of : ℕ → Run → Run
-first_of t r = record { source = r.source; shape = r.shape; items = take t r.items }
-
--- a record of the first items of a schedule
-pub record IsAlong (r : Run) (s : Schedule) : Type 0 where
-  pub shape : r.shape ≡ s.shape
-  pub items : r.items ≡ take (length r.items) s.items
 
 -- the process of the last item and what came of it, where there is one
 abbrev pub last_of : Run → ℕ → Option (ℕ × Outcome)

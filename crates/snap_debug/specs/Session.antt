@@ -179,3 +179,7 @@ abbrev pub Obeys : {X : Type 0} → (X → List ℕ) → Result X (Fault Command
 Obeys view (Ok reply) s c s' = (commanded s c ≡ Ok s') × (view reply ≡ reply_text s' c)
 Obeys view (Err fault.Memory) s c s' = s' ≡ s
 Obeys view (Err (fault.Refused r)) s c s' = (commanded s c ≡ Err r) × (s' ≡ s)
+
+-- A command that is refused is refused before memory is wanted.
+abbrev pub RefusesFirst : {X : Type 0} → Result X (Fault CommandRefusal) → Session → Command → Type 0
+RefusesFirst answer s c = (r : CommandRefusal) → commanded s c ≡ Err r → answer ≡ Err (fault.Refused r)

@@ -1,14 +1,13 @@
 -- How stops are searched for: by machines that walk along a run.
-use Rattle.std.specs.Prelude.{◌≡◌, ℕ, Bool, not, ◌&&◌, ◌||◌, List, drop, nat_eq}
+use Rattle.std.specs.Prelude.{◌≡◌, ℕ, Bool, not, ◌&&◌, ◌||◌, Option, Some, None, nat_eq}
 use Rattle.std.specs.List.{list_any}
 use Rattle.snap_words.specs.declared.address.Address.{Address}
-use Rattle.snap_semantics.specs.declared.process.Item.{Item}
 use Rattle.snap_semantics.specs.declared.process.Status.{Status}
 use Rattle.snap_semantics.specs.State.{State, process_at}
-use Rattle.snap_machine.specs.Standing.{Standing}
-use Rattle.snap_runs.specs.Run.{Run, Fits, state}
+use Rattle.snap_runs.specs.Run.{Run}
 use Rattle.snap_runs.specs.Update.{is_at}
 use Rattle.snap_debug.specs.Marks.{Marks, contents_at, same_contents}
+use Rattle.snap_debug.specs.Trail.{StandsAt}
 use Rattle.snap_debug.specs.declared.command.Breakpoint.{Breakpoint}
 use Rattle.snap_debug.specs.declared.stops.Walk.{Walk}
 
@@ -24,15 +23,13 @@ differs S T a = not (same_contents (contents_at S a) (contents_at T a))
 abbrev pub stops_between : State → State → ℕ → Marks → Bool
 stops_between S T i m = list_any (stands_at i (process_at T i).status) m.breaks || list_any (differs S T) m.watches
 
--- a machine has done t items of a run, and these are to come
-pub record HasDone (r : Run) (t : ℕ) (m : Standing) (xs : List Item) : Type 0 where
-  pub fits : Fits r
-  pub source : m.source ≡ r.source
-  pub shape : m.shape ≡ r.shape
-  pub state : m.state ≡ state r t
-  pub to_come : xs ≡ drop t r.items
+-- a stop, where one was found, and otherwise one before
+abbrev pub or_before : Option ℕ → ℕ → ℕ
+or_before None t = t
+or_before (Some t) before = t
 
--- both machines of a walk have done t items of a run
-pub record AreAt {K W : Type 0} (r : Run) (t : ℕ) (w : Walk K W) : Type 0 where
-  pub before : HasDone r t w.before w.to_come
-  pub after : HasDone r t w.after w.to_come
+-- both machines of a walk stand at one position of a run
+pub record AreAt {K W : Type 0} (r : Run) (w : Walk K W) : Type 0 where
+  pub before : StandsAt r w.before
+  pub after : StandsAt r w.after
+  pub same : w.after.position ≡ w.before.position

@@ -10,7 +10,9 @@ mod fault_text;
 mod marks;
 mod reply;
 mod session;
+mod stand;
 mod stops;
+mod trail;
 
 pub use command::{Breakpoint, Command};
 pub use command_laws::{commands_are_spelled, written_commands_are_read};

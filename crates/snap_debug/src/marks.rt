@@ -1,7 +1,9 @@
 //! Marks: breakpoints and watched registers.
-ghost use Rattle.std.specs.Prelude.{◌≡◌, IfOk, length, not};
+ghost use Rattle.std.specs.Prelude.{◌≡◌, Err, IfOk, length, not};
 ghost use Rattle.std.specs.List.{filter, list_any};
 ghost use Rattle.snap_semantics.specs.Answers.{Answers};
+ghost use Rattle.snap_semantics.specs.declared.fault.Fault.TheVariants.{Refused};
+ghost use Rattle.snap_semantics.specs.declared.refusal.CommandRefusal.{CommandRefusal as Reason};
 ghost use Rattle.snap_debug.specs.Marks.{
   mark_count,
   no_marks,
@@ -158,7 +160,8 @@ impl Marks {
 
     /// These and a breakpoint, where it is not set yet.
     pub fn with_break(&self, alloc: Global, b: Breakpoint) -> Result<Marks, Fault<CommandRefusal>>
-        ensures { Answers (λ m. m) result (with_break self.now b) }
+        ensures marks { Answers (λ m. m) result (with_break self.now b) }
+        ensures full { (r : Reason) → with_break self.now b ≡ Err r → result ≡ Err (Refused r) }
     {
         if has_break(self.breaks(), b) {
             return Ok(self.copy(alloc)?);
@@ -173,7 +176,8 @@ impl Marks {
 
     /// These and a watched register, where it is not set yet.
     pub fn with_watch(&self, alloc: Global, a: Address) -> Result<Marks, Fault<CommandRefusal>>
-        ensures { Answers (λ m. m) result (with_watch self.now a) }
+        ensures marks { Answers (λ m. m) result (with_watch self.now a) }
+        ensures full { (r : Reason) → with_watch self.now a ≡ Err r → result ≡ Err (Refused r) }
     {
         if has_watch(self.watches(), a) {
             return Ok(self.copy(alloc)?);

@@ -3,9 +3,11 @@ ghost use Rattle.std.specs.Prelude.{◌≡◌, ◌≤◌, ◌-◌, IfOk, None, O
 ghost use Rattle.snap_semantics.specs.Answers.{Answers};
 ghost use Rattle.snap_record.specs.Record.{report_at, run_over};
 ghost use Rattle.snap_debug.specs.Marks.{contents_at, last_stop, next_stop};
-ghost use Rattle.snap_debug.specs.Replies.{first_of, last_of, machine_of};
+ghost use Rattle.snap_debug.specs.Replies.{last_of, machine_of};
+ghost use Rattle.snap_debug.specs.Trail.{StandsAt};
 ghost use Rattle.snap_debug.specs.Session.{
   Obeys,
+  RefusesFirst,
   at_position,
   checked_breakpoint,
   checked_register,
@@ -21,10 +23,12 @@ use crate::reply::{
     Reply, events_reply, marks_reply, position_reply, process_reply, register_reply, values_reply,
     where_reply,
 };
-use crate::stops::{last_stop, next_stop, outcome_at};
+use crate::stand::Stand;
+use crate::stops::{last_stop, next_stop};
+use crate::trail::Trail;
 use snap_code::Program;
 use snap_machine::Machine;
-use snap_record::{Record, Report};
+use snap_record::Report;
 use snap_report::report;
 use snap_sched::Schedule;
 use snap_semantics::{CommandRefusal, Fault, Outcome};
@@ -32,26 +36,25 @@ use snap_words::{Address, Kind};
 use std::alloc::{AllocError, Global};
 use std::marker::Model;
 
-/// A schedule with marks, and the record of its items up to a position.
+/// A schedule with marks, followed as far as it was asked for, and the machine at a position.
 #[derive(Drop)]
 pub struct Session<K: Kind> {
     alloc: Global,
-    schedule: Schedule,
     marks: Marks,
-    record: Record<K>,
+    trail: Trail<K>,
+    here: Stand<K>,
 }
 
 impl<K: Kind> Model for Session<K> {
-    ghost use Rattle.std.specs.Prelude.{length};
-    ghost use Rattle.snap_record.specs.Record.{run_over};
-    ghost use Rattle.snap_debug.specs.Replies.{IsAlong};
+    ghost use Rattle.std.specs.Prelude.{◌≤◌};
     ghost use Rattle.snap_debug.specs.Session.{Session as Seen};
+    ghost use Rattle.snap_debug.specs.Trail.{StandsAt};
 
     ghost Value = { Seen };
 
-    ghost view = { λ s. record { run = run_over s.record.source s.schedule; marks = s.marks; position = length s.record.items } };
+    ghost view = { λ s. record { run = s.trail.run; marks = s.marks; position = s.here.position } };
 
-    ghost invariant = { λ s. IsAlong s.record s.schedule };
+    ghost invariant = { λ s. StandsAt s.trail.run s.here × (s.here.position ≤ s.trail.reached) };
 }
 
 impl<K: Kind> Session<K> {
@@ -76,12 +79,13 @@ impl<K: Kind> Session<K> {
         requires { program.now.kind ≡ K.TAG }
         ensures { IfOk result (λ s. s ≡ opened (run_over program.now schedule)) }
     {
-        let shape = schedule.shape();
+        let trail = Trail::new(alloc, program, schedule)?;
+        let here = trail.checkpoint(0).copy()?;
         Ok(Session {
             alloc,
-            schedule,
             marks: Marks::new(alloc),
-            record: Record::new(alloc, program, shape)?,
+            trail,
+            here,
         })
     }
 
@@ -90,14 +94,14 @@ impl<K: Kind> Session<K> {
         ensures position { result ≡ self.now.position }
         ensures within { result ≤ length self.now.run.items }
     {
-        self.record.items().len() as u64
+        self.here.position
     }
 
     /// How many items there are.
     fn total(&self) -> u64
         ensures { result ≡ length self.now.run.items }
     {
-        self.schedule.items().len()
+        self.trail.total()
     }
 
     /// The program that runs.
@@ -105,24 +109,14 @@ impl<K: Kind> Session<K> {
         ensures value { result.now ≡ self.now.run.source }
         ensures kind { self.now.run.source.kind ≡ K.TAG }
     {
-        self.record.machine().program()
+        self.here.machine.program()
     }
 
     /// The machine at the position.
     fn machine(&self) -> &Machine<K>
         ensures { result.now ≡ machine_of self.now }
     {
-        self.record.machine()
-    }
-
-    /// The record of the first items, so many of them: the one place where a session runs them again.
-    fn record_at(&self, position: u64) -> Result<Record<K>, AllocError>
-        requires { position ≤ length self.now.run.items }
-        ensures { IfOk result (λ r. r ≡ first_of position self.now.run) }
-    {
-        let mut record = Record::new(self.alloc, self.program(), self.schedule.shape())?;
-        record.apply_first(self.schedule.items(), position)?;
-        Ok(record)
+        &self.here.machine
     }
 
     /// Goes to a position.
@@ -132,15 +126,32 @@ impl<K: Kind> Session<K> {
         ensures reply { IfOk result (λ reply. reply ≡ position_text (at_position position self.old)) }
         ensures unchanged { OnErr result (self.new ≡ self.old) }
     {
-        let record = self.record_at(position)?;
+        self.trail.reach(position)?;
+        self.trail.come_near(&self.here, position)?;
+        let here = self.trail.stand_at(&self.here, position)?;
         let reply = position_reply(self.alloc, position, self.total())?;
-        self.record = record;
+        self.here = here;
+        Ok(reply)
+    }
+
+    /// Goes to the first stop after the position, and to the end where there is none.
+    fn move_on(&mut self) -> Result<Reply, AllocError>
+        ensures moved { let s = self.old in let t = next_stop s.run s.marks s.position (length s.run.items - s.position) in
+            IfOk result (λ reply. self.new ≡ at_position t s) }
+        ensures reply { let s = self.old in let t = next_stop s.run s.marks s.position (length s.run.items - s.position) in
+            IfOk result (λ reply. reply ≡ position_text (at_position t s)) }
+        ensures unchanged { OnErr result (self.new ≡ self.old) }
+    {
+        let stop = next_stop(&mut self.trail, &self.here, &self.marks)?;
+        let reply = position_reply(self.alloc, stop.position, self.total())?;
+        self.here = stop;
         Ok(reply)
     }
 
     /// So many items on, at most to the end.
     fn step(&mut self, count: u64) -> Result<Reply, Fault<CommandRefusal>>
-        ensures { Obeys (λ r. r) result self.old (command.Step count) self.new }
+        ensures obeys { Obeys (λ r. r) result self.old (command.Step count) self.new }
+        ensures refuses { RefusesFirst result self.old (command.Step count) }
     {
         let left = self.total() - self.position();
         let position = self.position() + count.min(left);
@@ -149,7 +160,8 @@ impl<K: Kind> Session<K> {
 
     /// So many items back, at most to the beginning.
     fn back(&mut self, count: u64) -> Result<Reply, Fault<CommandRefusal>>
-        ensures { Obeys (λ r. r) result self.old (command.Back count) self.new }
+        ensures obeys { Obeys (λ r. r) result self.old (command.Back count) self.new }
+        ensures refuses { RefusesFirst result self.old (command.Back count) }
     {
         let position = self.position().saturating_sub(count);
         Ok(self.move_to(position)?)
@@ -157,7 +169,8 @@ impl<K: Kind> Session<K> {
 
     /// To a position, where there is one.
     fn goto(&mut self, position: u64) -> Result<Reply, Fault<CommandRefusal>>
-        ensures { Obeys (λ r. r) result self.old (command.Goto position) self.new }
+        ensures obeys { Obeys (λ r. r) result self.old (command.Goto position) self.new }
+        ensures refuses { RefusesFirst result self.old (command.Goto position) }
     {
         if position > self.total() {
             return Err(Fault::Refused(CommandRefusal::NoSuchPosition));
@@ -165,45 +178,26 @@ impl<K: Kind> Session<K> {
         Ok(self.move_to(position)?)
     }
 
-    /// The first stop after the position, and the end where there is none.
-    fn next_stop(&self) -> Result<u64, AllocError>
-        ensures stop { let s = self.now in IfOk result (λ t. t ≡ next_stop s.run s.marks s.position (length s.run.items - s.position)) }
-        ensures within { IfOk result (λ t. t ≤ length self.now.run.items) }
-    {
-        next_stop::<K>(
-            self.alloc,
-            self.program(),
-            &self.schedule,
-            &self.marks,
-            self.position(),
-        )
-    }
-
     /// The last stop before the position, and 0 where there is none.
     fn last_stop(&self) -> Result<u64, AllocError>
         ensures stop { let s = self.now in IfOk result (λ t. t ≡ last_stop s.run s.marks s.position) }
         ensures within { IfOk result (λ t. t ≤ length self.now.run.items) }
     {
-        last_stop::<K>(
-            self.alloc,
-            self.program(),
-            &self.schedule,
-            &self.marks,
-            self.position(),
-        )
+        last_stop(&self.trail, self.position(), &self.marks)
     }
 
     /// On to the next stop.
     fn run(&mut self) -> Result<Reply, Fault<CommandRefusal>>
-        ensures { Obeys (λ r. r) result self.old command.Run self.new }
+        ensures obeys { Obeys (λ r. r) result self.old command.Run self.new }
+        ensures refuses { RefusesFirst result self.old command.Run }
     {
-        let stop = self.next_stop()?;
-        Ok(self.move_to(stop)?)
+        Ok(self.move_on()?)
     }
 
     /// Back to the last stop.
     fn reverse_run(&mut self) -> Result<Reply, Fault<CommandRefusal>>
-        ensures { Obeys (λ r. r) result self.old command.ReverseRun self.new }
+        ensures obeys { Obeys (λ r. r) result self.old command.ReverseRun self.new }
+        ensures refuses { RefusesFirst result self.old command.ReverseRun }
     {
         let stop = self.last_stop()?;
         Ok(self.move_to(stop)?)
@@ -213,7 +207,7 @@ impl<K: Kind> Session<K> {
     fn process(&self, i: u64) -> Option<u32>
         ensures { result ≡ (if has_process self.now i then Some i else None) }
     {
-        if 0 < i && i <= self.schedule.shape().n() {
+        if 0 < i && i <= u64::from(self.trail.processes()) {
             Some(i as u32)
         } else {
             None
@@ -245,7 +239,8 @@ impl<K: Kind> Session<K> {
 
     /// Sets a breakpoint.
     fn set_break(&mut self, b: Breakpoint) -> Result<Reply, Fault<CommandRefusal>>
-        ensures { Obeys (λ r. r) result self.old (command.Break b) self.new }
+        ensures obeys { Obeys (λ r. r) result self.old (command.Break b) self.new }
+        ensures refuses { RefusesFirst result self.old (command.Break b) }
     {
         self.check_breakpoint(b)?;
         let marks = self.marks.with_break(self.alloc, b)?;
@@ -256,7 +251,8 @@ impl<K: Kind> Session<K> {
 
     /// Takes a breakpoint away.
     fn clear_break(&mut self, b: Breakpoint) -> Result<Reply, Fault<CommandRefusal>>
-        ensures { Obeys (λ r. r) result self.old (command.Clear b) self.new }
+        ensures obeys { Obeys (λ r. r) result self.old (command.Clear b) self.new }
+        ensures refuses { RefusesFirst result self.old (command.Clear b) }
     {
         self.check_breakpoint(b)?;
         let marks = self.marks.without_break(self.alloc, b)?;
@@ -267,7 +263,8 @@ impl<K: Kind> Session<K> {
 
     /// Watches a register.
     fn set_watch(&mut self, a: Address) -> Result<Reply, Fault<CommandRefusal>>
-        ensures { Obeys (λ r. r) result self.old (command.Watch a) self.new }
+        ensures obeys { Obeys (λ r. r) result self.old (command.Watch a) self.new }
+        ensures refuses { RefusesFirst result self.old (command.Watch a) }
     {
         self.check_register(a)?;
         let marks = self.marks.with_watch(self.alloc, a)?;
@@ -278,7 +275,8 @@ impl<K: Kind> Session<K> {
 
     /// Watches a register no more.
     fn clear_watch(&mut self, a: Address) -> Result<Reply, Fault<CommandRefusal>>
-        ensures { Obeys (λ r. r) result self.old (command.Unwatch a) self.new }
+        ensures obeys { Obeys (λ r. r) result self.old (command.Unwatch a) self.new }
+        ensures refuses { RefusesFirst result self.old (command.Unwatch a) }
     {
         self.check_register(a)?;
         let marks = self.marks.without_watch(self.alloc, a)?;
@@ -289,7 +287,8 @@ impl<K: Kind> Session<K> {
 
     /// Shows a register.
     fn show_register(&self, a: Address) -> Result<Reply, Fault<CommandRefusal>>
-        ensures { Obeys (λ r. r) result self.now (command.ShowRegister a) self.now }
+        ensures obeys { Obeys (λ r. r) result self.now (command.ShowRegister a) self.now }
+        ensures refuses { RefusesFirst result self.now (command.ShowRegister a) }
     {
         self.check_register(a)?;
         Ok(register_reply(self.alloc, self.machine(), a)?)
@@ -297,7 +296,8 @@ impl<K: Kind> Session<K> {
 
     /// Shows a process.
     fn show_process(&self, i: u64) -> Result<Reply, Fault<CommandRefusal>>
-        ensures { Obeys (λ r. r) result self.now (command.ShowProcess i) self.now }
+        ensures obeys { Obeys (λ r. r) result self.now (command.ShowProcess i) self.now }
+        ensures refuses { RefusesFirst result self.now (command.ShowProcess i) }
     {
         let Some(i) = self.process(i) else {
             return Err(Fault::Refused(CommandRefusal::NoSuchProcess));
@@ -307,16 +307,18 @@ impl<K: Kind> Session<K> {
 
     /// Shows the values.
     fn show_values(&self) -> Result<Reply, Fault<CommandRefusal>>
-        ensures { Obeys (λ r. r) result self.now command.Values self.now }
+        ensures obeys { Obeys (λ r. r) result self.now command.Values self.now }
+        ensures refuses { RefusesFirst result self.now command.Values }
     {
         Ok(values_reply(self.alloc, self.machine())?)
     }
 
     /// Shows the events up to the position.
     fn show_events(&self) -> Result<Reply, Fault<CommandRefusal>>
-        ensures { Obeys (λ r. r) result self.now command.Events self.now }
+        ensures obeys { Obeys (λ r. r) result self.now command.Events self.now }
+        ensures refuses { RefusesFirst result self.now command.Events }
     {
-        Ok(events_reply(self.alloc, self.record.events())?)
+        Ok(events_reply(self.alloc, self.trail.events(self.position()))?)
     }
 
     /// The last item's process, and what came of it, where there is one.
@@ -327,13 +329,15 @@ impl<K: Kind> Session<K> {
         if position == 0 {
             return Ok(None);
         }
-        let last = outcome_at::<K>(self.alloc, self.program(), &self.schedule, position)?;
+        let mut before = self.trail.stand_at(&self.here, position - 1)?;
+        let last = self.trail.advance(&mut before)?;
         Ok(Some(last))
     }
 
     /// Shows where the session and the processes stand.
     fn show_where(&self) -> Result<Reply, Fault<CommandRefusal>>
-        ensures { Obeys (λ r. r) result self.now command.Where self.now }
+        ensures obeys { Obeys (λ r. r) result self.now command.Where self.now }
+        ensures refuses { RefusesFirst result self.now command.Where }
     {
         let last = self.last()?;
         Ok(where_reply(
@@ -347,7 +351,8 @@ impl<K: Kind> Session<K> {
 
     /// Does a command, and answers it. A command that is refused, and one for which there is no memory, leaves all as it was.
     pub fn command(&mut self, command: &Command) -> Result<Reply, Fault<CommandRefusal>>
-        ensures { Obeys (λ r. r) result self.old command.now self.new }
+        ensures obeys { Obeys (λ r. r) result self.old command.now self.new }
+        ensures refuses { RefusesFirst result self.old command.now }
     {
         match *command {
             Command::Step(count) => self.step(count),
@@ -375,7 +380,7 @@ impl<K: Kind> Session<K> {
         report(
             &mut text,
             self.machine(),
-            self.record.events(),
+            self.trail.events(self.position()),
             self.position(),
             self.total(),
         )?;

@@ -1,39 +1,28 @@
-//! Where marks stop a run, found by two machines that walk along it: one before each item, and one after it.
-ghost use Rattle.std.specs.Prelude.{◌≡◌, ◌<◌, ◌≤◌, ◌+◌, ◌-◌, ◌&&◌, ◌∷◌, ℕ, IfOk, Some, drop, length, nat_eq, not, if◌then◌else◌};
+//! Where marks stop a run, found by machines that walk along it.
+ghost use Rattle.std.specs.Prelude.{◌≡◌, ◌<◌, ◌≤◌, ◌+◌, ◌-◌, IfOk, Some, bytes_eq, length, if◌then◌else◌};
 ghost use Rattle.std.specs.List.{list_any};
 ghost use Rattle.snap_words.specs.Shape.{IsOneOf};
 ghost use Rattle.snap_semantics.specs.State.{process_at};
-ghost use Rattle.snap_semantics.specs.Table.{who};
 ghost use Rattle.snap_machine.specs.Reading.{seen_contents};
-ghost use Rattle.snap_runs.specs.Run.{Run, item, outcome};
 ghost use Rattle.snap_runs.specs.Update.{is_at};
-ghost use Rattle.snap_debug.specs.Marks.{
-  contents_at,
-  is_stop,
-  last_stop,
-  next_stop,
-  same_contents,
-  same_word,
-};
-ghost use Rattle.std.specs.Prelude.{bytes_eq};
-ghost use Rattle.snap_record.specs.Record.{run_over};
-ghost use Rattle.snap_debug.specs.Stops.{AreAt, HasDone, differs, stands_at, stops_between};
+ghost use Rattle.snap_debug.specs.Marks.{is_stop, last_stop, next_stop, same_contents, same_word};
+ghost use Rattle.snap_debug.specs.Stops.{AreAt, differs, or_before, stands_at, stops_between};
+ghost use Rattle.snap_debug.specs.Trail.{StandsAt};
 
 use crate::command::Breakpoint;
 use crate::marks::Marks;
-use snap_code::Program;
+use crate::stand::Stand;
+use crate::trail::Trail;
 use snap_machine::{Contents, Machine};
-use snap_sched::{Cursor, Schedule};
-use snap_semantics::{Item, Outcome, Status};
-use snap_words::{Address, Field, Kind, field_of, hands_of, view_of};
-use std::alloc::{AllocError, Global};
+use snap_semantics::Status;
+use snap_words::{Address, Field, Kind, field_of, same_hands, view_of};
+use std::alloc::AllocError;
 
-/// Two machines that have done the same items, and the items that are to come.
+/// Two machines at one position.
 #[derive(Drop)]
-pub struct Walk<'a, K: Kind> {
-    before: Machine<K>,
-    after: Machine<K>,
-    to_come: Cursor<'a>,
+pub struct Walk<K: Kind> {
+    before: Stand<K>,
+    after: Stand<K>,
 }
 
 /// Whether these are the same numbers.
@@ -51,7 +40,7 @@ fn same_word<K: Kind>(x: &K::Word, y: &K::Word) -> bool
         && field_of::<K>(x, Field::Seq) == field_of::<K>(y, Field::Seq)
         && field_of::<K>(x, Field::Id) == field_of::<K>(y, Field::Id)
         && field_of::<K>(x, Field::Toggle) == field_of::<K>(y, Field::Toggle)
-        && same_numbers(hands_of::<K>(x), hands_of::<K>(y))
+        && same_hands::<K>(x, y)
         && same_numbers(view_of::<K>(x), view_of::<K>(y))
 }
 
@@ -146,167 +135,109 @@ fn stops_between<K: Kind>(before: &Machine<K>, after: &Machine<K>, i: u32, marks
         || any_differs(before, after, marks.watches())
 }
 
-/// The process of an item.
-fn who(item: Item) -> u32
-    ensures { result ≡ who item }
-{
-    match item {
-        Item::Step(i) => i,
-        Item::Call(i, _) => i,
-        Item::Crash(i) => i,
-    }
-}
-
-/// The next of the items to come.
-fn next_item(items: &mut Cursor<'_>) -> Item
-    requires { 0 < length items.old }
-    ensures { items.old ≡ result ∷ items.new }
-{
-    match items.next() {
-        Some(item) => item,
-        None => unreachable!(),
-    }
-}
-
-/// Does the next of the items to come, and answers what came of it.
-fn do_next<K: Kind>(
-    machine: &mut Machine<K>,
-    items: &mut Cursor<'_>,
-) -> Result<(u32, Outcome), AllocError>
-    requires { (r : Run) × (t : ℕ) × HasDone r t machine.old items.old × (t < length r.items) }
-    ensures { (r : Run) (t : ℕ) → HasDone r t machine.old items.old → t < length r.items →
-        IfOk result (λ o. HasDone r (t + 1) machine.new items.new × (o.0 ≡ who (item r (t + 1))) × (o.1 ≡ outcome r (t + 1))) }
-{
-    let item = next_item(items);
-    let outcome = machine.apply(item)?;
-    Ok((who(item), outcome))
-}
-
-/// A machine that has done the first items, and those that are to come.
-fn machine_at<'a, K: Kind>(
-    alloc: Global,
-    program: &Program,
-    schedule: &'a Schedule,
-    position: u64,
-) -> Result<(Machine<K>, Cursor<'a>), AllocError>
-    requires kind { program.now.kind ≡ K.TAG }
-    requires position { position ≤ length schedule.now.items }
-    ensures { IfOk result (λ m. HasDone (run_over program.now schedule.now) position m.0 m.1) }
-{
-    let mut machine = Machine::new(alloc, program, schedule.shape())?;
-    let mut items = schedule.items().iter();
-    for _t in 0..position {
-        let _done = do_next(&mut machine, &mut items)?;
-    }
-    Ok((machine, items))
-}
-
-/// What came of item `t`: its process, and its outcome.
-pub fn outcome_at<K: Kind>(
-    alloc: Global,
-    program: &Program,
-    schedule: &Schedule,
-    t: u64,
-) -> Result<(u32, Outcome), AllocError>
-    requires kind { program.now.kind ≡ K.TAG }
-    requires first { 0 < t }
-    requires last { t ≤ length schedule.now.items }
-    ensures { let r = run_over program.now schedule.now in
-        IfOk result (λ o. (o.0 ≡ who (item r t)) × (o.1 ≡ outcome r t)) }
-{
-    let (mut machine, mut items) = machine_at::<K>(alloc, program, schedule, t - 1)?;
-    do_next(&mut machine, &mut items)
-}
-
-impl<'a, K: Kind> Walk<'a, K> {
-    /// At a position of a schedule.
-    fn new(
-        alloc: Global,
-        program: &Program,
-        schedule: &'a Schedule,
-        position: u64,
-    ) -> Result<Walk<'a, K>, AllocError>
-        requires kind { program.now.kind ≡ K.TAG }
-        requires position { position ≤ length schedule.now.items }
-        ensures { IfOk result (λ w. AreAt (run_over program.now schedule.now) position w) }
+impl<K: Kind> Walk<K> {
+    /// From a stand on.
+    fn new(start: &Stand<K>) -> Result<Walk<K>, AllocError>
+        ensures before { IfOk result (λ w. w.before ≡ start.now) }
+        ensures after { IfOk result (λ w. w.after ≡ start.now) }
     {
-        let (before, to_come) = machine_at::<K>(alloc, program, schedule, position)?;
-        let after = before.copy()?;
         Ok(Walk {
-            before,
-            after,
-            to_come,
+            before: start.copy()?,
+            after: start.copy()?,
         })
     }
 
     /// Does the next item, and answers whether marks stop at it.
-    fn step(&mut self, marks: &Marks) -> Result<bool, AllocError>
-        requires { (r : Run) × (t : ℕ) × AreAt r t self.old × (t < length r.items) }
-        ensures { (r : Run) (t : ℕ) → AreAt r t self.old → t < length r.items →
-            IfOk result (λ stop. AreAt r (t + 1) self.new × (stop ≡ is_stop r marks.now (t + 1))) }
+    fn step(&mut self, trail: &Trail<K>, marks: &Marks) -> Result<bool, AllocError>
+        requires walk { AreAt trail.now.run self.old }
+        requires reached { self.old.before.position < trail.now.reached }
+        ensures walk { IfOk result (λ _. AreAt trail.now.run self.new) }
+        ensures position { IfOk result (λ _. self.new.before.position ≡ self.old.before.position + 1) }
+        ensures stop { IfOk result (λ stop. stop ≡ is_stop trail.now.run marks.now (self.old.before.position + 1)) }
     {
-        let item = next_item(&mut self.to_come);
-        let _outcome = self.after.apply(item)?;
-        let stop = stops_between(&self.before, &self.after, who(item), marks);
-        let _same = self.before.apply(item)?;
+        let (process, _outcome) = trail.advance(&mut self.after)?;
+        let stop = stops_between(&self.before.machine, &self.after.machine, process, marks);
+        let _same = trail.advance(&mut self.before)?;
         Ok(stop)
     }
 }
 
-/// The first stop after a position, and the end where there is none.
+/// A machine at the first stop after a stand, and at the end where there is none. Up to the first stop the watched registers
+/// are as they were at the stand, so that its machine serves as the one before each item.
 pub fn next_stop<K: Kind>(
-    alloc: Global,
-    program: &Program,
-    schedule: &Schedule,
+    trail: &mut Trail<K>,
+    here: &Stand<K>,
     marks: &Marks,
-    position: u64,
-) -> Result<u64, AllocError>
-    requires kind { program.now.kind ≡ K.TAG }
-    requires position { position ≤ length schedule.now.items }
-    ensures { IfOk result (λ t. t ≡ next_stop (run_over program.now schedule.now) marks.now position (length schedule.now.items - position)) }
+) -> Result<Stand<K>, AllocError>
+    requires stands { StandsAt trail.old.run here.now }
+    requires reached { here.now.position ≤ trail.old.reached }
+    ensures run { trail.new.run ≡ trail.old.run }
+    ensures grows { trail.old.reached ≤ trail.new.reached }
+    ensures stands { IfOk result (λ s. StandsAt trail.old.run s) }
+    ensures reached { IfOk result (λ s. s.position ≤ trail.new.reached) }
+    ensures stop { let r = trail.old.run in let t = here.now.position in
+        IfOk result (λ s. s.position ≡ next_stop r marks.now t (length r.items - t)) }
 {
-    let total = schedule.items().len();
+    let total = trail.total();
     if marks.count() == 0 {
-        return Ok(total);
+        trail.reach(total)?;
+        return trail.stand_at(here, total);
     }
-    let mut walk = Walk::<K>::new(alloc, program, schedule, position)?;
-    for t in position..total {
-        if walk.step(marks)? {
-            return Ok(t + 1);
+    let mut stand = here.copy()?;
+    while stand.position < total {
+        trail.reach(stand.position + 1)?;
+        let (process, _outcome) = trail.advance(&mut stand)?;
+        if stops_between(&here.machine, &stand.machine, process, marks) {
+            return Ok(stand);
         }
     }
-    Ok(total)
+    Ok(stand)
 }
 
 /// The position of the later stop.
-fn later(stop: bool, t: u64, last: u64) -> u64
-    ensures { result ≡ (if stop then t else last) }
+fn later(stop: bool, t: u64, last: Option<u64>) -> Option<u64>
+    ensures { result ≡ (if stop then Some t else last) }
 {
-    if stop { t } else { last }
+    if stop { Some(t) } else { last }
 }
 
-/// The last stop before a position, and 0 where there is none.
-pub fn last_stop<K: Kind>(
-    alloc: Global,
-    program: &Program,
-    schedule: &Schedule,
-    marks: &Marks,
+/// The last stop between a stand and a position, where there is one.
+fn last_between<K: Kind>(
+    trail: &Trail<K>,
+    start: &Stand<K>,
     position: u64,
-) -> Result<u64, AllocError>
-    requires kind { program.now.kind ≡ K.TAG }
-    requires position { position ≤ length schedule.now.items }
-    ensures { IfOk result (λ t. t ≡ last_stop (run_over program.now schedule.now) marks.now position) }
+    marks: &Marks,
+) -> Result<Option<u64>, AllocError>
+    requires stands { StandsAt trail.now.run start.now }
+    requires before { start.now.position < position }
+    requires reached { position ≤ trail.now.reached }
+    ensures { let r = trail.now.run in
+        IfOk result (λ last. last_stop r marks.now position ≡ or_before last (last_stop r marks.now (start.now.position + 1))) }
 {
-    if position == 0 {
-        return Ok(0);
+    let mut walk = Walk::new(start)?;
+    let mut last = None;
+    while walk.before.position + 1 < position {
+        let stop = walk.step(trail, marks)?;
+        last = later(stop, walk.before.position, last);
     }
+    Ok(last)
+}
+
+/// The last stop before a position, and 0 where there is none: sought from checkpoint to checkpoint, the last first.
+pub fn last_stop<K: Kind>(trail: &Trail<K>, position: u64, marks: &Marks) -> Result<u64, AllocError>
+    requires { position ≤ trail.now.reached }
+    ensures { IfOk result (λ t. t ≡ last_stop trail.now.run marks.now position) }
+{
     if marks.count() == 0 {
         return Ok(0);
     }
-    let mut walk = Walk::<K>::new(alloc, program, schedule, 0)?;
-    let mut last = 0;
-    for t in 1..position {
-        last = later(walk.step(marks)?, t, last);
+    let mut end = position;
+    while end > 1 {
+        let start = trail.checkpoint(end - 2);
+        if let Some(stop) = last_between(trail, start, end, marks)? {
+            return Ok(stop);
+        }
+        end = start.position + 1;
     }
-    Ok(last)
+    Ok(0)
 }

@@ -1,47 +1,114 @@
-use Rattle.std.proofs.Common.{◌≡◌, ◌+◌, ◌-◌, ◌<◌, ◌≤◌, length, sym, ◌∙◌, ap, arith}
-use Rattle.snap_record.specs.Record.{run_over}
-use Rattle.snap_debug.proofs.Walks.{next_end, next_here, next_later, no_next}
+use Rattle.std.proofs.Common.{◌≡◌, ◌≤◌, ◌<◌, ◌+◌, ◌-◌, length, refl, ap, subst, sym, ◌∙◌, arith}
+use Rattle.std.specs.List.{list_any}
+use Rattle.std.proofs.lemmas.Result.{IfOk-weaker}
+use Rattle.snap_debug.specs.Marks.{next_stop}
+use Rattle.snap_debug.specs.Stops.{differs}
+use Rattle.snap_debug.specs.Trail.{StandsAt}
+use Rattle.snap_debug.proofs.Walks.{no_next, none_differs, walked}
 use Rattle.snap_debug.proofs.stops.next_stop.Goals as goal
 
-pub returns-then-count-eq0 : goal.returns-then-count-eq0
-returns-then-count-eq0 g c =
-    let r = run_over c.args.program.now c.args.schedule.now in
-    let size = c.len-total.ensures ∙ ap length c.items.ensures.items in
-    let within = c.requires.position in
-    let all : c.len-total.result ≡ c.args.position + (length r.items - c.args.position) = omega (arith, size, within) in
-    all ∙ sym (no_next r c.args.marks.now c.args.position (length r.items - c.args.position) (sym c.count.ensures ∙ c.if-count-eq0.true))
+pub returns-then-count-eq0-clause-stop : goal.returns-then-count-eq0-clause-stop
+returns-then-count-eq0-clause-stop g c =
+    let r = c.args.trail.now.run in
+    let t = c.args.here.now.position in
+    let size = c.total-total.ensures in
+    let within = c.requires.stands.within in
+    let all : c.total-total.result ≡ t + (length r.items - t) = omega (arith, size, within) in
+    let none = no_next r c.args.marks.now t (length r.items - t) (sym c.count.ensures ∙ c.if-count-eq0.true) in
+    IfOk-weaker c.stand_at.result _ _ (λ s h. h ∙ all ∙ sym none) c.stand_at.ensures.position
 
-pub loop-t-preserved : goal.loop-t-preserved
-loop-t-preserved g c =
-    let r = run_over c.args.program.now c.args.schedule.now in
-    let t = c.loop-t.t in
-    let size = c.len-total.ensures ∙ ap length c.items.ensures.items in
-    let below = c.loop-t-test.true in
-    let lt : t < length r.items = omega (arith, size, below) in
-    let done = c.in_ok-step.ensures r t c.loop-t.invariant.walk lt in
+pub loop-stand-init : goal.loop-stand-init
+loop-stand-init g c =
+    let r = c.args.trail.now.run in
+    let m = c.args.marks.now in
+    let here = c.args.here.now in
+    let same = c.in_ok-stand.ensures in
     record {
-      walk = done.0;
-      passed = sym (next_later r c.args.marks.now t (length r.items) c.in_ok-step.field-0 lt done.1 c.if-branch.false) ∙ c.loop-t.invariant.passed;
+      run = refl;
+      grows = omega arith;
+      stands = subst (λ s. StandsAt r s) (sym same) c.requires.stands;
+      reached = subst (λ s. s.position ≤ c.args.trail.now.reached) (sym same) c.requires.reached;
+      unchanged = ap (λ s. list_any (differs here.machine.state s.machine.state) m.watches) same ∙ none_differs here.machine.state m.watches;
+      passed = ap (λ s. next_stop r m s.position (length r.items - s.position)) same;
     }
 
-pub returns-then-branch : goal.returns-then-branch
-returns-then-branch g c =
-    let r = run_over c.args.program.now c.args.schedule.now in
-    let t = c.loop-t.t in
-    let size = c.len-total.ensures ∙ ap length c.items.ensures.items in
-    let below = c.loop-t-test.true in
-    let lt : t < length r.items = omega (arith, size, below) in
-    let done = c.in_ok-step.ensures r t c.loop-t.invariant.walk lt in
-    sym (next_here r c.args.marks.now t (length r.items) c.in_ok-step.field-0 lt done.1 c.if-branch.true) ∙ c.loop-t.invariant.passed
+pub returns-then-stops_between-clause-stop : goal.returns-then-stops_between-clause-stop
+returns-then-stops_between-clause-stop g c =
+    let before = c.loop-stand.invariant in
+    let did = c.in_ok-process.ensures in
+    let more = c.in_ok-reach-2.ensures in
+    let size = c.total-total.ensures in
+    let below = c.loop-stand-test.true in
+    let lt : c.loop-stand.stand.position < length c.args.trail.now.run.items = omega (arith, size, below) in
+    let w = walked c.args.trail.now.run c.reach-in-loop-stand.new.self.run c.args.marks.now c.args.here.now c.loop-stand.stand c.advance.new.stand c.in_ok-process.process c.stops_between.result
+    (more.run ∙ before.run) before.stands lt before.unchanged did.stands did.position did.process.0 c.stops_between.ensures in
+    w.here c.if-stops_between.true ∙ before.passed
 
-pub returns : goal.returns
-returns g c =
-    let r = run_over c.args.program.now c.args.schedule.now in
-    let t = c.loop-t.t in
-    let size = c.len-total.ensures ∙ ap length c.items.ensures.items in
-    let past = c.loop-t-test.false in
-    let within = c.requires.position in
-    let end = c.loop-t.auto.t-end in
-    let le : length r.items ≤ t = omega (arith, size, past) in
-    let e : c.len-total.result ≡ t = omega (arith, size, past, within, end) in
-    e ∙ sym (next_end r c.args.marks.now t (length r.items) le) ∙ c.loop-t.invariant.passed
+pub loop-stand-preserved-else-stops_between : goal.loop-stand-preserved-else-stops_between
+loop-stand-preserved-else-stops_between g c =
+    let before = c.loop-stand.invariant in
+    let did = c.in_ok-process.ensures in
+    let more = c.in_ok-reach-2.ensures in
+    let size = c.total-total.ensures in
+    let below = c.loop-stand-test.true in
+    let lt : c.loop-stand.stand.position < length c.args.trail.now.run.items = omega (arith, size, below) in
+    let w = walked c.args.trail.now.run c.reach-in-loop-stand.new.self.run c.args.marks.now c.args.here.now c.loop-stand.stand c.advance.new.stand c.in_ok-process.process c.stops_between.result
+    (more.run ∙ before.run) before.stands lt before.unchanged did.stands did.position did.process.0 c.stops_between.ensures in
+    let at = did.position in
+    let far = more.reached in
+    let start = before.grows in
+    let on = more.grows in
+    record {
+      run = more.run ∙ before.run;
+      grows = omega (arith, start, on);
+      stands = w.stands;
+      reached = omega (arith, at, far);
+      unchanged = w.unchanged c.if-stops_between.false;
+      passed = w.later c.if-stops_between.false ∙ before.passed;
+    }
+
+pub loop-stand-preserved-else-stops_between-2 : goal.loop-stand-preserved-else-stops_between-2
+loop-stand-preserved-else-stops_between-2 g c =
+    let before = c.loop-stand.invariant in
+    let did = c.in_ok-process.ensures in
+    let more = c.in_ok-reach-2.ensures in
+    let size = c.total-total.ensures in
+    let below = c.loop-stand-test.true in
+    let lt : c.loop-stand.stand.position < length c.args.trail.now.run.items = omega (arith, size, below) in
+    let w = walked c.args.trail.now.run c.reach-in-loop-stand.new.self.run c.args.marks.now c.args.here.now c.loop-stand.stand c.advance.new.stand c.in_ok-process.process c.stops_between.result
+    (more.run ∙ before.run) before.stands lt before.unchanged did.stands did.position did.process.0 c.stops_between.ensures in
+    let at = did.position in
+    let far = more.reached in
+    let start = before.grows in
+    let on = more.grows in
+    record {
+      run = more.run ∙ before.run;
+      grows = omega (arith, start, on);
+      stands = w.stands;
+      reached = omega (arith, at, far);
+      unchanged = w.unchanged c.if-stops_between.false;
+      passed = w.later c.if-stops_between.false ∙ before.passed;
+    }
+
+pub loop-stand-preserved : goal.loop-stand-preserved
+loop-stand-preserved g c =
+    let before = c.loop-stand.invariant in
+    let did = c.in_ok-process.ensures in
+    let more = c.in_ok-reach-2.ensures in
+    let size = c.total-total.ensures in
+    let below = c.loop-stand-test.true in
+    let lt : c.loop-stand.stand.position < length c.args.trail.now.run.items = omega (arith, size, below) in
+    let w = walked c.args.trail.now.run c.reach-in-loop-stand.new.self.run c.args.marks.now c.args.here.now c.loop-stand.stand c.advance.new.stand c.in_ok-process.process c.stops_between.result
+    (more.run ∙ before.run) before.stands lt before.unchanged did.stands did.position did.process.0 c.stops_between.ensures in
+    let at = did.position in
+    let far = more.reached in
+    let start = before.grows in
+    let on = more.grows in
+    record {
+      run = more.run ∙ before.run;
+      grows = omega (arith, start, on);
+      stands = w.stands;
+      reached = omega (arith, at, far);
+      unchanged = w.unchanged c.if-stops_between.false;
+      passed = w.later c.if-stops_between.false ∙ before.passed;
+    }

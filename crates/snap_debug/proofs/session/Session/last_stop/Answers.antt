@@ -1,6 +1,5 @@
 use Rattle.std.proofs.Common.{◌≤◌, length, subst, sym}
 use Rattle.std.specs.Prelude.{IfOk}
-use Rattle.snap_record.specs.Record.{run_over}
 use Rattle.snap_debug.specs.Session.{Session}
 use Rattle.snap_debug.proofs.Bounds.{last_found}
 use Rattle.snap_debug.proofs.session.Session.last_stop.Goals as goal
@@ -9,4 +8,4 @@ pub returns-clause-within : goal.returns-clause-within
 returns-clause-within g c =
     let within = subst (λ (s : Session). c.position.result ≤ length s.run.items) (sym c.self.view_is) c.position.ensures.within in
     subst (λ (s : Session). IfOk c.last_stop.result (λ t. t ≤ length s.run.items)) c.self.view_is
-    (last_found (run_over c.program.result.now c.self.inside.schedule) c.self.inside.marks c.position.result c.last_stop.result within c.last_stop.ensures)
+    (last_found c.self.inside.trail.run c.self.inside.marks c.position.result c.last_stop.result within c.last_stop.ensures)

@@ -1,0 +1,373 @@
+//! How far a run was followed: a record of its first items, and machines at some of the positions passed.
+ghost use Rattle.std.specs.Prelude.{◌≡◌, ◌<◌, ◌≤◌, ◌+◌, ◌∷◌, List, drop, length, IfOk, OnErr, OnOk};
+ghost use Rattle.std.specs.List.{AllByRecursion};
+ghost use Rattle.snap_words.specs.Shape.{IsOneOf};
+ghost use Rattle.snap_semantics.specs.Table.{who};
+ghost use Rattle.snap_semantics.specs.declared.process.Item.{Item as Done};
+ghost use Rattle.snap_runs.specs.Run.{Run, item, outcome};
+ghost use Rattle.snap_record.specs.Record.{events_of, run_over};
+ghost use Rattle.snap_debug.specs.Trail.{Follows, IsBegun, StandsAt};
+
+use crate::stand::Stand;
+use snap_code::Program;
+use snap_machine::Machine;
+use snap_record::{Record, RecordFault, who};
+use snap_sched::{Cursor, Schedule};
+use snap_semantics::{Event, Item, Outcome};
+use snap_words::Kind;
+use std::alloc::{AllocError, Global};
+use std::marker::Model;
+
+/// How many items lie between checkpoints, for each process: the larger a machine is, the fewer copies are kept.
+const FAR: u64 = 128;
+
+/// How many items lie between the copies that are kept on the way to a position, for each process.
+const NEAR: u64 = 4;
+
+/// The record of a schedule's first items, as many as were asked for yet, with checkpoints: copies of the machine at the
+/// beginning and at even distances from it. No item is recorded twice. Copies at shorter distances are kept on the way from
+/// one checkpoint to the position that was last gone to from afar.
+#[derive(Drop)]
+pub struct Trail<K: Kind> {
+    schedule: Schedule,
+    history: Record<K>,
+    first: Stand<K>,
+    later: Vec<Stand<K>>,
+    near: Vec<Stand<K>>,
+    alloc: Global,
+}
+
+impl<K: Kind> Model for Trail<K> {
+    ghost use Rattle.std.specs.Prelude.{◌≡◌, length};
+    ghost use Rattle.std.specs.List.{AllByRecursion};
+    ghost use Rattle.snap_record.specs.Record.{run_over};
+    ghost use Rattle.snap_debug.specs.Trail.{IsBegun, StandsAt, Trail as Seen};
+
+    ghost Value = { Seen };
+
+    ghost view = { λ t. record { run = run_over t.history.source t.schedule; reached = length t.history.items } };
+
+    ghost invariant = { λ t. IsBegun (run_over t.history.source t.schedule) t.history
+        × StandsAt (run_over t.history.source t.schedule) t.first
+        × (t.first.position ≡ 0)
+        × AllByRecursion (StandsAt (run_over t.history.source t.schedule)) t.later.items
+        × AllByRecursion (StandsAt (run_over t.history.source t.schedule)) t.near.items };
+}
+
+/// The next of the items to come.
+fn next_item(items: &mut Cursor<'_>) -> Item
+    requires { 0 < length items.old }
+    ensures { items.old ≡ result ∷ items.new }
+{
+    match items.next() {
+        Some(item) => item,
+        None => unreachable!(),
+    }
+}
+
+/// Leaves so many items behind.
+fn skip(items: &mut Cursor<'_>, count: u64)
+    requires { count ≤ length items.old }
+    ensures { items.new ≡ drop count items.old }
+{
+    for _t in 0..count {
+        let _item = next_item(items);
+    }
+}
+
+/// Keeps a copy of the machine, where a checkpoint is due.
+fn keep_checkpoint<K: Kind>(
+    later: &mut Vec<Stand<K>>,
+    history: &Record<K>,
+    spacing: u64,
+) -> Result<(), AllocError>
+    requires { 0 < spacing }
+    ensures { (r : Run) (xs : List Done) → Follows r history.now xs → AllByRecursion (StandsAt r) later.old.items →
+        AllByRecursion (StandsAt r) later.new.items }
+{
+    let position = history.items().len() as u64;
+    if position % spacing == 0 && position / spacing == later.len() as u64 + 1 {
+        let machine = history.machine().copy()?;
+        later.push(Stand { machine, position })?;
+    }
+    Ok(())
+}
+
+/// Keeps a copy of a stand, where it is at an even distance.
+fn keep_near<K: Kind>(
+    near: &mut Vec<Stand<K>>,
+    stand: &Stand<K>,
+    spacing: u64,
+) -> Result<(), AllocError>
+    requires { 0 < spacing }
+    ensures { (r : Run) → StandsAt r stand.now → AllByRecursion (StandsAt r) near.old.items →
+        AllByRecursion (StandsAt r) near.new.items }
+{
+    if stand.position % spacing == 0 {
+        let copy = stand.copy()?;
+        near.push(copy)?;
+    }
+    Ok(())
+}
+
+/// Records the next of the items to come.
+fn record_next<K: Kind>(history: &mut Record<K>, items: &mut Cursor<'_>) -> Result<(), AllocError>
+    requires { (r : Run) × Follows r history.old items.old × (length history.old.items < length r.items) }
+    ensures done { (r : Run) → Follows r history.old items.old → OnOk result (Follows r history.new items.new) }
+    ensures more { OnOk result (length history.new.items ≡ length history.old.items + 1) }
+    ensures unchanged { OnErr result (history.new ≡ history.old) }
+{
+    let item = next_item(items);
+    match history.apply(item) {
+        Ok(_) => Ok(()),
+        Err(RecordFault::Memory) => Err(AllocError),
+        Err(RecordFault::Full) => unreachable!(),
+    }
+}
+
+/// Records so many items more, with the checkpoints on the way. Where there is no memory for one, those before it stay recorded.
+fn record_more<K: Kind>(
+    history: &mut Record<K>,
+    later: &mut Vec<Stand<K>>,
+    items: &mut Cursor<'_>,
+    count: u64,
+    spacing: u64,
+) -> Result<(), AllocError>
+    requires spacing { 0 < spacing }
+    requires items { (r : Run) × Follows r history.old items.old × (length history.old.items + count ≤ length r.items) }
+    ensures begun { (r : Run) → Follows r history.old items.old → AllByRecursion (StandsAt r) later.old.items →
+        IsBegun r history.new × AllByRecursion (StandsAt r) later.new.items }
+    ensures grows { length history.old.items ≤ length history.new.items }
+    ensures done { OnOk result (length history.new.items ≡ length history.old.items + count) }
+{
+    for _t in 0..count {
+        keep_checkpoint(later, history, spacing)?;
+        record_next(history, items)?;
+    }
+    Ok(())
+}
+
+/// How far to go on from what is recorded: to a position, and an eighth further than now, so that going on item by item passes
+/// those before but seldom.
+fn further(reached: u64, position: u64, total: u64) -> u64
+    requires position { position ≤ total }
+    requires reached { reached ≤ total }
+    requires few { total ≤ 1000000 }
+    ensures least { position ≤ result }
+    ensures most { result ≤ total }
+{
+    position.max(reached + reached / 8).min(total)
+}
+
+/// The events of the first items, so many of them.
+fn events_until(events: &[Event], position: u64) -> &[Event]
+    ensures { (r : Run) → events.now ≡ events_of r (length r.items) → result.now ≡ events_of r position }
+{
+    let mut k = 0;
+    while k < events.len() {
+        if events[k].item > position {
+            return &events[..k];
+        }
+        k += 1;
+    }
+    events
+}
+
+impl<K: Kind> Trail<K> {
+    /// Before the first item of a schedule.
+    pub fn new(alloc: Global, program: &Program, schedule: Schedule) -> Result<Trail<K>, AllocError>
+        requires { program.now.kind ≡ K.TAG }
+        ensures { IfOk result (λ t. t ≡ record { run = run_over program.now schedule; reached = 0 }) }
+    {
+        let shape = schedule.shape();
+        Ok(Trail {
+            schedule,
+            history: Record::new(alloc, program, shape)?,
+            first: Stand {
+                machine: Machine::new(alloc, program, shape)?,
+                position: 0,
+            },
+            later: Vec::new(alloc),
+            near: Vec::new(alloc),
+            alloc,
+        })
+    }
+
+    /// How many items there are.
+    pub fn total(&self) -> u64
+        ensures { result ≡ length self.now.run.items }
+    {
+        self.schedule.items().len()
+    }
+
+    /// How many of them are recorded.
+    fn reached(&self) -> u64
+        ensures reached { result ≡ self.now.reached }
+        ensures within { result ≤ length self.now.run.items }
+    {
+        self.history.items().len() as u64
+    }
+
+    /// How many processes there are.
+    pub fn processes(&self) -> u32
+        ensures count { result ≡ self.now.run.shape.n }
+        ensures some { 0 < result }
+        ensures few { result ≤ 64 }
+    {
+        self.schedule.shape().process_count()
+    }
+
+    /// Goes on until so many items are recorded, or more.
+    pub fn reach(&mut self, position: u64) -> Result<(), AllocError>
+        requires { position ≤ length self.old.run.items }
+        ensures run { self.new.run ≡ self.old.run }
+        ensures grows { self.old.reached ≤ self.new.reached }
+        ensures reached { OnOk result (position ≤ self.new.reached) }
+    {
+        let reached = self.reached();
+        if position <= reached {
+            return Ok(());
+        }
+        let count = further(reached, position, self.total()) - reached;
+        let spacing = u64::from(self.processes()) * FAR;
+        let mut items = self.schedule.items().iter();
+        skip(&mut items, reached);
+        record_more(
+            &mut self.history,
+            &mut self.later,
+            &mut items,
+            count,
+            spacing,
+        )
+    }
+
+    /// The item behind the first `t`.
+    fn item(&self, t: u64) -> Item
+        requires { t < self.now.reached }
+        ensures item { result ≡ item self.now.run (t + 1) }
+        ensures process { IsOneOf self.now.run.shape.n (who result) }
+        ensures within { t < length self.now.run.items }
+        ensures few { t < 1000000 }
+    {
+        let items = self.history.items();
+        match items.item(t + 1) {
+            Some(item) => item,
+            None => unreachable!(),
+        }
+    }
+
+    /// Does the next item at a stand, and answers what came of it: its process, and its outcome.
+    pub fn advance(&self, stand: &mut Stand<K>) -> Result<(u32, Outcome), AllocError>
+        requires stands { StandsAt self.now.run stand.old }
+        requires reached { stand.old.position < self.now.reached }
+        ensures stands { IfOk result (λ _. StandsAt self.now.run stand.new) }
+        ensures position { IfOk result (λ _. stand.new.position ≡ stand.old.position + 1) }
+        ensures process { let r = self.now.run in
+            IfOk result (λ o. (o.0 ≡ who (item r (stand.old.position + 1))) × IsOneOf r.shape.n o.0) }
+        ensures outcome { IfOk result (λ o. o.1 ≡ outcome self.now.run (stand.old.position + 1)) }
+    {
+        let item = self.item(stand.position);
+        let outcome = stand.machine.apply(item)?;
+        stand.position += 1;
+        Ok((who(item), outcome))
+    }
+
+    /// The last checkpoint that is not behind a position.
+    pub fn checkpoint(&self, position: u64) -> &Stand<K>
+        ensures stands { StandsAt self.now.run result.now }
+        ensures before { result.now.position ≤ position }
+    {
+        let spacing = u64::from(self.processes()) * FAR;
+        let k = (position / spacing).min(self.later.len() as u64);
+        if k > 0 {
+            let stand = &self.later[(k - 1) as usize];
+            if stand.position <= position {
+                return stand;
+            }
+        }
+        &self.first
+    }
+
+    /// The last near copy that is not behind a position, or the last checkpoint where it is later.
+    fn copy_before(&self, position: u64) -> &Stand<K>
+        ensures stands { StandsAt self.now.run result.now }
+        ensures before { result.now.position ≤ position }
+    {
+        let checkpoint = self.checkpoint(position);
+        if self.near.is_empty() {
+            return checkpoint;
+        }
+        let spacing = u64::from(self.processes()) * NEAR;
+        let k = position.saturating_sub(self.near[0].position) / spacing;
+        let stand = &self.near[k.min(self.near.len() as u64 - 1) as usize];
+        if checkpoint.position < stand.position && stand.position <= position {
+            stand
+        } else {
+            checkpoint
+        }
+    }
+
+    /// The nearer of a stand and the copies, none of them behind a position.
+    fn nearest<'a>(&'a self, here: &'a Stand<K>, position: u64) -> &'a Stand<K>
+        requires { StandsAt self.now.run here.now }
+        ensures stands { StandsAt self.now.run result.now }
+        ensures before { result.now.position ≤ position }
+    {
+        let copy = self.copy_before(position);
+        if copy.position < here.position && here.position <= position {
+            here
+        } else {
+            copy
+        }
+    }
+
+    /// Copies on the way from the last checkpoint to a position.
+    fn copies_to(&self, position: u64) -> Result<Vec<Stand<K>>, AllocError>
+        requires { position ≤ self.now.reached }
+        ensures { IfOk result (λ near. AllByRecursion (StandsAt self.now.run) near.items) }
+    {
+        let spacing = u64::from(self.processes()) * NEAR;
+        let mut stand = self.checkpoint(position).copy()?;
+        let mut near = Vec::new(self.alloc);
+        while stand.position < position {
+            keep_near(&mut near, &stand, spacing)?;
+            let _done = self.advance(&mut stand)?;
+        }
+        Ok(near)
+    }
+
+    /// Keeps copies on the way to a position, where a stand and those that are kept are far from it.
+    pub fn come_near(&mut self, here: &Stand<K>, position: u64) -> Result<(), AllocError>
+        requires stands { StandsAt self.old.run here.now }
+        requires reached { position ≤ self.old.reached }
+        ensures { self.new ≡ self.old }
+    {
+        let start = self.nearest(here, position).position;
+        if position - start > u64::from(self.processes()) * NEAR {
+            self.near = self.copies_to(position)?;
+        }
+        Ok(())
+    }
+
+    /// A machine at a position, from a stand or from the last copy.
+    pub fn stand_at(&self, here: &Stand<K>, position: u64) -> Result<Stand<K>, AllocError>
+        requires stands { StandsAt self.now.run here.now }
+        requires reached { position ≤ self.now.reached }
+        ensures stands { IfOk result (λ s. StandsAt self.now.run s) }
+        ensures position { IfOk result (λ s. s.position ≡ position) }
+    {
+        let mut stand = self.nearest(here, position).copy()?;
+        while stand.position < position {
+            let _done = self.advance(&mut stand)?;
+        }
+        Ok(stand)
+    }
+
+    /// What callers saw of the first items, so many of them.
+    pub fn events(&self, position: u64) -> &[Event]
+        requires { position ≤ self.now.reached }
+        ensures { result.now ≡ events_of self.now.run position }
+    {
+        events_until(self.history.events(), position)
+    }
+}

@@ -46,8 +46,10 @@ pub fn batch(
 ) -> Result<Vec<Report>, AllocError>
     ensures { IfOk result (λ reports. reports.items ≡ map (end_report program.now) schedules.now) }
 {
+    // Each schedule is worth a thread; a chain of rayon's runs in one thread where it is short, unless it is told so.
     let reports: Result<Vec<Report>, AllocError> = schedules
         .par_iter()
+        .with_min_len(1)
         .map(
             |schedule: &Schedule| -> Result<Report, AllocError>
                 ensures { IfOk result (λ report. report ≡ end_report program.entry.now schedule.now) }

@@ -1,4 +1,5 @@
 use Rattle.std.proofs.Common.{◌∙◌, ap}
+use Rattle.rayon.specs.Lists.{min_len_base}
 use Rattle.snap_batch.specs.Reports.{end_report}
 use Rattle.snap_batch.proofs.Orders.{side_by_side}
 use Rattle.snap_batch.proofs.batch.Goals as goal
@@ -6,5 +7,6 @@ use Rattle.snap_batch.proofs.batch.Goals as goal
 pub returns : goal.returns
 returns g c =
     let h = c.in_ok-reports.ensures in
+    let base = ap min_len_base c.map.ensures.base ∙ c.with_min_len.ensures.base in
     side_by_side end_report c.map.result.f.1.now c.args.program.now (ap (λ f. f.1.now) c.map.ensures.f) h.1.0 c.args.schedules.now
-    (h.1.1 ∙ (ap (λ it. it.slice.now) c.map.ensures.base ∙ c.par_iter.ensures)) h.0 c.in_ok-reports.reports h.1.2 h.2
+    (h.1.1 ∙ (ap (λ it. it.slice.now) base ∙ c.par_iter.ensures)) h.0 c.in_ok-reports.reports h.1.2 h.2

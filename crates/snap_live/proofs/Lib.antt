@@ -1,0 +1,11 @@
+pub mod Lists
+pub mod Runs
+pub mod Parts
+pub mod Moves
+pub mod Joins
+pub mod Opening
+pub mod Ends
+pub mod Handles
+pub mod Gathered
+pub mod Plays
+pub mod Crew

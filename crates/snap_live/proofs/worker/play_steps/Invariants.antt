@@ -1,0 +1,14 @@
+use Rattle.std.proofs.Common.{◌≡◌, ◌+◌, length, drop}
+use Rattle.snap_semantics.specs.declared.process.Item.TheVariants.{Step}
+use Rattle.snap_live.specs.Play.{Leaves, busy}
+use Rattle.snap_live.specs.Worker.{Kept}
+use Rattle.snap_live.proofs.worker.play_steps.Given as goal
+
+abbrev pub invariant-loop-turn : goal.invariant-loop-turn
+invariant-loop-turn g l = record {
+  kept : Kept l.desk l.initial.seat.process l.limit l.seat l.turns.items;
+  plays : Leaves l.script l.seat.own (busy (drop (l.at + 1) l.script.operations));
+  asked : l.seat.asked ≡ length l.seat.own;
+  turn : l._turn ≡ l.seat.asked;
+  step : l.step ≡ Step l.initial.seat.process;
+}

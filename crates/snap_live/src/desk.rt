@@ -1,0 +1,82 @@
+//! A desk: one record that threads share.
+ghost use Rattle.std.specs.Prelude.{◌≡◌, ◌+◌, ◌≤◌, [], IfOk};
+ghost use Rattle.snap_live.specs.Seats.{IsSeatOf, IsSame};
+ghost use Rattle.snap_live.specs.Seen.{opener};
+ghost use Rattle.snap_live.specs.Shown.{seat_of, seats_of};
+
+use crate::known::Known;
+use crate::order::{Key, Order};
+use crate::seat::Seat;
+use crate::steps::{Board, Hand, name, split};
+use atomic_table::{Refused, Table};
+use snap_code::Program;
+use snap_record::Record;
+use snap_words::{Kind, Shape};
+use std::alloc::{AllocError, Global};
+use std::marker::Model;
+use std::snapshot::Snapshot;
+
+/// What threads share: the record lies in the one slot of a table, and seats take it out in the order of their tickets.
+#[derive(Drop)]
+pub struct Desk<K: Kind> {
+    pub(crate) table: Table<Option<Record<K>>, Known, Key<K>, Order, Global>,
+    pub(crate) count: u32,
+}
+
+impl<K: Kind> Model for Desk<K> {
+    ghost use Rattle.std.specs.Prelude.{◌≡◌, ◌<◌};
+    ghost use Rattle.snap_live.specs.Shown.{DeskView};
+    ghost use Rattle.snap_live.specs.Turns.{setting_of};
+
+    ghost Value = { DeskView };
+
+    ghost view = { λ d. record { id = d.table.shared.table_id; base = setting_of d.table.shared.key.value } };
+
+    ghost invariant = { λ d. (d.table.shared.table_id.words ≡ 4) × (d.table.shared.table_id.slots ≡ 1) × (d.count ≡ d.table.shared.key.value.shape.n) × (0 < d.count) };
+}
+
+/// A desk before the first item of a program over a shape, with a seat for each process.
+pub fn open<K: Kind>(
+    alloc: Global,
+    program: &Program,
+    shape: Shape,
+) -> Result<(Desk<K>, Vec<Seat<K>>), AllocError>
+    requires { program.now.kind ≡ K.TAG }
+    ensures desk { IfOk result (λ r. r.0.base ≡ record { source = program.now; shape = shape }) }
+    ensures seats { IfOk result (λ r. r.1.items ≡ seats_of r.0 shape.n) }
+{
+    let mut slots = Vec::with_capacity(alloc, 1)?;
+    let first = Record::new(alloc, program, shape)?;
+    let about = Snapshot::of(&first);
+    slots.push_reserved(Some(first));
+    let count = shape.n() as u32;
+    let mut seats = Vec::with_capacity(alloc, count as usize)?;
+    let (table, mut opener) = match Table::new(alloc, &[0, 0, 0, 0], slots, &about) {
+        Ok(made) => made,
+        Err(Refused { slots: _ }) => return Err(AllocError),
+    };
+    for i in 0..count {
+        let (seat, next) = seat_next(&table.shared, opener, i + 1);
+        seats.push_reserved(seat);
+        opener = next;
+    }
+    Ok((Desk { table, count }, seats))
+}
+
+/// The seat of the next process, and the one that may name after it.
+fn seat_next<K: Kind>(board: &Board<K>, mut hand: Hand<K>, process: u32) -> (Seat<K>, Hand<K>)
+    requires board { IsSeatOf board.now.table_id hand.table_id }
+    requires opener { (hand.me ≡ (opener hand.me.0.base hand.me.0.named, [])) × (process ≡ hand.me.0.named + 1) × (process ≤ hand.me.0.base.shape.n) }
+    ensures seat { result.0 ≡ seat_of (record { id = hand.table_id; base = hand.me.0.base }) process }
+    ensures next { IsSame hand.table_id result.1.table_id × (result.1.me ≡ (opener hand.me.0.base process, [])) }
+{
+    name(board, &mut hand);
+    let next = split(board, &mut hand);
+    let seat = Seat {
+        hand,
+        process,
+        asked: 0,
+        seen: 0,
+    };
+    (seat, next)
+}

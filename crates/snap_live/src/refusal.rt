@@ -1,0 +1,20 @@
+//! Why a live call is refused.
+use snap_semantics::Fault;
+use thiserror::Error;
+
+/// Why a live call is refused.
+#[derive(Clone, Copy, Debug, PartialEq, Eq, Error)]
+pub enum LiveRefusal {
+    /// So many items are kept, the most that may be.
+    #[error("V1 Full {0}")]
+    Full(u64),
+    /// The gate did not let this process on, or its script was not done after as many turns as it had.
+    #[error("V2 TurnLimit {0}")]
+    TurnLimit(u32),
+    /// The least process whose seat was not handed in.
+    #[error("V3 SeatMissing {0}")]
+    SeatMissing(u32),
+}
+
+/// Why a live call gave no answer: memory ran out, or it is refused.
+pub type LiveFault = Fault<LiveRefusal>;

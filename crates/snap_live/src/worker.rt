@@ -1,0 +1,243 @@
+//! How a worker plays its script at a desk.
+ghost use Rattle.std.specs.Prelude.{◌≡◌, ◌+◌, ◌^◌, ◌<◌, ◌≤◌, [], true, length, drop, IfOk, IfErr};
+ghost use Rattle.snap_semantics.specs.Table.{who};
+ghost use Rattle.snap_live.specs.Shown.{seat_of};
+ghost use Rattle.snap_live.specs.Script.{crashes_behind};
+ghost use Rattle.snap_live.specs.Play.{Leaves, rest, busy, over, IsPlay, IsBegun};
+ghost use Rattle.snap_live.specs.Sequels.{sequel_of};
+ghost use Rattle.snap_live.specs.Worker.{Kept, Made, NoFurther, Stopped, after_operation, IsWorked};
+
+use crate::desk::Desk;
+use crate::gate::Gate;
+use crate::seat::{Seat, Turn};
+use snap_sched::Script;
+use snap_semantics::{Fault, Item, Outcome};
+use snap_words::Kind;
+use std::alloc::Global;
+use std::marker::Model;
+use std::sync::Wait;
+
+/// Why a worker stops before the end of its script.
+#[derive(Clone, Copy)]
+pub(crate) enum Stop {
+    Memory,
+    Full,
+    TurnLimit,
+}
+
+/// What a worker hands back.
+#[derive(Drop)]
+pub(crate) struct Worked<K: Kind> {
+    pub(crate) seat: Seat<K>,
+    pub(crate) turns: Vec<Turn>,
+    pub(crate) stop: Option<Stop>,
+}
+
+impl<K: Kind> Model for Worked<K> {
+    ghost use Rattle.snap_live.specs.Worker.{WorkedView};
+
+    ghost Value = { WorkedView };
+
+    ghost view = { λ w. record { seat = w.seat; turns = w.turns.items; stop = w.stop } };
+}
+
+/// What an outcome means for the rest of a script.
+#[derive(Clone, Copy)]
+enum Sequel {
+    Goes,
+    Ended,
+    Trapped,
+    Skipped,
+}
+
+/// What an outcome means for the rest of a script.
+fn sequel_of(outcome: &Outcome) -> Sequel
+    ensures { result ≡ sequel_of outcome.now }
+{
+    match outcome {
+        Outcome::Called => Sequel::Goes,
+        Outcome::Stepped => Sequel::Goes,
+        Outcome::Answered(_) => Sequel::Ended,
+        Outcome::Finished => Sequel::Ended,
+        Outcome::Trapped(_) => Sequel::Trapped,
+        Outcome::Crashed => Sequel::Goes,
+        Outcome::Skipped(_) => Sequel::Skipped,
+    }
+}
+
+/// Whether the crash comes at the next turn.
+fn crashes_now<K: Kind>(script: &Script, seat: &Seat<K>) -> bool
+    requires { seat.now.asked < 2 ^ 32 }
+    ensures { result ≡ crashes_behind script.now.crash seat.now.asked }
+{
+    match script.crash() {
+        Some(turn) => turn == seat.asked() + 1,
+        None => false,
+    }
+}
+
+/// A turn, if the gate lets the process on.
+fn play_turn<K: Kind, G: Gate, R: Wait>(
+    rt: &R,
+    desk: &Desk<K>,
+    seat: &mut Seat<K>,
+    turns: &mut Vec<Turn>,
+    item: Item,
+    limit: u64,
+    gate: &G,
+) -> Result<Sequel, Stop>
+    requires kept { Kept desk.now seat.old.process limit seat.old turns.old.items }
+    requires mine { who item ≡ seat.old.process }
+    requires room { (seat.old.asked ≡ length seat.old.own) × (seat.old.asked < limit) × (limit ≤ 1000000) }
+    ensures kept { Kept desk.now seat.old.process limit seat.new turns.new.items }
+    ensures made { IfOk result (λ m. Made seat.old seat.new item m) }
+    ensures stopped { IfErr result (λ f. (seat.new.own ≡ seat.old.own) × NoFurther (G.may_refuse gate.now) limit seat.new f) }
+{
+    let process = seat.process();
+    let turn = seat.asked() + 1;
+    if !gate.enter(process, turn) {
+        return Err(Stop::TurnLimit);
+    }
+    if turns.reserve(1).is_err() {
+        return Err(Stop::Memory);
+    }
+    match seat.turn(rt, desk, item) {
+        Ok(turn) => {
+            let sequel = sequel_of(&turn.outcome);
+            turns.push_reserved(turn);
+            Ok(sequel)
+        }
+        Err(Fault::Refused(_)) => Err(Stop::Full),
+        Err(Fault::Memory) => Err(Stop::Memory),
+    }
+}
+
+/// The crash, at its turn.
+fn play_crash<K: Kind, G: Gate, R: Wait>(
+    rt: &R,
+    desk: &Desk<K>,
+    seat: &mut Seat<K>,
+    turns: &mut Vec<Turn>,
+    script: &Script,
+    limit: u64,
+    gate: &G,
+) -> Result<(), Stop>
+    requires kept { Kept desk.now seat.old.process limit seat.old turns.old.items }
+    requires plays { IsBegun script.now seat.old.own × (crashes_behind script.now.crash seat.old.asked ≡ true) }
+    requires room { (seat.old.asked ≡ length seat.old.own) × (seat.old.asked < limit) × (limit ≤ 1000000) }
+    ensures kept { Kept desk.now seat.old.process limit seat.new turns.new.items }
+    ensures played { IfOk result (λ _. (seat.new.asked ≡ length seat.new.own) × Leaves script.now seat.new.own over) }
+    ensures stopped { IfErr result (λ f. Stopped (G.may_refuse gate.now) script.now limit seat.new f) }
+{
+    let crash = Item::Crash(seat.process());
+    play_turn(rt, desk, seat, turns, crash, limit, gate)?;
+    Ok(())
+}
+
+/// Steps up to the end of the operation that was called last. True where nothing follows it.
+fn play_steps<K: Kind, G: Gate, R: Wait>(
+    rt: &R,
+    desk: &Desk<K>,
+    seat: &mut Seat<K>,
+    turns: &mut Vec<Turn>,
+    script: &Script,
+    at: usize,
+    limit: u64,
+    gate: &G,
+) -> Result<bool, Stop>
+    requires kept { Kept desk.now seat.old.process limit seat.old turns.old.items }
+    requires plays { Leaves script.now seat.old.own (busy (drop (at + 1) script.now.operations)) }
+    requires room { (seat.old.asked ≡ length seat.old.own) × (limit ≤ 1000000) }
+    ensures kept { Kept desk.now seat.old.process limit seat.new turns.new.items }
+    ensures played { IfOk result (λ t. (seat.new.asked ≡ length seat.new.own) × Leaves script.now seat.new.own (after_operation t (drop (at + 1) script.now.operations))) }
+    ensures stopped { IfErr result (λ f. Stopped (G.may_refuse gate.now) script.now limit seat.new f) }
+{
+    let step = Item::Step(seat.process());
+    for _turn in seat.asked()..limit {
+        if crashes_now(script, seat) {
+            play_crash(rt, desk, seat, turns, script, limit, gate)?;
+            return Ok(true);
+        }
+        match play_turn(rt, desk, seat, turns, step, limit, gate)? {
+            Sequel::Ended => return Ok(false),
+            Sequel::Trapped => return Ok(true),
+            Sequel::Goes => (),
+            Sequel::Skipped => (),
+        }
+    }
+    Err(Stop::TurnLimit)
+}
+
+/// The operation at this place of the script. True where nothing follows it.
+fn play_operation<K: Kind, G: Gate, R: Wait>(
+    rt: &R,
+    desk: &Desk<K>,
+    seat: &mut Seat<K>,
+    turns: &mut Vec<Turn>,
+    script: &Script,
+    at: usize,
+    limit: u64,
+    gate: &G,
+) -> Result<bool, Stop>
+    requires kept { Kept desk.now seat.old.process limit seat.old turns.old.items }
+    requires plays { (at < length script.now.operations) × Leaves script.now seat.old.own (rest (drop at script.now.operations)) }
+    requires room { (seat.old.asked ≡ length seat.old.own) × (limit ≤ 1000000) }
+    ensures kept { Kept desk.now seat.old.process limit seat.new turns.new.items }
+    ensures played { IfOk result (λ t. (seat.new.asked ≡ length seat.new.own) × Leaves script.now seat.new.own (after_operation t (drop (at + 1) script.now.operations))) }
+    ensures stopped { IfErr result (λ f. Stopped (G.may_refuse gate.now) script.now limit seat.new f) }
+{
+    if seat.asked() >= limit {
+        return Err(Stop::TurnLimit);
+    }
+    if crashes_now(script, seat) {
+        play_crash(rt, desk, seat, turns, script, limit, gate)?;
+        return Ok(true);
+    }
+    let call = Item::Call(seat.process(), script.operations()[at]);
+    match play_turn(rt, desk, seat, turns, call, limit, gate)? {
+        Sequel::Skipped => Ok(false),
+        _ => play_steps(rt, desk, seat, turns, script, at, limit, gate),
+    }
+}
+
+/// The whole script.
+fn play<K: Kind, G: Gate, R: Wait>(
+    rt: &R,
+    desk: &Desk<K>,
+    seat: &mut Seat<K>,
+    turns: &mut Vec<Turn>,
+    script: &Script,
+    limit: u64,
+    gate: &G,
+) -> Result<(), Stop>
+    requires kept { Kept desk.now seat.old.process limit seat.old turns.old.items }
+    requires fresh { (seat.old.own ≡ []) × (seat.old.asked ≡ 0) × (limit ≤ 1000000) }
+    ensures kept { Kept desk.now seat.old.process limit seat.new turns.new.items }
+    ensures played { IfOk result (λ _. IsPlay script.now seat.new.own) }
+    ensures stopped { IfErr result (λ f. Stopped (G.may_refuse gate.now) script.now limit seat.new f) }
+{
+    for at in 0..script.operations().len() {
+        if play_operation(rt, desk, seat, turns, script, at, limit, gate)? {
+            return Ok(());
+        }
+    }
+    Ok(())
+}
+
+/// The worker of one seat.
+pub(crate) fn work<K: Kind, G: Gate, R: Wait>(
+    rt: &R,
+    alloc: Global,
+    desk: &Desk<K>,
+    mut seat: Seat<K>,
+    script: &Script,
+    limit: u64,
+    gate: &G,
+) -> Worked<K>
+    requires { (seat ≡ seat_of desk.now seat.process) × (limit ≤ 1000000) }
+    ensures { IsWorked (G.may_refuse gate.now) desk.now seat.process script.now limit result }
+{
+    let mut turns = Vec::new(alloc);
+    let stop = play(rt, desk, &mut seat, &mut turns, script, limit, gate).err();
+    Worked { seat, turns, stop }
+}

@@ -1,4 +1,2 @@
-pub mod Loads
-pub mod Splits
 pub mod Shipping
-pub mod Parting
+pub mod Schedules

@@ -1,19 +1,18 @@
 -- What is written with a shipped listing, taken apart.
-use Rattle.std.proofs.Common.{◌≡◌, ℕ, Bool, true, false, if◌then◌else◌, List, [], ◌∷◌, Result, Ok, Err, length, nat_lt, refl, sym, ◌∙◌, ap, subst}
+use Rattle.std.proofs.Common.{◌≡◌, ℕ, true, List, [], ◌∷◌, Ok, length, nat_lt, refl, subst}
 use Rattle.std.specs.Prelude.{codes}
 use Rattle.snap_words.specs.Kind.{fits}
 use Rattle.snap_words.specs.declared.shape.WordFault.TheVariants.{BadShape}
 use Rattle.snap_words.specs.declared.kind.KindTag.{KindTag}
 use Rattle.snap_words.specs.declared.kind.KindTag.TheVariants as kind
-use Rattle.snap_semantics.specs.Answers.{◌>>=◌, refused_as}
+use Rattle.snap_semantics.specs.Answers.{refused_as}
 use Rattle.snap_semantics.specs.Assembly.{assembled}
+use Rattle.snap_semantics.specs.Comments.{commented_of}
 use Rattle.snap_semantics.specs.Image.{image_of}
 use Rattle.snap_semantics.specs.Listing.{listing_of}
 use Rattle.snap_semantics.specs.Schedule.{Schedule, schedule_of}
 use Rattle.snap_semantics.specs.ScheduleText.{IsSchedule}
 use Rattle.snap_semantics.specs.Source.{Source}
-use Rattle.snap_semantics.specs.declared.refusal.ListingRefusal.{ListingRefusal}
-use Rattle.snap_semantics.specs.declared.refusal.Refusal.{Refusal}
 use Rattle.snap_semantics.specs.declared.refusal.Refusal.TheVariants as refusal
 use Rattle.snap_asm.specs.Laws.{ListsBack}
 use Rattle.snap_sched.specs.Laws.{ReadsOnlySpelled}
@@ -29,11 +28,14 @@ use Rattle.snap_debug.specs.Commands.{commands_of}
 use Rattle.snap_debug.specs.Session.{performance}
 use Rattle.snap_debug.specs.declared.command.Command.{Command}
 use Rattle.snap_debug.specs.declared.command.Command.TheVariants as command
+use Rattle.snap_input.proofs.Answered.{both, not_refused, passed, same_answer, within}
+use Rattle.snap_input.proofs.Parting.{of_texts}
 use Rattle.snap_output.specs.Headline.{PrintsTheRun, ListsBackAsSource, ShippedRun, WritesShippedRuns}
-use Rattle.snap_output.specs.Output.{audit_listing, checked_parts, of_task, output_of, parted, shipped}
-use Rattle.snap_output.specs.Parts.{part, parts_of}
+use Rattle.snap_input.specs.Input.{shipped}
+use Rattle.snap_output.specs.Output.{audit_listing, of_task, output_of}
+use Rattle.snap_input.specs.Parts.{part, parts_of}
 use Rattle.snap_output.specs.Perform.{fitting, perform_listing, perform_of, schedule_for}
-use Rattle.snap_output.specs.declared.task.Subject.TheVariants.{Shipped}
+use Rattle.snap_input.specs.declared.subject.Subject.TheVariants.{Shipped}
 use Rattle.snap_output.specs.declared.task.Task.{Task}
 use Rattle.snap_output.specs.declared.task.Task.TheVariants as task
 
@@ -41,44 +43,16 @@ pub prints_the_run : PrintsTheRun
 unfolding perform_of perform_listing schedule_for
 prints_the_run x y z l s cs is_listing is_schedule fit are_commands = rw (is_listing, is_schedule, fit, are_commands) refl
 
--- the listing of a text that is assembled
-listing_from : (answer : Result Source ListingRefusal) (image : List ℕ) → (answer >>= λ l. Ok (image_of l)) ≡ Ok image → (l : Source) × (answer ≡ Ok l)
-listing_from (Ok l) image e = (l, refl)
-listing_from (Err r) image e = absurd cc
-
 pub lists_back : ListsBack → ListsBackAsSource
 unfolding assembled
-lists_back law x image e = let from = listing_from (listing_of x) image e in (from.0, from.1, (law x image from.0 from.1 e).0)
-
--- both steps of two succeed
-module _ {A B E : Type 0} where
-  both : (first : Result A E) (second : A → Result B E) (found : B) → (first >>= second) ≡ Ok found → (x : A) × (first ≡ Ok x) × (second x ≡ Ok found)
-  both (Ok x) second found e = (x, refl, e)
-  both (Err r) second found e = absurd cc
-
--- what is not refused was found
-not_refused : {A E F : Type 0} (f : E → F) (answer : Result A E) (found : A) → refused_as f answer ≡ Ok found → answer ≡ Ok found
-not_refused f (Ok x) found e = cc
-not_refused f (Err r) found e = absurd cc
-
-within : (over : Bool) (r : Refusal) (answer : Result (List ℕ) Refusal) (text : List ℕ) → (if over then Err r else answer) ≡ Ok text → answer ≡ Ok text
-within true r answer text e = absurd cc
-within false r answer text e = e
-
-fits_from : (fit : Bool) (s found : Schedule) → (if fit then Ok s else Err (refusal.Words BadShape)) ≡ Ok found → (fit ≡ true) × (s ≡ found)
-fits_from true s found e = (refl, cc)
-fits_from false s found e = absurd cc
-
--- two answers are one
-told : {A E : Type 0} (answer : Result A E) (x y : A) → answer ≡ Ok x → answer ≡ Ok y → y ≡ x
-told answer x y is_x is_y = cc
+lists_back law x image e = let from = both (commented_of x) (λ l. Ok (image_of l)) image e in (from.0, from.1, (law x image from.0 from.1 e).0)
 
 -- the schedule that a text is, of a shape that fits
 schedule_from : (l : Source) (y : List ℕ) (s : Schedule) → schedule_for l y ≡ Ok s → (schedule_of y ≡ Ok s) × (fits l.kind s.shape ≡ true)
 unfolding schedule_for
 schedule_from l y s e =
     let read = both (refused_as refusal.Schedule (schedule_of y)) (fitting l) s e in
-    let fit = fits_from (fits l.kind read.0.shape) read.0 s read.2 in (
+    let fit = passed (fits l.kind read.0.shape) (refusal.Words BadShape) read.0 s read.2 in (
       subst (λ (x : Schedule). schedule_of y ≡ Ok x) fit.1 (not_refused refusal.Schedule (schedule_of y) read.0 read.1),
       subst (λ (x : Schedule). fits l.kind x.shape ≡ true) fit.1 fit.0,
     )
@@ -90,7 +64,7 @@ is_run = refl
 
 only_run : (r : Run) (cs : List Command) (text : List ℕ) → commands_of (codes "run\n") ≡ Ok cs → text ≡ performance r cs → text ≡ performance r (command.Run ∷ [])
 only_run r cs text read e =
-    subst (λ (asked : List Command). text ≡ performance r asked) (told (commands_of (codes "run\n")) (command.Run ∷ []) cs is_run read) e
+    subst (λ (asked : List Command). text ≡ performance r asked) (same_answer (commands_of (codes "run\n")) (command.Run ∷ []) cs is_run read) e
 
 -- the promises of the three listings
 module _ (of_u : u.RunsAreSnapshots) (of_b : b.RunsAreSnapshots) (of_m : m.RunsAreSnapshots) (reads : ReadsOnlySpelled) where
@@ -114,7 +88,7 @@ module _ (of_u : u.RunsAreSnapshots) (of_b : b.RunsAreSnapshots) (of_m : m.RunsA
         asked.0,
         run_from g y read.0 read.1,
         not_refused refusal.Commands (commands_of z) asked.0 asked.1,
-        told (Ok (performance (run_over (shipped g) read.0) asked.0)) (performance (run_over (shipped g) read.0) asked.0) text refl asked.2,
+        same_answer (Ok (performance (run_over (shipped g) read.0) asked.0)) (performance (run_over (shipped g) read.0) asked.0) text refl asked.2,
       )
 
   audited : (g : KindTag) (y text : List ℕ) → audit_listing (shipped g) y ≡ Ok text → (r : Run) × ShippedRun g r × (text ≡ audit_text r)
@@ -123,19 +97,13 @@ module _ (of_u : u.RunsAreSnapshots) (of_b : b.RunsAreSnapshots) (of_m : m.RunsA
       let read = both (schedule_for (shipped g) y) _ text e in (
         run_over (shipped g) read.0,
         run_from g y read.0 read.1,
-        told (Ok (audit_text (run_over (shipped g) read.0))) (audit_text (run_over (shipped g) read.0)) text refl read.2,
+        same_answer (Ok (audit_text (run_over (shipped g) read.0))) (audit_text (run_over (shipped g) read.0)) text refl read.2,
       )
 
   -- the output is that of the parts
   of_parts : (t : Task) (input text : List ℕ) → output_of t input ≡ Ok text → of_task t input ≡ Ok text
   unfolding output_of
   of_parts t input text e = within (nat_lt 16777216 (length input)) refusal.InputTooLong (of_task t input) text e
-
-  -- and that of the texts, behind the check of how many there are
-  of_texts : (g : KindTag) (count : ℕ) (parts : List (List ℕ)) (f : Source → List (List ℕ) → Result (List ℕ) Refusal) (text : List ℕ) →
-      parted (Shipped g) count parts f ≡ Ok text → f (shipped g) parts ≡ Ok text
-  unfolding parted
-  of_texts g count parts f text e = (both (checked_parts (Shipped g) count parts) (λ there. f (shipped g) parts) text e).2
 
   pub shipped_runs : (g : KindTag) (input text : List ℕ) → WritesShippedRuns g input text
   shipped_runs g input text = record {

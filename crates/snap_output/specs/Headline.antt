@@ -2,35 +2,26 @@
 -- shipped listing is a snapshot.
 use Rattle.std.specs.Prelude.{◌≡◌, ℕ, true, List, [], ◌∷◌, Ok}
 use Rattle.snap_words.specs.Kind.{fits}
-use Rattle.snap_words.specs.Shape.{Counts}
 use Rattle.snap_words.specs.declared.kind.KindTag.{KindTag}
-use Rattle.snap_words.specs.declared.kind.KindTag.TheVariants as kind
 use Rattle.snap_semantics.specs.Assembly.{assembled, listed}
 use Rattle.snap_semantics.specs.CanonicalText.{canonical_text}
+use Rattle.snap_semantics.specs.Comments.{Commented, commented_of}
 use Rattle.snap_semantics.specs.Listing.{listing_of}
 use Rattle.snap_semantics.specs.Schedule.{Schedule, schedule_of}
 use Rattle.snap_semantics.specs.Source.{Source}
 use Rattle.snap_runs.specs.Run.{Run, Fits}
-use Rattle.snap_runs.specs.Snapshot.{Bounds, IsSnapshotRun}
-use Rattle.snap_runs_of_u.specs.Promises as u
-use Rattle.snap_runs_of_b.specs.Promises as b
-use Rattle.snap_runs_of_m.specs.Promises as m
+use Rattle.snap_runs.specs.Snapshot.{IsSnapshotRun}
 use Rattle.snap_record.specs.Record.{run_over}
 use Rattle.snap_audit.specs.VerdictText.{audit_text}
 use Rattle.snap_debug.specs.Commands.{commands_of}
 use Rattle.snap_debug.specs.Session.{performance}
 use Rattle.snap_debug.specs.declared.command.Command.{Command}
 use Rattle.snap_debug.specs.declared.command.Command.TheVariants as command
-use Rattle.snap_output.specs.Output.{output_of, shipped}
+use Rattle.snap_input.specs.Input.{shipped, shipped_bounds}
+use Rattle.snap_output.specs.Output.{output_of}
 use Rattle.snap_output.specs.Perform.{perform_of}
-use Rattle.snap_output.specs.declared.task.Subject.TheVariants.{Shipped}
+use Rattle.snap_input.specs.declared.subject.Subject.TheVariants.{Shipped}
 use Rattle.snap_output.specs.declared.task.Task.TheVariants as task
-
--- the bounds of the listing that is shipped for a kind
-abbrev pub shipped_bounds : KindTag → Counts → Bounds
-shipped_bounds kind.Seq = u.bounds
-shipped_bounds kind.Bits = b.bounds
-shipped_bounds kind.Multi = m.bounds
 
 -- For every listing, schedule and debugger commands: the bytes of `perform` are the replies to the commands over the run that the
 -- table of lines gives, and the report of the position that they reach.
@@ -41,7 +32,7 @@ PrintsTheRun = (x y z : List ℕ) (l : Source) (s : Schedule) (cs : List Command
 
 -- The assembled image lists back as its source, in canonical text.
 abbrev pub ListsBackAsSource : Type 0
-ListsBackAsSource = (x image : List ℕ) → assembled x ≡ Ok image → (l : Source) × (listing_of x ≡ Ok l) × (listed image ≡ Ok (canonical_text l))
+ListsBackAsSource = (x image : List ℕ) → assembled x ≡ Ok image → (l : Commented) × (commented_of x ≡ Ok l) × (listed image ≡ Ok (canonical_text l))
 
 -- A run of the listing that is shipped for a kind, with all that a snapshot promises of it.
 pub record ShippedRun (g : KindTag) (r : Run) : Type 0 where

@@ -1,4 +1,3 @@
-pub mod Parts
 pub mod Perform
 pub mod Replies
 pub mod Output

@@ -2,18 +2,14 @@
 #![tactic(auto)]
 
 mod auditing;
+mod batching;
 mod checking;
 mod headlines;
-mod images;
 mod outputs;
-mod parts;
 mod performing;
-mod subject;
 mod task;
 
 pub use headlines::headline;
-pub use outputs::{MAX_INPUT, output};
-pub use parts::split_parts;
+pub use outputs::output;
 pub use performing::perform;
-pub use subject::shipped;
-pub use task::{Subject, Task};
+pub use task::Task;

@@ -1,64 +1,41 @@
 //! What the program writes for an input.
-ghost use Rattle.std.specs.Prelude.{◌≡◌, ◌≤◌, ◌<◌, ℕ, List, Err, Ok, length, map};
+ghost use Rattle.std.specs.Prelude.{◌≡◌, ◌≤◌, ◌<◌, Err, Ok, length, map};
 ghost use Rattle.snap_semantics.specs.Answers.{Answers};
 ghost use Rattle.snap_semantics.specs.declared.fault.Fault.TheVariants.{Refused};
 ghost use Rattle.snap_semantics.specs.declared.refusal.Refusal.{Refusal as Reason};
-ghost use Rattle.snap_output.specs.Output.{checked_parts, counted_parts, debug_text, of_task, output_of, parted, run_text, texts_for, verdicts_text};
-ghost use Rattle.snap_output.specs.Parts.{parts_of};
+ghost use Rattle.snap_input.specs.Input.{checked_parts, parted, texts_for};
+ghost use Rattle.snap_input.specs.Parts.{parts_of};
+ghost use Rattle.snap_output.specs.Output.{batched, checked_schedules, debug_text, of_task, output_of, run_text, verdicts_text};
 
 use crate::auditing::audit_program;
+use crate::batching::batch_program;
 use crate::checking::check_of;
-use crate::images::{assemble, list};
-use crate::parts::{count_separators, split_parts};
 use crate::performing::perform_program;
-use crate::subject::{program_for, texts_for};
-use crate::task::{Subject, Task};
+use crate::task::Task;
 use snap_code::Program;
+use snap_input::{
+    MAX_INPUT, Subject, assemble, count_separators, count_texts, list, parts_for, program_for,
+    split_parts, texts_for, upgrade,
+};
 use snap_semantics::{Fault, Refusal};
 use std::alloc::Global;
+use std::thread::Threads;
 
-/// The most bytes that an input may have.
-pub const MAX_INPUT: usize = 16_777_216;
+/// The most schedules of a batch.
+const MAX_SCHEDULES: usize = 4096;
 
-/// How many texts of so many parts stand behind the listing.
-fn count_texts(subject: Subject, parts: usize) -> usize
-    requires { 0 < parts }
-    ensures { (ps : List (List ℕ)) → parts ≡ length ps → result ≡ length (texts_for subject ps) }
-{
-    match subject {
-        Subject::FirstPart => parts - 1,
-        Subject::Shipped(_) => parts,
-    }
-}
-
-/// Whether so many texts stand behind the listing.
-fn check_parts(subject: Subject, count: usize, input: &[u8]) -> Result<(), Refusal>
+/// Whether 1 to 4,096 texts stand behind the listing.
+fn check_schedules(subject: Subject, input: &[u8]) -> Result<(), Refusal>
     requires { length input.now ≤ 16777216 }
-    ensures { result ≡ checked_parts subject count (parts_of input.now) }
+    ensures { result ≡ checked_schedules subject (parts_of input.now) }
 {
     let found = count_separators(input) + 1;
-    if count_texts(subject, found) == count {
+    let texts = count_texts(subject, found);
+    if 0 < texts && texts <= MAX_SCHEDULES {
         Ok(())
     } else {
         Err(Refusal::WrongParts(found as u64))
     }
-}
-
-/// The parts of an input that has so many texts behind the listing. Another number of parts is found before they are
-/// collected.
-fn parts_for(
-    alloc: Global,
-    subject: Subject,
-    count: usize,
-    input: &[u8],
-) -> Result<Vec<&[u8]>, Fault<Refusal>>
-    requires { length input.now ≤ 16777216 }
-    ensures parts { Answers (λ parts. map (λ part. part.now) parts.items) result
-        (counted_parts subject count (parts_of input.now)) }
-    ensures counted { (r : Reason) → checked_parts subject count (parts_of input.now) ≡ Err r → result ≡ Err (Refused r) }
-{
-    check_parts(subject, count, input)?;
-    Ok(split_parts(alloc, input)?)
 }
 
 /// A program under the schedule that a text is.
@@ -70,7 +47,7 @@ fn run_texts(alloc: Global, program: &Program, texts: &[&[u8]]) -> Result<Vec<u8
 }
 
 /// A listing under a schedule.
-#[tactic(auto, unfolding(crate::specs::Output::parted))]
+#[tactic(auto, unfolding(snap_input::specs::Input::parted))]
 fn run(alloc: Global, subject: Subject, input: &[u8]) -> Result<Vec<u8>, Fault<Refusal>>
     requires { length input.now ≤ 16777216 }
     ensures output { Answers (λ out. out.items) result (parted subject 1 (parts_of input.now) run_text) }
@@ -91,7 +68,7 @@ fn debug_texts(alloc: Global, program: &Program, texts: &[&[u8]]) -> Result<Vec<
 }
 
 /// A listing under a schedule, as commands ask for it.
-#[tactic(auto, unfolding(crate::specs::Output::parted))]
+#[tactic(auto, unfolding(snap_input::specs::Input::parted))]
 fn debug(alloc: Global, subject: Subject, input: &[u8]) -> Result<Vec<u8>, Fault<Refusal>>
     requires { length input.now ≤ 16777216 }
     ensures output { Answers (λ out. out.items) result (parted subject 2 (parts_of input.now) debug_text) }
@@ -112,7 +89,7 @@ fn audit_texts(alloc: Global, program: &Program, texts: &[&[u8]]) -> Result<Vec<
 }
 
 /// The verdicts of a listing under a schedule.
-#[tactic(auto, unfolding(crate::specs::Output::parted))]
+#[tactic(auto, unfolding(snap_input::specs::Input::parted))]
 fn audit(alloc: Global, subject: Subject, input: &[u8]) -> Result<Vec<u8>, Fault<Refusal>>
     requires { length input.now ≤ 16777216 }
     ensures output { Answers (λ out. out.items) result (parted subject 1 (parts_of input.now) verdicts_text) }
@@ -124,9 +101,33 @@ fn audit(alloc: Global, subject: Subject, input: &[u8]) -> Result<Vec<u8>, Fault
     audit_texts(alloc, &program, texts)
 }
 
+/// A listing under many schedules. Another number of parts is found before they are collected.
+#[tactic(auto, unfolding(crate::specs::Output::batched))]
+fn batch(
+    rt: &(impl Threads + Sync),
+    alloc: Global,
+    subject: Subject,
+    input: &[u8],
+) -> Result<Vec<u8>, Fault<Refusal>>
+    requires { length input.now ≤ 16777216 }
+    ensures output { Answers (λ out. out.items) result (batched subject (parts_of input.now)) }
+    ensures counted { (r : Reason) → checked_schedules subject (parts_of input.now) ≡ Err r → result ≡ Err (Refused r) }
+{
+    check_schedules(subject, input)?;
+    let parts = split_parts(alloc, input)?;
+    let program = program_for(alloc, subject, parts.as_slice())?;
+    let texts = texts_for(subject, parts.as_slice());
+    batch_program(rt, alloc, &program, texts)
+}
+
 /// The whole output for an input, or why there is none.
 #[tactic(auto, unfolding(crate::specs::Output::output_of))]
-pub fn output(alloc: Global, task: &Task, input: &[u8]) -> Result<Vec<u8>, Fault<Refusal>>
+pub fn output(
+    rt: &(impl Threads + Sync),
+    alloc: Global,
+    task: &Task,
+    input: &[u8],
+) -> Result<Vec<u8>, Fault<Refusal>>
     ensures { Answers (λ out. out.items) result (output_of task.now input.now) }
 {
     if input.len() > MAX_INPUT {
@@ -136,8 +137,10 @@ pub fn output(alloc: Global, task: &Task, input: &[u8]) -> Result<Vec<u8>, Fault
         Task::Check => check_of(alloc, input),
         Task::Assemble => assemble(alloc, input),
         Task::List => list(alloc, input),
+        Task::Upgrade => upgrade(alloc, input),
         Task::Run(subject) => run(alloc, subject, input),
         Task::Debug(subject) => debug(alloc, subject, input),
         Task::Audit(subject) => audit(alloc, subject, input),
+        Task::Batch(subject) => batch(rt, alloc, subject, input),
     }
 }

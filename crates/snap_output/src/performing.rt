@@ -5,13 +5,13 @@ ghost use Rattle.snap_semantics.specs.Answers.{Answers, refused_as};
 ghost use Rattle.snap_semantics.specs.Schedule.{schedule_of};
 ghost use Rattle.snap_semantics.specs.declared.refusal.Refusal.TheVariants as refusal;
 ghost use Rattle.snap_debug.specs.Commands.{commands_of};
-ghost use Rattle.snap_debug.specs.Session.{answer, performance};
+ghost use Rattle.snap_debug.specs.Session.{after_commands, answer, performance, replies_text};
 ghost use Rattle.snap_output.specs.Perform.{perform_listing, perform_of, schedule_for};
 ghost use Rattle.snap_output.specs.Replies.{command_reply};
 
-use crate::images::program_of;
 use snap_code::Program;
 use snap_debug::{Command, Session, push_command, push_refusal_line};
+use snap_input::program_of;
 use snap_sched::Schedule;
 use snap_semantics::{Fault, Refusal};
 use snap_text::push_text;
@@ -68,6 +68,21 @@ fn push_answer<K: Kind>(
     }
 }
 
+/// Commands, each with what a session answers to it.
+fn push_answers<K: Kind>(
+    out: &mut Vec<u8>,
+    session: &mut Session<K>,
+    commands: &[Command],
+) -> Result<(), AllocError>
+    ensures replies { OnOk result (out.new.items ≡ out.old.items ++ replies_text session.old commands.now) }
+    ensures session { OnOk result (session.new ≡ after_commands session.old commands.now) }
+{
+    for command in commands {
+        push_answer(out, session, command)?;
+    }
+    Ok(())
+}
+
 /// What a program does under a schedule, as commands ask for it.
 fn performance<K: Kind>(
     alloc: Global,
@@ -80,9 +95,7 @@ fn performance<K: Kind>(
 {
     let mut session = Session::<K>::over(alloc, program, schedule)?;
     let mut out = Vec::new(alloc);
-    for command in commands {
-        push_answer(&mut out, &mut session, command)?;
-    }
+    push_answers(&mut out, &mut session, commands)?;
     let report = session.report()?;
     push_text(&mut out, report.as_slice())?;
     Ok(out)

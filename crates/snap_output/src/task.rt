@@ -1,12 +1,5 @@
 //! What the program is asked.
-use snap_words::KindTag;
-
-/// The listing that a task runs: the first part of the input, or the one that is shipped for a kind of registers.
-#[derive(Clone, Copy, Debug, PartialEq, Eq)]
-pub enum Subject {
-    FirstPart,
-    Shipped(KindTag),
-}
+use snap_input::Subject;
 
 /// What the program is to do with its input.
 #[derive(Clone, Copy, Debug, PartialEq, Eq)]
@@ -17,10 +10,14 @@ pub enum Task {
     Assemble,
     /// The text of a listing's image.
     List,
+    /// The image, in the version that is written, of an image in either version.
+    Upgrade,
     /// A listing under a schedule.
     Run(Subject),
     /// A listing under a schedule, as commands ask for it.
     Debug(Subject),
     /// Each finished scan of a listing under a schedule: whether it has a point.
     Audit(Subject),
+    /// A listing under many schedules: the report of the end of each.
+    Batch(Subject),
 }

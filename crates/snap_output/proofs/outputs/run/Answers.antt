@@ -1,7 +1,7 @@
 use Rattle.std.proofs.Common.{map, sym}
 use Rattle.snap_output.specs.Output.{run_text}
-use Rattle.snap_output.specs.Parts.{parts_of}
-use Rattle.snap_output.proofs.Parting.{of_parts}
+use Rattle.snap_input.specs.Parts.{parts_of}
+use Rattle.snap_input.proofs.Parting.{of_parts}
 use Rattle.snap_output.proofs.outputs.run.Goals as goal
 
 pub returns-clause-output : goal.returns-clause-output

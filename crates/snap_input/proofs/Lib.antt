@@ -1,0 +1,4 @@
+pub mod Answered
+pub mod Loads
+pub mod Parting
+pub mod Splits

@@ -1,0 +1,47 @@
+//! Images of listings: assembled, listed, and loaded as programs.
+ghost use Rattle.snap_semantics.specs.Answers.{Answers, refused_as};
+ghost use Rattle.snap_semantics.specs.Assembly.{assembled, listed, upgraded};
+ghost use Rattle.snap_semantics.specs.Listing.{listing_of};
+ghost use Rattle.snap_semantics.specs.declared.refusal.Refusal.TheVariants as refusal;
+
+use snap_asm::{Program, load};
+use snap_image::what_is_encoded_is_decoded;
+use snap_listing::what_is_read_with_comments_is_a_listing;
+use snap_semantics::{Fault, Refusal};
+use std::alloc::Global;
+
+/// The image of a listing's text.
+pub fn assemble(alloc: Global, text: &[u8]) -> Result<Vec<u8>, Fault<Refusal>>
+    ensures { Answers (λ image. image.items) result (refused_as refusal.Listing (assembled text.now)) }
+{
+    Ok(snap_asm::assemble(alloc, text)?)
+}
+
+/// The text of a listing's image.
+pub fn list(alloc: Global, image: &[u8]) -> Result<Vec<u8>, Fault<Refusal>>
+    ensures { Answers (λ text. text.items) result (refused_as refusal.Image (listed image.now)) }
+{
+    Ok(snap_asm::list(alloc, image)?)
+}
+
+/// The image, in the version that is written, of a listing's image.
+pub fn upgrade(alloc: Global, image: &[u8]) -> Result<Vec<u8>, Fault<Refusal>>
+    ensures { Answers (λ image. image.items) result (refused_as refusal.Image (upgraded image.now)) }
+{
+    Ok(snap_asm::upgrade(alloc, image)?)
+}
+
+/// The program of a listing's text, loaded from its image, which is never refused: what is read is a listing, and the
+/// image of every listing is decoded as that listing.
+pub fn program_of(alloc: Global, text: &[u8]) -> Result<Program, Fault<Refusal>>
+    ensures { Answers (λ p. p) result (refused_as refusal.Listing (listing_of text.now)) }
+{
+    let image = assemble(alloc, text)?;
+    what_is_read_with_comments_is_a_listing();
+    what_is_encoded_is_decoded();
+    match load(alloc, image.as_slice()) {
+        Ok(program) => Ok(program),
+        Err(Fault::Memory) => Err(Fault::Memory),
+        Err(Fault::Refused(_)) => unreachable!(),
+    }
+}

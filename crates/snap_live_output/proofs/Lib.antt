@@ -1,0 +1,3 @@
+pub mod Shipped
+pub mod Histories
+pub mod Lives

@@ -1,0 +1,68 @@
+-- What a live run of a shipped listing writes, taken apart.
+use Rattle.std.proofs.Common.{◌≡◌, ℕ, true, List, Ok, length, nat_lt, refl, sym, ap, subst}
+use Rattle.snap_words.specs.Kind.{fits}
+use Rattle.snap_words.specs.Shape.{IsShape}
+use Rattle.snap_words.specs.declared.kind.KindTag.{KindTag}
+use Rattle.snap_words.specs.declared.kind.KindTag.TheVariants as kind
+use Rattle.snap_words.specs.declared.shape.WordFault.TheVariants.{BadShape}
+use Rattle.snap_semantics.specs.Answers.{refused_as}
+use Rattle.snap_semantics.specs.Source.{Source}
+use Rattle.snap_semantics.specs.declared.process.Item.{Item}
+use Rattle.snap_semantics.specs.declared.refusal.Refusal.TheVariants as refusal
+use Rattle.snap_sched.specs.ScriptText.{Scripts, scripts_of}
+use Rattle.snap_runs.specs.Run.{Run}
+use Rattle.snap_runs.specs.Snapshot.{IsSnapshotRun}
+use Rattle.snap_runs_of_u.specs.Promises as u
+use Rattle.snap_runs_of_b.specs.Promises as b
+use Rattle.snap_runs_of_m.specs.Promises as m
+use Rattle.snap_input.specs.Input.{shipped, shipped_bounds}
+use Rattle.snap_input.specs.Parts.{part, parts_of}
+use Rattle.snap_input.specs.declared.subject.Subject.TheVariants.{Shipped}
+use Rattle.snap_input.proofs.Answered.{both, passed, same_answer, within}
+use Rattle.snap_input.proofs.Parting.{of_texts}
+use Rattle.snap_live.specs.Turns.{run_of}
+use Rattle.snap_live_output.specs.LiveOutput.{Setup, fitting, scripts_for, setting, setup_for, setup_of, setup_text}
+use Rattle.snap_live_output.specs.LiveRuns.{LiveRunsAreSnapshots}
+
+-- the scripts for a listing have a shape that fits its kind
+fits_listing : (l : Source) (text : List ℕ) (s : Scripts) → scripts_for l text ≡ Ok s → fits l.kind s.shape ≡ true
+unfolding scripts_for
+fits_listing l text s e =
+    let read = both (refused_as refusal.Schedule (scripts_of text)) (fitting l) s e in
+    let fit = passed (fits l.kind read.0.shape) (refusal.Words BadShape) read.0 s read.2 in
+    subst (λ (x : Scripts). fits l.kind x.shape ≡ true) fit.1 fit.0
+
+-- what is played is the listing, and scripts that fit it
+plays_listing : (l : Source) (texts : List (List ℕ)) (g : Setup) → setup_text l texts ≡ Ok g → (g.source ≡ l) × (fits l.kind g.scripts.shape ≡ true)
+unfolding setup_text
+plays_listing l texts g e =
+    let read = both (scripts_for l (part 0 texts)) _ g e in
+    let made : Setup = record { source = l; scripts = read.0 } in
+    let is : g ≡ made = same_answer (Ok made) made g refl read.2 in
+    (ap (λ (x : Setup). x.source) is, subst (λ (x : Setup). fits l.kind x.scripts.shape ≡ true) (sym is) (fits_listing l (part 0 texts) read.0 read.1))
+
+-- with a shipped listing
+plays_shipped : (k : KindTag) (input : List ℕ) (g : Setup) → setup_of (Shipped k) input ≡ Ok g → (g.source ≡ shipped k) × (fits (shipped k).kind g.scripts.shape ≡ true)
+plays_shipped k input g e =
+    plays_listing (shipped k) (parts_of input) g
+    (of_texts k 1 (parts_of input) setup_text g (within (nat_lt 16777216 (length input)) refusal.InputTooLong (setup_for (Shipped k) (parts_of input)) g e))
+
+-- the promises of the three listings
+module _ (of_u : u.RunsAreSnapshots) (of_b : b.RunsAreSnapshots) (of_m : m.RunsAreSnapshots) where
+  promised : (k : KindTag) (s : Scripts) (items : List Item) → IsShape s.shape.n s.shape.w → fits (shipped k).kind s.shape ≡ true →
+      IsSnapshotRun (shipped_bounds k s.shape) (let r : Run = record { source = shipped k; shape = s.shape; items = items } in r)
+  promised kind.Seq s items is fit = of_u s.shape items is fit
+  promised kind.Bits s items is fit = of_b s.shape items is fit
+  promised kind.Multi s items is fit = of_m s.shape items is fit
+
+  pub live_runs : LiveRunsAreSnapshots
+  live_runs k limit input text h =
+      let g = h.0 in let live = h.2 in let is = plays_shipped k input g h.1 in
+      record {
+        run = run_of (setting g) live.items;
+        of_listing = is.0;
+        fits = live.fits;
+        is_snapshot = subst (λ (l : Source). IsSnapshotRun (shipped_bounds k g.scripts.shape) (let r : Run = record { source = l; shape = g.scripts.shape; items = live.items } in r))
+            (sym is.0) (promised k g.scripts live.items live.there.shape is.1);
+        written = live.written;
+      }

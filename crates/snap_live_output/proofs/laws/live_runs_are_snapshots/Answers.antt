@@ -1,0 +1,5 @@
+use Rattle.snap_live_output.proofs.Shipped.{live_runs}
+use Rattle.snap_live_output.proofs.laws.live_runs_are_snapshots.Goals as goal
+
+pub returns : goal.returns
+returns c = live_runs c.runs_are_snapshots.ensures c.runs_are_snapshots-2.ensures c.runs_are_snapshots-3.ensures

@@ -1,0 +1,6 @@
+use Rattle.std.proofs.Common.{◌≡◌, take}
+use Rattle.snap_live_output.proofs.written.items_of.Given as goal
+
+-- the first items so far
+abbrev pub invariant-loop-t : goal.invariant-loop-t
+invariant-loop-t l = l.items ≡ take l.t l.history.items

@@ -1,0 +1,2 @@
+pub mod LiveOutput
+pub mod LiveRuns

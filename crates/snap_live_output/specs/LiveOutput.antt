@@ -1,0 +1,100 @@
+-- What a live run writes for what it reads, or why it writes nothing. Threads take turns as it happens: so the output is one of many,
+-- and each of them is the history of one list of items.
+use Rattle.std.specs.Prelude.{◌≡◌, ℕ, ◌+◌, ◌<◌, ◌≤◌, List, ◌++◌, length, nat_lt, Vec, Result, Ok, Err, ⊤, if◌then◌else◌}
+use Rattle.std.specs.Global.{Global}
+use Rattle.snap_words.specs.Kind.{fits}
+use Rattle.snap_words.specs.declared.shape.WordFault.TheVariants.{BadShape}
+use Rattle.snap_semantics.specs.declared.fault.Fault.{Fault}
+use Rattle.snap_semantics.specs.declared.fault.Fault.TheVariants as inner
+use Rattle.snap_semantics.specs.declared.process.Item.{Item}
+use Rattle.snap_semantics.specs.declared.refusal.Refusal.{Refusal}
+use Rattle.snap_semantics.specs.declared.refusal.Refusal.TheVariants as refusal
+use Rattle.snap_semantics.specs.Answers.{◌>>=◌, refused_as}
+use Rattle.snap_semantics.specs.Schedule.{Schedule}
+use Rattle.snap_semantics.specs.ScheduleText.{schedule_text}
+use Rattle.snap_semantics.specs.Source.{Source}
+use Rattle.snap_sched.specs.ScriptText.{AreScripts, Scripts, scripts_of}
+use Rattle.snap_runs.specs.Run.{Run, Fits}
+use Rattle.snap_record.specs.Record.{report_at}
+use Rattle.snap_input.specs.declared.subject.Subject.{Subject}
+use Rattle.snap_input.specs.Input.{parted}
+use Rattle.snap_input.specs.Parts.{part, parts_of}
+use Rattle.snap_live.specs.declared.known.Setting.{Setting}
+use Rattle.snap_live.specs.declared.refusal.LiveRefusal.{LiveRefusal}
+use Rattle.snap_live.specs.Fleet.{MayFault}
+use Rattle.snap_live.specs.Play.{IsPlay}
+use Rattle.snap_live.specs.Script.{script_at}
+use Rattle.snap_live.specs.Turns.{run_of, turns_of}
+use Rattle.snap_live_output.specs.declared.fault.LiveRunFault.{LiveRunFault}
+use Rattle.snap_live_output.specs.declared.fault.LiveRunFault.TheVariants as fault
+
+-- what a live run plays: a listing, and a script for each process
+pub record Setup : Type 0 where
+  pub source : Source
+  pub scripts : Scripts
+
+-- the listing and the shape
+abbrev pub setting : Setup → Setting
+setting g = record { source = g.source; shape = g.scripts.shape }
+
+-- scripts whose shape fits the kind of the listing
+abbrev pub fitting : Source → Scripts → Result Scripts Refusal
+fitting l s = if fits l.kind s.shape then Ok s else Err (refusal.Words BadShape)
+
+-- the scripts that a text is, for this listing
+unfoldable pub scripts_for : Source → List ℕ → Result Scripts Refusal
+scripts_for l text = do
+  s ← refused_as refusal.Schedule (scripts_of text)
+  fitting l s
+
+-- a listing and the scripts that a text is
+unfoldable pub setup_text : Source → List (List ℕ) → Result Setup Refusal
+setup_text l texts = do
+  scripts ← scripts_for l (part 0 texts)
+  Ok (record { source = l; scripts = scripts })
+
+-- what the parts of an input say to play: a listing, or the shipped one, and scripts
+abbrev pub setup_for : Subject → List (List ℕ) → Result Setup Refusal
+setup_for s parts = parted s 1 parts setup_text
+
+-- what an input says to play, or the first reason why it says nothing
+abbrev pub setup_of : Subject → List ℕ → Result Setup Refusal
+setup_of s input = if nat_lt 16777216 (length input) then Err refusal.InputTooLong else setup_for s (parts_of input)
+
+-- a run as the text of a schedule, and the report of its end
+abbrev pub history_text : Run → List ℕ
+history_text r = schedule_text (let s : Schedule = record { shape = r.shape; items = r.items } in s) ++ report_at r (length r.items)
+
+-- The text is that of a run whose items are of the processes that are there, and those of each are a play of its script, of at most so
+-- many turns.
+pub record IsLiveText (g : Setup) (limit : ℕ) (text : List ℕ) : Type 0 where
+  pub items : List Item
+  pub there : AreScripts g.scripts
+  pub fits : Fits (run_of (setting g) items)
+  pub plays : (k : ℕ) → k < g.scripts.shape.n → IsPlay (script_at g.scripts.scripts k) (turns_of (setting g) (k + 1) items)
+  pub few : (k : ℕ) → k < g.scripts.shape.n → length (turns_of (setting g) (k + 1) items) ≤ limit
+  pub written : text ≡ history_text (run_of (setting g) items)
+
+-- a fault of the input, and one of the run, as one of both
+abbrev pub of_input_fault : Fault Refusal → LiveRunFault
+of_input_fault inner.Memory = fault.Memory
+of_input_fault (inner.Refused r) = fault.Refused r
+
+abbrev pub of_live_fault : Fault LiveRefusal → LiveRunFault
+of_live_fault inner.Memory = fault.Memory
+of_live_fault (inner.Refused r) = fault.Live r
+
+-- a text that a live run may write for an input
+abbrev pub IsLiveOutput : Subject → (limit : ℕ) → (input text : List ℕ) → Type 0
+IsLiveOutput s limit input text = (g : Setup) × (setup_of s input ≡ Ok g) × IsLiveText g limit text
+
+-- when a live run may be given up
+abbrev pub MayGiveUp : (ℕ → ℕ → Type 0) → Subject → (limit : ℕ) → (input : List ℕ) → LiveRefusal → Type 0
+MayGiveUp may s limit input r = (g : Setup) × (setup_of s input ≡ Ok g) × MayFault may (setting g) g.scripts.scripts limit (inner.Refused r)
+
+-- What a live run answers for an input: a text; or why the input says nothing to play; or why the run was given up.
+abbrev pub AnswersLive : (ℕ → ℕ → Type 0) → Subject → (limit : ℕ) → (input : List ℕ) → Result (Vec ℕ Global) LiveRunFault → Type 0
+AnswersLive may s limit input (Ok out) = IsLiveOutput s limit input out.items
+AnswersLive may s limit input (Err fault.Memory) = ⊤
+AnswersLive may s limit input (Err (fault.Refused r)) = setup_of s input ≡ Err r
+AnswersLive may s limit input (Err (fault.Live r)) = MayGiveUp may s limit input r

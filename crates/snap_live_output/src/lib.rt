@@ -1,0 +1,13 @@
+//! What a live run writes for what it reads: from an input to its whole output, or to the reason why there is none.
+#![tactic(auto)]
+
+mod fault;
+mod laws;
+mod output;
+mod playing;
+mod setup;
+mod written;
+
+pub use fault::LiveRunFault;
+pub use laws::live_runs_are_snapshots;
+pub use output::live_output;

@@ -1,0 +1,111 @@
+//! What a live run plays: a listing, and a script for each process.
+ghost use Rattle.std.specs.Prelude.{◌≡◌, ◌<◌, ◌≤◌, length, map};
+ghost use Rattle.snap_words.specs.Kind.{fits};
+ghost use Rattle.snap_semantics.specs.Answers.{Answers, refused_as};
+ghost use Rattle.snap_semantics.specs.declared.refusal.Refusal.TheVariants as refusal;
+ghost use Rattle.snap_sched.specs.ScriptText.{AreScripts, scripts_of};
+ghost use Rattle.snap_live_output.specs.LiveOutput.{scripts_for, setup_for, setup_of, setup_text};
+ghost use Rattle.snap_input.specs.Parts.{parts_of};
+
+use snap_code::Program;
+use snap_input::{MAX_INPUT, Subject, parts_for, program_for, texts_for};
+use snap_sched::Scripts;
+use snap_semantics::{Fault, Refusal};
+use snap_words::{Bits, Kind, KindTag, Multi, Seq, Shape, WordFault};
+use std::alloc::Global;
+use std::marker::Model;
+
+/// A program, and a script for each process.
+#[derive(Drop)]
+pub struct Setup {
+    program: Program,
+    scripts: Scripts,
+}
+
+impl Model for Setup {
+    ghost use Rattle.snap_live_output.specs.LiveOutput.{Setup as Seen};
+
+    ghost Value = { Seen };
+
+    ghost view = { λ s. record { source = s.program; scripts = s.scripts } };
+}
+
+impl Setup {
+    /// The program that runs.
+    pub fn program(&self) -> &Program
+        ensures { result.now ≡ self.now.source }
+    {
+        &self.program
+    }
+
+    /// The scripts that are played.
+    pub fn scripts(&self) -> &Scripts
+        ensures scripts { result.now ≡ self.now.scripts }
+        ensures there { AreScripts self.now.scripts }
+    {
+        let _shape = self.scripts.shape();
+        &self.scripts
+    }
+}
+
+/// Whether there are registers of a kind and a shape.
+fn fits(kind: KindTag, shape: Shape) -> bool
+    ensures { result ≡ fits kind shape }
+{
+    match kind {
+        KindTag::Seq => Seq::fits(shape),
+        KindTag::Bits => Bits::fits(shape),
+        KindTag::Multi => Multi::fits(shape),
+    }
+}
+
+/// Reads scripts.
+fn read_scripts(alloc: Global, text: &[u8]) -> Result<Scripts, Fault<Refusal>>
+    ensures { Answers (λ s. s) result (refused_as refusal.Schedule (scripts_of text.now)) }
+{
+    Ok(snap_sched::read_scripts(alloc, text)?)
+}
+
+/// Reads scripts whose shape fits the kind of a program.
+#[tactic(auto, unfolding(crate::specs::LiveOutput::scripts_for))]
+fn scripts_for(alloc: Global, program: &Program, text: &[u8]) -> Result<Scripts, Fault<Refusal>>
+    ensures { Answers (λ s. s) result (scripts_for program.now text.now) }
+{
+    let scripts = read_scripts(alloc, text)?;
+    if !fits(program.kind(), scripts.shape()) {
+        return Err(Fault::Refused(Refusal::Words(WordFault::BadShape)));
+    }
+    Ok(scripts)
+}
+
+/// A program, and the scripts that a text is.
+#[tactic(auto, unfolding(crate::specs::LiveOutput::setup_text))]
+fn setup_texts(alloc: Global, program: Program, texts: &[&[u8]]) -> Result<Setup, Fault<Refusal>>
+    requires { 0 < length texts.now }
+    ensures { Answers (λ s. s) result (setup_text program (map (λ text. text.now) texts.now)) }
+{
+    let scripts = scripts_for(alloc, &program, texts[0])?;
+    Ok(Setup { program, scripts })
+}
+
+/// What the parts of an input say to play.
+#[tactic(auto, unfolding(snap_input::specs::Input::parted))]
+fn setup_for(alloc: Global, subject: Subject, input: &[u8]) -> Result<Setup, Fault<Refusal>>
+    requires { length input.now ≤ 16777216 }
+    ensures { Answers (λ s. s) result (setup_for subject (parts_of input.now)) }
+{
+    let parts = parts_for(alloc, subject, 1, input)?;
+    let program = program_for(alloc, subject, parts.as_slice())?;
+    let texts = texts_for(subject, parts.as_slice());
+    setup_texts(alloc, program, texts)
+}
+
+/// What an input says to play: a listing, or the shipped one, and scripts.
+pub fn setup_of(alloc: Global, subject: Subject, input: &[u8]) -> Result<Setup, Fault<Refusal>>
+    ensures { Answers (λ s. s) result (setup_of subject input.now) }
+{
+    if input.len() > MAX_INPUT {
+        return Err(Fault::Refused(Refusal::InputTooLong));
+    }
+    setup_for(alloc, subject, input)
+}

@@ -1,0 +1,71 @@
+//! A record as text: its items as a schedule, and the report of its end.
+ghost use Rattle.std.specs.Prelude.{◌≡◌, ◌+◌, ◌<◌, ◌≤◌, ◌^◌, ◌++◌, [], ◌∷◌, IfOk, OnOk, length, take};
+ghost use Rattle.snap_live_output.specs.LiveOutput.{history_text};
+
+use snap_record::{History, Record};
+use snap_sched::{Items, Schedule, print};
+use snap_semantics::Item;
+use snap_text::push_text;
+use snap_words::Kind;
+use std::alloc::{AllocError, Global};
+
+/// Adds an item.
+fn push_item(items: &mut Items, item: Item) -> Result<(), AllocError>
+    requires { length items.old + 1 < 2 ^ 32 }
+    ensures { OnOk result (items.new ≡ items.old ++ item ∷ []) }
+{
+    match item {
+        Item::Step(process) => items.push_steps(process, 1),
+        Item::Call(process, op) => items.push_call(process, op),
+        Item::Crash(process) => items.push_crash(process),
+    }
+}
+
+/// Adds the item of a history behind its first `t`.
+fn push_next(items: &mut Items, history: &History, t: usize) -> Result<(), AllocError>
+    requires there { t < length history.now.items }
+    requires few { length history.now.items ≤ 1000000 }
+    requires first { items.old ≡ take t history.now.items }
+    ensures { OnOk result (items.new ≡ take (t + 1) history.now.items) }
+{
+    let Some(item) = history.item(t as u64 + 1) else {
+        unreachable!()
+    };
+    push_item(items, item)?;
+    Ok(())
+}
+
+/// The items of a history, as a schedule keeps them.
+fn items_of(alloc: Global, history: &History) -> Result<Items, AllocError>
+    requires { length history.now.items ≤ 1000000 }
+    ensures { IfOk result (λ items. items ≡ history.now.items) }
+{
+    let mut items = Items::new(alloc);
+    for t in 0..history.len() {
+        push_next(&mut items, history, t)?;
+    }
+    Ok(items)
+}
+
+/// The schedule of a record's items.
+fn schedule_of<K: Kind>(alloc: Global, record: &Record<K>) -> Result<Schedule, AllocError>
+    ensures shape { IfOk result (λ s. s.shape ≡ record.now.shape) }
+    ensures items { IfOk result (λ s. s.items ≡ record.now.items) }
+{
+    let items = items_of(alloc, record.items())?;
+    let shape = record.machine().shape();
+    let _fits = items.runs();
+    let _count = shape.n();
+    Ok(Schedule::new(shape, items))
+}
+
+/// A record as the text of a schedule, and the report of its end.
+pub fn history_text<K: Kind>(alloc: Global, record: &Record<K>) -> Result<Vec<u8>, AllocError>
+    ensures { IfOk result (λ out. out.items ≡ history_text record.now) }
+{
+    let schedule = schedule_of(alloc, record)?;
+    let mut out = print(alloc, &schedule)?;
+    let report = record.report()?;
+    push_text(&mut out, report.as_slice())?;
+    Ok(out)
+}

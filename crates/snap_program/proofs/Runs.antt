@@ -1,6 +1,6 @@
 -- What a run answers, by cases on its answer.
-use Rattle.std.proofs.Common.{◌≡◌, ℕ, ◌<◌, Bool, true, List, [], Option, Result, Ok, Err, Vec, length, take, ◌⊎◌, inl, refl, sym, ◌∙◌, ap, subst}
-use Rattle.std.specs.Prelude.{IsErr, IsErrAnd}
+use Rattle.std.proofs.Common.{◌≡◌, ℕ, ◌<◌, Bool, true, List, [], Option, Result, Ok, Err, Vec, length, take, ◌⊎◌, inl, refl, sym, subst}
+use Rattle.std.specs.Prelude.{⊤, IsErr, IsErrAnd}
 use Rattle.std.specs.Global.{Global}
 use Rattle.std.specs.Io.KnownBytes.{Appends}
 use Rattle.std.proofs.KnownBytes.{Appends-nil}
@@ -9,7 +9,11 @@ use Rattle.snap_semantics.specs.declared.fault.Fault.{Fault}
 use Rattle.snap_semantics.specs.declared.fault.Fault.TheVariants as inner
 use Rattle.snap_semantics.specs.declared.refusal.Refusal.{Refusal}
 use Rattle.snap_output.specs.Output.{output_of}
-use Rattle.snap_program.specs.Conducts.{of_fault, IsWhole, Takes, Reads, Sends, Conducts}
+use Rattle.snap_live_output.specs.declared.fault.LiveRunFault.{LiveRunFault}
+use Rattle.snap_live_output.specs.declared.fault.LiveRunFault.TheVariants as run
+use Rattle.snap_live_output.specs.LiveOutput.{AnswersLive}
+use Rattle.snap_input.specs.declared.subject.Subject.{Subject}
+use Rattle.snap_program.specs.Conducts.{of_fault, of_live_fault, IsWhole, RefusesLive, RefusesTask, Takes, Reads, Sends, ConductsBy}
 use Rattle.snap_program.specs.declared.fault.ConductFault.{ConductFault}
 use Rattle.snap_program.specs.declared.fault.ConductFault.TheVariants as fault
 use Rattle.snap_output.specs.declared.task.Task.{Task}
@@ -20,35 +24,62 @@ pub no_room : (answer : Result (Vec ℕ Global) ConductFault) (input : List ℕ)
 no_room (Ok v) input before after failed h takes = absurd h.1
 no_room (Err e) input before after failed h takes = (input, takes, inl h.1)
 
-pub refused_with : (e : Fault Refusal) (task : Task) (input now : List ℕ) (before after taken : Option (List ℕ)) (r w s : Bool)
-    → now ≡ input → Takes input before after → IsWhole input after → Answers {X = Vec ℕ Global} (λ v. v.items) (Err e) (output_of task now)
-    → Conducts (Err (of_fault e)) task before after taken taken r w s
-refused_with inner.Memory task input now before after taken r w s same takes whole h = (input, [], takes, tt, Appends-nil taken, refl)
-refused_with (inner.Refused f) task input now before after taken r w s same takes whole h = (input, [], takes, whole, Appends-nil taken, (refl, ap (output_of task) (sym same) ∙ h))
+-- why nothing was written, where no device failed
+abbrev pub Why : (Refuses : ConductFault → Type 0) → ConductFault → Type 0
+Why Refuses fault.Memory = ⊤
+Why Refuses (fault.Refused f) = Refuses (fault.Refused f)
+Why Refuses (fault.Live f) = Refuses (fault.Live f)
+Why Refuses fault.Read = ⊥
+Why Refuses (fault.Write count) = ⊥
 
--- a refusal that `?` passes on
-pub refused : (answer : Result (Unit {0}) ConductFault) (e : Fault Refusal) (task : Task) (input now : List ℕ) (before after taken : Option (List ℕ)) (r w s : Bool)
-    → IsErr answer × IsErrAnd answer (λ f. f ≡ of_fault e)
-    → now ≡ input → Takes input before after → IsWhole input after → Answers {X = Vec ℕ Global} (λ v. v.items) (Err e) (output_of task now)
-    → Conducts answer task before after taken taken r w s
-refused (Ok done) e task input now before after taken r w s from same takes whole h = absurd from.1
-refused (Err f) e task input now before after taken r w s from same takes whole h =
-    subst (λ (x : ConductFault). Conducts (Err x) task before after taken taken r w s) (sym from.1) (refused_with e task input now before after taken r w s same takes whole h)
+-- a task is refused as its output says
+pub why_task : (e : Fault Refusal) (task : Task) (input : List ℕ) → Answers {X = Vec ℕ Global} (λ v. v.items) (Err e) (output_of task input) → Why (RefusesTask task input) (of_fault e)
+why_task inner.Memory task input h = tt
+why_task (inner.Refused f) task input h = h
 
-pub stopped : (e : ConductFault) (count : ℕ) (task : Task) (input text : List ℕ) (before after taken taken_after : Option (List ℕ)) (r w s : Bool)
-    → e ≡ fault.Write count → count < length text → Appends taken taken_after (take count text) → (w ≡ true) ⊎ (s ≡ true)
-    → Takes input before after → IsWhole input after → output_of task input ≡ Ok text
-    → Conducts (Err e) task before after taken taken_after r w s
-stopped e count task input text before after taken taken_after r w s is within sent device takes whole h =
-    subst (λ (x : ConductFault). Conducts (Err x) task before after taken taken_after r w s) (sym is)
-    (input, take count text, takes, whole, sent, (text, h, within, refl, device))
+-- and a live run as its own
+pub why_live : (e : LiveRunFault) (may : ℕ → ℕ → Type 0) (subject : Subject) (limit : ℕ) (input : List ℕ) →
+    AnswersLive may subject limit input (Err e) → Why (RefusesLive may subject limit input) (of_live_fault e)
+why_live run.Memory may subject limit input h = tt
+why_live (run.Refused f) may subject limit input h = h
+why_live (run.Live f) may subject limit input h = h
 
--- the text is there, and is sent as far as the writer takes it
-pub sends : (answer : Result (Unit {0}) ConductFault) (task : Task) (input now text sent : List ℕ) (before after taken taken_after : Option (List ℕ)) (r w s : Bool)
-    → now ≡ input → sent ≡ text → Takes input before after → IsWhole input after → output_of task now ≡ Ok text
-    → Sends answer sent taken taken_after w s → Conducts answer task before after taken taken_after r w s
-sends (Ok done) task input now text sent before after taken taken_after r w s same same_text takes whole h done_so =
-    (input, text, takes, whole, subst (λ (x : List ℕ). Appends taken taken_after x) same_text done_so, ap (output_of task) (sym same) ∙ h)
-sends (Err e) task input now text sent before after taken taken_after r w s same same_text takes whole h stop =
-    stopped e stop.0 task input text before after taken taken_after r w s stop.1
-    (subst (λ (x : List ℕ). stop.0 < length x) same_text stop.2) (subst (λ (x : List ℕ). Appends taken taken_after (take stop.0 x)) same_text stop.3) stop.4 takes whole (ap (output_of task) (sym same) ∙ h)
+module _ (IsOutput : List ℕ → List ℕ → Type 0) (Refuses : List ℕ → ConductFault → Type 0) where
+  gave_up : (e : ConductFault) (input now : List ℕ) (before after taken : Option (List ℕ)) (r w s : Bool)
+      → now ≡ input → Takes input before after → IsWhole input after → Why (Refuses now) e
+      → ConductsBy IsOutput Refuses (Err e) before after taken taken r w s
+  gave_up fault.Memory input now before after taken r w s same takes whole h = (input, [], takes, tt, Appends-nil taken, refl)
+  gave_up (fault.Refused f) input now before after taken r w s same takes whole h =
+      (input, [], takes, whole, Appends-nil taken, (refl, subst (λ (x : List ℕ). Refuses x (fault.Refused f)) same h))
+  gave_up (fault.Live f) input now before after taken r w s same takes whole h =
+      (input, [], takes, whole, Appends-nil taken, (refl, subst (λ (x : List ℕ). Refuses x (fault.Live f)) same h))
+  gave_up fault.Read input now before after taken r w s same takes whole h = absurd h
+  gave_up (fault.Write count) input now before after taken r w s same takes whole h = absurd h
+
+  -- a refusal that `?` passes on
+  pub refused : (answer : Result (Unit {0}) ConductFault) (e : ConductFault) (input now : List ℕ) (before after taken : Option (List ℕ)) (r w s : Bool)
+      → IsErr answer × IsErrAnd answer (λ f. f ≡ e)
+      → now ≡ input → Takes input before after → IsWhole input after → Why (Refuses now) e
+      → ConductsBy IsOutput Refuses answer before after taken taken r w s
+  refused (Ok done) e input now before after taken r w s from same takes whole h = absurd from.1
+  refused (Err f) e input now before after taken r w s from same takes whole h =
+      subst (λ (x : ConductFault). ConductsBy IsOutput Refuses (Err x) before after taken taken r w s) (sym from.1) (gave_up e input now before after taken r w s same takes whole h)
+
+  stopped : (e : ConductFault) (count : ℕ) (input text : List ℕ) (before after taken taken_after : Option (List ℕ)) (r w s : Bool)
+      → e ≡ fault.Write count → count < length text → Appends taken taken_after (take count text) → (w ≡ true) ⊎ (s ≡ true)
+      → Takes input before after → IsWhole input after → IsOutput input text
+      → ConductsBy IsOutput Refuses (Err e) before after taken taken_after r w s
+  stopped e count input text before after taken taken_after r w s is within sent device takes whole h =
+      subst (λ (x : ConductFault). ConductsBy IsOutput Refuses (Err x) before after taken taken_after r w s) (sym is)
+      (input, take count text, takes, whole, sent, (text, h, within, refl, device))
+
+  -- the text is there, and is sent as far as the writer takes it
+  pub sends : (answer : Result (Unit {0}) ConductFault) (input now text sent : List ℕ) (before after taken taken_after : Option (List ℕ)) (r w s : Bool)
+      → now ≡ input → sent ≡ text → Takes input before after → IsWhole input after → IsOutput now text
+      → Sends answer sent taken taken_after w s → ConductsBy IsOutput Refuses answer before after taken taken_after r w s
+  sends (Ok done) input now text sent before after taken taken_after r w s same same_text takes whole h done_so =
+      (input, text, takes, whole, subst (λ (x : List ℕ). Appends taken taken_after x) same_text done_so, subst (λ (x : List ℕ). IsOutput x text) same h)
+  sends (Err e) input now text sent before after taken taken_after r w s same same_text takes whole h stop =
+      stopped e stop.0 input text before after taken taken_after r w s stop.1
+      (subst (λ (x : List ℕ). stop.0 < length x) same_text stop.2) (subst (λ (x : List ℕ). Appends taken taken_after (take stop.0 x)) same_text stop.3) stop.4 takes whole
+      (subst (λ (x : List ℕ). IsOutput x text) same h)

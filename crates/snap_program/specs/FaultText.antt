@@ -11,6 +11,8 @@ use Rattle.snap_semantics.specs.declared.refusal.ScheduleRefusal.TheVariants as 
 use Rattle.snap_semantics.specs.declared.refusal.Refusal.{Refusal}
 use Rattle.snap_semantics.specs.declared.refusal.Refusal.TheVariants as refusal
 use Rattle.snap_debug.specs.FaultText.{refusal_text as command_refusal_text}
+use Rattle.snap_live.specs.declared.refusal.LiveRefusal.{LiveRefusal}
+use Rattle.snap_live.specs.declared.refusal.LiveRefusal.TheVariants as live
 use Rattle.snap_program.specs.declared.fault.ConductFault.{ConductFault}
 use Rattle.snap_program.specs.declared.fault.ConductFault.TheVariants as fault
 
@@ -59,9 +61,15 @@ refusal_text (refusal.Schedule r) = schedule_refusal_text r
 refusal_text (refusal.Words r) = word_fault_text r
 refusal_text (refusal.Commands r) = command_refusal_text r
 
+abbrev pub live_refusal_text : LiveRefusal → List ℕ
+live_refusal_text (live.Full count) = numbered (codes "V1 Full") count
+live_refusal_text (live.TurnLimit process) = numbered (codes "V2 TurnLimit") process
+live_refusal_text (live.SeatMissing process) = numbered (codes "V3 SeatMissing") process
+
 -- the text of a fault of the program
 abbrev pub fault_text : ConductFault → List ℕ
 fault_text fault.Memory = codes "refused: Memory"
 fault_text (fault.Refused r) = codes "refused: " ++ refusal_text r
+fault_text (fault.Live r) = codes "refused: " ++ live_refusal_text r
 fault_text fault.Read = codes "read fault"
 fault_text (fault.Write count) = numbered (codes "write fault after") count

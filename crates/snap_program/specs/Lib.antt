@@ -1,2 +1,4 @@
+pub mod Asked
 pub mod Conducts
 pub mod FaultText
+pub mod Status

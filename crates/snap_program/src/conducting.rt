@@ -2,13 +2,18 @@
 ghost use Rattle.std.specs.Prelude.{◌≡◌, ◌≤◌, ◌<◌, ◌++◌, ◌⊎◌, ℕ, List, [], true, false, length, take, IfOk, IfErr, OnOk, OnErr, MatchResult};
 ghost use Rattle.std.specs.Io.KnownBytes.{Consumes, Appends, IsAtEnd};
 ghost use Rattle.snap_output.specs.Output.{output_of};
-ghost use Rattle.snap_program.specs.Conducts.{Reads, Sends, Conducts};
+ghost use Rattle.snap_program.specs.Conducts.{Reads, Sends, Conducts, ConductsLive};
 
 use crate::fault::ConductFault;
 use crate::sink::Sink;
 use crate::source::Source;
-use snap_output::{MAX_INPUT, Task, output};
+use snap_input::{MAX_INPUT, Subject};
+use snap_live::Gate;
+use snap_live_output::live_output;
+use snap_output::{Task, output};
 use std::alloc::Global;
+use std::sync::Wait;
+use std::thread::Threads;
 
 /// The bytes of one read.
 const CHUNK: usize = 4096;
@@ -49,6 +54,7 @@ pub fn write_all<W: Sink>(sink: &mut W, text: &[u8]) -> Result<(), ConductFault>
 
 /// Reads the input, and then writes its whole output and nothing else.
 pub fn conduct<R: Source, W: Sink>(
+    rt: &(impl Threads + Sync),
     alloc: Global,
     task: &Task,
     source: &mut R,
@@ -61,6 +67,29 @@ pub fn conduct<R: Source, W: Sink>(
         (R.has_failed source.new) (W.has_failed sink.new) (W.is_stalled sink.new) }
 {
     let input = read_all(alloc, source)?;
-    let text = output(alloc, task, input.as_slice())?;
+    let text = output(rt, alloc, task, input.as_slice())?;
+    write_all(sink, text.as_slice())
+}
+
+/// Reads the input, plays its scripts live, each process with at most `limit` turns for each of which the gate is asked, and then
+/// writes the history of that run and nothing else.
+pub fn conduct_live<G: Gate, R: Source, W: Sink>(
+    rt: &(impl Threads + Wait + Sync),
+    alloc: Global,
+    subject: Subject,
+    limit: u64,
+    gate: &G,
+    source: &mut R,
+    sink: &mut W,
+) -> Result<(), ConductFault>
+    requires limit { (1 ≤ limit) × (limit ≤ 1000000) }
+    requires source { R.has_failed source.old ≡ false }
+    requires sink { W.has_failed sink.old ≡ false }
+    requires goes_on { W.is_stalled sink.old ≡ false }
+    ensures { ConductsLive (G.may_refuse gate.now) subject limit result (R.left source.old) (R.left source.new) (W.taken sink.old) (W.taken sink.new)
+        (R.has_failed source.new) (W.has_failed sink.new) (W.is_stalled sink.new) }
+{
+    let input = read_all(alloc, source)?;
+    let text = live_output(rt, alloc, subject, limit, gate, input.as_slice())?;
     write_all(sink, text.as_slice())
 }

@@ -1,8 +1,11 @@
 //! Why a whole run did not write its output.
 ghost use Rattle.std.specs.Prelude.{◌≡◌};
-ghost use Rattle.snap_program.specs.Conducts.{of_fault};
+ghost use Rattle.snap_program.specs.Conducts.{of_fault, of_live_fault};
+ghost use Rattle.snap_program.specs.Status.{status_of};
 ghost use Rattle.snap_program.specs.declared.fault.ConductFault.TheVariants.{Memory};
 
+use snap_live::LiveRefusal;
+use snap_live_output::LiveRunFault;
 use snap_semantics::{Fault, Refusal};
 use std::alloc::{AllocError, AllocFailed};
 use thiserror::Error;
@@ -14,11 +17,24 @@ pub enum ConductFault {
     Memory,
     #[error("{0}")]
     Refused(Refusal),
+    /// A live run was given up.
+    #[error("{0}")]
+    Live(LiveRefusal),
     #[error("the input could not be read")]
     Read,
     /// The output could not be written after so many bytes.
     #[error("the output could not be written after {0} bytes")]
     Write(u64),
+}
+
+/// The status of a run that was refused or given up, or whose device failed.
+pub fn status_of(fault: &ConductFault) -> u8
+    ensures { result ≡ status_of fault.now }
+{
+    match fault {
+        ConductFault::Memory | ConductFault::Refused(_) | ConductFault::Live(_) => 1,
+        ConductFault::Read | ConductFault::Write(_) => 3,
+    }
 }
 
 impl From<AllocError> for ConductFault {
@@ -44,6 +60,18 @@ impl From<Fault<Refusal>> for ConductFault {
         match fault {
             Fault::Memory => ConductFault::Memory,
             Fault::Refused(refusal) => ConductFault::Refused(refusal),
+        }
+    }
+}
+
+impl From<LiveRunFault> for ConductFault {
+    ghost from_gives = { λ found fault. fault ≡ of_live_fault found };
+
+    fn from(fault: LiveRunFault) -> ConductFault {
+        match fault {
+            LiveRunFault::Memory => ConductFault::Memory,
+            LiveRunFault::Refused(refusal) => ConductFault::Refused(refusal),
+            LiveRunFault::Live(refusal) => ConductFault::Live(refusal),
         }
     }
 }

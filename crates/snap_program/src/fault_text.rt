@@ -8,10 +8,12 @@ ghost use Rattle.snap_program.specs.FaultText.{
   word_fault_text,
   refusal_text,
   fault_text,
+  live_refusal_text,
 };
 
 use crate::fault::ConductFault;
 use snap_debug::push_refusal as push_command_refusal;
+use snap_live::LiveRefusal;
 use snap_semantics::{ImageRefusal, ListingRefusal, Refusal, ScheduleRefusal};
 use snap_text::{push_number, push_text};
 use snap_words::WordFault;
@@ -95,6 +97,20 @@ fn push_refusal(out: &mut Vec<u8>, refusal: &Refusal) -> Result<(), AllocError>
     }
 }
 
+fn push_live_refusal(out: &mut Vec<u8>, refusal: &LiveRefusal) -> Result<(), AllocError>
+    ensures { OnOk result (out.new.items ≡ out.old.items ++ live_refusal_text refusal.now) }
+{
+    match refusal {
+        LiveRefusal::Full(count) => push_numbered(out, b"V1 Full", *count),
+        LiveRefusal::TurnLimit(process) => {
+            push_numbered(out, b"V2 TurnLimit", u64::from(*process))
+        }
+        LiveRefusal::SeatMissing(process) => {
+            push_numbered(out, b"V3 SeatMissing", u64::from(*process))
+        }
+    }
+}
+
 /// The line that says why the program did not write its output.
 pub fn fault_line(alloc: Global, fault: &ConductFault) -> Result<Vec<u8>, AllocError>
     ensures { IfOk result (λ line. line.items ≡ fault_text fault.now ++ codes "\n") }
@@ -105,6 +121,10 @@ pub fn fault_line(alloc: Global, fault: &ConductFault) -> Result<Vec<u8>, AllocE
         ConductFault::Refused(refusal) => {
             push_text(&mut line, b"refused: ")?;
             push_refusal(&mut line, refusal)?;
+        }
+        ConductFault::Live(refusal) => {
+            push_text(&mut line, b"refused: ")?;
+            push_live_refusal(&mut line, refusal)?;
         }
         ConductFault::Read => push_text(&mut line, b"read fault")?,
         ConductFault::Write(count) => push_numbered(&mut line, b"write fault after", *count)?,

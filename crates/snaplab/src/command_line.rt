@@ -1,15 +1,21 @@
 //! The command line.
-ghost use Rattle.std.specs.Prelude.{◌≡◌};
-ghost use Rattle.snaplab.specs.Tasks.{kind_of, task_of};
+ghost use Rattle.std.specs.Prelude.{IfOk, IfSome};
+ghost use Rattle.snap_program.specs.Asked.{HasLimit, IsLimit};
 
+use clap::builder::ValueParser;
 use clap::error::ErrorKind;
 use clap::{Arg, ArgMatches, Command, Error};
-use snap_program::{Subject, Task};
-use snap_words::KindTag;
+use snap_program::{Asked, Subject, asked_of, kind_of};
 use std::alloc::{AllocError, Global};
 
 /// The kinds that `--shipped` takes.
 const KINDS: &[&str] = &["seq", "bit", "multi"];
+
+/// The most turns that a process of a live run may have.
+const MAX_LIMIT: u64 = 1_000_000;
+
+/// The most that it has where no limit is given.
+const USUAL_LIMIT: u64 = 100_000;
 
 /// A subcommand that runs a listing: one of the input, or a shipped one.
 fn running<'a>(alloc: Global, name: &'a str, about: &'a str) -> Result<Command<'a>, AllocError> {
@@ -21,6 +27,22 @@ fn running<'a>(alloc: Global, name: &'a str, about: &'a str) -> Result<Command<'
     Command::new(alloc, name).about(about).arg(shipped)
 }
 
+/// The subcommand that plays scripts.
+fn live<'a>(alloc: Global) -> Result<Command<'a>, AllocError> {
+    let limit = Arg::new(alloc, "limit")
+        .long("limit")
+        .value_name("N")
+        .value_parser(ValueParser::unsigned(1, MAX_LIMIT))
+        .default_value("100000")
+        .help("The most turns of a process");
+    running(
+        alloc,
+        "live",
+        "Plays scripts live, each process in a thread of its own",
+    )?
+    .arg(limit)
+}
+
 /// The words that the program takes.
 fn command<'a>(alloc: Global) -> Result<Command<'a>, AllocError> {
     Command::new(alloc, "snaplab")
@@ -29,6 +51,7 @@ fn command<'a>(alloc: Global) -> Result<Command<'a>, AllocError> {
         .subcommand(Command::new(alloc, "check").about("Says whether a text is a listing"))?
         .subcommand(Command::new(alloc, "assemble").about("Writes the image of a listing"))?
         .subcommand(Command::new(alloc, "list").about("Writes the text of an image"))?
+        .subcommand(Command::new(alloc, "upgrade").about("Writes an image in the second version"))?
         .subcommand(running(alloc, "run", "Runs a listing under a schedule")?)?
         .subcommand(running(
             alloc,
@@ -39,33 +62,18 @@ fn command<'a>(alloc: Global) -> Result<Command<'a>, AllocError> {
             alloc,
             "audit",
             "Says of each finished scan which state it stands for",
-        )?)
+        )?)?
+        .subcommand(running(alloc, "batch", "Runs a listing under many schedules")?)?
+        .subcommand(live(alloc)?)
 }
 
-/// The kind of this name.
-fn kind_of(name: &str) -> Option<KindTag>
-    ensures { result ≡ kind_of name.now }
+/// The limit that a subcommand's words ask for, where it takes one. It takes no other than these.
+fn limit_of(words: &ArgMatches<'_>) -> u64
+    ensures { IsLimit result }
 {
-    match name {
-        "seq" => Some(KindTag::Seq),
-        "bit" => Some(KindTag::Bits),
-        "multi" => Some(KindTag::Multi),
-        _ => None,
-    }
-}
-
-/// The task of this name.
-fn task_of(name: &str, subject: Subject) -> Option<Task>
-    ensures { result ≡ task_of name.now subject }
-{
-    match name {
-        "check" => Some(Task::Check),
-        "assemble" => Some(Task::Assemble),
-        "list" => Some(Task::List),
-        "run" => Some(Task::Run(subject)),
-        "debug" => Some(Task::Debug(subject)),
-        "audit" => Some(Task::Audit(subject)),
-        _ => None,
+    match words.get_one::<u64>("limit") {
+        Some(limit) if 1 <= limit && limit <= MAX_LIMIT => limit,
+        _ => USUAL_LIMIT,
     }
 }
 
@@ -77,19 +85,23 @@ fn subject_of(words: &ArgMatches<'_>) -> Option<Subject> {
     }
 }
 
+/// What the words of a subcommand ask for.
+fn asked_by(matches: &ArgMatches<'_>) -> Option<Asked>
+    ensures { IfSome result HasLimit }
+{
+    let (name, words) = matches.subcommand()?;
+    let subject = subject_of(words)?;
+    asked_of(name, subject, limit_of(words))
+}
+
 /// What the words ask for, the program's own name first.
-pub fn task_of_words<'a>(alloc: Global, words: &'a [String]) -> Result<Task, Error> {
+pub fn asked_of_words<'a>(alloc: Global, words: &'a [String]) -> Result<Asked, Error>
+    ensures { IfOk result HasLimit }
+{
     let mut command = command(alloc)?;
     let matches = command.try_get_matches_from_mut(words)?;
-    let found = match matches.subcommand() {
-        Some((name, words)) => match subject_of(words) {
-            Some(subject) => task_of(name, subject),
-            None => None,
-        },
-        None => None,
-    };
-    match found {
-        Some(task) => Ok(task),
+    match asked_by(&matches) {
+        Some(asked) => Ok(asked),
         None => Err(command.error(ErrorKind::MissingSubcommand, "no subcommand")?),
     }
 }

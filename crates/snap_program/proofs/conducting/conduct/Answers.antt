@@ -1,16 +1,17 @@
-use Rattle.snap_program.proofs.Runs.{refused, sends}
+use Rattle.snap_program.specs.Conducts.{IsOutputOf, RefusesTask, of_fault}
+use Rattle.snap_program.proofs.Runs.{refused, sends, why_task}
 use Rattle.snap_program.proofs.conducting.conduct.Goals as goal
 
 pub returns-in_err-text : goal.returns-in_err-text
 returns-in_err-text g c =
     let read = c.in_ok-input.ensures in
-    refused c.from_residual-in_err-text.result c.in_err-text.field-0.0 c.args.task.now c.in_ok-input.input.items c.as_slice.result.now
+    refused (IsOutputOf c.args.task.now) (RefusesTask c.args.task.now) c.from_residual-in_err-text.result (of_fault c.in_err-text.field-0.0) c.in_ok-input.input.items c.as_slice.result.now
     (g.R.Source.left c.args.source.now) (g.R.Source.left c.read_all.new.source) (g.W.Sink.taken c.args.sink.now) _ _ _
-    c.from_residual-in_err-text.ensures c.as_slice.ensures.value read.0 read.1 c.in_err-text.ensures
+    c.from_residual-in_err-text.ensures c.as_slice.ensures.value read.0 read.1 (why_task c.in_err-text.field-0.0 c.args.task.now c.as_slice.result.now c.in_err-text.ensures)
 
 pub returns : goal.returns
 returns g c =
     let read = c.in_ok-input.ensures in
-    sends c.write_all.result c.args.task.now c.in_ok-input.input.items c.as_slice.result.now c.in_ok-text.text.items _
+    sends (IsOutputOf c.args.task.now) (RefusesTask c.args.task.now) c.write_all.result c.in_ok-input.input.items c.as_slice.result.now c.in_ok-text.text.items _
     (g.R.Source.left c.args.source.now) (g.R.Source.left c.read_all.new.source) (g.W.Sink.taken c.args.sink.now) (g.W.Sink.taken c.write_all.new.sink) _ _ _
     c.as_slice.ensures.value c.as_slice-2.ensures.value read.0 read.1 c.in_ok-text.ensures c.write_all.ensures

@@ -6,9 +6,10 @@ use Rattle.snap_semantics.specs.Listing.{listing_of, listing_of_lines, header_of
 use Rattle.snap_semantics.specs.ListingForms as forms
 use Rattle.snap_semantics.specs.ScheduleForms as schedules
 use Rattle.snap_debug.specs.CommandForms as commands
-use Rattle.snap_output.specs.Output.{output_of, parted}
+use Rattle.snap_input.specs.Input.{parted}
+use Rattle.snap_output.specs.Output.{output_of}
 use Rattle.snap_output.specs.Perform.{perform_listing, schedule_for}
-use Rattle.snap_output.specs.declared.task.Subject.TheVariants as subject
+use Rattle.snap_input.specs.declared.subject.Subject.TheVariants as subject
 use Rattle.snap_output.specs.declared.task.Task.TheVariants as task
 
 -- one update by process 1 of 2

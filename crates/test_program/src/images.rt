@@ -3,28 +3,39 @@ use crate::runs::{INPUT, LISTING};
 use snap_program::{ConductFault, Std, Task, conduct, fault_line};
 use snap_semantics::{ImageRefusal, ListingRefusal, Refusal};
 use std::test::Fail;
+use std::thread::Threads;
 
 /// A small listing.
 const SMALL: &[u8; 71] =
     b"kind seq\nscalar\nrow\nwords\nview s\nscan 1\nupdate 2\n1: return s\n2: finish\n";
 
-/// Its image.
-const IMAGE: [u8; 25] = [
+/// Its image in the first version.
+const FIRST_IMAGE: [u8; 25] = [
     0x53, 0x4e, 0x41, 0x50, 0x01, 0x00, 0x00, 0x00, 0x00, 0x01, 0x01, 0x73, 0x00, 0x01, 0x00, 0x02,
     0x00, 0x02, 0x00, 0x01, 0x16, 0x00, 0x00, 0x02, 0x17,
 ];
 
+/// Its image.
+const IMAGE: [u8; 27] = [
+    0x53, 0x4e, 0x41, 0x50, 0x02, 0x00, 0x00, 0x00, 0x00, 0x01, 0x01, 0x73, 0x00, 0x01, 0x00, 0x02,
+    0x00, 0x02, 0x00, 0x01, 0x16, 0x00, 0x00, 0x00, 0x02, 0x17, 0x00,
+];
+
 /// What a task writes for an input.
-pub fn written(rt: &HostRuntime, task: Task, input: &[u8]) -> Result<Vec<u8>, ConductFault> {
+pub fn written<R: AllocGlobal + Threads + Sync>(
+    rt: &R,
+    task: Task,
+    input: &[u8],
+) -> Result<Vec<u8>, ConductFault> {
     let mut source = Std::new(input);
     let mut sink = Std::new(Vec::new(rt.alloc()));
-    conduct(rt.alloc(), &task, &mut source, &mut sink)?;
+    conduct(rt, rt.alloc(), &task, &mut source, &mut sink)?;
     Ok(sink.into_inner())
 }
 
-/// The small listing's image with another byte in this place.
+/// The small listing's image in the first version with another byte in this place.
 fn changed(place: usize, byte: u8) -> [u8; 25] {
-    let mut image = IMAGE;
+    let mut image = FIRST_IMAGE;
     if place < image.len() {
         image[place] = byte;
     }
@@ -48,6 +59,8 @@ fn assembles_and_lists(rt: HostRuntime) -> Result<(), Fail> {
     assert_eq!(rt; image.as_slice(), IMAGE.as_slice());
     let text = written(&rt, Task::List, image.as_slice())?;
     assert_eq!(rt; text.as_slice(), SMALL.as_slice());
+    let image = written(&rt, Task::Upgrade, FIRST_IMAGE.as_slice())?;
+    assert_eq!(rt; image.as_slice(), IMAGE.as_slice());
     let image = written(&rt, Task::Assemble, LISTING.as_slice())?;
     let text = written(&rt, Task::List, image.as_slice())?;
     assert_eq!(rt; text.as_slice(), LISTING.as_slice());
@@ -65,7 +78,7 @@ fn refuses_what_is_no_image(rt: HostRuntime) -> Result<(), Fail> {
             b"refused: I1 NotAnImage\n".as_slice(),
         ),
         (
-            changed(4, 2).as_slice(),
+            changed(4, 3).as_slice(),
             ImageRefusal::Version,
             b"refused: I2 Version\n",
         ),

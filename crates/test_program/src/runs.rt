@@ -24,7 +24,7 @@ pub const RUN: Task = Task::Run(Subject::FirstPart);
 fn writes_what_std_takes(rt: HostRuntime) -> Result<(), Fail> {
     let mut source = Std::new(INPUT.as_slice());
     let mut sink = Std::new(Vec::new(rt.alloc()));
-    conduct(rt.alloc(), &RUN, &mut source, &mut sink)?;
+    conduct(&rt, rt.alloc(), &RUN, &mut source, &mut sink)?;
     assert_eq!(rt; sink.into_inner().as_slice(), OUTPUT.as_slice());
     Ok(())
 }
@@ -33,7 +33,7 @@ fn writes_what_std_takes(rt: HostRuntime) -> Result<(), Fail> {
 fn one_byte_a_call_changes_nothing(rt: HostRuntime) -> Result<(), Fail> {
     let mut source = Trickle::new(INPUT.as_slice(), 1000);
     let mut sink = Narrow::new(rt.alloc(), 1, 1000);
-    conduct(rt.alloc(), &RUN, &mut source, &mut sink)?;
+    conduct(&rt, rt.alloc(), &RUN, &mut source, &mut sink)?;
     assert_eq!(rt; sink.taken.as_slice(), OUTPUT.as_slice());
     Ok(())
 }
@@ -43,7 +43,7 @@ fn reader_fails_at_each_call(rt: HostRuntime) {
     for calls in 0..199 {
         let mut source = Trickle::new(INPUT.as_slice(), calls);
         let mut sink = Narrow::new(rt.alloc(), 1, 1000);
-        let done = conduct(rt.alloc(), &RUN, &mut source, &mut sink);
+        let done = conduct(&rt, rt.alloc(), &RUN, &mut source, &mut sink);
         assert_eq!(rt; done, Err(ConductFault::Read), "at {calls}");
         assert_eq!(rt; sink.taken.len(), 0, "at {calls}");
     }
@@ -54,7 +54,7 @@ fn writer_fails_at_each_call(rt: HostRuntime) {
     for calls in 0..314 {
         let mut source = Trickle::new(INPUT.as_slice(), 1000);
         let mut sink = Narrow::new(rt.alloc(), 1, calls);
-        let done = conduct(rt.alloc(), &RUN, &mut source, &mut sink);
+        let done = conduct(&rt, rt.alloc(), &RUN, &mut source, &mut sink);
         assert_eq!(rt; done, Err(ConductFault::Write(calls)), "at {calls}");
         assert_eq!(rt;
             sink.taken.as_slice(),
@@ -69,14 +69,14 @@ fn writer_takes_five_or_none(rt: HostRuntime) {
     let mut source = Trickle::new(INPUT.as_slice(), 1000);
     let mut sink = Narrow::new(rt.alloc(), 5, 1);
     assert_eq!(rt;
-        conduct(rt.alloc(), &RUN, &mut source, &mut sink),
+        conduct(&rt, rt.alloc(), &RUN, &mut source, &mut sink),
         Err(ConductFault::Write(5))
     );
     assert_eq!(rt; sink.taken.as_slice(), b"> run".as_slice());
     let mut source = Trickle::new(INPUT.as_slice(), 1000);
     let mut sink = Narrow::new(rt.alloc(), 0, 1000);
     assert_eq!(rt;
-        conduct(rt.alloc(), &RUN, &mut source, &mut sink),
+        conduct(&rt, rt.alloc(), &RUN, &mut source, &mut sink),
         Err(ConductFault::Write(0))
     );
 }
@@ -92,7 +92,7 @@ fn counts_parts(rt: HostRuntime) -> Result<(), Fail> {
     ] {
         let mut source = Trickle::new(input, 1000);
         let mut sink = Narrow::new(rt.alloc(), 1, 1000);
-        let done = conduct(rt.alloc(), &RUN, &mut source, &mut sink);
+        let done = conduct(&rt, rt.alloc(), &RUN, &mut source, &mut sink);
         assert_eq!(rt;
             done,
             Err(ConductFault::Refused(Refusal::WrongParts(found))),

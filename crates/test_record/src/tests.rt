@@ -6,7 +6,7 @@ ghost use Rattle.snap_semantics.specs.Table.{who};
 use snap_asm::{Program, assemble, load};
 use snap_audit::{audit, verdict_line};
 use snap_record::{MAX_ITEMS, Record, RecordFault};
-use snap_semantics::{Happening, Item, Op, Outcome, Reason};
+use snap_semantics::{Item, Op, Outcome, Reason};
 use snap_words::{KindTag, Seq, Shape};
 use std::alloc::Global;
 use std::process::Abort;
@@ -108,25 +108,6 @@ fn check_audit(
     Ok(())
 }
 
-/// Process 1 scans, and nobody writes.
-fn scan_alone(rt: &impl Abort, record: &mut Record<Seq>) -> Result<(), Fail> {
-    call(rt, record, 1, Op::Scan)?;
-    step(rt, record, 1, 13)
-}
-
-#[test]
-fn a_scan_alone_has_its_call_as_its_point(rt: HostRuntime) -> Result<(), Fail> {
-    let mut record = new_record(&rt, rt.alloc())?;
-    scan_alone(&rt, &mut record)?;
-    assert_eq!(rt; record.events().len(), 2);
-    check_audit(
-        &rt,
-        rt.alloc(),
-        &record,
-        b"scan 1 call 1 answer 14 point 1 collects 1\n",
-    )
-}
-
 /// Process 2 updates its word to a value, while process 1 scans.
 fn update_between(
     rt: &impl Abort,
@@ -187,39 +168,4 @@ fn a_million_items_are_kept(rt: HostRuntime) -> Result<(), Fail> {
     }
     assert_eq!(rt; record.items().len(), MAX_ITEMS);
     Ok(())
-}
-
-/// A crash.
-fn crash(rt: &impl Abort, record: &mut Record<Seq>, i: u32) -> Result<(), Fail> {
-    match apply(rt, record, Item::Crash(i))? {
-        Outcome::Crashed => {}
-        other => assert!(rt; false, "{other:?}"),
-    }
-    Ok(())
-}
-
-/// Process 2 crashes in its update, right after its write, and then process 1 scans.
-fn scan_after_crash(rt: &impl Abort, record: &mut Record<Seq>) -> Result<(), Fail> {
-    call(rt, record, 2, Op::Update { word: 2, value: 5 })?;
-    step(rt, record, 2, 16)?;
-    crash(rt, record, 2)?;
-    step(rt, record, 2, 1)?;
-    scan_alone(rt, record)
-}
-
-#[test]
-fn a_crash_is_an_event(rt: HostRuntime) -> Result<(), Fail> {
-    let mut record = new_record(&rt, rt.alloc())?;
-    scan_after_crash(&rt, &mut record)?;
-    let events = record.events();
-    assert_eq!(rt; events.len(), 4);
-    assert_eq!(rt; events[1].item, 18);
-    assert!(rt; matches!(events[1].what, Happening::Crash));
-    assert!(rt; matches!(record.items().item(18), Some(Item::Crash(2))));
-    check_audit(
-        &rt,
-        rt.alloc(),
-        &record,
-        b"scan 1 call 20 answer 33 point 20 collects 1\n",
-    )
 }

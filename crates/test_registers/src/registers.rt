@@ -77,6 +77,25 @@ fn bits(rt: HostRuntime) -> Result<(), Fail> {
     Ok(())
 }
 
+/// Whether of the bits of 64 processes the first one of the last row is 1, and those next to it are 0.
+fn has_one_of_many(registers: &Registers<Multi>) -> bool {
+    registers.bit(BitBank::Q, 64, 1) == Ok(1)
+        && registers.bit(BitBank::Q, 63, 64) == Ok(0)
+        && registers.bit(BitBank::Q, 64, 2) == Ok(0)
+        && registers.bit(BitBank::Q, 1, 64) == Ok(0)
+        && registers.bit(BitBank::Q, 64, 64) == Ok(0)
+        && registers.bit(BitBank::P, 64, 1) == Ok(0)
+        && registers.bit(BitBank::Q, 64, 65) == Err(RegisterFault::Index)
+}
+
+#[test]
+fn many_bits(rt: HostRuntime) -> Result<(), Fail> {
+    let mut registers = Registers::<Multi>::new(rt.alloc(), Shape::new(64, 1)?)?;
+    assert!(rt; registers.put_bit(64, BitBank::Q, 64, 1, 1) == Ok(()));
+    assert!(rt; has_one_of_many(&registers));
+    Ok(())
+}
+
 /// What comes of it when process 1 puts a word of kind multi at place 2.
 fn put_multi(
     alloc: Global,

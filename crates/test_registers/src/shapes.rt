@@ -21,22 +21,24 @@ fn is_refused(n: u64, w: u64) -> bool {
 
 #[test]
 fn bounds(rt: HostRuntime) {
-    assert!(rt; has_shape(16, 1));
-    for (n, w) in [(0, 1), (1, 0), (17, 1), (1, 17)] {
+    assert!(rt; has_shape(1, 1) && has_shape(64, 1) && has_shape(64, 64));
+    for (n, w) in [(0, 1), (1, 0), (65, 1), (1, 65)] {
         assert!(rt; is_refused(n, w), "{n} {w}");
     }
 }
 
-/// Whether the copy of a view has these values.
+/// Whether the copy of a view has these values, and the copy of the copy.
 fn copies_as(alloc: Global, view: &View, want: &[u64]) -> Result<bool, AllocError> {
     let copy = view.copy(alloc)?;
-    Ok(copy.as_slice() == want)
+    let again = copy.copy(alloc)?;
+    Ok(copy.as_slice() == want && again.as_slice() == want)
 }
 
-/// Whether a view of 7 and 0 is copied.
+/// Whether a view of 7 and 0 is copied, of values of its own and of shared ones.
 fn is_copied(alloc: Global) -> Result<bool, AllocError> {
-    let view = View::of(vec![in alloc; 7, 0]?);
-    copies_as(alloc, &view, &[7, 0])
+    let own = View::of(vec![in alloc; 7, 0]?);
+    let shared = View::shared(alloc, vec![in alloc; 7, 0]?)?;
+    Ok(copies_as(alloc, &own, &[7, 0])? && copies_as(alloc, &shared, &[7, 0])?)
 }
 
 #[test]

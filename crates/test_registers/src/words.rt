@@ -3,10 +3,10 @@ ghost use Rattle.std.specs.Prelude.{◌≡◌, true};
 ghost use Rattle.snap_words.specs.Kind.{is_sized};
 ghost use Rattle.snap_words.specs.Parts.{word_of_parts};
 
-use crate::parts::parts;
+use crate::parts::{parts, parts_of_many};
 use snap_words::{
-    Address, Bank, Bits, Field, Kind, KindTag, Multi, Parts, Seq, Shape, View, WordFault, field_of,
-    hands_of, view_of,
+    Address, Bank, Bits, BitsWord, Field, Kind, KindTag, Multi, Parts, Seq, Shape, View, WordFault,
+    field_of, hand_of, same_hands, view_of,
 };
 use std::alloc::{AllocError, Global};
 use std::test::Fail;
@@ -19,7 +19,7 @@ struct Wanted {
     id: Option<u64>,
     toggle: Option<u64>,
     hand: Option<u64>,
-    hands: Option<&'static [u64]>,
+    hands: &'static [u64],
     view: Option<&'static [u64]>,
 }
 
@@ -30,6 +30,16 @@ fn is_row(row: Option<&View>, want: Option<&[u64]>) -> bool {
         (None, None) => true,
         _ => false,
     }
+}
+
+/// Whether a word has these hands, and no more of them.
+fn has_hands<K: Kind>(word: &K::Word, want: &[u64]) -> bool {
+    for (place, hand) in want.iter().enumerate() {
+        if hand_of::<K>(word, place) != *hand {
+            return false;
+        }
+    }
+    K::hand_count(word) as usize == want.len() && hand_of::<K>(word, want.len()) == 0
 }
 
 /// Whether the fields of a word and its second hand are as wanted.
@@ -44,14 +54,14 @@ fn has_fields<K: Kind>(word: &K::Word, want: &Wanted) -> bool {
 /// Whether a word is as wanted.
 fn is_word<K: Kind>(word: &K::Word, want: &Wanted) -> bool {
     has_fields::<K>(word, want)
-        && is_row(K::hands(word), want.hands)
+        && has_hands::<K>(word, want.hands)
         && is_row(K::view(word), want.view)
 }
 
 /// Whether the copy of a word is as wanted.
 fn copies_as<K: Kind>(alloc: Global, word: &K::Word, want: &Wanted) -> Result<bool, AllocError> {
     let copy = K::copy(alloc, word)?;
-    Ok(is_word::<K>(&copy, want))
+    Ok(is_word::<K>(&copy, want) && same_hands::<K>(&copy, word))
 }
 
 /// Whether a word of these parts is built, and its copy is as wanted.
@@ -146,7 +156,7 @@ fn seq(rt: HostRuntime) -> Result<(), Fail> {
         id: None,
         toggle: None,
         hand: None,
-        hands: None,
+        hands: &[],
         view: Some(&[5, 6]),
     };
     assert!(rt; builds_as::<Seq>(rt.alloc(), shape, parts(rt.alloc(), 2, 2)?, &built)?);
@@ -169,7 +179,7 @@ fn bits(rt: HostRuntime) -> Result<(), Fail> {
         id: None,
         toggle: Some(1),
         hand: Some(1),
-        hands: Some(&[0, 1]),
+        hands: &[0, 1],
         view: Some(&[5, 6]),
     };
     assert!(rt; builds_as::<Bits>(rt.alloc(), shape, parts(rt.alloc(), 1, 1)?, &built)?);
@@ -179,11 +189,31 @@ fn bits(rt: HostRuntime) -> Result<(), Fail> {
         datum: Some(0),
         toggle: Some(0),
         hand: Some(0),
-        hands: Some(&[0, 0]),
+        hands: &[0, 0],
         view: Some(&[0, 0]),
         ..built
     };
     assert!(rt; begins_as::<Bits>(rt.alloc(), shape, &new)?);
+    Ok(())
+}
+
+/// Whether the last of 64 hands is 1, the others are 0, and there are no more.
+fn has_last_of_many(word: &BitsWord) -> bool {
+    Bits::hand_count(word) == 64
+        && Bits::hand(word, 1) == Some(0)
+        && Bits::hand(word, 63) == Some(0)
+        && Bits::hand(word, 64) == Some(1)
+        && Bits::hand(word, 65).is_none()
+        && Bits::hand(word, 0).is_none()
+}
+
+#[test]
+fn many_hands(rt: HostRuntime) -> Result<(), Fail> {
+    let shape = Shape::new(64, 2)?;
+    let word = Bits::build(shape, parts_of_many(rt.alloc())?)?;
+    assert!(rt; has_last_of_many(&word));
+    let copy = Bits::copy(rt.alloc(), &word)?;
+    assert!(rt; has_last_of_many(&copy) && same_hands::<Bits>(&word, &copy));
     Ok(())
 }
 
@@ -196,7 +226,7 @@ fn multi(rt: HostRuntime) -> Result<(), Fail> {
         id: Some(9),
         toggle: Some(1),
         hand: None,
-        hands: None,
+        hands: &[],
         view: None,
     };
     assert!(rt; builds_as::<Multi>(rt.alloc(), shape, parts(rt.alloc(), 1, 2)?, &built)?);
@@ -215,7 +245,7 @@ fn multi(rt: HostRuntime) -> Result<(), Fail> {
 fn has_parts<K: Kind>(alloc: Global, hands: &[u64], view: &[u64]) -> Result<bool, Fail> {
     let word = K::initial(alloc, Shape::new(2, 2)?)?;
     Ok(
-        hands_of::<K>(&word) == hands
+        has_hands::<K>(&word, hands)
             && view_of::<K>(&word) == view
             && field_of::<K>(&word, Field::Seq) == 0,
     )

@@ -1,5 +1,5 @@
 //! Texts, their images, and the programs that are loaded.
-use snap_asm::{Program, assemble, list, load};
+use snap_asm::{Program, assemble, list, load, upgrade};
 use snap_image::ImageFault;
 use snap_listing::ListingFault;
 use snap_semantics::{ImageRefusal, ListingRefusal, Name, Sort};
@@ -12,11 +12,21 @@ use std::test::Fail;
 const SMALL: &[u8] =
     b"kind seq\nscalar\nrow\nwords\nview s\nscan 1\nupdate 2\n1: return s\n2: finish\n";
 
-/// Its image.
-const SMALL_IMAGE: [u8; 25] = [
+/// Its image in the first version.
+const FIRST_IMAGE: [u8; 25] = [
     0x53, 0x4e, 0x41, 0x50, 0x01, 0x00, 0x00, 0x00, 0x00, 0x01, 0x01, 0x73, 0x00, 0x01, 0x00, 0x02,
     0x00, 0x02, 0x00, 0x01, 0x16, 0x00, 0x00, 0x02, 0x17,
 ];
+
+/// Its image in the second version.
+const SMALL_IMAGE: [u8; 27] = [
+    0x53, 0x4e, 0x41, 0x50, 0x02, 0x00, 0x00, 0x00, 0x00, 0x01, 0x01, 0x73, 0x00, 0x01, 0x00, 0x02,
+    0x00, 0x02, 0x00, 0x01, 0x16, 0x00, 0x00, 0x00, 0x02, 0x17, 0x00,
+];
+
+/// The same listing with a comment.
+const DONE: &[u8] =
+    b"kind seq\nscalar\nrow\nwords\nview s\nscan 1\nupdate 2\n1: return s\n2: finish # done\n";
 
 /// A listing in its canonical text.
 const PLAIN: &[u8] = b"\
@@ -35,7 +45,7 @@ const PLAIN: &[u8] = b"\
     15: finish\n\
 ";
 
-/// The same listing with comments, blank lines, and spaces and tabs between the tokens.
+/// The same listing with blank lines, spaces and tabs between the tokens, and comments on other lines than the numbered ones.
 const LOOSE: &[u8] = b"\
     # an update\n\
     \n\
@@ -49,7 +59,8 @@ const LOOSE: &[u8] = b"\
     update 10\n\
     10 : let j=1\n\
     11\t:get a[ j\t] = r[j ]\n\
-    12: next j n goto 11 # each word\n\
+    12: next j n goto 11\n\
+    # each word\n\
     13: let c=c+1\n\
     \n\
     14: put r [ me ] = ( arg,c , s )\n\
@@ -115,11 +126,36 @@ fn check_names(rt: &impl Abort, program: &Program) {
 fn assembles_and_lists_a_small_listing(rt: HostRuntime) -> Result<(), Fail> {
     assert!(rt; assembles_as(rt.alloc(), SMALL, SMALL_IMAGE.as_slice())?);
     assert!(rt; lists_as(rt.alloc(), SMALL_IMAGE.as_slice(), SMALL)?);
+    assert!(rt; lists_as(rt.alloc(), FIRST_IMAGE.as_slice(), SMALL)?);
+    Ok(())
+}
+
+/// Whether an image is upgraded to this one.
+fn upgrades_to(alloc: Global, image: &[u8], want: &[u8]) -> Result<bool, Fail> {
+    let newer = upgrade(alloc, image)?;
+    Ok(newer.as_slice() == want)
+}
+
+#[test]
+fn upgrades_to_the_second_version(rt: HostRuntime) -> Result<(), Fail> {
+    assert!(rt; upgrades_to(rt.alloc(), FIRST_IMAGE.as_slice(), SMALL_IMAGE.as_slice())?);
+    assert!(rt; upgrades_to(rt.alloc(), SMALL_IMAGE.as_slice(), SMALL_IMAGE.as_slice())?);
     Ok(())
 }
 
 #[test]
-fn comments_and_spaces_leave_no_trace(rt: HostRuntime) -> Result<(), Fail> {
+fn keeps_a_comment_in_the_image(rt: HostRuntime) -> Result<(), Fail> {
+    let mut image = [0; 34];
+    image[..26].copy_from_slice(&SMALL_IMAGE[..26]);
+    image[26..].copy_from_slice(b"\x01\x00\x05 done".as_slice());
+    assert!(rt; assembles_as(rt.alloc(), DONE, image.as_slice())?);
+    assert!(rt; lists_as(rt.alloc(), image.as_slice(), DONE)?);
+    assert!(rt; upgrades_to(rt.alloc(), image.as_slice(), image.as_slice())?);
+    Ok(())
+}
+
+#[test]
+fn spaces_and_other_comments_leave_no_trace(rt: HostRuntime) -> Result<(), Fail> {
     let image = assemble(rt.alloc(), PLAIN)?;
     assert!(rt; assembles_as(rt.alloc(), LOOSE, image.as_slice())?);
     assert!(rt; lists_as(rt.alloc(), image.as_slice(), PLAIN)?);
@@ -149,7 +185,7 @@ fn copies_a_program(rt: HostRuntime) -> Result<(), Fail> {
 fn passes_refusals_on(rt: HostRuntime) {
     let text = assemble(rt.alloc(), b"kind none\n".as_slice()).err();
     assert!(rt; text == Some(ListingFault::Refused(ListingRefusal::BadHeader(1))));
-    assert!(rt; is_refused(rt.alloc(), &SMALL_IMAGE[..24], ImageRefusal::Truncated));
+    assert!(rt; is_refused(rt.alloc(), &FIRST_IMAGE[..24], ImageRefusal::Truncated));
     assert!(rt; is_refused(rt.alloc(), b"SNAP".as_slice(), ImageRefusal::Truncated));
     assert!(rt; is_refused(rt.alloc(), b"text".as_slice(), ImageRefusal::NotAnImage));
 }

@@ -1,7 +1,7 @@
 //! Images that are encoded and decoded.
 use snap_image::{ImageFault, decode, encode};
-use snap_listing::read;
-use snap_semantics::ImageRefusal;
+use snap_listing::read_commented;
+use snap_semantics::{ImageRefusal, ListingRefusal};
 use std::alloc::Global;
 use std::process::Abort;
 use std::test::Fail;
@@ -10,14 +10,20 @@ use std::test::Fail;
 const SMALL: &[u8] =
     b"kind seq\nscalar\nrow\nwords\nview s\nscan 1\nupdate 2\n1: return s\n2: finish\n";
 
-/// Its image.
-const SMALL_IMAGE: [u8; 25] = [
+/// Its image in the first version.
+const FIRST_IMAGE: [u8; 25] = [
     0x53, 0x4e, 0x41, 0x50, 0x01, 0x00, 0x00, 0x00, 0x00, 0x01, 0x01, 0x73, 0x00, 0x01, 0x00, 0x02,
     0x00, 0x02, 0x00, 0x01, 0x16, 0x00, 0x00, 0x02, 0x17,
 ];
 
+/// Its image in the second version.
+const SMALL_IMAGE: [u8; 27] = [
+    0x53, 0x4e, 0x41, 0x50, 0x02, 0x00, 0x00, 0x00, 0x00, 0x01, 0x01, 0x73, 0x00, 0x01, 0x00, 0x02,
+    0x00, 0x02, 0x00, 0x01, 0x16, 0x00, 0x00, 0x00, 0x02, 0x17, 0x00,
+];
+
 /// The unbounded snapshot.
-const UNBOUNDED: &[u8] = b"\
+pub const UNBOUNDED: &[u8] = b"\
     kind seq\n\
     scalar j c\n\
     row moved\n\
@@ -46,7 +52,7 @@ const UNBOUNDED: &[u8] = b"\
 ";
 
 /// The bounded snapshot.
-const BOUNDED: &[u8] = b"\
+pub const BOUNDED: &[u8] = b"\
     kind bit\n\
     scalar j x t\n\
     row moved g f\n\
@@ -83,7 +89,7 @@ const BOUNDED: &[u8] = b"\
 ";
 
 /// The multi-writer snapshot.
-const MULTI_WRITER: &[u8] = b"\
+pub const MULTI_WRITER: &[u8] = b"\
     kind multi\n\
     scalar j k x\n\
     row moved g h d tog\n\
@@ -136,7 +142,7 @@ const ONE_COMPARISON: &[u8] =
 
 /// The image of a text.
 fn image_of(alloc: Global, text: &[u8]) -> Result<Vec<u8>, Fail> {
-    let listing = read(alloc, text)?;
+    let listing = read_commented(alloc, text)?;
     let image = encode(alloc, &listing)?;
     Ok(image)
 }
@@ -163,6 +169,32 @@ fn is_refused_or_kept(alloc: Global, image: &[u8]) -> Result<bool, Fail> {
         Some(_) => Ok(true),
         None => is_kept(alloc, image),
     }
+}
+
+/// Whether bytes are no image, or the image in the first version of another listing than the small one.
+fn is_refused_or_another(alloc: Global, image: &[u8]) -> Result<bool, Fail> {
+    match decode(alloc, image) {
+        Ok(listing) => {
+            let newer = encode(alloc, &listing)?;
+            Ok(newer.as_slice() != SMALL_IMAGE.as_slice() && is_kept(alloc, newer.as_slice())?)
+        }
+        Err(ImageFault::Refused(_)) => Ok(true),
+        Err(ImageFault::Memory) => Err(Fail::from(ImageFault::Memory)),
+    }
+}
+
+/// The first version's image of the small listing with another byte in this place is refused, or the image of another listing.
+fn check_first_changes(rt: &impl Abort, alloc: Global, place: usize) -> Result<(), Fail> {
+    for byte in 0..=255 {
+        let mut image = FIRST_IMAGE;
+        let was = image[place.min(24)];
+        image[place.min(24)] = byte;
+        assert!(rt;
+            byte == was || is_refused_or_another(alloc, image.as_slice())?,
+            "{byte} at {place}"
+        );
+    }
+    Ok(())
 }
 
 /// The image of the small listing with another byte in this place is refused, or the image of another listing.
@@ -217,14 +249,21 @@ fn encodes_and_decodes_a_small_listing(rt: HostRuntime) -> Result<(), Fail> {
     let image = image_of(rt.alloc(), SMALL)?;
     assert_eq!(rt; image.as_slice(), SMALL_IMAGE.as_slice());
     assert!(rt; is_kept(rt.alloc(), SMALL_IMAGE.as_slice())?);
+    let listing = decode(rt.alloc(), FIRST_IMAGE.as_slice())?;
+    let newer = encode(rt.alloc(), &listing)?;
+    assert_eq!(rt; newer.as_slice(), SMALL_IMAGE.as_slice());
     Ok(())
 }
 
 #[test]
 fn refuses_cuts_and_extra_bytes(rt: HostRuntime) -> Result<(), Fail> {
+    check_cuts(&rt, rt.alloc(), FIRST_IMAGE.as_slice())?;
     check_cuts(&rt, rt.alloc(), SMALL_IMAGE.as_slice())?;
     let mut image = [0; 26];
-    image[..25].copy_from_slice(SMALL_IMAGE.as_slice());
+    image[..25].copy_from_slice(FIRST_IMAGE.as_slice());
+    assert!(rt; refusal(rt.alloc(), image.as_slice())? == Some(ImageRefusal::Extra));
+    let mut image = [0; 28];
+    image[..27].copy_from_slice(SMALL_IMAGE.as_slice());
     assert!(rt; refusal(rt.alloc(), image.as_slice())? == Some(ImageRefusal::Extra));
     Ok(())
 }
@@ -234,6 +273,31 @@ fn refuses_changed_bytes_or_encodes_them_again(rt: HostRuntime) -> Result<(), Fa
     for place in 0..SMALL_IMAGE.len() {
         check_changes(&rt, rt.alloc(), place)?;
     }
+    Ok(())
+}
+
+#[test]
+fn refuses_changed_bytes_of_the_first_version_or_tells_another_listing(
+    rt: HostRuntime,
+) -> Result<(), Fail> {
+    for place in 0..FIRST_IMAGE.len() {
+        check_first_changes(&rt, rt.alloc(), place)?;
+    }
+    Ok(())
+}
+
+#[test]
+fn tells_the_versions_apart(rt: HostRuntime) -> Result<(), Fail> {
+    let mut image = FIRST_IMAGE;
+    image[4] = 2;
+    assert!(rt; refusal(rt.alloc(), image.as_slice())? == Some(ImageRefusal::Truncated));
+    let mut image = SMALL_IMAGE;
+    image[4] = 1;
+    let want = ImageRefusal::Invalid(ListingRefusal::BadLine(2));
+    assert!(rt; refusal(rt.alloc(), image.as_slice())? == Some(want));
+    let mut image = SMALL_IMAGE;
+    image[26] = 2;
+    assert!(rt; refusal(rt.alloc(), image.as_slice())? == Some(ImageRefusal::BadCode(26)));
     Ok(())
 }
 

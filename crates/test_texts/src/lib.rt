@@ -4,8 +4,12 @@
 #[cfg(test)]
 mod assembly;
 #[cfg(test)]
+mod cuts;
+#[cfg(test)]
 mod images;
 #[cfg(test)]
 mod listings;
 #[cfg(test)]
 mod schedules;
+#[cfg(test)]
+mod scripts;

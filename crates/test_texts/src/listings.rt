@@ -1,5 +1,5 @@
 //! Listings: which texts are read, why the others are refused, and what is printed.
-use snap_listing::{Listing, ListingFault, print, read};
+use snap_listing::{Listing, ListingFault, print, read, read_commented};
 use snap_semantics::{BitBank, Expr, Index, Instr, ListingRefusal, Name, Term, Tuple};
 use snap_text::{push_number, push_text};
 use snap_words::{Field, KindTag};
@@ -156,7 +156,7 @@ update 9
 12:put r[me]=(hand(a[me],t)+n,h,not t,s)
 13:put q[me,w]=data(a[word])";
 
-/// The same listing in the one layout that is printed.
+/// The same listing in the one layout that is printed, with the comment of its numbered line.
 const LAID_OUT: &[u8] = b"kind bit
 scalar t
 row h
@@ -165,7 +165,7 @@ view s
 scan 9
 update 9
 9: each w: h[@] = not toggle(a[@]) where h[@] < t or arg != 1
-10: first t w: hand(a[@],me) = 1 goto 12
+10: first t w: hand(a[@],me) = 1 goto 12 # found
 11: if all n: h[@] = 0 and h[@] = 0 and h[@] = 0 and h[@] = 0 goto 12
 12: put r[me] = (hand(a[me],t) + n, h, not t, s)
 13: put q[me,w] = data(a[word])
@@ -213,7 +213,7 @@ const HEADERS: [Case; 16] = [
         Some(ListingRefusal::BadHeader(6)),
     ),
     (
-        b"kind seq\nscalar\nrow\nwords\nview\nscan 1000",
+        b"kind seq\nscalar\nrow\nwords\nview\nscan 10000",
         Some(ListingRefusal::BadHeader(6)),
     ),
 ];
@@ -224,7 +224,7 @@ const LINES: [Case; 14] = [
         b"11: finish\n10: finish",
         Some(ListingRefusal::NumberNotRising(9)),
     ),
-    (b"1000: finish", NO_FORM),
+    (b"10000: finish", NO_FORM),
     (b"007: finish", NO_FORM),
     (b"10: goto9", NO_FORM),
     (b"10: 9goto", NO_FORM),
@@ -466,7 +466,7 @@ fn has_multi_lines(listing: &Listing) -> bool {
 
 /// Whether what is printed of the listing that a text is, is this.
 fn prints(alloc: Global, text: &[u8], want: &[u8]) -> Result<bool, Fail> {
-    let listing = read(alloc, text)?;
+    let listing = read_commented(alloc, text)?;
     let printed = print(alloc, &listing)?;
     Ok(printed.as_slice() == want)
 }
@@ -559,6 +559,33 @@ fn prints_what_it_read(rt: HostRuntime) -> Result<(), Fail> {
     for text in [UNBOUNDED, BOUNDED, MULTI_WRITER] {
         assert!(rt; prints(rt.alloc(), text, text)?);
     }
+    Ok(())
+}
+
+#[test]
+fn reads_line_9999(rt: HostRuntime) -> Result<(), Fail> {
+    let text = b"kind seq\nscalar\nrow\nwords\nview\nscan 9999\nupdate 9999\n9999: finish\n";
+    assert!(rt; prints(rt.alloc(), text, text)?);
+    Ok(())
+}
+
+/// A listing whose comments are empty, end in spaces and a carriage return, have `#` and bytes of no text; in canonical text.
+const COMMENTED: &[u8] = b"kind seq
+scalar
+row
+words
+view
+scan 1
+update 1
+1: goto 2 #
+2: goto 3 # to the end \t \r
+3: goto 4 ## \x00\xff %
+4: finish
+";
+
+#[test]
+fn keeps_comments_to_the_byte(rt: HostRuntime) -> Result<(), Fail> {
+    assert!(rt; prints(rt.alloc(), COMMENTED, COMMENTED)?);
     Ok(())
 }
 

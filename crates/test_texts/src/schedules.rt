@@ -18,7 +18,7 @@ fn refuses_what_fits_no_form(rt: HostRuntime) {
         (b"".as_slice(), ScheduleRefusal::BadShape),
         (b"$".as_slice(), ScheduleRefusal::BadShape),
         (b"shape 0 1".as_slice(), ScheduleRefusal::BadShape),
-        (b"shape 17 1".as_slice(), ScheduleRefusal::BadShape),
+        (b"shape 65 1".as_slice(), ScheduleRefusal::BadShape),
         (b"shape 2 2\n2*0".as_slice(), ScheduleRefusal::BadItem(2)),
         (
             b"shape 2 2\n2\n2 crash 1".as_slice(),
@@ -93,6 +93,7 @@ fn reads_as(alloc: Global, text: &[u8], len: u64, want: &[u8]) -> Result<bool, S
 fn prints_greatest_runs(rt: HostRuntime) -> Result<(), Fail> {
     for (text, len, want) in [
         (b"shape 1 1".as_slice(), 0, b"shape 1 1\n".as_slice()),
+        (b"shape 64 64".as_slice(), 0, b"shape 64 64\n".as_slice()),
         (
             b"shape 2 2 # two\n 2 * 3\n2\n".as_slice(),
             4,

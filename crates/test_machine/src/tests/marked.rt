@@ -56,8 +56,8 @@ impl Kind for Marked {
         None
     }
 
-    fn hands(_word: &MarkedWord) -> Option<&View> {
-        None
+    fn hand_count(_word: &MarkedWord) -> u32 {
+        0
     }
 
     fn view(_word: &MarkedWord) -> Option<&View> {

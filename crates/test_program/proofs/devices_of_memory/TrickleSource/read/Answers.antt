@@ -1,5 +1,5 @@
 use Rattle.std.proofs.Common.{◌≡◌, ℕ, ◌<◌, length, List, [], ◌∷◌, ◌++◌, take, drop, slice_index_or, slice_set, refl, arith}
-use Rattle.snap_output.proofs.Splits.{some_left}
+use Rattle.snap_input.proofs.Splits.{some_left}
 use Rattle.test_program.proofs.devices_of_memory.TrickleSource.read.Goals as goal
 
 one_moved : (rest buffer : List ℕ) → 0 < length rest → 0 < length buffer → rest ≡ take 1 (slice_set buffer 0 (slice_index_or (take 1 rest) 0 0)) ++ drop 1 rest

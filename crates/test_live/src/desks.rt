@@ -1,0 +1,176 @@
+//! Turns that are taken one after another.
+ghost use Rattle.std.specs.Prelude.{◌≡◌, All};
+
+use crate::programs::program;
+use snap_live::{Desk, LiveFault, LiveRefusal, Seat, close, open};
+use snap_semantics::{Fault, Op, Outcome, Reason};
+use snap_words::{Seq, Shape};
+use std::alloc::Global;
+use std::process::Abort;
+use std::sync::Wait;
+use std::test::Fail;
+
+const UPDATE: Op = Op::Update { word: 1, value: 7 };
+
+/// A desk, and seats of it.
+#[derive(Drop)]
+struct Bench {
+    desk: Desk<Seq>,
+    seats: Vec<Seat<Seq>>,
+    ghost same: { All (λ s. s.desk ≡ desk) seats.items },
+}
+
+/// A new desk with so many processes and words.
+fn new_bench(rt: &impl Abort, alloc: Global, count: u64) -> Result<Bench, Fail> {
+    let program = program(rt, alloc)?;
+    let (desk, seats) = open::<Seq>(alloc, &program, Shape::new(count, count)?)?;
+    Ok(Bench { desk, seats })
+}
+
+/// A call of the seat at this place, which is the turn of this number.
+fn call<R: Wait + Abort>(
+    rt: &R,
+    bench: &mut Bench,
+    at: usize,
+    op: Op,
+    number: u64,
+) -> Result<(), Fail> {
+    assert!(rt; at < bench.seats.len());
+    let seat = &mut bench.seats[at];
+    assert!(rt; seat.asked() < 1000);
+    let turn = seat.call(rt, &bench.desk, op)?;
+    assert_eq!(rt; turn.number, number);
+    Ok(())
+}
+
+/// A step of the seat at this place, which is the turn of this number.
+fn step<R: Wait + Abort>(
+    rt: &R,
+    bench: &mut Bench,
+    at: usize,
+    number: u64,
+) -> Result<Outcome, Fail> {
+    assert!(rt; at < bench.seats.len());
+    let seat = &mut bench.seats[at];
+    assert!(rt; seat.asked() < 1000);
+    let turn = seat.step(rt, &bench.desk)?;
+    assert_eq!(rt; turn.number, number);
+    Ok(turn.outcome)
+}
+
+/// So many steps, the first of which is the turn of this number.
+fn steps<R: Wait + Abort>(
+    rt: &R,
+    bench: &mut Bench,
+    at: usize,
+    first: u64,
+    count: u64,
+) -> Result<(), Fail> {
+    for k in 0..count {
+        let _outcome = step(rt, bench, at, first.wrapping_add(k))?;
+    }
+    Ok(())
+}
+
+/// Whether a scan was answered with these values.
+fn answers(outcome: &Outcome, values: &[u64]) -> bool {
+    match outcome {
+        Outcome::Answered(view) => view.as_slice() == values,
+        _ => false,
+    }
+}
+
+/// Process 1 updates its word, and then scans.
+fn update_and_scan<R: Wait + Abort>(rt: &R, bench: &mut Bench) -> Result<(), Fail> {
+    call(rt, bench, 0, UPDATE, 1)?;
+    steps(rt, bench, 0, 2, 13)?;
+    call(rt, bench, 0, Op::Scan, 15)?;
+    steps(rt, bench, 0, 16, 8)?;
+    let last = step(rt, bench, 0, 24)?;
+    assert!(rt; answers(&last, &[7]));
+    Ok(())
+}
+
+#[test]
+fn one_seat_takes_its_turns_in_order(rt: HostRuntime) -> Result<(), Fail> {
+    let mut bench = new_bench(&rt, rt.alloc(), 1)?;
+    update_and_scan(&rt, &mut bench)
+}
+
+/// One seat meets a note of the other, and has then seen so many turns.
+fn meet(rt: &impl Abort, bench: &mut Bench, from: usize, to: usize, seen: u64) {
+    assert!(rt; from < bench.seats.len());
+    let note = bench.seats[from].note(&bench.desk);
+    assert!(rt; to < bench.seats.len());
+    let seat = &mut bench.seats[to];
+    seat.meet(&bench.desk, note);
+    assert_eq!(rt; seat.seen_len(), seen);
+}
+
+/// Process 1 calls, process 2 is told of it and then steps, which is skipped.
+fn two_turns<R: Wait + Abort>(rt: &R, bench: &mut Bench) -> Result<(), Fail> {
+    call(rt, bench, 0, UPDATE, 1)?;
+    meet(rt, bench, 0, 1, 1);
+    let outcome = step(rt, bench, 1, 2)?;
+    assert!(rt; matches!(&outcome, Outcome::Skipped(Reason::Idle)));
+    Ok(())
+}
+
+/// Without the last seat the desk is not closed, and all is handed back.
+fn not_closed(
+    rt: &impl Abort,
+    desk: Desk<Seq>,
+    seats: Vec<Seat<Seq>>,
+    missing: u32,
+) -> (Desk<Seq>, Vec<Seat<Seq>>)
+    requires { All (λ s. s.desk ≡ desk) seats.items }
+    ensures { (result.0 ≡ desk) × (result.1.items ≡ seats.items) }
+{
+    let Err((fault, desk, seats)) = close(desk, seats) else {
+        panic!(rt; "closed without a seat")
+    };
+    assert!(rt; fault == Fault::Refused(LiveRefusal::SeatMissing(missing)));
+    (desk, seats)
+}
+
+/// The number of items in the record of all turns. The record comes once the last seat is there as well.
+fn closed(rt: &impl Abort, bench: Bench, missing: u32) -> Result<usize, Fail> {
+    let Bench { desk, mut seats } = bench;
+    let Some(last) = seats.pop() else {
+        panic!(rt; "no seat")
+    };
+    let (desk, mut seats) = not_closed(rt, desk, seats, missing);
+    seats.push(last)?;
+    let Ok(record) = close(desk, seats) else {
+        panic!(rt; "not closed")
+    };
+    Ok(record.items().len())
+}
+
+#[test]
+fn two_seats_meet_and_close(rt: HostRuntime) -> Result<(), Fail> {
+    let mut bench = new_bench(&rt, rt.alloc(), 2)?;
+    two_turns(&rt, &mut bench)?;
+    assert_eq!(rt; closed(&rt, bench, 2)?, 2);
+    Ok(())
+}
+
+/// So many steps of the first seat, whose process is idle.
+fn idle<R: Wait + Abort>(rt: &R, bench: &mut Bench, count: u64) -> Result<(), LiveFault> {
+    for _ in 0..count {
+        assert!(rt; !bench.seats.is_empty());
+        let seat = &mut bench.seats[0];
+        assert!(rt; seat.asked() < 2_000_000);
+        let _turn = seat.step(rt, &bench.desk)?;
+    }
+    Ok(())
+}
+
+#[test]
+fn a_full_desk_takes_no_turn(rt: HostRuntime) -> Result<(), Fail> {
+    let mut bench = new_bench(&rt, rt.alloc(), 1)?;
+    idle(&rt, &mut bench, 1_000_000)?;
+    let refused = idle(&rt, &mut bench, 1);
+    assert!(rt; refused == Err(Fault::Refused(LiveRefusal::Full(1_000_000))));
+    Ok(())
+}

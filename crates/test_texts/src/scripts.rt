@@ -1,0 +1,86 @@
+//! Scripts that are read.
+use snap_sched::{ScheduleFault, Script, Scripts, read_scripts};
+use snap_semantics::{Op, ScheduleRefusal};
+use std::alloc::{AllocError, Global};
+use std::test::Fail;
+
+/// Whether a text is refused so.
+fn is_refused(alloc: Global, text: &[u8], want: ScheduleRefusal) -> bool {
+    match read_scripts(alloc, text) {
+        Ok(_) => false,
+        Err(fault) => fault == ScheduleFault::Refused(want),
+    }
+}
+
+#[test]
+fn refuses_steps_and_crashes_of_schedules(rt: HostRuntime) {
+    for (text, want) in [
+        (b"".as_slice(), ScheduleRefusal::BadShape),
+        (b"shape 65 1".as_slice(), ScheduleRefusal::BadShape),
+        (b"shape 2 2\n1".as_slice(), ScheduleRefusal::BadItem(2)),
+        (b"shape 2 2\n1*2".as_slice(), ScheduleRefusal::BadItem(2)),
+        (
+            b"shape 2 2\n1 scan\n1 crash".as_slice(),
+            ScheduleRefusal::BadItem(3),
+        ),
+        (
+            b"shape 2 2\n3 scan".as_slice(),
+            ScheduleRefusal::NoSuchProcess(2),
+        ),
+        (
+            b"shape 2 2\n\n3 crash 5".as_slice(),
+            ScheduleRefusal::NoSuchProcess(3),
+        ),
+    ] {
+        assert!(rt; is_refused(rt.alloc(), text, want), "{want}");
+    }
+}
+
+#[test]
+fn refuses_turns_out_of_range_and_second_crashes(rt: HostRuntime) {
+    for (text, want) in [
+        (
+            b"shape 2 2\n1 crash 0".as_slice(),
+            ScheduleRefusal::BadItem(2),
+        ),
+        (
+            b"shape 2 2\n3 crash 1000001".as_slice(),
+            ScheduleRefusal::BadItem(2),
+        ),
+        (
+            b"shape 2 2\n2 crash 9\n1 scan\n2 crash 9".as_slice(),
+            ScheduleRefusal::BadItem(4),
+        ),
+    ] {
+        assert!(rt; is_refused(rt.alloc(), text, want), "{want}");
+    }
+}
+
+/// Whether a script has these operations and this crash.
+fn is_script(script: &Script, ops: &[Op], crash: Option<u64>) -> bool {
+    script.operations() == ops && script.crash() == crash
+}
+
+/// Whether these are the scripts of the text below.
+fn are_read(scripts: &Scripts) -> bool {
+    let [first, second, third] = scripts.scripts() else {
+        return false;
+    };
+    scripts.shape().n() == 3
+        && scripts.shape().w() == 2
+        && is_script(
+            first,
+            &[Op::Update { word: 1, value: 7 }, Op::Scan],
+            Some(20),
+        )
+        && is_script(second, &[], None)
+        && is_script(third, &[Op::Scan], Some(1_000_000))
+}
+
+#[test]
+fn reads_scripts_in_order(rt: HostRuntime) -> Result<(), Fail> {
+    let text = b"shape 3 2 # three\n1 update 1 7\n1 crash 20\n\n3 scan\n1 scan\n3 crash 1000000";
+    let scripts = read_scripts(rt.alloc(), text)?;
+    assert!(rt; are_read(&scripts));
+    Ok(())
+}

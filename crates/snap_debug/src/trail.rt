@@ -19,7 +19,7 @@ use std::alloc::{AllocError, Global};
 use std::marker::Model;
 
 /// How many items lie between checkpoints, for each process: the larger a machine is, the fewer copies are kept.
-const FAR: u64 = 128;
+const FAR: u64 = 256;
 
 /// How many items lie between the copies that are kept on the way to a position, for each process.
 const NEAR: u64 = 4;
@@ -81,12 +81,13 @@ fn keep_checkpoint<K: Kind>(
     history: &Record<K>,
     spacing: u64,
 ) -> Result<(), AllocError>
-    requires { 0 < spacing }
     ensures { (r : Run) (xs : List Done) → Follows r history.now xs → AllByRecursion (StandsAt r) later.old.items →
         AllByRecursion (StandsAt r) later.new.items }
 {
     let position = history.items().len() as u64;
-    if position % spacing == 0 && position / spacing == later.len() as u64 + 1 {
+    // No division: this is asked at each item.
+    let due = (later.len() as u64 + 1).wrapping_mul(spacing);
+    if position == due {
         let machine = history.machine().copy()?;
         later.push(Stand { machine, position })?;
     }

@@ -2,3 +2,4 @@ pub mod Answered
 pub mod Loads
 pub mod Parting
 pub mod Splits
+pub mod Without

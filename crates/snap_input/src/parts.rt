@@ -1,8 +1,9 @@
 //! The parts of an input.
-ghost use Rattle.std.specs.Prelude.{◌≡◌, ◌+◌, ◌≤◌, ◌<◌, ℕ, IfOk, map, length, take, drop, IsTrue, true, ◌↔◌};
+ghost use Rattle.std.specs.Prelude.{◌≡◌, ◌+◌, ◌≤◌, ◌<◌, ℕ, IfOk, map, length, take, drop, [], ◌∷◌, false};
 ghost use Rattle.std.specs.Io.BufRead.{take_through, drop_through};
 ghost use Rattle.snap_input.specs.Parts.{ends_part, parts_of};
 
+use memchr::memchr;
 use std::alloc::{AllocError, Global};
 
 /// The length of the first line, with its line feed.
@@ -32,6 +33,13 @@ fn is_separator(line: &[u8]) -> bool
         || line == b"%\r".as_slice()
 }
 
+/// Whether a line of these bytes may end a part. A schedule is most of an input, and no line of it does.
+fn may_part(bytes: &[u8]) -> bool
+    ensures { result ≡ false → parts_of bytes.now ≡ bytes.now ∷ [] }
+{
+    memchr(b'%', bytes).is_some()
+}
+
 /// How many lines of an input end a part: one less than it has parts. It takes no memory.
 pub fn count_separators(input: &[u8]) -> usize
     ensures parts { result + 1 ≡ length (parts_of input.now) }
@@ -43,6 +51,9 @@ pub fn count_separators(input: &[u8]) -> usize
         let (line, after) = rest.split_at(first_line_len(rest));
         if is_separator(line) {
             count += 1;
+            if !may_part(after) {
+                return count;
+            }
         }
         rest = after;
     }
@@ -63,6 +74,10 @@ pub fn split_parts(alloc: Global, input: &[u8]) -> Result<Vec<&[u8]>, AllocError
             parts.push(&part[..len])?;
             part = after;
             len = 0;
+            if !may_part(after) {
+                parts.push(part)?;
+                return Ok(parts);
+            }
         } else {
             len = part.len() - after.len();
         }

@@ -1,0 +1,5 @@
+use Rattle.snap_input.proofs.Without.{none_found}
+use Rattle.snap_input.proofs.parts.may_part.Goals as goal
+
+pub returns : goal.returns
+returns c = none_found c.args.bytes.now c.memchr.result c.is_some.result c.memchr.ensures c.is_some.ensures

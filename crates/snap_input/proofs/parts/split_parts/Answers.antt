@@ -54,8 +54,8 @@ returns-then-not-may_part c =
     let parts = part_ends before (parts_of c.args.input.now) front c.loop-rest.rest.now c.split_at.result.0.now c.split_at.result.1.now
     some (cut.front ∙ at.line) (cut.back ∙ at.rest) (sym c.is_separator.ensures ∙ c.if-is_separator.true) c.loop-rest.invariant.2 in
     ap (λ items. map (λ part. part.now) items) c.in_ok-push-2.ensures.items
-        ∙ map-append (λ part. part.now) c.push.new.self.items _
-        ∙ ap (λ items. map (λ part. part.now) items ++ c.split_at.result.1.now ∷ []) c.in_ok-push.ensures.items
-        ∙ ap (λ ps. ps ++ c.split_at.result.1.now ∷ []) (map-append (λ part. part.now) c.loop-rest.parts.items _)
-        ∙ ap (λ ps. (before ++ front ∷ []) ++ onto_part [] ps) (sym (c.may_part.ensures c.if-not-may_part.true))
-        ∙ parts
+    ∙ map-append (λ part. part.now) c.push.new.self.items _
+    ∙ ap (λ items. map (λ part. part.now) items ++ c.split_at.result.1.now ∷ []) c.in_ok-push.ensures.items
+    ∙ ap (λ ps. ps ++ c.split_at.result.1.now ∷ []) (map-append (λ part. part.now) c.loop-rest.parts.items _)
+    ∙ ap (λ ps. (before ++ front ∷ []) ++ onto_part [] ps) (sym (c.may_part.ensures c.if-not-may_part.true))
+    ∙ parts

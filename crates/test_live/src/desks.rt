@@ -1,31 +1,15 @@
 //! Turns that are taken one after another.
 ghost use Rattle.std.specs.Prelude.{◌≡◌, All};
 
-use crate::programs::program;
-use snap_live::{Desk, LiveFault, LiveRefusal, Seat, close, open};
+use crate::benches::{Bench, new_bench};
+use snap_live::{Desk, LiveFault, LiveRefusal, Seat, close};
 use snap_semantics::{Fault, Op, Outcome, Reason};
-use snap_words::{Seq, Shape};
-use std::alloc::Global;
+use snap_words::Seq;
 use std::process::Abort;
 use std::sync::Wait;
 use std::test::Fail;
 
 const UPDATE: Op = Op::Update { word: 1, value: 7 };
-
-/// A desk, and seats of it.
-#[derive(Drop)]
-struct Bench {
-    desk: Desk<Seq>,
-    seats: Vec<Seat<Seq>>,
-    ghost same: { All (λ s. s.desk ≡ desk) seats.items },
-}
-
-/// A new desk with so many processes and words.
-fn new_bench(rt: &impl Abort, alloc: Global, count: u64) -> Result<Bench, Fail> {
-    let program = program(rt, alloc)?;
-    let (desk, seats) = open::<Seq>(alloc, &program, Shape::new(count, count)?)?;
-    Ok(Bench { desk, seats })
-}
 
 /// A call of the seat at this place, which is the turn of this number.
 fn call<R: Wait + Abort>(

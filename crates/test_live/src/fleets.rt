@@ -1,7 +1,8 @@
 //! Scripts that are played at once.
 use crate::meeting::Meeting;
+use crate::numbers::has_each_turn_once;
 use crate::programs::program;
-use snap_live::{Gate, Live, LiveFault, LiveRefusal, NoGate, Turn, run_live};
+use snap_live::{Gate, Live, LiveFault, LiveRefusal, NoGate, run_live};
 use snap_sched::read_scripts;
 use snap_semantics::Fault;
 use snap_words::Seq;
@@ -21,31 +22,6 @@ const UPDATES: &[u8] = b"shape 2 2\n1 update 1 7\n2 update 2 9\n";
 const CRASHING: &[u8] = b"shape 1 1\n1 update 1 7\n1 scan\n1 crash 3\n";
 
 const SCAN: &[u8] = b"shape 1 1\n1 scan\n";
-
-/// Marks the numbers of turns. False where a number is marked before, or is too large.
-fn mark(marks: &mut [bool], turns: &[Turn]) -> bool {
-    for turn in turns {
-        let Some(mark) = marks.get_mut(turn.number.wrapping_sub(1) as usize) else {
-            return false;
-        };
-        if *mark {
-            return false;
-        }
-        *mark = true;
-    }
-    true
-}
-
-/// Whether each item that was kept is one turn, by its number.
-fn has_each_turn_once(alloc: Global, live: &Live<Seq>) -> Result<bool, Fail> {
-    let mut marks = vec![in alloc; false; live.kept.items().len()]?;
-    for turns in &live.turns {
-        if !mark(marks.as_mut_slice(), turns.as_slice()) {
-            return Ok(false);
-        }
-    }
-    Ok(!marks.as_slice().contains(&false))
-}
 
 /// How many turns the scripts of a text make, each of which is kept once.
 fn play<G: Gate, R: Threads + Wait + Sync + Abort>(

@@ -1,6 +1,8 @@
-//! Turns at a desk, and scripts that are played there at once.
+//! Turns at a desk, also of seats in threads, and scripts that are played there at once.
 #![tactic(auto)]
 
+#[cfg(test)]
+mod benches;
 #[cfg(test)]
 mod conducts;
 #[cfg(test)]
@@ -8,6 +10,12 @@ mod desks;
 #[cfg(test)]
 mod fleets;
 #[cfg(test)]
+mod gates;
+#[cfg(test)]
 mod meeting;
 #[cfg(test)]
+mod numbers;
+#[cfg(test)]
 mod programs;
+#[cfg(test)]
+mod seats;

@@ -11,3 +11,4 @@ mod step;
 pub use machine::Machine;
 pub use reading::{Contents, Local};
 pub use snap_regs::RegisterFault;
+pub use snap_undo::Undo;

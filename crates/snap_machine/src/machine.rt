@@ -15,6 +15,7 @@ ghost use Rattle.snap_semantics.specs.Table.{done, who};
 ghost use Rattle.snap_regs.specs.Store.{IsOfShape};
 ghost use Rattle.snap_regs.specs.declared.fault.RegisterFault.TheVariants.{Index};
 ghost use Rattle.snap_machine.specs.Reading.{local_at, seen_contents, seen_local, seen_named, value_there};
+ghost use Rattle.snap_undo.specs.Undo.{CanPut, put};
 ghost use Rattle.snap_values.specs.Seen.{seen_locals};
 
 use crate::call::{call, crash};
@@ -25,6 +26,7 @@ use crate::step::step;
 use snap_code::Program;
 use snap_regs::{RegisterFault, Registers};
 use snap_semantics::{Activity, BitBank, Item, Name, Op, Outcome, Sort, Status};
+use snap_undo::{Undo, overwritten, revert};
 use snap_values::Process;
 use snap_words::{Address, Bank, Field, Kind, Shape, View, field_of};
 use std::alloc::{AllocError, Global};
@@ -105,6 +107,44 @@ impl<K: Kind> Machine<K> {
                 i,
             )),
         }
+    }
+
+    /// One item of a schedule, as `apply` does it, and what it overwrote: put back, all is as before. Where there is no memory for
+    /// either, everything is as before.
+    pub fn apply_undo(&mut self, item: Item) -> Result<(Outcome, Undo<K>), AllocError>
+        requires { IsOneOf self.old.shape.n (who item) }
+        ensures done { IfOk result (λ r.
+            done self.old.source self.old.shape self.old.state item ≡ (self.new.state, r.0)) }
+        ensures back { IfOk result (λ r. put self.old.source r.1 self.new.state ≡ self.old.state) }
+        ensures fits { IfOk result (λ r. CanPut self.old.source self.old.shape r.1) }
+        ensures source { self.new.source ≡ self.old.source }
+        ensures shape { self.new.shape ≡ self.old.shape }
+        ensures err { OnErr result (self.new ≡ self.old) }
+    {
+        let undo = overwritten(
+            self.alloc,
+            &self.program,
+            &self.registers,
+            self.processes.as_slice(),
+            item,
+        )?;
+        let outcome = self.apply(item)?;
+        Ok((outcome, undo))
+    }
+
+    /// Puts back what an item overwrote in a machine of this program and shape. It takes no memory.
+    pub fn revert(&mut self, undo: Undo<K>)
+        requires { CanPut self.old.source self.old.shape undo }
+        ensures state { self.new.state ≡ put self.old.source undo self.old.state }
+        ensures source { self.new.source ≡ self.old.source }
+        ensures shape { self.new.shape ≡ self.old.shape }
+    {
+        revert(
+            &self.program,
+            &mut self.registers,
+            self.processes.as_mut_slice(),
+            undo,
+        );
     }
 
     /// The program that it runs.

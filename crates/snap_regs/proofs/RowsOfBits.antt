@@ -1,5 +1,5 @@
 -- Rows of bits that are kept one behind the other: row by row, and bit by bit.
-use Rattle.std.proofs.Common.{◌≡◌, ◌∙◌, ℕ, zero, suc, ◌+◌, ◌-◌, ◌*◌, ◌<◌, ◌≤◌, Bool, false, List, [], ◌∷◌, drop, get_or, length, map, replicate, take, refl, sym, ap, arith, nat_eq}
+use Rattle.std.proofs.Common.{◌≡◌, ◌∙◌, ℕ, zero, suc, ◌+◌, ◌-◌, ◌*◌, ◌<◌, ◌≤◌, Bool, true, false, List, [], ◌∷◌, drop, get_or, length, map, replicate, take, refl, sym, ap, subst, arith, nat_eq}
 use Rattle.std.proofs.Math.ListN.{set, get_or-map}
 use Rattle.std.proofs.Math.Nat.{mul-le-mul, mul-le-mul_right, suc-mul, zero-mul}
 use Rattle.std.proofs.Math.Seq.{take-set-lt}
@@ -93,6 +93,13 @@ bit_read rows columns i j place bits b now is e at read =
     ap bit_number (read ∙ ap (λ (k : ℕ). get_or bits k b) at ∙ get_or_default bits (i * columns + j) b false is.within)
     ∙ sym (bit_of rows columns i j bits is.row is.column)
     ∙ ap (λ (rs : List (List ℕ)). bit_at rs i j) e
+
+-- a bit is 0 or 1
+pub at_most_one : (b : Bool) (x : ℕ) → x ≡ bit_number b → x ≤ 1
+at_most_one b x e = subst (λ (n : ℕ). n ≤ 1) (sym e) (small b) where
+  small : (b : Bool) → bit_number b ≤ 1
+  small true = omega arith
+  small false = omega arith
 
 zero_row : (columns : ℕ) → map bit_number (replicate columns false) ≡ replicate columns 0
 zero_row zero = refl

@@ -1,5 +1,5 @@
 -- Which registers there are, and when one is not written.
-use Rattle.std.specs.Prelude.{◌≡◌, ℕ, Bool, true, false, ◌&&◌, nat_lt, nat_le}
+use Rattle.std.specs.Prelude.{◌≡◌, ℕ, Bool, true, false, ◌&&◌}
 use Rattle.snap_words.specs.Kind.{has_bank, is_bit, may_write}
 use Rattle.snap_words.specs.Shape.{Counts, is_place}
 use Rattle.snap_words.specs.declared.address.Bank.TheVariants as bank

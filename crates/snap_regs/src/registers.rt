@@ -150,6 +150,7 @@ impl<K: Kind> Registers<K> {
         ensures content { MatchResult result
             (λ bit. contents self.now.memory (bank_of bits) i j ≡ Some (BitContents bit))
             (λ _. contents self.now.memory (bank_of bits) i j ≡ None) }
+        ensures range { IfOk result (λ bit. is_bit bit ≡ true) }
     {
         let (row, column) = bit_place::<K>(self.shape, bits, i, j)?;
         Ok(self.bits(bits).get(row, column))

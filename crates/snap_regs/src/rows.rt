@@ -52,7 +52,8 @@ impl BitRows {
     pub(crate) fn get(&self, row: usize, column: usize) -> u64
         requires row_in { row < length self.now }
         requires column_in { column < length (slice_index_or self.now row []) }
-        ensures { result ≡ bit_at self.now row column }
+        ensures bit { result ≡ bit_at self.now row column }
+        ensures range { result ≤ 1 }
     {
         u64::from(self.bits[place_of(self.columns, row, column)])
     }

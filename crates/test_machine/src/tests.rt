@@ -1,6 +1,7 @@
 //! Lines that trap, and small runs.
 ghost use Rattle.std.specs.Prelude.{◌≡◌, IsTrue, ◌↔◌};
 ghost use Rattle.snap_words.specs.Shape.{IsOneOf};
+ghost use Rattle.snap_semantics.specs.Table.{who};
 
 mod marked;
 
@@ -320,16 +321,25 @@ fn has<K: Kind>(machine: &Machine<K>, i: u32) -> bool
     0 < i && u64::from(i) <= machine.shape().n()
 }
 
+/// Does an item, takes it back, and does it again: whatever is expected of a machine here is expected of one that went back.
+fn does<K: Kind>(machine: &mut Machine<K>, item: Item) -> Result<Outcome, Fail>
+    requires { IsOneOf machine.old.shape.n (who item) }
+{
+    let (_outcome, undo) = machine.apply_undo(item)?;
+    machine.revert(undo);
+    Ok(machine.apply(item)?)
+}
+
 /// A step of process 1.
 fn step<K: Kind>(rt: &impl Abort, machine: &mut Machine<K>) -> Result<Outcome, Fail> {
     assert!(rt; has(machine, 1));
-    Ok(machine.apply(Item::Step(1))?)
+    does(machine, Item::Step(1))
 }
 
 /// A call of process 1.
 fn call<K: Kind>(rt: &impl Abort, machine: &mut Machine<K>, op: Op) -> Result<Outcome, Fail> {
     assert!(rt; has(machine, 1));
-    Ok(machine.apply(Item::Call(1, op))?)
+    does(machine, Item::Call(1, op))
 }
 
 /// Process 1 is called.
@@ -589,7 +599,7 @@ fn copies_go_on_alike(rt: HostRuntime) -> Result<(), Fail> {
 /// A crash of process 1.
 fn crash<K: Kind>(rt: &impl Abort, machine: &mut Machine<K>) -> Result<Outcome, Fail> {
     assert!(rt; has(machine, 1));
-    Ok(machine.apply(Item::Crash(1))?)
+    does(machine, Item::Crash(1))
 }
 
 /// Process 1 crashes.

@@ -1,5 +1,5 @@
 use Rattle.std.proofs.Common.{◌∙◌, arith}
-use Rattle.snap_regs.proofs.RowsOfBits.{bit_read, place_there}
+use Rattle.snap_regs.proofs.RowsOfBits.{at_most_one, bit_read, place_there}
 use Rattle.snap_regs.proofs.rows.BitRows.get.Goals as goal
 
 pub place_of-requires : goal.place_of-requires
@@ -13,4 +13,7 @@ index-requires c =
 pub returns : goal.returns
 returns c =
     let is = place_there c.self.inside.rows c.self.inside.columns c.args.row c.args.column c.self.inside.bits.items c.args.self.now c.self.invariant c.self.view_is c.requires.row_in c.requires.column_in in
-    c.from.ensures ∙ bit_read c.self.inside.rows c.self.inside.columns c.args.row c.args.column c.place_of.result c.self.inside.bits.items c.index.result.now c.args.self.now is c.self.view_is c.place_of.ensures c.index.ensures
+    record {
+      bit = c.from.ensures ∙ bit_read c.self.inside.rows c.self.inside.columns c.args.row c.args.column c.place_of.result c.self.inside.bits.items c.index.result.now c.args.self.now is c.self.view_is c.place_of.ensures c.index.ensures;
+      range = at_most_one c.index.result.now c.from.result c.from.ensures;
+    }

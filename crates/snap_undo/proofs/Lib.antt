@@ -1,0 +1,5 @@
+pub mod Fitting
+pub mod Owners
+pub mod PutBack
+pub mod States
+pub mod Values

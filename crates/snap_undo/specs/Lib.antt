@@ -1,0 +1,3 @@
+pub mod Undo
+pub mod Written
+pub mod Seen

@@ -1,0 +1,239 @@
+//! What a place has before an item writes it.
+ghost use Rattle.std.specs.Prelude.{◌≡◌, [], false, IfOk, map, slice_get, slice_index};
+ghost use Rattle.snap_words.specs.Shape.{is_place};
+ghost use Rattle.snap_semantics.specs.State.{value_at};
+ghost use Rattle.snap_code.specs.Named.{name_at};
+ghost use Rattle.snap_regs.specs.Access.{is_bit_place, is_view_place};
+ghost use Rattle.snap_undo.specs.Seen.{seen_place};
+ghost use Rattle.snap_undo.specs.Written.{
+  bit_before,
+  local_view_before,
+  local_word_before,
+  number_before,
+  row_before,
+  scalar_before,
+  view_before,
+  word_before,
+  word_there,
+  writes_local,
+  written,
+};
+ghost use Rattle.snap_values.specs.Seen.{seen_context, seen_locals};
+
+use crate::undo::Place;
+use snap_code::{Program, SlotInstr};
+use snap_regs::Registers;
+use snap_semantics::{BitBank, Cause};
+use snap_values::{Context, Process, index_value, local_place, row, scalar, view, words};
+use snap_words::{Kind, View};
+use std::alloc::{AllocError, Global};
+
+/// A scalar.
+fn scalar_before<K: Kind>(
+    program: &Program,
+    context: &Context,
+    process: &Process<K>,
+    slot: usize,
+) -> Place<K>
+    ensures { seen_place K.parts result ≡ scalar_before program.now (seen_context K.parts program.now context.now process.now) slot }
+{
+    Place::Scalar(
+        slot,
+        scalar(program.scalars(), process.scalars.as_slice(), slot),
+    )
+}
+
+/// The number at a place of a row, 0 past its end.
+fn number_at(row: &[u64], place: usize) -> u64
+    ensures { result ≡ slice_index row.now place }
+{
+    if place < row.len() { row[place] } else { 0 }
+}
+
+/// A number of a row, where there is such a place.
+fn number_before<K: Kind>(
+    program: &Program,
+    process: &Process<K>,
+    slot: usize,
+    place: Result<usize, Cause>,
+) -> Place<K>
+    ensures { seen_place K.parts result
+        ≡ number_before slot (value_at (name_at program.now.rows slot) (seen_locals K.parts program.now process.now).rows []) place }
+{
+    match place {
+        Ok(place) => {
+            let row = row(program.rows(), process.rows.as_slice(), slot);
+            Place::Number(slot, place, number_at(row, place))
+        }
+        Err(_) => Place::Nowhere,
+    }
+}
+
+/// A whole row.
+fn row_before<K: Kind>(
+    alloc: Global,
+    program: &Program,
+    context: &Context,
+    process: &Process<K>,
+    slot: usize,
+) -> Result<Place<K>, AllocError>
+    ensures { IfOk result (λ p. seen_place K.parts p ≡ row_before program.now (seen_context K.parts program.now context.now process.now) slot) }
+{
+    let row = row(program.rows(), process.rows.as_slice(), slot);
+    Ok(Place::Row(slot, Vec::from_slice(alloc, row)?))
+}
+
+/// The word at a place of a `words` local, where there is such a place.
+fn word_there<K: Kind>(
+    alloc: Global,
+    words: &[K::Word],
+    slot: usize,
+    place: usize,
+) -> Result<Place<K>, AllocError>
+    ensures { IfOk result (λ p. seen_place K.parts p ≡ word_there slot place (slice_get (map K.parts words.now) place)) }
+{
+    match words.get(place) {
+        Some(word) => Ok(Place::LocalWord(slot, place, K::copy(alloc, word)?)),
+        None => Ok(Place::Nowhere),
+    }
+}
+
+/// A word of a `words` local, where there is such a place.
+fn local_word_before<K: Kind>(
+    alloc: Global,
+    program: &Program,
+    process: &Process<K>,
+    slot: usize,
+    place: Result<usize, Cause>,
+) -> Result<Place<K>, AllocError>
+    ensures { IfOk result (λ p. seen_place K.parts p
+        ≡ local_word_before slot (value_at (name_at program.now.words slot) (seen_locals K.parts program.now process.now).words []) place) }
+{
+    match place {
+        Ok(place) => {
+            let words = words::<K>(program.words(), process.words.as_slice(), slot);
+            word_there::<K>(alloc, words, slot, place)
+        }
+        Err(_) => Ok(Place::Nowhere),
+    }
+}
+
+/// A view.
+fn local_view_before<K: Kind>(
+    alloc: Global,
+    program: &Program,
+    context: &Context,
+    process: &Process<K>,
+    slot: usize,
+) -> Result<Place<K>, AllocError>
+    ensures { IfOk result (λ p. seen_place K.parts p
+        ≡ local_view_before program.now (seen_context K.parts program.now context.now process.now) slot) }
+{
+    let view = view(program.views(), process.views.as_slice(), slot);
+    Ok(Place::LocalView(slot, View::of(Vec::from_slice(alloc, view)?)))
+}
+
+/// A word of the registers, where there is one of this number.
+fn word_before<K: Kind>(
+    alloc: Global,
+    registers: &Registers<K>,
+    k: u64,
+) -> Result<Place<K>, AllocError>
+    ensures { IfOk result (λ p. seen_place K.parts p ≡ word_before registers.now.memory k (is_place registers.now.shape.w k)) }
+{
+    match registers.word(k) {
+        Ok(word) => Ok(Place::WordRegister(k, K::copy(alloc, word)?)),
+        Err(_) => Ok(Place::Nowhere),
+    }
+}
+
+/// A bit of the registers, where there is one of these numbers.
+fn bit_before<K: Kind>(registers: &Registers<K>, bits: BitBank, i: u64, j: u64) -> Place<K>
+    ensures { seen_place K.parts result ≡ bit_before registers.now.memory bits i j (is_bit_place K.TAG registers.now.shape bits i j) }
+{
+    match registers.bit(bits, i, j) {
+        Ok(bit) => Place::BitRegister(bits, i, j, bit == 1),
+        Err(_) => Place::Nowhere,
+    }
+}
+
+/// A view of the registers, where there is one of this number.
+fn view_before<K: Kind>(
+    alloc: Global,
+    registers: &Registers<K>,
+    i: u64,
+) -> Result<Place<K>, AllocError>
+    ensures { IfOk result (λ p. seen_place K.parts p ≡ view_before registers.now.memory i (is_view_place K.TAG registers.now.shape i)) }
+{
+    match registers.view(i) {
+        Ok(view) => Ok(Place::ViewRegister(i, view.copy(alloc)?)),
+        Err(_) => Ok(Place::Nowhere),
+    }
+}
+
+/// What the place has that a line writes to a register.
+fn register_before<K: Kind>(
+    alloc: Global,
+    program: &Program,
+    context: &Context,
+    registers: &Registers<K>,
+    process: &Process<K>,
+    instr: &SlotInstr,
+) -> Result<Place<K>, AllocError>
+    requires kind { program.now.kind ≡ K.TAG }
+    requires shape { registers.now.shape ≡ context.now.shape }
+    requires local { writes_local instr.now ≡ false }
+    ensures { IfOk result (λ p. seen_place K.parts p
+        ≡ written program.now (seen_context K.parts program.now context.now process.now) registers.now.memory instr.now) }
+{
+    match instr {
+        SlotInstr::Put(at, _) => {
+            word_before(alloc, registers, index_value(program, context, process, at))
+        }
+        SlotInstr::PutBit(bits, row, column, _) => Ok(bit_before(
+            registers,
+            *bits,
+            index_value(program, context, process, row),
+            index_value(program, context, process, column),
+        )),
+        SlotInstr::PutView(at, _) => {
+            view_before(alloc, registers, index_value(program, context, process, at))
+        }
+        _ => Ok(Place::Nowhere),
+    }
+}
+
+/// What the place has that a line writes.
+pub(crate) fn place_before<K: Kind>(
+    alloc: Global,
+    program: &Program,
+    context: &Context,
+    registers: &Registers<K>,
+    process: &Process<K>,
+    instr: &SlotInstr,
+) -> Result<Place<K>, AllocError>
+    requires kind { program.now.kind ≡ K.TAG }
+    requires shape { registers.now.shape ≡ context.now.shape }
+    ensures { IfOk result (λ p. seen_place K.parts p
+        ≡ written program.now (seen_context K.parts program.now context.now process.now) registers.now.memory instr.now) }
+{
+    match instr {
+        SlotInstr::Let(slot, _)
+        | SlotInstr::Bit(slot, _, _, _)
+        | SlotInstr::First(slot, _, _, _)
+        | SlotInstr::Next(slot, _, _) => Ok(scalar_before(program, context, process, *slot)),
+        SlotInstr::LetPlace(slot, at, _) => {
+            let place = local_place(program, context, process, at);
+            Ok(number_before(program, process, *slot, place))
+        }
+        SlotInstr::Get(slot, to, _) => {
+            let place = local_place(program, context, process, to);
+            local_word_before(alloc, program, process, *slot, place)
+        }
+        SlotInstr::Look(slot, _) | SlotInstr::ViewData(slot, _) | SlotInstr::ViewOf(slot, _, _) => {
+            local_view_before(alloc, program, context, process, *slot)
+        }
+        SlotInstr::Each(_, slot, _, _) => row_before(alloc, program, context, process, *slot),
+        _ => register_before(alloc, program, context, registers, process, instr),
+    }
+}

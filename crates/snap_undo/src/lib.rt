@@ -1,0 +1,11 @@
+//! What an item overwrites, and how that is put back.
+#![tactic(auto)]
+
+mod before;
+mod overwrites;
+mod reversal;
+mod undo;
+
+pub use overwrites::overwritten;
+pub use reversal::revert;
+pub use undo::Undo;

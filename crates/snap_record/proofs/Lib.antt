@@ -11,3 +11,4 @@ pub mod Kept
 pub mod Doing
 pub mod Within
 pub mod LineRoles
+pub mod PlainSteps

@@ -1,16 +1,17 @@
 //! What has to be noted of an item before it is done.
-ghost use Rattle.std.specs.Prelude.{◌≡◌, IfOk, []};
+ghost use Rattle.std.specs.Prelude.{◌≡◌, IfOk, IsTrue, []};
 ghost use Rattle.snap_words.specs.Shape.{IsOneOf};
 ghost use Rattle.snap_semantics.specs.Source.{instr_at};
 ghost use Rattle.snap_semantics.specs.State.{process_at, value_at};
 ghost use Rattle.snap_semantics.specs.Table.{who};
-ghost use Rattle.snap_runs.specs.Deeds.{deed_at, deed_of, line_deed, returned};
+ghost use Rattle.snap_semantics.specs.declared.process.Item.TheVariants.{Step};
+ghost use Rattle.snap_runs.specs.Deeds.{deed_at, deed_of, line_deed, returned, Nothing};
 ghost use Rattle.snap_semantics.specs.RightUses.{HasRightUses};
 ghost use Rattle.snap_record.specs.Names.{Lacks, ViewsAlone};
 ghost use Rattle.snap_record.specs.Roles.{AreRoles};
 ghost use Rattle.snap_record.specs.SeenDeed.{seen_deed};
 
-use crate::roles::{Role, deed_by};
+use crate::roles::{Role, deed_by, is_plain};
 use snap_machine::{Local, Machine};
 use snap_semantics::{Activity, Instr, Item, Name, Op, Status};
 use snap_words::{Kind, View};
@@ -112,5 +113,19 @@ pub fn deed_of<K: Kind>(
     match deed_by(roles, activity.line) {
         Some(deed) => Ok(deed),
         None => found_deed(alloc, machine, i, &activity),
+    }
+}
+
+/// Whether a step of a process is seen at once to write no word, to test nothing for all and to answer nothing: most steps are.
+#[inline(always)]
+#[tactic(auto, using(crate::proofs::PlainSteps::plain_at))]
+pub fn is_plain_step<K: Kind>(machine: &Machine<K>, roles: &[Role], i: u32) -> bool
+    requires process { IsOneOf machine.now.shape.n i }
+    requires roles { AreRoles machine.now.source roles.now }
+    ensures { IsTrue result → deed_of machine.now.source machine.now.state (Step i) ≡ Nothing }
+{
+    match machine.line(i) {
+        Some(line) => is_plain(roles, line),
+        None => false,
     }
 }

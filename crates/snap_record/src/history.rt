@@ -1,9 +1,10 @@
 //! What a record keeps of its run besides the items.
-ghost use Rattle.std.specs.Prelude.{◌≡◌, ◌+◌, ◌-◌, ◌<◌, ◌≤◌, ◌++◌, ◌∷◌, [], get_or, length, map, vec_capacity, vec_len, slice_index, slice_set};
+ghost use Rattle.std.specs.Prelude.{◌≡◌, ◌+◌, ◌-◌, ◌<◌, ◌≤◌, ◌++◌, ◌∷◌, [], IsTrue, get_or, length, map, vec_capacity, vec_len, slice_index, slice_set};
 ghost use Rattle.snap_words.specs.Shape.{IsOneOf};
 ghost use Rattle.snap_semantics.specs.Run.{call_event, event_of};
 ghost use Rattle.snap_semantics.specs.State.{values};
 ghost use Rattle.snap_semantics.specs.Table.{who};
+ghost use Rattle.snap_semantics.specs.declared.process.Item.{Item as Done};
 ghost use Rattle.snap_semantics.specs.declared.event.Event.{Event};
 ghost use Rattle.snap_semantics.specs.declared.process.Outcome.TheVariants as outcomes;
 ghost use Rattle.std.specs.Prelude.{ℕ, List, ◌&&◌, ◌^◌, false};
@@ -215,4 +216,44 @@ pub fn ends_collect(deed: &Deed, outcome: &Outcome) -> bool
         (Deed::Test, Outcome::Stepped) => true,
         _ => false,
     }
+}
+
+/// Whether nobody sees what came of an item.
+#[inline(always)]
+fn is_unseen(outcome: &Outcome) -> bool
+    ensures { (t : ℕ) (x : Done) → IsTrue result → event_of t x outcome.now ≡ [] }
+{
+    match outcome {
+        Outcome::Stepped => true,
+        Outcome::Trapped(_) => true,
+        Outcome::Skipped(_) => true,
+        _ => false,
+    }
+}
+
+/// Notes what callers see of an item, and how many double collects its process has had. An answer's view is the one that was
+/// to be answered.
+#[inline(always)]
+pub fn note_outcome(
+    events: &mut Vec<Event>,
+    at_events: &mut Vec<u64>,
+    collects: &[u64],
+    number: u64,
+    item: Item,
+    outcome: &Outcome,
+    deed: Deed,
+)
+    requires process { IsOneOf (length collects.now) (who item) }
+    requires answer { (v : List ℕ) → outcome.now ≡ outcomes.Answered v → seen_deed deed ≡ Answer v }
+    requires events { vec_len events.old < vec_capacity events.old }
+    requires at_events { vec_len at_events.old < vec_capacity at_events.old }
+    ensures events { events.new.items ≡ events.old.items ++ event_of number item outcome.now }
+    ensures at_events { at_events.new.items ≡ at_events.old.items
+        ++ map (λ (e : Event). slice_index collects.now (who item - 1)) (event_of number item outcome.now) }
+{
+    if is_unseen(outcome) {
+        return;
+    }
+    let event = event_of(number, item, outcome, deed);
+    note_event(events, at_events, event, collects[(who(item) - 1) as usize]);
 }

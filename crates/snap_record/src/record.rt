@@ -4,6 +4,8 @@ ghost use Rattle.std.specs.List.{AllByRecursion};
 ghost use Rattle.snap_words.specs.Shape.{IsOneOf};
 ghost use Rattle.snap_semantics.specs.State.{initial};
 ghost use Rattle.snap_semantics.specs.Table.{who};
+ghost use Rattle.snap_semantics.specs.declared.process.Item.TheVariants.{Step};
+ghost use Rattle.snap_runs.specs.Deeds.{Nothing, deed_of};
 ghost use Rattle.snap_runs.specs.Run.{outcome, state, Fits};
 ghost use Rattle.snap_record.specs.Record.{collects_of, with_item, with_items, events_of, report_at, values_after};
 ghost use Rattle.snap_record.specs.Searches.{scan_collects};
@@ -11,9 +13,9 @@ ghost use Rattle.snap_semantics.specs.declared.event.Event.{Event as Happened};
 ghost use Rattle.snap_record.specs.History.{LeadsAlong, collects_at};
 ghost use Rattle.snap_record.specs.declared.fault.RecordFault.TheVariants.{Full};
 
-use crate::deed::deed_of;
+use crate::deed::{Deed, deed_of, is_plain_step};
 use crate::fault::RecordFault;
-use crate::history::{Change, event_of, note_collect, note_event, note_item, who};
+use crate::history::{Change, note_collect, note_item, note_outcome, who};
 use crate::items::History;
 use crate::printed::Report;
 use crate::roles::{Role, new_roles};
@@ -90,8 +92,36 @@ impl<K: Kind> Record<K> {
         })
     }
 
-    /// Does one item, for which there is a number.
-    fn add(&mut self, item: Item) -> Result<Outcome, AllocError>
+    /// Does one step that writes no word, tests nothing for all and answers nothing: nothing is noted of it but how an operation
+    /// ends.
+    #[inline(always)]
+    fn add_plain(&mut self, i: u32) -> Result<Outcome, AllocError>
+        requires process { IsOneOf self.old.shape.n i }
+        requires few { length self.old.items < 1000000 }
+        requires plain { deed_of self.old.source (state self.old (length self.old.items)) (Step i) ≡ Nothing }
+        ensures done { IfOk result (λ o. (self.new ≡ with_item self.old (Step i)) × (o ≡ outcome self.new (length self.new.items))) }
+        ensures unchanged { OnErr result (self.new ≡ self.old) }
+    {
+        self.items.reserve()?;
+        self.events.reserve(1)?;
+        self.at_events.reserve(1)?;
+        let item = Item::Step(i);
+        let came = self.machine.apply(item)?;
+        self.items.push_reserved(item);
+        note_outcome(
+            &mut self.events,
+            &mut self.at_events,
+            self.collects.as_slice(),
+            self.items.len() as u64,
+            item,
+            &came,
+            Deed::Nothing,
+        );
+        Ok(came)
+    }
+
+    /// Does one item, and notes all that it does.
+    fn add_noted(&mut self, item: Item) -> Result<Outcome, AllocError>
         requires process { IsOneOf self.old.shape.n (who item) }
         requires few { length self.old.items < 1000000 }
         ensures done { IfOk result (λ o. (self.new ≡ with_item self.old item) × (o ≡ outcome self.new (length self.new.items))) }
@@ -113,14 +143,32 @@ impl<K: Kind> Record<K> {
             &self.machine,
         );
         note_collect(&mut self.collects, who(item), &deed, &outcome);
-        let event = event_of(number, item, &outcome, deed);
-        note_event(
+        note_outcome(
             &mut self.events,
             &mut self.at_events,
-            event,
-            self.collects[(who(item) - 1) as usize],
+            self.collects.as_slice(),
+            number,
+            item,
+            &outcome,
+            deed,
         );
         Ok(outcome)
+    }
+
+    /// Does one item, for which there is a number.
+    #[inline(always)]
+    fn add(&mut self, item: Item) -> Result<Outcome, AllocError>
+        requires process { IsOneOf self.old.shape.n (who item) }
+        requires few { length self.old.items < 1000000 }
+        ensures done { IfOk result (λ o. (self.new ≡ with_item self.old item) × (o ≡ outcome self.new (length self.new.items))) }
+        ensures unchanged { OnErr result (self.new ≡ self.old) }
+    {
+        if let Item::Step(i) = item {
+            if is_plain_step(&self.machine, self.roles.as_slice(), i) {
+                return self.add_plain(i);
+            }
+        }
+        self.add_noted(item)
     }
 
     /// Does one item, where fewer than 1,000,000 are kept.

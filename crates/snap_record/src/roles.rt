@@ -1,9 +1,9 @@
 //! What the lines of a listing are to a record.
-ghost use Rattle.std.specs.Prelude.{◌≡◌, IfOk, IfSome, option_map};
+ghost use Rattle.std.specs.Prelude.{◌≡◌, IfOk, IfSome, IsTrue, option_map};
 ghost use Rattle.snap_semantics.specs.Source.{Source, instr_at};
 ghost use Rattle.snap_semantics.specs.State.{Locals};
 ghost use Rattle.snap_semantics.specs.declared.process.Activity.{Activity as Doing};
-ghost use Rattle.snap_runs.specs.Deeds.{deed_at};
+ghost use Rattle.snap_runs.specs.Deeds.{deed_at, Nothing};
 ghost use Rattle.snap_record.specs.Roles.{AreRoles, role_of};
 ghost use Rattle.snap_record.specs.SeenDeed.{seen_deed};
 
@@ -57,5 +57,16 @@ pub fn deed_by(roles: &[Role], line: u64) -> Option<Deed>
         Role::Test => Some(Deed::Test),
         Role::Return => None,
         Role::Nothing => Some(Deed::Nothing),
+    }
+}
+
+/// Whether the number of a line tells that it writes no word, tests nothing for all and answers nothing.
+#[inline(always)]
+pub fn is_plain(roles: &[Role], line: u64) -> bool
+    ensures { (a : Doing) (l : Locals) (s : Source) → AreRoles s roles.now → IsTrue result → deed_at a l (instr_at s.lines line) ≡ Nothing }
+{
+    match roles.get(line as usize) {
+        Some(Role::Nothing) => true,
+        _ => false,
     }
 }

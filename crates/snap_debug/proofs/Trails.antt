@@ -101,6 +101,13 @@ item_one r p xs (suc t) h lt le =
     let size = size_is r p xs h in
     all_index (λ (y : Item). IsOneOf r.shape.n (who y)) r.items t (Step 0) h.fits.all (omega (arith, size, le))
 
+-- a machine is its parts
+pub machine_is : (r : Run) (t : ℕ) (m : Standing) → m.source ≡ r.source → m.shape ≡ r.shape → m.state ≡ state r t → m ≡ standing r t
+machine_is r t m source shape left =
+    ap (λ (y : Source). let n : Standing = record { source = y; shape = m.shape; state = m.state } in n) source
+    ∙ ap (λ (y : Counts). let n : Standing = record { source = r.source; shape = y; state = m.state } in n) shape
+    ∙ ap (λ (y : State). let n : Standing = record { source = r.source; shape = r.shape; state = y } in n) left
+
 -- a machine does the next item
 pub stand_next : {K W : Type 0} (r : Run) (s u : Stand K W) (x : Item) (o : Outcome) → StandsAt r s → s.position < length r.items → x ≡ item r (s.position + 1) →
     done s.machine.source s.machine.shape s.machine.state x ≡ (u.machine.state, o) → u.machine.source ≡ s.machine.source → u.machine.shape ≡ s.machine.shape →
@@ -113,10 +120,7 @@ stand_next r s u x o h lt is did source shape at =
     let left : u.machine.state ≡ state r u.position = sym (ap (λ (p : State × Outcome). p.0) there) ∙ sym (next_state r t lt) ∙ ap (state r) (sym e ∙ sym at) in (
       record {
         within = omega (arith, lt, at);
-        machine =
-            ap (λ (y : Source). let m : Standing = record { source = y; shape = u.machine.shape; state = u.machine.state } in m) (source ∙ ap (λ (m : Standing). m.source) h.machine)
-            ∙ ap (λ (y : Counts). let m : Standing = record { source = r.source; shape = y; state = u.machine.state } in m) (shape ∙ ap (λ (m : Standing). m.shape) h.machine)
-            ∙ ap (λ (y : State). let m : Standing = record { source = r.source; shape = r.shape; state = y } in m) left;
+        machine = machine_is r u.position u.machine (source ∙ ap (λ (m : Standing). m.source) h.machine) (shape ∙ ap (λ (m : Standing). m.shape) h.machine) left;
       },
       sym (ap (λ (p : State × Outcome). p.1) there) ∙ ap (outcome r) (sym e),
     )

@@ -8,6 +8,7 @@ mod command_text;
 mod commands;
 mod fault_text;
 mod marks;
+mod path;
 mod reply;
 mod session;
 mod stand;

@@ -4,7 +4,6 @@ ghost use Rattle.snap_semantics.specs.Answers.{Answers};
 ghost use Rattle.snap_record.specs.Record.{report_at, run_over};
 ghost use Rattle.snap_debug.specs.Marks.{contents_at, last_stop, next_stop};
 ghost use Rattle.snap_debug.specs.Replies.{last_of, machine_of};
-ghost use Rattle.snap_debug.specs.Trail.{StandsAt};
 ghost use Rattle.snap_debug.specs.Session.{
   Obeys,
   RefusesFirst,
@@ -19,16 +18,16 @@ ghost use Rattle.snap_debug.specs.declared.command.Command.TheVariants as comman
 
 use crate::command::{Breakpoint, Command};
 use crate::marks::Marks;
+use crate::path::Path;
 use crate::reply::{
     Reply, events_reply, marks_reply, position_reply, process_reply, register_reply, values_reply,
     where_reply,
 };
-use crate::stand::Stand;
 use crate::stops::{last_stop, next_stop};
 use crate::trail::Trail;
 use snap_code::Program;
 use snap_machine::Machine;
-use snap_record::Report;
+use snap_record::{Report, who};
 use snap_report::report;
 use snap_sched::Schedule;
 use snap_semantics::{CommandRefusal, Fault, Outcome};
@@ -36,25 +35,27 @@ use snap_words::{Address, Kind};
 use std::alloc::{AllocError, Global};
 use std::marker::Model;
 
-/// A schedule with marks, followed as far as it was asked for, and the machine at a position.
+/// A schedule with marks, followed as far as it was asked for, and the machine at a position, which has the last item at hand.
 #[derive(Drop)]
 pub struct Session<K: Kind> {
     alloc: Global,
     marks: Marks,
     trail: Trail<K>,
-    here: Stand<K>,
+    here: Path<K>,
 }
 
 impl<K: Kind> Model for Session<K> {
-    ghost use Rattle.std.specs.Prelude.{◌≤◌};
+    ghost use Rattle.std.specs.Prelude.{◌<◌, ◌≤◌};
     ghost use Rattle.snap_debug.specs.Session.{Session as Seen};
-    ghost use Rattle.snap_debug.specs.Trail.{StandsAt};
+    ghost use Rattle.snap_debug.specs.Trail.{Leads, start};
 
     ghost Value = { Seen };
 
-    ghost view = { λ s. record { run = s.trail.run; marks = s.marks; position = s.here.position } };
+    ghost view = { λ s. record { run = s.trail.run; marks = s.marks; position = s.here.stand.position } };
 
-    ghost invariant = { λ s. StandsAt s.trail.run s.here × (s.here.position ≤ s.trail.reached) };
+    ghost invariant = { λ s. Leads s.trail.run s.here
+        × (s.here.stand.position ≤ s.trail.reached)
+        × (0 < s.here.stand.position → start s.here < s.here.stand.position) };
 }
 
 impl<K: Kind> Session<K> {
@@ -80,7 +81,7 @@ impl<K: Kind> Session<K> {
         ensures { IfOk result (λ s. s ≡ opened (run_over program.now schedule)) }
     {
         let trail = Trail::new(alloc, program, schedule)?;
-        let here = trail.checkpoint(0).copy()?;
+        let here = Path::to(alloc, &trail, 0)?;
         Ok(Session {
             alloc,
             marks: Marks::new(alloc),
@@ -94,7 +95,7 @@ impl<K: Kind> Session<K> {
         ensures position { result ≡ self.now.position }
         ensures within { result ≤ length self.now.run.items }
     {
-        self.here.position
+        self.here.stand.position
     }
 
     /// How many items there are.
@@ -109,14 +110,14 @@ impl<K: Kind> Session<K> {
         ensures value { result.now ≡ self.now.run.source }
         ensures kind { self.now.run.source.kind ≡ K.TAG }
     {
-        self.here.machine.program()
+        self.here.stand.machine.program()
     }
 
     /// The machine at the position.
     fn machine(&self) -> &Machine<K>
         ensures { result.now ≡ machine_of self.now }
     {
-        &self.here.machine
+        &self.here.stand.machine
     }
 
     /// Goes to a position.
@@ -127,25 +128,22 @@ impl<K: Kind> Session<K> {
         ensures unchanged { OnErr result (self.new ≡ self.old) }
     {
         self.trail.reach(position)?;
-        self.trail.come_near(&self.here, position)?;
-        let here = self.trail.stand_at(&self.here, position)?;
         let reply = position_reply(self.alloc, position, self.total())?;
-        self.here = here;
+        if self.here.is_near(&self.trail, position) {
+            self.here.go_to(&self.trail, position)?;
+        } else {
+            self.here = Path::to(self.alloc, &self.trail, position)?;
+        }
         Ok(reply)
     }
 
-    /// Goes to the first stop after the position, and to the end where there is none.
-    fn move_on(&mut self) -> Result<Reply, AllocError>
-        ensures moved { let s = self.old in let t = next_stop s.run s.marks s.position (length s.run.items - s.position) in
-            IfOk result (λ reply. self.new ≡ at_position t s) }
-        ensures reply { let s = self.old in let t = next_stop s.run s.marks s.position (length s.run.items - s.position) in
-            IfOk result (λ reply. reply ≡ position_text (at_position t s)) }
-        ensures unchanged { OnErr result (self.new ≡ self.old) }
+    /// The first stop after the position, and the end where there is none.
+    fn next_stop(&mut self) -> Result<u64, AllocError>
+        ensures stop { let s = self.old in IfOk result (λ t. t ≡ next_stop s.run s.marks s.position (length s.run.items - s.position)) }
+        ensures within { IfOk result (λ t. t ≤ length self.old.run.items) }
+        ensures unchanged { self.new ≡ self.old }
     {
-        let stop = next_stop(&mut self.trail, &self.here, &self.marks)?;
-        let reply = position_reply(self.alloc, stop.position, self.total())?;
-        self.here = stop;
-        Ok(reply)
+        next_stop(&mut self.trail, &self.here.stand, &self.marks)
     }
 
     /// So many items on, at most to the end.
@@ -191,7 +189,8 @@ impl<K: Kind> Session<K> {
         ensures obeys { Obeys (λ r. r) result self.old command.Run self.new }
         ensures refuses { RefusesFirst result self.old command.Run }
     {
-        Ok(self.move_on()?)
+        let stop = self.next_stop()?;
+        Ok(self.move_to(stop)?)
     }
 
     /// Back to the last stop.
@@ -329,9 +328,8 @@ impl<K: Kind> Session<K> {
         if position == 0 {
             return Ok(None);
         }
-        let mut before = self.trail.stand_at(&self.here, position - 1)?;
-        let last = self.trail.advance(&mut before)?;
-        Ok(Some(last))
+        let outcome = self.here.last(self.alloc)?;
+        Ok(Some((who(self.trail.item(position - 1)), outcome)))
     }
 
     /// Shows where the session and the processes stand.

@@ -162,36 +162,34 @@ impl<K: Kind> Walk<K> {
     }
 }
 
-/// A machine at the first stop after a stand, and at the end where there is none. Up to the first stop the watched registers
-/// are as they were at the stand, so that its machine serves as the one before each item.
+/// The first stop after a stand, and the end where there is none. Up to the first stop the watched registers are as they were
+/// at the stand, so that its machine serves as the one before each item.
 pub fn next_stop<K: Kind>(
     trail: &mut Trail<K>,
     here: &Stand<K>,
     marks: &Marks,
-) -> Result<Stand<K>, AllocError>
+) -> Result<u64, AllocError>
     requires stands { StandsAt trail.old.run here.now }
     requires reached { here.now.position ≤ trail.old.reached }
     ensures run { trail.new.run ≡ trail.old.run }
     ensures grows { trail.old.reached ≤ trail.new.reached }
-    ensures stands { IfOk result (λ s. StandsAt trail.old.run s) }
-    ensures reached { IfOk result (λ s. s.position ≤ trail.new.reached) }
+    ensures within { IfOk result (λ t. t ≤ length trail.old.run.items) }
     ensures stop { let r = trail.old.run in let t = here.now.position in
-        IfOk result (λ s. s.position ≡ next_stop r marks.now t (length r.items - t)) }
+        IfOk result (λ stop. stop ≡ next_stop r marks.now t (length r.items - t)) }
 {
     let total = trail.total();
     if marks.count() == 0 {
-        trail.reach(total)?;
-        return trail.stand_at(here, total);
+        return Ok(total);
     }
     let mut stand = here.copy()?;
     while stand.position < total {
         trail.reach(stand.position + 1)?;
         let (process, _outcome) = trail.advance(&mut stand)?;
         if stops_between(&here.machine, &stand.machine, process, marks) {
-            return Ok(stand);
+            return Ok(stand.position);
         }
     }
-    Ok(stand)
+    Ok(total)
 }
 
 /// The position of the later stop.

@@ -21,20 +21,14 @@ use std::marker::Model;
 /// How many items lie between checkpoints, for each process: the larger a machine is, the fewer copies are kept.
 const FAR: u64 = 256;
 
-/// How many items lie between the copies that are kept on the way to a position, for each process.
-const NEAR: u64 = 4;
-
 /// The record of a schedule's first items, as many as were asked for yet, with checkpoints: copies of the machine at the
-/// beginning and at even distances from it. No item is recorded twice. Copies at shorter distances are kept on the way from
-/// one checkpoint to the position that was last gone to from afar.
+/// beginning and at even distances from it. No item is recorded twice.
 #[derive(Drop)]
 pub struct Trail<K: Kind> {
     schedule: Schedule,
     history: Record<K>,
     first: Stand<K>,
     later: Vec<Stand<K>>,
-    near: Vec<Stand<K>>,
-    alloc: Global,
 }
 
 impl<K: Kind> Model for Trail<K> {
@@ -50,8 +44,7 @@ impl<K: Kind> Model for Trail<K> {
     ghost invariant = { λ t. IsBegun (run_over t.history.source t.schedule) t.history
         × StandsAt (run_over t.history.source t.schedule) t.first
         × (t.first.position ≡ 0)
-        × AllByRecursion (StandsAt (run_over t.history.source t.schedule)) t.later.items
-        × AllByRecursion (StandsAt (run_over t.history.source t.schedule)) t.near.items };
+        × AllByRecursion (StandsAt (run_over t.history.source t.schedule)) t.later.items };
 }
 
 /// The next of the items to come.
@@ -90,23 +83,6 @@ fn keep_checkpoint<K: Kind>(
     if position == due {
         let machine = history.machine().copy()?;
         later.push(Stand { machine, position })?;
-    }
-    Ok(())
-}
-
-/// Keeps a copy of a stand, where it is at an even distance.
-fn keep_near<K: Kind>(
-    near: &mut Vec<Stand<K>>,
-    stand: &Stand<K>,
-    spacing: u64,
-) -> Result<(), AllocError>
-    requires { 0 < spacing }
-    ensures { (r : Run) → StandsAt r stand.now → AllByRecursion (StandsAt r) near.old.items →
-        AllByRecursion (StandsAt r) near.new.items }
-{
-    if stand.position % spacing == 0 {
-        let copy = stand.copy()?;
-        near.push(copy)?;
     }
     Ok(())
 }
@@ -189,8 +165,6 @@ impl<K: Kind> Trail<K> {
                 position: 0,
             },
             later: Vec::new(alloc),
-            near: Vec::new(alloc),
-            alloc,
         })
     }
 
@@ -243,7 +217,7 @@ impl<K: Kind> Trail<K> {
     }
 
     /// The item behind the first `t`.
-    fn item(&self, t: u64) -> Item
+    pub fn item(&self, t: u64) -> Item
         requires { t < self.now.reached }
         ensures item { result ≡ item self.now.run (t + 1) }
         ensures process { IsOneOf self.now.run.shape.n (who result) }
@@ -287,81 +261,6 @@ impl<K: Kind> Trail<K> {
             }
         }
         &self.first
-    }
-
-    /// The last near copy that is not behind a position, or the last checkpoint where it is later.
-    fn copy_before(&self, position: u64) -> &Stand<K>
-        ensures stands { StandsAt self.now.run result.now }
-        ensures before { result.now.position ≤ position }
-    {
-        let checkpoint = self.checkpoint(position);
-        if self.near.is_empty() {
-            return checkpoint;
-        }
-        let spacing = u64::from(self.processes()) * NEAR;
-        let k = position.saturating_sub(self.near[0].position) / spacing;
-        let stand = &self.near[k.min(self.near.len() as u64 - 1) as usize];
-        if checkpoint.position < stand.position && stand.position <= position {
-            stand
-        } else {
-            checkpoint
-        }
-    }
-
-    /// The nearer of a stand and the copies, none of them behind a position.
-    fn nearest<'a>(&'a self, here: &'a Stand<K>, position: u64) -> &'a Stand<K>
-        requires { StandsAt self.now.run here.now }
-        ensures stands { StandsAt self.now.run result.now }
-        ensures before { result.now.position ≤ position }
-    {
-        let copy = self.copy_before(position);
-        if copy.position < here.position && here.position <= position {
-            here
-        } else {
-            copy
-        }
-    }
-
-    /// Copies on the way from the last checkpoint to a position.
-    fn copies_to(&self, position: u64) -> Result<Vec<Stand<K>>, AllocError>
-        requires { position ≤ self.now.reached }
-        ensures { IfOk result (λ near. AllByRecursion (StandsAt self.now.run) near.items) }
-    {
-        let spacing = u64::from(self.processes()) * NEAR;
-        let mut stand = self.checkpoint(position).copy()?;
-        let mut near = Vec::new(self.alloc);
-        while stand.position < position {
-            keep_near(&mut near, &stand, spacing)?;
-            let _done = self.advance(&mut stand)?;
-        }
-        Ok(near)
-    }
-
-    /// Keeps copies on the way to a position, where a stand and those that are kept are far from it.
-    pub fn come_near(&mut self, here: &Stand<K>, position: u64) -> Result<(), AllocError>
-        requires stands { StandsAt self.old.run here.now }
-        requires reached { position ≤ self.old.reached }
-        ensures { self.new ≡ self.old }
-    {
-        let start = self.nearest(here, position).position;
-        if position - start > u64::from(self.processes()) * NEAR {
-            self.near = self.copies_to(position)?;
-        }
-        Ok(())
-    }
-
-    /// A machine at a position, from a stand or from the last copy.
-    pub fn stand_at(&self, here: &Stand<K>, position: u64) -> Result<Stand<K>, AllocError>
-        requires stands { StandsAt self.now.run here.now }
-        requires reached { position ≤ self.now.reached }
-        ensures stands { IfOk result (λ s. StandsAt self.now.run s) }
-        ensures position { IfOk result (λ s. s.position ≡ position) }
-    {
-        let mut stand = self.nearest(here, position).copy()?;
-        while stand.position < position {
-            let _done = self.advance(&mut stand)?;
-        }
-        Ok(stand)
     }
 
     /// What callers saw of the first items, so many of them.

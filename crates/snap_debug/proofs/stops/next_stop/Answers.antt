@@ -1,6 +1,5 @@
 use Rattle.std.proofs.Common.{◌≡◌, ◌≤◌, ◌<◌, ◌+◌, ◌-◌, length, refl, ap, subst, sym, ◌∙◌, arith}
 use Rattle.std.specs.List.{list_any}
-use Rattle.std.proofs.lemmas.Result.{IfOk-weaker}
 use Rattle.snap_debug.specs.Marks.{next_stop}
 use Rattle.snap_debug.specs.Stops.{differs}
 use Rattle.snap_debug.specs.Trail.{StandsAt}
@@ -15,7 +14,7 @@ returns-then-count-eq0-clause-stop g c =
     let within = c.requires.stands.within in
     let all : c.total-total.result ≡ t + (length r.items - t) = omega (arith, size, within) in
     let none = no_next r c.args.marks.now t (length r.items - t) (sym c.count.ensures ∙ c.if-count-eq0.true) in
-    IfOk-weaker c.stand_at.result _ _ (λ s h. h ∙ all ∙ sym none) c.stand_at.ensures.position
+    all ∙ sym none
 
 pub loop-stand-init : goal.loop-stand-init
 loop-stand-init g c =
@@ -36,11 +35,11 @@ pub returns-then-stops_between-clause-stop : goal.returns-then-stops_between-cla
 returns-then-stops_between-clause-stop g c =
     let before = c.loop-stand.invariant in
     let did = c.in_ok-process.ensures in
-    let more = c.in_ok-reach-2.ensures in
+    let more = c.in_ok-reach.ensures in
     let size = c.total-total.ensures in
     let below = c.loop-stand-test.true in
     let lt : c.loop-stand.stand.position < length c.args.trail.now.run.items = omega (arith, size, below) in
-    let w = walked c.args.trail.now.run c.reach-in-loop-stand.new.self.run c.args.marks.now c.args.here.now c.loop-stand.stand c.advance.new.stand c.in_ok-process.process c.stops_between.result
+    let w = walked c.args.trail.now.run c.reach.new.self.run c.args.marks.now c.args.here.now c.loop-stand.stand c.advance.new.stand c.in_ok-process.process c.stops_between.result
     (more.run ∙ before.run) before.stands lt before.unchanged did.stands did.position did.process.0 c.stops_between.ensures in
     w.here c.if-stops_between.true ∙ before.passed
 
@@ -48,11 +47,11 @@ pub loop-stand-preserved-else-stops_between : goal.loop-stand-preserved-else-sto
 loop-stand-preserved-else-stops_between g c =
     let before = c.loop-stand.invariant in
     let did = c.in_ok-process.ensures in
-    let more = c.in_ok-reach-2.ensures in
+    let more = c.in_ok-reach.ensures in
     let size = c.total-total.ensures in
     let below = c.loop-stand-test.true in
     let lt : c.loop-stand.stand.position < length c.args.trail.now.run.items = omega (arith, size, below) in
-    let w = walked c.args.trail.now.run c.reach-in-loop-stand.new.self.run c.args.marks.now c.args.here.now c.loop-stand.stand c.advance.new.stand c.in_ok-process.process c.stops_between.result
+    let w = walked c.args.trail.now.run c.reach.new.self.run c.args.marks.now c.args.here.now c.loop-stand.stand c.advance.new.stand c.in_ok-process.process c.stops_between.result
     (more.run ∙ before.run) before.stands lt before.unchanged did.stands did.position did.process.0 c.stops_between.ensures in
     let at = did.position in
     let far = more.reached in
@@ -71,11 +70,11 @@ pub loop-stand-preserved-else-stops_between-2 : goal.loop-stand-preserved-else-s
 loop-stand-preserved-else-stops_between-2 g c =
     let before = c.loop-stand.invariant in
     let did = c.in_ok-process.ensures in
-    let more = c.in_ok-reach-2.ensures in
+    let more = c.in_ok-reach.ensures in
     let size = c.total-total.ensures in
     let below = c.loop-stand-test.true in
     let lt : c.loop-stand.stand.position < length c.args.trail.now.run.items = omega (arith, size, below) in
-    let w = walked c.args.trail.now.run c.reach-in-loop-stand.new.self.run c.args.marks.now c.args.here.now c.loop-stand.stand c.advance.new.stand c.in_ok-process.process c.stops_between.result
+    let w = walked c.args.trail.now.run c.reach.new.self.run c.args.marks.now c.args.here.now c.loop-stand.stand c.advance.new.stand c.in_ok-process.process c.stops_between.result
     (more.run ∙ before.run) before.stands lt before.unchanged did.stands did.position did.process.0 c.stops_between.ensures in
     let at = did.position in
     let far = more.reached in
@@ -94,11 +93,11 @@ pub loop-stand-preserved : goal.loop-stand-preserved
 loop-stand-preserved g c =
     let before = c.loop-stand.invariant in
     let did = c.in_ok-process.ensures in
-    let more = c.in_ok-reach-2.ensures in
+    let more = c.in_ok-reach.ensures in
     let size = c.total-total.ensures in
     let below = c.loop-stand-test.true in
     let lt : c.loop-stand.stand.position < length c.args.trail.now.run.items = omega (arith, size, below) in
-    let w = walked c.args.trail.now.run c.reach-in-loop-stand.new.self.run c.args.marks.now c.args.here.now c.loop-stand.stand c.advance.new.stand c.in_ok-process.process c.stops_between.result
+    let w = walked c.args.trail.now.run c.reach.new.self.run c.args.marks.now c.args.here.now c.loop-stand.stand c.advance.new.stand c.in_ok-process.process c.stops_between.result
     (more.run ∙ before.run) before.stands lt before.unchanged did.stands did.position did.process.0 c.stops_between.ensures in
     let at = did.position in
     let far = more.reached in

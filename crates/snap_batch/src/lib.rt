@@ -2,18 +2,18 @@
 #![tactic(auto)]
 
 ghost use Rattle.std.specs.Prelude.{◌≡◌, IfOk, map};
-ghost use Rattle.snap_batch.specs.Reports.{end_report};
+ghost use Rattle.snap_runner.specs.End.{end_report};
 
 use rayon::prelude::*;
 use snap_code::Program;
-use snap_record::{Report, record_over};
+use snap_record::Report;
+use snap_runner::run_to_end;
 use snap_sched::Schedule;
 use snap_words::{Bits, Kind, KindTag, Multi, Seq};
 use std::alloc::{AllocError, Global};
 use std::thread::Threads;
 
 /// The report of the end of a schedule, over registers of a kind.
-#[tactic(auto, unfolding(crate::specs::Reports::end_report))]
 fn report_of<K: Kind>(
     alloc: Global,
     program: &Program,
@@ -22,11 +22,13 @@ fn report_of<K: Kind>(
     requires { program.now.kind ≡ K.TAG }
     ensures { IfOk result (λ report. report ≡ end_report program.now schedule.now) }
 {
-    let record = record_over::<K>(alloc, program, schedule)?;
-    record.report()
+    let course = run_to_end::<K>(alloc, program, schedule)?;
+    let mut text = Vec::new(alloc);
+    course.push_report(&mut text)?;
+    Ok(Report::of(text))
 }
 
-/// The report of the end of a schedule. Its record is dropped when it stands.
+/// The report of the end of a schedule.
 fn end_report(alloc: Global, program: &Program, schedule: &Schedule) -> Result<Report, AllocError>
     ensures { IfOk result (λ report. report ≡ end_report program.now schedule.now) }
 {

@@ -9,7 +9,6 @@ use Rattle.snap_semantics.specs.Answers.{refused_as}
 use Rattle.snap_semantics.specs.Assembly.{assembled}
 use Rattle.snap_semantics.specs.Comments.{commented_of}
 use Rattle.snap_semantics.specs.Image.{image_of}
-use Rattle.snap_semantics.specs.Listing.{listing_of}
 use Rattle.snap_semantics.specs.Schedule.{Schedule, schedule_of}
 use Rattle.snap_semantics.specs.ScheduleText.{IsSchedule}
 use Rattle.snap_semantics.specs.Source.{Source}
@@ -23,7 +22,6 @@ use Rattle.snap_runs_of_m.specs.Promises as m
 use Rattle.snap_record.specs.Record.{run_over}
 use Rattle.snap_record.proofs.Within.{run_fits}
 use Rattle.snap_audit.specs.VerdictText.{audit_text}
-use Rattle.snap_debug.specs.CommandForms as forms
 use Rattle.snap_debug.specs.Commands.{commands_of}
 use Rattle.snap_debug.specs.Session.{performance}
 use Rattle.snap_debug.specs.declared.command.Command.{Command}
@@ -34,6 +32,7 @@ use Rattle.snap_output.specs.Headline.{PrintsTheRun, ListsBackAsSource, ShippedR
 use Rattle.snap_input.specs.Input.{shipped}
 use Rattle.snap_output.specs.Output.{audit_listing, of_task, output_of}
 use Rattle.snap_input.specs.Parts.{part, parts_of}
+use Rattle.snap_output.proofs.ToTheEnd.{is_run}
 use Rattle.snap_output.specs.Perform.{fitting, perform_listing, perform_of, schedule_for}
 use Rattle.snap_input.specs.declared.subject.Subject.TheVariants.{Shipped}
 use Rattle.snap_output.specs.declared.task.Task.{Task}
@@ -56,11 +55,6 @@ schedule_from l y s e =
       subst (λ (x : Schedule). schedule_of y ≡ Ok x) fit.1 (not_refused refusal.Schedule (schedule_of y) read.0 read.1),
       subst (λ (x : Schedule). fits l.kind x.shape ≡ true) fit.1 fit.0,
     )
-
--- the one command
-is_run : commands_of (codes "run\n") ≡ Ok (command.Run ∷ [])
-unfolding forms.keyword_form forms.number_form forms.numbers_form forms.place_form forms.bit_form forms.address_form forms.breakpoint_form forms.register_form forms.moving_form forms.marking_form forms.showing_form forms.command_form
-is_run = refl
 
 only_run : (r : Run) (cs : List Command) (text : List ℕ) → commands_of (codes "run\n") ≡ Ok cs → text ≡ performance r cs → text ≡ performance r (command.Run ∷ [])
 only_run r cs text read e =

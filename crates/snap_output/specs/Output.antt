@@ -10,7 +10,8 @@ use Rattle.snap_semantics.specs.Source.{Source}
 use Rattle.snap_semantics.specs.Spelling.{kind_word}
 use Rattle.snap_record.specs.Record.{run_over}
 use Rattle.snap_audit.specs.VerdictText.{audit_text}
-use Rattle.snap_batch.specs.Reports.{end_report, reports_text}
+use Rattle.snap_runner.specs.End.{end_report}
+use Rattle.snap_batch.specs.Reports.{reports_text}
 use Rattle.snap_input.specs.Input.{listing_for, parted, texts_for}
 use Rattle.snap_input.specs.Parts.{part, parts_of}
 use Rattle.snap_output.specs.Perform.{perform_listing, schedule_for}

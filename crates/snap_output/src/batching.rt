@@ -1,7 +1,8 @@
 //! A listing under many schedules.
 ghost use Rattle.std.specs.Prelude.{◌≡◌, ◌++◌, ◌<◌, ◌^◌, OnOk, length, map};
 ghost use Rattle.snap_semantics.specs.Answers.{Answers};
-ghost use Rattle.snap_batch.specs.Reports.{end_report, numbered_report, reports_text};
+ghost use Rattle.snap_runner.specs.End.{end_report};
+ghost use Rattle.snap_batch.specs.Reports.{numbered_report, reports_text};
 ghost use Rattle.snap_output.specs.Output.{batch_text, schedules_for};
 
 use crate::performing::schedule_for;

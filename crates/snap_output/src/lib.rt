@@ -7,6 +7,7 @@ mod checking;
 mod headlines;
 mod outputs;
 mod performing;
+mod running;
 mod task;
 
 pub use headlines::headline;

@@ -11,6 +11,7 @@ use crate::auditing::audit_program;
 use crate::batching::batch_program;
 use crate::checking::check_of;
 use crate::performing::perform_program;
+use crate::running::run_program;
 use crate::task::Task;
 use snap_code::Program;
 use snap_input::{
@@ -38,12 +39,12 @@ fn check_schedules(subject: Subject, input: &[u8]) -> Result<(), Refusal>
     }
 }
 
-/// A program under the schedule that a text is.
+/// A program under the schedule that a text is, to its end.
 fn run_texts(alloc: Global, program: &Program, texts: &[&[u8]]) -> Result<Vec<u8>, Fault<Refusal>>
     requires { 0 < length texts.now }
     ensures { Answers (λ out. out.items) result (run_text program.now (map (λ text. text.now) texts.now)) }
 {
-    perform_program(alloc, program, texts[0], b"run\n")
+    run_program(alloc, program, texts[0])
 }
 
 /// A listing under a schedule.

@@ -1,6 +1,6 @@
 use Rattle.std.proofs.Common.{◌∙◌, ap}
 use Rattle.rayon.specs.Lists.{min_len_base}
-use Rattle.snap_batch.specs.Reports.{end_report}
+use Rattle.snap_runner.specs.End.{end_report}
 use Rattle.snap_batch.proofs.Orders.{side_by_side}
 use Rattle.snap_batch.proofs.batch.Goals as goal
 

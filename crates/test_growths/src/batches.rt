@@ -1,0 +1,31 @@
+//! Many schedules of one program.
+use crate::inputs::{SCAN, UPDATE, single};
+use crate::trials::{tell, tried};
+use crate::trouble::Trouble;
+use snap_batch::batch;
+use snap_sched::{Schedule, read};
+use std::alloc::Global;
+use std::thread::Threads;
+
+/// A scan, an update, and a scan again.
+fn schedules(alloc: Global) -> Result<Vec<Schedule>, Trouble> {
+    let mut schedules = Vec::with_capacity(alloc, 3)?;
+    for text in [SCAN, UPDATE, SCAN] {
+        schedules.push(read(alloc, text)?)?;
+    }
+    Ok(schedules)
+}
+
+/// Three schedules are run side by side.
+pub fn play(rt: &HostRuntime, threads: &(impl Threads + Sync)) -> Result<(), Trouble> {
+    let program = single(rt.alloc())?;
+    let schedules = schedules(rt.alloc())?;
+    let reports = tried!(
+        rt,
+        batch(threads, rt.alloc(), &program, schedules.as_slice())
+    );
+    for report in &reports {
+        tell(rt, report.as_slice())?;
+    }
+    Ok(())
+}

@@ -1,0 +1,83 @@
+//! A machine, item by item.
+ghost use Rattle.std.specs.Prelude.{◌≡◌, IfOk, IsTrue};
+ghost use Rattle.snap_words.specs.Shape.{IsOneOf};
+ghost use Rattle.snap_semantics.specs.Table.{who};
+
+use crate::inputs::QUICK;
+use crate::outcomes::tell_outcome;
+use crate::trials::{tell, tried};
+use crate::trouble::Trouble;
+use snap_code::Program;
+use snap_machine::Machine;
+use snap_record::{report, who};
+use snap_sched::{Schedule, read};
+use snap_semantics::{Item, Outcome};
+use snap_words::{Bits, KindTag};
+use std::alloc::{AllocError, Global};
+
+/// A machine of the bounded single-writer listing, for a schedule.
+fn new_machine(alloc: Global, schedule: &Schedule) -> Result<Machine<Bits>, Trouble> {
+    let program = Program::of(alloc, snap_bounded::listing(alloc)?)?;
+    if program.kind() != KindTag::Bits {
+        return Err(Trouble::Refused);
+    }
+    Ok(Machine::new(alloc, &program, schedule.shape())?)
+}
+
+/// Whether a machine has the process of an item.
+fn has_process(machine: &Machine<Bits>, item: Item) -> bool
+    ensures { IsTrue result → IsOneOf machine.now.shape.n (who item) }
+{
+    let process = who(item);
+    1 <= process && u64::from(process) <= machine.shape().n()
+}
+
+/// Does an item.
+fn apply(machine: &mut Machine<Bits>, item: Item) -> Result<Outcome, Trouble> {
+    if !has_process(machine, item) {
+        return Err(Trouble::Refused);
+    }
+    Ok(machine.apply(item)?)
+}
+
+/// Does an item, and takes it back.
+fn apply_and_revert(machine: &mut Machine<Bits>, item: Item) -> Result<Outcome, Trouble> {
+    if !has_process(machine, item) {
+        return Err(Trouble::Refused);
+    }
+    let (outcome, undo) = machine.apply_undo(item)?;
+    machine.revert(undo);
+    Ok(outcome)
+}
+
+/// The report of a machine, with no events.
+fn report_of(alloc: Global, machine: &Machine<Bits>) -> Result<Vec<u8>, AllocError> {
+    let mut text = Vec::new(alloc);
+    report(&mut text, machine, &[], 0, 0)?;
+    Ok(text)
+}
+
+/// Each item of a schedule is done.
+pub fn play(rt: &HostRuntime) -> Result<(), Trouble> {
+    let schedule = read(rt.alloc(), QUICK)?;
+    let mut machine = new_machine(rt.alloc(), &schedule)?;
+    for item in schedule.items().iter() {
+        let outcome = tried!(rt, apply(&mut machine, item));
+        tell_outcome(rt, &outcome)?;
+    }
+    let text = tried!(rt, report_of(rt.alloc(), &machine));
+    tell(rt, text.as_slice())
+}
+
+/// Each item of a schedule is done, taken back, and done again.
+pub fn play_back(rt: &HostRuntime) -> Result<(), Trouble> {
+    let schedule = read(rt.alloc(), QUICK)?;
+    let mut machine = new_machine(rt.alloc(), &schedule)?;
+    for item in schedule.items().iter() {
+        let outcome = tried!(rt, apply_and_revert(&mut machine, item));
+        tell_outcome(rt, &outcome)?;
+        let _outcome = tried!(rt, apply(&mut machine, item));
+    }
+    let text = tried!(rt, report_of(rt.alloc(), &machine));
+    tell(rt, text.as_slice())
+}

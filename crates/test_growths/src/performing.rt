@@ -1,0 +1,11 @@
+//! A listing under a schedule, with debugger commands.
+use crate::inputs::{BORROWED, COMMANDS, Inputs};
+use crate::trials::{tell, tried};
+use crate::trouble::Trouble;
+use snap_output::perform;
+
+/// What commands are answered over a scan that borrows its view.
+pub fn play(rt: &HostRuntime, inputs: &Inputs) -> Result<(), Trouble> {
+    let text = tried!(rt, perform(rt.alloc(), inputs.single, BORROWED, COMMANDS));
+    tell(rt, text.as_slice())
+}

@@ -1,0 +1,22 @@
+//! Scripts that are played live.
+use crate::inputs::{SCRIPTS, single};
+use crate::trials::{tell, tried};
+use crate::trouble::Trouble;
+use snap_live::{Live, NoGate, run_live};
+use snap_sched::read_scripts;
+use snap_words::Seq;
+use std::sync::Wait;
+use std::thread::Threads;
+
+/// The scripts of one process are played, and the record of all turns is reported.
+pub fn play(rt: &HostRuntime, threads: &(impl Threads + Wait + Sync)) -> Result<(), Trouble> {
+    let alloc = rt.alloc();
+    let program = single(alloc)?;
+    let scripts = read_scripts(alloc, SCRIPTS)?;
+    let live: Live<Seq> = tried!(
+        rt,
+        run_live(threads, alloc, &program, &scripts, 1000, &NoGate)
+    );
+    let report = tried!(rt, live.kept.report());
+    tell(rt, report.as_slice())
+}

@@ -1,0 +1,94 @@
+//! The one seat of a desk, turn by turn.
+ghost use Rattle.std.specs.Prelude.{◌≡◌, All};
+ghost use Rattle.snap_words.specs.declared.kind.KindTag.TheVariants.{Seq as Tag};
+
+use crate::inputs::single;
+use crate::outcomes::tell_outcome;
+use crate::trials::{tell, tried};
+use crate::trouble::Trouble;
+use snap_code::Program;
+use snap_live::{Desk, Seat, Turn, close, open};
+use snap_semantics::Op;
+use snap_words::{Seq, Shape};
+use std::alloc::Global;
+use std::sync::Wait;
+
+/// An update, its steps, a scan, and its steps.
+const TURNS: u64 = 24;
+
+/// A desk, and its seats.
+#[derive(Drop)]
+struct Bench {
+    desk: Desk<Seq>,
+    seats: Vec<Seat<Seq>>,
+    ghost same: { All (λ s. s.desk ≡ desk) seats.items },
+}
+
+/// A new desk with one process and one word.
+fn new_bench(alloc: Global, program: &Program) -> Result<Bench, Trouble>
+    requires { program.now.kind ≡ Tag }
+{
+    let (desk, seats) = open::<Seq>(alloc, program, Shape::new(1, 1)?)?;
+    Ok(Bench { desk, seats })
+}
+
+/// What the seat is to do at a turn of this number: a call where one is due, and a step otherwise.
+fn due(number: u64) -> Option<Op> {
+    match number {
+        1 => Some(Op::Update { word: 1, value: 7 }),
+        15 => Some(Op::Scan),
+        _ => None,
+    }
+}
+
+/// A turn of the seat. Whatever comes of it, the seat has then asked for one more.
+fn turn<R: Wait>(rt: &R, bench: &mut Bench, number: u64) -> Result<Turn, Trouble> {
+    if bench.seats.is_empty() {
+        return Err(Trouble::Refused);
+    }
+    let seat = &mut bench.seats[0];
+    let asked = seat.asked();
+    if asked >= 2 * TURNS {
+        return Err(Trouble::Refused);
+    }
+    let answer = match due(number) {
+        Some(op) => seat.call(rt, &bench.desk, op),
+        None => seat.step(rt, &bench.desk),
+    };
+    if seat.asked() != asked + 1 {
+        return Err(Trouble::Changed);
+    }
+    Ok(answer?)
+}
+
+/// Takes a turn, and writes its number and what came of it.
+fn take_turn(
+    rt: &HostRuntime,
+    threads: &impl Wait,
+    bench: &mut Bench,
+    number: u64,
+) -> Result<(), Trouble> {
+    let Turn { number, outcome } = tried!(rt, turn(threads, bench, number));
+    print!(rt; "{number} ")?;
+    tell_outcome(rt, &outcome)
+}
+
+/// The desk is closed, and the record of all turns is reported.
+fn end(rt: &HostRuntime, bench: Bench) -> Result<(), Trouble> {
+    let Bench { desk, seats } = bench;
+    let Ok(record) = close(desk, seats) else {
+        return Err(Trouble::Changed);
+    };
+    let report = tried!(rt, record.report());
+    tell(rt, report.as_slice())
+}
+
+/// A desk is opened, its one seat takes its turns, and it is closed.
+pub fn play(rt: &HostRuntime, threads: &impl Wait) -> Result<(), Trouble> {
+    let program = single(rt.alloc())?;
+    let mut bench = tried!(rt, new_bench(rt.alloc(), &program));
+    for number in 1..=TURNS {
+        take_turn(rt, threads, &mut bench, number)?;
+    }
+    end(rt, bench)
+}

@@ -1,0 +1,18 @@
+//! Texts, images and programs.
+use crate::inputs::Inputs;
+use crate::trials::{tell, tried};
+use crate::trouble::Trouble;
+use snap_asm::{Program, assemble, list, load};
+
+/// An image is assembled, loaded, and listed back.
+pub fn play(rt: &HostRuntime, inputs: &Inputs) -> Result<(), Trouble> {
+    let image = tried!(rt, assemble(rt.alloc(), inputs.multi));
+    let program: Program = tried!(rt, load(rt.alloc(), image.as_slice()));
+    let text = tried!(rt, list(rt.alloc(), image.as_slice()));
+    println!(rt;
+        "{} bytes, {} lines",
+        image.len(),
+        program.listing().lines().len()
+    )?;
+    tell(rt, text.as_slice())
+}

@@ -1,0 +1,31 @@
+//! Calls that are made once more where they wanted memory.
+use crate::trouble::Trouble;
+use std::io::Write;
+
+/// What a call answers. Where it wanted memory, that is said on standard error, and the call is made once more.
+macro_rules! tried {
+    ($rt:expr, $call:expr) => {
+        match $call {
+            Ok(answer) => answer,
+            Err(error) => {
+                $crate::trials::wants_memory($rt, $crate::trouble::Trouble::from(error))?;
+                $call?
+            }
+        }
+    };
+}
+
+pub(crate) use tried;
+
+/// Says that a call wanted memory; any other trouble is handed back.
+pub fn wants_memory(rt: &HostRuntime, trouble: Trouble) -> Result<(), Trouble> {
+    if trouble != Trouble::Memory {
+        return Err(trouble);
+    }
+    Ok(rt.stderr().write_all(b"again\n")?)
+}
+
+/// Writes a text to standard output.
+pub fn tell(rt: &HostRuntime, text: &[u8]) -> Result<(), Trouble> {
+    Ok(rt.stdout().write_all(text)?)
+}

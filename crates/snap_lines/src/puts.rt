@@ -10,10 +10,9 @@ ghost use Rattle.snap_lines.specs.Lines.{IfAnswered};
 ghost use Rattle.snap_values.specs.Seen.{seen_context};
 
 use crate::lines::Halt;
-use crate::local_lines::copy_of;
 use snap_code::{Program, SlotTuple};
 use snap_semantics::Cause;
-use snap_values::{Context, Process, expr_value, row, view};
+use snap_values::{Context, Process, copy_of, expr_value, row, view};
 use snap_words::{Kind, Parts, Shape, View};
 use std::alloc::Global;
 
@@ -25,7 +24,7 @@ pub struct Given<'a> {
     pub id: u64,
     pub toggle: u64,
     pub hands: &'a [u64],
-    pub view: &'a [u64],
+    pub view: Option<&'a View>,
 }
 
 /// What a tuple gives.
@@ -63,7 +62,7 @@ pub fn given_of<'a, K: Kind>(
             id: expr_value(program, context, process, id)?,
             toggle: expr_value(program, context, process, toggle)?,
             hands: &[],
-            view: &[],
+            view: None,
         }),
     }
 }

@@ -28,15 +28,10 @@ pub fn new_row<K: Kind>(
 {
     let old = row(program.rows(), process.rows.as_slice(), slot);
     let mut values = room(alloc, old.len())?;
+    let mut there = *context;
     for passed in 0..count {
-        let value = row_value(
-            program,
-            &context.at(passed + 1),
-            process,
-            slot,
-            expr,
-            condition,
-        )?;
+        there.place = passed + 1;
+        let value = row_value(program, &there, process, slot, expr, condition)?;
         push(&mut values, value)?;
     }
     push_rest(&mut values, old, count)?;

@@ -24,8 +24,8 @@ use crate::undo::Place;
 use snap_code::{Program, SlotInstr};
 use snap_regs::Registers;
 use snap_semantics::{BitBank, Cause};
-use snap_values::{Context, Process, index_value, local_place, row, scalar, view, words};
-use snap_words::{Kind, View};
+use snap_values::{Context, Process, copy_of, index_value, local_place, row, scalar, view, words};
+use snap_words::Kind;
 use std::alloc::{AllocError, Global};
 
 /// A scalar.
@@ -130,7 +130,7 @@ fn local_view_before<K: Kind>(
         ≡ local_view_before program.now (seen_context K.parts program.now context.now process.now) slot) }
 {
     let view = view(program.views(), process.views.as_slice(), slot);
-    Ok(Place::LocalView(slot, View::of(Vec::from_slice(alloc, view)?)))
+    Ok(Place::LocalView(slot, copy_of(alloc, view)?))
 }
 
 /// A word of the registers, where there is one of this number.

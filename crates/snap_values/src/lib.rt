@@ -8,7 +8,9 @@ mod quantifiers;
 mod value;
 
 pub use context::Context;
-pub use locals::{row, scalar, set_number, set_row, set_scalar, set_view, set_word, view, words};
+pub use locals::{
+    copy_of, row, scalar, set_number, set_row, set_scalar, set_view, set_word, view, words,
+};
 pub use process::Process;
 pub use quantifiers::{check_values, first_place, holds_at_all, range_end, row_value};
 pub use value::{condition_holds, expr_value, index_value, local_place, places};

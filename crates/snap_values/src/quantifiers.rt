@@ -36,10 +36,11 @@ pub fn first_place<K: Kind>(
     ensures { result ≡ first_place (seen_context K.parts program.now context.now process.now) count (named_condition program.now condition.now) }
 {
     let mut found = None;
+    let mut there = *context;
     for passed in 0..count {
-        let place = passed + 1;
-        let holds = condition_holds(program, &context.at(place), process, condition)?;
-        found = first_of(found, holds, place);
+        there.place = passed + 1;
+        let holds = condition_holds(program, &there, process, condition)?;
+        found = first_of(found, holds, passed + 1);
     }
     Ok(found)
 }
@@ -65,8 +66,10 @@ pub fn holds_at_all<K: Kind>(
     ensures { result ≡ holds_at_all (seen_context K.parts program.now context.now process.now) count (named_condition program.now condition.now) }
 {
     let mut all = true;
+    let mut there = *context;
     for passed in 0..count {
-        let holds = condition_holds(program, &context.at(passed + 1), process, condition)?;
+        there.place = passed + 1;
+        let holds = condition_holds(program, &there, process, condition)?;
         all = joined(Join::And, all, holds);
     }
     Ok(all)
@@ -112,15 +115,10 @@ pub fn check_values<K: Kind>(
     ensures { result ≡ checked_values (seen_context K.parts program.now context.now process.now)
         count (name_at program.now.rows slot) (named_expr program.now expr.now) (named_where program.now condition.now) }
 {
+    let mut there = *context;
     for passed in 0..count {
-        row_value(
-            program,
-            &context.at(passed + 1),
-            process,
-            slot,
-            expr,
-            condition,
-        )?;
+        there.place = passed + 1;
+        row_value(program, &there, process, slot, expr, condition)?;
     }
     Ok(())
 }

@@ -21,9 +21,9 @@ returns-in_err-row_value g c =
     let passed = c.loop-passed.passed in
     let context : Context = seen_context g.K.Kind.parts s c.args.context.now p in
     let is : each_value (at_place context (passed + 1)) x v k ≡ Err c.in_err-row_value.field-0.0 =
-    ap (λ (t : Surroundings). each_value (seen_context g.K.Kind.parts s t p) x v k) (sym c.at.ensures) ∙ sym c.row_value.ensures ∙ c.in_err-row_value.was in
+    ap (λ (t : Surroundings). each_value (seen_context g.K.Kind.parts s (record t { place = passed + 1 }) p) x v k) (sym c.loop-passed.invariant.1) ∙ sym c.row_value.ensures ∙ c.in_err-row_value.was in
     let e = err_from_is_err_and c.from_residual.result c.from_residual.ensures.1 in
-    rw (e.1, e.2) (sym (trap_place (λ q. each_value (at_place context q) x v k) nothing passed c.args.count c.in_err-row_value.field-0.0 (omega arith) is) ∙ c.loop-passed.invariant)
+    rw (e.1, e.2) (sym (trap_place (λ q. each_value (at_place context q) x v k) nothing passed c.args.count c.in_err-row_value.field-0.0 (omega arith) is) ∙ c.loop-passed.invariant.0)
 
 pub loop-passed-preserved : goal.loop-passed-preserved
 loop-passed-preserved g c =
@@ -35,6 +35,8 @@ loop-passed-preserved g c =
     let passed = c.loop-passed.passed in
     let context : Context = seen_context g.K.Kind.parts s c.args.context.now p in
     let is : each_value (at_place context (passed + 1)) x v k ≡ Ok c.in_ok-row_value.field-0 =
-    ap (λ (t : Surroundings). each_value (seen_context g.K.Kind.parts s t p) x v k) (sym c.at.ensures) ∙ sym c.row_value.ensures ∙ c.in_ok-row_value.was in
-    sym (next_place (λ q. each_value (at_place context q) x v k) nothing nothing passed c.args.count c.in_ok-row_value.field-0 (omega arith) is (λ vs. refl))
-    ∙ c.loop-passed.invariant
+    ap (λ (t : Surroundings). each_value (seen_context g.K.Kind.parts s (record t { place = passed + 1 }) p) x v k) (sym c.loop-passed.invariant.1) ∙ sym c.row_value.ensures ∙ c.in_ok-row_value.was in (
+      sym (next_place (λ q. each_value (at_place context q) x v k) nothing nothing passed c.args.count c.in_ok-row_value.field-0 (omega arith) is (λ vs. refl))
+          ∙ c.loop-passed.invariant.0,
+      c.loop-passed.invariant.1,
+    )

@@ -1,5 +1,4 @@
 //! What a process runs a line in.
-
 use snap_semantics::Activity;
 use snap_words::Shape;
 

@@ -4,7 +4,7 @@ _snaplab() {
     local commands="check assemble list upgrade run debug audit batch live help"
     COMPREPLY=()
     if [ "$COMP_CWORD" -eq 1 ]; then
-        mapfile -t COMPREPLY < <(compgen -W "$commands -h --help" -- "$word")
+        mapfile -t COMPREPLY < <(compgen -W "$commands -h --help -V --version" -- "$word")
     elif [ "${COMP_WORDS[1]}" = help ]; then
         [ "$COMP_CWORD" -ne 2 ] || mapfile -t COMPREPLY < <(compgen -W "$commands" -- "$word")
     elif [ "${COMP_WORDS[COMP_CWORD - 1]}" = --shipped ]; then

@@ -2,6 +2,7 @@
 set -l commands check assemble list upgrade run debug audit batch live help
 complete -c snaplab -f
 complete -c snaplab -s h -l help -d 'print help'
+complete -c snaplab -n "not __fish_seen_subcommand_from $commands" -s V -l version -d 'print the version'
 complete -c snaplab -n "not __fish_seen_subcommand_from $commands" -a check -d 'say whether a text is a listing'
 complete -c snaplab -n "not __fish_seen_subcommand_from $commands" -a assemble -d 'write the image of a listing'
 complete -c snaplab -n "not __fish_seen_subcommand_from $commands" -a list -d 'write the text of an image'

@@ -1,24 +1,24 @@
 //! From texts to images, from images to texts and to images of the version that is written, and from images to programs.
 ghost use Rattle.std.specs.Prelude.{◌≡◌, ◌≢◌, ℕ, List, ◌∷◌, ◌++◌, IfOk, None, Ok, Err, take};
 ghost use Rattle.snap_semantics.specs.Answers.{Answers};
-ghost use Rattle.snap_semantics.specs.Assembly.{assembled, listed, upgraded};
+ghost use Rattle.snap_image_format.specs.Assembly.{assembled, listed, upgraded};
 ghost use Rattle.snap_semantics.specs.CanonicalText.{canonical_text};
 ghost use Rattle.snap_semantics.specs.Comments.{Commented, IsCommented};
-ghost use Rattle.snap_semantics.specs.Image.{CanSay, image_in, image_of, signature};
-ghost use Rattle.snap_semantics.specs.ImageCodes.{of_code, versions};
-ghost use Rattle.snap_semantics.specs.ImageListing.{listing_of_image};
+ghost use Rattle.snap_image_format.specs.Image.{CanSay, image_in, image_of, signature};
+ghost use Rattle.snap_image_format.specs.ImageCodes.{of_code, versions};
+ghost use Rattle.snap_image_format.specs.ImageListing.{listing_of_image};
 ghost use Rattle.snap_semantics.specs.declared.fault.Fault.TheVariants.{Refused};
-ghost use Rattle.snap_semantics.specs.declared.image.ImageVersion.{ImageVersion};
+ghost use Rattle.snap_image_format.specs.declared.image.ImageVersion.{ImageVersion};
 ghost use Rattle.snap_semantics.specs.declared.refusal.ImageRefusal.TheVariants.{NotAnImage, Version};
 ghost use Rattle.snap_asm.specs.Listed.{HasListing, HaveOneListing};
 
-use snap_code::Program;
+use snap_asm_program::Program;
 use snap_image::{ImageFault, decode, encode};
 use snap_listing::{ListingFault, print, read_commented};
 use std::alloc::Global;
 
 /// The image of the listing that a text is, with its comments, or the first reason why it is none.
-#[tactic(auto, unfolding(snap_semantics::specs::Assembly::assembled))]
+#[tactic(auto, unfolding(snap_image_format::specs::Assembly::assembled))]
 pub fn assemble(alloc: Global, text: &[u8]) -> Result<Vec<u8>, ListingFault>
     ensures { Answers (λ image. image.items) result (assembled text.now) }
 {
@@ -29,7 +29,7 @@ pub fn assemble(alloc: Global, text: &[u8]) -> Result<Vec<u8>, ListingFault>
 
 /// The canonical text of the listing whose image these bytes are, in either version, or the first reason why they are none: they are refused
 /// exactly where no listing has this image.
-#[tactic(auto, unfolding(snap_semantics::specs::Assembly::listed))]
+#[tactic(auto, unfolding(snap_image_format::specs::Assembly::listed))]
 pub fn list(alloc: Global, image: &[u8]) -> Result<Vec<u8>, ImageFault>
     ensures answer { Answers (λ text. text.items) result (listed image.now) }
     ensures image { IfOk result (λ text. HaveOneListing image.now text.items) }
@@ -43,7 +43,7 @@ pub fn list(alloc: Global, image: &[u8]) -> Result<Vec<u8>, ImageFault>
 }
 
 /// The image, in the second version, of the listing whose image these bytes are in either version, or the first reason why they are none.
-#[tactic(auto, unfolding(snap_semantics::specs::Assembly::upgraded))]
+#[tactic(auto, unfolding(snap_image_format::specs::Assembly::upgraded))]
 pub fn upgrade(alloc: Global, image: &[u8]) -> Result<Vec<u8>, ImageFault>
     ensures answer { Answers (λ image. image.items) result (upgraded image.now) }
     ensures every { (v : ImageVersion) (c : Commented) → IsCommented c → CanSay v c → image.now ≡ image_in v c → Answers (λ image. image.items) result (Ok (image_of c)) }
@@ -57,7 +57,7 @@ pub fn upgrade(alloc: Global, image: &[u8]) -> Result<Vec<u8>, ImageFault>
 
 /// The program whose image these bytes are, in either version, or the first reason why they are none: they are refused exactly where no listing
 /// has this image.
-#[tactic(auto, unfolding(snap_semantics::specs::ImageListing::listing_of_image))]
+#[tactic(auto, unfolding(snap_image_format::specs::ImageListing::listing_of_image))]
 pub fn load(alloc: Global, image: &[u8]) -> Result<Program, ImageFault>
     ensures answer { Answers (λ p. p) result (listing_of_image image.now) }
     ensures image { IfOk result (λ p. HasListing image.now p) }

@@ -8,4 +8,4 @@ pub use assembly::{assemble, list, load, upgrade};
 pub use laws::{
     what_is_assembled_lists_back, what_is_canonical_is_kept, what_is_encoded_is_upgraded,
 };
-pub use snap_code::Program;
+pub use snap_asm_program::Program;

@@ -17,10 +17,9 @@ use Rattle.snap_semantics.specs.declared.process.Outcome.TheVariants as outcomes
 use Rattle.snap_semantics.specs.declared.process.Status.{Status}
 use Rattle.snap_semantics.specs.declared.process.Status.TheVariants.{Idle, Busy, Trapped, Crashed}
 use Rattle.snap_runs.specs.Audit.{audit, is_called, last_call, verdict_at, verdict_of, verdicts}
-use Rattle.snap_runs.specs.Run.{Run, Fits, state, item, outcome}
+use Rattle.snap_runs.specs.Run.{Run, IsValidRun, state, item, outcome, events_of}
 use Rattle.snap_runs.specs.declared.verdict.Verdict.{Verdict}
 use Rattle.snap_runs.proofs.Embedding.{all_index}
-use Rattle.snap_record.specs.Record.{events_of}
 use Rattle.snap_record.proofs.Events.{events_from, next_events, no_events, all_events}
 use Rattle.snap_record.proofs.Searches.{and_false}
 use Rattle.snap_audit.specs.Sweep.{by_events}
@@ -47,7 +46,7 @@ crash_uncalled S i p (Trapped c a) e = absurd cc
 crash_uncalled S i p (Crashed was) e = absurd cc
 crash_uncalled S i p (Busy a) e = absurd cc
 
-module _ (r : Run) (fits : Fits r) where
+module _ (r : Run) (fits : IsValidRun r) where
   -- of the scans that so many items after item t answer
   verdicts_from : ℕ → ℕ → List Verdict
   verdicts_from t zero = []

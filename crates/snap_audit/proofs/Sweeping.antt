@@ -10,12 +10,11 @@ use Rattle.snap_semantics.specs.declared.event.Happening.{Happening}
 use Rattle.snap_semantics.specs.declared.event.Happening.TheVariants.{Call, Answer, Done}
 use Rattle.snap_semantics.specs.declared.process.Op.{Op}
 use Rattle.snap_runs.specs.Audit.{audit, least_point, verdict_of}
-use Rattle.snap_runs.specs.Run.{Run, Fits}
+use Rattle.snap_runs.specs.Run.{Run, IsValidRun, events_of}
 use Rattle.snap_runs.specs.Scan.{double_collects, ends_double_collect}
 use Rattle.snap_runs.specs.declared.verdict.Verdict.{Verdict}
 use Rattle.snap_runs.proofs.Embedding.{map_same}
 use Rattle.snap_record.specs.History.{IsRising, IsWithin, LeadsAlong, collects_at, values_by}
-use Rattle.snap_record.specs.Record.{events_of}
 use Rattle.snap_record.specs.declared.history.Change.{Change}
 use Rattle.snap_record.proofs.Counts.{count_split}
 use Rattle.snap_record.proofs.Events.{all_events, all_within_run, rising_run}
@@ -34,7 +33,7 @@ all_past [] = tt
 all_past (e ∷ es) = (omega arith, all_past es)
 
 -- at the start all events are left
-pub started : (r : Run) (xs : List Change) (cs : List Caller) (es : List Event) → Fits r → LeadsAlong r xs → cs ≡ replicate r.shape.n (fresh r.shape.w) →
+pub started : (r : Run) (xs : List Change) (cs : List Caller) (es : List Event) → IsValidRun r → LeadsAlong r xs → cs ≡ replicate r.shape.n (fresh r.shape.w) →
     es ≡ events_of r (length r.items) → Sweeps r xs cs [] es
 started r xs cs es fits leads new all =
     subst (λ (l : List Caller). Sweeps r xs l [] es) (sym new)

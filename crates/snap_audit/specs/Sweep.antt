@@ -40,12 +40,12 @@ abbrev pub fresh : ℕ → Caller
 fresh words = record { values = replicate words 0; next = 0; call = 0; collects = 0 }
 
 -- from its last call on, what is kept of a process leads to the values
-abbrev pub Follows : Run → List Change → Caller → Type 0
-Follows r xs c = (u : ℕ) → c.call ≤ u → u ≤ length r.items → values (state r u) ≡ values_by c.values (drop c.next xs) u
+abbrev pub LeadsToValues : Run → List Change → Caller → Type 0
+LeadsToValues r xs c = (u : ℕ) → c.call ≤ u → u ≤ length r.items → values (state r u) ≡ values_by c.values (drop c.next xs) u
 
 -- what is kept of process i before these events
 pub record IsCaller (r : Run) (xs : List Change) (left : List Event) (i : ℕ) (c : Caller) : Type 0 where
-  pub follows : Follows r xs c
+  pub follows : LeadsToValues r xs c
   pub past : AllByRecursion (λ (e : Event). c.call ≤ e.item) left
   pub collects_are : c.collects ≡ double_collects r i 0 c.call
 

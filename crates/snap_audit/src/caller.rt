@@ -2,7 +2,7 @@
 ghost use Rattle.std.specs.Prelude.{◌≡◌, ◌≤◌, ◌<◌, ◌+◌, ◌-◌, ◌^◌, ℕ, IfOk, drop, suc, replicate};
 ghost use Rattle.snap_record.specs.History.{values_by};
 ghost use Rattle.snap_audit.specs.Sweep.{fresh, least_by};
-ghost use Rattle.snap_runs.specs.declared.verdict.Verdict.{Verdict as Found};
+ghost use Rattle.snap_runs.specs.declared.verdict.Verdict.{Verdict};
 
 use snap_record::{Change, Row, advance};
 use snap_runs::Verdict;

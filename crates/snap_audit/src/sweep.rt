@@ -1,12 +1,12 @@
 //! The audit of a record.
 ghost use Rattle.std.specs.Prelude.{◌≡◌, ◌≤◌, ◌<◌, ◌+◌, ◌-◌, ◌^◌, ◌∷◌, List, IfOk, OnOk, get_or, length, replicate};
 ghost use Rattle.snap_words.specs.Shape.{IsOneOf};
-ghost use Rattle.snap_semantics.specs.declared.event.Event.{Event as Happened};
+ghost use Rattle.snap_semantics.specs.declared.event.Event.{Event};
 ghost use Rattle.snap_runs.specs.Audit.{audit};
 ghost use Rattle.snap_runs.specs.Run.{Run};
 ghost use Rattle.snap_record.specs.History.{collects_at};
 ghost use Rattle.snap_audit.specs.Sweep.{Sweeps, fresh};
-ghost use Rattle.snap_audit.specs.declared.caller.Caller.{Caller as Kept};
+ghost use Rattle.snap_audit.specs.declared.caller.Caller.{Caller};
 
 use crate::caller::Caller;
 use snap_record::{Change, Record};
@@ -37,10 +37,10 @@ fn note_event(
     collects: u64,
 ) -> Result<(), AllocError>
     requires process { IsOneOf (length callers.old.items) event.now.process }
-    requires order { (d : Kept) → (get_or callers.old.items (event.now.process - 1) d).call ≤ event.now.item }
+    requires order { (d : Caller) → (get_or callers.old.items (event.now.process - 1) d).call ≤ event.now.item }
     requires few { event.now.item + 1 < 2 ^ 64 }
-    requires collects { (d : Kept) → (get_or callers.old.items (event.now.process - 1) d).collects ≤ collects }
-    ensures { OnOk result ((r : Run) (left : List Happened) → collects ≡ collects_at r event.now →
+    requires collects { (d : Caller) → (get_or callers.old.items (event.now.process - 1) d).collects ≤ collects }
+    ensures { OnOk result ((r : Run) (left : List Event) → collects ≡ collects_at r event.now →
         Sweeps r changes.now callers.old.items verdicts.old.items (event.now ∷ left) →
         Sweeps r changes.now callers.new.items verdicts.new.items left) }
 {

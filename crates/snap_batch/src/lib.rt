@@ -5,8 +5,8 @@ ghost use Rattle.std.specs.Prelude.{◌≡◌, IfOk, map};
 ghost use Rattle.snap_runner.specs.End.{end_report};
 
 use rayon::prelude::*;
-use snap_code::Program;
-use snap_record::Report;
+use snap_asm_program::Program;
+use snap_report::Report;
 use snap_runner::run_to_end;
 use snap_sched::Schedule;
 use snap_words::{Bits, Kind, KindTag, Multi, Seq};

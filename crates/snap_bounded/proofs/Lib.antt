@@ -1,2 +1,1 @@
-pub mod TextOfB
 pub mod Samples

@@ -3,7 +3,7 @@ use Rattle.std.specs.Prelude.{◌≡◌, ℕ, List, [], ◌∷◌, ◌++◌, Som
 use Rattle.std.proofs.Common.{arith}
 use Rattle.snap_semantics.specs.declared.process.Item.{Item}
 use Rattle.snap_semantics.specs.declared.process.Item.TheVariants.{Step, Call}
-use Rattle.snap_semantics.specs.declared.process.Op.TheVariants.{Scan as ScanOp, Update}
+use Rattle.snap_semantics.specs.declared.process.Op.TheVariants.{Scan, Update}
 use Rattle.snap_semantics.specs.declared.process.Outcome.TheVariants.{Finished}
 use Rattle.snap_semantics.specs.State.{values, value_at, process_at}
 use Rattle.snap_runs.specs.Run.{state, before, outcome}
@@ -19,7 +19,7 @@ times count i = replicate count (Step i)
 
 -- One process scans: the call and thirteen steps.
 abbrev pub scan_alone : List Item
-scan_alone = Call 1 ScanOp ∷ times 13 1
+scan_alone = Call 1 Scan ∷ times 13 1
 
 scan_alone_starts : Starts (run_of 1 scan_alone) 1 1 None
 scan_alone_starts = (refl, refl)
@@ -52,7 +52,7 @@ update_done = refl
 
 -- Two processes, and nobody writes: the view is the values at the call already.
 abbrev pub scan_undisturbed : List Item
-scan_undisturbed = Call 1 ScanOp ∷ times 21 1
+scan_undisturbed = Call 1 Scan ∷ times 21 1
 
 undisturbed_ends : Starts (run_of 2 scan_undisturbed) 1 1 None × Ends (run_of 2 scan_undisturbed) 1 22 None (0 ∷ 0 ∷ [])
 undisturbed_ends = ((refl, refl), (refl, refl))
@@ -64,7 +64,7 @@ undisturbed_point = (1, omega arith, omega arith, refl)
 -- borrows the view that the second update has put beside its value.
 abbrev pub scan_borrows : List Item
 scan_borrows =
-    Call 1 ScanOp ∷ (times 14 1 ++ (Call 2 (Update 2 5) ∷ (times 32 2 ++ (times 8 1 ++ (times 12 1 ++ (Call 2 (Update 2 6) ∷ (times 32 2 ++ times 9 1)))))))
+    Call 1 Scan ∷ (times 14 1 ++ (Call 2 (Update 2 5) ∷ (times 32 2 ++ (times 8 1 ++ (times 12 1 ++ (Call 2 (Update 2 6) ∷ (times 32 2 ++ times 9 1)))))))
 
 borrows_values : (values (state (run_of 2 scan_borrows) 46) ≡ 0 ∷ 0 ∷ []) × (values (state (run_of 2 scan_borrows) 47) ≡ 0 ∷ 5 ∷ [])
     × (values (state (run_of 2 scan_borrows) 99) ≡ 0 ∷ 5 ∷ []) × (values (state (run_of 2 scan_borrows) 100) ≡ 0 ∷ 6 ∷ [])

@@ -9,13 +9,13 @@ use Rattle.snap_words.specs.declared.address.Address.{Address}
 use Rattle.snap_semantics.specs.Readers.{Contents, WordContents, BitContents, ViewContents}
 use Rattle.snap_semantics.specs.State.{State, process_at}
 use Rattle.snap_semantics.specs.Table.{who}
-use Rattle.snap_machine.specs.Standing.{Standing}
+use Rattle.snap_machine.specs.Configuration.{Configuration}
 use Rattle.snap_runs.specs.Run.{Run, state, item}
 use Rattle.snap_debug.specs.Marks.{Marks, mark_count, reaches, changes, contents_at, is_stop, next_stop, last_stop, same_contents, same_word}
 use Rattle.snap_debug.specs.Stops.{differs, or_before, stands_at, stops_between}
-use Rattle.snap_debug.specs.Trail.{StandsAt}
-use Rattle.snap_debug.specs.declared.stand.Stand.{Stand}
-use Rattle.snap_debug.specs.declared.command.Breakpoint.{Breakpoint}
+use Rattle.snap_debug_checkpoints.specs.Recording.{IsCheckpoint}
+use Rattle.snap_debug_checkpoints.specs.declared.checkpoint.Checkpoint.{Checkpoint}
+use Rattle.snap_debug_commands.specs.declared.command.Breakpoint.{Breakpoint}
 
 -- whether process i stands at a breakpoint
 abbrev stands_any : ℕ → State → Marks → Bool
@@ -31,12 +31,12 @@ stop_is r m t S T i before after process =
     ∙ ap (is_stop r m) (sym e)
 
 -- and so they do between a machine that was stepped and the one before it
-pub stop_between : {K W : Type 0} (r : Run) (m : Marks) (before after next : Stand K W) (i : ℕ) → StandsAt r before → StandsAt r next → next.position ≡ after.position + 1 →
+pub stop_between : {K W : Type 0} (r : Run) (m : Marks) (before after next : Checkpoint K W) (i : ℕ) → IsCheckpoint r before → IsCheckpoint r next → next.position ≡ after.position + 1 →
     after.position ≡ before.position → i ≡ who (item r (after.position + 1)) → stops_between before.machine.state next.machine.state i m ≡ is_stop r m (before.position + 1)
 stop_between r m before after next i here there at same process =
     let e : after.position + 1 ≡ before.position + 1 = omega (arith, same) in
-    stop_is r m before.position before.machine.state next.machine.state i (ap (λ (s : Standing). s.state) here.machine)
-    (ap (λ (s : Standing). s.state) there.machine ∙ ap (state r) (at ∙ e)) (process ∙ ap (λ k. who (item r k)) e)
+    stop_is r m before.position before.machine.state next.machine.state i (ap (λ (s : Configuration). s.state) here.machine)
+    (ap (λ (s : Configuration). s.state) there.machine ∙ ap (state r) (at ∙ e)) (process ∙ ap (λ k. who (item r k)) e)
 
 -- no marks
 none_set : (bs : List Breakpoint) (ws : List Address) → length bs + length ws ≡ 0 → (bs ≡ []) × (ws ≡ [])
@@ -116,26 +116,26 @@ both : (a b : Bool) → (a && b) ≡ true → (a ≡ true) × (b ≡ true)
 both true b h = (refl, h)
 both false b h = absurd cc
 
--- words of the same parts are one
+-- words of the same fields are one
 word_is : (x y : Word) → same_word x y ≡ true → x ≡ y
 word_is x y h =
     let a = both (nat_eq x.datum y.datum) _ h in
     let b = both (nat_eq x.seq y.seq) _ a.1 in
     let c = both (nat_eq x.id y.id) _ b.1 in
     let d = both (nat_eq x.toggle y.toggle) _ c.1 in
-    let e = both (bytes_eq x.hands y.hands) _ d.1 in
+    let e = both (bytes_eq x.handshakes y.handshakes) _ d.1 in
     let datum = eqb-true x.datum y.datum a.0 in
     let seq = eqb-true x.seq y.seq b.0 in
     let id = eqb-true x.id y.id c.0 in
     let toggle = eqb-true x.toggle y.toggle d.0 in
-    let hands = (bytes_eq-Decides x.hands y.hands).0 e.0 in
+    let handshakes = (bytes_eq-Decides x.handshakes y.handshakes).0 e.0 in
     let view = (bytes_eq-Decides x.view y.view).0 e.1 in
-    ap (λ k. let w : Word = record { datum = k; seq = x.seq; id = x.id; toggle = x.toggle; hands = x.hands; view = x.view } in w) datum
-    ∙ ap (λ k. let w : Word = record { datum = y.datum; seq = k; id = x.id; toggle = x.toggle; hands = x.hands; view = x.view } in w) seq
-    ∙ ap (λ k. let w : Word = record { datum = y.datum; seq = y.seq; id = k; toggle = x.toggle; hands = x.hands; view = x.view } in w) id
-    ∙ ap (λ k. let w : Word = record { datum = y.datum; seq = y.seq; id = y.id; toggle = k; hands = x.hands; view = x.view } in w) toggle
-    ∙ ap (λ k. let w : Word = record { datum = y.datum; seq = y.seq; id = y.id; toggle = y.toggle; hands = k; view = x.view } in w) hands
-    ∙ ap (λ k. let w : Word = record { datum = y.datum; seq = y.seq; id = y.id; toggle = y.toggle; hands = y.hands; view = k } in w) view
+    ap (λ k. let w : Word = record { datum = k; seq = x.seq; id = x.id; toggle = x.toggle; handshakes = x.handshakes; view = x.view } in w) datum
+    ∙ ap (λ k. let w : Word = record { datum = y.datum; seq = k; id = x.id; toggle = x.toggle; handshakes = x.handshakes; view = x.view } in w) seq
+    ∙ ap (λ k. let w : Word = record { datum = y.datum; seq = y.seq; id = k; toggle = x.toggle; handshakes = x.handshakes; view = x.view } in w) id
+    ∙ ap (λ k. let w : Word = record { datum = y.datum; seq = y.seq; id = y.id; toggle = k; handshakes = x.handshakes; view = x.view } in w) toggle
+    ∙ ap (λ k. let w : Word = record { datum = y.datum; seq = y.seq; id = y.id; toggle = y.toggle; handshakes = k; view = x.view } in w) handshakes
+    ∙ ap (λ k. let w : Word = record { datum = y.datum; seq = y.seq; id = y.id; toggle = y.toggle; handshakes = y.handshakes; view = k } in w) view
 
 -- so are contents
 contents_are : (x y : Option Contents) → same_contents x y ≡ true → x ≡ y
@@ -156,7 +156,7 @@ contents_are None (Some (BitContents y)) h = absurd cc
 contents_are None (Some (ViewContents y)) h = absurd cc
 contents_are None None h = refl
 
--- and each has the parts of itself
+-- and each has the fields of itself
 bytes_same : (xs : List ℕ) → bytes_eq xs xs ≡ true
 bytes_same xs = (bytes_eq-Decides xs xs).1 refl
 
@@ -165,7 +165,7 @@ all_six a b c d e f g h i j k l = cc
 
 contents_same : (x : Option Contents) → same_contents x x ≡ true
 contents_same (Some (WordContents x)) =
-    all_six _ _ _ _ _ _ (eq-eqb x.datum x.datum refl) (eq-eqb x.seq x.seq refl) (eq-eqb x.id x.id refl) (eq-eqb x.toggle x.toggle refl) (bytes_same x.hands) (bytes_same x.view)
+    all_six _ _ _ _ _ _ (eq-eqb x.datum x.datum refl) (eq-eqb x.seq x.seq refl) (eq-eqb x.id x.id refl) (eq-eqb x.toggle x.toggle refl) (bytes_same x.handshakes) (bytes_same x.view)
 contents_same (Some (BitContents x)) = eq-eqb x x refl
 contents_same (Some (ViewContents x)) = bytes_same x
 contents_same None = refl
@@ -193,7 +193,7 @@ same_differs S T U (a ∷ ws) h =
     ∙ ap (λ b. differs T U a || b) (same_differs S T U ws each.1)
 
 -- marks stop at an item, by a machine since which the watched registers have not changed
-pub stop_since : {K W : Type 0} (r : Run) (m : Marks) (start before after : Stand K W) (i : ℕ) → StandsAt r before → StandsAt r after → after.position ≡ before.position + 1 →
+pub stop_since : {K W : Type 0} (r : Run) (m : Marks) (start before after : Checkpoint K W) (i : ℕ) → IsCheckpoint r before → IsCheckpoint r after → after.position ≡ before.position + 1 →
     i ≡ who (item r (before.position + 1)) → list_any (differs start.machine.state before.machine.state) m.watches ≡ false →
     stops_between start.machine.state after.machine.state i m ≡ is_stop r m (before.position + 1)
 stop_since r m start before after i here there at process unchanged =
@@ -205,17 +205,17 @@ pub unchanged_still : (S T : State) (i : ℕ) (m : Marks) (stop : Bool) → stop
 unchanged_still S T i m stop is none = (neither (stands_any i T m) (list_any (differs S T) m.watches) (sym is ∙ none)).1
 
 -- what comes of an item that a machine did, since which the watched registers have not changed
-pub record Walked {K W : Type 0} (r : Run) (m : Marks) (start before after : Stand K W) (stop : Bool) : Type 0 where
-  pub stands : StandsAt r after
+pub record Walked {K W : Type 0} (r : Run) (m : Marks) (start before after : Checkpoint K W) (stop : Bool) : Type 0 where
+  pub stands : IsCheckpoint r after
   pub here : stop ≡ true → after.position ≡ next_stop r m before.position (length r.items - before.position)
   pub later : stop ≡ false → next_stop r m after.position (length r.items - after.position) ≡ next_stop r m before.position (length r.items - before.position)
   pub unchanged : stop ≡ false → list_any (differs start.machine.state after.machine.state) m.watches ≡ false
 
-pub walked : {K W : Type 0} (r q : Run) (m : Marks) (start before after : Stand K W) (i : ℕ) (stop : Bool) → q ≡ r → StandsAt r before → before.position < length r.items →
-    list_any (differs start.machine.state before.machine.state) m.watches ≡ false → StandsAt q after → after.position ≡ before.position + 1 →
+pub walked : {K W : Type 0} (r q : Run) (m : Marks) (start before after : Checkpoint K W) (i : ℕ) (stop : Bool) → q ≡ r → IsCheckpoint r before → before.position < length r.items →
+    list_any (differs start.machine.state before.machine.state) m.watches ≡ false → IsCheckpoint q after → after.position ≡ before.position + 1 →
     i ≡ who (item q (before.position + 1)) → stop ≡ stops_between start.machine.state after.machine.state i m → Walked r m start before after stop
 walked r q m start before after i stop same stands lt unchanged there at process is =
-    let next : StandsAt r after = subst (λ (x : Run). StandsAt x after) same there in
+    let next : IsCheckpoint r after = subst (λ (x : Run). IsCheckpoint x after) same there in
     let one : i ≡ who (item r (before.position + 1)) = process ∙ ap (λ (x : Run). who (item x (before.position + 1))) same in
     let met : stop ≡ is_stop r m (before.position + 1) = is ∙ stop_since r m start before after i stands next at one unchanged in
     record {

@@ -10,7 +10,7 @@ use Rattle.snap_semantics.specs.State.{State, process_at}
 use Rattle.snap_semantics.specs.Table.{who}
 use Rattle.snap_runs.specs.Run.{Run, state, before, item}
 use Rattle.snap_runs.specs.Update.{is_at}
-use Rattle.snap_debug.specs.declared.command.Breakpoint.{Breakpoint}
+use Rattle.snap_debug_commands.specs.declared.command.Breakpoint.{Breakpoint}
 
 -- breakpoints and watched registers, each in the order in which they were set
 pub record Marks : Type 0 where
@@ -37,11 +37,11 @@ same_bank _ _ = false
 abbrev pub same_address : Address → Address → Bool
 same_address a b = same_bank a.bank b.bank && (nat_eq a.i b.i && nat_eq a.j b.j)
 
--- whether two words have the same parts
+-- whether two words have the same fields
 abbrev pub same_word : Word → Word → Bool
 same_word x y =
     nat_eq x.datum y.datum && (nat_eq x.seq y.seq && (nat_eq x.id y.id && (nat_eq x.toggle y.toggle
-    && (bytes_eq x.hands y.hands && bytes_eq x.view y.view))))
+    && (bytes_eq x.handshakes y.handshakes && bytes_eq x.view y.view))))
 
 abbrev pub same_contents : Option Contents → Option Contents → Bool
 same_contents (Some (WordContents x)) (Some (WordContents y)) = same_word x y

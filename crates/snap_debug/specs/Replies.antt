@@ -2,7 +2,7 @@
 use Rattle.std.specs.Prelude.{ℕ, zero, suc, List, ◌++◌, Option, Some, None, codes, decimal}
 use Rattle.snap_semantics.specs.declared.process.Outcome.{Outcome}
 use Rattle.snap_semantics.specs.Table.{who}
-use Rattle.snap_machine.specs.Standing.{Standing}
+use Rattle.snap_machine.specs.Configuration.{Configuration}
 use Rattle.snap_report.specs.OutcomeText.{outcome_text}
 use Rattle.snap_runs.specs.Run.{Run, item, outcome}
 use Rattle.snap_debug.specs.Session.{Session, state_of}
@@ -18,5 +18,5 @@ last_text None = codes "last none\n"
 last_text (Some o) = codes "last " ++ decimal o.0 ++ codes " " ++ outcome_text o.1 ++ codes "\n"
 
 -- the machine at a session's position
-abbrev pub machine_of : Session → Standing
+abbrev pub machine_of : Session → Configuration
 machine_of s = record { source = s.run.source; shape = s.run.shape; state = state_of s }

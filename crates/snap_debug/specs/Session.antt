@@ -13,16 +13,16 @@ use Rattle.snap_semantics.specs.Listing.{has_line}
 use Rattle.snap_semantics.specs.Report.{position_line, values_line, process_lines, event_lines}
 use Rattle.snap_semantics.specs.State.{State, process_at, values}
 use Rattle.snap_semantics.specs.Table.{who}
-use Rattle.snap_runs.specs.Run.{Run, state, item, outcome}
+use Rattle.snap_runs.specs.Run.{Run, state, item, outcome, events_of}
 use Rattle.snap_report.specs.OutcomeText.{head_lines, outcome_text}
 use Rattle.snap_report.specs.ReportLines.{register_line}
-use Rattle.snap_record.specs.Record.{events_of, report_at}
-use Rattle.snap_debug.specs.CommandForms.{spelled_command}
+use Rattle.snap_report.specs.RunReport.{report_at}
+use Rattle.snap_debug_commands.specs.CommandForms.{spelled_command}
 use Rattle.snap_debug.specs.Marks.{Marks, no_marks, mark_count, same_breakpoint, same_address, contents_at, next_stop, last_stop}
-use Rattle.snap_debug.specs.FaultText.{refusal_line}
-use Rattle.snap_debug.specs.declared.command.Breakpoint.{Breakpoint}
-use Rattle.snap_debug.specs.declared.command.Command.{Command}
-use Rattle.snap_debug.specs.declared.command.Command.TheVariants as command
+use Rattle.snap_debug_commands.specs.FaultText.{refusal_line}
+use Rattle.snap_debug_commands.specs.declared.command.Breakpoint.{Breakpoint}
+use Rattle.snap_debug_commands.specs.declared.command.Command.{Command}
+use Rattle.snap_debug_commands.specs.declared.command.Command.TheVariants as command
 
 -- a run, the marks that are set, and how many of its items lie before
 pub record Session : Type 0 where

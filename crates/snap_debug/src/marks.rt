@@ -3,7 +3,7 @@ ghost use Rattle.std.specs.Prelude.{◌≡◌, Err, IfOk, length, not};
 ghost use Rattle.std.specs.List.{filter, list_any};
 ghost use Rattle.snap_semantics.specs.Answers.{Answers};
 ghost use Rattle.snap_semantics.specs.declared.fault.Fault.TheVariants.{Refused};
-ghost use Rattle.snap_semantics.specs.declared.refusal.CommandRefusal.{CommandRefusal as Reason};
+ghost use Rattle.snap_semantics.specs.declared.refusal.CommandRefusal.{CommandRefusal};
 ghost use Rattle.snap_debug.specs.Marks.{
   mark_count,
   no_marks,
@@ -20,7 +20,7 @@ ghost use Rattle.snap_debug.specs.Session.{
   without_watch,
 };
 
-use crate::command::Breakpoint;
+use snap_debug_commands::Breakpoint;
 use snap_semantics::{CommandRefusal, Fault};
 use snap_words::{Address, Bank};
 use std::alloc::{AllocError, Global};
@@ -37,9 +37,9 @@ pub struct Marks {
 }
 
 impl Model for Marks {
-    ghost use Rattle.snap_debug.specs.Marks.{Marks as Seen};
+    ghost use Rattle.snap_debug.specs.Marks.{Marks};
 
-    ghost Value = { Seen };
+    ghost Value = { Marks };
 
     ghost view = { λ m. record { breaks = m.breaks.items; watches = m.watches.items } };
 }
@@ -161,7 +161,7 @@ impl Marks {
     /// These and a breakpoint, where it is not set yet.
     pub fn with_break(&self, alloc: Global, b: Breakpoint) -> Result<Marks, Fault<CommandRefusal>>
         ensures marks { Answers (λ m. m) result (with_break self.now b) }
-        ensures full { (r : Reason) → with_break self.now b ≡ Err r → result ≡ Err (Refused r) }
+        ensures full { (r : CommandRefusal) → with_break self.now b ≡ Err r → result ≡ Err (Refused r) }
     {
         if has_break(self.breaks(), b) {
             return Ok(self.copy(alloc)?);
@@ -177,7 +177,7 @@ impl Marks {
     /// These and a watched register, where it is not set yet.
     pub fn with_watch(&self, alloc: Global, a: Address) -> Result<Marks, Fault<CommandRefusal>>
         ensures marks { Answers (λ m. m) result (with_watch self.now a) }
-        ensures full { (r : Reason) → with_watch self.now a ≡ Err r → result ≡ Err (Refused r) }
+        ensures full { (r : CommandRefusal) → with_watch self.now a ≡ Err r → result ≡ Err (Refused r) }
     {
         if has_watch(self.watches(), a) {
             return Ok(self.copy(alloc)?);

@@ -1,7 +1,8 @@
 //! A debugger's session over a listing and a schedule.
 ghost use Rattle.std.specs.Prelude.{◌≡◌, ◌≤◌, ◌-◌, IfOk, None, OnErr, Some, if◌then◌else◌, length};
 ghost use Rattle.snap_semantics.specs.Answers.{Answers};
-ghost use Rattle.snap_record.specs.Record.{report_at, run_over};
+ghost use Rattle.snap_report.specs.RunReport.{report_at};
+ghost use Rattle.snap_runs.specs.Run.{run_over};
 ghost use Rattle.snap_debug.specs.Marks.{contents_at, last_stop, next_stop};
 ghost use Rattle.snap_debug.specs.Replies.{last_of, machine_of};
 ghost use Rattle.snap_debug.specs.Session.{
@@ -14,23 +15,21 @@ ghost use Rattle.snap_debug.specs.Session.{
   opened,
   position_text,
 };
-ghost use Rattle.snap_debug.specs.declared.command.Command.TheVariants as command;
+ghost use Rattle.snap_debug_commands.specs.declared.command.Command.TheVariants as command;
 
-use crate::command::{Breakpoint, Command};
 use crate::marks::Marks;
-use crate::path::Path;
 use crate::reply::{
     Reply, events_reply, marks_reply, position_reply, process_reply, register_reply, values_reply,
     where_reply,
 };
 use crate::stops::{last_stop, next_stop};
-use crate::trail::Trail;
-use snap_code::Program;
+use snap_asm_program::Program;
+use snap_debug_checkpoints::{Recording, ReversibleMachine};
+use snap_debug_commands::{Breakpoint, Command};
 use snap_machine::Machine;
-use snap_record::{Report, who};
-use snap_report::report;
+use snap_report::{Report, report};
 use snap_sched::Schedule;
-use snap_semantics::{CommandRefusal, Fault, Outcome};
+use snap_semantics::{CommandRefusal, Fault, Outcome, who};
 use snap_words::{Address, Kind};
 use std::alloc::{AllocError, Global};
 use std::marker::Model;
@@ -40,22 +39,22 @@ use std::marker::Model;
 pub struct Session<K: Kind> {
     alloc: Global,
     marks: Marks,
-    trail: Trail<K>,
-    here: Path<K>,
+    recording: Recording<K>,
+    here: ReversibleMachine<K>,
 }
 
 impl<K: Kind> Model for Session<K> {
     ghost use Rattle.std.specs.Prelude.{◌<◌, ◌≤◌};
-    ghost use Rattle.snap_debug.specs.Session.{Session as Seen};
-    ghost use Rattle.snap_debug.specs.Trail.{Leads, start};
+    ghost use Rattle.snap_debug.specs.Session.{Session};
+    ghost use Rattle.snap_debug_checkpoints.specs.Recording.{IsReversible, start};
 
-    ghost Value = { Seen };
+    ghost Value = { Session };
 
-    ghost view = { λ s. record { run = s.trail.run; marks = s.marks; position = s.here.stand.position } };
+    ghost view = { λ s. record { run = s.recording.run; marks = s.marks; position = s.here.current.position } };
 
-    ghost invariant = { λ s. Leads s.trail.run s.here
-        × (s.here.stand.position ≤ s.trail.reached)
-        × (0 < s.here.stand.position → start s.here < s.here.stand.position) };
+    ghost invariant = { λ s. IsReversible s.recording.run s.here
+        × (s.here.current.position ≤ s.recording.reached)
+        × (0 < s.here.current.position → start s.here < s.here.current.position) };
 }
 
 impl<K: Kind> Session<K> {
@@ -80,12 +79,12 @@ impl<K: Kind> Session<K> {
         requires { program.now.kind ≡ K.TAG }
         ensures { IfOk result (λ s. s ≡ opened (run_over program.now schedule)) }
     {
-        let trail = Trail::new(alloc, program, schedule)?;
-        let here = Path::to(alloc, &trail, 0)?;
+        let recording = Recording::new(alloc, program, schedule)?;
+        let here = ReversibleMachine::to(alloc, &recording, 0)?;
         Ok(Session {
             alloc,
             marks: Marks::new(alloc),
-            trail,
+            recording,
             here,
         })
     }
@@ -95,14 +94,14 @@ impl<K: Kind> Session<K> {
         ensures position { result ≡ self.now.position }
         ensures within { result ≤ length self.now.run.items }
     {
-        self.here.stand.position
+        self.here.current.position
     }
 
     /// How many items there are.
     fn total(&self) -> u64
         ensures { result ≡ length self.now.run.items }
     {
-        self.trail.total()
+        self.recording.total()
     }
 
     /// The program that runs.
@@ -110,14 +109,14 @@ impl<K: Kind> Session<K> {
         ensures value { result.now ≡ self.now.run.source }
         ensures kind { self.now.run.source.kind ≡ K.TAG }
     {
-        self.here.stand.machine.program()
+        self.here.current.machine.program()
     }
 
     /// The machine at the position.
     fn machine(&self) -> &Machine<K>
         ensures { result.now ≡ machine_of self.now }
     {
-        &self.here.stand.machine
+        &self.here.current.machine
     }
 
     /// Goes to a position.
@@ -127,12 +126,12 @@ impl<K: Kind> Session<K> {
         ensures reply { IfOk result (λ reply. reply ≡ position_text (at_position position self.old)) }
         ensures unchanged { OnErr result (self.new ≡ self.old) }
     {
-        self.trail.reach(position)?;
+        self.recording.reach(position)?;
         let reply = position_reply(self.alloc, position, self.total())?;
-        if self.here.is_near(&self.trail, position) {
-            self.here.go_to(&self.trail, position)?;
+        if self.here.is_near(&self.recording, position) {
+            self.here.go_to(&self.recording, position)?;
         } else {
-            self.here = Path::to(self.alloc, &self.trail, position)?;
+            self.here = ReversibleMachine::to(self.alloc, &self.recording, position)?;
         }
         Ok(reply)
     }
@@ -143,7 +142,7 @@ impl<K: Kind> Session<K> {
         ensures within { IfOk result (λ t. t ≤ length self.old.run.items) }
         ensures unchanged { self.new ≡ self.old }
     {
-        next_stop(&mut self.trail, &self.here.stand, &self.marks)
+        next_stop(&mut self.recording, &self.here.current, &self.marks)
     }
 
     /// So many items on, at most to the end.
@@ -181,7 +180,7 @@ impl<K: Kind> Session<K> {
         ensures stop { let s = self.now in IfOk result (λ t. t ≡ last_stop s.run s.marks s.position) }
         ensures within { IfOk result (λ t. t ≤ length self.now.run.items) }
     {
-        last_stop(&self.trail, self.position(), &self.marks)
+        last_stop(&self.recording, self.position(), &self.marks)
     }
 
     /// On to the next stop.
@@ -206,7 +205,7 @@ impl<K: Kind> Session<K> {
     fn process(&self, i: u64) -> Option<u32>
         ensures { result ≡ (if has_process self.now i then Some i else None) }
     {
-        if 0 < i && i <= u64::from(self.trail.processes()) {
+        if 0 < i && i <= u64::from(self.recording.processes()) {
             Some(i as u32)
         } else {
             None
@@ -317,7 +316,7 @@ impl<K: Kind> Session<K> {
         ensures obeys { Obeys (λ r. r) result self.now command.Events self.now }
         ensures refuses { RefusesFirst result self.now command.Events }
     {
-        Ok(events_reply(self.alloc, self.trail.events(self.position()))?)
+        Ok(events_reply(self.alloc, self.recording.events(self.position()))?)
     }
 
     /// The last item's process, and what came of it, where there is one.
@@ -329,7 +328,7 @@ impl<K: Kind> Session<K> {
             return Ok(None);
         }
         let outcome = self.here.last(self.alloc)?;
-        Ok(Some((who(self.trail.item(position - 1)), outcome)))
+        Ok(Some((who(self.recording.item(position - 1)), outcome)))
     }
 
     /// Shows where the session and the processes stand.
@@ -378,7 +377,7 @@ impl<K: Kind> Session<K> {
         report(
             &mut text,
             self.machine(),
-            self.trail.events(self.position()),
+            self.recording.events(self.position()),
             self.position(),
             self.total(),
         )?;

@@ -3,26 +3,25 @@ ghost use Rattle.std.specs.Prelude.{◌≡◌, ◌<◌, ◌≤◌, ◌+◌, ◌-
 ghost use Rattle.std.specs.List.{list_any};
 ghost use Rattle.snap_words.specs.Shape.{IsOneOf};
 ghost use Rattle.snap_semantics.specs.State.{process_at};
-ghost use Rattle.snap_machine.specs.Reading.{seen_contents};
+ghost use Rattle.snap_machine.specs.SeenContents.{seen_contents};
 ghost use Rattle.snap_runs.specs.Update.{is_at};
 ghost use Rattle.snap_debug.specs.Marks.{is_stop, last_stop, next_stop, same_contents, same_word};
 ghost use Rattle.snap_debug.specs.Stops.{AreAt, differs, or_before, stands_at, stops_between};
-ghost use Rattle.snap_debug.specs.Trail.{StandsAt};
+ghost use Rattle.snap_debug_checkpoints.specs.Recording.{IsCheckpoint};
 
-use crate::command::Breakpoint;
 use crate::marks::Marks;
-use crate::stand::Stand;
-use crate::trail::Trail;
+use snap_debug_checkpoints::{Checkpoint, Recording};
+use snap_debug_commands::Breakpoint;
 use snap_machine::{Contents, Machine};
 use snap_semantics::Status;
-use snap_words::{Address, Field, Kind, field_of, same_hands, view_of};
+use snap_words::{Address, Field, Kind, field_of, same_handshakes, view_of};
 use std::alloc::AllocError;
 
 /// Two machines at one position.
 #[derive(Drop)]
 pub struct Walk<K: Kind> {
-    before: Stand<K>,
-    after: Stand<K>,
+    before: Checkpoint<K>,
+    after: Checkpoint<K>,
 }
 
 /// Whether these are the same numbers.
@@ -32,21 +31,21 @@ fn same_numbers(xs: &[u64], ys: &[u64]) -> bool
     xs == ys
 }
 
-/// Whether two words have the same parts.
+/// Whether two words have the same fields.
 fn same_word<K: Kind>(x: &K::Word, y: &K::Word) -> bool
-    ensures { result ≡ same_word (K.parts x.now) (K.parts y.now) }
+    ensures { result ≡ same_word (K.as_word x.now) (K.as_word y.now) }
 {
     field_of::<K>(x, Field::Datum) == field_of::<K>(y, Field::Datum)
         && field_of::<K>(x, Field::Seq) == field_of::<K>(y, Field::Seq)
         && field_of::<K>(x, Field::Id) == field_of::<K>(y, Field::Id)
         && field_of::<K>(x, Field::Toggle) == field_of::<K>(y, Field::Toggle)
-        && same_hands::<K>(x, y)
+        && same_handshakes::<K>(x, y)
         && same_numbers(view_of::<K>(x), view_of::<K>(y))
 }
 
 /// Whether two registers have the same contents.
 fn same_contents<K: Kind>(x: Contents<'_, K>, y: Contents<'_, K>) -> bool
-    ensures { result ≡ same_contents (Some (seen_contents K.parts x.entry)) (Some (seen_contents K.parts y.entry)) }
+    ensures { result ≡ same_contents (Some (seen_contents K.as_word x.entry)) (Some (seen_contents K.as_word y.entry)) }
 {
     match x {
         Contents::Word(x) => match y {
@@ -136,8 +135,8 @@ fn stops_between<K: Kind>(before: &Machine<K>, after: &Machine<K>, i: u32, marks
 }
 
 impl<K: Kind> Walk<K> {
-    /// From a stand on.
-    fn new(start: &Stand<K>) -> Result<Walk<K>, AllocError>
+    /// From a machine at a position on.
+    fn new(start: &Checkpoint<K>) -> Result<Walk<K>, AllocError>
         ensures before { IfOk result (λ w. w.before ≡ start.now) }
         ensures after { IfOk result (λ w. w.after ≡ start.now) }
     {
@@ -148,45 +147,45 @@ impl<K: Kind> Walk<K> {
     }
 
     /// Does the next item, and answers whether marks stop at it.
-    fn step(&mut self, trail: &Trail<K>, marks: &Marks) -> Result<bool, AllocError>
-        requires walk { AreAt trail.now.run self.old }
-        requires reached { self.old.before.position < trail.now.reached }
-        ensures walk { IfOk result (λ _. AreAt trail.now.run self.new) }
+    fn step(&mut self, recording: &Recording<K>, marks: &Marks) -> Result<bool, AllocError>
+        requires walk { AreAt recording.now.run self.old }
+        requires reached { self.old.before.position < recording.now.reached }
+        ensures walk { IfOk result (λ _. AreAt recording.now.run self.new) }
         ensures position { IfOk result (λ _. self.new.before.position ≡ self.old.before.position + 1) }
-        ensures stop { IfOk result (λ stop. stop ≡ is_stop trail.now.run marks.now (self.old.before.position + 1)) }
+        ensures stop { IfOk result (λ stop. stop ≡ is_stop recording.now.run marks.now (self.old.before.position + 1)) }
     {
-        let (process, _outcome) = trail.advance(&mut self.after)?;
+        let (process, _outcome) = recording.advance(&mut self.after)?;
         let stop = stops_between(&self.before.machine, &self.after.machine, process, marks);
-        let _same = trail.advance(&mut self.before)?;
+        let _same = recording.advance(&mut self.before)?;
         Ok(stop)
     }
 }
 
-/// The first stop after a stand, and the end where there is none. Up to the first stop the watched registers are as they were
-/// at the stand, so that its machine serves as the one before each item.
+/// The first stop after a position, and the end where there is none. Up to the first stop the watched registers are as they were
+/// at that position, so that its machine serves as the one before each item.
 pub fn next_stop<K: Kind>(
-    trail: &mut Trail<K>,
-    here: &Stand<K>,
+    recording: &mut Recording<K>,
+    here: &Checkpoint<K>,
     marks: &Marks,
 ) -> Result<u64, AllocError>
-    requires stands { StandsAt trail.old.run here.now }
-    requires reached { here.now.position ≤ trail.old.reached }
-    ensures run { trail.new.run ≡ trail.old.run }
-    ensures grows { trail.old.reached ≤ trail.new.reached }
-    ensures within { IfOk result (λ t. t ≤ length trail.old.run.items) }
-    ensures stop { let r = trail.old.run in let t = here.now.position in
+    requires stands { IsCheckpoint recording.old.run here.now }
+    requires reached { here.now.position ≤ recording.old.reached }
+    ensures run { recording.new.run ≡ recording.old.run }
+    ensures grows { recording.old.reached ≤ recording.new.reached }
+    ensures within { IfOk result (λ t. t ≤ length recording.old.run.items) }
+    ensures stop { let r = recording.old.run in let t = here.now.position in
         IfOk result (λ stop. stop ≡ next_stop r marks.now t (length r.items - t)) }
 {
-    let total = trail.total();
+    let total = recording.total();
     if marks.count() == 0 {
         return Ok(total);
     }
-    let mut stand = here.copy()?;
-    while stand.position < total {
-        trail.reach(stand.position + 1)?;
-        let (process, _outcome) = trail.advance(&mut stand)?;
-        if stops_between(&here.machine, &stand.machine, process, marks) {
-            return Ok(stand.position);
+    let mut current = here.copy()?;
+    while current.position < total {
+        recording.reach(current.position + 1)?;
+        let (process, _outcome) = recording.advance(&mut current)?;
+        if stops_between(&here.machine, &current.machine, process, marks) {
+            return Ok(current.position);
         }
     }
     Ok(total)
@@ -199,40 +198,44 @@ fn later(stop: bool, t: u64, last: Option<u64>) -> Option<u64>
     if stop { Some(t) } else { last }
 }
 
-/// The last stop between a stand and a position, where there is one.
+/// The last stop between a checkpoint and a position, where there is one.
 fn last_between<K: Kind>(
-    trail: &Trail<K>,
-    start: &Stand<K>,
+    recording: &Recording<K>,
+    start: &Checkpoint<K>,
     position: u64,
     marks: &Marks,
 ) -> Result<Option<u64>, AllocError>
-    requires stands { StandsAt trail.now.run start.now }
+    requires stands { IsCheckpoint recording.now.run start.now }
     requires before { start.now.position < position }
-    requires reached { position ≤ trail.now.reached }
-    ensures { let r = trail.now.run in
+    requires reached { position ≤ recording.now.reached }
+    ensures { let r = recording.now.run in
         IfOk result (λ last. last_stop r marks.now position ≡ or_before last (last_stop r marks.now (start.now.position + 1))) }
 {
     let mut walk = Walk::new(start)?;
     let mut last = None;
     while walk.before.position + 1 < position {
-        let stop = walk.step(trail, marks)?;
+        let stop = walk.step(recording, marks)?;
         last = later(stop, walk.before.position, last);
     }
     Ok(last)
 }
 
 /// The last stop before a position, and 0 where there is none: sought from checkpoint to checkpoint, the last first.
-pub fn last_stop<K: Kind>(trail: &Trail<K>, position: u64, marks: &Marks) -> Result<u64, AllocError>
-    requires { position ≤ trail.now.reached }
-    ensures { IfOk result (λ t. t ≡ last_stop trail.now.run marks.now position) }
+pub fn last_stop<K: Kind>(
+    recording: &Recording<K>,
+    position: u64,
+    marks: &Marks,
+) -> Result<u64, AllocError>
+    requires { position ≤ recording.now.reached }
+    ensures { IfOk result (λ t. t ≡ last_stop recording.now.run marks.now position) }
 {
     if marks.count() == 0 {
         return Ok(0);
     }
     let mut end = position;
     while end > 1 {
-        let start = trail.checkpoint(end - 2);
-        if let Some(stop) = last_between(trail, start, end, marks)? {
+        let start = recording.checkpoint(end - 2);
+        if let Some(stop) = last_between(recording, start, end, marks)? {
             return Ok(stop);
         }
         end = start.position + 1;

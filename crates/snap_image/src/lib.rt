@@ -1,8 +1,8 @@
 //! Images of listings: encoded and decoded, and their laws.
 #![tactic(auto)]
 
-pub use snap_decoder::{ImageFault, decode};
-pub use snap_encoder::encode;
+pub use snap_image_decoder::{ImageFault, decode};
+pub use snap_image_encoder::encode;
 pub use snap_image_laws::{
     images_are_bytes, more_than_an_image_is_refused, what_is_decoded_is_an_image,
     what_is_encoded_is_decoded,

@@ -1,7 +1,7 @@
 -- Words of the decoder's contracts.
 use Rattle.std.specs.Prelude.{◌≡◌, Result, Ok, Err}
 use Rattle.snap_semantics.specs.declared.refusal.ImageRefusal.{ImageRefusal}
-use Rattle.snap_semantics.specs.ImageForms.{Rest, Read}
+use Rattle.snap_image_format.specs.ImageForms.{Rest, Read}
 
 -- What was read, and what is left of the image, is what a rule gives.
 abbrev pub Reads : {A : Type 0} → Result A ImageRefusal → Rest → Read A → Type 0

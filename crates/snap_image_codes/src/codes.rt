@@ -1,8 +1,9 @@
 //! The codes of an image: each stands here once, and is read by looking for it.
 ghost use Rattle.std.specs.Prelude.{◌≡◌};
-ghost use Rattle.snap_semantics.specs.ImageCodes.{Codes, coded, of_code, versions, kinds, terms, exprs, relations, joins, ranges, forms};
+ghost use Rattle.snap_image_format.specs.ImageCodes.{Codes, coded, of_code, versions, kinds, terms, exprs, relations, joins, ranges, instr_tags};
 
-use snap_semantics::{ExprTag, Form, ImageVersion, Join, Range, Relation, TermTag};
+use snap_image_format::{ExprTag, ImageVersion, InstrTag, TermTag};
+use snap_semantics::{Join, Range, Relation};
 use snap_words::KindTag;
 
 /// A type whose values have codes.
@@ -87,7 +88,7 @@ const TERMS: [TermTag; 14] = [
     TermTag::Row,
     TermTag::Seq,
     TermTag::Datum,
-    TermTag::Hand,
+    TermTag::Handshake,
     TermTag::Toggle,
     TermTag::Id,
 ];
@@ -112,7 +113,7 @@ impl Coded for TermTag {
             TermTag::Row => 8,
             TermTag::Seq => 9,
             TermTag::Datum => 10,
-            TermTag::Hand => 11,
+            TermTag::Handshake => 11,
             TermTag::Toggle => 12,
             TermTag::Id => 13,
         }
@@ -194,34 +195,34 @@ impl Coded for Range {
 }
 
 /// All forms of instructions.
-const FORMS: [Form; 23] = [
-    Form::Let,
-    Form::LetPlace,
-    Form::Get,
-    Form::BitQ,
-    Form::BitP,
-    Form::Look,
-    Form::PutSeq,
-    Form::PutBits,
-    Form::PutMulti,
-    Form::PutQ,
-    Form::PutP,
-    Form::PutView,
-    Form::ViewData,
-    Form::ViewOf,
-    Form::Each,
-    Form::First,
-    Form::Next,
-    Form::If,
-    Form::IfAll,
-    Form::Goto,
-    Form::Call,
-    Form::Return,
-    Form::Finish,
+const FORMS: [InstrTag; 23] = [
+    InstrTag::Let,
+    InstrTag::LetPlace,
+    InstrTag::Get,
+    InstrTag::BitQ,
+    InstrTag::BitP,
+    InstrTag::Look,
+    InstrTag::PutSeq,
+    InstrTag::PutBits,
+    InstrTag::PutMulti,
+    InstrTag::PutQ,
+    InstrTag::PutP,
+    InstrTag::PutView,
+    InstrTag::ViewData,
+    InstrTag::ViewOf,
+    InstrTag::Each,
+    InstrTag::First,
+    InstrTag::Next,
+    InstrTag::If,
+    InstrTag::IfAll,
+    InstrTag::Goto,
+    InstrTag::Call,
+    InstrTag::Return,
+    InstrTag::Finish,
 ];
 
-impl Coded for Form {
-    ghost table = { forms };
+impl Coded for InstrTag {
+    ghost table = { instr_tags };
 
     fn all() -> &'static [Self] {
         &FORMS
@@ -229,29 +230,29 @@ impl Coded for Form {
 
     fn code(self) -> u8 {
         match self {
-            Form::Let => 1,
-            Form::LetPlace => 2,
-            Form::Get => 3,
-            Form::BitQ => 4,
-            Form::BitP => 5,
-            Form::Look => 6,
-            Form::PutSeq => 7,
-            Form::PutBits => 8,
-            Form::PutMulti => 9,
-            Form::PutQ => 10,
-            Form::PutP => 11,
-            Form::PutView => 12,
-            Form::ViewData => 13,
-            Form::ViewOf => 14,
-            Form::Each => 15,
-            Form::First => 16,
-            Form::Next => 17,
-            Form::If => 18,
-            Form::IfAll => 19,
-            Form::Goto => 20,
-            Form::Call => 21,
-            Form::Return => 22,
-            Form::Finish => 23,
+            InstrTag::Let => 1,
+            InstrTag::LetPlace => 2,
+            InstrTag::Get => 3,
+            InstrTag::BitQ => 4,
+            InstrTag::BitP => 5,
+            InstrTag::Look => 6,
+            InstrTag::PutSeq => 7,
+            InstrTag::PutBits => 8,
+            InstrTag::PutMulti => 9,
+            InstrTag::PutQ => 10,
+            InstrTag::PutP => 11,
+            InstrTag::PutView => 12,
+            InstrTag::ViewData => 13,
+            InstrTag::ViewOf => 14,
+            InstrTag::Each => 15,
+            InstrTag::First => 16,
+            InstrTag::Next => 17,
+            InstrTag::If => 18,
+            InstrTag::IfAll => 19,
+            InstrTag::Goto => 20,
+            InstrTag::Call => 21,
+            InstrTag::Return => 22,
+            InstrTag::Finish => 23,
         }
     }
 }

@@ -1,7 +1,7 @@
 //! Goes through an image from front to back.
 ghost use Rattle.std.specs.Prelude.{◌≡◌, Bool, if◌then◌else◌};
-ghost use Rattle.snap_semantics.specs.ImageForms.{byte_in, bytes_in, short_in, long_in, code_in, slot_in, count_in, flag_in};
-ghost use Rattle.snap_semantics.specs.ImageListing.{signature_in, ended};
+ghost use Rattle.snap_image_format.specs.ImageForms.{byte_in, bytes_in, short_in, long_in, code_in, slot_in, count_in, flag_in};
+ghost use Rattle.snap_image_format.specs.ImageListing.{signature_in, ended};
 ghost use Rattle.snap_image_codes.specs.Reads.{Reads};
 
 use crate::codes::{Coded, with_code};
@@ -20,7 +20,7 @@ pub struct Cursor<'a> {
 
 impl<'a> Model for Cursor<'a> {
     ghost use Rattle.std.specs.Prelude.{◌+◌, ◌<◌, ◌^◌, length};
-    ghost use Rattle.snap_semantics.specs.ImageForms.{Rest};
+    ghost use Rattle.snap_image_format.specs.ImageForms.{Rest};
 
     ghost Value = { Rest };
 
@@ -79,7 +79,7 @@ impl<'a> Cursor<'a> {
     }
 
     /// A number of two bytes.
-    #[tactic(auto, unfolding(snap_semantics::specs::ImageForms::short_in))]
+    #[tactic(auto, unfolding(snap_image_format::specs::ImageForms::short_in))]
     pub fn short(&mut self) -> Result<u64, ImageRefusal>
         ensures { Reads result self.new (short_in self.old) }
     {
@@ -88,7 +88,7 @@ impl<'a> Cursor<'a> {
     }
 
     /// A number of eight bytes.
-    #[tactic(auto, unfolding(snap_semantics::specs::ImageForms::long_in))]
+    #[tactic(auto, unfolding(snap_image_format::specs::ImageForms::long_in))]
     pub fn long(&mut self) -> Result<u64, ImageRefusal>
         ensures { Reads result self.new (long_in self.old) }
     {
@@ -97,7 +97,7 @@ impl<'a> Cursor<'a> {
     }
 
     /// What a byte is the code of.
-    #[tactic(auto, unfolding(snap_semantics::specs::ImageForms::code_in))]
+    #[tactic(auto, unfolding(snap_image_format::specs::ImageForms::code_in))]
     pub fn code<T: Coded>(&mut self) -> Result<T, ImageRefusal>
         ensures { Reads result self.new (code_in T.table self.old) }
     {
@@ -110,7 +110,7 @@ impl<'a> Cursor<'a> {
     }
 
     /// The name of a slot.
-    #[tactic(auto, unfolding(snap_semantics::specs::ImageForms::slot_in))]
+    #[tactic(auto, unfolding(snap_image_format::specs::ImageForms::slot_in))]
     pub fn slot(&mut self, line: u64, names: &[Name]) -> Result<Name, ImageRefusal>
         ensures { Reads result self.new (slot_in line names.now self.old) }
     {
@@ -122,7 +122,7 @@ impl<'a> Cursor<'a> {
     }
 
     /// How many comparisons a condition has: 1 to 4.
-    #[tactic(auto, unfolding(snap_semantics::specs::ImageForms::count_in))]
+    #[tactic(auto, unfolding(snap_image_format::specs::ImageForms::count_in))]
     pub fn count(&mut self) -> Result<u8, ImageRefusal>
         ensures { Reads result self.new (count_in self.old) }
     {
@@ -136,7 +136,7 @@ impl<'a> Cursor<'a> {
     }
 
     /// Whether what may be left out follows: a byte that is 0 or 1.
-    #[tactic(auto, unfolding(snap_semantics::specs::ImageForms::flag_in))]
+    #[tactic(auto, unfolding(snap_image_format::specs::ImageForms::flag_in))]
     pub fn flag(&mut self) -> Result<bool, ImageRefusal>
         ensures { Reads result self.new (flag_in self.old) }
     {

@@ -2,13 +2,13 @@
 use Rattle.std.proofs.Common.{◌≡◌, ℕ, ◌<◌, ◌^◌, Bool, true, false, List, [], ◌∷◌, ◌++◌, length, Option, Some, None, Ok, nat_eq, if◌then◌else◌, refl, sym, ap, subst, arith}
 use Rattle.std.specs.Int.{w16, to_be_bytes}
 use Rattle.std.specs.List.{AllByRecursion}
-use Rattle.snap_semantics.specs.declared.image.ImageVersion.{ImageVersion}
-use Rattle.snap_semantics.specs.declared.image.ImageVersion.TheVariants as version
+use Rattle.snap_image_format.specs.declared.image.ImageVersion.{ImageVersion}
+use Rattle.snap_image_format.specs.declared.image.ImageVersion.TheVariants as version
 use Rattle.snap_semantics.specs.Comments.{Comment, IsCommentByte, IsComment}
-use Rattle.snap_semantics.specs.Image.{comment_image, behind_line}
-use Rattle.snap_semantics.specs.ImageCodes.{of_code, versions, version_code}
-use Rattle.snap_semantics.specs.ImageForms.{Rest, Read, byte_in, short_in, flag_in}
-use Rattle.snap_semantics.specs.ImageListing.{known_version, version_in, comment_byte_in, comment_bytes_in, some_comment_in, comment_in, behind_line_in}
+use Rattle.snap_image_format.specs.Image.{comment_image, behind_line}
+use Rattle.snap_image_format.specs.ImageCodes.{of_code, versions, version_code}
+use Rattle.snap_image_format.specs.ImageForms.{Rest, Read, byte_in, short_in, flag_in}
+use Rattle.snap_image_format.specs.ImageListing.{known_version, version_in, comment_byte_in, comment_bytes_in, some_comment_in, comment_in, behind_line_in}
 use Rattle.snap_image_laws.proofs.AgainForms.{two, flag_again}
 use Rattle.snap_image_laws.proofs.AgainParts.{Gives, then_gives, byte_again, short_again, known_again}
 use Rattle.snap_image_laws.proofs.SaidComments.{IsSayable}

@@ -3,9 +3,9 @@ use Rattle.std.proofs.Common.{◌≡◌, ℕ, Bool, true, false, ◌&&◌, List,
 use Rattle.std.specs.Int.{w64, to_be_bytes}
 use Rattle.snap_words.specs.declared.kind.Field.{Field}
 use Rattle.snap_words.specs.declared.kind.Field.TheVariants as field
-use Rattle.snap_semantics.specs.declared.image.ExprTag.TheVariants as etag
-use Rattle.snap_semantics.specs.declared.image.TermTag.{TermTag}
-use Rattle.snap_semantics.specs.declared.image.TermTag.TheVariants as tag
+use Rattle.snap_image_format.specs.declared.image.ExprTag.TheVariants as etag
+use Rattle.snap_image_format.specs.declared.image.TermTag.{TermTag}
+use Rattle.snap_image_format.specs.declared.image.TermTag.TheVariants as tag
 use Rattle.snap_semantics.specs.declared.instr.Comparison.{Comparison}
 use Rattle.snap_semantics.specs.declared.instr.Condition.{Condition}
 use Rattle.snap_semantics.specs.declared.instr.Condition.TheVariants.{One, Two, Three, Four}
@@ -19,16 +19,16 @@ use Rattle.snap_semantics.specs.declared.instr.Relation.{Relation}
 use Rattle.snap_semantics.specs.declared.instr.Relation.TheVariants as relation
 use Rattle.snap_semantics.specs.declared.instr.Term.{Term}
 use Rattle.snap_semantics.specs.declared.instr.Term.TheVariants as term
-use Rattle.snap_semantics.specs.Image.{slot, index_image, field_tag, term_image, expr_image, comparison_image, condition_image, where_image}
-use Rattle.snap_semantics.specs.ImageCodes.{of_code, terms, exprs, relations, joins, term_code, relation_code, join_code}
-use Rattle.snap_semantics.specs.ImageForms.{Rest, byte_in, long_in, code_in, slot_in, allowed, number_index, scalar_index, index_of_tag, index_in, row_term, field_term, hand_term, index_term, term_of_tag, term_in, plain_expr, sum_expr, not_expr, expr_in, comparison_in, two_in, three_in, four_in, one_in, comparisons_in, count_in, condition_in, flag_in, where_of_flag, where_in}
+use Rattle.snap_image_format.specs.Image.{slot, index_image, field_tag, term_image, expr_image, comparison_image, condition_image, where_image}
+use Rattle.snap_image_format.specs.ImageCodes.{of_code, terms, exprs, relations, joins, term_code, relation_code, join_code}
+use Rattle.snap_image_format.specs.ImageForms.{Rest, byte_in, long_in, code_in, slot_in, allowed, number_index, scalar_index, index_of_tag, index_in, row_term, field_term, handshake_term, index_term, term_of_tag, term_in, plain_expr, sum_expr, not_expr, expr_in, comparison_in, two_in, three_in, four_in, one_in, comparisons_in, count_in, condition_in, flag_in, where_of_flag, where_in}
 use Rattle.snap_semantics.specs.IsListing.{HasIndex, HasTerm, HasExpr, HasComparison, HasCondition, HasWhere}
 use Rattle.snap_semantics.specs.Listing.{with_lines}
 use Rattle.snap_semantics.specs.RightUses.{IsRight}
 use Rattle.snap_semantics.specs.Source.{Name, Source}
-use Rattle.snap_semantics.specs.Uses.{Use, FieldUse, HandUse, index_uses, term_uses, expr_uses, comparison_uses, condition_uses, where_uses}
+use Rattle.snap_semantics.specs.Uses.{Use, FieldUse, HandshakeUse, index_uses, term_uses, expr_uses, comparison_uses, condition_uses, where_uses}
 use Rattle.snap_image_laws.proofs.AgainParts.{Gives, then_gives, then_done, gives_if, byte_again, long_again, known_again, code_again, scalar_again, row_again, words_again, Right, allowed_again}
-use Rattle.snap_grammar.proofs.Alls.{all_first, all_rest}
+use Rattle.snap_listing_grammar.proofs.Alls.{all_first, all_rest}
 
 -- what stands before the lines of a listing; with it they are read
 abbrev pub head : Source → Source
@@ -57,7 +57,7 @@ term_coded tag.Scalar = refl
 term_coded tag.Row = refl
 term_coded tag.Seq = refl
 term_coded tag.Datum = refl
-term_coded tag.Hand = refl
+term_coded tag.Handshake = refl
 term_coded tag.Toggle = refl
 term_coded tag.Id = refl
 
@@ -172,15 +172,15 @@ field_term_again g line q f x i after r h uses e =
     (words_again g line x (index_image g i ++ after) r uses.1.0 e) (λ a p.
     then_gives i after (index_in (head g) line q a) _ t after (index_again g line q i after a h uses.1.1 p) (λ b k. (b, refl, k))))
 
-hand_term_again : (g : Source) (line : ℕ) (q : Bool) (x : Name) (i j : Index) (after : List ℕ) (r : Rest) → HasIndex q i → HasIndex q j →
-    Right g (term_uses (term.Hand x i j)) → r.bytes ≡ slot g.words x ∷ ((index_image g i ++ index_image g j) ++ after) →
-    Gives (hand_term (head g) line q r) (term.Hand x i j) after
-unfolding hand_term
-hand_term_again g line q x i j after r hi hj uses e =
-    let t = term.Hand x i j in
+handshake_term_again : (g : Source) (line : ℕ) (q : Bool) (x : Name) (i j : Index) (after : List ℕ) (r : Rest) → HasIndex q i → HasIndex q j →
+    Right g (term_uses (term.Handshake x i j)) → r.bytes ≡ slot g.words x ∷ ((index_image g i ++ index_image g j) ++ after) →
+    Gives (handshake_term (head g) line q r) (term.Handshake x i j) after
+unfolding handshake_term
+handshake_term_again g line q x i j after r hi hj uses e =
+    let t = term.Handshake x i j in
     let a_image = index_image g i in
     let b_image = index_image g j in
-    then_done tt (allowed (head g) line (HandUse ∷ [])) _ t after (allowed_again (head g) line (HandUse ∷ []) (uses.0, tt))
+    then_done tt (allowed (head g) line (HandshakeUse ∷ [])) _ t after (allowed_again (head g) line (HandshakeUse ∷ []) (uses.0, tt))
     (then_gives x ((a_image ++ b_image) ++ after) (slot_in line g.words r) _ t after
     (words_again g line x ((a_image ++ b_image) ++ after) r uses.1.0 e) (λ a p.
     then_gives i (b_image ++ after) (index_in (head g) line q a) _ t after
@@ -209,10 +209,10 @@ term_again g line q (term.Field f x i) after r h uses e =
     (code_again terms (field_tag f) (term_coded (field_tag f)) said r e)
     (λ u p. subst (λ m. Gives m (term.Field f x i) after) (sym (field_tagged (head g) line q r.passed f u))
     (field_term_again g line q f x i after u h uses p))
-term_again g line q (term.Hand x i j) after r h uses e =
+term_again g line q (term.Handshake x i j) after r h uses e =
     let said : List ℕ = slot g.words x ∷ ((index_image g i ++ index_image g j) ++ after) in
-    then_gives tag.Hand said (code_in terms r) _ (term.Hand x i j) after (code_again terms tag.Hand refl said r e)
-    (λ u p. hand_term_again g line q x i j after u h.0 h.1 uses p)
+    then_gives tag.Handshake said (code_in terms r) _ (term.Handshake x i j) after (code_again terms tag.Handshake refl said r e)
+    (λ u p. handshake_term_again g line q x i j after u h.0 h.1 uses p)
 
 pub expr_again : (g : Source) (line : ℕ) (q : Bool) (x : Expr) (after : List ℕ) (r : Rest) → HasExpr q x → Right g (expr_uses x) →
     r.bytes ≡ expr_image g x ++ after → Gives (expr_in (head g) line q r) x after

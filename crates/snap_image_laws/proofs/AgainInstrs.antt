@@ -1,8 +1,8 @@
 -- What an image says is read from it again: instructions.
 use Rattle.std.proofs.Common.{◌≡◌, ℕ, ◌<◌, ◌^◌, false, true, List, [], ◌∷◌, ◌++◌, Option, Some, refl}
 use Rattle.snap_words.specs.declared.kind.KindTag.TheVariants as kind
-use Rattle.snap_semantics.specs.declared.image.Form.{Form}
-use Rattle.snap_semantics.specs.declared.image.Form.TheVariants as form
+use Rattle.snap_image_format.specs.declared.image.InstrTag.{InstrTag}
+use Rattle.snap_image_format.specs.declared.image.InstrTag.TheVariants as tag
 use Rattle.snap_semantics.specs.declared.instr.BitBank.{BitBank}
 use Rattle.snap_semantics.specs.declared.instr.BitBank.TheVariants as bits
 use Rattle.snap_semantics.specs.declared.instr.Condition.{Condition}
@@ -13,14 +13,14 @@ use Rattle.snap_semantics.specs.declared.instr.Instr.TheVariants as instr
 use Rattle.snap_semantics.specs.declared.instr.Range.{Range}
 use Rattle.snap_semantics.specs.declared.instr.Range.TheVariants as range
 use Rattle.snap_semantics.specs.declared.instr.Tuple.TheVariants as tuple
-use Rattle.snap_semantics.specs.Image.{index_image, expr_image, condition_image, form_of, operands_image}
-use Rattle.snap_semantics.specs.ImageCodes.{of_code, forms, form_code, ranges, range_code}
-use Rattle.snap_semantics.specs.ImageForms.{Rest, short_in, code_in, slot_in, allowed, index_in, expr_in, condition_in, where_in}
-use Rattle.snap_semantics.specs.ImageInstrs.{form_uses, let_in, let_place_in, get_in, bit_in, look_in, put_seq_in, put_bits_in, put_multi_in, put_bit_in, put_view_in, view_data_in, view_of_in, each_in, first_in, next_in, if_in, if_all_in, goto_in, call_in, return_in, operands_in, instr_in}
+use Rattle.snap_image_format.specs.Image.{index_image, expr_image, condition_image, instr_tag, operands_image}
+use Rattle.snap_image_format.specs.ImageCodes.{of_code, instr_tags, instr_code, ranges, range_code}
+use Rattle.snap_image_format.specs.ImageForms.{Rest, short_in, code_in, slot_in, allowed, index_in, expr_in, condition_in, where_in}
+use Rattle.snap_image_format.specs.ImageInstrs.{form_uses, let_in, let_place_in, get_in, bit_in, look_in, put_seq_in, put_bits_in, put_multi_in, put_bit_in, put_view_in, view_data_in, view_of_in, each_in, first_in, next_in, if_in, if_all_in, goto_in, call_in, return_in, operands_in, instr_in}
 use Rattle.snap_semantics.specs.IsListing.{HasForm}
 use Rattle.snap_semantics.specs.Source.{Name, Source}
 use Rattle.snap_semantics.specs.Uses.{TupleUse, row, view, index_uses, expr_uses, tuple_uses, instr_uses}
-use Rattle.snap_image_laws.specs.Fits.{HasShortTargets}
+use Rattle.snap_image_laws.specs.Widths.{HasShortTargets}
 use Rattle.snap_image_laws.proofs.AgainForms.{head, first, rest, two, index_again, expr_again, condition_again, where_again}
 use Rattle.snap_image_laws.proofs.AgainParts.{Gives, then_gives, then_done, short_again, code_again, scalar_again, row_again, words_again, view_again, Right, allowed_again}
 
@@ -28,30 +28,30 @@ range_coded : (over : Range) → of_code ranges (range_code over) ≡ Some over
 range_coded range.Processes = refl
 range_coded range.Words = refl
 
-form_coded : (f : Form) → of_code forms (form_code f) ≡ Some f
-form_coded form.Let = refl
-form_coded form.LetPlace = refl
-form_coded form.Get = refl
-form_coded form.BitQ = refl
-form_coded form.BitP = refl
-form_coded form.Look = refl
-form_coded form.PutSeq = refl
-form_coded form.PutBits = refl
-form_coded form.PutMulti = refl
-form_coded form.PutQ = refl
-form_coded form.PutP = refl
-form_coded form.PutView = refl
-form_coded form.ViewData = refl
-form_coded form.ViewOf = refl
-form_coded form.Each = refl
-form_coded form.First = refl
-form_coded form.Next = refl
-form_coded form.If = refl
-form_coded form.IfAll = refl
-form_coded form.Goto = refl
-form_coded form.Call = refl
-form_coded form.Return = refl
-form_coded form.Finish = refl
+form_coded : (f : InstrTag) → of_code instr_tags (instr_code f) ≡ Some f
+form_coded tag.Let = refl
+form_coded tag.LetPlace = refl
+form_coded tag.Get = refl
+form_coded tag.BitQ = refl
+form_coded tag.BitP = refl
+form_coded tag.Look = refl
+form_coded tag.PutSeq = refl
+form_coded tag.PutBits = refl
+form_coded tag.PutMulti = refl
+form_coded tag.PutQ = refl
+form_coded tag.PutP = refl
+form_coded tag.PutView = refl
+form_coded tag.ViewData = refl
+form_coded tag.ViewOf = refl
+form_coded tag.Each = refl
+form_coded tag.First = refl
+form_coded tag.Next = refl
+form_coded tag.If = refl
+form_coded tag.IfAll = refl
+form_coded tag.Goto = refl
+form_coded tag.Call = refl
+form_coded tag.Return = refl
+form_coded tag.Finish = refl
 
 let_again : (g : Source) (line : ℕ) (x : Name) (v : Expr) → (let y = instr.Let x v in (after : List ℕ) (r : Rest) →
     HasForm y → Right g (instr_uses y) → r.bytes ≡ operands_image g y ++ after → Gives (let_in (head g) line r) y after)
@@ -287,83 +287,83 @@ return_again g line x after r h uses e =
     (a, refl, pa))
 
 -- the code of a form stands before its operands
-formed_again : (g : Source) (line : ℕ) (f : Form) (x : Instr) (mid after : List ℕ) (r : Rest) → Right (head g) (form_uses f) →
-    r.bytes ≡ form_code f ∷ mid →
+formed_again : (g : Source) (line : ℕ) (f : InstrTag) (x : Instr) (mid after : List ℕ) (r : Rest) → Right (head g) (form_uses f) →
+    r.bytes ≡ instr_code f ∷ mid →
     ((t : Rest) → t.bytes ≡ mid → Gives (operands_in (head g) line f t) x after) → Gives (instr_in (head g) line r) x after
 unfolding instr_in
 formed_again g line f x mid after r uses e h =
-    then_gives f mid (code_in forms r) _ x after (code_again forms f (form_coded f) mid r e)
+    then_gives f mid (code_in instr_tags r) _ x after (code_again instr_tags f (form_coded f) mid r e)
     (λ t p. then_done tt (allowed (head g) line (form_uses f)) _ x after (allowed_again (head g) line (form_uses f) uses) (h t p))
 
 pub instr_again : (g : Source) (line : ℕ) (x : Instr) (after : List ℕ) (r : Rest) → HasForm x → Right g (instr_uses x) → HasShortTargets x →
-    r.bytes ≡ (form_code (form_of x) ∷ operands_image g x) ++ after → Gives (instr_in (head g) line r) x after
+    r.bytes ≡ (instr_code (instr_tag x) ∷ operands_image g x) ++ after → Gives (instr_in (head g) line r) x after
 instr_again g line (instr.Let x v) after r h uses small e =
-    formed_again g line form.Let (instr.Let x v) _ after r tt e
+    formed_again g line tag.Let (instr.Let x v) _ after r tt e
     (λ t p. let_again g line x v after t h uses p)
 instr_again g line (instr.LetPlace x i v) after r h uses small e =
-    formed_again g line form.LetPlace (instr.LetPlace x i v) _ after r tt e
+    formed_again g line tag.LetPlace (instr.LetPlace x i v) _ after r tt e
     (λ t p. let_place_again g line x i v after t h uses p)
 instr_again g line (instr.Get x i j) after r h uses small e =
-    formed_again g line form.Get (instr.Get x i j) _ after r tt e
+    formed_again g line tag.Get (instr.Get x i j) _ after r tt e
     (λ t p. get_again g line x i j after t h uses p)
 instr_again g line (instr.Bit x bits.Q i j) after r h uses small e =
-    formed_again g line form.BitQ (instr.Bit x bits.Q i j) _ after r (uses.1.0, tt) e
+    formed_again g line tag.BitQ (instr.Bit x bits.Q i j) _ after r (uses.1.0, tt) e
     (λ t p. bit_again g line x bits.Q i j after t h uses p)
 instr_again g line (instr.Bit x bits.P i j) after r h uses small e =
-    formed_again g line form.BitP (instr.Bit x bits.P i j) _ after r (uses.1.0, tt) e
+    formed_again g line tag.BitP (instr.Bit x bits.P i j) _ after r (uses.1.0, tt) e
     (λ t p. bit_again g line x bits.P i j after t h uses p)
 instr_again g line (instr.Look x i) after r h uses small e =
-    formed_again g line form.Look (instr.Look x i) _ after r (uses.1.0, tt) e
+    formed_again g line tag.Look (instr.Look x i) _ after r (uses.1.0, tt) e
     (λ t p. look_again g line x i after t h uses p)
 instr_again g line (instr.Put i (tuple.Seq m n v)) after r h uses small e =
-    formed_again g line form.PutSeq (instr.Put i (tuple.Seq m n v)) _ after r ((rest g _ (tuple_uses (tuple.Seq m n v)) uses).0, tt) e
+    formed_again g line tag.PutSeq (instr.Put i (tuple.Seq m n v)) _ after r ((rest g _ (tuple_uses (tuple.Seq m n v)) uses).0, tt) e
     (λ t p. put_seq_again g line i m n v after t h uses p)
 instr_again g line (instr.Put i (tuple.Bits m x n v)) after r h uses small e =
-    formed_again g line form.PutBits (instr.Put i (tuple.Bits m x n v)) _ after r
+    formed_again g line tag.PutBits (instr.Put i (tuple.Bits m x n v)) _ after r
     ((rest g _ (tuple_uses (tuple.Bits m x n v)) uses).0, tt) e
     (λ t p. put_bits_again g line i m x n v after t h uses p)
 instr_again g line (instr.Put i (tuple.Multi m n o)) after r h uses small e =
-    formed_again g line form.PutMulti (instr.Put i (tuple.Multi m n o)) _ after r ((rest g _ (tuple_uses (tuple.Multi m n o)) uses).0, tt) e
+    formed_again g line tag.PutMulti (instr.Put i (tuple.Multi m n o)) _ after r ((rest g _ (tuple_uses (tuple.Multi m n o)) uses).0, tt) e
     (λ t p. put_multi_again g line i m n o after t h uses p)
 instr_again g line (instr.PutBit bits.Q i j v) after r h uses small e =
-    formed_again g line form.PutQ (instr.PutBit bits.Q i j v) _ after r (uses.0, tt) e
+    formed_again g line tag.PutQ (instr.PutBit bits.Q i j v) _ after r (uses.0, tt) e
     (λ t p. put_bit_again g line bits.Q i j v after t h uses p)
 instr_again g line (instr.PutBit bits.P i j v) after r h uses small e =
-    formed_again g line form.PutP (instr.PutBit bits.P i j v) _ after r (uses.0, tt) e
+    formed_again g line tag.PutP (instr.PutBit bits.P i j v) _ after r (uses.0, tt) e
     (λ t p. put_bit_again g line bits.P i j v after t h uses p)
 instr_again g line (instr.PutView i x) after r h uses small e =
-    formed_again g line form.PutView (instr.PutView i x) _ after r (uses.0, tt) e
+    formed_again g line tag.PutView (instr.PutView i x) _ after r (uses.0, tt) e
     (λ t p. put_view_again g line i x after t h uses p)
 instr_again g line (instr.ViewData x z) after r h uses small e =
-    formed_again g line form.ViewData (instr.ViewData x z) _ after r tt e
+    formed_again g line tag.ViewData (instr.ViewData x z) _ after r tt e
     (λ t p. view_data_again g line x z after t h uses p)
 instr_again g line (instr.ViewOf x z i) after r h uses small e =
-    formed_again g line form.ViewOf (instr.ViewOf x z i) _ after r (uses.1.0, tt) e
+    formed_again g line tag.ViewOf (instr.ViewOf x z i) _ after r (uses.1.0, tt) e
     (λ t p. view_of_again g line x z i after t h uses p)
 instr_again g line (instr.Each over x v k) after r h uses small e =
-    formed_again g line form.Each (instr.Each over x v k) _ after r tt e
+    formed_again g line tag.Each (instr.Each over x v k) _ after r tt e
     (λ t p. each_again g line over x v k after t h uses p)
 instr_again g line (instr.First x over k target) after r h uses small e =
-    formed_again g line form.First (instr.First x over k target) _ after r tt e
+    formed_again g line tag.First (instr.First x over k target) _ after r tt e
     (λ t p. first_again g line x over k target after t h uses small.0 p)
 instr_again g line (instr.Next x over target) after r h uses small e =
-    formed_again g line form.Next (instr.Next x over target) _ after r tt e
+    formed_again g line tag.Next (instr.Next x over target) _ after r tt e
     (λ t p. next_again g line x over target after t h uses small.0 p)
 instr_again g line (instr.If k target) after r h uses small e =
-    formed_again g line form.If (instr.If k target) _ after r tt e
+    formed_again g line tag.If (instr.If k target) _ after r tt e
     (λ t p. if_again g line k target after t h uses small.0 p)
 instr_again g line (instr.IfAll over k target) after r h uses small e =
-    formed_again g line form.IfAll (instr.IfAll over k target) _ after r tt e
+    formed_again g line tag.IfAll (instr.IfAll over k target) _ after r tt e
     (λ t p. if_all_again g line over k target after t h uses small.0 p)
 instr_again g line (instr.Goto target) after r h uses small e =
-    formed_again g line form.Goto (instr.Goto target) _ after r tt e
+    formed_again g line tag.Goto (instr.Goto target) _ after r tt e
     (λ t p. goto_again g line target after t h uses small.0 p)
 instr_again g line (instr.Call target) after r h uses small e =
-    formed_again g line form.Call (instr.Call target) _ after r tt e
+    formed_again g line tag.Call (instr.Call target) _ after r tt e
     (λ t p. call_again g line target after t h uses small.0 p)
 instr_again g line (instr.Return x) after r h uses small e =
-    formed_again g line form.Return (instr.Return x) _ after r tt e
+    formed_again g line tag.Return (instr.Return x) _ after r tt e
     (λ t p. return_again g line x after t h uses p)
 instr_again g line instr.Finish after r h uses small e =
-    formed_again g line form.Finish instr.Finish _ after r tt e
+    formed_again g line tag.Finish instr.Finish _ after r tt e
     (λ t p. (t, refl, p))

@@ -6,8 +6,8 @@ use Rattle.std.specs.Int.{w16, to_be_bytes}
 use Rattle.std.specs.List.{AllByRecursion, list_all}
 use Rattle.snap_words.specs.declared.kind.KindTag.{KindTag}
 use Rattle.snap_words.specs.declared.kind.KindTag.TheVariants as kind
-use Rattle.snap_semantics.specs.declared.image.ImageVersion.{ImageVersion}
-use Rattle.snap_semantics.specs.declared.image.ImageVersion.TheVariants as version
+use Rattle.snap_image_format.specs.declared.image.ImageVersion.{ImageVersion}
+use Rattle.snap_image_format.specs.declared.image.ImageVersion.TheVariants as version
 use Rattle.snap_semantics.specs.declared.instr.Line.{Line}
 use Rattle.snap_semantics.specs.declared.refusal.ImageRefusal.{ImageRefusal}
 use Rattle.snap_semantics.specs.declared.refusal.ImageRefusal.TheVariants.{Invalid}
@@ -15,18 +15,18 @@ use Rattle.snap_semantics.specs.declared.refusal.ListingRefusal.{ListingRefusal}
 use Rattle.snap_semantics.specs.declared.refusal.ListingRefusal.TheVariants as refusal
 use Rattle.snap_semantics.specs.Answers.{◌>>=◌, refused_as}
 use Rattle.snap_semantics.specs.Comments.{Comment, Commented, IsComment, IsCommented, no_comment}
-use Rattle.snap_semantics.specs.Image.{line_image, behind_line, lines_image, names_image, table_image, signature, head_image, image_in, is_number_in, CanSay}
-use Rattle.snap_semantics.specs.ImageCodes.{of_code, kinds, kind_code}
-use Rattle.snap_semantics.specs.ImageForms.{Rest, Read, byte_in, short_in, code_in}
-use Rattle.snap_semantics.specs.ImageInstrs.{instr_in}
-use Rattle.snap_semantics.specs.ImageListing.{signature_in, version_in, letter, letters_in, length_in, new_name, name_in, names_in, few_names, table_in, line_count_in, head_in, new_number, behind_line_in, line_in, lines_in, ended, commented_in}
+use Rattle.snap_image_format.specs.Image.{line_image, behind_line, lines_image, names_image, table_image, signature, head_image, image_in, is_number_in, CanSay}
+use Rattle.snap_image_format.specs.ImageCodes.{of_code, kinds, kind_code}
+use Rattle.snap_image_format.specs.ImageForms.{Rest, Read, byte_in, short_in, code_in}
+use Rattle.snap_image_format.specs.ImageInstrs.{instr_in}
+use Rattle.snap_image_format.specs.ImageListing.{signature_in, version_in, letter, letters_in, length_in, new_name, name_in, names_in, few_names, table_in, line_count_in, head_in, new_number, behind_line_in, line_in, lines_in, ended, commented_in}
 use Rattle.snap_semantics.specs.IsListing.{IsName, AreDistinct, AreRising, IsLine, IsListing}
 use Rattle.snap_semantics.specs.Listing.{has_line, checked_targets, line_targets}
 use Rattle.snap_semantics.specs.ListingForms.{is_reserved}
 use Rattle.snap_semantics.specs.Source.{Name, Source}
 use Rattle.snap_semantics.specs.Token.{is_letter}
 use Rattle.snap_semantics.specs.Uses.{is_among}
-use Rattle.snap_image_laws.specs.Fits.{HasShortTargets, HasShortNumbers}
+use Rattle.snap_image_laws.specs.Widths.{HasShortTargets, HasShortNumbers}
 use Rattle.snap_image_laws.specs.Laws.{DecodesAllImages, RefusesMore}
 use Rattle.snap_image_laws.proofs.AgainComments.{version_again, behind_again}
 use Rattle.snap_image_laws.proofs.AgainForms.{head, two}

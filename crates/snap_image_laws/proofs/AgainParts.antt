@@ -11,12 +11,12 @@ use Rattle.snap_semantics.specs.declared.refusal.ListingRefusal.{ListingRefusal}
 use Rattle.snap_semantics.specs.declared.text.Sort.{Sort}
 use Rattle.snap_semantics.specs.declared.text.Sort.TheVariants as sort
 use Rattle.snap_semantics.specs.Answers.{◌>>=◌, refused_as}
-use Rattle.snap_semantics.specs.Image.{slot}
-use Rattle.snap_semantics.specs.ImageCodes.{Codes, of_code}
-use Rattle.snap_semantics.specs.ImageForms.{Rest, Read, byte_from, byte_in, bytes_in, short_in, long_in, known_code, code_in, known_name, slot_in, allowed}
+use Rattle.snap_image_format.specs.Image.{slot}
+use Rattle.snap_image_format.specs.ImageCodes.{Codes, of_code}
+use Rattle.snap_image_format.specs.ImageForms.{Rest, Read, byte_from, byte_in, bytes_in, short_in, long_in, known_code, code_in, known_name, slot_in, allowed}
 use Rattle.snap_semantics.specs.RightUses.{IsRight}
 use Rattle.snap_semantics.specs.Source.{Name, Source}
-use Rattle.snap_semantics.specs.Uses.{Use, Named, BankUse, FieldUse, HandUse, ViewUse, TupleUse, is_among, use_of_sort, same_sort, kind_has, checked_use, checked_uses, scalar, row, words, view}
+use Rattle.snap_semantics.specs.Uses.{Use, Named, BankUse, FieldUse, HandshakeUse, ViewUse, TupleUse, is_among, use_of_sort, same_sort, kind_has, checked_use, checked_uses, scalar, row, words, view}
 use Rattle.snap_image_laws.proofs.Slots.{same_name, sorted}
 
 -- a rule that gives this value, with these bytes behind it
@@ -171,7 +171,7 @@ use_checked s line (Named wanted x) h =
     ap (λ (o : Option Sort). use_of_sort line wanted o) h ∙ done_if (same_sort wanted wanted) _ (same_again wanted)
 use_checked s line (BankUse b) h = done_if (kind_has s.kind (BankUse b)) _ h
 use_checked s line (FieldUse f) h = done_if (kind_has s.kind (FieldUse f)) _ h
-use_checked s line HandUse h = done_if (kind_has s.kind HandUse) _ h
+use_checked s line HandshakeUse h = done_if (kind_has s.kind HandshakeUse) _ h
 use_checked s line ViewUse h = done_if (kind_has s.kind ViewUse) _ h
 use_checked s line (TupleUse k) h = done_if (kind_has s.kind (TupleUse k)) _ h
 

@@ -1,16 +1,16 @@
 -- The names that are read from an image are declared once.
 use Rattle.std.proofs.Common.{◌≡◌, ℕ, zero, suc, false, List, [], ◌∷◌, ◌++◌, sym, ap, ◌∙◌, append_assoc, subst}
 use Rattle.std.proofs.lemmas.List.{append-nil}
-use Rattle.snap_semantics.specs.declared.image.ImageVersion.{ImageVersion}
-use Rattle.snap_semantics.specs.ImageCodes.{kinds}
-use Rattle.snap_semantics.specs.ImageForms.{Rest, byte_in, short_in, code_in}
-use Rattle.snap_semantics.specs.ImageListing.{signature_in, version_in, letters_in, length_in, new_name, name_in, names_in, few_names, table_in, line_count_in, head_in}
+use Rattle.snap_image_format.specs.declared.image.ImageVersion.{ImageVersion}
+use Rattle.snap_image_format.specs.ImageCodes.{kinds}
+use Rattle.snap_image_format.specs.ImageForms.{Rest, byte_in, short_in, code_in}
+use Rattle.snap_image_format.specs.ImageListing.{signature_in, version_in, letters_in, length_in, new_name, name_in, names_in, few_names, table_in, line_count_in, head_in}
 use Rattle.snap_semantics.specs.IsListing.{AreDistinct}
 use Rattle.snap_semantics.specs.Listing.{all_names}
 use Rattle.snap_semantics.specs.ListingForms.{is_reserved}
 use Rattle.snap_semantics.specs.Source.{Name, Source}
 use Rattle.snap_semantics.specs.Uses.{is_among}
-use Rattle.snap_grammar.proofs.DistinctNames.{distinct_snoc}
+use Rattle.snap_listing_grammar.proofs.DistinctNames.{distinct_snoc}
 use Rattle.snap_image_laws.proofs.Parts.{Holds, then_with, then_any, holds_if}
 
 abbrev IsNew : List Name → Name → Unit {0} → Type 0

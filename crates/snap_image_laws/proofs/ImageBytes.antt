@@ -7,10 +7,10 @@ use Rattle.snap_words.specs.declared.kind.Field.{Field}
 use Rattle.snap_words.specs.declared.kind.Field.TheVariants as field
 use Rattle.snap_words.specs.declared.kind.KindTag.{KindTag}
 use Rattle.snap_words.specs.declared.kind.KindTag.TheVariants as kind
-use Rattle.snap_semantics.specs.declared.image.Form.{Form}
-use Rattle.snap_semantics.specs.declared.image.Form.TheVariants as form
-use Rattle.snap_semantics.specs.declared.image.ImageVersion.{ImageVersion}
-use Rattle.snap_semantics.specs.declared.image.ImageVersion.TheVariants as version
+use Rattle.snap_image_format.specs.declared.image.InstrTag.{InstrTag}
+use Rattle.snap_image_format.specs.declared.image.InstrTag.TheVariants as tag
+use Rattle.snap_image_format.specs.declared.image.ImageVersion.{ImageVersion}
+use Rattle.snap_image_format.specs.declared.image.ImageVersion.TheVariants as version
 use Rattle.snap_semantics.specs.declared.instr.Comparison.{Comparison}
 use Rattle.snap_semantics.specs.declared.instr.Condition.{Condition}
 use Rattle.snap_semantics.specs.declared.instr.Condition.TheVariants.{One, Two, Three, Four}
@@ -32,16 +32,16 @@ use Rattle.snap_semantics.specs.declared.instr.Term.TheVariants as term
 use Rattle.snap_semantics.specs.declared.instr.Tuple.{Tuple}
 use Rattle.snap_semantics.specs.declared.instr.Tuple.TheVariants as tuple
 use Rattle.snap_semantics.specs.Comments.{Comment}
-use Rattle.snap_semantics.specs.Image.{slot, index_image, field_tag, term_image, expr_image, comparison_image, condition_image, where_image, tuple_image, form_of, operands_image, line_image, comment_image, behind_line, lines_image, names_image, table_image, head_image}
-use Rattle.snap_semantics.specs.ImageCodes.{version_code, kind_code, term_code, relation_code, join_code, range_code, form_code}
+use Rattle.snap_image_format.specs.Image.{slot, index_image, field_tag, term_image, expr_image, comparison_image, condition_image, where_image, tuple_image, instr_tag, operands_image, line_image, comment_image, behind_line, lines_image, names_image, table_image, head_image}
+use Rattle.snap_image_format.specs.ImageCodes.{version_code, kind_code, term_code, relation_code, join_code, range_code, instr_code}
 use Rattle.snap_semantics.specs.IsListing.{IsName, IsListing}
 use Rattle.snap_semantics.specs.Source.{Name, Source}
 use Rattle.snap_semantics.specs.Token.{is_letter}
-use Rattle.snap_image_laws.specs.Fits.{IsTable}
+use Rattle.snap_image_laws.specs.Widths.{IsTable}
 use Rattle.snap_image_laws.specs.Laws.{AreBytes, HasBytes, ImagesAreBytes, HasBytes}
 use Rattle.snap_image_laws.proofs.Slots.{slot_within}
 use Rattle.snap_image_laws.proofs.Tables.{Tables, tables_of, short_name}
-use Rattle.snap_grammar.proofs.Alls.{all_both}
+use Rattle.snap_listing_grammar.proofs.Alls.{all_both}
 
 abbrev IsByte : ℕ → Type 0
 IsByte b = b < 256
@@ -82,30 +82,30 @@ field_is_byte field.Datum = omega arith
 field_is_byte field.Toggle = omega arith
 field_is_byte field.Id = omega arith
 
-form_is_byte : (f : Form) → IsByte (form_code f)
-form_is_byte form.Let = omega arith
-form_is_byte form.LetPlace = omega arith
-form_is_byte form.Get = omega arith
-form_is_byte form.BitQ = omega arith
-form_is_byte form.BitP = omega arith
-form_is_byte form.Look = omega arith
-form_is_byte form.PutSeq = omega arith
-form_is_byte form.PutBits = omega arith
-form_is_byte form.PutMulti = omega arith
-form_is_byte form.PutQ = omega arith
-form_is_byte form.PutP = omega arith
-form_is_byte form.PutView = omega arith
-form_is_byte form.ViewData = omega arith
-form_is_byte form.ViewOf = omega arith
-form_is_byte form.Each = omega arith
-form_is_byte form.First = omega arith
-form_is_byte form.Next = omega arith
-form_is_byte form.If = omega arith
-form_is_byte form.IfAll = omega arith
-form_is_byte form.Goto = omega arith
-form_is_byte form.Call = omega arith
-form_is_byte form.Return = omega arith
-form_is_byte form.Finish = omega arith
+form_is_byte : (f : InstrTag) → IsByte (instr_code f)
+form_is_byte tag.Let = omega arith
+form_is_byte tag.LetPlace = omega arith
+form_is_byte tag.Get = omega arith
+form_is_byte tag.BitQ = omega arith
+form_is_byte tag.BitP = omega arith
+form_is_byte tag.Look = omega arith
+form_is_byte tag.PutSeq = omega arith
+form_is_byte tag.PutBits = omega arith
+form_is_byte tag.PutMulti = omega arith
+form_is_byte tag.PutQ = omega arith
+form_is_byte tag.PutP = omega arith
+form_is_byte tag.PutView = omega arith
+form_is_byte tag.ViewData = omega arith
+form_is_byte tag.ViewOf = omega arith
+form_is_byte tag.Each = omega arith
+form_is_byte tag.First = omega arith
+form_is_byte tag.Next = omega arith
+form_is_byte tag.If = omega arith
+form_is_byte tag.IfAll = omega arith
+form_is_byte tag.Goto = omega arith
+form_is_byte tag.Call = omega arith
+form_is_byte tag.Return = omega arith
+form_is_byte tag.Finish = omega arith
 
 index_bytes : (g : Source) → Tables g → (i : Index) → AreBytes (index_image g i)
 index_bytes g tables (index.Number k) = (omega arith, long_bytes k)
@@ -121,7 +121,7 @@ term_bytes g tables (term.Index i) = index_bytes g tables i
 term_bytes g tables term.Arg = (omega arith, tt)
 term_bytes g tables (term.Row x i) = (omega arith, (slot_is_byte g.rows x tables.rows, index_bytes g tables i))
 term_bytes g tables (term.Field f x i) = (field_is_byte f, (slot_is_byte g.words x tables.words, index_bytes g tables i))
-term_bytes g tables (term.Hand x i j) = (
+term_bytes g tables (term.Handshake x i j) = (
   omega arith,
   (
     slot_is_byte g.words x tables.words,
@@ -230,8 +230,8 @@ behind_line_bytes version.Second c h = comment_bytes c h
 line_bytes : (g : Source) → Tables g → (x : Line) → AreBytes (line_image g x)
 line_bytes g tables x =
     let operands = operands_image g x.instr in
-    behind (to_be_bytes w16 x.number) (form_code (form_of x.instr) ∷ operands) (short_bytes x.number)
-    (form_is_byte (form_of x.instr), operands_bytes g tables x.instr)
+    behind (to_be_bytes w16 x.number) (instr_code (instr_tag x.instr) ∷ operands) (short_bytes x.number)
+    (form_is_byte (instr_tag x.instr), operands_bytes g tables x.instr)
 
 -- where the comments are used up there is none
 lines_bytes : (v : ImageVersion) (g : Source) → Tables g → (xs : List Line) (cs : List Comment) → AllByRecursion HasBytes cs →

@@ -8,14 +8,14 @@ use Rattle.std.specs.List.{AllByRecursion, slice_get}
 use Rattle.snap_semantics.specs.declared.refusal.ImageRefusal.{ImageRefusal}
 use Rattle.snap_semantics.specs.declared.text.Sort.{Sort}
 use Rattle.snap_semantics.specs.Answers.{◌>>=◌}
-use Rattle.snap_semantics.specs.Image.{slot}
-use Rattle.snap_semantics.specs.ImageCodes.{Codes, coded, of_code}
-use Rattle.snap_semantics.specs.ImageForms.{Rest, byte_from, byte_in, bytes_in, short_in, long_in, known_code, code_in, known_name, slot_in}
+use Rattle.snap_image_format.specs.Image.{slot}
+use Rattle.snap_image_format.specs.ImageCodes.{Codes, coded, of_code}
+use Rattle.snap_image_format.specs.ImageForms.{Rest, byte_from, byte_in, bytes_in, short_in, long_in, known_code, code_in, known_name, slot_in}
 use Rattle.snap_semantics.specs.RightUses.{IsRight}
 use Rattle.snap_semantics.specs.Source.{Name, Source}
 use Rattle.snap_semantics.specs.Uses.{Use, Named}
 use Rattle.snap_image_laws.specs.Laws.{AreBytes}
-use Rattle.snap_grammar.proofs.Alls.{all_both}
+use Rattle.snap_listing_grammar.proofs.Alls.{all_both}
 
 -- what holds of what is read, where something is
 abbrev pub Holds : {A : Type 0} → (A → Type 0) → Result A ImageRefusal → Type 0

@@ -2,13 +2,13 @@
 use Rattle.std.proofs.Common.{◌≡◌, ℕ, ◌≤◌, zero, suc, Bool, true, false, List, [], ◌∷◌, ◌++◌, length, Option, Some, None, nat_eq, if◌then◌else◌, refl, sym, ap, ◌∙◌, subst, arith}
 use Rattle.std.specs.Int.{w16, to_be_bytes}
 use Rattle.std.specs.List.{AllByRecursion}
-use Rattle.snap_semantics.specs.declared.image.ImageVersion.{ImageVersion}
-use Rattle.snap_semantics.specs.declared.image.ImageVersion.TheVariants as version
+use Rattle.snap_image_format.specs.declared.image.ImageVersion.{ImageVersion}
+use Rattle.snap_image_format.specs.declared.image.ImageVersion.TheVariants as version
 use Rattle.snap_semantics.specs.Comments.{Comment, IsCommentByte, IsComment}
-use Rattle.snap_semantics.specs.Image.{comment_image, behind_line}
-use Rattle.snap_semantics.specs.ImageCodes.{versions, version_code, of_code}
-use Rattle.snap_semantics.specs.ImageForms.{Rest, byte_in, short_in, known_code, flag_in}
-use Rattle.snap_semantics.specs.ImageListing.{known_version, version_in, comment_byte_in, comment_bytes_in, some_comment_in, comment_of_flag, comment_in, behind_line_in}
+use Rattle.snap_image_format.specs.Image.{comment_image, behind_line}
+use Rattle.snap_image_format.specs.ImageCodes.{versions, version_code, of_code}
+use Rattle.snap_image_format.specs.ImageForms.{Rest, byte_in, short_in, known_code, flag_in}
+use Rattle.snap_image_format.specs.ImageListing.{known_version, version_in, comment_byte_in, comment_bytes_in, some_comment_in, comment_of_flag, comment_in, behind_line_in}
 use Rattle.snap_semantics.specs.Source.{Source}
 use Rattle.snap_image_laws.proofs.Parts.{Holds, then_with, holds_as, Part, both, reformed, none, ByteIs, byte_is, Known, coded_is, CodeIs, ShortFits, short_fits}
 use Rattle.snap_image_laws.proofs.SaidForms.{behind, flag_byte, FlagIs, flag_is}

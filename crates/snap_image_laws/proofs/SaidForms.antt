@@ -3,11 +3,11 @@ use Rattle.std.proofs.Common.{◌≡◌, ℕ, Bool, true, false, List, [], ◌�
 use Rattle.std.proofs.lemmas.Bool.{eqb-true}
 use Rattle.snap_words.specs.declared.kind.Field.{Field}
 use Rattle.snap_words.specs.declared.kind.Field.TheVariants as field
-use Rattle.snap_words.specs.Kind.{has_field, has_hands}
-use Rattle.snap_semantics.specs.declared.image.ExprTag.{ExprTag}
-use Rattle.snap_semantics.specs.declared.image.ExprTag.TheVariants as etag
-use Rattle.snap_semantics.specs.declared.image.TermTag.{TermTag}
-use Rattle.snap_semantics.specs.declared.image.TermTag.TheVariants as tag
+use Rattle.snap_words.specs.Kind.{has_field, has_handshakes}
+use Rattle.snap_image_format.specs.declared.image.ExprTag.{ExprTag}
+use Rattle.snap_image_format.specs.declared.image.ExprTag.TheVariants as etag
+use Rattle.snap_image_format.specs.declared.image.TermTag.{TermTag}
+use Rattle.snap_image_format.specs.declared.image.TermTag.TheVariants as tag
 use Rattle.snap_semantics.specs.declared.instr.Comparison.{Comparison}
 use Rattle.snap_semantics.specs.declared.instr.Condition.{Condition}
 use Rattle.snap_semantics.specs.declared.instr.Expr.{Expr}
@@ -23,13 +23,13 @@ use Rattle.snap_semantics.specs.declared.refusal.ListingRefusal.{ListingRefusal}
 use Rattle.snap_semantics.specs.declared.refusal.ListingRefusal.TheVariants as refusal
 use Rattle.snap_semantics.specs.declared.text.Sort.TheVariants as sort
 use Rattle.snap_semantics.specs.Answers.{◌>>=◌, refused_as}
-use Rattle.snap_semantics.specs.Image.{index_image, field_tag, term_image, expr_image, comparison_image, condition_image, where_image}
-use Rattle.snap_semantics.specs.ImageCodes.{terms, exprs, relations, joins, term_code, expr_code, relation_code, join_code}
-use Rattle.snap_semantics.specs.ImageForms.{Rest, byte_in, long_in, known_code, code_in, slot_in, allowed, number_index, scalar_index, index_of_tag, index_in, row_term, field_term, hand_term, index_term, term_of_tag, term_in, plain_expr, sum_expr, not_expr, expr_of_tag, expr_in, comparison_in, two_in, three_in, four_in, one_in, comparisons_in, count_in, condition_in, flag_in, where_of_flag, where_in}
+use Rattle.snap_image_format.specs.Image.{index_image, field_tag, term_image, expr_image, comparison_image, condition_image, where_image}
+use Rattle.snap_image_format.specs.ImageCodes.{terms, exprs, relations, joins, term_code, expr_code, relation_code, join_code}
+use Rattle.snap_image_format.specs.ImageForms.{Rest, byte_in, long_in, known_code, code_in, slot_in, allowed, number_index, scalar_index, index_of_tag, index_in, row_term, field_term, handshake_term, index_term, term_of_tag, term_in, plain_expr, sum_expr, not_expr, expr_of_tag, expr_in, comparison_in, two_in, three_in, four_in, one_in, comparisons_in, count_in, condition_in, flag_in, where_of_flag, where_in}
 use Rattle.snap_semantics.specs.IsListing.{HasIndex, HasTerm, HasExpr, HasComparison, HasCondition, HasWhere}
 use Rattle.snap_semantics.specs.Listing.{with_lines}
 use Rattle.snap_semantics.specs.Source.{Source}
-use Rattle.snap_semantics.specs.Uses.{Use, FieldUse, HandUse, index_uses, term_uses, expr_uses, comparison_uses, condition_uses, where_uses}
+use Rattle.snap_semantics.specs.Uses.{Use, FieldUse, HandshakeUse, index_uses, term_uses, expr_uses, comparison_uses, condition_uses, where_uses}
 use Rattle.snap_image_laws.proofs.Parts.{Holds, then_with, holds_as, holds_if, Part, both, reformed, skip, three_of, four_of, none, spoken_of, one_byte, ByteIs, byte_is, CodeIs, code_is, HasSlots, SlotIs, slot_is, LongIs, long_is}
 
 -- the slots of the names of each sort
@@ -90,7 +90,7 @@ index_tag ls s h line q at tag.Scalar r =
 index_tag ls s h line q at tag.Row r = tt
 index_tag ls s h line q at tag.Seq r = tt
 index_tag ls s h line q at tag.Datum r = tt
-index_tag ls s h line q at tag.Hand r = tt
+index_tag ls s h line q at tag.Handshake r = tt
 index_tag ls s h line q at tag.Toggle r = tt
 index_tag ls s h line q at tag.Id r = tt
 
@@ -129,16 +129,16 @@ field_is ls s h line q f r =
     then_with (IndexIs ls s q x.1) T (index_in s line q x.1) _ (index_is ls s h line q x.1) (λ i k.
     (_, refl, skip (spoken_of g r.bytes (FieldUse f ∷ []) (has, tt)) (skip p k)))))
 
-hand_is : (ls : List Line) (s : Source) → Slots (with_lines ls s) → (line : ℕ) (q : Bool) (r : Rest) → Holds (TermOf ls s q tag.Hand r) (hand_term s line q r)
-unfolding hand_term
-hand_is ls s h line q r =
+handshake_is : (ls : List Line) (s : Source) → Slots (with_lines ls s) → (line : ℕ) (q : Bool) (r : Rest) → Holds (TermOf ls s q tag.Handshake r) (handshake_term s line q r)
+unfolding handshake_term
+handshake_is ls s h line q r =
     let g = with_lines ls s in
-    let T = TermOf ls s q tag.Hand r in
-    then_with (WhenDone (has_hands s.kind ≡ true)) T (allowed s line (HandUse ∷ [])) _ (kind_ok line (has_hands s.kind)) (λ done has.
+    let T = TermOf ls s q tag.Handshake r in
+    then_with (WhenDone (has_handshakes s.kind ≡ true)) T (allowed s line (HandshakeUse ∷ [])) _ (kind_ok line (has_handshakes s.kind)) (λ done has.
     then_with (SlotIs g s.words sort.Words r) T (slot_in line s.words r) _ (slot_is g s.words sort.Words h.words line r) (λ x p.
     then_with (IndexIs ls s q x.1) T (index_in s line q x.1) _ (index_is ls s h line q x.1) (λ i k.
     then_with (IndexIs ls s q i.1) T (index_in s line q i.1) _ (index_is ls s h line q i.1) (λ j l.
-    (_, refl, skip (spoken_of g r.bytes (HandUse ∷ []) (has, tt)) (skip p (both k l)))))))
+    (_, refl, skip (spoken_of g r.bytes (HandshakeUse ∷ []) (has, tt)) (skip p (both k l)))))))
 
 plain_is : (ls : List Line) (s : Source) → Slots (with_lines ls s) → (line : ℕ) (q : Bool) (at : ℕ) (t : TermTag) (r : Rest) →
     Holds (TermOf ls s q t r) (index_term s line q at t r)
@@ -161,7 +161,7 @@ term_tag ls s h line q at tag.Seq r = field_is ls s h line q field.Seq r
 term_tag ls s h line q at tag.Datum r = field_is ls s h line q field.Datum r
 term_tag ls s h line q at tag.Toggle r = field_is ls s h line q field.Toggle r
 term_tag ls s h line q at tag.Id r = field_is ls s h line q field.Id r
-term_tag ls s h line q at tag.Hand r = hand_is ls s h line q r
+term_tag ls s h line q at tag.Handshake r = handshake_is ls s h line q r
 
 pub term_is : (ls : List Line) (s : Source) → Slots (with_lines ls s) → (line : ℕ) (q : Bool) (r : Rest) → Holds (TermIs ls s q r) (term_in s line q r)
 unfolding term_in

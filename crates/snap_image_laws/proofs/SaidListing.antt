@@ -6,8 +6,8 @@ use Rattle.std.specs.Cmp.Lexicographic.{same_text}
 use Rattle.std.specs.Int.{w16, to_be_bytes}
 use Rattle.std.specs.List.{AllByRecursion, list_all}
 use Rattle.snap_words.specs.declared.kind.KindTag.TheVariants as kind
-use Rattle.snap_semantics.specs.declared.image.ImageVersion.{ImageVersion}
-use Rattle.snap_semantics.specs.declared.image.ImageVersion.TheVariants as version
+use Rattle.snap_image_format.specs.declared.image.ImageVersion.{ImageVersion}
+use Rattle.snap_image_format.specs.declared.image.ImageVersion.TheVariants as version
 use Rattle.snap_semantics.specs.declared.instr.Line.{Line}
 use Rattle.snap_semantics.specs.declared.refusal.ImageRefusal.{ImageRefusal}
 use Rattle.snap_semantics.specs.declared.refusal.ImageRefusal.TheVariants.{Invalid}
@@ -15,11 +15,11 @@ use Rattle.snap_semantics.specs.declared.refusal.ListingRefusal.{ListingRefusal}
 use Rattle.snap_semantics.specs.declared.refusal.ListingRefusal.TheVariants as refusal
 use Rattle.snap_semantics.specs.Answers.{refused_as}
 use Rattle.snap_semantics.specs.Comments.{Comment, Commented, IsComment, IsCommented, no_comment}
-use Rattle.snap_semantics.specs.Image.{line_image, lines_image, names_image, table_image, signature, image_in, is_number_in, CanSay, IsImageOf}
-use Rattle.snap_semantics.specs.ImageCodes.{kinds, kind_code, versions, version_code}
-use Rattle.snap_semantics.specs.ImageForms.{Rest, byte_in, short_in, code_in}
-use Rattle.snap_semantics.specs.ImageInstrs.{instr_in}
-use Rattle.snap_semantics.specs.ImageListing.{signature_in, version_in, letter, letters_in, length_in, new_name, name_in, names_in, few_names, table_in, line_count_in, head_in, new_number, behind_line_in, line_in, lines_in, ended, commented_in}
+use Rattle.snap_image_format.specs.Image.{line_image, lines_image, names_image, table_image, signature, image_in, is_number_in, CanSay, IsImageOf}
+use Rattle.snap_image_format.specs.ImageCodes.{kinds, kind_code, versions, version_code}
+use Rattle.snap_image_format.specs.ImageForms.{Rest, byte_in, short_in, code_in}
+use Rattle.snap_image_format.specs.ImageInstrs.{instr_in}
+use Rattle.snap_image_format.specs.ImageListing.{signature_in, version_in, letter, letters_in, length_in, new_name, name_in, names_in, few_names, table_in, line_count_in, head_in, new_number, behind_line_in, line_in, lines_in, ended, commented_in}
 use Rattle.snap_semantics.specs.IsListing.{IsName, AreDistinct, AreRising, IsLine, IsListing}
 use Rattle.snap_semantics.specs.Listing.{all_names, has_line, checked_targets, line_targets, with_lines}
 use Rattle.snap_semantics.specs.ListingForms.{is_reserved}
@@ -27,7 +27,7 @@ use Rattle.snap_semantics.specs.Source.{Name, Source}
 use Rattle.snap_semantics.specs.Token.{is_letter}
 use Rattle.snap_semantics.specs.Uses.{is_among}
 use Rattle.snap_image_laws.specs.Laws.{AreBytes, DecodesOnlyImages}
-use Rattle.snap_grammar.proofs.Alls.{all_both}
+use Rattle.snap_listing_grammar.proofs.Alls.{all_both}
 use Rattle.snap_image_laws.proofs.Parts.{Holds, then_with, holds_as, holds_of, holds_if, Part, U, both, skip, reformed, ByteIs, byte_is, CodeIs, code_is, ShortIs, short_is}
 use Rattle.snap_image_laws.proofs.Distinct.{head_distinct}
 use Rattle.snap_image_laws.proofs.SaidComments.{version_is, IsSayable, BehindIs, behind_is}

@@ -2,16 +2,16 @@
 use Rattle.std.proofs.Common.{◌≡◌, ℕ, Bool, true, false, ◌||◌, List, [], ◌∷◌, length, nat_eq, refl, subst, arith}
 use Rattle.std.proofs.lemmas.Bool.{eqb-true}
 use Rattle.std.specs.List.{AllByRecursion}
-use Rattle.snap_semantics.specs.declared.image.ImageVersion.{ImageVersion}
-use Rattle.snap_semantics.specs.declared.image.ImageVersion.TheVariants as version
+use Rattle.snap_image_format.specs.declared.image.ImageVersion.{ImageVersion}
+use Rattle.snap_image_format.specs.declared.image.ImageVersion.TheVariants as version
 use Rattle.snap_semantics.specs.declared.instr.Line.{Line}
-use Rattle.snap_semantics.specs.Image.{is_number_in}
+use Rattle.snap_image_format.specs.Image.{is_number_in}
 use Rattle.snap_semantics.specs.IsListing.{IsLine, IsListing}
 use Rattle.snap_semantics.specs.Listing.{has_line, instr_targets, line_targets}
 use Rattle.snap_semantics.specs.ListingForms.{is_line_number}
 use Rattle.snap_semantics.specs.Source.{Source}
-use Rattle.snap_image_laws.specs.Fits.{IsShort, HasShortNumbers}
-use Rattle.snap_grammar.proofs.Alls.{all_first, all_rest}
+use Rattle.snap_image_laws.specs.Widths.{IsShort, HasShortNumbers}
+use Rattle.snap_listing_grammar.proofs.Alls.{all_first, all_rest}
 
 -- a line number of a version is one of listings
 pub number_within : (v : ImageVersion) (k : ℕ) → is_number_in v k ≡ true → is_line_number k ≡ true

@@ -7,7 +7,7 @@ use Rattle.std.proofs.lemmas.Slice.Eq.{bytes_eq-Decides}
 use Rattle.std.specs.List.{slice_get}
 use Rattle.snap_semantics.specs.declared.text.Sort.{Sort}
 use Rattle.snap_semantics.specs.declared.text.Sort.TheVariants as sort
-use Rattle.snap_semantics.specs.Image.{slot}
+use Rattle.snap_image_format.specs.Image.{slot}
 use Rattle.snap_semantics.specs.IsListing.{AreDistinct}
 use Rattle.snap_semantics.specs.Listing.{all_names}
 use Rattle.snap_semantics.specs.Source.{Name, Source}

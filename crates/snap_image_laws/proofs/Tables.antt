@@ -5,8 +5,8 @@ use Rattle.std.proofs.lemmas.List.{length-append}
 use Rattle.snap_semantics.specs.IsListing.{IsName, IsListing}
 use Rattle.snap_semantics.specs.ListingForms.{is_reserved}
 use Rattle.snap_semantics.specs.Source.{Name, Source}
-use Rattle.snap_image_laws.specs.Fits.{IsTable}
-use Rattle.snap_grammar.proofs.Alls.{all_first, all_rest}
+use Rattle.snap_image_laws.specs.Widths.{IsTable}
+use Rattle.snap_listing_grammar.proofs.Alls.{all_first, all_rest}
 
 table_first : (xs ys : List Name) → IsTable (xs ++ ys) → IsTable xs
 table_first xs ys h = let both : length (xs ++ ys) ≡ length xs + length ys = length-append xs ys in (omega (arith, h.0, both), all_first IsName xs ys h.1)

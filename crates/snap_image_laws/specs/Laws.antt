@@ -1,11 +1,11 @@
 -- The laws of images.
 use Rattle.std.specs.Prelude.{◌≡◌, ℕ, ◌<◌, List, ◌∷◌, ◌++◌, Some, None, Ok, Err}
 use Rattle.std.specs.List.{AllByRecursion}
-use Rattle.snap_semantics.specs.declared.image.ImageVersion.{ImageVersion}
+use Rattle.snap_image_format.specs.declared.image.ImageVersion.{ImageVersion}
 use Rattle.snap_semantics.specs.declared.refusal.ImageRefusal.TheVariants.{Extra}
 use Rattle.snap_semantics.specs.Comments.{Comment, Commented, IsCommented}
-use Rattle.snap_semantics.specs.Image.{image_in, CanSay, IsImageOf}
-use Rattle.snap_semantics.specs.ImageListing.{commented_in}
+use Rattle.snap_image_format.specs.Image.{image_in, CanSay, IsImageOf}
+use Rattle.snap_image_format.specs.ImageListing.{commented_in}
 
 abbrev pub AreBytes : List ℕ → Type 0
 AreBytes bytes = AllByRecursion (λ b. b < 256) bytes

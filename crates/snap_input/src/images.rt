@@ -1,6 +1,6 @@
 //! Images of listings: assembled, listed, and loaded as programs.
 ghost use Rattle.snap_semantics.specs.Answers.{Answers, refused_as};
-ghost use Rattle.snap_semantics.specs.Assembly.{assembled, listed, upgraded};
+ghost use Rattle.snap_image_format.specs.Assembly.{assembled, listed, upgraded};
 ghost use Rattle.snap_semantics.specs.Listing.{listing_of};
 ghost use Rattle.snap_semantics.specs.declared.refusal.Refusal.TheVariants as refusal;
 

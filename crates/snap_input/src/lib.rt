@@ -1,12 +1,13 @@
 //! What the program reads: the parts of an input, the listing that it runs, and the texts behind it.
 #![tactic(auto)]
 
-mod counting;
 mod images;
+mod part_counts;
 mod parts;
 mod subject;
 
-pub use counting::{MAX_INPUT, count_texts, parts_for};
 pub use images::{assemble, list, program_of, upgrade};
+pub use part_counts::{MAX_INPUT, count_texts, parts_for};
 pub use parts::{count_separators, split_parts};
-pub use subject::{Subject, program_for, shipped, texts_for};
+pub use snap_tasks::Subject;
+pub use subject::{program_for, shipped, texts_for};

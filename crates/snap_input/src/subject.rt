@@ -1,30 +1,26 @@
 //! The listing that a task runs, and the texts behind it.
 ghost use Rattle.std.specs.Prelude.{◌≡◌, ◌<◌, IfOk, length, map};
 ghost use Rattle.snap_semantics.specs.Answers.{Answers};
-ghost use Rattle.snap_input.specs.Input.{listing_for, shipped, texts_for};
-ghost use Rattle.snap_input.specs.declared.subject.Subject.TheVariants.{FirstPart};
+ghost use Rattle.snap_input.specs.Input.{listing_for, texts_for};
+ghost use Rattle.snap_shipped.specs.Shipped.{shipped};
+ghost use Rattle.snap_tasks.specs.declared.subject.Subject.TheVariants.{FirstPart};
 
 use crate::images::program_of;
-use snap_code::Program;
+use snap_asm_program::Program;
 use snap_semantics::{Fault, Refusal};
+use snap_shipped::{listing_b, listing_m, listing_u};
+use snap_tasks::Subject;
 use snap_words::KindTag;
 use std::alloc::{AllocError, Global};
-
-/// The listing that a task runs: the first part of the input, or the one that is shipped for a kind of registers.
-#[derive(Clone, Copy, Debug, PartialEq, Eq)]
-pub enum Subject {
-    FirstPart,
-    Shipped(KindTag),
-}
 
 /// The program of the listing that is shipped for a kind.
 pub fn shipped(alloc: Global, kind: KindTag) -> Result<Program, AllocError>
     ensures { IfOk result (λ p. p ≡ shipped kind) }
 {
     let listing = match kind {
-        KindTag::Seq => snap_single::listing(alloc)?,
-        KindTag::Bits => snap_bounded::listing(alloc)?,
-        KindTag::Multi => snap_multi::listing(alloc)?,
+        KindTag::Seq => listing_u(alloc)?,
+        KindTag::Bits => listing_b(alloc)?,
+        KindTag::Multi => listing_m(alloc)?,
     };
     Program::of(alloc, listing)
 }

@@ -1,11 +1,3 @@
-pub mod Lists
-pub mod Runs
-pub mod Parts
-pub mod Moves
-pub mod Joins
-pub mod Opening
-pub mod Ends
 pub mod Handles
-pub mod Gathered
 pub mod Plays
-pub mod Crew
+pub mod Workers

@@ -1,13 +1,5 @@
-pub mod Turns
 pub mod Script
 pub mod Play
-pub mod Seen
-pub mod Rule
-pub mod Seats
-pub mod Shown
-pub mod Turned
-pub mod Untaken
-pub mod Closed
 pub mod Sequels
 pub mod Worker
-pub mod Fleet
+pub mod LiveRun

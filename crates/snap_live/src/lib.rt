@@ -1,21 +1,11 @@
 //! A desk at which threads take turns: one record, and a seat for each process. Scripts of all processes, played at once.
 #![tactic(auto)]
 
-mod closing;
-mod desk;
-mod fleet;
 mod gate;
-mod known;
-mod order;
-mod refusal;
-mod seat;
-mod steps;
+mod live_run;
 mod worker;
 
-pub use closing::close;
-pub use desk::{Desk, open};
-pub use fleet::{Live, Turns, run_live};
 pub use gate::{Gate, NoGate};
-pub use refusal::{LiveFault, LiveRefusal};
-pub use seat::{Note, Seat, Turn};
+pub use live_run::{LiveRun, Turns, run_live};
+pub use snap_live_desk::{Desk, LiveFault, LiveRefusal, Note, Seat, Turn, close, open};
 pub use snap_sched::{Script, Scripts};

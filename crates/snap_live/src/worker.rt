@@ -1,15 +1,14 @@
 //! How a worker plays its script at a desk.
 ghost use Rattle.std.specs.Prelude.{◌≡◌, ◌+◌, ◌^◌, ◌<◌, ◌≤◌, [], true, length, drop, IfOk, IfErr};
 ghost use Rattle.snap_semantics.specs.Table.{who};
-ghost use Rattle.snap_live.specs.Shown.{seat_of};
+ghost use Rattle.snap_live_desk.specs.Shown.{seat_of};
 ghost use Rattle.snap_live.specs.Script.{crashes_behind};
 ghost use Rattle.snap_live.specs.Play.{Leaves, rest, busy, over, IsPlay, IsBegun};
 ghost use Rattle.snap_live.specs.Sequels.{sequel_of};
 ghost use Rattle.snap_live.specs.Worker.{Kept, Made, NoFurther, Stopped, after_operation, IsWorked};
 
-use crate::desk::Desk;
 use crate::gate::Gate;
-use crate::seat::{Seat, Turn};
+use snap_live_desk::{Desk, Seat, Turn};
 use snap_sched::Script;
 use snap_semantics::{Fault, Item, Outcome};
 use snap_words::Kind;

@@ -1,20 +1,20 @@
 -- The history of a live run, as a text.
-use Rattle.std.proofs.Common.{◌≡◌, ℕ, List, ◌∙◌, ap, subst}
+use Rattle.std.proofs.Common.{◌≡◌, ℕ, ◌≤◌, List, length, ◌∙◌, ap, subst}
 use Rattle.snap_semantics.specs.Source.{Source}
 use Rattle.snap_sched.specs.ScriptText.{AreScripts, Scripts}
-use Rattle.snap_runs.specs.Run.{Fits, Run}
-use Rattle.snap_live.specs.declared.known.Setting.{Setting}
-use Rattle.snap_live.specs.declared.seat.Turn.{Turn}
-use Rattle.snap_live.specs.Fleet.{IsLive}
-use Rattle.snap_live.specs.Turns.{run_of}
+use Rattle.snap_runs.specs.Run.{IsValidRun, Run}
+use Rattle.snap_live_desk.specs.declared.seat_state.Setting.{Setting}
+use Rattle.snap_live_desk.specs.declared.seat.Turn.{Turn}
+use Rattle.snap_live.specs.LiveRun.{IsLive}
+use Rattle.snap_live_desk.specs.Turns.{run_of}
 use Rattle.snap_live_output.specs.LiveOutput.{IsLiveText, Setup, history_text, setting}
 
 -- what all workers did is such a text
 pub live_text : (g : Setup) (limit : ℕ) (l : Source) (s : Scripts) (kept : Run) (turns : List (List Turn)) (text : List ℕ) →
     l ≡ g.source → s ≡ g.scripts → AreScripts g.scripts →
-    IsLive (let b : Setting = record { source = l; shape = s.shape } in b) s.scripts limit kept turns → Fits kept → text ≡ history_text kept →
+    IsLive (let b : Setting = record { source = l; shape = s.shape } in b) s.scripts limit kept turns → IsValidRun kept → length kept.items ≤ 1000000 → text ≡ history_text kept →
     IsLiveText g limit text
-live_text g limit l s kept turns text is_source are_scripts there live fits written =
+live_text g limit l s kept turns text is_source are_scripts there live fits short written =
     let of_source : IsLive (let b : Setting = record { source = g.source; shape = s.shape } in b) s.scripts limit kept turns =
     subst (λ (x : Source). IsLive (let b : Setting = record { source = x; shape = s.shape } in b) s.scripts limit kept turns) is_source live in
     let of_setup : IsLive (setting g) g.scripts.scripts limit kept turns =
@@ -23,7 +23,8 @@ live_text g limit l s kept turns text is_source are_scripts there live fits writ
     record {
       items = kept.items;
       there = there;
-      fits = subst (λ (r : Run). Fits r) same fits;
+      fits = subst (λ (r : Run). IsValidRun r) same fits;
+      short = short;
       plays = λ k below. (of_setup.played k below).plays;
       few = λ k below. (of_setup.played k below).few;
       written = written ∙ ap history_text same;

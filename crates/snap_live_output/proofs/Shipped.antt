@@ -1,7 +1,6 @@
 -- What a live run of a shipped listing writes, taken apart.
-use Rattle.std.proofs.Common.{◌≡◌, ℕ, true, List, Ok, length, nat_lt, refl, sym, ap, subst}
+use Rattle.std.proofs.Common.{◌≡◌, ℕ, ◌≤◌, true, List, Ok, length, nat_lt, refl, sym, ap, subst, arith}
 use Rattle.snap_words.specs.Kind.{fits}
-use Rattle.snap_words.specs.Shape.{IsShape}
 use Rattle.snap_words.specs.declared.kind.KindTag.{KindTag}
 use Rattle.snap_words.specs.declared.kind.KindTag.TheVariants as kind
 use Rattle.snap_words.specs.declared.shape.WordFault.TheVariants.{BadShape}
@@ -11,16 +10,13 @@ use Rattle.snap_semantics.specs.declared.process.Item.{Item}
 use Rattle.snap_semantics.specs.declared.refusal.Refusal.TheVariants as refusal
 use Rattle.snap_sched.specs.ScriptText.{Scripts, scripts_of}
 use Rattle.snap_runs.specs.Run.{Run}
-use Rattle.snap_runs.specs.Snapshot.{IsSnapshotRun}
-use Rattle.snap_runs_of_u.specs.Promises as u
-use Rattle.snap_runs_of_b.specs.Promises as b
-use Rattle.snap_runs_of_m.specs.Promises as m
-use Rattle.snap_input.specs.Input.{shipped, shipped_bounds}
+use Rattle.snap_promises.specs.Kept.{KeepsPromises, NumbersSuffice, RunsKeepPromises}
+use Rattle.snap_shipped.specs.Shipped.{shipped}
 use Rattle.snap_input.specs.Parts.{part, parts_of}
-use Rattle.snap_input.specs.declared.subject.Subject.TheVariants.{Shipped}
+use Rattle.snap_tasks.specs.declared.subject.Subject.TheVariants.{Shipped}
 use Rattle.snap_input.proofs.Answered.{both, passed, same_answer, within}
 use Rattle.snap_input.proofs.Parting.{of_texts}
-use Rattle.snap_live.specs.Turns.{run_of}
+use Rattle.snap_live_desk.specs.Turns.{run_of}
 use Rattle.snap_live_output.specs.LiveOutput.{Setup, fitting, scripts_for, setting, setup_for, setup_of, setup_text}
 use Rattle.snap_live_output.specs.LiveRuns.{LiveRunsAreSnapshots}
 
@@ -47,22 +43,20 @@ plays_shipped k input g e =
     plays_listing (shipped k) (parts_of input) g
     (of_texts k 1 (parts_of input) setup_text g (within (nat_lt 16777216 (length input)) refusal.InputTooLong (setup_for (Shipped k) (parts_of input)) g e))
 
--- the promises of the three listings
-module _ (of_u : u.RunsAreSnapshots) (of_b : b.RunsAreSnapshots) (of_m : m.RunsAreSnapshots) where
-  promised : (k : KindTag) (s : Scripts) (items : List Item) → IsShape s.shape.n s.shape.w → fits (shipped k).kind s.shape ≡ true →
-      IsSnapshotRun (shipped_bounds k s.shape) (let r : Run = record { source = shipped k; shape = s.shape; items = items } in r)
-  promised kind.Seq s items is fit = of_u s.shape items is fit
-  promised kind.Bits s items is fit = of_b s.shape items is fit
-  promised kind.Multi s items is fit = of_m s.shape items is fit
+-- a live run has fewer items than there are sequence numbers
+suffices : (k : KindTag) (items : List Item) → length items ≤ 1000000 → NumbersSuffice k items
+suffices kind.Seq items short = omega (arith, short)
+suffices kind.Bits items short = tt
+suffices kind.Multi items short = tt
 
-  pub live_runs : LiveRunsAreSnapshots
-  live_runs k limit input text h =
-      let g = h.0 in let live = h.2 in let is = plays_shipped k input g h.1 in
-      record {
-        run = run_of (setting g) live.items;
-        of_listing = is.0;
-        fits = live.fits;
-        is_snapshot = subst (λ (l : Source). IsSnapshotRun (shipped_bounds k g.scripts.shape) (let r : Run = record { source = l; shape = g.scripts.shape; items = live.items } in r))
-            (sym is.0) (promised k g.scripts live.items live.there.shape is.1);
-        written = live.written;
-      }
+pub live_runs : ((k : KindTag) → RunsKeepPromises k) → LiveRunsAreSnapshots
+live_runs kept k limit input text h =
+    let g = h.0 in let live = h.2 in let is = plays_shipped k input g h.1 in
+    record {
+      run = run_of (setting g) live.items;
+      of_listing = is.0;
+      fits = live.fits;
+      promises = subst (λ (l : Source). KeepsPromises k (let r : Run = record { source = l; shape = g.scripts.shape; items = live.items } in r))
+          (sym is.0) (kept k g.scripts.shape live.items live.there.shape is.1 (suffices k live.items live.short));
+      written = live.written;
+    }

@@ -14,17 +14,17 @@ use Rattle.snap_semantics.specs.Schedule.{Schedule}
 use Rattle.snap_semantics.specs.ScheduleText.{schedule_text}
 use Rattle.snap_semantics.specs.Source.{Source}
 use Rattle.snap_sched.specs.ScriptText.{AreScripts, Scripts, scripts_of}
-use Rattle.snap_runs.specs.Run.{Run, Fits}
-use Rattle.snap_record.specs.Record.{report_at}
-use Rattle.snap_input.specs.declared.subject.Subject.{Subject}
+use Rattle.snap_runs.specs.Run.{Run, IsValidRun}
+use Rattle.snap_report.specs.RunReport.{report_at}
+use Rattle.snap_tasks.specs.declared.subject.Subject.{Subject}
 use Rattle.snap_input.specs.Input.{parted}
 use Rattle.snap_input.specs.Parts.{part, parts_of}
-use Rattle.snap_live.specs.declared.known.Setting.{Setting}
-use Rattle.snap_live.specs.declared.refusal.LiveRefusal.{LiveRefusal}
-use Rattle.snap_live.specs.Fleet.{MayFault}
+use Rattle.snap_live_desk.specs.declared.seat_state.Setting.{Setting}
+use Rattle.snap_live_desk.specs.declared.refusal.LiveRefusal.{LiveRefusal}
+use Rattle.snap_live.specs.LiveRun.{MayFault}
 use Rattle.snap_live.specs.Play.{IsPlay}
 use Rattle.snap_live.specs.Script.{script_at}
-use Rattle.snap_live.specs.Turns.{run_of, turns_of}
+use Rattle.snap_live_desk.specs.Turns.{run_of, turns_of}
 use Rattle.snap_live_output.specs.declared.fault.LiveRunFault.{LiveRunFault}
 use Rattle.snap_live_output.specs.declared.fault.LiveRunFault.TheVariants as fault
 
@@ -65,12 +65,13 @@ setup_of s input = if nat_lt 16777216 (length input) then Err refusal.InputTooLo
 abbrev pub history_text : Run → List ℕ
 history_text r = schedule_text (let s : Schedule = record { shape = r.shape; items = r.items } in s) ++ report_at r (length r.items)
 
--- The text is that of a run whose items are of the processes that are there, and those of each are a play of its script, of at most so
--- many turns.
+-- The text is that of a run of at most a million items, which are of the processes that are there; those of each are a play of its
+-- script, of at most so many turns.
 pub record IsLiveText (g : Setup) (limit : ℕ) (text : List ℕ) : Type 0 where
   pub items : List Item
   pub there : AreScripts g.scripts
-  pub fits : Fits (run_of (setting g) items)
+  pub fits : IsValidRun (run_of (setting g) items)
+  pub short : length items ≤ 1000000
   pub plays : (k : ℕ) → k < g.scripts.shape.n → IsPlay (script_at g.scripts.scripts k) (turns_of (setting g) (k + 1) items)
   pub few : (k : ℕ) → k < g.scripts.shape.n → length (turns_of (setting g) (k + 1) items) ≤ limit
   pub written : text ≡ history_text (run_of (setting g) items)

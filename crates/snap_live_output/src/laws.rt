@@ -1,11 +1,12 @@
 //! What is promised of live runs.
 ghost use Rattle.snap_live_output.specs.LiveRuns.{LiveRunsAreSnapshots};
 
-/// Every finished scan of a live run of a shipped listing answered the memory's values at one step between its call and its answer.
+use snap_promises::shipped_runs_keep_promises;
+
+/// What a live run of a shipped listing writes is the history of a run that keeps all that is promised of the listing: every
+/// finished scan answered the memory's values at one step between its call and its answer, and no call takes too many turns.
 pub fn live_runs_are_snapshots()
     ensures { LiveRunsAreSnapshots }
 {
-    snap_single::runs_are_snapshots();
-    snap_bounded::runs_are_snapshots();
-    snap_multi::runs_are_snapshots();
+    shipped_runs_keep_promises();
 }

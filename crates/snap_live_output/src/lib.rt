@@ -4,7 +4,7 @@
 mod fault;
 mod laws;
 mod output;
-mod playing;
+mod played_text;
 mod setup;
 mod written;
 

@@ -3,10 +3,10 @@ ghost use Rattle.std.specs.Prelude.{◌≡◌, ◌≤◌};
 ghost use Rattle.snap_live_output.specs.LiveOutput.{AnswersLive};
 
 use crate::fault::LiveRunFault;
-use crate::playing::play;
+use crate::played_text::play;
 use crate::setup::setup_of;
-use snap_input::Subject;
 use snap_live::Gate;
+use snap_tasks::Subject;
 use std::alloc::Global;
 use std::sync::Wait;
 use std::thread::Threads;

@@ -7,10 +7,11 @@ ghost use Rattle.snap_sched.specs.ScriptText.{AreScripts, scripts_of};
 ghost use Rattle.snap_live_output.specs.LiveOutput.{scripts_for, setup_for, setup_of, setup_text};
 ghost use Rattle.snap_input.specs.Parts.{parts_of};
 
-use snap_code::Program;
-use snap_input::{MAX_INPUT, Subject, parts_for, program_for, texts_for};
+use snap_asm_program::Program;
+use snap_input::{MAX_INPUT, parts_for, program_for, texts_for};
 use snap_sched::Scripts;
 use snap_semantics::{Fault, Refusal};
+use snap_tasks::Subject;
 use snap_words::{Bits, Kind, KindTag, Multi, Seq, Shape, WordFault};
 use std::alloc::Global;
 use std::marker::Model;
@@ -23,9 +24,9 @@ pub struct Setup {
 }
 
 impl Model for Setup {
-    ghost use Rattle.snap_live_output.specs.LiveOutput.{Setup as Seen};
+    ghost use Rattle.snap_live_output.specs.LiveOutput.{Setup};
 
-    ghost Value = { Seen };
+    ghost Value = { Setup };
 
     ghost view = { λ s. record { source = s.program; scripts = s.scripts } };
 }

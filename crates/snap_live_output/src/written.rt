@@ -54,7 +54,7 @@ fn schedule_of<K: Kind>(alloc: Global, record: &Record<K>) -> Result<Schedule, A
 {
     let items = items_of(alloc, record.items())?;
     let shape = record.machine().shape();
-    let _fits = items.runs();
+    let _fits = items.segments();
     let _count = shape.n();
     Ok(Schedule::new(shape, items))
 }

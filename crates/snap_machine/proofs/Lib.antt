@@ -2,5 +2,5 @@ pub mod Found
 pub mod Numbered
 pub mod Kept
 pub mod Replicas
-pub mod Stands
+pub mod Configurations
 pub mod Steps

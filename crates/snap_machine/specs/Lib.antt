@@ -1,2 +1,2 @@
-pub mod Reading
-pub mod Standing
+pub mod SeenContents
+pub mod Configuration

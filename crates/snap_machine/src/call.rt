@@ -4,28 +4,28 @@ ghost use Rattle.snap_words.specs.Shape.{IsOneOf};
 ghost use Rattle.snap_semantics.specs.Table.{call_skip, done, entry, owner_skip};
 ghost use Rattle.snap_semantics.specs.declared.process.Item.TheVariants as item;
 ghost use Rattle.snap_values.specs.Seen.{seen_process, seen_state};
-ghost use Rattle.snap_lines.specs.Sizes.{AllSized};
+ghost use Rattle.snap_line_effects.specs.Sizes.{AllSized};
 
+use snap_listing_core::Listing;
 use snap_regs::Registers;
 use snap_semantics::{Activity, Op, Outcome, Reason, Status};
-use snap_source::Listing;
-use snap_values::Process;
+use snap_values::SlotProcess;
 use snap_words::{Kind, KindTag, Shape};
 
 /// A call of process i.
 pub fn call<K: Kind>(
     listing: &Listing,
     registers: &Registers<K>,
-    processes: &mut [Process<K>],
+    processes: &mut [SlotProcess<K>],
     i: u32,
     op: Op,
 ) -> Outcome
     requires process { IsOneOf (length processes.old) i }
-    requires sized { AllSized listing.now registers.now.shape (map (seen_process K.parts listing.now) processes.old) }
+    requires sized { AllSized listing.now registers.now.shape (map (seen_process K.as_word listing.now) processes.old) }
     ensures done { done listing.now registers.now.shape
-        (seen_state K.parts listing.now registers.now.memory processes.old) (item.Call i op)
-        ≡ (seen_state K.parts listing.now registers.now.memory processes.new, result) }
-    ensures sized { AllSized listing.now registers.now.shape (map (seen_process K.parts listing.now) processes.new) }
+        (seen_state K.as_word listing.now registers.now.memory processes.old) (item.Call i op)
+        ≡ (seen_state K.as_word listing.now registers.now.memory processes.new, result) }
+    ensures sized { AllSized listing.now registers.now.shape (map (seen_process K.as_word listing.now) processes.new) }
 {
     let shape = registers.shape();
     let k = (i - 1) as usize;
@@ -53,15 +53,15 @@ pub fn call<K: Kind>(
 pub fn crash<K: Kind>(
     listing: &Listing,
     registers: &Registers<K>,
-    processes: &mut [Process<K>],
+    processes: &mut [SlotProcess<K>],
     i: u32,
 ) -> Outcome
     requires process { IsOneOf (length processes.old) i }
-    requires sized { AllSized listing.now registers.now.shape (map (seen_process K.parts listing.now) processes.old) }
+    requires sized { AllSized listing.now registers.now.shape (map (seen_process K.as_word listing.now) processes.old) }
     ensures done { done listing.now registers.now.shape
-        (seen_state K.parts listing.now registers.now.memory processes.old) (item.Crash i)
-        ≡ (seen_state K.parts listing.now registers.now.memory processes.new, result) }
-    ensures sized { AllSized listing.now registers.now.shape (map (seen_process K.parts listing.now) processes.new) }
+        (seen_state K.as_word listing.now registers.now.memory processes.old) (item.Crash i)
+        ≡ (seen_state K.as_word listing.now registers.now.memory processes.new, result) }
+    ensures sized { AllSized listing.now registers.now.shape (map (seen_process K.as_word listing.now) processes.new) }
 {
     let k = (i - 1) as usize;
     let process = &mut processes[k];

@@ -3,7 +3,7 @@ ghost use Rattle.std.specs.Prelude.{◌≡◌, IfOk, map, vec_items};
 ghost use Rattle.snap_semantics.specs.Source.{Source};
 ghost use Rattle.snap_values.specs.Seen.{seen_process};
 
-use snap_values::Process;
+use snap_values::SlotProcess;
 use snap_words::{Kind, copy_views, copy_words};
 use std::alloc::{AllocError, Global};
 
@@ -23,8 +23,8 @@ fn copy_word_rows<K: Kind>(
     alloc: Global,
     rows: &[Vec<K::Word>],
 ) -> Result<Vec<Vec<K::Word>>, AllocError>
-    ensures { IfOk result (λ v. map (λ xs. map K.parts xs.items) v.items
-        ≡ map (λ xs. map K.parts xs.items) rows.now) }
+    ensures { IfOk result (λ v. map (λ xs. map K.as_word xs.items) v.items
+        ≡ map (λ xs. map K.as_word xs.items) rows.now) }
 {
     let mut copies = Vec::new(alloc);
     for row in rows {
@@ -34,10 +34,13 @@ fn copy_word_rows<K: Kind>(
 }
 
 /// An equal process.
-fn copy_process<K: Kind>(alloc: Global, process: &Process<K>) -> Result<Process<K>, AllocError>
-    ensures { IfOk result (λ p. (s : Source) → seen_process K.parts s p ≡ seen_process K.parts s process.now) }
+fn copy_process<K: Kind>(
+    alloc: Global,
+    process: &SlotProcess<K>,
+) -> Result<SlotProcess<K>, AllocError>
+    ensures { IfOk result (λ p. (s : Source) → seen_process K.as_word s p ≡ seen_process K.as_word s process.now) }
 {
-    Ok(Process {
+    Ok(SlotProcess {
         status: process.status,
         scalars: Vec::from_slice(alloc, process.scalars.as_slice())?,
         rows: copy_rows(alloc, process.rows.as_slice())?,
@@ -49,10 +52,10 @@ fn copy_process<K: Kind>(alloc: Global, process: &Process<K>) -> Result<Process<
 /// Equal processes.
 pub fn copy_processes<K: Kind>(
     alloc: Global,
-    processes: &[Process<K>],
-) -> Result<Vec<Process<K>>, AllocError>
+    processes: &[SlotProcess<K>],
+) -> Result<Vec<SlotProcess<K>>, AllocError>
     ensures { IfOk result (λ v. (s : Source) →
-        map (seen_process K.parts s) v.items ≡ map (seen_process K.parts s) processes.now) }
+        map (seen_process K.as_word s) v.items ≡ map (seen_process K.as_word s) processes.now) }
 {
     let mut copies = Vec::new(alloc);
     for process in processes {

@@ -5,9 +5,9 @@ ghost use Rattle.snap_words.specs.Shape.{places};
 ghost use Rattle.snap_semantics.specs.State.{initial_process};
 ghost use Rattle.snap_values.specs.Seen.{seen_process};
 
+use snap_listing_core::Listing;
 use snap_semantics::Status;
-use snap_source::Listing;
-use snap_values::{Process, places};
+use snap_values::{SlotProcess, places};
 use snap_words::{Kind, Shape, View};
 use std::alloc::{AllocError, Global};
 
@@ -21,7 +21,7 @@ fn zeros(alloc: Global, count: u64) -> Result<Vec<u64>, AllocError>
 /// Words that nobody has written.
 #[tactic(auto, using(crate::proofs::Replicas::one_more))]
 fn new_words<K: Kind>(alloc: Global, shape: Shape, count: u64) -> Result<Vec<K::Word>, AllocError>
-    ensures { IfOk result (λ v. map K.parts v.items ≡ replicate count (initial_word K.TAG shape)) }
+    ensures { IfOk result (λ v. map K.as_word v.items ≡ replicate count (initial_word K.TAG shape)) }
 {
     let mut words = Vec::new(alloc);
     for _k in 0..count {
@@ -49,7 +49,7 @@ fn new_word_rows<K: Kind>(
     shape: Shape,
     count: usize,
 ) -> Result<Vec<Vec<K::Word>>, AllocError>
-    ensures { IfOk result (λ v. map (λ xs. map K.parts xs.items) v.items
+    ensures { IfOk result (λ v. map (λ xs. map K.as_word xs.items) v.items
         ≡ replicate count (replicate (places shape) (initial_word K.TAG shape))) }
 {
     let mut rows = Vec::new(alloc);
@@ -76,11 +76,11 @@ fn new_process<K: Kind>(
     alloc: Global,
     listing: &Listing,
     shape: Shape,
-) -> Result<Process<K>, AllocError>
+) -> Result<SlotProcess<K>, AllocError>
     requires { listing.now.kind ≡ K.TAG }
-    ensures { IfOk result (λ p. seen_process K.parts listing.now p ≡ initial_process listing.now shape) }
+    ensures { IfOk result (λ p. seen_process K.as_word listing.now p ≡ initial_process listing.now shape) }
 {
-    Ok(Process {
+    Ok(SlotProcess {
         status: Status::Idle,
         scalars: zeros(alloc, listing.scalars().len() as u64)?,
         rows: new_rows(alloc, shape, listing.rows().len())?,
@@ -95,9 +95,9 @@ pub fn new_processes<K: Kind>(
     alloc: Global,
     listing: &Listing,
     shape: Shape,
-) -> Result<Vec<Process<K>>, AllocError>
+) -> Result<Vec<SlotProcess<K>>, AllocError>
     requires { listing.now.kind ≡ K.TAG }
-    ensures { IfOk result (λ v. map (seen_process K.parts listing.now) v.items
+    ensures { IfOk result (λ v. map (seen_process K.as_word listing.now) v.items
         ≡ replicate shape.n (initial_process listing.now shape)) }
 {
     let mut processes = Vec::new(alloc);

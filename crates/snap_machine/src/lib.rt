@@ -2,13 +2,13 @@
 #![tactic(auto)]
 
 mod call;
+mod contents;
 mod copies;
 mod fresh;
 mod machine;
-mod reading;
 mod step;
 
+pub use contents::{Contents, Local};
 pub use machine::Machine;
-pub use reading::{Contents, Local};
 pub use snap_regs::RegisterFault;
 pub use snap_undo::Undo;

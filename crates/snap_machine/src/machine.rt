@@ -14,20 +14,20 @@ ghost use Rattle.snap_semantics.specs.State.{initial, process_at, values};
 ghost use Rattle.snap_semantics.specs.Table.{done, who};
 ghost use Rattle.snap_regs.specs.Store.{IsOfShape};
 ghost use Rattle.snap_regs.specs.declared.fault.RegisterFault.TheVariants.{Index};
-ghost use Rattle.snap_machine.specs.Reading.{local_at, seen_contents, seen_local, seen_named, value_there};
+ghost use Rattle.snap_machine.specs.SeenContents.{local_at, seen_contents, seen_local, seen_named, value_there};
 ghost use Rattle.snap_undo.specs.Undo.{CanPut, put};
 ghost use Rattle.snap_values.specs.Seen.{seen_locals};
 
 use crate::call::{call, crash};
+use crate::contents::{Contents, Local};
 use crate::copies::copy_processes;
 use crate::fresh::new_processes;
-use crate::reading::{Contents, Local};
 use crate::step::step;
-use snap_code::Program;
+use snap_asm_program::Program;
 use snap_regs::{RegisterFault, Registers};
 use snap_semantics::{Activity, BitBank, Item, Name, Op, Outcome, Sort, Status};
 use snap_undo::{Undo, overwritten, revert};
-use snap_values::Process;
+use snap_values::SlotProcess;
 use snap_words::{Address, Bank, Field, Kind, Shape, View, field_of};
 use std::alloc::{AllocError, Global};
 use std::marker::Model;
@@ -38,23 +38,23 @@ pub struct Machine<K: Kind> {
     alloc: Global,
     program: Program,
     registers: Registers<K>,
-    processes: Vec<Process<K>>,
+    processes: Vec<SlotProcess<K>>,
 }
 
 impl<K: Kind> Model for Machine<K> {
-    ghost use Rattle.snap_machine.specs.Standing.{Standing, Stands};
+    ghost use Rattle.snap_machine.specs.Configuration.{Configuration, IsConfiguration};
 
-    ghost Value = { Standing };
+    ghost Value = { Configuration };
 
     ghost use Rattle.snap_values.specs.Seen.{seen_state};
 
     ghost view = { λ m. record {
       source = m.program;
       shape = m.registers.shape;
-      state = seen_state K.parts m.program m.registers.memory m.processes.items;
+      state = seen_state K.as_word m.program m.registers.memory m.processes.items;
     } };
 
-    ghost invariant = { λ m. Stands K.TAG K.parts m.program m.registers.shape m.processes.items };
+    ghost invariant = { λ m. IsConfiguration K.TAG K.as_word m.program m.registers.shape m.processes.items };
 }
 
 impl<K: Kind> Machine<K> {
@@ -240,7 +240,7 @@ impl<K: Kind> Machine<K> {
     /// What a register has.
     pub fn register(&self, address: Address) -> Result<Contents<'_, K>, RegisterFault>
         ensures { let read = contents self.now.state.memory address.bank address.i address.j in
-            MatchResult result (λ c. read ≡ Some (seen_contents K.parts c)) (λ e. (e ≡ Index) × (read ≡ None)) }
+            MatchResult result (λ c. read ≡ Some (seen_contents K.as_word c)) (λ e. (e ≡ Index) × (read ≡ None)) }
     {
         match address.bank {
             Bank::R => {
@@ -265,7 +265,7 @@ impl<K: Kind> Machine<K> {
     /// The value of a local, if there is one of this name.
     pub fn local(&self, i: u32, name: Name) -> Option<Local<'_, K>>
         requires { IsOneOf self.now.shape.n i }
-        ensures { option_map (seen_local K.parts) result ≡ local_value (process_at self.now.state i).locals name }
+        ensures { option_map (seen_local K.as_word) result ≡ local_value (process_at self.now.state i).locals name }
     {
         let process = &self.processes[(i - 1) as usize];
         find_local(&self.program, process, name)
@@ -274,7 +274,7 @@ impl<K: Kind> Machine<K> {
     /// The name and the value of local `k` of a sort, counted from 0 in the order of declaration.
     pub fn local_at(&self, i: u32, sort: Sort, k: usize) -> Option<(Name, Local<'_, K>)>
         requires { IsOneOf self.now.shape.n i }
-        ensures value { option_map (seen_named K.parts) result ≡ local_at (process_at self.now.state i).locals sort k }
+        ensures value { option_map (seen_named K.as_word) result ≡ local_at (process_at self.now.state i).locals sort k }
         ensures few { OnSome result (k < 32) }
     {
         let process = &self.processes[(i - 1) as usize];
@@ -296,10 +296,10 @@ fn check_lone(j: u64) -> Result<(), RegisterFault>
 /// The value of a local of a process, if there is one of this name.
 fn find_local<'a, K: Kind>(
     program: &Program,
-    process: &'a Process<K>,
+    process: &'a SlotProcess<K>,
     name: Name,
 ) -> Option<Local<'a, K>>
-    ensures { option_map (seen_local K.parts) result ≡ local_value (seen_locals K.parts program.now process.now) name }
+    ensures { option_map (seen_local K.as_word) result ≡ local_value (seen_locals K.as_word program.now process.now) name }
 {
     let (sort, k) = program.place(name)?;
     local_there(process, sort, k)
@@ -308,11 +308,11 @@ fn find_local<'a, K: Kind>(
 /// The name and the value of a local of a process, at a place among those of a sort.
 fn named_local<'a, K: Kind>(
     program: &Program,
-    process: &'a Process<K>,
+    process: &'a SlotProcess<K>,
     sort: Sort,
     k: usize,
 ) -> Option<(Name, Local<'a, K>)>
-    ensures value { option_map (seen_named K.parts) result ≡ local_at (seen_locals K.parts program.now process.now) sort k }
+    ensures value { option_map (seen_named K.as_word) result ≡ local_at (seen_locals K.as_word program.now process.now) sort k }
     ensures few { OnSome result (k < 32) }
 {
     let name = program.name(sort, k)?;
@@ -321,8 +321,12 @@ fn named_local<'a, K: Kind>(
 }
 
 /// The value of the local at a place among those of a sort.
-fn local_there<'a, K: Kind>(process: &'a Process<K>, sort: Sort, k: usize) -> Option<Local<'a, K>>
-    ensures { option_map (seen_local K.parts) result ≡ value_there K.parts process.now sort k }
+fn local_there<'a, K: Kind>(
+    process: &'a SlotProcess<K>,
+    sort: Sort,
+    k: usize,
+) -> Option<Local<'a, K>>
+    ensures { option_map (seen_local K.as_word) result ≡ value_there K.as_word process.now sort k }
 {
     match sort {
         Sort::Scalar => Some(Local::Number(*process.scalars.get(k)?)),

@@ -1,2 +1,1 @@
-pub mod TextOfM
 pub mod Samples

@@ -3,7 +3,7 @@ use Rattle.std.specs.Prelude.{◌≡◌, ℕ, List, [], ◌∷◌, ◌++◌, Som
 use Rattle.std.proofs.Common.{arith, inl, inr}
 use Rattle.snap_semantics.specs.declared.process.Item.{Item}
 use Rattle.snap_semantics.specs.declared.process.Item.TheVariants.{Step, Call}
-use Rattle.snap_semantics.specs.declared.process.Op.TheVariants.{Scan as ScanOp, Update}
+use Rattle.snap_semantics.specs.declared.process.Op.TheVariants.{Scan, Update}
 use Rattle.snap_semantics.specs.declared.process.Outcome.TheVariants.{Finished}
 use Rattle.snap_semantics.specs.State.{values, process_at}
 use Rattle.snap_runs.specs.Run.{state, before, outcome}
@@ -19,7 +19,7 @@ times count i = replicate count (Step i)
 
 -- Two processes and one word: process 2 updates it, and then process 1 scans.
 abbrev pub update_then_scan : List Item
-update_then_scan = Call 2 (Update 1 5) ∷ times 40 2 ++ Call 1 ScanOp ∷ times 28 1
+update_then_scan = Call 2 (Update 1 5) ∷ times 40 2 ++ Call 1 Scan ∷ times 28 1
 
 embedded_starts : Starts (run_of 2 1 update_then_scan) 2 9 (Some 55)
 embedded_starts = (refl, tt, refl, refl)
@@ -51,7 +51,7 @@ second_word_is = refl
 -- the scan borrows the view that process 2 put with the third update, which is what the second one wrote.
 abbrev pub scan_borrows : List Item
 scan_borrows =
-    Call 1 ScanOp ∷ times 13 1 ++ Call 2 (Update 1 5) ∷ times 40 2 ++ times 28 1 ++ Call 2 (Update 1 6) ∷ times 40 2 ++ times 28 1
+    Call 1 Scan ∷ times 13 1 ++ Call 2 (Update 1 5) ∷ times 40 2 ++ times 28 1 ++ Call 2 (Update 1 6) ∷ times 40 2 ++ times 28 1
     ++ Call 2 (Update 1 7) ∷ times 40 2 ++ times 19 1
 
 borrows_ends : Starts (run_of 2 1 scan_borrows) 1 1 None × Ends (run_of 2 1 scan_borrows) 1 212 None (6 ∷ [])

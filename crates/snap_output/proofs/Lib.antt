@@ -1,3 +1,2 @@
 pub mod Shipping
-pub mod ToTheEnd
 pub mod Schedules

@@ -1,42 +1,43 @@
--- What is written with a shipped listing, taken apart.
-use Rattle.std.proofs.Common.{◌≡◌, ℕ, true, List, [], ◌∷◌, Ok, length, nat_lt, refl, subst}
-use Rattle.std.specs.Prelude.{codes}
+-- What is written for an input, taken apart: of which run it is.
+use Rattle.std.proofs.Common.{◌≡◌, ℕ, true, List, [], ◌∷◌, Ok, length, nat_lt, ◌≤◌, refl, subst, sym, ◌∙◌, arith}
+use Rattle.std.proofs.lemmas.Bool.{eq-eqb, le-ltb}
+use Rattle.std.specs.Prelude.{Result, codes, map}
 use Rattle.snap_words.specs.Kind.{fits}
 use Rattle.snap_words.specs.declared.shape.WordFault.TheVariants.{BadShape}
 use Rattle.snap_words.specs.declared.kind.KindTag.{KindTag}
 use Rattle.snap_words.specs.declared.kind.KindTag.TheVariants as kind
 use Rattle.snap_semantics.specs.Answers.{refused_as}
-use Rattle.snap_semantics.specs.Assembly.{assembled}
+use Rattle.snap_image_format.specs.Assembly.{assembled}
 use Rattle.snap_semantics.specs.Comments.{commented_of}
-use Rattle.snap_semantics.specs.Image.{image_of}
+use Rattle.snap_image_format.specs.Image.{image_of}
 use Rattle.snap_semantics.specs.Schedule.{Schedule, schedule_of}
-use Rattle.snap_semantics.specs.ScheduleText.{IsSchedule}
 use Rattle.snap_semantics.specs.Source.{Source}
+use Rattle.snap_semantics.specs.declared.process.Item.{Item}
+use Rattle.snap_semantics.specs.declared.refusal.Refusal.{Refusal}
 use Rattle.snap_semantics.specs.declared.refusal.Refusal.TheVariants as refusal
 use Rattle.snap_asm.specs.Laws.{ListsBack}
 use Rattle.snap_sched.specs.Laws.{ReadsOnlySpelled}
-use Rattle.snap_runs.specs.Run.{Run}
-use Rattle.snap_runs_of_u.specs.Promises as u
-use Rattle.snap_runs_of_b.specs.Promises as b
-use Rattle.snap_runs_of_m.specs.Promises as m
-use Rattle.snap_record.specs.Record.{run_over}
+use Rattle.snap_runs.specs.Run.{run_over}
+use Rattle.snap_promises.specs.Kept.{NumbersSuffice, RunsKeepPromises}
 use Rattle.snap_record.proofs.Within.{run_fits}
 use Rattle.snap_audit.specs.VerdictText.{audit_text}
-use Rattle.snap_debug.specs.Commands.{commands_of}
+use Rattle.snap_batch.specs.Reports.{reports_text}
+use Rattle.snap_runner.specs.End.{end_report}
+use Rattle.snap_debug_commands.specs.Commands.{commands_of}
 use Rattle.snap_debug.specs.Session.{performance}
-use Rattle.snap_debug.specs.declared.command.Command.{Command}
-use Rattle.snap_debug.specs.declared.command.Command.TheVariants as command
+use Rattle.snap_debug_commands.specs.declared.command.Command.{Command}
+use Rattle.snap_debug_commands.specs.declared.command.Command.TheVariants as command
 use Rattle.snap_input.proofs.Answered.{both, not_refused, passed, same_answer, within}
-use Rattle.snap_input.proofs.Parting.{of_texts}
-use Rattle.snap_output.specs.Headline.{PrintsTheRun, ListsBackAsSource, ShippedRun, WritesShippedRuns}
-use Rattle.snap_input.specs.Input.{shipped}
-use Rattle.snap_output.specs.Output.{audit_listing, of_task, output_of}
+use Rattle.snap_output.specs.Headline.{PrintsTheRun, ListsBackAsSource, AsksFor, IsScheduleFor, AreSchedulesFor, RunsWhatIsAsked, WritesTheRun, SnapshotListingsAreSnapshots, texts_in}
+use Rattle.snap_shipped.specs.Shipped.{shipped}
+use Rattle.snap_input.specs.Input.{checked_parts, listing_for, parted, texts_for}
+use Rattle.snap_output.specs.Output.{audit_listing, batch_text, batched, checked_schedules, debug_text, of_task, output_of, run_text, schedules_for, verdicts_text}
 use Rattle.snap_input.specs.Parts.{part, parts_of}
-use Rattle.snap_output.proofs.ToTheEnd.{is_run}
-use Rattle.snap_output.specs.Perform.{fitting, perform_listing, perform_of, schedule_for}
-use Rattle.snap_input.specs.declared.subject.Subject.TheVariants.{Shipped}
-use Rattle.snap_output.specs.declared.task.Task.{Task}
-use Rattle.snap_output.specs.declared.task.Task.TheVariants as task
+use Rattle.snap_perform.proofs.ToTheEnd.{is_run}
+use Rattle.snap_perform.specs.Perform.{fitting, perform_listing, perform_of, schedule_for}
+use Rattle.snap_tasks.specs.declared.subject.Subject.{Subject}
+use Rattle.snap_tasks.specs.declared.task.Task.{Task}
+use Rattle.snap_tasks.specs.declared.task.Task.TheVariants as task
 
 pub prints_the_run : PrintsTheRun
 unfolding perform_of perform_listing schedule_for
@@ -44,10 +45,11 @@ prints_the_run x y z l s cs is_listing is_schedule fit are_commands = rw (is_lis
 
 pub lists_back : ListsBack → ListsBackAsSource
 unfolding assembled
-lists_back law x image e = let from = both (commented_of x) (λ l. Ok (image_of l)) image e in (from.0, from.1, (law x image from.0 from.1 e).0)
+lists_back law x image e =
+    let from = both (commented_of x) (λ l. Ok (image_of l)) image e in (from.0, from.1, (law x image from.0 from.1 e).0)
 
 -- the schedule that a text is, of a shape that fits
-schedule_from : (l : Source) (y : List ℕ) (s : Schedule) → schedule_for l y ≡ Ok s → (schedule_of y ≡ Ok s) × (fits l.kind s.shape ≡ true)
+schedule_from : (l : Source) (y : List ℕ) (s : Schedule) → schedule_for l y ≡ Ok s → IsScheduleFor l y s
 unfolding schedule_for
 schedule_from l y s e =
     let read = both (refused_as refusal.Schedule (schedule_of y)) (fitting l) s e in
@@ -56,56 +58,138 @@ schedule_from l y s e =
       subst (λ (x : Schedule). fits l.kind x.shape ≡ true) fit.1 fit.0,
     )
 
-only_run : (r : Run) (cs : List Command) (text : List ℕ) → commands_of (codes "run\n") ≡ Ok cs → text ≡ performance r cs → text ≡ performance r (command.Run ∷ [])
-only_run r cs text read e =
-    subst (λ (asked : List Command). text ≡ performance r asked) (same_answer (commands_of (codes "run\n")) (command.Run ∷ []) cs is_run read) e
+-- and those that texts are, one for one
+schedules_from : (l : Source) (texts : List (List ℕ)) (ss : List Schedule) → schedules_for l texts ≡ Ok ss → AreSchedulesFor l texts ss
+schedules_from l [] ss e =
+    let none : List Schedule = [] in
+    subst (λ xs. AreSchedulesFor l [] xs) (sym (same_answer (schedules_for l []) none ss refl e)) tt
+schedules_from l (text ∷ texts) ss e =
+    let first = both (schedule_for l text) _ ss e in
+    let rest = both (schedules_for l texts) _ ss first.2 in
+    let all : List Schedule = first.0 ∷ rest.0 in
+    let answer : Result (List Schedule) Refusal = Ok all in
+    subst (λ xs. AreSchedulesFor l (text ∷ texts) xs) (sym (same_answer answer all ss refl rest.2))
+    (schedule_from l text first.0 first.1, schedules_from l texts rest.0 rest.1)
 
--- the promises of the three listings
-module _ (of_u : u.RunsAreSnapshots) (of_b : b.RunsAreSnapshots) (of_m : m.RunsAreSnapshots) (reads : ReadsOnlySpelled) where
-  shipped_run : (g : KindTag) (s : Schedule) → IsSchedule s → fits (shipped g).kind s.shape ≡ true → ShippedRun g (run_over (shipped g) s)
-  shipped_run kind.Seq s h fit = record { schedule = s; is = refl; fits = run_fits (shipped kind.Seq) s h; is_snapshot = of_u s.shape s.items h.shape fit }
-  shipped_run kind.Bits s h fit = record { schedule = s; is = refl; fits = run_fits (shipped kind.Bits) s h; is_snapshot = of_b s.shape s.items h.shape fit }
-  shipped_run kind.Multi s h fit = record { schedule = s; is = refl; fits = run_fits (shipped kind.Multi) s h; is_snapshot = of_m s.shape s.items h.shape fit }
+-- what is performed
+performed : (l : Source) (y z text : List ℕ) → perform_listing l y z ≡ Ok text →
+    (s : Schedule) × (cs : List Command) × IsScheduleFor l y s × (commands_of z ≡ Ok cs) × (text ≡ performance (run_over l s) cs)
+unfolding perform_listing
+performed l y z text e =
+    let read = both (schedule_for l y) _ text e in
+    let asked = both (refused_as refusal.Commands (commands_of z)) _ text read.2 in (
+      read.0,
+      asked.0,
+      schedule_from l y read.0 read.1,
+      not_refused refusal.Commands (commands_of z) asked.0 asked.1,
+      same_answer (Ok (performance (run_over l read.0) asked.0)) (performance (run_over l read.0) asked.0) text refl asked.2,
+    )
 
-  -- that of the schedule that a text is
-  run_from : (g : KindTag) (y : List ℕ) (s : Schedule) → schedule_for (shipped g) y ≡ Ok s → ShippedRun g (run_over (shipped g) s)
-  run_from g y s e = let from = schedule_from (shipped g) y s e in shipped_run g s (reads y s from.0).1 from.1
+-- by the one command `run`
+only_run : (l : Source) (s : Schedule) (cs : List Command) (text : List ℕ) → commands_of (codes "run\n") ≡ Ok cs →
+    text ≡ performance (run_over l s) cs → text ≡ performance (run_over l s) (command.Run ∷ [])
+only_run l s cs text read e =
+    subst (λ (asked : List Command). text ≡ performance (run_over l s) asked)
+    (same_answer (commands_of (codes "run\n")) (command.Run ∷ []) cs is_run read) e
 
-  -- what is performed
-  performed : (g : KindTag) (y z text : List ℕ) → perform_listing (shipped g) y z ≡ Ok text →
-      (r : Run) × (cs : List Command) × ShippedRun g r × (commands_of z ≡ Ok cs) × (text ≡ performance r cs)
+audited : (l : Source) (y text : List ℕ) → audit_listing l y ≡ Ok text → (s : Schedule) × IsScheduleFor l y s × (text ≡ audit_text (run_over l s))
+unfolding audit_listing
+audited l y text e =
+    let read = both (schedule_for l y) _ text e in (
+      read.0,
+      schedule_from l y read.0 read.1,
+      same_answer (Ok (audit_text (run_over l read.0))) (audit_text (run_over l read.0)) text refl read.2,
+    )
+
+reported : (l : Source) (texts : List (List ℕ)) (text : List ℕ) → batch_text l texts ≡ Ok text →
+    (ss : List Schedule) × AreSchedulesFor l texts ss × (text ≡ reports_text 1 (map (end_report l) ss))
+unfolding batch_text
+reported l texts text e =
+    let read = both (schedules_for l texts) _ text e in (
+      read.0,
+      schedules_from l texts read.0 read.1,
+      same_answer (Ok (reports_text 1 (map (end_report l) read.0))) (reports_text 1 (map (end_report l) read.0)) text refl read.2,
+    )
+
+-- the output is that of the parts
+of_parts : (t : Task) (input text : List ℕ) → output_of t input ≡ Ok text → of_task t input ≡ Ok text
+unfolding output_of
+of_parts t input text e = within (nat_lt 16777216 (length input)) refusal.InputTooLong (of_task t input) text e
+
+-- and what is found of parts is found of the listing and the texts after it
+of_listing : (s : Subject) (count : ℕ) (parts : List (List ℕ)) (f : Source → List (List ℕ) → Result (List ℕ) Refusal) (text : List ℕ) →
+    parted s count parts f ≡ Ok text → (l : Source) × (listing_for s parts ≡ Ok l) × (f l (texts_for s parts) ≡ Ok text)
+unfolding parted
+of_listing s count parts f text e =
+    let counted = both (checked_parts s count parts) _ text e in both (listing_for s parts) _ text counted.2
+
+of_batch : (s : Subject) (parts : List (List ℕ)) (text : List ℕ) → batched s parts ≡ Ok text →
+    (l : Source) × (listing_for s parts ≡ Ok l) × (batch_text l (texts_for s parts) ≡ Ok text)
+unfolding batched
+of_batch s parts text e =
+    let counted = both (checked_schedules s parts) _ text e in both (listing_for s parts) _ text counted.2
+
+pub writes_the_run : (subject : Subject) (input text : List ℕ) → WritesTheRun subject input text
+writes_the_run s input text = record {
+  runs = λ e.
+      let of = of_listing s 1 (parts_of input) run_text text (of_parts (task.Run s) input text e) in
+      let found = performed of.0 (part 0 (texts_in s input)) (codes "run\n") text of.2 in
+      (of.0, found.0, record { listing = of.1; schedule = found.2 }, only_run of.0 found.0 found.1 text found.3 found.4);
+  debugs = λ e.
+      let of = of_listing s 2 (parts_of input) debug_text text (of_parts (task.Debug s) input text e) in
+      let found = performed of.0 (part 0 (texts_in s input)) (part 1 (texts_in s input)) text of.2 in
+      (of.0, found.0, found.1, record { listing = of.1; schedule = found.2 }, found.3, found.4);
+  audits = λ e.
+      let of = of_listing s 1 (parts_of input) verdicts_text text (of_parts (task.Audit s) input text e) in
+      let found = audited of.0 (part 0 (texts_in s input)) text of.2 in
+      (of.0, found.0, record { listing = of.1; schedule = found.1 }, found.2);
+  batches = λ e.
+      let of = of_batch s (parts_of input) text (of_parts (task.Batch s) input text e) in
+      let found = reported of.0 (texts_in s input) text of.2 in
+      (of.0, found.0, of.1, found.1, found.2);
+}
+
+-- what is asked for is run
+module _ (subject : Subject) (input : List ℕ) (l : Source) (s : Schedule) (short : length input ≤ 16777216) (asks : AsksFor subject input l s) where
+  -- a task on so many texts gives what it gives of the listing and these texts
+  given : (count : ℕ) (f : Source → List (List ℕ) → Result (List ℕ) Refusal) → length (texts_in subject input) ≡ count →
+      parted subject count (parts_of input) f ≡ f l (texts_in subject input)
+  unfolding parted
+  given count f counted = rw (eq-eqb (length (texts_in subject input)) count counted, asks.listing) refl
+
+  read : schedule_for l (part 0 (texts_in subject input)) ≡ Ok s
+  unfolding schedule_for
+  read = rw (asks.schedule.0, asks.schedule.1) refl
+
+  performs : (z : List ℕ) (cs : List Command) → commands_of z ≡ Ok cs →
+      perform_listing l (part 0 (texts_in subject input)) z ≡ Ok (performance (run_over l s) cs)
   unfolding perform_listing
-  performed g y z text e =
-      let read = both (schedule_for (shipped g) y) _ text e in
-      let asked = both (refused_as refusal.Commands (commands_of z)) _ text read.2 in (
-        run_over (shipped g) read.0,
-        asked.0,
-        run_from g y read.0 read.1,
-        not_refused refusal.Commands (commands_of z) asked.0 asked.1,
-        same_answer (Ok (performance (run_over (shipped g) read.0) asked.0)) (performance (run_over (shipped g) read.0) asked.0) text refl asked.2,
-      )
+  performs z cs are = rw (read, are) refl
 
-  audited : (g : KindTag) (y text : List ℕ) → audit_listing (shipped g) y ≡ Ok text → (r : Run) × ShippedRun g r × (text ≡ audit_text r)
+  audits : audit_listing l (part 0 (texts_in subject input)) ≡ Ok (audit_text (run_over l s))
   unfolding audit_listing
-  audited g y text e =
-      let read = both (schedule_for (shipped g) y) _ text e in (
-        run_over (shipped g) read.0,
-        run_from g y read.0 read.1,
-        same_answer (Ok (audit_text (run_over (shipped g) read.0))) (audit_text (run_over (shipped g) read.0)) text refl read.2,
-      )
+  audits = rw read refl
 
-  -- the output is that of the parts
-  of_parts : (t : Task) (input text : List ℕ) → output_of t input ≡ Ok text → of_task t input ≡ Ok text
+  whole : (t : Task) → output_of t input ≡ of_task t input
   unfolding output_of
-  of_parts t input text e = within (nat_lt 16777216 (length input)) refusal.InputTooLong (of_task t input) text e
+  whole t = rw (le-ltb 16777216 (length input) short) refl
 
-  pub shipped_runs : (g : KindTag) (input text : List ℕ) → WritesShippedRuns g input text
-  shipped_runs g input text = record {
-    runs = λ e.
-        let found = performed g (part 0 (parts_of input)) (codes "run\n") text (of_texts g 1 (parts_of input) _ text (of_parts (task.Run (Shipped g)) input text e)) in
-        (found.0, found.2, only_run found.0 found.1 text found.3 found.4);
-    debugs = λ e.
-        let found = performed g (part 0 (parts_of input)) (part 1 (parts_of input)) text (of_texts g 2 (parts_of input) _ text (of_parts (task.Debug (Shipped g)) input text e)) in
-        (found.0, found.1, found.2, found.4);
-    audits = λ e. audited g (part 0 (parts_of input)) text (of_texts g 1 (parts_of input) _ text (of_parts (task.Audit (Shipped g)) input text e));
+  pub runs_what_is_asked : RunsWhatIsAsked subject input l s
+  runs_what_is_asked = record {
+    runs = λ one. whole (task.Run subject) ∙ given 1 run_text one ∙ performs (codes "run\n") (command.Run ∷ []) is_run;
+    debugs = λ cs two are. whole (task.Debug subject) ∙ given 2 debug_text two ∙ performs (part 1 (texts_in subject input)) cs are;
+    audits = λ one. whole (task.Audit subject) ∙ given 1 verdicts_text one ∙ audits;
   }
+
+-- a schedule has fewer items than there are sequence numbers
+suffices : (g : KindTag) (items : List Item) → length items ≤ 1000000 → NumbersSuffice g items
+suffices kind.Seq items few = omega (arith, few)
+suffices kind.Bits items few = tt
+suffices kind.Multi items few = tt
+
+pub snapshots : ((g : KindTag) → RunsKeepPromises g) → ReadsOnlySpelled → SnapshotListingsAreSnapshots
+snapshots kept reads g text s is =
+    let h = (reads text s is.0).1 in record {
+      valid = run_fits (shipped g) s h;
+      promises = kept g s.shape s.items h.shape is.1 (suffices g s.items h.few);
+    }

@@ -1,4 +1,2 @@
-pub mod Perform
-pub mod Replies
 pub mod Output
 pub mod Headline

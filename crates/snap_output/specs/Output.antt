@@ -3,21 +3,21 @@ use Rattle.std.specs.Prelude.{ℕ, ◌&&◌, nat_le, nat_lt, List, [], ◌∷◌
 use Rattle.snap_semantics.specs.declared.refusal.Refusal.{Refusal}
 use Rattle.snap_semantics.specs.declared.refusal.Refusal.TheVariants as refusal
 use Rattle.snap_semantics.specs.Answers.{◌>>=◌, refused_as}
-use Rattle.snap_semantics.specs.Assembly.{assembled, listed, upgraded}
+use Rattle.snap_image_format.specs.Assembly.{assembled, listed, upgraded}
 use Rattle.snap_semantics.specs.Listing.{listing_of}
 use Rattle.snap_semantics.specs.Schedule.{Schedule}
 use Rattle.snap_semantics.specs.Source.{Source}
-use Rattle.snap_semantics.specs.Spelling.{kind_word}
-use Rattle.snap_record.specs.Record.{run_over}
+use Rattle.snap_semantics.specs.Spelling.{kind_keyword}
+use Rattle.snap_runs.specs.Run.{run_over}
 use Rattle.snap_audit.specs.VerdictText.{audit_text}
 use Rattle.snap_runner.specs.End.{end_report}
 use Rattle.snap_batch.specs.Reports.{reports_text}
 use Rattle.snap_input.specs.Input.{listing_for, parted, texts_for}
 use Rattle.snap_input.specs.Parts.{part, parts_of}
-use Rattle.snap_output.specs.Perform.{perform_listing, schedule_for}
-use Rattle.snap_input.specs.declared.subject.Subject.{Subject}
-use Rattle.snap_output.specs.declared.task.Task.{Task}
-use Rattle.snap_output.specs.declared.task.Task.TheVariants as task
+use Rattle.snap_perform.specs.Perform.{perform_listing, schedule_for}
+use Rattle.snap_tasks.specs.declared.subject.Subject.{Subject}
+use Rattle.snap_tasks.specs.declared.task.Task.{Task}
+use Rattle.snap_tasks.specs.declared.task.Task.TheVariants as task
 
 -- a schedule, with the one command `run`
 abbrev pub run_text : Source → List (List ℕ) → Result (List ℕ) Refusal
@@ -61,7 +61,7 @@ batched s parts = do
 
 -- `ok: KIND, K lines`
 abbrev pub check_line : Source → List ℕ
-check_line l = codes "ok: " ++ kind_word l.kind ++ codes ", " ++ decimal (length l.lines) ++ codes " lines\n"
+check_line l = codes "ok: " ++ kind_keyword l.kind ++ codes ", " ++ decimal (length l.lines) ++ codes " lines\n"
 
 -- what is said of a text that is a listing; the whole input is the text
 unfoldable pub check_of : List ℕ → Result (List ℕ) Refusal

@@ -2,6 +2,7 @@
 ghost use Rattle.snap_output.specs.Headline.{Headline};
 
 use snap_asm::what_is_assembled_lists_back;
+use snap_promises::shipped_runs_keep_promises;
 use snap_sched::reads_only_spelled;
 
 /// For every listing, schedule and debugger commands, what is printed is what the table of lines gives; what is assembled lists
@@ -12,7 +13,5 @@ pub fn headline()
 {
     what_is_assembled_lists_back();
     reads_only_spelled();
-    snap_single::runs_are_snapshots();
-    snap_bounded::runs_are_snapshots();
-    snap_multi::runs_are_snapshots();
+    shipped_runs_keep_promises();
 }

@@ -2,23 +2,22 @@
 ghost use Rattle.std.specs.Prelude.{◌≡◌, ◌≤◌, ◌<◌, Err, Ok, length, map};
 ghost use Rattle.snap_semantics.specs.Answers.{Answers};
 ghost use Rattle.snap_semantics.specs.declared.fault.Fault.TheVariants.{Refused};
-ghost use Rattle.snap_semantics.specs.declared.refusal.Refusal.{Refusal as Reason};
+ghost use Rattle.snap_semantics.specs.declared.refusal.Refusal.{Refusal};
 ghost use Rattle.snap_input.specs.Input.{checked_parts, parted, texts_for};
 ghost use Rattle.snap_input.specs.Parts.{parts_of};
 ghost use Rattle.snap_output.specs.Output.{batched, checked_schedules, debug_text, of_task, output_of, run_text, verdicts_text};
 
-use crate::auditing::audit_program;
-use crate::batching::batch_program;
-use crate::checking::check_of;
-use crate::performing::perform_program;
-use crate::running::run_program;
-use crate::task::Task;
-use snap_code::Program;
+use crate::audit_output::audit_program;
+use crate::batch_output::batch_program;
+use crate::check_output::check_of;
+use snap_asm_program::Program;
 use snap_input::{
-    MAX_INPUT, Subject, assemble, count_separators, count_texts, list, parts_for, program_for,
-    split_parts, texts_for, upgrade,
+    MAX_INPUT, assemble, count_separators, count_texts, list, parts_for, program_for, split_parts,
+    texts_for, upgrade,
 };
+use snap_perform::{perform_program, run_program};
 use snap_semantics::{Fault, Refusal};
+use snap_tasks::{Subject, Task};
 use std::alloc::Global;
 use std::thread::Threads;
 
@@ -52,7 +51,7 @@ fn run_texts(alloc: Global, program: &Program, texts: &[&[u8]]) -> Result<Vec<u8
 fn run(alloc: Global, subject: Subject, input: &[u8]) -> Result<Vec<u8>, Fault<Refusal>>
     requires { length input.now ≤ 16777216 }
     ensures output { Answers (λ out. out.items) result (parted subject 1 (parts_of input.now) run_text) }
-    ensures counted { (r : Reason) → checked_parts subject 1 (parts_of input.now) ≡ Err r → result ≡ Err (Refused r) }
+    ensures counted { (r : Refusal) → checked_parts subject 1 (parts_of input.now) ≡ Err r → result ≡ Err (Refused r) }
 {
     let parts = parts_for(alloc, subject, 1, input)?;
     let program = program_for(alloc, subject, parts.as_slice())?;
@@ -73,7 +72,7 @@ fn debug_texts(alloc: Global, program: &Program, texts: &[&[u8]]) -> Result<Vec<
 fn debug(alloc: Global, subject: Subject, input: &[u8]) -> Result<Vec<u8>, Fault<Refusal>>
     requires { length input.now ≤ 16777216 }
     ensures output { Answers (λ out. out.items) result (parted subject 2 (parts_of input.now) debug_text) }
-    ensures counted { (r : Reason) → checked_parts subject 2 (parts_of input.now) ≡ Err r → result ≡ Err (Refused r) }
+    ensures counted { (r : Refusal) → checked_parts subject 2 (parts_of input.now) ≡ Err r → result ≡ Err (Refused r) }
 {
     let parts = parts_for(alloc, subject, 2, input)?;
     let program = program_for(alloc, subject, parts.as_slice())?;
@@ -94,7 +93,7 @@ fn audit_texts(alloc: Global, program: &Program, texts: &[&[u8]]) -> Result<Vec<
 fn audit(alloc: Global, subject: Subject, input: &[u8]) -> Result<Vec<u8>, Fault<Refusal>>
     requires { length input.now ≤ 16777216 }
     ensures output { Answers (λ out. out.items) result (parted subject 1 (parts_of input.now) verdicts_text) }
-    ensures counted { (r : Reason) → checked_parts subject 1 (parts_of input.now) ≡ Err r → result ≡ Err (Refused r) }
+    ensures counted { (r : Refusal) → checked_parts subject 1 (parts_of input.now) ≡ Err r → result ≡ Err (Refused r) }
 {
     let parts = parts_for(alloc, subject, 1, input)?;
     let program = program_for(alloc, subject, parts.as_slice())?;
@@ -112,7 +111,7 @@ fn batch(
 ) -> Result<Vec<u8>, Fault<Refusal>>
     requires { length input.now ≤ 16777216 }
     ensures output { Answers (λ out. out.items) result (batched subject (parts_of input.now)) }
-    ensures counted { (r : Reason) → checked_schedules subject (parts_of input.now) ≡ Err r → result ≡ Err (Refused r) }
+    ensures counted { (r : Refusal) → checked_schedules subject (parts_of input.now) ≡ Err r → result ≡ Err (Refused r) }
 {
     check_schedules(subject, input)?;
     let parts = split_parts(alloc, input)?;

@@ -12,11 +12,11 @@ use Rattle.snap_output.specs.Output.{output_of}
 use Rattle.snap_live_output.specs.declared.fault.LiveRunFault.{LiveRunFault}
 use Rattle.snap_live_output.specs.declared.fault.LiveRunFault.TheVariants as run
 use Rattle.snap_live_output.specs.LiveOutput.{AnswersLive}
-use Rattle.snap_input.specs.declared.subject.Subject.{Subject}
-use Rattle.snap_program.specs.Conducts.{of_fault, of_live_fault, IsWhole, RefusesLive, RefusesTask, Takes, Reads, Sends, ConductsBy}
+use Rattle.snap_tasks.specs.declared.subject.Subject.{Subject}
+use Rattle.snap_program.specs.WholeRun.{of_fault, of_live_fault, IsWhole, RefusesLive, RefusesTask, Takes, Reads, Sends, ConductsBy}
 use Rattle.snap_program.specs.declared.fault.ConductFault.{ConductFault}
 use Rattle.snap_program.specs.declared.fault.ConductFault.TheVariants as fault
-use Rattle.snap_output.specs.declared.task.Task.{Task}
+use Rattle.snap_tasks.specs.declared.task.Task.{Task}
 
 -- no memory for what was read
 pub no_room : (answer : Result (Vec ℕ Global) ConductFault) (input : List ℕ) (before after : Option (List ℕ)) (failed : Bool)

@@ -10,9 +10,9 @@ use Rattle.snap_semantics.specs.declared.refusal.ScheduleRefusal.{ScheduleRefusa
 use Rattle.snap_semantics.specs.declared.refusal.ScheduleRefusal.TheVariants as schedule
 use Rattle.snap_semantics.specs.declared.refusal.Refusal.{Refusal}
 use Rattle.snap_semantics.specs.declared.refusal.Refusal.TheVariants as refusal
-use Rattle.snap_debug.specs.FaultText.{refusal_text as command_refusal_text}
-use Rattle.snap_live.specs.declared.refusal.LiveRefusal.{LiveRefusal}
-use Rattle.snap_live.specs.declared.refusal.LiveRefusal.TheVariants as live
+use Rattle.snap_debug_commands.specs.FaultText.{refusal_text as command_refusal_text}
+use Rattle.snap_live_desk.specs.declared.refusal.LiveRefusal.{LiveRefusal}
+use Rattle.snap_live_desk.specs.declared.refusal.LiveRefusal.TheVariants as live
 use Rattle.snap_program.specs.declared.fault.ConductFault.{ConductFault}
 use Rattle.snap_program.specs.declared.fault.ConductFault.TheVariants as fault
 

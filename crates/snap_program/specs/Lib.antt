@@ -1,4 +1,3 @@
-pub mod Asked
-pub mod Conducts
+pub mod WholeRun
 pub mod FaultText
-pub mod Status
+pub mod ExitStatus

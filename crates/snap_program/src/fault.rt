@@ -1,7 +1,7 @@
 //! Why a whole run did not write its output.
 ghost use Rattle.std.specs.Prelude.{◌≡◌};
-ghost use Rattle.snap_program.specs.Conducts.{of_fault, of_live_fault};
-ghost use Rattle.snap_program.specs.Status.{status_of};
+ghost use Rattle.snap_program.specs.WholeRun.{of_fault, of_live_fault};
+ghost use Rattle.snap_program.specs.ExitStatus.{fault_status};
 ghost use Rattle.snap_program.specs.declared.fault.ConductFault.TheVariants.{Memory};
 
 use snap_live::LiveRefusal;
@@ -28,8 +28,8 @@ pub enum ConductFault {
 }
 
 /// The status of a run that was refused or given up, or whose device failed.
-pub fn status_of(fault: &ConductFault) -> u8
-    ensures { result ≡ status_of fault.now }
+pub fn fault_status(fault: &ConductFault) -> u8
+    ensures { result ≡ fault_status fault.now }
 {
     match fault {
         ConductFault::Memory | ConductFault::Refused(_) | ConductFault::Live(_) => 1,

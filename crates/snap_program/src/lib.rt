@@ -1,24 +1,23 @@
-//! A whole run of the program: from a source of bytes to a sink.
+//! A whole run of the program: from a byte source to a byte sink.
 #![tactic(auto)]
 
-mod asked;
-mod conducting;
+mod byte_sink;
+mod byte_source;
 mod fault;
 mod fault_text;
-mod sink;
-mod source;
 mod standard;
+mod whole_run;
 
-pub use asked::{Asked, asked_of, kind_of};
-pub use conducting::{conduct, conduct_live, write_all};
-pub use fault::{ConductFault, status_of};
+pub use byte_sink::ByteSink;
+pub use byte_source::ByteSource;
+pub use fault::{ConductFault, fault_status};
 pub use fault_text::fault_line;
-pub use sink::Sink;
-pub use snap_input::{Subject, shipped, split_parts};
+pub use snap_input::{shipped, split_parts};
 pub use snap_live::{Gate, NoGate};
-pub use snap_output::{Task, perform};
-pub use source::Source;
+pub use snap_output::perform;
+pub use snap_tasks::{Request, Subject, Task, kind_of, request_of};
 pub use standard::Std;
+pub use whole_run::{conduct, conduct_live, write_all};
 
 /// The device failed.
 #[derive(Clone, Copy, Debug)]

@@ -12,10 +12,9 @@ use Rattle.snap_semantics.specs.declared.process.Item.{Item}
 use Rattle.snap_semantics.specs.declared.process.Item.TheVariants.{Step, Call, Crash}
 use Rattle.snap_semantics.specs.declared.process.Outcome.{Outcome}
 use Rattle.snap_semantics.specs.declared.process.Outcome.TheVariants as outcomes
-use Rattle.snap_runs.specs.Run.{Run, Fits, state, item, outcome}
+use Rattle.snap_runs.specs.Run.{Run, IsValidRun, state, item, outcome, events_of}
 use Rattle.snap_runs.proofs.Embedding.{next_state}
 use Rattle.snap_record.specs.History.{IsRising, IsWithin}
-use Rattle.snap_record.specs.Record.{events_of}
 use Rattle.snap_record.proofs.Histories.{join_all}
 
 -- the events of the items after item t
@@ -80,7 +79,7 @@ events_within s n S t u (x ∷ xs) all le =
     (events_within s n (done s n S x).0 (t + 1) u xs all.1 (omega (arith, le)))
 
 -- so is each event of a run
-pub all_within_run : (r : Run) → Fits r → AllByRecursion (IsWithin r.shape.n (length r.items)) (events_from r 0)
+pub all_within_run : (r : Run) → IsValidRun r → AllByRecursion (IsWithin r.shape.n (length r.items)) (events_from r 0)
 all_within_run r fits = events_within r.source r.shape (state r 0) 1 (length r.items) r.items fits.all (omega arith)
 
 -- an event of item t is not before it

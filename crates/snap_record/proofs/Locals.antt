@@ -2,14 +2,14 @@
 use Rattle.std.specs.Prelude.{◌≡◌, ℕ, Bool, true, false, List, [], ◌∷◌, Option, Some, None, option_map, bytes_eq, if◌then◌else◌, refl}
 use Rattle.std.proofs.Common.{◌∙◌}
 use Rattle.snap_words.specs.Word.{Word}
-use Rattle.snap_semantics.specs.Forms.{or_else}
+use Rattle.snap_semantics.specs.Rules.{or_else}
 use Rattle.snap_semantics.specs.Readers.{LocalValue, NumberValue, RowValue, WordsValue, ViewValue, find_name, local_value}
 use Rattle.snap_semantics.specs.Source.{Name}
-use Rattle.snap_semantics.specs.State.{Locals, Named, value_at}
+use Rattle.snap_semantics.specs.State.{Locals, NameMap, value_at}
 use Rattle.snap_record.specs.Names.{Lacks}
 
 -- the value that is found
-found_value : (x : Name) (named : Named (List ℕ)) (v : List ℕ) → Some v ≡ find_name x named → value_at x named [] ≡ v
+found_value : (x : Name) (named : NameMap (List ℕ)) (v : List ℕ) → Some v ≡ find_name x named → value_at x named [] ≡ v
 found_value x [] v h = absurd cc
 found_value x (e ∷ es) v h = by_name (bytes_eq x e.0) h (found_value x es v)
   where
@@ -34,7 +34,7 @@ view_named l x v h =
     found_value x l.views v (among_views (find_name x l.scalars) (find_name x l.rows) (find_name x l.words) (find_name x l.views) v h)
 
 -- a name that has no value
-no_value : (x : Name) (named : Named (List ℕ)) → None ≡ find_name x named → value_at x named [] ≡ []
+no_value : (x : Name) (named : NameMap (List ℕ)) → None ≡ find_name x named → value_at x named [] ≡ []
 no_value x [] h = refl
 no_value x (e ∷ es) h = by_name (bytes_eq x e.0) h (no_value x es)
   where

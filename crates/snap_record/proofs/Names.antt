@@ -8,7 +8,7 @@ use Rattle.snap_semantics.specs.Answers.{◌>>=◌}
 use Rattle.snap_semantics.specs.Readers.{find_name}
 use Rattle.snap_semantics.specs.Run.{after}
 use Rattle.snap_semantics.specs.Source.{Name, Source, instr_at, following}
-use Rattle.snap_semantics.specs.State.{Locals, Memory, Named, Process, State, all_at, initial, initial_process, nobody, process_at, value_at, with_scalar, with_row, with_value}
+use Rattle.snap_semantics.specs.State.{Locals, Memory, NameMap, Process, State, all_at, initial, initial_process, nobody, process_at, value_at, with_scalar, with_row, with_value}
 use Rattle.snap_semantics.specs.Table.{Effect, Goes, Answers, Finishes, on, first_true, first_goes, call_goes, return_goes, finish_goes, effect, effect_at, leave, step, call, called, call_skip, done, conditions, range_end, all_true, tuple_word, with_bits, owned, bit_value, bank_of, each_value, places_to, crash}
 use Rattle.snap_semantics.specs.Uses.{is_among, sort_of}
 use Rattle.snap_semantics.specs.Value.{Context, at_place, condition_holds, each_of, expr_value, index_value, place_in}
@@ -28,7 +28,7 @@ use Rattle.snap_runs.specs.Run.{Run, state}
 use Rattle.snap_record.specs.Names.{Lacks, ViewsAlone}
 
 -- another value of a name that is there
-set_lacks : {A : Type 0} (x y : Name) (v : A) (es : Named A) → find_name x es ≡ None → find_name x (with_value y v es) ≡ None
+set_lacks : {A : Type 0} (x y : Name) (v : A) (es : NameMap A) → find_name x es ≡ None → find_name x (with_value y v es) ≡ None
 set_lacks x y v [] h = refl
 set_lacks x y v (e ∷ es) h = by_names (bytes_eq y e.0) (bytes_eq x e.0) refl h (set_lacks x y v es)
   where

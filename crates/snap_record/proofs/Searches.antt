@@ -14,9 +14,9 @@ use Rattle.snap_semantics.specs.declared.process.Item.TheVariants.{Step, Call, C
 use Rattle.snap_semantics.specs.declared.process.Op.TheVariants as op
 use Rattle.snap_semantics.specs.declared.process.Outcome.{Outcome}
 use Rattle.snap_semantics.specs.declared.process.Outcome.TheVariants as outcomes
-use Rattle.snap_runs.specs.Run.{Run, Fits, state, item, outcome}
+use Rattle.snap_runs.specs.Run.{Run, IsValidRun, state, item, outcome, events_of}
 use Rattle.snap_runs.specs.Scan.{double_collects, ends_double_collect}
-use Rattle.snap_record.specs.Record.{answers, collects_from, collects_of, events_of, is_answer, scan_called, scan_end}
+use Rattle.snap_record.specs.Record.{answers, collects_from, collects_of, is_answer, scan_called, scan_end}
 use Rattle.snap_record.specs.History.{IsWithin, collects_at}
 use Rattle.snap_record.specs.Searches.{collects_until, found_collects, is_answer_of, scan_collects, scans}
 use Rattle.snap_record.proofs.Counts.{count_split}
@@ -166,7 +166,7 @@ module _ (r : Run) where
   past_items (suc t) lt = get_or_past r.items t (Step 0) (omega (arith, lt))
 
   -- any number
-  by_place : Fits r → (c : ℕ) (b : Bool) → nat_le c (length r.items) ≡ b → found_collects r c (events_from r 0) ≡ collects_of r c
+  by_place : IsValidRun r → (c : ℕ) (b : Bool) → nat_le c (length r.items) ≡ b → found_collects r c (events_from r 0) ≡ collects_of r c
   by_place fits zero b e = none_later 0 ∙ sym (no_scan (outcome r 0) 0 0)
   by_place fits (suc t) true e = among_items (suc t) 0 t (omega arith) (leb-true (suc t) (length r.items) e)
   by_place fits (suc t) false e =
@@ -176,7 +176,7 @@ module _ (r : Run) where
       ∙ sym (ap (λ (x : Item). collects_from r (suc t) (scan_called (outcome r (suc t)) x)) (past_items (suc t) past) ∙ no_scan (outcome r (suc t)) (suc t) 0)
 
   -- what is found among all events
-  pub found : Fits r → (c : ℕ) (es : List Event) → es ≡ events_of r (length r.items) → found_collects r c es ≡ collects_of r c
+  pub found : IsValidRun r → (c : ℕ) (es : List Event) → es ≡ events_of r (length r.items) → found_collects r c es ≡ collects_of r c
   found fits c es all = ap (found_collects r c) (all ∙ all_events r) ∙ by_place fits c (nat_le c (length r.items)) refl
 
   -- the search, place by place
@@ -224,7 +224,7 @@ event_there P (x ∷ es) zero e all lt is = subst P (sym is) all.0
 event_there P (x ∷ es) (suc k) e all lt is = event_there P es k e all.1 (omega (arith, lt)) is
 
 -- a scan is of one of the processes
-pub scan_process : (r : Run) → Fits r → (es : List Event) (k i : ℕ) (e : Event) → es ≡ events_of r (length r.items) → k < length es → e ≡ get_or es k e →
+pub scan_process : (r : Run) → IsValidRun r → (es : List Event) (k i : ℕ) (e : Event) → es ≡ events_of r (length r.items) → k < length es → e ≡ get_or es k e →
     Some i ≡ scans e.process e.what → IsOneOf r.shape.n i
 scan_process r fits es k i e all lt is calls =
     let within = event_there (IsWithin r.shape.n (length r.items)) es k e

@@ -2,8 +2,7 @@
 use Rattle.snap_semantics.specs.Schedule.{Schedule}
 use Rattle.snap_semantics.specs.ScheduleText.{IsSchedule}
 use Rattle.snap_semantics.specs.Source.{Source}
-use Rattle.snap_runs.specs.Run.{Fits}
-use Rattle.snap_record.specs.Record.{run_over}
+use Rattle.snap_runs.specs.Run.{IsValidRun, run_over}
 
-pub run_fits : (l : Source) (s : Schedule) → IsSchedule s → Fits (run_over l s)
-run_fits l s h = record { all = h.processes; few = h.few }
+pub run_fits : (l : Source) (s : Schedule) → IsSchedule s → IsValidRun (run_over l s)
+run_fits l s h = record { all = h.processes }

@@ -5,11 +5,10 @@ use Rattle.snap_words.specs.Shape.{IsOneOf}
 use Rattle.snap_semantics.specs.declared.event.Event.{Event}
 use Rattle.snap_semantics.specs.State.{State, values}
 use Rattle.snap_words.specs.declared.kind.KindTag.{KindTag}
-use Rattle.snap_runs.specs.Run.{Run, Fits, state}
+use Rattle.snap_runs.specs.Run.{Run, IsValidRun, state, events_of}
 use Rattle.snap_runs.specs.Scan.{double_collects, is_stepped}
 use Rattle.snap_semantics.specs.declared.process.Outcome.{Outcome}
-use Rattle.snap_runs.specs.Deeds.{Deed, is_test}
-use Rattle.snap_record.specs.Record.{events_of}
+use Rattle.snap_runs.specs.StepRoles.{StepRole, is_test}
 use Rattle.snap_record.specs.declared.history.Change.{Change}
 
 -- the values after t items, from those before the first change, by the changes in order
@@ -32,7 +31,7 @@ changes_to t k (x ∷ xs) [] = []
 changes_to t k (x ∷ xs) (y ∷ ys) = change_at t k x y ++ changes_to t (k + 1) xs ys
 
 -- how many double collects each process has had, once process i has done this with this outcome
-abbrev pub counted : Deed → Outcome → ℕ → List ℕ → List ℕ
+abbrev pub counted : StepRole → Outcome → ℕ → List ℕ → List ℕ
 counted d o i counts = if is_test d && is_stepped o then slice_set counts (i - 1) (suc (slice_index counts (i - 1))) else counts
 
 -- how many double collects the process of an event has had up to it
@@ -50,11 +49,12 @@ pub record Tells (r : Run) (now : List ℕ) (changes : List Change) (events : Li
   pub collects_are : (i : ℕ) → IsOneOf r.shape.n i → slice_index collects (i - 1) ≡ double_collects r i 0 (length r.items)
   pub at_events_are : at_events ≡ map (collects_at r) events
 
--- what a record keeps: a run that fits, its last state, and what is told of it
+-- what a record keeps: a run that fits and has at most a million items, its last state, and what is told of it
 pub record IsRecord (r : Run) (k : KindTag) (S : State) (now : List ℕ) (changes : List Change) (events : List Event) (collects at_events : List ℕ) : Type 0 where
   pub kind : r.source.kind ≡ k
   pub state_is : S ≡ state r (length r.items)
-  pub fits : Fits r
+  pub fits : IsValidRun r
+  pub few : length r.items ≤ 1000000
   pub tells : Tells r now changes events collects at_events
 
 -- each event is of one of so many processes, and of one of so many items

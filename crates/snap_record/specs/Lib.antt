@@ -1,7 +1,7 @@
 pub mod Record
 pub mod Items
 pub mod History
-pub mod SeenDeed
+pub mod SeenRoles
 pub mod Roles
 pub mod Searches
 pub mod Names

@@ -1,22 +1,21 @@
 //! What a record keeps of its run besides the items.
-ghost use Rattle.std.specs.Prelude.{◌≡◌, ◌+◌, ◌-◌, ◌<◌, ◌≤◌, ◌++◌, ◌∷◌, [], IsTrue, get_or, length, map, vec_capacity, vec_len, slice_index, slice_set};
+ghost use Rattle.std.specs.Prelude.{◌≡◌, ◌+◌, ◌-◌, ◌<◌, ◌≤◌, ◌++◌, ◌∷◌, [], IsTrue, get_or, length, map, vec_capacity, vec_len, slice_index, slice_set, ℕ, List, ◌&&◌, ◌^◌, false};
 ghost use Rattle.snap_words.specs.Shape.{IsOneOf};
 ghost use Rattle.snap_semantics.specs.Run.{call_event, event_of};
 ghost use Rattle.snap_semantics.specs.State.{values};
 ghost use Rattle.snap_semantics.specs.Table.{who};
-ghost use Rattle.snap_semantics.specs.declared.process.Item.{Item as Done};
+ghost use Rattle.snap_semantics.specs.declared.process.Item.{Item};
 ghost use Rattle.snap_semantics.specs.declared.event.Event.{Event};
 ghost use Rattle.snap_semantics.specs.declared.process.Outcome.TheVariants as outcomes;
-ghost use Rattle.std.specs.Prelude.{ℕ, List, ◌&&◌, ◌^◌, false};
-ghost use Rattle.snap_runs.specs.Deeds.{Answer, is_test, is_write};
+ghost use Rattle.snap_runs.specs.StepRoles.{Answer, is_test, is_write};
 ghost use Rattle.snap_runs.specs.Scan.{is_stepped};
 ghost use Rattle.snap_record.specs.History.{change_at, changes_to, counted};
-ghost use Rattle.snap_record.specs.SeenDeed.{of_option, seen_deed};
+ghost use Rattle.snap_record.specs.SeenRoles.{of_option, seen_step_role};
 
-use crate::deed::Deed;
 use crate::row::Row;
+use crate::step_role::StepRole;
 use snap_machine::{Contents, Machine};
-use snap_semantics::{Event, Happening, Item, Outcome};
+use snap_semantics::{Event, Happening, Item, Outcome, who};
 use snap_words::{Address, Bank, Field, Kind, field_of};
 use std::alloc::{AllocError, Global};
 
@@ -26,17 +25,6 @@ pub struct Change {
     pub item: u64,
     pub place: u64,
     pub value: u64,
-}
-
-/// The process of an item.
-pub fn who(item: Item) -> u32
-    ensures { result ≡ who item }
-{
-    match item {
-        Item::Step(i) => i,
-        Item::Call(i, _) => i,
-        Item::Crash(i) => i,
-    }
 }
 
 /// The event of a call.
@@ -56,14 +44,14 @@ fn call_event(number: u64, item: Item) -> Option<Event>
 
 /// The event of the item of this number, where it has one. An answer's view is the one that was to be answered.
 #[inline(always)]
-pub fn event_of(number: u64, item: Item, outcome: &Outcome, deed: Deed) -> Option<Event>
-    requires { (v : List ℕ) → outcome.now ≡ outcomes.Answered v → seen_deed deed ≡ Answer v }
+pub fn event_of(number: u64, item: Item, outcome: &Outcome, step_role: StepRole) -> Option<Event>
+    requires { (v : List ℕ) → outcome.now ≡ outcomes.Answered v → seen_step_role step_role ≡ Answer v }
     ensures { of_option result ≡ event_of number item outcome.now }
 {
     match outcome {
         Outcome::Called => call_event(number, item),
-        Outcome::Answered(_) => match deed {
-            Deed::Answer(view) => Some(Event {
+        Outcome::Answered(_) => match step_role {
+            StepRole::Answer(view) => Some(Event {
                 item: number,
                 process: who(item),
                 what: Happening::Answer(view),
@@ -145,14 +133,14 @@ pub fn note_values<K: Kind>(
 }
 
 /// Whether a line writes a word.
-fn is_write(deed: &Deed) -> bool
-    ensures { result ≡ is_write (seen_deed deed.now) }
+fn is_write(step_role: &StepRole) -> bool
+    ensures { result ≡ is_write (seen_step_role step_role.now) }
 {
-    match deed {
-        Deed::Write => true,
-        Deed::Test => false,
-        Deed::Answer(_) => false,
-        Deed::Nothing => false,
+    match step_role {
+        StepRole::Write => true,
+        StepRole::Test => false,
+        StepRole::Answer(_) => false,
+        StepRole::Nothing => false,
     }
 }
 
@@ -162,29 +150,29 @@ pub fn note_item<K: Kind>(
     now: &mut Row,
     changes: &mut Vec<Change>,
     item: u64,
-    deed: &Deed,
+    step_role: &StepRole,
     machine: &Machine<K>,
 )
     requires count { length now.old ≡ machine.now.shape.w }
     requires room { vec_len changes.old + machine.now.shape.w ≤ vec_capacity changes.old }
-    requires stay { is_write (seen_deed deed.now) ≡ false → values machine.now.state ≡ now.old }
+    requires stay { is_write (seen_step_role step_role.now) ≡ false → values machine.now.state ≡ now.old }
     ensures now { now.new ≡ values machine.now.state }
     ensures changes { changes.new.items ≡ changes.old.items ++ changes_to item 0 now.old (values machine.now.state) }
     ensures count { length now.new ≡ machine.now.shape.w }
 {
-    if is_write(deed) {
+    if is_write(step_role) {
         note_values(now, changes, item, machine);
     }
 }
 
 /// Counts a double collect, where an item ends one.
 #[inline(always)]
-pub fn note_collect(collects: &mut Vec<u64>, i: u32, deed: &Deed, outcome: &Outcome)
+pub fn note_collect(collects: &mut Vec<u64>, i: u32, step_role: &StepRole, outcome: &Outcome)
     requires process { IsOneOf (length collects.old.items) i }
     requires few { slice_index collects.old.items (i - 1) + 1 < 2 ^ 64 }
-    ensures { collects.new.items ≡ counted (seen_deed deed.now) outcome.now i collects.old.items }
+    ensures { collects.new.items ≡ counted (seen_step_role step_role.now) outcome.now i collects.old.items }
 {
-    if ends_collect(deed, outcome) {
+    if ends_collect(step_role, outcome) {
         collects[(i - 1) as usize] += 1;
     }
 }
@@ -209,11 +197,11 @@ pub fn note_event(
 }
 
 /// Whether a test for all goes on.
-pub fn ends_collect(deed: &Deed, outcome: &Outcome) -> bool
-    ensures { result ≡ (is_test (seen_deed deed.now) && is_stepped outcome.now) }
+pub fn ends_collect(step_role: &StepRole, outcome: &Outcome) -> bool
+    ensures { result ≡ (is_test (seen_step_role step_role.now) && is_stepped outcome.now) }
 {
-    match (deed, outcome) {
-        (Deed::Test, Outcome::Stepped) => true,
+    match (step_role, outcome) {
+        (StepRole::Test, Outcome::Stepped) => true,
         _ => false,
     }
 }
@@ -221,7 +209,7 @@ pub fn ends_collect(deed: &Deed, outcome: &Outcome) -> bool
 /// Whether nobody sees what came of an item.
 #[inline(always)]
 fn is_unseen(outcome: &Outcome) -> bool
-    ensures { (t : ℕ) (x : Done) → IsTrue result → event_of t x outcome.now ≡ [] }
+    ensures { (t : ℕ) (x : Item) → IsTrue result → event_of t x outcome.now ≡ [] }
 {
     match outcome {
         Outcome::Stepped => true,
@@ -241,10 +229,10 @@ pub fn note_outcome(
     number: u64,
     item: Item,
     outcome: &Outcome,
-    deed: Deed,
+    step_role: StepRole,
 )
     requires process { IsOneOf (length collects.now) (who item) }
-    requires answer { (v : List ℕ) → outcome.now ≡ outcomes.Answered v → seen_deed deed ≡ Answer v }
+    requires answer { (v : List ℕ) → outcome.now ≡ outcomes.Answered v → seen_step_role step_role ≡ Answer v }
     requires events { vec_len events.old < vec_capacity events.old }
     requires at_events { vec_len at_events.old < vec_capacity at_events.old }
     ensures events { events.new.items ≡ events.old.items ++ event_of number item outcome.now }
@@ -254,6 +242,6 @@ pub fn note_outcome(
     if is_unseen(outcome) {
         return;
     }
-    let event = event_of(number, item, outcome, deed);
+    let event = event_of(number, item, outcome, step_role);
     note_event(events, at_events, event, collects[(who(item) - 1) as usize]);
 }

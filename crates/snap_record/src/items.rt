@@ -16,7 +16,7 @@ pub(crate) struct Called {
 
 /// An item as it is kept: a step or a crash of a process, or the call at a place among the calls.
 #[derive(Clone, Copy, Debug)]
-pub(crate) enum Kept {
+pub(crate) enum StoredItem {
     Step(u32),
     Call(u32),
     Crash(u32),
@@ -25,15 +25,15 @@ pub(crate) enum Kept {
 /// Items in order, seen as their list and as whether there is room for one more. Operations are kept for calls alone.
 #[derive(Debug, Drop)]
 pub struct History {
-    items: Vec<Kept>,
+    items: Vec<StoredItem>,
     calls: Vec<Called>,
 }
 
 impl Model for History {
     ghost use Rattle.std.specs.Prelude.{◌&&◌, nat_lt, vec_len, vec_capacity};
-    ghost use Rattle.snap_record.specs.Items.{AreKept, Shelf, kept_items};
+    ghost use Rattle.snap_record.specs.Items.{AreKept, HistoryView, kept_items};
 
-    ghost Value = { Shelf };
+    ghost Value = { HistoryView };
 
     ghost view = { λ h. record {
       items = kept_items h.calls.items h.items.items;
@@ -44,17 +44,17 @@ impl Model for History {
 }
 
 /// The item that is kept so.
-fn kept_item(calls: &[Called], kept: Kept) -> Item
+fn kept_item(calls: &[Called], kept: StoredItem) -> Item
     requires { IsThere (length calls.now) kept }
     ensures { result ≡ kept_item calls.now kept }
 {
     match kept {
-        Kept::Step(i) => Item::Step(i),
-        Kept::Call(k) => {
+        StoredItem::Step(i) => Item::Step(i),
+        StoredItem::Call(k) => {
             let call = calls[k as usize];
             Item::Call(call.process, call.op)
         }
-        Kept::Crash(i) => Item::Crash(i),
+        StoredItem::Crash(i) => Item::Crash(i),
     }
 }
 
@@ -104,13 +104,13 @@ impl History {
         ensures items { self.new.items ≡ self.old.items ++ item ∷ [] }
     {
         match item {
-            Item::Step(i) => self.items.push_reserved(Kept::Step(i)),
+            Item::Step(i) => self.items.push_reserved(StoredItem::Step(i)),
             Item::Call(process, op) => {
                 let place = self.calls.len() as u32;
                 self.calls.push_reserved(Called { process, op });
-                self.items.push_reserved(Kept::Call(place));
+                self.items.push_reserved(StoredItem::Call(place));
             }
-            Item::Crash(i) => self.items.push_reserved(Kept::Crash(i)),
+            Item::Crash(i) => self.items.push_reserved(StoredItem::Crash(i)),
         }
     }
 }

@@ -2,27 +2,25 @@
 //! printed texts of both.
 #![tactic(auto)]
 
-mod deed;
 mod fault;
 mod history;
 mod items;
 mod over;
-mod printed;
 mod record;
 mod roles;
 mod row;
 mod search;
+mod step_role;
 mod walk;
 
 pub use fault::RecordFault;
-pub use history::{Change, who};
+pub use history::Change;
 pub use items::History;
 pub use over::record_over;
-pub use printed::Report;
 pub use record::{MAX_ITEMS, Record};
 pub use row::Row;
 pub use snap_report::{
-    event_line, event_lines, head_line, head_lines, op_text, outcome_text, position_line,
+    Report, event_line, event_lines, head_line, head_lines, op_text, outcome_text, position_line,
     process_lines, register_line, report, values_line,
 };
 pub use walk::advance;

@@ -1,9 +1,9 @@
 //! The record of a program over a schedule.
 ghost use Rattle.std.specs.Prelude.{◌≡◌, IfOk};
-ghost use Rattle.snap_record.specs.Record.{run_over};
+ghost use Rattle.snap_runs.specs.Run.{run_over};
 
 use crate::record::Record;
-use snap_code::Program;
+use snap_asm_program::Program;
 use snap_sched::Schedule;
 use snap_words::Kind;
 use std::alloc::{AllocError, Global};

@@ -5,28 +5,28 @@ ghost use Rattle.snap_words.specs.Shape.{IsOneOf};
 ghost use Rattle.snap_semantics.specs.State.{initial};
 ghost use Rattle.snap_semantics.specs.Table.{who};
 ghost use Rattle.snap_semantics.specs.declared.process.Item.TheVariants.{Step};
-ghost use Rattle.snap_runs.specs.Deeds.{Nothing, deed_of};
-ghost use Rattle.snap_runs.specs.Run.{outcome, state, Fits};
-ghost use Rattle.snap_record.specs.Record.{collects_of, with_item, with_items, events_of, report_at, values_after};
+ghost use Rattle.snap_runs.specs.StepRoles.{Nothing, step_role_of};
+ghost use Rattle.snap_runs.specs.Run.{outcome, state, IsValidRun, events_of};
+ghost use Rattle.snap_record.specs.Record.{collects_of, with_item, with_items, values_after};
+ghost use Rattle.snap_report.specs.RunReport.{report_at};
 ghost use Rattle.snap_record.specs.Searches.{scan_collects};
-ghost use Rattle.snap_semantics.specs.declared.event.Event.{Event as Happened};
+ghost use Rattle.snap_semantics.specs.declared.event.Event.{Event};
 ghost use Rattle.snap_record.specs.History.{LeadsAlong, collects_at};
 ghost use Rattle.snap_record.specs.declared.fault.RecordFault.TheVariants.{Full};
 
-use crate::deed::{Deed, deed_of, is_plain_step};
 use crate::fault::RecordFault;
-use crate::history::{Change, note_collect, note_item, note_outcome, who};
+use crate::history::{Change, note_collect, note_item, note_outcome};
 use crate::items::History;
-use crate::printed::Report;
-use crate::roles::{Role, new_roles};
+use crate::roles::{LineRole, new_roles};
 use crate::row::Row;
 use crate::search::{collects_until, scans};
+use crate::step_role::{StepRole, is_plain_step, step_role_of};
 use crate::walk::advance;
-use snap_code::Program;
+use snap_asm_program::Program;
 use snap_machine::Machine;
-use snap_report::report;
+use snap_report::{Report, report};
 use snap_sched::Items;
-use snap_semantics::{Event, Item, Outcome};
+use snap_semantics::{Event, Item, Outcome, who};
 use snap_words::{Kind, Shape, View};
 use std::alloc::{AllocError, Global};
 use std::marker::Model;
@@ -49,7 +49,7 @@ pub struct Record<K: Kind> {
     /// At each event, how many double collects its process had had.
     at_events: Vec<u64>,
     /// What the lines are, by their numbers.
-    roles: Vec<Role>,
+    roles: Vec<LineRole>,
 }
 
 impl<K: Kind> Model for Record<K> {
@@ -98,7 +98,7 @@ impl<K: Kind> Record<K> {
     fn add_plain(&mut self, i: u32) -> Result<Outcome, AllocError>
         requires process { IsOneOf self.old.shape.n i }
         requires few { length self.old.items < 1000000 }
-        requires plain { deed_of self.old.source (state self.old (length self.old.items)) (Step i) ≡ Nothing }
+        requires plain { step_role_of self.old.source (state self.old (length self.old.items)) (Step i) ≡ Nothing }
         ensures done { IfOk result (λ o. (self.new ≡ with_item self.old (Step i)) × (o ≡ outcome self.new (length self.new.items))) }
         ensures unchanged { OnErr result (self.new ≡ self.old) }
     {
@@ -115,7 +115,7 @@ impl<K: Kind> Record<K> {
             self.items.len() as u64,
             item,
             &came,
-            Deed::Nothing,
+            StepRole::Nothing,
         );
         Ok(came)
     }
@@ -127,7 +127,7 @@ impl<K: Kind> Record<K> {
         ensures done { IfOk result (λ o. (self.new ≡ with_item self.old item) × (o ≡ outcome self.new (length self.new.items))) }
         ensures unchanged { OnErr result (self.new ≡ self.old) }
     {
-        let deed = deed_of(self.alloc, &self.machine, self.roles.as_slice(), item)?;
+        let step_role = step_role_of(self.alloc, &self.machine, self.roles.as_slice(), item)?;
         self.items.reserve()?;
         self.changes.reserve(self.values.as_slice().len())?;
         self.events.reserve(1)?;
@@ -139,10 +139,10 @@ impl<K: Kind> Record<K> {
             &mut self.values,
             &mut self.changes,
             number,
-            &deed,
+            &step_role,
             &self.machine,
         );
-        note_collect(&mut self.collects, who(item), &deed, &outcome);
+        note_collect(&mut self.collects, who(item), &step_role, &outcome);
         note_outcome(
             &mut self.events,
             &mut self.at_events,
@@ -150,7 +150,7 @@ impl<K: Kind> Record<K> {
             number,
             item,
             &outcome,
-            deed,
+            step_role,
         );
         Ok(outcome)
     }
@@ -206,7 +206,8 @@ impl<K: Kind> Record<K> {
     /// The items, in order.
     pub fn items(&self) -> &History
         ensures items { result.now.items ≡ self.now.items }
-        ensures fits { Fits self.now }
+        ensures fits { IsValidRun self.now }
+        ensures few { length self.now.items ≤ 1000000 }
     {
         &self.items
     }
@@ -270,7 +271,7 @@ impl<K: Kind> Record<K> {
     /// How many double collects the scan takes that the event at a place calls, where it calls one.
     fn scan_collects(&self, k: usize) -> Option<u64>
         requires { k < length (events_of self.now (length self.now.items)) }
-        ensures { (d : Happened) → let events = events_of self.now (length self.now.items) in
+        ensures { (d : Event) → let events = events_of self.now (length self.now.items) in
             result ≡ scan_collects self.now (get_or events k d) (drop (k + 1) events) }
     {
         let event = &self.events[k];

@@ -2,13 +2,13 @@
 ghost use Rattle.std.specs.Prelude.{◌≡◌, IfOk, IfSome, IsTrue, option_map};
 ghost use Rattle.snap_semantics.specs.Source.{Source, instr_at};
 ghost use Rattle.snap_semantics.specs.State.{Locals};
-ghost use Rattle.snap_semantics.specs.declared.process.Activity.{Activity as Doing};
-ghost use Rattle.snap_runs.specs.Deeds.{deed_at, Nothing};
+ghost use Rattle.snap_semantics.specs.declared.process.Activity.{Activity};
+ghost use Rattle.snap_runs.specs.StepRoles.{step_role_at, Nothing};
 ghost use Rattle.snap_record.specs.Roles.{AreRoles, role_of};
-ghost use Rattle.snap_record.specs.SeenDeed.{seen_deed};
+ghost use Rattle.snap_record.specs.SeenRoles.{seen_step_role};
 
-use crate::deed::Deed;
-use snap_code::Program;
+use crate::step_role::StepRole;
+use snap_asm_program::Program;
 use snap_semantics::Instr;
 use std::alloc::{AllocError, Global};
 
@@ -17,7 +17,7 @@ const NUMBERS: u64 = 1000;
 
 /// A line that writes a word, one that tests for all, one that may answer a scan, or another.
 #[derive(Clone, Copy, Debug)]
-pub enum Role {
+pub enum LineRole {
     Write,
     Test,
     Return,
@@ -25,19 +25,19 @@ pub enum Role {
 }
 
 /// What an instruction is.
-fn role_of(instr: Option<&Instr>) -> Role
+fn role_of(instr: Option<&Instr>) -> LineRole
     ensures { result ≡ role_of (option_map (λ i. i.now) instr.entry) }
 {
     match instr {
-        Some(Instr::Put(_, _)) => Role::Write,
-        Some(Instr::IfAll(_, _, _)) => Role::Test,
-        Some(Instr::Return(_)) => Role::Return,
-        _ => Role::Nothing,
+        Some(Instr::Put(_, _)) => LineRole::Write,
+        Some(Instr::IfAll(_, _, _)) => LineRole::Test,
+        Some(Instr::Return(_)) => LineRole::Return,
+        _ => LineRole::Nothing,
     }
 }
 
 /// What the lines of a program are, by their numbers.
-pub fn new_roles(alloc: Global, program: &Program) -> Result<Vec<Role>, AllocError>
+pub fn new_roles(alloc: Global, program: &Program) -> Result<Vec<LineRole>, AllocError>
     ensures { IfOk result (λ m. AreRoles program.now m.items) }
 {
     let mut roles = Vec::new(alloc);
@@ -48,25 +48,25 @@ pub fn new_roles(alloc: Global, program: &Program) -> Result<Vec<Role>, AllocErr
 }
 
 /// What a line does, where its number tells that.
-pub fn deed_by(roles: &[Role], line: u64) -> Option<Deed>
-    ensures { (a : Doing) (l : Locals) (s : Source) → AreRoles s roles.now → IfSome result (λ d. seen_deed d ≡ deed_at a l (instr_at s.lines line)) }
+pub fn step_role_by(roles: &[LineRole], line: u64) -> Option<StepRole>
+    ensures { (a : Activity) (l : Locals) (s : Source) → AreRoles s roles.now → IfSome result (λ d. seen_step_role d ≡ step_role_at a l (instr_at s.lines line)) }
 {
     let role = *roles.get(line as usize)?;
     match role {
-        Role::Write => Some(Deed::Write),
-        Role::Test => Some(Deed::Test),
-        Role::Return => None,
-        Role::Nothing => Some(Deed::Nothing),
+        LineRole::Write => Some(StepRole::Write),
+        LineRole::Test => Some(StepRole::Test),
+        LineRole::Return => None,
+        LineRole::Nothing => Some(StepRole::Nothing),
     }
 }
 
 /// Whether the number of a line tells that it writes no word, tests nothing for all and answers nothing.
 #[inline(always)]
-pub fn is_plain(roles: &[Role], line: u64) -> bool
-    ensures { (a : Doing) (l : Locals) (s : Source) → AreRoles s roles.now → IsTrue result → deed_at a l (instr_at s.lines line) ≡ Nothing }
+pub fn is_plain(roles: &[LineRole], line: u64) -> bool
+    ensures { (a : Activity) (l : Locals) (s : Source) → AreRoles s roles.now → IsTrue result → step_role_at a l (instr_at s.lines line) ≡ Nothing }
 {
     match roles.get(line as usize) {
-        Some(Role::Nothing) => true,
+        Some(LineRole::Nothing) => true,
         _ => false,
     }
 }

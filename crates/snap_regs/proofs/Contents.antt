@@ -7,7 +7,7 @@ use Rattle.std.specs.List.{slice_get}
 use Rattle.snap_words.specs.Word.{Word}
 use Rattle.snap_words.specs.declared.address.Bank.{Bank}
 use Rattle.snap_words.specs.declared.address.Bank.TheVariants as bank
-use Rattle.snap_semantics.specs.Places.{with_nth, with_bit_in, with_contents, IsOfBank}
+use Rattle.snap_semantics.specs.WithContents.{with_nth, with_bit_in, with_contents, IsOfBank}
 use Rattle.snap_semantics.specs.Readers.{Contents, WordContents, BitContents, ViewContents, contents, nth, bit_in}
 use Rattle.snap_semantics.specs.State.{Memory, with_memory_words}
 use Rattle.snap_semantics.specs.Table.{with_memory_views}

@@ -5,7 +5,7 @@ use Rattle.std.specs.Prelude.{slice_set}
 use Rattle.snap_words.specs.Shape.{Counts, is_place}
 use Rattle.snap_words.specs.Word.{Word}
 use Rattle.snap_words.specs.declared.address.Bank.TheVariants as bank
-use Rattle.snap_semantics.specs.Places.{with_nth, with_contents}
+use Rattle.snap_semantics.specs.WithContents.{with_nth, with_contents}
 use Rattle.snap_semantics.specs.Readers.{WordContents}
 use Rattle.snap_semantics.specs.State.{with_memory_words}
 use Rattle.snap_regs.specs.Store.{Store, with_word}

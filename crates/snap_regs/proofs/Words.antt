@@ -23,11 +23,11 @@ IsOfShape-set_word k s m i x h e = record {
 }
 
 -- a fact of all words, at the word that stands at a place
-pub word_at : {W : Type 0} (parts : W → Word) (P : Word → Type 0) (words : List W) (place : ℕ) (w : W) → All P (map parts words) → place < length words → w ≡ get_or words place w → P (parts w)
-word_at parts P words place w h lt e =
-    let at = All-get_or P (map parts words) place (parts w) (rw (length-map words parts) lt) h in
-    subst P (get_or-map parts words place w (parts w) lt ∙ ap parts (sym e)) at
+pub word_at : {W : Type 0} (as_word : W → Word) (P : Word → Type 0) (words : List W) (place : ℕ) (w : W) → All P (map as_word words) → place < length words → w ≡ get_or words place w → P (as_word w)
+word_at as_word P words place w h lt e =
+    let at = All-get_or P (map as_word words) place (as_word w) (rw (length-map words as_word) lt) h in
+    subst P (get_or-map as_word words place w (as_word w) lt ∙ ap as_word (sym e)) at
 
 -- the registers with a word put, where the words are the parts of others
-pub with_word-parts : {W : Type 0} (parts : W → Word) (words : List W) (s : Counts) (q p views : List (List ℕ)) (place k : ℕ) (x : W) (now : Store) → (let r : Store = record { shape = s; memory = record { words = map parts words; q = q; p = p; views = views } } in r) ≡ now → place ≡ k - 1 → (let r : Store = record { shape = s; memory = record { words = map parts (slice_set words place x); q = q; p = p; views = views } } in r) ≡ with_word k (parts x) now
-with_word-parts parts words s q p views place k x now e h = rw (map-set parts words place x, h) (ap (with_word k (parts x)) e)
+pub with_word-as_word : {W : Type 0} (as_word : W → Word) (words : List W) (s : Counts) (q p views : List (List ℕ)) (place k : ℕ) (x : W) (now : Store) → (let r : Store = record { shape = s; memory = record { words = map as_word words; q = q; p = p; views = views } } in r) ≡ now → place ≡ k - 1 → (let r : Store = record { shape = s; memory = record { words = map as_word (slice_set words place x); q = q; p = p; views = views } } in r) ≡ with_word k (as_word x) now
+with_word-as_word as_word words s q p views place k x now e h = rw (map-set as_word words place x, h) (ap (with_word k (as_word x)) e)

@@ -34,7 +34,7 @@ rows_in k s b = if has_bank k b then s.n else 0
 abbrev pub HasColumns : ℕ → List (List ℕ) → Type 0
 HasColumns count rows = All (λ (row : List ℕ). length row ≡ count) rows
 
--- the banks are as long as the shape wants, and so are the hands and the views of the words
+-- the banks are as long as the shape wants, and so are the handshake bits and the views of the words
 pub record IsOfShape (k : KindTag) (s : Counts) (m : Memory) : Type 0 where
   pub word_count : length m.words ≡ s.w
   pub words_sized : All (λ (x : Word). is_sized k s x ≡ true) m.words

@@ -4,7 +4,7 @@ ghost use Rattle.snap_words.specs.Kind.{initial_word, is_bit, is_sized, may_writ
 ghost use Rattle.snap_words.specs.Shape.{is_place, max_count};
 ghost use Rattle.snap_words.specs.Word.{no_word};
 ghost use Rattle.snap_words.specs.declared.address.Bank.TheVariants as bank;
-ghost use Rattle.snap_semantics.specs.Places.{with_contents};
+ghost use Rattle.snap_semantics.specs.WithContents.{with_contents};
 ghost use Rattle.snap_semantics.specs.Readers.{contents, WordContents, BitContents, ViewContents};
 ghost use Rattle.snap_semantics.specs.State.{initial_memory};
 ghost use Rattle.snap_semantics.specs.Table.{bank_of, bit_at, bits_of};
@@ -35,9 +35,9 @@ impl<K: Kind> Model for Registers<K> {
 
     ghost Value = { Store };
 
-    ghost view = { λ r. record { shape = r.shape; memory = record { words = map K.parts r.words.items; q = r.q; p = r.p; views = r.views.items } } };
+    ghost view = { λ r. record { shape = r.shape; memory = record { words = map K.as_word r.words.items; q = r.q; p = r.p; views = r.views.items } } };
 
-    ghost invariant = { λ r. IsOfShape K.TAG r.shape (record { words = map K.parts r.words.items; q = r.q; p = r.p; views = r.views.items }) };
+    ghost invariant = { λ r. IsOfShape K.TAG r.shape (record { words = map K.as_word r.words.items; q = r.q; p = r.p; views = r.views.items }) };
 }
 
 /// How many rows of bits, or views, a bank has.
@@ -54,7 +54,7 @@ fn rows_in<K: Kind>(shape: Shape, bank: Bank) -> u64
 
 /// A word for each place of the shape, none of them written.
 fn initial_words<K: Kind>(alloc: Global, shape: Shape) -> Result<Vec<K::Word>, AllocError>
-    ensures { IfOk result (λ words. map K.parts words.items ≡ replicate shape.w (initial_word K.TAG shape)) }
+    ensures { IfOk result (λ words. map K.as_word words.items ≡ replicate shape.w (initial_word K.TAG shape)) }
 {
     let mut words = Vec::new(alloc);
     for i in 0..shape.w() {
@@ -131,12 +131,12 @@ impl<K: Kind> Registers<K> {
     /// Word `k`, or `Index` where there is none.
     pub fn word(&self, k: u64) -> Result<&K::Word, RegisterFault>
         ensures place { MatchResult result
-            (λ word. (is_place self.now.shape.w k ≡ true) × (K.parts word.now ≡ slice_index_or self.now.memory.words (k - 1) no_word))
+            (λ word. (is_place self.now.shape.w k ≡ true) × (K.as_word word.now ≡ slice_index_or self.now.memory.words (k - 1) no_word))
             (λ e. (e ≡ Index) × (is_place self.now.shape.w k ≡ false)) }
         ensures content { MatchResult result
-            (λ word. contents self.now.memory bank.R k 0 ≡ Some (WordContents (K.parts word.now)))
+            (λ word. contents self.now.memory bank.R k 0 ≡ Some (WordContents (K.as_word word.now)))
             (λ _. contents self.now.memory bank.R k 0 ≡ None) }
-        ensures sized { IfOk result (λ word. is_sized K.TAG self.now.shape (K.parts word.now) ≡ true) }
+        ensures sized { IfOk result (λ word. is_sized K.TAG self.now.shape (K.as_word word.now) ≡ true) }
     {
         let place = place_in(self.shape.w(), k, RegisterFault::Index)?;
         Ok(&self.words[place])
@@ -173,11 +173,11 @@ impl<K: Kind> Registers<K> {
     /// Process `who` puts a word at place `k`: `Index` where there is no such word, `Owner` where the process may not
     /// write it.
     pub fn put_word(&mut self, who: u32, k: u64, word: K::Word) -> Result<(), RegisterFault>
-        requires { is_sized K.TAG self.old.shape (K.parts word) ≡ true }
+        requires { is_sized K.TAG self.old.shape (K.as_word word) ≡ true }
         ensures put { MatchResult result
-            (λ _. (is_place self.old.shape.w k ≡ true) × (may_write K.TAG who bank.R k ≡ true) × (self.new ≡ with_word k (K.parts word) self.old))
+            (λ _. (is_place self.old.shape.w k ≡ true) × (may_write K.TAG who bank.R k ≡ true) × (self.new ≡ with_word k (K.as_word word) self.old))
             (λ e. IsWordRefused K.TAG self.old.shape who k e × (self.new ≡ self.old)) }
-        ensures place { OnOk result (self.new.memory ≡ with_contents self.old.memory bank.R k 0 (WordContents (K.parts word))) }
+        ensures place { OnOk result (self.new.memory ≡ with_contents self.old.memory bank.R k 0 (WordContents (K.as_word word))) }
         ensures shape { self.new.shape ≡ self.old.shape }
     {
         let place = place_in(self.shape.w(), k, RegisterFault::Index)?;

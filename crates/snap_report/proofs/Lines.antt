@@ -13,9 +13,9 @@ use Rattle.snap_semantics.specs.declared.text.Sort.TheVariants as sort
 use Rattle.snap_semantics.specs.Readers.{LocalValue, NumberValue, RowValue, WordsValue, ViewValue, Contents, WordContents, BitContents, ViewContents, contents, bit_in, nth}
 use Rattle.snap_semantics.specs.Report.{word_line, bit_line, row_lines, view_line, locals_lines, number_local, list_local, words_local}
 use Rattle.snap_semantics.specs.Source.{Name}
-use Rattle.snap_semantics.specs.State.{Locals, Memory, Named}
+use Rattle.snap_semantics.specs.State.{Locals, Memory, NameMap}
 use Rattle.snap_regs.specs.Store.{HasColumns, IsOfShape}
-use Rattle.snap_machine.specs.Reading.{local_at}
+use Rattle.snap_machine.specs.SeenContents.{local_at}
 use Rattle.snap_report.specs.ReportLines.{register_line, bank_text, rows_of, row_at, bits_in, local_lines, sort_lines}
 
 -- the text of what is there
@@ -129,14 +129,14 @@ text_of g None = []
 text_of g (Some e) = local_lines g e.0 e.1
 
 module _ {A : Type 0} (g : KindTag) (f : Name → A → List ℕ) (value : A → LocalValue) (as_lines : (x : Name) (v : A) → local_lines g x (value v) ≡ f x v) where
-  next_of : (es : Named A) (k : ℕ) →
+  next_of : (es : NameMap A) (k : ℕ) →
       text_of g (option_map (λ e. (e.0, value e.1)) (slice_get es k)) ++ locals_lines f (drop (suc k) es) ≡ locals_lines f (drop k es)
   next_of [] zero = refl
   next_of [] (suc k) = refl
   next_of (e ∷ es) zero = ap (λ t. t ++ locals_lines f es) (as_lines e.0 e.1)
   next_of (e ∷ es) (suc k) = next_of es k
 
-  end_of : (es : Named A) (k : ℕ) → option_map {U = Name × LocalValue} (λ e. (e.0, value e.1)) (slice_get es k) ≡ None → locals_lines f (drop k es) ≡ []
+  end_of : (es : NameMap A) (k : ℕ) → option_map {U = Name × LocalValue} (λ e. (e.0, value e.1)) (slice_get es k) ≡ None → locals_lines f (drop k es) ≡ []
   end_of [] zero h = refl
   end_of [] (suc k) h = refl
   end_of (e ∷ es) zero h = cc

@@ -3,6 +3,7 @@
 
 mod event_text;
 mod outcomes;
+mod printed;
 mod process_text;
 mod register_text;
 mod reports;
@@ -10,6 +11,7 @@ mod word_text;
 
 pub use event_text::{event_line, event_lines, op_text};
 pub use outcomes::{head_lines, outcome_text};
+pub use printed::Report;
 pub use process_text::{head_line, process_lines};
 pub use register_text::{register_line, register_lines, values_line};
 pub use reports::{position_line, report};

@@ -16,7 +16,7 @@ ghost use Rattle.snap_semantics.specs.Report.{
   process_lines,
   processes_lines,
 };
-ghost use Rattle.snap_machine.specs.Reading.{seen_named};
+ghost use Rattle.snap_machine.specs.SeenContents.{seen_named};
 ghost use Rattle.snap_report.specs.ReportLines.{local_lines, place_text, sort_lines};
 
 use crate::event_text::op_text;
@@ -153,7 +153,7 @@ fn word_local<K: Kind>(
     place: u64,
     word: &K::Word,
 ) -> Result<(), AllocError>
-    ensures { OnOk result (out.new.items ≡ out.old.items ++ word_local kind name.now place (K.parts word.now)) }
+    ensures { OnOk result (out.new.items ≡ out.old.items ++ word_local kind name.now place (K.as_word word.now)) }
 {
     place_text(out, name, place)?;
     word_text::<K>(out, kind, word)?;
@@ -167,7 +167,7 @@ fn words_local<K: Kind>(
     name: &Name,
     words: &[K::Word],
 ) -> Result<(), AllocError>
-    ensures { OnOk result (out.new.items ≡ out.old.items ++ words_local kind name.now 1 (map K.parts words.now)) }
+    ensures { OnOk result (out.new.items ≡ out.old.items ++ words_local kind name.now 1 (map K.as_word words.now)) }
 {
     let mut k = 0;
     while k < words.len() {
@@ -183,7 +183,7 @@ fn local_lines<K: Kind>(
     kind: KindTag,
     local: (Name, Local<'_, K>),
 ) -> Result<(), AllocError>
-    ensures { let e = seen_named K.parts local.entry in
+    ensures { let e = seen_named K.as_word local.entry in
         OnOk result (out.new.items ≡ out.old.items ++ local_lines kind e.0 e.1) }
 {
     let (name, value) = local;

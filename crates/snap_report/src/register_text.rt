@@ -40,7 +40,7 @@ fn word_line<K: Kind>(
     k: u64,
     word: &K::Word,
 ) -> Result<(), AllocError>
-    ensures { OnOk result (out.new.items ≡ out.old.items ++ word_line kind k (K.parts word.now)) }
+    ensures { OnOk result (out.new.items ≡ out.old.items ++ word_line kind k (K.as_word word.now)) }
 {
     push_text(out, b"r ")?;
     push_number(out, k)?;

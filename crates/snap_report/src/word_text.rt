@@ -3,16 +3,16 @@ ghost use Rattle.std.specs.Prelude.{◌≡◌, ◌++◌, OnOk};
 ghost use Rattle.snap_semantics.specs.Report.{numbers_text, word_text};
 
 use snap_text::{push_number, push_numbers, push_text};
-use snap_words::{Field, Kind, KindTag, field_of, hand_of, view_of};
+use snap_words::{Field, Kind, KindTag, field_of, handshake_of, view_of};
 use std::alloc::AllocError;
 
-/// Adds each hand behind a space.
-fn push_hands<K: Kind>(out: &mut Vec<u8>, word: &K::Word) -> Result<(), AllocError>
-    ensures { OnOk result (out.new.items ≡ out.old.items ++ numbers_text (K.parts word.now).hands) }
+/// Adds each handshake bit behind a space.
+fn push_handshakes<K: Kind>(out: &mut Vec<u8>, word: &K::Word) -> Result<(), AllocError>
+    ensures { OnOk result (out.new.items ≡ out.old.items ++ numbers_text (K.as_word word.now).handshakes) }
 {
-    for place in 0..K::hand_count(word) as usize {
+    for place in 0..K::handshake_count(word) as usize {
         push_text(out, b" ")?;
-        push_number(out, hand_of::<K>(word, place))?;
+        push_number(out, handshake_of::<K>(word, place))?;
     }
     Ok(())
 }
@@ -24,7 +24,7 @@ pub fn word_text<K: Kind>(
     kind: KindTag,
     word: &K::Word,
 ) -> Result<(), AllocError>
-    ensures { OnOk result (out.new.items ≡ out.old.items ++ word_text kind (K.parts word.now)) }
+    ensures { OnOk result (out.new.items ≡ out.old.items ++ word_text kind (K.as_word word.now)) }
 {
     push_number(out, field_of::<K>(word, Field::Datum))?;
     match kind {
@@ -36,7 +36,7 @@ pub fn word_text<K: Kind>(
         }
         KindTag::Bits => {
             push_text(out, b" hands")?;
-            push_hands::<K>(out, word)?;
+            push_handshakes::<K>(out, word)?;
             push_text(out, b" toggle ")?;
             push_number(out, field_of::<K>(word, Field::Toggle))?;
             push_text(out, b" view")?;

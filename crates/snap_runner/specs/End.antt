@@ -4,7 +4,8 @@ use Rattle.snap_semantics.specs.Run.{after, events}
 use Rattle.snap_semantics.specs.Schedule.{Schedule}
 use Rattle.snap_semantics.specs.Source.{Source}
 use Rattle.snap_semantics.specs.State.{initial}
-use Rattle.snap_record.specs.Record.{report_at, run_over}
+use Rattle.snap_report.specs.RunReport.{report_at}
+use Rattle.snap_runs.specs.Run.{run_over}
 use Rattle.snap_runner.specs.declared.course.Course.{Course}
 
 -- a machine that has gone through a schedule, with all that callers saw

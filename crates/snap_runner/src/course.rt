@@ -7,12 +7,11 @@ ghost use Rattle.snap_semantics.specs.Source.{Source};
 ghost use Rattle.snap_semantics.specs.Table.{done, who};
 ghost use Rattle.snap_runner.specs.End.{IsEnd, end_report};
 
-use snap_code::Program;
+use snap_asm_program::Program;
 use snap_machine::Machine;
-use snap_record::who;
 use snap_report::report;
 use snap_sched::Schedule;
-use snap_semantics::{Event, Happening, Item, Outcome};
+use snap_semantics::{Event, Happening, Item, Outcome, who};
 use snap_words::Kind;
 use std::alloc::{AllocError, Global};
 

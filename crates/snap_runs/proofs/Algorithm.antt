@@ -20,84 +20,84 @@ use Rattle.snap_semantics.specs.Table.{Effect, Goes, Answers, Finishes, call_ski
 -- beside the registers.
 
 -- what a busy process is asked: a scan, a scan embedded in an update, or an update outside its scan
-pub data Task : Type 0 where
-  Scanning : Task
-  Embedded : (word value : ℕ) → Task
-  Updating : (word value : ℕ) → Task
+pub data Mode : Type 0 where
+  Scanning : Mode
+  Embedded : (word value : ℕ) → Mode
+  Updating : (word value : ℕ) → Mode
 
 -- its operation
-abbrev pub op_of : Task → Op
+abbrev pub op_of : Mode → Op
 op_of Scanning = Scan
 op_of (Embedded word value) = Update word value
 op_of (Updating word value) = Update word value
 
 -- its link, where an embedded scan leads back to this line
-abbrev pub link_of : ℕ → Task → Option ℕ
+abbrev pub link_of : ℕ → Mode → Option ℕ
 link_of back Scanning = None
 link_of back (Embedded word value) = Some back
 link_of back (Updating word value) = None
 
 -- the value of an update, and 0 in a scan
-abbrev pub value_of : Task → ℕ
+abbrev pub value_of : Mode → ℕ
 value_of Scanning = 0
 value_of (Embedded word value) = value
 value_of (Updating word value) = value
 
--- the task with which an operation begins
-abbrev pub task_of : Op → Task
-task_of Scan = Scanning
-task_of (Update word value) = Updating word value
+-- the mode with which an operation begins
+abbrev pub mode_of : Op → Mode
+mode_of Scan = Scanning
+mode_of (Update word value) = Updating word value
 
-pub op_is : (op : Op) → op_of (task_of op) ≡ op
+pub op_is : (op : Op) → op_of (mode_of op) ≡ op
 op_is Scan = refl
 op_is (Update word value) = refl
 
-pub link_is : (back : ℕ) (op : Op) → link_of back (task_of op) ≡ None
+pub link_is : (back : ℕ) (op : Op) → link_of back (mode_of op) ≡ None
 link_is back Scan = refl
 link_is back (Update word value) = refl
 
 -- where a process stands
 pub data Control (P : Type 0) : Type 0 where
   Idle : Control P
-  At : (task : Task) → (counter : P) → Control P
+  At : (mode : Mode) → (counter : P) → Control P
 
 -- what holds of a process at its line, where it is busy
-abbrev pub WhenBusy : {P : Type 0} → (Task → P → Type 0) → Control P → Type 0
+abbrev pub WhenBusy : {P : Type 0} → (Mode → P → Type 0) → Control P → Type 0
 WhenBusy Holds Idle = Unit {0}
 WhenBusy Holds (At d k) = Holds d k
 
-pub when_busy : {P : Type 0} (A B : Task → P → Type 0) → ((d : Task) (k : P) → A d k → B d k) → (control : Control P) → WhenBusy A control →
+pub when_busy : {P : Type 0} (A B : Mode → P → Type 0) → ((d : Mode) (k : P) → A d k → B d k) → (control : Control P) → WhenBusy A control →
     WhenBusy B control
 when_busy A B gives Idle h = tt
 when_busy A B gives (At d k) h = gives d k h
 
 -- what a line does: it goes on, begins an embedded scan, answers a scan, or finishes an update
 pub data Move (V P M : Type 0) : Type 0 where
-  To : (task : Task) → (memory : M) → (variables : V) → (counter : P) → Move V P M
-  Begin : (task : Task) → (variables : V) → (counter : P) → Move V P M
+  To : (mode : Mode) → (memory : M) → (variables : V) → (counter : P) → Move V P M
+  Begin : (mode : Mode) → (variables : V) → (counter : P) → Move V P M
   Answer : (view : List ℕ) → Move V P M
   Finish : Move V P M
 
 -- a `return` line: a scan that was called answers the view, and an update goes on at this line
-abbrev pub returning : {V P M : Type 0} → List ℕ → P → Task → M → V → Move V P M
+abbrev pub returning : {V P M : Type 0} → List ℕ → P → Mode → M → V → Move V P M
 returning view k Scanning m p = Answer view
 returning view k (Embedded word value) m p = To (Updating word value) m p k
 returning view k (Updating word value) m p = Finish
 
 -- a `call` line: an update begins a scan at this line
-abbrev pub embedding : {V P M : Type 0} → P → Task → V → Move V P M
+abbrev pub embedding : {V P M : Type 0} → P → Mode → V → Move V P M
 embedding k Scanning p = Finish
 embedding k (Embedded word value) p = Finish
 embedding k (Updating word value) p = Begin (Embedded word value) p k
 
--- what holds of the task, the variables and the line to which it leads
-abbrev pub LeadsTo : {V P M : Type 0} → (Task → V → P → Type 0) → Move V P M → Type 0
+-- what holds of the mode, the variables and the line to which it leads
+abbrev pub LeadsTo : {V P M : Type 0} → (Mode → V → P → Type 0) → Move V P M → Type 0
 LeadsTo Holds (To d m p k) = Holds d p k
 LeadsTo Holds (Begin d p k) = Holds d p k
 LeadsTo Holds (Answer v) = Unit {0}
 LeadsTo Holds Finish = Unit {0}
 
-pub leads_to : {V P M : Type 0} (A B : Task → V → P → Type 0) → ((d : Task) (p : V) (k : P) → A d p k → B d p k) → (v : Move V P M) → LeadsTo A v →
+pub leads_to : {V P M : Type 0} (A B : Mode → V → P → Type 0) → ((d : Mode) (p : V) (k : P) → A d p k → B d p k) → (v : Move V P M) → LeadsTo A v →
     LeadsTo B v
 leads_to A B gives (To d m p k) h = gives d p k h
 leads_to A B gives (Begin d p k) h = gives d p k h
@@ -105,7 +105,7 @@ leads_to A B gives (Answer v) h = tt
 leads_to A B gives Finish h = tt
 
 -- the same where it goes on
-abbrev pub GoesOn : {V P M : Type 0} → (Task → M → V → P → Type 0) → Move V P M → Type 0
+abbrev pub GoesOn : {V P M : Type 0} → (Mode → M → V → P → Type 0) → Move V P M → Type 0
 GoesOn Holds (To d m p k) = Holds d m p k
 GoesOn Holds (Begin d p k) = Unit {0}
 GoesOn Holds (Answer v) = Unit {0}
@@ -151,7 +151,7 @@ pub record Algorithm (V P M : Type 0) : Type 0 where
   -- the line to which an embedded scan leads back
   pub back : ℕ
   -- what a line does to a process with this number
-  pub move : ℕ → Task → M → V → P → Move V P M
+  pub move : ℕ → Mode → M → V → P → Move V P M
   -- where an operation begins
   pub counter : Op → P
   -- 1 for a line that ends a double collect, else 0; whether a line goes back to start another one
@@ -206,7 +206,7 @@ by_step a time m i q (At d k) = by_move a time m q k (a.move i d m q.variables k
 abbrev pub by_admission : {V P M : Type 0} → Algorithm V P M → ℕ → M → TypedProcess V P M → Op → Option Reason → Change V P M
 by_admission a time m q op (Some why) = Same why
 by_admission a time m q op None =
-    New m (record { control = At (task_of op) (a.counter op); variables = q.variables; auxiliary = called_auxiliary time op q.auxiliary }) Called
+    New m (record { control = At (mode_of op) (a.counter op); variables = q.variables; auxiliary = called_auxiliary time op q.auxiliary }) Called
 
 abbrev pub by_call : {V P M : Type 0} → Algorithm V P M → ℕ → M → ℕ → Op → TypedProcess V P M → Control P → Change V P M
 by_call a time m i op q Idle = by_admission a time m q op (call_skip a.source.kind a.shape i op)
@@ -270,5 +270,5 @@ shown a m (Answer v) = Ok (Answers v)
 shown a m Finish = Ok Finishes
 
 -- a move keeps the operation
-abbrev pub SameOp : {V P M : Type 0} → Algorithm V P M → Task → Move V P M → Type 0
+abbrev pub SameOp : {V P M : Type 0} → Algorithm V P M → Mode → Move V P M → Type 0
 SameOp a d v = LeadsTo (λ d' p k. op_of d' ≡ op_of d) v

@@ -22,12 +22,12 @@ use Rattle.snap_semantics.specs.declared.process.Reason.{Reason}
 use Rattle.snap_semantics.specs.declared.process.Reason.TheVariants as reason
 use Rattle.snap_semantics.specs.declared.instr.Instr.{Instr}
 use Rattle.snap_semantics.specs.declared.instr.Instr.TheVariants.{Put, IfAll, Return}
-use Rattle.snap_runs.specs.Deeds.{Answer, returned, deed_at, deed_in, deed_of}
+use Rattle.snap_runs.specs.StepRoles.{Answer, returned, step_role_at, step_role_in, step_role_of}
 use Rattle.snap_runs.proofs.Computing.{both, same_number}
 use Rattle.snap_runs.proofs.OneItem.{answer_is}
 use Rattle.snap_semantics.specs.declared.process.Status.{Status}
 use Rattle.snap_semantics.specs.declared.process.Status.TheVariants.{Idle, Busy, Trapped, Crashed}
-use Rattle.snap_runs.specs.Run.{Run, Fits, state, item, outcome as outcome_at}
+use Rattle.snap_runs.specs.Run.{Run, IsValidRun, state, item, outcome as outcome_at}
 use Rattle.snap_runs.specs.Scan.{Ends}
 use Rattle.snap_runs.specs.Promises.{HavePoints}
 use Rattle.snap_runs.specs.Audit.{is_called, last_call, least_point, verdict_of, verdict_at, verdicts, audit, HasFoundPoint, IsLeastPoint, IsOfScan, VerdictsHavePoints}
@@ -202,7 +202,7 @@ turned s n S (Call k o) one = call_turned s n S k o (process_at S k) (process_at
 turned s n S (Crash k) one = crash_turned S k (process_at S k) (process_at S k).status one refl
 
 -- an answer is given to a scan
-scanning_by : (a : Activity) (l : Locals) (v : List ℕ) (i : Option Instr) → deed_at a l i ≡ Answer v → a.op ≡ op.Scan
+scanning_by : (a : Activity) (l : Locals) (v : List ℕ) (i : Option Instr) → step_role_at a l i ≡ Answer v → a.op ≡ op.Scan
 scanning_by a l v None h = absurd cc
 scanning_by a l v (Some (Return x)) h = scan_returned (value_at x l.views []) a.op a.link h
   where
@@ -214,7 +214,7 @@ scanning_by a l v (Some (Put i t)) h = absurd cc
 scanning_by a l v (Some _) h = absurd cc
 
 -- only a scan is answered
-scanning : (s : Source) (l : Locals) (v : List ℕ) (t : Status) → deed_in s l t ≡ Answer v → WasBusy op.Scan t
+scanning : (s : Source) (l : Locals) (v : List ℕ) (t : Status) → step_role_in s l t ≡ Answer v → WasBusy op.Scan t
 unfolding WasBusy
 scanning s l v Idle h = absurd cc
 scanning s l v (Trapped c a) h = absurd cc
@@ -225,7 +225,7 @@ scanning s l v (Busy a) h = scanning_by a l v (instr_at s.lines a.line) h
 answered_scan : (s : Source) (n : Counts) (S : State) (x : Item) (v : List ℕ) → (done s n S x).1 ≡ outcome.Answered v → WasBusy op.Scan (process_at S (who x)).status
 answered_scan s n S x v e = answered_as s S x v (answer_is s n S x v e)
   where
-    answered_as : (s : Source) (S : State) (x : Item) (v : List ℕ) → deed_of s S x ≡ Answer v → WasBusy op.Scan (process_at S (who x)).status
+    answered_as : (s : Source) (S : State) (x : Item) (v : List ℕ) → step_role_of s S x ≡ Answer v → WasBusy op.Scan (process_at S (who x)).status
     answered_as s S (Step k) v h = scanning s (process_at S k).locals v (process_at S k).status h
     answered_as s S (Call k o) v h = absurd cc
     answered_as s S (Crash k) v h = absurd cc
@@ -293,7 +293,7 @@ least_of_scan r view c e (Some p) order h =
     let high : p < c + suc (e - c) = h.1 in
     (h.0, omega (arith, high, order), h.2, h.3)
 
-module _ (r : Run) (fits : Fits r) where
+module _ (r : Run) (fits : IsValidRun r) where
   -- process i was called at item c and has not been answered up to item t
   record Running (i c t : ℕ) (o : Op) : Type 0 where
     first : 0 < c
@@ -503,7 +503,7 @@ found_by r view t u (suc more) low high h = elim (eq-or-lt_of_le low) [
     found_later false h = h
 
 -- the point of a finished scan is found
-point_found : (r : Run) (v : Verdict) → HavePoints r → Fits r → IsOfScan r v → HasFoundPoint v
+point_found : (r : Run) (v : Verdict) → HavePoints r → IsValidRun r → IsOfScan r v → HasFoundPoint v
 point_found r v points fits h =
     let p = points fits v.process None v.call v.answer h.view h.finished in
     let from : v.call ≤ p.0 = p.1 in
@@ -511,7 +511,7 @@ point_found r v points fits h =
     subst (λ (o : Option ℕ). IsSome o) (sym h.point_is) (found_by r h.view v.call p.0 (suc (v.answer - v.call)) from (omega (arith, from, to)) p.3)
 
 -- of each verdict
-all_found : (r : Run) (vs : List Verdict) → HavePoints r → Fits r → AllByRecursion (IsOfScan r) vs → AllByRecursion HasFoundPoint vs
+all_found : (r : Run) (vs : List Verdict) → HavePoints r → IsValidRun r → AllByRecursion (IsOfScan r) vs → AllByRecursion HasFoundPoint vs
 all_found r [] points fits h = tt
 all_found r (v ∷ vs) points fits h = (point_found r v points fits h.0, all_found r vs points fits h.1)
 

@@ -13,19 +13,19 @@ use Rattle.snap_semantics.specs.declared.process.Item.TheVariants.{Step, Call, C
 use Rattle.snap_semantics.specs.declared.process.Op.{Op}
 use Rattle.snap_semantics.specs.declared.process.Op.TheVariants as op
 use Rattle.snap_semantics.specs.declared.process.Outcome.{Outcome}
-use Rattle.snap_semantics.specs.declared.process.Outcome.TheVariants.{Called, Answered, Finished as Done}
+use Rattle.snap_semantics.specs.declared.process.Outcome.TheVariants.{Called, Answered, Finished}
 use Rattle.snap_semantics.specs.declared.process.Reason.{Reason}
 use Rattle.snap_semantics.specs.declared.process.Status.{Status}
 use Rattle.snap_semantics.specs.declared.process.Status.TheVariants.{Idle, Busy, Trapped, Crashed}
 use Rattle.snap_semantics.specs.Source.{Source, instr_at}
 use Rattle.snap_semantics.specs.State.{Locals, Memory, Process, State, nobody, process_at, initial_process}
 use Rattle.snap_semantics.specs.Table.{Effect, Goes, Answers, Finishes, effect_at, leave, step, call_skip, called, call, crash, done, who}
-use Rattle.snap_runs.specs.Run.{Run, Fits, state, item, outcome}
+use Rattle.snap_runs.specs.Run.{Run, IsValidRun, state, item, outcome}
 use Rattle.snap_runs.specs.Operation.{EndsAreOfOperations}
-use Rattle.snap_runs.specs.Scan.{Finished, is_not_skipped}
-use Rattle.snap_runs.specs.Update.{Updating}
+use Rattle.snap_runs.specs.Scan.{FinishedScan, is_not_skipped}
+use Rattle.snap_runs.specs.Update.{PendingUpdate}
 use Rattle.snap_runs.proofs.Embedding.{next_state}
-use Rattle.snap_runs.proofs.Turns.{MaySkip, Turn, skipped, calls, goes, answers, finishes, traps, crashes, status_of, own_turn}
+use Rattle.snap_runs.proofs.Transitions.{MaySkip, Transition, skipped, calls, goes, answers, finishes, traps, crashes, status_of, own_turn}
 
 -- An item leaves a state, or changes its process and perhaps the memory.
 abbrev pub Touches : State → ℕ → State → Type 0
@@ -86,26 +86,26 @@ Occupied o (Crashed was) = Unit {0}
 -- how such an operation ends
 abbrev pub EndsWith : Op → Outcome → Type 0
 EndsWith op.Scan (Answered view) = Unit {0}
-EndsWith (op.Update word value) Done = Unit {0}
+EndsWith (op.Update word value) Finished = Unit {0}
 EndsWith _ _ = ⊥
 
 -- how any operation ends
 abbrev pub IsEnd : Outcome → Type 0
 IsEnd (Answered view) = Unit {0}
-IsEnd Done = Unit {0}
+IsEnd Finished = Unit {0}
 IsEnd _ = ⊥
 
-stays_occupied : {s s' : Status} {x : Item} {out : Outcome} (o : Op) → Turn s x out s' → (EndsWith o out → ⊥) → Occupied o s → Occupied o s'
+stays_occupied : {s s' : Status} {x : Item} {out : Outcome} (o : Op) → Transition s x out s' → (EndsWith o out → ⊥) → Occupied o s → Occupied o s'
 stays_occupied o (skipped s x why may) not_end h = h
 stays_occupied o (calls i p line) not_end h = absurd h
 stays_occupied o (goes i a line link) not_end h = h
 stays_occupied o (answers i a view is) not_end h = absurd (not_end (subst (λ p. EndsWith p (Answered view)) (sym is ∙ h) tt))
-stays_occupied o (finishes i a word value is) not_end h = absurd (not_end (subst (λ p. EndsWith p Done) (sym is ∙ h) tt))
+stays_occupied o (finishes i a word value is) not_end h = absurd (not_end (subst (λ p. EndsWith p Finished) (sym is ∙ h) tt))
 stays_occupied o (traps i a cause) not_end h = tt
 stays_occupied o (crashes i s was) not_end h = tt
 
 -- a call finds its process idle, and occupies it
-is_called : {s s' : Status} {x : Item} {out : Outcome} (i : ℕ) (o : Op) → Turn s x out s' → out ≡ Called → x ≡ Call i o →
+is_called : {s s' : Status} {x : Item} {out : Outcome} (i : ℕ) (o : Op) → Transition s x out s' → out ≡ Called → x ≡ Call i o →
     (s ≡ Idle) × Occupied o s'
 is_called i o (skipped s x why may) out is = absurd (cc)
 is_called i o (calls k p line) out is = (refl, cc)
@@ -116,7 +116,7 @@ is_called i o (traps k a cause) out is = absurd (cc)
 is_called i o (crashes k s was) out is = absurd (cc)
 
 -- an answer ends a scan, and a finish an update
-is_answered : {s s' : Status} {x : Item} {out : Outcome} (view : List ℕ) → Turn s x out s' → out ≡ Answered view →
+is_answered : {s s' : Status} {x : Item} {out : Outcome} (view : List ℕ) → Transition s x out s' → out ≡ Answered view →
     (a : Activity) × (s ≡ Busy a) × (a.op ≡ op.Scan)
 is_answered v (skipped s x why may) out = absurd (cc)
 is_answered v (calls k p line) out = absurd (cc)
@@ -126,7 +126,7 @@ is_answered v (finishes k a word value e) out = absurd (cc)
 is_answered v (traps k a cause) out = absurd (cc)
 is_answered v (crashes k s was) out = absurd (cc)
 
-is_finished : {s s' : Status} {x : Item} {out : Outcome} → Turn s x out s' → out ≡ Done →
+is_finished : {s s' : Status} {x : Item} {out : Outcome} → Transition s x out s' → out ≡ Finished →
     (a : Activity) × (word : ℕ) × (value : ℕ) × (s ≡ Busy a) × (a.op ≡ op.Update word value)
 is_finished (skipped s x why may) out = absurd (cc)
 is_finished (calls k p line) out = absurd (cc)
@@ -137,7 +137,7 @@ is_finished (traps k a cause) out = absurd (cc)
 is_finished (crashes k s was) out = absurd (cc)
 
 -- a busy process that steps is not skipped
-pub is_not_skipped_there : {s s' : Status} {x : Item} {out : Outcome} (i : ℕ) (a : Activity) → Turn s x out s' → s ≡ Busy a → x ≡ Step i →
+pub is_not_skipped_there : {s s' : Status} {x : Item} {out : Outcome} (i : ℕ) (a : Activity) → Transition s x out s' → s ≡ Busy a → x ≡ Step i →
     is_not_skipped out ≡ true
 is_not_skipped_there i a (skipped s x why may) is step = absurd (subst (λ y. MaySkip (Busy a) y) step (subst (λ y. MaySkip y x) is may))
 is_not_skipped_there i a (calls k p line) is step = refl
@@ -147,7 +147,7 @@ is_not_skipped_there i a (finishes k b word value e) is step = refl
 is_not_skipped_there i a (traps k b cause) is step = refl
 is_not_skipped_there i a (crashes k s was) is step = refl
 
-module _ (r : Run) (fits : Fits r) where
+module _ (r : Run) (fits : IsValidRun r) where
   abbrev pub status : ℕ → ℕ → Status
   status t i = status_of (state r t) i
 
@@ -162,9 +162,9 @@ module _ (r : Run) (fits : Fits r) where
       ∙ processes_count t (omega arith)
 
   pub turn : (t i : ℕ) → t < length r.items → IsOneOf r.shape.n i → who (item r (suc t)) ≡ i →
-      Turn (status t i) (item r (suc t)) (outcome r (suc t)) (status (suc t) i)
+      Transition (status t i) (item r (suc t)) (outcome r (suc t)) (status (suc t) i)
   turn t i h one his =
-      subst (λ (S : State). Turn (status t i) (item r (suc t)) (outcome r (suc t)) (status_of S i)) (sym (next_state r t h))
+      subst (λ (S : State). Transition (status t i) (item r (suc t)) (outcome r (suc t)) (status_of S i)) (sym (next_state r t h))
       (own_turn r.source r.shape (state r t) i (processes_count t (omega arith)) one (item r (suc t)) his)
 
   pub other_turn : (t i : ℕ) → t < length r.items → IsOneOf r.shape.n i → who (item r (suc t)) ≢ i → status (suc t) i ≡ status t i
@@ -248,7 +248,7 @@ module _ (r : Run) (fits : Fits r) where
   longer_at i t (Trapped cause a) not_end h = tt
   longer_at i t (Crashed was) not_end h = tt
 
-  next_under : {s s' : Status} {x : Item} {out : Outcome} (i t : ℕ) → Turn s x out s' → item r (suc t) ≡ x → outcome r (suc t) ≡ out →
+  next_under : {s s' : Status} {x : Item} {out : Outcome} (i t : ℕ) → Transition s x out s' → item r (suc t) ≡ x → outcome r (suc t) ≡ out →
       who (item r (suc t)) ≡ i → UnderAt i t s → UnderAt i (suc t) s'
   next_under i t (skipped s x why may) is comes his h = longer_at i t s (λ own ends. subst IsEnd comes ends) h
   next_under i t (calls k o line) is comes his h =
@@ -279,7 +279,7 @@ module _ (r : Run) (fits : Fits r) where
 
   -- Each answer is the end of a scan that was called.
   pub answer_ends : (t : ℕ) (view : List ℕ) → t < length r.items → outcome r (suc t) ≡ Answered view →
-      (c : ℕ) × Finished r (who (item r (suc t))) None c (suc t) view
+      (c : ℕ) × FinishedScan r (who (item r (suc t))) None c (suc t) view
   answer_ends t view h out =
       let i = who (item r (suc t)) in
       let one = item_one t h in
@@ -302,8 +302,8 @@ module _ (r : Run) (fits : Fits r) where
       )
 
   -- Each end of an update is that of one that was called.
-  pub finish_ends : (t : ℕ) → t < length r.items → outcome r (suc t) ≡ Done →
-      (c : ℕ) × (word : ℕ) × (value : ℕ) × Updating r (who (item r (suc t))) word value c (suc t) × (c < suc t)
+  pub finish_ends : (t : ℕ) → t < length r.items → outcome r (suc t) ≡ Finished →
+      (c : ℕ) × (word : ℕ) × (value : ℕ) × PendingUpdate r (who (item r (suc t))) word value c (suc t) × (c < suc t)
   finish_ends t h out =
       let i = who (item r (suc t)) in
       let one = item_one t h in

@@ -25,12 +25,12 @@ use Rattle.snap_semantics.specs.Run.{after}
 use Rattle.snap_semantics.specs.Source.{Source, instr_at}
 use Rattle.snap_semantics.specs.State.{Locals, Memory, Process, State, nobody, process_at, initial, initial_process}
 use Rattle.snap_semantics.specs.Table.{Effect, Goes, Answers, Finishes, effect_at, leave, step, entry, owner_skip, call_skip, called, call, crashed, crash, done, who}
-use Rattle.snap_runs.specs.Run.{Run, Fits, state, item, outcome}
+use Rattle.snap_runs.specs.Run.{Run, IsValidRun, state, item, outcome}
 use Rattle.snap_runs.specs.WaitFree.{is_alive}
 use Rattle.snap_runs.proofs.Calls.{turn, item_one}
 use Rattle.snap_runs.proofs.Embedding.{map_same}
 use Rattle.snap_runs.proofs.Steady.{IsNoCrash, Steady}
-use Rattle.snap_runs.proofs.Turns.{Turn, skipped, calls, goes, answers, finishes, traps, crashes}
+use Rattle.snap_runs.proofs.Transitions.{Transition, skipped, calls, goes, answers, finishes, traps, crashes}
 
 -- a call that is skipped however its process stands: no word has number 0
 abbrev pub pause : ℕ → Item
@@ -320,10 +320,9 @@ calm_list r = calm_items r.source r.shape (initial r.source r.shape) r.items
 abbrev pub calm : Run → Run
 calm r = record { source = r.source; shape = r.shape; items = calm_list r }
 
-pub steady_of : (r : Run) → Fits r → Steady (calm r)
+pub steady_of : (r : Run) → IsValidRun r → Steady (calm r)
 steady_of r fits = record {
   all = calm_who r.source r.shape r.shape.n r.items (initial r.source r.shape) fits.all;
-  few = subst (λ k. k ≤ 1000000) (sym (calm_length r.source r.shape r.items (initial r.source r.shape))) fits.few;
   steady = calm_steady r.source r.shape r.items (initial r.source r.shape);
 }
 
@@ -333,7 +332,7 @@ first_calm s shape =
     (map_same revived shape.n (initial_process s shape))
 
 -- who has not crashed has not crashed after an item that is no crash
-uncrashed_after : {st st' : Status} {x : Item} {out : Outcome} → Turn st x out st' → IsNoCrash x → uncrashed st ≡ st → uncrashed st' ≡ st'
+uncrashed_after : {st st' : Status} {x : Item} {out : Outcome} → Transition st x out st' → IsNoCrash x → uncrashed st ≡ st → uncrashed st' ≡ st'
 uncrashed_after (skipped st x why may) quiet e = e
 uncrashed_after (calls i op line) quiet e = refl
 uncrashed_after (goes i a line link) quiet e = refl
@@ -380,7 +379,7 @@ module _ (r : Run) where
     pub outcome_is : outcome (calm r) (suc t) ≡ outcomes.Skipped why
     pub dead : IsDead (item r (suc t)) (outcome r (suc t)) (process_at (state r t) (who (item r (suc t)))).status
 
-  pub kept_or_paused : Fits r → (t : ℕ) → t < length r.items → Kept t ⊎ Paused t
+  pub kept_or_paused : IsValidRun r → (t : ℕ) → t < length r.items → Kept t ⊎ Paused t
   kept_or_paused fits t h =
       let x = item r (suc t) in
       let one = item_one r fits t h in

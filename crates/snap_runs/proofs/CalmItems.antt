@@ -14,9 +14,9 @@ use Rattle.snap_semantics.specs.declared.process.Status.{Status}
 use Rattle.snap_semantics.specs.declared.process.Status.TheVariants.{Crashed}
 use Rattle.snap_semantics.specs.State.{Process, process_at, values}
 use Rattle.snap_semantics.specs.Table.{who}
-use Rattle.snap_runs.specs.Run.{Run, Fits, state, before, item, outcome}
-use Rattle.snap_runs.specs.Scan.{line_in, link_in, IsCallLine, Returns, Starts, Ends, Scan, Finished, count, steps, is_if_all, is_stepped, is_not_skipped, ends_double_collect, takes_step, double_collects, own_steps}
-use Rattle.snap_runs.specs.Update.{is_at, executes, IsDone, Updating}
+use Rattle.snap_runs.specs.Run.{Run, IsValidRun, state, before, item, outcome}
+use Rattle.snap_runs.specs.Scan.{line_in, link_in, IsCallLine, ReturnsView, Starts, Ends, PendingScan, FinishedScan, count, steps, is_if_all, is_stepped, is_not_skipped, ends_double_collect, takes_step, double_collects, own_steps}
+use Rattle.snap_runs.specs.Update.{is_at, executes, IsDone, PendingUpdate}
 use Rattle.snap_runs.proofs.Calm.{IsDead, calm, same_length, state_is, process_is, Kept, Paused, kept_or_paused}
 use Rattle.snap_runs.proofs.Computing.{same_number, same_from}
 use Rattle.snap_runs.proofs.Executing.{step_of}
@@ -57,7 +57,7 @@ module _ (r : Run) where
   locals_before zero i = locals_same zero i
   locals_before (suc t) i = locals_same t i
 
-  module _ (fits : Fits r) where
+  module _ (fits : IsValidRun r) where
     abbrev status : ℕ → ℕ → Status
     status t i = (process_at (state r t) i).status
 
@@ -181,7 +181,7 @@ module _ (r : Run) where
         elim (kept_or_paused r fits t h) [
           | inl k ↦ (let same = stands_before t i k (ap who s.0) in (
             k.item_is ∙ s.0,
-            subst (λ (p : Process). Returns (line_in r.source p.status) p.locals view) (sym same) s.1,
+            subst (λ (p : Process). ReturnsView (line_in r.source p.status) p.locals view) (sym same) s.1,
             ap (λ (p : Process). link_in p.status) same ∙ s.2,
           ))
           | inr k ↦ absurd (let d = dead_at t i k (ap (steps i) s.0 ∙ same_number i) in
@@ -198,7 +198,7 @@ module _ (r : Run) where
         elim (kept_or_paused r fits t h) [
           | inl k ↦ (let same = stands_before t i k (ap who (sym k.item_is ∙ s.0)) in (
             sym k.item_is ∙ s.0,
-            subst (λ (p : Process). Returns (line_in r.source p.status) p.locals view) same s.1,
+            subst (λ (p : Process). ReturnsView (line_in r.source p.status) p.locals view) same s.1,
             ap (λ (p : Process). link_in p.status) (sym same) ∙ s.2,
           ))
           | inr k ↦ absurd (let e = sym k.item_is ∙ s.0 in cc)
@@ -226,7 +226,7 @@ module _ (r : Run) where
     at_executes i line (suc t) pos h = executes_same i line t (omega arith)
 
     -- scans
-    pub scan_to : (i : ℕ) (link : Option ℕ) (c e : ℕ) → Scan r i link c e → Scan (calm r) i link c e
+    pub scan_to : (i : ℕ) (link : Option ℕ) (c e : ℕ) → PendingScan r i link c e → PendingScan (calm r) i link c e
     scan_to i link c e s =
         let order : c ≤ e = s.order in
         let last : e ≤ length r.items = s.last in
@@ -240,7 +240,7 @@ module _ (r : Run) where
           goes_on = λ t view lt less ends. s.goes_on t view lt less (at_ends_from i link view t (omega arith) (omega arith) ends);
         }
 
-    pub scan_from : (i : ℕ) (link : Option ℕ) (c e : ℕ) → Scan (calm r) i link c e → Scan r i link c e
+    pub scan_from : (i : ℕ) (link : Option ℕ) (c e : ℕ) → PendingScan (calm r) i link c e → PendingScan r i link c e
     scan_from i link c e s =
         let order : c ≤ e = s.order in
         let last : e ≤ length r.items = subst (λ k. e ≤ k) (same_length r) s.last in
@@ -254,13 +254,13 @@ module _ (r : Run) where
           goes_on = λ t view lt less ends. s.goes_on t view lt less (at_ends_to i link view t (omega arith) (omega arith) ends);
         }
 
-    pub finished_to : (i : ℕ) (link : Option ℕ) (c e : ℕ) (view : List ℕ) → Finished r i link c e view → Finished (calm r) i link c e view
+    pub finished_to : (i : ℕ) (link : Option ℕ) (c e : ℕ) (view : List ℕ) → FinishedScan r i link c e view → FinishedScan (calm r) i link c e view
     finished_to i link c e view f =
         let order : c < e = f.order in
         let last : e ≤ length r.items = f.scan.last in
         record { scan = scan_to i link c e f.scan; order = order; ends = at_ends_to i link view e (omega arith) last f.ends }
 
-    pub finished_from : (i : ℕ) (link : Option ℕ) (c e : ℕ) (view : List ℕ) → Finished (calm r) i link c e view → Finished r i link c e view
+    pub finished_from : (i : ℕ) (link : Option ℕ) (c e : ℕ) (view : List ℕ) → FinishedScan (calm r) i link c e view → FinishedScan r i link c e view
     finished_from i link c e view f =
         let s = scan_from i link c e f.scan in
         let order : c < e = f.order in
@@ -309,7 +309,7 @@ module _ (r : Run) where
           | inr k ↦ absurd (let e = sym k.outcome_is ∙ s.1 in cc)
         ]
 
-    pub updating_to : (i word value c e : ℕ) → Updating r i word value c e → Updating (calm r) i word value c e
+    pub updating_to : (i word value c e : ℕ) → PendingUpdate r i word value c e → PendingUpdate (calm r) i word value c e
     updating_to i word value c e up =
         let order : c ≤ e = up.order in
         let last : e ≤ length r.items = up.last in
@@ -325,7 +325,7 @@ module _ (r : Run) where
           goes_on = λ t lt less done. up.goes_on t lt less (done_from i t (omega arith) (omega arith) done);
         }
 
-    pub updating_from : (i word value c e : ℕ) → Updating (calm r) i word value c e → Updating r i word value c e
+    pub updating_from : (i word value c e : ℕ) → PendingUpdate (calm r) i word value c e → PendingUpdate r i word value c e
     updating_from i word value c e up =
         let order : c ≤ e = up.order in
         let last : e ≤ length r.items = subst (λ k. e ≤ k) (same_length r) up.last in

@@ -6,9 +6,9 @@ use Rattle.snap_semantics.specs.declared.process.Status.TheVariants.{Idle, Busy,
 use Rattle.snap_semantics.specs.Source.{Name}
 use Rattle.snap_semantics.specs.State.{Locals, Process, value_at, process_at}
 use Rattle.snap_semantics.specs.Table.{who}
-use Rattle.snap_runs.specs.Run.{Run, Fits, state, before, item}
+use Rattle.snap_runs.specs.Run.{Run, IsValidRun, state, before, item}
 use Rattle.snap_runs.specs.Scan.{own_steps}
-use Rattle.snap_runs.specs.Update.{is_at, executes, Updating}
+use Rattle.snap_runs.specs.Update.{is_at, executes, PendingUpdate}
 use Rattle.snap_runs.specs.Promises.{HasTrapped, NeverTraps, ChangesOnlyAt, WritesItsUpdate, WritesOnce, HavePoints, CollectsAtMost, StepsAtMost, row_place, ObservedMove, MovesAreWrites, CollectLines, ExecutesFor, IsUpdating, WritesWord, CleanReads, PassedTestsAreClean, BorrowedViewsAreLent, OwnUpdatesAreSeen}
 use Rattle.snap_runs.proofs.Calm.{calm, uncrashed, same_length, process_is, steady_of}
 use Rattle.snap_runs.proofs.CalmItems.{values_same, locals_same, locals_before, who_same, executes_same, same_executions, same_collects, same_steps, at_executes, scan_to, finished_to, finished_from, done_to, done_from, updating_to, updating_from}
@@ -37,7 +37,7 @@ module _ (r : Run) where
   abbrev pub OfCalm : (Run → Type 0) → Type 0
   OfCalm Promise = Steady (calm r) → Promise (calm r)
 
-  abbrev fits_calm : Fits r → Fits (calm r)
+  abbrev fits_calm : IsValidRun r → IsValidRun (calm r)
   fits_calm fits = fits_of (calm r) (steady_of r fits)
 
   short : (t : ℕ) → t ≤ length r.items → t ≤ length (calm r).items
@@ -91,14 +91,14 @@ module _ (r : Run) where
 
   -- the steps of an update
   abbrev pub UpdatesAtMost : ℕ → Run → Type 0
-  UpdatesAtMost most x = (i word value c e : ℕ) → Updating x i word value c e → own_steps x i c e ≤ most
+  UpdatesAtMost most x = (i word value c e : ℕ) → PendingUpdate x i word value c e → own_steps x i c e ≤ most
 
-  pub updates_at_most : (most : ℕ) → OfCalm (UpdatesAtMost most) → Fits r → UpdatesAtMost most r
+  pub updates_at_most : (most : ℕ) → OfCalm (UpdatesAtMost most) → IsValidRun r → UpdatesAtMost most r
   updates_at_most most p fits i word value c e up =
       subst (λ y. y ≤ most) (same_steps r fits i c e up.last) (p (steady_of r fits) i word value c e (updating_to r fits i word value c e up))
 
   -- a move that a scan sees
-  pub observed_to : Fits r → (line : ℕ) (row : Name) (i j t : ℕ) → 0 < t → t ≤ length r.items → ObservedMove r line row i j t →
+  pub observed_to : IsValidRun r → (line : ℕ) (row : Name) (i j t : ℕ) → 0 < t → t ≤ length r.items → ObservedMove r line row i j t →
       ObservedMove (calm r) line row i j t
   observed_to fits line row i j t pos h move = record {
     process = move.process;
@@ -122,14 +122,14 @@ module _ (r : Run) where
       }
 
   -- a passed test
-  executes_for : Fits r → (i line : ℕ) (scalar : Name) (k t : ℕ) → 0 < t → t ≤ length r.items → ExecutesFor (calm r) i line scalar k t →
+  executes_for : IsValidRun r → (i line : ℕ) (scalar : Name) (k t : ℕ) → 0 < t → t ≤ length r.items → ExecutesFor (calm r) i line scalar k t →
       ExecutesFor r i line scalar k t
   executes_for fits i line scalar k t pos h x = (
     sym (at_executes r fits i line t pos h) ∙ x.0,
     sym (ap (λ (l : Locals). value_at scalar l.scalars 0) (locals_before r t i)) ∙ x.1,
   )
 
-  writes_word : Fits r → (line k t : ℕ) → 0 < t → t ≤ length r.items → WritesWord r line k t → WritesWord (calm r) line k t
+  writes_word : IsValidRun r → (line k t : ℕ) → 0 < t → t ≤ length r.items → WritesWord r line k t → WritesWord (calm r) line k t
   writes_word fits line k zero pos h w = absurd (omega arith)
   writes_word fits line k (suc t) pos h w = (
     w.0,
@@ -138,7 +138,7 @@ module _ (r : Run) where
     subst (λ (q : Process). IsUpdating k q.status) (sym (process_is r t w.0)) (updating_too k (process_at (state r t) w.0).status w.3),
   )
 
-  clean_reads : Fits r → (lines : CollectLines) (writes i c t middle k : ℕ) → t ≤ length r.items → CleanReads (calm r) lines writes i c t middle k →
+  clean_reads : IsValidRun r → (lines : CollectLines) (writes i c t middle k : ℕ) → t ≤ length r.items → CleanReads (calm r) lines writes i c t middle k →
       CleanReads r lines writes i c t middle k
   clean_reads fits lines writes i c t middle k last x =
       let after_start : c < x.first = x.after_start in

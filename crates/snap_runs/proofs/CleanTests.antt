@@ -12,10 +12,10 @@ use Rattle.snap_semantics.specs.declared.process.Item.{Item}
 use Rattle.snap_semantics.specs.declared.process.Op.{Op}
 use Rattle.snap_semantics.specs.declared.process.Op.TheVariants.{Update}
 use Rattle.snap_runs.specs.Run.{Run, state}
-use Rattle.snap_runs.specs.Scan.{Scan, ends_double_collect, double_collects}
+use Rattle.snap_runs.specs.Scan.{PendingScan, ends_double_collect, double_collects}
 use Rattle.snap_runs.specs.Update.{is_at, executes}
 use Rattle.snap_runs.specs.Promises.{CollectLines, ExecutesFor, IsUpdating, WritesWord, CleanReads}
-use Rattle.snap_runs.proofs.Algorithm.{Task, Updating, Control, At, WhenBusy, TypedProcess, Algorithm, typed_at, typed_state, status_of, process_of}
+use Rattle.snap_runs.proofs.Algorithm.{Mode, Updating, Control, At, WhenBusy, TypedProcess, Algorithm, typed_at, typed_state, status_of, process_of}
 use Rattle.snap_runs.proofs.Collecting as collecting
 use Rattle.snap_runs.proofs.Collecting.{Copies, Phase, Away, ReadsFirst, ReadsSecond, Collected}
 use Rattle.snap_runs.proofs.Counting.{count_later}
@@ -30,7 +30,7 @@ use Rattle.snap_runs.proofs.WordWrites as writes
 
 module _ {V P M : Type 0} (a : Algorithm V P M) (lines : Lines V P M) (line : ℕ) (writer : writes.Writer a lines line) (listed : scans.Listed a lines)
     (run : scans.Execution a lines)
-    (updates : (t i : ℕ) (d : Task) → t < length run.items → IsOneOf a.shape.n i → (typed_at a (typed_state a run.items t) i).control ≡ At d writer.counter → IsUpdateOf (writer.Owned i) d)
+    (updates : (t i : ℕ) (d : Mode) → t < length run.items → IsOneOf a.shape.n i → (typed_at a (typed_state a run.items t) i).control ≡ At d writer.counter → IsUpdateOf (writer.Owned i) d)
     (numbered : executing.Numbered a) (its : numbered.counter_with line ≡ Some writer.counter) where
   abbrev items : List Item
   items = run.items
@@ -91,7 +91,7 @@ module _ {V P M : Type 0} (a : Algorithm V P M) (lines : Lines V P M) (line : �
         ]
 
     -- the process at its line, in the words of the machine
-    busy : (t i : ℕ) (d : Task) (k : P) → t ≤ length items → IsOneOf a.shape.n i → (at t i).control ≡ At d k →
+    busy : (t i : ℕ) (d : Mode) (k : P) → t ≤ length items → IsOneOf a.shape.n i → (at t i).control ≡ At d k →
         process_at (state r t) i ≡ process_of a (record { control = At d k; variables = (at t i).variables; auxiliary = (at t i).auxiliary })
     busy t i d k short one there =
         embed.process_at_is a items run.fits run.does t i short one
@@ -122,9 +122,9 @@ module _ {V P M : Type 0} (a : Algorithm V P M) (lines : Lines V P M) (line : �
         pub collected : c.phase test ≡ Collected
         pub ends : a.tests test ≡ 1
         -- no double collect has ended since it was started
-        pub fresh : (t i : ℕ) (d : Task) → t ≤ length items → IsOneOf a.shape.n i → (at t i).control ≡ At d test → (at t i).auxiliary.tested ≡ 0
+        pub fresh : (t i : ℕ) (d : Mode) → t ≤ length items → IsOneOf a.shape.n i → (at t i).control ≡ At d test → (at t i).auxiliary.tested ≡ 0
         -- where it passes, both copies have equal counts
-        pub agree : (t i : ℕ) (d : Task) → t ≤ length items → IsOneOf a.shape.n i → (at t i).control ≡ At d test →
+        pub agree : (t i : ℕ) (d : Mode) → t ≤ length items → IsOneOf a.shape.n i → (at t i).control ≡ At d test →
             is_at names.passed (status_of a (cases.moved a (suc t) (at t i) test (a.move i d (typed_state a items t).memory (at t i).variables test)).control) ≡ true →
             (k : ℕ) → IsOneOf a.shape.w k → seq_at (c.first (at t i).variables) k ≡ seq_at (c.second (at t i).variables) k
 
@@ -135,8 +135,8 @@ module _ {V P M : Type 0} (a : Algorithm V P M) (lines : Lines V P M) (line : �
         read_at : (phase : Phase) (number k t : ℕ) → ((l : P) → c.phase l ≡ phase → nat_eq (a.number l) number ≡ true) → t < length items → Reading phase k t →
             ExecutesFor r i number names.scalar k (suc t)
         read_at phase number k t lines_are short x = (
-          executing.line_executes a items run.fits run.does t i number x.task x.line short x.item x.control (lines_are x.line x.is),
-          ap (λ (p : Process). value_at names.scalar p.locals.scalars 0) (busy t i x.task x.line (omega arith) one x.control)
+          executing.line_executes a items run.fits run.does t i number x.mode x.line short x.item x.control (lines_are x.line x.is),
+          ap (λ (p : Process). value_at names.scalar p.locals.scalars 0) (busy t i x.mode x.line (omega arith) one x.control)
               ∙ h.scalar (at t i).variables ∙ x.place,
         )
 
@@ -144,7 +144,7 @@ module _ {V P M : Type 0} (a : Algorithm V P M) (lines : Lines V P M) (line : �
         Both s t p j = collecting.Both a c items run.fits run.does h.reaches h.quiet h.away i one s t p j
 
         -- the reads of one word before a passed test
-        reads : (link : Option ℕ) (c0 t k : ℕ) (d : Task) → Scan r i link c0 (suc t) → c0 ≤ t → (at t i).control ≡ At d test → IsOneOf a.shape.w k →
+        reads : (link : Option ℕ) (c0 t k : ℕ) (d : Mode) → PendingScan r i link c0 (suc t) → c0 ≤ t → (at t i).control ≡ At d test → IsOneOf a.shape.w k →
             seq_at (c.first (at t i).variables) k ≡ seq_at (c.second (at t i).variables) k →
             (b : Both (at t i).auxiliary.round t (at t i).variables (c.places + 1)) → CleanReads r names line i c0 (suc t) b.middle k
         reads link c0 t k d scan le there one_k equal b =
@@ -190,7 +190,7 @@ module _ {V P M : Type 0} (a : Algorithm V P M) (lines : Lines V P M) (line : �
                 let behind : seq_at (words (suc u)) k ≤ seq_at (words u2) k = count_grows k (suc u) u2 one_k (omega arith) short in
                 omega arith
 
-        pub passed_test : (link : Option ℕ) (c0 t : ℕ) → Scan r i link c0 (suc t) → c0 ≤ t → executes r i names.test (suc t) ≡ true →
+        pub passed_test : (link : Option ℕ) (c0 t : ℕ) → PendingScan r i link c0 (suc t) → c0 ≤ t → executes r i names.test (suc t) ≡ true →
             is_at names.passed (process_at (state r (suc t)) i).status ≡ true →
             (middle : ℕ) × ((k : ℕ) → IsOneOf a.shape.w k → CleanReads r names line i c0 (suc t) middle k)
         passed_test link c0 t scan le ex passes =

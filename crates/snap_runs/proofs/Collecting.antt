@@ -11,7 +11,7 @@ use Rattle.snap_semantics.specs.declared.process.Item.TheVariants.{Step}
 use Rattle.snap_semantics.specs.declared.process.Op.{Op}
 use Rattle.snap_semantics.specs.declared.process.Op.TheVariants.{Scan, Update}
 use Rattle.snap_runs.specs.Run.{}
-use Rattle.snap_runs.proofs.Algorithm.{Task, Control, Idle, At, WhenBusy, Move, To, Begin, Answer, Finish, TypedProcess, Algorithm, typed_at, item_at, typed_state, called_auxiliary}
+use Rattle.snap_runs.proofs.Algorithm.{Mode, Control, Idle, At, WhenBusy, Move, To, Begin, Answer, Finish, TypedProcess, Algorithm, typed_at, item_at, typed_state, called_auxiliary}
 use Rattle.snap_runs.proofs.Computing.{either}
 use Rattle.snap_runs.proofs.Embedding as embed
 use Rattle.snap_runs.proofs.Held.{word_at}
@@ -73,9 +73,9 @@ module _ {V P M : Type 0} (a : Algorithm V P M) (c : Copies V P M) where
     -- item suc t is a step of the process at a line of this phase, at this place
     pub record Reading (phase : Phase) (k t : ℕ) : Type 0 where
       pub item : item_at items t ≡ Step i
-      pub task : Task
+      pub mode : Mode
       pub line : P
-      pub control : (his t).control ≡ At task line
+      pub control : (his t).control ≡ At mode line
       pub is : c.phase line ≡ phase
       pub place : c.index (his t).variables ≡ k
 
@@ -138,7 +138,7 @@ module _ {V P M : Type 0} (a : Algorithm V P M) (c : Copies V P M) where
     longer s t p Collected h = both_on s t p p (c.places + 1) (c.places + 1) refl refl (λ k o lt. lt) h
 
     -- a copy that is read now
-    read_now : (phase : Phase) (s t : ℕ) (d : Task) (l : P) (x x' : List Word) (k : ℕ) → s ≤ t → item_at items t ≡ Step i → (his t).control ≡ At d l →
+    read_now : (phase : Phase) (s t : ℕ) (d : Mode) (l : P) (x x' : List Word) (k : ℕ) → s ≤ t → item_at items t ≡ Step i → (his t).control ≡ At d l →
         c.phase l ≡ phase → IsOneOf c.places (c.index (his t).variables) → c.places ≤ length x →
         x' ≡ slice_set x (c.index (his t).variables - 1) (word_at (words t) (c.index (his t).variables)) →
         (IsOneOf c.places k → k < c.index (his t).variables → Read phase s t x k) → IsOneOf c.places k → k < c.index (his t).variables + 1 →
@@ -150,7 +150,7 @@ module _ {V P M : Type 0} (a : Algorithm V P M) (c : Copies V P M) where
             time = t;
             after = le;
             before = omega arith;
-            reading = record { item = is; task = d; line = l; control = at; is = its; place = sym same };
+            reading = record { item = is; mode = d; line = l; control = at; is = its; place = sym same };
             copy = ap (λ y. word_at y k) set
                 ∙ get_or-set_at x (j - 1) (k - 1) (word_at (words t) j) no_word (ap (λ y. y - 1) same) (omega arith)
                 ∙ ap (word_at (words t)) (sym same);
@@ -162,7 +162,7 @@ module _ {V P M : Type 0} (a : Algorithm V P M) (c : Copies V P M) where
         ]
 
     -- a step at a line
-    advance : (s t : ℕ) (d : Task) (l : P) (p' : V) (to : Phase) → s ≤ t → item_at items t ≡ Step i → (his t).control ≡ At d l →
+    advance : (s t : ℕ) (d : Mode) (l : P) (p' : V) (to : Phase) → s ≤ t → item_at items t ≡ Step i → (his t).control ≡ At d l →
         Reached to (typed_state a items t).memory (his t).variables (c.phase l) p' →
         Progress s t (his t).variables (c.phase l) →
         Progress s (suc t) p' to
@@ -242,7 +242,7 @@ module _ {V P M : Type 0} (a : Algorithm V P M) (c : Copies V P M) where
     round_le : (t s : ℕ) (b : Bool) → s ≤ t → (if b then suc t else s) ≤ suc t
     round_le t s b le = either (λ x. x ≤ suc t) b (suc t) s (λ is. omega arith) (λ is. omega arith)
 
-    stepped : (t : ℕ) (d : Task) (k : P) (v : Move V P M) → item_at items t ≡ Step i → (his t).control ≡ At d k →
+    stepped : (t : ℕ) (d : Mode) (k : P) (v : Move V P M) → item_at items t ≡ Step i → (his t).control ≡ At d k →
         Reaches (typed_state a items t).memory (his t).variables k v → (his t).auxiliary.round ≤ t →
         Progress (his t).auxiliary.round t (his t).variables (c.phase k) → Tracked (suc t) (cases.moved a (suc t) (his t) k v)
     stepped t d k (To d' m' p' k') is at r le h =
@@ -272,7 +272,7 @@ module _ {V P M : Type 0} (a : Algorithm V P M) (c : Copies V P M) where
           | inl stays ↦ subst (Tracked (suc t)) (sym stays.same) (omega arith, kept t (his t).auxiliary.round (his t).variables (his t).control h.1)
           | inr busy_or_called ↦ elim busy_or_called [
             | inl s ↦ subst (Tracked (suc t)) (sym s.after)
-                (stepped t s.task s.counter (a.move i s.task (typed_state a items t).memory (his t).variables s.counter) s.item s.control
+                (stepped t s.mode s.counter (a.move i s.mode (typed_state a items t).memory (his t).variables s.counter) s.item s.control
                 (subst (WhenBusy (λ d k. Reaches (typed_state a items t).memory (his t).variables k (a.move i d (typed_state a items t).memory (his t).variables k))) s.control (reaches t i (omega arith) one))
                 le
                 (subst (WhenBusy (λ d k. Progress (his t).auxiliary.round t (his t).variables (c.phase k))) s.control h.1))

@@ -18,6 +18,9 @@ not_lt x y h = grind (arith, common_steps)
 pub le_true : (x y : ℕ) → x ≤ y → nat_le x y ≡ true
 le_true x y h = grind (arith, common_steps)
 
+pub le_from : (x y : ℕ) → nat_le x y ≡ true → x ≤ y
+le_from x y h = grind (arith, common_steps)
+
 pub same_number : (x : ℕ) → nat_eq x x ≡ true
 same_number x = grind (arith, common_steps)
 

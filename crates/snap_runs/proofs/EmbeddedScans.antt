@@ -8,10 +8,10 @@ use Rattle.snap_semantics.specs.State.{Process, process_at}
 use Rattle.snap_semantics.specs.declared.process.Item.{Item}
 use Rattle.snap_semantics.specs.declared.process.Item.TheVariants.{Step}
 use Rattle.snap_semantics.specs.declared.process.Op.{Op}
-use Rattle.snap_semantics.specs.declared.process.Op.TheVariants.{Scan as ScanOp, Update}
+use Rattle.snap_semantics.specs.declared.process.Op.TheVariants.{Scan, Update}
 use Rattle.snap_runs.specs.Run.{Run, state, outcome}
-use Rattle.snap_runs.specs.Scan.{Starts, Ends, Finished, IsCallLine, Returns, line_in, link_in}
-use Rattle.snap_runs.proofs.Algorithm.{Task, Scanning, Embedded, Updating, task_of, Control, Idle, At, WhenBusy, Move, To, Begin, Answer, Finish, TypedProcess, Algorithm, by_move, typed_at, outcome_of, item_at, typed_state, process_of, begun_auxiliary, called_auxiliary}
+use Rattle.snap_runs.specs.Scan.{Starts, Ends, FinishedScan, IsCallLine, ReturnsView, line_in, link_in}
+use Rattle.snap_runs.proofs.Algorithm.{Mode, Scanning, Embedded, Updating, mode_of, Control, Idle, At, WhenBusy, Move, To, Begin, Answer, Finish, TypedProcess, Algorithm, by_move, typed_at, outcome_of, item_at, typed_state, process_of, begun_auxiliary, called_auxiliary}
 use Rattle.snap_runs.proofs.Embedding as embed
 use Rattle.snap_runs.proofs.Flow.{Lines}
 use Rattle.snap_runs.proofs.ItemCases as cases
@@ -19,7 +19,7 @@ use Rattle.snap_runs.proofs.Scans as scans
 
 module _ {V P M : Type 0} (a : Algorithm V P M) (lines : Lines V P M) where
   -- what a line does to an embedded scan and to its view
-  abbrev pub Embeds : Task → V → P → Move V P M → Type 0
+  abbrev pub Embeds : Mode → V → P → Move V P M → Type 0
   Embeds Scanning p k (To d' m' p' k') = d' ≡ Scanning
   Embeds Scanning p k (Begin d' p' k') = ⊥
   Embeds (Embedded w x) p k (To d' m' p' k') =
@@ -54,7 +54,7 @@ module _ {V P M : Type 0} (a : Algorithm V P M) (lines : Lines V P M) where
     pub record Lending (c t : ℕ) (view : List ℕ) : Type 0 where
       pub to : ℕ
       pub before : to ≤ t
-      pub scan : Finished r i (Some a.back) c to view
+      pub scan : FinishedScan r i (Some a.back) c to view
 
     abbrev Tracked : ℕ → ℕ → List ℕ → Control P → Type 0
     Tracked t since view Idle = Unit {0}
@@ -77,7 +77,7 @@ module _ {V P M : Type 0} (a : Algorithm V P M) (lines : Lines V P M) where
     lends_longer c t view h = record { to = h.to; before = (let b : h.to ≤ t = h.before in omega arith); scan = h.scan }
 
     -- an item that is no step of the busy process
-    kept : (t since : ℕ) (view : List ℕ) (control : Control P) → ((d : Task) (k : P) → control ≡ At d k → item_at items t ≡ Step i → ⊥) →
+    kept : (t since : ℕ) (view : List ℕ) (control : Control P) → ((d : Mode) (k : P) → control ≡ At d k → item_at items t ≡ Step i → ⊥) →
         Tracked t since view control → Tracked (suc t) since view control
     kept t since view Idle no_step h = tt
     kept t since view (At Scanning k) no_step h = tt
@@ -85,17 +85,17 @@ module _ {V P M : Type 0} (a : Algorithm V P M) (lines : Lines V P M) where
     kept t since view (At (Updating w x) k) no_step h = λ late. lends_longer since t view (h late)
 
     -- the process at its line, in the words of the machine
-    busy : (t : ℕ) (d : Task) (k : P) → t < length items → (his t).control ≡ At d k →
+    busy : (t : ℕ) (d : Mode) (k : P) → t < length items → (his t).control ≡ At d k →
         process_at (state r t) i ≡ process_of a (record { control = At d k; variables = (his t).variables; auxiliary = (his t).auxiliary })
     busy t d k short at =
         embed.process_at_is a items run.fits run.does t i (omega arith) one
         ∙ ap (λ (p : Control P). process_of a (record { control = p; variables = (his t).variables; auxiliary = (his t).auxiliary })) at
 
     -- a line that does not return ends no scan
-    no_end : (t : ℕ) (d : Task) (k : P) (view : List ℕ) → t < length items → (his t).control ≡ At d k → (lines.IsReturn k → ⊥) →
+    no_end : (t : ℕ) (d : Mode) (k : P) (view : List ℕ) → t < length items → (his t).control ≡ At d k → (lines.IsReturn k → ⊥) →
         Ends r i (suc t) (Some a.back) view → ⊥
     no_end t d k view short at none ends =
-        none (listed.returns (his t).variables k view (subst (λ (p : Process). Returns (line_in a.source p.status) p.locals view) (busy t d k short at) ends.1)).0
+        none (listed.returns (his t).variables k view (subst (λ (p : Process). ReturnsView (line_in a.source p.status) p.locals view) (busy t d k short at) ends.1)).0
 
     -- a line that returns ends its embedded scan
     ended : (t w x : ℕ) (k : P) → t < length items → item_at items t ≡ Step i → (his t).control ≡ At (Embedded w x) k → lines.IsReturn k →
@@ -120,7 +120,7 @@ module _ {V P M : Type 0} (a : Algorithm V P M) (lines : Lines V P M) where
             order = omega arith;
             ends = (
               is,
-              subst (λ (p : Process). Returns (line_in a.source p.status) p.locals view) (sym (busy t (Embedded w x) k short at)) (listed.answers (his t).variables k returns),
+              subst (λ (p : Process). ReturnsView (line_in a.source p.status) p.locals view) (sym (busy t (Embedded w x) k short at)) (listed.answers (his t).variables k returns),
               ap (λ (p : Process). link_in p.status) (busy t (Embedded w x) k short at),
             );
           };
@@ -143,7 +143,7 @@ module _ {V P M : Type 0} (a : Algorithm V P M) (lines : Lines V P M) where
       goes_on = λ u view lo hi. absurd (omega arith);
     }
 
-    stepped : (t : ℕ) (d : Task) (k : P) (v : Move V P M) → t < length items → item_at items t ≡ Step i → (his t).control ≡ At d k →
+    stepped : (t : ℕ) (d : Mode) (k : P) (v : Move V P M) → t < length items → item_at items t ≡ Step i → (his t).control ≡ At d k →
         Embeds d (his t).variables k v → his (suc t) ≡ cases.moved a (suc t) (his t) k v →
         outcome r (suc t) ≡ outcome_of (by_move a (suc t) (typed_state a items t).memory (his t) k v) →
         Tracked t (his t).auxiliary.since (lines.answer (his t).variables) (At d k) →
@@ -171,8 +171,8 @@ module _ {V P M : Type 0} (a : Algorithm V P M) (lines : Lines V P M) where
     stepped t d k (Answer v) short is at e after out h = tt
     stepped t d k Finish short is at e after out h = tt
 
-    called : (t since : ℕ) (view : List ℕ) (op : Op) → Tracked t since view (At (task_of op) (a.counter op))
-    called t since view ScanOp = tt
+    called : (t since : ℕ) (view : List ℕ) (op : Op) → Tracked t since view (At (mode_of op) (a.counter op))
+    called t since view Scan = tt
     called t since view (Update word value) = λ late. absurd (not_late (Update word value) late)
 
     tracked : (t : ℕ) → t ≤ length items → Tracked t (his t).auxiliary.since (lines.answer (his t).variables) (his t).control
@@ -187,7 +187,7 @@ module _ {V P M : Type 0} (a : Algorithm V P M) (lines : Lines V P M) where
               (λ d k at is. absurd (let e = sym (stays.idle is) ∙ at in cc)) before)
           | inr busy_or_called ↦ elim busy_or_called [
             | inl s ↦ subst Next (sym s.after)
-                (stepped t s.task s.counter (a.move i s.task (typed_state a items t).memory (his t).variables s.counter) (omega arith) s.item s.control
+                (stepped t s.mode s.counter (a.move i s.mode (typed_state a items t).memory (his t).variables s.counter) (omega arith) s.item s.control
                 (subst (WhenBusy (λ d k. Embeds d (his t).variables k (a.move i d (typed_state a items t).memory (his t).variables k))) s.control (embeds t i (omega arith) one))
                 s.after s.outcome_is
                 (subst (Tracked t (his t).auxiliary.since (lines.answer (his t).variables)) s.control before))

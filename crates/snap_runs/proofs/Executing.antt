@@ -10,7 +10,7 @@ use Rattle.snap_semantics.specs.declared.process.Outcome.TheVariants.{Stepped}
 use Rattle.snap_runs.specs.Run.{Run, state, item}
 use Rattle.snap_runs.specs.Scan.{steps}
 use Rattle.snap_runs.specs.Update.{is_at, executes}
-use Rattle.snap_runs.proofs.Algorithm.{Task, Control, Idle, At, Move, To, TypedProcess, TypedState, Algorithm, by_move, by_step, typed_at, changed, happens, item_at, typed_state, status_of, stepped_auxiliary, memory_after}
+use Rattle.snap_runs.proofs.Algorithm.{Mode, Control, Idle, At, Move, To, TypedProcess, TypedState, Algorithm, by_move, by_step, typed_at, changed, happens, item_at, typed_state, status_of, stepped_auxiliary, memory_after}
 use Rattle.snap_runs.proofs.Computing.{both, same_number, same_from}
 use Rattle.snap_runs.proofs.Embedding as embed
 use Rattle.snap_runs.proofs.Steady.{Steady}
@@ -34,7 +34,7 @@ module _ {V P M : Type 0} (a : Algorithm V P M) where
   -- a process at a line stands at its program counter
   busy_at : (numbered : Numbered) (line : ℕ) (there : P) (control : Control P) → numbered.counter_with line ≡ Some there →
       is_at line (status_of a control) ≡ true →
-      (d : Task) × (control ≡ At d there)
+      (d : Mode) × (control ≡ At d there)
   busy_at numbered line there Idle is h = absurd (cc)
   busy_at numbered line there (At d k) is h = (d, ap (λ y. At d y) (at_number numbered k line there is h))
 
@@ -50,7 +50,7 @@ module _ {V P M : Type 0} (a : Algorithm V P M) where
     one_of t i h is = subst (λ y. IsOneOf a.shape.n (who y)) is (embed.one_at a items fits t h)
 
     -- a step at a line executes it
-    pub line_executes : (t i line : ℕ) (d : Task) (k : P) → t < length items → item_at items t ≡ Step i → (at t i).control ≡ At d k →
+    pub line_executes : (t i line : ℕ) (d : Mode) (k : P) → t < length items → item_at items t ≡ Step i → (at t i).control ≡ At d k →
         nat_eq (a.number k) line ≡ true →
         executes r i line (suc t) ≡ true
     line_executes t i line d k h is there same =
@@ -64,7 +64,7 @@ module _ {V P M : Type 0} (a : Algorithm V P M) where
     pub stands_at : (numbered : Numbered) (t i line : ℕ) (there : P) → t < length items → IsOneOf a.shape.n i →
         numbered.counter_with line ≡ Some there →
         executes r i line (suc t) ≡ true →
-        (item_at items t ≡ Step i) × ((d : Task) × ((at t i).control ≡ At d there))
+        (item_at items t ≡ Step i) × ((d : Mode) × ((at t i).control ≡ At d there))
     stands_at numbered t i line there h one is ex =
         let parts = both (steps i (item r (suc t))) (is_at line (process_at (state r t) i).status) ex in
         let stands : is_at line (status_of a (at t i).control) ≡ true =
@@ -72,20 +72,20 @@ module _ {V P M : Type 0} (a : Algorithm V P M) where
         (step_of i (item_at items t) parts.0, busy_at numbered line there (at t i).control is stands)
 
     -- the state after a step at a line, and its memory
-    state_after : (t i : ℕ) (d : Task) (k : P) → item_at items t ≡ Step i → (at t i).control ≡ At d k →
+    state_after : (t i : ℕ) (d : Mode) (k : P) → item_at items t ≡ Step i → (at t i).control ≡ At d k →
         typed_state a items (suc t) ≡ changed (typed_state a items t) i (by_step a (suc t) (typed_state a items t).memory i (at t i) (At d k))
     state_after t i d k is there =
         ap (happens a (suc t) (typed_state a items t)) is
         ∙ ap (λ (p : Control P). changed (typed_state a items t) i (by_step a (suc t) (typed_state a items t).memory i (at t i) p)) there
 
-    pub memory_next : (t i : ℕ) (d : Task) (k : P) → item_at items t ≡ Step i → (at t i).control ≡ At d k →
+    pub memory_next : (t i : ℕ) (d : Mode) (k : P) → item_at items t ≡ Step i → (at t i).control ≡ At d k →
         (typed_state a items (suc t)).memory ≡ memory_after (typed_state a items t).memory (a.move i d (typed_state a items t).memory (at t i).variables k)
     memory_next t i d k is there =
         ap (λ (x : TypedState V P M). x.memory) (state_after t i d k is there)
         ∙ embed.move_memory a (suc t) (typed_state a items t) i k (a.move i d (typed_state a items t).memory (at t i).variables k)
 
     -- the variables after a step at a line that goes on
-    pub variables_next : (t i : ℕ) (d : Task) (k : P) (d' : Task) (m' : M) (p' : V) (k' : P) → IsOneOf a.shape.n i → item_at items t ≡ Step i →
+    pub variables_next : (t i : ℕ) (d : Mode) (k : P) (d' : Mode) (m' : M) (p' : V) (k' : P) → IsOneOf a.shape.n i → item_at items t ≡ Step i →
         (at t i).control ≡ At d k →
         a.move i d (typed_state a items t).memory (at t i).variables k ≡ To d' m' p' k' →
         (at (suc t) i).variables ≡ p'

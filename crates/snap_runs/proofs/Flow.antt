@@ -1,15 +1,15 @@
 -- How control passes from line to line: a scan stays a scan until it returns, and an update writes once.
 use Rattle.std.specs.Prelude.{◌≡◌, ℕ, ◌+◌, ◌⊎◌, Bool, true, false, List, Option, Some, None, refl}
 use Rattle.std.proofs.Common.{sym, ◌∙◌, ap, subst, arith, inl, inr}
-use Rattle.snap_semantics.specs.declared.process.Op.TheVariants.{Scan as ScanOp, Update}
+use Rattle.snap_semantics.specs.declared.process.Op.TheVariants.{Scan, Update}
 use Rattle.snap_semantics.specs.Source.{instr_at}
-use Rattle.snap_runs.specs.Scan.{Returns}
-use Rattle.snap_runs.proofs.Algorithm.{Task, Scanning, Embedded, Updating, op_of, Control, Idle, At, Move, To, Begin, Answer, Finish, Algorithm}
+use Rattle.snap_runs.specs.Scan.{ReturnsView}
+use Rattle.snap_runs.proofs.Algorithm.{Mode, Scanning, Embedded, Updating, op_of, Control, Idle, At, Move, To, Begin, Answer, Finish, Algorithm}
 use Rattle.snap_runs.proofs.ScanSpan as span
 use Rattle.snap_runs.proofs.UpdateSpan as called
 
 -- in a scan, called or embedded
-abbrev pub IsInScan : Task → Type 0
+abbrev pub IsInScan : Mode → Type 0
 IsInScan Scanning = Unit {0}
 IsInScan (Embedded word value) = Unit {0}
 IsInScan (Updating word value) = ⊥
@@ -19,28 +19,28 @@ InScan Idle = ⊥
 InScan (At d k) = IsInScan d
 
 -- an update of such a word outside its scan, and a scan, called or embedded in an update of such a word
-abbrev pub IsUpdateOf : (ℕ → Type 0) → Task → Type 0
+abbrev pub IsUpdateOf : (ℕ → Type 0) → Mode → Type 0
 IsUpdateOf Owned Scanning = ⊥
 IsUpdateOf Owned (Embedded word value) = ⊥
 IsUpdateOf Owned (Updating word value) = Owned word
 
-abbrev pub IsScanOf : (ℕ → Type 0) → Task → Type 0
+abbrev pub IsScanOf : (ℕ → Type 0) → Mode → Type 0
 IsScanOf Owned Scanning = Unit {0}
 IsScanOf Owned (Embedded word value) = Owned word
 IsScanOf Owned (Updating word value) = ⊥
 
-pub scan_inside : (Owned : ℕ → Type 0) (d : Task) → IsScanOf Owned d → IsInScan d
+pub scan_inside : (Owned : ℕ → Type 0) (d : Mode) → IsScanOf Owned d → IsInScan d
 scan_inside Owned Scanning s = tt
 scan_inside Owned (Embedded word value) s = tt
 scan_inside Owned (Updating word value) s = s
 
-pub not_update : (Owned : ℕ → Type 0) (d : Task) → IsInScan d → IsUpdateOf Owned d → ⊥
+pub not_update : (Owned : ℕ → Type 0) (d : Mode) → IsInScan d → IsUpdateOf Owned d → ⊥
 not_update Owned Scanning inside u = u
 not_update Owned (Embedded word value) inside u = u
 not_update Owned (Updating word value) inside u = inside
 
 -- a line of an update outside its scan, where it is one, and else a line of a scan
-abbrev pub IsLine : (ℕ → Type 0) → Bool → Task → Type 0
+abbrev pub IsLine : (ℕ → Type 0) → Bool → Mode → Type 0
 IsLine Owned true d = IsUpdateOf Owned d
 IsLine Owned false d = IsScanOf Owned d
 
@@ -49,11 +49,11 @@ IsScanLine true = ⊥
 IsScanLine false = Unit {0}
 
 -- a scan is at one of its lines
-pub scan_line : (Owned : ℕ → Type 0) (update : Bool) (d : Task) → IsInScan d → IsLine Owned update d → IsScanLine update
+pub scan_line : (Owned : ℕ → Type 0) (update : Bool) (d : Mode) → IsInScan d → IsLine Owned update d → IsScanLine update
 scan_line Owned true d inside line = not_update Owned d inside line
 scan_line Owned false d inside line = tt
 
-pub update_of : (Owned : ℕ → Type 0) (d : Task) → IsUpdateOf Owned d → (word : ℕ) × (value : ℕ) × Owned word × (d ≡ Updating word value)
+pub update_of : (Owned : ℕ → Type 0) (d : Mode) → IsUpdateOf Owned d → (word : ℕ) × (value : ℕ) × Owned word × (d ≡ Updating word value)
 update_of Owned Scanning u = absurd u
 update_of Owned (Embedded word value) u = absurd u
 update_of Owned (Updating word value) u = (word, value, u, refl)
@@ -81,14 +81,14 @@ module _ {V P M : Type 0} (lines : Lines V P M) where
   KeepsMemory m Finish = Unit {0}
 
   -- no line but `call` leads into a scan
-  abbrev pub KeepsOut : Task → Move V P M → Type 0
+  abbrev pub KeepsOut : Mode → Move V P M → Type 0
   KeepsOut d (To d' m p k') = IsInScan d' → IsInScan d
   KeepsOut d (Begin d' p k') = Unit {0}
   KeepsOut d (Answer v) = Unit {0}
   KeepsOut d Finish = Unit {0}
 
   -- a process makes a view from the call of its embedded scan until it has written
-  abbrev pub IsMaking : Task → P → Type 0
+  abbrev pub IsMaking : Mode → P → Type 0
   IsMaking Scanning k = ⊥
   IsMaking (Embedded word value) k = Unit {0}
   IsMaking (Updating word value) k = lines.IsLate k
@@ -98,7 +98,7 @@ module _ {V P M : Type 0} (lines : Lines V P M) where
   Making (At d k) = IsMaking d k
 
   -- no line but `call` begins to make a view
-  abbrev pub MakesNoMore : Task → P → Move V P M → Type 0
+  abbrev pub MakesNoMore : Mode → P → Move V P M → Type 0
   MakesNoMore d k (To d' m' p k') = IsMaking d' k' → IsMaking d k
   MakesNoMore d k (Begin d' p k') = Unit {0}
   MakesNoMore d k (Answer v) = Unit {0}
@@ -112,17 +112,17 @@ module _ {V P M : Type 0} (lines : Lines V P M) where
   HasWritten (At (Updating word value) k) w = w ≡ lines.written k
 
   -- what an update makes and has written at a line
-  pub late_makes : (Owned : ℕ → Type 0) (d : Task) (k : P) → IsUpdateOf Owned d → lines.IsLate k → Making (At d k)
+  pub late_makes : (Owned : ℕ → Type 0) (d : Mode) (k : P) → IsUpdateOf Owned d → lines.IsLate k → Making (At d k)
   late_makes Owned Scanning k up late = absurd up
   late_makes Owned (Embedded word value) k up late = absurd up
   late_makes Owned (Updating word value) k up late = late
 
-  pub makes_late : (Owned : ℕ → Type 0) (d : Task) (k : P) → IsUpdateOf Owned d → Making (At d k) → lines.IsLate k
+  pub makes_late : (Owned : ℕ → Type 0) (d : Mode) (k : P) → IsUpdateOf Owned d → Making (At d k) → lines.IsLate k
   makes_late Owned Scanning k up made = absurd up
   makes_late Owned (Embedded word value) k up made = absurd up
   makes_late Owned (Updating word value) k up made = made
 
-  pub writes_more : (Owned : ℕ → Type 0) (d : Task) (k k' : P) (w : ℕ) → IsUpdateOf Owned d → lines.written k' ≡ lines.written k + 1 →
+  pub writes_more : (Owned : ℕ → Type 0) (d : Mode) (k k' : P) (w : ℕ) → IsUpdateOf Owned d → lines.written k' ≡ lines.written k + 1 →
       HasWritten (At d k) w → HasWritten (At d k') (w + 1)
   writes_more Owned Scanning k k' w up more h = tt
   writes_more Owned (Embedded word value) k k' w up more h = absurd up
@@ -142,8 +142,8 @@ module _ {V P M : Type 0} (lines : Lines V P M) where
   AnswersAt p k Finish = Unit {0}
 
   module _ (a : Algorithm V P M) where
-    -- what a line does to the task of a process
-    abbrev pub Flows : Task → M → V → P → Move V P M → Type 0
+    -- what a line does to the mode of a process
+    abbrev pub Flows : Mode → M → V → P → Move V P M → Type 0
     Flows Scanning m p k (To d' m' p' k') = (d' ≡ Scanning) × lines.Kept m m'
     Flows Scanning m p k (Begin d' p' k') = ⊥
     Flows Scanning m p k (Answer v) = lines.IsReturn k × (v ≡ lines.answer p)
@@ -160,12 +160,12 @@ module _ {V P M : Type 0} (lines : Lines V P M) where
     Flows (Updating word value) m p k Finish = lines.IsLast k
 
     -- a line of a scan that goes on
-    pub within : (d : Task) (m m' : M) (p p' : V) (k k' : P) → IsInScan d → a.writes k ≡ 0 → lines.Kept m m' → Flows d m p k (To d m' p' k')
+    pub within : (d : Mode) (m m' : M) (p p' : V) (k k' : P) → IsInScan d → a.writes k ≡ 0 → lines.Kept m m' → Flows d m p k (To d m' p' k')
     within Scanning m m' p p' k k' inside quiet kept = (refl, kept)
     within (Embedded word value) m m' p p' k k' inside quiet kept = (kept, quiet, inl refl)
     within (Updating word value) m m' p p' k k' inside quiet kept = absurd inside
 
-    pub keeps_memory : (d : Task) (m : M) (p : V) (k : P) (v : Move V P M) → Flows d m p k v → KeepsMemory m v ⊎ lines.IsWrite k
+    pub keeps_memory : (d : Mode) (m : M) (p : V) (k : P) (v : Move V P M) → Flows d m p k v → KeepsMemory m v ⊎ lines.IsWrite k
     keeps_memory Scanning m p k (To d' m' p' k') h = inl h.1
     keeps_memory Scanning m p k (Begin d' p' k') h = absurd h
     keeps_memory Scanning m p k (Answer v) h = inl tt
@@ -179,7 +179,7 @@ module _ {V P M : Type 0} (lines : Lines V P M) where
     keeps_memory (Updating word value) m p k (Answer v) h = absurd h
     keeps_memory (Updating word value) m p k Finish h = inl tt
 
-    pub keeps_out : (d : Task) (m : M) (p : V) (k : P) (v : Move V P M) → Flows d m p k v → KeepsOut d v
+    pub keeps_out : (d : Mode) (m : M) (p : V) (k : P) (v : Move V P M) → Flows d m p k v → KeepsOut d v
     keeps_out Scanning m p k (To d' m' p' k') h = λ inside. tt
     keeps_out (Embedded word value) m p k (To d' m' p' k') h = λ inside. tt
     keeps_out (Updating word value) m p k (To d' m' p' k') h = λ inside. subst IsInScan h.1 inside
@@ -187,7 +187,7 @@ module _ {V P M : Type 0} (lines : Lines V P M) where
     keeps_out d m p k (Answer v) h = tt
     keeps_out d m p k Finish h = tt
 
-    pub makes_no_more : (d : Task) (m : M) (p : V) (k : P) (v : Move V P M) → Flows d m p k v → MakesNoMore d k v
+    pub makes_no_more : (d : Mode) (m : M) (p : V) (k : P) (v : Move V P M) → Flows d m p k v → MakesNoMore d k v
     makes_no_more Scanning m p k (To d' m' p' k') h = subst (λ x. IsMaking x k' → ⊥) (sym h.0) (λ made. made)
     makes_no_more (Embedded word value) m p k (To d' m' p' k') h = λ made. tt
     makes_no_more (Updating word value) m p k (To d' m' p' k') h = subst (λ x. IsMaking x k' → lines.IsLate k) (sym h.1) h.3
@@ -195,7 +195,7 @@ module _ {V P M : Type 0} (lines : Lines V P M) where
     makes_no_more d m p k (Answer v) h = tt
     makes_no_more d m p k Finish h = tt
 
-    pub counts_writes : (d : Task) (m : M) (p : V) (k : P) (v : Move V P M) (w : ℕ) → Flows d m p k v → HasWritten (At d k) w →
+    pub counts_writes : (d : Mode) (m : M) (p : V) (k : P) (v : Move V P M) (w : ℕ) → Flows d m p k v → HasWritten (At d k) w →
         CountsWrites (w + a.writes k) v
     counts_writes Scanning m p k (To d' m' p' k') w h is = subst (λ x. HasWritten (At x k') (w + a.writes k)) (sym h.0) tt
     counts_writes Scanning m p k (Begin d' p' k') w h is = absurd h
@@ -213,7 +213,7 @@ module _ {V P M : Type 0} (lines : Lines V P M) where
     counts_writes d m p k (Answer v) w h is = tt
     counts_writes d m p k Finish w h is = tt
 
-    pub answers_at : (d : Task) (m : M) (p : V) (k : P) (v : Move V P M) → Flows d m p k v → AnswersAt p k v
+    pub answers_at : (d : Mode) (m : M) (p : V) (k : P) (v : Move V P M) → Flows d m p k v → AnswersAt p k v
     answers_at d m p k (To d' m' p' k') h = tt
     answers_at d m p k (Begin d' p' k') h = tt
     answers_at Scanning m p k (Answer v) h = h
@@ -222,7 +222,7 @@ module _ {V P M : Type 0} (lines : Lines V P M) where
     answers_at d m p k Finish h = tt
 
     -- an update never answers
-    pub never_answers : (d : Task) (m : M) (p : V) (k : P) (v : Move V P M) (word value : ℕ) → op_of d ≡ Update word value → Flows d m p k v →
+    pub never_answers : (d : Mode) (m : M) (p : V) (k : P) (v : Move V P M) (word value : ℕ) → op_of d ≡ Update word value → Flows d m p k v →
         called.NoAnswer a v
     never_answers d m p k (To d' m' p' k') word value is h = tt
     never_answers d m p k (Begin d' p' k') word value is h = tt
@@ -232,21 +232,21 @@ module _ {V P M : Type 0} (lines : Lines V P M) where
     never_answers d m p k Finish word value is h = tt
 
     -- a scan stays in itself or returns
-    pub in_scan : (link : Option ℕ) (d : Task) → span.Inside a link d → IsInScan d
+    pub in_scan : (link : Option ℕ) (d : Mode) → span.Inside a link d → IsInScan d
     in_scan link Scanning h = tt
     in_scan link (Embedded word value) h = tt
-    in_scan None (Updating word value) h = absurd (let e : Update word value ≡ ScanOp = h.1 in cc)
+    in_scan None (Updating word value) h = absurd (let e : Update word value ≡ Scan = h.1 in cc)
     in_scan (Some l) (Updating word value) h = absurd (let e : ◌≡◌ {A = Option ℕ} None (Some l) = h in cc)
 
-    pub stays : (link : Option ℕ) (d : Task) (m : M) (p : V) (k : P) (v : Move V P M) →
-        (lines.IsReturn k → Returns (instr_at a.source.lines (a.number k)) (a.locals_of p) (lines.answer p)) → Flows d m p k v →
+    pub stays : (link : Option ℕ) (d : Mode) (m : M) (p : V) (k : P) (v : Move V P M) →
+        (lines.IsReturn k → ReturnsView (instr_at a.source.lines (a.number k)) (a.locals_of p) (lines.answer p)) → Flows d m p k v →
         span.Inside a link d → span.Stays a link k p v
     stays link Scanning m p k (To d' m' p' k') returns h inside = inl (subst (span.Inside a link) (sym h.0) inside)
     stays link Scanning m p k (Begin d' p' k') returns h inside = absurd h
     stays None Scanning m p k (Answer v) returns h inside = tt
     stays (Some l) Scanning m p k (Answer v) returns h inside = absurd (let e : ◌≡◌ {A = Option ℕ} None (Some l) = inside in cc)
     stays link Scanning m p k Finish returns h inside = absurd h
-    stays None (Embedded word value) m p k v returns h inside = absurd (let e : Update word value ≡ ScanOp = inside.1 in cc)
+    stays None (Embedded word value) m p k v returns h inside = absurd (let e : Update word value ≡ Scan = inside.1 in cc)
     stays (Some l) (Embedded word value) m p k (To d' m' p' k') returns h inside =
         elim h.2 [
           | inl same ↦ inl (subst (span.Inside a (Some l)) (sym same) inside)

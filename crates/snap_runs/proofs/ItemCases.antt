@@ -10,7 +10,7 @@ use Rattle.snap_semantics.specs.declared.process.Op.{Op}
 use Rattle.snap_semantics.specs.declared.process.Outcome.TheVariants.{Called, Stepped, Answered, Finished}
 use Rattle.snap_semantics.specs.declared.process.Reason.{Reason}
 use Rattle.snap_runs.specs.Run.{Run, outcome}
-use Rattle.snap_runs.proofs.Algorithm.{Task, task_of, Control, Idle, At, Move, To, Begin, Answer, Finish, TypedProcess, TypedState, Algorithm, by_move, by_step, by_admission, by_call, typed_at, by_item, changed, outcome_of, happens, item_at, typed_state, stepped_auxiliary, begun_auxiliary, called_auxiliary}
+use Rattle.snap_runs.proofs.Algorithm.{Mode, mode_of, Control, Idle, At, Move, To, Begin, Answer, Finish, TypedProcess, TypedState, Algorithm, by_move, by_step, by_admission, by_call, typed_at, by_item, changed, outcome_of, happens, item_at, typed_state, stepped_auxiliary, begun_auxiliary, called_auxiliary}
 use Rattle.snap_runs.proofs.Embedding as embed
 use Rattle.snap_runs.proofs.Steady.{Steady}
 
@@ -30,7 +30,7 @@ module _ {V P M : Type 0} (a : Algorithm V P M) where
     his t = typed_at a (typed_state a items t) i
 
     -- the move at a line, with the memory of state t
-    abbrev pub move_at : ℕ → Task → P → Move V P M
+    abbrev pub move_at : ℕ → Mode → P → Move V P M
     move_at t d k = a.move i d (typed_state a items t).memory (his t).variables k
 
     -- nothing happens to the process; if it is its step, then it is idle
@@ -40,19 +40,19 @@ module _ {V P M : Type 0} (a : Algorithm V P M) where
 
     -- a step at a line
     pub record Steps (t : ℕ) : Type 0 where
-      pub task : Task
+      pub mode : Mode
       pub counter : P
       pub item : item_at items t ≡ Step i
-      pub control : (his t).control ≡ At task counter
-      pub after : his (suc t) ≡ moved (suc t) (his t) counter (move_at t task counter)
-      pub outcome_is : outcome r (suc t) ≡ outcome_of (by_move a (suc t) (typed_state a items t).memory (his t) counter (move_at t task counter))
+      pub control : (his t).control ≡ At mode counter
+      pub after : his (suc t) ≡ moved (suc t) (his t) counter (move_at t mode counter)
+      pub outcome_is : outcome r (suc t) ≡ outcome_of (by_move a (suc t) (typed_state a items t).memory (his t) counter (move_at t mode counter))
 
     -- a call that is admitted
     pub record Calls (t : ℕ) : Type 0 where
       pub op : Op
       pub item : item_at items t ≡ Call i op
       pub idle : (his t).control ≡ Idle
-      pub after : his (suc t) ≡ record { control = At (task_of op) (a.counter op); variables = (his t).variables; auxiliary = called_auxiliary (suc t) op (his t).auxiliary }
+      pub after : his (suc t) ≡ record { control = At (mode_of op) (a.counter op); variables = (his t).variables; auxiliary = called_auxiliary (suc t) op (his t).auxiliary }
 
     abbrev pub Case : ℕ → Type 0
     Case t = Stays t ⊎ (Steps t ⊎ Calls t)
@@ -73,13 +73,13 @@ module _ {V P M : Type 0} (a : Algorithm V P M) where
         outcome r (suc t) ≡ outcome_of (by_step a (suc t) (typed_state a items t).memory i (his t) control) → Case t
     step_case t Idle is at e out = inl (record { same = ap (λ (y : TypedState V P M). typed_at a y i) e; idle = λ h. at })
     step_case t (At d k) is at e out =
-        inr (inl (record { task = d; counter = k; item = is; control = at; after = move_case t k (move_at t d k) e; outcome_is = out }))
+        inr (inl (record { mode = d; counter = k; item = is; control = at; after = move_case t k (move_at t d k) e; outcome_is = out }))
 
     admission_case : (t : ℕ) (op : Op) (o : Option Reason) → item_at items t ≡ Call i op → (his t).control ≡ Idle →
         typed_state a items (suc t) ≡ changed (typed_state a items t) i (by_admission a (suc t) (typed_state a items t).memory (his t) op o) → Case t
     admission_case t op (Some why) is at e = inl (record { same = ap (λ (y : TypedState V P M). typed_at a y i) e; idle = λ h. at })
     admission_case t op None is at e =
-        let q : TypedProcess V P M = record { control = At (task_of op) (a.counter op); variables = (his t).variables; auxiliary = called_auxiliary (suc t) op (his t).auxiliary } in
+        let q : TypedProcess V P M = record { control = At (mode_of op) (a.counter op); variables = (his t).variables; auxiliary = called_auxiliary (suc t) op (his t).auxiliary } in
         inr (inr (record { op = op; item = is; idle = at; after = embed.process_next a items t i (typed_state a items t).memory q Called one e }))
 
     call_case : (t : ℕ) (op : Op) (control : Control P) → item_at items t ≡ Call i op → (his t).control ≡ control →
@@ -103,7 +103,7 @@ module _ {V P M : Type 0} (a : Algorithm V P M) where
         })
 
     -- a step at a line, by the line
-    pub after_step : (t : ℕ) (d : Task) (k : P) → item_at items t ≡ Step i → (his t).control ≡ At d k →
+    pub after_step : (t : ℕ) (d : Mode) (k : P) → item_at items t ≡ Step i → (his t).control ≡ At d k →
         his (suc t) ≡ moved (suc t) (his t) k (move_at t d k)
     after_step t d k is at =
         move_case t k (move_at t d k)

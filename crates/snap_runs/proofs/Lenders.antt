@@ -9,10 +9,10 @@ use Rattle.snap_semantics.specs.Table.{who}
 use Rattle.snap_semantics.specs.declared.process.Item.{Item}
 use Rattle.snap_semantics.specs.declared.process.Op.{Op}
 use Rattle.snap_runs.specs.Run.{Run, item}
-use Rattle.snap_runs.specs.Scan.{Starts, Finished}
+use Rattle.snap_runs.specs.Scan.{Starts, FinishedScan}
 use Rattle.snap_runs.specs.Update.{executes}
 use Rattle.snap_runs.specs.Promises.{LentView}
-use Rattle.snap_runs.proofs.Algorithm.{Task, Updating, At, WhenBusy, TypedProcess, Algorithm, typed_at, typed_state}
+use Rattle.snap_runs.proofs.Algorithm.{Mode, Updating, At, WhenBusy, TypedProcess, Algorithm, typed_at, typed_state}
 use Rattle.snap_runs.proofs.EmbeddedScans as embedded
 use Rattle.snap_runs.proofs.Embedding as embed
 use Rattle.snap_runs.proofs.Executing as executing
@@ -29,7 +29,7 @@ starter r i c (Some l) h = ap who h.0
 
 module _ {V P M : Type 0} (a : Algorithm V P M) (lines : Lines V P M) (line : ℕ) (writer : writes.Writer a lines line) (listed : scans.Listed a lines)
     (run : scans.Execution a lines)
-    (updates : (t i : ℕ) (d : Task) → t < length run.items → IsOneOf a.shape.n i → (typed_at a (typed_state a run.items t) i).control ≡ At d writer.counter → IsUpdateOf (writer.Owned i) d)
+    (updates : (t i : ℕ) (d : Mode) → t < length run.items → IsOneOf a.shape.n i → (typed_at a (typed_state a run.items t) i).control ≡ At d writer.counter → IsUpdateOf (writer.Owned i) d)
     (numbered : executing.Numbered a) (its : numbered.counter_with line ≡ Some writer.counter)
     (own : (i word : ℕ) → writer.Owned i word → word ≡ i) where
   abbrev items : List Item
@@ -84,7 +84,7 @@ module _ {V P M : Type 0} (a : Algorithm V P M) (lines : Lines V P M) (line : �
 
   module _ (lends : Lends) where
     -- a scan that ends after state u, at which word j had two writes or more since its start
-    pub lent_view : (i : ℕ) (link : Option ℕ) (c t : ℕ) (view : List ℕ) → Finished r i link c (suc t) view → (j u : ℕ) → IsOneOf a.shape.n j → c ≤ u → u ≤ t →
+    pub lent_view : (i : ℕ) (link : Option ℕ) (c t : ℕ) (view : List ℕ) → FinishedScan r i link c (suc t) view → (j u : ℕ) → IsOneOf a.shape.n j → c ≤ u → u ≤ t →
         seq_at (words c) j + 2 ≤ seq_at (words u) j → (word_at (words u) j).view ≡ view → LentView r i c (suc t) view
     lent_view i link c t view ends j u jone from to two is =
         let one = ends.scan.process in
@@ -114,8 +114,8 @@ module _ {V P M : Type 0} (a : Algorithm V P M) (lines : Lines V P M) (line : �
         sym (lends.views v j wrote.word wrote.value) ∙ sym (ap (λ (x : Word). x.view) now) ∙ is in
         let ended : lent.to ≤ v = lent.before in
         let other : j ≢ i =
-        λ same. flow.not_update (writer.Owned j) g.task (flow.in_scan lines a link g.task g.inside)
-        (subst (IsUpdateOf (writer.Owned j)) (let e : At there.1.0 writer.counter ≡ At g.task g.counter = sym there.1.1 ∙ ap (λ y. (at v y).control) same ∙ g.control in let f : there.1.0 ≡ g.task = cc in f) (updates v j there.1.0 short jone there.1.1)) in
+        λ same. flow.not_update (writer.Owned j) g.mode (flow.in_scan lines a link g.mode g.inside)
+        (subst (IsUpdateOf (writer.Owned j)) (let e : At there.1.0 writer.counter ≡ At g.mode g.counter = sym there.1.1 ∙ ap (λ y. (at v y).control) same ∙ g.control in let f : there.1.0 ≡ g.mode = cc in f) (updates v j there.1.0 short jone there.1.1)) in
         let start = lent.scan.scan.starts in
         let differ : (at v j).auxiliary.since ≢ c =
         λ same. other (sym (starter r j (at v j).auxiliary.since (Some a.back) start) ∙ ap (λ y. who (item r y)) same ∙ starter r i c link ends.scan.starts) in
@@ -127,5 +127,5 @@ module _ {V P M : Type 0} (a : Algorithm V P M) (lines : Lines V P M) (line : �
           to = lent.to;
           after_start = (elim (eq-or-lt_of_le no_earlier) [ inl same ↦ absurd (differ (sym same)) | inr less ↦ less ]);
           before_end = omega arith;
-          scan = subst (λ y. Finished r j (Some a.back) (at v j).auxiliary.since lent.to y) its_view lent.scan;
+          scan = subst (λ y. FinishedScan r j (Some a.back) (at v j).auxiliary.since lent.to y) its_view lent.scan;
         }

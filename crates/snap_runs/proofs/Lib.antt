@@ -21,11 +21,15 @@ pub mod ListedLines
 pub mod Points
 pub mod Bounds
 pub mod Moves
-pub mod Turns
+pub mod Transitions
 pub mod Calls
 pub mod Operations
 pub mod Order
+pub mod Written
 pub mod Linear
+pub mod Placing
+pub mod Prefixes
+pub mod OneOperation
 pub mod Calm
 pub mod OneItem
 pub mod Audits
@@ -39,3 +43,5 @@ pub mod CalmItems
 pub mod CalmPromises
 pub mod Collecting
 pub mod CleanTests
+pub mod Within
+pub mod Bounded

@@ -3,8 +3,8 @@ use Rattle.std.specs.Prelude.{◌≡◌, ℕ, ◌+◌, ◌≤◌, ◌⊎◌, Lis
 use Rattle.std.proofs.Common.{sym, ◌∙◌, ap, inl, inr}
 use Rattle.std.proofs.lemmas.Bool.{cases_eq}
 use Rattle.snap_semantics.specs.Source.{instr_at}
-use Rattle.snap_runs.specs.Scan.{IsCallLine, Returns, is_if_all}
-use Rattle.snap_runs.proofs.Algorithm.{Task, Algorithm}
+use Rattle.snap_runs.specs.Scan.{IsCallLine, ReturnsView, is_if_all}
+use Rattle.snap_runs.proofs.Algorithm.{Mode, Algorithm}
 use Rattle.snap_runs.proofs.Computing.{same_number, other_number}
 use Rattle.snap_runs.proofs.Executing.{Numbered, at_number}
 use Rattle.snap_runs.proofs.Flow.{Lines}
@@ -22,9 +22,9 @@ module _ {V P M : Type 0} (a : Algorithm V P M) (lines : Lines V P M) (line : �
     -- the line that writes has that number
     pub wrote : (if nat_eq (a.number k) line then 1 else 0) ≡ a.writes k
     -- a `call` line begins a scan
-    pub calls : IsCallLine (instr_at a.source.lines (a.number k)) → (me : ℕ) (d : Task) (m : M) (p : V) → span.NotTo a (a.move me d m p k)
+    pub calls : IsCallLine (instr_at a.source.lines (a.number k)) → (me : ℕ) (d : Mode) (m : M) (p : V) → span.NotTo a (a.move me d m p k)
     -- a line that returns a view returns the answer
-    pub returns : (p : V) (v : List ℕ) → Returns (instr_at a.source.lines (a.number k)) (a.locals_of p) v → lines.IsReturn k × (lines.answer p ≡ v)
+    pub returns : (p : V) (v : List ℕ) → ReturnsView (instr_at a.source.lines (a.number k)) (a.locals_of p) v → lines.IsReturn k × (lines.answer p ≡ v)
     -- an update writes at most once up to the end of a line
     pub once : lines.written k + a.writes k ≤ 1
 
@@ -32,7 +32,7 @@ module _ {V P M : Type 0} (a : Algorithm V P M) (lines : Lines V P M) (line : �
   numbered each = record { counter_with = counter_with; alone = λ k. (each k).alone }
 
   pub listed : ((k : P) → LineListed k) →
-      ((p : V) (k : P) → lines.IsReturn k → Returns (instr_at a.source.lines (a.number k)) (a.locals_of p) (lines.answer p)) →
+      ((p : V) (k : P) → lines.IsReturn k → ReturnsView (instr_at a.source.lines (a.number k)) (a.locals_of p) (lines.answer p)) →
       Listed a lines
   listed each answers = record {
     tested = λ k. (each k).tested;

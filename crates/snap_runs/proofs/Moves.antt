@@ -8,10 +8,10 @@ use Rattle.snap_semantics.specs.Source.{Name}
 use Rattle.snap_semantics.specs.State.{Process, process_at}
 use Rattle.snap_semantics.specs.declared.process.Item.{Item}
 use Rattle.snap_runs.specs.Run.{Run, state}
-use Rattle.snap_runs.specs.Scan.{Scan, ends_double_collect, double_collects}
+use Rattle.snap_runs.specs.Scan.{PendingScan, ends_double_collect, double_collects}
 use Rattle.snap_runs.specs.Update.{executes}
 use Rattle.snap_runs.specs.Promises.{row_place, ObservedMove, RecentWrite}
-use Rattle.snap_runs.proofs.Algorithm.{Task, At, To, TypedProcess, Algorithm, typed_at, typed_state}
+use Rattle.snap_runs.proofs.Algorithm.{Mode, At, To, TypedProcess, Algorithm, typed_at, typed_state}
 use Rattle.snap_runs.proofs.Counting.{count_later}
 use Rattle.snap_runs.proofs.Embedding as embed
 use Rattle.snap_runs.proofs.Executing as executing
@@ -49,8 +49,8 @@ module _ {V P M : Type 0} (a : Algorithm V P M) (lines : Lines V P M) (listed : 
 
   -- where process i sees process j move it stands at that line, and the line raises the place
   pub record Observed (there : P) (raised : ℕ → V → V) (row : Name) (i j t : ℕ) : Type 0 where
-    pub task : Task
-    pub control : (at t i).control ≡ At task there
+    pub mode : Mode
+    pub control : (at t i).control ≡ At mode there
     pub grows : row_place (a.locals_of (at t i).variables) row j < row_place (a.locals_of (raised i (at t i).variables)) row j
 
   row_is : (row : Name) (t i j : ℕ) → t ≤ length items → IsOneOf a.shape.n i →
@@ -59,7 +59,7 @@ module _ {V P M : Type 0} (a : Algorithm V P M) (lines : Lines V P M) (listed : 
 
   pub observed : (numbered : executing.Numbered a) (line : ℕ) (there next : P) (raised : ℕ → V → V) (row : Name) →
       numbered.counter_with line ≡ Some there →
-      ((me : ℕ) (d : Task) (m : M) (p : V) → a.move me d m p there ≡ To d m (raised me p) next) → (i j t : ℕ) → t < length items → IsOneOf a.shape.n i →
+      ((me : ℕ) (d : Mode) (m : M) (p : V) → a.move me d m p there ≡ To d m (raised me p) next) → (i j t : ℕ) → t < length items → IsOneOf a.shape.n i →
       ObservedMove r line row i j (suc t) →
       Observed there raised row i j t
   observed numbered line there next raised row its goes i j t short one move =
@@ -70,7 +70,7 @@ module _ {V P M : Type 0} (a : Algorithm V P M) (lines : Lines V P M) (listed : 
       let after : (at (suc t) i).variables ≡ raised i p =
       executing.variables_next a items run.fits run.does t i d there d m (raised i p) next one stands.0 stands.1.1 (goes i d m p) in
       record {
-        task = d;
+        mode = d;
         control = stands.1.1;
         grows = subst (λ y. y < row_place (a.locals_of (raised i p)) row j) (row_is row t i j (omega arith) one)
             (subst (λ y. row_place (process_at (state r t) i).locals row j < y)
@@ -87,7 +87,7 @@ module _ {V P M : Type 0} (a : Algorithm V P M) (lines : Lines V P M) (listed : 
 
   -- so it is where a number has grown since the start of the scan's double collect, of which at most one end has followed
   pub recent : (Event : ℕ → Type 0) (f : ℕ → ℕ) → ((v : ℕ) → v < length items → Event (suc v) ⊎ (f (suc v) ≡ f v)) →
-      (i : ℕ) (link : Option ℕ) (c t : ℕ) (d : Task) (k : P) → Scan r i link c (suc t) → c ≤ t → (at t i).control ≡ At d k → a.tests k ≡ 0 →
+      (i : ℕ) (link : Option ℕ) (c t : ℕ) (d : Mode) (k : P) → PendingScan r i link c (suc t) → c ≤ t → (at t i).control ≡ At d k → a.tests k ≡ 0 →
       (at t i).auxiliary.tested ≤ 1 → f (at t i).auxiliary.round < f t → Recent Event i c (suc t)
   recent Event f each i link c t d k scan le there none few grown =
       let one = scan.process in
@@ -105,9 +105,9 @@ module _ {V P M : Type 0} (a : Algorithm V P M) (lines : Lines V P M) (listed : 
 
   -- Where each process writes its own word alone: the word of process j is newer than at the start of the double collect.
   pub recent_write : (line : ℕ) (writer : writes.Writer a lines line) →
-      ((t i : ℕ) (d : Task) → t < length items → IsOneOf a.shape.n i → (at t i).control ≡ At d writer.counter → IsUpdateOf (writer.Owned i) d) →
+      ((t i : ℕ) (d : Mode) → t < length items → IsOneOf a.shape.n i → (at t i).control ≡ At d writer.counter → IsUpdateOf (writer.Owned i) d) →
       ((i word : ℕ) → writer.Owned i word → word ≡ i) →
-      (i j : ℕ) (link : Option ℕ) (c t : ℕ) (d : Task) (k : P) → IsOneOf a.shape.n j → Scan r i link c (suc t) → c ≤ t → (at t i).control ≡ At d k →
+      (i j : ℕ) (link : Option ℕ) (c t : ℕ) (d : Mode) (k : P) → IsOneOf a.shape.n j → PendingScan r i link c (suc t) → c ≤ t → (at t i).control ≡ At d k →
       a.tests k ≡ 0 → (at t i).auxiliary.tested ≤ 1 →
       seq_at (writes.words_at a lines line writer run (at t i).auxiliary.round) j < seq_at (writes.words_at a lines line writer run t) j →
       RecentWrite r line i j c (suc t)

@@ -24,29 +24,29 @@ use Rattle.snap_semantics.specs.declared.process.Outcome.TheVariants as outcome
 use Rattle.snap_semantics.specs.declared.process.Reason.{Reason}
 use Rattle.snap_semantics.specs.declared.process.Status.{Status}
 use Rattle.snap_semantics.specs.declared.process.Status.TheVariants.{Idle, Busy, Trapped, Crashed}
-use Rattle.snap_runs.specs.Deeds.{Deed, Write, Test, Answer, Nothing, line_deed, returned, deed_at, deed_in, deed_of}
+use Rattle.snap_runs.specs.StepRoles.{StepRole, Write, Test, Answer, Nothing, line_step_role, returned, step_role_at, step_role_in, step_role_of}
 
 -- other words only of a line that writes them, and an answer only of a line that gives it
-Leaves : Memory → Deed → Result Effect Cause → Type 0
+Leaves : Memory → StepRole → Result Effect Cause → Type 0
 Leaves m d (Ok (Goes m' l' link line)) = (d ≡ Write) ⊎ (m'.words ≡ m.words)
 Leaves m d (Ok (Answers v)) = d ≡ Answer v
 Leaves m d (Ok Finishes) = Unit {0}
 Leaves m d (Err c) = Unit {0}
 
 -- a value that may trap, and what is done with it
-bound : {A : Type 0} (m : Memory) (d : Deed) (r : Result A Cause) (f : A → Result Effect Cause) → ((x : A) → Leaves m d (f x)) → Leaves m d (r >>= f)
+bound : {A : Type 0} (m : Memory) (d : StepRole) (r : Result A Cause) (f : A → Result Effect Cause) → ((x : A) → Leaves m d (f x)) → Leaves m d (r >>= f)
 unfolding Leaves
 bound m d (Ok x) f h = h x
 bound m d (Err c) f h = tt
 
 -- on to the following line, where there is one
-onward : (m : Memory) (d : Deed) (o : Option ℕ) (f : ℕ → Effect) → ((k : ℕ) → Leaves m d (Ok (f k))) → Leaves m d (on o f)
+onward : (m : Memory) (d : StepRole) (o : Option ℕ) (f : ℕ → Effect) → ((k : ℕ) → Leaves m d (Ok (f k))) → Leaves m d (on o f)
 unfolding Leaves
 onward m d None f h = tt
 onward m d (Some k) f h = h k
 
 -- a line that leaves the words
-same_words : (m m' : Memory) (d : Deed) (l : Locals) (link : Option ℕ) (line : ℕ) → m'.words ≡ m.words → Leaves m d (Ok (Goes m' l link line))
+same_words : (m m' : Memory) (d : StepRole) (l : Locals) (link : Option ℕ) (line : ℕ) → m'.words ≡ m.words → Leaves m d (Ok (Goes m' l link line))
 unfolding Leaves
 same_words m m' d l link line h = inr h
 
@@ -61,17 +61,17 @@ unfolding Leaves
 answers m v = refl
 
 -- a line that finishes
-finishes : (m : Memory) (d : Deed) → Leaves m d (Ok Finishes)
+finishes : (m : Memory) (d : StepRole) → Leaves m d (Ok Finishes)
 unfolding Leaves
 finishes m d = tt
 
 -- a line that traps
-traps : (m : Memory) (d : Deed) (c : Cause) → Leaves m d (Err c)
+traps : (m : Memory) (d : StepRole) (c : Cause) → Leaves m d (Err c)
 unfolding Leaves
 traps m d c = tt
 
 -- one of two
-choice : (m : Memory) (d : Deed) (b : Bool) (x y : Result Effect Cause) → Leaves m d x → Leaves m d y → Leaves m d (if b then x else y)
+choice : (m : Memory) (d : StepRole) (b : Bool) (x y : Result Effect Cause) → Leaves m d x → Leaves m d y → Leaves m d (if b then x else y)
 choice m d true x y hx hy = hx
 choice m d false x y hx hy = hy
 
@@ -81,16 +81,16 @@ bits_keep bits.Q rows m = refl
 bits_keep bits.P rows m = refl
 
 -- a line that goes on, with the words as they are
-goes_on : (s : Source) (a : Activity) (m m' : Memory) (d : Deed) (l : Locals) → m'.words ≡ m.words → Leaves m d (on (following s.lines a.line) (Goes m' l a.link))
+goes_on : (s : Source) (a : Activity) (m m' : Memory) (d : StepRole) (l : Locals) → m'.words ≡ m.words → Leaves m d (on (following s.lines a.line) (Goes m' l a.link))
 goes_on s a m m' d l h = onward m d (following s.lines a.line) (Goes m' l a.link) (λ k. same_words m m' d l a.link k h)
 
 -- a line `first`
-first_leaves : (s : Source) (a : Activity) (m : Memory) (l : Locals) (x : List ℕ) (target : ℕ) (d : Deed) (o : Option ℕ) → Leaves m d (first_goes s a m l x target o)
+first_leaves : (s : Source) (a : Activity) (m : Memory) (l : Locals) (x : List ℕ) (target : ℕ) (d : StepRole) (o : Option ℕ) → Leaves m d (first_goes s a m l x target o)
 first_leaves s a m l x target d None = goes_on s a m m d l refl
 first_leaves s a m l x target d (Some p) = same_words m m d (with_scalar x p l) a.link target refl
 
 -- a line `call`
-call_leaves : (s : Source) (a : Activity) (m : Memory) (l : Locals) (target : ℕ) (d : Deed) (o : Option ℕ) → Leaves m d (call_goes s a m l target o)
+call_leaves : (s : Source) (a : Activity) (m : Memory) (l : Locals) (target : ℕ) (d : StepRole) (o : Option ℕ) → Leaves m d (call_goes s a m l target o)
 call_leaves s a m l target d None = onward m d (following s.lines a.line) (λ k. Goes m l (Some k) target) (λ k. same_words m m d l (Some k) target refl)
 call_leaves s a m l target d (Some k) = traps m d cause.Nested
 
@@ -102,14 +102,14 @@ return_leaves m l v op.Scan None = answers m v
 return_leaves m l v (op.Update word value) None = traps m Nothing cause.BadEnd
 
 -- a line `finish`
-finish_leaves : (m : Memory) (d : Deed) (o : Op) (link : Option ℕ) → Leaves m d (finish_goes o link)
+finish_leaves : (m : Memory) (d : StepRole) (o : Op) (link : Option ℕ) → Leaves m d (finish_goes o link)
 finish_leaves m d (op.Update word value) None = finishes m d
 finish_leaves m d (op.Update word value) (Some link) = traps m d cause.BadEnd
 finish_leaves m d op.Scan None = traps m d cause.BadEnd
 finish_leaves m d op.Scan (Some link) = traps m d cause.BadEnd
 
 -- each form of a line
-leaves : (s : Source) (c : Context) (m : Memory) (a : Activity) (i : Instr) → Leaves m (line_deed a c.locals i) (effect s c m a i)
+leaves : (s : Source) (c : Context) (m : Memory) (a : Activity) (i : Instr) → Leaves m (line_step_role a c.locals i) (effect s c m a i)
 leaves s c m a (Let x e) = bound m Nothing (expr_value c e) _ (λ v. goes_on s a m m Nothing _ refl)
 leaves s c m a (LetPlace x i e) = bound m Nothing (place_in (places c.shape) (index_value c i)) _ (λ p. bound m Nothing (expr_value c e) _ (λ v. goes_on s a m m Nothing _ refl))
 leaves s c m a (Get x i j) = bound m Nothing (place_in (places c.shape) (index_value c i)) _ (λ p. bound m Nothing (place_in c.shape.w (index_value c j)) _ (λ r. goes_on s a m m Nothing _ refl))
@@ -144,12 +144,12 @@ leaves s c m a (Return x) = return_leaves m c.locals (value_at x c.locals.views 
 leaves s c m a Finish = finish_leaves m Nothing a.op a.link
 
 -- the line at which a process stands, where there is one
-leaves_at : (s : Source) (c : Context) (m : Memory) (a : Activity) (i : Option Instr) → Leaves m (deed_at a c.locals i) (effect_at s c m a i)
+leaves_at : (s : Source) (c : Context) (m : Memory) (a : Activity) (i : Option Instr) → Leaves m (step_role_at a c.locals i) (effect_at s c m a i)
 leaves_at s c m a None = traps m Nothing cause.OffEnd
 leaves_at s c m a (Some i) = leaves s c m a i
 
 -- what a step leaves behind
-after_step : (S : State) (i : ℕ) (a : Activity) (l : Locals) (d : Deed) (r : Result Effect Cause) → Leaves S.memory d r → (d ≡ Write) ⊎ (values (leave S i a l r).0 ≡ values S)
+after_step : (S : State) (i : ℕ) (a : Activity) (l : Locals) (d : StepRole) (r : Result Effect Cause) → Leaves S.memory d r → (d ≡ Write) ⊎ (values (leave S i a l r).0 ≡ values S)
 unfolding Leaves
 after_step S i a l d (Ok (Goes m l' link line)) h = elim h [
   | inl w ↦ inl w
@@ -160,7 +160,7 @@ after_step S i a l d (Ok Finishes) h = inr refl
 after_step S i a l d (Err c) h = inr refl
 
 -- an answer of a step is its line's
-answered_step : (S : State) (i : ℕ) (a : Activity) (l : Locals) (d : Deed) (v : List ℕ) (r : Result Effect Cause) → Leaves S.memory d r → (leave S i a l r).1 ≡ outcome.Answered v → d ≡ Answer v
+answered_step : (S : State) (i : ℕ) (a : Activity) (l : Locals) (d : StepRole) (v : List ℕ) (r : Result Effect Cause) → Leaves S.memory d r → (leave S i a l r).1 ≡ outcome.Answered v → d ≡ Answer v
 unfolding Leaves
 answered_step S i a l d v (Ok (Goes m l' link line)) h e = absurd cc
 answered_step S i a l d v (Ok (Answers u)) h e = h ∙ (let same : u ≡ v = cc in ap (λ x. Answer x) same)
@@ -172,21 +172,21 @@ abbrev context : Counts → ℕ → Process → Activity → Context
 context shape i p a = record { shape = shape; me = i; op = a.op; locals = p.locals; place = 0 }
 
 -- a step writes, or leaves the values
-step_values : (s : Source) (shape : Counts) (S : State) (i : ℕ) (p : Process) (t : Status) → (deed_in s p.locals t ≡ Write) ⊎ (values (step s shape S i p t).0 ≡ values S)
+step_values : (s : Source) (shape : Counts) (S : State) (i : ℕ) (p : Process) (t : Status) → (step_role_in s p.locals t ≡ Write) ⊎ (values (step s shape S i p t).0 ≡ values S)
 step_values s shape S i p Idle = inr refl
 step_values s shape S i p (Trapped c a) = inr refl
 step_values s shape S i p (Crashed was) = inr refl
 step_values s shape S i p (Busy a) =
-    after_step S i a p.locals (deed_in s p.locals (Busy a)) (effect_at s (context shape i p a) S.memory a (instr_at s.lines a.line))
+    after_step S i a p.locals (step_role_in s p.locals (Busy a)) (effect_at s (context shape i p a) S.memory a (instr_at s.lines a.line))
     (leaves_at s (context shape i p a) S.memory a (instr_at s.lines a.line))
 
 -- what a step answers, its line answers
-step_answers : (s : Source) (shape : Counts) (S : State) (i : ℕ) (p : Process) (v : List ℕ) (t : Status) → (step s shape S i p t).1 ≡ outcome.Answered v → deed_in s p.locals t ≡ Answer v
+step_answers : (s : Source) (shape : Counts) (S : State) (i : ℕ) (p : Process) (v : List ℕ) (t : Status) → (step s shape S i p t).1 ≡ outcome.Answered v → step_role_in s p.locals t ≡ Answer v
 step_answers s shape S i p v Idle e = absurd cc
 step_answers s shape S i p v (Trapped c a) e = absurd cc
 step_answers s shape S i p v (Crashed was) e = absurd cc
 step_answers s shape S i p v (Busy a) e =
-    answered_step S i a p.locals (deed_in s p.locals (Busy a)) v (effect_at s (context shape i p a) S.memory a (instr_at s.lines a.line))
+    answered_step S i a p.locals (step_role_in s p.locals (Busy a)) v (effect_at s (context shape i p a) S.memory a (instr_at s.lines a.line))
     (leaves_at s (context shape i p a) S.memory a (instr_at s.lines a.line)) e
 
 -- a call leaves the values
@@ -228,13 +228,13 @@ crash_answers S i p v (Trapped c a) e = absurd cc
 crash_answers S i p v (Crashed was) e = absurd cc
 
 -- the values stay, unless the item is a step at a line that writes a word
-pub values_stay : (s : Source) (shape : Counts) (S : State) (x : Item) → (deed_of s S x ≡ Write) ⊎ (values (done s shape S x).0 ≡ values S)
+pub values_stay : (s : Source) (shape : Counts) (S : State) (x : Item) → (step_role_of s S x ≡ Write) ⊎ (values (done s shape S x).0 ≡ values S)
 values_stay s shape S (item.Step i) = step_values s shape S i (process_at S i) (process_at S i).status
 values_stay s shape S (item.Call i o) = inr (call_values s shape S i o (process_at S i) (process_at S i).status)
 values_stay s shape S (item.Crash i) = inr (crash_values S i (process_at S i) (process_at S i).status)
 
 -- an answer is the view of the line that answers
-pub answer_is : (s : Source) (shape : Counts) (S : State) (x : Item) (v : List ℕ) → (done s shape S x).1 ≡ outcome.Answered v → deed_of s S x ≡ Answer v
+pub answer_is : (s : Source) (shape : Counts) (S : State) (x : Item) (v : List ℕ) → (done s shape S x).1 ≡ outcome.Answered v → step_role_of s S x ≡ Answer v
 answer_is s shape S (item.Step i) v e = step_answers s shape S i (process_at S i) v (process_at S i).status e
 answer_is s shape S (item.Call i o) v e = absurd (call_answers s shape S i o (process_at S i) v (process_at S i).status e)
 answer_is s shape S (item.Crash i) v e = absurd (crash_answers S i (process_at S i) v (process_at S i).status e)

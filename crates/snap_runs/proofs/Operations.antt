@@ -11,10 +11,10 @@ use Rattle.snap_semantics.specs.declared.process.Outcome.{Outcome}
 use Rattle.snap_semantics.specs.declared.process.Outcome.TheVariants as outcome
 use Rattle.snap_semantics.specs.State.{process_at, values}
 use Rattle.snap_semantics.specs.Table.{who}
-use Rattle.snap_runs.specs.Run.{Run, Fits, state, before, item, outcome as outcome_at}
-use Rattle.snap_runs.specs.Scan.{Finished, steps, count}
-use Rattle.snap_runs.specs.Update.{is_at, executes, IsDone, Updating}
-use Rattle.snap_runs.specs.Promises.{ChangesOnlyAt, WritesItsUpdate, HavePoints}
+use Rattle.snap_runs.specs.Run.{Run, IsValidRun, state, before, item, outcome as outcome_at}
+use Rattle.snap_runs.specs.Scan.{FinishedScan, steps, count}
+use Rattle.snap_runs.specs.Update.{is_at, executes, IsDone, PendingUpdate}
+use Rattle.snap_runs.specs.LinearizationPoints.{HasLinearizationPoints}
 use Rattle.snap_runs.specs.Operation.{Sets, TookPlace}
 use Rattle.snap_runs.proofs.Computing.{lt_from, both, same_from}
 use Rattle.snap_runs.proofs.Counting.{count_next}
@@ -117,7 +117,7 @@ module _ (r : Run) where
   executes_who i line t ex = step_of i (item r t) (both (steps i (item r t)) (is_at line (process_at (before r t) i).status) ex).0
 
   -- an operation ends once
-  pub same_done : (i word value word' value' c e e' : ℕ) → Updating r i word value c e → Updating r i word' value' c e' → c < e → IsDone r i e → c < e' →
+  pub same_done : (i word value word' value' c e e' : ℕ) → PendingUpdate r i word value c e → PendingUpdate r i word' value' c e' → c < e → IsDone r i e → c < e' →
       IsDone r i e' →
       e ≡ e'
   same_done i word value word' value' c e e' up up' lt done lt' done' =
@@ -129,7 +129,7 @@ module _ (r : Run) where
         ]
       ]
 
-  pub same_answer : (i c e e' : ℕ) (view view' : List ℕ) → Finished r i None c e view → Finished r i None c e' view' → e ≡ e'
+  pub same_answer : (i c e e' : ℕ) (view view' : List ℕ) → FinishedScan r i None c e view → FinishedScan r i None c e' view' → e ≡ e'
   same_answer i c e e' view view' f f' =
       elim (cases_eq e e') [
         | inl same ↦ same
@@ -175,7 +175,7 @@ module _ (r : Run) where
       ]
 
   -- an update that is open before item t, and not later
-  pub shorter : (i word value c t e : ℕ) → c ≤ t → t ≤ e → Updating r i word value c e → Updating r i word value c t
+  pub shorter : (i word value c t e : ℕ) → c ≤ t → t ≤ e → PendingUpdate r i word value c e → PendingUpdate r i word value c t
   shorter i word value c t e le more up = record {
     process = up.process;
     call = up.call;
@@ -192,7 +192,7 @@ module _ (r : Run) where
     pub took_place : TookPlace r i c end (Sets word value)
     pub open_still : (e : ℕ) → end ≡ Some e → t ≤ e
 
-  pub update_operation : (i word value c t : ℕ) → c < t → Updating r i word value c t → UpdateOperation i word value c t
+  pub update_operation : (i word value c t : ℕ) → c < t → PendingUpdate r i word value c t → UpdateOperation i word value c t
   update_operation i word value c t before up =
       let last : t ≤ length r.items = up.last in
       elim (first_end i c (length r.items)) [
@@ -237,7 +237,7 @@ module _ (r : Run) where
 
   -- the update of an operation was open before each item up to its end
   pub open_update : (i word value c t : ℕ) (end : Option ℕ) → TookPlace r i c end (Sets word value) → c ≤ t → t ≤ length r.items →
-      ((e : ℕ) → end ≡ Some e → t ≤ e) → Updating r i word value c t
+      ((e : ℕ) → end ≡ Some e → t ≤ e) → PendingUpdate r i word value c t
   open_update i word value c t (Some e) took le last open_still = shorter i word value c t e le (open_still e refl) took.0
   open_update i word value c t None took le last open_still = shorter i word value c t (length r.items) le last took.0
 
@@ -259,8 +259,8 @@ module _ (r : Run) where
   same_end i word value c None None h h' = refl
 
   -- the scan of an answer, and the update of a write, are one
-  module _ (fits : Fits r) where
-    pub same_scan : (i i' c c' e : ℕ) (view view' : List ℕ) → Finished r i None c e view → Finished r i' None c' e view' →
+  module _ (fits : IsValidRun r) where
+    pub same_scan : (i i' c c' e : ℕ) (view view' : List ℕ) → FinishedScan r i None c e view → FinishedScan r i' None c' e view' →
         (i ≡ i') × (c ≡ c') × (view ≡ view')
     same_scan i i' c c' e view view' f f' =
         let his : i ≡ i' = sym f.ends.0 ∙ f'.ends.0 in
@@ -272,7 +272,7 @@ module _ (r : Run) where
           (let e : ◌≡◌ {A = Outcome} (outcome.Answered view) (outcome.Answered view') = sym f.ends.1 ∙ f'.ends.1 in cc),
         )
 
-    pub same_update : (i word value word' value' c c' t : ℕ) → c < t → c' < t → Updating r i word value c t → Updating r i word' value' c' t →
+    pub same_update : (i word value word' value' c c' t : ℕ) → c < t → c' < t → PendingUpdate r i word value c t → PendingUpdate r i word' value' c' t →
         (c ≡ c') × (word ≡ word') × (value ≡ value')
     same_update i word value word' value' c c' t lt lt' up up' =
         let same : c ≡ c' =
@@ -282,20 +282,20 @@ module _ (r : Run) where
         let call : Call i (op.Update word value) ≡ Call i (op.Update word' value') = sym up.call ∙ ap (item r) same ∙ up'.call in
         (same, cc, cc)
 
-  module _ (line : ℕ) (fits : Fits r) (changes : ChangesOnlyAt line r) (writes : WritesItsUpdate line r) (points : HavePoints r) where
+  module _ (line : ℕ) (fits : IsValidRun r) (points : HasLinearizationPoints line r) where
     -- an item that answers a scan, and the scan's point
     pub record AnswerAt (e : ℕ) : Type 0 where
       pub process : ℕ
       pub call : ℕ
       pub view : List ℕ
-      pub finished : Finished r process None call e view
+      pub finished : FinishedScan r process None call e view
       pub point : ℕ
       pub low : call ≤ point
       pub high : point ≤ e
       pub held : values (state r point) ≡ view
 
     abbrev pub NoAnswer : ℕ → Type 0
-    NoAnswer e = (i c : ℕ) (view : List ℕ) → Finished r i None c e view → ⊥
+    NoAnswer e = (i c : ℕ) (view : List ℕ) → FinishedScan r i None c e view → ⊥
 
     pub answer_at : (e : ℕ) → AnswerAt e ⊎ NoAnswer e
     answer_at zero = inr (λ i c view f. let lt : c < 0 = f.order in omega arith)
@@ -304,7 +304,7 @@ module _ (r : Run) where
           | inl lt ↦ elim (answering (outcome_at r (suc t))) [
             | inl a ↦ (let scan = answer_ends r fits t a.0 lt a.1 in
                 let i = who (item r (suc t)) in
-                let p = points fits i None scan.0 (suc t) a.0 scan.1 in
+                let p = points.answers_have_points fits i scan.0 (suc t) a.0 scan.1 in
                 inl (record { process = i; call = scan.0; view = a.0; finished = scan.1; point = p.0; low = p.1; high = p.2; held = p.3 }))
             | inr not ↦ inr (λ i c view f. not view f.ends.1)
           ]
@@ -317,7 +317,7 @@ module _ (r : Run) where
       pub word : ℕ
       pub value : ℕ
       pub call : ℕ
-      pub updating : Updating r process word value call t
+      pub updating : PendingUpdate r process word value call t
       pub before_it : call < t
       pub is_word : IsOneOf r.shape.w word
       pub executed : executes r process line t ≡ true
@@ -339,14 +339,14 @@ module _ (r : Run) where
 
         by_test : (b : Bool) → executes r (who (item r (suc t))) line (suc t) ≡ b → WriteAt (suc t) ⊎ NoWrite (suc t)
         by_test true is =
-            let w = writes fits (who (item r (suc t))) t one h is in
+            let w = points.writes_its_update fits (who (item r (suc t))) t one h is in
             inl (record { process = who (item r (suc t)); word = w.0; value = w.1; call = w.2; updating = w.3; before_it = w.4; is_word = w.5; executed = is; written = w.6 })
         by_test false is =
             inr (record {
               none = λ k ex.
                   let ex2 : executes r (who (item r (suc t))) line (suc t) ≡ true = subst (λ y. executes r y line (suc t) ≡ true) (executes_who k line (suc t) ex) ex in
                   absurd (cc);
-              kept = elim (changes fits t h) [
+              kept = elim (points.changes_only_at fits t h) [
                 | inl same ↦ same
                 | inr ex ↦ absurd (cc)
               ];

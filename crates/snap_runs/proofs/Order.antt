@@ -34,6 +34,10 @@ pub pairs_push : (R : Operation → Operation → Type 0) (P : Operation → Typ
 pairs_push R P [] o gives h pairs = (tt, tt)
 pairs_push R P (x ∷ os) o gives h pairs = (all_push (R x) os o pairs.0 (gives x h.0), pairs_push R P os o gives h.1 pairs.1)
 
+pub pairs_weaker : (R S : Operation → Operation → Type 0) (os : List Operation) → ((a b : Operation) → R a b → S a b) → Pairs R os → Pairs S os
+pairs_weaker R S [] gives h = tt
+pairs_weaker R S (o ∷ os) gives h = (all_weaker (R o) (S o) os (gives o) h.0, pairs_weaker R S os gives h.1)
+
 -- the values after all of them
 pub after_all : List ℕ → List Operation → List ℕ
 after_all values [] = values

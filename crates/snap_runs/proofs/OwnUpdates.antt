@@ -11,13 +11,13 @@ use Rattle.snap_semantics.specs.State.{values}
 use Rattle.snap_semantics.specs.declared.process.Item.{Item}
 use Rattle.snap_semantics.specs.declared.process.Item.TheVariants.{Call}
 use Rattle.snap_semantics.specs.declared.process.Op.{Op}
-use Rattle.snap_semantics.specs.declared.process.Op.TheVariants.{Scan as ScanOp, Update}
+use Rattle.snap_semantics.specs.declared.process.Op.TheVariants.{Scan, Update}
 use Rattle.snap_semantics.specs.declared.process.Outcome.TheVariants.{Called}
 use Rattle.snap_runs.specs.Run.{Run, state, item, outcome}
-use Rattle.snap_runs.specs.Scan.{Scan, HasPoint, count}
-use Rattle.snap_runs.specs.Update.{executes, IsDone, Updating as UpdateOf}
+use Rattle.snap_runs.specs.Scan.{PendingScan, HasPoint, count}
+use Rattle.snap_runs.specs.Update.{executes, IsDone, PendingUpdate}
 use Rattle.snap_runs.specs.Promises.{HavePoints, OwnUpdatesAreSeen}
-use Rattle.snap_runs.proofs.Algorithm.{Task, Updating, op_of, Control, At, TypedProcess, Algorithm, by_call, typed_at, by_item, outcome_of, item_at, typed_state}
+use Rattle.snap_runs.proofs.Algorithm.{Mode, Updating, op_of, Control, At, TypedProcess, Algorithm, by_call, typed_at, by_item, outcome_of, item_at, typed_state}
 use Rattle.snap_runs.proofs.Counting.{count_none, count_not}
 use Rattle.snap_runs.proofs.Embedding as embed
 use Rattle.snap_runs.proofs.Executing as executing
@@ -67,7 +67,7 @@ datum_at ws k lt = get_or-map (λ (w : Word). w.datum) ws (k - 1) no_word 0 lt
 
 module _ {V P M : Type 0} (a : Algorithm V P M) (lines : Lines V P M) (line : ℕ) (writer : writes.Writer a lines line) (listed : scans.Listed a lines)
     (run : scans.Execution a lines)
-    (updates : (t i : ℕ) (d : Task) → t < length run.items → IsOneOf a.shape.n i → (typed_at a (typed_state a run.items t) i).control ≡ At d writer.counter → IsUpdateOf (writer.Owned i) d)
+    (updates : (t i : ℕ) (d : Mode) → t < length run.items → IsOneOf a.shape.n i → (typed_at a (typed_state a run.items t) i).control ≡ At d writer.counter → IsUpdateOf (writer.Owned i) d)
     (once : writes_once.Once a lines line) (numbered : executing.Numbered a) (its : numbered.counter_with line ≡ Some writer.counter)
     (own : (i word : ℕ) → writer.Owned i word → word ≡ i)
     (sizes : (t : ℕ) → t ≤ length run.items → length (writes.words_at a lines line writer run t) ≡ a.shape.n) where
@@ -102,12 +102,12 @@ module _ {V P M : Type 0} (a : Algorithm V P M) (lines : Lines V P M) (line : �
     Under op c t = called.Under a line once.writes_is items run.fits run.does i one (writes_once.silent a lines line once run i one) op c t
 
     -- a process that is called is not in an update
-    not_updating : (word value c e : ℕ) (op : Op) → UpdateOf r i word value c (suc e) → c ≤ e → item r (suc e) ≡ Call i op → outcome r (suc e) ≡ Called → ⊥
+    not_updating : (word value c e : ℕ) (op : Op) → PendingUpdate r i word value c (suc e) → c ≤ e → item r (suc e) ≡ Call i op → outcome r (suc e) ≡ Called → ⊥
     not_updating word value c e op up le call out =
         let last : suc e ≤ length items = up.last in
         let g = called.going a line once.writes_is items run.fits run.does i one (writes_once.silent a lines line once run i one) word value c (suc e) e up le (omega arith) in
         let x = typed_state a items e in
-        let busy : outcome_of (by_item a (suc e) x (item_at items e)) ≡ outcome_of (by_call a (suc e) x.memory i op (at e i) (At g.task g.counter)) =
+        let busy : outcome_of (by_item a (suc e) x (item_at items e)) ≡ outcome_of (by_call a (suc e) x.memory i op (at e i) (At g.mode g.counter)) =
         ap (λ (y : Item). outcome_of (by_item a (suc e) x y)) call
         ∙ ap (λ (p : Control P). outcome_of (by_call a (suc e) x.memory i op (at e i) p)) g.control in
         absurd (let f = sym out ∙ embed.outcome_is a items run.fits run.does e (omega arith) ∙ busy in cc)
@@ -116,9 +116,9 @@ module _ {V P M : Type 0} (a : Algorithm V P M) (lines : Lines V P M) (line : �
     record Writing (t : ℕ) : Type 0 where
       word : ℕ
       value : ℕ
-      task : Task
-      is : task ≡ Updating word value
-      control : (at t i).control ≡ At task writer.counter
+      mode : Mode
+      is : mode ≡ Updating word value
+      control : (at t i).control ≡ At mode writer.counter
       under : Under (Update word value) (at t i).auxiliary.called t
 
     writing : (t : ℕ) → t < length items → executes r i line (suc t) ≡ true → Writing t
@@ -130,7 +130,7 @@ module _ {V P M : Type 0} (a : Algorithm V P M) (lines : Lines V P M) (line : �
         record {
           word = up.0;
           value = up.1;
-          task = d;
+          mode = d;
           is = up.3;
           control = there.1.1;
           under =
@@ -157,17 +157,17 @@ module _ {V P M : Type 0} (a : Algorithm V P M) (lines : Lines V P M) (line : �
         (omega arith) call out
 
     -- nor does it write in its scan
-    in_scan : (c e t : ℕ) → Scan r i None c e → c ≤ t → t < e → Writing t → ⊥
+    in_scan : (c e t : ℕ) → PendingScan r i None c e → c ≤ t → t < e → Writing t → ⊥
     in_scan c e t scan lo hi w =
         let g = scans.goes a lines listed run i one None c e t scan lo hi in
-        let same : At g.task g.counter ≡ At (Updating w.word w.value) writer.counter =
+        let same : At g.mode g.counter ≡ At (Updating w.word w.value) writer.counter =
         sym g.control ∙ w.control ∙ ap (λ y. At y writer.counter) w.is in
-        let task : g.task ≡ Updating w.word w.value = cc in
-        let op : op_of g.task ≡ ScanOp = g.inside.1 in
-        absurd (let e2 : Update w.word w.value ≡ ScanOp = sym (ap op_of task) ∙ op in cc)
+        let mode : g.mode ≡ Updating w.word w.value = cc in
+        let op : op_of g.mode ≡ Scan = g.inside.1 in
+        absurd (let e2 : Update w.word w.value ≡ Scan = sym (ap op_of mode) ∙ op in cc)
 
     -- after an update that is done, and up to the end of a scan that it called next, it writes nothing
-    quiet : (done c e : ℕ) → ((u : ℕ) → done < u → u < c → IsDone r i u → ⊥) → Scan r i None c e → (t : ℕ) → done ≤ t → t < e →
+    quiet : (done c e : ℕ) → ((u : ℕ) → done < u → u < c → IsDone r i u → ⊥) → PendingScan r i None c e → (t : ℕ) → done ≤ t → t < e →
         executes r i line (suc t) ≡ false
     quiet done zero e none scan t lo hi = absurd (let pos : 0 < 0 = scan.first in omega arith)
     quiet done (suc c) e none scan t lo hi =
@@ -179,7 +179,7 @@ module _ {V P M : Type 0} (a : Algorithm V P M) (lines : Lines V P M) (line : �
               let w = writing t (omega arith) is in
               absurd (elim (cases_lt c t) [
                 | inl late ↦ in_scan (suc c) e t scan (omega arith) hi w
-                | inr early ↦ before_call done c t ScanOp none lo (omega arith) (omega arith) scan.starts.0 scan.starts.1 w
+                | inr early ↦ before_call done c t Scan none lo (omega arith) (omega arith) scan.starts.0 scan.starts.1 w
               ])
         ]) refl
 
@@ -192,7 +192,7 @@ module _ {V P M : Type 0} (a : Algorithm V P M) (lines : Lines V P M) (line : �
       datum : (word_at (words (suc item_before)) i).datum ≡ value
       none_since : (u : ℕ) → item_before < u → u < e → executes r i line (suc u) ≡ false
 
-    wrote : (word value c e : ℕ) → UpdateOf r i word value c e → c < e → IsDone r i e → Wrote word value c e
+    wrote : (word value c e : ℕ) → PendingUpdate r i word value c e → c < e → IsDone r i e → Wrote word value c e
     wrote word value c e up lt done =
         let last : e ≤ length items = up.last in
         let two = writes.once_in_update a lines line writer run updates once numbered its (fits_of r run.fits) i word value c e up in
@@ -204,9 +204,9 @@ module _ {V P M : Type 0} (a : Algorithm V P M) (lines : Lines V P M) (line : �
         let there = executing.stands_at a items run.fits run.does numbered v i line writer.counter short one its l.passes in
         let w = writes.written a lines line writer run updates v i there.1.0 short there.0 there.1.1 in
         let g = called.going a line once.writes_is items run.fits run.does i one (writes_once.silent a lines line once run i one) word value c e v up l.after before in
-        let same : At g.task g.counter ≡ At (Updating w.word w.value) writer.counter = sym g.control ∙ w.control in
-        let task : g.task ≡ Updating w.word w.value = cc in
-        let op : Update w.word w.value ≡ Update word value = sym (ap op_of task) ∙ g.op in
+        let same : At g.mode g.counter ≡ At (Updating w.word w.value) writer.counter = sym g.control ∙ w.control in
+        let mode : g.mode ≡ Updating w.word w.value = cc in
+        let op : Update w.word w.value ≡ Update word value = sym (ap op_of mode) ∙ g.op in
         let its_word : w.word ≡ word = cc in
         let its_value : w.value ≡ value = cc in
         let owned : w.word ≡ i = own i w.word w.owned in

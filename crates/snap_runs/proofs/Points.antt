@@ -6,7 +6,7 @@ use Rattle.snap_semantics.specs.declared.process.Item.{Item}
 use Rattle.snap_runs.specs.Run.{Run}
 use Rattle.snap_runs.specs.Scan.{HasPoint}
 use Rattle.snap_runs.specs.Promises.{HavePoints}
-use Rattle.snap_runs.proofs.Algorithm.{Task, At, TypedProcess, Algorithm, typed_at, typed_state}
+use Rattle.snap_runs.proofs.Algorithm.{Mode, At, TypedProcess, Algorithm, typed_at, typed_state}
 use Rattle.snap_runs.proofs.Embedding as embed
 use Rattle.snap_runs.proofs.Flow.{Lines}
 use Rattle.snap_runs.proofs.Held.{Held}
@@ -30,7 +30,7 @@ module _ {V P M : Type 0} (a : Algorithm V P M) (lines : Lines V P M) (line : �
       let u : h.0 ≤ t = h.2 in
       (h.0, h.1, omega arith, writes.values_is a lines line writer run h.0 (omega arith) ∙ h.3)
 
-  module _ (held : (t i : ℕ) (d : Task) (k : P) → t ≤ length items → IsOneOf a.shape.n i → (at t i).control ≡ At d k → lines.IsReturn k →
+  module _ (held : (t i : ℕ) (d : Mode) (k : P) → t ≤ length items → IsOneOf a.shape.n i → (at t i).control ≡ At d k → lines.IsReturn k →
       Held (writes.words_at a lines line writer run) t (at t i).auxiliary.since (lines.answer (at t i).variables)) where
     pub have_points : HavePoints r
     have_points fits i link c zero view h = absurd (let lt : c < 0 = h.order in omega arith)
@@ -39,7 +39,7 @@ module _ {V P M : Type 0} (a : Algorithm V P M) (lines : Lines V P M) (line : �
         let last : suc t ≤ length items = h.scan.last in
         let ending = scans.ending a lines listed run i one link c t view h in
         let g = ending.goes_on in
-        let returned = held t i g.task g.counter (omega arith) one g.control ending.at_return in
+        let returned = held t i g.mode g.counter (omega arith) one g.control ending.at_return in
         point_of c (suc t) t view (omega arith) (omega arith)
         (subst (Held (writes.words_at a lines line writer run) t c) ending.answers
         (subst (λ s. Held (writes.words_at a lines line writer run) t s (lines.answer (at t i).variables)) g.since returned))

@@ -4,7 +4,7 @@ use Rattle.std.proofs.Common.{sym, ◌∙◌, ap, subst, arith, inl, inr}
 use Rattle.std.proofs.lemmas.Bool.{cases_eq}
 use Rattle.std.proofs.Math.Nat.{eq-or-lt_of_le}
 use Rattle.snap_semantics.specs.Source.{instr_at}
-use Rattle.snap_semantics.specs.declared.process.Op.TheVariants.{Scan as ScanOp}
+use Rattle.snap_semantics.specs.declared.process.Op.TheVariants.{Scan}
 use Rattle.snap_semantics.specs.declared.process.Item.{Item}
 use Rattle.snap_semantics.specs.declared.process.Item.TheVariants.{Step, Call, Crash}
 use Rattle.snap_semantics.specs.declared.process.Outcome.{Outcome}
@@ -14,8 +14,8 @@ use Rattle.snap_semantics.specs.State.{process_at}
 use Rattle.snap_semantics.specs.Table.{who}
 use Rattle.snap_words.specs.Shape.{IsOneOf}
 use Rattle.snap_runs.specs.Run.{Run, state, before, item, outcome}
-use Rattle.snap_runs.specs.Scan.{line_in, link_in, IsCallLine, Returns, Starts, Scan, steps, is_if_all, is_stepped, is_not_skipped, ends_double_collect, takes_step, double_collects, own_steps}
-use Rattle.snap_runs.proofs.Algorithm.{Task, Scanning, Embedded, Updating, op_of, link_of, task_of, op_is, link_is, Control, Idle, At, Move, To, Begin, Answer, Finish, embedding, TypedProcess, TypedState, Algorithm, by_move, by_step, by_call, typed_at, by_item, changed, outcome_of, happens, item_at, typed_state, status_of, process_of, stepped_auxiliary, begun_auxiliary, called_auxiliary}
+use Rattle.snap_runs.specs.Scan.{line_in, link_in, IsCallLine, ReturnsView, Starts, PendingScan, steps, is_if_all, is_stepped, is_not_skipped, ends_double_collect, takes_step, double_collects, own_steps}
+use Rattle.snap_runs.proofs.Algorithm.{Mode, Scanning, Embedded, Updating, op_of, link_of, mode_of, op_is, link_is, Control, Idle, At, Move, To, Begin, Answer, Finish, embedding, TypedProcess, TypedState, Algorithm, by_move, by_step, by_call, typed_at, by_item, changed, outcome_of, happens, item_at, typed_state, status_of, process_of, stepped_auxiliary, begun_auxiliary, called_auxiliary}
 use Rattle.snap_runs.proofs.Counting.{count_none, count_next, count_not}
 use Rattle.snap_runs.proofs.Computing.{same_number, other_number}
 use Rattle.snap_runs.proofs.Embedding as embed
@@ -29,14 +29,14 @@ not_his i (Crash k) h = refl
 
 module _ {V P M : Type 0} (a : Algorithm V P M) where
   -- in a scan with this link
-  abbrev pub Inside : Option ℕ → Task → Type 0
-  Inside None d = (link_of a.back d ≡ None) × (op_of d ≡ ScanOp)
+  abbrev pub Inside : Option ℕ → Mode → Type 0
+  Inside None d = (link_of a.back d ≡ None) × (op_of d ≡ Scan)
   Inside (Some l) d = link_of a.back d ≡ Some l
 
   -- an embedded scan is at a line that returns
   abbrev pub ReturnsAt : Option ℕ → P → V → Type 0
   ReturnsAt None k p = ⊥
-  ReturnsAt (Some l) k p = (v : List ℕ) × Returns (instr_at a.source.lines (a.number k)) (a.locals_of p) v
+  ReturnsAt (Some l) k p = (v : List ℕ) × ReturnsView (instr_at a.source.lines (a.number k)) (a.locals_of p) v
 
   -- a scan that was called
   abbrev pub IsTop : Option ℕ → Type 0
@@ -57,13 +57,13 @@ module _ {V P M : Type 0} (a : Algorithm V P M) where
   NotTo (Answer v) = Unit {0}
   NotTo Finish = Unit {0}
 
-  pub embeds : (k : P) (d : Task) (p : V) → NotTo (embedding k d p)
+  pub embeds : (k : P) (d : Mode) (p : V) → NotTo (embedding k d p)
   embeds k Scanning p = tt
   embeds k (Embedded word value) p = tt
   embeds k (Updating word value) p = tt
 
   -- what a line owes: in a scan it stays or returns, and a `call` line begins a scan
-  pub record Lawful (me : ℕ) (d : Task) (m : M) (p : V) (k : P) : Type 0 where
+  pub record Lawful (me : ℕ) (d : Mode) (m : M) (p : V) (k : P) : Type 0 where
     pub stays : (link : Option ℕ) → Inside link d → Stays link k p (a.move me d m p k)
     pub calls : IsCallLine (instr_at a.source.lines (a.number k)) → NotTo (a.move me d m p k)
 
@@ -88,10 +88,10 @@ module _ {V P M : Type 0} (a : Algorithm V P M) where
     -- at state t the scan that started at item c goes on
     pub record Goes (link : Option ℕ) (c t : ℕ) : Type 0 where
       -- the process is busy at a line of the scan
-      pub task : Task
+      pub mode : Mode
       pub counter : P
-      pub control : (his t).control ≡ At task counter
-      pub inside : Inside link task
+      pub control : (his t).control ≡ At mode counter
+      pub inside : Inside link mode
       -- item c started its last scan
       pub since : (his t).auxiliary.since ≡ c
       -- its steps and double collects since are those of the run
@@ -118,7 +118,7 @@ module _ {V P M : Type 0} (a : Algorithm V P M) where
     same_goes link c t le same why g =
         let none : steps i (item_at items t) ≡ false = elim why [ inl other ↦ not_his i (item_at items t) other | inr unstepped ↦ unstepped ] in
         record {
-          task = g.task;
+          mode = g.mode;
           counter = g.counter;
           control = ap (λ (q : TypedProcess V P M). q.control) same ∙ g.control;
           inside = g.inside;
@@ -140,14 +140,14 @@ module _ {V P M : Type 0} (a : Algorithm V P M) where
     and_true true = refl
     and_true false = refl
 
-    is_busy_at : (t : ℕ) → t ≤ length items → (d : Task) (k : P) → (his t).control ≡ At d k →
+    is_busy_at : (t : ℕ) → t ≤ length items → (d : Mode) (k : P) → (his t).control ≡ At d k →
         process_at (state r t) i ≡ process_of a (record { control = At d k; variables = (his t).variables; auxiliary = (his t).auxiliary })
     is_busy_at t le d k e =
         embed.process_at_is a items fits does t i le one
         ∙ ap (λ (p : Control P). process_of a (record { control = p; variables = (his t).variables; auxiliary = (his t).auxiliary })) e
 
     -- the counts after a step of the process
-    collects_next : (c t : ℕ) (d : Task) (k : P) → c ≤ t → t ≤ length items → steps i (item_at items t) ≡ true → outcome r (suc t) ≡ Stepped →
+    collects_next : (c t : ℕ) (d : Mode) (k : P) → c ≤ t → t ≤ length items → steps i (item_at items t) ≡ true → outcome r (suc t) ≡ Stepped →
         (his t).control ≡ At d k →
         double_collects r i c (suc t) ≡ double_collects r i c t + a.tests k
     collects_next c t d k le short steps_is out_is at =
@@ -183,7 +183,7 @@ module _ {V P M : Type 0} (a : Algorithm V P M) where
     tested_next false round t tested h = h
 
     -- a step of the process that stays in the scan
-    step_goes : (link : Option ℕ) (c e t : ℕ) (v : Move V P M) (d : Task) (k : P) → Scan r i link c e → c ≤ t → suc t < e → item_at items t ≡ Step i →
+    step_goes : (link : Option ℕ) (c e t : ℕ) (v : Move V P M) (d : Mode) (k : P) → PendingScan r i link c e → c ≤ t → suc t < e → item_at items t ≡ Step i →
         (his t).control ≡ At d k → Inside link d → a.move i d (memory t) (his t).variables k ≡ v → Stays link k (his t).variables v → Goes link c t →
         Goes link c (suc t)
     step_goes link c e t v d k scan le lt is at inside is_v stays g =
@@ -198,7 +198,7 @@ module _ {V P M : Type 0} (a : Algorithm V P M) where
         let steps_is : steps i (item_at items t) ≡ true = ap (steps i) is ∙ same_number i in
         stepped_goes link c e t d k scan le lt short is at g v state_becomes out_is steps_is stays
       where
-        stepped_goes : (link : Option ℕ) (c e t : ℕ) (d : Task) (k : P) → Scan r i link c e → c ≤ t → suc t < e → t < length items →
+        stepped_goes : (link : Option ℕ) (c e t : ℕ) (d : Mode) (k : P) → PendingScan r i link c e → c ≤ t → suc t < e → t < length items →
             item_at items t ≡ Step i →
             (his t).control ≡ At d k → Goes link c t → (v : Move V P M) →
             typed_state a items (suc t) ≡ changed (typed_state a items t) i (by_move a (suc t) (memory t) (his t) k v) →
@@ -209,7 +209,7 @@ module _ {V P M : Type 0} (a : Algorithm V P M) where
             record { control = At d' k'; variables = p'; auxiliary = stepped_auxiliary a k (suc t) (his t).auxiliary } in
             let new : his (suc t) ≡ q' = embed.process_next a items t i m' q' Stepped one state_becomes in
             record {
-              task = d';
+              mode = d';
               counter = k';
               control = ap (λ (q : TypedProcess V P M). q.control) new;
               inside = inside;
@@ -226,11 +226,11 @@ module _ {V P M : Type 0} (a : Algorithm V P M) where
         stepped_goes None c e t d k scan le lt short is at g (To d' m' p' k') state_becomes out_is steps_is (inr h) = absurd h
         stepped_goes (Some l) c e t d k scan le lt short is at g (To d' m' p' k') state_becomes out_is steps_is (inr h) =
             let busy = is_busy_at t (omega arith) d k at in
-            let inside : link_of a.back g.task ≡ Some l = g.inside in
+            let inside : link_of a.back g.mode ≡ Some l = g.inside in
             absurd (scan.goes_on (suc t) h.0 (omega arith) lt (
               is,
-              subst (λ (y : Process). Returns (line_in r.source y.status) y.locals h.0) (sym busy) h.1,
-              ap (λ (y : Process). link_in y.status) (is_busy_at t (omega arith) g.task g.counter g.control) ∙ inside,
+              subst (λ (y : Process). ReturnsView (line_in r.source y.status) y.locals h.0) (sym busy) h.1,
+              ap (λ (y : Process). link_in y.status) (is_busy_at t (omega arith) g.mode g.counter g.control) ∙ inside,
             ))
         stepped_goes link c e t d k scan le lt short is at g (Begin d' p' k') state_becomes out_is steps_is h = absurd h
         stepped_goes None c e t d k scan le lt short is at g (Answer v) state_becomes out_is steps_is h =
@@ -239,14 +239,14 @@ module _ {V P M : Type 0} (a : Algorithm V P M) where
         stepped_goes link c e t d k scan le lt short is at g Finish state_becomes out_is steps_is h = absurd h
 
     -- the item of the process in its scan: a step, or a call that is skipped
-    item_goes : (link : Option ℕ) (c e t : ℕ) (y : Item) → Scan r i link c e → c ≤ t → suc t < e → item_at items t ≡ y → who y ≡ i → Goes link c t →
+    item_goes : (link : Option ℕ) (c e t : ℕ) (y : Item) → PendingScan r i link c e → c ≤ t → suc t < e → item_at items t ≡ y → who y ≡ i → Goes link c t →
         Goes link c (suc t)
     item_goes link c e t (Step k) scan le lt is w g =
         let is2 : item_at items t ≡ Step i = is ∙ ap (λ u. Step u) w in
         let short : t < length items = (let last : e ≤ length items = scan.last in omega arith) in
-        let law : Lawful i g.task (memory t) (his t).variables g.counter =
+        let law : Lawful i g.mode (memory t) (his t).variables g.counter =
         subst (LawfulAt i (memory t) (his t).variables) g.control (lawful t i short one) in
-        step_goes link c e t (a.move i g.task (memory t) (his t).variables g.counter) g.task g.counter scan le lt is2 g.control g.inside refl (law.stays link g.inside) g
+        step_goes link c e t (a.move i g.mode (memory t) (his t).variables g.counter) g.mode g.counter scan le lt is2 g.control g.inside refl (law.stays link g.inside) g
     item_goes link c e t (Call k op) scan le lt is w g =
         let x = typed_state a items t in
         let is2 : item_at items t ≡ Call i op = is ∙ ap (λ u. Call u op) w in
@@ -257,7 +257,7 @@ module _ {V P M : Type 0} (a : Algorithm V P M) where
         let x = typed_state a items t in
         same_goes link c t le (ap (λ (y : TypedState V P M). typed_at a y i) (ap (happens a (suc t) x) is)) (inr (ap (steps i) is)) g
 
-    next_goes : (link : Option ℕ) (c e t : ℕ) → Scan r i link c e → c ≤ t → suc t < e → Goes link c t → Goes link c (suc t)
+    next_goes : (link : Option ℕ) (c e t : ℕ) → PendingScan r i link c e → c ≤ t → suc t < e → Goes link c t → Goes link c (suc t)
     next_goes link c e t scan le lt g =
         let short : t < length items = (let last : e ≤ length items = scan.last in omega arith) in
         let his_one : IsOneOf a.shape.n (who (item_at items t)) = embed.one_at a items fits t short in
@@ -269,29 +269,29 @@ module _ {V P M : Type 0} (a : Algorithm V P M) where
         ]
 
     -- the item that starts a top-level scan
-    called_goes : (c : ℕ) → c < length items → item_at items c ≡ Call i ScanOp → outcome r (suc c) ≡ Called → Goes None (suc c) (suc c)
+    called_goes : (c : ℕ) → c < length items → item_at items c ≡ Call i Scan → outcome r (suc c) ≡ Called → Goes None (suc c) (suc c)
     called_goes c short is out =
         let x = typed_state a items c in
-        let item_is_change : by_item a (suc c) x (item_at items c) ≡ by_call a (suc c) x.memory i ScanOp (his c) (his c).control = ap (by_item a (suc c) x) is in
-        let state_becomes : typed_state a items (suc c) ≡ changed x i (by_call a (suc c) x.memory i ScanOp (his c) (his c).control) =
+        let item_is_change : by_item a (suc c) x (item_at items c) ≡ by_call a (suc c) x.memory i Scan (his c) (his c).control = ap (by_item a (suc c) x) is in
+        let state_becomes : typed_state a items (suc c) ≡ changed x i (by_call a (suc c) x.memory i Scan (his c) (his c).control) =
         ap (λ (y : Item). changed x (who y) (by_item a (suc c) x (item_at items c))) is ∙ ap (changed x i) item_is_change in
-        let out_is : outcome_of (by_call a (suc c) x.memory i ScanOp (his c) (his c).control) ≡ Called =
+        let out_is : outcome_of (by_call a (suc c) x.memory i Scan (his c) (his c).control) ≡ Called =
         sym (ap outcome_of item_is_change) ∙ sym (embed.outcome_is a items fits does c short) ∙ out in
         from_control c (his c).control state_becomes out_is
       where
         from_control : (c : ℕ) (control : Control P) →
-            typed_state a items (suc c) ≡ changed (typed_state a items c) i (by_call a (suc c) (memory c) i ScanOp (his c) control) →
-            outcome_of (by_call a (suc c) (memory c) i ScanOp (his c) control) ≡ Called → Goes None (suc c) (suc c)
+            typed_state a items (suc c) ≡ changed (typed_state a items c) i (by_call a (suc c) (memory c) i Scan (his c) control) →
+            outcome_of (by_call a (suc c) (memory c) i Scan (his c) control) ≡ Called → Goes None (suc c) (suc c)
         from_control c Idle state_becomes out_is =
             let x = typed_state a items c in
             let q' : TypedProcess V P M =
-            record { control = At (task_of ScanOp) (a.counter ScanOp); variables = (his c).variables; auxiliary = called_auxiliary (suc c) ScanOp (his c).auxiliary } in
+            record { control = At (mode_of Scan) (a.counter Scan); variables = (his c).variables; auxiliary = called_auxiliary (suc c) Scan (his c).auxiliary } in
             let new : his (suc c) ≡ q' = embed.process_next a items c i x.memory q' Called one state_becomes in
             record {
-              task = task_of ScanOp;
-              counter = a.counter ScanOp;
+              mode = mode_of Scan;
+              counter = a.counter Scan;
               control = ap (λ (q : TypedProcess V P M). q.control) new;
-              inside = (link_is a.back ScanOp, op_is ScanOp);
+              inside = (link_is a.back Scan, op_is Scan);
               since = ap (λ (q : TypedProcess V P M). q.auxiliary.since) new;
               own = ap (λ (q : TypedProcess V P M). q.auxiliary.own) new ∙ sym (count_none (takes_step r i) (suc c) (suc c) (omega arith));
               collects = ap (λ (q : TypedProcess V P M). q.auxiliary.collects) new
@@ -321,7 +321,7 @@ module _ {V P M : Type 0} (a : Algorithm V P M) where
         sym (ap (λ (y : Process). link_in y.status) (embed.process_at_is a items fits does (suc c) i (omega arith) one)) ∙ link in
         from_control l c (his c).control state_becomes out_is call_is link_is law
       where
-        from_move : (l c : ℕ) (d : Task) (k : P) (v : Move V P M) → NotTo v →
+        from_move : (l c : ℕ) (d : Mode) (k : P) (v : Move V P M) → NotTo v →
             typed_state a items (suc c) ≡ changed (typed_state a items c) i (by_move a (suc c) (memory c) (his c) k v) →
             outcome_of (by_move a (suc c) (memory c) (his c) k v) ≡ Stepped →
             link_in (status_of a (his (suc c)).control) ≡ Some l → Goes (Some l) (suc c) (suc c)
@@ -331,7 +331,7 @@ module _ {V P M : Type 0} (a : Algorithm V P M) where
             let q' : TypedProcess V P M = record { control = At d' k'; variables = p'; auxiliary = begun_auxiliary a k (suc c) (his c).auxiliary } in
             let new : his (suc c) ≡ q' = embed.process_next a items c i x.memory q' Stepped one state_becomes in
             record {
-              task = d';
+              mode = d';
               counter = k';
               control = ap (λ (q : TypedProcess V P M). q.control) new;
               inside = sym (ap (λ (q : TypedProcess V P M). link_in (status_of a q.control)) new) ∙ link_is;
@@ -364,7 +364,7 @@ module _ {V P M : Type 0} (a : Algorithm V P M) where
     first_goes link (suc c) e pos short h = start_goes link c (omega arith) h
 
     -- the scan goes on up to the item before its end
-    pub goes : (link : Option ℕ) (c e t : ℕ) → Scan r i link c e → c ≤ t → t < e → Goes link c t
+    pub goes : (link : Option ℕ) (c e t : ℕ) → PendingScan r i link c e → c ≤ t → t < e → Goes link c t
     goes link c e zero scan le lt = absurd (let pos : 0 < c = scan.first in omega arith)
     goes link c e (suc t) scan le lt =
         let last : e ≤ length items = scan.last in
@@ -396,7 +396,7 @@ module _ {V P M : Type 0} (a : Algorithm V P M) where
         subst (λ y. y ≤ own_steps r i c t + 1) (sym (count_next (takes_step r i) c t le))
         (one_more (steps i (item r (suc t)) && is_not_skipped (outcome r (suc t))) (own_steps r i c t))
 
-    pub last_collects : (c t : ℕ) (d : Task) (k : P) → c ≤ t → t ≤ length items → (his t).control ≡ At d k →
+    pub last_collects : (c t : ℕ) (d : Mode) (k : P) → c ≤ t → t ≤ length items → (his t).control ≡ At d k →
         double_collects r i c (suc t) ≤ double_collects r i c t + a.tests k
     last_collects c t d k le short at =
         let status = line_in r.source (process_at (before r (suc t)) i).status in

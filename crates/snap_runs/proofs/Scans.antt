@@ -9,8 +9,8 @@ use Rattle.snap_semantics.specs.declared.process.Item.{Item}
 use Rattle.snap_semantics.specs.declared.process.Item.TheVariants.{Step, Call, Crash}
 use Rattle.snap_semantics.specs.declared.process.Outcome.TheVariants.{Answered}
 use Rattle.snap_runs.specs.Run.{state, outcome}
-use Rattle.snap_runs.specs.Scan.{IsCallLine, Returns, Ends, Scan, Finished, line_in, is_if_all}
-use Rattle.snap_runs.proofs.Algorithm.{Task, Control, Idle, At, WhenBusy, Move, To, Begin, Answer, Finish, TypedProcess, Algorithm, by_move, by_step, by_call, typed_at, by_item, outcome_of, item_at, typed_state, process_of}
+use Rattle.snap_runs.specs.Scan.{IsCallLine, ReturnsView, Ends, PendingScan, FinishedScan, line_in, is_if_all}
+use Rattle.snap_runs.proofs.Algorithm.{Mode, Control, Idle, At, WhenBusy, Move, To, Begin, Answer, Finish, TypedProcess, Algorithm, by_move, by_step, by_call, typed_at, by_item, outcome_of, item_at, typed_state, process_of}
 use Rattle.snap_runs.proofs.Embedding as embed
 use Rattle.snap_runs.proofs.Flow.{Lines}
 use Rattle.snap_runs.proofs.Flow as flow
@@ -23,11 +23,11 @@ module _ {V P M : Type 0} (a : Algorithm V P M) (lines : Lines V P M) where
     -- an `if all` line is one that ends a double collect
     pub tested : (k : P) → (if is_if_all (instr_at a.source.lines (a.number k)) then 1 else 0) ≡ a.tests k
     -- a `call` line begins a scan
-    pub calls : (me : ℕ) (d : Task) (m : M) (p : V) (k : P) → IsCallLine (instr_at a.source.lines (a.number k)) → span.NotTo a (a.move me d m p k)
+    pub calls : (me : ℕ) (d : Mode) (m : M) (p : V) (k : P) → IsCallLine (instr_at a.source.lines (a.number k)) → span.NotTo a (a.move me d m p k)
     -- a line that returns a view returns the answer, and the lines that return are these
-    pub returns : (p : V) (k : P) (v : List ℕ) → Returns (instr_at a.source.lines (a.number k)) (a.locals_of p) v →
+    pub returns : (p : V) (k : P) (v : List ℕ) → ReturnsView (instr_at a.source.lines (a.number k)) (a.locals_of p) v →
         lines.IsReturn k × (lines.answer p ≡ v)
-    pub answers : (p : V) (k : P) → lines.IsReturn k → Returns (instr_at a.source.lines (a.number k)) (a.locals_of p) (lines.answer p)
+    pub answers : (p : V) (k : P) → lines.IsReturn k → ReturnsView (instr_at a.source.lines (a.number k)) (a.locals_of p) (lines.answer p)
 
   abbrev pub FlowsAt : ℕ → M → V → Control P → Type 0
   FlowsAt me m p = WhenBusy (λ d k. flow.Flows lines a d m p k (a.move me d m p k))
@@ -81,7 +81,7 @@ module _ {V P M : Type 0} (a : Algorithm V P M) (lines : Lines V P M) where
       abbrev pub Goes : Option ℕ → ℕ → ℕ → Type 0
       Goes link c t = span.Goes a listed.tested items run.fits run.does lawful i one link c t
 
-      pub goes : (link : Option ℕ) (c e t : ℕ) → Scan (embed.run_of a items) i link c e → c ≤ t → t < e → Goes link c t
+      pub goes : (link : Option ℕ) (c e t : ℕ) → PendingScan (embed.run_of a items) i link c e → c ≤ t → t < e → Goes link c t
       goes link c e t scan le lt = span.goes a listed.tested items run.fits run.does lawful i one link c e t scan le lt
 
       -- at state t it is about to end with this view
@@ -93,18 +93,18 @@ module _ {V P M : Type 0} (a : Algorithm V P M) (lines : Lines V P M) where
       embedded_ending : (l c t : ℕ) (view : List ℕ) → t < length items → Goes (Some l) c t → Ends (embed.run_of a items) i (suc t) (Some l) view →
           Ending (Some l) c t view
       embedded_ending l c t view short g ends =
-          let busy : process_at (state (embed.run_of a items) t) i ≡ process_of a (record { control = At g.task g.counter; variables = (his t).variables; auxiliary = (his t).auxiliary }) =
+          let busy : process_at (state (embed.run_of a items) t) i ≡ process_of a (record { control = At g.mode g.counter; variables = (his t).variables; auxiliary = (his t).auxiliary }) =
           embed.process_at_is a items run.fits run.does t i (omega arith) one
           ∙ ap (λ (p : Control P). process_of a (record { control = p; variables = (his t).variables; auxiliary = (his t).auxiliary })) g.control in
           let returned =
-          listed.returns (his t).variables g.counter view (subst (λ (p : Process). Returns (line_in a.source p.status) p.locals view) busy ends.1) in
+          listed.returns (his t).variables g.counter view (subst (λ (p : Process). ReturnsView (line_in a.source p.status) p.locals view) busy ends.1) in
           record { goes_on = g; at_return = returned.0; answers = returned.1 }
 
       called_ending : (c t : ℕ) (view : List ℕ) → t < length items → Goes None c t → (y : Item) → item_at items t ≡ y → who y ≡ i →
           outcome (embed.run_of a items) (suc t) ≡ Answered view → Ending None c t view
       called_ending c t view short g (Call k op) is w out =
           let is2 : item_at items t ≡ Call i op = is ∙ ap (λ u. Call u op) w in
-          let e : outcome_of (by_item a (suc t) (typed_state a items t) (item_at items t)) ≡ outcome_of (by_call a (suc t) (typed_state a items t).memory i op (his t) (At g.task g.counter)) =
+          let e : outcome_of (by_item a (suc t) (typed_state a items t) (item_at items t)) ≡ outcome_of (by_call a (suc t) (typed_state a items t).memory i op (his t) (At g.mode g.counter)) =
           ap (λ (y : Item). outcome_of (by_item a (suc t) (typed_state a items t) y)) is2
           ∙ ap (λ (p : Control P). outcome_of (by_call a (suc t) (typed_state a items t).memory i op (his t) p)) g.control in
           absurd (let f = sym out ∙ embed.outcome_is a items run.fits run.does t short ∙ e in cc)
@@ -114,17 +114,17 @@ module _ {V P M : Type 0} (a : Algorithm V P M) (lines : Lines V P M) where
       called_ending c t view short g (Step k) is w out =
           let is2 : item_at items t ≡ Step i = is ∙ ap (λ u. Step u) w in
           let m = (typed_state a items t).memory in
-          let e : outcome_of (by_item a (suc t) (typed_state a items t) (item_at items t)) ≡ outcome_of (by_step a (suc t) m i (his t) (At g.task g.counter)) =
+          let e : outcome_of (by_item a (suc t) (typed_state a items t) (item_at items t)) ≡ outcome_of (by_step a (suc t) m i (his t) (At g.mode g.counter)) =
           ap (λ (y : Item). outcome_of (by_item a (suc t) (typed_state a items t) y)) is2
           ∙ ap (λ (p : Control P). outcome_of (by_step a (suc t) m i (his t) p)) g.control in
-          let v = a.move i g.task m (his t).variables g.counter in
-          let flows_on : flow.Flows lines a g.task m (his t).variables g.counter v =
+          let v = a.move i g.mode m (his t).variables g.counter in
+          let flows_on : flow.Flows lines a g.mode m (his t).variables g.counter v =
           subst (FlowsAt i m (his t).variables) g.control (run.flows t i short one) in
           let returned = answered (suc t) m (his t) g.counter v view (sym e ∙ sym (embed.outcome_is a items run.fits run.does t short) ∙ out)
-          (flow.answers_at lines a g.task m (his t).variables g.counter v flows_on) in
+          (flow.answers_at lines a g.mode m (his t).variables g.counter v flows_on) in
           record { goes_on = g; at_return = returned.0; answers = returned.1 }
 
-      pub ending : (link : Option ℕ) (c t : ℕ) (view : List ℕ) → Finished (embed.run_of a items) i link c (suc t) view → Ending link c t view
+      pub ending : (link : Option ℕ) (c t : ℕ) (view : List ℕ) → FinishedScan (embed.run_of a items) i link c (suc t) view → Ending link c t view
       ending None c t view h =
           let scan = h.scan in
           let last : suc t ≤ length items = scan.last in

@@ -1,11 +1,10 @@
 -- Runs in which no process crashes.
-use Rattle.std.specs.Prelude.{◌≤◌, length}
 use Rattle.std.specs.List.{AllByRecursion}
 use Rattle.snap_words.specs.Shape.{IsOneOf}
 use Rattle.snap_semantics.specs.declared.process.Item.{Item}
 use Rattle.snap_semantics.specs.declared.process.Item.TheVariants.{Step, Call, Crash}
 use Rattle.snap_semantics.specs.Table.{who}
-use Rattle.snap_runs.specs.Run.{Run, Fits}
+use Rattle.snap_runs.specs.Run.{Run, IsValidRun}
 
 -- a step or a call
 abbrev pub IsNoCrash : Item → Type 0
@@ -16,8 +15,7 @@ IsNoCrash (Crash i) = ⊥
 -- a run that fits, without crashes
 pub record Steady (r : Run) : Type 0 where
   pub all : AllByRecursion (λ x. IsOneOf r.shape.n (who x)) r.items
-  pub few : length r.items ≤ 1000000
   pub steady : AllByRecursion IsNoCrash r.items
 
-pub fits_of : (r : Run) → Steady r → Fits r
-fits_of r h = record { all = h.all; few = h.few }
+pub fits_of : (r : Run) → Steady r → IsValidRun r
+fits_of r h = record { all = h.all }

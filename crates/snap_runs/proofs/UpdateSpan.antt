@@ -4,19 +4,19 @@ use Rattle.std.proofs.Common.{sym, ◌∙◌, ap, subst, arith, inl, inr}
 use Rattle.std.proofs.lemmas.Bool.{cases_eq}
 use Rattle.std.proofs.Math.Nat.{eq-or-lt_of_le}
 use Rattle.snap_semantics.specs.declared.process.Op.{Op}
-use Rattle.snap_semantics.specs.declared.process.Op.TheVariants.{Scan as ScanOp, Update}
+use Rattle.snap_semantics.specs.declared.process.Op.TheVariants.{Scan, Update}
 use Rattle.snap_semantics.specs.declared.process.Reason.{Reason}
 use Rattle.snap_semantics.specs.declared.process.Item.{Item}
 use Rattle.snap_semantics.specs.declared.process.Item.TheVariants.{Step, Call, Crash}
-use Rattle.snap_semantics.specs.declared.process.Outcome.TheVariants.{Called, Stepped, Answered, Finished as Done}
+use Rattle.snap_semantics.specs.declared.process.Outcome.TheVariants.{Called, Stepped, Answered, Finished}
 use Rattle.snap_semantics.specs.State.{Process}
 use Rattle.snap_semantics.specs.State.{process_at}
 use Rattle.snap_semantics.specs.Table.{call_skip, who}
 use Rattle.snap_words.specs.Shape.{IsOneOf}
 use Rattle.snap_runs.specs.Run.{Run, before, item, outcome}
 use Rattle.snap_runs.specs.Scan.{count, steps}
-use Rattle.snap_runs.specs.Update.{is_at, executes, IsDone, Updating}
-use Rattle.snap_runs.proofs.Algorithm.{Task, op_of, task_of, op_is, Control, Idle, At, Move, To, Begin, Answer, Finish, Auxiliary, TypedProcess, TypedState, Algorithm, by_move, by_step, by_admission, by_call, typed_at, by_item, changed, outcome_of, happens, item_at, typed_state, status_of, stepped_auxiliary, begun_auxiliary, called_auxiliary, SameOp}
+use Rattle.snap_runs.specs.Update.{is_at, executes, IsDone, PendingUpdate}
+use Rattle.snap_runs.proofs.Algorithm.{Mode, op_of, mode_of, op_is, Control, Idle, At, Move, To, Begin, Answer, Finish, Auxiliary, TypedProcess, TypedState, Algorithm, by_move, by_step, by_admission, by_call, typed_at, by_item, changed, outcome_of, happens, item_at, typed_state, status_of, stepped_auxiliary, begun_auxiliary, called_auxiliary, SameOp}
 use Rattle.snap_runs.proofs.Computing.{same_number}
 use Rattle.snap_runs.proofs.Embedding as embed
 use Rattle.snap_runs.proofs.Counting.{count_none, count_next, count_not}
@@ -38,7 +38,7 @@ module _ {V P M : Type 0} (a : Algorithm V P M) where
   module _ (line : ℕ) (writes_is : (k : P) → (if nat_eq (a.number k) line then 1 else 0) ≡ a.writes k)
       (items : List Item) (fits : Steady (embed.run_of a items)) (does : embed.AllDo a items)
       (i : ℕ) (one : IsOneOf a.shape.n i)
-      (silent : (t : ℕ) → t < length items → (d : Task) (k : P) → (typed_at a (typed_state a items t) i).control ≡ At d k → (word value : ℕ) → op_of d ≡ Update word value →
+      (silent : (t : ℕ) → t < length items → (d : Mode) (k : P) → (typed_at a (typed_state a items t) i).control ≡ At d k → (word value : ℕ) → op_of d ≡ Update word value →
       NoAnswer (a.move i d (typed_state a items t).memory (typed_at a (typed_state a items t) i).variables k)) where
     abbrev pub r : Run
     r = embed.run_of a items
@@ -83,7 +83,7 @@ module _ {V P M : Type 0} (a : Algorithm V P M) where
     same_under t same not_done h =
         subst (λ (q : TypedProcess V P M). UnderAt (suc t) q q.control) (sym same) (longer_at t (his t) (his t).control not_done h)
 
-    stepped_under : (t : ℕ) (d : Task) (k : P) (v : Move V P M) → SameOp a d v → (his t).control ≡ At d k →
+    stepped_under : (t : ℕ) (d : Mode) (k : P) (v : Move V P M) → SameOp a d v → (his t).control ≡ At d k →
         typed_state a items (suc t) ≡ changed (typed_state a items t) i (by_move a (suc t) (memory t) (his t) k v) →
         outcome r (suc t) ≡ outcome_of (by_move a (suc t) (memory t) (his t) k v) →
         UnderAt t (his t) (At d k) → UnderAt (suc t) (his (suc t)) (his (suc t)).control
@@ -105,7 +105,7 @@ module _ {V P M : Type 0} (a : Algorithm V P M) where
     stepped_under t d k Finish same at state_becomes out_is h =
         let q' : TypedProcess V P M =
         record { control = Idle; variables = (his t).variables; auxiliary = stepped_auxiliary a k (suc t) (his t).auxiliary } in
-        let new : his (suc t) ≡ q' = embed.process_next a items t i (memory t) q' Done one state_becomes in
+        let new : his (suc t) ≡ q' = embed.process_next a items t i (memory t) q' Finished one state_becomes in
         subst (λ (q : TypedProcess V P M). UnderAt (suc t) q q.control) (sym new) tt
 
     stepping_under : (t : ℕ) (control : Control P) → t < length items → item_at items t ≡ Step i → (his t).control ≡ control →
@@ -127,10 +127,10 @@ module _ {V P M : Type 0} (a : Algorithm V P M) where
         same_under t (ap (λ (y : TypedState V P M). typed_at a y i) state_becomes) (λ done. absurd (let e = sym done.1 ∙ out_is in cc)) h
     admitted_under t op None is state_becomes out_is h =
         let q' : TypedProcess V P M =
-        record { control = At (task_of op) (a.counter op); variables = (his t).variables; auxiliary = called_auxiliary (suc t) op (his t).auxiliary } in
+        record { control = At (mode_of op) (a.counter op); variables = (his t).variables; auxiliary = called_auxiliary (suc t) op (his t).auxiliary } in
         let new : his (suc t) ≡ q' = embed.process_next a items t i (memory t) q' Called one state_becomes in
         subst (λ (q : TypedProcess V P M). UnderAt (suc t) q q.control) (sym new)
-        (subst (λ c. Under (op_of (task_of op)) c (suc t)) (sym (called_at (suc t) op (his t).auxiliary)) (record {
+        (subst (λ c. Under (op_of (mode_of op)) c (suc t)) (sym (called_at (suc t) op (his t).auxiliary)) (record {
           call = is ∙ ap (λ (y : Op). Call i y) (sym (op_is op));
           called = out_is;
           first = omega arith;
@@ -139,7 +139,7 @@ module _ {V P M : Type 0} (a : Algorithm V P M) where
         }))
       where
         called_at : (t : ℕ) (op : Op) (g : Auxiliary) → (called_auxiliary t op g).called ≡ t
-        called_at t ScanOp g = refl
+        called_at t Scan g = refl
         called_at t (Update word value) g = refl
 
     calling_under : (t : ℕ) (op : Op) (control : Control P) → item_at items t ≡ Call i op → (his t).control ≡ control →
@@ -183,16 +183,16 @@ module _ {V P M : Type 0} (a : Algorithm V P M) where
 
     -- at state t the update that was called at item c goes on
     pub record Going (word value c t : ℕ) : Type 0 where
-      pub task : Task
+      pub mode : Mode
       pub counter : P
-      pub control : (his t).control ≡ At task counter
-      pub op : op_of task ≡ Update word value
+      pub control : (his t).control ≡ At mode counter
+      pub op : op_of mode ≡ Update word value
       pub wrote : (his t).auxiliary.wrote ≡ count (executes r i line) c t
 
     same_going : (word value c t : ℕ) → c ≤ t → his (suc t) ≡ his t → steps i (item_at items t) ≡ false → Going word value c t →
         Going word value c (suc t)
     same_going word value c t le same none g = record {
-      task = g.task;
+      mode = g.mode;
       counter = g.counter;
       control = ap (λ (q : TypedProcess V P M). q.control) same ∙ g.control;
       op = g.op;
@@ -201,7 +201,7 @@ module _ {V P M : Type 0} (a : Algorithm V P M) where
     }
 
     -- one more item of the process at a line
-    pub line_counts : (t c : ℕ) (d : Task) (k : P) → c ≤ t → t ≤ length items → item_at items t ≡ Step i → (his t).control ≡ At d k →
+    pub line_counts : (t c : ℕ) (d : Mode) (k : P) → c ≤ t → t ≤ length items → item_at items t ≡ Step i → (his t).control ≡ At d k →
         count (executes r i line) c (suc t) ≡ count (executes r i line) c t + a.writes k
     line_counts t c d k le short is at =
         let stands : is_at line (process_at (before r (suc t)) i).status ≡ nat_eq (a.number k) line =
@@ -213,7 +213,7 @@ module _ {V P M : Type 0} (a : Algorithm V P M) where
         ∙ add_one (nat_eq (a.number k) line) (count (executes r i line) c t)
         ∙ ap (λ y. count (executes r i line) c t + y) (writes_is k)
 
-    stepped_going : (word value c e t : ℕ) (d : Task) (k : P) (v : Move V P M) → Updating r i word value c e → c ≤ t → suc t < e → t < length items →
+    stepped_going : (word value c e t : ℕ) (d : Mode) (k : P) (v : Move V P M) → PendingUpdate r i word value c e → c ≤ t → suc t < e → t < length items →
         item_at items t ≡ Step i →
         SameOp a d v → NoAnswer v → (his t).control ≡ At d k → op_of d ≡ Update word value →
         typed_state a items (suc t) ≡ changed (typed_state a items t) i (by_move a (suc t) (memory t) (his t) k v) →
@@ -222,7 +222,7 @@ module _ {V P M : Type 0} (a : Algorithm V P M) where
         let q' : TypedProcess V P M = record { control = At d' k'; variables = p'; auxiliary = stepped_auxiliary a k (suc t) (his t).auxiliary } in
         let new : his (suc t) ≡ q' = embed.process_next a items t i m' q' Stepped one state_becomes in
         record {
-          task = d';
+          mode = d';
           counter = k';
           control = ap (λ (q : TypedProcess V P M). q.control) new;
           op = same ∙ op;
@@ -233,7 +233,7 @@ module _ {V P M : Type 0} (a : Algorithm V P M) where
         let q' : TypedProcess V P M = record { control = At d' k'; variables = p'; auxiliary = begun_auxiliary a k (suc t) (his t).auxiliary } in
         let new : his (suc t) ≡ q' = embed.process_next a items t i (memory t) q' Stepped one state_becomes in
         record {
-          task = d';
+          mode = d';
           counter = k';
           control = ap (λ (q : TypedProcess V P M). q.control) new;
           op = same ∙ op;
@@ -244,16 +244,16 @@ module _ {V P M : Type 0} (a : Algorithm V P M) where
     stepped_going word value c e t d k Finish up le lt short is same silence at op state_becomes out_is g =
         absurd (up.goes_on (suc t) (omega arith) lt (ap who is, out_is))
 
-    item_going : (word value c e t : ℕ) (y : Item) → Updating r i word value c e → c ≤ t → suc t < e → item_at items t ≡ y → who y ≡ i →
+    item_going : (word value c e t : ℕ) (y : Item) → PendingUpdate r i word value c e → c ≤ t → suc t < e → item_at items t ≡ y → who y ≡ i →
         Going word value c t → Going word value c (suc t)
     item_going word value c e t (Step k) up le lt is w g =
         let is2 : item_at items t ≡ Step i = is ∙ ap (λ u. Step u) w in
         let short : t < length items = (let last : e ≤ length items = up.last in omega arith) in
         let x = typed_state a items t in
-        let done : embed.Does a i x.memory (his t).variables (At g.task g.counter) =
+        let done : embed.Does a i x.memory (his t).variables (At g.mode g.counter) =
         subst (embed.Does a i x.memory (his t).variables) g.control (does t i short one) in
-        stepped_going word value c e t g.task g.counter (a.move i g.task x.memory (his t).variables g.counter) up le lt short is2 done.1
-        (silent t short g.task g.counter g.control word value g.op) g.control g.op
+        stepped_going word value c e t g.mode g.counter (a.move i g.mode x.memory (his t).variables g.counter) up le lt short is2 done.1
+        (silent t short g.mode g.counter g.control word value g.op) g.control g.op
         (ap (happens a (suc t) x) is2 ∙ ap (λ (p : Control P). changed x i (by_step a (suc t) x.memory i (his t) p)) g.control)
         (embed.outcome_is a items fits does t short ∙ ap (λ (y : Item). outcome_of (by_item a (suc t) x y)) is2
         ∙ ap (λ (p : Control P). outcome_of (by_step a (suc t) x.memory i (his t) p)) g.control) g
@@ -278,10 +278,10 @@ module _ {V P M : Type 0} (a : Algorithm V P M) where
         from_reason word value c None state_becomes out_is =
             let x = typed_state a items c in
             let q' : TypedProcess V P M =
-            record { control = At (task_of (Update word value)) (a.counter (Update word value)); variables = (his c).variables; auxiliary = called_auxiliary (suc c) (Update word value) (his c).auxiliary } in
+            record { control = At (mode_of (Update word value)) (a.counter (Update word value)); variables = (his c).variables; auxiliary = called_auxiliary (suc c) (Update word value) (his c).auxiliary } in
             let new : his (suc c) ≡ q' = embed.process_next a items c i x.memory q' Called one state_becomes in
             record {
-              task = task_of (Update word value);
+              mode = mode_of (Update word value);
               counter = a.counter (Update word value);
               control = ap (λ (q : TypedProcess V P M). q.control) new;
               op = op_is (Update word value);
@@ -296,7 +296,7 @@ module _ {V P M : Type 0} (a : Algorithm V P M) where
         called_going word value c (his c).control (ap (happens a (suc c) x) is)
         (sym (embed.outcome_is a items fits does c (omega arith) ∙ ap (λ (y : Item). outcome_of (by_item a (suc c) x y)) is) ∙ out)
 
-    pub going : (word value c e t : ℕ) → Updating r i word value c e → c ≤ t → t < e → Going word value c t
+    pub going : (word value c e t : ℕ) → PendingUpdate r i word value c e → c ≤ t → t < e → Going word value c t
     going word value c e zero up le lt = absurd (let pos : 0 < c = up.first in omega arith)
     going word value c e (suc t) up le lt =
         let last : e ≤ length items = up.last in
@@ -314,7 +314,7 @@ module _ {V P M : Type 0} (a : Algorithm V P M) where
     inner_more false true x = omega arith
     inner_more false false x = omega arith
 
-    pub line_at_most : (t c : ℕ) (d : Task) (k : P) → c ≤ t → t ≤ length items → (his t).control ≡ At d k →
+    pub line_at_most : (t c : ℕ) (d : Mode) (k : P) → c ≤ t → t ≤ length items → (his t).control ≡ At d k →
         count (executes r i line) c (suc t) ≤ count (executes r i line) c t + a.writes k
     line_at_most t c d k le short at =
         let b = is_at line (process_at (before r (suc t)) i).status in

@@ -12,8 +12,8 @@ use Rattle.snap_semantics.specs.declared.process.Outcome.TheVariants.{Called, St
 use Rattle.snap_semantics.specs.declared.process.Reason.{Reason}
 use Rattle.snap_runs.specs.Run.{Run, item, outcome}
 use Rattle.snap_runs.specs.Scan.{steps, is_not_skipped, own_steps, takes_step}
-use Rattle.snap_runs.specs.Update.{IsDone, Updating as UpdateOf}
-use Rattle.snap_runs.proofs.Algorithm.{Task, Scanning, Embedded, Updating, op_of, Control, Idle, At, Move, To, Begin, Answer, Finish, Auxiliary, TypedProcess, TypedState, Algorithm, by_move, by_step, by_admission, by_call, typed_at, by_item, changed, outcome_of, happens, item_at, typed_state, stepped_auxiliary, begun_auxiliary}
+use Rattle.snap_runs.specs.Update.{IsDone, PendingUpdate}
+use Rattle.snap_runs.proofs.Algorithm.{Mode, Scanning, Embedded, Updating, op_of, Control, Idle, At, Move, To, Begin, Answer, Finish, Auxiliary, TypedProcess, TypedState, Algorithm, by_move, by_step, by_admission, by_call, typed_at, by_item, changed, outcome_of, happens, item_at, typed_state, stepped_auxiliary, begun_auxiliary}
 use Rattle.snap_runs.proofs.Counting.{count_none, count_next, count_not}
 use Rattle.snap_runs.proofs.Embedding as embed
 use Rattle.snap_runs.proofs.Flow as flow
@@ -66,7 +66,7 @@ module _ {V P M : Type 0} (a : Algorithm V P M) (lines : Lines V P M) where
       Nearer h (typed_at a (typed_state a run.items t) i).variables k (a.move i (Updating word value) (typed_state a run.items t).memory (typed_at a (typed_state a run.items t) i).variables k))
       (resumes : (word value : ℕ) (m : M) (p : V) (k : P) → lines.IsReturn k → Resumes h (a.move i (Embedded word value) m p k))
       -- a scan has one more step within its bound
-      (within : (t : ℕ) (d : Task) (k : P) → t ≤ length run.items → (typed_at a (typed_state a run.items t) i).control ≡ At d k → IsInScan d →
+      (within : (t : ℕ) (d : Mode) (k : P) → t ≤ length run.items → (typed_at a (typed_state a run.items t) i).control ≡ At d k → IsInScan d →
       (typed_at a (typed_state a run.items t) i).auxiliary.own + 1 ≤ scan)
       -- where an update begins
       (begins : (p : V) (word value : ℕ) → (h.ahead p (a.counter (Update word value)) ≤ h.total) × (h.scanned (a.counter (Update word value)) ≡ false)) where
@@ -84,11 +84,11 @@ module _ {V P M : Type 0} (a : Algorithm V P M) (lines : Lines V P M) where
 
     -- at state t the update that was called at item c is busy, and keeps within what it may spend
     record Spent (word value c t : ℕ) : Type 0 where
-      task : Task
+      mode : Mode
       counter : P
-      control : (his t).control ≡ At task counter
-      op : op_of task ≡ Update word value
-      spent : Spending h scan (own_steps r i c t) (his t).variables (his t).auxiliary (At task counter)
+      control : (his t).control ≡ At mode counter
+      op : op_of mode ≡ Update word value
+      spent : Spending h scan (own_steps r i c t) (his t).variables (his t).auxiliary (At mode counter)
 
     own_same : (c t : ℕ) → c ≤ t → steps i (item_at items t) ≡ false → own_steps r i c (suc t) ≡ own_steps r i c t
     own_same c t le none = count_not (takes_step r i) c t le (ap (λ b. b && is_not_skipped (outcome r (suc t))) none)
@@ -105,16 +105,16 @@ module _ {V P M : Type 0} (a : Algorithm V P M) (lines : Lines V P M) where
     -- the process stays as it is
     same_spent : (word value c t : ℕ) → c ≤ t → his (suc t) ≡ his t → steps i (item_at items t) ≡ false → Spent word value c t → Spent word value c (suc t)
     same_spent word value c t le same none g = record {
-      task = g.task;
+      mode = g.mode;
       counter = g.counter;
       control = ap (λ (q : TypedProcess V P M). q.control) same ∙ g.control;
       op = g.op;
-      spent = subst (λ (q : TypedProcess V P M). Spending h scan (own_steps r i c (suc t)) q.variables q.auxiliary (At g.task g.counter)) (sym same)
-          (subst (λ y. Spending h scan y (his t).variables (his t).auxiliary (At g.task g.counter)) (sym (own_same c t le none)) g.spent);
+      spent = subst (λ (q : TypedProcess V P M). Spending h scan (own_steps r i c (suc t)) q.variables q.auxiliary (At g.mode g.counter)) (sym same)
+          (subst (λ y. Spending h scan y (his t).variables (his t).auxiliary (At g.mode g.counter)) (sym (own_same c t le none)) g.spent);
     }
 
     -- what a step of the scan leaves to be spent
-    after_scan : (own own' word value : ℕ) (k : P) (g : Auxiliary) (d' : Task) (m' : M) (p' : V) (k' : P) (time : ℕ) → own' ≤ own + 1 →
+    after_scan : (own own' word value : ℕ) (k : P) (g : Auxiliary) (d' : Mode) (m' : M) (p' : V) (k' : P) (time : ℕ) → own' ≤ own + 1 →
         g.own + 1 ≤ scan → own + h.rest ≤ h.total + g.own →
         ((d' ≡ Embedded word value) ⊎ ((d' ≡ Updating word value) × Resumes h (To d' m' p' k'))) →
         Spending h scan own' p' (stepped_auxiliary a k time g) (At d' k')
@@ -127,7 +127,7 @@ module _ {V P M : Type 0} (a : Algorithm V P M) (lines : Lines V P M) where
         (subst (λ b. own' + h.ahead p' k' ≤ h.total + (if b then scan else 0)) (sym resumed.1) (omega arith))
 
     -- a step of the process, which does not end the update
-    stepped : (word value c t : ℕ) (d : Task) (k : P) (v : Move V P M) → c ≤ t → t < length items → (his t).control ≡ At d k →
+    stepped : (word value c t : ℕ) (d : Mode) (k : P) (v : Move V P M) → c ≤ t → t < length items → (his t).control ≡ At d k →
         op_of d ≡ Update word value → a.move i d (memory t) (his t).variables k ≡ v → (IsDone r i (suc t) → ⊥) → who (item_at items t) ≡ i →
         typed_state a items (suc t) ≡ changed (typed_state a items t) i (by_move a (suc t) (memory t) (his t) k v) →
         outcome r (suc t) ≡ outcome_of (by_move a (suc t) (memory t) (his t) k v) →
@@ -144,7 +144,7 @@ module _ {V P M : Type 0} (a : Algorithm V P M) (lines : Lines V P M) where
           | inr back ↦ inr (back.0, subst (Resumes h) is (resumes w x (memory t) (his t).variables k back.1))
         ] in
         record {
-          task = d';
+          mode = d';
           counter = k';
           control = ap (λ (q : TypedProcess V P M). q.control) new;
           op = elim resumed [
@@ -167,7 +167,7 @@ module _ {V P M : Type 0} (a : Algorithm V P M) (lines : Lines V P M) where
         let more = own_next c t le in
         subst (λ b. own_steps r i c (suc t) + h.ahead p' k' ≤ h.total + (if b then scan else 0)) (sym n.1) (omega arith)) in
         record {
-          task = d';
+          mode = d';
           counter = k';
           control = ap (λ (q : TypedProcess V P M). q.control) new;
           op = ap op_of flows.1 ∙ op;
@@ -185,7 +185,7 @@ module _ {V P M : Type 0} (a : Algorithm V P M) (lines : Lines V P M) where
         let before : own_steps r i c t + h.ahead (his t).variables k ≤ h.total + 0 =
         subst (λ b. own_steps r i c t + h.ahead (his t).variables k ≤ h.total + (if b then scan else 0)) n.1 spent in omega arith) in
         record {
-          task = d';
+          mode = d';
           counter = k';
           control = ap (λ (q : TypedProcess V P M). q.control) new;
           op = ap op_of flows.0 ∙ op;
@@ -196,13 +196,13 @@ module _ {V P M : Type 0} (a : Algorithm V P M) (lines : Lines V P M) where
     stepped word value c t (Updating w x) k Finish le short at op is still own becomes out flows spent = absurd (still (own, out))
 
     -- an item of the process
-    item_spent : (word value c e t : ℕ) (y : Item) → UpdateOf r i word value c e → c ≤ t → suc t < e → item_at items t ≡ y → who y ≡ i →
+    item_spent : (word value c e t : ℕ) (y : Item) → PendingUpdate r i word value c e → c ≤ t → suc t < e → item_at items t ≡ y → who y ≡ i →
         Spent word value c t → Spent word value c (suc t)
     item_spent word value c e t (Step j) up le lt is w g =
         let is2 : item_at items t ≡ Step i = is ∙ ap (λ u. Step u) w in
         let short : t < length items = (let last : e ≤ length items = up.last in omega arith) in
         let x = typed_state a items t in
-        stepped word value c t g.task g.counter (a.move i g.task x.memory (his t).variables g.counter) le short g.control g.op refl
+        stepped word value c t g.mode g.counter (a.move i g.mode x.memory (his t).variables g.counter) le short g.control g.op refl
         (λ done. up.goes_on (suc t) (omega arith) lt done) (ap who is2)
         (ap (happens a (suc t) x) is2 ∙ ap (λ (p : Control P). changed x i (by_step a (suc t) x.memory i (his t) p)) g.control)
         (embed.outcome_is a items run.fits run.does t short ∙ ap (λ (y : Item). outcome_of (by_item a (suc t) x y)) is2
@@ -230,7 +230,7 @@ module _ {V P M : Type 0} (a : Algorithm V P M) (lines : Lines V P M) where
         let left : own_steps r i (suc c) (suc c) + h.ahead p (a.counter (Update word value)) ≤ h.total + (if h.scanned (a.counter (Update word value)) then scan else 0) =
         subst (λ y. own_steps r i (suc c) (suc c) + h.ahead p (a.counter (Update word value)) ≤ h.total + (if y then scan else 0)) (sym b.1) (omega arith) in
         record {
-          task = Updating word value;
+          mode = Updating word value;
           counter = a.counter (Update word value);
           control = ap (λ (q : TypedProcess V P M). q.control) new;
           op = refl;
@@ -255,7 +255,7 @@ module _ {V P M : Type 0} (a : Algorithm V P M) (lines : Lines V P M) where
         let his_one : IsOneOf a.shape.n (who (item_at items t)) = embed.one_at a items run.fits t short in
         embed.other_process a (typed_state a items t) (who (item_at items t)) i (by_item a (suc t) (typed_state a items t) (item_at items t)) his_one.0 one.0 (λ same. other (sym same))
 
-    spent_at : (word value c e t : ℕ) → UpdateOf r i word value c e → c ≤ t → t < e → Spent word value c t
+    spent_at : (word value c e t : ℕ) → PendingUpdate r i word value c e → c ≤ t → t < e → Spent word value c t
     spent_at word value c e zero up le lt = absurd (let pos : 0 < c = up.first in omega arith)
     spent_at word value c e (suc t) up le lt =
         let last : e ≤ length items = up.last in
@@ -268,7 +268,7 @@ module _ {V P M : Type 0} (a : Algorithm V P M) (lines : Lines V P M) where
         ]
 
     -- a busy update has room for one more step
-    one_step_left : (word value c t : ℕ) (d : Task) (k : P) → t < length items → (his t).control ≡ At d k → op_of d ≡ Update word value →
+    one_step_left : (word value c t : ℕ) (d : Mode) (k : P) → t < length items → (his t).control ≡ At d k → op_of d ≡ Update word value →
         Spending h scan (own_steps r i c t) (his t).variables (his t).auxiliary (At d k) → own_steps r i c t + 1 ≤ h.total + scan
     one_step_left word value c t Scanning k short at op spent = absurd (cc)
     one_step_left word value c t (Embedded w x) k short at op spent = let few = within t (Embedded w x) k (omega arith) at tt in omega arith
@@ -282,13 +282,13 @@ module _ {V P M : Type 0} (a : Algorithm V P M) (lines : Lines V P M) where
         at_most_scan false spent own = omega arith
 
     -- An update, finished or not, takes at most so many steps of its process.
-    pub update_steps : (word value c e : ℕ) → UpdateOf r i word value c e → own_steps r i c e ≤ h.total + scan
+    pub update_steps : (word value c e : ℕ) → PendingUpdate r i word value c e → own_steps r i c e ≤ h.total + scan
     update_steps word value c zero up = omega arith
     update_steps word value c (suc t) up =
         let last : suc t ≤ length items = up.last in
         elim (eq-or-lt_of_le up.order) [
           | inl same ↦ (let none : own_steps r i c (suc t) ≡ 0 = count_none (takes_step r i) c (suc t) (omega arith) in omega arith)
           | inr more ↦ (let g = spent_at word value c (suc t) t up (omega arith) (omega arith) in
-              let left = one_step_left word value c t g.task g.counter (omega arith) g.control g.op g.spent in
+              let left = one_step_left word value c t g.mode g.counter (omega arith) g.control g.op g.spent in
               let next = own_next c t (omega arith) in omega arith)
         ]

@@ -14,9 +14,9 @@ use Rattle.snap_semantics.specs.declared.process.Status.{Status}
 use Rattle.snap_semantics.specs.declared.process.Status.TheVariants.{Idle, Busy, Trapped, Crashed}
 use Rattle.snap_semantics.specs.State.{process_at}
 use Rattle.snap_semantics.specs.Table.{step, done, who}
-use Rattle.snap_runs.specs.Run.{Run, Fits, state, item, outcome}
+use Rattle.snap_runs.specs.Run.{Run, IsValidRun, state, item, outcome}
 use Rattle.snap_runs.specs.Scan.{count, steps, is_not_skipped, takes_step, own_steps}
-use Rattle.snap_runs.specs.Update.{Updating}
+use Rattle.snap_runs.specs.Update.{PendingUpdate}
 use Rattle.snap_runs.specs.Promises.{HasTrapped, NeverTraps, StepsAtMost}
 use Rattle.snap_runs.specs.WaitFree.{is_alive, turns, IsWaitFree}
 use Rattle.snap_runs.proofs.Calls.{Occupied, Calls, EndsAt, status, occupied, turn, is_not_skipped_there}
@@ -63,7 +63,7 @@ busy_then o (Busy a) h not_trapped = inl (a, refl)
 busy_then o (Trapped cause a) h not_trapped = absurd (not_trapped tt)
 busy_then o (Crashed was) h not_trapped = inr (was, refl)
 
-module _ (r : Run) (fits : Fits r) (safe : NeverTraps r) where
+module _ (r : Run) (fits : IsValidRun r) (safe : NeverTraps r) where
   -- a step of a process that has crashed is skipped
   crashed_step : (i t : ℕ) (was : Option Activity) → item r (suc t) ≡ Step i → status r fits t i ≡ Crashed was →
       outcome r (suc t) ≡ outcomes.Skipped reason.Crashed
@@ -92,7 +92,7 @@ module _ (r : Run) (fits : Fits r) (safe : NeverTraps r) where
       (λ t lt le. turn_counts i o c t one pos lt (omega arith) call (λ u more less ends. still u more (omega arith) ends))
 
 pub wait_free : (scan_steps update_steps : ℕ) (r : Run) → NeverTraps r → StepsAtMost scan_steps r →
-    (Fits r → (i word value c e : ℕ) → Updating r i word value c e → own_steps r i c e ≤ update_steps) → IsWaitFree scan_steps update_steps r
+    (IsValidRun r → (i word value c e : ℕ) → PendingUpdate r i word value c e → own_steps r i c e ≤ update_steps) → IsWaitFree scan_steps update_steps r
 wait_free scan_steps update_steps r safe scans updates fits = record {
   scans = λ i c e scan.
       subst (λ y. y ≤ scan_steps)

@@ -13,7 +13,7 @@ use Rattle.snap_semantics.specs.declared.process.Op.TheVariants.{Update}
 use Rattle.snap_runs.specs.Run.{Run, state}
 use Rattle.snap_runs.specs.Update.{executes}
 use Rattle.snap_runs.specs.Promises.{ChangesOnlyAt, WritesItsUpdate, WritesOnce}
-use Rattle.snap_runs.proofs.Algorithm.{Task, Updating, Control, Idle, At, Move, To, Begin, Answer, Finish, TypedProcess, TypedState, Algorithm, by_move, by_step, typed_at, changed, happens, item_at, typed_state, memory_after}
+use Rattle.snap_runs.proofs.Algorithm.{Mode, Updating, Control, Idle, At, Move, To, Begin, Answer, Finish, TypedProcess, TypedState, Algorithm, by_move, by_step, typed_at, changed, happens, item_at, typed_state, memory_after}
 use Rattle.snap_runs.proofs.Embedding as embed
 use Rattle.snap_runs.proofs.Executing as executing
 use Rattle.snap_runs.proofs.Flow.{Lines, IsUpdateOf, update_of}
@@ -58,7 +58,7 @@ module _ {V P M : Type 0} (a : Algorithm V P M) (lines : Lines V P M) (line : �
 
     -- a step at this line
     abbrev pub Writes : TypedState V P M → Item → Type 0
-    Writes x y = (i : ℕ) × (d : Task) × (y ≡ Step i) × ((typed_at a x i).control ≡ At d writer.counter)
+    Writes x y = (i : ℕ) × (d : Mode) × (y ≡ Step i) × ((typed_at a x i).control ≡ At d writer.counter)
 
     step_writes : (t : ℕ) (x : TypedState V P M) (i : ℕ) (control : Control P) → (typed_at a x i).control ≡ control →
         scans.FlowsAt a lines i x.memory (typed_at a x i).variables control →
@@ -97,7 +97,7 @@ module _ {V P M : Type 0} (a : Algorithm V P M) (lines : Lines V P M) (line : �
       pub words_change : (t : ℕ) → t < length items → (words_at (suc t) ≡ words_at t) ⊎ Writes (typed_state a items t) (item_at items t)
       words_change t h = item_writes t (item_at items t) h (embed.one_at a items run.fits t h)
 
-      write_executes : (t i : ℕ) (d : Task) → t < length items → item_at items t ≡ Step i → (at t i).control ≡ At d writer.counter →
+      write_executes : (t i : ℕ) (d : Mode) → t < length items → item_at items t ≡ Step i → (at t i).control ≡ At d writer.counter →
           executes r i line (suc t) ≡ true
       write_executes t i d h is there = executing.line_executes a items run.fits run.does t i line d writer.counter h is there writer.number_is
 
@@ -108,7 +108,7 @@ module _ {V P M : Type 0} (a : Algorithm V P M) (lines : Lines V P M) (line : �
             | inr w ↦ inr (subst (λ (y : Item). executes r (who y) line (suc t) ≡ true) (sym w.2) (write_executes t w.0 w.1 h w.2 w.3))
           ]
 
-      module _ (updates : (t i : ℕ) (d : Task) → t < length items → IsOneOf a.shape.n i → (at t i).control ≡ At d writer.counter → IsUpdateOf (writer.Owned i) d) where
+      module _ (updates : (t i : ℕ) (d : Mode) → t < length items → IsOneOf a.shape.n i → (at t i).control ≡ At d writer.counter → IsUpdateOf (writer.Owned i) d) where
         -- what a step at this line writes
         pub record Written (t i : ℕ) : Type 0 where
           pub word : ℕ
@@ -117,7 +117,7 @@ module _ {V P M : Type 0} (a : Algorithm V P M) (lines : Lines V P M) (line : �
           pub control : (at t i).control ≡ At (Updating word value) writer.counter
           pub words_are : words_at (suc t) ≡ slice_set (words_at t) (word - 1) (writer.put i word value (typed_state a items t).memory (at t i).variables)
 
-        pub written : (t i : ℕ) (d : Task) → t < length items → item_at items t ≡ Step i → (at t i).control ≡ At d writer.counter → Written t i
+        pub written : (t i : ℕ) (d : Mode) → t < length items → item_at items t ≡ Step i → (at t i).control ≡ At d writer.counter → Written t i
         written t i d h is there =
             let up = update_of (writer.Owned i) d (updates t i d h (executing.one_of a items run.fits run.does t i h is) there) in
             let control : (at t i).control ≡ At (Updating up.0 up.1) writer.counter = there ∙ ap (λ y. At y writer.counter) up.3 in

@@ -6,8 +6,8 @@ use Rattle.snap_semantics.specs.declared.process.Outcome.{Outcome}
 use Rattle.snap_semantics.specs.declared.process.Outcome.TheVariants as outcome
 use Rattle.snap_semantics.specs.State.{values}
 use Rattle.snap_semantics.specs.Table.{who}
-use Rattle.snap_runs.specs.Run.{Run, Fits, state, item, outcome as outcome_at}
-use Rattle.snap_runs.specs.Scan.{Finished, HasPoint, double_collects}
+use Rattle.snap_runs.specs.Run.{Run, IsValidRun, state, item, outcome as outcome_at}
+use Rattle.snap_runs.specs.Scan.{FinishedScan, HasPoint, double_collects}
 use Rattle.snap_runs.specs.declared.verdict.Verdict.{Verdict}
 
 -- a call that is not skipped
@@ -58,7 +58,7 @@ IsLeastPoint r c e view (Some t) =
 -- a verdict is of a finished scan that answers this view
 pub record IsOfScan (r : Run) (v : Verdict) : Type 0 where
   pub view : List ℕ
-  pub finished : Finished r v.process None v.call v.answer view
+  pub finished : FinishedScan r v.process None v.call v.answer view
   pub point_is : v.point ≡ least_point r view v.call (suc (v.answer - v.call))
   pub point_is_least : IsLeastPoint r v.call v.answer view v.point
   pub collects_are : v.collects ≡ double_collects r v.process v.call v.answer
@@ -69,8 +69,8 @@ HasFoundPoint v = IsSome v.point
 
 -- Every verdict of the audit has a point.
 abbrev pub VerdictsHavePoints : Run → Type 0
-VerdictsHavePoints r = Fits r → AllByRecursion HasFoundPoint (audit r)
+VerdictsHavePoints r = IsValidRun r → AllByRecursion HasFoundPoint (audit r)
 
 -- Every verdict of the audit is of a finished scan.
 abbrev pub VerdictsAreOfScans : Run → Type 0
-VerdictsAreOfScans r = Fits r → AllByRecursion (IsOfScan r) (audit r)
+VerdictsAreOfScans r = IsValidRun r → AllByRecursion (IsOfScan r) (audit r)

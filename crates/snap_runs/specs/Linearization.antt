@@ -2,7 +2,7 @@
 use Rattle.std.specs.Prelude.{◌≡◌, ℕ, ◌-◌, ◌<◌, List, [], ◌∷◌, length, replicate, slice_index_or, slice_set}
 use Rattle.std.specs.List.{All, AllPairs, Contains}
 use Rattle.snap_words.specs.Shape.{IsOneOf}
-use Rattle.snap_runs.specs.Run.{Run, Fits}
+use Rattle.snap_runs.specs.Run.{Run, IsValidRun}
 use Rattle.snap_runs.specs.Operation.{Action, Sets, Sees, Operation, IsOperation, HasEnded, EndedBefore}
 
 -- The snapshot object as one process alone would have it, a list of values. What it is after an update or a scan:
@@ -40,4 +40,4 @@ pub record IsLinearization (r : Run) (os : List Operation) : Type 0 where
 
 -- There is one.
 abbrev pub IsLinearizable : Run → Type 0
-IsLinearizable r = Fits r → (os : List Operation) × IsLinearization r os
+IsLinearizable r = IsValidRun r → (os : List Operation) × IsLinearization r os

@@ -7,9 +7,9 @@ use Rattle.snap_semantics.specs.declared.process.Status.TheVariants.{Busy, Trapp
 use Rattle.snap_semantics.specs.Source.{Name}
 use Rattle.snap_semantics.specs.State.{Locals, value_at, process_at, values}
 use Rattle.snap_semantics.specs.Table.{who}
-use Rattle.snap_runs.specs.Run.{Run, Fits, state, before, item}
-use Rattle.snap_runs.specs.Scan.{Scan, Finished, HasPoint, count, double_collects, own_steps}
-use Rattle.snap_runs.specs.Update.{is_at, executes, IsDone, Updating}
+use Rattle.snap_runs.specs.Run.{Run, IsValidRun, state, before, item}
+use Rattle.snap_runs.specs.Scan.{PendingScan, FinishedScan, HasPoint, count, double_collects, own_steps}
+use Rattle.snap_runs.specs.Update.{is_at, executes, IsDone, PendingUpdate}
 
 -- a process that has trapped
 abbrev pub HasTrapped : Status → Type 0
@@ -18,36 +18,36 @@ HasTrapped _ = ⊥
 
 -- No process ever traps.
 abbrev pub NeverTraps : Run → Type 0
-NeverTraps r = Fits r → (i t : ℕ) → IsOneOf r.shape.n i → t ≤ length r.items → HasTrapped (process_at (state r t) i).status → ⊥
+NeverTraps r = IsValidRun r → (i t : ℕ) → IsOneOf r.shape.n i → t ≤ length r.items → HasTrapped (process_at (state r t) i).status → ⊥
 
 -- An item changes the values only where it executes this line.
 abbrev pub ChangesOnlyAt : ℕ → Run → Type 0
-ChangesOnlyAt line r = Fits r → (t : ℕ) → t < length r.items →
+ChangesOnlyAt line r = IsValidRun r → (t : ℕ) → t < length r.items →
     (values (state r (suc t)) ≡ values (state r t)) ⊎ (executes r (who (item r (suc t))) line (suc t) ≡ true)
 
 -- An item that executes this line lies in an update of its process, after its call and not after its end; it writes that
 -- update's value at that update's word, and the other places stay.
 abbrev pub WritesItsUpdate : ℕ → Run → Type 0
-WritesItsUpdate line r = Fits r → (i t : ℕ) → IsOneOf r.shape.n i → t < length r.items → executes r i line (suc t) ≡ true →
-    (word : ℕ) × (value : ℕ) × (c : ℕ) × Updating r i word value c (suc t) × (c < suc t) × IsOneOf r.shape.w word
+WritesItsUpdate line r = IsValidRun r → (i t : ℕ) → IsOneOf r.shape.n i → t < length r.items → executes r i line (suc t) ≡ true →
+    (word : ℕ) × (value : ℕ) × (c : ℕ) × PendingUpdate r i word value c (suc t) × (c < suc t) × IsOneOf r.shape.w word
     × (values (state r (suc t)) ≡ slice_set (values (state r t)) (word - 1) value)
 
 -- An update executes this line at most once, and exactly once if it is done.
 abbrev pub WritesOnce : ℕ → Run → Type 0
-WritesOnce line r = Fits r → (i word value c e : ℕ) → Updating r i word value c e →
+WritesOnce line r = IsValidRun r → (i word value c e : ℕ) → PendingUpdate r i word value c e →
     (count (executes r i line) c e ≤ 1) × (c < e → IsDone r i e → count (executes r i line) c e ≡ 1)
 
 -- Every finished scan has a point, called or embedded in an update.
 abbrev pub HavePoints : Run → Type 0
-HavePoints r = Fits r → (i : ℕ) (link : Option ℕ) (c e : ℕ) (view : List ℕ) → Finished r i link c e view → HasPoint r c e view
+HavePoints r = IsValidRun r → (i : ℕ) (link : Option ℕ) (c e : ℕ) (view : List ℕ) → FinishedScan r i link c e view → HasPoint r c e view
 
 -- Every scan, finished or not, has at most so many double collects.
 abbrev pub CollectsAtMost : ℕ → Run → Type 0
-CollectsAtMost most r = Fits r → (i : ℕ) (link : Option ℕ) (c e : ℕ) → Scan r i link c e → double_collects r i c e ≤ most
+CollectsAtMost most r = IsValidRun r → (i : ℕ) (link : Option ℕ) (c e : ℕ) → PendingScan r i link c e → double_collects r i c e ≤ most
 
 -- Every scan, finished or not, takes at most so many steps of its process.
 abbrev pub StepsAtMost : ℕ → Run → Type 0
-StepsAtMost most r = Fits r → (i : ℕ) (link : Option ℕ) (c e : ℕ) → Scan r i link c e → own_steps r i c e ≤ most
+StepsAtMost most r = IsValidRun r → (i : ℕ) (link : Option ℕ) (c e : ℕ) → PendingScan r i link c e → own_steps r i c e ≤ most
 
 -- place j of a row
 abbrev pub row_place : Locals → Name → ℕ → ℕ
@@ -69,7 +69,7 @@ pub record RecentWrite (r : Run) (line : ℕ) (i j c t : ℕ) : Type 0 where
 
 -- A move that a scan sees is a write since its previous double collect, or since its start where there is none.
 abbrev pub MovesAreWrites : ℕ → Name → ℕ → Run → Type 0
-MovesAreWrites raises row writes r = Fits r → (i j : ℕ) (link : Option ℕ) (c t : ℕ) → Scan r i link c t → c < t →
+MovesAreWrites raises row writes r = IsValidRun r → (i j : ℕ) (link : Option ℕ) (c t : ℕ) → PendingScan r i link c t → c < t →
     ObservedMove r raises row i j t → RecentWrite r writes i j c t
 
 -- The lines of a listing's double collect: line `first` reads word k into the first copies and line `second` reads it into the
@@ -111,7 +111,7 @@ pub record CleanReads (r : Run) (lines : CollectLines) (writes i c t middle k : 
 
 -- A passed test of a scan is clean: there is a state between its collects, and no word is written between the scan's two reads of it.
 abbrev pub PassedTestsAreClean : CollectLines → ℕ → Run → Type 0
-PassedTestsAreClean lines writes r = Fits r → (i : ℕ) (link : Option ℕ) (c t : ℕ) → Scan r i link c t → c < t →
+PassedTestsAreClean lines writes r = IsValidRun r → (i : ℕ) (link : Option ℕ) (c t : ℕ) → PendingScan r i link c t → c < t →
     executes r i lines.test t ≡ true → is_at lines.passed (process_at (state r t) i).status ≡ true →
     (middle : ℕ) × ((k : ℕ) → IsOneOf r.shape.w k → CleanReads r lines writes i c t middle k)
 
@@ -124,17 +124,17 @@ pub record LentView (r : Run) (i c e : ℕ) (view : List ℕ) : Type 0 where
   pub to : ℕ
   pub after_start : c < from
   pub before_end : to < e
-  pub scan : Finished r lender (Some link) from to view
+  pub scan : FinishedScan r lender (Some link) from to view
 
 -- A scan that ends at this line has the view of a whole embedded scan of another process within it.
 abbrev pub BorrowedViewsAreLent : ℕ → Run → Type 0
-BorrowedViewsAreLent line r = Fits r → (i : ℕ) (link : Option ℕ) (c e : ℕ) (view : List ℕ) → Finished r i link c e view →
+BorrowedViewsAreLent line r = IsValidRun r → (i : ℕ) (link : Option ℕ) (c e : ℕ) (view : List ℕ) → FinishedScan r i link c e view →
     executes r i line e ≡ true → LentView r i c e view
 
 -- A scan that a process calls after an update of its own shows that update's value, where no other one of its updates is done
 -- between.
 abbrev pub OwnUpdatesAreSeen : Run → Type 0
-OwnUpdatesAreSeen r = Fits r → (i word value called done c e : ℕ) (view : List ℕ) →
-    Updating r i word value called done → called < done → IsDone r i done →
+OwnUpdatesAreSeen r = IsValidRun r → (i word value called done c e : ℕ) (view : List ℕ) →
+    PendingUpdate r i word value called done → called < done → IsDone r i done →
     done < c → ((t : ℕ) → done < t → t < c → IsDone r i t → ⊥) →
-    Finished r i None c e view → slice_index view (word - 1) ≡ value
+    FinishedScan r i None c e view → slice_index view (word - 1) ≡ value

@@ -31,9 +31,9 @@ IsCallLine (Some (instr.Call target)) = Unit {0}
 IsCallLine _ = ⊥
 
 -- a line `return S` that returns this view
-abbrev pub Returns : Option Instr → Locals → List ℕ → Type 0
-Returns (Some (instr.Return x)) l view = value_at x l.views [] ≡ view
-Returns _ l view = ⊥
+abbrev pub ReturnsView : Option Instr → Locals → List ℕ → Type 0
+ReturnsView (Some (instr.Return x)) l view = value_at x l.views [] ≡ view
+ReturnsView _ l view = ⊥
 
 -- Item c starts a scan of process i: a call of a scan, with no link, or a `call` line, which leaves a link.
 abbrev pub Starts : Run → ℕ → ℕ → Option ℕ → Type 0
@@ -46,11 +46,11 @@ Starts r i c (Some k) =
 abbrev pub Ends : Run → ℕ → ℕ → Option ℕ → List ℕ → Type 0
 Ends r i e None view = (who (item r e) ≡ i) × (outcome_at r e ≡ outcome.Answered view)
 Ends r i e (Some k) view =
-    (item r e ≡ Step i) × Returns (line_in r.source (process_at (before r e) i).status) (process_at (before r e) i).locals view
+    (item r e ≡ Step i) × ReturnsView (line_in r.source (process_at (before r e) i).status) (process_at (before r e) i).locals view
     × (link_in (process_at (before r e) i).status ≡ Some k)
 
 -- Item c starts a scan of process i, which has not ended before item e.
-pub record Scan (r : Run) (i : ℕ) (link : Option ℕ) (c e : ℕ) : Type 0 where
+pub record PendingScan (r : Run) (i : ℕ) (link : Option ℕ) (c e : ℕ) : Type 0 where
   pub process : IsOneOf r.shape.n i
   pub starts : Starts r i c link
   pub first : 0 < c
@@ -59,8 +59,8 @@ pub record Scan (r : Run) (i : ℕ) (link : Option ℕ) (c e : ℕ) : Type 0 whe
   pub goes_on : (t : ℕ) (view : List ℕ) → c < t → t < e → Ends r i t link view → ⊥
 
 -- It ends at item e with this view.
-pub record Finished (r : Run) (i : ℕ) (link : Option ℕ) (c e : ℕ) (view : List ℕ) : Type 0 where
-  pub scan : Scan r i link c e
+pub record FinishedScan (r : Run) (i : ℕ) (link : Option ℕ) (c e : ℕ) (view : List ℕ) : Type 0 where
+  pub scan : PendingScan r i link c e
   pub order : c < e
   pub ends : Ends r i e link view
 

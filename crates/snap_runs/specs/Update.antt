@@ -25,7 +25,7 @@ abbrev pub IsDone : Run → ℕ → ℕ → Type 0
 IsDone r i t = (who (item r t) ≡ i) × (outcome r t ≡ Finished)
 
 -- Item c calls an update of this word to this value by process i, which is not done before item e.
-pub record Updating (r : Run) (i word value c e : ℕ) : Type 0 where
+pub record PendingUpdate (r : Run) (i word value c e : ℕ) : Type 0 where
   pub process : IsOneOf r.shape.n i
   pub call : item r c ≡ Call i (Update word value)
   pub called : outcome r c ≡ Called

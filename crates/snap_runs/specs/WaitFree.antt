@@ -3,9 +3,9 @@ use Rattle.std.specs.Prelude.{ℕ, ◌≤◌, Bool, true, false, ◌&&◌, None}
 use Rattle.snap_semantics.specs.declared.process.Outcome.{Outcome}
 use Rattle.snap_semantics.specs.declared.process.Outcome.TheVariants.{Skipped}
 use Rattle.snap_semantics.specs.declared.process.Reason.TheVariants.{Crashed}
-use Rattle.snap_runs.specs.Run.{Run, Fits, item, outcome}
-use Rattle.snap_runs.specs.Scan.{Scan, count, steps}
-use Rattle.snap_runs.specs.Update.{Updating}
+use Rattle.snap_runs.specs.Run.{Run, IsValidRun, item, outcome}
+use Rattle.snap_runs.specs.Scan.{PendingScan, count, steps}
+use Rattle.snap_runs.specs.Update.{PendingUpdate}
 
 -- what comes of a turn of a process that has not crashed
 abbrev pub is_alive : Outcome → Bool
@@ -19,8 +19,8 @@ turns r i = count (λ t. steps i (item r t) && is_alive (outcome r t))
 -- A call that has not ended before item e has had at most so many turns up to item e. A turn that is skipped counts, so that a
 -- process that trapped or that stands still for ever would not keep this.
 pub record KeepsGoing (scan_turns update_turns : ℕ) (r : Run) : Type 0 where
-  pub scans : (i c e : ℕ) → Scan r i None c e → turns r i c e ≤ scan_turns
-  pub updates : (i word value c e : ℕ) → Updating r i word value c e → turns r i c e ≤ update_turns
+  pub scans : (i c e : ℕ) → PendingScan r i None c e → turns r i c e ≤ scan_turns
+  pub updates : (i word value c e : ℕ) → PendingUpdate r i word value c e → turns r i c e ≤ update_turns
 
 abbrev pub IsWaitFree : ℕ → ℕ → Run → Type 0
-IsWaitFree scan_turns update_turns r = Fits r → KeepsGoing scan_turns update_turns r
+IsWaitFree scan_turns update_turns r = IsValidRun r → KeepsGoing scan_turns update_turns r

@@ -9,7 +9,7 @@ use Rattle.snap_semantics.specs.Table.{places_to, all_true, first_true, bit_at, 
 use Rattle.snap_semantics.specs.declared.process.Op.{Op}
 use Rattle.snap_semantics.specs.declared.process.Op.TheVariants.{Scan, Update}
 use Rattle.snap_runs.proofs.Algorithm as typed
-use Rattle.snap_runs.proofs.Algorithm.{Task, Scanning, Embedded, Updating, value_of, To, Begin, Answer, Finish, Algorithm, returning, embedding}
+use Rattle.snap_runs.proofs.Algorithm.{Mode, Scanning, Embedded, Updating, value_of, To, Begin, Answer, Finish, Algorithm, returning, embedding}
 use Rattle.snap_runs.proofs.Embedding.{map_same}
 use Rattle.snap_runs.proofs.Flow.{Lines, IsScanOf, IsUpdateOf, IsLine}
 use Rattle.snap_runs.proofs.Held.{word_at, seq_at}
@@ -80,7 +80,7 @@ Words = List Word
 
 -- The words of the proof have in `seq` how often their register has been written; those of the listing have 0 there.
 abbrev pub plain : Word → Word
-plain w = record { datum = w.datum; seq = 0; id = w.id; toggle = w.toggle; hands = w.hands; view = w.view }
+plain w = record { datum = w.datum; seq = 0; id = w.id; toggle = w.toggle; handshakes = w.handshakes; view = w.view }
 
 -- the registers
 pub record Registers : Type 0 where
@@ -130,8 +130,8 @@ Change = typed.Change Variables ProgramCounter Registers
 abbrev pub place : List ℕ → ℕ → ℕ
 place row k = slice_index row (k - 1)
 
-abbrev pub hand_at : Word → ℕ → ℕ
-hand_at w i = place w.hands i
+abbrev pub handshake_at : Word → ℕ → ℕ
+handshake_at w i = place w.handshakes i
 
 -- the bit that process i puts for process k
 abbrev pub bit_for : List (List ℕ) → ℕ → ℕ → ℕ
@@ -150,8 +150,8 @@ flipped t = opposite t
 -- both copies of the word at place k say the bit that process `me` drew, and their toggles are equal
 abbrev pub agree : ℕ → Variables → ℕ → Bool
 agree me p k =
-    nat_eq (hand_at (word_at p.a k) me) (place p.g k)
-    && (nat_eq (hand_at (word_at p.b k) me) (place p.g k) && nat_eq (word_at p.a k).toggle (word_at p.b k).toggle)
+    nat_eq (handshake_at (word_at p.a k) me) (place p.g k)
+    && (nat_eq (handshake_at (word_at p.b k) me) (place p.g k) && nat_eq (word_at p.a k).toggle (word_at p.b k).toggle)
 
 -- so many moves of one process has a scan to see before it borrows a view
 abbrev pub limit : ℕ
@@ -168,15 +168,15 @@ abbrev pub at_limit : Variables → ℕ → Bool
 at_limit p k = nat_eq (moved_at p k) limit
 
 -- lines 15, 17, 19 and 43
-abbrev pub next_to : ℕ → Task → Registers → Variables → ProgramCounter → ProgramCounter → Move
+abbrev pub next_to : ℕ → Mode → Registers → Variables → ProgramCounter → ProgramCounter → Move
 next_to n d m p back on = if nat_lt p.j n then To d m (record p { j = p.j + 1 }) back else To d m (record p { j = 1 }) on
 
 -- lines 26 and 28
-abbrev pub return_to : Task → Registers → Variables → Move
+abbrev pub return_to : Mode → Registers → Variables → Move
 return_to d m p = returning p.s L45 d m p
 
 -- line 44
-abbrev pub embed_to : Task → Registers → Variables → Move
+abbrev pub embed_to : Mode → Registers → Variables → Move
 embed_to d m p = embedding L10 d p
 
 -- the line that borrows a view
@@ -184,27 +184,27 @@ abbrev pub borrows : ProgramCounter
 borrows = L27
 
 -- line 22
-abbrev pub first_to : Task → Registers → Variables → Option ℕ → Move
+abbrev pub first_to : Mode → Registers → Variables → Option ℕ → Move
 first_to d m p None = To d m p L23
 first_to d m p (Some k) = To d m (record p { j = k }) borrows
 
 -- the word that line 46 writes
-abbrev pub word_put : ℕ → ℕ → Task → Registers → Variables → Word
-word_put n me d m p = record { datum = value_of d; seq = seq_at m.words me + 1; id = 0; toggle = p.t; hands = take n p.f; view = p.s }
+abbrev pub word_put : ℕ → ℕ → Mode → Registers → Variables → Word
+word_put n me d m p = record { datum = value_of d; seq = seq_at m.words me + 1; id = 0; toggle = p.t; handshakes = take n p.f; view = p.s }
 
 -- the registers after lines 14 and 46
 abbrev pub with_put : ℕ → Registers → Variables → Registers
 with_put me m p = record { words = m.words; q = with_bit_at m.q (me - 1) (p.j - 1) (place p.g p.j) }
 
-abbrev pub with_written : ℕ → ℕ → Task → Registers → Variables → Registers
+abbrev pub with_written : ℕ → ℕ → Mode → Registers → Variables → Registers
 with_written n me d m p = record { words = slice_set m.words (me - 1) (word_put n me d m p); q = m.q }
 
 -- what each line does to process `me` of n
-abbrev pub move : ℕ → ℕ → Task → Registers → Variables → ProgramCounter → Move
+abbrev pub move : ℕ → ℕ → Mode → Registers → Variables → ProgramCounter → Move
 move n me d m p L10 = To d m (record p { moved = for_each n (λ k. 0) p.moved }) L11
 move n me d m p L11 = To d m (record p { j = 1 }) L12
 move n me d m p L12 = To d m (record p { a = slice_set p.a (p.j - 1) (word_at m.words p.j) }) L13
-move n me d m p L13 = To d m (record p { g = slice_set p.g (p.j - 1) (hand_at (word_at p.a p.j) me) }) L14
+move n me d m p L13 = To d m (record p { g = slice_set p.g (p.j - 1) (handshake_at (word_at p.a p.j) me) }) L14
 move n me d m p L14 = To d (with_put me m p) (record p { marks = slice_set p.marks (p.j - 1) (seq_at m.words p.j) }) L15
 move n me d m p L15 = next_to n d m p L12 L16
 move n me d m p L16 = To d m (record p { a = slice_set p.a (p.j - 1) (word_at m.words p.j) }) L17
@@ -307,11 +307,11 @@ algorithm n = record {
   entry_is = entry_is;
 }
 
--- which task a line belongs to; the word of an update is the process's own
-abbrev pub IsScan : ℕ → Task → Type 0
+-- which mode a line belongs to; the word of an update is the process's own
+abbrev pub IsScan : ℕ → Mode → Type 0
 IsScan me d = IsScanOf (λ word. word ≡ me) d
 
-abbrev pub IsUpdate : ℕ → Task → Type 0
+abbrev pub IsUpdate : ℕ → Mode → Type 0
 IsUpdate me d = IsUpdateOf (λ word. word ≡ me) d
 
 -- the lines of an update outside its scan
@@ -326,7 +326,7 @@ in_update L46 = true
 in_update L47 = true
 in_update _ = false
 
-abbrev pub IsLineOf : ℕ → Task → ProgramCounter → Type 0
+abbrev pub IsLineOf : ℕ → Mode → ProgramCounter → Type 0
 IsLineOf me d k = IsLine (λ word. word ≡ me) (in_update k) d
 
 -- What the lines are for.

@@ -4,7 +4,7 @@ use Rattle.std.proofs.Common.{sym, subst, arith}
 use Rattle.snap_words.specs.Shape.{IsOneOf}
 use Rattle.snap_semantics.specs.declared.process.Item.{Item}
 use Rattle.snap_runs.specs.Scan.{double_collects}
-use Rattle.snap_runs.proofs.Algorithm.{Task, At}
+use Rattle.snap_runs.proofs.Algorithm.{Mode, At}
 use Rattle.snap_runs.proofs.Bounds.{collects_at_most, steps_at_most}
 use Rattle.snap_runs.proofs.Flow.{IsInScan, InScan, scan_line}
 use Rattle.snap_runs_of_b.specs.Promises.{run_of, FewCollects, FewSteps, SharpCollects}
@@ -22,7 +22,7 @@ abbrev pub most_steps : ℕ → ℕ
 most_steps n = 8 * (n * n) + 12 * n + 7
 
 -- the bounds at each line
-pub within : (n : ℕ) (items : List Item) → Steady (run_of n items) → (t i : ℕ) (d : Task) (k : ProgramCounter) → t ≤ length items → IsOneOf n i →
+pub within : (n : ℕ) (items : List Item) → Steady (run_of n items) → (t i : ℕ) (d : Mode) (k : ProgramCounter) → t ≤ length items → IsOneOf n i →
     (process_after n items t i).control ≡ At d k → IsInScan d →
     ((process_after n items t i).auxiliary.collects + tests k ≤ n) × ((process_after n items t i).auxiliary.own + 1 ≤ most_steps n)
 within n items fits t i d k le one at scan =

@@ -6,7 +6,7 @@ use Rattle.snap_semantics.specs.declared.process.Item.{Item}
 use Rattle.snap_semantics.specs.declared.process.Op.{Op}
 use Rattle.snap_semantics.specs.declared.process.Op.TheVariants.{Scan, Update}
 use Rattle.snap_runs.specs.Update.{is_at}
-use Rattle.snap_runs.proofs.Algorithm.{Task, Scanning, Embedded, Updating, To, when_busy, status_of}
+use Rattle.snap_runs.proofs.Algorithm.{Mode, Scanning, Embedded, Updating, To, when_busy, status_of}
 use Rattle.snap_runs.proofs.CleanTests as clean
 use Rattle.snap_runs.proofs.Collecting as collecting
 use Rattle.snap_runs.proofs.Collecting.{Copies, Phase, Away, ReadsFirst, HasFirst, ReadsSecond, HasSecond, Collected}
@@ -74,7 +74,7 @@ abbrev pub Reaches : ℕ → Registers → Variables → ProgramCounter → Move
 Reaches n = collecting.Reaches (algorithm n) (copies n)
 
 -- what each line does to the copies
-reaches : (n me : ℕ) (d : Task) (m : Registers) (p : Variables) (k : ProgramCounter) → IsLineOf me d k → VariablesAt n me p k → n ≤ length p.a →
+reaches : (n me : ℕ) (d : Mode) (m : Registers) (p : Variables) (k : ProgramCounter) → IsLineOf me d k → VariablesAt n me p k → n ≤ length p.a →
     n ≤ length p.b →
     Reaches n m p k (move n me d m p k)
 reaches n me d m p L10 s h a b = tt
@@ -114,7 +114,7 @@ reaches n me d m p L46 s h a b = tt
 reaches n me d m p L47 s h a b = tt
 
 -- the test passes only where all copies agree
-passes : (n t : ℕ) (q : Process) (d : Task) (m : Registers) (p : Variables) (b : Bool) →
+passes : (n t : ℕ) (q : Process) (d : Mode) (m : Registers) (p : Variables) (b : Bool) →
     is_at 25 (status_of (algorithm n) (moved (algorithm n) t q L20 (if b then To d m p L25 else To d m p L21)).control) ≡ true → b ≡ true
 passes n t q d m p true h = refl
 passes n t q d m p false h = absurd (cc)

@@ -10,8 +10,8 @@ use Rattle.snap_semantics.specs.Table.{places_to, all_true}
 use Rattle.snap_runs.proofs.Computing.{same_number, same_from, both}
 use Rattle.snap_runs.proofs.Held.{word_at, Held, Lent, beside_now, data_of, seq_at, same_data}
 use Rattle.snap_runs.proofs.Places.{all_pass}
-use Rattle.snap_runs_of_b.proofs.Algorithm.{Words, Variables, place, hand_at, agree}
-use Rattle.snap_runs_of_b.proofs.Follow.{follows_seq, Follows, follows_trans, same_word, toggled, squeezed}
+use Rattle.snap_runs_of_b.proofs.Algorithm.{Words, Variables, place, handshake_at, agree}
+use Rattle.snap_runs_of_b.proofs.Follow.{follows_seq, IsLaterWord, follows_trans, same_word, toggled, squeezed}
 
 -- In all that follows `history u` are the words after u items, t is the number of items so far and `words` the words now;
 -- `since` is the item that started the scan, `round` the item that started its double collect, and `opening` the words
@@ -30,8 +30,8 @@ Low n base words moved = (k : ℕ) → IsOneOf n k → floor base moved k ≤ se
 pub record Drawn (opening now : Words) (g : List ℕ) (i k : ℕ) : Type 0 where
   pub word : Word
   pub fresh : seq_at opening k ≤ word.seq
-  pub before : Follows word (word_at now k)
-  pub says : place g k ≡ hand_at word i
+  pub before : IsLaterWord word (word_at now k)
+  pub says : place g k ≡ handshake_at word i
 
 -- It has been put, and the writes of k up to then are marked.
 pub record Put (opening now : Words) (g marks : List ℕ) (i k : ℕ) : Type 0 where
@@ -45,13 +45,13 @@ PutTo n opening words g marks i j = (k : ℕ) → IsOneOf n k → k < j → Put 
 
 -- Two writes after the mark show in the bit, up to place r.
 abbrev pub Late : ℕ → Words → List ℕ → List ℕ → ℕ → ℕ → Type 0
-Late n words g marks i r = (k : ℕ) → IsOneOf n k → k < r → place marks k + 2 ≤ seq_at words k → hand_at (word_at words k) i ≡ place g k → ⊥
+Late n words g marks i r = (k : ℕ) → IsOneOf n k → k < r → place marks k + 2 ≤ seq_at words k → handshake_at (word_at words k) i ≡ place g k → ⊥
 
 -- a word of the first collect: not older than its mark, which is not older than the double collect; `now` is not older
 pub record FirstCopy (opening : Words) (marks : List ℕ) (copy now : Words) (k : ℕ) : Type 0 where
   pub fresh : seq_at opening k ≤ place marks k
   pub marked : place marks k ≤ seq_at copy k
-  pub before : Follows (word_at copy k) (word_at now k)
+  pub before : IsLaterWord (word_at copy k) (word_at now k)
 
 -- The first collect has come to place j.
 abbrev pub First : ℕ → Words → Words → List ℕ → Words → ℕ → Type 0
@@ -63,12 +63,12 @@ Viewed n history t since words = (k : ℕ) → IsOneOf n k → seq_at (history s
 
 -- a word of the second collect: `between` is not later, and `now` not older
 pub record SecondCopy (opening : Words) (g marks : List ℕ) (i k : ℕ) (between copy now : Word) : Type 0 where
-  pub after : Follows between copy
-  pub before : Follows copy now
+  pub after : IsLaterWord between copy
+  pub before : IsLaterWord copy now
   -- two writes after the mark show in it
-  pub late : place marks k + 2 ≤ copy.seq → hand_at copy i ≡ place g k → ⊥
+  pub late : place marks k + 2 ≤ copy.seq → handshake_at copy i ≡ place g k → ⊥
   -- with no write since the double collect's start it says the bit that was drawn
-  pub same : copy.seq ≤ seq_at opening k → hand_at copy i ≡ place g k
+  pub same : copy.seq ≤ seq_at opening k → handshake_at copy i ≡ place g k
 
 -- The second collect has come to place j; `between` are the words at a state between the two collects.
 pub record Second (n i : ℕ) (history : ℕ → Words) (t since round : ℕ) (words : Words) (g marks : List ℕ) (a b : Words) (j : ℕ) (between : Words) : Type 0 where
@@ -76,7 +76,7 @@ pub record Second (n i : ℕ) (history : ℕ → Words) (t since round : ℕ) (w
   pub first : (k : ℕ) → IsOneOf n k → FirstCopy (history round) marks a between k
   -- the second collect was after it, and the words now are not older
   pub read : (k : ℕ) → IsOneOf n k → k < j → SecondCopy (history round) g marks i k (word_at between k) (word_at b k) (word_at words k)
-  pub now : (k : ℕ) → IsOneOf n k → Follows (word_at between k) (word_at words k)
+  pub now : (k : ℕ) → IsOneOf n k → IsLaterWord (word_at between k) (word_at words k)
   -- the views that the second collect read are as those of the registers
   pub views : (k : ℕ) → IsOneOf n k → k < j → seq_at (history since) k + 2 ≤ seq_at b k → Lent history t since k (word_at b k).view
 
@@ -89,7 +89,7 @@ pub record Gained (n : ℕ) (history : ℕ → Words) (t since : ℕ) (words : W
   -- every move is a write that the second collect saw
   pub low : (k : ℕ) → IsOneOf n k → floor (history since) moved k ≤ seq_at b k
   -- the words now are not older than the second collect
-  pub before : (k : ℕ) → IsOneOf n k → Follows (word_at b k) (word_at words k)
+  pub before : (k : ℕ) → IsOneOf n k → IsLaterWord (word_at b k) (word_at words k)
   -- the views that it read are as those of the registers
   pub views : (k : ℕ) → IsOneOf n k → seq_at (history since) k + 2 ≤ seq_at b k → Lent history t since k (word_at b k).view
 
@@ -123,10 +123,10 @@ put_drawn n opening words g marks i j v one h k ik lt =
     }
 
 pub just_drawn : (n : ℕ) (opening words : Words) (g : List ℕ) (a : Words) (i j : ℕ) → IsOneOf n j → n ≤ length g → seq_at opening j ≤ seq_at a j →
-    Follows (word_at a j) (word_at words j) →
-    Drawn opening words (slice_set g (j - 1) (hand_at (word_at a j) i)) i j
+    IsLaterWord (word_at a j) (word_at words j) →
+    Drawn opening words (slice_set g (j - 1) (handshake_at (word_at a j) i)) i j
 just_drawn n opening words g a i j one len fresh before =
-    record { word = word_at a j; fresh = fresh; before = before; says = place_set g j j (hand_at (word_at a j) i) one.0 (omega arith) refl }
+    record { word = word_at a j; fresh = fresh; before = before; says = place_set g j j (handshake_at (word_at a j) i) one.0 (omega arith) refl }
 
 -- line 14 puts it
 pub put_more : (n : ℕ) (opening words : Words) (g marks : List ℕ) (i j : ℕ) → IsOneOf n j → n ≤ length marks → seq_at opening j ≤ seq_at words j →
@@ -151,7 +151,7 @@ same_copy : (opening : Words) (marks : List ℕ) (x y now : Words) (k : ℕ) →
 same_copy opening marks x y now k e h = record {
   fresh = h.fresh;
   marked = subst (λ (w : Word). place marks k ≤ w.seq) e h.marked;
-  before = subst (λ (w : Word). Follows w (word_at now k)) e h.before;
+  before = subst (λ (w : Word). IsLaterWord w (word_at now k)) e h.before;
 }
 
 -- line 16 reads one more word
@@ -184,10 +184,10 @@ second_starts n i history t since round words g marks a b now le h =
 
 -- with no write since the double collect's start the word says the bit that was drawn
 still_says : (opening words : Words) (g : List ℕ) (i k : ℕ) → Drawn opening words g i k → seq_at words k ≤ seq_at opening k →
-    hand_at (word_at words k) i ≡ place g k
+    handshake_at (word_at words k) i ≡ place g k
 still_says opening words g i k d le =
     let fresh : seq_at opening k ≤ d.word.seq = d.fresh in
-    sym (d.says ∙ ap (λ (w : Word). hand_at w i) (same_word d.word (word_at words k) d.before (omega arith)))
+    sym (d.says ∙ ap (λ (w : Word). handshake_at w i) (same_word d.word (word_at words k) d.before (omega arith)))
 
 -- line 18 reads one more word
 pub second_more : (n i : ℕ) (history : ℕ → Words) (t since round : ℕ) (words : Words) (g marks : List ℕ) (a b : Words) (j : ℕ) → IsOneOf n j →
@@ -228,43 +228,43 @@ second_more n i history t since round words g marks a b j one len at_t le v shak
 -- the two copies stand after one another
 pub copies_follow : (n i : ℕ) (history : ℕ → Words) (t since round : ℕ) (words : Words) (p : Variables) →
     Between n i history t since round words p.g p.marks p.a p.b (n + 1) →
-    (k : ℕ) → IsOneOf n k → Follows (word_at p.a k) (word_at p.b k)
+    (k : ℕ) → IsOneOf n k → IsLaterWord (word_at p.a k) (word_at p.b k)
 copies_follow n i history t since round words p h k ik =
     let s : Second n i history t since round words p.g p.marks p.a p.b (n + 1) (history h.0) = h.3 in
     follows_trans (word_at p.a k) (word_at (history h.0) k) (word_at p.b k) (s.first k ik).before (s.read k ik (omega arith)).after
 
 -- copies that agree have equal counts
-pub agreed : (a b : Word) (mark bit i : ℕ) → Follows a b → mark ≤ a.seq → (mark + 2 ≤ b.seq → hand_at b i ≡ bit → ⊥) → hand_at b i ≡ bit →
+pub agreed : (a b : Word) (mark bit i : ℕ) → IsLaterWord a b → mark ≤ a.seq → (mark + 2 ≤ b.seq → handshake_at b i ≡ bit → ⊥) → handshake_at b i ≡ bit →
     a.toggle ≡ b.toggle → b.seq ≤ a.seq
-agreed a b mark bit i f marked late hand toggle =
+agreed a b mark bit i f marked late handshake toggle =
     elim (cases_lt a.seq b.seq) [
-      | inl lt ↦ absurd (late (let two : a.seq + 2 ≤ b.seq = toggled a b f lt toggle in omega arith) hand)
+      | inl lt ↦ absurd (late (let two : a.seq + 2 ≤ b.seq = toggled a b f lt toggle in omega arith) handshake)
       | inr le ↦ le
     ]
 
 -- what line 20 tests of one process
 pub record Agreed (i : ℕ) (p : Variables) (k : ℕ) : Type 0 where
-  pub hand_a : hand_at (word_at p.a k) i ≡ place p.g k
-  pub hand_b : hand_at (word_at p.b k) i ≡ place p.g k
+  pub handshake_a : handshake_at (word_at p.a k) i ≡ place p.g k
+  pub handshake_b : handshake_at (word_at p.b k) i ≡ place p.g k
   pub toggles : (word_at p.a k).toggle ≡ (word_at p.b k).toggle
 
 pub agreed_of : (i : ℕ) (p : Variables) (k : ℕ) → agree i p k ≡ true → Agreed i p k
 agreed_of i p k h =
-    let same = both (nat_eq (hand_at (word_at p.a k) i) (place p.g k)) (nat_eq (hand_at (word_at p.b k) i) (place p.g k) && nat_eq (word_at p.a k).toggle (word_at p.b k).toggle) h in
-    let rest = both (nat_eq (hand_at (word_at p.b k) i) (place p.g k)) (nat_eq (word_at p.a k).toggle (word_at p.b k).toggle) same.1 in
+    let same = both (nat_eq (handshake_at (word_at p.a k) i) (place p.g k)) (nat_eq (handshake_at (word_at p.b k) i) (place p.g k) && nat_eq (word_at p.a k).toggle (word_at p.b k).toggle) h in
+    let rest = both (nat_eq (handshake_at (word_at p.b k) i) (place p.g k)) (nat_eq (word_at p.a k).toggle (word_at p.b k).toggle) same.1 in
     record {
-      hand_a = same_from (hand_at (word_at p.a k) i) (place p.g k) same.0;
-      hand_b = same_from (hand_at (word_at p.b k) i) (place p.g k) rest.0;
+      handshake_a = same_from (handshake_at (word_at p.a k) i) (place p.g k) same.0;
+      handshake_b = same_from (handshake_at (word_at p.b k) i) (place p.g k) rest.0;
       toggles = same_from (word_at p.a k).toggle (word_at p.b k).toggle rest.1;
     }
 
 equal : (x y : ℕ) → x ≡ y → nat_eq x y ≡ true
 equal x y e = ap (λ z. nat_eq x z) (sym e) ∙ same_number x
 
-pub agree_if : (i : ℕ) (p : Variables) (k : ℕ) → hand_at (word_at p.a k) i ≡ place p.g k → hand_at (word_at p.b k) i ≡ place p.g k →
+pub agree_if : (i : ℕ) (p : Variables) (k : ℕ) → handshake_at (word_at p.a k) i ≡ place p.g k → handshake_at (word_at p.b k) i ≡ place p.g k →
     (word_at p.a k).toggle ≡ (word_at p.b k).toggle → agree i p k ≡ true
 agree_if i p k e f h =
-    rw (equal (hand_at (word_at p.a k) i) (place p.g k) e, equal (hand_at (word_at p.b k) i) (place p.g k) f, equal (word_at p.a k).toggle (word_at p.b k).toggle h) refl
+    rw (equal (handshake_at (word_at p.a k) i) (place p.g k) e, equal (handshake_at (word_at p.b k) i) (place p.g k) f, equal (word_at p.a k).toggle (word_at p.b k).toggle h) refl
 
 -- where the copies do not agree, there was a write since the double collect's start
 pub moved_since : (n i : ℕ) (history : ℕ → Words) (t since round : ℕ) (words : Words) (p : Variables) →
@@ -279,8 +279,8 @@ moved_since n i history t since round words p h k ik differ =
           let marked : place p.marks k ≤ seq_at p.a k = (s.first k ik).marked in
           let one : word_at p.a k ≡ word_at p.b k =
           same_word (word_at p.a k) (word_at p.b k) (copies_follow n i history t since round words p h k ik) (omega arith) in
-          let says : hand_at (word_at p.b k) i ≡ place p.g k = (s.read k ik (omega arith)).same le in
-          let yes : agree i p k ≡ true = agree_if i p k (ap (λ (w : Word). hand_at w i) one ∙ says) says (ap (λ (w : Word). w.toggle) one) in
+          let says : handshake_at (word_at p.b k) i ≡ place p.g k = (s.read k ik (omega arith)).same le in
+          let yes : agree i p k ≡ true = agree_if i p k (ap (λ (w : Word). handshake_at w i) one ∙ says) says (ap (λ (w : Word). w.toggle) one) in
           let e : true ≡ false = sym yes ∙ differ in cc)
     ]
 

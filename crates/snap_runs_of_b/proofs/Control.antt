@@ -9,13 +9,13 @@ use Rattle.snap_semantics.specs.Table.{places_to, all_true, first_true, call_ski
 use Rattle.snap_semantics.specs.declared.process.Op.{Op}
 use Rattle.snap_semantics.specs.declared.process.Op.TheVariants.{Scan, Update}
 use Rattle.snap_semantics.specs.declared.process.Reason.TheVariants.{NoSuchWord, NotOwner}
-use Rattle.snap_runs.proofs.Algorithm.{Task, Scanning, Embedded, Updating, task_of, op_of, Idle, At, WhenBusy, LeadsTo, leads_to}
+use Rattle.snap_runs.proofs.Algorithm.{Mode, Scanning, Embedded, Updating, mode_of, op_of, Idle, At, WhenBusy, LeadsTo, leads_to}
 use Rattle.snap_runs.proofs.Computing.{lt_from, same_from, either, whether, differs, raised_most, none_then}
 use Rattle.snap_runs.proofs.Embedding as embed
 use Rattle.snap_runs.proofs.Held.{word_at}
 use Rattle.snap_runs.proofs.Places.{for_each_at, first_found, first_none}
 use Rattle.snap_runs_of_b.specs.Promises.{square}
-use Rattle.snap_runs_of_b.proofs.Algorithm.{Words, Registers, Move, Control, Variables, ProgramCounter, L10, L11, L12, L13, L14, L15, L16, L17, L18, L19, L20, L21, L22, L23, L25, L26, L27, L28, L40, L41, L42, L43, L44, L45, L46, L47, place, hand_at, agree, limit, moved_at, counted, at_limit, move, first_to, counter, algorithm, IsLineOf}
+use Rattle.snap_runs_of_b.proofs.Algorithm.{Words, Registers, Move, Control, Variables, ProgramCounter, L10, L11, L12, L13, L14, L15, L16, L17, L18, L19, L20, L21, L22, L23, L25, L26, L27, L28, L40, L41, L42, L43, L44, L45, L46, L47, place, handshake_at, agree, limit, moved_at, counted, at_limit, move, first_to, counter, algorithm, IsLineOf}
 use Rattle.snap_runs_of_b.proofs.Lines.{SaysBits, Needs, each_line}
 
 -- no process has been seen to move up to the limit, or none beyond it
@@ -27,7 +27,7 @@ WithinLimit n p = (k : ℕ) → IsOneOf n k → moved_at p k ≤ limit
 
 -- what the words say is a bit
 abbrev pub BitWords : ℕ → Words → Type 0
-BitWords n words = (k i : ℕ) → IsOneOf n k → IsOneOf n i → hand_at (word_at words k) i ≤ 1
+BitWords n words = (k i : ℕ) → IsOneOf n k → IsOneOf n i → handshake_at (word_at words k) i ≤ 1
 
 -- the copies and the rows have all places
 abbrev pub Sized : ℕ → Variables → Type 0
@@ -37,7 +37,7 @@ Sized n p = (length p.a ≡ max n n) × (length p.b ≡ max n n) × (length p.g 
 abbrev pub VariablesAt : ℕ → ℕ → Variables → ProgramCounter → Type 0
 VariablesAt n me p L11 = BelowLimit n p
 VariablesAt n me p L12 = IsOneOf n p.j × BelowLimit n p
-VariablesAt n me p L13 = IsOneOf n p.j × BelowLimit n p × (hand_at (word_at p.a p.j) me ≤ 1)
+VariablesAt n me p L13 = IsOneOf n p.j × BelowLimit n p × (handshake_at (word_at p.a p.j) me ≤ 1)
 VariablesAt n me p L14 = IsOneOf n p.j × BelowLimit n p × (place p.g p.j ≤ 1)
 VariablesAt n me p L15 = IsOneOf n p.j × BelowLimit n p
 VariablesAt n me p L16 = IsOneOf n p.j × BelowLimit n p
@@ -64,17 +64,17 @@ put_place row j v pos le = get_or-set_at row (j - 1) (j - 1) v 0 refl (omega ari
 pub put_word : (ws : Words) (j : ℕ) (w : Word) → 0 < j → j ≤ length ws → word_at (slice_set ws (j - 1) w) j ≡ w
 put_word ws j w pos le = get_or-set_at ws (j - 1) (j - 1) w no_word refl (omega arith)
 
-pub move_well : (n me : ℕ) (d : Task) (m : Registers) (p : Variables) (k : ProgramCounter) → IsOneOf n me → BitWords n m.words → Sized n p →
+pub move_well : (n me : ℕ) (d : Mode) (m : Registers) (p : Variables) (k : ProgramCounter) → IsOneOf n me → BitWords n m.words → Sized n p →
     IsLineOf me d k → VariablesAt n me p k →
     MoveWell (op_of d) n me (move n me d m p k)
 move_well n me d m p L10 i bits sized s h = (s, λ k e. rw (for_each_at n (λ k. 0) p.moved k e) (omega arith), refl)
 move_well n me d m p L11 i bits sized s h = (s, ((omega arith, omega arith), h), refl)
 move_well n me d m p L12 i bits sized s h =
     let len : length p.a ≡ max n n = sized.0 in
-    (s, (h.0, h.1, subst (λ (w : Word). hand_at w me ≤ 1) (sym (put_word p.a p.j (word_at m.words p.j) (omega arith) (omega arith))) (bits p.j me h.0 i)), refl)
+    (s, (h.0, h.1, subst (λ (w : Word). handshake_at w me ≤ 1) (sym (put_word p.a p.j (word_at m.words p.j) (omega arith) (omega arith))) (bits p.j me h.0 i)), refl)
 move_well n me d m p L13 i bits sized s h =
     let len : length p.g ≡ max n n = sized.2 in
-    (s, (h.0, h.1, subst (λ x. x ≤ 1) (sym (put_place p.g p.j (hand_at (word_at p.a p.j) me) (omega arith) (omega arith))) h.2), refl)
+    (s, (h.0, h.1, subst (λ x. x ≤ 1) (sym (put_place p.g p.j (handshake_at (word_at p.a p.j) me) (omega arith) (omega arith))) h.2), refl)
 move_well n me d m p L14 i bits sized s h = (s, (h.0, h.1), refl)
 move_well n me d m p L15 i bits sized s h =
     either (MoveWell (op_of d) n me) (nat_lt p.j n) _ _
@@ -156,7 +156,7 @@ abbrev pub ControlWell : ℕ → ℕ → Variables → Control → Type 0
 ControlWell n me p control = WhenBusy (λ d k. IsLineOf me d k × VariablesAt n me p k) control
 
 pub called_well : (n me : ℕ) (p : Variables) (op : Op) → call_skip kind.Bits (square n) me op ≡ None →
-    ControlWell n me p (At (task_of op) (counter op))
+    ControlWell n me p (At (mode_of op) (counter op))
 called_well n me p Scan e = (tt, tt)
 called_well n me p (Update word value) e = (own_word n me word value e, tt)
 

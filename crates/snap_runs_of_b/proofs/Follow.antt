@@ -6,33 +6,33 @@ use Rattle.snap_words.specs.Word.{Word}
 use Rattle.snap_runs.proofs.Held.{word_at}
 
 -- y is x, or a later word of the same register; where both have the same toggle, there were two writes
-abbrev pub Follows : Word → Word → Type 0
-Follows x y = ((x.seq < y.seq) × (x.toggle ≡ y.toggle → x.seq + 2 ≤ y.seq)) ⊎ (x ≡ y)
+abbrev pub IsLaterWord : Word → Word → Type 0
+IsLaterWord x y = ((x.seq < y.seq) × (x.toggle ≡ y.toggle → x.seq + 2 ≤ y.seq)) ⊎ (x ≡ y)
 
-pub follows_trans : (x y z : Word) → Follows x y → Follows y z → Follows x z
+pub follows_trans : (x y z : Word) → IsLaterWord x y → IsLaterWord y z → IsLaterWord x z
 follows_trans x y z (inl p) (inl q) = let a : x.seq < y.seq = p.0 in let b : y.seq < z.seq = q.0 in inl (omega arith, λ e. omega arith)
-follows_trans x y z (inl p) (inr q) = subst (λ (w : Word). Follows x w) q (inl p)
-follows_trans x y z (inr p) q = subst (λ (w : Word). Follows w z) (sym p) q
+follows_trans x y z (inl p) (inr q) = subst (λ (w : Word). IsLaterWord x w) q (inl p)
+follows_trans x y z (inr p) q = subst (λ (w : Word). IsLaterWord w z) (sym p) q
 
-pub follows_seq : (x y : Word) → Follows x y → x.seq ≤ y.seq
+pub follows_seq : (x y : Word) → IsLaterWord x y → x.seq ≤ y.seq
 follows_seq x y (inl p) = let a : x.seq < y.seq = p.0 in omega arith
 follows_seq x y (inr p) = let e : x.seq ≡ y.seq = ap (λ (w : Word). w.seq) p in omega arith
 
 -- a word that is no later is the same
-pub same_word : (x y : Word) → Follows x y → y.seq ≤ x.seq → x ≡ y
+pub same_word : (x y : Word) → IsLaterWord x y → y.seq ≤ x.seq → x ≡ y
 same_word x y (inl p) le = absurd (let a : x.seq < y.seq = p.0 in omega arith)
 same_word x y (inr p) le = p
 
 -- a later word with the same toggle is two writes later
-pub toggled : (x y : Word) → Follows x y → x.seq < y.seq → x.toggle ≡ y.toggle → x.seq + 2 ≤ y.seq
+pub toggled : (x y : Word) → IsLaterWord x y → x.seq < y.seq → x.toggle ≡ y.toggle → x.seq + 2 ≤ y.seq
 toggled x y (inl p) lt e = p.1 e
 toggled x y (inr p) lt e = absurd (let s : x.seq ≡ y.seq = ap (λ (w : Word). w.seq) p in omega arith)
 
 -- words with equal counts that stand so are one
-pub squeezed : (a mid b : Word) → Follows a mid → Follows mid b → b.seq ≤ a.seq → mid ≡ b
+pub squeezed : (a mid b : Word) → IsLaterWord a mid → IsLaterWord mid b → b.seq ≤ a.seq → mid ≡ b
 squeezed a mid b p q e =
     let le : a.seq ≤ mid.seq = follows_seq a mid p in same_word mid b q (omega arith)
 
 -- each word of the memory stays or is written anew
 abbrev pub Grows : ℕ → List Word → List Word → Type 0
-Grows n m m' = (k : ℕ) → IsOneOf n k → Follows (word_at m k) (word_at m' k)
+Grows n m m' = (k : ℕ) → IsOneOf n k → IsLaterWord (word_at m k) (word_at m' k)

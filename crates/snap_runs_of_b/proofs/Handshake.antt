@@ -6,7 +6,7 @@ use Rattle.std.proofs.lemmas.Grind.{get_or-set_at}
 use Rattle.std.proofs.lemmas.List.{length-set, get_or-set_other}
 use Rattle.snap_words.specs.Shape.{IsOneOf}
 use Rattle.snap_semantics.specs.Table.{places_to, all_true, first_true, with_bit_at}
-use Rattle.snap_runs.proofs.Algorithm.{Task, Scanning, Embedded, Updating, To, Begin, Answer, Finish}
+use Rattle.snap_runs.proofs.Algorithm.{Mode, Scanning, Embedded, Updating, To, Begin, Answer, Finish}
 use Rattle.snap_runs.proofs.Computing.{not_lt, either, whether}
 use Rattle.snap_runs.proofs.Held.{seq_at}
 use Rattle.snap_runs_of_b.proofs.Algorithm.{Registers, Move, Variables, ProgramCounter, L10, L11, L12, L13, L14, L15, L16, L17, L18, L19, L20, L21, L22, L23, L25, L26, L27, L28, L40, L41, L42, L43, L44, L45, L46, L47, move, first_to, return_to, place, bit_for, answer, agree, at_limit, IsUpdate, IsLineOf}
@@ -70,7 +70,7 @@ BitsMove n i m p r (Begin d p' k') = k' ≡ L10
 BitsMove n i m p r (Answer v) = Unit {0}
 BitsMove n i m p r Finish = Unit {0}
 
-pub bits_move : (n i : ℕ) (d : Task) (m : Registers) (p : Variables) (k : ProgramCounter) → IsOneOf n i → Square n m.q → Sized n p → IsLineOf i d k →
+pub bits_move : (n i : ℕ) (d : Mode) (m : Registers) (p : Variables) (k : ProgramCounter) → IsOneOf n i → Square n m.q → Sized n p → IsLineOf i d k →
     VariablesAt n i p k →
     BitsMove n i m p (reach n p k) (move n i d m p k)
 bits_move n i d m p L10 one square sized s h = λ k ik lt. absurd (omega arith)
@@ -138,7 +138,7 @@ PutsMove i m p (Begin d p' k) = Unit {0}
 PutsMove i m p (Answer v) = Unit {0}
 PutsMove i m p Finish = Unit {0}
 
-pub puts_move : (n i : ℕ) (d : Task) (m : Registers) (p : Variables) (k : ProgramCounter) → PutsMove i m p (move n i d m p k)
+pub puts_move : (n i : ℕ) (d : Mode) (m : Registers) (p : Variables) (k : ProgramCounter) → PutsMove i m p (move n i d m p k)
 puts_move n i d m p L10 = inl refl
 puts_move n i d m p L11 = inl refl
 puts_move n i d m p L12 = inl refl
@@ -185,13 +185,13 @@ rows_kept n i u k m p q' pi pu other (inr e) =
 
 -- What process k will say in its next word to the process that put this bit for it, line by line: it has read the bit, or it
 -- will. `said` is the place of its row f for that process.
-abbrev pub Says : ℕ → ℕ → Task → Type 0
+abbrev pub Says : ℕ → ℕ → Mode → Type 0
 Says said bit Scanning = Unit {0}
 Says said bit (Embedded word value) = said ≡ bit → ⊥
 Says said bit (Updating word value) = said ≡ bit → ⊥
 
 -- i is the process that put the bit.
-abbrev pub Answers : ℕ → ℕ → Task → Variables → ProgramCounter → Type 0
+abbrev pub Answers : ℕ → ℕ → Mode → Variables → ProgramCounter → Type 0
 Answers i bit d p L40 = Unit {0}
 Answers i bit d p L41 = i < p.j → place p.f i ≡ bit → ⊥
 Answers i bit d p L42 = (i < p.j → place p.f i ≡ bit → ⊥) × (i ≡ p.j → p.x ≡ bit)
@@ -205,18 +205,18 @@ AnswersMove i bit (Begin d p k) = Answers i bit d p k
 AnswersMove i bit (Answer v) = Unit {0}
 AnswersMove i bit Finish = Unit {0}
 
-answers_return : (i bit : ℕ) (d : Task) (m : Registers) (p : Variables) → Says (place p.f i) bit d → AnswersMove i bit (return_to d m p)
+answers_return : (i bit : ℕ) (d : Mode) (m : Registers) (p : Variables) → Says (place p.f i) bit d → AnswersMove i bit (return_to d m p)
 answers_return i bit Scanning m p h = tt
 answers_return i bit (Embedded word value) m p h = h
 answers_return i bit (Updating word value) m p h = tt
 
-all_said : (me said bit : ℕ) (d : Task) → IsUpdate me d → (said ≡ bit → ⊥) → Says said bit d
+all_said : (me said bit : ℕ) (d : Mode) → IsUpdate me d → (said ≡ bit → ⊥) → Says said bit d
 all_said me said bit Scanning s h = tt
 all_said me said bit (Embedded word value) s h = h
 all_said me said bit (Updating word value) s h = h
 
 -- a process's lines keep what it will say, while the bit stands
-pub answers_move : (n me i bit : ℕ) (d : Task) (m : Registers) (p : Variables) (k : ProgramCounter) → IsOneOf n i → Sized n p → IsLineOf me d k →
+pub answers_move : (n me i bit : ℕ) (d : Mode) (m : Registers) (p : Variables) (k : ProgramCounter) → IsOneOf n i → Sized n p → IsLineOf me d k →
     VariablesAt n me p k → bit_for m.q i me ≡ bit →
     Answers i bit d p k → AnswersMove i bit (move n me d m p k)
 answers_move n me i bit d m p L10 one sized s keeps put h = h

@@ -37,7 +37,7 @@ CountAt n i p own c recent control = WhenBusy (λ d k. Count n i p own c recent 
 
 -- What holds of process i, at whichever line it stands, with these registers.
 pub record ProcessInvariant (n t : ℕ) (history : ℕ → Words) (m : Registers) (i : ℕ) (q : Process) : Type 0 where
-  -- it stands at a line of its task, with the variables that the line asks for
+  -- it stands at a line of its mode, with the variables that the line asks for
   pub well : ControlWell n i q.variables q.control
   -- its copies and rows have all places, and what it says to the others are bits
   pub sized : Sized n q.variables

@@ -23,3 +23,5 @@ pub mod CleanTests
 pub mod Linear
 pub mod WaitFree
 pub mod Snapshot
+pub mod Bounded
+pub mod BoundedSamples

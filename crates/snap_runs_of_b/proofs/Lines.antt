@@ -7,7 +7,7 @@ use Rattle.snap_words.specs.Shape.{Counts, IsOneOf}
 use Rattle.snap_words.specs.Word.{Word, no_word}
 use Rattle.snap_semantics.specs.Answers.{◌>>=◌}
 use Rattle.snap_semantics.specs.Source.{instr_at}
-use Rattle.snap_semantics.specs.State.{Memory, Named}
+use Rattle.snap_semantics.specs.State.{Memory, NameMap}
 use Rattle.snap_semantics.specs.Table.{places_to, Goes, Effect, effect_at, all_true, first_true, first_goes, bit_value, with_bits, with_bit_at}
 use Rattle.snap_words.specs.Kind.{is_bit}
 use Rattle.snap_semantics.specs.Value.{Context, at_place, place_in, term_value, relates, comparison_holds, condition_holds}
@@ -19,7 +19,7 @@ use Rattle.snap_semantics.specs.declared.process.Activity.{Activity}
 use Rattle.snap_semantics.specs.declared.process.Cause.{Cause}
 use Rattle.snap_semantics.specs.declared.process.Cause.TheVariants.{Owner}
 use Rattle.snap_semantics.specs.declared.process.Op.{Op}
-use Rattle.snap_runs.proofs.Algorithm.{Task, Scanning, Embedded, Updating, op_of, link_of, To, shown}
+use Rattle.snap_runs.proofs.Algorithm.{Mode, Scanning, Embedded, Updating, op_of, link_of, To, shown}
 use Rattle.snap_runs.proofs.Computing.{if_true, le_true, same_number, if_of}
 use Rattle.snap_runs.proofs.Held.{word_at}
 use Rattle.snap_runs.proofs.Plain.{plain_at, plain_copied, plain_taken}
@@ -27,7 +27,7 @@ use Rattle.snap_runs.proofs.Places.{bind_ok, place_ok, each_ok, sum_ok}
 use Rattle.snap_runs_of_b.specs.ListingB as listing
 use Rattle.snap_runs_of_b.specs.ListingB.{listing_b}
 use Rattle.snap_runs_of_b.specs.Promises.{square}
-use Rattle.snap_runs_of_b.proofs.Algorithm.{Words, Registers, Variables, ProgramCounter, L10, L11, L12, L13, L14, L15, L16, L17, L18, L19, L20, L21, L22, L23, L25, L26, L27, L28, L40, L41, L42, L43, L44, L45, L46, L47, number, back, plain, real, locals_of, place, hand_at, agree, limit, moved_at, counted, at_limit, word_put, move, first_to, algorithm, IsLineOf}
+use Rattle.snap_runs_of_b.proofs.Algorithm.{Words, Registers, Variables, ProgramCounter, L10, L11, L12, L13, L14, L15, L16, L17, L18, L19, L20, L21, L22, L23, L25, L26, L27, L28, L40, L41, L42, L43, L44, L45, L46, L47, number, back, plain, real, locals_of, place, handshake_at, agree, limit, moved_at, counted, at_limit, word_put, move, first_to, algorithm, IsLineOf}
 
 -- a row of bits
 abbrev pub Bits : ℕ → List ℕ → Type 0
@@ -70,37 +70,37 @@ in_places : (n k : ℕ) → IsOneOf n k → IsOneOf (max n n) k
 in_places n k h = (h.0, omega arith)
 
 -- a process at place k of a quantifier
-abbrev pub at_k : ℕ → ℕ → Task → Variables → ℕ → Context
+abbrev pub at_k : ℕ → ℕ → Mode → Variables → ℕ → Context
 at_k n me d p k = at_place (context_of (square n) me (op_of d) p) k
 
 -- operands at a place
-hand_ok : (n me : ℕ) (d : Task) (p : Variables) (k : ℕ) (ws : Words) → IsOneOf (max n n) k → IsOneOf n me →
-    (place_in (max n n) k >>= λ u. place_in n me >>= λ h. let r : Result ℕ Cause = Ok (slice_index (slice_index_or (map plain ws) u no_word).hands h) in r) ≡ Ok (hand_at (word_at ws k) me)
-hand_ok n me d p k ws h one =
+handshake_ok : (n me : ℕ) (d : Mode) (p : Variables) (k : ℕ) (ws : Words) → IsOneOf (max n n) k → IsOneOf n me →
+    (place_in (max n n) k >>= λ u. place_in n me >>= λ h. let r : Result ℕ Cause = Ok (slice_index (slice_index_or (map plain ws) u no_word).handshakes h) in r) ≡ Ok (handshake_at (word_at ws k) me)
+handshake_ok n me d p k ws h one =
     bind_ok _ _ _ _ (place_ok (max n n) k h)
-    (bind_ok _ _ _ _ (place_ok n me one) (ap (λ (w : Word). let r : Result ℕ Cause = Ok (slice_index w.hands (me - 1)) in r) (plain_at plain refl ws (k - 1))))
+    (bind_ok _ _ _ _ (place_ok n me one) (ap (λ (w : Word). let r : Result ℕ Cause = Ok (slice_index w.handshakes (me - 1)) in r) (plain_at plain refl ws (k - 1))))
 
-hand_a : (n me : ℕ) (d : Task) (p : Variables) (k : ℕ) → IsOneOf (max n n) k → IsOneOf n me →
-    term_value (at_k n me d p k) listing.hand_a ≡ Ok (hand_at (word_at p.a k) me)
-hand_a n me d p k h one = hand_ok n me d p k p.a h one
+handshake_a : (n me : ℕ) (d : Mode) (p : Variables) (k : ℕ) → IsOneOf (max n n) k → IsOneOf n me →
+    term_value (at_k n me d p k) listing.handshake_a ≡ Ok (handshake_at (word_at p.a k) me)
+handshake_a n me d p k h one = handshake_ok n me d p k p.a h one
 
-hand_b : (n me : ℕ) (d : Task) (p : Variables) (k : ℕ) → IsOneOf (max n n) k → IsOneOf n me →
-    term_value (at_k n me d p k) listing.hand_b ≡ Ok (hand_at (word_at p.b k) me)
-hand_b n me d p k h one = hand_ok n me d p k p.b h one
+handshake_b : (n me : ℕ) (d : Mode) (p : Variables) (k : ℕ) → IsOneOf (max n n) k → IsOneOf n me →
+    term_value (at_k n me d p k) listing.handshake_b ≡ Ok (handshake_at (word_at p.b k) me)
+handshake_b n me d p k h one = handshake_ok n me d p k p.b h one
 
-toggle_a : (n me : ℕ) (d : Task) (p : Variables) (k : ℕ) → IsOneOf (max n n) k →
+toggle_a : (n me : ℕ) (d : Mode) (p : Variables) (k : ℕ) → IsOneOf (max n n) k →
     term_value (at_k n me d p k) listing.toggle_a ≡ Ok (word_at p.a k).toggle
 toggle_a n me d p k h = bind_ok _ _ _ _ (place_ok (max n n) k h) (ap (λ (w : Word). let r : Result ℕ Cause = Ok w.toggle in r) (plain_at plain refl p.a (k - 1)))
 
-toggle_b : (n me : ℕ) (d : Task) (p : Variables) (k : ℕ) → IsOneOf (max n n) k →
+toggle_b : (n me : ℕ) (d : Mode) (p : Variables) (k : ℕ) → IsOneOf (max n n) k →
     term_value (at_k n me d p k) listing.toggle_b ≡ Ok (word_at p.b k).toggle
 toggle_b n me d p k h = bind_ok _ _ _ _ (place_ok (max n n) k h) (ap (λ (w : Word). let r : Result ℕ Cause = Ok w.toggle in r) (plain_at plain refl p.b (k - 1)))
 
-row_ok : (n me : ℕ) (d : Task) (p : Variables) (k : ℕ) → IsOneOf (max n n) k →
+row_ok : (n me : ℕ) (d : Mode) (p : Variables) (k : ℕ) → IsOneOf (max n n) k →
     term_value (at_k n me d p k) (Row listing.moved Place) ≡ Ok (moved_at p k)
 row_ok n me d p k h = bind_ok _ _ _ _ (place_ok (max n n) k h) refl
 
-bit_ok : (n me : ℕ) (d : Task) (p : Variables) (k : ℕ) → IsOneOf (max n n) k → term_value (at_k n me d p k) listing.bit ≡ Ok (place p.g k)
+bit_ok : (n me : ℕ) (d : Mode) (p : Variables) (k : ℕ) → IsOneOf (max n n) k → term_value (at_k n me d p k) listing.bit ≡ Ok (place p.g k)
 bit_ok n me d p k h = bind_ok _ _ _ _ (place_ok (max n n) k h) refl
 
 owned_ok : {A : Type 0} (own : Bool) (word : A) (cause : Cause) (f : A → Result Effect Cause) → own ≡ true →
@@ -126,28 +126,28 @@ bits_taken (suc n) (x ∷ row) h =
     shifted x row (suc k) pos =
         ap (slice_index (x ∷ row)) (let e : suc (suc k) - 1 ≡ suc k = omega arith in e) ∙ ap (slice_index row) (let e : k ≡ suc k - 1 = omega arith in e)
 
-bits_ok : (w : Word) → w.toggle ≤ 1 → list_all is_bit w.hands ≡ true → with_bits w ≡ Ok w
-bits_ok w h e = if_true _ _ _ (both_true (is_bit w.toggle) (list_all is_bit w.hands) (le_true w.toggle 1 h) e)
+bits_ok : (w : Word) → w.toggle ≤ 1 → list_all is_bit w.handshakes ≡ true → with_bits w ≡ Ok w
+bits_ok w h e = if_true _ _ _ (both_true (is_bit w.toggle) (list_all is_bit w.handshakes) (le_true w.toggle 1 h) e)
 
 -- one comparison of the two copies at a place
-hands_a : (n me : ℕ) (d : Task) (p : Variables) (k : ℕ) (r : Relation) → IsOneOf (max n n) k → IsOneOf n me →
-    comparison_holds (at_k n me d p k) (listing.compare listing.hand_a r listing.bit) ≡ Ok (relates r (hand_at (word_at p.a k) me) (place p.g k))
-hands_a n me d p k r i one = bind_ok _ _ _ _ (hand_a n me d p k i one) (bind_ok _ _ _ _ (bit_ok n me d p k i) refl)
+handshakes_a : (n me : ℕ) (d : Mode) (p : Variables) (k : ℕ) (r : Relation) → IsOneOf (max n n) k → IsOneOf n me →
+    comparison_holds (at_k n me d p k) (listing.compare listing.handshake_a r listing.bit) ≡ Ok (relates r (handshake_at (word_at p.a k) me) (place p.g k))
+handshakes_a n me d p k r i one = bind_ok _ _ _ _ (handshake_a n me d p k i one) (bind_ok _ _ _ _ (bit_ok n me d p k i) refl)
 
-hands_b : (n me : ℕ) (d : Task) (p : Variables) (k : ℕ) (r : Relation) → IsOneOf (max n n) k → IsOneOf n me →
-    comparison_holds (at_k n me d p k) (listing.compare listing.hand_b r listing.bit) ≡ Ok (relates r (hand_at (word_at p.b k) me) (place p.g k))
-hands_b n me d p k r i one = bind_ok _ _ _ _ (hand_b n me d p k i one) (bind_ok _ _ _ _ (bit_ok n me d p k i) refl)
+handshakes_b : (n me : ℕ) (d : Mode) (p : Variables) (k : ℕ) (r : Relation) → IsOneOf (max n n) k → IsOneOf n me →
+    comparison_holds (at_k n me d p k) (listing.compare listing.handshake_b r listing.bit) ≡ Ok (relates r (handshake_at (word_at p.b k) me) (place p.g k))
+handshakes_b n me d p k r i one = bind_ok _ _ _ _ (handshake_b n me d p k i one) (bind_ok _ _ _ _ (bit_ok n me d p k i) refl)
 
-toggles : (n me : ℕ) (d : Task) (p : Variables) (k : ℕ) (r : Relation) → IsOneOf (max n n) k →
+toggles : (n me : ℕ) (d : Mode) (p : Variables) (k : ℕ) (r : Relation) → IsOneOf (max n n) k →
     comparison_holds (at_k n me d p k) (listing.compare listing.toggle_a r listing.toggle_b) ≡ Ok (relates r (word_at p.a k).toggle (word_at p.b k).toggle)
 toggles n me d p k r i = bind_ok _ _ _ _ (toggle_a n me d p k i) (bind_ok _ _ _ _ (toggle_b n me d p k i) refl)
 
 -- all of them, at line 20
-agree_ok : (n me : ℕ) (d : Task) (p : Variables) (k : ℕ) → IsOneOf (max n n) k → IsOneOf n me →
+agree_ok : (n me : ℕ) (d : Mode) (p : Variables) (k : ℕ) → IsOneOf (max n n) k → IsOneOf n me →
     condition_holds (at_k n me d p k) listing.agree ≡ Ok (agree me p k)
 agree_ok n me d p k i one =
-    bind_ok _ _ _ _ (hands_a n me d p k Equal i one)
-    (bind_ok _ _ _ _ (hands_b n me d p k Equal i one)
+    bind_ok _ _ _ _ (handshakes_a n me d p k Equal i one)
+    (bind_ok _ _ _ _ (handshakes_b n me d p k Equal i one)
     (bind_ok _ _ _ _ (toggles n me d p k Equal i) refl))
 
 -- line 21 asks whether one of them differs
@@ -158,28 +158,28 @@ disagree false y = refl
 some_differ : (x y z : Bool) → (not x || (not y || not z)) ≡ not (x && (y && z))
 some_differ x y z = ap (λ b. not x || b) (disagree y z) ∙ disagree x (y && z)
 
-differ_ok : (n me : ℕ) (d : Task) (p : Variables) (k : ℕ) → IsOneOf (max n n) k → IsOneOf n me →
+differ_ok : (n me : ℕ) (d : Mode) (p : Variables) (k : ℕ) → IsOneOf (max n n) k → IsOneOf n me →
     condition_holds (at_k n me d p k) listing.differ ≡ Ok (not (agree me p k))
 differ_ok n me d p k i one =
-    let same_a = nat_eq (hand_at (word_at p.a k) me) (place p.g k) in
-    let same_b = nat_eq (hand_at (word_at p.b k) me) (place p.g k) in
+    let same_a = nat_eq (handshake_at (word_at p.a k) me) (place p.g k) in
+    let same_b = nat_eq (handshake_at (word_at p.b k) me) (place p.g k) in
     let same_toggle = nat_eq (word_at p.a k).toggle (word_at p.b k).toggle in
-    bind_ok _ _ _ _ (hands_a n me d p k Different i one)
-    (bind_ok _ _ _ _ (hands_b n me d p k Different i one)
+    bind_ok _ _ _ _ (handshakes_a n me d p k Different i one)
+    (bind_ok _ _ _ _ (handshakes_b n me d p k Different i one)
     (bind_ok _ _ _ _ (toggles n me d p k Different i)
     (ap (λ b. let r : Result Bool Cause = Ok b in r) (some_differ same_a same_b same_toggle))))
 
-first_shown : (n : ℕ) (d : Task) (m : Registers) (p : Variables) (o : Option ℕ) →
+first_shown : (n : ℕ) (d : Mode) (m : Registers) (p : Variables) (o : Option ℕ) →
     first_goes listing_b (activity (op_of d) (link_of (number back) d) 22) (real m) (locals_of p) listing.j 27 o ≡ shown (algorithm n) m (first_to d m p o)
 first_shown n d m p None = refl
 first_shown n d m p (Some k) = refl
 
 -- what a line leaves: these words among the locals, this view, these words or this bit among the registers
-abbrev pub left_words : Registers → Variables → Task → ℕ → Named Words → Result Effect Cause
+abbrev pub left_words : Registers → Variables → Mode → ℕ → NameMap Words → Result Effect Cause
 left_words m p d line ws =
     Ok (Goes (real m) (record { scalars = (locals_of p).scalars; rows = (locals_of p).rows; words = ws; views = (locals_of p).views }) (link_of (number back) d) line)
 
-abbrev pub left_view : Registers → Variables → Task → ℕ → List ℕ → Result Effect Cause
+abbrev pub left_view : Registers → Variables → Mode → ℕ → List ℕ → Result Effect Cause
 left_view m p d line v = Ok (Goes (real m) (locals_of (record p { s = v })) (link_of (number back) d) line)
 
 abbrev pub real_with : Registers → Words → Memory
@@ -188,7 +188,7 @@ real_with m ws = record { words = ws; q = m.q; p = []; views = [] }
 abbrev pub with_put_bit : ℕ → Registers → Variables → ℕ → Registers
 with_put_bit me m p y = record { words = m.words; q = with_bit_at m.q (me - 1) (p.j - 1) y }
 
-pub each_line : (n me : ℕ) (d : Task) (m : Registers) (p : Variables) (k : ProgramCounter) → IsOneOf n me → IsLineOf me d k → Needs n p k →
+pub each_line : (n me : ℕ) (d : Mode) (m : Registers) (p : Variables) (k : ProgramCounter) → IsOneOf n me → IsLineOf me d k → Needs n p k →
     at_line (record { n = n; w = n }) me (op_of d) m (link_of (number back) d) (number k) p ≡ shown (algorithm n) m (move n me d m p k)
 each_line n me d m p L10 one s h = bind_ok _ _ _ _ (each_ok _ (λ k. 0) 1 n (λ k low high. refl)) refl
 each_line n me d m p L11 one s h = refl
@@ -197,7 +197,7 @@ each_line n me d m p L12 one s h =
     (ap (λ (ws : Words). left_words m p d 13 ((listing.a, ws) ∷ (listing.b, map plain p.b) ∷ [])) (plain_copied plain refl p.a m.words (p.j - 1) (p.j - 1))))
 each_line n me d m p L13 one s h =
     bind_ok _ _ _ _ (place_ok (max n n) p.j (in_places n p.j h))
-    (bind_ok _ _ _ _ (hand_ok n me d p p.j p.a (in_places n p.j h) one) refl)
+    (bind_ok _ _ _ _ (handshake_ok n me d p p.j p.a (in_places n p.j h) one) refl)
 each_line n me d m p L14 one s h =
     bind_ok _ _ _ _ (place_ok n me one)
     (bind_ok _ _ _ _ (place_ok n p.j h.0)

@@ -2,7 +2,7 @@
 use Rattle.std.specs.Prelude.{ℕ, zero, suc, ◌+◌, ◌<◌, ◌≤◌, not, List, length, Option, refl}
 use Rattle.std.proofs.Common.{subst, arith}
 use Rattle.snap_semantics.specs.declared.process.Item.{Item}
-use Rattle.snap_runs.specs.Scan.{Scan}
+use Rattle.snap_runs.specs.Scan.{PendingScan}
 use Rattle.snap_runs.specs.Promises.{ObservedMove, RecentWrite}
 use Rattle.snap_runs.proofs.Held.{word_at, seq_at}
 use Rattle.snap_runs.proofs.Moves as moves
@@ -22,7 +22,7 @@ use Rattle.snap_runs.proofs.Calm.{calm_list}
 use Rattle.snap_runs.proofs.CalmPromises as calm
 use Rattle.snap_runs.specs.Promises as promises
 
-move_is_write : (n : ℕ) (items : List Item) → Steady (run_of n items) → (i j : ℕ) (link : Option ℕ) (c t : ℕ) → Scan (run_of n items) i link c (suc t) → c ≤ t →
+move_is_write : (n : ℕ) (items : List Item) → Steady (run_of n items) → (i j : ℕ) (link : Option ℕ) (c t : ℕ) → PendingScan (run_of n items) i link c (suc t) → c ≤ t →
     ObservedMove (run_of n items) 21 listing.moved i j (suc t) →
     RecentWrite (run_of n items) 46 i j c (suc t)
 move_is_write n items fits i j link c t scan le move =
@@ -34,7 +34,7 @@ move_is_write n items fits i j link c t scan le move =
     let p = q.variables in
     let since = q.auxiliary.since in
     let round = q.auxiliary.round in
-    let stage = stage_of n items fits t i seen.task L21 (omega arith) one seen.control in
+    let stage = stage_of n items fits t i seen.mode L21 (omega arith) one seen.control in
     let between : Between n i (words_at n items) t since round (words_at n items t) p.g p.marks p.a p.b (n + 1) = stage.1 in
     let second : Second n i (words_at n items) t since round (words_at n items t) p.g p.marks p.a p.b (n + 1) (words_at n items between.0) = between.3 in
     let grows : moved_at p j < counted i p j = subst (λ y. moved_at p j < y) (for_each_at n (counted i p) p.moved j move.process) seen.grows in
@@ -42,8 +42,8 @@ move_is_write n items fits i j link c t scan le move =
     moved_since n i (words_at n items) t since round (words_at n items t) p between j move.process (not_true (agree i p j) (raised_only (not (agree i p j)) (moved_at p j) grows)) in
     let later : seq_at p.b j ≤ seq_at (words_at n items t) j =
     follows_seq (word_at p.b j) (word_at (words_at n items t) j) (second.read j move.process (let i2 = move.process in omega arith)).before in
-    let counts : Count n i p q.auxiliary.own q.auxiliary.collects q.auxiliary.tested L21 = counts_of n items fits t i seen.task L21 (omega arith) one seen.control in
-    moves.recent_write (algorithm n) lines (listed n) run 46 (writer n) (updates n items fits) (λ me word is. is) i j link c t seen.task L21 move.process scan le seen.control refl counts.3 (omega arith)
+    let counts : Count n i p q.auxiliary.own q.auxiliary.collects q.auxiliary.tested L21 = counts_of n items fits t i seen.mode L21 (omega arith) one seen.control in
+    moves.recent_write (algorithm n) lines (listed n) run 46 (writer n) (updates n items fits) (λ me word is. is) i j link c t seen.mode L21 move.process scan le seen.control refl counts.3 (omega arith)
 
 steady_moves_are_writes : (n : ℕ) (items : List Item) → Steady (run_of n items) → promises.MovesAreWrites 21 listing.moved 46 (run_of n items)
 steady_moves_are_writes n items fits whole i j link c zero scan lt move = absurd (omega arith)

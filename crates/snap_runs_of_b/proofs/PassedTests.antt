@@ -21,7 +21,7 @@ equal_counts n i history t since round words p h test k ik =
     let le : seq_at p.a k ≤ seq_at p.b k = follows_seq (word_at p.a k) (word_at p.b k) follows in
     let ge : seq_at p.b k ≤ seq_at p.a k =
     agreed (word_at p.a k) (word_at p.b k) (place p.marks k) (place p.g k) i follows (s.first k ik).marked (s.read k ik (omega arith)).late
-    says.hand_b (let same : (word_at p.a k).toggle ≡ (word_at p.b k).toggle = omega arith in same) in
+    says.handshake_b (let same : (word_at p.a k).toggle ≡ (word_at p.b k).toggle = omega arith in same) in
     omega arith
 
 -- so the second collect is the words between the collects

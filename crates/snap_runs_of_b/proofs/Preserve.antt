@@ -12,14 +12,14 @@ use Rattle.snap_semantics.specs.declared.process.Op.TheVariants.{Scan, Update}
 use Rattle.snap_semantics.specs.declared.process.Outcome.{Outcome}
 use Rattle.snap_semantics.specs.declared.process.Outcome.TheVariants.{Called, Stepped, Answered, Finished}
 use Rattle.snap_semantics.specs.declared.process.Reason.{Reason}
-use Rattle.snap_runs.proofs.Algorithm.{Task, Scanning, Updating, op_of, Idle, At, To, Begin, Answer, Finish, New, by_move, by_step, by_admission, by_call, typed_at, changed, happens, stepped_auxiliary, begun_auxiliary, called_auxiliary}
+use Rattle.snap_runs.proofs.Algorithm.{Mode, Scanning, Updating, op_of, Idle, At, To, Begin, Answer, Finish, New, by_move, by_step, by_admission, by_call, typed_at, changed, happens, stepped_auxiliary, begun_auxiliary, called_auxiliary}
 use Rattle.snap_runs.proofs.Flow as flow
 use Rattle.snap_runs.proofs.Flow.{IsInScan, InScan, scan_inside}
 use Rattle.snap_runs.proofs.Held.{word_at, seq_at, at_most_now, at_least_now, opened_next}
 use Rattle.snap_runs.proofs.ListedLines.{writes_or_not}
 use Rattle.snap_runs.proofs.WordWrites.{words_then}
 use Rattle.snap_runs_of_b.specs.Promises.{square}
-use Rattle.snap_runs_of_b.proofs.Algorithm.{Words, Registers, Move, Control, Process, State, Variables, ProgramCounter, L10, L20, L40, L46, place, hand_at, bit_for, move, IsLineOf, lines, tests, restarts, writes, algorithm}
+use Rattle.snap_runs_of_b.proofs.Algorithm.{Words, Registers, Move, Control, Process, State, Variables, ProgramCounter, L10, L20, L40, L46, place, handshake_at, bit_for, move, IsLineOf, lines, tests, restarts, writes, algorithm}
 use Rattle.snap_runs_of_b.proofs.Change.{process_changes}
 use Rattle.snap_runs_of_b.proofs.Collect.{Low, Late, Viewed, floor}
 use Rattle.snap_runs_of_b.proofs.Control.{BelowLimit, VariablesAt, MoveWell, ControlWell, move_well, called_well}
@@ -41,7 +41,7 @@ unmoved : (n i : ℕ) (base opening words : Words) (p : Variables) → IsOneOf n
 unmoved n i base opening words p one low opened below self =
     moves_less n i p one (let l : floor base p.moved i ≤ seq_at opening i = low i one in omega arith) below
 
-pub few_moves : (n me : ℕ) (history : ℕ → Words) (t since round : ℕ) (words : Words) (d : Task) (p : Variables) (k : ProgramCounter) → IsOneOf n me →
+pub few_moves : (n me : ℕ) (history : ℕ → Words) (t since round : ℕ) (words : Words) (d : Mode) (p : Variables) (k : ProgramCounter) → IsOneOf n me →
     IsLineOf me d k → VariablesAt n me p k →
     ((k : ℕ) → IsOneOf n k → seq_at (history round) k ≤ seq_at words k) → (IsInScan d → seq_at (history since) me ≡ seq_at words me) →
     Stage n me history t since round words p k → k ≡ L20 → moves n p < n
@@ -50,7 +50,7 @@ few_moves n me history t since round words d p k one line keeps opened self stag
     (subst (VariablesAt n me p) e keeps).1 (self (scan_inside (λ word. word ≡ me) d (subst (IsLineOf me d) e line)))
 
 -- a process whose operation has ended
-idle_own : (n t : ℕ) (history : ℕ → Words) (m : Registers) (i : ℕ) (q : Process) (d : Task) (k : ProgramCounter) → q.control ≡ At d k → writes k ≡ 0 →
+idle_own : (n t : ℕ) (history : ℕ → Words) (m : Registers) (i : ℕ) (q : Process) (d : Mode) (k : ProgramCounter) → q.control ≡ At d k → writes k ≡ 0 →
     history t ≡ m.words →
     ProcessInvariant n t history m i q →
     ProcessInvariant n t history m i (record { control = Idle; variables = q.variables; auxiliary = stepped_auxiliary (algorithm n) k t q.auxiliary })
@@ -72,7 +72,7 @@ idle_own n t history m i q d k is quiet now own = record {
 }
 
 -- what the move v of a process at line k owes; t is the item's number
-record MoveOwes (n t : ℕ) (history : ℕ → Words) (x : State) (i : ℕ) (d : Task) (k : ProgramCounter) (v : Move) : Type 0 where
+record MoveOwes (n t : ℕ) (history : ℕ → Words) (x : State) (i : ℕ) (d : Mode) (k : ProgramCounter) (v : Move) : Type 0 where
   pub words : flow.KeepsMemory lines x.memory v
   pub puts : PutsMove i x.memory (at n x i).variables v
   pub well : MoveWell (op_of d) n i v
@@ -93,8 +93,8 @@ asked_next i m m' p p' r k h (inl kept) = kept.3 ∙ h kept.0 ∙ sym kept.1
 asked_next i m m' p p' r k h (inr put) = put.1
 
 late_next : (i : ℕ) (m m' : Registers) (p p' : Variables) (r k : ℕ) →
-    (k < r → place p.marks k + 2 ≤ seq_at m.words k → hand_at (word_at m.words k) i ≡ place p.g k → ⊥) →
-    KeepsBit i m p r m' p' k → place p'.marks k + 2 ≤ seq_at m.words k → hand_at (word_at m.words k) i ≡ place p'.g k → ⊥
+    (k < r → place p.marks k + 2 ≤ seq_at m.words k → handshake_at (word_at m.words k) i ≡ place p.g k → ⊥) →
+    KeepsBit i m p r m' p' k → place p'.marks k + 2 ≤ seq_at m.words k → handshake_at (word_at m.words k) i ≡ place p'.g k → ⊥
 late_next i m m' p p' r k h (inl kept) more says = h kept.0 (let e : place p'.marks k ≡ place p.marks k = kept.2 in omega arith) (says ∙ kept.1)
 late_next i m m' p p' r k h (inr put) more says = absurd (let e : place p'.marks k ≡ seq_at m.words k = put.0 in omega arith)
 
@@ -104,7 +104,7 @@ asks_next i m m' p p' r k (inl kept) more = (kept.0, (let e : place p'.marks k �
 asks_next i m m' p p' r k (inr put) more = absurd (let e : place p'.marks k ≡ seq_at m.words k = put.0 in omega arith)
 
 -- a line that ends the operation
-end_keeps : (n t : ℕ) (history : ℕ → Words) (x : State) (i : ℕ) (d : Task) (k : ProgramCounter) → length x.processes ≡ n → IsOneOf n i →
+end_keeps : (n t : ℕ) (history : ℕ → Words) (x : State) (i : ℕ) (d : Mode) (k : ProgramCounter) → length x.processes ≡ n → IsOneOf n i →
     history t ≡ x.memory.words → Invariant n t history x →
     (at n x i).control ≡ At d k → writes k ≡ 0 → (o : Outcome) →
     Invariant n t history (changed x i (New x.memory (record { control = Idle; variables = (at n x i).variables; auxiliary = stepped_auxiliary (algorithm n) k t (at n x i).auxiliary }) o))
@@ -123,7 +123,7 @@ end_keeps n t history x i d k count one now h is quiet o =
     })
 
 -- a line that keeps the words
-line_keeps : (n t : ℕ) (history : ℕ → Words) (x : State) (i : ℕ) (d : Task) (k : ProgramCounter) (v : Move) →
+line_keeps : (n t : ℕ) (history : ℕ → Words) (x : State) (i : ℕ) (d : Mode) (k : ProgramCounter) (v : Move) →
     length x.processes ≡ n → IsOneOf n i → history t ≡ x.memory.words → Invariant n t history x → (at n x i).control ≡ At d k → writes k ≡ 0 →
     MoveOwes n t history x i d k v → Invariant n t history (changed x i (by_move (algorithm n) t x.memory (at n x i) k v))
 line_keeps n t history x i d k (To d' m' p k') count one now h is quiet owes =
@@ -270,7 +270,7 @@ admission_keeps n t history x i (Update word value) None e count one h is now =
       answers = λ u bit ju put said. tt;
     })
 
-line_46_keeps : (n t : ℕ) (history : ℕ → Words) (x : State) (i : ℕ) (d : Task) → length x.processes ≡ n → IsOneOf n i → Invariant n t history x →
+line_46_keeps : (n t : ℕ) (history : ℕ → Words) (x : State) (i : ℕ) (d : Mode) → length x.processes ≡ n → IsOneOf n i → Invariant n t history x →
     (at n x i).control ≡ At d L46 → Invariant n (suc t) history (changed x i (by_step (algorithm n) (suc t) x.memory i (at n x i) (At d L46)))
 line_46_keeps n t history x i d count one h is =
     let well : ControlWell n i (at n x i).variables (At d L46) = subst (ControlWell n i (at n x i).variables) is (h.each i one).well in

@@ -5,13 +5,13 @@ use Rattle.std.proofs.lemmas.List.{get_or-replicate, length-replicate}
 use Rattle.snap_words.specs.Shape.{IsOneOf}
 use Rattle.snap_words.specs.Word.{Word, no_word}
 use Rattle.snap_semantics.specs.declared.process.Item.{Item}
-use Rattle.snap_runs.proofs.Algorithm.{Task, At, when_busy, first_process, first_state, typed_at, item_at, typed_state}
+use Rattle.snap_runs.proofs.Algorithm.{Mode, At, when_busy, first_process, first_state, typed_at, item_at, typed_state}
 use Rattle.snap_runs.proofs.Embedding as embed
 use Rattle.snap_runs.proofs.Held.{word_at, seq_at, at_most_now}
 use Rattle.snap_runs.proofs.Scans as scans
 use Rattle.snap_runs.proofs.States.{at_each}
 use Rattle.snap_runs_of_b.specs.Promises.{run_of, NeverTraps}
-use Rattle.snap_runs_of_b.proofs.Algorithm.{Words, Registers, Control, Process, State, ProgramCounter, place, hand_at, first_word, first_words, first_registers, IsLineOf, lines, algorithm}
+use Rattle.snap_runs_of_b.proofs.Algorithm.{Words, Registers, Control, Process, State, ProgramCounter, place, handshake_at, first_word, first_words, first_registers, IsLineOf, lines, algorithm}
 use Rattle.snap_runs_of_b.proofs.Control.{ControlWell, VariablesAt, does}
 use Rattle.snap_runs_of_b.proofs.Count.{Count}
 use Rattle.snap_runs_of_b.proofs.Flows.{flows}
@@ -81,7 +81,7 @@ at_the_start n history now =
     record {
       size = length-replicate n (first_word n);
       square = record { rows = length-replicate n (replicate n 0); bits = λ i h. ap length (zero_row n i h) ∙ length-replicate n 0 };
-      bits = λ k i jk ji. subst (λ (w : Word). hand_at w i ≤ 1) (sym (zero_at n k jk)) (zero_bit n i n ji (omega arith));
+      bits = λ k i jk ji. subst (λ (w : Word). handshake_at w i ≤ 1) (sym (zero_at n k jk)) (zero_bit n i n ji (omega arith));
       each = λ i h. subst (λ (q : Process). ProcessInvariant n 0 history (first_registers n) i q) (sym (at i h)) (process_at_the_start n history i h now);
       start = λ i k h j. subst (λ (q : Process). PairInvariant history (first_words n n) (typed_at (algorithm n) (first_state (algorithm n)) i) q k) (sym (at k j)) (λ making lt. absurd making);
       answered = λ i k h j. subst (λ (q : Process). Answered n (first_words n n) i q k (typed_at (algorithm n) (first_state (algorithm n)) k)) (sym (at i h)) (λ lt more. absurd (omega arith));
@@ -124,13 +124,13 @@ execution n items fits = record {
 }
 
 -- what a process at a line keeps there
-pub well_of : (n : ℕ) (items : List Item) → Steady (run_of n items) → (t i : ℕ) (d : Task) (k : ProgramCounter) → t ≤ length items → IsOneOf n i →
+pub well_of : (n : ℕ) (items : List Item) → Steady (run_of n items) → (t i : ℕ) (d : Mode) (k : ProgramCounter) → t ≤ length items → IsOneOf n i →
     (process_after n items t i).control ≡ At d k →
     IsLineOf i d k × VariablesAt n i (process_after n items t i).variables k
 well_of n items fits t i d k le one e = subst (ControlWell n i (process_after n items t i).variables) e (invariant_of n items fits t i le one).well
 
 -- a busy process is at the stage of its line
-pub stage_of : (n : ℕ) (items : List Item) → Steady (run_of n items) → (t i : ℕ) (d : Task) (k : ProgramCounter) → t ≤ length items → IsOneOf n i →
+pub stage_of : (n : ℕ) (items : List Item) → Steady (run_of n items) → (t i : ℕ) (d : Mode) (k : ProgramCounter) → t ≤ length items → IsOneOf n i →
     (process_after n items t i).control ≡ At d k →
     Stage n i (words_at n items) t (process_after n items t i).auxiliary.since (process_after n items t i).auxiliary.round (words_at n items t) (process_after n items t i).variables k
 stage_of n items fits t i d k le one e =
@@ -138,7 +138,7 @@ stage_of n items fits t i d k le one e =
     subst (λ (p : Control). StageAt n i (words_at n items) t q.auxiliary.since q.auxiliary.round (words_at n items t) q.variables p) e (invariant_of n items fits t i le one).stage
 
 -- and its counts are those of its line
-pub counts_of : (n : ℕ) (items : List Item) → Steady (run_of n items) → (t i : ℕ) (d : Task) (k : ProgramCounter) → t ≤ length items → IsOneOf n i →
+pub counts_of : (n : ℕ) (items : List Item) → Steady (run_of n items) → (t i : ℕ) (d : Mode) (k : ProgramCounter) → t ≤ length items → IsOneOf n i →
     (process_after n items t i).control ≡ At d k →
     Count n i (process_after n items t i).variables (process_after n items t i).auxiliary.own (process_after n items t i).auxiliary.collects (process_after n items t i).auxiliary.tested k
 counts_of n items fits t i d k le one e =

@@ -6,20 +6,20 @@ use Rattle.std.proofs.lemmas.List.{length-set}
 use Rattle.snap_words.specs.Shape.{IsOneOf}
 use Rattle.snap_words.specs.Word.{Word}
 use Rattle.snap_semantics.specs.Table.{places_to, all_true, first_true}
-use Rattle.snap_runs.proofs.Algorithm.{Task, Scanning, Embedded, Updating, To, Begin, Answer, Finish}
+use Rattle.snap_runs.proofs.Algorithm.{Mode, Scanning, Embedded, Updating, To, Begin, Answer, Finish}
 use Rattle.snap_runs.proofs.Computing.{not_lt, same_from, either, whether}
 use Rattle.snap_runs.proofs.Held.{word_at, Held, held_wider, Beside, beside_wider, Lent, lent_wider, data_of, seq_at}
 use Rattle.snap_runs.proofs.Places.{for_each_at, first_found}
-use Rattle.snap_runs_of_b.proofs.Algorithm.{Words, Registers, Move, Variables, ProgramCounter, L10, L11, L12, L13, L14, L15, L16, L17, L18, L19, L20, L21, L22, L23, L25, L26, L27, L28, L40, L41, L42, L43, L44, L45, L46, L47, move, first_to, place, hand_at, answer, flipped, agree, limit, moved_at, counted, at_limit, IsLineOf, restarts, writes}
+use Rattle.snap_runs_of_b.proofs.Algorithm.{Words, Registers, Move, Variables, ProgramCounter, L10, L11, L12, L13, L14, L15, L16, L17, L18, L19, L20, L21, L22, L23, L25, L26, L27, L28, L40, L41, L42, L43, L44, L45, L46, L47, move, first_to, place, handshake_at, answer, flipped, agree, limit, moved_at, counted, at_limit, IsLineOf, restarts, writes}
 use Rattle.snap_runs_of_b.proofs.Control.{VariablesAt, Sized}
 use Rattle.snap_runs_of_b.proofs.Lines.{Bits, SaysBits}
-use Rattle.snap_runs_of_b.proofs.Follow.{Follows, follows_trans, follows_seq, Grows}
+use Rattle.snap_runs_of_b.proofs.Follow.{IsLaterWord, follows_trans, follows_seq, Grows}
 use Rattle.snap_runs_of_b.proofs.Collect.{floor, Low, Drawn, Put, PutTo, Late, First, Viewed, Second, Between, Gained, word_set, place_set, place_kept, put_drawn, just_drawn, put_more, first_more, second_starts, second_more, copies_follow, moved_since, gained_at}
 use Rattle.snap_runs_of_b.proofs.PassedTests.{passed}
 
 -- The copy of the word at place j was read since the double collect's start.
 abbrev pub Copied : Words → Words → Words → ℕ → Type 0
-Copied opening words a j = (seq_at opening j ≤ seq_at a j) × Follows (word_at a j) (word_at words j)
+Copied opening words a j = (seq_at opening j ≤ seq_at a j) × IsLaterWord (word_at a j) (word_at words j)
 
 -- how far the handshake has come: the places below this one
 abbrev pub reach : ℕ → Variables → ProgramCounter → ℕ
@@ -97,7 +97,7 @@ StageMove n i history t since round (Answer v) = Held history t since v
 StageMove n i history t since round Finish = Unit {0}
 
 -- what is known of every process, at whichever line it stands
-pub record Known (n i : ℕ) (history : ℕ → Words) (t since round : ℕ) (words : Words) (d : Task) (p : Variables) (k : ProgramCounter) : Type 0 where
+pub record Known (n i : ℕ) (history : ℕ → Words) (t since round : ℕ) (words : Words) (d : Mode) (p : Variables) (k : ProgramCounter) : Type 0 where
   -- there are n words at every state, and those of state t are the words now
   pub lengths : (u : ℕ) → u ≤ t → length (history u) ≡ n
   pub now : history t ≡ words
@@ -112,7 +112,7 @@ pub record Known (n i : ℕ) (history : ℕ → Words) (t since round : ℕ) (wo
   pub keeps : VariablesAt n i p k
 
 -- each line takes the scan on; a line that starts another double collect does so at item t
-pub stage_move : (n i : ℕ) (history : ℕ → Words) (t since round : ℕ) (d : Task) (m : Registers) (p : Variables) (k : ProgramCounter) →
+pub stage_move : (n i : ℕ) (history : ℕ → Words) (t since round : ℕ) (d : Mode) (m : Registers) (p : Variables) (k : ProgramCounter) →
     Known n i history t since round m.words d p k → Stage n i history t since round m.words p k →
     StageMove n i history t since (if restarts k then t else round) (move n i d m p k)
 stage_move n i history t since round d m p L10 known h =
@@ -123,12 +123,12 @@ stage_move n i history t since round d m p L12 known h =
     let one : IsOneOf n p.j = known.keeps.0 in
     let set : word_at (slice_set p.a (p.j - 1) (word_at m.words p.j)) p.j ≡ word_at m.words p.j =
     word_set p.a p.j p.j (word_at m.words p.j) one.0 (omega arith) refl in
-    (h.0, h.1, subst (λ (w : Word). (seq_at (history round) p.j ≤ w.seq) × Follows w (word_at m.words p.j)) (sym set) (known.opened p.j one, inr refl))
+    (h.0, h.1, subst (λ (w : Word). (seq_at (history round) p.j ≤ w.seq) × IsLaterWord w (word_at m.words p.j)) (sym set) (known.opened p.j one, inr refl))
 stage_move n i history t since round d m p L13 known h =
     let len : length p.g ≡ max n n = known.sized.2 in
     let one : IsOneOf n p.j = known.keeps.0 in (
       h.0,
-      put_drawn n (history round) m.words p.g p.marks i p.j (hand_at (word_at p.a p.j) i) one h.1,
+      put_drawn n (history round) m.words p.g p.marks i p.j (handshake_at (word_at p.a p.j) i) one h.1,
       just_drawn n (history round) m.words p.g p.a i p.j one (omega arith) h.2.0 h.2.1,
     )
 stage_move n i history t since round d m p L14 known h =
@@ -378,7 +378,7 @@ bits_set n row j v one len bit h k ik =
     ]
 
 -- the answer to a bit is another bit
-answer_bit : (x : ℕ) → answer x ≤ 1
+pub answer_bit : (x : ℕ) → answer x ≤ 1
 answer_bit x = either (λ v. v ≤ 1) (nat_eq x 0) 1 0 (λ b. omega arith) (λ b. omega arith)
 
 pub answer_differs : (x : ℕ) → answer x ≡ x → ⊥
@@ -388,7 +388,7 @@ answer_differs x e = elim (nat_eq x 0) as (λ b. nat_eq x 0 ≡ b → (if b then
 ] refl e
 
 -- a toggle that is flipped is the other one
-flipped_bit : (t : ℕ) → t ≤ 1 → flipped t ≤ 1
+pub flipped_bit : (t : ℕ) → t ≤ 1 → flipped t ≤ 1
 flipped_bit zero h = omega arith
 flipped_bit (suc zero) h = omega arith
 flipped_bit (suc (suc t)) h = absurd (omega arith)
@@ -398,13 +398,13 @@ flipped_differs zero h e = absurd (omega arith)
 flipped_differs (suc zero) h e = absurd (omega arith)
 flipped_differs (suc (suc t)) h e = absurd (omega arith)
 
-pub fit_move : (n i toggle : ℕ) (d : Task) (m : Registers) (p : Variables) (k : ProgramCounter) → IsLineOf i d k → VariablesAt n i p k →
+pub fit_move : (n i toggle : ℕ) (d : Mode) (m : Registers) (p : Variables) (k : ProgramCounter) → IsLineOf i d k → VariablesAt n i p k →
     writes k ≡ 0 → Fit n toggle p k → FitMove n toggle (move n i d m p k)
 fit_move n i toggle d m p L10 s keeps quiet h = h
 fit_move n i toggle d m p L11 s keeps quiet h = h
 fit_move n i toggle d m p L12 s keeps quiet h = ((length-set p.a (p.j - 1) (word_at m.words p.j) ∙ h.0.0, h.0.1, h.0.2, h.0.3, h.0.4), h.1, h.2)
 fit_move n i toggle d m p L13 s keeps quiet h =
-    ((h.0.0, h.0.1, length-set p.g (p.j - 1) (hand_at (word_at p.a p.j) i) ∙ h.0.2, h.0.3, h.0.4), h.1, h.2)
+    ((h.0.0, h.0.1, length-set p.g (p.j - 1) (handshake_at (word_at p.a p.j) i) ∙ h.0.2, h.0.3, h.0.4), h.1, h.2)
 fit_move n i toggle d m p L14 s keeps quiet h = ((h.0.0, h.0.1, h.0.2, h.0.3, length-set p.marks (p.j - 1) (seq_at m.words p.j) ∙ h.0.4), h.1, h.2)
 fit_move n i toggle d m p L15 s keeps quiet h = either (FitMove n toggle) (nat_lt p.j n) _ _ (λ b. h) (λ b. h)
 fit_move n i toggle d m p L16 s keeps quiet h = ((length-set p.a (p.j - 1) (word_at m.words p.j) ∙ h.0.0, h.0.1, h.0.2, h.0.3, h.0.4), h.1, h.2)

@@ -3,7 +3,7 @@ use Rattle.std.specs.Prelude.{◌≡◌, ℕ, ◌<◌, List, length, refl}
 use Rattle.std.proofs.Common.{arith}
 use Rattle.snap_words.specs.Shape.{IsOneOf}
 use Rattle.snap_semantics.specs.declared.process.Item.{Item}
-use Rattle.snap_runs.proofs.Algorithm.{Task, At}
+use Rattle.snap_runs.proofs.Algorithm.{Mode, At}
 use Rattle.snap_runs.proofs.WordWrites as word_writes
 use Rattle.snap_runs_of_b.specs.Promises.{run_of, ChangesOnlyAt46, WritesItsUpdate, WritesOnce}
 use Rattle.snap_runs_of_b.proofs.Algorithm.{L46, IsUpdate, lines, algorithm}
@@ -15,7 +15,7 @@ use Rattle.snap_runs.proofs.CalmPromises as calm
 use Rattle.snap_runs.specs.Promises as promises
 
 -- line 46 is one of an update
-pub updates : (n : ℕ) (items : List Item) → Steady (run_of n items) → (t i : ℕ) (d : Task) → t < length items → IsOneOf n i →
+pub updates : (n : ℕ) (items : List Item) → Steady (run_of n items) → (t i : ℕ) (d : Mode) → t < length items → IsOneOf n i →
     (process_after n items t i).control ≡ At d L46 →
     IsUpdate i d
 updates n items fits t i d h one e = (well_of n items fits t i d L46 (omega arith) one e).0

@@ -3,7 +3,7 @@ use Rattle.std.specs.Prelude.{ℕ, ◌+◌, ◌-◌, ◌*◌, ◌<◌, ◌≤◌
 use Rattle.std.proofs.Common.{sym, subst, arith, inl, inr}
 use Rattle.snap_semantics.specs.declared.process.Item.{Item}
 use Rattle.snap_runs.specs.Scan.{own_steps}
-use Rattle.snap_runs.specs.Update.{Updating as UpdateOf}
+use Rattle.snap_runs.specs.Update.{PendingUpdate}
 use Rattle.snap_runs.proofs.Algorithm.{Embedded, Updating}
 use Rattle.snap_runs.proofs.Computing.{lt_from, either}
 use Rattle.snap_runs.proofs.UpdateSteps as updates
@@ -14,7 +14,7 @@ use Rattle.snap_runs_of_b.proofs.Algorithm.{Registers, Variables, ProgramCounter
 use Rattle.snap_runs_of_b.proofs.Bounds.{most_steps, within, few_steps_lem}
 use Rattle.snap_runs_of_b.proofs.Runs.{state_at, process_after, well_of, execution, never_traps_lem}
 use Rattle.snap_runs.proofs.Steady.{Steady}
-use Rattle.snap_runs.specs.Run.{Fits}
+use Rattle.snap_runs.specs.Run.{IsValidRun}
 use Rattle.snap_runs.proofs.Calm.{calm_list}
 use Rattle.snap_runs.proofs.CalmPromises as calm
 
@@ -62,7 +62,7 @@ resumes n me word value m p k (inr is) =
     subst (λ y. Resumes (algorithm n) lines (its n) (move n me (Embedded word value) m p y)) (sym is) (omega arith, refl)
 
 -- the steps of an update
-update_steps : (n : ℕ) (items : List Item) → Steady (run_of n items) → (i word value c e : ℕ) → UpdateOf (run_of n items) i word value c e →
+update_steps : (n : ℕ) (items : List Item) → Steady (run_of n items) → (i word value c e : ℕ) → PendingUpdate (run_of n items) i word value c e →
     own_steps (run_of n items) i c e ≤ 8 + 3 * (n - 1) + most_steps n
 update_steps n items fits i word value c e up =
     let one = up.process in
@@ -72,7 +72,7 @@ update_steps n items fits i word value c e up =
     (λ t d k le at inside. (within n items fits t i d k le one at inside).1)
     (λ p word value. (omega arith, refl)) word value c e up
 
-every_update : (n : ℕ) (items : List Item) → Fits (run_of n items) → calm.UpdatesAtMost (run_of n items) (8 + 3 * (n - 1) + most_steps n) (run_of n items)
+every_update : (n : ℕ) (items : List Item) → IsValidRun (run_of n items) → calm.UpdatesAtMost (run_of n items) (8 + 3 * (n - 1) + most_steps n) (run_of n items)
 every_update n items = calm.updates_at_most (run_of n items) (8 + 3 * (n - 1) + most_steps n) (update_steps n (calm_list (run_of n items)))
 
 pub wait_free_lem : WaitFree

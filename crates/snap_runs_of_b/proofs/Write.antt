@@ -6,25 +6,25 @@ use Rattle.std.proofs.lemmas.List.{length-set, get_or-take}
 use Rattle.snap_words.specs.Shape.{IsOneOf}
 use Rattle.snap_words.specs.Word.{Word}
 use Rattle.snap_semantics.specs.declared.process.Outcome.{Outcome}
-use Rattle.snap_runs.proofs.Algorithm.{Task, Scanning, Embedded, Updating, At, New, typed_at, changed, stepped_auxiliary}
+use Rattle.snap_runs.proofs.Algorithm.{Mode, Scanning, Embedded, Updating, At, New, typed_at, changed, stepped_auxiliary}
 use Rattle.snap_runs.proofs.Flow.{IsInScan, not_update}
 use Rattle.snap_runs.proofs.Frame as frame
 use Rattle.snap_runs.proofs.Held.{word_at, Held, held_wider, seq_at}
 use Rattle.snap_runs.proofs.Flow as flow
-use Rattle.snap_runs_of_b.proofs.Algorithm.{Words, Registers, Control, Process, State, L46, L47, place, hand_at, word_put, with_written, IsUpdate, algorithm, lines}
+use Rattle.snap_runs_of_b.proofs.Algorithm.{Words, Registers, Control, Process, State, L46, L47, place, handshake_at, word_put, with_written, IsUpdate, algorithm, lines}
 use Rattle.snap_runs_of_b.proofs.Change.{each_pair}
 use Rattle.snap_runs_of_b.proofs.Collect.{Late, Viewed, word_set, word_kept}
 use Rattle.snap_runs_of_b.proofs.Flows.{Making, HasWritten}
-use Rattle.snap_runs_of_b.proofs.Follow.{Follows, follows_seq, Grows}
+use Rattle.snap_runs_of_b.proofs.Follow.{IsLaterWord, follows_seq, Grows}
 use Rattle.snap_runs_of_b.proofs.Handshake.{Says}
 use Rattle.snap_runs_of_b.proofs.Invariant.{ProcessInvariant, PairInvariant, Invariant, Answered, StageAt, ToggledAt, AnswersAt, reach_at, others_act}
 
-says_another : (i said bit : ℕ) (d : Task) → IsUpdate i d → Says said bit d → said ≡ bit → ⊥
+says_another : (i said bit : ℕ) (d : Mode) → IsUpdate i d → Says said bit d → said ≡ bit → ⊥
 says_another i said bit Scanning up other same = up
 says_another i said bit (Embedded word value) up other same = other same
 says_another i said bit (Updating word value) up other same = other same
 
-module _ (n t : ℕ) (history : ℕ → Words) (x : State) (i : ℕ) (d : Task) (one : IsOneOf n i) (h : Invariant n t history x)
+module _ (n t : ℕ) (history : ℕ → Words) (x : State) (i : ℕ) (d : Mode) (one : IsOneOf n i) (h : Invariant n t history x)
     (at_46 : (typed_at (algorithm n) x i).control ≡ At d L46) (up : IsUpdate i d) where
   -- process k before the write, the new word, and the registers and the writer after it
   abbrev pub at : ℕ → Process
@@ -56,7 +56,7 @@ module _ (n t : ℕ) (history : ℕ → Words) (x : State) (i : ℕ) (d : Task) 
   grows =
       let toggle : (at i).variables.t ≡ (word_at x.memory.words i).toggle → ⊥ =
       subst (λ (p : Control). ToggledAt (word_at x.memory.words i).toggle (at i).variables p) at_46 (h.each i one).toggle in
-      each_word (λ k w. Follows (word_at x.memory.words k) w) (inl (omega arith, λ e. absurd (toggle (sym e)))) (λ k ik. inr refl)
+      each_word (λ k w. IsLaterWord (word_at x.memory.words k) w) (inl (omega arith, λ e. absurd (toggle (sym e)))) (λ k ik. inr refl)
 
   not_less : (base : Words) → ((k : ℕ) → IsOneOf n k → seq_at base k ≤ seq_at x.memory.words k) → (k : ℕ) → IsOneOf n k → seq_at base k ≤ seq_at after.words k
   not_less base low k ik =
@@ -77,7 +77,7 @@ module _ (n t : ℕ) (history : ℕ → Words) (x : State) (i : ℕ) (d : Task) 
       (λ more. held_wider history t (suc t) (at i).auxiliary.since since (at i).variables.s (omega arith) (h.start u i iu one making (omega arith)) held)
       (λ k ik more. held_wider history t (suc t) since since _ (omega arith) (omega arith) ((h.each u iu).views k ik more))
 
-  says : (u : ℕ) → IsOneOf n u → hand_at word u ≡ place (at i).variables.f u
+  says : (u : ℕ) → IsOneOf n u → handshake_at word u ≡ place (at i).variables.f u
   says u iu = get_or-take n (at i).variables.f (u - 1) 0 (omega arith)
 
   -- where this is the second write since process u put its bit, the new word says another bit to u
@@ -85,7 +85,7 @@ module _ (n t : ℕ) (history : ℕ → Words) (x : State) (i : ℕ) (d : Task) 
   shows u iu =
       let p = (at u).variables in
       let r = reach_at n p (at u).control in
-      each_word (λ k w. k < r → place p.marks k + 2 ≤ w.seq → hand_at w u ≡ place p.g k → ⊥)
+      each_word (λ k w. k < r → place p.marks k + 2 ≤ w.seq → handshake_at w u ≡ place p.g k → ⊥)
       (λ lt more same. says_another i (place (at i).variables.f u) (place p.g i) d up
       (subst (λ (c : Control). AnswersAt u (place p.g i) (at i).variables c) at_46 (h.answered u i iu one lt (omega arith)))
       (sym (says u iu) ∙ same))
@@ -119,8 +119,8 @@ module _ (n t : ℕ) (history : ℕ → Words) (x : State) (i : ℕ) (d : Task) 
   line_46_writes o count = record {
     size = length-set x.memory.words (i - 1) word ∙ h.size;
     square = h.square;
-    bits = λ k u ik iu. each_word (λ k w. hand_at w u ≤ 1)
-        (let e : hand_at word u ≡ place (at i).variables.f u = says u iu in let b : place (at i).variables.f u ≤ 1 = (h.each i one).bits.1 u iu in omega arith)
+    bits = λ k u ik iu. each_word (λ k w. handshake_at w u ≤ 1)
+        (let e : handshake_at word u ≡ place (at i).variables.f u = says u iu in let b : place (at i).variables.f u ≤ 1 = (h.each i one).bits.1 u iu in omega arith)
         (λ k ik. h.bits k u ik iu) k ik;
     each = frame.each_next (algorithm n) x i after writer o count one (ProcessInvariant n (suc t) history after) own
         (λ k ik other. others_act n t (suc t) history x.memory after k (at k) (omega arith) grows (old_word k ik other) (λ u iu. refl)

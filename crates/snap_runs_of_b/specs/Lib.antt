@@ -1,2 +1,3 @@
 pub mod ListingB
 pub mod Promises
+pub mod Bounded

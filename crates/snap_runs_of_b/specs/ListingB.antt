@@ -16,7 +16,7 @@ use Rattle.snap_semantics.specs.declared.instr.Range.TheVariants.{Processes}
 use Rattle.snap_semantics.specs.declared.instr.Relation.{Relation}
 use Rattle.snap_semantics.specs.declared.instr.Relation.TheVariants.{Equal, Different}
 use Rattle.snap_semantics.specs.declared.instr.Term.{Term as Operand}
-use Rattle.snap_semantics.specs.declared.instr.Term.TheVariants.{Index, Arg, Row, Field, Hand}
+use Rattle.snap_semantics.specs.declared.instr.Term.TheVariants.{Index, Arg, Row, Field, Handshake}
 use Rattle.snap_semantics.specs.declared.instr.Tuple.TheVariants as tuple
 use Rattle.snap_semantics.specs.Source.{Name, Source}
 
@@ -58,11 +58,11 @@ abbrev pub compare : Operand → Relation → Operand → Comparison
 compare x r y = record { left = x; relation = r; right = y }
 
 -- what the two copies of the word at @ say to this process, their toggles, and the bit that it drew
-abbrev pub hand_a : Operand
-hand_a = Hand a Place Me
+abbrev pub handshake_a : Operand
+handshake_a = Handshake a Place Me
 
-abbrev pub hand_b : Operand
-hand_b = Hand b Place Me
+abbrev pub handshake_b : Operand
+handshake_b = Handshake b Place Me
 
 abbrev pub toggle_a : Operand
 toggle_a = Field field.Toggle a Place
@@ -75,11 +75,11 @@ bit = Row g Place
 
 -- the copies agree at @
 abbrev pub agree : Condition
-agree = Three And (compare hand_a Equal bit) (compare hand_b Equal bit) (compare toggle_a Equal toggle_b)
+agree = Three And (compare handshake_a Equal bit) (compare handshake_b Equal bit) (compare toggle_a Equal toggle_b)
 
 -- they do not
 abbrev pub differ : Condition
-differ = Three Or (compare hand_a Different bit) (compare hand_b Different bit) (compare toggle_a Different toggle_b)
+differ = Three Or (compare handshake_a Different bit) (compare handshake_b Different bit) (compare toggle_a Different toggle_b)
 
 abbrev pub listing_b : Source
 listing_b = record {
@@ -94,7 +94,7 @@ listing_b = record {
       at 10 (Each Processes moved (Term (number 0)) None)
       ∷ at 11 (Let j (Term (number 1)))
       ∷ at 12 (Get a (Scalar j) (Scalar j))
-      ∷ at 13 (LetPlace g (Scalar j) (Term (Hand a (Scalar j) Me)))
+      ∷ at 13 (LetPlace g (Scalar j) (Term (Handshake a (Scalar j) Me)))
       ∷ at 14 (PutBit bits.Q Me (Scalar j) (Term (Row g (Scalar j))))
       ∷ at 15 (Next j Processes 12)
       ∷ at 16 (Get a (Scalar j) (Scalar j))

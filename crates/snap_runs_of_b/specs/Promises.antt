@@ -1,14 +1,16 @@
--- What every run of listing B keeps, for every number of processes.
-use Rattle.std.specs.Prelude.{◌≡◌, ℕ, ◌+◌, ◌*◌, List, true}
+-- What every run of listing B keeps, for every number of processes, however long it is.
+use Rattle.std.specs.Prelude.{◌≡◌, ℕ, ◌+◌, ◌*◌, List, None, true}
 use Rattle.snap_words.specs.Kind.{fits}
 use Rattle.snap_words.specs.Shape.{Counts, IsShape}
 use Rattle.snap_words.specs.declared.kind.KindTag.TheVariants.{Bits}
 use Rattle.snap_semantics.specs.declared.process.Item.{Item}
 use Rattle.snap_runs.specs.Run.{Run}
 use Rattle.snap_runs.specs.Linearization.{IsLinearizable}
+use Rattle.snap_runs.specs.Placement as placement
 use Rattle.snap_runs.specs.Promises as promises
 use Rattle.snap_runs.specs.Snapshot.{Bounds, IsSnapshotRun}
 use Rattle.snap_runs.specs.WaitFree.{IsWaitFree}
+use Rattle.snap_runs.specs.WriteStrong.{IsWriteStronglyLinearizable}
 use Rattle.snap_runs.specs.Promises.{CollectLines}
 use Rattle.snap_runs_of_b.specs.ListingB.{listing_b, j, moved}
 
@@ -75,6 +77,14 @@ PassedTestsAreClean = (n : ℕ) (items : List Item) → promises.PassedTestsAreC
 -- Every run is linearizable: its operations are as if each took place at one moment between its call and its end.
 abbrev pub Linearizable : Type 0
 Linearizable = (n : ℕ) (items : List Item) → IsLinearizable (run_of n items)
+
+-- And each operation has its place: an update an item at which its process executes line 46.
+abbrev pub OperationsHavePlaces : Type 0
+OperationsHavePlaces = (n : ℕ) (items : List Item) → placement.OperationsHavePlaces 46 (run_of n items)
+
+-- As a run goes on, the updates that its linearization lists keep their order, and more come behind them.
+abbrev pub WriteStronglyLinearizable : Type 0
+WriteStronglyLinearizable = (n : ℕ) → IsWriteStronglyLinearizable listing_b (square n) None
 
 -- Every call is over after so many turns of its process, whatever the others do: a scan after the steps above, and an update after
 -- 8 n n + 15 n + 12.

@@ -1,7 +1,8 @@
 //! Listing B, and what every run of it keeps.
 #![tactic(auto)]
 
-ghost use Rattle.snap_runs_of_b.specs.Promises.{NeverTraps, ChangesOnlyAt46, WritesItsUpdate, WritesOnce, HavePoints, FewCollects, FewSteps, SharpCollects, MovesAreWrites, BorrowedViewsAreLent, OwnUpdatesAreSeen, PassedTestsAreClean, Linearizable, WaitFree, RunsAreSnapshots};
+ghost use Rattle.snap_runs_of_b.specs.Promises.{NeverTraps, ChangesOnlyAt46, WritesItsUpdate, WritesOnce, HavePoints, FewCollects, FewSteps, SharpCollects, MovesAreWrites, BorrowedViewsAreLent, OwnUpdatesAreSeen, PassedTestsAreClean, Linearizable, OperationsHavePlaces, WriteStronglyLinearizable, WaitFree, RunsAreSnapshots};
+ghost use Rattle.snap_runs_of_b.specs.Bounded.{StaysBounded};
 
 /// No process ever traps.
 pub fn never_traps()
@@ -71,6 +72,18 @@ pub fn linearizable()
     ensures { Linearizable }
 {}
 
+/// Each operation of a run has its place, an item between its call and its end: an update that at which it executes line
+/// 46, and a scan one after which the values are its view; and in the order of their places they are a linearization.
+pub fn operations_have_places()
+    ensures { OperationsHavePlaces }
+{}
+
+/// The listing is write strongly linearizable: its runs have linearizations in which the updates keep their order as a run
+/// goes on, and more come only behind them.
+pub fn write_strongly_linearizable()
+    ensures { WriteStronglyLinearizable }
+{}
+
 /// Every call is over after so many turns of its process, whatever the others do or stop doing: at most 8 n n + 15 n + 12.
 pub fn wait_free()
     ensures { WaitFree }
@@ -79,4 +92,10 @@ pub fn wait_free()
 /// All that a snapshot promises, of every run of B.
 pub fn runs_are_snapshots()
     ensures { RunsAreSnapshots }
+{}
+
+/// Every run is bounded, however long it is: each number of each state is within limits that n alone
+/// decides, and each value is 0 or that of an update that was called before.
+pub fn stays_bounded()
+    ensures { StaysBounded }
 {}

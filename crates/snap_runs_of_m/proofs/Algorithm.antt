@@ -12,7 +12,7 @@ use Rattle.snap_semantics.specs.Value.{Context}
 use Rattle.snap_semantics.specs.Table.{places_to, all_true, first_true, bit_at, with_bit_at, entry}
 use Rattle.snap_runs.proofs.Held.{word_at, seq_at}
 use Rattle.snap_runs.proofs.Algorithm as typed
-use Rattle.snap_runs.proofs.Algorithm.{Task, Scanning, Embedded, Updating, value_of, To, Begin, Answer, Finish, Algorithm, returning, embedding}
+use Rattle.snap_runs.proofs.Algorithm.{Mode, Scanning, Embedded, Updating, value_of, To, Begin, Answer, Finish, Algorithm, returning, embedding}
 use Rattle.snap_runs.proofs.Flow.{Lines, IsScanOf, IsUpdateOf, IsLine}
 use Rattle.snap_runs.proofs.Places.{for_each}
 use Rattle.snap_runs.proofs.Embedding.{map_same}
@@ -120,7 +120,7 @@ pub record Registers : Type 0 where
 
 -- a word as the machine has it
 abbrev pub plain : Word → Word
-plain x = record { datum = x.datum; seq = 0; id = x.id; toggle = x.toggle; hands = []; view = [] }
+plain x = record { datum = x.datum; seq = 0; id = x.id; toggle = x.toggle; handshakes = []; view = [] }
 
 abbrev pub real : Registers → Memory
 real m = record { words = map plain m.words; q = m.q; p = m.p; views = m.views }
@@ -151,7 +151,7 @@ abbrev pub context_of : Counts → ℕ → Op → Variables → Context
 context_of shape me op p = record { shape = shape; me = me; op = op; locals = locals_of p; place = 0 }
 
 -- the word of an update, and 0 in a scan
-abbrev pub word_of : Task → ℕ
+abbrev pub word_of : Mode → ℕ
 word_of Scanning = 0
 word_of (Embedded word arg) = word
 word_of (Updating word arg) = word
@@ -206,18 +206,18 @@ abbrev pub same_at : Words → Words → ℕ → Bool
 same_at a b k = same_words (word_at a k) (word_at b k)
 
 -- lines 16, 23 and 53, and lines 18, 20 and 29
-abbrev pub next_j : ℕ → Task → Registers → Variables → ProgramCounter → ProgramCounter → Move
+abbrev pub next_j : ℕ → Mode → Registers → Variables → ProgramCounter → ProgramCounter → Move
 next_j n d m p back on = if nat_lt p.j n then To d m (record p { j = p.j + 1 }) back else To d m (record p { j = 1 }) on
 
-abbrev pub next_k : ℕ → Task → Registers → Variables → ProgramCounter → ProgramCounter → Move
+abbrev pub next_k : ℕ → Mode → Registers → Variables → ProgramCounter → ProgramCounter → Move
 next_k w d m p back on = if nat_lt p.k w then To d m (record p { k = p.k + 1 }) back else To d m (record p { k = 1 }) on
 
 -- lines 35 and 37
-abbrev pub return_to : Task → Registers → Variables → Move
+abbrev pub return_to : Mode → Registers → Variables → Move
 return_to d m p = returning p.s L55 d m p
 
 -- line 54
-abbrev pub embed_to : Task → Registers → Variables → Move
+abbrev pub embed_to : Mode → Registers → Variables → Move
 embed_to d m p = embedding L10 d p
 
 -- so many moves of one process has a scan to see before it borrows a view, and the line that borrows it
@@ -228,7 +228,7 @@ abbrev pub borrows : ProgramCounter
 borrows = L36
 
 -- line 32
-abbrev pub first_to : Task → Registers → Variables → Option ℕ → Move
+abbrev pub first_to : Mode → Registers → Variables → Option ℕ → Move
 first_to d m p None = To d m p L33
 first_to d m p (Some k) = To d m (record p { j = k }) borrows
 
@@ -250,8 +250,8 @@ abbrev pub third_move : ℕ → Variables → Option ℕ
 third_move n p = first_true 1 (map (at_limit p) (places_to n))
 
 -- what an update writes: its value with the process's number and toggle
-abbrev pub written : ℕ → Task → Registers → Variables → Word
-written me d m p = record { datum = value_of d; seq = seq_at m.words (word_of d) + 1; id = me; toggle = place p.tog (word_of d); hands = []; view = [] }
+abbrev pub written : ℕ → Mode → Registers → Variables → Word
+written me d m p = record { datum = value_of d; seq = seq_at m.words (word_of d) + 1; id = me; toggle = place p.tog (word_of d); handshakes = []; view = [] }
 
 -- the lines that write registers
 abbrev pub after_15 : ℕ → Registers → Variables → Registers
@@ -263,7 +263,7 @@ after_52 me m p = record m { p = with_bit m.p me p.j (flip p.x); answers = raise
 abbrev pub after_55 : ℕ → Registers → Variables → Registers
 after_55 me m p = record m { views = slice_set m.views (me - 1) p.s; puts = raised m.puts me }
 
-abbrev pub after_57 : ℕ → Task → Registers → Variables → Registers
+abbrev pub after_57 : ℕ → Mode → Registers → Variables → Registers
 after_57 me d m p = record m {
   words = slice_set m.words (word_of d - 1) (written me d m p);
   writes = raised m.writes me;
@@ -271,7 +271,7 @@ after_57 me d m p = record m {
 }
 
 -- the algorithm, line by line
-abbrev pub move : ℕ → ℕ → ℕ → Task → Registers → Variables → ProgramCounter → Move
+abbrev pub move : ℕ → ℕ → ℕ → Mode → Registers → Variables → ProgramCounter → Move
 move n w me d m p L10 = To d m (record p { moved = for_each n (λ c. 0) p.moved }) L11
 move n w me d m p L11 = To d m (record p { j = 1 }) L12
 move n w me d m p L12 = To d m (record p { k = 1 }) L13
@@ -310,15 +310,15 @@ move n w me d m p L56 = To d m (record p { tog = slice_set p.tog (word_of d - 1)
 move n w me d m p L57 = To d (after_57 me d m p) p L58
 move n w me d m p L58 = Finish
 
--- which task a line belongs to; the word of an update is one of the words
-abbrev pub IsScan : ℕ → Task → Type 0
+-- which mode a line belongs to; the word of an update is one of the words
+abbrev pub IsScan : ℕ → Mode → Type 0
 IsScan w d = IsScanOf (IsOneOf w) d
 
-abbrev pub IsUpdate : ℕ → Task → Type 0
+abbrev pub IsUpdate : ℕ → Mode → Type 0
 IsUpdate w d = IsUpdateOf (IsOneOf w) d
 
 -- what a line needs so that it does not trap
-abbrev pub Needs : ℕ → ℕ → ℕ → Task → Variables → ProgramCounter → Type 0
+abbrev pub Needs : ℕ → ℕ → ℕ → Mode → Variables → ProgramCounter → Type 0
 Needs n w me d p L13 = IsOneOf n p.j × IsOneOf n me
 Needs n w me d p L14 = IsOneOf n p.j
 Needs n w me d p L15 = IsOneOf n p.j × IsOneOf n me × (p.x ≤ 1)
@@ -351,7 +351,7 @@ in_update L57 = true
 in_update L58 = true
 in_update _ = false
 
-abbrev pub IsLineOf : ℕ → Task → ProgramCounter → Type 0
+abbrev pub IsLineOf : ℕ → Mode → ProgramCounter → Type 0
 IsLineOf w d k = IsLine (IsOneOf w) (in_update k) d
 
 -- where an operation begins, and the line to which its embedded scan leads back

@@ -1,5 +1,5 @@
 -- Facts about numbers, rows and bits.
-use Rattle.std.specs.Prelude.{◌≡◌, ◌≢◌, ℕ, ◌-◌, ◌<◌, ◌≤◌, ◌⊎◌, true, false, List, [], length, slice_index, slice_index_or, slice_set, nat_eq, nat_lt, nat_le, refl}
+use Rattle.std.specs.Prelude.{◌≡◌, ◌≢◌, ℕ, ◌-◌, ◌<◌, ◌≤◌, ◌⊎◌, true, false, List, [], length, slice_index, slice_index_or, slice_set, nat_eq, nat_lt, refl}
 use Rattle.std.proofs.Common.{sym, ◌∙◌, ap, arith, inl, inr}
 use Rattle.std.proofs.lemmas.Bool.{cases_eq}
 use Rattle.std.proofs.lemmas.Grind.{common_steps, get_or-set_at}
@@ -7,9 +7,6 @@ use Rattle.std.proofs.lemmas.List.{get_or-set_other, length-set}
 use Rattle.snap_runs.proofs.Computing.{lt_from, not_lt, same_number}
 use Rattle.snap_words.specs.Shape.{IsOneOf}
 use Rattle.snap_runs_of_m.proofs.Algorithm.{Bits, place, bit, with_bit, flip}
-
-pub le_from : (x y : ℕ) → nat_le x y ≡ true → x ≤ y
-le_from x y h = grind (arith, common_steps)
 
 pub less_or_not : (x y : ℕ) → (x < y) ⊎ (y ≤ x)
 less_or_not x y = elim (nat_lt x y) as (λ b. nat_lt x y ≡ b → (x < y) ⊎ (y ≤ x)) [ true ↦ λ e. inl (lt_from x y e) | false ↦ λ e. inr (not_lt x y e) ] refl

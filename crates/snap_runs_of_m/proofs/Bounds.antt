@@ -4,7 +4,7 @@ use Rattle.std.proofs.Common.{subst, arith}
 use Rattle.snap_words.specs.Shape.{IsOneOf}
 use Rattle.snap_semantics.specs.declared.process.Item.{Item}
 use Rattle.snap_runs.specs.Scan.{double_collects}
-use Rattle.snap_runs.proofs.Algorithm.{Task, At, typed_at}
+use Rattle.snap_runs.proofs.Algorithm.{Mode, At, typed_at}
 use Rattle.snap_runs.proofs.Bounds.{collects_at_most, steps_at_most}
 use Rattle.snap_runs.proofs.Flow.{IsInScan, scan_line}
 use Rattle.snap_runs_of_m.specs.Promises.{run_of, FewCollects, FewSteps, SharpCollects}
@@ -23,7 +23,7 @@ abbrev pub most_steps : ℕ → ℕ → ℕ
 most_steps n w = 14 * (n * n) + 16 * (n * w) + 19 * n + 8 * w + 10
 
 -- the bounds at each line
-pub within : (n w : ℕ) (items : List Item) → 0 < w → Steady (run_of n w items) → (t i : ℕ) (d : Task) (k : ProgramCounter) → t ≤ length items → IsOneOf n i →
+pub within : (n w : ℕ) (items : List Item) → 0 < w → Steady (run_of n w items) → (t i : ℕ) (d : Mode) (k : ProgramCounter) → t ≤ length items → IsOneOf n i →
     (typed_at (algorithm n w) (state_at n w items t) i).control ≡ At d k → IsInScan d →
     ((typed_at (algorithm n w) (state_at n w items t) i).auxiliary.collects + tests k ≤ 2 * n - 1)
     × ((typed_at (algorithm n w) (state_at n w items t) i).auxiliary.own + 1 ≤ most_steps n w)

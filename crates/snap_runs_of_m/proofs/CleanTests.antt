@@ -6,7 +6,7 @@ use Rattle.snap_semantics.specs.declared.process.Item.{Item}
 use Rattle.snap_semantics.specs.declared.process.Op.{Op}
 use Rattle.snap_semantics.specs.declared.process.Op.TheVariants.{Scan, Update}
 use Rattle.snap_runs.specs.Update.{is_at}
-use Rattle.snap_runs.proofs.Algorithm.{Task, Scanning, Embedded, Updating, To, when_busy, status_of, typed_at}
+use Rattle.snap_runs.proofs.Algorithm.{Mode, Scanning, Embedded, Updating, To, when_busy, status_of, typed_at}
 use Rattle.snap_runs.proofs.CleanTests as clean
 use Rattle.snap_runs.proofs.Collecting as collecting
 use Rattle.snap_runs.proofs.Collecting.{Copies, Phase, Away, ReadsFirst, HasFirst, ReadsSecond, HasSecond, Collected}
@@ -94,7 +94,7 @@ abbrev pub Reaches : ℕ → ℕ → Registers → Variables → ProgramCounter 
 Reaches n w = collecting.Reaches (algorithm n w) (copies w)
 
 -- what each line does to the copies
-reaches : (n w me : ℕ) (d : Task) (m : Registers) (p : Variables) (k : ProgramCounter) → IsLineOf w d k → Keeps n w d p k → w ≤ length p.a →
+reaches : (n w me : ℕ) (d : Mode) (m : Registers) (p : Variables) (k : ProgramCounter) → IsLineOf w d k → Keeps n w d p k → w ≤ length p.a →
     w ≤ length p.b →
     Reaches n w m p k (move n w me d m p k)
 reaches n w me d m p L10 s h a b = tt
@@ -144,7 +144,7 @@ reaches n w me d m p L57 s h a b = tt
 reaches n w me d m p L58 s h a b = tt
 
 -- the test passes only where nobody is marked
-passes : (n w t : ℕ) (q : Process) (d : Task) (m : Registers) (p : Variables) (b : Bool) →
+passes : (n w t : ℕ) (q : Process) (d : Mode) (m : Registers) (p : Variables) (b : Bool) →
     is_at 34 (status_of (algorithm n w) (moved (algorithm n w) t q L30 (if b then To d m p L34 else To d m p L31)).control) ≡ true → b ≡ true
 passes n w t q d m p true h = refl
 passes n w t q d m p false h = absurd (cc)

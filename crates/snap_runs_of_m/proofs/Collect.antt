@@ -52,7 +52,7 @@ pub record Collected (n w me : ℕ) (history : ℕ → Registers) (from t : ℕ)
   pub between : shaken ≤ middle
   pub later : middle ≤ ended
   pub now : ended ≤ t
-  pub hands : (c : ℕ) → IsOneOf n c → c < asked → Asked history from shaken t me c (place g c)
+  pub handshakes : (c : ℕ) → IsOneOf n c → c < asked → Asked history from shaken t me c (place g c)
   pub firsts : (k : ℕ) → IsOneOf w k → k < first → Copied history shaken middle k (word_at a k)
   pub seconds : (k : ℕ) → IsOneOf w k → k < second → Copied history middle ended k (word_at b k)
   pub lates : (c : ℕ) → IsOneOf n c → c < late → ReadBit history ended t me c (place h c)
@@ -75,7 +75,7 @@ module _ (n w me : ℕ) (history : ℕ → Registers) (from : ℕ) where
     between = omega arith;
     later = omega arith;
     now = omega arith;
-    hands = λ c o lt. absurd (omega arith);
+    handshakes = λ c o lt. absurd (omega arith);
     firsts = λ k o lt. absurd (omega arith);
     seconds = λ k o lt. absurd (omega arith);
     lates = λ c o lt. absurd (omega arith);
@@ -94,7 +94,7 @@ module _ (n w me : ℕ) (history : ℕ → Registers) (from : ℕ) where
     between = x.between;
     later = x.later;
     now = x.now;
-    hands = λ c o lt. x.hands c o (f1 c o lt);
+    handshakes = λ c o lt. x.handshakes c o (f1 c o lt);
     firsts = λ k o lt. x.firsts k o (f2 k o lt);
     seconds = λ k o lt. x.seconds k o (f3 k o lt);
     lates = λ c o lt. x.lates c o (f4 c o lt);
@@ -116,7 +116,7 @@ module _ (n w me : ℕ) (history : ℕ → Registers) (from : ℕ) where
         between = x.between;
         later = x.later;
         now = omega arith;
-        hands = λ c o lt. (let y = x.hands c o lt in let until : y.at ≤ x.shaken = y.until in record {
+        handshakes = λ c o lt. (let y = x.handshakes c o lt in let until : y.at ≤ x.shaken = y.until in record {
           sight = y.sight;
           at = y.at;
           after = y.after;
@@ -149,7 +149,7 @@ module _ (n w me : ℕ) (history : ℕ → Registers) (from : ℕ) where
     between = y.between;
     later = y.later;
     now = y.now;
-    hands = λ c o lt. subst (Asked history from y.shaken t me c) (sym (set_there g j c x one.0 o.0 (λ same. absurd (let e : c ≡ j = same in omega arith)))) (y.hands c o lt);
+    handshakes = λ c o lt. subst (Asked history from y.shaken t me c) (sym (set_there g j c x one.0 o.0 (λ same. absurd (let e : c ≡ j = same in omega arith)))) (y.handshakes c o lt);
     firsts = y.firsts;
     seconds = y.seconds;
     lates = y.lates;
@@ -173,7 +173,7 @@ module _ (n w me : ℕ) (history : ℕ → Registers) (from : ℕ) where
         between = omega arith;
         later = omega arith;
         now = omega arith;
-        hands = λ c o lt. elim (cases_eq c j) [
+        handshakes = λ c o lt. elim (cases_eq c j) [
           | inl same ↦ subst (λ v. Asked history from (suc t) (suc t) me v (place g v)) (sym same) (record {
             sight = (let u : sight.at ≤ t = sight.until in record { at = sight.at; after = sight.after; until = omega arith; is = sight.is });
             at = suc t;
@@ -181,7 +181,7 @@ module _ (n w me : ℕ) (history : ℕ → Registers) (from : ℕ) where
             until = omega arith;
             kept = λ u le more. ap (λ v. bit (history v).q me j) (let e : u ≡ suc t = omega arith in e) ∙ his;
           })
-          | inr other ↦ (let z = y.hands c o (omega arith) in let until : z.at ≤ y.shaken = z.until in record {
+          | inr other ↦ (let z = y.handshakes c o (omega arith) in let until : z.at ≤ y.shaken = z.until in record {
             sight = (let s = z.sight in let u : s.at ≤ y.shaken = s.until in record { at = s.at; after = s.after; until = omega arith; is = s.is });
             at = z.at;
             after = z.after;
@@ -231,7 +231,7 @@ module _ (n w me : ℕ) (history : ℕ → Registers) (from : ℕ) where
         between = omega arith;
         later = omega arith;
         now = omega arith;
-        hands = x.hands;
+        handshakes = x.handshakes;
         firsts = λ y o lt. copy_more a m t x.shaken x.middle k y one o len is (omega arith) (omega arith) lt (λ less. x.firsts y o less);
         seconds = λ k o lt. absurd (omega arith);
         lates = λ c o lt. absurd (omega arith);
@@ -252,7 +252,7 @@ module _ (n w me : ℕ) (history : ℕ → Registers) (from : ℕ) where
         between = x.between;
         later = omega arith;
         now = omega arith;
-        hands = x.hands;
+        handshakes = x.handshakes;
         firsts = x.firsts;
         seconds = λ y o lt. copy_more b m t x.middle x.ended k y one o len is (omega arith) (omega arith) lt (λ less. x.seconds y o less);
         lates = λ c o lt. absurd (omega arith);
@@ -270,7 +270,7 @@ module _ (n w me : ℕ) (history : ℕ → Registers) (from : ℕ) where
     between = x.between;
     later = x.later;
     now = x.now;
-    hands = x.hands;
+    handshakes = x.handshakes;
     firsts = x.firsts;
     seconds = x.seconds;
     lates = λ c o lt. elim (cases_eq c j) [
@@ -320,8 +320,8 @@ module _ (n w me : ℕ) (history : ℕ → Registers) (from t : ℕ) (g : List �
       let later : x.middle ≤ x.ended = x.later in
       let between : x.shaken ≤ x.middle = x.between in
       let opened : from ≤ x.shaken = x.opened in
-      let hand = x.hands c o (omega arith) in
-      let sight = hand.sight in
+      let handshake = x.handshakes c o (omega arith) in
+      let sight = handshake.sight in
       let late = x.lates c o (omega arith) in
       let a1 : from ≤ sight.at = sight.after in
       let a2 : sight.at ≤ x.shaken = sight.until in
@@ -354,17 +354,17 @@ module _ (n w me : ℕ) (history : ℕ → Registers) (from t : ℕ) (g : List �
       let toggles : (word_at (history first.at).words k).toggle ≡ (word_at (history second.at).words k).toggle =
       ap (λ (y : Word). y.toggle) (sym first.is) ∙ alike.toggles ∙ ap (λ (y : Word). y.toggle) second.is in
       let twice : (history first.at).writes c + 2 ≤ (history second.at).writes c = ((laws second.at (omega arith)).since first.at (omega arith)).twice k o lt ids toggles in
-      let hand = x.hands c named (let le : c ≤ n = named.1 in omega arith) in
-      let h1 : hand.at ≤ x.shaken = hand.until in
+      let handshake = x.handshakes c named (let le : c ≤ n = named.1 in omega arith) in
+      let h1 : handshake.at ≤ x.shaken = handshake.until in
       let late = x.lates c named (let le : c ≤ n = named.1 in omega arith) in
       let l1 : x.ended ≤ late.at = late.after in
       let l2 : late.at ≤ t = late.until in
-      let low : (history hand.at).writes c ≤ (history first.at).writes c = ((laws first.at (omega arith)).since hand.at (omega arith)).writes c named in
+      let low : (history handshake.at).writes c ≤ (history first.at).writes c = ((laws first.at (omega arith)).since handshake.at (omega arith)).writes c named in
       let high : (history second.at).writes c ≤ (history late.at).writes c = ((laws late.at l2).since second.at (omega arith)).writes c named in
       let answers : (history late.at).writes c ≤ (history late.at).answers c me = (laws late.at l2).now.answers_from c me named one in
-      (laws late.at l2).answered c me ((history hand.at).writes c) (place g c) named one
-      (λ u le more. hand.kept u (elim (less_or_not u hand.at) [
-        | inl less ↦ absurd (let back : (history u).writes c ≤ (history hand.at).writes c = ((laws hand.at (omega arith)).since u (omega arith)).writes c named in omega arith)
+      (laws late.at l2).answered c me ((history handshake.at).writes c) (place g c) named one
+      (λ u le more. handshake.kept u (elim (less_or_not u handshake.at) [
+        | inl less ↦ absurd (let back : (history u).writes c ≤ (history handshake.at).writes c = ((laws handshake.at (omega arith)).since u (omega arith)).writes c named in omega arith)
         | inr ge ↦ ge
       ]) (omega arith))
       (omega arith) (sym late.is ∙ still c named)

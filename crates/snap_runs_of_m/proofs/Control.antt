@@ -1,5 +1,5 @@
 -- The places of M: which locals a process has at each line, and that no line traps.
-use Rattle.snap_runs.proofs.Computing.{either, lt_from, both, differs, raised_most, none_then}
+use Rattle.snap_runs.proofs.Computing.{either, lt_from, le_from, both, differs, raised_most, none_then}
 use Rattle.snap_runs.proofs.Places.{for_each, for_each_at, first_found, first_none}
 use Rattle.std.specs.Prelude.{◌≡◌, ℕ, ◌+◌, ◌-◌, ◌<◌, ◌≤◌, max, ◌&&◌, List, drop, length, map, Option, Some, None, nat_eq, nat_lt, nat_le, slice_set, refl}
 use Rattle.std.proofs.Common.{sym, ◌∙◌, subst, arith}
@@ -11,12 +11,12 @@ use Rattle.snap_semantics.specs.declared.process.Op.{Op}
 use Rattle.snap_semantics.specs.declared.process.Op.TheVariants.{Scan, Update}
 use Rattle.snap_semantics.specs.declared.process.Reason.TheVariants.{NoSuchWord}
 use Rattle.snap_semantics.specs.Table.{places_to, call_skip}
-use Rattle.snap_runs.proofs.Algorithm.{task_of, Idle, At, WhenBusy, To, Begin, Answer, Finish, Task, Scanning, Embedded, Updating, op_of, LeadsTo, leads_to}
+use Rattle.snap_runs.proofs.Algorithm.{mode_of, Idle, At, WhenBusy, To, Begin, Answer, Finish, Mode, Scanning, Embedded, Updating, op_of, LeadsTo, leads_to}
 use Rattle.snap_runs.proofs.Embedding as embed
 use Rattle.snap_runs.proofs.Held.{word_at}
 use Rattle.snap_runs_of_m.specs.Promises.{counts}
 use Rattle.snap_runs_of_m.proofs.Algorithm.{Registers, Control, Move, Variables, ProgramCounter, L10, L11, L12, L13, L14, L15, L16, L17, L18, L19, L20, L21, L22, L23, L24, L25, L26, L27, L28, L29, L30, L31, L32, L33, L34, L35, L36, L37, L50, L51, L52, L53, L54, L55, L56, L57, L58, word_of, move, first_to, place, bit, flip, same_at, marked, counted, all_still, third_move, Needs, IsLineOf, IsScan, IsUpdate, algorithm, counter, limit, at_limit}
-use Rattle.snap_runs_of_m.proofs.Basics.{le_from, flip_bit, set_here}
+use Rattle.snap_runs_of_m.proofs.Basics.{flip_bit, set_here}
 use Rattle.snap_runs_of_m.proofs.Lines.{lines}
 
 -- no process has been seen to move up to the limit, or none beyond it
@@ -27,7 +27,7 @@ abbrev pub WithinLimit : ℕ → Variables → Type 0
 WithinLimit n p = (c : ℕ) → IsOneOf n c → place p.moved c ≤ limit
 
 -- At each line j and k are places and the moves are within the limit, where the line asks for it.
-abbrev pub Keeps : ℕ → ℕ → Task → Variables → ProgramCounter → Type 0
+abbrev pub Keeps : ℕ → ℕ → Mode → Variables → ProgramCounter → Type 0
 Keeps n w d p L11 = BelowLimit n p
 Keeps n w d p L12 = (p.j ≡ 1) × BelowLimit n p
 Keeps n w d p L13 = IsOneOf n p.j × (p.k ≡ 1) × BelowLimit n p
@@ -73,7 +73,7 @@ LongMove n w (Begin d p k) = Long n w p
 LongMove n w (Answer v) = Unit {0}
 LongMove n w Finish = Unit {0}
 
-long_first : (n w : ℕ) (d : Task) (m : Registers) (p : Variables) (o : Option ℕ) → Long n w p → LongMove n w (first_to d m p o)
+long_first : (n w : ℕ) (d : Mode) (m : Registers) (p : Variables) (o : Option ℕ) → Long n w p → LongMove n w (first_to d m p o)
 long_first n w d m p None h = record { a = h.a; b = h.b; g = h.g; h = h.h; tog = h.tog; d = h.d }
 long_first n w d m p (Some k) h = record { a = h.a; b = h.b; g = h.g; h = h.h; tog = h.tog; d = h.d }
 
@@ -82,7 +82,7 @@ for_each_long n f old =
     let e : length (for_each n f old) ≡ length (map f (places_to n)) + length (drop n old) = length-append (map f (places_to n)) (drop n old) in
     let c : length (map f (places_to n)) ≡ n = length-map-range_with_len f 1 n in omega arith
 
-pub long_move : (n w me : ℕ) (d : Task) (m : Registers) (p : Variables) (k : ProgramCounter) → Long n w p → LongMove n w (move n w me d m p k)
+pub long_move : (n w me : ℕ) (d : Mode) (m : Registers) (p : Variables) (k : ProgramCounter) → Long n w p → LongMove n w (move n w me d m p k)
 long_move n w me d m p L10 h = record { a = h.a; b = h.b; g = h.g; h = h.h; tog = h.tog; d = h.d }
 long_move n w me d m p L11 h = record { a = h.a; b = h.b; g = h.g; h = h.h; tog = h.tog; d = h.d }
 long_move n w me d m p L12 h = record { a = h.a; b = h.b; g = h.g; h = h.h; tog = h.tog; d = h.d }
@@ -130,7 +130,7 @@ long_move n w me d m p L58 h = tt
 abbrev pub MoveWell : Op → ℕ → ℕ → Move → Type 0
 MoveWell op n w v = LeadsTo (λ d p k. IsLineOf w d k × Keeps n w d p k × (op_of d ≡ op)) v
 
-first_well : (n w : ℕ) (d : Task) (m : Registers) (p : Variables) (o : Option ℕ) → IsScan w d → (p.j ≡ 1) × (p.k ≡ 1) →
+first_well : (n w : ℕ) (d : Mode) (m : Registers) (p : Variables) (o : Option ℕ) → IsScan w d → (p.j ≡ 1) × (p.k ≡ 1) →
     ((k : ℕ) → o ≡ Some k → IsOneOf n k) → (o ≡ None → BelowLimit n p) → MoveWell (op_of d) n w (first_to d m p o)
 first_well n w d m p None s h f g = (s, (h.0, h.1, g refl), refl)
 first_well n w d m p (Some k) s h f g = (s, f k refl, refl)
@@ -142,7 +142,7 @@ pub record Ground (n w me : ℕ) (m : Registers) (p : Variables) : Type 0 where
   pub bits : (c : ℕ) → IsOneOf n c → bit m.p c me ≤ 1
   pub long : Long n w p
 
-pub move_well : (n w me : ℕ) (d : Task) (m : Registers) (p : Variables) (k : ProgramCounter) → Ground n w me m p → IsLineOf w d k → Keeps n w d p k →
+pub move_well : (n w me : ℕ) (d : Mode) (m : Registers) (p : Variables) (k : ProgramCounter) → Ground n w me m p → IsLineOf w d k → Keeps n w d p k →
     MoveWell (op_of d) n w (move n w me d m p k)
 move_well n w me d m p L10 e s h = (s, λ c i. rw (for_each_at n (λ c. 0) p.moved c i) (omega arith), refl)
 move_well n w me d m p L11 e s h = (s, (refl, h), refl)
@@ -202,13 +202,13 @@ move_well n w me (Updating y z) m p L56 e s h =
 move_well n w me d m p L57 e s h = (s, tt, refl)
 move_well n w me d m p L58 e s h = tt
 
-word_is : (w : ℕ) (d : Task) → IsUpdate w d → IsOneOf w (word_of d)
+word_is : (w : ℕ) (d : Mode) → IsUpdate w d → IsOneOf w (word_of d)
 word_is w Scanning h = absurd h
 word_is w (Embedded y z) h = absurd h
 word_is w (Updating y z) h = h
 
 -- what a line needs is kept
-pub needs : (n w me : ℕ) (d : Task) (p : Variables) (k : ProgramCounter) → IsOneOf n me → IsLineOf w d k → Keeps n w d p k →
+pub needs : (n w me : ℕ) (d : Mode) (p : Variables) (k : ProgramCounter) → IsOneOf n me → IsLineOf w d k → Keeps n w d p k →
     (k ≡ L28 → IsOneOf n p.x) → Needs n w me d p k
 needs n w me d p L10 i s h x = tt
 needs n w me d p L11 i s h x = tt
@@ -258,7 +258,7 @@ abbrev pub ControlWell : ℕ → ℕ → Variables → Control → Type 0
 ControlWell n w p control = WhenBusy (λ d k. IsLineOf w d k × Keeps n w d p k) control
 
 pub called_well : (n w me : ℕ) (p : Variables) (op : Op) → call_skip kind.Multi (counts n w) me op ≡ None →
-    ControlWell n w p (At (task_of op) (counter op))
+    ControlWell n w p (At (mode_of op) (counter op))
 called_well n w me p Scan e = (tt, tt)
 called_well n w me p (Update word arg) e = (allowed_word n w me word arg e, tt)
 

@@ -8,7 +8,7 @@ use Rattle.std.specs.Prelude.{◌≡◌, ℕ, suc, ◌+◌, ◌-◌, ◌*◌, �
 use Rattle.std.proofs.Common.{ap, arith}
 use Rattle.std.proofs.lemmas.Grind.{common_steps}
 use Rattle.snap_words.specs.Shape.{IsOneOf}
-use Rattle.snap_runs.proofs.Algorithm.{Task, Scanning, Embedded, Updating, GoesOn}
+use Rattle.snap_runs.proofs.Algorithm.{Mode, Scanning, Embedded, Updating, GoesOn}
 use Rattle.snap_runs.proofs.Flow.{IsScanLine}
 use Rattle.snap_runs_of_m.proofs.Algorithm.{Registers, restarts, Move, Variables, ProgramCounter, L10, L11, L12, L13, L14, L15, L16, L17, L18, L19, L20, L21, L22, L23, L24, L25, L26, L27, L28, L29, L30, L31, L32, L33, L34, L35, L36, L37, L50, L51, L52, L53, L54, L55, L56, L57, L58, move, first_to, place, same_at, counted, all_still, third_move, tests, in_update}
 use Rattle.snap_runs_of_m.proofs.Basics.{other_from}
@@ -61,7 +61,7 @@ Count n w p own c recent _ = Unit {0}
 abbrev pub CountMove : ℕ → ℕ → ℕ → ℕ → ℕ → Move → Type 0
 CountMove n w own c recent v = GoesOn (λ d m p k. Count n w p own c recent k) v
 
-count_first : (n w own c recent : ℕ) (d : Task) (m : Registers) (p : Variables) (o : Option ℕ) → own + 1 ≤ budget n w c → c ≤ moves n p →
+count_first : (n w own c recent : ℕ) (d : Mode) (m : Registers) (p : Variables) (o : Option ℕ) → own + 1 ≤ budget n w c → c ≤ moves n p →
     c + 1 ≤ 2 * n → CountMove n w own c recent (first_to d m p o)
 count_first n w own c recent d m p None a b e = (a, b, e)
 count_first n w own c recent d m p (Some k) a b e = (a, e)
@@ -80,7 +80,7 @@ after_count n p failed bits p' is =
     total_raised (place p.moved) (place p'.moved) (λ u. nat_eq (place p.d u) 1) n k i (ap (λ v. nat_eq v 1) one) is
 
 -- each line keeps the counts: c' and recent' are the double collects with its own
-pub count_move : (n w me : ℕ) (d : Task) (m : Registers) (p : Variables) (k : ProgramCounter) (own c c' recent recent' : ℕ) → 0 < n →
+pub count_move : (n w me : ℕ) (d : Mode) (m : Registers) (p : Variables) (k : ProgramCounter) (own c c' recent recent' : ℕ) → 0 < n →
     c' ≡ c + tests k →
     recent' ≡ (if restarts k then 0 else recent + tests k) → Keeps n w d p k → (k ≡ L30 → moves n p + 2 ≤ 2 * n) →
     (k ≡ L31 → (c : ℕ) → IsOneOf n c → place p.d c ≤ 1) →
@@ -196,7 +196,7 @@ own_all n w c own le h =
     let b : budget n w (c + 1) ≤ (2 * n) * (7 * n + 8 * w + 6) + 3 = budget_le (round n w) 3 (c + 1) (2 * n) le in
     let e : (2 * n) * (7 * n + 8 * w + 6) ≡ 14 * (n * n) + 16 * (n * w) + 12 * n = grind arith in omega arith
 
-pub own_le : (n w : ℕ) (d : Task) (p : Variables) (k : ProgramCounter) (own c recent : ℕ) → Keeps n w d p k → Count n w p own c recent k →
+pub own_le : (n w : ℕ) (d : Mode) (p : Variables) (k : ProgramCounter) (own c recent : ℕ) → Keeps n w d p k → Count n w p own c recent k →
     IsScanLine (in_update k) →
     own + 1 ≤ 14 * (n * n) + 16 * (n * w) + 19 * n + 8 * w + 10
 own_le n w d p L10 own c recent keeps h s = omega arith

@@ -3,8 +3,8 @@ use Rattle.std.specs.Prelude.{◌≡◌, ℕ, Option, Some, None, nat_eq, nat_lt
 use Rattle.std.proofs.Common.{sym, ap, subst, arith, inl, inr}
 use Rattle.snap_words.specs.Shape.{IsOneOf}
 use Rattle.snap_semantics.specs.Source.{instr_at}
-use Rattle.snap_runs.specs.Scan.{Returns}
-use Rattle.snap_runs.proofs.Algorithm.{Task, Scanning, Embedded, Updating, To}
+use Rattle.snap_runs.specs.Scan.{ReturnsView}
+use Rattle.snap_runs.proofs.Algorithm.{Mode, Scanning, Embedded, Updating, To}
 use Rattle.snap_runs.proofs.Computing.{either, whether}
 use Rattle.snap_runs.proofs.EmbeddedScans as embedded
 use Rattle.snap_runs.proofs.Executing.{Numbered}
@@ -20,15 +20,15 @@ use Rattle.snap_runs.proofs.WritesOnce as writes_once
 use Rattle.snap_runs_of_m.specs.ListingM.{listing_m}
 use Rattle.snap_runs_of_m.proofs.Algorithm.{Registers, plain, written, Move, Variables, ProgramCounter, L10, L11, L12, L13, L14, L15, L16, L17, L18, L19, L20, L21, L22, L23, L24, L25, L26, L27, L28, L29, L30, L31, L32, L33, L34, L35, L36, L37, L50, L51, L52, L53, L54, L55, L56, L57, L58, number, locals_of, same_at, all_still, third_move, move, first_to, algorithm, IsScan, IsUpdate, IsLineOf, IsLate, writes, written_at, lines}
 
-abbrev pub Flows : ℕ → ℕ → Task → Registers → Variables → ProgramCounter → Move → Type 0
+abbrev pub Flows : ℕ → ℕ → Mode → Registers → Variables → ProgramCounter → Move → Type 0
 Flows n w = flow.Flows lines (algorithm n w)
 
 -- a line of a scan that goes on
-on : (n w : ℕ) (d : Task) (m m' : Registers) (p p' : Variables) (k k' : ProgramCounter) → IsScan w d → writes k ≡ 0 → m'.words ≡ m.words →
+on : (n w : ℕ) (d : Mode) (m m' : Registers) (p p' : Variables) (k k' : ProgramCounter) → IsScan w d → writes k ≡ 0 → m'.words ≡ m.words →
     Flows n w d m p k (To d m' p' k')
 on n w d m m' p p' k k' s quiet kept = flow.within lines (algorithm n w) d m m' p p' k k' (scan_inside (IsOneOf w) d s) quiet kept
 
-pub flows : (n w me : ℕ) (d : Task) (m : Registers) (p : Variables) (k : ProgramCounter) → IsLineOf w d k → Flows n w d m p k (move n w me d m p k)
+pub flows : (n w me : ℕ) (d : Mode) (m : Registers) (p : Variables) (k : ProgramCounter) → IsLineOf w d k → Flows n w d m p k (move n w me d m p k)
 flows n w me d m p L10 s = on n w d m _ p _ L10 _ s refl refl
 flows n w me d m p L11 s = on n w d m _ p _ L11 _ s refl refl
 flows n w me d m p L12 s = on n w d m _ p _ L12 _ s refl refl
@@ -173,27 +173,27 @@ line_listed n w L57 = record { alone = refl; tested = refl; wrote = refl; calls 
 line_listed n w L58 = record { alone = refl; tested = refl; wrote = refl; calls = λ h. absurd h; returns = λ p v h. absurd h; once = omega arith }
 
 -- lines 35 and 37 return s
-answers : (p : Variables) (k : ProgramCounter) → lines.IsReturn k → Returns (instr_at listing_m.lines (number k)) (locals_of p) p.s
-answers p k (inl is) = subst (λ y. Returns (instr_at listing_m.lines (number y)) (locals_of p) p.s) (sym is) refl
-answers p k (inr is) = subst (λ y. Returns (instr_at listing_m.lines (number y)) (locals_of p) p.s) (sym is) refl
+answers : (p : Variables) (k : ProgramCounter) → lines.IsReturn k → ReturnsView (instr_at listing_m.lines (number k)) (locals_of p) p.s
+answers p k (inl is) = subst (λ y. ReturnsView (instr_at listing_m.lines (number y)) (locals_of p) p.s) (sym is) refl
+answers p k (inr is) = subst (λ y. ReturnsView (instr_at listing_m.lines (number y)) (locals_of p) p.s) (sym is) refl
 
 -- what each line does to an embedded scan and to its view
-abbrev pub Embeds : ℕ → ℕ → Task → Variables → ProgramCounter → Move → Type 0
+abbrev pub Embeds : ℕ → ℕ → Mode → Variables → ProgramCounter → Move → Type 0
 Embeds n w = embedded.Embeds (algorithm n w) lines
 
 -- a line of a scan that goes on
-stay : (n w : ℕ) (d : Task) (m : Registers) (p p' : Variables) (k k' : ProgramCounter) → IsScan w d → (lines.IsReturn k → ⊥) → Embeds n w d p k (To d m p' k')
+stay : (n w : ℕ) (d : Mode) (m : Registers) (p p' : Variables) (k k' : ProgramCounter) → IsScan w d → (lines.IsReturn k → ⊥) → Embeds n w d p k (To d m p' k')
 stay n w Scanning m p p' k k' s none = refl
 stay n w (Embedded word value) m p p' k k' s none = inl (refl, none)
 stay n w (Updating word value) m p p' k k' s none = absurd s
 
 -- a line of an update that goes on to a line with no view that is to be put
-early : (n w : ℕ) (d : Task) (m : Registers) (p p' : Variables) (k k' : ProgramCounter) → IsUpdate w d → (IsLate k' → ⊥) → Embeds n w d p k (To d m p' k')
+early : (n w : ℕ) (d : Mode) (m : Registers) (p p' : Variables) (k k' : ProgramCounter) → IsUpdate w d → (IsLate k' → ⊥) → Embeds n w d p k (To d m p' k')
 early n w Scanning m p p' k k' s none = absurd s
 early n w (Embedded word value) m p p' k k' s none = absurd s
 early n w (Updating word value) m p p' k k' s none = (refl, λ late. absurd (none late))
 
-pub embeds : (n w me : ℕ) (d : Task) (m : Registers) (p : Variables) (k : ProgramCounter) → IsLineOf w d k → Embeds n w d p k (move n w me d m p k)
+pub embeds : (n w me : ℕ) (d : Mode) (m : Registers) (p : Variables) (k : ProgramCounter) → IsLineOf w d k → Embeds n w d p k (move n w me d m p k)
 embeds n w me d m p L10 s = stay n w d _ p _ L10 _ s (answers p L10)
 embeds n w me d m p L11 s = stay n w d _ p _ L11 _ s (answers p L11)
 embeds n w me d m p L12 s = stay n w d _ p _ L12 _ s (answers p L12)

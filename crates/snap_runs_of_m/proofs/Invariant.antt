@@ -6,7 +6,7 @@ use Rattle.std.proofs.lemmas.Bool.{cases_eq}
 use Rattle.std.proofs.lemmas.Grind.{common_steps}
 use Rattle.snap_words.specs.Shape.{IsOneOf}
 use Rattle.snap_semantics.specs.declared.process.Outcome.{Outcome}
-use Rattle.snap_runs.proofs.Algorithm.{Idle, At, WhenBusy, when_busy, To, Begin, Answer, Finish, New, typed_at, changed, Task, Scanning, Embedded, Updating}
+use Rattle.snap_runs.proofs.Algorithm.{Idle, At, WhenBusy, when_busy, To, Begin, Answer, Finish, New, typed_at, changed, Mode, Scanning, Embedded, Updating}
 use Rattle.snap_runs.proofs.Flow as flow
 use Rattle.snap_runs.proofs.Frame as frame
 use Rattle.snap_runs.proofs.Flow.{IsInScan}
@@ -30,7 +30,7 @@ answered_in L56 p c = true
 answered_in L57 p c = true
 answered_in _ p c = false
 
-abbrev pub answered_at : Task → ProgramCounter → Variables → ℕ → Bool
+abbrev pub answered_at : Mode → ProgramCounter → Variables → ℕ → Bool
 answered_at Scanning k p c = false
 answered_at (Embedded word arg) k p c = true
 answered_at (Updating word arg) k p c = answered_in k p c
@@ -40,7 +40,7 @@ put_in L56 = 1
 put_in L57 = 1
 put_in _ = 0
 
-abbrev pub put_at : Task → ProgramCounter → ℕ
+abbrev pub put_at : Mode → ProgramCounter → ℕ
 put_at Scanning k = 0
 put_at (Embedded word arg) k = 0
 put_at (Updating word arg) k = put_in k
@@ -49,12 +49,12 @@ abbrev pub turned_in : ℕ → ProgramCounter → ℕ → Bool
 turned_in word L57 y = nat_eq y word
 turned_in word _ y = false
 
-abbrev pub turned_at : Task → ProgramCounter → ℕ → Bool
+abbrev pub turned_at : Mode → ProgramCounter → ℕ → Bool
 turned_at Scanning k y = false
 turned_at (Embedded word arg) k y = false
 turned_at (Updating word arg) k y = turned_in word k y
 
-abbrev pub IsMaking : Task → ProgramCounter → Type 0
+abbrev pub IsMaking : Mode → ProgramCounter → Type 0
 IsMaking = flow.IsMaking lines
 
 abbrev pub HasWritten : Control → ℕ → Type 0
@@ -67,7 +67,7 @@ pub record Settled (n w me : ℕ) (m : Registers) (tog : List ℕ) (answers put 
   pub toggles_are : (y : ℕ) → IsOneOf w y → place tog y ≡ (if turns y then flip (m.toggles me y) else m.toggles me y)
 
 -- What is so of the counters of a process at each line; `base` are the registers at the start of its last scan.
-pub record Books (n w me : ℕ) (base m : Registers) (d : Task) (p : Variables) (k : ProgramCounter) : Type 0 where
+pub record Books (n w me : ℕ) (base m : Registers) (d : Mode) (p : Variables) (k : ProgramCounter) : Type 0 where
   pub settled : Settled n w me m p.tog (λ c. if answered_at d k p c then 1 else 0) (λ z. put_at d k) (λ y. turned_at d k y)
   -- a view is made by a scan that started when all handshakes had been answered
   pub made : IsMaking d k → (c : ℕ) → IsOneOf n c → m.writes me + 1 ≤ base.answers me c
@@ -90,7 +90,7 @@ BooksMove n w me base m tog (Answer v) = Rest n w me m tog
 BooksMove n w me base m tog Finish = Rest n w me m tog
 
 -- the lines of a scan
-pub books_scan : (n w me : ℕ) (base m : Registers) (d : Task) (p p' : Variables) (k k' : ProgramCounter) → IsScan w d → p'.tog ≡ p.tog →
+pub books_scan : (n w me : ℕ) (base m : Registers) (d : Mode) (p p' : Variables) (k k' : ProgramCounter) → IsScan w d → p'.tog ≡ p.tog →
     Books n w me base m d p k → Books n w me base m d p' k'
 books_scan n w me base m Scanning p p' k k' s same h = record {
   settled = (let old = h.settled in record { answers_are = old.answers_are; puts_are = old.puts_are; toggles_are = λ y o. ap (λ r. place r y) same ∙ old.toggles_are y o });
@@ -104,13 +104,13 @@ books_scan n w me base m (Embedded y z) p p' k k' s same h = record {
 }
 books_scan n w me base m (Updating y z) p p' k k' s same h = absurd s
 
-books_first : (n w me : ℕ) (base m m' : Registers) (d : Task) (p : Variables) (o : Option ℕ) → IsScan w d →
+books_first : (n w me : ℕ) (base m m' : Registers) (d : Mode) (p : Variables) (o : Option ℕ) → IsScan w d →
     Books n w me base m d p L32 → BooksMove n w me base m p.tog (first_to d m' p o)
 books_first n w me base m m' d p None s h = books_scan n w me base m d p p L32 L33 s refl h
 books_first n w me base m m' d p (Some k) s h = books_scan n w me base m d p (record p { j = k }) L32 L36 s refl h
 
 -- a scan returns
-books_return : (n w me : ℕ) (base m m' : Registers) (d : Task) (p : Variables) (k : ProgramCounter) → IsScan w d →
+books_return : (n w me : ℕ) (base m m' : Registers) (d : Mode) (p : Variables) (k : ProgramCounter) → IsScan w d →
     Books n w me base m d p k → BooksMove n w me base m p.tog (return_to d m' p)
 books_return n w me base m m' Scanning p k s h =
     let old = h.settled in record { answers_are = old.answers_are; puts_are = old.puts_are; toggles_are = old.toggles_are }
@@ -157,7 +157,7 @@ books_56 n w me word arg base m p one long h =
       self = λ inside. absurd inside;
     }
 
-books_embed : (n w me : ℕ) (base m m' : Registers) (d : Task) (p : Variables) → IsUpdate w d →
+books_embed : (n w me : ℕ) (base m m' : Registers) (d : Mode) (p : Variables) → IsUpdate w d →
     Books n w me base m d p L54 → BooksMove n w me base m p.tog (embed_to d m' p)
 books_embed n w me base m m' Scanning p s h = absurd s
 books_embed n w me base m m' (Embedded y z) p s h = absurd s
@@ -172,7 +172,7 @@ books_embed n w me base m m' (Updating y z) p s h =
 none_before : (c : ℕ) → 0 < c → nat_lt c 1 ≡ false
 none_before c pos = grind (arith, common_steps)
 
-pub books_move : (n w me : ℕ) (base m m' : Registers) (d : Task) (p : Variables) (k : ProgramCounter) → IsLineOf w d k → IsQuiet k → Long n w p →
+pub books_move : (n w me : ℕ) (base m m' : Registers) (d : Mode) (p : Variables) (k : ProgramCounter) → IsLineOf w d k → IsQuiet k → Long n w p →
     Books n w me base m d p k → BooksMove n w me base m p.tog (move n w me d m' p k)
 books_move n w me base m m' d p L10 s quiet long h = books_scan n w me base m d p _ L10 _ s refl h
 books_move n w me base m m' d p L11 s quiet long h = books_scan n w me base m d p _ L11 _ s refl h
@@ -249,7 +249,7 @@ settled_kept n w me m m' tog answers put turns u h = record {
   toggles_are = λ y o. h.toggles_are y o ∙ ap (λ v. if turns y then flip v else v) (sym (u.toggles y o));
 }
 
-pub books_kept : (n w me : ℕ) (base m m' : Registers) (d : Task) (p : Variables) (k : ProgramCounter) → IsOneOf n me → Untouched n w me m m' →
+pub books_kept : (n w me : ℕ) (base m m' : Registers) (d : Mode) (p : Variables) (k : ProgramCounter) → IsOneOf n me → Untouched n w me m m' →
     Books n w me base m d p k → Books n w me base m' d p k
 books_kept n w me base m m' d p k one u h = record {
   settled = settled_kept n w me m m' p.tog _ _ _ u h.settled;
@@ -272,7 +272,7 @@ CountAt n w p own c recent control = WhenBusy (λ d k. Count n w p own c recent 
 
 -- What holds of process i, at whichever line it stands.
 pub record ProcessInvariant (n w t : ℕ) (history : ℕ → Registers) (i : ℕ) (q : Process) : Type 0 where
-  -- it stands at a line of its task, with the variables that the line asks for
+  -- it stands at a line of its mode, with the variables that the line asks for
   pub well : ControlWell n w q.variables q.control
   pub long : Long n w q.variables
   -- its last scan and that scan's last double collect have started

@@ -9,10 +9,10 @@ use Rattle.snap_words.specs.Shape.{IsOneOf}
 use Rattle.snap_semantics.specs.declared.process.Item.{Item}
 use Rattle.snap_semantics.specs.declared.process.Item.TheVariants.{Step, Call, Crash}
 use Rattle.snap_semantics.specs.declared.process.Op.{Op}
-use Rattle.snap_semantics.specs.declared.process.Op.TheVariants.{Scan as ScanOp, Update}
-use Rattle.snap_runs.specs.Scan.{Finished}
+use Rattle.snap_semantics.specs.declared.process.Op.TheVariants.{Scan, Update}
+use Rattle.snap_runs.specs.Scan.{FinishedScan}
 use Rattle.snap_runs.specs.Promises.{LentView}
-use Rattle.snap_runs.proofs.Algorithm.{Task, Scanning, Embedded, Updating, Idle, At, when_busy, by_step, memory_after, typed_at, changed, happens, item_at}
+use Rattle.snap_runs.proofs.Algorithm.{Mode, Scanning, Embedded, Updating, Idle, At, when_busy, by_step, memory_after, typed_at, changed, happens, item_at}
 use Rattle.snap_runs.proofs.Computing.{either}
 use Rattle.snap_runs.proofs.EmbeddedScans as embedded
 use Rattle.snap_runs.proofs.Embedding as embed
@@ -39,21 +39,21 @@ SameViews m m' = (m'.views ≡ m.views) × (m'.puts ≡ m.puts)
 abbrev pub KeepsViews : Registers → Move → Type 0
 KeepsViews m v = SameViews m (memory_after m v)
 
-views_return : (d : Task) (m : Registers) (p : Variables) → KeepsViews m (return_to d m p)
+views_return : (d : Mode) (m : Registers) (p : Variables) → KeepsViews m (return_to d m p)
 views_return Scanning m p = (refl, refl)
 views_return (Embedded y z) m p = (refl, refl)
 views_return (Updating y z) m p = (refl, refl)
 
-views_embed : (d : Task) (m : Registers) (p : Variables) → KeepsViews m (embed_to d m p)
+views_embed : (d : Mode) (m : Registers) (p : Variables) → KeepsViews m (embed_to d m p)
 views_embed Scanning m p = (refl, refl)
 views_embed (Embedded y z) m p = (refl, refl)
 views_embed (Updating y z) m p = (refl, refl)
 
-views_first : (d : Task) (m : Registers) (p : Variables) (o : Option ℕ) → KeepsViews m (first_to d m p o)
+views_first : (d : Mode) (m : Registers) (p : Variables) (o : Option ℕ) → KeepsViews m (first_to d m p o)
 views_first d m p None = (refl, refl)
 views_first d m p (Some k) = (refl, refl)
 
-views_kept : (n w me : ℕ) (d : Task) (m : Registers) (p : Variables) (k : ProgramCounter) → KeepsViews m (move n w me d m p k) ⊎ (k ≡ L55)
+views_kept : (n w me : ℕ) (d : Mode) (m : Registers) (p : Variables) (k : ProgramCounter) → KeepsViews m (move n w me d m p k) ⊎ (k ≡ L55)
 views_kept n w me d m p L10 = inl (refl, refl)
 views_kept n w me d m p L11 = inl (refl, refl)
 views_kept n w me d m p L12 = inl (refl, refl)
@@ -94,7 +94,7 @@ views_kept n w me d m p L58 = inl (refl, refl)
 
 -- a change of the views is a step at line 55
 abbrev pub Puts : ℕ → ℕ → State → Item → Type 0
-Puts n w x y = (a : ℕ) × (d : Task) × (y ≡ Step a) × ((typed_at (algorithm n w) x a).control ≡ At d L55)
+Puts n w x y = (a : ℕ) × (d : Mode) × (y ≡ Step a) × ((typed_at (algorithm n w) x a).control ≡ At d L55)
 
 step_views : (n w t : ℕ) (x : State) (i : ℕ) (control : Control) → (typed_at (algorithm n w) x i).control ≡ control →
     SameViews x.memory (changed x i (by_step (algorithm n w) t x.memory i (typed_at (algorithm n w) x i) control)).memory ⊎ Puts n w x (Step i)
@@ -113,7 +113,7 @@ happens_views n w t x (Call i op) =
 happens_views n w t x (Crash i) = inl (refl, refl)
 
 not_late : (op : Op) → IsLate (counter op) → ⊥
-not_late ScanOp late = late
+not_late Scan late = late
 not_late (Update word value) late = late
 
 module _ (n w : ℕ) (items : List Item) (some : 0 < w) (fits : Steady (run_of n w items)) where
@@ -131,9 +131,9 @@ module _ (n w : ℕ) (items : List Item) (some : 0 < w) (fits : Steady (run_of n
 
   -- item suc t puts the view of process j
   record Putting (t j : ℕ) : Type 0 where
-    task : Task
+    mode : Mode
     item : item_at items t ≡ Step j
-    control : (at t j).control ≡ At task L55
+    control : (at t j).control ≡ At mode L55
     puts : (history (suc t)).puts j ≡ (history t).puts j + 1
     is : view (suc t) j ≡ (at t j).variables.s
 
@@ -151,7 +151,7 @@ module _ (n w : ℕ) (items : List Item) (some : 0 < w) (fits : Steady (run_of n
             let size : length m.views ≡ n = ((inv n w items some fits t (omega arith)).laws t (omega arith)).now.views in
             elim (cases_eq j a) [
               | inl same ↦ inl (subst (Putting t) (sym same) (record {
-                task = r.1;
+                mode = r.1;
                 item = r.2;
                 control = r.3;
                 puts = ap (λ (x : Registers). x.puts a) after ∙ raised_here m.puts a;
@@ -190,7 +190,7 @@ module _ (n w : ℕ) (items : List Item) (some : 0 < w) (fits : Steady (run_of n
         ]
       ]
 
-  lent_view : (i : ℕ) (link : Option ℕ) (c t : ℕ) (v : List ℕ) → Finished (run_of n w items) i link c (suc t) v → Shown n i history t c v →
+  lent_view : (i : ℕ) (link : Option ℕ) (c t : ℕ) (v : List ℕ) → FinishedScan (run_of n w items) i link c (suc t) v → Shown n i history t c v →
       LentView (run_of n w items) i c (suc t) v
   lent_view i link c t v ends shown =
       let one = ends.scan.process in
@@ -208,7 +208,7 @@ module _ (n w : ℕ) (items : List Item) (some : 0 < w) (fits : Steady (run_of n
       let after : c ≤ y = x.after in
       let before : y < u = x.before in
       let put : Putting y j = x.putting in
-      let up = update_of (IsOneOf w) put.task (well_of n w items some fits y j put.task L55 (omega arith) jone put.control).0 in
+      let up = update_of (IsOneOf w) put.mode (well_of n w items some fits y j put.mode L55 (omega arith) jone put.control).0 in
       let control : (at y j).control ≡ At (Updating up.0 up.1) L55 = put.control ∙ ap (λ d. At d L55) up.3 in
       let since = (at y j).auxiliary.since in
       let books : Books n w j (history since) (history y) (Updating up.0 up.1) (at y j).variables L55 =
@@ -228,9 +228,9 @@ module _ (n w : ℕ) (items : List Item) (some : 0 < w) (fits : Steady (run_of n
       let its_view : (at y j).variables.s ≡ v = sym put.is ∙ sym x.is ∙ shown.is in
       let g = scans.goes (algorithm n w) lines (listed n w) run i one link c (suc t) y ends.scan after (omega arith) in
       let other : j ≢ i =
-      λ same. flow.not_update (IsOneOf w) g.task (flow.in_scan lines (algorithm n w) link g.task g.inside)
-      (subst (IsUpdateOf (IsOneOf w)) (let e : At put.task L55 ≡ At g.task g.counter = sym put.control ∙ ap (λ z. (at y z).control) same ∙ g.control in let f : put.task ≡ g.task = cc in f)
-      (well_of n w items some fits y j put.task L55 (omega arith) jone put.control).0) in
+      λ same. flow.not_update (IsOneOf w) g.mode (flow.in_scan lines (algorithm n w) link g.mode g.inside)
+      (subst (IsUpdateOf (IsOneOf w)) (let e : At put.mode L55 ≡ At g.mode g.counter = sym put.control ∙ ap (λ z. (at y z).control) same ∙ g.control in let f : put.mode ≡ g.mode = cc in f)
+      (well_of n w items some fits y j put.mode L55 (omega arith) jone put.control).0) in
       record {
         lender = j;
         other = other;
@@ -239,7 +239,7 @@ module _ (n w : ℕ) (items : List Item) (some : 0 < w) (fits : Steady (run_of n
         to = lent.to;
         after_start = later;
         before_end = omega arith;
-        scan = subst (λ z. Finished (run_of n w items) j (Some 55) since lent.to z) its_view lent.scan;
+        scan = subst (λ z. FinishedScan (run_of n w items) j (Some 55) since lent.to z) its_view lent.scan;
       }
 
 steady_borrowed_views_are_lent : (n w : ℕ) (items : List Item) → 0 < w → Steady (run_of n w items) → promises.BorrowedViewsAreLent 37 (run_of n w items)

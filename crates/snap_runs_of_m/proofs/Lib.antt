@@ -21,3 +21,5 @@ pub mod Linear
 pub mod WaitFree
 pub mod Lenders
 pub mod Snapshot
+pub mod Bounded
+pub mod BoundedSamples

@@ -16,7 +16,7 @@ use Rattle.snap_semantics.specs.Source.{Name, instr_at}
 use Rattle.snap_semantics.specs.State.{Locals, value_at}
 use Rattle.snap_semantics.specs.Value.{Context, at_place, term_value}
 use Rattle.snap_semantics.specs.Table.{Goes, Effect, effect_at, first_goes}
-use Rattle.snap_runs.proofs.Algorithm.{To, shown, Task, Scanning, Embedded, Updating, op_of, link_of}
+use Rattle.snap_runs.proofs.Algorithm.{To, shown, Mode, Scanning, Embedded, Updating, op_of, link_of}
 use Rattle.snap_runs.proofs.Held.{word_at}
 use Rattle.snap_runs.proofs.Plain.{plain_at, plain_copied}
 use Rattle.snap_runs_of_m.specs.ListingM as names
@@ -43,14 +43,14 @@ word_place n w k h = (h.0, omega arith)
 in_range : (n w k : ℕ) → 1 ≤ k → k < 1 + n → IsOneOf (max n w) k
 in_range n w k low high = (omega arith, omega arith)
 
-abbrev here : ℕ → ℕ → ℕ → Task → Variables → ℕ → Context
+abbrev here : ℕ → ℕ → ℕ → Mode → Variables → ℕ → Context
 here n w me d p k = at_place (context_of (counts n w) me (op_of d) p) k
 
-row_term : (n w me : ℕ) (d : Task) (p : Variables) (k : ℕ) (row : Name) → IsOneOf (max n w) k →
+row_term : (n w me : ℕ) (d : Mode) (p : Variables) (k : ℕ) (row : Name) → IsOneOf (max n w) k →
     term_value (here n w me d p k) (Row row Place) ≡ Ok (place (value_at row (locals_of p).rows []) k)
 row_term n w me d p k row h = bind_ok _ _ _ _ (place_ok (max n w) k h) refl
 
--- the parts of a copy at place k
+-- the fields of a copy at place k
 id_term : (xs : Words) (k : ℕ) → (slice_index_or (map plain xs) (k - 1) no_word).id ≡ (word_at xs k).id
 id_term xs k = ap (λ (x : Word). x.id) (plain_at plain refl xs (k - 1))
 
@@ -63,7 +63,7 @@ same_is xs ys k =
     ap (λ (x : Word). same_words x (slice_index_or (map plain ys) (k - 1) no_word)) (plain_at plain refl xs (k - 1))
     ∙ ap (λ (y : Word). same_words (word_at xs k) y) (plain_at plain refl ys (k - 1))
 
-first_shown : (n w : ℕ) (d : Task) (m : Registers) (p : Variables) (o : Option ℕ) →
+first_shown : (n w : ℕ) (d : Mode) (m : Registers) (p : Variables) (o : Option ℕ) →
     first_goes listing_m (act (op_of d) (link_of (number back) d) 32) (real m) (locals_of p) names.j (number borrows) o ≡ shown (algorithm n w) m (first_to d m p o)
 first_shown n w d m p None = refl
 first_shown n w d m p (Some k) = refl
@@ -76,7 +76,7 @@ with_copies p a b = record {
   views = (locals_of p).views;
 }
 
-pub lines : (n w me : ℕ) (d : Task) (m : Registers) (p : Variables) (k : ProgramCounter) → IsLineOf w d k → Needs n w me d p k →
+pub lines : (n w me : ℕ) (d : Mode) (m : Registers) (p : Variables) (k : ProgramCounter) → IsLineOf w d k → Needs n w me d p k →
     at_line (counts n w) me (op_of d) m (link_of (number back) d) (number k) p ≡ shown (algorithm n w) m (move n w me d m p k)
 lines n w me d m p L10 s h = bind_ok _ _ _ _ (each_ok _ (λ c. 0) 1 n (λ c low high. refl)) refl
 lines n w me d m p L11 s h = refl

@@ -4,14 +4,15 @@ use Rattle.snap_runs.proofs.Places.{for_each_at}
 use Rattle.std.specs.Prelude.{◌≡◌, ℕ, zero, suc, ◌+◌, ◌<◌, ◌≤◌, ◌⊎◌, true, List, length, Option, Some, None, nat_eq, nat_lt, refl}
 use Rattle.std.proofs.Common.{sym, ◌∙◌, ap, subst, arith, inl, inr}
 use Rattle.std.proofs.lemmas.Bool.{cases_eq}
-use Rattle.snap_semantics.specs.State.{Process as NamedProcess, process_at, value_at, Locals}
+use Rattle.snap_semantics.specs.State.{process_at, value_at, Locals}
+use Rattle.snap_semantics.specs.State as definitions
 use Rattle.snap_semantics.specs.declared.process.Item.{Item}
 use Rattle.snap_semantics.specs.declared.process.Item.TheVariants.{Step, Call, Crash}
-use Rattle.snap_runs.specs.Run.{state, Run, Fits}
-use Rattle.snap_runs.specs.Scan.{Scan}
+use Rattle.snap_runs.specs.Run.{state, Run, IsValidRun}
+use Rattle.snap_runs.specs.Scan.{PendingScan}
 use Rattle.snap_runs.specs.Update.{executes}
 use Rattle.snap_runs.specs.Promises.{ObservedMove}
-use Rattle.snap_runs.proofs.Algorithm.{Idle, At, by_step, memory_after, typed_at, changed, happens, item_at, Task, Scanning, Embedded, Updating}
+use Rattle.snap_runs.proofs.Algorithm.{Idle, At, by_step, memory_after, typed_at, changed, happens, item_at, Mode, Scanning, Embedded, Updating}
 use Rattle.snap_runs.proofs.Embedding as embed
 use Rattle.snap_runs.proofs.Executing as executing
 use Rattle.snap_runs.proofs.Moves as moves
@@ -37,21 +38,21 @@ SameCounters m m' = (m'.writes ≡ m.writes) × (m'.answers ≡ m.answers)
 abbrev pub KeepsCounters : Registers → Move → Type 0
 KeepsCounters m v = SameCounters m (memory_after m v)
 
-counters_return : (d : Task) (m : Registers) (p : Variables) → KeepsCounters m (return_to d m p)
+counters_return : (d : Mode) (m : Registers) (p : Variables) → KeepsCounters m (return_to d m p)
 counters_return Scanning m p = (refl, refl)
 counters_return (Embedded y z) m p = (refl, refl)
 counters_return (Updating y z) m p = (refl, refl)
 
-counters_embed : (d : Task) (m : Registers) (p : Variables) → KeepsCounters m (embed_to d m p)
+counters_embed : (d : Mode) (m : Registers) (p : Variables) → KeepsCounters m (embed_to d m p)
 counters_embed Scanning m p = (refl, refl)
 counters_embed (Embedded y z) m p = (refl, refl)
 counters_embed (Updating y z) m p = (refl, refl)
 
-counters_first : (d : Task) (m : Registers) (p : Variables) (o : Option ℕ) → KeepsCounters m (first_to d m p o)
+counters_first : (d : Mode) (m : Registers) (p : Variables) (o : Option ℕ) → KeepsCounters m (first_to d m p o)
 counters_first d m p None = (refl, refl)
 counters_first d m p (Some k) = (refl, refl)
 
-counters_kept : (n w me : ℕ) (d : Task) (m : Registers) (p : Variables) (k : ProgramCounter) →
+counters_kept : (n w me : ℕ) (d : Mode) (m : Registers) (p : Variables) (k : ProgramCounter) →
     KeepsCounters m (move n w me d m p k) ⊎ ((k ≡ L52) ⊎ (k ≡ L57))
 counters_kept n w me d m p L10 = inl (refl, refl)
 counters_kept n w me d m p L11 = inl (refl, refl)
@@ -93,7 +94,7 @@ counters_kept n w me d m p L58 = inl (refl, refl)
 
 -- a change of these counters is a step at line 52 or 57
 abbrev pub Raises : ℕ → ℕ → State → Item → Type 0
-Raises n w x y = (a : ℕ) × (d : Task) × (y ≡ Step a) × (((typed_at (algorithm n w) x a).control ≡ At d L52) ⊎ ((typed_at (algorithm n w) x a).control ≡ At d L57))
+Raises n w x y = (a : ℕ) × (d : Mode) × (y ≡ Step a) × (((typed_at (algorithm n w) x a).control ≡ At d L52) ⊎ ((typed_at (algorithm n w) x a).control ≡ At d L57))
 
 step_counters : (n w t : ℕ) (x : State) (i : ℕ) (control : Control) → (typed_at (algorithm n w) x i).control ≡ control →
     SameCounters x.memory (changed x i (by_step (algorithm n w) t x.memory i (typed_at (algorithm n w) x i) control)).memory ⊎ Raises n w x (Step i)
@@ -127,7 +128,7 @@ module _ (n w : ℕ) (items : List Item) (some : 0 < w) (fits : Steady (run_of n
   run = execution n w items some fits
 
   -- what process a does at line 52 or 57 is an event of process j that process i can see, or leaves j's events
-  line_57 : (v a i j : ℕ) (d : Task) → v < length items → item_at items v ≡ Step a → (at v a).control ≡ At d L57 →
+  line_57 : (v a i j : ℕ) (d : Mode) → v < length items → item_at items v ≡ Step a → (at v a).control ≡ At d L57 →
       IsEvent (run_of n w items) i j (suc v) ⊎ (events (registers_at n w items (suc v)) j i ≡ events (registers_at n w items v) j i)
   line_57 v a i j d h is there =
       elim (cases_eq j a) [
@@ -136,7 +137,7 @@ module _ (n w : ℕ) (items : List Item) (some : 0 < w) (fits : Steady (run_of n
             ∙ ap (λ x. x + (registers_at n w items v).answers j i) (raised_there (registers_at n w items v).writes a j other))
       ]
 
-  line_52 : (v a i j : ℕ) (d : Task) → v < length items → item_at items v ≡ Step a → (at v a).control ≡ At d L52 →
+  line_52 : (v a i j : ℕ) (d : Mode) → v < length items → item_at items v ≡ Step a → (at v a).control ≡ At d L52 →
       IsEvent (run_of n w items) i j (suc v) ⊎ (events (registers_at n w items (suc v)) j i ≡ events (registers_at n w items v) j i)
   line_52 v a i j d h is there =
       let m = registers_at n w items v in
@@ -145,7 +146,7 @@ module _ (n w : ℕ) (items : List Item) (some : 0 < w) (fits : Steady (run_of n
       elim (cases_eq j a) [
         | inl same ↦ elim (cases_eq i p.j) [
           | inl his ↦ (let counter : value_at names.j (process_at (state (run_of n w items) v) a).locals.scalars 0 ≡ p.j =
-              ap (λ (q : NamedProcess). value_at names.j q.locals.scalars 0) (embed.process_at_is (algorithm n w) items fits run.does v a (omega arith) (executing.one_of (algorithm n w) items fits run.does v a h is)) in
+              ap (λ (q : definitions.Process). value_at names.j q.locals.scalars 0) (embed.process_at_is (algorithm n w) items fits run.does v a (omega arith) (executing.one_of (algorithm n w) items fits run.does v a h is)) in
               let E : ℕ → Type 0 = λ y. (executes (run_of n w items) y 52 (suc v) ≡ true) × (value_at names.j (process_at (state (run_of n w items) v) y).locals.scalars 0 ≡ i) in
               inl (inr (subst E (sym same) (executing.line_executes (algorithm n w) items fits run.does v a 52 d L52 h is there refl, counter ∙ sym his))))
           | inr other ↦ inr (ap (λ (x : Registers). events x j i) after ∙ ap (λ y. m.writes j + y) (raised_at_elsewhere m.answers a p.j j i other))
@@ -164,7 +165,7 @@ module _ (n w : ℕ) (items : List Item) (some : 0 < w) (fits : Steady (run_of n
         ]
       ]
 
-  pub move_is_event : (i j : ℕ) (link : Option ℕ) (c t : ℕ) → Scan (run_of n w items) i link c (suc t) → c ≤ t →
+  pub move_is_event : (i j : ℕ) (link : Option ℕ) (c t : ℕ) → PendingScan (run_of n w items) i link c (suc t) → c ≤ t →
       ObservedMove (run_of n w items) 31 names.moved i j (suc t) →
       RecentEvent (run_of n w items) i j c (suc t)
   move_is_event i j link c t scan le move =
@@ -174,23 +175,23 @@ module _ (n w : ℕ) (items : List Item) (some : 0 < w) (fits : Steady (run_of n
       let seen = moves.observed (algorithm n w) lines (listed n w) run (numbered n w) 31 L31 L32 (λ me p. counted_row n p) names.moved refl (λ me d m p. refl) i j t (omega arith) one move in
       let q = at t i in
       let p = q.variables in
-      let stage = stage_of n w items some fits t i seen.task L31 (omega arith) one seen.control in
+      let stage = stage_of n w items some fits t i seen.mode L31 (omega arith) one seen.control in
       let row : Row n w i (registers_at n w items) q.auxiliary.round t p.g p.h p.d p.a p.b (w + 1) = stage.2 in
       let grows : place p.moved j < counted p j = subst (λ y. place p.moved j < y) (for_each_at n (counted p) p.moved j move.process) seen.grows in
       let marked : place p.d j ≡ 1 = same_from (place p.d j) 1 (raised_only (nat_eq (place p.d j) 1) (place p.moved j) grows) in
-      let counts : Count n w p q.auxiliary.own q.auxiliary.collects q.auxiliary.tested L31 = counts_of n w items some fits t i seen.task L31 (omega arith) one seen.control in
-      let event = moves.recent (algorithm n w) lines (listed n w) run (IsEvent (run_of n w items) i j) (λ y. events (registers_at n w items y) j i) (λ v h. item_does v i j h) i link c t seen.task L31 scan le seen.control refl counts.3 (row.moved j move.process marked) in
+      let counts : Count n w p q.auxiliary.own q.auxiliary.collects q.auxiliary.tested L31 = counts_of n w items some fits t i seen.mode L31 (omega arith) one seen.control in
+      let event = moves.recent (algorithm n w) lines (listed n w) run (IsEvent (run_of n w items) i j) (λ y. events (registers_at n w items y) j i) (λ v h. item_does v i j h) i link c t seen.mode L31 scan le seen.control refl counts.3 (row.moved j move.process marked) in
       record { item = event.item; after_start = event.after_start; before_move = event.before_move; event = event.event; recent = event.recent }
 
 -- the same, stated of a run
 abbrev MoveIsEvent : Run → Type 0
-MoveIsEvent r = Fits r → (i j : ℕ) (link : Option ℕ) (c t : ℕ) → Scan r i link c t → c < t → ObservedMove r 31 names.moved i j t → RecentEvent r i j c t
+MoveIsEvent r = IsValidRun r → (i j : ℕ) (link : Option ℕ) (c t : ℕ) → PendingScan r i link c t → c < t → ObservedMove r 31 names.moved i j t → RecentEvent r i j c t
 
 steady_moves_are_events : (n w : ℕ) (items : List Item) → Steady (run_of n w items) → 0 < w → MoveIsEvent (run_of n w items)
 steady_moves_are_events n w items fits some whole i j link c zero scan lt move = absurd (omega arith)
 steady_moves_are_events n w items fits some whole i j link c (suc t) scan lt move = move_is_event n w items some fits i j link c t scan (omega arith) move
 
-event_from : (r : Run) → Fits r → (i j t : ℕ) → 0 < t → t ≤ length r.items → IsEvent (calm_run r) i j t → IsEvent r i j t
+event_from : (r : Run) → IsValidRun r → (i j t : ℕ) → 0 < t → t ≤ length r.items → IsEvent (calm_run r) i j t → IsEvent r i j t
 event_from r fits i j t pos h (inl wrote) = inl (sym (at_executes r fits j 57 t pos h) ∙ wrote)
 event_from r fits i j t pos h (inr answered) = inr (
   sym (at_executes r fits j 52 t pos h) ∙ answered.0,

@@ -15,7 +15,7 @@ use Rattle.snap_semantics.specs.declared.process.Item.{Item}
 use Rattle.snap_semantics.specs.declared.process.Item.TheVariants.{Step, Call, Crash}
 use Rattle.snap_semantics.specs.declared.process.Outcome.TheVariants.{Called, Stepped, Answered, Finished}
 use Rattle.snap_semantics.specs.Table.{call_skip, who}
-use Rattle.snap_runs.proofs.Algorithm.{Idle, At, To, Begin, Answer, Finish, New, by_move, by_step, by_admission, by_call, memory_after, typed_at, changed, happens, stepped_auxiliary, begun_auxiliary, called_auxiliary, Task, Scanning, Embedded, Updating, op_of}
+use Rattle.snap_runs.proofs.Algorithm.{Idle, At, To, Begin, Answer, Finish, New, by_move, by_step, by_admission, by_call, memory_after, typed_at, changed, happens, stepped_auxiliary, begun_auxiliary, called_auxiliary, Mode, Scanning, Embedded, Updating, op_of}
 use Rattle.snap_runs.proofs.Embedding as embed
 use Rattle.snap_runs.proofs.Flow as flow
 use Rattle.snap_runs.proofs.Held.{Held}
@@ -34,22 +34,22 @@ use Rattle.snap_runs_of_m.proofs.Writes.{acts_15, now_15, untouched_15, asks_the
 abbrev pub KeepsMemory : Registers → Move → Type 0
 KeepsMemory m v = memory_after m v ≡ m
 
-kept_return : (d : Task) (m : Registers) (p : Variables) → KeepsMemory m (return_to d m p)
+kept_return : (d : Mode) (m : Registers) (p : Variables) → KeepsMemory m (return_to d m p)
 kept_return Scanning m p = refl
 kept_return (Embedded word arg) m p = refl
 kept_return (Updating word arg) m p = refl
 
-kept_embed : (d : Task) (m : Registers) (p : Variables) → KeepsMemory m (embed_to d m p)
+kept_embed : (d : Mode) (m : Registers) (p : Variables) → KeepsMemory m (embed_to d m p)
 kept_embed Scanning m p = refl
 kept_embed (Embedded word arg) m p = refl
 kept_embed (Updating word arg) m p = refl
 
-kept_first : (d : Task) (m : Registers) (p : Variables) (o : Option ℕ) → KeepsMemory m (first_to d m p o)
+kept_first : (d : Mode) (m : Registers) (p : Variables) (o : Option ℕ) → KeepsMemory m (first_to d m p o)
 kept_first d m p None = refl
 kept_first d m p (Some k) = refl
 
 -- a quiet line keeps the registers
-pub kept : (n w me : ℕ) (d : Task) (m : Registers) (p : Variables) (k : ProgramCounter) → IsQuiet k → KeepsMemory m (move n w me d m p k)
+pub kept : (n w me : ℕ) (d : Mode) (m : Registers) (p : Variables) (k : ProgramCounter) → IsQuiet k → KeepsMemory m (move n w me d m p k)
 kept n w me d m p L10 q = refl
 kept n w me d m p L11 q = refl
 kept n w me d m p L12 q = refl
@@ -113,7 +113,7 @@ unmoved n w i history t since round p one s low small self =
     let z : place p.moved i ≡ 0 = omega arith in z)
     (λ k e. let below : place p.moved k < limit = small k e in omega arith) in omega arith
 
-pub sharp_at : (n w i : ℕ) (history : ℕ → Registers) (t since round : ℕ) (d : Task) (p : Variables) (k : ProgramCounter) → IsOneOf n i →
+pub sharp_at : (n w i : ℕ) (history : ℕ → Registers) (t since round : ℕ) (d : Mode) (p : Variables) (k : ProgramCounter) → IsOneOf n i →
     Since n w history round t → IsLineOf w d k → Keeps n w d p k →
     Books n w i (history since) (history t) d p k → Stage n w i history t since round p k → k ≡ L30 → moves n p + 2 ≤ 2 * n
 sharp_at n w i history t since round d p k one s line keeps books stage e =
@@ -129,7 +129,7 @@ bits_at n w i history t since round p k stage e =
     let row : Row n w i history round t p.g p.h p.d p.a p.b (w + 1) = at31.2 in row.bits
 
 -- what the move v of process i at line k owes; t is the item's number
-record Owes (n w t : ℕ) (history : ℕ → Registers) (q : Process) (i : ℕ) (d : Task) (k : ProgramCounter) (v : Move) : Type 0 where
+record Owes (n w t : ℕ) (history : ℕ → Registers) (q : Process) (i : ℕ) (d : Mode) (k : ProgramCounter) (v : Move) : Type 0 where
   pub well : MoveWell (op_of d) n w v
   pub long : LongMove n w v
   pub stage : StageMove n w i history t q.auxiliary.since (if restarts k then t else q.auxiliary.round) v
@@ -153,7 +153,7 @@ idle_own n w t history i q k own rest = record {
 }
 
 -- a line that writes no register; `own` is what held of the process when time had passed
-quiet_put : (n w t : ℕ) (history : ℕ → Registers) (x : State) (i : ℕ) (d : Task) (k : ProgramCounter) (v : Move) → length x.processes ≡ n →
+quiet_put : (n w t : ℕ) (history : ℕ → Registers) (x : State) (i : ℕ) (d : Mode) (k : ProgramCounter) (v : Move) → length x.processes ≡ n →
     IsOneOf n i →
     ((u : ℕ) → u ≤ suc t → Laws n w history u) → history (suc t) ≡ history t → Invariant n w t history x → ProcessInvariant n w (suc t) history i (at n w x i) →
     Owes n w (suc t) history (at n w x i) i d k v → Invariant n w (suc t) history (changed x i (by_move (algorithm n w) (suc t) x.memory (at n w x i) k v))
@@ -210,7 +210,7 @@ ground n w t history i m q one some now is own = record {
   long = own.long;
 }
 
-quiet_inv : (n w t : ℕ) (history : ℕ → Registers) (x : State) (i : ℕ) (d : Task) (k : ProgramCounter) → IsQuiet k → 0 < w → length x.processes ≡ n →
+quiet_inv : (n w t : ℕ) (history : ℕ → Registers) (x : State) (i : ℕ) (d : Mode) (k : ProgramCounter) → IsQuiet k → 0 < w → length x.processes ≡ n →
     IsOneOf n i → history t ≡ x.memory →
     Invariant n w t history x → (at n w x i).control ≡ At d k →
     history (suc t) ≡ (changed x i (by_step (algorithm n w) (suc t) x.memory i (at n w x i) (At d k))).memory →
@@ -257,7 +257,7 @@ quiet_inv n w t history x i d k quiet some count one now h is next =
     })
 
 -- a line that writes registers and goes on
-written_put : (n w t : ℕ) (history : ℕ → Registers) (x : State) (i : ℕ) (d : Task) (k k' : ProgramCounter) (m' : Registers) → length x.processes ≡ n →
+written_put : (n w t : ℕ) (history : ℕ → Registers) (x : State) (i : ℕ) (d : Mode) (k k' : ProgramCounter) (m' : Registers) → length x.processes ≡ n →
     IsOneOf n i → restarts k ≡ false →
     ((u : ℕ) → u ≤ suc t → Laws n w history u) → ((j : ℕ) → IsOneOf n j → j ≢ i → Untouched n w j (history t) (history (suc t))) →
     Invariant n w t history x →
@@ -296,7 +296,7 @@ written_put n w t history x i d k k' m' count one again laws untouched h line ke
       books = books;
     }))
 
-books_15 : (n w i : ℕ) (base m : Registers) (d : Task) (p : Variables) → IsScan w d → Books n w i base m d p L15 →
+books_15 : (n w i : ℕ) (base m : Registers) (d : Mode) (p : Variables) → IsScan w d → Books n w i base m d p L15 →
     Books n w i base (after_15 i m p) d p L16
 books_15 n w i base m d p s h =
     let next = books_scan n w i base m d p p L15 L16 s refl h in
@@ -307,7 +307,7 @@ books_15 n w i base m d p s h =
       self = next.self;
     }
 
-line15_inv : (n w t : ℕ) (history : ℕ → Registers) (x : State) (i : ℕ) (d : Task) → 0 < w → length x.processes ≡ n → IsOneOf n i →
+line15_inv : (n w t : ℕ) (history : ℕ → Registers) (x : State) (i : ℕ) (d : Mode) → 0 < w → length x.processes ≡ n → IsOneOf n i →
     history t ≡ x.memory →
     Invariant n w t history x → (at n w x i).control ≡ At d L15 → history (suc t) ≡ after_15 i x.memory (at n w x i).variables →
     Invariant n w (suc t) history (changed x i (by_step (algorithm n w) (suc t) x.memory i (at n w x i) (At d L15)))
@@ -487,7 +487,7 @@ line57_inv n w t history x i y z some count one now h is next =
     (books_57 n w i y z (history q.auxiliary.since) (history t) p books))
 
 -- each line
-line_inv : (n w t : ℕ) (history : ℕ → Registers) (x : State) (i : ℕ) (d : Task) (k : ProgramCounter) → IsLineOf w d k → 0 < w →
+line_inv : (n w t : ℕ) (history : ℕ → Registers) (x : State) (i : ℕ) (d : Mode) (k : ProgramCounter) → IsLineOf w d k → 0 < w →
     length x.processes ≡ n → IsOneOf n i → history t ≡ x.memory →
     Invariant n w t history x → (at n w x i).control ≡ At d k →
     history (suc t) ≡ (changed x i (by_step (algorithm n w) (suc t) x.memory i (at n w x i) (At d k))).memory →

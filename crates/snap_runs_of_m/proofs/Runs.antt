@@ -5,7 +5,7 @@ use Rattle.std.proofs.lemmas.List.{get_or-replicate, length-replicate}
 use Rattle.snap_words.specs.Shape.{IsOneOf}
 use Rattle.snap_words.specs.Word.{Word, no_word}
 use Rattle.snap_semantics.specs.declared.process.Item.{Item}
-use Rattle.snap_runs.proofs.Algorithm.{Task, Idle, At, when_busy, first_process, first_state, typed_at, item_at, typed_state}
+use Rattle.snap_runs.proofs.Algorithm.{Mode, Idle, At, when_busy, first_process, first_state, typed_at, item_at, typed_state}
 use Rattle.snap_runs.proofs.Embedding as embed
 use Rattle.snap_runs.proofs.Held.{word_at, seq_at}
 use Rattle.snap_runs.proofs.Scans as scans
@@ -146,7 +146,7 @@ execution n w items some fits = record {
 }
 
 -- what a process at a line keeps there
-pub well_of : (n w : ℕ) (items : List Item) → 0 < w → Steady (run_of n w items) → (t i : ℕ) (d : Task) (k : ProgramCounter) → t ≤ length items →
+pub well_of : (n w : ℕ) (items : List Item) → 0 < w → Steady (run_of n w items) → (t i : ℕ) (d : Mode) (k : ProgramCounter) → t ≤ length items →
     IsOneOf n i →
     (typed_at (algorithm n w) (state_at n w items t) i).control ≡ At d k →
     IsLineOf w d k × Keeps n w d (typed_at (algorithm n w) (state_at n w items t) i).variables k
@@ -154,7 +154,7 @@ well_of n w items some fits t i d k le one e =
     let q = typed_at (algorithm n w) (state_at n w items t) i in subst (ControlWell n w q.variables) e (own n w items some fits t i le one).well
 
 -- a busy process is at the stage of its line
-pub stage_of : (n w : ℕ) (items : List Item) → 0 < w → Steady (run_of n w items) → (t i : ℕ) (d : Task) (k : ProgramCounter) → t ≤ length items →
+pub stage_of : (n w : ℕ) (items : List Item) → 0 < w → Steady (run_of n w items) → (t i : ℕ) (d : Mode) (k : ProgramCounter) → t ≤ length items →
     IsOneOf n i →
     (typed_at (algorithm n w) (state_at n w items t) i).control ≡ At d k →
     Stage n w i (registers_at n w items) t (typed_at (algorithm n w) (state_at n w items t) i).auxiliary.since (typed_at (algorithm n w) (state_at n w items t) i).auxiliary.round (typed_at (algorithm n w) (state_at n w items t) i).variables k
@@ -163,7 +163,7 @@ stage_of n w items some fits t i d k le one e =
     subst (StageAt n w i (registers_at n w items) t q.auxiliary.since q.auxiliary.round q.variables) e (own n w items some fits t i le one).stage
 
 -- and its counts are those of its line
-pub counts_of : (n w : ℕ) (items : List Item) → 0 < w → Steady (run_of n w items) → (t i : ℕ) (d : Task) (k : ProgramCounter) → t ≤ length items →
+pub counts_of : (n w : ℕ) (items : List Item) → 0 < w → Steady (run_of n w items) → (t i : ℕ) (d : Mode) (k : ProgramCounter) → t ≤ length items →
     IsOneOf n i →
     (typed_at (algorithm n w) (state_at n w items t) i).control ≡ At d k →
     Count n w (typed_at (algorithm n w) (state_at n w items t) i).variables (typed_at (algorithm n w) (state_at n w items t) i).auxiliary.own (typed_at (algorithm n w) (state_at n w items t) i).auxiliary.collects (typed_at (algorithm n w) (state_at n w items t) i).auxiliary.tested k

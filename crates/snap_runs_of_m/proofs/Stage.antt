@@ -6,7 +6,7 @@ use Rattle.std.proofs.Common.{sym, ◌∙◌, ap, subst, arith, inl, inr}
 use Rattle.std.proofs.lemmas.Bool.{cases_eq}
 use Rattle.snap_words.specs.Shape.{IsOneOf}
 use Rattle.snap_words.specs.Word.{Word}
-use Rattle.snap_runs.proofs.Algorithm.{To, Begin, Answer, Finish, Task, Scanning, Embedded, Updating}
+use Rattle.snap_runs.proofs.Algorithm.{To, Begin, Answer, Finish, Mode, Scanning, Embedded, Updating}
 use Rattle.snap_runs.proofs.Held.{word_at, Held, held_wider}
 use Rattle.snap_runs.proofs.Plain.{plain_taken}
 use Rattle.snap_runs_of_m.proofs.Algorithm.{Words, Registers, Move, Variables, ProgramCounter, L10, L11, L12, L13, L14, L15, L16, L17, L18, L19, L20, L21, L22, L23, L24, L25, L26, L27, L28, L29, L30, L31, L32, L33, L34, L35, L36, L37, L50, L51, L52, L53, L54, L55, L56, L57, L58, plain, place, bit, view_at, move, first_to, same_at, marked, counted, all_still, third_move, limit, at_limit, restarts, IsLineOf}
@@ -99,7 +99,7 @@ IsQuiet L57 = ⊥
 IsQuiet _ = Unit {0}
 
 -- what is known of every process, at whichever line it stands
-pub record Known (n w me : ℕ) (history : ℕ → Registers) (t since round : ℕ) (m : Registers) (d : Task) (p : Variables) (k : ProgramCounter) : Type 0 where
+pub record Known (n w me : ℕ) (history : ℕ → Registers) (t since round : ℕ) (m : Registers) (d : Mode) (p : Variables) (k : ProgramCounter) : Type 0 where
   pub one : IsOneOf n me
   pub some : 0 < w
   pub laws : (u : ℕ) → u ≤ t → Laws n w history u
@@ -111,7 +111,7 @@ pub record Known (n w me : ℕ) (history : ℕ → Registers) (t since round : �
   pub keeps : Keeps n w d p k
   pub quiet : IsQuiet k
 
-stage_first : (n w me : ℕ) (history : ℕ → Registers) (t since round : ℕ) (d : Task) (m : Registers) (p : Variables) (o : Option ℕ) →
+stage_first : (n w me : ℕ) (history : ℕ → Registers) (t since round : ℕ) (d : Mode) (m : Registers) (p : Variables) (o : Option ℕ) →
     Low n me history since t p.moved → ((k : ℕ) → o ≡ Some k → place p.moved k ≡ limit) → StageMove n w me history t since round (first_to d m p o)
 stage_first n w me history t since round d m p None h f = h
 stage_first n w me history t since round d m p (Some k) h f = (h, f k refl)
@@ -227,7 +227,7 @@ events_le n w me u t history s one c o =
     let b : (history u).answers c me ≤ (history t).answers c me = s.answers c me o one in omega arith
 
 -- each line that writes no register takes the scan on; a line that starts another double collect does so at item t
-pub stage_move : (n w me : ℕ) (history : ℕ → Registers) (t since round : ℕ) (m : Registers) (d : Task) (p : Variables) (k : ProgramCounter) →
+pub stage_move : (n w me : ℕ) (history : ℕ → Registers) (t since round : ℕ) (m : Registers) (d : Mode) (p : Variables) (k : ProgramCounter) →
     Known n w me history t since round m d p k → Stage n w me history t since round p k →
     StageMove n w me history t since (if restarts k then t else round) (move n w me d m p k)
 stage_move n w me history t since round m d p L10 e h = λ c i. rw (for_each_at n (λ c. 0) p.moved c i) (let le : events (history since) c me ≤ events (history round) c me = events_le n w me since round history ((e.laws round e.round_le).since since e.opened) e.one c i in omega arith)

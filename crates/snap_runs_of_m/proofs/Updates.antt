@@ -3,7 +3,7 @@ use Rattle.std.specs.Prelude.{◌≡◌, ℕ, ◌<◌, List, length, refl}
 use Rattle.std.proofs.Common.{arith}
 use Rattle.snap_words.specs.Shape.{IsOneOf}
 use Rattle.snap_semantics.specs.declared.process.Item.{Item}
-use Rattle.snap_runs.proofs.Algorithm.{Task, At, typed_at}
+use Rattle.snap_runs.proofs.Algorithm.{Mode, At, typed_at}
 use Rattle.snap_runs.proofs.WordWrites as word_writes
 use Rattle.snap_runs_of_m.specs.Promises.{run_of, ChangesOnlyAt57, WritesItsUpdate, WritesOnce}
 use Rattle.snap_runs_of_m.proofs.Algorithm.{L57, IsUpdate, lines, algorithm}
@@ -15,7 +15,7 @@ use Rattle.snap_runs.proofs.CalmPromises as calm
 use Rattle.snap_runs.specs.Promises as promises
 
 -- line 57 is one of an update
-pub updates : (n w : ℕ) (items : List Item) → 0 < w → Steady (run_of n w items) → (t i : ℕ) (d : Task) → t < length items → IsOneOf n i →
+pub updates : (n w : ℕ) (items : List Item) → 0 < w → Steady (run_of n w items) → (t i : ℕ) (d : Mode) → t < length items → IsOneOf n i →
     (typed_at (algorithm n w) (state_at n w items t) i).control ≡ At d L57 →
     IsUpdate w d
 updates n w items some fits t i d h one e = (well_of n w items some fits t i d L57 (omega arith) one e).0

@@ -3,7 +3,7 @@ use Rattle.std.specs.Prelude.{ℕ, ◌+◌, ◌-◌, ◌*◌, ◌<◌, ◌≤◌
 use Rattle.std.proofs.Common.{sym, subst, arith, inl, inr}
 use Rattle.snap_semantics.specs.declared.process.Item.{Item}
 use Rattle.snap_runs.specs.Scan.{own_steps}
-use Rattle.snap_runs.specs.Update.{Updating as UpdateOf}
+use Rattle.snap_runs.specs.Update.{PendingUpdate}
 use Rattle.snap_runs.proofs.Algorithm.{Embedded, Updating}
 use Rattle.snap_runs.proofs.Computing.{lt_from, either}
 use Rattle.snap_runs.proofs.UpdateSteps as updates
@@ -15,7 +15,7 @@ use Rattle.snap_runs_of_m.proofs.Algorithm.{Registers, Variables, ProgramCounter
 use Rattle.snap_runs_of_m.proofs.Bounds.{most_steps, within, few_steps_lem}
 use Rattle.snap_runs_of_m.proofs.Runs.{state_at, well_of, execution, never_traps_lem}
 use Rattle.snap_runs.proofs.Steady.{Steady}
-use Rattle.snap_runs.specs.Run.{Fits}
+use Rattle.snap_runs.specs.Run.{IsValidRun}
 use Rattle.snap_runs.proofs.Calm.{calm_list}
 use Rattle.snap_runs.proofs.CalmPromises as calm
 
@@ -66,7 +66,7 @@ resumes n w me word value m p k (inr is) =
 
 -- the steps of an update
 update_steps : (n w : ℕ) (items : List Item) → 0 < w → Steady (run_of n w items) → (i word value c e : ℕ) →
-    UpdateOf (run_of n w items) i word value c e →
+    PendingUpdate (run_of n w items) i word value c e →
     own_steps (run_of n w items) i c e ≤ 9 + 3 * (n - 1) + most_steps n w
 update_steps n w items some fits i word value c e up =
     let one = up.process in
@@ -76,7 +76,7 @@ update_steps n w items some fits i word value c e up =
     (λ t d k le at inside. (within n w items some fits t i d k le one at inside).1)
     (λ p word value. (omega arith, refl)) word value c e up
 
-every_update : (n w : ℕ) (items : List Item) → 0 < w → Fits (run_of n w items) → calm.UpdatesAtMost (run_of n w items) (9 + 3 * (n - 1) + most_steps n w) (run_of n w items)
+every_update : (n w : ℕ) (items : List Item) → 0 < w → IsValidRun (run_of n w items) → calm.UpdatesAtMost (run_of n w items) (9 + 3 * (n - 1) + most_steps n w) (run_of n w items)
 every_update n w items some = calm.updates_at_most (run_of n w items) (9 + 3 * (n - 1) + most_steps n w) (update_steps n w (calm_list (run_of n w items)) some)
 
 pub wait_free_lem : WaitFree

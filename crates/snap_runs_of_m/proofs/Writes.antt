@@ -1,6 +1,6 @@
 -- The four lines of M that write registers: what each does to the laws, and that it leaves what other processes own.
 use Rattle.snap_runs.proofs.Computing.{same_number, other_number}
-use Rattle.snap_runs.proofs.Algorithm.{Task, Updating}
+use Rattle.snap_runs.proofs.Algorithm.{Mode, Updating}
 use Rattle.std.specs.Prelude.{◌≡◌, ◌≢◌, ℕ, ◌+◌, ◌-◌, ◌<◌, ◌≤◌, ◌⊎◌, Bool, true, false, ◌&&◌, [], length, nat_eq, if◌then◌else◌, slice_index, slice_index_or, refl}
 use Rattle.std.proofs.Common.{sym, ◌∙◌, ap, subst, arith, inl, inr}
 use Rattle.std.proofs.lemmas.Bool.{cases_eq}
@@ -330,7 +330,7 @@ module _ (n w me word arg : ℕ) (history : ℕ → Registers) (t : ℕ) (p : Va
     puts_to = now.puts_to;
   }
 
-pub untouched_57 : (n w me k : ℕ) (d : Task) (m : Registers) (p : Variables) → k ≢ me → Untouched n w k m (after_57 me d m p)
+pub untouched_57 : (n w me k : ℕ) (d : Mode) (m : Registers) (p : Variables) → k ≢ me → Untouched n w k m (after_57 me d m p)
 untouched_57 n w me k d m p other = record {
   asks = λ c o. refl;
   writes = raised_there m.writes me k other;

@@ -1,2 +1,3 @@
 pub mod ListingM
 pub mod Promises
+pub mod Bounded

@@ -1,18 +1,20 @@
--- What every run of listing M keeps, for every number of processes and of words. There is at least one word: with none line 17
--- would have nothing to read.
-use Rattle.std.specs.Prelude.{◌≡◌, ℕ, ◌+◌, ◌-◌, ◌*◌, ◌<◌, ◌≤◌, ◌⊎◌, true, List, Option}
+-- What every run of listing M keeps, for every number of processes and of words, however long it is. There is at least one
+-- word: with none line 17 would have nothing to read.
+use Rattle.std.specs.Prelude.{◌≡◌, ℕ, ◌+◌, ◌-◌, ◌*◌, ◌<◌, ◌≤◌, ◌⊎◌, true, List, Option, None}
 use Rattle.snap_words.specs.Kind.{fits}
 use Rattle.snap_words.specs.Shape.{Counts, IsShape}
 use Rattle.snap_words.specs.declared.kind.KindTag.TheVariants.{Multi}
 use Rattle.snap_semantics.specs.declared.process.Item.{Item}
 use Rattle.snap_semantics.specs.State.{value_at, process_at}
-use Rattle.snap_runs.specs.Run.{Run, Fits, before}
-use Rattle.snap_runs.specs.Scan.{Scan, double_collects}
+use Rattle.snap_runs.specs.Run.{Run, IsValidRun, before}
+use Rattle.snap_runs.specs.Scan.{PendingScan, double_collects}
 use Rattle.snap_runs.specs.Update.{executes}
 use Rattle.snap_runs.specs.Linearization.{IsLinearizable}
+use Rattle.snap_runs.specs.Placement as placement
 use Rattle.snap_runs.specs.Promises as promises
 use Rattle.snap_runs.specs.Snapshot.{Bounds, IsSnapshotRun}
 use Rattle.snap_runs.specs.WaitFree.{IsWaitFree}
+use Rattle.snap_runs.specs.WriteStrong.{IsWriteStronglyLinearizable}
 use Rattle.snap_runs.specs.Promises.{ObservedMove, CollectLines}
 use Rattle.snap_runs_of_m.specs.ListingM.{listing_m, k, moved, j as counter}
 
@@ -71,8 +73,8 @@ pub record RecentEvent (r : Run) (i j c t : ℕ) : Type 0 where
 
 -- A move that a scan sees at line 31 is an event since its previous double collect, or since its start where there is none.
 abbrev pub MovesAreEvents : Type 0
-MovesAreEvents = (n w : ℕ) (items : List Item) → 0 < w → Fits (run_of n w items) →
-    (i j : ℕ) (link : Option ℕ) (c t : ℕ) → Scan (run_of n w items) i link c t → c < t →
+MovesAreEvents = (n w : ℕ) (items : List Item) → 0 < w → IsValidRun (run_of n w items) →
+    (i j : ℕ) (link : Option ℕ) (c t : ℕ) → PendingScan (run_of n w items) i link c t → c < t →
     ObservedMove (run_of n w items) 31 moved i j t → RecentEvent (run_of n w items) i j c t
 
 -- line 17 reads word k into a, and line 19 into b; line 30 looks for marks, and goes to line 34 where there are none
@@ -86,6 +88,14 @@ PassedTestsAreClean = (n w : ℕ) (items : List Item) → 0 < w → promises.Pas
 -- Every run is linearizable: its operations are as if each took place at one moment between its call and its end.
 abbrev pub Linearizable : Type 0
 Linearizable = (n w : ℕ) (items : List Item) → 0 < w → IsLinearizable (run_of n w items)
+
+-- And each operation has its place: an update an item at which its process executes line 57.
+abbrev pub OperationsHavePlaces : Type 0
+OperationsHavePlaces = (n w : ℕ) (items : List Item) → 0 < w → placement.OperationsHavePlaces 57 (run_of n w items)
+
+-- As a run goes on, the updates that its linearization lists keep their order, and more come behind them.
+abbrev pub WriteStronglyLinearizable : Type 0
+WriteStronglyLinearizable = (n w : ℕ) → 0 < w → IsWriteStronglyLinearizable listing_m (counts n w) None
 
 -- Every call is over after so many turns of its process, whatever the others do: a scan after the steps above, and an update after
 -- 14 n n + 16 n w + 22 n + 8 w + 16.

@@ -8,7 +8,7 @@ use Rattle.snap_semantics.specs.Table.{places_to, all_true, first_true, entry}
 use Rattle.snap_semantics.specs.declared.process.Op.{Op}
 use Rattle.snap_semantics.specs.declared.process.Op.TheVariants.{Scan, Update}
 use Rattle.snap_runs.proofs.Algorithm as typed
-use Rattle.snap_runs.proofs.Algorithm.{Task, Scanning, Embedded, Updating, value_of, To, Begin, Answer, Finish, Algorithm, returning, embedding}
+use Rattle.snap_runs.proofs.Algorithm.{Mode, Scanning, Embedded, Updating, value_of, To, Begin, Answer, Finish, Algorithm, returning, embedding}
 use Rattle.snap_runs.proofs.Flow.{Lines, IsScanOf, IsUpdateOf, IsLine}
 use Rattle.snap_runs.proofs.Held.{word_at}
 use Rattle.snap_runs.proofs.Places.{for_each}
@@ -119,7 +119,7 @@ abbrev pub at_limit : Variables → ℕ → Bool
 at_limit p k = nat_eq (moved_at p k) limit
 
 -- lines 13 and 15
-abbrev pub next_to : ℕ → Task → Words → Variables → ProgramCounter → ProgramCounter → Move
+abbrev pub next_to : ℕ → Mode → Words → Variables → ProgramCounter → ProgramCounter → Move
 next_to n d m p back on = if nat_lt p.j n then To d m (record p { j = p.j + 1 }) back else To d m (record p { j = 1 }) on
 
 -- the line that borrows a view
@@ -127,24 +127,24 @@ abbrev pub borrows : ProgramCounter
 borrows = L23
 
 -- line 18
-abbrev pub first_to : Task → Words → Variables → Option ℕ → Move
+abbrev pub first_to : Mode → Words → Variables → Option ℕ → Move
 first_to d m p None = To d m p L19
 first_to d m p (Some k) = To d m (record p { j = k }) borrows
 
 -- lines 22 and 24
-abbrev pub return_to : Task → Words → Variables → Move
+abbrev pub return_to : Mode → Words → Variables → Move
 return_to d m p = returning p.s L31 d m p
 
 -- line 30
-abbrev pub embed_to : Task → Words → Variables → Move
+abbrev pub embed_to : Mode → Words → Variables → Move
 embed_to d m p = embedding L10 d p
 
 -- the word that line 32 puts
-abbrev pub word_put : Task → Variables → Word
-word_put d p = record { datum = value_of d; seq = p.c; id = 0; toggle = 0; hands = []; view = p.s }
+abbrev pub word_put : Mode → Variables → Word
+word_put d p = record { datum = value_of d; seq = p.c; id = 0; toggle = 0; handshakes = []; view = p.s }
 
 -- what each line does to process `me` of n
-abbrev pub move : ℕ → ℕ → Task → Words → Variables → ProgramCounter → Move
+abbrev pub move : ℕ → ℕ → Mode → Words → Variables → ProgramCounter → Move
 move n me d m p L10 = To d m (record p { moved = for_each n (λ k. 0) p.moved }) L11
 move n me d m p L11 = To d m (record p { j = 1 }) L12
 move n me d m p L12 = To d m (record p { a = slice_set p.a (p.j - 1) (word_at m p.j) }) L13
@@ -224,11 +224,11 @@ algorithm n = record {
   entry_is = entry_is;
 }
 
--- which task a line belongs to; the word of an update is the process's own
-abbrev pub IsScan : ℕ → Task → Type 0
+-- which mode a line belongs to; the word of an update is the process's own
+abbrev pub IsScan : ℕ → Mode → Type 0
 IsScan me d = IsScanOf (λ word. word ≡ me) d
 
-abbrev pub IsUpdate : ℕ → Task → Type 0
+abbrev pub IsUpdate : ℕ → Mode → Type 0
 IsUpdate me d = IsUpdateOf (λ word. word ≡ me) d
 
 -- the lines of an update outside its scan
@@ -239,7 +239,7 @@ in_update L32 = true
 in_update L33 = true
 in_update _ = false
 
-abbrev pub IsLineOf : ℕ → Task → ProgramCounter → Type 0
+abbrev pub IsLineOf : ℕ → Mode → ProgramCounter → Type 0
 IsLineOf me d k = IsLine (λ word. word ≡ me) (in_update k) d
 
 -- What the lines are for.

@@ -6,7 +6,7 @@ use Rattle.snap_semantics.specs.declared.process.Item.{Item}
 use Rattle.snap_semantics.specs.declared.process.Op.{Op}
 use Rattle.snap_semantics.specs.declared.process.Op.TheVariants.{Scan, Update}
 use Rattle.snap_runs.specs.Update.{is_at}
-use Rattle.snap_runs.proofs.Algorithm.{Task, Scanning, Embedded, Updating, To, when_busy, status_of}
+use Rattle.snap_runs.proofs.Algorithm.{Mode, Scanning, Embedded, Updating, To, when_busy, status_of}
 use Rattle.snap_runs.proofs.CleanTests as clean
 use Rattle.snap_runs.proofs.Collecting as collecting
 use Rattle.snap_runs.proofs.Collecting.{Copies, Phase, Away, ReadsFirst, HasFirst, ReadsSecond, HasSecond, Collected}
@@ -21,7 +21,7 @@ use Rattle.snap_runs_of_u.proofs.Flows.{numbered, listed, writer}
 use Rattle.snap_runs_of_u.proofs.Invariant.{pending}
 use Rattle.snap_runs_of_u.proofs.Runs.{words_at, process_after, invariant, invariant_of, execution, counts_of}
 use Rattle.snap_runs_of_u.proofs.Updates.{updates}
-use Rattle.snap_runs.proofs.Steady.{Steady}
+use Rattle.snap_runs_of_u.proofs.Ready.{Ready, ready}
 use Rattle.snap_runs.proofs.Calm.{calm_list}
 use Rattle.snap_runs.proofs.CalmPromises as calm
 use Rattle.snap_runs.specs.Promises as promises
@@ -67,7 +67,7 @@ abbrev pub Reaches : ℕ → Words → Variables → ProgramCounter → Move →
 Reaches n = collecting.Reaches (algorithm n) (copies n)
 
 -- what each line does to the copies
-reaches : (n me : ℕ) (d : Task) (m : Words) (p : Variables) (k : ProgramCounter) → IsLineOf me d k → VariablesAt n p k → n ≤ length p.a → n ≤ length p.b →
+reaches : (n me : ℕ) (d : Mode) (m : Words) (p : Variables) (k : ProgramCounter) → IsLineOf me d k → VariablesAt n p k → n ≤ length p.a → n ≤ length p.b →
     Reaches n m p k (move n me d m p k)
 reaches n me d m p L10 s h a b = tt
 reaches n me d m p L11 s h a b = inl refl
@@ -98,7 +98,7 @@ reaches n me d m p L32 s h a b = tt
 reaches n me d m p L33 s h a b = tt
 
 -- the test passes only where all copies agree
-passes : (n t : ℕ) (q : Process) (d : Task) (m : Words) (p : Variables) (b : Bool) →
+passes : (n t : ℕ) (q : Process) (d : Mode) (m : Words) (p : Variables) (b : Bool) →
     is_at 21 (status_of (algorithm n) (moved (algorithm n) t q L16 (if b then To d m p L21 else To d m p L17)).control) ≡ true → b ≡ true
 passes n t q d m p true h = refl
 passes n t q d m p false h = absurd (cc)
@@ -107,7 +107,7 @@ away : (op : Op) → phase (counter op) ≡ Away
 away Scan = refl
 away (Update word value) = refl
 
-counts : (n : ℕ) (items : List Item) (fits : Steady (run_of n items)) →
+counts : (n : ℕ) (items : List Item) (fits : Ready n items) →
     clean.Counts (algorithm n) lines 32 (writer n) (listed n) (execution n items fits) (updates n items fits) (numbered n) refl
 counts n items fits = record {
   sizes = λ t short. (invariant n items fits t short).size;
@@ -116,7 +116,7 @@ counts n items fits = record {
       ∙ ap (λ y. seq_at (words_at n items t) y + 1) (sym owned);
 }
 
-collects : (n : ℕ) (items : List Item) (fits : Steady (run_of n items)) →
+collects : (n : ℕ) (items : List Item) (fits : Ready n items) →
     clean.Collects (algorithm n) lines 32 (writer n) (listed n) (execution n items fits) (updates n items fits) (numbered n) refl (counts n items fits) (copies n) double_collect L16
 collects n items fits = record {
   words_are = λ t. refl;
@@ -143,11 +143,11 @@ collects n items fits = record {
       same_from (compared (word_at p.a k)) (compared (word_at p.b k)) (all_pass (agree p) 1 n all k (omega arith) (omega arith));
 }
 
-steady_passed_tests_are_clean : (n : ℕ) (items : List Item) → Steady (run_of n items) → promises.PassedTestsAreClean double_collect 32 (run_of n items)
+steady_passed_tests_are_clean : (n : ℕ) (items : List Item) → Ready n items → promises.PassedTestsAreClean double_collect 32 (run_of n items)
 steady_passed_tests_are_clean n items fits whole i link c zero scan lt ex to = absurd (omega arith)
 steady_passed_tests_are_clean n items fits whole i link c (suc t) scan lt ex to =
     clean.passed_test (algorithm n) lines 32 (writer n) (listed n) (execution n items fits) (updates n items fits) (numbered n) refl (counts n items fits) (copies n) double_collect L16
     (collects n items fits) i scan.process link c t scan (omega arith) ex to
 
 pub passed_tests_are_clean_lem : PassedTestsAreClean
-passed_tests_are_clean_lem n items = calm.passed_tests_are_clean (run_of n items) double_collect 32 (steady_passed_tests_are_clean n (calm_list (run_of n items)))
+passed_tests_are_clean_lem n items suffice = calm.passed_tests_are_clean (run_of n items) double_collect 32 (λ steady. steady_passed_tests_are_clean n (calm_list (run_of n items)) (ready n items suffice steady))

@@ -1,5 +1,5 @@
 -- Which variables a process of U has at each line, and that no line traps.
-use Rattle.std.specs.Prelude.{◌≡◌, ℕ, ◌^◌, ◌<◌, ◌≤◌, not, ◌&&◌, map, Some, None, nat_eq, nat_lt, nat_le, if◌then◌else◌, refl}
+use Rattle.std.specs.Prelude.{◌≡◌, ℕ, ◌+◌, ◌^◌, ◌<◌, ◌≤◌, not, ◌&&◌, map, Some, None, nat_eq, nat_lt, nat_le, if◌then◌else◌, refl}
 use Rattle.std.proofs.Common.{arith}
 use Rattle.snap_words.specs.Shape.{IsOneOf}
 use Rattle.snap_words.specs.declared.kind.KindTag.TheVariants as kind
@@ -7,7 +7,7 @@ use Rattle.snap_semantics.specs.Table.{places_to, all_true, first_true, call_ski
 use Rattle.snap_semantics.specs.declared.process.Op.{Op}
 use Rattle.snap_semantics.specs.declared.process.Op.TheVariants.{Scan, Update}
 use Rattle.snap_semantics.specs.declared.process.Reason.TheVariants.{NoSuchWord, NotOwner}
-use Rattle.snap_runs.proofs.Algorithm.{Task, Scanning, Embedded, Updating, task_of, op_of, Idle, At, WhenBusy, LeadsTo, leads_to}
+use Rattle.snap_runs.proofs.Algorithm.{Mode, Scanning, Embedded, Updating, mode_of, op_of, Idle, At, WhenBusy, LeadsTo, leads_to}
 use Rattle.snap_runs.proofs.Computing.{lt_from, same_from, either, whether, differs, raised_most, none_then}
 use Rattle.snap_runs.proofs.Embedding as embed
 use Rattle.snap_runs.proofs.Places.{for_each_at, first_found, first_none}
@@ -36,11 +36,11 @@ VariablesAt n p L19 = (p.j ≡ 1) × BelowLimit n p
 VariablesAt n p L23 = IsOneOf n p.j
 VariablesAt n p _ = Unit {0}
 
--- What a line leaves is at a line of its task, with the variables that it asks for, and has kept the operation.
+-- What a line leaves is at a line of its mode, with the variables that it asks for, and has kept the operation.
 abbrev pub MoveWell : Op → ℕ → ℕ → Move → Type 0
 MoveWell op n me v = LeadsTo (λ d p k. IsLineOf me d k × VariablesAt n p k × (op_of d ≡ op)) v
 
-pub move_well : (n me : ℕ) (d : Task) (m : Words) (p : Variables) (k : ProgramCounter) → IsOneOf n me → IsLineOf me d k → VariablesAt n p k →
+pub move_well : (n me : ℕ) (d : Mode) (m : Words) (p : Variables) (k : ProgramCounter) → IsOneOf n me → IsLineOf me d k → VariablesAt n p k →
     MoveWell (op_of d) n me (move n me d m p k)
 move_well n me d m p L10 i s h = (s, λ k e. rw (for_each_at n (λ k. 0) p.moved k e) (omega arith), refl)
 move_well n me d m p L11 i s h = (s, ((omega arith, omega arith), h), refl)
@@ -77,7 +77,7 @@ move_well n me d m p L32 i s h = (s, tt, refl)
 move_well n me d m p L33 i s h = tt
 
 -- what a line needs is kept; the number that line 31 raises is at most the number of items
-needs : (n time me : ℕ) (p : Variables) (k : ProgramCounter) → IsOneOf n me → p.c ≤ time → time < 2 ^ 60 → VariablesAt n p k → Needs n me p k
+needs : (n time me : ℕ) (p : Variables) (k : ProgramCounter) → IsOneOf n me → p.c ≤ time → time + 1 < 2 ^ 64 → VariablesAt n p k → Needs n me p k
 needs n time me p L10 i c b h = tt
 needs n time me p L11 i c b h = tt
 needs n time me p L12 i c b h = h.0
@@ -101,17 +101,17 @@ needs n time me p L33 i c b h = tt
 own_word : (n i word value : ℕ) → call_skip kind.Seq (square n) i (Update word value) ≡ None → word ≡ i
 own_word n i word value h = same_from word i (none_then (nat_eq word i) None NotOwner (none_then (nat_lt 0 word && nat_le word n) (if nat_eq word i then None else Some NotOwner) NoSuchWord h).1).0
 
--- A busy process is at a line of its task, with the variables that the line asks for.
+-- A busy process is at a line of its mode, with the variables that the line asks for.
 abbrev pub ControlWell : ℕ → ℕ → Variables → Control → Type 0
 ControlWell n me p control = WhenBusy (λ d k. IsLineOf me d k × VariablesAt n p k) control
 
 pub called_well : (n me : ℕ) (p : Variables) (op : Op) → call_skip kind.Seq (square n) me op ≡ None →
-    ControlWell n me p (At (task_of op) (counter op))
+    ControlWell n me p (At (mode_of op) (counter op))
 called_well n me p Scan e = (tt, tt)
 called_well n me p (Update word value) e = (own_word n me word value e, tt)
 
 -- no line traps: each does its move
-pub does : (n time me : ℕ) (m : Words) (p : Variables) (control : Control) → IsOneOf n me → p.c ≤ time → time < 2 ^ 60 → ControlWell n me p control →
+pub does : (n time me : ℕ) (m : Words) (p : Variables) (control : Control) → IsOneOf n me → p.c ≤ time → time + 1 < 2 ^ 64 → ControlWell n me p control →
     embed.Does (algorithm n) me m p control
 does n time me m p Idle i c b h = tt
 does n time me m p (At d k) i c b h =

@@ -2,7 +2,7 @@
 use Rattle.std.specs.Prelude.{◌≡◌, ℕ, suc, ◌+◌, ◌*◌, ◌<◌, ◌≤◌, false, not, map, nat_lt, if◌then◌else◌, refl}
 use Rattle.std.proofs.Common.{ap, arith}
 use Rattle.snap_semantics.specs.Table.{places_to, all_true, first_true}
-use Rattle.snap_runs.proofs.Algorithm.{Task, Scanning, Embedded, Updating, GoesOn}
+use Rattle.snap_runs.proofs.Algorithm.{Mode, Scanning, Embedded, Updating, GoesOn}
 use Rattle.snap_runs.proofs.Budget as budgets
 use Rattle.snap_runs.proofs.Budget.{budget_zero, same_budget, next_budget, budget_le}
 use Rattle.snap_runs.proofs.Computing.{not_lt, either, whether}
@@ -75,7 +75,7 @@ after_count n p failed p' is =
     total_raised (moved_at p) (moved_at p') (λ u. not (agree p u)) n k i (ap not some.3) is
 
 -- each line keeps the counts: c' and recent' are the double collects with its own
-pub count_move : (n me : ℕ) (d : Task) (words : Words) (p : Variables) (k : ProgramCounter) (own c c' recent recent' : ℕ) → c' ≡ c + tests k →
+pub count_move : (n me : ℕ) (d : Mode) (words : Words) (p : Variables) (k : ProgramCounter) (own c c' recent recent' : ℕ) → c' ≡ c + tests k →
     recent' ≡ (if restarts k then 0 else recent + tests k) → VariablesAt n p k → ((k ≡ L16) → moves n p < n) →
     Count n p own c recent k → CountMove n (suc own) c' recent' (move n me d words p k)
 count_move n me d words p L10 own c c' recent recent' e f keeps sharp h = (omega arith, omega arith, omega arith)

@@ -4,8 +4,8 @@ use Rattle.std.proofs.Common.{sym, ap, subst, arith, inl, inr}
 use Rattle.snap_words.specs.Shape.{IsOneOf}
 use Rattle.snap_semantics.specs.Source.{instr_at}
 use Rattle.snap_semantics.specs.Table.{places_to, all_true, first_true}
-use Rattle.snap_runs.specs.Scan.{Returns}
-use Rattle.snap_runs.proofs.Algorithm.{Task, Scanning, Embedded, Updating, To}
+use Rattle.snap_runs.specs.Scan.{ReturnsView}
+use Rattle.snap_runs.proofs.Algorithm.{Mode, Scanning, Embedded, Updating, To}
 use Rattle.snap_runs.proofs.Computing.{either, whether}
 use Rattle.snap_runs.proofs.EmbeddedScans as embedded
 use Rattle.snap_runs.proofs.Executing.{Numbered}
@@ -26,14 +26,14 @@ Making = flow.Making lines
 abbrev pub HasWritten : Control → ℕ → Type 0
 HasWritten = flow.HasWritten lines
 
-abbrev pub Flows : ℕ → Task → Words → Variables → ProgramCounter → Move → Type 0
+abbrev pub Flows : ℕ → Mode → Words → Variables → ProgramCounter → Move → Type 0
 Flows n = flow.Flows lines (algorithm n)
 
 -- a line of a scan that goes on
-on : (n me : ℕ) (d : Task) (m : Words) (p p' : Variables) (k k' : ProgramCounter) → IsScan me d → writes k ≡ 0 → Flows n d m p k (To d m p' k')
+on : (n me : ℕ) (d : Mode) (m : Words) (p p' : Variables) (k k' : ProgramCounter) → IsScan me d → writes k ≡ 0 → Flows n d m p k (To d m p' k')
 on n me d m p p' k k' s quiet = flow.within lines (algorithm n) d m m p p' k k' (scan_inside (λ word. word ≡ me) d s) quiet refl
 
-pub flows : (n me : ℕ) (d : Task) (m : Words) (p : Variables) (k : ProgramCounter) → IsLineOf me d k → Flows n d m p k (move n me d m p k)
+pub flows : (n me : ℕ) (d : Mode) (m : Words) (p : Variables) (k : ProgramCounter) → IsLineOf me d k → Flows n d m p k (move n me d m p k)
 flows n me d m p L10 s = on n me d m p _ L10 _ s refl
 flows n me d m p L11 s = on n me d m p _ L11 _ s refl
 flows n me d m p L12 s = on n me d m p _ L12 _ s refl
@@ -112,21 +112,21 @@ line_listed n L32 = record { alone = refl; tested = refl; wrote = refl; calls = 
 line_listed n L33 = record { alone = refl; tested = refl; wrote = refl; calls = λ h. absurd h; returns = λ p v h. absurd h; once = omega arith }
 
 -- lines 22 and 24 return s
-answers : (p : Variables) (k : ProgramCounter) → lines.IsReturn k → Returns (instr_at listing_u.lines (number k)) (locals_of p) p.s
-answers p k (inl is) = subst (λ y. Returns (instr_at listing_u.lines (number y)) (locals_of p) p.s) (sym is) refl
-answers p k (inr is) = subst (λ y. Returns (instr_at listing_u.lines (number y)) (locals_of p) p.s) (sym is) refl
+answers : (p : Variables) (k : ProgramCounter) → lines.IsReturn k → ReturnsView (instr_at listing_u.lines (number k)) (locals_of p) p.s
+answers p k (inl is) = subst (λ y. ReturnsView (instr_at listing_u.lines (number y)) (locals_of p) p.s) (sym is) refl
+answers p k (inr is) = subst (λ y. ReturnsView (instr_at listing_u.lines (number y)) (locals_of p) p.s) (sym is) refl
 
 -- what each line does to an embedded scan and to its view
-abbrev pub Embeds : ℕ → Task → Variables → ProgramCounter → Move → Type 0
+abbrev pub Embeds : ℕ → Mode → Variables → ProgramCounter → Move → Type 0
 Embeds n = embedded.Embeds (algorithm n) lines
 
 -- a line of a scan that goes on
-stay : (n me : ℕ) (d : Task) (m : Words) (p p' : Variables) (k k' : ProgramCounter) → IsScan me d → (lines.IsReturn k → ⊥) → Embeds n d p k (To d m p' k')
+stay : (n me : ℕ) (d : Mode) (m : Words) (p p' : Variables) (k k' : ProgramCounter) → IsScan me d → (lines.IsReturn k → ⊥) → Embeds n d p k (To d m p' k')
 stay n me Scanning m p p' k k' s none = refl
 stay n me (Embedded word value) m p p' k k' s none = inl (refl, none)
 stay n me (Updating word value) m p p' k k' s none = absurd s
 
-pub embeds : (n me : ℕ) (d : Task) (m : Words) (p : Variables) (k : ProgramCounter) → IsLineOf me d k → Embeds n d p k (move n me d m p k)
+pub embeds : (n me : ℕ) (d : Mode) (m : Words) (p : Variables) (k : ProgramCounter) → IsLineOf me d k → Embeds n d p k (move n me d m p k)
 embeds n me d m p L10 s = stay n me d m p _ L10 _ s (answers p L10)
 embeds n me d m p L11 s = stay n me d m p _ L11 _ s (answers p L11)
 embeds n me d m p L12 s = stay n me d m p _ L12 _ s (answers p L12)

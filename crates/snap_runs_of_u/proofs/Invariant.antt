@@ -29,7 +29,7 @@ CountAt n p own c recent control = WhenBusy (λ d k. Count n p own c recent k) c
 
 -- What holds of process i, at whichever line it stands, with these words.
 pub record ProcessInvariant (n t : ℕ) (history : ℕ → Words) (words : Words) (i : ℕ) (q : Process) : Type 0 where
-  -- it stands at a line of its task, with the variables that the line asks for
+  -- it stands at a line of its mode, with the variables that the line asks for
   pub well : ControlWell n i q.variables q.control
   -- its copies have all places
   pub length_a : length q.variables.a ≡ max n n

@@ -8,6 +8,7 @@ pub mod Count
 pub mod Invariant
 pub mod Write
 pub mod Preserve
+pub mod Ready
 pub mod Runs
 pub mod Points
 pub mod Bounds
@@ -19,3 +20,5 @@ pub mod CleanTests
 pub mod Linear
 pub mod WaitFree
 pub mod Snapshot
+pub mod Bounded
+pub mod BoundedSamples

@@ -11,7 +11,7 @@ use Rattle.snap_semantics.specs.declared.process.Activity.{Activity}
 use Rattle.snap_semantics.specs.declared.process.Cause.{Cause}
 use Rattle.snap_semantics.specs.declared.process.Cause.TheVariants.{Owner}
 use Rattle.snap_semantics.specs.declared.process.Op.{Op}
-use Rattle.snap_runs.proofs.Algorithm.{Task, Scanning, Embedded, Updating, op_of, link_of, To, shown}
+use Rattle.snap_runs.proofs.Algorithm.{Mode, Scanning, Embedded, Updating, op_of, link_of, To, shown}
 use Rattle.snap_runs.proofs.Computing.{same_number, if_of}
 use Rattle.snap_runs.proofs.Held.{word_at}
 use Rattle.snap_runs.proofs.Places.{bind_ok, place_ok, each_ok, sum_ok, owned_ok}
@@ -45,26 +45,26 @@ in_range : (n k : ℕ) → 1 ≤ k → k < 1 + n → IsOneOf (max n n) k
 in_range n k low high = (omega arith, omega arith)
 
 -- a process at place k of a quantifier, and what the lines read there
-abbrev pub at_k : ℕ → ℕ → Task → Variables → ℕ → Context
+abbrev pub at_k : ℕ → ℕ → Mode → Variables → ℕ → Context
 at_k n me d p k = at_place (context_of (square n) me (op_of d) p) k
 
-compared_a : (n me : ℕ) (d : Task) (p : Variables) (k : ℕ) → IsOneOf (max n n) k →
+compared_a : (n me : ℕ) (d : Mode) (p : Variables) (k : ℕ) → IsOneOf (max n n) k →
     term_value (at_k n me d p k) u.seq_a ≡ Ok (compared (word_at p.a k))
 compared_a n me d p k h = bind_ok _ _ _ _ (place_ok (max n n) k h) refl
 
-compared_b : (n me : ℕ) (d : Task) (p : Variables) (k : ℕ) → IsOneOf (max n n) k →
+compared_b : (n me : ℕ) (d : Mode) (p : Variables) (k : ℕ) → IsOneOf (max n n) k →
     term_value (at_k n me d p k) u.seq_b ≡ Ok (compared (word_at p.b k))
 compared_b n me d p k h = bind_ok _ _ _ _ (place_ok (max n n) k h) refl
 
-row_moved : (n me : ℕ) (d : Task) (p : Variables) (k : ℕ) → IsOneOf (max n n) k → term_value (at_k n me d p k) (Row u.moved Place) ≡ Ok (moved_at p k)
+row_moved : (n me : ℕ) (d : Mode) (p : Variables) (k : ℕ) → IsOneOf (max n n) k → term_value (at_k n me d p k) (Row u.moved Place) ≡ Ok (moved_at p k)
 row_moved n me d p k h = bind_ok _ _ _ _ (place_ok (max n n) k h) refl
 
-first_shown : (n : ℕ) (d : Task) (m : Words) (p : Variables) (o : Option ℕ) →
+first_shown : (n : ℕ) (d : Mode) (m : Words) (p : Variables) (o : Option ℕ) →
     first_goes listing_u (activity (op_of d) (link_of (number back) d) 18) (real m) (locals_of p) u.j (number borrows) o ≡ shown (algorithm n) m (first_to d m p o)
 first_shown n d m p None = refl
 first_shown n d m p (Some k) = refl
 
-pub each_line : (n me : ℕ) (d : Task) (m : Words) (p : Variables) (k : ProgramCounter) → IsLineOf me d k → Needs n me p k →
+pub each_line : (n me : ℕ) (d : Mode) (m : Words) (p : Variables) (k : ProgramCounter) → IsLineOf me d k → Needs n me p k →
     at_line (square n) me (op_of d) m (link_of (number back) d) (number k) p ≡ shown (algorithm n) m (move n me d m p k)
 each_line n me d m p L10 s h = bind_ok _ _ _ _ (each_ok _ (λ k. 0) 1 n (λ k low high. refl)) refl
 each_line n me d m p L11 s h = refl

@@ -2,7 +2,7 @@
 use Rattle.std.specs.Prelude.{ℕ, zero, suc, ◌+◌, ◌<◌, ◌≤◌, not, List, length, Option, refl}
 use Rattle.std.proofs.Common.{subst, arith}
 use Rattle.snap_semantics.specs.declared.process.Item.{Item}
-use Rattle.snap_runs.specs.Scan.{Scan}
+use Rattle.snap_runs.specs.Scan.{PendingScan}
 use Rattle.snap_runs.specs.Promises.{ObservedMove, RecentWrite}
 use Rattle.snap_runs.proofs.Computing.{differs, not_true, raised_only}
 use Rattle.snap_runs.proofs.Held.{word_at, seq_at, before_seq}
@@ -17,12 +17,12 @@ use Rattle.snap_runs_of_u.proofs.Flows.{numbered, listed, writer}
 use Rattle.snap_runs_of_u.proofs.Runs.{words_at, process_after, execution, stage_of, counts_of}
 use Rattle.snap_runs_of_u.proofs.Stage.{copies_grow}
 use Rattle.snap_runs_of_u.proofs.Updates.{updates}
-use Rattle.snap_runs.proofs.Steady.{Steady}
+use Rattle.snap_runs_of_u.proofs.Ready.{Ready, ready}
 use Rattle.snap_runs.proofs.Calm.{calm_list}
 use Rattle.snap_runs.proofs.CalmPromises as calm
 use Rattle.snap_runs.specs.Promises as promises
 
-move_is_write : (n : ℕ) (items : List Item) → Steady (run_of n items) → (i j : ℕ) (link : Option ℕ) (c t : ℕ) → Scan (run_of n items) i link c (suc t) → c ≤ t →
+move_is_write : (n : ℕ) (items : List Item) → Ready n items → (i j : ℕ) (link : Option ℕ) (c t : ℕ) → PendingScan (run_of n items) i link c (suc t) → c ≤ t →
     ObservedMove (run_of n items) 17 u.moved i j (suc t) →
     RecentWrite (run_of n items) 32 i j c (suc t)
 move_is_write n items fits i j link c t scan le move =
@@ -34,7 +34,7 @@ move_is_write n items fits i j link c t scan le move =
     let p = q.variables in
     let since = q.auxiliary.since in
     let round = q.auxiliary.round in
-    let stage = stage_of n items fits t i seen.task L17 (omega arith) one seen.control in
+    let stage = stage_of n items fits t i seen.mode L17 (omega arith) one seen.control in
     let between : Between n (words_at n items) t since round (words_at n items t) p.moved p.a p.b (n + 1) = stage.1 in
     let second : Second n (words_at n items) t since round (words_at n items t) p.moved p.a p.b (n + 1) (words_at n items between.0) = between.3 in
     let grows : moved_at p j < counted p j = subst (λ y. moved_at p j < y) (for_each_at n (counted p) p.moved j move.process) seen.grows in
@@ -43,12 +43,12 @@ move_is_write n items fits i j link c t scan le move =
     let fresh : seq_at (words_at n items round) j ≤ seq_at p.a j = (second.first j move.process).fresh in
     let later : seq_at p.b j ≤ seq_at (words_at n items t) j =
     before_seq (word_at p.b j) (word_at (words_at n items t) j) (second.read j move.process (let i2 = move.process in omega arith)).1 in
-    let counts : Count n p q.auxiliary.own q.auxiliary.collects q.auxiliary.tested L17 = counts_of n items fits t i seen.task L17 (omega arith) one seen.control in
-    moves.recent_write (algorithm n) lines (listed n) run 32 (writer n) (updates n items fits) (λ me word is. is) i j link c t seen.task L17 move.process scan le seen.control refl counts.3 (omega arith)
+    let counts : Count n p q.auxiliary.own q.auxiliary.collects q.auxiliary.tested L17 = counts_of n items fits t i seen.mode L17 (omega arith) one seen.control in
+    moves.recent_write (algorithm n) lines (listed n) run 32 (writer n) (updates n items fits) (λ me word is. is) i j link c t seen.mode L17 move.process scan le seen.control refl counts.3 (omega arith)
 
-steady_moves_are_writes : (n : ℕ) (items : List Item) → Steady (run_of n items) → promises.MovesAreWrites 17 u.moved 32 (run_of n items)
+steady_moves_are_writes : (n : ℕ) (items : List Item) → Ready n items → promises.MovesAreWrites 17 u.moved 32 (run_of n items)
 steady_moves_are_writes n items fits whole i j link c zero scan lt move = absurd (omega arith)
 steady_moves_are_writes n items fits whole i j link c (suc t) scan lt move = move_is_write n items fits i j link c t scan (omega arith) move
 
 pub moves_are_writes_lem : MovesAreWrites
-moves_are_writes_lem n items = calm.moves_are_writes (run_of n items) 17 u.moved 32 (steady_moves_are_writes n (calm_list (run_of n items)))
+moves_are_writes_lem n items suffice = calm.moves_are_writes (run_of n items) 17 u.moved 32 (λ steady. steady_moves_are_writes n (calm_list (run_of n items)) (ready n items suffice steady))

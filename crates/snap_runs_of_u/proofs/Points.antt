@@ -8,7 +8,7 @@ use Rattle.snap_runs_of_u.proofs.Algorithm.{Words, Variables, ProgramCounter, li
 use Rattle.snap_runs_of_u.proofs.Flows.{listed, writer}
 use Rattle.snap_runs_of_u.proofs.Runs.{words_at, process_after, execution, stage_of}
 use Rattle.snap_runs_of_u.proofs.Stage.{Stage}
-use Rattle.snap_runs.proofs.Steady.{Steady}
+use Rattle.snap_runs_of_u.proofs.Ready.{Ready, ready}
 use Rattle.snap_runs.proofs.Calm.{calm_list}
 use Rattle.snap_runs.proofs.CalmPromises as calm
 use Rattle.snap_runs.specs.Promises as promises
@@ -20,7 +20,7 @@ return_held : (n : ℕ) (history : ℕ → Words) (t since round : ℕ) (m : Wor
 return_held n history t since round m p k (inl is) h = subst (Stage n history t since round m p) is h
 return_held n history t since round m p k (inr is) h = (subst (Stage n history t since round m p) is h).0
 
-steady_have_points : (n : ℕ) (items : List Item) → Steady (run_of n items) → promises.HavePoints (run_of n items)
+steady_have_points : (n : ℕ) (items : List Item) → Ready n items → promises.HavePoints (run_of n items)
 steady_have_points n items fits whole =
     have_points (algorithm n) lines 32 (writer n) (listed n) (execution n items fits)
     (λ t i d k le one at returns.
@@ -29,4 +29,4 @@ steady_have_points n items fits whole =
     whole
 
 pub have_points_lem : HavePoints
-have_points_lem n items = calm.have_points (run_of n items) (steady_have_points n (calm_list (run_of n items)))
+have_points_lem n items suffice = calm.have_points (run_of n items) (λ steady. steady_have_points n (calm_list (run_of n items)) (ready n items suffice steady))

@@ -11,7 +11,7 @@ use Rattle.snap_semantics.specs.declared.process.Op.{Op}
 use Rattle.snap_semantics.specs.declared.process.Op.TheVariants.{Scan, Update}
 use Rattle.snap_semantics.specs.declared.process.Outcome.TheVariants.{Called, Stepped, Answered, Finished}
 use Rattle.snap_semantics.specs.declared.process.Reason.{Reason}
-use Rattle.snap_runs.proofs.Algorithm.{Task, Scanning, Updating, op_of, Idle, At, To, Begin, Answer, Finish, New, by_move, by_step, by_admission, by_call, typed_at, changed, happens, stepped_auxiliary, begun_auxiliary, called_auxiliary}
+use Rattle.snap_runs.proofs.Algorithm.{Mode, Scanning, Updating, op_of, Idle, At, To, Begin, Answer, Finish, New, by_move, by_step, by_admission, by_call, typed_at, changed, happens, stepped_auxiliary, begun_auxiliary, called_auxiliary}
 use Rattle.snap_runs.proofs.Flow as flow
 use Rattle.snap_runs.proofs.Flow.{IsInScan, InScan, scan_inside}
 use Rattle.snap_runs.proofs.Held.{seq_at, at_most_now, at_least_now, opened_next}
@@ -37,7 +37,7 @@ unmoved : (n i : ℕ) (base m : Words) (p : Variables) → IsOneOf n i → Low n
 unmoved n i base m p one low below self =
     moves_less n i p one (let l : floor base p.moved i ≤ seq_at m i = low i one in omega arith) below
 
-pub few_moves : (n me : ℕ) (history : ℕ → Words) (t since round : ℕ) (m : Words) (d : Task) (p : Variables) (k : ProgramCounter) → IsOneOf n me →
+pub few_moves : (n me : ℕ) (history : ℕ → Words) (t since round : ℕ) (m : Words) (d : Mode) (p : Variables) (k : ProgramCounter) → IsOneOf n me →
     IsLineOf me d k → VariablesAt n p k →
     (IsInScan d → seq_at (history since) me ≡ seq_at m me) → Stage n history t since round m p k → k ≡ L16 → moves n p < n
 few_moves n me history t since round m d p k one line keeps self stage e =
@@ -48,7 +48,7 @@ writes_le : (n : ℕ) (k : ProgramCounter) → writes k ≤ 1
 writes_le n k = let once : written k + writes k ≤ 1 = (line_listed n k).once in omega arith
 
 -- before a line that keeps the words, c is the sequence number of the process's word
-is_seq : (n t : ℕ) (history : ℕ → Words) (x : State) (i : ℕ) (d : Task) (k : ProgramCounter) → IsOneOf n i → Invariant n t history x →
+is_seq : (n t : ℕ) (history : ℕ → Words) (x : State) (i : ℕ) (d : Mode) (k : ProgramCounter) → IsOneOf n i → Invariant n t history x →
     (at n x i).control ≡ At d k → writes k ≡ 0 →
     (at n x i).variables.c ≡ seq_at x.memory i + 0
 is_seq n t history x i d k one h is quiet =
@@ -76,10 +76,10 @@ idle_own n t history words i q k seq now c own = record {
 }
 
 -- what the move v of a process at line k owes; t is the item's number
-record MoveOwes (n t : ℕ) (history : ℕ → Words) (x : State) (i : ℕ) (d : Task) (k : ProgramCounter) (v : Move) : Type 0 where
+record MoveOwes (n t : ℕ) (history : ℕ → Words) (x : State) (i : ℕ) (d : Mode) (k : ProgramCounter) (v : Move) : Type 0 where
   -- it keeps the words
   pub words : flow.KeepsMemory lines x.memory v
-  -- it leads to a line of its task, with the variables that this line asks for
+  -- it leads to a line of its mode, with the variables that this line asks for
   pub well : MoveWell (op_of d) n i v
   -- it takes the scan to the stage of that line
   pub stage : StageMove n history t (at n x i).auxiliary.since (if restarts k then t else (at n x i).auxiliary.round) v
@@ -94,7 +94,7 @@ record MoveOwes (n t : ℕ) (history : ℕ → Words) (x : State) (i : ℕ) (d :
   pub wrote : flow.CountsWrites lines ((at n x i).auxiliary.wrote + writes k) v
 
 -- a line that keeps the words
-line_keeps : (n t : ℕ) (history : ℕ → Words) (x : State) (i : ℕ) (d : Task) (k : ProgramCounter) (v : Move) →
+line_keeps : (n t : ℕ) (history : ℕ → Words) (x : State) (i : ℕ) (d : Mode) (k : ProgramCounter) (v : Move) →
     length x.processes ≡ n → IsOneOf n i → history t ≡ x.memory → Invariant n t history x → (at n x i).control ≡ At d k → (at n x i).variables.c < t →
     writes k ≡ 0 →
     MoveOwes n t history x i d k v → Invariant n t history (changed x i (by_move (algorithm n) t x.memory (at n x i) k v))
@@ -199,7 +199,7 @@ admission_keeps n t history x i (Update word value) None e count one h is now =
     })
     (λ m. absurd m) (inr refl)
 
-line_32_keeps : (n t : ℕ) (history : ℕ → Words) (x : State) (i : ℕ) (d : Task) → length x.processes ≡ n → IsOneOf n i → Invariant n t history x →
+line_32_keeps : (n t : ℕ) (history : ℕ → Words) (x : State) (i : ℕ) (d : Mode) → length x.processes ≡ n → IsOneOf n i → Invariant n t history x →
     (at n x i).control ≡ At d L32 → Invariant n (suc t) history (changed x i (by_step (algorithm n) (suc t) x.memory i (at n x i) (At d L32)))
 line_32_keeps n t history x i d count one h is =
     let well : ControlWell n i (at n x i).variables (At d L32) = subst (ControlWell n i (at n x i).variables) is (h.each i one).well in

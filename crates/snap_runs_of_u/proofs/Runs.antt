@@ -1,11 +1,11 @@
 -- Every run of U: the invariant at each state, and no process traps.
-use Rattle.std.specs.Prelude.{◌≡◌, ℕ, ◌-◌, ◌≤◌, max, List, length, replicate, refl}
+use Rattle.std.specs.Prelude.{◌≡◌, ℕ, ◌-◌, ◌^◌, ◌<◌, ◌≤◌, max, List, length, replicate, refl}
 use Rattle.std.proofs.Common.{sym, ap, subst, arith}
 use Rattle.std.proofs.lemmas.List.{get_or-replicate, length-replicate}
 use Rattle.snap_words.specs.Shape.{IsOneOf}
 use Rattle.snap_words.specs.Word.{Word, no_word}
 use Rattle.snap_semantics.specs.declared.process.Item.{Item}
-use Rattle.snap_runs.proofs.Algorithm.{Task, At, when_busy, first_process, first_state, typed_at, item_at, typed_state}
+use Rattle.snap_runs.proofs.Algorithm.{Mode, At, when_busy, first_process, first_state, typed_at, item_at, typed_state}
 use Rattle.snap_runs.proofs.Embedding as embed
 use Rattle.snap_runs.proofs.Held.{word_at, seq_at, at_most_now}
 use Rattle.snap_runs.proofs.Scans as scans
@@ -18,7 +18,7 @@ use Rattle.snap_runs_of_u.proofs.Flows.{flows}
 use Rattle.snap_runs_of_u.proofs.Invariant.{ProcessInvariant, Invariant, PairInvariant, StageAt, CountAt}
 use Rattle.snap_runs_of_u.proofs.Preserve.{item_keeps}
 use Rattle.snap_runs_of_u.proofs.Stage.{Stage}
-use Rattle.snap_runs.proofs.Steady.{Steady}
+use Rattle.snap_runs_of_u.proofs.Ready.{Ready, ready}
 use Rattle.snap_runs.proofs.Calm.{calm_list}
 use Rattle.snap_runs.proofs.CalmPromises as calm
 use Rattle.snap_runs.specs.Promises as promises
@@ -68,35 +68,35 @@ at_the_start n history now =
     }
 
 -- the invariant at state t, where each state up to there has had as many words
-pub invariant : (n : ℕ) (items : List Item) → Steady (run_of n items) → (t : ℕ) → t ≤ length items →
+pub invariant : (n : ℕ) (items : List Item) → Ready n items → (t : ℕ) → t ≤ length items →
     Invariant n t (words_at n items) (state_at n items t)
 invariant n items fits =
     let a = algorithm n in
     at_each (λ t. Invariant n t (words_at n items) (state_at n items t)) (λ t. length (words_at n items t) ≡ n) (length items)
     (at_the_start n (words_at n items) refl) (λ t h. h.size)
-    (λ t lt sizes h. item_keeps n t (words_at n items) (state_at n items t) (item_at items t) sizes (embed.count a items t) (embed.one_at a items fits t lt) h refl)
+    (λ t lt sizes h. item_keeps n t (words_at n items) (state_at n items t) (item_at items t) sizes (embed.count a items t) (embed.one_at a items fits.steady t lt) h refl)
 
-pub invariant_of : (n : ℕ) (items : List Item) → Steady (run_of n items) → (t i : ℕ) → t ≤ length items → IsOneOf n i →
+pub invariant_of : (n : ℕ) (items : List Item) → Ready n items → (t i : ℕ) → t ≤ length items → IsOneOf n i →
     ProcessInvariant n t (words_at n items) (words_at n items t) i (process_after n items t i)
 invariant_of n items fits t i h one = (invariant n items fits t h).each i one
 
-pub all_do : (n : ℕ) (items : List Item) → Steady (run_of n items) → embed.AllDo (algorithm n) items
+pub all_do : (n : ℕ) (items : List Item) → Ready n items → embed.AllDo (algorithm n) items
 all_do n items fits t i h one =
     let o = invariant_of n items fits t i (omega arith) one in
-    let few : length items ≤ 1000000 = fits.few in
+    let few : length items < 2 ^ 64 = fits.suffice in
     does n t i (words_at n items t) (process_after n items t i).variables (process_after n items t i).control one o.fresh (omega arith) o.well
 
-steady_never_traps : (n : ℕ) (items : List Item) → Steady (run_of n items) → promises.NeverTraps (run_of n items)
-steady_never_traps n items fits whole = embed.never_traps (algorithm n) items fits (all_do n items fits)
+steady_never_traps : (n : ℕ) (items : List Item) → Ready n items → promises.NeverTraps (run_of n items)
+steady_never_traps n items fits whole = embed.never_traps (algorithm n) items fits.steady (all_do n items fits)
 
 pub never_traps_lem : NeverTraps
-never_traps_lem n items = calm.never_traps (run_of n items) (steady_never_traps n (calm_list (run_of n items)))
+never_traps_lem n items suffice = calm.never_traps (run_of n items) (λ steady. steady_never_traps n (calm_list (run_of n items)) (ready n items suffice steady))
 
 -- the run, with what is known of its lines
-abbrev pub execution : (n : ℕ) (items : List Item) → Steady (run_of n items) → scans.Execution (algorithm n) lines
+abbrev pub execution : (n : ℕ) (items : List Item) → Ready n items → scans.Execution (algorithm n) lines
 execution n items fits = record {
   items = items;
-  fits = fits;
+  fits = fits.steady;
   does = all_do n items fits;
   flows = λ t i h one.
       let q = process_after n items t i in
@@ -105,13 +105,13 @@ execution n items fits = record {
 }
 
 -- what a process at a line keeps there
-pub well_of : (n : ℕ) (items : List Item) → Steady (run_of n items) → (t i : ℕ) (d : Task) (k : ProgramCounter) → t ≤ length items → IsOneOf n i →
+pub well_of : (n : ℕ) (items : List Item) → Ready n items → (t i : ℕ) (d : Mode) (k : ProgramCounter) → t ≤ length items → IsOneOf n i →
     (process_after n items t i).control ≡ At d k →
     IsLineOf i d k × VariablesAt n (process_after n items t i).variables k
 well_of n items fits t i d k le one e = subst (ControlWell n i (process_after n items t i).variables) e (invariant_of n items fits t i le one).well
 
 -- a busy process is at the stage of its line
-pub stage_of : (n : ℕ) (items : List Item) → Steady (run_of n items) → (t i : ℕ) (d : Task) (k : ProgramCounter) → t ≤ length items → IsOneOf n i →
+pub stage_of : (n : ℕ) (items : List Item) → Ready n items → (t i : ℕ) (d : Mode) (k : ProgramCounter) → t ≤ length items → IsOneOf n i →
     (process_after n items t i).control ≡ At d k →
     Stage n (words_at n items) t (process_after n items t i).auxiliary.since (process_after n items t i).auxiliary.round (words_at n items t) (process_after n items t i).variables k
 stage_of n items fits t i d k le one e =
@@ -119,7 +119,7 @@ stage_of n items fits t i d k le one e =
     subst (λ (p : Control). StageAt n (words_at n items) t q.auxiliary.since q.auxiliary.round (words_at n items t) q.variables p) e (invariant_of n items fits t i le one).stage
 
 -- and its counts are those of its line
-pub counts_of : (n : ℕ) (items : List Item) → Steady (run_of n items) → (t i : ℕ) (d : Task) (k : ProgramCounter) → t ≤ length items → IsOneOf n i →
+pub counts_of : (n : ℕ) (items : List Item) → Ready n items → (t i : ℕ) (d : Mode) (k : ProgramCounter) → t ≤ length items → IsOneOf n i →
     (process_after n items t i).control ≡ At d k →
     Count n (process_after n items t i).variables (process_after n items t i).auxiliary.own (process_after n items t i).auxiliary.collects (process_after n items t i).auxiliary.tested k
 counts_of n items fits t i d k le one e =

@@ -3,7 +3,7 @@ use Rattle.std.specs.Prelude.{◌≡◌, ℕ, ◌+◌, ◌-◌, ◌≤◌, max, 
 use Rattle.std.proofs.Common.{◌∙◌, subst, arith}
 use Rattle.std.proofs.lemmas.List.{length-set}
 use Rattle.snap_semantics.specs.Table.{places_to, all_true, first_true}
-use Rattle.snap_runs.proofs.Algorithm.{Task, Scanning, Embedded, Updating, To, Begin, Answer, Finish}
+use Rattle.snap_runs.proofs.Algorithm.{Mode, Scanning, Embedded, Updating, To, Begin, Answer, Finish}
 use Rattle.snap_runs.proofs.Computing.{not_lt, same_from, either, whether}
 use Rattle.snap_runs.proofs.Held.{word_at, Held, held_wider, Beside, beside_wider, Lent, lent_wider, data_of, seq_at, before_trans, before_seq, Grows}
 use Rattle.snap_runs.proofs.Places.{for_each_at, first_found}
@@ -50,7 +50,7 @@ StageMove n history t since round (Answer v) = Held history t since v
 StageMove n history t since round Finish = Unit {0}
 
 -- what is known of every process, at whichever line it stands
-pub record Known (n me : ℕ) (history : ℕ → Words) (t since round : ℕ) (words : Words) (d : Task) (p : Variables) (k : ProgramCounter) : Type 0 where
+pub record Known (n me : ℕ) (history : ℕ → Words) (t since round : ℕ) (words : Words) (d : Mode) (p : Variables) (k : ProgramCounter) : Type 0 where
   -- there are n words at every state, and those of state t are the words now
   pub lengths : (u : ℕ) → u ≤ t → length (history u) ≡ n
   pub now : history t ≡ words
@@ -74,7 +74,7 @@ copies_grow n history t since round words p h k i =
     (before_trans (word_at p.a k) (word_at (history h.0) k) (word_at p.b k) (s.first k i).before (s.read k i (omega arith)).0)
 
 -- each line takes the scan on; a line that starts another double collect does so at item t
-pub stage_move : (n me : ℕ) (history : ℕ → Words) (t since round : ℕ) (words : Words) (d : Task) (p : Variables) (k : ProgramCounter) →
+pub stage_move : (n me : ℕ) (history : ℕ → Words) (t since round : ℕ) (words : Words) (d : Mode) (p : Variables) (k : ProgramCounter) →
     Known n me history t since round words d p k → Stage n history t since round words p k →
     StageMove n history t since (if restarts k then t else round) (move n me d words p k)
 stage_move n me history t since round words d p L10 known h =
@@ -219,7 +219,7 @@ SizedMove n s (Begin d p k) = Sized n s p k
 SizedMove n s (Answer v) = Unit {0}
 SizedMove n s Finish = Unit {0}
 
-pub sized_move : (n me s : ℕ) (d : Task) (m : Words) (p : Variables) (k : ProgramCounter) → IsLineOf me d k → Sized n s p k →
+pub sized_move : (n me s : ℕ) (d : Mode) (m : Words) (p : Variables) (k : ProgramCounter) → IsLineOf me d k → Sized n s p k →
     SizedMove n (s + writes k) (move n me d m p k)
 sized_move n me s d m p L10 doable h = (h.0, h.1, omega arith)
 sized_move n me s d m p L11 doable h = (h.0, h.1, omega arith)

@@ -3,39 +3,39 @@ use Rattle.std.specs.Prelude.{◌≡◌, ℕ, ◌<◌, List, length, refl}
 use Rattle.std.proofs.Common.{arith}
 use Rattle.snap_words.specs.Shape.{IsOneOf}
 use Rattle.snap_semantics.specs.declared.process.Item.{Item}
-use Rattle.snap_runs.proofs.Algorithm.{Task, At}
+use Rattle.snap_runs.proofs.Algorithm.{Mode, At}
 use Rattle.snap_runs.proofs.WordWrites as word_writes
 use Rattle.snap_runs_of_u.specs.Promises.{run_of, ChangesOnlyAt32, WritesItsUpdate, WritesOnce}
 use Rattle.snap_runs_of_u.proofs.Algorithm.{L32, IsUpdate, lines, algorithm}
 use Rattle.snap_runs_of_u.proofs.Flows.{numbered, once, writer}
 use Rattle.snap_runs_of_u.proofs.Runs.{process_after, well_of, execution}
-use Rattle.snap_runs.proofs.Steady.{Steady}
+use Rattle.snap_runs_of_u.proofs.Ready.{Ready, ready}
 use Rattle.snap_runs.proofs.Calm.{calm_list}
 use Rattle.snap_runs.proofs.CalmPromises as calm
 use Rattle.snap_runs.specs.Promises as promises
 
 -- line 32 is one of an update
-pub updates : (n : ℕ) (items : List Item) → Steady (run_of n items) → (t i : ℕ) (d : Task) → t < length items → IsOneOf n i →
+pub updates : (n : ℕ) (items : List Item) → Ready n items → (t i : ℕ) (d : Mode) → t < length items → IsOneOf n i →
     (process_after n items t i).control ≡ At d L32 →
     IsUpdate i d
 updates n items fits t i d h one e = (well_of n items fits t i d L32 (omega arith) one e).0
 
-steady_changes_only_at_32 : (n : ℕ) (items : List Item) → Steady (run_of n items) → promises.ChangesOnlyAt 32 (run_of n items)
+steady_changes_only_at_32 : (n : ℕ) (items : List Item) → Ready n items → promises.ChangesOnlyAt 32 (run_of n items)
 steady_changes_only_at_32 n items fits whole = word_writes.changes_only_at (algorithm n) lines 32 (writer n) (execution n items fits) whole
 
 pub changes_only_at_32_lem : ChangesOnlyAt32
-changes_only_at_32_lem n items = calm.changes_only_at (run_of n items) 32 (steady_changes_only_at_32 n (calm_list (run_of n items)))
+changes_only_at_32_lem n items suffice = calm.changes_only_at (run_of n items) 32 (λ steady. steady_changes_only_at_32 n (calm_list (run_of n items)) (ready n items suffice steady))
 
-steady_writes_its_update : (n : ℕ) (items : List Item) → Steady (run_of n items) → promises.WritesItsUpdate 32 (run_of n items)
+steady_writes_its_update : (n : ℕ) (items : List Item) → Ready n items → promises.WritesItsUpdate 32 (run_of n items)
 steady_writes_its_update n items fits whole =
     word_writes.writes_its_update (algorithm n) lines 32 (writer n) (execution n items fits) (updates n items fits) (once n) (numbered n) refl whole
 
 pub writes_its_update_lem : WritesItsUpdate
-writes_its_update_lem n items = calm.writes_its_update (run_of n items) 32 (steady_writes_its_update n (calm_list (run_of n items)))
+writes_its_update_lem n items suffice = calm.writes_its_update (run_of n items) 32 (λ steady. steady_writes_its_update n (calm_list (run_of n items)) (ready n items suffice steady))
 
-steady_writes_once : (n : ℕ) (items : List Item) → Steady (run_of n items) → promises.WritesOnce 32 (run_of n items)
+steady_writes_once : (n : ℕ) (items : List Item) → Ready n items → promises.WritesOnce 32 (run_of n items)
 steady_writes_once n items fits whole i word value c e up =
     word_writes.once_in_update (algorithm n) lines 32 (writer n) (execution n items fits) (updates n items fits) (once n) (numbered n) refl whole i word value c e up
 
 pub writes_once_lem : WritesOnce
-writes_once_lem n items = calm.writes_once (run_of n items) 32 (steady_writes_once n (calm_list (run_of n items)))
+writes_once_lem n items suffice = calm.writes_once (run_of n items) 32 (λ steady. steady_writes_once n (calm_list (run_of n items)) (ready n items suffice steady))

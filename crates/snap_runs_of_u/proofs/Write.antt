@@ -7,7 +7,7 @@ use Rattle.std.proofs.lemmas.List.{length-set, get_or-set_other}
 use Rattle.snap_semantics.specs.declared.process.Outcome.{Outcome}
 use Rattle.snap_words.specs.Shape.{IsOneOf}
 use Rattle.snap_words.specs.Word.{Word, no_word}
-use Rattle.snap_runs.proofs.Algorithm.{Task, At, New, typed_at, changed, stepped_auxiliary}
+use Rattle.snap_runs.proofs.Algorithm.{Mode, At, New, typed_at, changed, stepped_auxiliary}
 use Rattle.snap_runs.proofs.Flow.{IsInScan, not_update}
 use Rattle.snap_runs.proofs.Frame as frame
 use Rattle.snap_runs.proofs.Held.{word_at, Held, held_wider, seq_at, WordBefore, before_seq, Grows}
@@ -17,7 +17,7 @@ use Rattle.snap_runs_of_u.proofs.Collect.{Viewed}
 use Rattle.snap_runs_of_u.proofs.Flows.{Making, HasWritten}
 use Rattle.snap_runs_of_u.proofs.Invariant.{ProcessInvariant, PairInvariant, Invariant, StageAt, pending, others_act}
 
-module _ (n t : ℕ) (history : ℕ → Words) (x : State) (i : ℕ) (d : Task) (one : IsOneOf n i) (h : Invariant n t history x)
+module _ (n t : ℕ) (history : ℕ → Words) (x : State) (i : ℕ) (d : Mode) (one : IsOneOf n i) (h : Invariant n t history x)
     (at_32 : (typed_at (algorithm n) x i).control ≡ At d L32) (up : IsUpdate i d) where
   -- process k before the write, the new word, and the words and the writer after it
   abbrev pub at : ℕ → Process

@@ -1,2 +1,3 @@
 pub mod ListingU
 pub mod Promises
+pub mod Bounded

@@ -1,7 +1,9 @@
-//! Listing U, and what every run of it keeps.
+//! Listing U, and what every run of it keeps that has enough sequence numbers: they have 64 bits,
+//! and suffice where there are fewer than 2 ^ 64 items.
 #![tactic(auto)]
 
-ghost use Rattle.snap_runs_of_u.specs.Promises.{NeverTraps, ChangesOnlyAt32, WritesItsUpdate, WritesOnce, HavePoints, FewCollects, FewSteps, MovesAreWrites, SharpCollects, BorrowedViewsAreLent, OwnUpdatesAreSeen, PassedTestsAreClean, Linearizable, WaitFree, RunsAreSnapshots};
+ghost use Rattle.snap_runs_of_u.specs.Promises.{NeverTraps, ChangesOnlyAt32, WritesItsUpdate, WritesOnce, HavePoints, FewCollects, FewSteps, MovesAreWrites, SharpCollects, BorrowedViewsAreLent, OwnUpdatesAreSeen, PassedTestsAreClean, Linearizable, OperationsHavePlaces, WriteStronglyLinearizable, WaitFree, RunsAreSnapshots};
+ghost use Rattle.snap_runs_of_u.specs.Bounded.{OnlySequenceNumbersGrow, CountsWrites};
 
 /// No process ever traps.
 pub fn never_traps()
@@ -71,6 +73,18 @@ pub fn linearizable()
     ensures { Linearizable }
 {}
 
+/// Each operation of a run has its place, an item between its call and its end: an update that at which it executes line
+/// 32, and a scan one after which the values are its view; and in the order of their places they are a linearization.
+pub fn operations_have_places()
+    ensures { OperationsHavePlaces }
+{}
+
+/// The listing is write strongly linearizable: its runs have linearizations in which the updates keep their order as a run
+/// goes on, and more come only behind them.
+pub fn write_strongly_linearizable()
+    ensures { WriteStronglyLinearizable }
+{}
+
 /// Every call is over after so many turns of its process, whatever the others do or stop doing: at most 4 n n + 8 n + 11.
 pub fn wait_free()
     ensures { WaitFree }
@@ -79,4 +93,17 @@ pub fn wait_free()
 /// All that a snapshot promises, of every run of U.
 pub fn runs_are_snapshots()
     ensures { RunsAreSnapshots }
+{}
+
+/// In every run all but the sequence numbers is bounded: after t items a sequence number is at most
+/// t, each other number of the state is within limits that n alone decides, and each value is 0 or
+/// that of an update that was called before.
+pub fn only_sequence_numbers_grow()
+    ensures { OnlySequenceNumbersGrow }
+{}
+
+/// The sequence numbers count writes: an item leaves them as they are, or it executes line 32 and
+/// raises that of its process's word by one.
+pub fn counts_writes()
+    ensures { CountsWrites }
 {}

@@ -4,11 +4,11 @@ use Rattle.std.proofs.lemmas.Bool.{leb-true, ltb-true, and_parts}
 use Rattle.std.specs.Cmp.Lexicographic.{same_text}
 use Rattle.snap_words.specs.Shape.{Counts, IsOneOf, IsShape, max_count}
 use Rattle.snap_semantics.specs.declared.process.Op.TheVariants as op
-use Rattle.snap_semantics.specs.declared.text.Mark.{Mark}
-use Rattle.snap_semantics.specs.declared.text.Mark.TheVariants as mark
-use Rattle.snap_semantics.specs.Forms.{◌>>=◌, or_else, Found, number_at, keyword_at, mark_at, end_at}
-use Rattle.snap_semantics.specs.ScheduleForms.{Form, Steps, Calls, Crashes, spelled_shape, is_count, shape_form, step_form, steps_form, scan_form, update_form, crash_form, item_form}
-use Rattle.snap_semantics.specs.Token.{Token, Word, Number, Sign, same_mark}
+use Rattle.snap_semantics.specs.declared.text.Symbol.{Symbol}
+use Rattle.snap_semantics.specs.declared.text.Symbol.TheVariants as symbol
+use Rattle.snap_semantics.specs.Rules.{◌>>=◌, or_else, Found, number_at, keyword_at, symbol_at, end_at}
+use Rattle.snap_semantics.specs.ScheduleForms.{ItemForm, Steps, Calls, Crashes, spelled_shape, is_count, shape_form, step_form, steps_form, scan_form, update_form, crash_form, item_form}
+use Rattle.snap_semantics.specs.Token.{Token, Identifier, Number, Sign, same_symbol}
 use Rattle.snap_sched.specs.Spelling.{IsSpelling}
 
 -- what was found first, and what was found behind it
@@ -24,41 +24,41 @@ number_back None = []
 pub number_found : (ts : List Token) (x : ℕ × List Token) → number_at ts ≡ Some x → ts ≡ Number x.0 ∷ x.1
 number_found [] x e = absurd cc
 number_found (Number k ∷ ts) x e = ap number_back e
-number_found (Word w ∷ ts) x e = absurd cc
+number_found (Identifier w ∷ ts) x e = absurd cc
 number_found (Sign m ∷ ts) x e = absurd cc
 
 pub end_found : (ts : List Token) (x : Unit {0}) → end_at ts ≡ Some x → ts ≡ []
 end_found [] x e = refl
 end_found (t ∷ ts) x e = absurd cc
 
-keyword_by : (w x : List ℕ) (ts us : List Token) (b : Bool) → bytes_eq w x ≡ b → (let r : Option (List Token) = if b then Some ts else None in r) ≡ Some us → Word w ∷ ts ≡ Word x ∷ us
+keyword_by : (w x : List ℕ) (ts us : List Token) (b : Bool) → bytes_eq w x ≡ b → (let r : Option (List Token) = if b then Some ts else None in r) ≡ Some us → Identifier w ∷ ts ≡ Identifier x ∷ us
 keyword_by w x ts us true s e = let p : w ≡ x = same_text w x (sym s) in let q : ts ≡ us = cc in cc
 keyword_by w x ts us false s e = absurd cc
 
-pub keyword_found : (x : List ℕ) (ts us : List Token) → keyword_at x ts ≡ Some us → ts ≡ Word x ∷ us
+pub keyword_found : (x : List ℕ) (ts us : List Token) → keyword_at x ts ≡ Some us → ts ≡ Identifier x ∷ us
 keyword_found x [] us e = absurd cc
 keyword_found x (Number k ∷ ts) us e = absurd cc
-keyword_found x (Word w ∷ ts) us e = keyword_by w x ts us (bytes_eq w x) refl e
+keyword_found x (Identifier w ∷ ts) us e = keyword_by w x ts us (bytes_eq w x) refl e
 keyword_found x (Sign m ∷ ts) us e = absurd cc
 
-star_by : (m : Mark) (ts us : List Token) → (let r : Option (List Token) = if same_mark m mark.Star then Some ts else None in r) ≡ Some us → Sign m ∷ ts ≡ Sign mark.Star ∷ us
-star_by mark.Colon ts us e = absurd cc
-star_by mark.Equal ts us e = absurd cc
-star_by mark.Different ts us e = absurd cc
-star_by mark.Less ts us e = absurd cc
-star_by mark.Plus ts us e = absurd cc
-star_by mark.Comma ts us e = absurd cc
-star_by mark.OpenParenthesis ts us e = absurd cc
-star_by mark.CloseParenthesis ts us e = absurd cc
-star_by mark.OpenBracket ts us e = absurd cc
-star_by mark.CloseBracket ts us e = absurd cc
-star_by mark.At ts us e = absurd cc
-star_by mark.Star ts us e = let q : ts ≡ us = cc in cc
+star_by : (m : Symbol) (ts us : List Token) → (let r : Option (List Token) = if same_symbol m symbol.Star then Some ts else None in r) ≡ Some us → Sign m ∷ ts ≡ Sign symbol.Star ∷ us
+star_by symbol.Colon ts us e = absurd cc
+star_by symbol.Equal ts us e = absurd cc
+star_by symbol.Different ts us e = absurd cc
+star_by symbol.Less ts us e = absurd cc
+star_by symbol.Plus ts us e = absurd cc
+star_by symbol.Comma ts us e = absurd cc
+star_by symbol.OpenParenthesis ts us e = absurd cc
+star_by symbol.CloseParenthesis ts us e = absurd cc
+star_by symbol.OpenBracket ts us e = absurd cc
+star_by symbol.CloseBracket ts us e = absurd cc
+star_by symbol.At ts us e = absurd cc
+star_by symbol.Star ts us e = let q : ts ≡ us = cc in cc
 
-pub star_found : (ts us : List Token) → mark_at mark.Star ts ≡ Some us → ts ≡ Sign mark.Star ∷ us
+pub star_found : (ts us : List Token) → symbol_at symbol.Star ts ≡ Some us → ts ≡ Sign symbol.Star ∷ us
 star_found [] us e = absurd cc
 star_found (Number k ∷ ts) us e = absurd cc
-star_found (Word w ∷ ts) us e = absurd cc
+star_found (Identifier w ∷ ts) us e = absurd cc
 star_found (Sign m ∷ ts) us e = star_by m ts us e
 
 count_is : (k : ℕ) → is_count k ≡ true → IsOneOf max_count k
@@ -78,20 +78,20 @@ shape_found ts s e =
     let z = bind_found (end_at w.0.1) _ s w.2 in
     let h = shape_if n.0.0 w.0.0 s (is_count n.0.0 && is_count w.0.0) refl z.2 in (
       keyword_found (codes "shape") ts a.0 a.1
-          ∙ ap (λ (t : List Token). Word (codes "shape") ∷ t) (number_found a.0 n.0 n.1)
-          ∙ ap (λ (t : List Token). Word (codes "shape") ∷ Number n.0.0 ∷ t) (number_found n.0.1 w.0 w.1)
-          ∙ ap (λ (t : List Token). Word (codes "shape") ∷ Number n.0.0 ∷ Number w.0.0 ∷ t) (end_found w.0.1 z.0 z.1)
+          ∙ ap (λ (t : List Token). Identifier (codes "shape") ∷ t) (number_found a.0 n.0 n.1)
+          ∙ ap (λ (t : List Token). Identifier (codes "shape") ∷ Number n.0.0 ∷ t) (number_found n.0.1 w.0 w.1)
+          ∙ ap (λ (t : List Token). Identifier (codes "shape") ∷ Number n.0.0 ∷ Number w.0.0 ∷ t) (end_found w.0.1 z.0 z.1)
           ∙ ap spelled_shape (sym h.0),
       subst (λ (c : Counts). IsShape c.n c.w) (sym h.0) h.1,
     )
 
-some_is : (x f : Form) → (let r : Option Form = Some x in r) ≡ Some f → x ≡ f
+some_is : (x f : ItemForm) → (let r : Option ItemForm = Some x in r) ≡ Some f → x ≡ f
 some_is x f e = cc
 
-is_spelling : (ts : List Token) (x f : Form) → IsSpelling x ts → x ≡ f → IsSpelling f ts
-is_spelling ts x f h e = subst (λ (y : Form). IsSpelling y ts) e h
+is_spelling : (ts : List Token) (x f : ItemForm) → IsSpelling x ts → x ≡ f → IsSpelling f ts
+is_spelling ts x f h e = subst (λ (y : ItemForm). IsSpelling y ts) e h
 
-step_found : (ts : List Token) (f : Form) → step_form ts ≡ Some f → IsSpelling f ts
+step_found : (ts : List Token) (f : ItemForm) → step_form ts ≡ Some f → IsSpelling f ts
 unfolding step_form
 step_found ts f e =
     let i = bind_found (number_at ts) _ f e in
@@ -100,15 +100,15 @@ step_found ts f e =
     (omega arith, inl (number_found ts i.0 i.1 ∙ ap (λ (t : List Token). Number i.0.0 ∷ t) (end_found i.0.1 z.0 z.1)))
     (some_is (Steps i.0.0 1) f z.2)
 
-steps_if : (i count : ℕ) (f : Form) (b : Bool) → nat_lt 0 count ≡ b → (let r : Option Form = if b then Some (Steps i count) else None in r) ≡ Some f → (Steps i count ≡ f) × (0 < count)
+steps_if : (i count : ℕ) (f : ItemForm) (b : Bool) → nat_lt 0 count ≡ b → (let r : Option ItemForm = if b then Some (Steps i count) else None in r) ≡ Some f → (Steps i count ≡ f) × (0 < count)
 steps_if i count f true b e = (some_is (Steps i count) f e, ltb-true 0 count b)
 steps_if i count f false b e = absurd cc
 
-steps_found : (ts : List Token) (f : Form) → steps_form ts ≡ Some f → IsSpelling f ts
+steps_found : (ts : List Token) (f : ItemForm) → steps_form ts ≡ Some f → IsSpelling f ts
 unfolding steps_form
 steps_found ts f e =
     let i = bind_found (number_at ts) _ f e in
-    let m = bind_found (mark_at mark.Star i.0.1) _ f i.2 in
+    let m = bind_found (symbol_at symbol.Star i.0.1) _ f i.2 in
     let k = bind_found (number_at m.0) _ f m.2 in
     let z = bind_found (end_at k.0.1) _ f k.2 in
     let h = steps_if i.0.0 k.0.0 f (nat_lt 0 k.0.0) refl z.2 in
@@ -116,12 +116,12 @@ steps_found ts f e =
       h.1,
       inr (number_found ts i.0 i.1
           ∙ ap (λ (t : List Token). Number i.0.0 ∷ t) (star_found i.0.1 m.0 m.1)
-          ∙ ap (λ (t : List Token). Number i.0.0 ∷ Sign mark.Star ∷ t) (number_found m.0 k.0 k.1)
-          ∙ ap (λ (t : List Token). Number i.0.0 ∷ Sign mark.Star ∷ Number k.0.0 ∷ t) (end_found k.0.1 z.0 z.1)),
+          ∙ ap (λ (t : List Token). Number i.0.0 ∷ Sign symbol.Star ∷ t) (number_found m.0 k.0 k.1)
+          ∙ ap (λ (t : List Token). Number i.0.0 ∷ Sign symbol.Star ∷ Number k.0.0 ∷ t) (end_found k.0.1 z.0 z.1)),
     )
     h.0
 
-scan_found : (ts : List Token) (f : Form) → scan_form ts ≡ Some f → IsSpelling f ts
+scan_found : (ts : List Token) (f : ItemForm) → scan_form ts ≡ Some f → IsSpelling f ts
 unfolding scan_form
 scan_found ts f e =
     let i = bind_found (number_at ts) _ f e in
@@ -130,10 +130,10 @@ scan_found ts f e =
     is_spelling ts (Calls i.0.0 op.Scan) f
     (number_found ts i.0 i.1
     ∙ ap (λ (t : List Token). Number i.0.0 ∷ t) (keyword_found (codes "scan") i.0.1 a.0 a.1)
-    ∙ ap (λ (t : List Token). Number i.0.0 ∷ Word (codes "scan") ∷ t) (end_found a.0 z.0 z.1))
+    ∙ ap (λ (t : List Token). Number i.0.0 ∷ Identifier (codes "scan") ∷ t) (end_found a.0 z.0 z.1))
     (some_is (Calls i.0.0 op.Scan) f z.2)
 
-update_found : (ts : List Token) (f : Form) → update_form ts ≡ Some f → IsSpelling f ts
+update_found : (ts : List Token) (f : ItemForm) → update_form ts ≡ Some f → IsSpelling f ts
 unfolding update_form
 update_found ts f e =
     let i = bind_found (number_at ts) _ f e in
@@ -144,12 +144,12 @@ update_found ts f e =
     is_spelling ts (Calls i.0.0 (op.Update k.0.0 x.0.0)) f
     (number_found ts i.0 i.1
     ∙ ap (λ (t : List Token). Number i.0.0 ∷ t) (keyword_found (codes "update") i.0.1 a.0 a.1)
-    ∙ ap (λ (t : List Token). Number i.0.0 ∷ Word (codes "update") ∷ t) (number_found a.0 k.0 k.1)
-    ∙ ap (λ (t : List Token). Number i.0.0 ∷ Word (codes "update") ∷ Number k.0.0 ∷ t) (number_found k.0.1 x.0 x.1)
-    ∙ ap (λ (t : List Token). Number i.0.0 ∷ Word (codes "update") ∷ Number k.0.0 ∷ Number x.0.0 ∷ t) (end_found x.0.1 z.0 z.1))
+    ∙ ap (λ (t : List Token). Number i.0.0 ∷ Identifier (codes "update") ∷ t) (number_found a.0 k.0 k.1)
+    ∙ ap (λ (t : List Token). Number i.0.0 ∷ Identifier (codes "update") ∷ Number k.0.0 ∷ t) (number_found k.0.1 x.0 x.1)
+    ∙ ap (λ (t : List Token). Number i.0.0 ∷ Identifier (codes "update") ∷ Number k.0.0 ∷ Number x.0.0 ∷ t) (end_found x.0.1 z.0 z.1))
     (some_is (Calls i.0.0 (op.Update k.0.0 x.0.0)) f z.2)
 
-crash_found : (ts : List Token) (f : Form) → crash_form ts ≡ Some f → IsSpelling f ts
+crash_found : (ts : List Token) (f : ItemForm) → crash_form ts ≡ Some f → IsSpelling f ts
 unfolding crash_form
 crash_found ts f e =
     let i = bind_found (number_at ts) _ f e in
@@ -158,32 +158,32 @@ crash_found ts f e =
     is_spelling ts (Crashes i.0.0) f
     (number_found ts i.0 i.1
     ∙ ap (λ (t : List Token). Number i.0.0 ∷ t) (keyword_found (codes "crash") i.0.1 a.0 a.1)
-    ∙ ap (λ (t : List Token). Number i.0.0 ∷ Word (codes "crash") ∷ t) (end_found a.0 z.0 z.1))
+    ∙ ap (λ (t : List Token). Number i.0.0 ∷ Identifier (codes "crash") ∷ t) (end_found a.0 z.0 z.1))
     (some_is (Crashes i.0.0) f z.2)
 
-first_found : (o p : Option Form) (f : Form) → or_else o p ≡ Some f → (o ≡ Some f) ⊎ (p ≡ Some f)
+first_found : (o p : Option ItemForm) (f : ItemForm) → or_else o p ≡ Some f → (o ≡ Some f) ⊎ (p ≡ Some f)
 first_found None p f e = inr e
 first_found (Some x) p f e = inl e
 
-item_by4 : (ts : List Token) (f : Form) → (update_form ts ≡ Some f) ⊎ (crash_form ts ≡ Some f) → IsSpelling f ts
+item_by4 : (ts : List Token) (f : ItemForm) → (update_form ts ≡ Some f) ⊎ (crash_form ts ≡ Some f) → IsSpelling f ts
 item_by4 ts f (inl e) = update_found ts f e
 item_by4 ts f (inr e) = crash_found ts f e
 
-item_by3 : (ts : List Token) (f : Form) → (scan_form ts ≡ Some f) ⊎ (or_else (update_form ts) (crash_form ts) ≡ Some f) → IsSpelling f ts
+item_by3 : (ts : List Token) (f : ItemForm) → (scan_form ts ≡ Some f) ⊎ (or_else (update_form ts) (crash_form ts) ≡ Some f) → IsSpelling f ts
 item_by3 ts f (inl e) = scan_found ts f e
 item_by3 ts f (inr e) = item_by4 ts f (first_found (update_form ts) (crash_form ts) f e)
 
-item_by2 : (ts : List Token) (f : Form) → (steps_form ts ≡ Some f) ⊎ (or_else (scan_form ts) (or_else (update_form ts) (crash_form ts)) ≡ Some f) →
+item_by2 : (ts : List Token) (f : ItemForm) → (steps_form ts ≡ Some f) ⊎ (or_else (scan_form ts) (or_else (update_form ts) (crash_form ts)) ≡ Some f) →
     IsSpelling f ts
 item_by2 ts f (inl e) = steps_found ts f e
 item_by2 ts f (inr e) = item_by3 ts f (first_found (scan_form ts) (or_else (update_form ts) (crash_form ts)) f e)
 
-item_by1 : (ts : List Token) (f : Form) →
+item_by1 : (ts : List Token) (f : ItemForm) →
     (step_form ts ≡ Some f) ⊎ (or_else (steps_form ts) (or_else (scan_form ts) (or_else (update_form ts) (crash_form ts))) ≡ Some f) → IsSpelling f ts
 item_by1 ts f (inl e) = step_found ts f e
 item_by1 ts f (inr e) = item_by2 ts f (first_found (steps_form ts) (or_else (scan_form ts) (or_else (update_form ts) (crash_form ts))) f e)
 
-pub item_found : (ts : List Token) (f : Form) → item_form ts ≡ Some f → IsSpelling f ts
+pub item_found : (ts : List Token) (f : ItemForm) → item_form ts ≡ Some f → IsSpelling f ts
 unfolding item_form
 item_found ts f e =
     item_by1 ts f (first_found (step_form ts) (or_else (steps_form ts) (or_else (scan_form ts) (or_else (update_form ts) (crash_form ts)))) f e)

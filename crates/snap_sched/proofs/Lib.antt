@@ -3,10 +3,10 @@ pub mod Greatest
 pub mod Lines
 pub mod Found
 pub mod Spelled
-pub mod Fits
+pub mod JoinedItems
 pub mod Fitting
 pub mod Again
 pub mod Round
 pub mod Keeping
-pub mod Cursors
+pub mod NextItem
 pub mod Told

@@ -9,13 +9,13 @@ use Rattle.snap_semantics.specs.declared.process.Item.TheVariants as item
 use Rattle.snap_semantics.specs.declared.refusal.ScheduleRefusal.{ScheduleRefusal}
 use Rattle.snap_semantics.specs.declared.refusal.ScheduleRefusal.TheVariants as refusal
 use Rattle.snap_semantics.specs.Answers.{◌>>=◌}
-use Rattle.snap_semantics.specs.Forms.{form_or}
+use Rattle.snap_semantics.specs.Rules.{form_or}
 use Rattle.snap_semantics.specs.Schedule.{admitted, items_of, form_process, form_count, form_items}
-use Rattle.snap_semantics.specs.declared.text.Mark.TheVariants as mark
-use Rattle.snap_semantics.specs.ScheduleForms.{Form, Steps, Calls, Crashes, step_form, steps_form, scan_form, update_form, crash_form, item_form}
+use Rattle.snap_semantics.specs.declared.text.Symbol.TheVariants as symbol
+use Rattle.snap_semantics.specs.ScheduleForms.{ItemForm, Steps, Calls, Crashes, step_form, steps_form, scan_form, update_form, crash_form, item_form}
 use Rattle.snap_semantics.specs.Table.{who}
 use Rattle.snap_semantics.specs.Token.{TextLine, Number, Sign}
-use Rattle.snap_sched.specs.Reading.{line_form, next_form}
+use Rattle.snap_sched.specs.ReaderSteps.{line_form, next_form}
 
 -- items before those that were read
 abbrev pub prefixed : List Item → Result (List Item) ScheduleRefusal → Result (List Item) ScheduleRefusal
@@ -23,7 +23,7 @@ prefixed xs (Ok ys) = Ok (xs ++ ys)
 prefixed xs (Err e) = Err e
 
 -- the rule for the rest, once the first line is read
-abbrev pub rest_of : ℕ → ℕ → List TextLine → Form → Result (List Item) ScheduleRefusal
+abbrev pub rest_of : ℕ → ℕ → List TextLine → ItemForm → Result (List Item) ScheduleRefusal
 rest_of n left lines f = items_of n (left - form_count f) lines >>= λ items. Ok (form_items f ++ items)
 
 pub bind_assoc : {A B C : Type 0} (r : Result A ScheduleRefusal) (f : A → Result B ScheduleRefusal) (g : B → Result C ScheduleRefusal) →
@@ -35,7 +35,7 @@ pub first_line : (n left : ℕ) (line : TextLine) (lines : List TextLine) →
     items_of n left (line ∷ lines) ≡ (line_form n left line >>= rest_of n left lines)
 first_line n left line lines = bind_assoc (form_or (refusal.BadItem line.number) item_form line.tokens) (admitted n left line.number) (rest_of n left lines)
 
-pub length_items : (f : Form) → length (form_items f) ≡ form_count f
+pub length_items : (f : ItemForm) → length (form_items f) ≡ form_count f
 length_items (Steps i count) = length-replicate count (item.Step i)
 length_items (Calls i op) = refl
 length_items (Crashes i) = refl
@@ -45,7 +45,7 @@ prefixed_more xs ys (Ok zs) = ap (λ (items : List Item). let r : Result (List I
 prefixed_more xs ys (Err e) = refl
 
 -- a line that is read
-pub turn : (n : ℕ) (lines rest : List TextLine) (line : TextLine) (items more : List Item) (f : Form) →
+pub turn : (n : ℕ) (lines rest : List TextLine) (line : TextLine) (items more : List Item) (f : ItemForm) →
     lines ≡ line ∷ rest → line_form n (1000000 - length items) line ≡ Ok f → more ≡ items ++ form_items f →
     prefixed more (items_of n (1000000 - length more) rest) ≡ prefixed items (items_of n (1000000 - length items) lines)
 turn n lines rest line items more f is found added =
@@ -54,7 +54,7 @@ turn n lines rest line items more f is found added =
     ap (λ (k : ℕ). prefixed more (items_of n k rest)) left
     ∙ ap (λ (xs : List Item). prefixed xs (items_of n (1000000 - length items - form_count f) rest)) added
     ∙ prefixed_more items (form_items f) (items_of n (1000000 - length items - form_count f) rest)
-    ∙ ap (λ (r : Result Form ScheduleRefusal). prefixed items (r >>= rest_of n (1000000 - length items) rest)) (sym found)
+    ∙ ap (λ (r : Result ItemForm ScheduleRefusal). prefixed items (r >>= rest_of n (1000000 - length items) rest)) (sym found)
     ∙ ap (prefixed items) (sym (first_line n (1000000 - length items) line rest))
     ∙ ap (λ (ls : List TextLine). prefixed items (items_of n (1000000 - length items) ls)) (sym is)
 
@@ -64,7 +64,7 @@ pub stop : (n : ℕ) (lines rest : List TextLine) (line : TextLine) (items : Lis
 stop n lines rest line items e is found =
     ap (λ (ls : List TextLine). prefixed items (items_of n (1000000 - length items) ls)) is
     ∙ ap (prefixed items) (first_line n (1000000 - length items) line rest)
-    ∙ ap (λ (r : Result Form ScheduleRefusal). prefixed items (r >>= rest_of n (1000000 - length items) rest)) found
+    ∙ ap (λ (r : Result ItemForm ScheduleRefusal). prefixed items (r >>= rest_of n (1000000 - length items) rest)) found
 
 -- no line is left
 pub whole : (n : ℕ) (lines : List TextLine) (items : List Item) → lines ≡ [] → prefixed items (items_of n (1000000 - length items) lines) ≡ Ok items
@@ -73,11 +73,11 @@ whole n lines items none =
     ∙ ap (λ (xs : List Item). let r : Result (List Item) ScheduleRefusal = Ok xs in r) (append-nil items)
 
 -- what was admitted
-abbrev pub IsAdmitted : ℕ → ℕ → Form → Type 0
+abbrev pub IsAdmitted : ℕ → ℕ → ItemForm → Type 0
 IsAdmitted n left f = IsOneOf n (form_process f) × (form_count f ≤ left)
 
-admitted_by : (n left line : ℕ) (form f : Form) (there many : Bool) → (nat_le 1 (form_process form) && nat_le (form_process form) n) ≡ there → nat_lt left (form_count form) ≡ many →
-    (let r : Result Form ScheduleRefusal = if not there then Err (refusal.NoSuchProcess line) else if many then Err (refusal.TooManyItems line) else Ok form in r) ≡ Ok f → IsAdmitted n left f
+admitted_by : (n left line : ℕ) (form f : ItemForm) (there many : Bool) → (nat_le 1 (form_process form) && nat_le (form_process form) n) ≡ there → nat_lt left (form_count form) ≡ many →
+    (let r : Result ItemForm ScheduleRefusal = if not there then Err (refusal.NoSuchProcess line) else if many then Err (refusal.TooManyItems line) else Ok form in r) ≡ Ok f → IsAdmitted n left f
 admitted_by n left line form f false many e d h = absurd cc
 admitted_by n left line form f true true e d h = absurd cc
 admitted_by n left line form f true false e d h =
@@ -86,25 +86,25 @@ admitted_by n left line form f true false e d h =
     let within = leb-true (form_process form) n parts.1 in
     let few = ltb-false left (form_count form) d in
     let same : form ≡ f = cc in
-    subst (λ (x : Form). IsAdmitted n left x) same ((omega (arith, some), within), few)
+    subst (λ (x : ItemForm). IsAdmitted n left x) same ((omega (arith, some), within), few)
 
-admitted_same : (line : ℕ) (form f : Form) (there many : Bool) →
-    (let r : Result Form ScheduleRefusal = if not there then Err (refusal.NoSuchProcess line) else if many then Err (refusal.TooManyItems line) else Ok form in r) ≡ Ok f → form ≡ f
+admitted_same : (line : ℕ) (form f : ItemForm) (there many : Bool) →
+    (let r : Result ItemForm ScheduleRefusal = if not there then Err (refusal.NoSuchProcess line) else if many then Err (refusal.TooManyItems line) else Ok form in r) ≡ Ok f → form ≡ f
 admitted_same line form f false many h = absurd cc
 admitted_same line form f true true h = absurd cc
 admitted_same line form f true false h = cc
 
-pub admitted_is : (n left line : ℕ) (form f : Form) → admitted n left line form ≡ Ok f → form ≡ f
+pub admitted_is : (n left line : ℕ) (form f : ItemForm) → admitted n left line form ≡ Ok f → form ≡ f
 admitted_is n left line form f e = admitted_same line form f (nat_le 1 (form_process form) && nat_le (form_process form) n) (nat_lt left (form_count form)) e
 
-pub is_admitted : (n left line : ℕ) (form f : Form) → admitted n left line form ≡ Ok f → IsAdmitted n left f
+pub is_admitted : (n left line : ℕ) (form f : ItemForm) → admitted n left line form ≡ Ok f → IsAdmitted n left f
 is_admitted n left line form f e = admitted_by n left line form f (nat_le 1 (form_process form) && nat_le (form_process form) n) (nat_lt left (form_count form)) refl refl e
 
-line_admitted_by : (n left line : ℕ) (r : Result Form ScheduleRefusal) (f : Form) → (r >>= admitted n left line) ≡ Ok f → IsAdmitted n left f
+line_admitted_by : (n left line : ℕ) (r : Result ItemForm ScheduleRefusal) (f : ItemForm) → (r >>= admitted n left line) ≡ Ok f → IsAdmitted n left f
 line_admitted_by n left line (Ok form) f e = is_admitted n left line form f e
 line_admitted_by n left line (Err d) f e = absurd cc
 
-pub line_admitted : (n left : ℕ) (line : TextLine) (f : Form) → line_form n left line ≡ Ok f → IsAdmitted n left f
+pub line_admitted : (n left : ℕ) (line : TextLine) (f : ItemForm) → line_form n left line ≡ Ok f → IsAdmitted n left f
 line_admitted n left line f e = line_admitted_by n left line.number (form_or (refusal.BadItem line.number) item_form line.tokens) f e
 
 -- what holds of the process of a form holds of those of its items
@@ -116,13 +116,13 @@ all_steps : (P : ℕ → Type 0) (count i : ℕ) → P i → AllByRecursion (λ 
 all_steps P zero i h = tt
 all_steps P (suc count) i h = (h, all_steps P count i h)
 
-pub all_form : (P : ℕ → Type 0) (f : Form) → P (form_process f) → AllByRecursion (λ x. P (who x)) (form_items f)
+pub all_form : (P : ℕ → Type 0) (f : ItemForm) → P (form_process f) → AllByRecursion (λ x. P (who x)) (form_items f)
 all_form P (Steps i count) h = all_steps P count i h
 all_form P (Calls i op) h = (h, tt)
 all_form P (Crashes i) h = (h, tt)
 
 -- the items are of processes that are there, and few
-pub kept : (n : ℕ) (line : TextLine) (items more : List Item) (f : Form) → line_form n (1000000 - length items) line ≡ Ok f → more ≡ items ++ form_items f →
+pub kept : (n : ℕ) (line : TextLine) (items more : List Item) (f : ItemForm) → line_form n (1000000 - length items) line ≡ Ok f → more ≡ items ++ form_items f →
     length items ≤ 1000000 → AllByRecursion (λ x. IsOneOf n (who x)) items → (length more ≤ 1000000) × AllByRecursion (λ x. IsOneOf n (who x)) more
 kept n line items more f found added few h =
     let ok = line_admitted n (1000000 - length items) line f found in
@@ -132,34 +132,34 @@ kept n line items more f found added few h =
     )
 
 -- the line of which the next form comes
-pub record Next (n left : ℕ) (lines rest : List TextLine) (f : Form) : Type 0 where
+pub record Next (n left : ℕ) (lines rest : List TextLine) (f : ItemForm) : Type 0 where
   pub line : TextLine
   pub is : lines ≡ line ∷ rest
   pub form : line_form n left line ≡ Ok f
 
 -- what was found: a form and the lines behind it, or that no line is left
 abbrev Found : Type 0
-Found = Result (Option (Form × List TextLine)) ScheduleRefusal
+Found = Result (Option (ItemForm × List TextLine)) ScheduleRefusal
 
-some_found : (f g : Form) (xs ys : List TextLine) → (let r : Found = Ok (Some (f, xs)) in r) ≡ Ok (Some (g, ys)) → (let p : Form × List TextLine = (f, xs) in p) ≡ (g, ys)
+some_found : (f g : ItemForm) (xs ys : List TextLine) → (let r : Found = Ok (Some (f, xs)) in r) ≡ Ok (Some (g, ys)) → (let p : ItemForm × List TextLine = (f, xs) in p) ≡ (g, ys)
 some_found f g xs ys e = cc
 
-next_by : (n left : ℕ) (line : TextLine) (lines rest : List TextLine) (r : Result Form ScheduleRefusal) (f : Form) → line_form n left line ≡ r →
+next_by : (n left : ℕ) (line : TextLine) (lines rest : List TextLine) (r : Result ItemForm ScheduleRefusal) (f : ItemForm) → line_form n left line ≡ r →
     (let x : Found = r >>= λ form. Ok (Some (form, lines)) in x) ≡ Ok (Some (f, rest)) → Next n left (line ∷ lines) rest f
 next_by n left line lines rest (Ok g) f e h =
     let same = some_found g f lines rest h in
     record {
       line = line;
-      is = ap (λ (p : Form × List TextLine). line ∷ p.1) same;
-      form = e ∙ ap (λ (p : Form × List TextLine). let r : Result Form ScheduleRefusal = Ok p.0 in r) same;
+      is = ap (λ (p : ItemForm × List TextLine). line ∷ p.1) same;
+      form = e ∙ ap (λ (p : ItemForm × List TextLine). let r : Result ItemForm ScheduleRefusal = Ok p.0 in r) same;
     }
 next_by n left line lines rest (Err d) f e h = absurd cc
 
-pub next_found : (n left : ℕ) (lines rest : List TextLine) (f : Form) → next_form n left lines ≡ Ok (Some (f, rest)) → Next n left lines rest f
+pub next_found : (n left : ℕ) (lines rest : List TextLine) (f : ItemForm) → next_form n left lines ≡ Ok (Some (f, rest)) → Next n left lines rest f
 next_found n left [] rest f h = absurd cc
 next_found n left (line ∷ lines) rest f h = next_by n left line lines rest (line_form n left line) f refl h
 
-none_by : (lines : List TextLine) (r : Result Form ScheduleRefusal) → (let x : Found = r >>= λ form. Ok (Some (form, lines)) in x) ≡ Ok None → ⊥
+none_by : (lines : List TextLine) (r : Result ItemForm ScheduleRefusal) → (let x : Found = r >>= λ form. Ok (Some (form, lines)) in x) ≡ Ok None → ⊥
 none_by lines (Ok f) e = cc
 none_by lines (Err d) e = cc
 
@@ -168,7 +168,7 @@ pub next_none : (n left : ℕ) (lines : List TextLine) → next_form n left line
 next_none n left [] e = refl
 next_none n left (line ∷ lines) e = absurd (none_by lines (line_form n left line) e)
 
-refused_by : (n left : ℕ) (lines : List TextLine) (r : Result Form ScheduleRefusal) (d : ScheduleRefusal) → (let x : Found = r >>= λ form. Ok (Some (form, lines)) in x) ≡ Err d →
+refused_by : (n left : ℕ) (lines : List TextLine) (r : Result ItemForm ScheduleRefusal) (d : ScheduleRefusal) → (let x : Found = r >>= λ form. Ok (Some (form, lines)) in x) ≡ Err d →
     (r >>= rest_of n left lines) ≡ Err d
 refused_by n left lines (Ok f) d e = absurd cc
 refused_by n left lines (Err c) d e = cc
@@ -181,6 +181,6 @@ next_refused n (line ∷ lines) items d e =
     let left = 1000000 - length items in
     ap (prefixed items) (first_line n left line lines ∙ refused_by n left lines (line_form n left line) d e)
 
-pub no_steps : (i : ℕ) → item_form (Number i ∷ Sign mark.Star ∷ Number 0 ∷ []) ≡ None
+pub no_steps : (i : ℕ) → item_form (Number i ∷ Sign symbol.Star ∷ Number 0 ∷ []) ≡ None
 unfolding item_form step_form steps_form scan_form update_form crash_form
 no_steps i = refl

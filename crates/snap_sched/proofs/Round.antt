@@ -7,9 +7,9 @@ use Rattle.snap_words.specs.Shape.{Counts, IsOneOf, IsShape, max_count}
 use Rattle.snap_semantics.specs.declared.process.Item.{Item}
 use Rattle.snap_semantics.specs.declared.process.Item.TheVariants as item
 use Rattle.snap_semantics.specs.declared.process.Op.TheVariants as op
-use Rattle.snap_semantics.specs.declared.text.Mark.TheVariants as mark
+use Rattle.snap_semantics.specs.declared.text.Symbol.TheVariants as symbol
 use Rattle.snap_semantics.specs.Schedule.{Schedule, schedule_of, form_count, form_items}
-use Rattle.snap_semantics.specs.ScheduleForms.{Form, Steps, Calls, Crashes, spelled_shape, spelled_form}
+use Rattle.snap_semantics.specs.ScheduleForms.{ItemForm, Steps, Calls, Crashes, spelled_shape, spelled_form}
 use Rattle.snap_semantics.specs.ScheduleText.{IsSchedule, step_onto, item_onto, forms_of, schedule_text, FitsWords, FitsItem}
 use Rattle.snap_semantics.specs.Table.{who}
 use Rattle.snap_semantics.specs.Token.{Token, Number, Sign, text_lines}
@@ -22,70 +22,70 @@ use Rattle.snap_sched.proofs.Apart.{AreApart, forms_apart}
 use Rattle.snap_sched.proofs.Lines.{length_items}
 
 -- a form whose numbers have 64 bits
-abbrev pub FitsForm : Form → Type 0
+abbrev pub FitsForm : ItemForm → Type 0
 FitsForm (Steps i count) = (i < 2 ^ 64) × (count < 2 ^ 64)
 FitsForm (Calls i o) = (i < 2 ^ 64) × FitsWords o
 FitsForm (Crashes i) = i < 2 ^ 64
 
-steps_stand : (i count : ℕ) (v : Bool) → i < 2 ^ 64 → count < 2 ^ 64 → IsSoundLine (if v then Number i ∷ [] else Number i ∷ Sign mark.Star ∷ Number count ∷ [])
+steps_stand : (i count : ℕ) (v : Bool) → i < 2 ^ 64 → count < 2 ^ 64 → IsSoundLine (if v then Number i ∷ [] else Number i ∷ Sign symbol.Star ∷ Number count ∷ [])
 steps_stand i count true h g = (refl, (h, tt))
 steps_stand i count false h g = (refl, (h, (tt, (g, tt))))
 
-form_stands : (f : Form) → FitsForm f → IsSoundLine (spelled_form f)
+form_stands : (f : ItemForm) → FitsForm f → IsSoundLine (spelled_form f)
 form_stands (Steps i count) h = steps_stand i count (nat_eq count 1) h.0 h.1
 form_stands (Calls i op.Scan) h = (refl, (h.0, ((omega arith, refl), tt)))
 form_stands (Calls i (op.Update word value)) h = (refl, (h.0, ((omega arith, refl), (h.1.0, (h.1.1, tt)))))
 form_stands (Crashes i) h = (refl, (h, ((omega arith, refl), tt)))
 
-forms_stand : (fs : List Form) → AllByRecursion FitsForm fs → AllByRecursion IsSoundLine (map spelled_form fs)
+forms_stand : (fs : List ItemForm) → AllByRecursion FitsForm fs → AllByRecursion IsSoundLine (map spelled_form fs)
 forms_stand [] h = tt
 forms_stand (f ∷ fs) h = (form_stands f h.0, forms_stand fs h.1)
 
-form_spelled : (f : Form) → 0 < form_count f → IsSpelling f (spelled_form f)
+form_spelled : (f : ItemForm) → 0 < form_count f → IsSpelling f (spelled_form f)
 form_spelled (Steps i count) some = (some, inl refl)
 form_spelled (Calls i o) some = refl
 form_spelled (Crashes i) some = refl
 
-forms_spelled : (fs : List Form) → AreApart fs → AreLinesOf fs (found_lines (map spelled_form fs))
+forms_spelled : (fs : List ItemForm) → AreApart fs → AreLinesOf fs (found_lines (map spelled_form fs))
 forms_spelled [] h = tt
 forms_spelled (f ∷ fs) h = (form_spelled f h.0, forms_spelled fs h.2)
 
-step_items_by : (i k a : ℕ) (fs : List Form) (v : Bool) → nat_eq i k ≡ v →
+step_items_by : (i k a : ℕ) (fs : List ItemForm) (v : Bool) → nat_eq i k ≡ v →
     flat_map form_items (if v then Steps k (suc a) ∷ fs else Steps i 1 ∷ Steps k a ∷ fs) ≡ item.Step i ∷ flat_map form_items (Steps k a ∷ fs)
 step_items_by i k a fs true e = ap (λ (p : ℕ). item.Step p ∷ flat_map form_items (Steps k a ∷ fs)) (sym (eqb-true i k e))
 step_items_by i k a fs false e = refl
 
-step_items : (i : ℕ) (fs : List Form) → flat_map form_items (step_onto i fs) ≡ item.Step i ∷ flat_map form_items fs
+step_items : (i : ℕ) (fs : List ItemForm) → flat_map form_items (step_onto i fs) ≡ item.Step i ∷ flat_map form_items fs
 step_items i [] = refl
 step_items i (Steps k a ∷ fs) = step_items_by i k a fs (nat_eq i k) refl
 step_items i (Calls k o ∷ fs) = refl
 step_items i (Crashes k ∷ fs) = refl
 
-item_items : (x : Item) (fs : List Form) → flat_map form_items (item_onto x fs) ≡ x ∷ flat_map form_items fs
+item_items : (x : Item) (fs : List ItemForm) → flat_map form_items (item_onto x fs) ≡ x ∷ flat_map form_items fs
 item_items (item.Step i) fs = step_items i fs
 item_items (item.Call i o) fs = refl
 item_items (item.Crash i) fs = refl
 
--- the items of the greatest runs are the items
+-- the items of the greatest segments are the items
 pub forms_items : (xs : List Item) → flat_map form_items (forms_of xs) ≡ xs
 forms_items [] = refl
 forms_items (x ∷ xs) = item_items x (forms_of xs) ∙ ap (λ (ys : List Item). x ∷ ys) (forms_items xs)
 
 -- an item whose numbers have 64 bits, that of its process too
-abbrev Fits : Item → Type 0
-Fits x = (who x < 2 ^ 64) × FitsItem x
+abbrev FitsLong : Item → Type 0
+FitsLong x = (who x < 2 ^ 64) × FitsItem x
 
-all_behind : (xs ys : List Item) → AllByRecursion Fits (xs ++ ys) → AllByRecursion Fits ys
+all_behind : (xs ys : List Item) → AllByRecursion FitsLong (xs ++ ys) → AllByRecursion FitsLong ys
 all_behind [] ys h = h
 all_behind (x ∷ xs) ys h = all_behind xs ys h.1
 
-form_fits : (f : Form) (xs : List Item) → 0 < form_count f → form_count f ≤ 1000000 → AllByRecursion Fits (form_items f ++ xs) → FitsForm f
+form_fits : (f : ItemForm) (xs : List Item) → 0 < form_count f → form_count f ≤ 1000000 → AllByRecursion FitsLong (form_items f ++ xs) → FitsForm f
 form_fits (Steps i zero) xs some few h = absurd (omega arith)
 form_fits (Steps i (suc count)) xs some few h = (h.0.0, omega arith)
 form_fits (Calls i o) xs some few h = h.0
 form_fits (Crashes i) xs some few h = h.0.0
 
-forms_fit : (fs : List Form) → AreApart fs → AllByRecursion Fits (flat_map form_items fs) → length (flat_map form_items fs) ≤ 1000000 → AllByRecursion FitsForm fs
+forms_fit : (fs : List ItemForm) → AreApart fs → AllByRecursion FitsLong (flat_map form_items fs) → length (flat_map form_items fs) ≤ 1000000 → AllByRecursion FitsForm fs
 forms_fit [] apart h few = tt
 forms_fit (f ∷ fs) apart h few =
     let all : length (form_items f ++ flat_map form_items fs) ≡ form_count f + length (flat_map form_items fs) = length-append (form_items f) (flat_map form_items fs) ∙ ap (λ (k : ℕ). k + length (flat_map form_items fs)) (length_items f) in (
@@ -93,7 +93,7 @@ forms_fit (f ∷ fs) apart h few =
       forms_fit fs apart.2 (all_behind (form_items f) (flat_map form_items fs) h) (omega (arith, all, few)),
     )
 
-items_fit : (n : ℕ) (xs : List Item) → n ≤ max_count → AllByRecursion (λ x. IsOneOf n (who x)) xs → AllByRecursion FitsItem xs → AllByRecursion Fits xs
+items_fit : (n : ℕ) (xs : List Item) → n ≤ max_count → AllByRecursion (λ x. IsOneOf n (who x)) xs → AllByRecursion FitsItem xs → AllByRecursion FitsLong xs
 items_fit n [] small h g = tt
 items_fit n (x ∷ xs) small h g = let within = h.0.1 in ((omega (arith, within, small), g.0), items_fit n xs small h.1 g.1)
 
@@ -109,7 +109,7 @@ printed_lines : (s : Schedule) → IsSchedule s → line_tokens (text_lines (sch
 printed_lines s h =
     let same = forms_items s.items in
     let all = items_fit s.shape.n s.items h.shape.0.1 h.processes h.fits in
-    let forms = forms_fit (forms_of s.items) (forms_apart s.items) (subst (AllByRecursion Fits) (sym same) all) (subst (λ (xs : List Item). length xs ≤ 1000000) (sym same) h.few) in
+    let forms = forms_fit (forms_of s.items) (forms_apart s.items) (subst (AllByRecursion FitsLong) (sym same) all) (subst (λ (xs : List Item). length xs ≤ 1000000) (sym same) h.few) in
     laid_read (spelled_lines s) (shape_stands s.shape h.shape, forms_stand (forms_of s.items) forms)
 
 pub printed_again : (s : Schedule) → IsSchedule s → length (schedule_text s) ≤ 4194304 → schedule_of (schedule_text s) ≡ Ok s

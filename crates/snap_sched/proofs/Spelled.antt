@@ -8,9 +8,9 @@ use Rattle.snap_semantics.specs.declared.process.Item.{Item}
 use Rattle.snap_semantics.specs.declared.refusal.ScheduleRefusal.{ScheduleRefusal}
 use Rattle.snap_semantics.specs.declared.refusal.ScheduleRefusal.TheVariants as refusal
 use Rattle.snap_semantics.specs.Answers.{◌>>=◌}
-use Rattle.snap_semantics.specs.Forms.{form_or, found_or}
+use Rattle.snap_semantics.specs.Rules.{form_or, found_or}
 use Rattle.snap_semantics.specs.Schedule.{Schedule, admitted, items_of, schedule_of_lines, schedule_of, form_process, form_count, form_items}
-use Rattle.snap_semantics.specs.ScheduleForms.{Form, shape_form, item_form}
+use Rattle.snap_semantics.specs.ScheduleForms.{ItemForm, shape_form, item_form}
 use Rattle.snap_semantics.specs.Table.{who}
 use Rattle.snap_semantics.specs.Token.{Token, TextLine, text_lines}
 use Rattle.snap_text.specs.Lines.{line_tokens}
@@ -33,18 +33,18 @@ form_found : {A : Type 0} (e : ScheduleRefusal) (rule : List Token → Option A)
 form_found e rule None x h = absurd cc
 form_found e rule (Some ts) x h = (ts, refl, or_found e (rule ts) x h)
 
-line_of : (line : Option (List Token)) (ts : List Token) (f : Form) → line ≡ Some ts → IsSpelling f ts → IsLineOf f line
+line_of : (line : Option (List Token)) (ts : List Token) (f : ItemForm) → line ≡ Some ts → IsSpelling f ts → IsLineOf f line
 line_of line ts f e h = subst (λ (o : Option (List Token)). IsLineOf f o) (sym e) h
 
 -- the forms of lines, of which the items are made
 pub record Reads (n left : ℕ) (items : List Item) (lines : List TextLine) : Type 0 where
-  pub forms : List Form
+  pub forms : List ItemForm
   pub spelled : AreLinesOf forms (line_tokens lines)
   pub made : flat_map form_items forms ≡ items
   pub processes : AllByRecursion (λ x. IsOneOf n (who x)) items
   pub few : length items ≤ left
 
-reads_line : (n left : ℕ) (items more : List Item) (line : TextLine) (lines : List TextLine) (f : Form) → IsLineOf f line.tokens → IsOneOf n (form_process f) → form_count f ≤ left →
+reads_line : (n left : ℕ) (items more : List Item) (line : TextLine) (lines : List TextLine) (f : ItemForm) → IsLineOf f line.tokens → IsOneOf n (form_process f) → form_count f ≤ left →
     form_items f ++ more ≡ items → Reads n (left - form_count f) more lines → Reads n left items (line ∷ lines)
 reads_line n left items more line lines f h there fits is rest =
     let longer : length items ≡ form_count f + length more = ap length (sym is) ∙ length-append (form_items f) more ∙ ap (λ (k : ℕ). k + length more) (length_items f) in
@@ -69,7 +69,7 @@ items_found n left (line ∷ lines) items e =
     let ok = is_admitted n left line.number a.0 b.0 b.1 in
     let same = admitted_is n left line.number a.0 b.0 b.1 in
     reads_line n left items rest.0 line lines b.0
-    (line_of line.tokens h.0 b.0 h.1 (subst (λ (x : Form). IsSpelling x h.0) same (item_found h.0 a.0 h.2)))
+    (line_of line.tokens h.0 b.0 h.1 (subst (λ (x : ItemForm). IsSpelling x h.0) same (item_found h.0 a.0 h.2)))
     ok.0 ok.1 (ok_items (form_items b.0 ++ rest.0) items rest.2) (items_found n (left - form_count b.0) lines rest.0 rest.1)
 
 ok_schedule : (x y : Schedule) → (let r : Result Schedule ScheduleRefusal = Ok x in r) ≡ Ok y → x ≡ y

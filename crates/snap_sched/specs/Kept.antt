@@ -1,70 +1,70 @@
--- How runs are kept: where each begins and whose it is, and apart from them which are calls and crashes.
+-- How segments are kept: where each begins and whose it is, and apart from them which are calls and crashes.
 use Rattle.std.specs.Prelude.{◌≡◌, ℕ, ◌+◌, ◌-◌, List, [], ◌∷◌, length, Option, Some, None, nat_eq, if◌then◌else◌}
 use Rattle.std.specs.List.{AllByRecursion}
 use Rattle.snap_semantics.specs.Schedule.{form_process, form_count}
 use Rattle.snap_semantics.specs.ScheduleText.{FitsItem}
-use Rattle.snap_sched.specs.Runs.{view_run, items_of_runs, AreGreatest}
-use Rattle.snap_sched.specs.declared.stretches.Deed.{Deed}
-use Rattle.snap_sched.specs.declared.stretches.Deed.TheVariants as deed
-use Rattle.snap_sched.specs.declared.stretches.Run.{Run}
-use Rattle.snap_sched.specs.declared.stretches.Single.{Single}
-use Rattle.snap_sched.specs.declared.stretches.Stretch.{Stretch}
-use Rattle.snap_sched.specs.declared.stretches.Stretch.TheVariants as runs
+use Rattle.snap_sched.specs.Segments.{segment_form, items_of_segments, AreGreatest}
+use Rattle.snap_sched.specs.declared.segments.CallOrCrash.{CallOrCrash}
+use Rattle.snap_sched.specs.declared.segments.CallOrCrash.TheVariants as what
+use Rattle.snap_sched.specs.declared.segments.SegmentStart.{SegmentStart}
+use Rattle.snap_sched.specs.declared.segments.Single.{Single}
+use Rattle.snap_sched.specs.declared.segments.Segment.{Segment}
+use Rattle.snap_sched.specs.declared.segments.Segment.TheVariants as segments
 
 -- a call or a crash of a process
-abbrev pub single_stretch : ℕ → Deed → Stretch
-single_stretch i (deed.Call op) = runs.Call i op
-single_stretch i deed.Crash = runs.Crash i
+abbrev pub single_segment : ℕ → CallOrCrash → Segment
+single_segment i (what.Call op) = segments.Call i op
+single_segment i what.Crash = segments.Crash i
 
--- where the first of these runs begins; where there is none, all items are before it
-abbrev pub next_start : List Run → ℕ → ℕ
+-- where the first of these segments begins; where there is none, all items are before it
+abbrev pub next_start : List SegmentStart → ℕ → ℕ
 next_start [] len = len
 next_start (r ∷ rs) len = r.start
 
--- the runs that are kept so, of so many items in all
-abbrev pub stretches_of : List Run → List Single → ℕ → List Stretch
-stretches_of [] ss len = []
-stretches_of (r ∷ rs) [] len = runs.Steps r.process (next_start rs len - r.start) ∷ stretches_of rs [] len
-stretches_of (r ∷ rs) (s ∷ ss) len =
+-- the segments that are kept so, of so many items in all
+abbrev pub segments_of : List SegmentStart → List Single → ℕ → List Segment
+segments_of [] ss len = []
+segments_of (r ∷ rs) [] len = segments.Steps r.process (next_start rs len - r.start) ∷ segments_of rs [] len
+segments_of (r ∷ rs) (s ∷ ss) len =
     if nat_eq s.start r.start
-    then single_stretch r.process s.deed ∷ stretches_of rs ss len
-    else runs.Steps r.process (next_start rs len - r.start) ∷ stretches_of rs (s ∷ ss) len
+    then single_segment r.process s.what ∷ segments_of rs ss len
+    else segments.Steps r.process (next_start rs len - r.start) ∷ segments_of rs (s ∷ ss) len
 
-abbrev pub run_process : Stretch → ℕ
-run_process x = form_process (view_run x)
+abbrev pub segment_process : Segment → ℕ
+segment_process x = form_process (segment_form x)
 
-abbrev pub run_count : Stretch → ℕ
-run_count x = form_count (view_run x)
+abbrev pub segment_count : Segment → ℕ
+segment_count x = form_count (segment_form x)
 
--- where runs begin, so many items before the first of them
-abbrev pub runs_from : ℕ → List Stretch → List Run
-runs_from k [] = []
-runs_from k (x ∷ xs) = record { start = k; process = run_process x } ∷ runs_from (k + run_count x) xs
+-- where segments begin, so many items before the first of them
+abbrev pub starts_from : ℕ → List Segment → List SegmentStart
+starts_from k [] = []
+starts_from k (x ∷ xs) = record { start = k; process = segment_process x } ∷ starts_from (k + segment_count x) xs
 
--- the calls and crashes among runs, so many items before the first of them
-abbrev pub singles_from : ℕ → List Stretch → List Single
+-- the calls and crashes among segments, so many items before the first of them
+abbrev pub singles_from : ℕ → List Segment → List Single
 singles_from k [] = []
-singles_from k (runs.Steps i count ∷ xs) = singles_from (k + count) xs
-singles_from k (runs.Call i op ∷ xs) = record { start = k; deed = deed.Call op } ∷ singles_from (k + 1) xs
-singles_from k (runs.Crash i ∷ xs) = record { start = k; deed = deed.Crash } ∷ singles_from (k + 1) xs
+singles_from k (segments.Steps i count ∷ xs) = singles_from (k + count) xs
+singles_from k (segments.Call i op ∷ xs) = record { start = k; what = what.Call op } ∷ singles_from (k + 1) xs
+singles_from k (segments.Crash i ∷ xs) = record { start = k; what = what.Crash } ∷ singles_from (k + 1) xs
 
 -- the process of steps
-abbrev pub steps_process : Stretch → Option ℕ
-steps_process (runs.Steps i count) = Some i
-steps_process (runs.Call i op) = None
-steps_process (runs.Crash i) = None
+abbrev pub steps_process : Segment → Option ℕ
+steps_process (segments.Steps i count) = Some i
+steps_process (segments.Call i op) = None
+steps_process (segments.Crash i) = None
 
--- the process whose steps the last run is, where it is steps
-abbrev pub last_process : List Stretch → Option ℕ
+-- the process whose steps the last segment is, where it is steps
+abbrev pub last_process : List Segment → Option ℕ
 last_process [] = None
 last_process (x ∷ []) = steps_process x
 last_process (x ∷ y ∷ xs) = last_process (y ∷ xs)
 
--- runs that are the greatest ones of their items, kept so
-pub record Keeps (rs : List Run) (ss : List Single) (len : ℕ) (stepping : Option ℕ) (xs : List Stretch) : Type 0 where
-  pub starts : rs ≡ runs_from 0 xs
+-- segments that are the greatest ones of their items, kept so
+pub record Keeps (rs : List SegmentStart) (ss : List Single) (len : ℕ) (stepping : Option ℕ) (xs : List Segment) : Type 0 where
+  pub starts : rs ≡ starts_from 0 xs
   pub singles : ss ≡ singles_from 0 xs
-  pub all : len ≡ length (items_of_runs xs)
+  pub all : len ≡ length (items_of_segments xs)
   pub last : stepping ≡ last_process xs
   pub greatest : AreGreatest xs
-  pub fits : AllByRecursion FitsItem (items_of_runs xs)
+  pub fits : AllByRecursion FitsItem (items_of_segments xs)

@@ -1,8 +1,8 @@
-pub mod Runs
+pub mod Segments
 pub mod Kept
-pub mod Reading
+pub mod ReaderSteps
 pub mod Spelling
 pub mod Laws
-pub mod Cursors
+pub mod ItemsLeft
 pub mod ScriptForms
 pub mod ScriptText

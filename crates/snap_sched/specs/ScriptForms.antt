@@ -1,14 +1,14 @@
 -- The forms of the lines of scripts.
 use Rattle.std.specs.Prelude.{ℕ, Bool, ◌&&◌, List, [], ◌∷◌, Option, Some, None, nat_eq, nat_le, codes, if◌then◌else◌}
 use Rattle.snap_semantics.specs.declared.process.Op.{Op}
-use Rattle.snap_semantics.specs.Forms.{◌>>=◌, or_else, number_at, keyword_at, end_at}
-use Rattle.snap_semantics.specs.ScheduleForms.{Form, Steps, Calls, Crashes, item_form}
+use Rattle.snap_semantics.specs.Rules.{◌>>=◌, or_else, number_at, keyword_at, end_at}
+use Rattle.snap_semantics.specs.ScheduleForms.{ItemForm, Steps, Calls, Crashes, item_form}
 use Rattle.snap_semantics.specs.Token.{Token}
 use Rattle.snap_sched.specs.declared.script_forms.ScriptForm.{ScriptForm}
 use Rattle.snap_sched.specs.declared.script_forms.ScriptForm.TheVariants as script
 
 -- a call, which is one of scripts too
-abbrev pub as_call : Form → Option ScriptForm
+abbrev pub as_call : ItemForm → Option ScriptForm
 as_call (Steps i count) = None
 as_call (Calls i op) = Some (script.Call i op)
 as_call (Crashes i) = None

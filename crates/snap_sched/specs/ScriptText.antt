@@ -6,7 +6,7 @@ use Rattle.snap_semantics.specs.declared.process.Op.{Op}
 use Rattle.snap_semantics.specs.declared.refusal.ScheduleRefusal.{ScheduleRefusal}
 use Rattle.snap_semantics.specs.declared.refusal.ScheduleRefusal.TheVariants as refusal
 use Rattle.snap_semantics.specs.Answers.{◌>>=◌}
-use Rattle.snap_semantics.specs.Forms.{form_or}
+use Rattle.snap_semantics.specs.Rules.{form_or}
 use Rattle.snap_semantics.specs.ScheduleForms.{shape_form}
 use Rattle.snap_semantics.specs.Token.{TextLine, text_lines}
 use Rattle.snap_sched.specs.ScriptForms.{script_form, script_process, ops_of, crash_of}

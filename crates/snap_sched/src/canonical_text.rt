@@ -3,12 +3,12 @@ ghost use Rattle.std.specs.Prelude.{◌≡◌, ◌++◌, map, OnOk, IfOk};
 ghost use Rattle.snap_semantics.specs.ScheduleForms.{Crashes, spelled_shape, spelled_steps, spelled_call, spelled_form};
 ghost use Rattle.snap_semantics.specs.Layout.{line_text};
 ghost use Rattle.snap_semantics.specs.ScheduleText.{forms_text, schedule_text};
-ghost use Rattle.snap_sched.specs.Runs.{view_run};
+ghost use Rattle.snap_sched.specs.Segments.{segment_form};
 ghost use Rattle.snap_semantics.specs.declared.process.Op.TheVariants.{Scan, Update};
 
 use crate::schedule::Schedule;
-use crate::stretches::{Stretch, Stretches};
-use snap_semantics::{Mark, Op};
+use crate::segments::{Segment, Segments};
+use snap_semantics::{Op, Symbol};
 use snap_text::{Token, push_laid_out};
 use snap_words::Shape;
 use std::alloc::{AllocError, Global};
@@ -24,7 +24,7 @@ fn push_steps(out: &mut Vec<u8>, process: u64, count: u64) -> Result<(), AllocEr
         out,
         &[
             Token::Number(process),
-            Token::Sign(Mark::Star),
+            Token::Sign(Symbol::Star),
             Token::Number(count),
         ],
     )
@@ -34,7 +34,7 @@ fn push_steps(out: &mut Vec<u8>, process: u64, count: u64) -> Result<(), AllocEr
 fn push_scan(out: &mut Vec<u8>, process: u64) -> Result<(), AllocError>
     ensures { OnOk result (out.new.items ≡ out.old.items ++ line_text (spelled_call process Scan)) }
 {
-    push_laid_out(out, &[Token::Number(process), Token::Word(b"scan")])
+    push_laid_out(out, &[Token::Number(process), Token::Identifier(b"scan")])
 }
 
 /// Adds the line of an update: `I update K X`.
@@ -45,7 +45,7 @@ fn push_update(out: &mut Vec<u8>, process: u64, word: u64, value: u64) -> Result
         out,
         &[
             Token::Number(process),
-            Token::Word(b"update"),
+            Token::Identifier(b"update"),
             Token::Number(word),
             Token::Number(value),
         ],
@@ -56,33 +56,33 @@ fn push_update(out: &mut Vec<u8>, process: u64, word: u64, value: u64) -> Result
 fn push_crash(out: &mut Vec<u8>, process: u64) -> Result<(), AllocError>
     ensures { OnOk result (out.new.items ≡ out.old.items ++ line_text (spelled_form (Crashes process))) }
 {
-    push_laid_out(out, &[Token::Number(process), Token::Word(b"crash")])
+    push_laid_out(out, &[Token::Number(process), Token::Identifier(b"crash")])
 }
 
-/// Adds the line of a run.
-fn push_run(out: &mut Vec<u8>, run: Stretch) -> Result<(), AllocError>
-    ensures { OnOk result (out.new.items ≡ out.old.items ++ line_text (spelled_form (view_run run))) }
+/// Adds the line of a segment.
+fn push_segment(out: &mut Vec<u8>, segment: Segment) -> Result<(), AllocError>
+    ensures { OnOk result (out.new.items ≡ out.old.items ++ line_text (spelled_form (segment_form segment))) }
 {
-    match run {
-        Stretch::Steps { process, count } => push_steps(out, u64::from(process), count),
-        Stretch::Call {
+    match segment {
+        Segment::Steps { process, count } => push_steps(out, u64::from(process), count),
+        Segment::Call {
             process,
             op: Op::Scan,
         } => push_scan(out, u64::from(process)),
-        Stretch::Call {
+        Segment::Call {
             process,
             op: Op::Update { word, value },
         } => push_update(out, u64::from(process), word, value),
-        Stretch::Crash { process } => push_crash(out, u64::from(process)),
+        Segment::Crash { process } => push_crash(out, u64::from(process)),
     }
 }
 
-/// Adds the lines of runs.
-fn push_runs(out: &mut Vec<u8>, runs: Stretches<'_>) -> Result<(), AllocError>
-    ensures { OnOk result (out.new.items ≡ out.old.items ++ forms_text (map view_run runs.entry)) }
+/// Adds the lines of segments.
+fn push_segments(out: &mut Vec<u8>, segments: Segments<'_>) -> Result<(), AllocError>
+    ensures { OnOk result (out.new.items ≡ out.old.items ++ forms_text (map segment_form segments.entry)) }
 {
-    for run in runs {
-        push_run(out, run)?;
+    for segment in segments {
+        push_segment(out, segment)?;
     }
     Ok(())
 }
@@ -94,7 +94,7 @@ fn push_shape(out: &mut Vec<u8>, shape: Shape) -> Result<(), AllocError>
     push_laid_out(
         out,
         &[
-            Token::Word(b"shape"),
+            Token::Identifier(b"shape"),
             Token::Number(shape.n()),
             Token::Number(shape.w()),
         ],
@@ -107,6 +107,6 @@ pub fn print(alloc: Global, schedule: &Schedule) -> Result<Vec<u8>, AllocError>
 {
     let mut out = Vec::new(alloc);
     push_shape(&mut out, schedule.shape())?;
-    push_runs(&mut out, schedule.items().runs())?;
+    push_segments(&mut out, schedule.items().segments())?;
     Ok(out)
 }

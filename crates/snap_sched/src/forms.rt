@@ -2,10 +2,10 @@
 ghost use Rattle.std.specs.Prelude.{◌≡◌};
 ghost use Rattle.snap_semantics.specs.ScheduleForms.{shape_form, step_form, steps_form, scan_form, update_form, crash_form, item_form};
 ghost use Rattle.snap_text.specs.Tokens.{Finds, view_tokens};
-ghost use Rattle.snap_sched.specs.Reading.{view_form, shape_of};
+ghost use Rattle.snap_sched.specs.ReaderSteps.{view_form, shape_of};
 
-use snap_semantics::{Mark, Op};
-use snap_text::{Token, end_at, keyword_at, mark_at, number_at};
+use snap_semantics::{Op, Symbol};
+use snap_text::{Token, end_at, keyword_at, number_at, symbol_at};
 use snap_words::Shape;
 
 /// What a line asks for, whether or not its process is there.
@@ -51,7 +51,7 @@ fn steps_form(tokens: &[Token<'_>]) -> Option<ItemForm>
     ensures { Finds view_form result (steps_form (view_tokens tokens.now)) }
 {
     let (process, rest) = number_at(tokens)?;
-    let rest = mark_at(Mark::Star, rest)?;
+    let rest = symbol_at(Symbol::Star, rest)?;
     let (count, rest) = number_at(rest)?;
     end_at(rest)?;
     if count == 0 {

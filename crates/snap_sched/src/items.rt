@@ -1,39 +1,39 @@
-//! The items of a schedule or of a history, kept as runs.
+//! The items of a schedule or of a history, kept as segments.
 ghost use Rattle.std.specs.Prelude.{◌≡◌, ◌+◌, ◌<◌, ◌^◌, ◌↔◌, [], ◌∷◌, ◌++◌, length, map, replicate, IsTrue, IfOk, OnOk, OnErr};
 ghost use Rattle.std.specs.List.{AllByRecursion, flat_map};
 ghost use Rattle.snap_semantics.specs.declared.process.Item.TheVariants.{Step, Call, Crash};
 ghost use Rattle.snap_semantics.specs.ScheduleText.{forms_of, FitsItem, FitsWords};
-ghost use Rattle.snap_sched.specs.Runs.{run_items, view_run};
-ghost use Rattle.snap_sched.specs.Kept.{single_stretch};
+ghost use Rattle.snap_sched.specs.Segments.{segment_items, segment_form};
+ghost use Rattle.snap_sched.specs.Kept.{single_segment};
 
-use crate::stretches::{Deed, Run, Single, Stretches};
+use crate::segments::{CallOrCrash, SegmentStart, Segments, Single};
 use snap_semantics::Op;
 use std::alloc::{AllocError, Global};
 use std::marker::Model;
 
-/// A list of fewer than 2^32 items, kept as its greatest runs: steps of one process side by side take 8 bytes, however
+/// A list of fewer than 2^32 items, kept as its greatest segments: steps of one process side by side take 8 bytes, however
 /// many they are.
 #[derive(Debug, Drop)]
 pub struct Items {
-    runs: Vec<Run>,
-    /// The runs that are calls and crashes.
+    segments: Vec<SegmentStart>,
+    /// The segments that are calls and crashes.
     singles: Vec<Single>,
     len: u32,
-    /// The process whose steps the last run is, where it is steps.
+    /// The process whose steps the last segment is, where it is steps.
     stepping: Option<u32>,
 }
 
 impl Model for Items {
     ghost use Rattle.std.specs.Prelude.{List};
     ghost use Rattle.snap_semantics.specs.declared.process.Item.{Item};
-    ghost use Rattle.snap_sched.specs.Runs.{items_of_runs};
-    ghost use Rattle.snap_sched.specs.Kept.{stretches_of, Keeps};
+    ghost use Rattle.snap_sched.specs.Segments.{items_of_segments};
+    ghost use Rattle.snap_sched.specs.Kept.{segments_of, Keeps};
 
     ghost Value = { List Item };
 
-    ghost view = { λ x. items_of_runs (stretches_of x.runs.items x.singles.items x.len) };
+    ghost view = { λ x. items_of_segments (segments_of x.segments.items x.singles.items x.len) };
 
-    ghost invariant = { λ x. Keeps x.runs.items x.singles.items x.len x.stepping (stretches_of x.runs.items x.singles.items x.len) };
+    ghost invariant = { λ x. Keeps x.segments.items x.singles.items x.len x.stepping (segments_of x.segments.items x.singles.items x.len) };
 }
 
 /// The operation, whose numbers have 64 bits.
@@ -53,7 +53,7 @@ impl Items {
         ensures { result ≡ [] }
     {
         Items {
-            runs: Vec::new(alloc),
+            segments: Vec::new(alloc),
             singles: Vec::new(alloc),
             len: 0,
             stepping: None,
@@ -74,13 +74,13 @@ impl Items {
         self.len == 0
     }
 
-    /// The greatest runs of steps, the calls and the crashes, in order.
-    pub fn runs(&self) -> Stretches<'_>
-        ensures items { flat_map run_items result ≡ self.now }
-        ensures greatest { map view_run result ≡ forms_of self.now }
+    /// The greatest segments of steps, the calls and the crashes, in order.
+    pub fn segments(&self) -> Segments<'_>
+        ensures items { flat_map segment_items result ≡ self.now }
+        ensures greatest { map segment_form result ≡ forms_of self.now }
         ensures fits { AllByRecursion FitsItem self.now }
     {
-        Stretches::new(self.runs.as_slice(), self.singles.as_slice(), self.len)
+        Segments::new(self.segments.as_slice(), self.singles.as_slice(), self.len)
     }
 
     /// An equal list.
@@ -88,7 +88,7 @@ impl Items {
         ensures { IfOk result (λ items. items ≡ self.now) }
     {
         Ok(Items {
-            runs: Vec::from_slice(alloc, self.runs.as_slice())?,
+            segments: Vec::from_slice(alloc, self.segments.as_slice())?,
             singles: Vec::from_slice(alloc, self.singles.as_slice())?,
             len: self.len,
             stepping: self.stepping,
@@ -110,7 +110,7 @@ impl Items {
             self.len = len;
             return Ok(());
         }
-        self.runs.push(Run {
+        self.segments.push(SegmentStart {
             start: self.len,
             process,
         })?;
@@ -120,21 +120,21 @@ impl Items {
     }
 
     /// Adds a call or a crash.
-    fn push_single(&mut self, process: u32, deed: Deed) -> Result<(), AllocError>
+    fn push_single(&mut self, process: u32, what: CallOrCrash) -> Result<(), AllocError>
         requires few { length self.old + 1 < 2 ^ 32 }
-        requires fits { AllByRecursion FitsItem (run_items (single_stretch process deed)) }
-        ensures added { OnOk result (self.new ≡ self.old ++ run_items (single_stretch process deed)) }
+        requires fits { AllByRecursion FitsItem (segment_items (single_segment process what)) }
+        ensures added { OnOk result (self.new ≡ self.old ++ segment_items (single_segment process what)) }
         ensures fits { AllByRecursion FitsItem self.new }
         ensures unchanged { OnErr result (self.new ≡ self.old) }
     {
         self.singles.reserve(1)?;
-        self.runs.push(Run {
+        self.segments.push(SegmentStart {
             start: self.len,
             process,
         })?;
         self.singles.push_reserved(Single {
             start: self.len,
-            deed,
+            what,
         });
         self.len += 1;
         self.stepping = None;
@@ -148,7 +148,7 @@ impl Items {
         ensures fits { AllByRecursion FitsItem self.new }
         ensures unchanged { OnErr result (self.new ≡ self.old) }
     {
-        self.push_single(process, Deed::Call(fitting(op)))
+        self.push_single(process, CallOrCrash::Call(fitting(op)))
     }
 
     /// Adds a crash.
@@ -158,6 +158,6 @@ impl Items {
         ensures fits { AllByRecursion FitsItem self.new }
         ensures unchanged { OnErr result (self.new ≡ self.old) }
     {
-        self.push_single(process, Deed::Crash)
+        self.push_single(process, CallOrCrash::Crash)
     }
 }

@@ -1,10 +1,10 @@
-//! Schedules and their items: read from texts, kept as runs, and printed; and scripts of live runs, read.
+//! Schedules and their items: read from texts, kept as segments, and printed; and scripts of live runs, read.
 #![tactic(auto)]
 
 mod canonical_text;
-mod cursor;
 mod fault;
 mod forms;
+mod item_iter;
 mod items;
 mod laws;
 mod reader;
@@ -12,15 +12,15 @@ mod schedule;
 mod script_forms;
 mod script_reader;
 mod scripts;
-mod stretches;
+mod segments;
 
 pub use canonical_text::print;
-pub use cursor::Cursor;
 pub use fault::ScheduleFault;
+pub use item_iter::ItemIter;
 pub use items::Items;
 pub use laws::{prints_again, reads_all_spelled, reads_only_spelled};
 pub use reader::read;
 pub use schedule::{MAX_BYTES, MAX_ITEMS, Schedule};
 pub use script_reader::read_scripts;
 pub use scripts::{Script, Scripts};
-pub use stretches::{Stretch, Stretches};
+pub use segments::{Segment, Segments};

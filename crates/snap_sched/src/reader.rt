@@ -12,7 +12,7 @@ ghost use Rattle.snap_semantics.specs.ScheduleForms.{item_form};
 ghost use Rattle.snap_text.specs.Lines.{view_line};
 ghost use Rattle.snap_text.specs.Numbers.{number_tokens};
 ghost use Rattle.snap_text.specs.Tokens.{Finds};
-ghost use Rattle.snap_sched.specs.Reading.{view_form, line_form, next_form, first_shape};
+ghost use Rattle.snap_sched.specs.ReaderSteps.{view_form, line_form, next_form, first_shape};
 
 use crate::fault::ScheduleFault;
 use crate::forms::{ItemForm, item_form, shape_form};

@@ -21,10 +21,10 @@ pub struct Schedule {
 }
 
 impl Model for Schedule {
-    ghost use Rattle.snap_semantics.specs.Schedule.{Schedule as Seen};
+    ghost use Rattle.snap_semantics.specs.Schedule.{Schedule};
     ghost use Rattle.snap_semantics.specs.ScheduleText.{IsSchedule};
 
-    ghost Value = { Seen };
+    ghost Value = { Schedule };
 
     ghost view = { λ s. record { shape = s.shape; items = s.items } };
 

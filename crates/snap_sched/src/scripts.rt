@@ -14,9 +14,9 @@ pub struct Script {
 }
 
 impl Model for Script {
-    ghost use Rattle.snap_sched.specs.ScriptText.{Script as Seen};
+    ghost use Rattle.snap_sched.specs.ScriptText.{Script};
 
-    ghost Value = { Seen };
+    ghost Value = { Script };
 
     ghost view = { λ s. record { operations = s.operations.items; crash = s.crash } };
 }
@@ -29,9 +29,9 @@ pub struct Scripts {
 }
 
 impl Model for Scripts {
-    ghost use Rattle.snap_sched.specs.ScriptText.{Scripts as Seen, AreScripts};
+    ghost use Rattle.snap_sched.specs.ScriptText.{Scripts, AreScripts};
 
-    ghost Value = { Seen };
+    ghost Value = { Scripts };
 
     ghost view = { λ s. record { shape = s.shape; scripts = s.scripts.items } };
 

@@ -1,3 +1,1 @@
 pub mod Samples
-pub mod ImageSamples
-pub mod CommentSamples

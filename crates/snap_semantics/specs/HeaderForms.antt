@@ -2,12 +2,12 @@
 use Rattle.std.specs.Prelude.{ℕ, List, [], ◌∷◌, Option, Some, None, codes, if◌then◌else◌, bytes_eq}
 use Rattle.snap_words.specs.declared.kind.KindTag.{KindTag}
 use Rattle.snap_words.specs.declared.kind.KindTag.TheVariants as kind
-use Rattle.snap_semantics.specs.Forms.{◌>>=◌, number_at, word_at, keyword_at, end_at}
+use Rattle.snap_semantics.specs.Rules.{◌>>=◌, number_at, identifier_at, keyword_at, end_at}
 use Rattle.snap_semantics.specs.ListingForms.{is_line_number}
-use Rattle.snap_semantics.specs.Token.{Token, Word, Number, Sign}
+use Rattle.snap_semantics.specs.Token.{Token, Identifier, Number, Sign}
 
-abbrev pub kind_of_word : List ℕ → Option KindTag
-kind_of_word w =
+abbrev pub kind_of_keyword : List ℕ → Option KindTag
+kind_of_keyword w =
     if bytes_eq w (codes "seq") then Some kind.Seq else
     if bytes_eq w (codes "bit") then Some kind.Bits else
     if bytes_eq w (codes "multi") then Some kind.Multi else None
@@ -16,15 +16,15 @@ kind_of_word w =
 unfoldable pub kind_form : List Token → Option KindTag
 kind_form ts = do
   a ← keyword_at (codes "kind") ts
-  w ← word_at a
-  k ← kind_of_word w.0
+  w ← identifier_at a
+  k ← kind_of_keyword w.0
   end ← end_at w.1
   Some k
 
--- words alone
+-- identifiers alone
 abbrev pub words_form : List Token → Option (List (List ℕ))
 words_form [] = Some []
-words_form (Word w ∷ ts) = words_form ts >>= λ ws. Some (w ∷ ws)
+words_form (Identifier w ∷ ts) = words_form ts >>= λ ws. Some (w ∷ ws)
 words_form (Number k ∷ ts) = None
 words_form (Sign m ∷ ts) = None
 

@@ -1,34 +1,34 @@
 -- The canonical text of tokens: how a line is laid out. A space stands between two tokens, but for these places: none before a
--- closing bracket, a comma, a colon or a star, none behind an opening bracket or a star, and none between a word and an opening
+-- closing bracket, a comma, a colon or a star, none behind an opening bracket or a star, and none between an identifier and an opening
 -- bracket. Behind a comma stands a space only where it parts the elements of a tuple, whose bracket stands behind `=`.
 use Rattle.std.specs.Prelude.{ℕ, zero, suc, Bool, true, false, List, [], ◌∷◌, ◌++◌, nat_eq, codes, decimal, if◌then◌else◌}
-use Rattle.snap_semantics.specs.declared.text.Mark.{Mark}
-use Rattle.snap_semantics.specs.declared.text.Mark.TheVariants as mark
-use Rattle.snap_semantics.specs.Token.{Token, Word, Number, Sign}
+use Rattle.snap_semantics.specs.declared.text.Symbol.{Symbol}
+use Rattle.snap_semantics.specs.declared.text.Symbol.TheVariants as symbol
+use Rattle.snap_semantics.specs.Token.{Token, Identifier, Number, Sign}
 
-abbrev pub mark_text : Mark → List ℕ
-mark_text mark.Colon = codes ":"
-mark_text mark.Equal = codes "="
-mark_text mark.Different = codes "!="
-mark_text mark.Less = codes "<"
-mark_text mark.Plus = codes "+"
-mark_text mark.Comma = codes ","
-mark_text mark.OpenParenthesis = codes "("
-mark_text mark.CloseParenthesis = codes ")"
-mark_text mark.OpenBracket = codes "["
-mark_text mark.CloseBracket = codes "]"
-mark_text mark.At = codes "@"
-mark_text mark.Star = codes "*"
+abbrev pub symbol_text : Symbol → List ℕ
+symbol_text symbol.Colon = codes ":"
+symbol_text symbol.Equal = codes "="
+symbol_text symbol.Different = codes "!="
+symbol_text symbol.Less = codes "<"
+symbol_text symbol.Plus = codes "+"
+symbol_text symbol.Comma = codes ","
+symbol_text symbol.OpenParenthesis = codes "("
+symbol_text symbol.CloseParenthesis = codes ")"
+symbol_text symbol.OpenBracket = codes "["
+symbol_text symbol.CloseBracket = codes "]"
+symbol_text symbol.At = codes "@"
+symbol_text symbol.Star = codes "*"
 
 -- how a token is spelled
 abbrev pub token_text : Token → List ℕ
-token_text (Word w) = w
+token_text (Identifier w) = w
 token_text (Number k) = decimal k
-token_text (Sign m) = mark_text m
+token_text (Sign m) = symbol_text m
 
 -- how deep in the brackets of a tuple the place behind a token is: 0 outside of it, and 1 between its elements
 abbrev pub opened : ℕ → Token → ℕ
-opened zero (Sign mark.Equal) = 1
+opened zero (Sign symbol.Equal) = 1
 opened zero t = 0
 opened (suc depth) t = suc (suc depth)
 
@@ -37,29 +37,29 @@ closed zero = 0
 closed (suc depth) = depth
 
 abbrev pub depth_behind : ℕ → Token → Token → ℕ
-depth_behind depth before (Sign mark.OpenParenthesis) = opened depth before
-depth_behind depth before (Sign mark.CloseParenthesis) = closed depth
+depth_behind depth before (Sign symbol.OpenParenthesis) = opened depth before
+depth_behind depth before (Sign symbol.CloseParenthesis) = closed depth
 depth_behind depth before t = depth
 
 -- whether a space may stand behind a token at this depth
 abbrev pub parts_behind : ℕ → Token → Bool
-parts_behind depth (Word w) = true
+parts_behind depth (Identifier w) = true
 parts_behind depth (Number k) = true
-parts_behind depth (Sign mark.OpenParenthesis) = false
-parts_behind depth (Sign mark.OpenBracket) = false
-parts_behind depth (Sign mark.Star) = false
-parts_behind depth (Sign mark.Comma) = nat_eq depth 1
+parts_behind depth (Sign symbol.OpenParenthesis) = false
+parts_behind depth (Sign symbol.OpenBracket) = false
+parts_behind depth (Sign symbol.Star) = false
+parts_behind depth (Sign symbol.Comma) = nat_eq depth 1
 parts_behind depth (Sign m) = true
 
 -- whether a space may stand before a token, behind the one before it
 abbrev pub parts_before : Token → Token → Bool
-parts_before (Word w) (Sign mark.OpenParenthesis) = false
-parts_before (Word w) (Sign mark.OpenBracket) = false
-parts_before t (Sign mark.CloseParenthesis) = false
-parts_before t (Sign mark.CloseBracket) = false
-parts_before t (Sign mark.Comma) = false
-parts_before t (Sign mark.Colon) = false
-parts_before t (Sign mark.Star) = false
+parts_before (Identifier w) (Sign symbol.OpenParenthesis) = false
+parts_before (Identifier w) (Sign symbol.OpenBracket) = false
+parts_before t (Sign symbol.CloseParenthesis) = false
+parts_before t (Sign symbol.CloseBracket) = false
+parts_before t (Sign symbol.Comma) = false
+parts_before t (Sign symbol.Colon) = false
+parts_before t (Sign symbol.Star) = false
 parts_before t u = true
 
 abbrev pub gap : ℕ → Token → Token → List ℕ

@@ -7,9 +7,9 @@ pub mod Table
 pub mod Run
 pub mod Memory
 pub mod Readers
-pub mod Places
+pub mod WithContents
 pub mod Token
-pub mod Forms
+pub mod Rules
 pub mod ScheduleForms
 pub mod Schedule
 pub mod ScheduleText
@@ -23,10 +23,4 @@ pub mod IsListing
 pub mod Comments
 pub mod Layout
 pub mod CanonicalText
-pub mod ImageCodes
-pub mod Image
-pub mod ImageForms
-pub mod ImageInstrs
-pub mod ImageListing
-pub mod Assembly
 pub mod Report

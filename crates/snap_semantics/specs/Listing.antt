@@ -7,7 +7,7 @@ use Rattle.snap_semantics.specs.declared.instr.Line.{Line}
 use Rattle.snap_semantics.specs.declared.refusal.ListingRefusal.{ListingRefusal}
 use Rattle.snap_semantics.specs.declared.refusal.ListingRefusal.TheVariants as refusal
 use Rattle.snap_semantics.specs.Answers.{◌>>=◌}
-use Rattle.snap_semantics.specs.Forms.{form_or}
+use Rattle.snap_semantics.specs.Rules.{form_or}
 use Rattle.snap_semantics.specs.HeaderForms.{kind_form, names_form, entry_form}
 use Rattle.snap_semantics.specs.ListingForms.{is_reserved, line_form}
 use Rattle.snap_semantics.specs.Source.{Name, Source}

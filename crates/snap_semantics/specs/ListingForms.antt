@@ -1,4 +1,4 @@
--- The forms of the lines of a listing. Names are any words that are not reserved; a word of more than eight letters is kept
+-- The forms of the lines of a listing. Names are any identifiers that are not reserved; one of more than eight letters is kept
 -- by its first nine.
 use Rattle.std.specs.Prelude.{ℕ, Bool, true, false, ◌&&◌, List, [], ◌∷◌, take, Option, Some, None, nat_le, bytes_eq, codes, if◌then◌else◌}
 use Rattle.std.specs.List.{list_any}
@@ -28,12 +28,12 @@ use Rattle.snap_semantics.specs.declared.instr.Term.{Term}
 use Rattle.snap_semantics.specs.declared.instr.Term.TheVariants as term
 use Rattle.snap_semantics.specs.declared.instr.Tuple.{Tuple}
 use Rattle.snap_semantics.specs.declared.instr.Tuple.TheVariants as tuple
-use Rattle.snap_semantics.specs.declared.text.Mark.TheVariants as mark
-use Rattle.snap_semantics.specs.Forms.{◌>>=◌, or_else, Found, number_at, word_at, keyword_at, mark_at, end_at}
+use Rattle.snap_semantics.specs.declared.text.Symbol.TheVariants as symbol
+use Rattle.snap_semantics.specs.Rules.{◌>>=◌, or_else, Found, number_at, identifier_at, keyword_at, symbol_at, end_at}
 use Rattle.snap_semantics.specs.Source.{Name}
 use Rattle.snap_semantics.specs.Token.{Token}
 
--- the words that are no names
+-- the reserved words, which are no names
 abbrev pub reserved_words : List (List ℕ)
 reserved_words =
     codes "kind" ∷ codes "seq" ∷ codes "bit" ∷ codes "multi" ∷ codes "scalar" ∷ codes "row" ∷ codes "words" ∷ codes "view"
@@ -45,24 +45,24 @@ reserved_words =
 abbrev pub is_reserved : List ℕ → Bool
 is_reserved w = list_any (bytes_eq w) reserved_words
 
--- a word in a name's place
-abbrev pub name_of_word : List ℕ → Option Name
-name_of_word w = if is_reserved w then None else Some (take 9 w)
+-- an identifier in a name's place
+abbrev pub name_of_identifier : List ℕ → Option Name
+name_of_identifier w = if is_reserved w then None else Some (take 9 w)
 
 unfoldable pub name_at : List Token → Found Name
 name_at ts = do
-  w ← word_at ts
-  x ← name_of_word w.0
+  w ← identifier_at ts
+  x ← name_of_identifier w.0
   Some (x, w.1)
 
 -- An index: a number, `n`, `w`, `me`, `word`, `@` where it may stand, or a scalar.
-abbrev pub index_of_word : List ℕ → Option Index
-index_of_word w =
+abbrev pub index_of_identifier : List ℕ → Option Index
+index_of_identifier w =
     if bytes_eq w (codes "n") then Some index.Processes else
     if bytes_eq w (codes "w") then Some index.Words else
     if bytes_eq w (codes "me") then Some index.Me else
     if bytes_eq w (codes "word") then Some index.Word else
-    name_of_word w >>= λ x. Some (index.Scalar x)
+    name_of_identifier w >>= λ x. Some (index.Scalar x)
 
 unfoldable pub number_index : List Token → Found Index
 number_index ts = do
@@ -71,24 +71,24 @@ number_index ts = do
 
 unfoldable pub place_index : Bool → List Token → Found Index
 place_index in_quantifier ts = do
-  rest ← mark_at mark.At ts
+  rest ← symbol_at symbol.At ts
   if in_quantifier then Some (index.Place, rest) else None
 
-unfoldable pub word_index : List Token → Found Index
-word_index ts = do
-  w ← word_at ts
-  i ← index_of_word w.0
+unfoldable pub identifier_index : List Token → Found Index
+identifier_index ts = do
+  w ← identifier_at ts
+  i ← index_of_identifier w.0
   Some (i, w.1)
 
 unfoldable pub index_at : Bool → List Token → Found Index
-index_at q ts = or_else (number_index ts) (or_else (place_index q ts) (word_index ts))
+index_at q ts = or_else (number_index ts) (or_else (place_index q ts) (identifier_index ts))
 
 -- `[I]`
 unfoldable pub place_at : Bool → List Token → Found Index
 place_at q ts = do
-  a ← mark_at mark.OpenBracket ts
+  a ← symbol_at symbol.OpenBracket ts
   i ← index_at q a
-  b ← mark_at mark.CloseBracket i.1
+  b ← symbol_at symbol.CloseBracket i.1
   Some (i.0, b)
 
 -- a local's name and `[I]`
@@ -98,7 +98,7 @@ named_place_at q ts = do
   i ← place_at q x.1
   Some ((x.0, i.0), i.1)
 
--- A term: `arg`, `R[I]`, a field or a hand of a word, or an index.
+-- A term: `arg`, `R[I]`, a field or a handshake bit of a word, or an index.
 unfoldable pub arg_term : List Token → Found Term
 arg_term ts = do
   rest ← keyword_at (codes "arg") ts
@@ -110,8 +110,8 @@ row_term q ts = do
   Some (term.Row x.0.0 x.0.1, x.1)
 
 -- the fields of one number
-abbrev pub field_of_word : List ℕ → Option Field
-field_of_word w =
+abbrev pub field_of_keyword : List ℕ → Option Field
+field_of_keyword w =
     if bytes_eq w (codes "seq") then Some field.Seq else
     if bytes_eq w (codes "data") then Some field.Datum else
     if bytes_eq w (codes "toggle") then Some field.Toggle else
@@ -120,23 +120,23 @@ field_of_word w =
 -- `seq(W[I])`, and so `data`, `toggle` and `id`
 unfoldable pub field_term : Bool → List Token → Found Term
 field_term q ts = do
-  w ← word_at ts
-  f ← field_of_word w.0
-  a ← mark_at mark.OpenParenthesis w.1
+  w ← identifier_at ts
+  f ← field_of_keyword w.0
+  a ← symbol_at symbol.OpenParenthesis w.1
   x ← named_place_at q a
-  b ← mark_at mark.CloseParenthesis x.1
+  b ← symbol_at symbol.CloseParenthesis x.1
   Some (term.Field f x.0.0 x.0.1, b)
 
--- `hand(W[I],J)`
-unfoldable pub hand_term : Bool → List Token → Found Term
-hand_term q ts = do
+-- `handshake(W[I],J)`
+unfoldable pub handshake_term : Bool → List Token → Found Term
+handshake_term q ts = do
   a ← keyword_at (codes "hand") ts
-  b ← mark_at mark.OpenParenthesis a
+  b ← symbol_at symbol.OpenParenthesis a
   x ← named_place_at q b
-  c ← mark_at mark.Comma x.1
+  c ← symbol_at symbol.Comma x.1
   j ← index_at q c
-  d ← mark_at mark.CloseParenthesis j.1
-  Some (term.Hand x.0.0 x.0.1 j.0, d)
+  d ← symbol_at symbol.CloseParenthesis j.1
+  Some (term.Handshake x.0.0 x.0.1 j.0, d)
 
 unfoldable pub index_term : Bool → List Token → Found Term
 index_term q ts = do
@@ -145,7 +145,7 @@ index_term q ts = do
 
 unfoldable pub term_at : Bool → List Token → Found Term
 term_at q ts =
-    or_else (arg_term ts) (or_else (row_term q ts) (or_else (field_term q ts) (or_else (hand_term q ts) (index_term q ts))))
+    or_else (arg_term ts) (or_else (row_term q ts) (or_else (field_term q ts) (or_else (handshake_term q ts) (index_term q ts))))
 
 -- An expression: `not` term, term `+` term, or a term.
 unfoldable pub not_expr : Bool → List Token → Found Expr
@@ -157,7 +157,7 @@ not_expr q ts = do
 -- `+` and a term behind the first one
 unfoldable pub plus_expr : Bool → Term → List Token → Found Expr
 plus_expr q t ts = do
-  a ← mark_at mark.Plus ts
+  a ← symbol_at symbol.Plus ts
   u ← term_at q a
   Some (expr.Sum t u.0, u.1)
 
@@ -172,9 +172,9 @@ expr_at q ts = or_else (not_expr q ts) (term_expr q ts)
 -- A condition: one to four comparisons, all joined by `and` or all by `or`.
 unfoldable pub relation_at : List Token → Found Relation
 relation_at ts =
-    or_else (mark_at mark.Equal ts >>= λ rest. Some (relation.Equal, rest))
-    (or_else (mark_at mark.Different ts >>= λ rest. Some (relation.Different, rest))
-    (mark_at mark.Less ts >>= λ rest. Some (relation.Less, rest)))
+    or_else (symbol_at symbol.Equal ts >>= λ rest. Some (relation.Equal, rest))
+    (or_else (symbol_at symbol.Different ts >>= λ rest. Some (relation.Different, rest))
+    (symbol_at symbol.Less ts >>= λ rest. Some (relation.Less, rest)))
 
 unfoldable pub comparison_at : Bool → List Token → Found Comparison
 comparison_at q ts = do
@@ -183,14 +183,14 @@ comparison_at q ts = do
   u ← term_at q r.1
   Some (record { left = t.0; relation = r.0; right = u.0 }, u.1)
 
-abbrev pub join_word : Join → List ℕ
-join_word And = codes "and"
-join_word Or = codes "or"
+abbrev pub join_keyword : Join → List ℕ
+join_keyword And = codes "and"
+join_keyword Or = codes "or"
 
 -- a comparison behind `and` or `or`
 unfoldable pub joined_at : Bool → Join → List Token → Found Comparison
 joined_at q j ts = do
-  a ← keyword_at (join_word j) ts
+  a ← keyword_at (join_keyword j) ts
   comparison_at q a
 
 unfoldable pub third_on : Bool → Join → Comparison → Comparison → Comparison → List Token → Found Condition
@@ -223,12 +223,12 @@ target_at ts = do
   a ← keyword_at (codes "goto") ts
   number_at a
 
--- Instructions, behind their first word; each to the end of the line.
+-- Instructions, behind their first keyword; each to the end of the line.
 -- `let X = E`
 unfoldable pub let_form : List Token → Option Instr
 let_form ts = do
   x ← name_at ts
-  a ← mark_at mark.Equal x.1
+  a ← symbol_at symbol.Equal x.1
   e ← expr_at false a
   end ← end_at e.1
   Some (instr.Let x.0 e.0)
@@ -237,7 +237,7 @@ let_form ts = do
 unfoldable pub let_place_form : List Token → Option Instr
 let_place_form ts = do
   x ← named_place_at false ts
-  a ← mark_at mark.Equal x.1
+  a ← symbol_at symbol.Equal x.1
   e ← expr_at false a
   end ← end_at e.1
   Some (instr.LetPlace x.0.0 x.0.1 e.0)
@@ -246,7 +246,7 @@ let_place_form ts = do
 unfoldable pub get_form : List Token → Option Instr
 get_form ts = do
   x ← named_place_at false ts
-  a ← mark_at mark.Equal x.1
+  a ← symbol_at symbol.Equal x.1
   b ← keyword_at (codes "r") a
   j ← place_at false b
   end ← end_at j.1
@@ -255,11 +255,11 @@ get_form ts = do
 -- `[I,J]`
 unfoldable pub pair_at : List Token → Found (Index × Index)
 pair_at ts = do
-  a ← mark_at mark.OpenBracket ts
+  a ← symbol_at symbol.OpenBracket ts
   i ← index_at false a
-  b ← mark_at mark.Comma i.1
+  b ← symbol_at symbol.Comma i.1
   j ← index_at false b
-  c ← mark_at mark.CloseBracket j.1
+  c ← symbol_at symbol.CloseBracket j.1
   Some ((i.0, j.0), c)
 
 -- `q` or `p`
@@ -272,7 +272,7 @@ bit_bank_at ts =
 unfoldable pub bit_form : List Token → Option Instr
 bit_form ts = do
   x ← name_at ts
-  a ← mark_at mark.Equal x.1
+  a ← symbol_at symbol.Equal x.1
   b ← bit_bank_at a
   i ← pair_at b.1
   end ← end_at i.1
@@ -282,7 +282,7 @@ bit_form ts = do
 unfoldable pub look_form : List Token → Option Instr
 look_form ts = do
   x ← name_at ts
-  a ← mark_at mark.Equal x.1
+  a ← symbol_at symbol.Equal x.1
   b ← keyword_at (codes "v") a
   i ← place_at false b
   end ← end_at i.1
@@ -291,39 +291,39 @@ look_form ts = do
 -- `(E, E, S)`
 unfoldable pub seq_tuple_at : List Token → Found Tuple
 seq_tuple_at ts = do
-  a ← mark_at mark.OpenParenthesis ts
+  a ← symbol_at symbol.OpenParenthesis ts
   d ← expr_at false a
-  b ← mark_at mark.Comma d.1
+  b ← symbol_at symbol.Comma d.1
   q ← expr_at false b
-  c ← mark_at mark.Comma q.1
+  c ← symbol_at symbol.Comma q.1
   s ← name_at c
-  e ← mark_at mark.CloseParenthesis s.1
+  e ← symbol_at symbol.CloseParenthesis s.1
   Some (tuple.Seq d.0 q.0 s.0, e)
 
 -- `(E, R, E, S)`
 unfoldable pub bits_tuple_at : List Token → Found Tuple
 bits_tuple_at ts = do
-  a ← mark_at mark.OpenParenthesis ts
+  a ← symbol_at symbol.OpenParenthesis ts
   d ← expr_at false a
-  b ← mark_at mark.Comma d.1
+  b ← symbol_at symbol.Comma d.1
   h ← name_at b
-  c ← mark_at mark.Comma h.1
+  c ← symbol_at symbol.Comma h.1
   t ← expr_at false c
-  f ← mark_at mark.Comma t.1
+  f ← symbol_at symbol.Comma t.1
   s ← name_at f
-  e ← mark_at mark.CloseParenthesis s.1
+  e ← symbol_at symbol.CloseParenthesis s.1
   Some (tuple.Bits d.0 h.0 t.0 s.0, e)
 
 -- `(E, E, E)`
 unfoldable pub multi_tuple_at : List Token → Found Tuple
 multi_tuple_at ts = do
-  a ← mark_at mark.OpenParenthesis ts
+  a ← symbol_at symbol.OpenParenthesis ts
   d ← expr_at false a
-  b ← mark_at mark.Comma d.1
+  b ← symbol_at symbol.Comma d.1
   i ← expr_at false b
-  c ← mark_at mark.Comma i.1
+  c ← symbol_at symbol.Comma i.1
   t ← expr_at false c
-  e ← mark_at mark.CloseParenthesis t.1
+  e ← symbol_at symbol.CloseParenthesis t.1
   Some (tuple.Multi d.0 i.0 t.0, e)
 
 -- A tuple of three that ends with a name alone is of kind seq where the listing is, and else of kind multi.
@@ -341,7 +341,7 @@ unfoldable pub put_form : KindTag → List Token → Option Instr
 put_form k ts = do
   a ← keyword_at (codes "r") ts
   i ← place_at false a
-  b ← mark_at mark.Equal i.1
+  b ← symbol_at symbol.Equal i.1
   t ← tuple_at k b
   end ← end_at t.1
   Some (instr.Put i.0 t.0)
@@ -351,7 +351,7 @@ unfoldable pub put_bit_form : List Token → Option Instr
 put_bit_form ts = do
   b ← bit_bank_at ts
   i ← pair_at b.1
-  a ← mark_at mark.Equal i.1
+  a ← symbol_at symbol.Equal i.1
   e ← expr_at false a
   end ← end_at e.1
   Some (instr.PutBit b.0 i.0.0 i.0.1 e.0)
@@ -361,7 +361,7 @@ unfoldable pub put_view_form : List Token → Option Instr
 put_view_form ts = do
   a ← keyword_at (codes "v") ts
   i ← place_at false a
-  b ← mark_at mark.Equal i.1
+  b ← symbol_at symbol.Equal i.1
   x ← name_at b
   end ← end_at x.1
   Some (instr.PutView i.0 x.0)
@@ -370,11 +370,11 @@ put_view_form ts = do
 unfoldable pub view_data_form : List Token → Option Instr
 view_data_form ts = do
   x ← name_at ts
-  a ← mark_at mark.Equal x.1
+  a ← symbol_at symbol.Equal x.1
   b ← keyword_at (codes "data") a
-  c ← mark_at mark.OpenParenthesis b
+  c ← symbol_at symbol.OpenParenthesis b
   y ← name_at c
-  d ← mark_at mark.CloseParenthesis y.1
+  d ← symbol_at symbol.CloseParenthesis y.1
   end ← end_at d
   Some (instr.ViewData x.0 y.0)
 
@@ -382,11 +382,11 @@ view_data_form ts = do
 unfoldable pub view_of_form : List Token → Option Instr
 view_of_form ts = do
   x ← name_at ts
-  a ← mark_at mark.Equal x.1
+  a ← symbol_at symbol.Equal x.1
   b ← keyword_at (codes "view") a
-  c ← mark_at mark.OpenParenthesis b
+  c ← symbol_at symbol.OpenParenthesis b
   y ← named_place_at false c
-  d ← mark_at mark.CloseParenthesis y.1
+  d ← symbol_at symbol.CloseParenthesis y.1
   end ← end_at d
   Some (instr.ViewOf x.0 y.0.0 y.0.1)
 
@@ -399,12 +399,12 @@ where_at ts =
 unfoldable pub each_form : List Token → Option Instr
 each_form ts = do
   g ← range_at ts
-  a ← mark_at mark.Colon g.1
+  a ← symbol_at symbol.Colon g.1
   x ← name_at a
-  b ← mark_at mark.OpenBracket x.1
-  c ← mark_at mark.At b
-  d ← mark_at mark.CloseBracket c
-  f ← mark_at mark.Equal d
+  b ← symbol_at symbol.OpenBracket x.1
+  c ← symbol_at symbol.At b
+  d ← symbol_at symbol.CloseBracket c
+  f ← symbol_at symbol.Equal d
   e ← expr_at true f
   k ← where_at e.1
   end ← end_at k.1
@@ -415,7 +415,7 @@ unfoldable pub first_form : List Token → Option Instr
 first_form ts = do
   x ← name_at ts
   g ← range_at x.1
-  a ← mark_at mark.Colon g.1
+  a ← symbol_at symbol.Colon g.1
   k ← condition_at true a
   target ← target_at k.1
   end ← end_at target.1
@@ -443,7 +443,7 @@ unfoldable pub if_all_form : List Token → Option Instr
 if_all_form ts = do
   a ← keyword_at (codes "all") ts
   g ← range_at a
-  b ← mark_at mark.Colon g.1
+  b ← symbol_at symbol.Colon g.1
   k ← condition_at true b
   target ← target_at k.1
   end ← end_at target.1
@@ -476,9 +476,9 @@ finish_form ts = do
   end ← end_at ts
   Some instr.Finish
 
--- the forms that begin with this word
-unfoldable pub form_of_word : KindTag → List ℕ → List Token → Option Instr
-form_of_word k w ts =
+-- the forms that begin with this keyword
+unfoldable pub form_of_keyword : KindTag → List ℕ → List Token → Option Instr
+form_of_keyword k w ts =
     if bytes_eq w (codes "let") then or_else (let_form ts) (let_place_form ts) else
     if bytes_eq w (codes "get") then get_form ts else
     if bytes_eq w (codes "bit") then bit_form ts else
@@ -505,7 +505,7 @@ is_line_number k = nat_le 1 k && nat_le k max_line_number
 unfoldable pub line_form : KindTag → List Token → Option Line
 line_form g ts = do
   k ← number_at ts
-  a ← mark_at mark.Colon k.1
-  w ← word_at a
-  i ← form_of_word g w.0 w.1
+  a ← symbol_at symbol.Colon k.1
+  w ← identifier_at a
+  i ← form_of_keyword g w.0 w.1
   if is_line_number k.0 then Some (record { number = k.0; instr = i }) else None

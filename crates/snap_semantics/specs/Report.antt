@@ -14,7 +14,7 @@ use Rattle.snap_semantics.specs.declared.process.Op.TheVariants as op
 use Rattle.snap_semantics.specs.declared.process.Status.{Status}
 use Rattle.snap_semantics.specs.declared.process.Status.TheVariants.{Idle, Busy, Trapped, Crashed}
 use Rattle.snap_semantics.specs.Source.{Name}
-use Rattle.snap_semantics.specs.State.{Locals, Memory, Named, Process, State, values}
+use Rattle.snap_semantics.specs.State.{Locals, Memory, NameMap, Process, State, values}
 
 -- each number behind a space
 abbrev pub numbers_text : List ℕ → List ℕ
@@ -31,7 +31,7 @@ values_line xs = codes "values" ++ numbers_text xs ++ codes "\n"
 abbrev pub word_text : KindTag → Word → List ℕ
 word_text kind.Seq x = decimal x.datum ++ codes " seq " ++ decimal x.seq ++ codes " view" ++ numbers_text x.view
 word_text kind.Bits x =
-    decimal x.datum ++ codes " hands" ++ numbers_text x.hands ++ codes " toggle " ++ decimal x.toggle ++ codes " view" ++ numbers_text x.view
+    decimal x.datum ++ codes " hands" ++ numbers_text x.handshakes ++ codes " toggle " ++ decimal x.toggle ++ codes " view" ++ numbers_text x.view
 word_text kind.Multi x = decimal x.datum ++ codes " id " ++ decimal x.id ++ codes " toggle " ++ decimal x.toggle
 
 -- the line of register r[k]
@@ -119,7 +119,7 @@ words_local g x p [] = []
 words_local g x p (v ∷ vs) = word_local g x p v ++ words_local g x (p + 1) vs
 
 -- the lines of all locals of a sort, in order of declaration
-abbrev pub locals_lines : {A : Type 0} → (Name → A → List ℕ) → Named A → List ℕ
+abbrev pub locals_lines : {A : Type 0} → (Name → A → List ℕ) → NameMap A → List ℕ
 locals_lines f [] = []
 locals_lines f (e ∷ es) = f e.0 e.1 ++ locals_lines f es
 

@@ -6,8 +6,8 @@ use Rattle.snap_semantics.specs.declared.process.Item.TheVariants as item
 use Rattle.snap_semantics.specs.declared.refusal.ScheduleRefusal.{ScheduleRefusal}
 use Rattle.snap_semantics.specs.declared.refusal.ScheduleRefusal.TheVariants as refusal
 use Rattle.snap_semantics.specs.Answers.{◌>>=◌}
-use Rattle.snap_semantics.specs.Forms.{form_or}
-use Rattle.snap_semantics.specs.ScheduleForms.{Form, Steps, Calls, Crashes, shape_form, item_form}
+use Rattle.snap_semantics.specs.Rules.{form_or}
+use Rattle.snap_semantics.specs.ScheduleForms.{ItemForm, Steps, Calls, Crashes, shape_form, item_form}
 use Rattle.snap_semantics.specs.Token.{TextLine, text_lines}
 
 -- a schedule: how many processes and words there are, and the items in order
@@ -15,24 +15,24 @@ pub record Schedule : Type 0 where
   pub shape : Counts
   pub items : List Item
 
-abbrev pub form_process : Form → ℕ
+abbrev pub form_process : ItemForm → ℕ
 form_process (Steps i count) = i
 form_process (Calls i op) = i
 form_process (Crashes i) = i
 
 -- how many items a form is
-abbrev pub form_count : Form → ℕ
+abbrev pub form_count : ItemForm → ℕ
 form_count (Steps i count) = count
 form_count (Calls i op) = 1
 form_count (Crashes i) = 1
 
-abbrev pub form_items : Form → List Item
+abbrev pub form_items : ItemForm → List Item
 form_items (Steps i count) = replicate count (item.Step i)
 form_items (Calls i op) = item.Call i op ∷ []
 form_items (Crashes i) = item.Crash i ∷ []
 
 -- a form of a process that is there, and of no more items than are left
-abbrev pub admitted : ℕ → ℕ → ℕ → Form → Result Form ScheduleRefusal
+abbrev pub admitted : ℕ → ℕ → ℕ → ItemForm → Result ItemForm ScheduleRefusal
 admitted n left line form =
     if not (nat_le 1 (form_process form) && nat_le (form_process form) n) then Err (refusal.NoSuchProcess line) else
     if nat_lt left (form_count form) then Err (refusal.TooManyItems line) else Ok form

@@ -9,28 +9,28 @@ use Rattle.snap_semantics.specs.declared.process.Op.{Op}
 use Rattle.snap_semantics.specs.declared.process.Op.TheVariants as op
 use Rattle.snap_semantics.specs.Layout.{line_text, lines_text}
 use Rattle.snap_semantics.specs.Schedule.{Schedule}
-use Rattle.snap_semantics.specs.ScheduleForms.{Form, Steps, Calls, Crashes, spelled_shape, spelled_form}
+use Rattle.snap_semantics.specs.ScheduleForms.{ItemForm, Steps, Calls, Crashes, spelled_shape, spelled_form}
 use Rattle.snap_semantics.specs.Table.{who}
 
 -- a step goes into the run of its process where that comes next
-abbrev pub step_onto : ℕ → List Form → List Form
+abbrev pub step_onto : ℕ → List ItemForm → List ItemForm
 step_onto i [] = Steps i 1 ∷ []
 step_onto i (Steps k count ∷ forms) = if nat_eq i k then Steps k (suc count) ∷ forms else Steps i 1 ∷ Steps k count ∷ forms
 step_onto i (Calls k op ∷ forms) = Steps i 1 ∷ Calls k op ∷ forms
 step_onto i (Crashes k ∷ forms) = Steps i 1 ∷ Crashes k ∷ forms
 
-abbrev pub item_onto : Item → List Form → List Form
+abbrev pub item_onto : Item → List ItemForm → List ItemForm
 item_onto (item.Step i) forms = step_onto i forms
 item_onto (item.Call i op) forms = Calls i op ∷ forms
 item_onto (item.Crash i) forms = Crashes i ∷ forms
 
--- the greatest runs of steps of one process, the calls and the crashes
-abbrev pub forms_of : List Item → List Form
+-- the greatest segments: steps of one process side by side, the calls and the crashes
+abbrev pub forms_of : List Item → List ItemForm
 forms_of [] = []
 forms_of (x ∷ xs) = item_onto x (forms_of xs)
 
 -- the lines of forms
-abbrev pub forms_text : List Form → List ℕ
+abbrev pub forms_text : List ItemForm → List ℕ
 forms_text forms = lines_text (map spelled_form forms)
 
 -- the canonical text of a schedule

@@ -32,8 +32,8 @@ pub enum Term {
     Row(Name, Index),
     /// `seq(W[I])`, and so `data`, `id` and `toggle`.
     Field(Field, Name, Index),
-    /// `hand(W[I],J)`.
-    Hand(Name, Index, Index),
+    /// `handshake(W[I],J)`.
+    Handshake(Name, Index, Index),
 }
 
 /// What is computed from operands.
@@ -103,12 +103,12 @@ impl BitBank {
     }
 }
 
-/// The parts of a word to be written, as the word's kind has them.
+/// The fields of a word to be written, as the word's kind has them.
 #[derive(Clone, Copy, Debug)]
 pub enum Tuple {
     /// `(data, seq, S)`.
     Seq(Expr, Expr, Name),
-    /// `(data, R, toggle, S)`, with the hands in row R.
+    /// `(data, R, toggle, S)`, with the handshake bits in row R.
     Bits(Expr, Name, Expr, Name),
     /// `(data, id, toggle)`.
     Multi(Expr, Expr, Expr),

@@ -3,8 +3,8 @@
 
 mod event;
 mod fault;
-mod image;
 mod instr;
+mod items;
 mod name;
 mod process;
 mod refusal;
@@ -12,11 +12,11 @@ mod text;
 
 pub use event::{Event, Happening};
 pub use fault::Fault;
-pub use image::{ExprTag, Form, ImageVersion, TermTag};
 pub use instr::{
     BitBank, Comparison, Condition, Expr, Index, Instr, Join, Line, Range, Relation, Term, Tuple,
 };
+pub use items::who;
 pub use name::Name;
 pub use process::{Activity, Cause, Item, Op, Outcome, Reason, Status};
 pub use refusal::{CommandRefusal, ImageRefusal, ListingRefusal, Refusal, ScheduleRefusal};
-pub use text::{Mark, Sort};
+pub use text::{Sort, Symbol};

@@ -3,7 +3,7 @@ ghost use Rattle.std.specs.Prelude.{◌≡◌, ◌≤◌, ◌<◌, List, ℕ, le
 
 use std::marker::Model;
 
-/// A name, seen as the list of its letters. Names that are declared have 1 to 8 letters; a longer word in a name's
+/// A name, seen as the list of its letters. Names that are declared have 1 to 8 letters; a longer identifier in a name's
 /// place is kept by its first nine, which no declared name has.
 #[derive(Clone, Copy, Debug, PartialEq, Eq, Hash)]
 pub struct Name {

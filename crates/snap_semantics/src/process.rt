@@ -27,7 +27,7 @@ pub enum Cause {
     Index,
     /// A sum above 2^64 - 1.
     Overflow,
-    /// A bit, hand or toggle to be written that is not 0 or 1.
+    /// A bit, handshake bit or toggle to be written that is not 0 or 1.
     NotABit,
     /// A register of another process.
     Owner,

@@ -1,8 +1,8 @@
 //! What texts are made of.
 
-/// A token that is no word and no number.
+/// A symbol: a token that is no identifier and no number.
 #[derive(Clone, Copy, Debug, PartialEq, Eq)]
-pub enum Mark {
+pub enum Symbol {
     Colon,
     Equal,
     /// `!=`.

@@ -1,3 +1,4 @@
-pub mod TextOfU
 pub mod Samples
 pub mod LinearSample
+pub mod PlacementSample
+pub mod PrefixSample

@@ -3,7 +3,7 @@ use Rattle.std.specs.Prelude.{◌≡◌, ℕ, List, [], ◌∷◌, ◌++◌, Som
 use Rattle.std.proofs.Common.{arith}
 use Rattle.snap_semantics.specs.declared.process.Item.{Item}
 use Rattle.snap_semantics.specs.declared.process.Item.TheVariants.{Step, Call, Crash}
-use Rattle.snap_semantics.specs.declared.process.Op.TheVariants.{Scan as ScanOp, Update}
+use Rattle.snap_semantics.specs.declared.process.Op.TheVariants.{Scan, Update}
 use Rattle.snap_semantics.specs.declared.event.Happening.TheVariants as what
 use Rattle.snap_semantics.specs.declared.process.Outcome.TheVariants.{Finished, Skipped, Crashed}
 use Rattle.snap_semantics.specs.declared.process.Reason.TheVariants as reason
@@ -24,7 +24,7 @@ times count i = replicate count (Step i)
 
 -- One process scans: the call and nine steps.
 abbrev pub scan_alone : List Item
-scan_alone = Call 1 ScanOp ∷ times 9 1
+scan_alone = Call 1 Scan ∷ times 9 1
 
 scan_alone_starts : Starts (run_of 1 scan_alone) 1 1 None
 scan_alone_starts = (refl, refl)
@@ -56,7 +56,7 @@ update_done = refl
 
 -- Two processes, and nobody writes: the view is the values at the call already.
 abbrev pub scan_undisturbed : List Item
-scan_undisturbed = Call 1 ScanOp ∷ times 13 1
+scan_undisturbed = Call 1 Scan ∷ times 13 1
 
 undisturbed_ends : Starts (run_of 2 scan_undisturbed) 1 1 None × Ends (run_of 2 scan_undisturbed) 1 14 None (0 ∷ 0 ∷ [])
 undisturbed_ends = ((refl, refl), (refl, refl))
@@ -68,7 +68,7 @@ undisturbed_point = (1, omega arith, omega arith, refl)
 -- update has put beside its value.
 abbrev pub scan_borrows : List Item
 scan_borrows =
-    Call 1 ScanOp ∷ (times 6 1 ++ (Call 2 (Update 2 5) ∷ (times 17 2 ++ (times 8 1 ++ (times 4 1 ++ (Call 2 (Update 2 6) ∷ (times 17 2 ++ times 9 1)))))))
+    Call 1 Scan ∷ (times 6 1 ++ (Call 2 (Update 2 5) ∷ (times 17 2 ++ (times 8 1 ++ (times 4 1 ++ (Call 2 (Update 2 6) ∷ (times 17 2 ++ times 9 1)))))))
 
 borrows_values : (values (state (run_of 2 scan_borrows) 23) ≡ 0 ∷ 0 ∷ []) × (values (state (run_of 2 scan_borrows) 24) ≡ 0 ∷ 5 ∷ [])
     × (values (state (run_of 2 scan_borrows) 53) ≡ 0 ∷ 5 ∷ []) × (values (state (run_of 2 scan_borrows) 54) ≡ 0 ∷ 6 ∷ [])
@@ -96,7 +96,7 @@ its_write = (refl, refl)
 
 -- Process 2 crashes right after its write; its next item is skipped. The scan that process 1 calls then sees the value.
 abbrev pub crash_after_write : List Item
-crash_after_write = Call 2 (Update 2 5) ∷ (times 16 2 ++ (Crash 2 ∷ Step 2 ∷ Call 1 ScanOp ∷ times 13 1))
+crash_after_write = Call 2 (Update 2 5) ∷ (times 16 2 ++ (Crash 2 ∷ Step 2 ∷ Call 1 Scan ∷ times 13 1))
 
 after_write_outcomes : (executes (run_of 2 crash_after_write) 2 32 17 ≡ true) × (outcome (run_of 2 crash_after_write) 18 ≡ Crashed)
     × (outcome (run_of 2 crash_after_write) 19 ≡ Skipped reason.Crashed)
@@ -113,12 +113,12 @@ after_write_stands = refl
 
 after_write_events : events listing_u (square 2) (initial listing_u (square 2)) 1 crash_after_write
     ≡ record { item = 1; process = 2; what = what.Call (Update 2 5) } ∷ record { item = 18; process = 2; what = what.Crash }
-    ∷ record { item = 20; process = 1; what = what.Call ScanOp } ∷ record { item = 33; process = 1; what = what.Answer (0 ∷ 5 ∷ []) } ∷ []
+    ∷ record { item = 20; process = 1; what = what.Call Scan } ∷ record { item = 33; process = 1; what = what.Answer (0 ∷ 5 ∷ []) } ∷ []
 after_write_events = refl
 
 -- It crashes one step earlier, between its scan and its write: the scan sees nothing of it.
 abbrev pub crash_before_write : List Item
-crash_before_write = Call 2 (Update 2 5) ∷ (times 15 2 ++ (Crash 2 ∷ Step 2 ∷ Call 1 ScanOp ∷ times 13 1))
+crash_before_write = Call 2 (Update 2 5) ∷ (times 15 2 ++ (Crash 2 ∷ Step 2 ∷ Call 1 Scan ∷ times 13 1))
 
 before_write_ends : Starts (run_of 2 crash_before_write) 1 19 None × Ends (run_of 2 crash_before_write) 1 32 None (0 ∷ 0 ∷ [])
 before_write_ends = ((refl, refl), (refl, refl))

@@ -1,40 +1,38 @@
 //! Runs of U over schedules.
 ghost use Rattle.std.specs.Prelude.{◌≡◌, IfOk, true};
 ghost use Rattle.snap_words.specs.Kind.{fits};
-ghost use Rattle.snap_words.specs.declared.kind.KindTag.TheVariants.{Seq as Tag};
-ghost use Rattle.snap_runs.specs.Run.{Fits};
-ghost use Rattle.snap_runs.specs.Snapshot.{IsSnapshotRun};
-ghost use Rattle.snap_record.specs.Record.{run_over};
+ghost use Rattle.snap_words.specs.declared.kind.KindTag.TheVariants as kind;
+ghost use Rattle.snap_runs.specs.Run.{IsValidRun, run_over};
 ghost use Rattle.snap_runs_of_u.specs.ListingU.{listing_u};
-ghost use Rattle.snap_runs_of_u.specs.Promises.{bounds};
+ghost use Rattle.snap_promises.specs.Kept.{KeepsPromises};
 
-use crate::text::listing;
-use snap_code::Program;
+use snap_asm_program::Program;
+use snap_promises::shipped_runs_keep_promises;
 use snap_record::{Record, record_over};
-use snap_runs_of_u::runs_are_snapshots;
 use snap_sched::Schedule;
+use snap_shipped::listing_u;
 use snap_words::Seq;
 use std::alloc::{AllocError, Global};
 
 /// What is promised of the run over a schedule.
 fn keeps_promises(schedule: &Schedule)
-    requires { fits Tag schedule.now.shape ≡ true }
-    ensures fits { Fits (run_over listing_u schedule.now) }
-    ensures snapshot { IsSnapshotRun (bounds schedule.now.shape) (run_over listing_u schedule.now) }
+    requires { fits kind.Seq schedule.now.shape ≡ true }
+    ensures fits { IsValidRun (run_over listing_u schedule.now) }
+    ensures promises { KeepsPromises kind.Seq (run_over listing_u schedule.now) }
 {
-    runs_are_snapshots();
+    shipped_runs_keep_promises();
     // A schedule's rules come with its shape.
     let _shape = schedule.shape();
 }
 
-/// The record of U over a schedule, whatever its interleaving: a run of a snapshot.
+/// The record of U over a schedule, whatever its interleaving: a run that keeps all promises.
 pub fn run(alloc: Global, schedule: &Schedule) -> Result<Record<Seq>, AllocError>
-    requires { fits Tag schedule.now.shape ≡ true }
+    requires { fits kind.Seq schedule.now.shape ≡ true }
     ensures record { IfOk result (λ r. r ≡ run_over listing_u schedule.now) }
-    ensures fits { Fits (run_over listing_u schedule.now) }
-    ensures snapshot { IsSnapshotRun (bounds schedule.now.shape) (run_over listing_u schedule.now) }
+    ensures fits { IsValidRun (run_over listing_u schedule.now) }
+    ensures promises { KeepsPromises kind.Seq (run_over listing_u schedule.now) }
 {
     keeps_promises(schedule);
-    let program = Program::of(alloc, listing(alloc)?)?;
+    let program = Program::of(alloc, listing_u(alloc)?)?;
     record_over(alloc, &program, schedule)
 }

@@ -5,7 +5,7 @@ use Rattle.std.specs.List.{AllByRecursion, list_all}
 use Rattle.snap_semantics.specs.CanonicalText.{comment_end}
 use Rattle.snap_semantics.specs.Comments.{Comment, IsCommentByte, IsComment, comment_of}
 use Rattle.snap_semantics.specs.Layout.{line_to}
-use Rattle.snap_semantics.specs.Token.{Token, Front, is_run_byte, is_space, mark_of, mark_token, with_token, with_different, begins_with, longer_run, no_run, front_of, front_tokens, tokens_of}
+use Rattle.snap_semantics.specs.Token.{Token, Front, is_lexeme_byte, is_space, symbol_of, symbol_token, with_token, with_different, begins_with, longer_lexeme, no_lexeme, front_of, front_tokens, tokens_of}
 use Rattle.snap_text.proofs.Before.{is_plain, is_bare}
 use Rattle.snap_text.proofs.Ends.{line_ends}
 
@@ -28,11 +28,11 @@ commented_line c ts rest =
 -- a byte before what stands behind it, which begins with `=` or doesn't
 abbrev front_before : ℕ → Bool → Front → Front
 front_before b equal behind =
-    if is_run_byte b then longer_run b behind else
-    if is_space b then no_run (front_tokens behind) else
+    if is_lexeme_byte b then longer_lexeme b behind else
+    if is_space b then no_lexeme (front_tokens behind) else
     if nat_eq b 35 then Some ([], []) else
-    if nat_eq b 33 then (if equal then no_run (with_different (front_tokens behind)) else None) else
-    no_run (with_token (mark_token (mark_of b)) (front_tokens behind))
+    if nat_eq b 33 then (if equal then no_lexeme (with_different (front_tokens behind)) else None) else
+    no_lexeme (with_token (symbol_token (symbol_of b)) (front_tokens behind))
 
 equal_same : (xs bytes : List ℕ) → begins_with 61 (xs ++ 32 ∷ 35 ∷ bytes) ≡ begins_with 61 xs
 equal_same [] bytes = refl

@@ -5,8 +5,8 @@ use Rattle.std.proofs.lemmas.Fmt.{decimal_by_steps, decimal_digit, first_decimal
 use Rattle.std.proofs.lemmas.List.{length-append}
 use Rattle.std.proofs.lemmas.List.Folds.{list_all-append}
 use Rattle.std.specs.List.{list_all}
-use Rattle.snap_semantics.specs.Forms.{◌>>=◌}
-use Rattle.snap_semantics.specs.Token.{Word, Number, is_letter, is_digit, is_run_byte, number_of, number_token, has_leading_zero, run_token}
+use Rattle.snap_semantics.specs.Rules.{◌>>=◌}
+use Rattle.snap_semantics.specs.Token.{Identifier, Number, is_letter, is_digit, is_lexeme_byte, number_of, number_token, has_leading_zero, lexeme_token}
 
 is_digit_of : (d : ℕ) → d < 10 → is_digit (48 + d) ≡ true
 is_digit_of d small = and_from (nat_le 48 (48 + d)) (nat_le (48 + d) 57) (le-leb 48 (48 + d) (omega arith)) (le-leb (48 + d) 57 (omega arith))
@@ -76,35 +76,35 @@ not_letters (b ∷ ds) some h =
     let small = leb-true b 57 (and_parts (nat_le 48 b) (nat_le b 57) first).1 in
     and_left (is_letter b) (list_all is_letter ds) (and_left (nat_le 97 b) (nat_le b 122) (lt-leb 97 b (omega (arith, small))))
 
-run_digit : (b c : Bool) → c ≡ true → (b || c) ≡ true
-run_digit true c e = refl
-run_digit false c e = e
+lexeme_digit : (b c : Bool) → c ≡ true → (b || c) ≡ true
+lexeme_digit true c e = refl
+lexeme_digit false c e = e
 
-pub digits_run : (ds : List ℕ) → list_all is_digit ds ≡ true → list_all is_run_byte ds ≡ true
-digits_run [] h = refl
-digits_run (b ∷ ds) h =
+pub digits_lexeme : (ds : List ℕ) → list_all is_digit ds ≡ true → list_all is_lexeme_byte ds ≡ true
+digits_lexeme [] h = refl
+digits_lexeme (b ∷ ds) h =
     let parts = and_parts (is_digit b) (list_all is_digit ds) h in
-    and_from (is_run_byte b) (list_all is_run_byte ds) (run_digit (is_letter b) (is_digit b) parts.0) (digits_run ds parts.1)
+    and_from (is_lexeme_byte b) (list_all is_lexeme_byte ds) (lexeme_digit (is_letter b) (is_digit b) parts.0) (digits_lexeme ds parts.1)
 
-pub run_number_by : (run : List ℕ) (l z : Bool) (o : Option ℕ) → l ≡ false → z ≡ false →
-    (if l then Some (Word run) else if z then None else number_token o) ≡ number_token o
-run_number_by run false false o e d = refl
-run_number_by run false true o e d = absurd cc
-run_number_by run true z o e d = absurd cc
+pub lexeme_number_by : (lexeme : List ℕ) (l z : Bool) (o : Option ℕ) → l ≡ false → z ≡ false →
+    (if l then Some (Identifier lexeme) else if z then None else number_token o) ≡ number_token o
+lexeme_number_by lexeme false false o e d = refl
+lexeme_number_by lexeme false true o e d = absurd cc
+lexeme_number_by lexeme true z o e d = absurd cc
 
 -- what is printed of a number is read as that number
-pub decimal_token : (n : ℕ) → n < 2 ^ 64 → run_token (decimal n) ≡ Some (Number n)
+pub decimal_token : (n : ℕ) → n < 2 ^ 64 → lexeme_token (decimal n) ≡ Some (Number n)
 decimal_token n fits =
     let h = decimal_numeral n fits in
-    run_number_by (decimal n) (list_all is_letter (decimal n)) (has_leading_zero (decimal n)) (number_of 0 (decimal n))
+    lexeme_number_by (decimal n) (list_all is_letter (decimal n)) (has_leading_zero (decimal n)) (number_of 0 (decimal n))
     (not_letters (decimal n) h.some h.digits) (no_leading_zero n fits (cases_lt n 10))
     ∙ ap number_token h.value
 
 pub decimal_digits : (n : ℕ) → n < 2 ^ 64 → list_all is_digit (decimal n) ≡ true
 decimal_digits n fits = (decimal_numeral n fits).digits
 
-pub decimal_run : (n : ℕ) → n < 2 ^ 64 → list_all is_run_byte (decimal n) ≡ true
-decimal_run n fits = digits_run (decimal n) (decimal_digits n fits)
+pub decimal_lexeme : (n : ℕ) → n < 2 ^ 64 → list_all is_lexeme_byte (decimal n) ≡ true
+decimal_lexeme n fits = digits_lexeme (decimal n) (decimal_digits n fits)
 
 pub decimal_some : (n : ℕ) → n < 2 ^ 64 → 0 < length (decimal n)
 decimal_some n fits = (decimal_numeral n fits).some

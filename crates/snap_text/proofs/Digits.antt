@@ -5,11 +5,11 @@ use Rattle.std.proofs.lemmas.List.{length-append, length-take, take-append-drop}
 use Rattle.std.proofs.lemmas.List.Folds.{list_all-append}
 use Rattle.std.proofs.Math.Seq.{take-suc}
 use Rattle.std.specs.List.{list_all}
-use Rattle.snap_semantics.specs.declared.text.Mark.TheVariants as mark
-use Rattle.snap_semantics.specs.Forms.{◌>>=◌}
+use Rattle.snap_semantics.specs.declared.text.Symbol.TheVariants as symbol
+use Rattle.snap_semantics.specs.Rules.{◌>>=◌}
 use Rattle.snap_semantics.specs.Token.{Number, Sign, is_letter, is_digit, number_of, number_token, has_leading_zero, tokens_of, lines_of}
 use Rattle.snap_text.proofs.Before.{token_before, sign_before, bare_plain, line_before}
-use Rattle.snap_text.proofs.Decimals.{number_by, number_append, not_letters, digits_run, run_number_by}
+use Rattle.snap_text.proofs.Decimals.{number_by, number_append, not_letters, digits_lexeme, lexeme_number_by}
 use Rattle.snap_text.proofs.Printed.{digits_bare, joined_bare}
 use Rattle.snap_text.specs.Numbers.{BeginsWithNumber, BeginsWithNumbers}
 
@@ -53,16 +53,16 @@ one_more bytes len value d digit h more e few is =
 pub number_begins : (bytes digits rest : List ℕ) (len value : ℕ) → AreDigits bytes len value → 0 < len → digits ≡ take len bytes → rest ≡ drop len bytes → has_leading_zero digits ≡ false →
     BeginsWithNumber bytes value rest
 number_begins bytes digits rest len value h some is is_rest zero =
-    let run = take len bytes in
+    let lexeme = take len bytes in
     let size = length-take len bytes in
-    let more : 0 < length run = omega (arith, size, some, h.within) in
-    let no_zero : has_leading_zero run ≡ false = ap has_leading_zero (sym is) ∙ zero in
+    let more : 0 < length lexeme = omega (arith, size, some, h.within) in
+    let no_zero : has_leading_zero lexeme ≡ false = ap has_leading_zero (sym is) ∙ zero in
     record {
-      digits = run;
-      spelled = sym (take-append-drop len bytes) ∙ ap (λ (xs : List ℕ). run ++ xs) (sym is_rest);
+      digits = lexeme;
+      spelled = sym (take-append-drop len bytes) ∙ ap (λ (xs : List ℕ). lexeme ++ xs) (sym is_rest);
       some = more;
       all = h.digits;
-      spells = run_number_by run (list_all is_letter run) (has_leading_zero run) (number_of 0 run) (not_letters run more h.digits) no_zero ∙ ap number_token h.spells;
+      spells = lexeme_number_by lexeme (list_all is_letter lexeme) (has_leading_zero lexeme) (number_of 0 lexeme) (not_letters lexeme more h.digits) no_zero ∙ ap number_token h.spells;
     }
 
 -- digits before a line feed
@@ -73,7 +73,7 @@ number_alone bytes behind rest i h is =
     record {
       line = h.digits;
       lines = ap lines_of all ∙ line_before h.digits rest (bare_plain h.digits (digits_bare h.digits h.all));
-      tokens = ap tokens_of (sym (append-nil h.digits)) ∙ token_before h.digits [] [] (Number i) h.some (digits_run h.digits h.all) h.spells refl;
+      tokens = ap tokens_of (sym (append-nil h.digits)) ∙ token_before h.digits [] [] (Number i) h.some (digits_lexeme h.digits h.all) h.spells refl;
       shorter = omega (arith, size);
     }
 
@@ -86,10 +86,10 @@ number_starred bytes starred behind after rest i k h star g is =
     let outer : bytes ≡ h.digits ++ 42 ∷ behind = h.spelled ∙ ap (λ (xs : List ℕ). h.digits ++ xs) star in
     let all : bytes ≡ line ++ 10 ∷ rest = outer ∙ ap (λ (xs : List ℕ). h.digits ++ 42 ∷ xs) inner ∙ sym (append_assoc h.digits (42 ∷ g.digits) (10 ∷ rest)) in
     let size : length bytes ≡ length line + suc (length rest) = ap length all ∙ length-append line (10 ∷ rest) in
-    let second = ap tokens_of (sym (append-nil g.digits)) ∙ token_before g.digits [] [] (Number k) g.some (digits_run g.digits g.all) g.spells refl in
+    let second = ap tokens_of (sym (append-nil g.digits)) ∙ token_before g.digits [] [] (Number k) g.some (digits_lexeme g.digits g.all) g.spells refl in
     record {
       line = line;
       lines = ap lines_of all ∙ line_before line rest (bare_plain line (joined_bare h.digits (42 ∷ g.digits) (digits_bare h.digits h.all) (joined_bare (42 ∷ []) g.digits refl (digits_bare g.digits g.all))));
-      tokens = token_before h.digits (42 ∷ g.digits) (Sign mark.Star ∷ Number k ∷ []) (Number i) h.some (digits_run h.digits h.all) h.spells (sign_before mark.Star g.digits (Number k ∷ []) second);
+      tokens = token_before h.digits (42 ∷ g.digits) (Sign symbol.Star ∷ Number k ∷ []) (Number i) h.some (digits_lexeme h.digits h.all) h.spells (sign_before symbol.Star g.digits (Number k ∷ []) second);
       shorter = omega (arith, size);
     }

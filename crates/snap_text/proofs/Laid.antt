@@ -6,7 +6,7 @@ use Rattle.std.specs.List.{AllByRecursion, list_all}
 use Rattle.snap_semantics.specs.CanonicalText.{comment_end, commented_text}
 use Rattle.snap_semantics.specs.Comments.{Comment, IsComment, first_comment, other_comments, comment_of, with_comment, line_comments}
 use Rattle.snap_semantics.specs.Layout.{token_text, depth_behind, parts_behind, parts_before, gap, layout, line_to, line_text, lines_text}
-use Rattle.snap_semantics.specs.Token.{Token, Word, Number, Sign, tokens_of, lines_of, numbered}
+use Rattle.snap_semantics.specs.Token.{Token, Identifier, Number, Sign, tokens_of, lines_of, numbered}
 use Rattle.snap_text.specs.Laws.{IsSoundLine, ReadsCommented, ReadsLaidOut}
 use Rattle.snap_text.specs.Lines.{line_tokens, found_lines}
 use Rattle.snap_text.specs.Tokens.{IsSound}
@@ -30,14 +30,14 @@ gap_by false c = refl
 gap_is : (depth : ℕ) (t u : Token) → gap depth t u ≡ space (are_parted depth t u)
 gap_is depth t u = gap_by (parts_behind depth t) (parts_before t u)
 
--- words and numbers are parted
+-- identifiers and numbers are parted
 both_parted : (depth : ℕ) (t u : Token) → is_sign t ≡ false → is_sign u ≡ false → are_parted depth t u ≡ true
-both_parted depth (Word w) (Word v) e d = refl
-both_parted depth (Word w) (Number k) e d = refl
-both_parted depth (Number j) (Word v) e d = refl
+both_parted depth (Identifier w) (Identifier v) e d = refl
+both_parted depth (Identifier w) (Number k) e d = refl
+both_parted depth (Number j) (Identifier v) e d = refl
 both_parted depth (Number j) (Number k) e d = refl
 both_parted depth (Sign m) u e d = absurd cc
-both_parted depth (Word w) (Sign m) e d = absurd cc
+both_parted depth (Identifier w) (Sign m) e d = absurd cc
 both_parted depth (Number j) (Sign m) e d = absurd cc
 
 laid_reads : (depth : ℕ) (t : Token) (us : List Token) → AllByRecursion IsSound us → Reads t (laid depth t us) us

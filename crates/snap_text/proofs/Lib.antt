@@ -6,7 +6,7 @@ pub mod Ends
 pub mod Laid
 pub mod LineComments
 pub mod Printed
-pub mod Runs
+pub mod Lexemes
 pub mod Sound
 pub mod Space
 pub mod Splits

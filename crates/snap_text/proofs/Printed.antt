@@ -3,16 +3,16 @@ use Rattle.std.proofs.Common.{◌≡◌, ℕ, ◌<◌, Bool, true, false, not, L
 use Rattle.std.proofs.lemmas.Bool.{and_parts, and_from, ne_eqb, leb-true}
 use Rattle.std.proofs.lemmas.List.Folds.{list_all-append}
 use Rattle.std.specs.List.{list_all}
-use Rattle.snap_semantics.specs.declared.text.Mark.{Mark}
-use Rattle.snap_semantics.specs.declared.text.Mark.TheVariants as mark
-use Rattle.snap_semantics.specs.Layout.{mark_text, token_text}
-use Rattle.snap_semantics.specs.Token.{Token, Word, Number, Sign, is_letter, is_digit, front_of, front_tokens, tokens_of}
+use Rattle.snap_semantics.specs.declared.text.Symbol.{Symbol}
+use Rattle.snap_semantics.specs.declared.text.Symbol.TheVariants as symbol
+use Rattle.snap_semantics.specs.Layout.{symbol_text, token_text}
+use Rattle.snap_semantics.specs.Token.{Token, Identifier, Number, Sign, is_letter, is_digit, front_of, front_tokens, tokens_of}
 use Rattle.snap_text.specs.Tokens.{IsSound}
 use Rattle.snap_text.proofs.Before.{number_before, word_before, space_before, sign_before, is_plain, is_bare}
 use Rattle.snap_text.proofs.Decimals.{decimal_digits}
 
 abbrev pub is_sign : Token → Bool
-is_sign (Word w) = false
+is_sign (Identifier w) = false
 is_sign (Number k) = false
 is_sign (Sign m) = true
 
@@ -30,7 +30,7 @@ reads_end t = record { tokens = refl; apart = λ e. refl }
 
 -- a token before what is read behind it
 pub reads_first : (t : Token) (bs : List ℕ) (ts : List Token) → IsSound t → Reads t bs ts → tokens_of (token_text t ++ bs) ≡ Some (t ∷ ts)
-reads_first (Word w) bs ts h rest = word_before w bs ts h.0 h.1 (rest.apart refl)
+reads_first (Identifier w) bs ts h rest = word_before w bs ts h.0 h.1 (rest.apart refl)
 reads_first (Number k) bs ts h rest = number_before k bs ts h (rest.apart refl)
 reads_first (Sign m) bs ts h rest = ap front_tokens (sign_before m bs ts rest.tokens)
 
@@ -46,11 +46,11 @@ apart_by false false bs ts h e f = absurd (let no : false ≡ true = h refl in c
 
 sign_apart : (t : Token) (bs : List ℕ) (ts : List Token) → Reads t bs ts → is_sign t ≡ true →
     front_of (token_text t ++ bs) ≡ Some ([], t ∷ ts)
-sign_apart (Word w) bs ts rest e = absurd cc
+sign_apart (Identifier w) bs ts rest e = absurd cc
 sign_apart (Number k) bs ts rest e = absurd cc
 sign_apart (Sign m) bs ts rest e = sign_before m bs ts rest.tokens
 
--- a token behind another one, with a space between them where both are words or numbers
+-- a token behind another one, with a space between them where both are identifiers or numbers
 pub reads_more : (t u : Token) (b : Bool) (bs : List ℕ) (us : List Token) →
     (is_sign t ≡ false → is_sign u ≡ false → b ≡ true) → IsSound u → Reads u bs us →
     Reads t (space b ++ (token_text u ++ bs)) (u ∷ us)
@@ -80,25 +80,25 @@ letters_bare (b ∷ w) h =
     let low = leb-true 97 b (and_parts (nat_le 97 b) (nat_le b 122) parts.0).0 in
     and_from (is_bare b) (list_all is_bare w) (above_bare b (omega (arith, low))) (letters_bare w parts.1)
 
-mark_bare : (m : Mark) → list_all is_bare (mark_text m) ≡ true
-mark_bare mark.Colon = refl
-mark_bare mark.Equal = refl
-mark_bare mark.Different = refl
-mark_bare mark.Less = refl
-mark_bare mark.Plus = refl
-mark_bare mark.Comma = refl
-mark_bare mark.OpenParenthesis = refl
-mark_bare mark.CloseParenthesis = refl
-mark_bare mark.OpenBracket = refl
-mark_bare mark.CloseBracket = refl
-mark_bare mark.At = refl
-mark_bare mark.Star = refl
+symbol_bare : (m : Symbol) → list_all is_bare (symbol_text m) ≡ true
+symbol_bare symbol.Colon = refl
+symbol_bare symbol.Equal = refl
+symbol_bare symbol.Different = refl
+symbol_bare symbol.Less = refl
+symbol_bare symbol.Plus = refl
+symbol_bare symbol.Comma = refl
+symbol_bare symbol.OpenParenthesis = refl
+symbol_bare symbol.CloseParenthesis = refl
+symbol_bare symbol.OpenBracket = refl
+symbol_bare symbol.CloseBracket = refl
+symbol_bare symbol.At = refl
+symbol_bare symbol.Star = refl
 
 -- no line feed and no `#` stands in a token, before one, or in what is put together without one
 pub token_bare : (t : Token) → IsSound t → list_all is_bare (token_text t) ≡ true
-token_bare (Word w) h = letters_bare w h.1
+token_bare (Identifier w) h = letters_bare w h.1
 token_bare (Number k) h = digits_bare (decimal k) (decimal_digits k h)
-token_bare (Sign m) h = mark_bare m
+token_bare (Sign m) h = symbol_bare m
 
 pub space_bare : (b : Bool) → list_all is_bare (space b) ≡ true
 space_bare true = refl

@@ -1,9 +1,9 @@
--- The tokens that are read are words of letters, numbers of 64 bits, and marks.
+-- The tokens that are read are identifiers, numbers of 64 bits, and symbols.
 use Rattle.std.proofs.Common.{◌≡◌, ℕ, ◌+◌, ◌-◌, ◌*◌, ◌/◌, ◌^◌, ◌<◌, Bool, true, false, List, [], ◌∷◌, length, Option, Some, None, nat_eq, nat_le, nat_lt, if◌then◌else◌, refl, arith}
 use Rattle.std.proofs.lemmas.Bool.{leb-true, ltb-false, and_parts}
 use Rattle.std.specs.List.{AllByRecursion, list_all}
-use Rattle.snap_semantics.specs.declared.text.Mark.{Mark}
-use Rattle.snap_semantics.specs.Token.{Token, Word, Front, TextLine, is_letter, is_digit, is_run_byte, is_space, mark_of, mark_token, number_of, number_token, has_leading_zero, run_token, with_token, with_different, begins_with, run_front, longer_run, no_run, front_of, front_tokens, tokens_of, lines_of, with_line, numbered, text_lines}
+use Rattle.snap_semantics.specs.declared.text.Symbol.{Symbol}
+use Rattle.snap_semantics.specs.Token.{Token, Identifier, Front, TextLine, is_letter, is_digit, is_lexeme_byte, is_space, symbol_of, symbol_token, number_of, number_token, has_leading_zero, lexeme_token, with_token, with_different, begins_with, lexeme_front, longer_lexeme, no_lexeme, front_of, front_tokens, tokens_of, lines_of, with_line, numbered, text_lines}
 use Rattle.snap_text.specs.Tokens.{IsSound}
 
 abbrev pub AreSound : Option (List Token) → Type 0
@@ -43,46 +43,46 @@ number_token_sound : (o : Option ℕ) → FitsNumber o → IsSoundOne (number_to
 number_token_sound None h = tt
 number_token_sound (Some k) h = h
 
-run_by : (run : List ℕ) (l z : Bool) (o : Option Token) → 0 < length run → list_all is_letter run ≡ l → IsSoundOne o →
-    IsSoundOne (if l then Some (Word run) else if z then None else o)
-run_by run true z o some letters h = (some, letters)
-run_by run false true o some letters h = tt
-run_by run false false o some letters h = h
+lexeme_by : (lexeme : List ℕ) (l z : Bool) (o : Option Token) → 0 < length lexeme → list_all is_letter lexeme ≡ l → IsSoundOne o →
+    IsSoundOne (if l then Some (Identifier lexeme) else if z then None else o)
+lexeme_by lexeme true z o some letters h = (some, letters)
+lexeme_by lexeme false true o some letters h = tt
+lexeme_by lexeme false false o some letters h = h
 
-run_sound : (run : List ℕ) → 0 < length run → IsSoundOne (run_token run)
-run_sound run some =
-    run_by run (list_all is_letter run) (has_leading_zero run) (number_token (number_of 0 run)) some refl
-    (number_token_sound (number_of 0 run) (number_fits 0 run (omega arith)))
+lexeme_sound : (lexeme : List ℕ) → 0 < length lexeme → IsSoundOne (lexeme_token lexeme)
+lexeme_sound lexeme some =
+    lexeme_by lexeme (list_all is_letter lexeme) (has_leading_zero lexeme) (number_token (number_of 0 lexeme)) some refl
+    (number_token_sound (number_of 0 lexeme) (number_fits 0 lexeme (omega arith)))
 
 with_sound : (o : Option Token) (ts : Option (List Token)) → IsSoundOne o → AreSound ts → AreSound (with_token o ts)
 with_sound None ts h g = tt
 with_sound (Some t) None h g = tt
 with_sound (Some t) (Some ts) h g = (h, g)
 
-run_front_sound : (run : List ℕ) (ts : List Token) → AllByRecursion IsSound ts → AreSound (run_front run ts)
-run_front_sound [] ts h = h
-run_front_sound (b ∷ run) ts h = with_sound (run_token (b ∷ run)) (Some ts) (run_sound (b ∷ run) (omega arith)) h
+lexeme_front_sound : (lexeme : List ℕ) (ts : List Token) → AllByRecursion IsSound ts → AreSound (lexeme_front lexeme ts)
+lexeme_front_sound [] ts h = h
+lexeme_front_sound (b ∷ lexeme) ts h = with_sound (lexeme_token (b ∷ lexeme)) (Some ts) (lexeme_sound (b ∷ lexeme) (omega arith)) h
 
 front_tokens_sound : (f : Front) → IsSoundFront f → AreSound (front_tokens f)
 front_tokens_sound None h = tt
-front_tokens_sound (Some r) h = run_front_sound r.0 r.1 h
+front_tokens_sound (Some r) h = lexeme_front_sound r.0 r.1 h
 
-longer_sound : (b : ℕ) (f : Front) → IsSoundFront f → IsSoundFront (longer_run b f)
+longer_sound : (b : ℕ) (f : Front) → IsSoundFront f → IsSoundFront (longer_lexeme b f)
 longer_sound b None h = tt
 longer_sound b (Some r) h = h
 
-no_run_sound : (o : Option (List Token)) → AreSound o → IsSoundFront (no_run o)
-no_run_sound None h = tt
-no_run_sound (Some ts) h = h
+no_lexeme_sound : (o : Option (List Token)) → AreSound o → IsSoundFront (no_lexeme o)
+no_lexeme_sound None h = tt
+no_lexeme_sound (Some ts) h = h
 
 different_sound : (o : Option (List Token)) → AreSound o → AreSound (with_different o)
 different_sound None h = tt
 different_sound (Some []) h = tt
 different_sound (Some (t ∷ ts)) h = (tt, h.1)
 
-mark_sound : (o : Option Mark) → IsSoundOne (mark_token o)
-mark_sound None = tt
-mark_sound (Some m) = tt
+symbol_sound : (o : Option Symbol) → IsSoundOne (symbol_token o)
+symbol_sound None = tt
+symbol_sound (Some m) = tt
 
 front_by : (r s c d e : Bool) (x y z w : Front) → IsSoundFront x → IsSoundFront y → IsSoundFront z → IsSoundFront w →
     IsSoundFront (if r then x else if s then y else if c then Some ([], []) else if d then (if e then z else None) else w)
@@ -98,10 +98,10 @@ front_sound [] = tt
 front_sound (b ∷ bs) =
     let rest = front_sound bs in
     let tokens = front_tokens_sound (front_of bs) rest in
-    front_by (is_run_byte b) (is_space b) (nat_eq b 35) (nat_eq b 33) (begins_with 61 bs)
-    (longer_run b (front_of bs)) (no_run (tokens_of bs)) (no_run (with_different (tokens_of bs))) (no_run (with_token (mark_token (mark_of b)) (tokens_of bs)))
-    (longer_sound b (front_of bs) rest) (no_run_sound (tokens_of bs) tokens) (no_run_sound (with_different (tokens_of bs)) (different_sound (tokens_of bs) tokens))
-    (no_run_sound (with_token (mark_token (mark_of b)) (tokens_of bs)) (with_sound (mark_token (mark_of b)) (tokens_of bs) (mark_sound (mark_of b)) tokens))
+    front_by (is_lexeme_byte b) (is_space b) (nat_eq b 35) (nat_eq b 33) (begins_with 61 bs)
+    (longer_lexeme b (front_of bs)) (no_lexeme (tokens_of bs)) (no_lexeme (with_different (tokens_of bs))) (no_lexeme (with_token (symbol_token (symbol_of b)) (tokens_of bs)))
+    (longer_sound b (front_of bs) rest) (no_lexeme_sound (tokens_of bs) tokens) (no_lexeme_sound (with_different (tokens_of bs)) (different_sound (tokens_of bs) tokens))
+    (no_lexeme_sound (with_token (symbol_token (symbol_of b)) (tokens_of bs)) (with_sound (symbol_token (symbol_of b)) (tokens_of bs) (symbol_sound (symbol_of b)) tokens))
 
 -- the tokens of a line are sound
 pub tokens_sound : (bs : List ℕ) → AreSound (tokens_of bs)

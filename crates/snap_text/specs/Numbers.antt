@@ -1,8 +1,8 @@
 -- Lines that are a number, or a number, `*` and a number.
 use Rattle.std.specs.Prelude.{◌≡◌, ℕ, ◌<◌, true, List, [], ◌∷◌, ◌++◌, length, Option, Some, None}
 use Rattle.std.specs.List.{list_all}
-use Rattle.snap_semantics.specs.declared.text.Mark.TheVariants as mark
-use Rattle.snap_semantics.specs.Token.{Token, Number, Sign, TextLine, is_digit, run_token, tokens_of, lines_of}
+use Rattle.snap_semantics.specs.declared.text.Symbol.TheVariants as symbol
+use Rattle.snap_semantics.specs.Token.{Token, Number, Sign, TextLine, is_digit, lexeme_token, tokens_of, lines_of}
 use Rattle.snap_text.specs.declared.lines.NumberLine.{NumberLine}
 
 -- digits at the front spell a number, and the rest stands behind them
@@ -11,12 +11,12 @@ pub record BeginsWithNumber (bytes : List ℕ) (value : ℕ) (rest : List ℕ) :
   pub spelled : bytes ≡ digits ++ rest
   pub some : 0 < length digits
   pub all : list_all is_digit digits ≡ true
-  pub spells : run_token digits ≡ Some (Number value)
+  pub spells : lexeme_token digits ≡ Some (Number value)
 
 -- a number, and where there is a second one, `*` and that
 abbrev pub number_tokens : ℕ → Option ℕ → List Token
 number_tokens i None = Number i ∷ []
-number_tokens i (Some k) = Number i ∷ Sign mark.Star ∷ Number k ∷ []
+number_tokens i (Some k) = Number i ∷ Sign symbol.Star ∷ Number k ∷ []
 
 -- the first line has these numbers for its tokens, and the rest are the bytes of the lines behind it
 pub record BeginsWithNumbers (bytes : List ℕ) (first : ℕ) (second : Option ℕ) (rest : List ℕ) : Type 0 where

@@ -1,22 +1,22 @@
 -- Tokens as they are seen, and what rules find.
 use Rattle.std.specs.Prelude.{◌≡◌, ℕ, ◌+◌, ◌^◌, ◌<◌, Bool, true, false, List, [], ◌∷◌, map, Option, Some, None, nat_eq, if◌then◌else◌}
-use Rattle.snap_semantics.specs.declared.text.Mark.{Mark}
-use Rattle.snap_semantics.specs.declared.text.Mark.TheVariants as mark
-use Rattle.snap_semantics.specs.Token.{Token, Word, Number, Sign, IsWord, is_run_byte, mark_of}
-use Rattle.snap_text.specs.declared.lexer.Token.{Token as Given}
+use Rattle.snap_semantics.specs.declared.text.Symbol.{Symbol}
+use Rattle.snap_semantics.specs.declared.text.Symbol.TheVariants as symbol
+use Rattle.snap_semantics.specs.Token.{Token, Identifier, Number, Sign, IsIdentifier, is_lexeme_byte, symbol_of}
+use Rattle.snap_text.specs.declared.lexer.Token as code
 use Rattle.snap_text.specs.declared.lexer.Token.TheVariants as given
 
-abbrev pub view_token : Given → Token
-view_token (given.Word w) = Word w.now
+abbrev pub view_token : code.Token → Token
+view_token (given.Identifier w) = Identifier w.now
 view_token (given.Number k) = Number k
 view_token (given.Sign m) = Sign m
 
-abbrev pub view_tokens : List Given → List Token
+abbrev pub view_tokens : List code.Token → List Token
 view_tokens ts = map view_token ts
 
--- a token that can stand in a text: a word of one or more letters, a number of 64 bits, or a mark
+-- a token that can stand in a text: an identifier of one or more letters, a number of 64 bits, or a symbol
 abbrev pub IsSound : Token → Type 0
-IsSound (Word w) = IsWord w
+IsSound (Identifier w) = IsIdentifier w
 IsSound (Number k) = k < 2 ^ 64
 IsSound (Sign m) = Unit {0}
 
@@ -27,22 +27,22 @@ Finds view None found = found ≡ None
 Finds view (Some x) found = found ≡ Some (view x)
 
 -- how many letters and digits stand at the front
-abbrev pub run_len : List ℕ → ℕ
-run_len [] = 0
-run_len (b ∷ bs) = if is_run_byte b then run_len bs + 1 else 0
+abbrev pub lexeme_len : List ℕ → ℕ
+lexeme_len [] = 0
+lexeme_len (b ∷ bs) = if is_lexeme_byte b then lexeme_len bs + 1 else 0
 
-abbrev pub marked : List ℕ → Option Mark → Option (Mark × List ℕ)
+abbrev pub marked : List ℕ → Option Symbol → Option (Symbol × List ℕ)
 marked bs None = None
 marked bs (Some m) = Some (m, bs)
 
-abbrev pub different : List ℕ → Option (Mark × List ℕ)
+abbrev pub different : List ℕ → Option (Symbol × List ℕ)
 different [] = None
-different (b ∷ bs) = if nat_eq b 61 then Some (mark.Different, bs) else None
+different (b ∷ bs) = if nat_eq b 61 then Some (symbol.Different, bs) else None
 
--- the mark at the front, and what stands behind it
-abbrev pub front_mark : List ℕ → Option (Mark × List ℕ)
-front_mark [] = None
-front_mark (b ∷ bs) = if nat_eq b 33 then different bs else marked bs (mark_of b)
+-- the symbol at the front, and what stands behind it
+abbrev pub front_symbol : List ℕ → Option (Symbol × List ℕ)
+front_symbol [] = None
+front_symbol (b ∷ bs) = if nat_eq b 33 then different bs else marked bs (symbol_of b)
 
 abbrev pub is_some_token : List Token → Bool
 is_some_token [] = false

@@ -1,30 +1,30 @@
 //! Lines of tokens laid out: where a space stands between two of them.
 ghost use Rattle.std.specs.Prelude.{◌≡◌, ◌<◌, ◌≤◌, [], ◌++◌, ◌+◌, ◌^◌, OnOk};
-ghost use Rattle.snap_semantics.specs.Layout.{mark_text, token_text, depth_behind, parts_behind, parts_before, gap, layout, line_to, line_text, opened, closed};
+ghost use Rattle.snap_semantics.specs.Layout.{symbol_text, token_text, depth_behind, parts_behind, parts_before, gap, layout, line_to, line_text, opened, closed};
 ghost use Rattle.snap_text.specs.Tokens.{view_token, view_tokens};
 
 use crate::lexer::Token;
 use crate::push::{push_number, push_text};
-use snap_semantics::Mark;
+use snap_semantics::Symbol;
 use std::alloc::AllocError;
 
-/// How a mark is spelled.
-fn mark_text(mark: Mark) -> &'static [u8]
-    ensures { result.now ≡ mark_text mark }
+/// How a symbol is spelled.
+fn symbol_text(symbol: Symbol) -> &'static [u8]
+    ensures { result.now ≡ symbol_text symbol }
 {
-    match mark {
-        Mark::Colon => b":",
-        Mark::Equal => b"=",
-        Mark::Different => b"!=",
-        Mark::Less => b"<",
-        Mark::Plus => b"+",
-        Mark::Comma => b",",
-        Mark::OpenParenthesis => b"(",
-        Mark::CloseParenthesis => b")",
-        Mark::OpenBracket => b"[",
-        Mark::CloseBracket => b"]",
-        Mark::At => b"@",
-        Mark::Star => b"*",
+    match symbol {
+        Symbol::Colon => b":",
+        Symbol::Equal => b"=",
+        Symbol::Different => b"!=",
+        Symbol::Less => b"<",
+        Symbol::Plus => b"+",
+        Symbol::Comma => b",",
+        Symbol::OpenParenthesis => b"(",
+        Symbol::CloseParenthesis => b")",
+        Symbol::OpenBracket => b"[",
+        Symbol::CloseBracket => b"]",
+        Symbol::At => b"@",
+        Symbol::Star => b"*",
     }
 }
 
@@ -33,9 +33,9 @@ fn push_token(out: &mut Vec<u8>, token: Token<'_>) -> Result<(), AllocError>
     ensures { OnOk result (out.new.items ≡ out.old.items ++ token_text (view_token token.entry)) }
 {
     match token {
-        Token::Word(word) => push_text(out, word),
+        Token::Identifier(word) => push_text(out, word),
         Token::Number(number) => push_number(out, number),
-        Token::Sign(mark) => push_text(out, mark_text(mark)),
+        Token::Sign(symbol) => push_text(out, symbol_text(symbol)),
     }
 }
 
@@ -46,7 +46,7 @@ fn opened(depth: u64, before: Token<'_>) -> u64
     ensures within { result ≤ depth + 1 }
 {
     match before {
-        Token::Sign(Mark::Equal) if depth == 0 => 1,
+        Token::Sign(Symbol::Equal) if depth == 0 => 1,
         _ if depth == 0 => 0,
         _ => depth + 1,
     }
@@ -67,8 +67,8 @@ fn depth_behind(depth: u64, before: Token<'_>, token: Token<'_>) -> u64
     ensures within { result ≤ depth + 1 }
 {
     match token {
-        Token::Sign(Mark::OpenParenthesis) => opened(depth, before),
-        Token::Sign(Mark::CloseParenthesis) => closed(depth),
+        Token::Sign(Symbol::OpenParenthesis) => opened(depth, before),
+        Token::Sign(Symbol::CloseParenthesis) => closed(depth),
         _ => depth,
     }
 }
@@ -78,8 +78,8 @@ fn parts_behind(depth: u64, token: Token<'_>) -> bool
     ensures { result ≡ parts_behind depth (view_token token.entry) }
 {
     match token {
-        Token::Sign(Mark::OpenParenthesis | Mark::OpenBracket | Mark::Star) => false,
-        Token::Sign(Mark::Comma) => depth == 1,
+        Token::Sign(Symbol::OpenParenthesis | Symbol::OpenBracket | Symbol::Star) => false,
+        Token::Sign(Symbol::Comma) => depth == 1,
         _ => true,
     }
 }
@@ -89,15 +89,15 @@ fn parts_before(before: Token<'_>, token: Token<'_>) -> bool
     ensures { result ≡ parts_before (view_token before.entry) (view_token token.entry) }
 {
     match (before, token) {
-        (Token::Word(_), Token::Sign(Mark::OpenParenthesis | Mark::OpenBracket)) => false,
+        (Token::Identifier(_), Token::Sign(Symbol::OpenParenthesis | Symbol::OpenBracket)) => false,
         (
             _,
             Token::Sign(
-                Mark::CloseParenthesis
-                | Mark::CloseBracket
-                | Mark::Comma
-                | Mark::Colon
-                | Mark::Star,
+                Symbol::CloseParenthesis
+                | Symbol::CloseBracket
+                | Symbol::Comma
+                | Symbol::Colon
+                | Symbol::Star,
             ),
         ) => false,
         _ => true,

@@ -1,18 +1,18 @@
 //! The tokens of a line.
 ghost use Rattle.std.specs.Prelude.{◌≡◌, ◌≤◌, ◌<◌, length, IfOk, option_map};
 ghost use Rattle.std.specs.List.{list_all};
-ghost use Rattle.snap_semantics.specs.Token.{is_letter, is_digit, is_run_byte, is_space, mark_of, number_of, has_leading_zero, run_token, tokens_of};
-ghost use Rattle.snap_text.specs.Tokens.{Finds, view_token, view_tokens, run_len, front_mark};
+ghost use Rattle.snap_semantics.specs.Token.{is_letter, is_digit, is_lexeme_byte, is_space, symbol_of, number_of, has_leading_zero, lexeme_token, tokens_of};
+ghost use Rattle.snap_text.specs.Tokens.{Finds, view_token, view_tokens, lexeme_len, front_symbol};
 
-use snap_semantics::Mark;
+use snap_semantics::Symbol;
 use std::alloc::{AllocError, Global};
 
-/// A word, a number or a mark.
+/// An identifier, a number or a symbol.
 #[derive(Clone, Copy, Debug)]
 pub enum Token<'a> {
-    Word(&'a [u8]),
+    Identifier(&'a [u8]),
     Number(u64),
-    Sign(Mark),
+    Sign(Symbol),
 }
 
 fn is_letter(b: u8) -> bool
@@ -27,9 +27,9 @@ pub(crate) fn is_digit(b: u8) -> bool
     b'0' <= b && b <= b'9'
 }
 
-/// Whether a byte is of a word or of a number.
-fn is_run_byte(b: u8) -> bool
-    ensures { result ≡ is_run_byte b }
+/// Whether a byte is of an identifier or of a number.
+fn is_lexeme_byte(b: u8) -> bool
+    ensures { result ≡ is_lexeme_byte b }
 {
     is_letter(b) || is_digit(b)
 }
@@ -41,27 +41,27 @@ pub(crate) fn is_space(b: u8) -> bool
 }
 
 /// How many letters and digits stand at the front.
-fn run_len(bytes: &[u8]) -> usize
-    ensures value { result ≡ run_len bytes.now }
+fn lexeme_len(bytes: &[u8]) -> usize
+    ensures value { result ≡ lexeme_len bytes.now }
     ensures within { result ≤ length bytes.now }
 {
     let mut len = 0;
-    while len < bytes.len() && is_run_byte(bytes[len]) {
+    while len < bytes.len() && is_lexeme_byte(bytes[len]) {
         len += 1;
     }
     len
 }
 
-fn all_letters(run: &[u8]) -> bool
-    ensures { result ≡ list_all is_letter run.now }
+fn all_letters(lexeme: &[u8]) -> bool
+    ensures { result ≡ list_all is_letter lexeme.now }
 {
-    run.iter().all(|b| is_letter(*b))
+    lexeme.iter().all(|b| is_letter(*b))
 }
 
-pub(crate) fn has_leading_zero(run: &[u8]) -> bool
-    ensures { result ≡ has_leading_zero run.now }
+pub(crate) fn has_leading_zero(lexeme: &[u8]) -> bool
+    ensures { result ≡ has_leading_zero lexeme.now }
 {
-    match run {
+    match lexeme {
         [first, _, ..] => *first == b'0',
         _ => false,
     }
@@ -88,51 +88,51 @@ fn number_of(digits: &[u8]) -> Option<u64>
     Some(value)
 }
 
-/// The token that a run of letters and digits is.
-fn run_token(run: &[u8]) -> Option<Token<'_>>
-    ensures { Finds view_token result (run_token run.now) }
+/// The token that a lexeme of letters and digits is.
+fn lexeme_token(lexeme: &[u8]) -> Option<Token<'_>>
+    ensures { Finds view_token result (lexeme_token lexeme.now) }
 {
-    if all_letters(run) {
-        return Some(Token::Word(run));
+    if all_letters(lexeme) {
+        return Some(Token::Identifier(lexeme));
     }
-    if has_leading_zero(run) {
+    if has_leading_zero(lexeme) {
         return None;
     }
-    match number_of(run) {
+    match number_of(lexeme) {
         Some(value) => Some(Token::Number(value)),
         None => None,
     }
 }
 
-/// The mark that a byte alone is.
-fn mark_of(b: u8) -> Option<Mark>
-    ensures { result ≡ mark_of b }
+/// The symbol that a byte alone is.
+fn symbol_of(b: u8) -> Option<Symbol>
+    ensures { result ≡ symbol_of b }
 {
     match b {
-        b':' => Some(Mark::Colon),
-        b'=' => Some(Mark::Equal),
-        b'<' => Some(Mark::Less),
-        b'+' => Some(Mark::Plus),
-        b',' => Some(Mark::Comma),
-        b'(' => Some(Mark::OpenParenthesis),
-        b')' => Some(Mark::CloseParenthesis),
-        b'[' => Some(Mark::OpenBracket),
-        b']' => Some(Mark::CloseBracket),
-        b'@' => Some(Mark::At),
-        b'*' => Some(Mark::Star),
+        b':' => Some(Symbol::Colon),
+        b'=' => Some(Symbol::Equal),
+        b'<' => Some(Symbol::Less),
+        b'+' => Some(Symbol::Plus),
+        b',' => Some(Symbol::Comma),
+        b'(' => Some(Symbol::OpenParenthesis),
+        b')' => Some(Symbol::CloseParenthesis),
+        b'[' => Some(Symbol::OpenBracket),
+        b']' => Some(Symbol::CloseBracket),
+        b'@' => Some(Symbol::At),
+        b'*' => Some(Symbol::Star),
         _ => None,
     }
 }
 
-/// The mark at the front, and what stands behind it.
-fn front_mark(bytes: &[u8]) -> Option<(Mark, &[u8])>
-    ensures { Finds (λ x. (x.0, x.1.now)) result (front_mark bytes.now) }
+/// The symbol at the front, and what stands behind it.
+fn front_symbol(bytes: &[u8]) -> Option<(Symbol, &[u8])>
+    ensures { Finds (λ x. (x.0, x.1.now)) result (front_symbol bytes.now) }
 {
     match bytes {
         [] => None,
-        [b'!', b'=', rest @ ..] => Some((Mark::Different, rest)),
-        [b, rest @ ..] => match mark_of(*b) {
-            Some(mark) => Some((mark, rest)),
+        [b'!', b'=', rest @ ..] => Some((Symbol::Different, rest)),
+        [b, rest @ ..] => match symbol_of(*b) {
+            Some(symbol) => Some((symbol, rest)),
             None => None,
         },
     }
@@ -146,9 +146,9 @@ pub fn tokens(alloc: Global, line: &[u8]) -> Result<Option<Vec<Token<'_>>>, Allo
     let mut rest = line;
     while !rest.is_empty() {
         let b = rest[0];
-        if is_run_byte(b) {
-            let (run, after) = rest.split_at(run_len(rest));
-            match run_token(run) {
+        if is_lexeme_byte(b) {
+            let (lexeme, after) = rest.split_at(lexeme_len(rest));
+            match lexeme_token(lexeme) {
                 Some(token) => out.push(token)?,
                 None => return Ok(None),
             }
@@ -158,9 +158,9 @@ pub fn tokens(alloc: Global, line: &[u8]) -> Result<Option<Vec<Token<'_>>>, Allo
         } else if b == b'#' {
             return Ok(Some(out));
         } else {
-            match front_mark(rest) {
-                Some((mark, after)) => {
-                    out.push(Token::Sign(mark))?;
+            match front_symbol(rest) {
+                Some((symbol, after)) => {
+                    out.push(Token::Sign(symbol))?;
                     rest = after;
                 }
                 None => return Ok(None),

@@ -16,4 +16,4 @@ pub use layout::{push_laid_out, push_tokens};
 pub use lexer::{Token, tokens};
 pub use lines::{NumberLine, TextLines, TokenLine, line_count};
 pub use push::{push_number, push_numbers, push_text};
-pub use rules::{end_at, keyword_at, mark_at, number_at, word_at};
+pub use rules::{end_at, identifier_at, keyword_at, number_at, symbol_at};

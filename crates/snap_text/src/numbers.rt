@@ -33,11 +33,11 @@ pub fn numbers_front(bytes: &[u8]) -> Option<(u64, Option<u64>, &[u8])>
     ensures { IfSome result (λ x. BeginsWithNumbers bytes.now x.0 x.1 x.2.now) }
 {
     let (first, behind) = number_front(bytes)?;
-    let (mark, rest) = behind.split_first()?;
-    if *mark == b'\n' {
+    let (symbol, rest) = behind.split_first()?;
+    if *symbol == b'\n' {
         return Some((first, None, rest));
     }
-    if *mark != b'*' {
+    if *symbol != b'*' {
         return None;
     }
     let (second, behind) = number_front(rest)?;

@@ -1,10 +1,10 @@
 //! What rules of a grammar find at the front of the tokens of a line. A rule that does not fit finds nothing.
 ghost use Rattle.std.specs.Prelude.{◌≡◌};
-ghost use Rattle.snap_semantics.specs.Forms.{number_at, word_at, keyword_at, mark_at, end_at};
+ghost use Rattle.snap_semantics.specs.Rules.{number_at, identifier_at, keyword_at, symbol_at, end_at};
 ghost use Rattle.snap_text.specs.Tokens.{Finds, view_tokens};
 
 use crate::lexer::Token;
-use snap_semantics::Mark;
+use snap_semantics::Symbol;
 
 /// The number at the front, and the rest.
 pub fn number_at<'a, 'b>(tokens: &'a [Token<'b>]) -> Option<(u64, &'a [Token<'b>])>
@@ -16,32 +16,32 @@ pub fn number_at<'a, 'b>(tokens: &'a [Token<'b>]) -> Option<(u64, &'a [Token<'b>
     }
 }
 
-/// The word at the front, and the rest.
-pub fn word_at<'a, 'b>(tokens: &'a [Token<'b>]) -> Option<(&'b [u8], &'a [Token<'b>])>
-    ensures { Finds (λ x. (x.0.now, view_tokens x.1.now)) result (word_at (view_tokens tokens.now)) }
+/// The identifier at the front, and the rest.
+pub fn identifier_at<'a, 'b>(tokens: &'a [Token<'b>]) -> Option<(&'b [u8], &'a [Token<'b>])>
+    ensures { Finds (λ x. (x.0.now, view_tokens x.1.now)) result (identifier_at (view_tokens tokens.now)) }
 {
     match tokens {
-        [Token::Word(word), rest @ ..] => Some((*word, rest)),
+        [Token::Identifier(word), rest @ ..] => Some((*word, rest)),
         _ => None,
     }
 }
 
-/// The rest after this word at the front.
+/// The rest after this keyword at the front.
 pub fn keyword_at<'a, 'b>(word: &[u8], tokens: &'a [Token<'b>]) -> Option<&'a [Token<'b>]>
     ensures { Finds (λ x. view_tokens x.now) result (keyword_at word.now (view_tokens tokens.now)) }
 {
     match tokens {
-        [Token::Word(found), rest @ ..] if *found == word => Some(rest),
+        [Token::Identifier(found), rest @ ..] if *found == word => Some(rest),
         _ => None,
     }
 }
 
-/// The rest after this mark at the front.
-pub fn mark_at<'a, 'b>(mark: Mark, tokens: &'a [Token<'b>]) -> Option<&'a [Token<'b>]>
-    ensures { Finds (λ x. view_tokens x.now) result (mark_at mark (view_tokens tokens.now)) }
+/// The rest after this symbol at the front.
+pub fn symbol_at<'a, 'b>(symbol: Symbol, tokens: &'a [Token<'b>]) -> Option<&'a [Token<'b>]>
+    ensures { Finds (λ x. view_tokens x.now) result (symbol_at symbol (view_tokens tokens.now)) }
 {
     match tokens {
-        [Token::Sign(found), rest @ ..] if *found == mark => Some(rest),
+        [Token::Sign(found), rest @ ..] if *found == symbol => Some(rest),
         _ => None,
     }
 }

@@ -4,19 +4,19 @@ use Rattle.std.proofs.lemmas.List.{get_or-set_same, set-get_or, set-set, set_pas
 use Rattle.std.proofs.lemmas.Bool.{cases_lt}
 use Rattle.std.proofs.lemmas.Option.{slice_get_cases}
 use Rattle.snap_semantics.specs.Source.{Name}
-use Rattle.snap_semantics.specs.State.{Named, value_at, with_value}
+use Rattle.snap_semantics.specs.State.{NameMap, value_at, with_value}
 
 -- a value that a name has is set
-pub with_same : {A : Type 0} (x : Name) (d : A) (es : Named A) → with_value x (value_at x es d) es ≡ es
+pub with_same : {A : Type 0} (x : Name) (d : A) (es : NameMap A) → with_value x (value_at x es d) es ≡ es
 with_same x d [] = refl
 with_same {A} x d (e ∷ es) =
     elim (bytes_eq x e.0) as (λ b. (if b then (e.0, if b then e.1 else value_at x es d) ∷ es else e ∷ with_value x (if b then e.1 else value_at x es d) es) ≡ e ∷ es) [
       | true ↦ refl
-      | false ↦ ap (λ (fs : Named A). e ∷ fs) (with_same x d es)
+      | false ↦ ap (λ (fs : NameMap A). e ∷ fs) (with_same x d es)
     ]
 
 -- a value is set after another, made from it
-pub with_changed : {A : Type 0} (x : Name) (f : A → A) (v d : A) (es : Named A) →
+pub with_changed : {A : Type 0} (x : Name) (f : A → A) (v d : A) (es : NameMap A) →
     with_value x (f (value_at x (with_value x v es) d)) (with_value x v es) ≡ with_value x (f v) es
 with_changed x f v d [] = refl
 with_changed {A} x f v d (e ∷ es) = by_name (bytes_eq x e.0) refl (with_changed x f v d es) where
@@ -25,14 +25,14 @@ with_changed {A} x f v d (e ∷ es) = by_name (bytes_eq x e.0) refl (with_change
   by_name true is more = ap (λ c. if c then (e.0, f (if c then v else value_at x es d)) ∷ es else (e.0, v) ∷ with_value x (f (if c then v else value_at x es d)) es) is
   by_name false is more =
       ap (λ c. if c then (e.0, f (if c then e.1 else value_at x (with_value x v es) d)) ∷ with_value x v es else e ∷ with_value x (f (if c then e.1 else value_at x (with_value x v es) d)) (with_value x v es)) is
-      ∙ ap (λ (fs : Named A). e ∷ fs) more
+      ∙ ap (λ (fs : NameMap A). e ∷ fs) more
 
 -- the value that a name had is put back
-pub with_back : {A : Type 0} (x : Name) (v d : A) (es : Named A) → with_value x (value_at x es d) (with_value x v es) ≡ es
+pub with_back : {A : Type 0} (x : Name) (v d : A) (es : NameMap A) → with_value x (value_at x es d) (with_value x v es) ≡ es
 with_back x v d es = with_changed x (λ w. value_at x es d) v d es ∙ with_same x d es
 
 -- a place of a list that a name has is put back
-pub place_back : {A : Type 0} (x : Name) (k : ℕ) (v d : A) (es : Named (List A)) →
+pub place_back : {A : Type 0} (x : Name) (k : ℕ) (v d : A) (es : NameMap (List A)) →
     with_value x (set (value_at x (with_value x (set (value_at x es []) k v) es) []) k (get_or (value_at x es []) k d)) (with_value x (set (value_at x es []) k v) es) ≡ es
 place_back {A} x k v d es =
     let old : List A = value_at x es [] in
@@ -40,7 +40,7 @@ place_back {A} x k v d es =
     ∙ ap (λ (xs : List A). with_value x xs es) (set-set old k v (get_or old k d) ∙ set-get_or old k d)
     ∙ with_same x [] es
 
-pub place_same : {A : Type 0} (x : Name) (k : ℕ) (d : A) (es : Named (List A)) →
+pub place_same : {A : Type 0} (x : Name) (k : ℕ) (d : A) (es : NameMap (List A)) →
     with_value x (set (value_at x es []) k (get_or (value_at x es []) k d)) es ≡ es
 place_same {A} x k d es =
     ap (λ (xs : List A). with_value x xs es) (set-get_or (value_at x es []) k d) ∙ with_same x [] es

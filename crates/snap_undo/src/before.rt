@@ -2,7 +2,7 @@
 ghost use Rattle.std.specs.Prelude.{◌≡◌, [], false, IfOk, map, slice_get, slice_index};
 ghost use Rattle.snap_words.specs.Shape.{is_place};
 ghost use Rattle.snap_semantics.specs.State.{value_at};
-ghost use Rattle.snap_code.specs.Named.{name_at};
+ghost use Rattle.snap_asm_program.specs.NamedLines.{name_at};
 ghost use Rattle.snap_regs.specs.Access.{is_bit_place, is_view_place};
 ghost use Rattle.snap_undo.specs.Seen.{seen_place};
 ghost use Rattle.snap_undo.specs.Written.{
@@ -20,24 +20,26 @@ ghost use Rattle.snap_undo.specs.Written.{
 };
 ghost use Rattle.snap_values.specs.Seen.{seen_context, seen_locals};
 
-use crate::undo::Place;
-use snap_code::{Program, SlotInstr};
+use crate::undo::SlotPlace;
+use snap_asm_program::{Program, SlotInstr};
 use snap_regs::Registers;
 use snap_semantics::{BitBank, Cause};
-use snap_values::{Context, Process, copy_of, index_value, local_place, row, scalar, view, words};
+use snap_values::{
+    SlotProcess, StepContext, copy_of, index_value, local_place, row, scalar, view, words,
+};
 use snap_words::Kind;
 use std::alloc::{AllocError, Global};
 
 /// A scalar.
 fn scalar_before<K: Kind>(
     program: &Program,
-    context: &Context,
-    process: &Process<K>,
+    context: &StepContext,
+    process: &SlotProcess<K>,
     slot: usize,
-) -> Place<K>
-    ensures { seen_place K.parts result ≡ scalar_before program.now (seen_context K.parts program.now context.now process.now) slot }
+) -> SlotPlace<K>
+    ensures { seen_place K.as_word result ≡ scalar_before program.now (seen_context K.as_word program.now context.now process.now) slot }
 {
-    Place::Scalar(
+    SlotPlace::Scalar(
         slot,
         scalar(program.scalars(), process.scalars.as_slice(), slot),
     )
@@ -53,19 +55,19 @@ fn number_at(row: &[u64], place: usize) -> u64
 /// A number of a row, where there is such a place.
 fn number_before<K: Kind>(
     program: &Program,
-    process: &Process<K>,
+    process: &SlotProcess<K>,
     slot: usize,
     place: Result<usize, Cause>,
-) -> Place<K>
-    ensures { seen_place K.parts result
-        ≡ number_before slot (value_at (name_at program.now.rows slot) (seen_locals K.parts program.now process.now).rows []) place }
+) -> SlotPlace<K>
+    ensures { seen_place K.as_word result
+        ≡ number_before slot (value_at (name_at program.now.rows slot) (seen_locals K.as_word program.now process.now).rows []) place }
 {
     match place {
         Ok(place) => {
             let row = row(program.rows(), process.rows.as_slice(), slot);
-            Place::Number(slot, place, number_at(row, place))
+            SlotPlace::Number(slot, place, number_at(row, place))
         }
-        Err(_) => Place::Nowhere,
+        Err(_) => SlotPlace::Nowhere,
     }
 }
 
@@ -73,14 +75,14 @@ fn number_before<K: Kind>(
 fn row_before<K: Kind>(
     alloc: Global,
     program: &Program,
-    context: &Context,
-    process: &Process<K>,
+    context: &StepContext,
+    process: &SlotProcess<K>,
     slot: usize,
-) -> Result<Place<K>, AllocError>
-    ensures { IfOk result (λ p. seen_place K.parts p ≡ row_before program.now (seen_context K.parts program.now context.now process.now) slot) }
+) -> Result<SlotPlace<K>, AllocError>
+    ensures { IfOk result (λ p. seen_place K.as_word p ≡ row_before program.now (seen_context K.as_word program.now context.now process.now) slot) }
 {
     let row = row(program.rows(), process.rows.as_slice(), slot);
-    Ok(Place::Row(slot, Vec::from_slice(alloc, row)?))
+    Ok(SlotPlace::Row(slot, Vec::from_slice(alloc, row)?))
 }
 
 /// The word at a place of a `words` local, where there is such a place.
@@ -89,12 +91,12 @@ fn word_there<K: Kind>(
     words: &[K::Word],
     slot: usize,
     place: usize,
-) -> Result<Place<K>, AllocError>
-    ensures { IfOk result (λ p. seen_place K.parts p ≡ word_there slot place (slice_get (map K.parts words.now) place)) }
+) -> Result<SlotPlace<K>, AllocError>
+    ensures { IfOk result (λ p. seen_place K.as_word p ≡ word_there slot place (slice_get (map K.as_word words.now) place)) }
 {
     match words.get(place) {
-        Some(word) => Ok(Place::LocalWord(slot, place, K::copy(alloc, word)?)),
-        None => Ok(Place::Nowhere),
+        Some(word) => Ok(SlotPlace::LocalWord(slot, place, K::copy(alloc, word)?)),
+        None => Ok(SlotPlace::Nowhere),
     }
 }
 
@@ -102,19 +104,19 @@ fn word_there<K: Kind>(
 fn local_word_before<K: Kind>(
     alloc: Global,
     program: &Program,
-    process: &Process<K>,
+    process: &SlotProcess<K>,
     slot: usize,
     place: Result<usize, Cause>,
-) -> Result<Place<K>, AllocError>
-    ensures { IfOk result (λ p. seen_place K.parts p
-        ≡ local_word_before slot (value_at (name_at program.now.words slot) (seen_locals K.parts program.now process.now).words []) place) }
+) -> Result<SlotPlace<K>, AllocError>
+    ensures { IfOk result (λ p. seen_place K.as_word p
+        ≡ local_word_before slot (value_at (name_at program.now.words slot) (seen_locals K.as_word program.now process.now).words []) place) }
 {
     match place {
         Ok(place) => {
             let words = words::<K>(program.words(), process.words.as_slice(), slot);
             word_there::<K>(alloc, words, slot, place)
         }
-        Err(_) => Ok(Place::Nowhere),
+        Err(_) => Ok(SlotPlace::Nowhere),
     }
 }
 
@@ -122,15 +124,15 @@ fn local_word_before<K: Kind>(
 fn local_view_before<K: Kind>(
     alloc: Global,
     program: &Program,
-    context: &Context,
-    process: &Process<K>,
+    context: &StepContext,
+    process: &SlotProcess<K>,
     slot: usize,
-) -> Result<Place<K>, AllocError>
-    ensures { IfOk result (λ p. seen_place K.parts p
-        ≡ local_view_before program.now (seen_context K.parts program.now context.now process.now) slot) }
+) -> Result<SlotPlace<K>, AllocError>
+    ensures { IfOk result (λ p. seen_place K.as_word p
+        ≡ local_view_before program.now (seen_context K.as_word program.now context.now process.now) slot) }
 {
     let view = view(program.views(), process.views.as_slice(), slot);
-    Ok(Place::LocalView(slot, copy_of(alloc, view)?))
+    Ok(SlotPlace::LocalView(slot, copy_of(alloc, view)?))
 }
 
 /// A word of the registers, where there is one of this number.
@@ -138,22 +140,22 @@ fn word_before<K: Kind>(
     alloc: Global,
     registers: &Registers<K>,
     k: u64,
-) -> Result<Place<K>, AllocError>
-    ensures { IfOk result (λ p. seen_place K.parts p ≡ word_before registers.now.memory k (is_place registers.now.shape.w k)) }
+) -> Result<SlotPlace<K>, AllocError>
+    ensures { IfOk result (λ p. seen_place K.as_word p ≡ word_before registers.now.memory k (is_place registers.now.shape.w k)) }
 {
     match registers.word(k) {
-        Ok(word) => Ok(Place::WordRegister(k, K::copy(alloc, word)?)),
-        Err(_) => Ok(Place::Nowhere),
+        Ok(word) => Ok(SlotPlace::WordRegister(k, K::copy(alloc, word)?)),
+        Err(_) => Ok(SlotPlace::Nowhere),
     }
 }
 
 /// A bit of the registers, where there is one of these numbers.
-fn bit_before<K: Kind>(registers: &Registers<K>, bits: BitBank, i: u64, j: u64) -> Place<K>
-    ensures { seen_place K.parts result ≡ bit_before registers.now.memory bits i j (is_bit_place K.TAG registers.now.shape bits i j) }
+fn bit_before<K: Kind>(registers: &Registers<K>, bits: BitBank, i: u64, j: u64) -> SlotPlace<K>
+    ensures { seen_place K.as_word result ≡ bit_before registers.now.memory bits i j (is_bit_place K.TAG registers.now.shape bits i j) }
 {
     match registers.bit(bits, i, j) {
-        Ok(bit) => Place::BitRegister(bits, i, j, bit == 1),
-        Err(_) => Place::Nowhere,
+        Ok(bit) => SlotPlace::BitRegister(bits, i, j, bit == 1),
+        Err(_) => SlotPlace::Nowhere,
     }
 }
 
@@ -162,12 +164,12 @@ fn view_before<K: Kind>(
     alloc: Global,
     registers: &Registers<K>,
     i: u64,
-) -> Result<Place<K>, AllocError>
-    ensures { IfOk result (λ p. seen_place K.parts p ≡ view_before registers.now.memory i (is_view_place K.TAG registers.now.shape i)) }
+) -> Result<SlotPlace<K>, AllocError>
+    ensures { IfOk result (λ p. seen_place K.as_word p ≡ view_before registers.now.memory i (is_view_place K.TAG registers.now.shape i)) }
 {
     match registers.view(i) {
-        Ok(view) => Ok(Place::ViewRegister(i, view.copy(alloc)?)),
-        Err(_) => Ok(Place::Nowhere),
+        Ok(view) => Ok(SlotPlace::ViewRegister(i, view.copy(alloc)?)),
+        Err(_) => Ok(SlotPlace::Nowhere),
     }
 }
 
@@ -175,16 +177,16 @@ fn view_before<K: Kind>(
 fn register_before<K: Kind>(
     alloc: Global,
     program: &Program,
-    context: &Context,
+    context: &StepContext,
     registers: &Registers<K>,
-    process: &Process<K>,
+    process: &SlotProcess<K>,
     instr: &SlotInstr,
-) -> Result<Place<K>, AllocError>
+) -> Result<SlotPlace<K>, AllocError>
     requires kind { program.now.kind ≡ K.TAG }
     requires shape { registers.now.shape ≡ context.now.shape }
     requires local { writes_local instr.now ≡ false }
-    ensures { IfOk result (λ p. seen_place K.parts p
-        ≡ written program.now (seen_context K.parts program.now context.now process.now) registers.now.memory instr.now) }
+    ensures { IfOk result (λ p. seen_place K.as_word p
+        ≡ written program.now (seen_context K.as_word program.now context.now process.now) registers.now.memory instr.now) }
 {
     match instr {
         SlotInstr::Put(at, _) => {
@@ -199,7 +201,7 @@ fn register_before<K: Kind>(
         SlotInstr::PutView(at, _) => {
             view_before(alloc, registers, index_value(program, context, process, at))
         }
-        _ => Ok(Place::Nowhere),
+        _ => Ok(SlotPlace::Nowhere),
     }
 }
 
@@ -207,15 +209,15 @@ fn register_before<K: Kind>(
 pub(crate) fn place_before<K: Kind>(
     alloc: Global,
     program: &Program,
-    context: &Context,
+    context: &StepContext,
     registers: &Registers<K>,
-    process: &Process<K>,
+    process: &SlotProcess<K>,
     instr: &SlotInstr,
-) -> Result<Place<K>, AllocError>
+) -> Result<SlotPlace<K>, AllocError>
     requires kind { program.now.kind ≡ K.TAG }
     requires shape { registers.now.shape ≡ context.now.shape }
-    ensures { IfOk result (λ p. seen_place K.parts p
-        ≡ written program.now (seen_context K.parts program.now context.now process.now) registers.now.memory instr.now) }
+    ensures { IfOk result (λ p. seen_place K.as_word p
+        ≡ written program.now (seen_context K.as_word program.now context.now process.now) registers.now.memory instr.now) }
 {
     match instr {
         SlotInstr::Let(slot, _)

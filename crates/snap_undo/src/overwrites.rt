@@ -2,19 +2,19 @@
 ghost use Rattle.std.specs.Prelude.{◌≡◌, IfOk, length, map};
 ghost use Rattle.snap_words.specs.Shape.{IsOneOf};
 ghost use Rattle.snap_semantics.specs.Table.{done, who};
-ghost use Rattle.snap_lines.specs.Lines.{current_effect};
-ghost use Rattle.snap_lines.specs.Sizes.{AllSized, IsReady};
+ghost use Rattle.snap_line_effects.specs.Lines.{current_effect};
+ghost use Rattle.snap_line_effects.specs.Sizes.{AllSized, IsReady};
 ghost use Rattle.snap_undo.specs.Seen.{seen_place};
-ghost use Rattle.snap_undo.specs.Undo.{CanPut, Fits, put};
+ghost use Rattle.snap_undo.specs.Undo.{CanPut, FitsPlace, put};
 ghost use Rattle.snap_undo.specs.Written.{ItemPutsBack, PutsBack, StepPutsBack};
 ghost use Rattle.snap_values.specs.Seen.{seen_context, seen_locals, seen_process, seen_state};
 
 use crate::before::place_before;
-use crate::undo::{Place, Undo};
-use snap_code::Program;
+use crate::undo::{SlotPlace, Undo};
+use snap_asm_program::Program;
 use snap_regs::Registers;
 use snap_semantics::{Item, Status};
-use snap_values::{Context, Process};
+use snap_values::{SlotProcess, StepContext};
 use snap_words::Kind;
 use std::alloc::{AllocError, Global};
 
@@ -22,17 +22,17 @@ use std::alloc::{AllocError, Global};
 fn current_place<K: Kind>(
     alloc: Global,
     program: &Program,
-    context: &Context,
+    context: &StepContext,
     registers: &Registers<K>,
-    process: &Process<K>,
-) -> Result<Place<K>, AllocError>
-    requires { IsReady K.TAG program.now context.now.shape registers.now (seen_locals K.parts program.now process.now) }
-    ensures back { IfOk result (λ p. PutsBack program.now (seen_context K.parts program.now context.now process.now) registers.now.memory (seen_place K.parts p)
-        (current_effect K.parts program.now context.now process.now registers.now.memory)) }
-    ensures fits { IfOk result (λ p. Fits program.now context.now.shape (seen_place K.parts p)) }
+    process: &SlotProcess<K>,
+) -> Result<SlotPlace<K>, AllocError>
+    requires { IsReady K.TAG program.now context.now.shape registers.now (seen_locals K.as_word program.now process.now) }
+    ensures back { IfOk result (λ p. PutsBack program.now (seen_context K.as_word program.now context.now process.now) registers.now.memory (seen_place K.as_word p)
+        (current_effect K.as_word program.now context.now process.now registers.now.memory)) }
+    ensures fits { IfOk result (λ p. FitsPlace program.now context.now.shape (seen_place K.as_word p)) }
 {
     match program.line(context.activity.line) {
-        None => Ok(Place::Nowhere),
+        None => Ok(SlotPlace::Nowhere),
         Some(line) => place_before(alloc, program, context, registers, process, &line.instr),
     }
 }
@@ -42,17 +42,17 @@ fn step_place<K: Kind>(
     alloc: Global,
     program: &Program,
     registers: &Registers<K>,
-    process: &Process<K>,
+    process: &SlotProcess<K>,
     i: u32,
-) -> Result<Place<K>, AllocError>
-    requires { IsReady K.TAG program.now registers.now.shape registers.now (seen_locals K.parts program.now process.now) }
-    ensures back { IfOk result (λ p. StepPutsBack program.now registers.now.shape (seen_process K.parts program.now process.now)
-        registers.now.memory i (seen_place K.parts p) process.now.status) }
-    ensures fits { IfOk result (λ p. Fits program.now registers.now.shape (seen_place K.parts p)) }
+) -> Result<SlotPlace<K>, AllocError>
+    requires { IsReady K.TAG program.now registers.now.shape registers.now (seen_locals K.as_word program.now process.now) }
+    ensures back { IfOk result (λ p. StepPutsBack program.now registers.now.shape (seen_process K.as_word program.now process.now)
+        registers.now.memory i (seen_place K.as_word p) process.now.status) }
+    ensures fits { IfOk result (λ p. FitsPlace program.now registers.now.shape (seen_place K.as_word p)) }
 {
     match process.status {
         Status::Busy(activity) => {
-            let context = Context {
+            let context = StepContext {
                 shape: registers.shape(),
                 me: i,
                 activity,
@@ -60,9 +60,9 @@ fn step_place<K: Kind>(
             };
             current_place(alloc, program, &context, registers, process)
         }
-        Status::Idle => Ok(Place::Nowhere),
-        Status::Trapped(_, _) => Ok(Place::Nowhere),
-        Status::Crashed(_) => Ok(Place::Nowhere),
+        Status::Idle => Ok(SlotPlace::Nowhere),
+        Status::Trapped(_, _) => Ok(SlotPlace::Nowhere),
+        Status::Crashed(_) => Ok(SlotPlace::Nowhere),
     }
 }
 
@@ -71,18 +71,18 @@ fn item_place<K: Kind>(
     alloc: Global,
     program: &Program,
     registers: &Registers<K>,
-    process: &Process<K>,
+    process: &SlotProcess<K>,
     item: Item,
-) -> Result<Place<K>, AllocError>
-    requires { IsReady K.TAG program.now registers.now.shape registers.now (seen_locals K.parts program.now process.now) }
-    ensures back { IfOk result (λ p. ItemPutsBack program.now registers.now.shape (seen_process K.parts program.now process.now)
-        registers.now.memory item (seen_place K.parts p)) }
-    ensures fits { IfOk result (λ p. Fits program.now registers.now.shape (seen_place K.parts p)) }
+) -> Result<SlotPlace<K>, AllocError>
+    requires { IsReady K.TAG program.now registers.now.shape registers.now (seen_locals K.as_word program.now process.now) }
+    ensures back { IfOk result (λ p. ItemPutsBack program.now registers.now.shape (seen_process K.as_word program.now process.now)
+        registers.now.memory item (seen_place K.as_word p)) }
+    ensures fits { IfOk result (λ p. FitsPlace program.now registers.now.shape (seen_place K.as_word p)) }
 {
     match item {
         Item::Step(i) => step_place(alloc, program, registers, process, i),
-        Item::Call(_, _) => Ok(Place::Nowhere),
-        Item::Crash(_) => Ok(Place::Nowhere),
+        Item::Call(_, _) => Ok(SlotPlace::Nowhere),
+        Item::Crash(_) => Ok(SlotPlace::Nowhere),
     }
 }
 
@@ -91,14 +91,14 @@ pub fn overwritten<K: Kind>(
     alloc: Global,
     program: &Program,
     registers: &Registers<K>,
-    processes: &[Process<K>],
+    processes: &[SlotProcess<K>],
     item: Item,
 ) -> Result<Undo<K>, AllocError>
     requires process { IsOneOf (length processes.now) (who item) }
     requires kind { program.now.kind ≡ K.TAG }
     requires count { length processes.now ≡ registers.now.shape.n }
-    requires sized { AllSized program.now registers.now.shape (map (seen_process K.parts program.now) processes.now) }
-    ensures back { let S = seen_state K.parts program.now registers.now.memory processes.now in
+    requires sized { AllSized program.now registers.now.shape (map (seen_process K.as_word program.now) processes.now) }
+    ensures back { let S = seen_state K.as_word program.now registers.now.memory processes.now in
         IfOk result (λ u. put program.now u (done program.now registers.now.shape S item).0 ≡ S) }
     ensures fits { IfOk result (λ u. CanPut program.now registers.now.shape u) }
 {

@@ -6,7 +6,7 @@ use std::marker::Model;
 /// A place that an item writes, with what it had: a register by its indices, counted from 1; or a local of the process by its
 /// slot, whole or one of its places, all counted from 0.
 #[derive(Drop)]
-pub(crate) enum Place<K: Kind> {
+pub(crate) enum SlotPlace<K: Kind> {
     Nowhere,
     WordRegister(u64, K::Word),
     BitRegister(BitBank, u64, u64, bool),
@@ -23,7 +23,7 @@ pub(crate) enum Place<K: Kind> {
 pub struct Undo<K: Kind> {
     pub(crate) process: u32,
     pub(crate) status: Status,
-    pub(crate) place: Place<K>,
+    pub(crate) place: SlotPlace<K>,
 }
 
 impl<K: Kind> Model for Undo<K> {
@@ -32,5 +32,5 @@ impl<K: Kind> Model for Undo<K> {
 
     ghost Value = { Overwritten };
 
-    ghost view = { λ u. record { process = u.process; status = u.status; place = seen_place K.parts u.place } };
+    ghost view = { λ u. record { process = u.process; status = u.status; place = seen_place K.as_word u.place } };
 }

@@ -1,17 +1,17 @@
 //! Quantifiers: what holds, and what the values are, at the places from 1 on. The operands of a place are all taken
 //! before those of the next.
 ghost use Rattle.std.specs.Prelude.{◌≡◌, if◌then◌else◌};
-ghost use Rattle.snap_semantics.specs.Forms.{or_else};
+ghost use Rattle.snap_semantics.specs.Rules.{or_else};
 ghost use Rattle.snap_semantics.specs.Table.{each_value, range_end};
-ghost use Rattle.snap_code.specs.Named.{name_at, named_condition, named_expr, named_where};
+ghost use Rattle.snap_asm_program.specs.NamedLines.{name_at, named_condition, named_expr, named_where};
 ghost use Rattle.snap_values.specs.Quantifiers.{first_place, holds_at_all, checked_values};
 ghost use Rattle.snap_values.specs.Seen.{seen_context};
 
-use crate::context::Context;
 use crate::locals::row;
-use crate::process::Process;
+use crate::slot_process::SlotProcess;
+use crate::step_context::StepContext;
 use crate::value::{condition_holds, expr_value, joined, number_at};
-use snap_code::{Program, SlotCondition, SlotExpr};
+use snap_asm_program::{Program, SlotCondition, SlotExpr};
 use snap_semantics::{Cause, Join, Range};
 use snap_words::{Kind, Shape};
 
@@ -28,12 +28,12 @@ pub fn range_end(shape: Shape, range: Range) -> u64
 /// The least place at which a condition holds.
 pub fn first_place<K: Kind>(
     program: &Program,
-    context: &Context,
-    process: &Process<K>,
+    context: &StepContext,
+    process: &SlotProcess<K>,
     count: u64,
     condition: &SlotCondition,
 ) -> Result<Option<u64>, Cause>
-    ensures { result ≡ first_place (seen_context K.parts program.now context.now process.now) count (named_condition program.now condition.now) }
+    ensures { result ≡ first_place (seen_context K.as_word program.now context.now process.now) count (named_condition program.now condition.now) }
 {
     let mut found = None;
     let mut there = *context;
@@ -58,12 +58,12 @@ fn first_of(found: Option<u64>, holds: bool, place: u64) -> Option<u64>
 /// Whether a condition holds at every place.
 pub fn holds_at_all<K: Kind>(
     program: &Program,
-    context: &Context,
-    process: &Process<K>,
+    context: &StepContext,
+    process: &SlotProcess<K>,
     count: u64,
     condition: &SlotCondition,
 ) -> Result<bool, Cause>
-    ensures { result ≡ holds_at_all (seen_context K.parts program.now context.now process.now) count (named_condition program.now condition.now) }
+    ensures { result ≡ holds_at_all (seen_context K.as_word program.now context.now process.now) count (named_condition program.now condition.now) }
 {
     let mut all = true;
     let mut there = *context;
@@ -78,13 +78,13 @@ pub fn holds_at_all<K: Kind>(
 /// A place's new value: the expression's where the condition holds, else the old one.
 pub fn row_value<K: Kind>(
     program: &Program,
-    context: &Context,
-    process: &Process<K>,
+    context: &StepContext,
+    process: &SlotProcess<K>,
     slot: usize,
     expr: &SlotExpr,
     condition: &Option<SlotCondition>,
 ) -> Result<u64, Cause>
-    ensures { result ≡ each_value (seen_context K.parts program.now context.now process.now)
+    ensures { result ≡ each_value (seen_context K.as_word program.now context.now process.now)
         (name_at program.now.rows slot) (named_expr program.now expr.now) (named_where program.now condition.now) }
 {
     match condition {
@@ -105,14 +105,14 @@ pub fn row_value<K: Kind>(
 /// The trap of the first place that has no new value, if one has none.
 pub fn check_values<K: Kind>(
     program: &Program,
-    context: &Context,
-    process: &Process<K>,
+    context: &StepContext,
+    process: &SlotProcess<K>,
     count: u64,
     slot: usize,
     expr: &SlotExpr,
     condition: &Option<SlotCondition>,
 ) -> Result<(), Cause>
-    ensures { result ≡ checked_values (seen_context K.parts program.now context.now process.now)
+    ensures { result ≡ checked_values (seen_context K.as_word program.now context.now process.now)
         count (name_at program.now.rows slot) (named_expr program.now expr.now) (named_where program.now condition.now) }
 {
     let mut there = *context;

@@ -1,3 +1,3 @@
-pub mod HandLists
+pub mod HandshakeLists
 pub mod Masks
 pub mod Words

@@ -4,7 +4,7 @@ use Rattle.std.proofs.lemmas.Nat.Bits.{bit_at_lowest, bit_at-suc, shr_and_one}
 use Rattle.std.specs.Int.{bit_at}
 use Rattle.std.specs.List.{slice_get}
 use Rattle.std.specs.Prelude.{bit_and, ◌^◌}
-use Rattle.snap_words.specs.Hands.{mask_bits}
+use Rattle.snap_words.specs.Handshakes.{mask_bits}
 
 pub length-mask_bits : (count mask : ℕ) → length (mask_bits count mask) ≡ count
 length-mask_bits zero mask = refl

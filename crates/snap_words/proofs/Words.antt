@@ -1,4 +1,4 @@
--- What holds of new words of any kind by their definitions: they are sized, and their hands are bits.
+-- What holds of new words of any kind by their definitions: they are sized, and their handshake bits are bits.
 use Rattle.std.proofs.Common.{◌≡◌, ◌∙◌, ℕ, Bool, true, ◌&&◌, length, replicate, refl, ap, eq-eqb}
 use Rattle.std.proofs.lemmas.List.{length-replicate}
 use Rattle.std.specs.Prelude.{zero, suc, nat_eq}

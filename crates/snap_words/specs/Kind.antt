@@ -18,9 +18,9 @@ fits Multi s = true
 
 -- a word that nobody has written
 abbrev pub initial_word : KindTag → Counts → Word
-initial_word Seq s = record { datum = 0; seq = 0; id = 0; toggle = 0; hands = []; view = replicate s.w 0 }
-initial_word Bits s = record { datum = 0; seq = 0; id = 0; toggle = 0; hands = replicate s.n 0; view = replicate s.w 0 }
-initial_word Multi s = record { datum = 0; seq = 0; id = 0; toggle = 0; hands = []; view = [] }
+initial_word Seq s = record { datum = 0; seq = 0; id = 0; toggle = 0; handshakes = []; view = replicate s.w 0 }
+initial_word Bits s = record { datum = 0; seq = 0; id = 0; toggle = 0; handshakes = replicate s.n 0; view = replicate s.w 0 }
+initial_word Multi s = record { datum = 0; seq = 0; id = 0; toggle = 0; handshakes = []; view = [] }
 
 -- whether a process may write the register of this bank whose first index is i
 abbrev pub may_write : KindTag → ℕ → Bank → ℕ → Bool
@@ -64,10 +64,10 @@ has_field Multi field.Seq = false
 has_field Multi field.Id = true
 has_field Multi field.Toggle = true
 
-abbrev pub has_hands : KindTag → Bool
-has_hands Seq = false
-has_hands Bits = true
-has_hands Multi = false
+abbrev pub has_handshakes : KindTag → Bool
+has_handshakes Seq = false
+has_handshakes Bits = true
+has_handshakes Multi = false
 
 abbrev pub has_view : KindTag → Bool
 has_view Seq = true
@@ -78,9 +78,9 @@ has_view Multi = false
 abbrev pub field_in : KindTag → Field → Word → Option ℕ
 field_in k f w = if has_field k f then Some (field_of f w) else None
 
--- hand i, counted from 1, where the kind has hands and there is one
-abbrev pub hand_in : KindTag → ℕ → Word → Option ℕ
-hand_in k i w = if has_hands k && nat_lt 0 i then slice_get w.hands (i - 1) else None
+-- handshake bit i, counted from 1, where the kind has handshake bits and there is one
+abbrev pub handshake_in : KindTag → ℕ → Word → Option ℕ
+handshake_in k i w = if has_handshakes k && nat_lt 0 i then slice_get w.handshakes (i - 1) else None
 
 -- the view, where the kind has one
 abbrev pub view_in : KindTag → Word → Option (List ℕ)
@@ -89,18 +89,18 @@ view_in k w = if has_view k then Some w.view else None
 abbrev pub is_bit : ℕ → Bool
 is_bit x = nat_le x 1
 
--- what the kind keeps of the parts of a word
+-- what the kind keeps of a word
 abbrev pub kept : KindTag → Word → Word
-kept Seq w = record { datum = w.datum; seq = w.seq; id = 0; toggle = 0; hands = []; view = w.view }
-kept Bits w = record { datum = w.datum; seq = 0; id = 0; toggle = w.toggle; hands = w.hands; view = w.view }
-kept Multi w = record { datum = w.datum; seq = 0; id = w.id; toggle = w.toggle; hands = []; view = [] }
+kept Seq w = record { datum = w.datum; seq = w.seq; id = 0; toggle = 0; handshakes = []; view = w.view }
+kept Bits w = record { datum = w.datum; seq = 0; id = 0; toggle = w.toggle; handshakes = w.handshakes; view = w.view }
+kept Multi w = record { datum = w.datum; seq = 0; id = w.id; toggle = w.toggle; handshakes = []; view = [] }
 
--- whether the toggle and the hands that the kind has are bits
+-- whether the toggle and the handshake bits that the kind has are bits
 abbrev pub has_bits : KindTag → Word → Bool
-has_bits k w = is_bit (kept k w).toggle && list_all is_bit (kept k w).hands
+has_bits k w = is_bit (kept k w).toggle && list_all is_bit (kept k w).handshakes
 
--- whether the hands and the view that the kind has are as long as the shape wants
+-- whether the handshake bits and the view that the kind has are as long as the shape wants
 abbrev pub is_sized : KindTag → Counts → Word → Bool
 is_sized Seq s w = nat_eq (length w.view) s.w
-is_sized Bits s w = nat_eq (length w.hands) s.n && nat_eq (length w.view) s.w
+is_sized Bits s w = nat_eq (length w.handshakes) s.n && nat_eq (length w.view) s.w
 is_sized Multi s w = true

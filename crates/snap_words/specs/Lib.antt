@@ -1,8 +1,8 @@
 pub mod Shape
 pub mod Word
 pub mod Kind
-pub mod Parts
-pub mod Places
-pub mod Hands
+pub mod AnyWord
+pub mod ViewValues
+pub mod Handshakes
 pub mod KindWords
 pub mod KindLaws

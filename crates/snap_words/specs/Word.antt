@@ -1,15 +1,15 @@
 -- The contents of registers.
 use Rattle.std.specs.Prelude.{ℕ, List, []}
 
--- the parts of a word of any kind; what a kind lacks is 0 or empty
+-- a word of any kind; what a kind lacks is 0 or empty
 pub record Word : Type 0 where
   pub datum : ℕ
   pub seq : ℕ
   pub id : ℕ
   pub toggle : ℕ
-  pub hands : List ℕ
+  pub handshakes : List ℕ
   pub view : List ℕ
 
 -- stands where there is no word
 abbrev pub no_word : Word
-no_word = record { datum = 0; seq = 0; id = 0; toggle = 0; hands = []; view = [] }
+no_word = record { datum = 0; seq = 0; id = 0; toggle = 0; handshakes = []; view = [] }

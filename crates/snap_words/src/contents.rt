@@ -7,32 +7,32 @@ use crate::kinds::Kind;
 
 /// A field of one number, 0 where the kind lacks it.
 pub fn field_of<K: Kind>(word: &K::Word, field: Field) -> u64
-    ensures { result ≡ field_of field (K.parts word.now) }
+    ensures { result ≡ field_of field (K.as_word word.now) }
 {
     K::field(word, field).unwrap_or(0)
 }
 
-/// The hand at a place counted from 0, 0 where there is none.
-pub fn hand_of<K: Kind>(word: &K::Word, place: usize) -> u64
-    ensures { result ≡ slice_index (K.parts word.now).hands place }
+/// The handshake bit at a place counted from 0, 0 where there is none.
+pub fn handshake_of<K: Kind>(word: &K::Word, place: usize) -> u64
+    ensures { result ≡ slice_index (K.as_word word.now).handshakes place }
 {
-    if place < K::hand_count(word) as usize {
-        K::hand(word, place as u32 + 1).unwrap_or(0)
+    if place < K::handshake_count(word) as usize {
+        K::handshake(word, place as u32 + 1).unwrap_or(0)
     } else {
         0
     }
 }
 
-/// Whether two words have the same hands.
-pub fn same_hands<K: Kind>(x: &K::Word, y: &K::Word) -> bool
-    ensures { result ≡ bytes_eq (K.parts x.now).hands (K.parts y.now).hands }
+/// Whether two words have the same handshake bits.
+pub fn same_handshakes<K: Kind>(x: &K::Word, y: &K::Word) -> bool
+    ensures { result ≡ bytes_eq (K.as_word x.now).handshakes (K.as_word y.now).handshakes }
 {
-    let count = K::hand_count(x);
-    if K::hand_count(y) != count {
+    let count = K::handshake_count(x);
+    if K::handshake_count(y) != count {
         return false;
     }
     for place in 0..count as usize {
-        if hand_of::<K>(x, place) != hand_of::<K>(y, place) {
+        if handshake_of::<K>(x, place) != handshake_of::<K>(y, place) {
             return false;
         }
     }
@@ -41,7 +41,7 @@ pub fn same_hands<K: Kind>(x: &K::Word, y: &K::Word) -> bool
 
 /// The view, empty where the kind lacks it.
 pub fn view_of<K: Kind>(word: &K::Word) -> &[u64]
-    ensures { result.now ≡ (K.parts word.now).view }
+    ensures { result.now ≡ (K.as_word word.now).view }
 {
     match K::view(word) {
         Some(view) => view.as_slice(),

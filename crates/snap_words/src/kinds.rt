@@ -1,7 +1,7 @@
 //! What a kind of registers has to offer, and the three kinds.
 ghost use Rattle.std.specs.Prelude.{◌≡◌, true, false, IfOk, MatchResult, length, option_map};
-ghost use Rattle.snap_words.specs.Kind.{fits, initial_word, may_write, has_bank, field_in, hand_in, has_hands, view_in, kept, has_bits, is_sized};
-ghost use Rattle.snap_words.specs.Parts.{word_of_parts};
+ghost use Rattle.snap_words.specs.Kind.{fits, initial_word, may_write, has_bank, field_in, handshake_in, has_handshakes, view_in, kept, has_bits, is_sized};
+ghost use Rattle.snap_words.specs.AnyWord.{word_of_any};
 ghost use Rattle.snap_words.specs.Word.{Word};
 ghost use Rattle.snap_words.specs.declared.kind.KindTag.{KindTag};
 ghost use Rattle.snap_words.specs.declared.shape.WordFault.TheVariants.{NotABit};
@@ -11,8 +11,8 @@ mod multi;
 mod seq;
 
 use crate::address::{Address, Bank};
+use crate::any_word::AnyWord;
 use crate::kind::{Field, KindTag};
-use crate::parts::Parts;
 use crate::shape::{Shape, WordFault};
 use crate::view::View;
 pub use bits::{Bits, BitsWord};
@@ -28,8 +28,8 @@ pub trait Kind: Send + Sync {
 
     const TAG: KindTag;
 
-    /// A word seen as its parts; those that the kind lacks are 0 or empty.
-    ghost parts: { Self.Word → Word };
+    /// A word as one of any kind; what its kind lacks is 0 or empty.
+    ghost as_word: { Self.Word → Word };
 
     /// Whether there are registers of this shape.
     fn fits(shape: Shape) -> bool
@@ -37,31 +37,31 @@ pub trait Kind: Send + Sync {
 
     /// A word that nobody has written.
     fn initial(alloc: Global, shape: Shape) -> Result<Self::Word, AllocError>
-        ensures { IfOk result (λ w. parts w ≡ initial_word TAG shape) };
+        ensures { IfOk result (λ w. as_word w ≡ initial_word TAG shape) };
 
     /// A field of one number, where the kind has it.
     fn field(word: &Self::Word, field: Field) -> Option<u64>
-        ensures { result ≡ field_in TAG field (parts word.now) };
+        ensures { result ≡ field_in TAG field (as_word word.now) };
 
-    /// Hand `i`, counted from 1, where the kind has hands and there is one.
-    fn hand(word: &Self::Word, i: u32) -> Option<u64>
-        ensures { result ≡ hand_in TAG i (parts word.now) };
+    /// Handshake bit `i`, counted from 1, where the kind has handshake bits and there is one.
+    fn handshake(word: &Self::Word, i: u32) -> Option<u64>
+        ensures { result ≡ handshake_in TAG i (as_word word.now) };
 
-    /// How many hands it has, 0 where the kind has none.
-    fn hand_count(word: &Self::Word) -> u32
-        ensures count { result ≡ length (parts word.now).hands }
-        ensures lack { has_hands TAG ≡ false → result ≡ 0 };
+    /// How many handshake bits it has, 0 where the kind has none.
+    fn handshake_count(word: &Self::Word) -> u32
+        ensures count { result ≡ length (as_word word.now).handshakes }
+        ensures lack { has_handshakes TAG ≡ false → result ≡ 0 };
 
     /// The view, where the kind has one.
     fn view(word: &Self::Word) -> Option<&View>
-        ensures { option_map (λ v. v.now) result ≡ view_in TAG (parts word.now) };
+        ensures { option_map (λ v. v.now) result ≡ view_in TAG (as_word word.now) };
 
-    /// The word of these parts, or `NotABit` where its toggle or one of its hands is not 0 or 1. Takes no memory.
-    fn build(shape: Shape, given: Parts) -> Result<Self::Word, WordFault>
-        requires { is_sized TAG shape (word_of_parts given) ≡ true }
+    /// The word of the kind, or `NotABit` where its toggle or one of its handshake bits is not 0 or 1. Takes no memory.
+    fn build(shape: Shape, given: AnyWord) -> Result<Self::Word, WordFault>
+        requires { is_sized TAG shape (word_of_any given) ≡ true }
         ensures { MatchResult result
-            (λ w. (parts w ≡ kept TAG (word_of_parts given)) × (has_bits TAG (word_of_parts given) ≡ true))
-            (λ e. (e ≡ NotABit) × (has_bits TAG (word_of_parts given) ≡ false)) };
+            (λ w. (as_word w ≡ kept TAG (word_of_any given)) × (has_bits TAG (word_of_any given) ≡ true))
+            (λ e. (e ≡ NotABit) × (has_bits TAG (word_of_any given) ≡ false)) };
 
     /// An equal word.
     fn copy(alloc: Global, word: &Self::Word) -> Result<Self::Word, AllocError>
@@ -75,12 +75,12 @@ pub trait Kind: Send + Sync {
     fn has_bank(bank: Bank) -> bool
         ensures { result ≡ has_bank TAG bank };
 
-    /// Words with equal parts are equal.
-    ghost equal: { (x y : Self.Word) → parts x ≡ parts y → x ≡ y };
+    /// Words that are the same as words of any kind are equal.
+    ghost equal: { (x y : Self.Word) → as_word x ≡ as_word y → x ≡ y };
 
-    /// A kind keeps all the parts of its own words.
-    ghost keeps: { (x : Self.Word) → kept TAG (parts x) ≡ parts x };
+    /// A kind keeps all of its own words.
+    ghost keeps: { (x : Self.Word) → kept TAG (as_word x) ≡ as_word x };
 
-    /// The toggle and the hands of a word are bits.
-    ghost has_only_bits: { (x : Self.Word) → has_bits TAG (parts x) ≡ true };
+    /// The toggle and the handshake bits of a word are bits.
+    ghost has_only_bits: { (x : Self.Word) → has_bits TAG (as_word x) ≡ true };
 }

@@ -15,7 +15,7 @@ pub enum WordFault {
     /// A count of processes or of words outside 1 to `MAX_COUNT`.
     #[error("W1 BadShape")]
     BadShape,
-    /// A toggle or a hand that is not 0 or 1.
+    /// A toggle or a handshake bit that is not 0 or 1.
     #[error("W2 NotABit")]
     NotABit,
 }

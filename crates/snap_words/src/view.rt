@@ -2,7 +2,7 @@
 ghost use Rattle.std.specs.Prelude.{◌≡◌, IfOk, replicate};
 ghost use Rattle.std.specs.List.{list_all};
 ghost use Rattle.snap_words.specs.Kind.{is_bit};
-ghost use Rattle.snap_words.specs.Places.{places_items};
+ghost use Rattle.snap_words.specs.ViewValues.{view_items};
 
 use std::alloc::{AllocError, Global};
 use std::marker::Model;
@@ -10,24 +10,24 @@ use std::sync::Arc;
 
 /// Where the values of a view stand: on their own, or shared by all its copies.
 #[derive(Debug, Drop)]
-enum Places {
+enum ViewValues {
     Own(Vec<u64>),
     Shared(Arc<Vec<u64>>),
 }
 
-/// A list of numbers: a view has a value for each word, and hands are one for each process.
+/// A list of numbers: a view has a value for each word, and handshake bits are one for each process.
 #[derive(Debug, Drop)]
 pub struct View {
-    places: Places,
+    places: ViewValues,
 }
 
 impl Model for View {
     ghost use Rattle.std.specs.Prelude.{List, ℕ};
-    ghost use Rattle.snap_words.specs.Places.{places_items};
+    ghost use Rattle.snap_words.specs.ViewValues.{view_items};
 
     ghost Value = { List ℕ };
 
-    ghost view = { λ v. places_items v.places };
+    ghost view = { λ v. view_items v.places };
 }
 
 impl View {
@@ -36,7 +36,7 @@ impl View {
         ensures { result ≡ places.items }
     {
         View {
-            places: Places::Own(places),
+            places: ViewValues::Own(places),
         }
     }
 
@@ -45,7 +45,7 @@ impl View {
         ensures { IfOk result (λ v. v ≡ places.items) }
     {
         Ok(View {
-            places: Places::Shared(Arc::new(alloc, places)?),
+            places: ViewValues::Shared(Arc::new(alloc, places)?),
         })
     }
 
@@ -68,8 +68,8 @@ impl View {
         ensures { result.now ≡ self.now }
     {
         match &self.places {
-            Places::Own(places) => places.as_slice(),
-            Places::Shared(places) => places.as_slice(),
+            ViewValues::Own(places) => places.as_slice(),
+            ViewValues::Shared(places) => places.as_slice(),
         }
     }
 
@@ -78,9 +78,12 @@ impl View {
         ensures { IfOk result (λ v. v ≡ self.now) }
     {
         match &self.places {
-            Places::Own(places) => View::shared(alloc, Vec::from_slice(alloc, places.as_slice())?),
-            Places::Shared(places) => Ok(View {
-                places: Places::Shared(Arc::try_clone(places)?),
+            ViewValues::Own(places) => View::shared(
+                alloc,
+                Vec::from_slice(alloc, places.as_slice())?,
+            ),
+            ViewValues::Shared(places) => Ok(View {
+                places: ViewValues::Shared(Arc::try_clone(places)?),
             }),
         }
     }

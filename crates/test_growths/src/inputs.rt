@@ -1,9 +1,9 @@
 //! What the scenes are played on.
 ghost use Rattle.std.specs.Prelude.{◌≡◌, IfOk};
-ghost use Rattle.snap_words.specs.declared.kind.KindTag.TheVariants.{Seq as Tag};
+ghost use Rattle.snap_words.specs.declared.kind.KindTag.TheVariants.{Seq};
 
 use crate::trouble::Trouble;
-use snap_code::Program;
+use snap_asm_program::Program;
 use snap_input::split_parts;
 use snap_words::KindTag;
 use std::alloc::Global;
@@ -16,7 +16,7 @@ pub const BORROWED: &[u8] =
 /// Forward to each write of a register, and back again.
 pub const COMMANDS: &[u8] = b"watch r 2\nrun\nrun\nrun\nrrun\nback 1\ngoto 0\ngoto 65\n";
 
-/// Two quick updates, of B, that leave the hands as they were.
+/// Two quick updates, of B, that leave the handshake bits as they were.
 pub const QUICK: &[u8] =
     b"shape 3 3\n2 update 2 1\n2*43\n3 update 3 1\n3*43\n2 update 2 2\n2*41\n3 update 3 2\n3*41\n1 scan\n1*24\n2\n3\n1*33\n";
 
@@ -57,7 +57,7 @@ impl<'a> Inputs<'a> {
 
 /// The program of the unbounded single-writer listing.
 pub fn single(alloc: Global) -> Result<Program, Trouble>
-    ensures { IfOk result (λ p. p.kind ≡ Tag) }
+    ensures { IfOk result (λ p. p.kind ≡ Seq) }
 {
     let program = Program::of(alloc, snap_single::listing(alloc)?)?;
     if program.kind() != KindTag::Seq {

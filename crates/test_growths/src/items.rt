@@ -7,11 +7,11 @@ use crate::inputs::QUICK;
 use crate::outcomes::tell_outcome;
 use crate::trials::{tell, tried};
 use crate::trouble::Trouble;
-use snap_code::Program;
+use snap_asm_program::Program;
 use snap_machine::Machine;
-use snap_record::{report, who};
+use snap_record::report;
 use snap_sched::{Schedule, read};
-use snap_semantics::{Item, Outcome};
+use snap_semantics::{Item, Outcome, who};
 use snap_words::{Bits, KindTag};
 use std::alloc::{AllocError, Global};
 

@@ -3,10 +3,10 @@
 #![tactic(auto)]
 
 mod batches;
+mod debug_outputs;
 mod inputs;
 mod items;
 mod outcomes;
-mod performing;
 mod scripts;
 mod seats;
 mod sessions;
@@ -34,7 +34,7 @@ fn play(
     name: &str,
 ) -> Result<(), Trouble> {
     match name {
-        "perform" => performing::play(rt, inputs),
+        "perform" => debug_outputs::play(rt, inputs),
         "texts" => texts::play(rt, inputs),
         "apply" => items::play(rt),
         "undo" => items::play_back(rt),

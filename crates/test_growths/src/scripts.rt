@@ -2,7 +2,7 @@
 use crate::inputs::{SCRIPTS, single};
 use crate::trials::{tell, tried};
 use crate::trouble::Trouble;
-use snap_live::{Live, NoGate, run_live};
+use snap_live::{LiveRun, NoGate, run_live};
 use snap_sched::read_scripts;
 use snap_words::Seq;
 use std::sync::Wait;
@@ -13,7 +13,7 @@ pub fn play(rt: &HostRuntime, threads: &(impl Threads + Wait + Sync)) -> Result<
     let alloc = rt.alloc();
     let program = single(alloc)?;
     let scripts = read_scripts(alloc, SCRIPTS)?;
-    let live: Live<Seq> = tried!(
+    let live: LiveRun<Seq> = tried!(
         rt,
         run_live(threads, alloc, &program, &scripts, 1000, &NoGate)
     );

@@ -1,12 +1,12 @@
 //! The one seat of a desk, turn by turn.
 ghost use Rattle.std.specs.Prelude.{◌≡◌, All};
-ghost use Rattle.snap_words.specs.declared.kind.KindTag.TheVariants.{Seq as Tag};
+ghost use Rattle.snap_words.specs.declared.kind.KindTag.TheVariants as kind;
 
 use crate::inputs::single;
 use crate::outcomes::tell_outcome;
 use crate::trials::{tell, tried};
 use crate::trouble::Trouble;
-use snap_code::Program;
+use snap_asm_program::Program;
 use snap_live::{Desk, Seat, Turn, close, open};
 use snap_semantics::Op;
 use snap_words::{Seq, Shape};
@@ -26,7 +26,7 @@ struct Bench {
 
 /// A new desk with one process and one word.
 fn new_bench(alloc: Global, program: &Program) -> Result<Bench, Trouble>
-    requires { program.now.kind ≡ Tag }
+    requires { program.now.kind ≡ kind.Seq }
 {
     let (desk, seats) = open::<Seq>(alloc, program, Shape::new(1, 1)?)?;
     Ok(Bench { desk, seats })

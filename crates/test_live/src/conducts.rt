@@ -1,5 +1,5 @@
 //! Whole live runs, from scripts to the text of a history.
-use crate::fleets::TWO;
+use crate::live_runs::TWO;
 use crate::meeting::Meeting;
 use snap_program::{ConductFault, Gate, Std, Subject, conduct_live};
 use snap_words::KindTag;

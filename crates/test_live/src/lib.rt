@@ -8,9 +8,9 @@ mod conducts;
 #[cfg(test)]
 mod desks;
 #[cfg(test)]
-mod fleets;
-#[cfg(test)]
 mod gates;
+#[cfg(test)]
+mod live_runs;
 #[cfg(test)]
 mod meeting;
 #[cfg(test)]

@@ -1,5 +1,5 @@
 //! The numbers of turns.
-use snap_live::{Live, Turn};
+use snap_live::{LiveRun, Turn};
 use snap_words::Seq;
 use std::alloc::Global;
 use std::test::Fail;
@@ -19,7 +19,7 @@ fn mark(marks: &mut [bool], turns: &[Turn]) -> bool {
 }
 
 /// Whether each item that was kept is one turn, by its number.
-pub(crate) fn has_each_turn_once(alloc: Global, live: &Live<Seq>) -> Result<bool, Fail> {
+pub(crate) fn has_each_turn_once(alloc: Global, live: &LiveRun<Seq>) -> Result<bool, Fail> {
     let mut marks = vec![in alloc; false; live.kept.items().len()]?;
     for turns in &live.turns {
         if !mark(marks.as_mut_slice(), turns.as_slice()) {

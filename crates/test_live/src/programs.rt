@@ -1,8 +1,8 @@
 //! The program of the tests.
 ghost use Rattle.std.specs.Prelude.{◌≡◌, IfOk};
-ghost use Rattle.snap_words.specs.declared.kind.KindTag.TheVariants.{Seq as Tag};
+ghost use Rattle.snap_words.specs.declared.kind.KindTag.TheVariants.{Seq};
 
-use snap_code::Program;
+use snap_asm_program::Program;
 use snap_words::KindTag;
 use std::alloc::Global;
 use std::process::Abort;
@@ -10,7 +10,7 @@ use std::test::Fail;
 
 /// The program of the unbounded single-writer listing.
 pub(crate) fn program(rt: &impl Abort, alloc: Global) -> Result<Program, Fail>
-    ensures { IfOk result (λ p. p.kind ≡ Tag) }
+    ensures { IfOk result (λ p. p.kind ≡ Seq) }
 {
     let program = Program::of(alloc, snap_single::listing(alloc)?)?;
     assert!(rt; program.kind() == KindTag::Seq);

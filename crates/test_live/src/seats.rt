@@ -5,9 +5,9 @@ ghost use Rattle.snap_words.specs.Shape.{IsOneOf};
 use crate::benches::{Bench, new_bench};
 use crate::numbers::has_each_turn_once;
 use crate::programs::program;
-use snap_live::{Desk, Live, LiveFault, Seat, Turn, Turns, close};
-use snap_record::{Record, who};
-use snap_semantics::{Event, Happening, Item, Op, Outcome, Reason};
+use snap_live::{Desk, LiveFault, LiveRun, Seat, Turn, Turns, close};
+use snap_record::Record;
+use snap_semantics::{Event, Happening, Item, Op, Outcome, Reason, who};
 use snap_words::{Seq, Shape};
 use std::alloc::{AllocError, Global};
 use std::process::Abort;
@@ -53,11 +53,11 @@ struct Player {
 
 /// The promise of a thread, that it hands back a seat of this desk.
 #[derive(Drop)]
-struct Returns {
+struct PlayerPromise {
     desk: Snapshot<Desk<Seq>>,
 }
 
-impl Promise<Result<Player, LiveFault>> for Returns {
+impl Promise<Result<Player, LiveFault>> for PlayerPromise {
     ghost kept_by = { λ p r. IfOk r (λ w. w.seat.desk ≡ p.desk.value) };
 }
 
@@ -176,12 +176,12 @@ fn start<'s, E, R: Threads + Wait + Sync + Abort>(
     desk: &'s Desk<Seq>,
     seat: Seat<Seq>,
     round: &'s Round,
-) -> Result<PromisedHandle<Result<Player, LiveFault>, Returns>, AllocError>
+) -> Result<PromisedHandle<Result<Player, LiveFault>, PlayerPromise>, AllocError>
     requires { seat.desk ≡ desk.now }
     ensures { IfOk result (λ h. h.promise.desk.value ≡ desk.now) }
 {
     let child = scope.spawn_with(
-        Returns {
+        PlayerPromise {
             desk: Snapshot::of(desk),
         },
         move || -> Result<Player, LiveFault>
@@ -227,7 +227,7 @@ fn closed(
     desk: Desk<Seq>,
     first: Player,
     second: Player,
-) -> Result<Live<Seq>, Fail>
+) -> Result<LiveRun<Seq>, Fail>
     requires { (first.seat.desk ≡ desk) × (second.seat.desk ≡ desk) }
 {
     let mut seats = Vec::new(alloc);
@@ -239,7 +239,7 @@ fn closed(
     let Ok(kept) = close(desk, seats) else {
         panic!(rt; "not closed")
     };
-    Ok(Live { kept, turns })
+    Ok(LiveRun { kept, turns })
 }
 
 /// A round at a new desk.
@@ -247,7 +247,7 @@ fn play_round<R: Threads + Wait + Sync + Abort>(
     rt: &R,
     alloc: Global,
     round: &Round,
-) -> Result<Live<Seq>, Fail> {
+) -> Result<LiveRun<Seq>, Fail> {
     let Bench { desk, mut seats } = new_bench(rt, alloc, 2)?;
     let (Some(second), Some(first)) = (seats.pop(), seats.pop()) else {
         panic!(rt; "no two seats")
@@ -321,7 +321,7 @@ fn wanted_len(kept: &Record<Seq>, idle: bool) -> usize {
 }
 
 /// What is kept of a round: each turn once, and nothing else.
-fn check_kept(rt: &impl Abort, alloc: Global, live: &Live<Seq>, idle: bool) -> Result<(), Fail> {
+fn check_kept(rt: &impl Abort, alloc: Global, live: &LiveRun<Seq>, idle: bool) -> Result<(), Fail> {
     assert_eq!(rt; live.kept.items().len(), wanted_len(&live.kept, idle));
     assert!(rt; has_each_turn_once(alloc, live)?);
     check_events(rt, live.kept.events());

@@ -2,7 +2,7 @@
 
 ghost use Rattle.std.specs.Prelude.{◌≡◌, [], false, true, Some, ◌==◌};
 
-use snap_program::{Failed, Sink, Source};
+use snap_program::{ByteSink, ByteSource, Failed};
 use std::alloc::Global;
 
 /// Gives one byte a call, and fails after so many calls.
@@ -25,7 +25,7 @@ impl<'a> Trickle<'a> {
     }
 }
 
-impl Source for Trickle<'_> {
+impl ByteSource for Trickle<'_> {
     ghost left = { λ s. Some s.rest.now };
 
     ghost has_failed = { λ s. s.failed };
@@ -71,7 +71,7 @@ impl Narrow {
     }
 }
 
-impl Sink for Narrow {
+impl ByteSink for Narrow {
     ghost taken = { λ s. Some s.taken.items };
 
     ghost has_failed = { λ s. s.failed };

@@ -2,7 +2,7 @@
 #![tactic(auto)]
 
 #[cfg(test)]
-mod parts;
+mod any_words;
 #[cfg(test)]
 mod registers;
 #[cfg(test)]

@@ -1,7 +1,7 @@
 //! Registers of each kind.
 ghost use Rattle.std.specs.Prelude.{◌≡◌, length};
 
-use crate::parts::parts;
+use crate::any_words::parts;
 use snap_regs::{RegisterFault, Registers};
 use snap_semantics::BitBank;
 use snap_words::{Bits, Field, Kind, Multi, Seq, Shape, View};

@@ -1,25 +1,25 @@
-//! Each method of a kind, through its trait, and the parts of words.
+//! Each method of a kind, through its trait, and the fields of words.
 ghost use Rattle.std.specs.Prelude.{◌≡◌, true};
 ghost use Rattle.snap_words.specs.Kind.{is_sized};
-ghost use Rattle.snap_words.specs.Parts.{word_of_parts};
+ghost use Rattle.snap_words.specs.AnyWord.{word_of_any};
 
-use crate::parts::{parts, parts_of_many};
+use crate::any_words::{parts, parts_of_many};
 use snap_words::{
-    Address, Bank, Bits, BitsWord, Field, Kind, KindTag, Multi, Parts, Seq, Shape, View, WordFault,
-    field_of, hand_of, same_hands, view_of,
+    Address, AnyWord, Bank, Bits, BitsWord, Field, Kind, KindTag, Multi, Seq, Shape, View,
+    WordFault, field_of, handshake_of, same_handshakes, view_of,
 };
 use std::alloc::{AllocError, Global};
 use std::test::Fail;
 
-/// What a word is to have: its datum, sequence number, writer and toggle, its second hand, its hands and its view.
+/// What a word is to have: its datum, sequence number, writer and toggle, its second handshake bit, its handshake bits and its view.
 #[derive(Clone, Copy)]
 struct Wanted {
     datum: Option<u64>,
     seq: Option<u64>,
     id: Option<u64>,
     toggle: Option<u64>,
-    hand: Option<u64>,
-    hands: &'static [u64],
+    handshake: Option<u64>,
+    handshakes: &'static [u64],
     view: Option<&'static [u64]>,
 }
 
@@ -32,46 +32,46 @@ fn is_row(row: Option<&View>, want: Option<&[u64]>) -> bool {
     }
 }
 
-/// Whether a word has these hands, and no more of them.
-fn has_hands<K: Kind>(word: &K::Word, want: &[u64]) -> bool {
-    for (place, hand) in want.iter().enumerate() {
-        if hand_of::<K>(word, place) != *hand {
+/// Whether a word has these handshake bits, and no more of them.
+fn has_handshakes<K: Kind>(word: &K::Word, want: &[u64]) -> bool {
+    for (place, handshake) in want.iter().enumerate() {
+        if handshake_of::<K>(word, place) != *handshake {
             return false;
         }
     }
-    K::hand_count(word) as usize == want.len() && hand_of::<K>(word, want.len()) == 0
+    K::handshake_count(word) as usize == want.len() && handshake_of::<K>(word, want.len()) == 0
 }
 
-/// Whether the fields of a word and its second hand are as wanted.
+/// Whether the fields of a word and its second handshake bit are as wanted.
 fn has_fields<K: Kind>(word: &K::Word, want: &Wanted) -> bool {
     K::field(word, Field::Datum) == want.datum
         && K::field(word, Field::Seq) == want.seq
         && K::field(word, Field::Id) == want.id
         && K::field(word, Field::Toggle) == want.toggle
-        && K::hand(word, 2) == want.hand
+        && K::handshake(word, 2) == want.handshake
 }
 
 /// Whether a word is as wanted.
 fn is_word<K: Kind>(word: &K::Word, want: &Wanted) -> bool {
     has_fields::<K>(word, want)
-        && has_hands::<K>(word, want.hands)
+        && has_handshakes::<K>(word, want.handshakes)
         && is_row(K::view(word), want.view)
 }
 
 /// Whether the copy of a word is as wanted.
 fn copies_as<K: Kind>(alloc: Global, word: &K::Word, want: &Wanted) -> Result<bool, AllocError> {
     let copy = K::copy(alloc, word)?;
-    Ok(is_word::<K>(&copy, want) && same_hands::<K>(&copy, word))
+    Ok(is_word::<K>(&copy, want) && same_handshakes::<K>(&copy, word))
 }
 
-/// Whether a word of these parts is built, and its copy is as wanted.
+/// Whether a word of any kind is built as one of the kind, and its copy is as wanted.
 fn builds_as<K: Kind>(
     alloc: Global,
     shape: Shape,
-    given: Parts,
+    given: AnyWord,
     want: &Wanted,
 ) -> Result<bool, AllocError>
-    requires { is_sized K.TAG shape (word_of_parts given) ≡ true }
+    requires { is_sized K.TAG shape (word_of_any given) ≡ true }
 {
     match K::build(shape, given) {
         Ok(word) => copies_as::<K>(alloc, &word, want),
@@ -79,9 +79,9 @@ fn builds_as<K: Kind>(
     }
 }
 
-/// Whether these parts are refused.
-fn is_refused<K: Kind>(shape: Shape, given: Parts) -> bool
-    requires { is_sized K.TAG shape (word_of_parts given) ≡ true }
+/// Whether a word of any kind is refused by the kind.
+fn is_refused<K: Kind>(shape: Shape, given: AnyWord) -> bool
+    requires { is_sized K.TAG shape (word_of_any given) ≡ true }
 {
     match K::build(shape, given) {
         Ok(_) => false,
@@ -155,8 +155,8 @@ fn seq(rt: HostRuntime) -> Result<(), Fail> {
         seq: Some(8),
         id: None,
         toggle: None,
-        hand: None,
-        hands: &[],
+        handshake: None,
+        handshakes: &[],
         view: Some(&[5, 6]),
     };
     assert!(rt; builds_as::<Seq>(rt.alloc(), shape, parts(rt.alloc(), 2, 2)?, &built)?);
@@ -178,8 +178,8 @@ fn bits(rt: HostRuntime) -> Result<(), Fail> {
         seq: None,
         id: None,
         toggle: Some(1),
-        hand: Some(1),
-        hands: &[0, 1],
+        handshake: Some(1),
+        handshakes: &[0, 1],
         view: Some(&[5, 6]),
     };
     assert!(rt; builds_as::<Bits>(rt.alloc(), shape, parts(rt.alloc(), 1, 1)?, &built)?);
@@ -188,8 +188,8 @@ fn bits(rt: HostRuntime) -> Result<(), Fail> {
     let new = Wanted {
         datum: Some(0),
         toggle: Some(0),
-        hand: Some(0),
-        hands: &[0, 0],
+        handshake: Some(0),
+        handshakes: &[0, 0],
         view: Some(&[0, 0]),
         ..built
     };
@@ -197,23 +197,23 @@ fn bits(rt: HostRuntime) -> Result<(), Fail> {
     Ok(())
 }
 
-/// Whether the last of 64 hands is 1, the others are 0, and there are no more.
+/// Whether the last of 64 handshake bits is 1, the others are 0, and there are no more.
 fn has_last_of_many(word: &BitsWord) -> bool {
-    Bits::hand_count(word) == 64
-        && Bits::hand(word, 1) == Some(0)
-        && Bits::hand(word, 63) == Some(0)
-        && Bits::hand(word, 64) == Some(1)
-        && Bits::hand(word, 65).is_none()
-        && Bits::hand(word, 0).is_none()
+    Bits::handshake_count(word) == 64
+        && Bits::handshake(word, 1) == Some(0)
+        && Bits::handshake(word, 63) == Some(0)
+        && Bits::handshake(word, 64) == Some(1)
+        && Bits::handshake(word, 65).is_none()
+        && Bits::handshake(word, 0).is_none()
 }
 
 #[test]
-fn many_hands(rt: HostRuntime) -> Result<(), Fail> {
+fn many_handshakes(rt: HostRuntime) -> Result<(), Fail> {
     let shape = Shape::new(64, 2)?;
     let word = Bits::build(shape, parts_of_many(rt.alloc())?)?;
     assert!(rt; has_last_of_many(&word));
     let copy = Bits::copy(rt.alloc(), &word)?;
-    assert!(rt; has_last_of_many(&copy) && same_hands::<Bits>(&word, &copy));
+    assert!(rt; has_last_of_many(&copy) && same_handshakes::<Bits>(&word, &copy));
     Ok(())
 }
 
@@ -225,8 +225,8 @@ fn multi(rt: HostRuntime) -> Result<(), Fail> {
         seq: None,
         id: Some(9),
         toggle: Some(1),
-        hand: None,
-        hands: &[],
+        handshake: None,
+        handshakes: &[],
         view: None,
     };
     assert!(rt; builds_as::<Multi>(rt.alloc(), shape, parts(rt.alloc(), 1, 2)?, &built)?);
@@ -241,11 +241,11 @@ fn multi(rt: HostRuntime) -> Result<(), Fail> {
     Ok(())
 }
 
-/// Whether a new word of two processes and two words has these hands and this view, and the sequence number 0.
-fn has_parts<K: Kind>(alloc: Global, hands: &[u64], view: &[u64]) -> Result<bool, Fail> {
+/// Whether a new word of two processes and two words has these handshake bits and this view, and the sequence number 0.
+fn has_parts<K: Kind>(alloc: Global, handshakes: &[u64], view: &[u64]) -> Result<bool, Fail> {
     let word = K::initial(alloc, Shape::new(2, 2)?)?;
     Ok(
-        has_hands::<K>(&word, hands)
+        has_handshakes::<K>(&word, handshakes)
             && view_of::<K>(&word) == view
             && field_of::<K>(&word, Field::Seq) == 0,
     )

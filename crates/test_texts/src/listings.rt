@@ -428,7 +428,11 @@ fn has_seq_lines(listing: &Listing) -> bool {
 fn has_bit_lines(listing: &Listing) -> bool {
     matches!(
         listing.instr(13),
-        Some(Instr::LetPlace(_, _, Expr::Term(Term::Hand(_, Index::Scalar(_), Index::Me))))
+        Some(Instr::LetPlace(
+            _,
+            _,
+            Expr::Term(Term::Handshake(_, Index::Scalar(_), Index::Me))
+        ))
     ) && matches!(
         listing.instr(14),
         Some(Instr::PutBit(BitBank::Q, Index::Me, Index::Scalar(_), _))

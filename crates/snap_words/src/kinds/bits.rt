@@ -4,10 +4,10 @@ ghost use Rattle.std.specs.List.{list_all};
 ghost use Rattle.snap_words.specs.Kind.{is_bit};
 
 use crate::address::{Address, Bank};
-use crate::hands::Hands;
+use crate::any_word::AnyWord;
+use crate::handshakes::Handshakes;
 use crate::kind::{Field, KindTag};
 use crate::kinds::Kind;
-use crate::parts::Parts;
 use crate::shape::{Shape, WordFault};
 use crate::view::View;
 use std::alloc::{AllocError, Global};
@@ -20,15 +20,15 @@ pub struct Bits;
 pub struct BitsWord {
     datum: u64,
     toggle: u64,
-    hands: Hands,
+    handshakes: Handshakes,
     view: View,
-    ghost bits: { (is_bit toggle && list_all is_bit hands) ≡ true },
+    ghost bits: { (is_bit toggle && list_all is_bit handshakes) ≡ true },
 }
 
 impl Kind for Bits {
     ghost use Rattle.std.specs.Prelude.{refl};
     ghost use Rattle.snap_words.specs.KindLaws.{bits_equal};
-    ghost use Rattle.snap_words.specs.KindWords.{bits_parts};
+    ghost use Rattle.snap_words.specs.KindWords.{bits_as_word};
     ghost use Rattle.snap_words.specs.declared.kind.KindTag.TheVariants as tag;
 
     type Word = BitsWord;
@@ -37,7 +37,7 @@ impl Kind for Bits {
 
     const TAG: KindTag = KindTag::Bits;
 
-    ghost parts = { bits_parts };
+    ghost as_word = { bits_as_word };
 
     fn fits(shape: Shape) -> bool {
         shape.w() == shape.n()
@@ -47,7 +47,7 @@ impl Kind for Bits {
         Ok(BitsWord {
             datum: 0,
             toggle: 0,
-            hands: Hands::zeros(shape.process_count()),
+            handshakes: Handshakes::zeros(shape.process_count()),
             view: View::zeros(alloc, shape.w())?,
         })
     }
@@ -60,27 +60,27 @@ impl Kind for Bits {
         }
     }
 
-    fn hand(word: &BitsWord, i: u32) -> Option<u64> {
+    fn handshake(word: &BitsWord, i: u32) -> Option<u64> {
         if i == 0 {
             return None;
         }
-        word.hands.get(i - 1)
+        word.handshakes.get(i - 1)
     }
 
-    fn hand_count(word: &BitsWord) -> u32 {
-        word.hands.count()
+    fn handshake_count(word: &BitsWord) -> u32 {
+        word.handshakes.count()
     }
 
     fn view(word: &BitsWord) -> Option<&View> {
         Some(&word.view)
     }
 
-    fn build(shape: Shape, given: Parts) -> Result<BitsWord, WordFault> {
-        if given.toggle <= 1 && given.hands.has_bits() {
+    fn build(shape: Shape, given: AnyWord) -> Result<BitsWord, WordFault> {
+        if given.toggle <= 1 && given.handshakes.has_bits() {
             Ok(BitsWord {
                 datum: given.datum,
                 toggle: given.toggle,
-                hands: Hands::of(shape.process_count(), given.hands.as_slice()),
+                handshakes: Handshakes::of(shape.process_count(), given.handshakes.as_slice()),
                 view: given.view,
             })
         } else {
@@ -92,7 +92,7 @@ impl Kind for Bits {
         Ok(BitsWord {
             datum: word.datum,
             toggle: word.toggle,
-            hands: word.hands.copy(),
+            handshakes: word.handshakes.copy(),
             view: word.view.copy(alloc)?,
         })
     }

@@ -3,9 +3,9 @@ ghost use Rattle.std.specs.Prelude.{◌≡◌, true};
 ghost use Rattle.snap_words.specs.Kind.{is_bit};
 
 use crate::address::{Address, Bank};
+use crate::any_word::AnyWord;
 use crate::kind::{Field, KindTag};
 use crate::kinds::Kind;
-use crate::parts::Parts;
 use crate::shape::{Shape, WordFault};
 use crate::view::View;
 use std::alloc::{AllocError, Global};
@@ -25,7 +25,7 @@ pub struct MultiWord {
 impl Kind for Multi {
     ghost use Rattle.std.specs.Prelude.{refl};
     ghost use Rattle.snap_words.specs.KindLaws.{multi_equal, multi_has_bits};
-    ghost use Rattle.snap_words.specs.KindWords.{multi_parts};
+    ghost use Rattle.snap_words.specs.KindWords.{multi_as_word};
     ghost use Rattle.snap_words.specs.declared.kind.KindTag.TheVariants as tag;
 
     type Word = MultiWord;
@@ -34,7 +34,7 @@ impl Kind for Multi {
 
     const TAG: KindTag = KindTag::Multi;
 
-    ghost parts = { multi_parts };
+    ghost as_word = { multi_as_word };
 
     fn fits(_shape: Shape) -> bool {
         true
@@ -57,11 +57,11 @@ impl Kind for Multi {
         }
     }
 
-    fn hand(_word: &MultiWord, _i: u32) -> Option<u64> {
+    fn handshake(_word: &MultiWord, _i: u32) -> Option<u64> {
         None
     }
 
-    fn hand_count(_word: &MultiWord) -> u32 {
+    fn handshake_count(_word: &MultiWord) -> u32 {
         0
     }
 
@@ -69,7 +69,7 @@ impl Kind for Multi {
         None
     }
 
-    fn build(_shape: Shape, given: Parts) -> Result<MultiWord, WordFault> {
+    fn build(_shape: Shape, given: AnyWord) -> Result<MultiWord, WordFault> {
         if given.toggle <= 1 {
             Ok(MultiWord {
                 datum: given.datum,

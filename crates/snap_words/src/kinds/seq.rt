@@ -1,8 +1,8 @@
 //! Single-writer words with a sequence number.
 use crate::address::{Address, Bank};
+use crate::any_word::AnyWord;
 use crate::kind::{Field, KindTag};
 use crate::kinds::Kind;
-use crate::parts::Parts;
 use crate::shape::{Shape, WordFault};
 use crate::view::View;
 use std::alloc::{AllocError, Global};
@@ -21,7 +21,7 @@ pub struct SeqWord {
 impl Kind for Seq {
     ghost use Rattle.std.specs.Prelude.{refl};
     ghost use Rattle.snap_words.specs.KindLaws.{seq_equal};
-    ghost use Rattle.snap_words.specs.KindWords.{seq_parts};
+    ghost use Rattle.snap_words.specs.KindWords.{seq_as_word};
     ghost use Rattle.snap_words.specs.declared.kind.KindTag.TheVariants as tag;
 
     type Word = SeqWord;
@@ -30,7 +30,7 @@ impl Kind for Seq {
 
     const TAG: KindTag = KindTag::Seq;
 
-    ghost parts = { seq_parts };
+    ghost as_word = { seq_as_word };
 
     fn fits(shape: Shape) -> bool {
         shape.w() == shape.n()
@@ -52,11 +52,11 @@ impl Kind for Seq {
         }
     }
 
-    fn hand(_word: &SeqWord, _i: u32) -> Option<u64> {
+    fn handshake(_word: &SeqWord, _i: u32) -> Option<u64> {
         None
     }
 
-    fn hand_count(_word: &SeqWord) -> u32 {
+    fn handshake_count(_word: &SeqWord) -> u32 {
         0
     }
 
@@ -64,7 +64,7 @@ impl Kind for Seq {
         Some(&word.view)
     }
 
-    fn build(_shape: Shape, given: Parts) -> Result<SeqWord, WordFault> {
+    fn build(_shape: Shape, given: AnyWord) -> Result<SeqWord, WordFault> {
         Ok(SeqWord {
             datum: given.datum,
             seq: given.seq,

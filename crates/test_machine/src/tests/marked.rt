@@ -1,7 +1,7 @@
 //! A kind of registers of its own: as kind multi, with the toggle kept as a truth.
 ghost use Rattle.std.specs.Prelude.{◌≡◌};
 
-use snap_words::{Address, Bank, Field, Kind, KindTag, Parts, Shape, View, WordFault};
+use snap_words::{Address, AnyWord, Bank, Field, Kind, KindTag, Shape, View, WordFault};
 use std::alloc::{AllocError, Global};
 
 /// The kind.
@@ -29,7 +29,7 @@ impl Kind for Marked {
 
     const TAG: KindTag = KindTag::Multi;
 
-    ghost parts = { λ x. record { datum = x.datum; seq = 0; id = x.id; toggle = if x.mark then 1 else 0; hands = []; view = [] } };
+    ghost as_word = { λ x. record { datum = x.datum; seq = 0; id = x.id; toggle = if x.mark then 1 else 0; handshakes = []; view = [] } };
 
     fn fits(_shape: Shape) -> bool {
         true
@@ -52,11 +52,11 @@ impl Kind for Marked {
         }
     }
 
-    fn hand(_word: &MarkedWord, _i: u32) -> Option<u64> {
+    fn handshake(_word: &MarkedWord, _i: u32) -> Option<u64> {
         None
     }
 
-    fn hand_count(_word: &MarkedWord) -> u32 {
+    fn handshake_count(_word: &MarkedWord) -> u32 {
         0
     }
 
@@ -64,7 +64,7 @@ impl Kind for Marked {
         None
     }
 
-    fn build(_shape: Shape, given: Parts) -> Result<MarkedWord, WordFault> {
+    fn build(_shape: Shape, given: AnyWord) -> Result<MarkedWord, WordFault> {
         match given.toggle {
             0 => Ok(MarkedWord {
                 datum: given.datum,
@@ -101,7 +101,7 @@ impl Kind for Marked {
 
     ghost equal = { λ x y e.
         let back : Word → MarkedWord = λ p. record { datum = p.datum; id = p.id; mark = nat_eq p.toggle 1 } in
-        let again : (w : MarkedWord) → back (record { datum = w.datum; seq = 0; id = w.id; toggle = if w.mark then 1 else 0; hands = []; view = [] }) ≡ w = λ w.
+        let again : (w : MarkedWord) → back (record { datum = w.datum; seq = 0; id = w.id; toggle = if w.mark then 1 else 0; handshakes = []; view = [] }) ≡ w = λ w.
         elim w.mark as (λ b. (let v : MarkedWord = record { datum = w.datum; id = w.id; mark = nat_eq (if b then 1 else 0) 1 } in v) ≡ record { datum = w.datum; id = w.id; mark = b }) [
           | true ↦ refl
           | false ↦ refl

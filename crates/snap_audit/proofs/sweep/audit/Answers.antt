@@ -1,7 +1,7 @@
 use Rattle.std.proofs.Common.{◌+◌, List, map, drop, get_or, replicate, sym, ap, subst, ◌∙◌}
 use Rattle.snap_words.specs.Shape.{Counts}
 use Rattle.snap_semantics.specs.declared.event.Event.{Event}
-use Rattle.snap_machine.specs.Standing.{Standing}
+use Rattle.snap_machine.specs.Configuration.{Configuration}
 use Rattle.snap_record.specs.History.{collects_at}
 use Rattle.snap_record.proofs.Events.{next_left}
 use Rattle.snap_audit.specs.Sweep.{fresh, Sweeps}
@@ -11,7 +11,7 @@ use Rattle.snap_audit.proofs.sweep.audit.Goals as goal
 pub loop-k-init : goal.loop-k-init
 loop-k-init g c =
     let r = c.args.history.now in
-    let new = c.in_ok-callers.ensures ∙ ap (λ (s : Counts). replicate s.n (fresh s.w)) (c.shape.ensures.shape ∙ ap (λ (m : Standing). m.shape) c.machine.ensures) in
+    let new = c.in_ok-callers.ensures ∙ ap (λ (s : Counts). replicate s.n (fresh s.w)) (c.shape.ensures.shape ∙ ap (λ (m : Configuration). m.shape) c.machine.ensures) in
     subst (λ found. Sweeps r c.changes-changes.result.now c.in_ok-callers.callers.items found c.events-events.result.now) (sym c.new-verdicts.ensures.items)
     (started r c.changes-changes.result.now c.in_ok-callers.callers.items c.events-events.result.now c.items-items.ensures.fits c.changes-changes.ensures new c.events-events.ensures)
 

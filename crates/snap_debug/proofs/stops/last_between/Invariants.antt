@@ -6,7 +6,7 @@ use Rattle.snap_debug.proofs.stops.last_between.Given as goal
 -- the last stop so far is known
 abbrev pub invariant-loop-walk : goal.invariant-loop-walk
 invariant-loop-walk g l =
-    let r = l.trail.run in
+    let r = l.recording.run in
     record {
       walk : AreAt r l.walk;
       before : l.walk.before.position < l.position;

@@ -6,7 +6,7 @@ use Rattle.snap_debug.proofs.stops.last_stop.Given as goal
 abbrev pub invariant-loop-end : goal.invariant-loop-end
 invariant-loop-end g l = record {
   within : l.end ≤ l.position;
-  passed : last_stop l.trail.run l.marks l.end ≡ last_stop l.trail.run l.marks l.position;
+  passed : last_stop l.recording.run l.marks l.end ≡ last_stop l.recording.run l.marks l.position;
 }
 
 abbrev pub decreases-loop-end : goal.decreases-loop-end

@@ -2,13 +2,13 @@ use Rattle.std.proofs.Common.{◌≡◌, ◌≤◌, ◌<◌, ◌+◌, ◌-◌, l
 use Rattle.std.specs.List.{list_any}
 use Rattle.snap_debug.specs.Marks.{next_stop}
 use Rattle.snap_debug.specs.Stops.{differs}
-use Rattle.snap_debug.specs.Trail.{StandsAt}
+use Rattle.snap_debug_checkpoints.specs.Recording.{IsCheckpoint}
 use Rattle.snap_debug.proofs.Walks.{no_next, none_differs, walked}
 use Rattle.snap_debug.proofs.stops.next_stop.Goals as goal
 
 pub returns-then-count-eq0-clause-stop : goal.returns-then-count-eq0-clause-stop
 returns-then-count-eq0-clause-stop g c =
-    let r = c.args.trail.now.run in
+    let r = c.args.recording.now.run in
     let t = c.args.here.now.position in
     let size = c.total-total.ensures in
     let within = c.requires.stands.within in
@@ -16,42 +16,42 @@ returns-then-count-eq0-clause-stop g c =
     let none = no_next r c.args.marks.now t (length r.items - t) (sym c.count.ensures ∙ c.if-count-eq0.true) in
     all ∙ sym none
 
-pub loop-stand-init : goal.loop-stand-init
-loop-stand-init g c =
-    let r = c.args.trail.now.run in
+pub loop-current-init : goal.loop-current-init
+loop-current-init g c =
+    let r = c.args.recording.now.run in
     let m = c.args.marks.now in
     let here = c.args.here.now in
-    let same = c.in_ok-stand.ensures in
+    let same = c.in_ok-current.ensures in
     record {
       run = refl;
       grows = omega arith;
-      stands = subst (λ s. StandsAt r s) (sym same) c.requires.stands;
-      reached = subst (λ s. s.position ≤ c.args.trail.now.reached) (sym same) c.requires.reached;
+      stands = subst (λ s. IsCheckpoint r s) (sym same) c.requires.stands;
+      reached = subst (λ s. s.position ≤ c.args.recording.now.reached) (sym same) c.requires.reached;
       unchanged = ap (λ s. list_any (differs here.machine.state s.machine.state) m.watches) same ∙ none_differs here.machine.state m.watches;
       passed = ap (λ s. next_stop r m s.position (length r.items - s.position)) same;
     }
 
 pub returns-then-stops_between-clause-stop : goal.returns-then-stops_between-clause-stop
 returns-then-stops_between-clause-stop g c =
-    let before = c.loop-stand.invariant in
+    let before = c.loop-current.invariant in
     let did = c.in_ok-process.ensures in
     let more = c.in_ok-reach.ensures in
     let size = c.total-total.ensures in
-    let below = c.loop-stand-test.true in
-    let lt : c.loop-stand.stand.position < length c.args.trail.now.run.items = omega (arith, size, below) in
-    let w = walked c.args.trail.now.run c.reach.new.self.run c.args.marks.now c.args.here.now c.loop-stand.stand c.advance.new.stand c.in_ok-process.process c.stops_between.result
+    let below = c.loop-current-test.true in
+    let lt : c.loop-current.current.position < length c.args.recording.now.run.items = omega (arith, size, below) in
+    let w = walked c.args.recording.now.run c.reach.new.self.run c.args.marks.now c.args.here.now c.loop-current.current c.advance.new.current c.in_ok-process.process c.stops_between.result
     (more.run ∙ before.run) before.stands lt before.unchanged did.stands did.position did.process.0 c.stops_between.ensures in
     w.here c.if-stops_between.true ∙ before.passed
 
-pub loop-stand-preserved-else-stops_between : goal.loop-stand-preserved-else-stops_between
-loop-stand-preserved-else-stops_between g c =
-    let before = c.loop-stand.invariant in
+pub loop-current-preserved-else-stops_between : goal.loop-current-preserved-else-stops_between
+loop-current-preserved-else-stops_between g c =
+    let before = c.loop-current.invariant in
     let did = c.in_ok-process.ensures in
     let more = c.in_ok-reach.ensures in
     let size = c.total-total.ensures in
-    let below = c.loop-stand-test.true in
-    let lt : c.loop-stand.stand.position < length c.args.trail.now.run.items = omega (arith, size, below) in
-    let w = walked c.args.trail.now.run c.reach.new.self.run c.args.marks.now c.args.here.now c.loop-stand.stand c.advance.new.stand c.in_ok-process.process c.stops_between.result
+    let below = c.loop-current-test.true in
+    let lt : c.loop-current.current.position < length c.args.recording.now.run.items = omega (arith, size, below) in
+    let w = walked c.args.recording.now.run c.reach.new.self.run c.args.marks.now c.args.here.now c.loop-current.current c.advance.new.current c.in_ok-process.process c.stops_between.result
     (more.run ∙ before.run) before.stands lt before.unchanged did.stands did.position did.process.0 c.stops_between.ensures in
     let at = did.position in
     let far = more.reached in
@@ -66,15 +66,15 @@ loop-stand-preserved-else-stops_between g c =
       passed = w.later c.if-stops_between.false ∙ before.passed;
     }
 
-pub loop-stand-preserved-else-stops_between-2 : goal.loop-stand-preserved-else-stops_between-2
-loop-stand-preserved-else-stops_between-2 g c =
-    let before = c.loop-stand.invariant in
+pub loop-current-preserved-else-stops_between-2 : goal.loop-current-preserved-else-stops_between-2
+loop-current-preserved-else-stops_between-2 g c =
+    let before = c.loop-current.invariant in
     let did = c.in_ok-process.ensures in
     let more = c.in_ok-reach.ensures in
     let size = c.total-total.ensures in
-    let below = c.loop-stand-test.true in
-    let lt : c.loop-stand.stand.position < length c.args.trail.now.run.items = omega (arith, size, below) in
-    let w = walked c.args.trail.now.run c.reach.new.self.run c.args.marks.now c.args.here.now c.loop-stand.stand c.advance.new.stand c.in_ok-process.process c.stops_between.result
+    let below = c.loop-current-test.true in
+    let lt : c.loop-current.current.position < length c.args.recording.now.run.items = omega (arith, size, below) in
+    let w = walked c.args.recording.now.run c.reach.new.self.run c.args.marks.now c.args.here.now c.loop-current.current c.advance.new.current c.in_ok-process.process c.stops_between.result
     (more.run ∙ before.run) before.stands lt before.unchanged did.stands did.position did.process.0 c.stops_between.ensures in
     let at = did.position in
     let far = more.reached in
@@ -89,15 +89,15 @@ loop-stand-preserved-else-stops_between-2 g c =
       passed = w.later c.if-stops_between.false ∙ before.passed;
     }
 
-pub loop-stand-preserved : goal.loop-stand-preserved
-loop-stand-preserved g c =
-    let before = c.loop-stand.invariant in
+pub loop-current-preserved : goal.loop-current-preserved
+loop-current-preserved g c =
+    let before = c.loop-current.invariant in
     let did = c.in_ok-process.ensures in
     let more = c.in_ok-reach.ensures in
     let size = c.total-total.ensures in
-    let below = c.loop-stand-test.true in
-    let lt : c.loop-stand.stand.position < length c.args.trail.now.run.items = omega (arith, size, below) in
-    let w = walked c.args.trail.now.run c.reach.new.self.run c.args.marks.now c.args.here.now c.loop-stand.stand c.advance.new.stand c.in_ok-process.process c.stops_between.result
+    let below = c.loop-current-test.true in
+    let lt : c.loop-current.current.position < length c.args.recording.now.run.items = omega (arith, size, below) in
+    let w = walked c.args.recording.now.run c.reach.new.self.run c.args.marks.now c.args.here.now c.loop-current.current c.advance.new.current c.in_ok-process.process c.stops_between.result
     (more.run ∙ before.run) before.stands lt before.unchanged did.stands did.position did.process.0 c.stops_between.ensures in
     let at = did.position in
     let far = more.reached in

@@ -1,5 +1,5 @@
 use Rattle.std.proofs.Common.{◌≡◌, drop}
-use Rattle.snap_semantics.specs.ImageCodes.{coded}
+use Rattle.snap_image_format.specs.ImageCodes.{coded}
 use Rattle.snap_image_codes.proofs.codes.find.Given as goal
 
 abbrev pub invariant-loop-value : goal.invariant-loop-value

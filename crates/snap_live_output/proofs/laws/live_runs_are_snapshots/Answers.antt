@@ -2,4 +2,4 @@ use Rattle.snap_live_output.proofs.Shipped.{live_runs}
 use Rattle.snap_live_output.proofs.laws.live_runs_are_snapshots.Goals as goal
 
 pub returns : goal.returns
-returns c = live_runs c.runs_are_snapshots.ensures c.runs_are_snapshots-2.ensures c.runs_are_snapshots-3.ensures
+returns c = live_runs c.shipped_runs_keep_promises.ensures

@@ -12,7 +12,7 @@ returns-in-Busy-clause-done g c =
     let ps = c.args.processes.now in
     let a = c.in-Busy.activity in
     let p = slice_index_or ps (c.args.i - 1) c.index-processes-k.result in
-    crashed_is g.K.Kind.parts s r.memory ps c.args.i p (Busy a) (Some a)
+    crashed_is g.K.Kind.as_word s r.memory ps c.args.i p (Busy a) (Some a)
     (omega arith) (get_or_default ps (c.args.i - 1) c.index-processes-k.result p (omega arith)) c.in-Busy.is (λ S q. refl)
 
 pub returns-in-Idle-clause-done : goal.returns-in-Idle-clause-done
@@ -21,7 +21,7 @@ returns-in-Idle-clause-done g c =
     let r = c.args.registers.now in
     let ps = c.args.processes.now in
     let p = slice_index_or ps (c.args.i - 1) c.index-processes-k.result in
-    crashed_is g.K.Kind.parts s r.memory ps c.args.i p Idle None
+    crashed_is g.K.Kind.as_word s r.memory ps c.args.i p Idle None
     (omega arith) (get_or_default ps (c.args.i - 1) c.index-processes-k.result p (omega arith)) c.in-Idle.is (λ S q. refl)
 
 pub returns-in-Busy-clause-sized : goal.returns-in-Busy-clause-sized
@@ -30,8 +30,8 @@ returns-in-Busy-clause-sized g c =
     let shape = c.args.registers.now.shape in
     let ps = c.args.processes.now in
     let p = slice_index_or ps (c.args.i - 1) c.index-processes-k.result in
-    sized_set g.K.Kind.parts s shape ps (c.args.i - 1) _ c.requires.sized
-    (sized_at g.K.Kind.parts s shape ps c.args.i p (omega arith) (get_or_default ps (c.args.i - 1) c.index-processes-k.result p (omega arith)) c.requires.sized)
+    sized_set g.K.Kind.as_word s shape ps (c.args.i - 1) _ c.requires.sized
+    (sized_at g.K.Kind.as_word s shape ps c.args.i p (omega arith) (get_or_default ps (c.args.i - 1) c.index-processes-k.result p (omega arith)) c.requires.sized)
 
 pub returns-in-Idle-clause-sized : goal.returns-in-Idle-clause-sized
 returns-in-Idle-clause-sized g c =
@@ -39,5 +39,5 @@ returns-in-Idle-clause-sized g c =
     let shape = c.args.registers.now.shape in
     let ps = c.args.processes.now in
     let p = slice_index_or ps (c.args.i - 1) c.index-processes-k.result in
-    sized_set g.K.Kind.parts s shape ps (c.args.i - 1) _ c.requires.sized
-    (sized_at g.K.Kind.parts s shape ps c.args.i p (omega arith) (get_or_default ps (c.args.i - 1) c.index-processes-k.result p (omega arith)) c.requires.sized)
+    sized_set g.K.Kind.as_word s shape ps (c.args.i - 1) _ c.requires.sized
+    (sized_at g.K.Kind.as_word s shape ps c.args.i p (omega arith) (get_or_default ps (c.args.i - 1) c.index-processes-k.result p (omega arith)) c.requires.sized)

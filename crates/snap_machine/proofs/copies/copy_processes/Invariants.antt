@@ -4,4 +4,4 @@ use Rattle.snap_values.specs.Seen.{seen_process}
 use Rattle.snap_machine.proofs.copies.copy_processes.Given as goal
 
 abbrev pub invariant-loop-process : goal.invariant-loop-process
-invariant-loop-process g l = (s : Source) → map (seen_process g.K.Kind.parts s) l.copies.items ≡ map (seen_process g.K.Kind.parts s) (take l.process-index l.processes)
+invariant-loop-process g l = (s : Source) → map (seen_process g.K.Kind.as_word s) l.copies.items ≡ map (seen_process g.K.Kind.as_word s) (take l.process-index l.processes)

@@ -4,4 +4,4 @@ use Rattle.snap_values.specs.Seen.{seen_process}
 use Rattle.snap_machine.proofs.fresh.new_processes.Given as goal
 
 abbrev pub invariant-loop-k : goal.invariant-loop-k
-invariant-loop-k g l = map (seen_process g.K.Kind.parts l.listing) l.processes.items ≡ replicate l._k (initial_process l.listing l.shape)
+invariant-loop-k g l = map (seen_process g.K.Kind.as_word l.listing) l.processes.items ≡ replicate l._k (initial_process l.listing l.shape)

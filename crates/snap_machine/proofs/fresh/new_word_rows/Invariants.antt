@@ -4,4 +4,4 @@ use Rattle.snap_words.specs.Shape.{places}
 use Rattle.snap_machine.proofs.fresh.new_word_rows.Given as goal
 
 abbrev pub invariant-loop-k : goal.invariant-loop-k
-invariant-loop-k g l = map (λ xs. map g.K.Kind.parts xs.items) l.rows.items ≡ replicate l._k (replicate (places l.shape) (initial_word g.K.Kind.TAG l.shape))
+invariant-loop-k g l = map (λ xs. map g.K.Kind.as_word xs.items) l.rows.items ≡ replicate l._k (replicate (places l.shape) (initial_word g.K.Kind.TAG l.shape))

@@ -3,4 +3,4 @@ use Rattle.snap_words.specs.Kind.{initial_word}
 use Rattle.snap_machine.proofs.fresh.new_words.Given as goal
 
 abbrev pub invariant-loop-k : goal.invariant-loop-k
-invariant-loop-k g l = map g.K.Kind.parts l.words.items ≡ replicate l._k (initial_word g.K.Kind.TAG l.shape)
+invariant-loop-k g l = map g.K.Kind.as_word l.words.items ≡ replicate l._k (initial_word g.K.Kind.TAG l.shape)

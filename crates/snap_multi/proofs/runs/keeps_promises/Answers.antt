@@ -1,3 +1,4 @@
+use Rattle.snap_words.specs.declared.kind.KindTag.TheVariants as kind
 use Rattle.snap_record.proofs.Within.{run_fits}
 use Rattle.snap_runs_of_m.specs.ListingM.{listing_m}
 use Rattle.snap_multi.proofs.runs.keeps_promises.Goals as goal
@@ -5,5 +6,6 @@ use Rattle.snap_multi.proofs.runs.keeps_promises.Goals as goal
 pub returns-clause-fits : goal.returns-clause-fits
 returns-clause-fits c = run_fits listing_m c.args.schedule.now c.shape-shape.ensures.schedule
 
-pub returns-clause-snapshot : goal.returns-clause-snapshot
-returns-clause-snapshot c = c.runs_are_snapshots.ensures c.args.schedule.now.shape c.args.schedule.now.items c.shape-shape.ensures.schedule.shape c.requires
+pub returns-clause-promises : goal.returns-clause-promises
+returns-clause-promises c =
+    c.shipped_runs_keep_promises.ensures kind.Multi c.args.schedule.now.shape c.args.schedule.now.items c.shape-shape.ensures.schedule.shape c.requires tt

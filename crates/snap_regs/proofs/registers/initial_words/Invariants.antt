@@ -4,4 +4,4 @@ use Rattle.snap_words.specs.Kind.{initial_word}
 use Rattle.snap_regs.proofs.registers.initial_words.Given as goal
 
 abbrev pub invariant-loop-i : goal.invariant-loop-i
-invariant-loop-i g l = map g.K.Kind.parts l.words.items ≡ replicate l.i (initial_word g.K.Kind.TAG l.shape)
+invariant-loop-i g l = map g.K.Kind.as_word l.words.items ≡ replicate l.i (initial_word g.K.Kind.TAG l.shape)

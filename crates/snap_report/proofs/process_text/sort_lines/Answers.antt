@@ -2,7 +2,7 @@ use Rattle.std.proofs.Common.{◌++◌, ◌∙◌, ap}
 use Rattle.snap_words.specs.declared.kind.KindTag.{KindTag}
 use Rattle.snap_semantics.specs.Source.{Source}
 use Rattle.snap_semantics.specs.State.{process_at}
-use Rattle.snap_machine.specs.Reading.{seen_named}
+use Rattle.snap_machine.specs.SeenContents.{seen_named}
 use Rattle.snap_report.specs.ReportLines.{local_lines}
 use Rattle.snap_report.proofs.Lines.{local_pushed, no_local_left}
 use Rattle.snap_report.proofs.process_text.sort_lines.Goals as goal
@@ -10,7 +10,7 @@ use Rattle.snap_report.proofs.process_text.sort_lines.Goals as goal
 pub loop-local-preserved : goal.loop-local-preserved
 loop-local-preserved g c =
     let m = c.args.machine.now in
-    let e = seen_named {K = g.row.K.Denot} g.K.Kind.parts c.in-Some.local in
+    let e = seen_named {K = g.row.K.Denot} g.K.Kind.as_word c.in-Some.local in
     let kind = c.kind-kind.ensures ∙ ap (λ (s : Source). s.kind) c.program.ensures.value in
     local_pushed m.source.kind c.args.sort (process_at m.state c.args.i).locals c.loop-local.k e.0 e.1 c.args.out.now.items
     c.loop-local.out.items c.local_lines.new.out.items c.in-Some.ensures.value

@@ -4,8 +4,8 @@ use Rattle.snap_report.proofs.process_text.words_local.Given as goal
 
 abbrev pub invariant-loop-k : goal.invariant-loop-k
 invariant-loop-k g l =
-    l.out.items ++ words_local l.kind l.name (l.k + 1) (map g.K.Kind.parts (drop l.k l.words))
-    ≡ l.fn.out.items ++ words_local l.kind l.name 1 (map g.K.Kind.parts l.words)
+    l.out.items ++ words_local l.kind l.name (l.k + 1) (map g.K.Kind.as_word (drop l.k l.words))
+    ≡ l.fn.out.items ++ words_local l.kind l.name 1 (map g.K.Kind.as_word l.words)
 
 abbrev pub decreases-loop-k : goal.decreases-loop-k
 decreases-loop-k g l = length l.words - l.k

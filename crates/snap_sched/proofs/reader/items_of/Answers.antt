@@ -1,5 +1,5 @@
 use Rattle.std.proofs.Common.{◌≡◌, ◌-◌, length, option_map, ap, sym, ◌∙◌, Ok, Some}
-use Rattle.snap_sched.specs.Reading.{view_form, next_form}
+use Rattle.snap_sched.specs.ReaderSteps.{view_form, next_form}
 use Rattle.snap_sched.proofs.Lines.{turn, kept, next_found}
 use Rattle.snap_sched.proofs.reader.items_of.Goals as goal
 

@@ -1,7 +1,7 @@
 use Rattle.std.proofs.Common.{◌≡◌, length}
 use Rattle.snap_semantics.specs.Token.{tokens_of}
 use Rattle.snap_text.specs.Tokens.{view_tokens}
-use Rattle.snap_text.proofs.Runs.{prepend}
+use Rattle.snap_text.proofs.Lexemes.{prepend}
 use Rattle.snap_text.proofs.lexer.tokens.Given as goal
 
 -- the tokens so far, and those of the rest

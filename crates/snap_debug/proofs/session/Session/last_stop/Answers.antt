@@ -8,4 +8,4 @@ pub returns-clause-within : goal.returns-clause-within
 returns-clause-within g c =
     let within = subst (λ (s : Session). c.position.result ≤ length s.run.items) (sym c.self.view_is) c.position.ensures.within in
     subst (λ (s : Session). IfOk c.last_stop.result (λ t. t ≤ length s.run.items)) c.self.view_is
-    (last_found c.self.inside.trail.run c.self.inside.marks c.position.result c.last_stop.result within c.last_stop.ensures)
+    (last_found c.self.inside.recording.run c.self.inside.marks c.position.result c.last_stop.result within c.last_stop.ensures)

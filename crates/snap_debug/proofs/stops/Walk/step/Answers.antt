@@ -7,4 +7,4 @@ returns-clause-stop g c =
     let old = c.args.self.now in
     let did = c.in_ok-process.ensures in
     c.stops_between-stop.ensures
-    ∙ stop_between c.args.trail.now.run c.args.marks.now old.before old.after c.advance.new.stand c.in_ok-process.process c.requires.walk.before did.stands did.position c.requires.walk.same did.process.0
+    ∙ stop_between c.args.recording.now.run c.args.marks.now old.before old.after c.advance.new.current c.in_ok-process.process c.requires.walk.before did.stands did.position c.requires.walk.same did.process.0

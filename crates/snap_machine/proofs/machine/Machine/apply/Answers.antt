@@ -1,7 +1,7 @@
 use Rattle.std.proofs.Common.{rules, ◌≡◌, length, map, refl, ap, subst, ◌∙◌}
 use Rattle.snap_values.specs.Seen.{seen_process}
-use Rattle.snap_lines.specs.Sizes.{AllSized}
-use Rattle.snap_machine.proofs.Stands.{stands_after}
+use Rattle.snap_line_effects.specs.Sizes.{AllSized}
+use Rattle.snap_machine.proofs.Configurations.{stands_after}
 use Rattle.snap_machine.proofs.machine.Machine.apply.Goals as goal
 
 pub invariant_of-self-in-Call : goal.invariant_of-self-in-Call
@@ -10,9 +10,9 @@ invariant_of-self-in-Call g c =
     let len_is : inside.processes.len ≡ length inside.processes.items = search rules in
     let same : length c.call.new.processes ≡ length inside.processes.items = c.call.auto.processes ∙ ap length c.as_mut_slice-in-Call.ensures.value in
     let sized =
-    subst (λ s. AllSized s inside.registers.shape (map (seen_process g.K.Kind.parts s) c.call.new.processes)) c.listing.ensures
+    subst (λ s. AllSized s inside.registers.shape (map (seen_process g.K.Kind.as_word s) c.call.new.processes)) c.listing.ensures
     c.call.ensures.sized in
-    stands_after g.K.Kind.TAG g.K.Kind.parts inside.program inside.registers.shape inside.registers.shape inside.processes.items c.call.new.processes inside.processes.len c.self.invariant len_is same refl sized
+    stands_after g.K.Kind.TAG g.K.Kind.as_word inside.program inside.registers.shape inside.registers.shape inside.processes.items c.call.new.processes inside.processes.len c.self.invariant len_is same refl sized
 
 pub invariant_of-self-in-Crash : goal.invariant_of-self-in-Crash
 invariant_of-self-in-Crash g c =
@@ -20,6 +20,6 @@ invariant_of-self-in-Crash g c =
     let len_is : inside.processes.len ≡ length inside.processes.items = search rules in
     let same : length c.crash.new.processes ≡ length inside.processes.items = c.crash.auto.processes ∙ ap length c.as_mut_slice-in-Crash.ensures.value in
     let sized =
-    subst (λ s. AllSized s inside.registers.shape (map (seen_process g.K.Kind.parts s) c.crash.new.processes)) c.listing-in-Crash.ensures
+    subst (λ s. AllSized s inside.registers.shape (map (seen_process g.K.Kind.as_word s) c.crash.new.processes)) c.listing-in-Crash.ensures
     c.crash.ensures.sized in
-    stands_after g.K.Kind.TAG g.K.Kind.parts inside.program inside.registers.shape inside.registers.shape inside.processes.items c.crash.new.processes inside.processes.len c.self.invariant len_is same refl sized
+    stands_after g.K.Kind.TAG g.K.Kind.as_word inside.program inside.registers.shape inside.registers.shape inside.processes.items c.crash.new.processes inside.processes.len c.self.invariant len_is same refl sized

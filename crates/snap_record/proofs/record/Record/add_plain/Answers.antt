@@ -8,7 +8,7 @@ use Rattle.snap_semantics.specs.declared.event.Event.{Event}
 use Rattle.snap_semantics.specs.declared.process.Item.{Item}
 use Rattle.snap_semantics.specs.declared.process.Item.TheVariants.{Step}
 use Rattle.snap_semantics.specs.declared.process.Outcome.{Outcome}
-use Rattle.snap_runs.specs.Deeds.{Nothing, deed_of}
+use Rattle.snap_runs.specs.StepRoles.{Nothing, step_role_of}
 use Rattle.snap_runs.specs.Run.{Run, state, outcome as outcome_at}
 use Rattle.snap_runs.proofs.OneItem.{answer_is}
 use Rattle.snap_record.specs.History.{IsRecord}
@@ -19,10 +19,10 @@ use Rattle.snap_record.proofs.Recording.{outcome_told, recorded_plain, same_run}
 use Rattle.snap_record.proofs.record.Record.add_plain.Goals as goal
 
 -- the line of the step does nothing that is noted
-plain_here : (r y : Run) (S : State) (i : ℕ) → r ≡ y → S ≡ state r (length r.items) → deed_of y.source (state y (length y.items)) (Step i) ≡ Nothing → deed_of r.source S (Step i) ≡ Nothing
+plain_here : (r y : Run) (S : State) (i : ℕ) → r ≡ y → S ≡ state r (length r.items) → step_role_of y.source (state y (length y.items)) (Step i) ≡ Nothing → step_role_of r.source S (Step i) ≡ Nothing
 plain_here r y S i seen is plain =
-    ap (λ (T : State). deed_of r.source T (Step i)) is
-    ∙ subst (λ (z : Run). deed_of z.source (state z (length z.items)) (Step i) ≡ Nothing) (sym seen) plain
+    ap (λ (T : State). step_role_of r.source T (Step i)) is
+    ∙ subst (λ (z : Run). step_role_of z.source (state z (length z.items)) (Step i) ≡ Nothing) (sym seen) plain
 
 pub note_outcome-requires-clause-answer : goal.note_outcome-requires-clause-answer
 note_outcome-requires-clause-answer g c = λ v e.

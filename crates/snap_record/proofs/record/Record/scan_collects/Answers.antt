@@ -2,9 +2,8 @@ use Rattle.std.proofs.Common.{◌<◌, ◌≤◌, ◌+◌, ◌-◌, List, length
 use Rattle.std.proofs.lemmas.Grind.{get_or_default_zero}
 use Rattle.std.proofs.lemmas.List.{get_or_default}
 use Rattle.snap_semantics.specs.declared.event.Event.{Event}
-use Rattle.snap_runs.specs.Run.{Run}
+use Rattle.snap_runs.specs.Run.{Run, events_of}
 use Rattle.snap_record.specs.History.{collects_at}
-use Rattle.snap_record.specs.Record.{events_of}
 use Rattle.snap_record.specs.Searches.{collects_until, scan_collects}
 use Rattle.snap_record.proofs.Searches.{count_there, scan_process, scan_told}
 use Rattle.snap_record.proofs.record.Record.scan_collects.Goals as goal

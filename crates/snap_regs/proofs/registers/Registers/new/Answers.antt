@@ -11,5 +11,5 @@ invariant_of-result g c =
     let p : c.in_ok-zeros-2.field-0 ≡ replicate (rows_in g.K.Kind.TAG c.args.shape bank.P) (replicate c.args.shape.n 0) = cc (columns, c.in_ok-zeros-2.ensures, c.rows_in-2.ensures.value) in
     let views : c.in_ok-zero_views.field-0.items ≡ replicate (rows_in g.K.Kind.TAG c.args.shape bank.V) (replicate c.args.shape.w 0) = cc (c.w.ensures, c.in_ok-zero_views.ensures, c.rows_in-3.ensures.value) in
     IsOfShape-new g.K.Kind.TAG c.args.shape
-    (record { words = map g.K.Kind.parts c.in_ok-initial_words.field-0.items; q = c.in_ok-zeros.field-0; p = c.in_ok-zeros-2.field-0; views = c.in_ok-zero_views.field-0.items })
+    (record { words = map g.K.Kind.as_word c.in_ok-initial_words.field-0.items; q = c.in_ok-zeros.field-0; p = c.in_ok-zeros-2.field-0; views = c.in_ok-zero_views.field-0.items })
     c.in_ok-initial_words.ensures q p views

@@ -1,5 +1,5 @@
-use Rattle.snap_sched.proofs.Cursors.{started}
+use Rattle.snap_sched.proofs.NextItem.{started}
 use Rattle.snap_sched.proofs.items.Items.iter.Goals as goal
 
 pub invariant_of-result : goal.invariant_of-result
-invariant_of-result c = started c.runs.result c.args.self.now c.runs.ensures.items c.runs.ensures.greatest
+invariant_of-result c = started c.segments.result c.args.self.now c.segments.ensures.items c.segments.ensures.greatest

@@ -1,4 +1,4 @@
--- The hands of a new word are zeros.
+-- The handshake bits of a new word are zeros.
 use Rattle.snap_words.proofs.Words.{list_all_bits-replicate}
 use Rattle.snap_words.proofs.kinds.bits.BitsKind.initial.Goals as goal
 

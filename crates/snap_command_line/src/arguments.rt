@@ -1,0 +1,111 @@
+//! The arguments that the program takes, and what they ask for.
+ghost use Rattle.std.specs.Prelude.{IfOk, IfSome};
+ghost use Rattle.snap_tasks.specs.Request.{HasLimit, IsLimit};
+
+use clap::builder::ValueParser;
+use clap::error::ErrorKind;
+use clap::{Arg, ArgMatches, Command, Error};
+use snap_tasks::{Request, Subject, kind_of, request_of};
+use std::alloc::{AllocError, Global};
+
+/// The version of the program.
+const VERSION: &str = "0.1.0";
+
+/// The kinds that `--shipped` takes.
+const KINDS: &[&str] = &["seq", "bit", "multi"];
+
+/// The most turns that a process of a live run may have.
+const MAX_LIMIT: u64 = 1_000_000;
+
+/// The most that it has where no limit is given.
+const USUAL_LIMIT: u64 = 100_000;
+
+/// A subcommand that runs a listing: one of the input, or a shipped one.
+fn running<'a>(alloc: Global, name: &'a str, about: &'a str) -> Result<Command<'a>, AllocError> {
+    let shipped = Arg::new(alloc, "shipped")
+        .long("shipped")
+        .value_name("KIND")
+        .value_parser(KINDS)
+        .help("Takes the shipped listing of this kind of registers; the input has no listing then");
+    Command::new(alloc, name).about(about).arg(shipped)
+}
+
+/// The subcommand that plays scripts.
+fn live<'a>(alloc: Global) -> Result<Command<'a>, AllocError> {
+    let limit = Arg::new(alloc, "limit")
+        .long("limit")
+        .value_name("N")
+        .value_parser(ValueParser::unsigned(1, MAX_LIMIT))
+        .default_value("100000")
+        .help("The most turns of a process");
+    running(
+        alloc,
+        "live",
+        "Plays scripts live, each process in a thread of its own",
+    )?
+    .arg(limit)
+}
+
+/// The arguments that the program takes.
+fn command<'a>(alloc: Global) -> Result<Command<'a>, AllocError> {
+    Command::new(alloc, "snaplab")
+        .about("Runs listings over shared registers")
+        .version(VERSION)
+        .subcommand_required(true)
+        .subcommand(Command::new(alloc, "check").about("Says whether a text is a listing"))?
+        .subcommand(Command::new(alloc, "assemble").about("Writes the image of a listing"))?
+        .subcommand(Command::new(alloc, "list").about("Writes the text of an image"))?
+        .subcommand(Command::new(alloc, "upgrade").about("Writes an image in the second version"))?
+        .subcommand(running(alloc, "run", "Runs a listing under a schedule")?)?
+        .subcommand(running(
+            alloc,
+            "debug",
+            "Runs a listing under a schedule, by debugger commands",
+        )?)?
+        .subcommand(running(
+            alloc,
+            "audit",
+            "Says of each finished scan which state it stands for",
+        )?)?
+        .subcommand(running(alloc, "batch", "Runs a listing under many schedules")?)?
+        .subcommand(live(alloc)?)
+}
+
+/// The limit that a subcommand's arguments ask for, where it takes one. It takes no other than these.
+fn limit_of(arguments: &ArgMatches<'_>) -> u64
+    ensures { IsLimit result }
+{
+    match arguments.get_one::<u64>("limit") {
+        Some(limit) if 1 <= limit && limit <= MAX_LIMIT => limit,
+        _ => USUAL_LIMIT,
+    }
+}
+
+/// The listing that a subcommand's arguments ask for.
+fn subject_of(arguments: &ArgMatches<'_>) -> Option<Subject> {
+    match arguments.get_str("shipped") {
+        Some(kind) => Some(Subject::Shipped(kind_of(kind)?)),
+        None => Some(Subject::FirstPart),
+    }
+}
+
+/// What the arguments of a subcommand ask for.
+fn request_by(matches: &ArgMatches<'_>) -> Option<Request>
+    ensures { IfSome result HasLimit }
+{
+    let (name, arguments) = matches.subcommand()?;
+    let subject = subject_of(arguments)?;
+    request_of(name, subject, limit_of(arguments))
+}
+
+/// What the arguments ask for, the program's own name first.
+pub fn request_of_arguments<'a>(alloc: Global, arguments: &'a [String]) -> Result<Request, Error>
+    ensures { IfOk result HasLimit }
+{
+    let mut command = command(alloc)?;
+    let matches = command.try_get_matches_from_mut(arguments)?;
+    match request_by(&matches) {
+        Some(request) => Ok(request),
+        None => Err(command.error(ErrorKind::MissingSubcommand, "no subcommand")?),
+    }
+}

@@ -1,0 +1,49 @@
+//! What a command line comes to.
+ghost use Rattle.std.specs.Prelude.{IfOk};
+ghost use Rattle.snap_command_line.specs.Limits.{HasLimits};
+
+use crate::arguments::request_of_arguments;
+use clap::Error;
+use clap::error::ErrorKind;
+use snap_tasks::Request;
+use std::alloc::{AllocError, Global};
+
+/// What the arguments of a command line come to.
+#[derive(Debug, Drop)]
+pub enum CommandLine {
+    /// They ask for this.
+    Asks(Request),
+    /// They ask for help, or for the version: its text.
+    Help(String),
+    /// They ask for nothing that the program does: why, as text.
+    Wrong(String),
+    /// They are no text.
+    NoText,
+}
+
+/// What is said where the arguments ask for no task.
+fn explained(alloc: Global, error: &Error) -> Result<CommandLine, AllocError>
+    ensures { IfOk result HasLimits }
+{
+    if error.kind() == ErrorKind::OutOfMemory {
+        return Err(AllocError);
+    }
+    let Ok(text) = format!(in alloc; "{error}") else {
+        return Err(AllocError);
+    };
+    if error.use_stderr() {
+        Ok(CommandLine::Wrong(text))
+    } else {
+        Ok(CommandLine::Help(text))
+    }
+}
+
+/// What arguments come to, the program's own name first.
+pub fn read_arguments(alloc: Global, arguments: &[String]) -> Result<CommandLine, AllocError>
+    ensures { IfOk result HasLimits }
+{
+    match request_of_arguments(alloc, arguments) {
+        Ok(request) => Ok(CommandLine::Asks(request)),
+        Err(error) => explained(alloc, &error),
+    }
+}

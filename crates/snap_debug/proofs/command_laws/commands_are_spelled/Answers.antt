@@ -1,6 +1,0 @@
-use Rattle.snap_debug.proofs.CommandsAgain.{spelled_is_read}
-use Rattle.snap_debug.proofs.CommandsFound.{read_is_spelled}
-use Rattle.snap_debug.proofs.command_laws.commands_are_spelled.Goals as goal
-
-pub returns : goal.returns
-returns c text cs = (read_is_spelled text cs, spelled_is_read text cs)

@@ -1,5 +1,0 @@
-use Rattle.snap_debug.proofs.CommandsAgain.{written_is_read}
-use Rattle.snap_debug.proofs.command_laws.written_commands_are_read.Goals as goal
-
-pub returns : goal.returns
-returns c = written_is_read

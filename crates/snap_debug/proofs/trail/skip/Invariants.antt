@@ -1,6 +1,0 @@
-use Rattle.std.proofs.Common.{◌≡◌, drop}
-use Rattle.snap_debug.proofs.trail.skip.Given as goal
-
--- so many are left behind
-abbrev pub invariant-loop-t : goal.invariant-loop-t
-invariant-loop-t l = l.items ≡ drop l._t l.fn.items

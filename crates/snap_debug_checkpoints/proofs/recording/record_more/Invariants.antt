@@ -1,0 +1,13 @@
+use Rattle.std.proofs.Common.{◌≡◌, ◌+◌, length}
+use Rattle.std.specs.List.{AllByRecursion}
+use Rattle.snap_runs.specs.Run.{Run}
+use Rattle.snap_debug_checkpoints.specs.Recording.{ContinuesWith, IsCheckpoint}
+use Rattle.snap_debug_checkpoints.proofs.recording.record_more.Given as goal
+
+-- so many items more are recorded, and the checkpoints are the run's
+abbrev pub invariant-loop-t : goal.invariant-loop-t
+invariant-loop-t g l = record {
+  begun : (r : Run) → ContinuesWith r l.fn.history l.fn.items → ContinuesWith r l.history l.items;
+  kept : (r : Run) → ContinuesWith r l.fn.history l.fn.items → AllByRecursion (IsCheckpoint r) l.fn.later.items → AllByRecursion (IsCheckpoint r) l.later.items;
+  size : length l.history.items ≡ length l.fn.history.items + l._t;
+}

@@ -1,0 +1,25 @@
+//! A machine at a position.
+ghost use Rattle.std.specs.Prelude.{◌≡◌, IfOk};
+
+use snap_machine::Machine;
+use snap_words::Kind;
+use std::alloc::AllocError;
+
+/// A machine, and how many items of a run it has done: kept for later, or on its way from there.
+#[derive(Drop)]
+pub struct Checkpoint<K: Kind> {
+    pub machine: Machine<K>,
+    pub position: u64,
+}
+
+impl<K: Kind> Checkpoint<K> {
+    /// An equal machine at the same position.
+    pub fn copy(&self) -> Result<Checkpoint<K>, AllocError>
+        ensures { IfOk result (λ s. s ≡ self.now) }
+    {
+        Ok(Checkpoint {
+            machine: self.machine.copy()?,
+            position: self.position,
+        })
+    }
+}

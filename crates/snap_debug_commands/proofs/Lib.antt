@@ -1,0 +1,3 @@
+pub mod CommandsAgain
+pub mod CommandsFound
+mod CommandSamples

@@ -1,8 +1,0 @@
-use Rattle.std.proofs.Common.{◌≡◌, ◌-◌}
-use Rattle.snap_semantics.specs.ImageListing.{comment_bytes_in}
-use Rattle.snap_decoder.specs.Reading.{onto}
-use Rattle.snap_decoder.proofs.comments.comment_bytes.Given as goal
-
--- the bytes that are left follow those that were read
-abbrev pub invariant-loop-place : goal.invariant-loop-place
-invariant-loop-place l = onto l.bytes.items (comment_bytes_in (l.count - l.place) l.cursor) ≡ comment_bytes_in l.count l.fn.cursor

@@ -1,6 +1,0 @@
-//! Listings to images.
-#![tactic(auto)]
-
-mod encoding;
-
-pub use encoding::encode;

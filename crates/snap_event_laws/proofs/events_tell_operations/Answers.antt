@@ -1,0 +1,5 @@
+use Rattle.snap_event_laws.proofs.Telling.{tells_operations}
+use Rattle.snap_event_laws.proofs.events_tell_operations.Goals as goal
+
+pub returns : goal.returns
+returns c = tells_operations c.ends_are_of_operations.ensures

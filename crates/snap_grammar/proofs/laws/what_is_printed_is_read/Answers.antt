@@ -1,7 +1,0 @@
-use Rattle.snap_grammar.proofs.AgainForms.{line_again}
-use Rattle.snap_grammar.proofs.Printed.{printed_read}
-use Rattle.snap_grammar.proofs.ReadsAll.{reads_all_spelled_by}
-use Rattle.snap_grammar.proofs.laws.what_is_printed_is_read.Goals as goal
-
-pub returns : goal.returns
-returns c = printed_read (reads_all_spelled_by line_again)

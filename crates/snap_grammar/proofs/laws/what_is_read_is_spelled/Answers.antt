@@ -1,5 +1,0 @@
-use Rattle.snap_grammar.proofs.SpelledLines.{read_is_spelled}
-use Rattle.snap_grammar.proofs.laws.what_is_read_is_spelled.Goals as goal
-
-pub returns : goal.returns
-returns c = read_is_spelled

@@ -1,5 +1,0 @@
-use Rattle.snap_grammar.proofs.OnlyCommented.{read_is_commented}
-use Rattle.snap_grammar.proofs.laws.what_is_read_with_comments_is_a_listing.Goals as goal
-
-pub returns : goal.returns
-returns c = read_is_commented

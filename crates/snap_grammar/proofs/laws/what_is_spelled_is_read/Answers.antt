@@ -1,6 +1,0 @@
-use Rattle.snap_grammar.proofs.AgainForms.{line_again}
-use Rattle.snap_grammar.proofs.ReadsAll.{reads_all_spelled_by}
-use Rattle.snap_grammar.proofs.laws.what_is_spelled_is_read.Goals as goal
-
-pub returns : goal.returns
-returns c = reads_all_spelled_by line_again

@@ -1,0 +1,73 @@
+//! Comments of an image.
+ghost use Rattle.std.specs.Prelude.{Some};
+ghost use Rattle.snap_semantics.specs.Answers.{Answers};
+ghost use Rattle.snap_image_format.specs.ImageListing.{comment_byte_in, comment_bytes_in, some_comment_in, comment_in, behind_line_in};
+ghost use Rattle.snap_listing_core.specs.Fields.{seen_comment};
+ghost use Rattle.snap_image_codes.specs.Reads.{Reads};
+
+use crate::fault::ImageFault;
+use snap_image_codes::Cursor;
+use snap_image_format::ImageVersion;
+use snap_semantics::ImageRefusal;
+use std::alloc::Global;
+
+/// A byte of a comment: any but the line feed.
+#[tactic(auto, unfolding(snap_image_format::specs::ImageListing::comment_byte_in))]
+fn comment_byte(cursor: &mut Cursor<'_>) -> Result<u8, ImageRefusal>
+    ensures { Reads result cursor.new (comment_byte_in cursor.old) }
+{
+    let at = cursor.passed();
+    let byte = cursor.byte()?;
+    if byte == b'\n' {
+        Err(ImageRefusal::BadCode(at))
+    } else {
+        Ok(byte)
+    }
+}
+
+/// So many bytes of a comment.
+fn comment_bytes(alloc: Global, count: u64, cursor: &mut Cursor<'_>) -> Result<Vec<u8>, ImageFault>
+    ensures { Answers (λ bytes. (bytes.items, cursor.new)) result (comment_bytes_in count cursor.old) }
+{
+    let mut bytes = Vec::new(alloc);
+    for place in 0..count {
+        let byte = comment_byte(cursor)?;
+        bytes.push(byte)?;
+    }
+    Ok(bytes)
+}
+
+/// A comment behind the number of its bytes.
+#[tactic(auto, unfolding(snap_image_format::specs::ImageListing::some_comment_in))]
+fn some_comment(alloc: Global, cursor: &mut Cursor<'_>) -> Result<Vec<u8>, ImageFault>
+    ensures { Answers (λ bytes. (Some bytes.items, cursor.new)) result (some_comment_in cursor.old) }
+{
+    let count = cursor.short()?;
+    comment_bytes(alloc, count, cursor)
+}
+
+/// A comment, or none.
+#[tactic(auto, unfolding(snap_image_format::specs::ImageListing::comment_in))]
+fn comment(alloc: Global, cursor: &mut Cursor<'_>) -> Result<Option<Vec<u8>>, ImageFault>
+    ensures { Answers (λ c. (seen_comment c, cursor.new)) result (comment_in cursor.old) }
+{
+    if cursor.flag()? {
+        Ok(Some(some_comment(alloc, cursor)?))
+    } else {
+        Ok(None)
+    }
+}
+
+/// What stands behind a line: in the second version its comment.
+pub fn behind_line(
+    alloc: Global,
+    version: ImageVersion,
+    cursor: &mut Cursor<'_>,
+) -> Result<Option<Vec<u8>>, ImageFault>
+    ensures { Answers (λ c. (seen_comment c, cursor.new)) result (behind_line_in version cursor.old) }
+{
+    match version {
+        ImageVersion::First => Ok(None),
+        ImageVersion::Second => comment(alloc, cursor),
+    }
+}

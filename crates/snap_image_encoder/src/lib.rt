@@ -1,0 +1,6 @@
+//! Listings to images.
+#![tactic(auto)]
+
+mod encoder;
+
+pub use encoder::encode;

@@ -1,0 +1,2 @@
+pub mod ImageSamples
+pub mod CommentSamples

@@ -1,0 +1,56 @@
+//! How many parts an input has.
+ghost use Rattle.std.specs.Prelude.{◌≡◌, ◌≤◌, ◌<◌, ℕ, List, Err, length, map};
+ghost use Rattle.snap_semantics.specs.Answers.{Answers};
+ghost use Rattle.snap_semantics.specs.declared.fault.Fault.TheVariants.{Refused};
+ghost use Rattle.snap_semantics.specs.declared.refusal.Refusal.{Refusal};
+ghost use Rattle.snap_input.specs.Input.{checked_parts, counted_parts, texts_for};
+ghost use Rattle.snap_input.specs.Parts.{parts_of};
+
+use crate::parts::{count_separators, split_parts};
+use snap_semantics::{Fault, Refusal};
+use snap_tasks::Subject;
+use std::alloc::Global;
+
+/// The most bytes that an input may have.
+pub const MAX_INPUT: usize = 16_777_216;
+
+/// How many texts of so many parts stand behind the listing.
+pub fn count_texts(subject: Subject, parts: usize) -> usize
+    requires { 0 < parts }
+    ensures { (ps : List (List ℕ)) → parts ≡ length ps → result ≡ length (texts_for subject ps) }
+{
+    match subject {
+        Subject::FirstPart => parts - 1,
+        Subject::Shipped(_) => parts,
+    }
+}
+
+/// Whether so many texts stand behind the listing.
+fn check_parts(subject: Subject, count: usize, input: &[u8]) -> Result<(), Refusal>
+    requires { length input.now ≤ 16777216 }
+    ensures { result ≡ checked_parts subject count (parts_of input.now) }
+{
+    let found = count_separators(input) + 1;
+    if count_texts(subject, found) == count {
+        Ok(())
+    } else {
+        Err(Refusal::WrongParts(found as u64))
+    }
+}
+
+/// The parts of an input that has so many texts behind the listing. Another number of parts is found before they are
+/// collected.
+pub fn parts_for(
+    alloc: Global,
+    subject: Subject,
+    count: usize,
+    input: &[u8],
+) -> Result<Vec<&[u8]>, Fault<Refusal>>
+    requires { length input.now ≤ 16777216 }
+    ensures parts { Answers (λ parts. map (λ part. part.now) parts.items) result
+        (counted_parts subject count (parts_of input.now)) }
+    ensures counted { (r : Refusal) → checked_parts subject count (parts_of input.now) ≡ Err r → result ≡ Err (Refused r) }
+{
+    check_parts(subject, count, input)?;
+    Ok(split_parts(alloc, input)?)
+}

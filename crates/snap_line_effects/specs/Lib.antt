@@ -1,0 +1,4 @@
+pub mod TupleValues
+pub mod Lines
+pub mod Rows
+pub mod Sizes

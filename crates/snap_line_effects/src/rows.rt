@@ -1,0 +1,62 @@
+//! A row with the new values of its places.
+ghost use Rattle.std.specs.Prelude.{◌≡◌, [], ◌∷◌, ◌++◌, drop, IfOk, OnOk};
+ghost use Rattle.snap_asm_program.specs.NamedLines.{name_at, named_expr, named_where};
+ghost use Rattle.snap_line_effects.specs.Lines.{IfAnswered};
+ghost use Rattle.snap_line_effects.specs.Rows.{new_row, items_of};
+ghost use Rattle.snap_values.specs.Seen.{seen_context};
+
+use crate::lines::Halt;
+use snap_asm_program::{Program, SlotCondition, SlotExpr};
+use snap_values::{SlotProcess, StepContext, row, row_value};
+use snap_words::Kind;
+use std::alloc::{AllocError, Global};
+
+/// A row with the new values, and after them the old ones.
+pub fn new_row<K: Kind>(
+    alloc: Global,
+    program: &Program,
+    context: &StepContext,
+    process: &SlotProcess<K>,
+    count: u64,
+    slot: usize,
+    expr: &SlotExpr,
+    condition: &Option<SlotCondition>,
+) -> Result<Vec<u64>, Halt>
+    ensures { IfAnswered result (λ r.
+        items_of r ≡ new_row (seen_context K.as_word program.now context.now process.now)
+        count (name_at program.now.rows slot) (named_expr program.now expr.now) (named_where program.now condition.now)) }
+{
+    let old = row(program.rows(), process.rows.as_slice(), slot);
+    let mut values = room(alloc, old.len())?;
+    let mut there = *context;
+    for passed in 0..count {
+        there.place = passed + 1;
+        let value = row_value(program, &there, process, slot, expr, condition)?;
+        push(&mut values, value)?;
+    }
+    push_rest(&mut values, old, count)?;
+    Ok(values)
+}
+
+/// An empty row with room.
+fn room(alloc: Global, count: usize) -> Result<Vec<u64>, AllocError>
+    ensures { IfOk result (λ row. row.items ≡ []) }
+{
+    Vec::with_capacity(alloc, count)
+}
+
+/// A row with one number more.
+fn push(row: &mut Vec<u64>, value: u64) -> Result<(), AllocError>
+    ensures { OnOk result (row.new.items ≡ row.old.items ++ value ∷ []) }
+{
+    row.push(value)?;
+    Ok(())
+}
+
+/// A row with what another has after this many numbers.
+fn push_rest(row: &mut Vec<u64>, other: &[u64], count: u64) -> Result<(), AllocError>
+    ensures { OnOk result (row.new.items ≡ row.old.items ++ drop count other.now) }
+{
+    let from = (count as usize).min(other.len());
+    row.extend_from_slice(&other[from..])
+}

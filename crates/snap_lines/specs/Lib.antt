@@ -1,4 +1,0 @@
-pub mod Given
-pub mod Lines
-pub mod Rows
-pub mod Sizes

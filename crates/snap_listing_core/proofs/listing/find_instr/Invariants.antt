@@ -1,0 +1,9 @@
+use Rattle.std.proofs.Common.{◌≡◌, ◌-◌, drop, length}
+use Rattle.snap_semantics.specs.Source.{instr_at}
+use Rattle.snap_listing_core.proofs.listing.find_instr.Given as goal
+
+abbrev pub invariant-loop-k : goal.invariant-loop-k
+invariant-loop-k l = instr_at (drop l.k l.lines) l.number ≡ instr_at l.lines l.number
+
+abbrev pub decreases-loop-k : goal.decreases-loop-k
+decreases-loop-k l = length l.lines - l.k

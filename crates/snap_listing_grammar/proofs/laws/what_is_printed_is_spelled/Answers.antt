@@ -1,0 +1,5 @@
+use Rattle.snap_listing_grammar.proofs.Printed.{printed_spells}
+use Rattle.snap_listing_grammar.proofs.laws.what_is_printed_is_spelled.Goals as goal
+
+pub returns : goal.returns
+returns c = printed_spells

@@ -1,0 +1,5 @@
+use Rattle.snap_listing_grammar.proofs.SpelledLines.{read_is_spelled}
+use Rattle.snap_listing_grammar.proofs.laws.what_is_read_is_spelled.Goals as goal
+
+pub returns : goal.returns
+returns c = read_is_spelled

@@ -1,0 +1,5 @@
+use Rattle.snap_listing_grammar.proofs.OnlyCommented.{read_is_commented}
+use Rattle.snap_listing_grammar.proofs.laws.what_is_read_with_comments_is_a_listing.Goals as goal
+
+pub returns : goal.returns
+returns c = read_is_commented

@@ -1,0 +1,6 @@
+use Rattle.snap_listing_grammar.proofs.AgainForms.{line_again}
+use Rattle.snap_listing_grammar.proofs.ReadsAll.{reads_all_spelled_by}
+use Rattle.snap_listing_grammar.proofs.laws.what_is_spelled_is_read.Goals as goal
+
+pub returns : goal.returns
+returns c = reads_all_spelled_by line_again

@@ -1,0 +1,296 @@
+//! The spelling of a line of a listing, token by token: its indices, terms and conditions.
+ghost use Rattle.std.specs.Prelude.{◌≡◌, [], ◌∷◌, ◌++◌, OnOk};
+ghost use Rattle.snap_semantics.specs.declared.instr.Term.TheVariants as term;
+ghost use Rattle.snap_semantics.specs.ListingForms.{join_keyword};
+ghost use Rattle.snap_semantics.specs.Spelling.{spelled_index, spelled_place, field_keyword, spelled_term, spelled_expr, spelled_relation, spelled_comparison, spelled_condition, spelled_where, spelled_range, spelled_target, spelled_pair, in_brackets, in_parentheses};
+ghost use Rattle.snap_semantics.specs.Token.{Identifier, Number, Sign};
+ghost use Rattle.snap_text.specs.Tokens.{view_token, view_tokens};
+
+use snap_listing_core::join_keyword;
+use snap_semantics::{
+    Comparison, Condition, Expr, Index, Join, Name, Range, Relation, Symbol, Term,
+};
+use snap_text::Token;
+use snap_words::Field;
+use std::alloc::{AllocError, Global};
+use std::marker::Model;
+
+/// The tokens of a line, as far as it is spelled.
+#[derive(Drop)]
+pub struct Spelling<'a> {
+    tokens: Vec<Token<'a>>,
+}
+
+impl<'a> Model for Spelling<'a> {
+    ghost use Rattle.std.specs.Prelude.{List};
+    ghost use Rattle.snap_semantics.specs.Token.{Token};
+    ghost use Rattle.snap_text.specs.Tokens.{view_tokens};
+
+    ghost Value = { List Token };
+
+    ghost view = { λ s. view_tokens s.tokens.items };
+}
+
+/// The keyword of a field.
+fn field_keyword(field: Field) -> &'static [u8]
+    ensures { result.now ≡ field_keyword field }
+{
+    match field {
+        Field::Datum => b"data",
+        Field::Seq => b"seq",
+        Field::Id => b"id",
+        Field::Toggle => b"toggle",
+    }
+}
+
+/// The token of an index.
+fn index_token(index: &Index) -> Token<'_>
+    ensures { view_token result ∷ [] ≡ spelled_index index.now }
+{
+    match index {
+        Index::Number(number) => Token::Number(*number),
+        Index::Processes => Token::Identifier(b"n"),
+        Index::Words => Token::Identifier(b"w"),
+        Index::Me => Token::Identifier(b"me"),
+        Index::Word => Token::Identifier(b"word"),
+        Index::Place => Token::Sign(Symbol::At),
+        Index::Scalar(scalar) => Token::Identifier(scalar.letters()),
+    }
+}
+
+/// The symbol of a relation.
+fn relation_symbol(relation: Relation) -> Symbol
+    ensures { Sign result ≡ spelled_relation relation }
+{
+    match relation {
+        Relation::Equal => Symbol::Equal,
+        Relation::Different => Symbol::Different,
+        Relation::Less => Symbol::Less,
+    }
+}
+
+/// The keyword of a range.
+fn range_keyword(range: Range) -> &'static [u8]
+    ensures { Identifier result.now ≡ spelled_range range }
+{
+    match range {
+        Range::Processes => b"n",
+        Range::Words => b"w",
+    }
+}
+
+impl<'a> Spelling<'a> {
+    /// Nothing yet.
+    pub fn new(alloc: Global) -> Spelling<'a>
+        ensures { result ≡ [] }
+    {
+        Spelling {
+            tokens: Vec::new(alloc),
+        }
+    }
+
+    /// Its tokens.
+    pub fn tokens(&self) -> &[Token<'a>]
+        ensures { view_tokens result.now ≡ self.now }
+    {
+        self.tokens.as_slice()
+    }
+
+    /// An identifier.
+    pub fn push_identifier(&mut self, word: &'a [u8]) -> Result<(), AllocError>
+        ensures { OnOk result (self.new ≡ self.old ++ Identifier word.now ∷ []) }
+    {
+        self.tokens.push(Token::Identifier(word))?;
+        Ok(())
+    }
+
+    /// A number.
+    pub fn push_number(&mut self, number: u64) -> Result<(), AllocError>
+        ensures { OnOk result (self.new ≡ self.old ++ Number number ∷ []) }
+    {
+        self.tokens.push(Token::Number(number))?;
+        Ok(())
+    }
+
+    /// A symbol.
+    pub fn push_sign(&mut self, symbol: Symbol) -> Result<(), AllocError>
+        ensures { OnOk result (self.new ≡ self.old ++ Sign symbol ∷ []) }
+    {
+        self.tokens.push(Token::Sign(symbol))?;
+        Ok(())
+    }
+
+    /// A name.
+    pub fn push_name(&mut self, name: &'a Name) -> Result<(), AllocError>
+        ensures { OnOk result (self.new ≡ self.old ++ Identifier name.now ∷ []) }
+    {
+        self.push_identifier(name.letters())
+    }
+
+    /// An index.
+    pub fn push_index(&mut self, index: &'a Index) -> Result<(), AllocError>
+        ensures { OnOk result (self.new ≡ self.old ++ spelled_index index.now) }
+    {
+        self.tokens.push(index_token(index))?;
+        Ok(())
+    }
+
+    /// `[I]`.
+    pub fn push_bracketed(&mut self, index: &'a Index) -> Result<(), AllocError>
+        ensures { OnOk result (self.new ≡ self.old ++ in_brackets (spelled_index index.now)) }
+    {
+        self.push_sign(Symbol::OpenBracket)?;
+        self.push_index(index)?;
+        self.push_sign(Symbol::CloseBracket)
+    }
+
+    /// `[I,J]`.
+    pub fn push_pair(&mut self, first: &'a Index, second: &'a Index) -> Result<(), AllocError>
+        ensures { OnOk result (self.new ≡ self.old ++ spelled_pair first.now second.now) }
+    {
+        self.push_sign(Symbol::OpenBracket)?;
+        self.push_index(first)?;
+        self.push_sign(Symbol::Comma)?;
+        self.push_index(second)?;
+        self.push_sign(Symbol::CloseBracket)
+    }
+
+    /// A local and `[I]`.
+    pub fn push_place(&mut self, name: &'a Name, index: &'a Index) -> Result<(), AllocError>
+        ensures { OnOk result (self.new ≡ self.old ++ spelled_place name.now index.now) }
+    {
+        self.push_name(name)?;
+        self.push_bracketed(index)
+    }
+
+    /// `(W[I])`.
+    pub fn push_word_place(&mut self, words: &'a Name, index: &'a Index) -> Result<(), AllocError>
+        ensures { OnOk result (self.new ≡ self.old ++ in_parentheses (spelled_place words.now index.now)) }
+    {
+        self.push_sign(Symbol::OpenParenthesis)?;
+        self.push_place(words, index)?;
+        self.push_sign(Symbol::CloseParenthesis)
+    }
+
+    /// `handshake(W[I],J)`.
+    fn push_handshake(
+        &mut self,
+        words: &'a Name,
+        index: &'a Index,
+        handshake: &'a Index,
+    ) -> Result<(), AllocError>
+        ensures { OnOk result (self.new ≡ self.old ++ spelled_term (term.Handshake words.now index.now handshake.now)) }
+    {
+        self.push_identifier(b"hand")?;
+        self.push_sign(Symbol::OpenParenthesis)?;
+        self.push_place(words, index)?;
+        self.push_sign(Symbol::Comma)?;
+        self.push_index(handshake)?;
+        self.push_sign(Symbol::CloseParenthesis)
+    }
+
+    /// A term.
+    pub fn push_term(&mut self, term: &'a Term) -> Result<(), AllocError>
+        ensures { OnOk result (self.new ≡ self.old ++ spelled_term term.now) }
+    {
+        match term {
+            Term::Index(index) => self.push_index(index),
+            Term::Arg => self.push_identifier(b"arg"),
+            Term::Row(row, index) => self.push_place(row, index),
+            Term::Field(field, words, index) => {
+                self.push_identifier(field_keyword(*field))?;
+                self.push_word_place(words, index)
+            }
+            Term::Handshake(words, index, handshake) => self.push_handshake(
+                words, index, handshake,
+            ),
+        }
+    }
+
+    /// An expression.
+    pub fn push_expr(&mut self, expr: &'a Expr) -> Result<(), AllocError>
+        ensures { OnOk result (self.new ≡ self.old ++ spelled_expr expr.now) }
+    {
+        match expr {
+            Expr::Term(term) => self.push_term(term),
+            Expr::Sum(left, right) => {
+                self.push_term(left)?;
+                self.push_sign(Symbol::Plus)?;
+                self.push_term(right)
+            }
+            Expr::Not(term) => {
+                self.push_identifier(b"not")?;
+                self.push_term(term)
+            }
+        }
+    }
+
+    /// A comparison.
+    fn push_comparison(&mut self, comparison: &'a Comparison) -> Result<(), AllocError>
+        ensures { OnOk result (self.new ≡ self.old ++ spelled_comparison comparison.now) }
+    {
+        self.push_term(&comparison.left)?;
+        self.push_sign(relation_symbol(comparison.relation))?;
+        self.push_term(&comparison.right)
+    }
+
+    /// A comparison behind `and` or `or`.
+    fn push_joined(&mut self, join: Join, comparison: &'a Comparison) -> Result<(), AllocError>
+        ensures { OnOk result (self.new ≡ self.old ++ Identifier (join_keyword join) ∷ spelled_comparison comparison.now) }
+    {
+        self.push_identifier(join_keyword(join))?;
+        self.push_comparison(comparison)
+    }
+
+    /// A condition.
+    pub fn push_condition(&mut self, condition: &'a Condition) -> Result<(), AllocError>
+        ensures { OnOk result (self.new ≡ self.old ++ spelled_condition condition.now) }
+    {
+        match condition {
+            Condition::One(first) => self.push_comparison(first),
+            Condition::Two(join, first, second) => {
+                self.push_comparison(first)?;
+                self.push_joined(*join, second)
+            }
+            Condition::Three(join, first, second, third) => {
+                self.push_comparison(first)?;
+                self.push_joined(*join, second)?;
+                self.push_joined(*join, third)
+            }
+            Condition::Four(join, first, second, third, fourth) => {
+                self.push_comparison(first)?;
+                self.push_joined(*join, second)?;
+                self.push_joined(*join, third)?;
+                self.push_joined(*join, fourth)
+            }
+        }
+    }
+
+    /// `where C`, or nothing.
+    pub fn push_where(&mut self, condition: &'a Option<Condition>) -> Result<(), AllocError>
+        ensures { OnOk result (self.new ≡ self.old ++ spelled_where condition.now) }
+    {
+        match condition {
+            None => Ok(()),
+            Some(condition) => {
+                self.push_identifier(b"where")?;
+                self.push_condition(condition)
+            }
+        }
+    }
+
+    /// `n` or `w`.
+    pub fn push_range(&mut self, range: Range) -> Result<(), AllocError>
+        ensures { OnOk result (self.new ≡ self.old ++ spelled_range range ∷ []) }
+    {
+        self.push_identifier(range_keyword(range))
+    }
+
+    /// `goto N`.
+    pub fn push_target(&mut self, target: u64) -> Result<(), AllocError>
+        ensures { OnOk result (self.new ≡ self.old ++ spelled_target target) }
+    {
+        self.push_identifier(b"goto")?;
+        self.push_number(target)
+    }
+}

@@ -1,0 +1,6 @@
+-- The lines that were read are those of a listing.
+use Rattle.snap_listing_grammar.proofs.SpelledLines.{lines_are_listing}
+use Rattle.snap_listing_reader.proofs.reader.read.Goals as goal
+
+pub of-requires : goal.of-requires
+of-requires c = lines_are_listing c.args.text.now _ _ (rw c.new-texts.ensures at c.in_ok-header.ensures)

@@ -1,0 +1,251 @@
+//! Names, indices and terms at the front of the tokens of a line.
+ghost use Rattle.std.specs.Prelude.{◌≡◌};
+ghost use Rattle.snap_semantics.specs.ListingForms.{name_of_identifier, name_at, index_of_identifier, number_index, place_index, identifier_index, index_at, place_at, named_place_at, arg_term, row_term, field_of_keyword, field_term, handshake_term, index_term, term_at};
+ghost use Rattle.snap_text.specs.Tokens.{Finds, view_tokens};
+
+use snap_listing_core::is_reserved;
+use snap_semantics::{Index, Name, Symbol, Term};
+use snap_text::{Token, identifier_at, keyword_at, number_at, symbol_at};
+use snap_words::Field;
+
+/// An identifier in a name's place; of a long one the first nine letters.
+pub fn name_of_identifier(word: &[u8]) -> Option<Name>
+    ensures { result ≡ name_of_identifier word.now }
+{
+    if is_reserved(word) {
+        None
+    } else if word.len() <= 9 {
+        Some(Name::of(word))
+    } else {
+        Some(Name::of(&word[..9]))
+    }
+}
+
+/// A name.
+#[tactic(auto, unfolding(snap_semantics::specs::ListingForms::name_at))]
+pub fn name_at<'a, 'b>(tokens: &'a [Token<'b>]) -> Option<(Name, &'a [Token<'b>])>
+    ensures { Finds (λ x. (x.0, view_tokens x.1.now)) result (name_at (view_tokens tokens.now)) }
+{
+    let (word, rest) = identifier_at(tokens)?;
+    let name = name_of_identifier(word)?;
+    Some((name, rest))
+}
+
+/// The index that an identifier is.
+pub fn index_of_identifier(word: &[u8]) -> Option<Index>
+    ensures { result ≡ index_of_identifier word.now }
+{
+    if word == b"n".as_slice() {
+        Some(Index::Processes)
+    } else if word == b"w".as_slice() {
+        Some(Index::Words)
+    } else if word == b"me".as_slice() {
+        Some(Index::Me)
+    } else if word == b"word".as_slice() {
+        Some(Index::Word)
+    } else {
+        let name = name_of_identifier(word)?;
+        Some(Index::Scalar(name))
+    }
+}
+
+/// A number as an index.
+#[tactic(auto, unfolding(snap_semantics::specs::ListingForms::number_index))]
+pub fn number_index<'a, 'b>(tokens: &'a [Token<'b>]) -> Option<(Index, &'a [Token<'b>])>
+    ensures { Finds (λ x. (x.0, view_tokens x.1.now)) result (number_index (view_tokens tokens.now)) }
+{
+    let (number, rest) = number_at(tokens)?;
+    Some((Index::Number(number), rest))
+}
+
+/// `@`, where it may stand.
+#[tactic(auto, unfolding(snap_semantics::specs::ListingForms::place_index))]
+pub fn place_index<'a, 'b>(
+    in_quantifier: bool,
+    tokens: &'a [Token<'b>],
+) -> Option<(Index, &'a [Token<'b>])>
+    ensures { Finds (λ x. (x.0, view_tokens x.1.now)) result (place_index in_quantifier (view_tokens tokens.now)) }
+{
+    let rest = symbol_at(Symbol::At, tokens)?;
+    if in_quantifier {
+        Some((Index::Place, rest))
+    } else {
+        None
+    }
+}
+
+/// An identifier as an index.
+#[tactic(auto, unfolding(snap_semantics::specs::ListingForms::identifier_index))]
+pub fn identifier_index<'a, 'b>(tokens: &'a [Token<'b>]) -> Option<(Index, &'a [Token<'b>])>
+    ensures { Finds (λ x. (x.0, view_tokens x.1.now)) result (identifier_index (view_tokens tokens.now)) }
+{
+    let (word, rest) = identifier_at(tokens)?;
+    let index = index_of_identifier(word)?;
+    Some((index, rest))
+}
+
+/// An index.
+#[tactic(auto, unfolding(snap_semantics::specs::ListingForms::index_at))]
+pub fn index_at<'a, 'b>(
+    in_quantifier: bool,
+    tokens: &'a [Token<'b>],
+) -> Option<(Index, &'a [Token<'b>])>
+    ensures { Finds (λ x. (x.0, view_tokens x.1.now)) result (index_at in_quantifier (view_tokens tokens.now)) }
+{
+    if let Some(found) = number_index(tokens) {
+        return Some(found);
+    }
+    if let Some(found) = place_index(in_quantifier, tokens) {
+        return Some(found);
+    }
+    identifier_index(tokens)
+}
+
+/// `[I]`.
+#[tactic(auto, unfolding(snap_semantics::specs::ListingForms::place_at))]
+pub fn place_at<'a, 'b>(
+    in_quantifier: bool,
+    tokens: &'a [Token<'b>],
+) -> Option<(Index, &'a [Token<'b>])>
+    ensures { Finds (λ x. (x.0, view_tokens x.1.now)) result (place_at in_quantifier (view_tokens tokens.now)) }
+{
+    let rest = symbol_at(Symbol::OpenBracket, tokens)?;
+    let Some((index, rest)) = index_at(in_quantifier, rest) else {
+        return None;
+    };
+    let rest = symbol_at(Symbol::CloseBracket, rest)?;
+    Some((index, rest))
+}
+
+/// A local's name and `[I]`.
+#[tactic(auto, unfolding(snap_semantics::specs::ListingForms::named_place_at))]
+pub fn named_place_at<'a, 'b>(
+    in_quantifier: bool,
+    tokens: &'a [Token<'b>],
+) -> Option<((Name, Index), &'a [Token<'b>])>
+    ensures { Finds (λ x. (x.0, view_tokens x.1.now)) result (named_place_at in_quantifier (view_tokens tokens.now)) }
+{
+    let Some((name, rest)) = name_at(tokens) else {
+        return None;
+    };
+    let Some((index, rest)) = place_at(in_quantifier, rest) else {
+        return None;
+    };
+    Some(((name, index), rest))
+}
+
+/// `arg`.
+#[tactic(auto, unfolding(snap_semantics::specs::ListingForms::arg_term))]
+pub fn arg_term<'a, 'b>(tokens: &'a [Token<'b>]) -> Option<(Term, &'a [Token<'b>])>
+    ensures { Finds (λ x. (x.0, view_tokens x.1.now)) result (arg_term (view_tokens tokens.now)) }
+{
+    let rest = keyword_at(b"arg", tokens)?;
+    Some((Term::Arg, rest))
+}
+
+/// `R[I]`.
+#[tactic(auto, unfolding(snap_semantics::specs::ListingForms::row_term))]
+pub fn row_term<'a, 'b>(
+    in_quantifier: bool,
+    tokens: &'a [Token<'b>],
+) -> Option<(Term, &'a [Token<'b>])>
+    ensures { Finds (λ x. (x.0, view_tokens x.1.now)) result (row_term in_quantifier (view_tokens tokens.now)) }
+{
+    let Some(((name, index), rest)) = named_place_at(in_quantifier, tokens) else {
+        return None;
+    };
+    Some((Term::Row(name, index), rest))
+}
+
+/// The field of one number that an identifier names.
+pub fn field_of_keyword(word: &[u8]) -> Option<Field>
+    ensures { result ≡ field_of_keyword word.now }
+{
+    if word == b"seq".as_slice() {
+        Some(Field::Seq)
+    } else if word == b"data".as_slice() {
+        Some(Field::Datum)
+    } else if word == b"toggle".as_slice() {
+        Some(Field::Toggle)
+    } else if word == b"id".as_slice() {
+        Some(Field::Id)
+    } else {
+        None
+    }
+}
+
+/// `seq(W[I])`, and so `data`, `toggle` and `id`.
+#[tactic(auto, unfolding(snap_semantics::specs::ListingForms::field_term))]
+pub fn field_term<'a, 'b>(
+    in_quantifier: bool,
+    tokens: &'a [Token<'b>],
+) -> Option<(Term, &'a [Token<'b>])>
+    ensures { Finds (λ x. (x.0, view_tokens x.1.now)) result (field_term in_quantifier (view_tokens tokens.now)) }
+{
+    let (word, rest) = identifier_at(tokens)?;
+    let field = field_of_keyword(word)?;
+    let rest = symbol_at(Symbol::OpenParenthesis, rest)?;
+    let Some(((name, index), rest)) = named_place_at(in_quantifier, rest) else {
+        return None;
+    };
+    let rest = symbol_at(Symbol::CloseParenthesis, rest)?;
+    Some((Term::Field(field, name, index), rest))
+}
+
+/// `handshake(W[I],J)`.
+#[tactic(auto, unfolding(snap_semantics::specs::ListingForms::handshake_term))]
+pub fn handshake_term<'a, 'b>(
+    in_quantifier: bool,
+    tokens: &'a [Token<'b>],
+) -> Option<(Term, &'a [Token<'b>])>
+    ensures { Finds (λ x. (x.0, view_tokens x.1.now)) result (handshake_term in_quantifier (view_tokens tokens.now)) }
+{
+    let rest = keyword_at(b"hand", tokens)?;
+    let rest = symbol_at(Symbol::OpenParenthesis, rest)?;
+    let Some(((name, index), rest)) = named_place_at(in_quantifier, rest) else {
+        return None;
+    };
+    let rest = symbol_at(Symbol::Comma, rest)?;
+    let Some((handshake, rest)) = index_at(in_quantifier, rest) else {
+        return None;
+    };
+    let rest = symbol_at(Symbol::CloseParenthesis, rest)?;
+    Some((Term::Handshake(name, index, handshake), rest))
+}
+
+/// An index as a term.
+#[tactic(auto, unfolding(snap_semantics::specs::ListingForms::index_term))]
+pub fn index_term<'a, 'b>(
+    in_quantifier: bool,
+    tokens: &'a [Token<'b>],
+) -> Option<(Term, &'a [Token<'b>])>
+    ensures { Finds (λ x. (x.0, view_tokens x.1.now)) result (index_term in_quantifier (view_tokens tokens.now)) }
+{
+    let Some((index, rest)) = index_at(in_quantifier, tokens) else {
+        return None;
+    };
+    Some((Term::Index(index), rest))
+}
+
+/// A term.
+#[tactic(auto, unfolding(snap_semantics::specs::ListingForms::term_at))]
+pub fn term_at<'a, 'b>(
+    in_quantifier: bool,
+    tokens: &'a [Token<'b>],
+) -> Option<(Term, &'a [Token<'b>])>
+    ensures { Finds (λ x. (x.0, view_tokens x.1.now)) result (term_at in_quantifier (view_tokens tokens.now)) }
+{
+    if let Some(found) = arg_term(tokens) {
+        return Some(found);
+    }
+    if let Some(found) = row_term(in_quantifier, tokens) {
+        return Some(found);
+    }
+    if let Some(found) = field_term(in_quantifier, tokens) {
+        return Some(found);
+    }
+    if let Some(found) = handshake_term(in_quantifier, tokens) {
+        return Some(found);
+    }
+    index_term(in_quantifier, tokens)
+}

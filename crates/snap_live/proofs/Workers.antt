@@ -1,0 +1,378 @@
+-- What all workers together did.
+use Rattle.std.proofs.Common.{◌≡◌, ◌⊎◌, ℕ, zero, suc, ◌+◌, ◌-◌, ◌*◌, ◌<◌, ◌≤◌, List, [], ◌∷◌, ◌++◌, length, map, get_or, refl, sym, ap, ◌∙◌, subst, ⊎_elim, inl, inr, arith, Bool, true, false, Option, Some, None, eq-eqb, length-append}
+use Rattle.std.specs.Prelude.{All, nat_eq}
+use Rattle.std.specs.List.{AllByRecursion}
+use mathlib.Core.Logic.{dite}
+use native.Mathlib.Decide.{ℕ_discrete}
+use Rattle.snap_semantics.specs.declared.process.Item.{Item}
+use Rattle.snap_live_desk.specs.declared.seat_state.Setting.{Setting}
+use Rattle.snap_live_desk.specs.declared.seat_state.OwnTurn.{OwnTurn}
+use Rattle.snap_live_desk.specs.declared.seat.Turn.{Turn}
+use Rattle.snap_live.specs.declared.worker.Stop.{Stop}
+use Rattle.snap_live.specs.declared.worker.Stop.TheVariants.{TurnLimit, Full, Memory}
+use Rattle.snap_semantics.specs.declared.fault.Fault.{Fault}
+use Rattle.snap_semantics.specs.declared.fault.Fault.TheVariants as fault
+use Rattle.snap_live_desk.specs.declared.refusal.LiveRefusal.{LiveRefusal}
+use Rattle.snap_live_desk.specs.declared.refusal.LiveRefusal.TheVariants as refusal
+use Rattle.snap_semantics.specs.State.{State, initial}
+use Rattle.snap_runs.specs.Run.{Run}
+use Rattle.snap_words.specs.Shape.{IsOneOf}
+use Rattle.snap_semantics.specs.Table.{who, done}
+use Rattle.snap_live_desk.specs.Turns.{setting_of, own_turn, put_if, turns_of, turns_from}
+use Rattle.snap_live.specs.Play.{IsPlay, IsBegun}
+use Rattle.snap_sched.specs.ScriptText.{Script}
+use Rattle.snap_live.specs.Script.{script_at}
+use Rattle.snap_live_desk.specs.Shown.{DeskView, SeatView, Keeps, seat_of, seats_of}
+use Rattle.snap_live_desk.specs.Closed.{HasSeat, IsLeastMissing, NamesMissing}
+use Rattle.snap_live.specs.Worker.{shown, MayRefuse, Stopped, Ended, WorkedView, IsWorked}
+use Rattle.snap_live.specs.LiveRun.{turns_at, Played, IsLive, MayFault, or_first, first_stop, then_first, fault_of, AllWorked}
+use Rattle.snap_live_desk.proofs.Joins.{prefix_length}
+use Rattle.snap_live_desk.proofs.Gathered.{has_at}
+use Rattle.snap_live.proofs.Handles.{map_at, map_length, any_default}
+
+-- new seats
+
+at_left : {A : Type 0} (xs : List A) (x : A) (k : ℕ) (d : A) → k < length xs → get_or (xs ++ x ∷ []) k d ≡ get_or xs k d
+at_left [] x k d lt = absurd (omega arith)
+at_left (y ∷ ys) x zero d lt = refl
+at_left (y ∷ ys) x (suc k) d lt = at_left ys x k d (omega arith)
+
+at_last : {A : Type 0} (xs : List A) (x : A) (d : A) → get_or (xs ++ x ∷ []) (length xs) d ≡ x
+at_last [] x d = refl
+at_last (y ∷ ys) x d = at_last ys x d
+
+pub seats_length : (d : DeskView) (n : ℕ) → length (seats_of d n) ≡ n
+seats_length d zero = refl
+seats_length d (suc n) = length-append (seats_of d n) (seat_of d (suc n) ∷ []) ∙ (let e = seats_length d n in omega arith)
+
+pub seats_at : (d : DeskView) (n k : ℕ) (s : SeatView) → k < n → get_or (seats_of d n) k s ≡ seat_of d (k + 1)
+seats_at d zero k s lt = absurd (omega arith)
+seats_at d (suc n) k s lt =
+    let len = seats_length d n in
+    dite (ℕ_discrete k n)
+    (λ e.
+    let at : k ≡ length (seats_of d n) = e ∙ sym len in
+    ap (λ (j : ℕ). get_or (seats_of d n ++ seat_of d (suc n) ∷ []) j s) at ∙ at_last (seats_of d n) (seat_of d (suc n)) s
+    ∙ ap (seat_of d) (let m : suc n ≡ k + 1 = omega arith in m))
+    (λ ne. at_left (seats_of d n) (seat_of d (suc n)) k s (omega arith) ∙ seats_at d n k s (omega arith))
+
+-- what start_all asks of each seat
+pub new_seats : (d : DeskView) (n : ℕ) (ss : List SeatView) → ss ≡ seats_of d n → All (λ (s : SeatView). (s ≡ seat_of d s.process) × IsOneOf n s.process) ss
+new_seats d n ss e k s lt =
+    let len : length ss ≡ n = ap (λ (l : List SeatView). length l) e ∙ seats_length d n in
+    let at : get_or ss k s ≡ seat_of d (k + 1) = ap (λ (l : List SeatView). get_or l k s) e ∙ seats_at d n k s (omega arith) in
+    subst (λ (v : SeatView). (v ≡ seat_of d v.process) × IsOneOf n v.process) (sym at) (refl, (omega arith, omega arith))
+
+-- what the handles promise of all workers, as their handles' parts say it
+pub workers_of : {H M : Type 0} (seat_in : H → SeatView) (script_in : H → Script) (gate_in : H → M) (limit_in : H → ℕ) (may : M → ℕ → ℕ → Type 0)
+    (desk : DeskView) (scripts : List Script) (limit : ℕ) (gate : M) (ss : List SeatView) (hs : List H) (ws : List WorkedView)
+    → ss ≡ seats_of desk (length scripts) → map seat_in hs ≡ ss → map script_in hs ≡ map (λ (s : SeatView). script_at scripts (s.process - 1)) ss
+    → All (λ (h : H). gate_in h ≡ gate) hs → All (λ (h : H). limit_in h ≡ limit) hs
+    → length ws ≡ length hs
+    → ((k : ℕ) (w : WorkedView) → k < length hs → (h : H) × (h ≡ get_or hs k h) × IsWorked (may (gate_in h)) (seat_in h).desk (seat_in h).process (script_in h) (limit_in h) (get_or ws k w))
+    → AllWorked (may gate) desk scripts limit ws
+workers_of {H = H} {M = M} seat_in script_in gate_in limit_in may desk scripts limit gate ss hs ws new seats script gates limits len each =
+    let n : ℕ = length scripts in
+    let handles : length hs ≡ n = sym (map_length seat_in hs) ∙ ap (λ (l : List SeatView). length l) (seats ∙ new) ∙ seats_length desk n in record {
+      each_process = len ∙ handles;
+      worked = λ k w lt.
+          let below : k < length hs = omega arith in
+          let r = each k w below in
+          let h = r.0 in
+          let seat : seat_in h ≡ seat_of desk (k + 1) =
+          ap seat_in r.1 ∙ sym (map_at seat_in hs k h) ∙ ap (λ (l : List SeatView). get_or l k (seat_in h)) (seats ∙ new) ∙ seats_at desk n k (seat_in h) lt in
+          let of_script : SeatView → Script = λ s. script_at scripts (s.process - 1) in
+          let in_seats : k < length (map of_script ss) = (let a = map_length of_script ss in let b = ap (λ (l : List SeatView). length l) new in let c = seats_length desk n in omega arith) in
+          let x : SeatView = seat_of desk 0 in
+          let same : (k + 1) - 1 ≡ k = omega arith in
+          let script_is : script_in h ≡ script_at scripts k =
+          ap script_in r.1 ∙ sym (map_at script_in hs k h) ∙ ap (λ (l : List Script). get_or l k (script_in h)) script
+          ∙ any_default (map of_script ss) k (script_in h) (of_script x) in_seats
+          ∙ map_at of_script ss k x ∙ ap of_script (ap (λ (l : List SeatView). get_or l k x) new ∙ seats_at desk n k x lt) ∙ ap (script_at scripts) same in
+          let gate_is : gate_in h ≡ gate = ap gate_in r.1 ∙ gates k h below in
+          let limit_is : limit_in h ≡ limit = ap limit_in r.1 ∙ limits k h below in
+          let v = get_or ws k w in
+          subst (λ (m : M). IsWorked (may m) desk (k + 1) (script_at scripts k) limit v) gate_is
+          (subst (λ (l : ℕ). IsWorked (may (gate_in h)) desk (k + 1) (script_at scripts k) l v) limit_is
+          (subst (λ (t : Script). IsWorked (may (gate_in h)) desk (k + 1) t (limit_in h) v) script_is
+          (subst (λ (s : SeatView). IsWorked (may (gate_in h)) s.desk s.process (script_in h) (limit_in h) v) seat r.2)));
+    }
+
+-- the first stop
+
+or_then : (p q : ℕ) (o r : Option Stop) (l : Option (ℕ × Stop)) → or_first p o (then_first l q r) ≡ then_first (or_first p o l) q r
+or_then p q None r l = refl
+or_then p q (Some f) r l = refl
+
+pub first-push : (ws : List WorkedView) (w : WorkedView) → first_stop (ws ++ w ∷ []) ≡ then_first (first_stop ws) w.seat.process w.stop
+first-push [] w = refl
+first-push (v ∷ vs) w = ap (or_first v.seat.process v.stop) (first-push vs w) ∙ or_then v.seat.process w.seat.process v.stop w.stop (first_stop vs)
+
+none_first : (p : ℕ) (o : Option Stop) (l : Option (ℕ × Stop)) → or_first p o l ≡ None → (o ≡ None) × (l ≡ None)
+none_first p None l e = (refl, e)
+none_first p (Some f) l e = absurd (cc)
+
+no_stop : (ws : List WorkedView) (k : ℕ) (d : WorkedView) → first_stop ws ≡ None → k < length ws → (get_or ws k d).stop ≡ None
+no_stop [] k d e lt = absurd (omega arith)
+no_stop (w ∷ ws) zero d e lt = (none_first w.seat.process w.stop (first_stop ws) e).0
+no_stop (w ∷ ws) (suc k) d e lt = no_stop ws k d (none_first w.seat.process w.stop (first_stop ws) e).1 (omega arith)
+
+-- whose stop it is
+abbrev Stopping : List WorkedView → ℕ × Stop → Type 0
+Stopping ws pf = (k : ℕ) × (k < length ws) × ((d : WorkedView) → ((get_or ws k d).seat.process ≡ pf.0) × ((get_or ws k d).stop ≡ Some pf.1))
+
+some_first : (p : ℕ) (o : Option Stop) (l : Option (ℕ × Stop)) (pf : ℕ × Stop) → or_first p o l ≡ Some pf → ((p ≡ pf.0) × (o ≡ Some pf.1)) ⊎ (l ≡ Some pf)
+some_first p None l pf e = inr e
+some_first p (Some f) l pf e = let s : (p, f) ≡ pf = cc in inl (ap (λ (x : ℕ × Stop). x.0) s, ap (λ (x : ℕ × Stop). Some x.1) s)
+
+a_stop : (ws : List WorkedView) (pf : ℕ × Stop) → first_stop ws ≡ Some pf → Stopping ws pf
+a_stop [] pf e = absurd (cc)
+a_stop (w ∷ ws) pf e =
+    ⊎_elim
+    (λ (h : (w.seat.process ≡ pf.0) × (w.stop ≡ Some pf.1)). (0, omega arith, λ d. h))
+    (λ (m : first_stop ws ≡ Some pf). let r = a_stop ws pf m in (suc r.0, (let lt = r.1 in omega arith), r.2))
+    (some_first w.seat.process w.stop (first_stop ws) pf e)
+
+-- how often a process has an item
+
+one_if : Bool → ℕ
+one_if true = 1
+one_if false = 0
+
+put_length : (c : Bool) (t : OwnTurn) (ts : List OwnTurn) → length (put_if c t ts) ≡ length ts + one_if c
+unfolding one_if
+put_length true t ts = omega arith
+put_length false t ts = omega arith
+
+-- how many turns a process has does not hang on the state
+same_times : (base : Setting) (S T : State) (k l p : ℕ) (xs : List Item) → length (turns_from base S k p xs) ≡ length (turns_from base T l p xs)
+same_times base S T k l p [] = refl
+same_times base S T k l p (x ∷ xs) =
+    let a = done base.source base.shape S x in let b = done base.source base.shape T x in
+    let here = put_length (nat_eq p (who x)) (own_turn (k + 1) x a.1) (turns_from base a.0 (k + 1) p xs) in
+    let there = put_length (nat_eq p (who x)) (own_turn (l + 1) x b.1) (turns_from base b.0 (l + 1) p xs) in
+    let more = same_times base a.0 b.0 (k + 1) (l + 1) p xs in omega arith
+
+-- the items of processes 1 to n
+counted : Setting → State → ℕ → List Item → ℕ
+counted base S zero xs = 0
+counted base S (suc n) xs = counted base S n xs + length (turns_from base S 0 (suc n) xs)
+
+hits : ℕ → ℕ → ℕ
+hits zero w = 0
+hits (suc n) w = hits n w + one_if (nat_eq (suc n) w)
+
+counted-cons : (base : Setting) (S : State) (n : ℕ) (x : Item) (xs : List Item)
+    → counted base S n (x ∷ xs) ≡ counted base (done base.source base.shape S x).0 n xs + hits n (who x)
+unfolding counted hits
+counted-cons base S zero x xs = refl
+counted-cons base S (suc n) x xs =
+    let d = done base.source base.shape S x in
+    let a = counted-cons base S n x xs in
+    let b = put_length (nat_eq (suc n) (who x)) (own_turn 1 x d.1) (turns_from base d.0 1 (suc n) xs) in
+    let c = same_times base d.0 d.0 1 0 (suc n) xs in omega arith
+
+hit_one : (n w : ℕ) → IsOneOf n w → 1 ≤ hits n w
+unfolding hits one_if
+hit_one zero w b = absurd (omega (arith, b.0, b.1))
+hit_one (suc n) w b = dite (ℕ_discrete (suc n) w)
+    (λ e. let t : one_if (nat_eq (suc n) w) ≡ 1 = ap one_if (eq-eqb (suc n) w e) in omega arith)
+    (λ ne. let h = hit_one n w (b.0, (let le = b.1 in omega arith)) in omega arith)
+
+all_counted : (base : Setting) (S : State) (n : ℕ) (xs : List Item) → AllByRecursion (λ (x : Item). IsOneOf n (who x)) xs → length xs ≤ counted base S n xs
+all_counted base S n [] all = omega arith
+all_counted base S n (x ∷ xs) all =
+    let e = counted-cons base S n x xs in let h = hit_one n (who x) all.0 in
+    let r = all_counted base (done base.source base.shape S x).0 n xs all.1 in omega arith
+
+-- where each process has at most so many, and one has fewer
+counted_few : (base : Setting) (S : State) (n limit : ℕ) (xs : List Item)
+    → ((p : ℕ) → IsOneOf n p → length (turns_from base S 0 p xs) ≤ limit) → counted base S n xs ≤ n * limit
+unfolding counted
+counted_few base S zero limit xs each = omega arith
+counted_few base S (suc n) limit xs each =
+    let r = counted_few base S n limit xs (λ p b. each p (b.0, (let le = b.1 in omega arith))) in
+    let h = each (suc n) (omega arith, omega arith) in omega arith
+
+counted_fewer : (base : Setting) (S : State) (n limit q : ℕ) (xs : List Item)
+    → ((p : ℕ) → IsOneOf n p → length (turns_from base S 0 p xs) ≤ limit) → IsOneOf n q → length (turns_from base S 0 q xs) < limit → counted base S n xs < n * limit
+unfolding counted
+counted_fewer base S zero limit q xs each one few = absurd (omega (arith, one.0, one.1))
+counted_fewer base S (suc n) limit q xs each one few =
+    let down : (p : ℕ) → IsOneOf n p → length (turns_from base S 0 p xs) ≤ limit = λ p b. each p (b.0, (let le = b.1 in omega arith)) in
+    dite (ℕ_discrete q (suc n))
+    (λ e.
+    let r = counted_few base S n limit xs down in
+    let h : length (turns_from base S 0 (suc n) xs) < limit = subst (λ (k : ℕ). length (turns_from base S 0 k xs) < limit) e few in omega arith)
+    (λ ne.
+    let r = counted_fewer base S n limit q xs down (one.0, (let le = one.1 in omega arith)) few in
+    let h = each (suc n) (omega arith, omega arith) in omega arith)
+
+pub few_items : (base : Setting) (limit q : ℕ) (xs : List Item) → AllByRecursion (λ (x : Item). IsOneOf base.shape.n (who x)) xs
+    → ((p : ℕ) → IsOneOf base.shape.n p → length (turns_of base p xs) ≤ limit) → IsOneOf base.shape.n q → length (turns_of base q xs) < limit
+    → length xs < base.shape.n * limit
+few_items base limit q xs all each one few =
+    let S = initial base.source base.shape in
+    let a = all_counted base S base.shape.n xs all in
+    let b = counted_fewer base S base.shape.n limit q xs each one few in omega arith
+
+-- the seats that the workers hand back
+
+abbrev idle : SeatView → WorkedView
+idle s = record { seat = s; turns = []; stop = None }
+
+abbrev seat_in : WorkedView → SeatView
+seat_in w = w.seat
+
+abbrev turns_told : WorkedView → List Turn
+turns_told w = w.turns
+
+module _ (may : ℕ → ℕ → Type 0) (desk : DeskView) (scripts : List Script) (limit : ℕ) (ws : List WorkedView) (workers_joined : AllWorked may desk scripts limit ws) where
+  seat_at : (k : ℕ) (d : SeatView) → get_or (map seat_in ws) k d ≡ (get_or ws k (idle d)).seat
+  seat_at k d = map_at seat_in ws k (idle d)
+
+  seat_count : length (map seat_in ws) ≡ length scripts
+  seat_count = map_length seat_in ws ∙ workers_joined.each_process
+
+  pub at_desk : All (λ (s : SeatView). s.desk ≡ desk) (map seat_in ws)
+  at_desk k d lt =
+      let w = get_or ws k (idle d) in
+      let n = seat_count in
+      subst (λ (s : SeatView). s.desk ≡ desk) (sym (seat_at k d)) (workers_joined.worked k (idle d) (omega arith)).kept.at_desk
+
+  pub everybody : (p : ℕ) → IsOneOf (length scripts) p → HasSeat p (map seat_in ws)
+  everybody p one =
+      let k : ℕ = p - 1 in
+      let d : SeatView = seat_of desk 0 in
+      let n = seat_count in
+      let a = one.0 in let b = one.1 in
+      let lt : k < length scripts = omega arith in
+      let same : k + 1 ≡ p = omega arith in
+      has_at p k (map seat_in ws) d (omega arith) (ap (λ (s : SeatView). s.process) (seat_at k d) ∙ (workers_joined.worked k (idle d) lt).kept.of_process ∙ same)
+
+  module _ (items : List Item) (keeps : All (Keeps desk.base items) (map seat_in ws)) where
+    -- the turns of worker k are the items of its process
+    own_is : (k : ℕ) (d : SeatView) → k < length scripts → turns_of desk.base (k + 1) items ≡ (get_or ws k (idle d)).seat.own
+    own_is k d lt =
+        let w = get_or ws k (idle d) in
+        let n = seat_count in
+        let h : Keeps desk.base items w.seat = subst (λ (s : SeatView). Keeps desk.base items s) (seat_at k d) (keeps k d (omega arith)) in
+        ap (λ (p : ℕ). turns_of desk.base p items) (sym (workers_joined.worked k (idle d) lt).kept.of_process) ∙ h.1
+
+    few_own : (p : ℕ) → IsOneOf (length scripts) p → length (turns_of desk.base p items) ≤ limit
+    few_own p one =
+        let k : ℕ = p - 1 in
+        let d : SeatView = seat_of desk 0 in
+        let a = one.0 in let b = one.1 in
+        let lt : k < length scripts = omega arith in
+        let same : k + 1 ≡ p = omega arith in
+        let e = ap (λ (l : List OwnTurn). length l) (own_is k d lt) in
+        let few = (workers_joined.worked k (idle d) lt).kept.few in
+        subst (λ (q : ℕ). length (turns_of desk.base q items) ≤ limit) same (omega arith)
+
+    pub plays_all : first_stop ws ≡ None → (k : ℕ) → k < length scripts → Played desk.base items (k + 1) (script_at scripts k) limit (turns_at (map turns_told ws) k)
+    plays_all none k lt =
+        let d : SeatView = seat_of desk 0 in
+        let w = get_or ws k (idle d) in
+        let r = workers_joined.worked k (idle d) lt in
+        let e = own_is k d lt in
+        let n = workers_joined.each_process in
+        let ended : Ended may (script_at scripts k) limit w.seat None = subst (λ (o : Option Stop). Ended may (script_at scripts k) limit w.seat o) (no_stop ws k (idle d) none (omega arith)) r.ended in record {
+          told = map_at turns_told ws k (idle d) ∙ r.kept.told ∙ ap (map shown) (sym e);
+          plays = subst (λ (l : List OwnTurn). IsPlay (script_at scripts k) l) (sym e) ended;
+          few = subst (λ (l : List OwnTurn). length l ≤ limit) (sym e) r.kept.few;
+        }
+
+    pub faults : (pf : ℕ × Stop) → first_stop ws ≡ Some pf → (k : ℕ) × (k < length scripts) × (pf.0 ≡ k + 1) × Stopped may (script_at scripts k) limit (get_or ws k (idle (seat_of desk 0))).seat pf.1
+    faults pf e =
+        let d : SeatView = seat_of desk 0 in
+        let a = a_stop ws pf e in
+        let k = a.0 in
+        let n = workers_joined.each_process in
+        let lt : k < length scripts = (let l = a.1 in omega arith) in
+        let r = workers_joined.worked k (idle d) lt in
+        let at = a.2 (idle d) in
+        (k, lt, sym at.0 ∙ r.kept.of_process, subst (λ (o : Option Stop). Ended may (script_at scripts k) limit (get_or ws k (idle d)).seat o) at.1 r.ended)
+
+    pub limit_fault : length scripts ≡ desk.base.shape.n → (p : ℕ) → first_stop ws ≡ Some (p, TurnLimit) → MayFault may desk.base scripts limit (fault.Refused (refusal.TurnLimit p))
+    limit_fault n p e =
+        let d : SeatView = seat_of desk 0 in
+        let f = faults (p, TurnLimit) e in
+        let k = f.0 in
+        let w = get_or ws k (idle d) in
+        let r = (workers_joined.worked k (idle d) f.1).kept in
+        let q : p ≡ k + 1 = f.2 in
+        let lt = f.1 in
+        let back : p - 1 ≡ k = omega arith in
+        let here : w.seat.process ≡ p = r.of_process ∙ sym q in
+        let found : w.seat.own ≡ turns_of desk.base p w.seat.seen = r.found ∙ ap (λ (x : ℕ). turns_of desk.base x w.seat.seen) (sym q) in (
+          (omega arith, omega arith),
+          ⊎_elim
+              (λ (m : MayRefuse may w.seat.process limit). inl (subst (λ (x : ℕ). MayRefuse may x limit) here m))
+              (λ (b : (length w.seat.own ≡ limit) × IsBegun (script_at scripts k) w.seat.own). inr (record {
+                items = w.seat.seen;
+                reached = ap (λ (l : List OwnTurn). length l) (sym found) ∙ b.0;
+                begun = subst (λ (x : ℕ). IsBegun (script_at scripts x) (turns_of desk.base p w.seat.seen)) (sym back) (subst (λ (l : List OwnTurn). IsBegun (script_at scripts k) l) found b.1);
+              }))
+              f.3,
+        )
+
+    pub full_fault : length scripts ≡ desk.base.shape.n → AllByRecursion (λ (x : Item). IsOneOf desk.base.shape.n (who x)) items → (p : ℕ) → first_stop ws ≡ Some (p, Full) → MayFault may desk.base scripts limit (fault.Refused (refusal.Full 1000000))
+    full_fault n all p e =
+        let d : SeatView = seat_of desk 0 in
+        let f = faults (p, Full) e in
+        let k = f.0 in
+        let lt = f.1 in
+        let w = get_or ws k (idle d) in
+        let c = seat_count in
+        let h : Keeps desk.base items w.seat = subst (λ (s : SeatView). Keeps desk.base items s) (seat_at k d) (keeps k d (omega arith)) in
+        let longer : length w.seat.seen ≤ length items = prefix_length w.seat.seen items h.0 in
+        let own : length (turns_of desk.base (k + 1) items) < limit = subst (λ (l : List OwnTurn). length l < limit) (sym (own_is k d lt)) f.3.1 in
+        let every : (q : ℕ) → IsOneOf desk.base.shape.n q → length (turns_of desk.base q items) ≤ limit = λ q one. few_own q (one.0, (let le = one.1 in omega arith)) in
+        let few = few_items desk.base limit (k + 1) items all every (omega arith, omega arith) own in
+        let full = f.3.0 in
+        (refl, omega arith)
+
+-- the run, as its caller sees it
+
+module _ (may : ℕ → ℕ → Type 0) (desk : DeskView) (base : Setting) (scripts : List Script) (limit : ℕ) (ws : List WorkedView) (workers_joined : AllWorked may desk scripts limit ws)
+    (of_base : desk.base ≡ base) (n : length scripts ≡ base.shape.n) (ss : List SeatView) (seats : ss ≡ map seat_in ws) where
+  many : length scripts ≡ desk.base.shape.n
+  many = n ∙ sym (ap (λ (b : Setting). b.shape.n) of_base)
+
+  nobody_least : (p : ℕ) → IsLeastMissing p desk.base.shape.n ss → ⊥
+  nobody_least p m =
+      m.missing (subst (λ (l : List SeatView). HasSeat p l) (sym seats) (everybody may desk scripts limit ws workers_joined p (subst (λ (k : ℕ). IsOneOf k p) (sym many) m.one)))
+
+  pub nobody_missing : (f : Fault LiveRefusal) → NamesMissing f desk.base.shape.n ss → ⊥
+  nobody_missing fault.Memory m = m
+  nobody_missing (fault.Refused (refusal.Full k)) m = m
+  nobody_missing (fault.Refused (refusal.TurnLimit p)) m = m
+  nobody_missing (fault.Refused (refusal.SeatMissing p)) m = nobody_least p m
+
+  module _ (kept : Run) (kept_base : setting_of kept ≡ desk.base) (keeps : All (Keeps desk.base kept.items) ss) where
+    all_kept : All (Keeps desk.base kept.items) (map seat_in ws)
+    all_kept = subst (λ (l : List SeatView). All (Keeps desk.base kept.items) l) seats keeps
+
+    pub run_ends : (turns : List (List Turn)) → turns ≡ map turns_told ws → first_stop ws ≡ None → IsLive base scripts limit kept turns
+    run_ends turns told none =
+        subst (λ (b : Setting). IsLive b scripts limit kept turns) of_base (record {
+          of_base = kept_base;
+          each_process = ap (λ (l : List (List Turn)). length l) told ∙ map_length turns_told ws ∙ workers_joined.each_process ∙ many;
+          played = λ k lt.
+              subst (λ (l : List (List Turn)). Played desk.base kept.items (k + 1) (script_at scripts k) limit (turns_at l k)) (sym told)
+              (plays_all may desk scripts limit ws workers_joined kept.items all_kept none k (subst (λ (m : ℕ). k < m) (sym many) lt));
+        })
+
+    run_limited : (p : ℕ) → first_stop ws ≡ Some (p, TurnLimit) → MayFault may base scripts limit (fault.Refused (refusal.TurnLimit p))
+    run_limited p e = subst (λ (b : Setting). MayFault may b scripts limit (fault.Refused (refusal.TurnLimit p))) of_base (limit_fault may desk scripts limit ws workers_joined kept.items all_kept many p e)
+
+    run_full : (p : ℕ) → AllByRecursion (λ (x : Item). IsOneOf kept.shape.n (who x)) kept.items → first_stop ws ≡ Some (p, Full) → MayFault may base scripts limit (fault.Refused (refusal.Full 1000000))
+    run_full p all e =
+        subst (λ (b : Setting). MayFault may b scripts limit (fault.Refused (refusal.Full 1000000))) of_base
+        (full_fault may desk scripts limit ws workers_joined kept.items all_kept many (subst (λ (b : Setting). AllByRecursion (λ (x : Item). IsOneOf b.shape.n (who x)) kept.items) kept_base all) p e)
+
+    pub run_faults : AllByRecursion (λ (x : Item). IsOneOf kept.shape.n (who x)) kept.items → (p : ℕ) (f : Stop) → first_stop ws ≡ Some (p, f) → MayFault may base scripts limit (fault_of p f)
+    run_faults all p Memory e = tt
+    run_faults all p Full e = run_full p all e
+    run_faults all p TurnLimit e = run_limited p e

@@ -1,6 +1,0 @@
-use Rattle.std.proofs.Common.{ℕ, ◌≤◌}
-use Rattle.snap_live.specs.Closed.{HasSeat}
-use Rattle.snap_live.proofs.closing.first_missing.Given as goal
-
-abbrev pub invariant-loop-process : goal.invariant-loop-process
-invariant-loop-process g l = (p : ℕ) → 1 ≤ p → p ≤ l.process → HasSeat p l.seats

@@ -1,6 +1,0 @@
-use Rattle.std.proofs.Common.{rules}
-use Rattle.snap_live.proofs.Moves.{front}
-use Rattle.snap_live.proofs.steps.take.Goals as goal
-
-pub exchange-requires : goal.exchange-requires
-exchange-requires g c = (search rules, front c.args.seat.now.me c.requires.has)

@@ -1,0 +1,275 @@
+//! Workers in threads, each with one seat.
+ghost use Rattle.std.specs.Prelude.{◌≡◌, ℕ, ◌+◌, ◌-◌, ◌*◌, ◌^◌, ◌<◌, ◌≤◌, [], ◌∷◌, length, vec_len, vec_items, All, map, slice_index_or, IfOk, IfErr, Some, None};
+ghost use Rattle.snap_words.specs.Shape.{IsOneOf};
+ghost use Rattle.snap_live_desk.specs.declared.seat_state.Setting.{Setting};
+ghost use Rattle.snap_live.specs.Script.{script_at};
+ghost use Rattle.snap_live_desk.specs.Shown.{seat_of, seats_of};
+ghost use Rattle.snap_live.specs.Worker.{IsWorked, WorkedView};
+ghost use Rattle.snap_live.specs.LiveRun.{AllWorked, IsLive, MayFault, first_stop, then_first, fault_of};
+
+use crate::gate::Gate;
+use crate::worker::{Stop, Worked, work};
+use snap_asm_program::Program;
+use snap_live_desk::{Desk, LiveFault, LiveRefusal, Seat, Turn, close, open};
+use snap_record::{MAX_ITEMS, Record};
+use snap_sched::{Script, Scripts};
+use snap_semantics::Fault;
+use snap_words::Kind;
+use std::alloc::{AllocError, Global};
+use std::marker::Model;
+use std::snapshot::Snapshot;
+use std::sync::Wait;
+use std::thread;
+use std::thread::{Promise, PromisedHandle, Scope, Threads};
+
+/// The turns of a process, in order.
+#[derive(Drop)]
+pub struct Turns {
+    turns: Vec<Turn>,
+}
+
+impl Model for Turns {
+    ghost use Rattle.std.specs.Prelude.{List};
+    ghost use Rattle.snap_live_desk.specs.declared.seat.Turn.{Turn};
+
+    ghost Value = { List Turn };
+
+    ghost view = { λ t. t.turns.items };
+}
+
+impl Turns {
+    /// These turns.
+    pub fn of(turns: Vec<Turn>) -> Turns
+        ensures { result ≡ turns.items }
+    {
+        Turns { turns }
+    }
+
+    /// The turns as a slice.
+    pub fn as_slice(&self) -> &[Turn]
+        ensures { result.now ≡ self.now }
+    {
+        self.turns.as_slice()
+    }
+}
+
+/// What all workers did.
+#[derive(Drop)]
+pub struct LiveRun<K: Kind> {
+    /// The record of all turns.
+    pub kept: Record<K>,
+    /// The turns of each process, in the order of processes.
+    pub turns: Vec<Turns>,
+}
+
+/// The promise of a worker, about what it is given.
+#[derive(Drop)]
+struct WorkerPromise<K: Kind, G> {
+    seat: Snapshot<Seat<K>>,
+    script: Snapshot<Script>,
+    gate: Snapshot<G>,
+    limit: u64,
+}
+
+impl<K: Kind, G: Gate> Promise<Worked<K>> for WorkerPromise<K, G> {
+    ghost kept_by = { λ p r. IsWorked (G.may_refuse p.gate.value) p.seat.value.desk p.seat.value.process p.script.value p.limit r };
+}
+
+/// Starts the worker of a seat, in a thread of its own.
+fn start<'s, E, K: Kind, G: Gate, R: Threads + Wait + Sync>(
+    scope: &Scope<'s, E>,
+    rt: &'s R,
+    alloc: Global,
+    desk: &'s Desk<K>,
+    seat: Seat<K>,
+    script: &'s Script,
+    limit: u64,
+    gate: &'s G,
+) -> Result<PromisedHandle<Worked<K>, WorkerPromise<K, G>>, AllocError>
+    requires { (seat ≡ seat_of desk.now seat.process) × (limit ≤ 1000000) }
+    ensures seat { IfOk result (λ h. h.promise.seat.value ≡ seat) }
+    ensures script { IfOk result (λ h. h.promise.script.value ≡ script.now) }
+    ensures gate { IfOk result (λ h. h.promise.gate.value ≡ gate.now) }
+    ensures limit { IfOk result (λ h. h.promise.limit ≡ limit) }
+{
+    let promise = WorkerPromise {
+        seat: Snapshot::of(&seat),
+        script: Snapshot::of(script),
+        gate: Snapshot::of(gate),
+        limit,
+    };
+    let child = scope.spawn_with(
+        promise,
+        move || -> Worked<K>
+            requires { (seat ≡ seat_of desk.now seat.process) × (limit ≤ 1000000) }
+            ensures { IsWorked (G.may_refuse gate.entry.now) desk.entry.now seat.process script.entry.now limit result }
+        { work(rt, alloc, desk, seat, script, limit, gate) },
+    )?;
+    Ok(child)
+}
+
+/// The script of a process.
+fn script_of(scripts: &Scripts, process: u32) -> &Script
+    requires { IsOneOf (length scripts.now.scripts) process }
+    ensures { result.now ≡ script_at scripts.now.scripts (process - 1) }
+{
+    &scripts.scripts()[(process - 1) as usize]
+}
+
+/// Starts all workers.
+fn start_all<'s, E, K: Kind, G: Gate, R: Threads + Wait + Sync>(
+    scope: &Scope<'s, E>,
+    rt: &'s R,
+    alloc: Global,
+    desk: &'s Desk<K>,
+    seats: Vec<Seat<K>>,
+    scripts: &'s Scripts,
+    limit: u64,
+    gate: &'s G,
+) -> Result<Vec<PromisedHandle<Worked<K>, WorkerPromise<K, G>>>, AllocError>
+    requires { All (λ s. (s ≡ seat_of desk.now s.process) × IsOneOf (length scripts.now.scripts) s.process) seats.items × (limit ≤ 1000000) }
+    ensures seats { IfOk result (λ hs. map (λ h. h.promise.seat.value) hs.items ≡ seats.items) }
+    ensures scripts { IfOk result (λ hs. map (λ h. h.promise.script.value) hs.items ≡ map (λ s. script_at scripts.now.scripts (s.process - 1)) seats.items) }
+    ensures gate { IfOk result (λ hs. All (λ h. h.promise.gate.value ≡ gate.now) hs.items) }
+    ensures limit { IfOk result (λ hs. All (λ h. h.promise.limit ≡ limit) hs.items) }
+{
+    let mut handles = Vec::new(alloc);
+    for seat in seats {
+        let script = script_of(scripts, seat.process());
+        handles.push(start(scope, rt, alloc, desk, seat, script, limit, gate)?)?;
+    }
+    Ok(handles)
+}
+
+/// All workers at once, each in a thread of its own. All are joined before an answer.
+fn run_all<K: Kind, G: Gate, R: Threads + Wait + Sync>(
+    rt: &R,
+    alloc: Global,
+    desk: &Desk<K>,
+    seats: Vec<Seat<K>>,
+    scripts: &Scripts,
+    limit: u64,
+    gate: &G,
+) -> Result<Vec<Worked<K>>, AllocError>
+    requires { (seats.items ≡ seats_of desk.now (length scripts.now.scripts)) × (limit ≤ 1000000) }
+    ensures { IfOk result (λ ws. AllWorked (G.may_refuse gate.now) desk.now scripts.now.scripts limit ws.items) }
+{
+    thread::scope(
+        thread::scope_env(),
+        rt,
+        move |scope| -> Result<Vec<Worked<K>>, AllocError>
+            requires { (seats.items ≡ seats_of desk.now (length scripts.now.scripts)) × (limit ≤ 1000000) }
+            ensures { IfOk result (λ ws. AllWorked (G.may_refuse gate.entry.now) desk.entry.now scripts.entry.now.scripts limit ws.items) }
+        {
+            let handles = start_all(scope, rt, alloc, desk, seats, scripts, limit, gate)?;
+            let workers = joined(rt, handles)?;
+            Ok(workers)
+        },
+    )
+}
+
+/// Joins all workers. Each kept its promise.
+fn joined<K: Kind, G: Gate, R: Threads>(
+    rt: &R,
+    handles: Vec<PromisedHandle<Worked<K>, WorkerPromise<K, G>>>,
+) -> Result<Vec<Worked<K>>, AllocError>
+    ensures len { IfOk result (λ ws. length ws.items ≡ length handles.items) }
+    ensures each { IfOk result (λ ws. (k : ℕ) (w : WorkedView) → k < length handles.items → (h : _) × (h ≡ slice_index_or handles.items k h) × IsWorked (G.may_refuse h.promise.gate.value) h.promise.seat.value.desk h.promise.seat.value.process h.promise.script.value h.promise.limit (slice_index_or ws.items k w)) }
+{
+    Ok(thread::join_promised(rt, handles)?)
+}
+
+/// The seats and the turns in the order of processes, and which is the least process that stopped before its end, and why.
+#[derive(Drop)]
+struct WorkerResults<K: Kind> {
+    seats: Vec<Seat<K>>,
+    turns: Vec<Turns>,
+    stop: Option<(u32, Stop)>,
+}
+
+/// What the workers hand back, put together.
+fn results_of<K: Kind>(
+    alloc: Global,
+    workers: Vec<Worked<K>>,
+) -> Result<WorkerResults<K>, AllocError>
+    ensures seats { IfOk result (λ s. s.seats.items ≡ map (λ w. w.seat) workers.items) }
+    ensures turns { IfOk result (λ s. s.turns.items ≡ map (λ w. w.turns) workers.items) }
+    ensures stop { IfOk result (λ s. s.stop ≡ first_stop workers.items) }
+{
+    let mut seats = Vec::new(alloc);
+    let mut turns = Vec::new(alloc);
+    let mut first = None;
+    for worked in workers {
+        let (seat, made, stop) = parts_of(worked);
+        first = then_first(first, seat.process(), stop);
+        seats.push(seat)?;
+        turns.push(made)?;
+    }
+    Ok(WorkerResults {
+        seats,
+        turns,
+        stop: first,
+    })
+}
+
+/// What a worker hands back, one by one.
+fn parts_of<K: Kind>(worked: Worked<K>) -> (Seat<K>, Turns, Option<Stop>)
+    ensures { (result.0 ≡ worked.seat) × (result.1 ≡ worked.turns) × (result.2 ≡ worked.stop) }
+{
+    let Worked { seat, turns, stop } = worked;
+    (seat, Turns::of(turns), stop)
+}
+
+/// The stop that was found before, or else this one.
+fn then_first(found: Option<(u32, Stop)>, process: u32, stop: Option<Stop>) -> Option<(u32, Stop)>
+    ensures { result ≡ then_first found process stop }
+{
+    match found {
+        Some(first) => Some(first),
+        None => match stop {
+            Some(stop) => Some((process, stop)),
+            None => None,
+        },
+    }
+}
+
+/// Plays all scripts at once at a new desk, a worker in a thread for each process, and each with at most so many turns, for each of
+/// which it asks the gate. All workers have ended before there is an answer.
+pub fn run_live<K: Kind, G: Gate, R: Threads + Wait + Sync>(
+    rt: &R,
+    alloc: Global,
+    program: &Program,
+    scripts: &Scripts,
+    limit: u64,
+    gate: &G,
+) -> Result<LiveRun<K>, LiveFault>
+    requires kind { program.now.kind ≡ K.TAG }
+    requires limit { (1 ≤ limit) × (limit ≤ 1000000) }
+    ensures ok { let base : Setting = record { source = program.now; shape = scripts.now.shape } in
+        IfOk result (λ l. IsLive base scripts.now.scripts limit l.kept l.turns.items) }
+    ensures err { let base : Setting = record { source = program.now; shape = scripts.now.shape } in
+        IfErr result (λ f. MayFault (G.may_refuse gate.now) base scripts.now.scripts limit f) }
+{
+    let (desk, seats) = open::<K>(alloc, program, scripts.shape())?;
+    let workers = run_all(rt, alloc, &desk, seats, scripts, limit, gate)?;
+    let WorkerResults { seats, turns, stop } = results_of(alloc, workers)?;
+    let Ok(kept) = close(desk, seats) else {
+        unreachable!()
+    };
+    let _items = kept.items();
+    match stop {
+        None => Ok(LiveRun { kept, turns }),
+        Some((process, stop)) => Err(fault_of(process, stop)),
+    }
+}
+
+/// The fault of the whole run.
+fn fault_of(process: u32, stop: Stop) -> LiveFault
+    ensures { result ≡ fault_of process stop }
+{
+    match stop {
+        Stop::Memory => Fault::Memory,
+        Stop::Full => Fault::Refused(LiveRefusal::Full(MAX_ITEMS as u64)),
+        Stop::TurnLimit => Fault::Refused(LiveRefusal::TurnLimit(process)),
+    }
+}

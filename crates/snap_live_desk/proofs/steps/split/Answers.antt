@@ -1,0 +1,6 @@
+use Rattle.std.proofs.Common.{rules}
+use Rattle.snap_live_desk.proofs.Moves.{splits}
+use Rattle.snap_live_desk.proofs.steps.split.Goals as goal
+
+pub split_seat-requires : goal.split_seat-requires
+split_seat-requires g c = (search rules, search rules, splits _ _ _ c.requires.idle.1)

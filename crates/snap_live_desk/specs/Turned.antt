@@ -1,0 +1,25 @@
+-- What a turn does to a seat.
+use Rattle.std.specs.Prelude.{◌≡◌, ℕ, ◌≤◌, ◌++◌, List, [], ◌∷◌, length}
+use mathlib.Core.List.{IsPrefix}
+use Rattle.snap_semantics.specs.declared.process.Item.{Item}
+use Rattle.snap_semantics.specs.declared.process.Outcome.{Outcome}
+use Rattle.snap_record.specs.declared.fault.RecordFault.{RecordFault}
+use Rattle.snap_record.specs.declared.fault.RecordFault.TheVariants.{Full, Memory}
+use Rattle.snap_live_desk.specs.Turns.{last_outcome}
+use Rattle.snap_live_desk.specs.SeatStates.{after_turn, after_full, after_refusal}
+use Rattle.snap_live_desk.specs.Rule.{Mine, OwnTurns}
+
+-- the history that the seat found goes on by the item
+pub record Turned (m : Mine) (item : Item) (number : ℕ) (outcome : Outcome) (n : Mine) : Type 0 where
+  pub found : List Item
+  pub more : IsPrefix m.0.seen found
+  pub numbered : number ≡ length (found ++ item ∷ [])
+  pub few : number ≤ 1000000
+  pub answered : outcome ≡ last_outcome m.0.base (found ++ item ∷ [])
+  pub seat : n ≡ (after_turn m.0 found item outcome, [])
+  pub turns : OwnTurns m.0.base n.0.seen n.0.owns
+
+-- nothing was added: the seat has seen the full history, or nothing more
+abbrev pub RefusedAs : RecordFault → Mine → Mine → Type 0
+RefusedAs Full m n = (found : List Item) × IsPrefix m.0.seen found × (length found ≡ 1000000) × (n ≡ (after_full m.0 found, [])) × OwnTurns m.0.base n.0.seen n.0.owns
+RefusedAs Memory m n = n ≡ (after_refusal m.0, [])

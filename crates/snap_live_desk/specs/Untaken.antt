@@ -1,0 +1,21 @@
+-- A turn that was refused.
+use Rattle.std.specs.Prelude.{◌≡◌, length}
+use mathlib.Core.List.{IsPrefix}
+use Rattle.snap_semantics.specs.declared.fault.Fault.{Fault}
+use Rattle.snap_semantics.specs.declared.fault.Fault.TheVariants.{Memory, Refused}
+use Rattle.snap_live_desk.specs.declared.refusal.LiveRefusal.{LiveRefusal}
+use Rattle.snap_live_desk.specs.declared.refusal.LiveRefusal.TheVariants.{Full}
+use Rattle.snap_live_desk.specs.Turns.{turns_of}
+use Rattle.snap_live_desk.specs.Shown.{SeatView}
+
+-- the seat has seen the whole history, which is full, and has no turn more in it
+pub record SeesAll (before after : SeatView) : Type 0 where
+  pub more : IsPrefix before.seen after.seen
+  pub full : length after.seen ≡ 1000000
+  pub own : after.own ≡ before.own
+  pub turns : after.own ≡ turns_of before.desk.base before.process after.seen
+
+-- nothing was added: memory ran out, and the seat has seen no more; or the history is full
+abbrev pub NoTurn : Fault LiveRefusal → SeatView → SeatView → Type 0
+NoTurn Memory before after = (after.seen ≡ before.seen) × (after.own ≡ before.own)
+NoTurn (Refused refusal) before after = (refusal ≡ Full 1000000) × SeesAll before after

@@ -1,0 +1,41 @@
+//! What is said of a text that is a listing.
+ghost use Rattle.std.specs.Prelude.{◌≡◌, IfOk};
+ghost use Rattle.snap_semantics.specs.Answers.{Answers, refused_as};
+ghost use Rattle.snap_semantics.specs.Listing.{listing_of};
+ghost use Rattle.snap_output.specs.Output.{check_line, check_of};
+ghost use Rattle.snap_semantics.specs.declared.refusal.Refusal.TheVariants as refusal;
+
+use snap_listing::{Listing, kind_keyword};
+use snap_semantics::{Fault, Refusal};
+use snap_text::{push_number, push_text};
+use std::alloc::{AllocError, Global};
+
+/// Reads a listing.
+fn read_listing(alloc: Global, text: &[u8]) -> Result<Listing, Fault<Refusal>>
+    ensures { Answers (λ l. l) result (refused_as refusal.Listing (listing_of text.now)) }
+{
+    Ok(snap_listing::read(alloc, text)?)
+}
+
+/// The kind of a listing, and how many numbered lines it has.
+#[tactic(auto, using(snap_text::proofs::Texts::joined))]
+fn check_line(alloc: Global, listing: &Listing) -> Result<Vec<u8>, AllocError>
+    ensures { IfOk result (λ line. line.items ≡ check_line listing.now) }
+{
+    let mut line = Vec::new(alloc);
+    push_text(&mut line, b"ok: ")?;
+    push_text(&mut line, kind_keyword(listing.kind()))?;
+    push_text(&mut line, b", ")?;
+    push_number(&mut line, listing.lines().len() as u64)?;
+    push_text(&mut line, b" lines\n")?;
+    Ok(line)
+}
+
+/// What is said of a text that is a listing, or why it is none.
+#[tactic(auto, unfolding(crate::specs::Output::check_of))]
+pub fn check_of(alloc: Global, text: &[u8]) -> Result<Vec<u8>, Fault<Refusal>>
+    ensures { Answers (λ out. out.items) result (check_of text.now) }
+{
+    let listing = read_listing(alloc, text)?;
+    Ok(check_line(alloc, &listing)?)
+}

@@ -1,0 +1,19 @@
+use Rattle.std.proofs.Common.{take, drop, arith}
+use Rattle.std.proofs.lemmas.List.{length-drop, take_rest}
+use Rattle.std.proofs.Math.Seq.{take-add}
+use Rattle.std.proofs.KnownBytes.{Appends-trans}
+use Rattle.snap_program.proofs.whole_run.write_all.Goals as goal
+
+pub loop-sent-preserved : goal.loop-sent-preserved
+loop-sent-preserved g c =
+    let sent = c.loop-sent.sent in
+    let count = c.in-Ok.count in
+    let text = c.args.text.now in
+    let h = c.loop-sent.invariant in
+    let rest = length-drop sent text in
+    let bound = rw (take_rest text sent) at c.in-Ok.ensures.bound in
+    let bytes = rw (take_rest text sent) at c.in-Ok.ensures.bytes in (
+      omega (arith, rest, bound, h.0),
+      c.in-Ok.ensures.fails,
+      rw (take-add sent count text) (Appends-trans (g.W.ByteSink.taken c.args.sink.now) (g.W.ByteSink.taken c.loop-sent.sink) (g.W.ByteSink.taken c.write.new.self) (take sent text) (take count (drop sent text)) h.2 bytes),
+    )

@@ -1,0 +1,12 @@
+-- The statuses that the program ends with.
+use Rattle.std.specs.Prelude.{ℕ}
+use Rattle.snap_program.specs.declared.fault.ConductFault.{ConductFault}
+use Rattle.snap_program.specs.declared.fault.ConductFault.TheVariants as fault
+
+-- 1 where the input was refused or a live run given up, 3 where a device failed
+abbrev pub fault_status : ConductFault → ℕ
+fault_status fault.Memory = 1
+fault_status (fault.Refused r) = 1
+fault_status (fault.Live r) = 1
+fault_status fault.Read = 3
+fault_status (fault.Write count) = 3

@@ -1,0 +1,93 @@
+-- A whole run of the program, from a byte source to a byte sink.
+use Rattle.std.specs.Prelude.{◌≡◌, ℕ, ◌<◌, ◌≤◌, Vec, Bool, true, List, [], false, take, Option, Result, Ok, Err, length, ⊤, ◌⊎◌}
+use Rattle.std.specs.Global.{Global}
+use Rattle.std.specs.Io.KnownBytes.{Consumes, Appends, IsAtEnd}
+use Rattle.snap_output.specs.Output.{output_of}
+use Rattle.snap_semantics.specs.declared.refusal.Refusal.{Refusal}
+use Rattle.snap_tasks.specs.declared.task.Task.{Task}
+use Rattle.snap_semantics.specs.declared.fault.Fault.{Fault}
+use Rattle.snap_semantics.specs.declared.fault.Fault.TheVariants as inner
+use Rattle.snap_live_output.specs.declared.fault.LiveRunFault.{LiveRunFault}
+use Rattle.snap_live_output.specs.declared.fault.LiveRunFault.TheVariants as run
+use Rattle.snap_live_output.specs.LiveOutput.{IsLiveOutput, MayGiveUp, setup_of}
+use Rattle.snap_tasks.specs.declared.subject.Subject.{Subject}
+use Rattle.snap_program.specs.declared.fault.ConductFault.{ConductFault}
+use Rattle.snap_program.specs.declared.fault.ConductFault.TheVariants as fault
+
+-- why there is no output, as a fault of a whole run
+abbrev pub of_fault : Fault Refusal → ConductFault
+of_fault inner.Memory = fault.Memory
+of_fault (inner.Refused r) = fault.Refused r
+
+-- why a live run wrote nothing, as a fault of a whole run
+abbrev pub of_live_fault : LiveRunFault → ConductFault
+of_live_fault run.Memory = fault.Memory
+of_live_fault (run.Refused r) = fault.Refused r
+of_live_fault (run.Live r) = fault.Live r
+
+-- the input is all that was there, or one byte more than is allowed
+abbrev pub IsWhole : List ℕ → Option (List ℕ) → Type 0
+IsWhole input left = (length input ≡ 16777217) ⊎ IsAtEnd left
+
+-- what a run read of a byte source: at most one byte more than is allowed
+abbrev pub Takes : List ℕ → Option (List ℕ) → Option (List ℕ) → Type 0
+Takes input before after = Consumes before after input × (length input ≤ 16777217)
+
+-- reading took an input, whole where it answers one; or it failed, or found no memory
+abbrev pub Reads : Result (Vec ℕ Global) ConductFault → Option (List ℕ) → Option (List ℕ) → Bool → Type 0
+Reads (Ok v) before after failed = Takes v.items before after × IsWhole v.items after × (failed ≡ false)
+Reads (Err e) before after failed = (input : List ℕ) × Takes input before after × ((e ≡ fault.Memory) ⊎ ((e ≡ fault.Read) × (failed ≡ true)))
+
+-- writing sent all of a text, or the first count bytes
+abbrev pub Sends : Result (Unit {0}) ConductFault → List ℕ → Option (List ℕ) → Option (List ℕ) → (failed stalled : Bool) → Type 0
+Sends (Ok done) text before after failed stalled = Appends before after text
+Sends (Err e) text before after failed stalled = (count : ℕ) × (e ≡ fault.Write count) × (count < length text) × Appends before after (take count text) × ((failed ≡ true) ⊎ (stalled ≡ true))
+
+-- what has been written by a run that answered so, where an input may have these outputs and be refused for these reasons
+abbrev pub Writes : (answer : Result (Unit {0}) ConductFault) (IsOutput : List ℕ → Type 0) (Refuses : ConductFault → Type 0) (text : List ℕ) (reader_failed writer_failed writer_stalled : Bool) → Type 0
+Writes (Ok done) IsOutput Refuses text r w s = IsOutput text
+Writes (Err fault.Memory) IsOutput Refuses text r w s = text ≡ []
+Writes (Err (fault.Refused f)) IsOutput Refuses text r w s = (text ≡ []) × Refuses (fault.Refused f)
+Writes (Err (fault.Live f)) IsOutput Refuses text r w s = (text ≡ []) × Refuses (fault.Live f)
+Writes (Err fault.Read) IsOutput Refuses text r w s = (text ≡ []) × (r ≡ true)
+Writes (Err (fault.Write count)) IsOutput Refuses text r w s = (whole : List ℕ) × IsOutput whole × (count < length whole) × (text ≡ take count whole) × ((w ≡ true) ⊎ (s ≡ true))
+
+-- whether the input that was taken is whole; after a read fault or for want of memory it need not be
+abbrev pub IsWholeFor : Result (Unit {0}) ConductFault → List ℕ → Option (List ℕ) → Type 0
+IsWholeFor (Ok done) input after = IsWhole input after
+IsWholeFor (Err fault.Memory) input after = ⊤
+IsWholeFor (Err (fault.Refused f)) input after = IsWhole input after
+IsWholeFor (Err (fault.Live f)) input after = IsWhole input after
+IsWholeFor (Err fault.Read) input after = ⊤
+IsWholeFor (Err (fault.Write count)) input after = IsWhole input after
+
+-- A whole run: it takes an input, and has written what its answer says of the outputs that the input may have, and nothing else.
+abbrev pub ConductsBy : (IsOutput : (input text : List ℕ) → Type 0) (Refuses : (input : List ℕ) → ConductFault → Type 0)
+    (answer : Result (Unit {0}) ConductFault) (left left_after taken taken_after : Option (List ℕ)) (reader_failed writer_failed writer_stalled : Bool) → Type 0
+ConductsBy IsOutput Refuses answer left left_after taken taken_after r w s =
+    (input : List ℕ) × (text : List ℕ) × Takes input left left_after × IsWholeFor answer input left_after
+    × Appends taken taken_after text × Writes answer (IsOutput input) (Refuses input) text r w s
+
+-- the output of a task
+abbrev pub IsOutputOf : Task → (input text : List ℕ) → Type 0
+IsOutputOf task input text = output_of task input ≡ Ok text
+
+-- why there is none
+abbrev pub RefusesTask : Task → (input : List ℕ) → ConductFault → Type 0
+RefusesTask task input (fault.Refused f) = output_of task input ≡ Err f
+RefusesTask task input _ = ⊥
+
+-- A whole run of a task: each input has one output, or one refusal.
+abbrev pub Conducts : (answer : Result (Unit {0}) ConductFault) (task : Task) (left left_after taken taken_after : Option (List ℕ)) (reader_failed writer_failed writer_stalled : Bool) → Type 0
+Conducts answer task left left_after taken taken_after r w s = ConductsBy (IsOutputOf task) (RefusesTask task) answer left left_after taken taken_after r w s
+
+-- why a live run writes nothing: the input is refused, or the run is given up
+abbrev pub RefusesLive : (may : ℕ → ℕ → Type 0) → Subject → (limit : ℕ) → (input : List ℕ) → ConductFault → Type 0
+RefusesLive may subject limit input (fault.Refused f) = setup_of subject input ≡ Err f
+RefusesLive may subject limit input (fault.Live f) = MayGiveUp may subject limit input f
+RefusesLive may subject limit input _ = ⊥
+
+-- A whole live run: each input has many outputs, or one refusal; and the run may be given up.
+abbrev pub ConductsLive : (may : ℕ → ℕ → Type 0) (subject : Subject) (limit : ℕ) (answer : Result (Unit {0}) ConductFault) (left left_after taken taken_after : Option (List ℕ)) (reader_failed writer_failed writer_stalled : Bool) → Type 0
+ConductsLive may subject limit answer left left_after taken taken_after r w s =
+    ConductsBy (IsLiveOutput subject limit) (RefusesLive may subject limit) answer left left_after taken taken_after r w s

@@ -1,0 +1,6 @@
+use Rattle.snap_promises.proofs.Kept.{of_each}
+use Rattle.snap_promises.proofs.shipped_runs_keep_promises.Goals as goal
+
+pub returns : goal.returns
+returns c =
+    of_each c.runs_of_u_keep_promises.ensures c.runs_of_b_keep_promises.ensures c.runs_of_m_keep_promises.ensures

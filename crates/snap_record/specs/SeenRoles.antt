@@ -1,0 +1,17 @@
+-- Roles of steps as the definitions have them.
+use Rattle.snap_runs.specs.StepRoles.{StepRole, Write, Test, Answer, Nothing}
+use Rattle.std.specs.Prelude.{List, [], ◌∷◌, Option, Some, None}
+use Rattle.snap_record.specs.declared.step_role.StepRole as code
+use Rattle.snap_record.specs.declared.step_role.StepRole.TheVariants as role
+
+-- the role
+abbrev pub seen_step_role : code.StepRole → StepRole
+seen_step_role role.Write = Write
+seen_step_role role.Test = Test
+seen_step_role (role.Answer view) = Answer view
+seen_step_role role.Nothing = Nothing
+
+-- one or none, as a list
+abbrev pub of_option : {A : Type 0} → Option A → List A
+of_option None = []
+of_option (Some x) = x ∷ []

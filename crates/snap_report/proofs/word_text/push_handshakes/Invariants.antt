@@ -1,0 +1,8 @@
+use Rattle.std.proofs.Common.{◌≡◌, ◌++◌, drop}
+use Rattle.snap_semantics.specs.Report.{numbers_text}
+use Rattle.snap_report.proofs.word_text.push_handshakes.Given as goal
+
+abbrev pub invariant-loop-place : goal.invariant-loop-place
+invariant-loop-place g l =
+    let handshakes = (g.K.Kind.as_word l.word).handshakes in
+    l.out.items ++ numbers_text (drop l.place handshakes) ≡ l.fn.out.items ++ numbers_text handshakes

@@ -1,0 +1,5 @@
+use Rattle.snap_runs_of_m.proofs.Bounded.{stays_bounded_lem}
+use Rattle.snap_runs_of_m.proofs.stays_bounded.Goals as goal
+
+pub returns : goal.returns
+returns c = stays_bounded_lem

@@ -1,0 +1,5 @@
+use Rattle.snap_runs_of_m.proofs.Linear.{write_strongly_linearizable_lem}
+use Rattle.snap_runs_of_m.proofs.write_strongly_linearizable.Goals as goal
+
+pub returns : goal.returns
+returns c = write_strongly_linearizable_lem

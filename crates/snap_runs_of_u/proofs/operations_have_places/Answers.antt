@@ -1,0 +1,5 @@
+use Rattle.snap_runs_of_u.proofs.Linear.{operations_have_places_lem}
+use Rattle.snap_runs_of_u.proofs.operations_have_places.Goals as goal
+
+pub returns : goal.returns
+returns c = operations_have_places_lem

@@ -1,0 +1,173 @@
+-- A process that steps alone: what becomes of the memory and of what the process is at.
+use Rattle.std.specs.Prelude.{◌≡◌, ◌≢◌, ℕ, zero, suc, ◌+◌, List, [], ◌∷◌, length, Option, None, replicate, refl}
+use Rattle.std.proofs.Common.{◌∙◌, ap, arith}
+use Rattle.snap_words.specs.Shape.{IsOneOf}
+use Rattle.snap_semantics.specs.declared.process.Item.{Item}
+use Rattle.snap_semantics.specs.Table.{call_skip}
+use Rattle.snap_semantics.specs.declared.process.Item.TheVariants.{Step, Call}
+use Rattle.snap_semantics.specs.declared.process.Op.{Op}
+use Rattle.snap_semantics.specs.declared.process.Op.TheVariants.{Scan, Update}
+use Rattle.snap_semantics.specs.declared.process.Outcome.{Outcome}
+use Rattle.snap_semantics.specs.declared.process.Outcome.TheVariants.{Called, Stepped, Answered, Finished}
+use Rattle.snap_semantics.specs.declared.process.Reason.{Reason}
+use Rattle.snap_runs.proofs.Algorithm.{Mode, Auxiliary, Scanning, Updating, Control, Idle, At, Move, To, Begin, Answer, Finish, TypedProcess, TypedState, Algorithm, Change, New, by_move, by_step, by_admission, by_call, typed_at, changed, happens, stepped_auxiliary, begun_auxiliary, called_auxiliary}
+use Rattle.snap_runs.proofs.Embedding as embed
+
+-- what a process is at, and how many double collects its scan has made
+pub record Seat (V P : Type 0) : Type 0 where
+  pub control : Control P
+  pub variables : V
+  pub collects : ℕ
+
+pub record Alone (V P M : Type 0) : Type 0 where
+  pub memory : M
+  pub seat : Seat V P
+
+abbrev pub seated : {V P : Type 0} → Control P → V → ℕ → Seat V P
+seated control p c = record { control = control; variables = p; collects = c }
+
+abbrev pub placed : {V P M : Type 0} → M → Seat V P → Alone V P M
+placed m seat = record { memory = m; seat = seat }
+
+abbrev pub seat_of : {V P M : Type 0} → TypedProcess V P M → Seat V P
+seat_of q = seated q.control q.variables q.auxiliary.collects
+
+abbrev pub standing : {V P M : Type 0} → Mode → M → V → P → ℕ → Alone V P M
+standing d m p k c = placed m (seated (At d k) p c)
+
+abbrev pub idling : {V P M : Type 0} → M → V → ℕ → Alone V P M
+idling m p c = placed m (seated Idle p c)
+
+-- so many more, in a form that computes
+abbrev pub more : ℕ → ℕ → ℕ
+more c zero = c
+more c (suc t) = suc (more c t)
+
+more_is : (c t : ℕ) → c + t ≡ more c t
+more_is c zero = omega arith
+more_is c (suc t) = let e : c + t ≡ more c t = more_is c t in omega arith
+
+module _ {V P M : Type 0} (a : Algorithm V P M) where
+  abbrev pub after_move : P → M → V → ℕ → Move V P M → Alone V P M
+  after_move k m p c (To d m' p' k') = standing d m' p' k' (more c (a.tests k))
+  after_move k m p c (Begin d p' k') = standing d m p' k' 0
+  after_move k m p c (Answer view) = idling m p (more c (a.tests k))
+  after_move k m p c Finish = idling m p (more c (a.tests k))
+
+  abbrev pub after_step : ℕ → M → V → ℕ → Control P → Alone V P M
+  after_step i m p c Idle = idling m p c
+  after_step i m p c (At d k) = after_move k m p c (a.move i d m p k)
+
+  -- so many steps of process i
+  abbrev pub walk : ℕ → ℕ → Alone V P M → Alone V P M
+  walk i zero x = x
+  walk i (suc s) x = walk i s (after_step i x.memory x.seat.variables x.seat.collects x.seat.control)
+
+  -- a call that is admitted
+  abbrev pub after_call : Op → Alone V P M → Alone V P M
+  after_call Scan y = standing Scanning y.memory y.seat.variables (a.counter Scan) 0
+  after_call (Update word value) y = standing (Updating word value) y.memory y.seat.variables (a.counter (Update word value)) y.seat.collects
+
+  walk_on : (i s t : ℕ) (x : Alone V P M) → walk i (s + t) x ≡ walk i t (walk i s x)
+  walk_on i zero t x = ap (λ u. walk i u x) (let e : zero + t ≡ t = omega arith in e)
+  walk_on i (suc s) t x =
+      ap (λ u. walk i u x) (let e : suc s + t ≡ suc (s + t) = omega arith in e)
+      ∙ walk_on i s t (after_step i x.memory x.seat.variables x.seat.collects x.seat.control)
+
+  -- one walk after another
+  pub walks : (i s t u : ℕ) (x y z : Alone V P M) → walk i s x ≡ y → walk i t y ≡ z → u ≡ s + t → walk i u x ≡ z
+  walks i s t u x y z first second e = ap (λ v. walk i v x) e ∙ walk_on i s t x ∙ ap (walk i t) first ∙ second
+
+  abbrev pub State : Type 0
+  State = TypedState V P M
+
+  abbrev pub alone_of : State → ℕ → Alone V P M
+  alone_of x i = placed x.memory (seat_of (typed_at a x i))
+
+  -- the state after these items, the first of which comes after so many
+  abbrev pub run_from : ℕ → State → List Item → State
+  run_from time x [] = x
+  run_from time x (y ∷ ys) = run_from (suc time) (happens a (suc time) x y) ys
+
+  -- An item of process i: another process is as before.
+  pub record Turns (i : ℕ) (x x' : State) : Type 0 where
+    pub count : length x'.processes ≡ a.shape.n
+    pub others : (k : ℕ) → IsOneOf a.shape.n k → k ≢ i → typed_at a x' k ≡ typed_at a x k
+
+  pub turns_on : (i : ℕ) (x y z : State) → Turns i x y → Turns i y z → Turns i x z
+  turns_on i x y z h g = record { count = g.count; others = λ k one other. g.others k one other ∙ h.others k one other }
+
+  module _ (i : ℕ) (one : IsOneOf a.shape.n i) where
+    -- the process is set
+    seat_set : (x : State) (m : M) (control : Control P) (p : V) (g : Auxiliary) (c : ℕ) (o : Outcome) →
+        length x.processes ≡ a.shape.n → g.collects ≡ c →
+        alone_of (changed x i (New m (record { control = control; variables = p; auxiliary = g }) o)) i
+        ≡ placed m (seated control p c)
+    seat_set x m control p g c o count same =
+        let q : TypedProcess V P M = record { control = control; variables = p; auxiliary = g } in
+        ap (λ (y : TypedProcess V P M). placed m (seat_of y)) (embed.own_process a x i m q o count one)
+        ∙ ap (λ y. placed m (seated control p y)) same
+
+    move_seat : (time : ℕ) (x : State) (k : P) (v : Move V P M) → length x.processes ≡ a.shape.n →
+        alone_of (changed x i (by_move a time x.memory (typed_at a x i) k v)) i
+        ≡ after_move k x.memory (typed_at a x i).variables (typed_at a x i).auxiliary.collects v
+    move_seat time x k (To d m' p' k') count =
+        let g = (typed_at a x i).auxiliary in
+        let c = more g.collects (a.tests k) in
+        seat_set x m' (At d k') p' (stepped_auxiliary a k time g) c Stepped count (more_is g.collects (a.tests k))
+    move_seat time x k (Begin d p' k') count =
+        seat_set x x.memory (At d k') p' (begun_auxiliary a k time (typed_at a x i).auxiliary) 0 Stepped count refl
+    move_seat time x k (Answer view) count =
+        let q = typed_at a x i in
+        let g = q.auxiliary in
+        let c = more g.collects (a.tests k) in
+        seat_set x x.memory Idle q.variables (stepped_auxiliary a k time g) c (Answered view) count (more_is g.collects (a.tests k))
+    move_seat time x k Finish count =
+        let q = typed_at a x i in
+        let g = q.auxiliary in
+        let c = more g.collects (a.tests k) in
+        seat_set x x.memory Idle q.variables (stepped_auxiliary a k time g) c Finished count (more_is g.collects (a.tests k))
+
+    step_seat : (time : ℕ) (x : State) (control : Control P) → length x.processes ≡ a.shape.n → (typed_at a x i).control ≡ control →
+        alone_of (changed x i (by_step a time x.memory i (typed_at a x i) control)) i
+        ≡ after_step i x.memory (typed_at a x i).variables (typed_at a x i).auxiliary.collects control
+    step_seat time x Idle count is =
+        let q = typed_at a x i in
+        ap (λ (c : Control P). placed x.memory (seated c q.variables q.auxiliary.collects)) is
+    step_seat time x (At d k) count is = move_seat time x k (a.move i d x.memory (typed_at a x i).variables k) count
+
+    changes : (x : State) (c : Change V P M) → length x.processes ≡ a.shape.n → Turns i x (changed x i c)
+    changes x c count = record { count = embed.changed_count a x i c ∙ count; others = λ k at other. embed.other_process a x i k c one.0 at.0 other }
+
+    -- so many steps of the process, and nothing else
+    pub steps_alone : (time s : ℕ) (x : State) → length x.processes ≡ a.shape.n →
+        Turns i x (run_from time x (replicate s (Step i))) × (alone_of (run_from time x (replicate s (Step i))) i ≡ walk i s (alone_of x i))
+    steps_alone time zero x count = (record { count = count; others = λ k at other. refl }, refl)
+    steps_alone time (suc s) x count =
+        let y = happens a (suc time) x (Step i) in
+        let t = changes x (by_step a (suc time) x.memory i (typed_at a x i) (typed_at a x i).control) count in
+        let rest = steps_alone (suc time) s y t.count in
+        (turns_on i x y _ t rest.0, rest.1 ∙ ap (walk i s) (step_seat (suc time) x (typed_at a x i).control count refl))
+
+    admitted : (time : ℕ) (x : State) (op : Op) → length x.processes ≡ a.shape.n →
+        alone_of (changed x i (by_admission a time x.memory (typed_at a x i) op None)) i ≡ after_call op (alone_of x i)
+    admitted time x Scan count =
+        let q = typed_at a x i in
+        seat_set x x.memory (At Scanning (a.counter Scan)) q.variables (called_auxiliary time Scan q.auxiliary) 0 Called count refl
+    admitted time x (Update word value) count =
+        let q = typed_at a x i in
+        let g = q.auxiliary in
+        let op : Op = Update word value in
+        seat_set x x.memory (At (Updating word value) (a.counter op)) q.variables (called_auxiliary time op g) g.collects Called count refl
+
+    pub call_alone : (time : ℕ) (x : State) (op : Op) → length x.processes ≡ a.shape.n → (typed_at a x i).control ≡ Idle →
+        call_skip a.source.kind a.shape i op ≡ None →
+        Turns i x (run_from time x (Call i op ∷ [])) × (alone_of (run_from time x (Call i op ∷ [])) i ≡ after_call op (alone_of x i))
+    call_alone time x op count idle admit =
+        let q = typed_at a x i in
+        let becomes : happens a (suc time) x (Call i op) ≡ changed x i (by_admission a (suc time) x.memory q op None) =
+        ap (λ (c : Control P). changed x i (by_call a (suc time) x.memory i op q c)) idle
+        ∙ ap (λ (o : Option Reason). changed x i (by_admission a (suc time) x.memory q op o)) admit in (
+          changes x (by_call a (suc time) x.memory i op q q.control) count,
+          ap (λ (y : State). alone_of y i) becomes ∙ admitted (suc time) x op count,
+        )

@@ -1,0 +1,96 @@
+-- A schedule whose last item answers a scan: what its run has reached.
+use Rattle.std.specs.Prelude.{◌≡◌, ℕ, zero, suc, ◌+◌, ◌<◌, Bool, true, false, ◌&&◌, List, [], ◌∷◌, ◌++◌, length, None, refl}
+use Rattle.std.proofs.Common.{sym, ◌∙◌, ap, subst, arith}
+use Rattle.std.proofs.Math.Seq.{get_or-append_seam}
+use Rattle.std.proofs.lemmas.List.{length-append, get_or_append_left}
+use Rattle.snap_words.specs.Shape.{IsOneOf}
+use Rattle.snap_semantics.specs.State.{process_at}
+use Rattle.snap_semantics.specs.Table.{who}
+use Rattle.snap_semantics.specs.declared.process.Item.{Item}
+use Rattle.snap_semantics.specs.declared.process.Item.TheVariants.{Step}
+use Rattle.snap_semantics.specs.declared.process.Outcome.{Outcome}
+use Rattle.snap_semantics.specs.declared.process.Outcome.TheVariants.{Answered}
+use Rattle.snap_runs.specs.Run.{Run, before, item, outcome}
+use Rattle.snap_runs.specs.Scan.{FinishedScan, steps, is_if_all, line_in, is_stepped, ends_double_collect}
+use Rattle.snap_runs.proofs.Algorithm.{Mode, Control, At, Move, Answer, Algorithm, by_move, by_step, by_item, outcome_of, happens, item_at, typed_at, typed_state, first_state}
+use Rattle.snap_runs.proofs.Calls.{answer_ends}
+use Rattle.snap_runs.proofs.Counting.{count_not}
+use Rattle.snap_runs.proofs.Embedding as embed
+use Rattle.snap_runs.proofs.Flow.{Lines}
+use Rattle.snap_runs.proofs.Scans as scans
+use Rattle.snap_runs.proofs.Steady.{fits_of}
+use Rattle.snap_runs_sharp.specs.Reached.{Reaches}
+use Rattle.snap_runs_sharp.proofs.Alone.{Alone, State, standing, alone_of, run_from}
+
+no_more : (x y : Bool) → (x && (y && false)) ≡ false
+no_more true true = refl
+no_more true false = refl
+no_more false y = refl
+
+module _ {V P M : Type 0} (a : Algorithm V P M) where
+  -- the state after the first of these items
+  run_is : (items xs : List Item) (t : ℕ) → ((u : ℕ) → u < length xs → item_at items (t + u) ≡ item_at xs u) →
+      run_from a t (typed_state a items t) xs ≡ typed_state a items (t + length xs)
+  run_is items [] t h = ap (typed_state a items) (let e : t ≡ t + zero = omega arith in e)
+  run_is items (y ∷ xs) t h =
+      let here : item_at items t ≡ y = ap (item_at items) (let e : t ≡ t + zero = omega arith in e) ∙ h zero (omega arith) in
+      ap (λ z. run_from a (suc t) (happens a (suc t) (typed_state a items t) z) xs) (sym here)
+      ∙ run_is items xs (suc t) (λ u lt. ap (item_at items) (let e : suc t + u ≡ t + suc u = omega arith in e) ∙ h (suc u) (omega arith))
+      ∙ ap (typed_state a items) (let e : suc t + length xs ≡ t + suc (length xs) = omega arith in e)
+
+  pub state_after : (xs ys : List Item) → typed_state a (xs ++ ys) (length xs) ≡ run_from a 0 (first_state a) xs
+  state_after xs ys =
+      ap (typed_state a (xs ++ ys)) (let e : length xs ≡ zero + length xs = omega arith in e)
+      ∙ sym (run_is (xs ++ ys) xs 0 (λ u lt. ap (item_at (xs ++ ys)) (let e : zero + u ≡ u = omega arith in e)
+      ∙ get_or_append_left xs ys (Step 0) u lt))
+
+  module _ (lines : Lines V P M) (listed : scans.Listed a lines) (run : scans.Execution a lines) where
+    abbrev items : List Item
+    items = run.items
+
+    abbrev r : Run
+    r = embed.run_of a items
+
+    -- a process that answers a scan at item t + 1 has made as many double collects as are counted
+    answered : (t i : ℕ) (d : Mode) (k : P) (m : M) (p : V) (c : ℕ) (view : List ℕ) → t < length items →
+        IsOneOf a.shape.n i → item_at items t ≡ Step i →
+        alone_of a (typed_state a items t) i ≡ standing d m p k c → a.move i d m p k ≡ Answer view → Reaches c r
+    answered t i d k m p c view short one is stands answers =
+        let x = typed_state a items t in
+        let control : (typed_at a x i).control ≡ At d k = ap (λ (y : Alone V P M). y.seat.control) stands in
+        let moves : a.move i d x.memory (typed_at a x i).variables k ≡ Answer view =
+        ap (λ (y : Alone V P M). a.move i d y.memory y.seat.variables k) stands ∙ answers in
+        let out : outcome r (suc t) ≡ Answered view =
+        embed.outcome_is a items run.fits run.does t short
+        ∙ ap (λ (y : Item). outcome_of (by_item a (suc t) x y)) is
+        ∙ ap (λ (y : Control P). outcome_of (by_step a (suc t) x.memory i (typed_at a x i) y)) control
+        ∙ ap (λ (v : Move V P M). outcome_of (by_move a (suc t) x.memory (typed_at a x i) k v)) moves in
+        let ends = answer_ends r (fits_of r run.fits) t view short out in
+        let call = ends.0 in
+        let finished : FinishedScan r i None call (suc t) view = subst (λ y. FinishedScan r y None call (suc t) view) (ap who is) ends.1 in
+        let order : call < suc t = finished.order in
+        let goes = scans.goes a lines listed run i one None call (suc t) t finished.scan (omega arith) (omega arith) in
+        let none : ends_double_collect r i (suc t) ≡ false =
+        ap (λ (o : Outcome). steps i (item r (suc t)) && (is_if_all (line_in r.source (process_at (before r (suc t)) i).status) && is_stepped o)) out
+        ∙ no_more (steps i (item r (suc t))) (is_if_all (line_in r.source (process_at (before r (suc t)) i).status)) in
+        record {
+          fits = fits_of r run.fits;
+          process = i;
+          call = call;
+          answer = suc t;
+          view = view;
+          finished = finished;
+          collects = count_not (ends_double_collect r i) call t (omega arith) none ∙ sym goes.collects ∙ ap
+              (λ (y : Alone V P M). y.seat.collects) stands;
+        }
+
+    -- the same of a schedule that ends with the step that answers
+    pub reaches : (start : List Item) (i : ℕ) (d : Mode) (k : P) (m : M) (p : V) (c : ℕ) (view : List ℕ) →
+        items ≡ start ++ Step i ∷ [] → IsOneOf a.shape.n i →
+        alone_of a (run_from a 0 (first_state a) start) i ≡ standing d m p k c → a.move i d m p k ≡ Answer view → Reaches c r
+    reaches start i d k m p c view is one stands answers =
+        let t = length start in
+        let size : length items ≡ length start + 1 = ap length is ∙ length-append start (Step i ∷ []) in
+        let last : item_at items t ≡ Step i = ap (λ xs. item_at xs t) is ∙ get_or-append_seam start (Step i) [] (Step 0) in
+        let there : typed_state a items t ≡ run_from a 0 (first_state a) start = ap (λ xs. typed_state a xs t) is ∙ state_after start (Step i ∷ []) in
+        answered t i d k m p c view (omega arith) one last (ap (λ (x : State a). alone_of a x i) there ∙ stands) answers

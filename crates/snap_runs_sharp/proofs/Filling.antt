@@ -1,0 +1,53 @@
+-- Lists that are filled place by place, and tests of all places.
+use Rattle.std.specs.Prelude.{◌≡◌, ℕ, ◌+◌, ◌-◌, ◌<◌, ◌≤◌, Bool, true, false, List, length, map, Some, None, slice_index_or, slice_set, refl}
+use Rattle.std.proofs.Common.{sym, ◌∙◌, ap, arith, inl, inr}
+use Rattle.std.proofs.Math.Nat.{eq-or-lt_of_le}
+use Rattle.std.proofs.lemmas.Grind.{get_or-set_at}
+use Rattle.std.proofs.lemmas.List.{get_or-set_other}
+use Rattle.snap_words.specs.Shape.{IsOneOf}
+use Rattle.snap_semantics.specs.Table.{places_to, all_true, first_true}
+use Rattle.snap_runs.proofs.Places.{all_pass, some_fails, first_found}
+
+-- the places below place j, counted from 1, have these values
+abbrev pub Filled : {A : Type 0} → (ℕ → A) → A → ℕ → List A → Type 0
+Filled f d j xs = (k : ℕ) → 0 < k → k < j → slice_index_or xs (k - 1) d ≡ f k
+
+pub filled_none : {A : Type 0} (f : ℕ → A) (d : A) (j : ℕ) (xs : List A) → j ≤ 1 → Filled f d j xs
+filled_none f d j xs le k pos lt = absurd (omega arith)
+
+pub filled_more : {A : Type 0} (f : ℕ → A) (d : A) (j i : ℕ) (xs : List A) (y : A) → 0 < j → j ≤ length xs → i ≡ j + 1 → y ≡ f j → Filled f d j xs →
+    Filled f d i (slice_set xs (j - 1) y)
+filled_more f d j i xs y pos le next is h k low high =
+    let at_most : k ≤ j = omega arith in
+    elim (eq-or-lt_of_le at_most) [
+      | inl same ↦ get_or-set_at xs (j - 1) (k - 1) y d (omega arith) (omega arith) ∙ is ∙ ap f (sym same)
+      | inr less ↦ get_or-set_other xs (j - 1) (k - 1) y d (λ e. absurd (omega arith)) ∙ h k low less
+    ]
+
+-- a test that every place passes
+pub all_hold : (f : ℕ → Bool) (n : ℕ) → ((k : ℕ) → IsOneOf n k → f k ≡ true) → all_true (map f (places_to n)) ≡ true
+all_hold f n h =
+    elim (all_true (map f (places_to n))) as (λ b. all_true (map f (places_to n)) ≡ b → b ≡ true) [
+      | true ↦ λ is. refl
+      | false ↦ λ is.
+          let r = some_fails f 1 n is in
+          absurd (let e : true ≡ false = sym (h r.0 (omega arith, omega arith)) ∙ r.3 in cc)
+    ] refl
+
+-- one that some place fails
+pub one_fails : (f : ℕ → Bool) (n k : ℕ) → IsOneOf n k → f k ≡ false → all_true (map f (places_to n)) ≡ false
+one_fails f n k one h =
+    elim (all_true (map f (places_to n))) as (λ b. all_true (map f (places_to n)) ≡ b → b ≡ false) [
+      | true ↦ λ is. absurd (let e : true ≡ false = sym (all_pass f 1 n is k (omega arith) (omega arith)) ∙ h in cc)
+      | false ↦ λ is. refl
+    ] refl
+
+-- and no first place where no place passes
+pub none_first : (f : ℕ → Bool) (n : ℕ) → ((k : ℕ) → IsOneOf n k → f k ≡ false) → first_true 1 (map f (places_to n)) ≡ None
+none_first f n h =
+    elim (first_true 1 (map f (places_to n))) as (λ o. first_true 1 (map f (places_to n)) ≡ o → o ≡ None) [
+      | Some k ↦ λ is.
+          let r = first_found 1 n f k is in
+          absurd (let e : true ≡ false = sym r.2 ∙ h k (omega arith, omega arith) in cc)
+      | None ↦ λ is. refl
+    ] refl

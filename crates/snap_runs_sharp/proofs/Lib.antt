@@ -1,0 +1,13 @@
+pub mod Alone
+pub mod Items
+pub mod Scenes
+pub mod Answering
+pub mod Filling
+pub mod Loops
+pub mod WalksOfU
+pub mod ReachedByU
+pub mod WalksOfB
+pub mod ReachedByB
+pub mod WalksOfM
+pub mod ReachedByM
+pub mod NoMore

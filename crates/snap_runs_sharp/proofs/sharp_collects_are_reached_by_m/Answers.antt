@@ -1,0 +1,5 @@
+use Rattle.snap_runs_sharp.proofs.ReachedByM.{is_reached_by_m_lem}
+use Rattle.snap_runs_sharp.proofs.sharp_collects_are_reached_by_m.Goals as goal
+
+pub returns : goal.returns
+returns c = is_reached_by_m_lem

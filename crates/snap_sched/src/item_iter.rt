@@ -1,0 +1,70 @@
+//! Goes through items, one by one.
+ghost use Rattle.std.specs.Prelude.{◌≡◌};
+
+use crate::items::Items;
+use crate::segments::{Segment, Segments};
+use snap_semantics::Item;
+use std::marker::Model;
+
+/// Goes through items in order; seen as the list of those that are still to come.
+#[derive(Debug, Drop)]
+pub struct ItemIter<'a> {
+    /// The process whose segment was begun last.
+    process: u32,
+    /// How many of its steps are left.
+    steps: u64,
+    /// The segments behind them.
+    rest: Segments<'a>,
+}
+
+impl<'a> Model for ItemIter<'a> {
+    ghost use Rattle.std.specs.Prelude.{List};
+    ghost use Rattle.std.specs.List.{AllByRecursion};
+    ghost use Rattle.snap_semantics.specs.declared.process.Item.{Item};
+    ghost use Rattle.snap_sched.specs.ItemsLeft.{IsSome, items_left};
+
+    ghost Value = { List Item };
+
+    ghost view = { λ c. items_left c.process c.steps c.rest };
+
+    ghost invariant = { λ c. AllByRecursion IsSome c.rest };
+}
+
+impl<'a> Iterator for ItemIter<'a> {
+    type Item = Item;
+
+    ghost use Rattle.std.specs.Iterator.{YieldsFirst, item_count};
+
+    ghost next_gives = { YieldsFirst (λ s. s) };
+
+    ghost remaining = { item_count (λ s. s) };
+
+    fn next(&mut self) -> Option<Item> {
+        if self.steps > 0 {
+            self.steps -= 1;
+            return Some(Item::Step(self.process));
+        }
+        match self.rest.next()? {
+            Segment::Steps { process, count } => {
+                self.process = process;
+                self.steps = count - 1;
+                Some(Item::Step(process))
+            }
+            Segment::Call { process, op } => Some(Item::Call(process, op)),
+            Segment::Crash { process } => Some(Item::Crash(process)),
+        }
+    }
+}
+
+impl Items {
+    /// Goes through the items in order.
+    pub fn iter(&self) -> ItemIter<'_>
+        ensures { result ≡ self.now }
+    {
+        ItemIter {
+            process: 0,
+            steps: 0,
+            rest: self.segments(),
+        }
+    }
+}

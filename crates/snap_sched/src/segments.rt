@@ -1,0 +1,106 @@
+//! How items are kept: where each segment begins, and the calls and crashes apart from the steps.
+ghost use Rattle.std.specs.Prelude.{◌≡◌};
+ghost use Rattle.snap_sched.specs.Kept.{single_segment, segments_of};
+
+use snap_semantics::Op;
+use std::marker::Model;
+
+/// A segment of a list of items: steps of one process side by side, or one call or crash.
+#[derive(Clone, Copy, Debug, PartialEq, Eq)]
+pub enum Segment {
+    Steps { process: u32, count: u64 },
+    Call { process: u32, op: Op },
+    Crash { process: u32 },
+}
+
+/// A segment as it is kept: how many items stand before it, and its process. It ends where the next one begins.
+#[derive(Clone, Copy, Debug, PartialEq, Eq)]
+pub struct SegmentStart {
+    pub start: u32,
+    pub process: u32,
+}
+
+/// A segment that is no steps.
+#[derive(Clone, Copy, Debug, PartialEq, Eq)]
+pub enum CallOrCrash {
+    Call(Op),
+    Crash,
+}
+
+/// A call or a crash as it is kept, beside its segment: how many items stand before it, and what it is.
+#[derive(Clone, Copy, Debug, PartialEq, Eq)]
+pub struct Single {
+    pub start: u32,
+    pub what: CallOrCrash,
+}
+
+/// A call or a crash of a process.
+fn single_segment(process: u32, what: CallOrCrash) -> Segment
+    ensures { result ≡ single_segment process what }
+{
+    match what {
+        CallOrCrash::Call(op) => Segment::Call { process, op },
+        CallOrCrash::Crash => Segment::Crash { process },
+    }
+}
+
+/// Goes through segments in order; seen as the list of those that are still to come.
+#[derive(Debug, Drop)]
+pub struct Segments<'a> {
+    segments: &'a [SegmentStart],
+    singles: &'a [Single],
+    /// How many items there are in all.
+    len: u32,
+}
+
+impl<'a> Model for Segments<'a> {
+    ghost use Rattle.std.specs.Prelude.{List};
+    ghost use Rattle.snap_sched.specs.Kept.{segments_of};
+    ghost use Rattle.snap_sched.specs.declared.segments.Segment.{Segment};
+
+    ghost Value = { List Segment };
+
+    ghost view = { λ s. segments_of s.segments.now s.singles.now s.len };
+}
+
+impl<'a> Segments<'a> {
+    /// The segments that are kept so, of so many items in all.
+    pub(crate) fn new(segments: &'a [SegmentStart], singles: &'a [Single], len: u32) -> Segments<'a>
+        ensures { result ≡ segments_of segments.now singles.now len }
+    {
+        Segments {
+            segments,
+            singles,
+            len,
+        }
+    }
+}
+
+impl<'a> Iterator for Segments<'a> {
+    type Item = Segment;
+
+    ghost use Rattle.std.specs.Iterator.{YieldsFirst, item_count};
+
+    ghost next_gives = { YieldsFirst (λ s. s) };
+
+    ghost remaining = { item_count (λ s. s) };
+
+    fn next(&mut self) -> Option<Segment> {
+        let (segment, rest) = self.segments.split_first()?;
+        self.segments = rest;
+        if let Some((single, more)) = self.singles.split_first() {
+            if single.start == segment.start {
+                self.singles = more;
+                return Some(single_segment(segment.process, single.what));
+            }
+        }
+        let end = match rest.first() {
+            Some(next) => next.start,
+            None => self.len,
+        };
+        Some(Segment::Steps {
+            process: segment.process,
+            count: u64::from(end.saturating_sub(segment.start)),
+        })
+    }
+}

@@ -1,0 +1,16 @@
+//! Whose an item is.
+ghost use Rattle.std.specs.Prelude.{◌≡◌};
+ghost use Rattle.snap_semantics.specs.Table.{who};
+
+use crate::process::Item;
+
+/// The process of an item.
+pub fn who(item: Item) -> u32
+    ensures { result ≡ who item }
+{
+    match item {
+        Item::Step(i) => i,
+        Item::Call(i, _) => i,
+        Item::Crash(i) => i,
+    }
+}

@@ -1,0 +1,3 @@
+pub mod TextOfU
+pub mod TextOfB
+pub mod TextOfM

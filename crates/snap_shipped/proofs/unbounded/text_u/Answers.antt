@@ -1,0 +1,5 @@
+use Rattle.snap_shipped.proofs.TextOfU.{text_is_u}
+use Rattle.snap_shipped.proofs.unbounded.text_u.Goals as goal
+
+pub returns : goal.returns
+returns c = text_is_u

@@ -1,0 +1,313 @@
+-- Runs that go on: updates that keep their order, and a linearization of a prefix that no longer run can keep.
+use Rattle.std.specs.Prelude.{◌≡◌, ◌⊎◌, ℕ, ◌<◌, ◌≤◌, ◌^◌, true, length, ◌&&◌, nat_eq, zero, suc, List, [], ◌∷◌, ◌++◌, Option, Some, None, refl}
+use Rattle.std.specs.List.{AllByRecursion, AllZip, Contains}
+use Rattle.std.proofs.Common.{sym, ◌∙◌, ap, subst, arith, inl, inr}
+use Rattle.std.proofs.lemmas.Bool.{cases_eq, cases_lt}
+use Rattle.std.proofs.lemmas.List.Elements.{All-contains, All-from_recursion, recursion_from_All}
+use Rattle.snap_semantics.specs.declared.process.Item.{Item}
+use Rattle.snap_semantics.specs.declared.process.Item.TheVariants.{Call}
+use Rattle.snap_semantics.specs.declared.process.Op.TheVariants.{Scan, Update}
+use Rattle.snap_semantics.specs.declared.process.Outcome.{Outcome}
+use Rattle.snap_semantics.specs.declared.process.Outcome.TheVariants.{Called, Finished}
+use Rattle.snap_semantics.specs.Table.{who}
+use Rattle.snap_words.specs.Shape.{IsOneOf}
+use Rattle.snap_runs.specs.Run.{Run, IsValidRun, item, outcome}
+use Rattle.snap_runs.specs.Linearization.{after, Allows, RunsFrom, IsLinearization}
+use Rattle.snap_runs.specs.Operation.{Action, Sets, Sees, Operation, TookPlace, IsOperation, EndedBefore}
+use Rattle.snap_runs.specs.Placement.{TakesPlaceAt, IsPlacedLinearization}
+use Rattle.snap_runs.specs.WriteStrong.{UpdateCall, updates, IsPrefix, IsWriteStrongChoice}
+use Rattle.snap_runs.proofs.OneOperation.{has_call, one_operation}
+use Rattle.snap_runs.proofs.Order.{Pairs, Apart, all_pairs, all_weaker, keeps_order}
+use Rattle.snap_runs_of_u.specs.ListingU.{listing_u}
+use Rattle.snap_runs_of_u.specs.Promises.{run_of, square}
+use Rattle.snap_single.proofs.LinearSample.{times, linearized, finishes, answers, is_call, none_in, not_before}
+use Rattle.snap_single.proofs.PlacementSample.{open_update, rising}
+
+-- In the worked run the first update is listed once it has written, though it has not ended; it stays first.
+keeps : IsPrefix (updates (open_update ∷ [])) (updates linearized)
+keeps = (record { process = 2; call = 38; word = 2; value = 6 } ∷ [], refl)
+
+-- Two updates are called, of two words.
+abbrev asked : List Item
+asked = Call 1 (Update 1 7) ∷ Call 2 (Update 2 8) ∷ []
+
+-- The second one goes first; its process scans and does not see the first one, which goes on only then.
+abbrev rest : List Item
+rest = times 17 2 ++ (Call 2 Scan ∷ (times 13 2 ++ times 17 1))
+
+abbrev short : Run
+short = run_of 2 asked
+
+abbrev long : Run
+long = run_of 2 (asked ++ rest)
+
+abbrev open_first : Operation
+open_first = record { process = 1; call = 1; end = None; action = Sets 1 7 }
+
+abbrev open_second : Operation
+open_second = record { process = 2; call = 2; end = None; action = Sets 2 8 }
+
+abbrev first : Operation
+first = record { process = 1; call = 1; end = Some 50; action = Sets 1 7 }
+
+abbrev second : Operation
+second = record { process = 2; call = 2; end = Some 19; action = Sets 2 8 }
+
+abbrev scan : Operation
+scan = record { process = 2; call = 20; end = Some 33; action = Sees (0 ∷ 8 ∷ []) }
+
+-- As long as neither has written, both may be listed, by what a linearization is.
+listed_both : IsLinearization short (open_first ∷ open_second ∷ [])
+listed_both = record {
+  took_place = All-from_recursion (IsOperation short) (open_first ∷ open_second ∷ []) (
+    (
+      record {
+        process = (omega arith, omega arith);
+        call = refl;
+        called = refl;
+        first = omega arith;
+        order = omega arith;
+        last = omega arith;
+        goes_on = λ t lt less done. omega arith;
+      },
+      λ done. let is : ◌≡◌ {A = Outcome} Called Finished = done.1 in cc,
+    ),
+    (
+      (
+        record {
+          process = (omega arith, omega arith);
+          call = refl;
+          called = refl;
+          first = omega arith;
+          order = omega arith;
+          last = omega arith;
+          goes_on = λ t lt less done. omega arith;
+        },
+        λ done. let is : ◌≡◌ {A = Outcome} Called Finished = done.1 in cc,
+      ),
+      tt,
+    ),
+  );
+  once = λ i j d lt less. (all_pairs Apart (open_first ∷ open_second ∷ []) both_apart i j d lt less).0;
+  complete = λ o took ended. absurd (none_ended o.process o.call ended.0 o.action (subst (λ y. TookPlace short o.process o.call y o.action) ended.1 took));
+  order = keeps_order (open_first ∷ open_second ∷ []) (not_ended open_first open_first refl, (not_ended open_second open_second refl, tt)) both_apart;
+  runs = ((omega arith, omega arith), ((omega arith, omega arith), tt));
+}
+  where
+    not_ended : (o p : Operation) → o.end ≡ None → EndedBefore o p → ⊥
+    not_ended o p is ended = let both : ◌≡◌ {A = Option ℕ} None (Some ended.0) = sym is ∙ ended.1 in cc
+
+    both_apart : Pairs Apart (open_first ∷ open_second ∷ [])
+    both_apart = (((λ same. omega arith, not_ended open_second open_first refl), tt), (tt, tt))
+
+    none_ended : (i c e : ℕ) (a : Action) → TookPlace short i c (Some e) a → ⊥
+    none_ended i c e (Sets word value) took =
+        none_in (λ t. finishes (outcome short t)) 0 2 e refl (let lt : c < e = took.1 in omega arith) took.0.last (ap finishes took.2.1)
+    none_ended i c e (Sees view) took =
+        none_in (λ t. answers (outcome short t)) 0 2 e refl (let lt : c < e = took.order in omega arith) took.scan.last (ap answers took.ends.1)
+
+-- the operations of the longer run
+first_took_place : IsOperation long first
+first_took_place = (
+  record {
+    process = (omega arith, omega arith);
+    call = refl;
+    called = refl;
+    first = omega arith;
+    order = omega arith;
+    last = omega arith;
+    goes_on = λ t lt less done. none_in (λ u. nat_eq (who (item long u)) 1 && finishes (outcome long u)) 1 49 t refl lt (omega arith)
+        (ap (λ y. nat_eq y 1 && finishes (outcome long t)) done.0 ∙ ap finishes done.1);
+  },
+  omega arith,
+  (refl, refl),
+)
+
+second_took_place : IsOperation long second
+second_took_place = (
+  record {
+    process = (omega arith, omega arith);
+    call = refl;
+    called = refl;
+    first = omega arith;
+    order = omega arith;
+    last = omega arith;
+    goes_on = λ t lt less done. none_in (λ u. finishes (outcome long u)) 2 18 t refl lt (omega arith) (ap finishes done.1);
+  },
+  omega arith,
+  (refl, refl),
+)
+
+scan_took_place : IsOperation long scan
+scan_took_place = record {
+  scan = record {
+    process = (omega arith, omega arith);
+    starts = (refl, refl);
+    first = omega arith;
+    order = omega arith;
+    last = omega arith;
+    goes_on = λ t view lt less ends. none_in (λ u. answers (outcome long u)) 20 32 t refl lt (omega arith) (ap answers ends.1);
+  };
+  order = omega arith;
+  ends = (refl, refl);
+}
+
+-- and no others
+call_at : (c : ℕ) → 0 < c → c ≤ 50 → is_call (item long c) ≡ true → (c ≡ 1) ⊎ ((c ≡ 2) ⊎ (c ≡ 20))
+call_at c pos le call =
+    elim (cases_eq c 1) [
+      | inl is ↦ inl is
+      | inr not_1 ↦ elim (cases_eq c 2) [
+        | inl is ↦ inr (inl is)
+        | inr not_2 ↦ elim (cases_eq c 20) [
+          | inl is ↦ inr (inr is)
+          | inr not_20 ↦ elim (cases_lt c 20) [
+            | inl lt ↦ absurd (none_in (λ t. is_call (item long t)) 2 19 c refl (omega arith) (omega arith) call)
+            | inr more ↦ absurd (none_in (λ t. is_call (item long t)) 20 50 c refl (omega arith) le call)
+          ]
+        ]
+      ]
+    ]
+
+abbrev IsOneOfThem : Operation → Type 0
+IsOneOfThem o = (o ≡ first) ⊎ ((o ≡ second) ⊎ (o ≡ scan))
+
+one_of_them : (o : Operation) → IsOperation long o → IsOneOfThem o
+one_of_them o took =
+    let called = has_call long o took in
+    elim (call_at o.call called.first called.last (ap is_call called.is)) [
+      | inl is ↦ inl (one_operation long o first took first_took_place is)
+      | inr more ↦ elim more [
+        | inl is ↦ inr (inl (one_operation long o second took second_took_place is))
+        | inr is ↦ inr (inr (one_operation long o scan took scan_took_place is))
+      ]
+    ]
+
+-- They take place in this order.
+abbrev linear : List Operation
+linear = second ∷ scan ∷ first ∷ []
+
+linear_apart : Pairs Apart linear
+linear_apart = (
+  ((λ same. omega arith, not_before 2 33 scan second refl refl (omega arith)), ((λ same. omega arith, not_before 2 50 first second refl refl (omega arith)), tt)),
+  (((λ same. omega arith, not_before 20 50 first scan refl refl (omega arith)), tt), (tt, tt)),
+)
+
+contains : (o : Operation) → IsOneOfThem o → Contains linear o
+contains o (inl is) = subst (Contains linear) (sym is) (2, omega arith, refl)
+contains o (inr (inl is)) = subst (Contains linear) (sym is) (0, omega arith, refl)
+contains o (inr (inr is)) = subst (Contains linear) (sym is) (1, omega arith, refl)
+
+linearizes : IsLinearization long linear
+linearizes = record {
+  took_place = All-from_recursion (IsOperation long) linear (second_took_place, (scan_took_place, (first_took_place, tt)));
+  once = λ i j d lt less. (all_pairs Apart linear linear_apart i j d lt less).0;
+  complete = λ o took ended. contains o (one_of_them o took);
+  order = keeps_order linear
+      (not_before 2 19 second second refl refl (omega arith), (not_before 20 33 scan scan refl refl (omega arith), (not_before 1 50 first first refl refl (omega arith), tt)))
+      linear_apart;
+  runs = ((omega arith, omega arith), (refl, ((omega arith, omega arith), tt)));
+}
+
+-- Each at its place: the second update writes at item 18, and the first one at item 49.
+linear_places : AllZip (TakesPlaceAt 32 long) linear (18 ∷ 20 ∷ 49 ∷ [])
+linear_places = (
+  record { called = omega arith; within = omega arith; not_ended = λ e is. let same : 19 ≡ e = cc in omega arith; happens = (omega arith, refl) },
+  (
+    record { called = omega arith; within = omega arith; not_ended = λ e is. let same : 33 ≡ e = cc in omega arith; happens = refl },
+    (record { called = omega arith; within = omega arith; not_ended = λ e is. let same : 50 ≡ e = cc in omega arith; happens = (omega arith, refl) }, tt),
+  ),
+)
+
+linear_placed : IsPlacedLinearization 32 long linear (18 ∷ 20 ∷ 49 ∷ [])
+linear_placed = record {
+  linearization = linearizes;
+  each = linear_places;
+  in_order = rising 18 20 49 (omega arith) (omega arith);
+  complete = λ o t took at. contains o (one_of_them o took);
+}
+
+-- Where the first update comes first, no scan sees word 1 as it was.
+abbrev IsNot : Operation → Operation → Type 0
+IsNot p o = o ≡ p → ⊥
+
+another : (o p q : Operation) → o ≡ p → (p.call ≡ q.call → ⊥) → IsNot q o
+another o p q is differ same = differ (ap (λ (y : Operation). y.call) (sym is ∙ same))
+
+next_not_seen : (x : ℕ) (o : Operation) (os : List Operation) → IsOneOfThem o → RunsFrom (7 ∷ x ∷ []) (o ∷ os) →
+    ((y : ℕ) → RunsFrom (7 ∷ y ∷ []) os → AllByRecursion (IsNot scan) os) → AllByRecursion (IsNot scan) (o ∷ os)
+next_not_seen x o os (inl is) runs then = (
+  another o first scan is (λ same. omega arith),
+  then x (subst (λ p. RunsFrom (after (7 ∷ x ∷ []) p.action) os) is runs.1),
+)
+next_not_seen x o os (inr (inl is)) runs then = (
+  another o second scan is (λ same. omega arith),
+  then 8 (subst (λ p. RunsFrom (after (7 ∷ x ∷ []) p.action) os) is runs.1),
+)
+next_not_seen x o os (inr (inr is)) runs then =
+    let view : ◌≡◌ {A = List ℕ} (0 ∷ 8 ∷ []) (7 ∷ x ∷ []) = subst (λ p. Allows (7 ∷ x ∷ []) p.action) is runs.0 in
+    absurd (let same : ◌≡◌ {A = ℕ} 0 7 = cc in omega arith)
+
+not_seen : (x : ℕ) (os : List Operation) → AllByRecursion IsOneOfThem os → RunsFrom (7 ∷ x ∷ []) os → AllByRecursion (IsNot scan) os
+not_seen x [] them runs = tt
+not_seen x (o ∷ os) them runs = next_not_seen x o os them.0 runs (λ y more. not_seen y os them.1 more)
+
+-- whose update comes first
+abbrev who_first : List UpdateCall → ℕ
+who_first [] = 0
+who_first (u ∷ us) = u.process
+
+-- a list that begins with the first update, or not
+begins : (o : Operation) (os : List Operation) → IsOneOfThem o → AllByRecursion IsOneOfThem os → RunsFrom (0 ∷ 0 ∷ []) (o ∷ os) →
+    IsPrefix (updates (open_first ∷ open_second ∷ [])) (updates (o ∷ os)) → AllByRecursion (IsNot scan) (o ∷ os)
+begins o os (inl is) them runs prefix = (
+  another o first scan is (λ same. omega arith),
+  not_seen 0 os them (subst (λ p. RunsFrom (after (0 ∷ 0 ∷ []) p.action) os) is runs.1),
+)
+begins o os (inr (inl is)) them runs prefix =
+    let same = (subst (λ p. IsPrefix (updates (open_first ∷ open_second ∷ [])) (updates (p ∷ os))) is prefix).1 in
+    absurd (let process : ◌≡◌ {A = ℕ} 1 2 = ap who_first same in omega arith)
+begins o os (inr (inr is)) them runs prefix =
+    let view : ◌≡◌ {A = List ℕ} (0 ∷ 8 ∷ []) (0 ∷ 0 ∷ []) = subst (λ p. Allows (0 ∷ 0 ∷ []) p.action) is runs.0 in
+    absurd (let same : ◌≡◌ {A = ℕ} 8 0 = cc in omega arith)
+
+-- So no linearization of the longer run has the updates in the order in which they were called.
+too_soon : (os : List Operation) → IsLinearization long os → IsPrefix (updates (open_first ∷ open_second ∷ [])) (updates os) → ⊥
+too_soon [] h prefix =
+    let there = h.complete scan scan_took_place (33, refl) in let lt : there.0 < 0 = there.1 in omega arith
+too_soon (o ∷ os) h prefix =
+    let them = all_weaker (IsOperation long) IsOneOfThem (o ∷ os) one_of_them (recursion_from_All (IsOperation long) (o ∷ os) h.took_place) in
+    let none = begins o os them.0 them.1 h.runs prefix in
+    All-contains (IsNot scan) (o ∷ os) scan (All-from_recursion (IsNot scan) (o ∷ os) none) (h.complete scan scan_took_place (33, refl)) refl
+
+-- the items are of the two processes
+each_times : (n i : ℕ) → IsOneOf 2 i → AllByRecursion (λ x. IsOneOf 2 (who x)) (times n i)
+each_times zero i one = tt
+each_times (suc n) i one = (one, each_times n i one)
+
+each_append : (xs ys : List Item) → AllByRecursion (λ x. IsOneOf 2 (who x)) xs → AllByRecursion (λ x. IsOneOf 2 (who x)) ys →
+    AllByRecursion (λ x. IsOneOf 2 (who x)) (xs ++ ys)
+each_append [] ys h k = k
+each_append (x ∷ xs) ys h k = (h.0, each_append xs ys h.1 k)
+
+long_fits : IsValidRun long
+long_fits = record {
+  all = (
+    (omega arith, omega arith),
+    (
+      (omega arith, omega arith),
+      each_append (times 17 2) (Call 2 Scan ∷ (times 13 2 ++ times 17 1)) (each_times 17 2 (omega arith, omega arith)) (
+        (omega arith, omega arith),
+        each_append (times 13 2) (times 17 1) (each_times 13 2 (omega arith, omega arith)) (each_times 17 1 (omega arith, omega arith)),
+      ),
+    ),
+  );
+}
+
+-- A choice that lists both as soon as they are called is not write strong. This is why an update is listed only once it has written.
+not_a_choice : (choose : List Item → List Operation) → choose asked ≡ open_first ∷ open_second ∷ [] →
+    IsWriteStrongChoice listing_u (square 2) (Some (2 ^ 64)) choose → ⊥
+not_a_choice choose is c =
+    let short : length (asked ++ rest) < 2 ^ 64 = omega arith in
+    too_soon (choose (asked ++ rest)) (c.linearizes (asked ++ rest) short long_fits)
+    (subst (λ os. IsPrefix (updates os) (updates (choose (asked ++ rest)))) is (c.keeps_updates asked rest short long_fits))

@@ -1,0 +1,117 @@
+-- A linearization in which scans are completed is one without them.
+use Rattle.std.specs.Prelude.{◌≡◌, ℕ, zero, suc, ◌<◌, Bool, true, false, List, [], ◌∷◌, length, Option, Some, None, cond, filter, slice_index_or, replicate, refl}
+use Rattle.std.specs.List.{AllByRecursion, AllPairs, Contains}
+use Rattle.std.proofs.Common.{sym, ◌∙◌, ap, subst, arith, inl, inr}
+use Rattle.std.proofs.lemmas.List.Elements.{All-from_recursion, recursion_from_All}
+use Rattle.snap_runs.specs.Run.{Run, run_of_items}
+use Rattle.snap_runs.specs.Operation.{Action, Sets, Sees, Operation, IsOperation, EndedBefore}
+use Rattle.snap_runs.specs.Linearization.{after, Allows, RunsFrom, IsLinearization}
+use Rattle.snap_runs.proofs.Order.{Pairs, Apart, all_pairs, keeps_order}
+use Rattle.snap_strong.specs.StrongLinearization.{IsOpenScan, IsCompleted, IsCompletedLinearization, StrongIsLinearizable}
+
+-- all but a scan that has not ended
+abbrev is_told : Option ℕ → Action → Bool
+is_told (Some e) a = true
+is_told None (Sets word value) = true
+is_told None (Sees view) = false
+
+abbrev tells : Operation → Bool
+tells o = is_told o.end o.action
+
+abbrev told : List Operation → List Operation
+told os = filter tells os
+
+all_if : (Q : Operation → Type 0) (b : Bool) (o : Operation) (os : List Operation) → (b ≡ true → Q o) →
+    AllByRecursion Q os → AllByRecursion Q (cond b (o ∷ os) os)
+all_if Q true o os gives rest = (gives refl, rest)
+all_if Q false o os gives rest = rest
+
+all_told : (P Q : Operation → Type 0) (os : List Operation) → ((o : Operation) → P o → tells o ≡ true → Q o) →
+    AllByRecursion P os → AllByRecursion Q (told os)
+all_told P Q [] gives h = tt
+all_told P Q (o ∷ os) gives h = all_if Q (tells o) o (told os) (gives o h.0) (all_told P Q os gives h.1)
+
+pairs_if : (R : Operation → Operation → Type 0) (b : Bool) (o : Operation) (os : List Operation) →
+    AllByRecursion (R o) os → Pairs R os → Pairs R (cond b (o ∷ os) os)
+pairs_if R true o os h rest = (h, rest)
+pairs_if R false o os h rest = rest
+
+pairs_told : (R : Operation → Operation → Type 0) (os : List Operation) → Pairs R os → Pairs R (told os)
+pairs_told R [] h = tt
+pairs_told R (o ∷ os) h = pairs_if R (tells o) o (told os) (all_told (R o) (R o) os (λ x r is. r) h.0) (pairs_told R os h.1)
+
+later : (x : Operation) (xs : List Operation) (o : Operation) → Contains xs o → Contains (x ∷ xs) o
+later x xs o there = (let lt : there.0 < length xs = there.1 in (suc there.0, omega arith, there.2))
+
+contains_if : (b : Bool) (x : Operation) (xs : List Operation) (o : Operation) → Contains xs o →
+    Contains (cond b (x ∷ xs) xs) o
+contains_if true x xs o there = later x xs o there
+contains_if false x xs o there = there
+
+contains_first : (b : Bool) (x : Operation) (xs : List Operation) (o : Operation) → b ≡ true → x ≡ o →
+    Contains (cond b (x ∷ xs) xs) o
+contains_first true x xs o is same = (0, omega arith, same)
+contains_first false x xs o is same = absurd (cc)
+
+contains_told : (os : List Operation) (o : Operation) (k : ℕ) → k < length os → slice_index_or os k o ≡ o →
+    tells o ≡ true → Contains (told os) o
+contains_told [] o k lt at is = absurd (omega arith)
+contains_told (x ∷ xs) o zero lt at is = contains_first (tells x) x (told xs) o (ap tells at ∙ is) at
+contains_told (x ∷ xs) o (suc k) lt at is = contains_if (tells x) x (told xs) o (contains_told xs o k (omega arith) at is)
+
+-- A scan that is left out changes nothing.
+runs_if : (values : List ℕ) (end : Option ℕ) (b : Action) (o : Operation) (os : List Operation) → o.action ≡ b →
+    Allows values o.action → RunsFrom (after values b) os →
+    RunsFrom values (cond (is_told end b) (o ∷ os) os)
+runs_if values (Some e) b o os is allows rest = (allows, subst (λ y. RunsFrom (after values y) os) (sym is) rest)
+runs_if values None (Sets word value) o os is allows rest = (allows, subst (λ y. RunsFrom (after values y) os) (sym is) rest)
+runs_if values None (Sees view) o os is allows rest = rest
+
+runs_told : (values : List ℕ) (os : List Operation) → RunsFrom values os → RunsFrom values (told os)
+runs_told values [] h = tt
+runs_told values (o ∷ os) h = runs_if values o.end o.action o (told os) refl h.0 (runs_told (after values o.action) os h.1)
+
+-- what holds of each place and each later one
+pairs_from : (R : Operation → Operation → Type 0) (os : List Operation) → AllPairs R os → Pairs R os
+pairs_from R [] h = tt
+pairs_from R (o ∷ os) h = (
+  recursion_from_All (R o) os (λ k d lt. h 0 (suc k) d (omega arith) (omega arith)),
+  pairs_from R os (λ i j d lt short. h (suc i) (suc j) d (omega arith) (omega arith)),
+)
+
+module _ (r : Run) where
+  open_is_untold : (i c : ℕ) (end : Option ℕ) (b : Action) → IsOpenScan r i c end b → is_told end b ≡ true → ⊥
+  open_is_untold i c (Some e) b h is = h
+  open_is_untold i c None (Sets word value) h is = h
+  open_is_untold i c None (Sees view) h is = cc
+
+  told_takes_place : (o : Operation) → IsCompleted r o → tells o ≡ true → IsOperation r o
+  told_takes_place o (inl took) is = took
+  told_takes_place o (inr h) is = absurd (open_is_untold o.process o.call o.end o.action h is)
+
+  ended_is_told : (end : Option ℕ) (e : ℕ) (b : Action) → end ≡ Some e → is_told end b ≡ true
+  ended_is_told (Some d) e b some = refl
+  ended_is_told None e b some = absurd (cc)
+
+  pub told_is_linearization : (os : List Operation) → IsCompletedLinearization r os → IsLinearization r (told os)
+  told_is_linearization os h =
+      let apart : Pairs Apart os = pairs_from Apart os (λ j k d lt short. (
+        h.once j k d lt short,
+        λ before. let less : k < j = h.order k j d short (omega arith) before in let no : ⊥ = omega arith in no,
+      )) in
+      let alone : AllByRecursion (λ o. EndedBefore o o → ⊥) os = recursion_from_All (λ o. EndedBefore o o → ⊥) os
+      (λ k d lt before. let less : k < k = h.order k k d lt lt before in let no : ⊥ = omega arith in no) in
+      let kept = pairs_told Apart os apart in
+      record {
+        took_place = All-from_recursion (IsOperation r) (told os)
+            (all_told (IsCompleted r) (IsOperation r) os told_takes_place (recursion_from_All (IsCompleted r) os h.took_place));
+        once = λ j k d lt short. (all_pairs Apart (told os) kept j k d lt short).0;
+        complete = λ o took some. let there = h.complete o took some in
+            contains_told os o there.0 there.1 there.2 (ended_is_told o.end some.0 o.action some.1);
+        order = keeps_order (told os) (all_told (λ o. EndedBefore o o → ⊥) (λ o. EndedBefore o o → ⊥) os (λ o none is. none) alone) kept;
+        runs = runs_told (replicate r.shape.w 0) os h.runs;
+      }
+
+pub strong_is_linearizable_lem : StrongIsLinearizable
+strong_is_linearizable_lem source shape strong items fits =
+    (told (strong.0 items), told_is_linearization (run_of_items source shape items) (strong.0 items) (strong.1.linearizes items fits))

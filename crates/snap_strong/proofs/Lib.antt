@@ -1,0 +1,10 @@
+mod Futures
+mod Begins
+mod Apart
+mod NotStrong
+mod LastCall
+mod Placed
+mod OneWordItems
+mod OneWordChoice
+mod OneWordStays
+mod Completed

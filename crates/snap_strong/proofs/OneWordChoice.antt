@@ -1,0 +1,383 @@
+-- The operations of the listing of one word in the order of their first steps are a linearization of each of its runs.
+use Rattle.std.specs.Prelude.{◌≡◌, ◌≢◌, ℕ, zero, suc, ◌-◌, ◌<◌, ◌≤◌, max, Bool, true, false, List, [], ◌∷◌, ◌++◌, map, length, Option, Some, None, nat_eq, replicate, refl}
+use Rattle.std.specs.List.{AllByRecursion, Contains}
+use Rattle.std.proofs.Common.{sym, ◌∙◌, ap, subst, arith, inl, inr}
+use Rattle.std.proofs.Math.Nat.{eq-or-lt_of_le}
+use Rattle.std.proofs.lemmas.Bool.{cases_eq}
+use Rattle.std.proofs.lemmas.List.{length-replicate, get_or-replicate}
+use Rattle.std.proofs.lemmas.List.Elements.{All-from_recursion, Contains-append_left, Contains-push}
+use Rattle.snap_words.specs.Shape.{IsOneOf}
+use Rattle.snap_words.specs.Kind.{initial_word}
+use Rattle.snap_words.specs.Word.{Word}
+use Rattle.snap_words.specs.declared.kind.KindTag.TheVariants.{Multi}
+use Rattle.snap_semantics.specs.declared.process.Activity.{Activity}
+use Rattle.snap_semantics.specs.declared.process.Item.{Item}
+use Rattle.snap_semantics.specs.declared.process.Item.TheVariants.{Call}
+use Rattle.snap_semantics.specs.declared.process.Op.{Op}
+use Rattle.snap_semantics.specs.declared.process.Outcome.{Outcome}
+use Rattle.snap_semantics.specs.declared.process.Outcome.TheVariants as outcome
+use Rattle.snap_semantics.specs.declared.process.Status.{Status}
+use Rattle.snap_semantics.specs.declared.process.Status.TheVariants.{Idle, Busy}
+use Rattle.snap_semantics.specs.State.{Process, State, nobody, process_at, values, initial_process}
+use Rattle.snap_semantics.specs.Table.{done, who}
+use Rattle.snap_runs.specs.Audit.{last_call}
+use Rattle.snap_runs.specs.Operation.{Action, Operation, HasEnded, EndedBefore}
+use Rattle.snap_runs.specs.Run.{Run, IsValidRun, state, item, outcome as outcome_at, run_of_items}
+use Rattle.snap_runs.proofs.Calls.{EndsWith, IsEnd, Calls, UnderCall, UnderAt, item_one, one_call, under, status}
+use Rattle.snap_runs.proofs.Computing.{other_number, same_number}
+use Rattle.snap_runs.proofs.Embedding.{next_state}
+use Rattle.snap_runs.proofs.Linear.{same_parts}
+use Rattle.snap_runs_of_u.specs.ListingU.{a, s}
+use Rattle.snap_runs.proofs.Order.{Pairs, Apart, all_pairs, all_push, all_weaker, pairs_push, keeps_order}
+use Rattle.snap_strong.specs.StrongLinearization.{IsCompleted, IsCompletedLinearization}
+use Rattle.snap_strong.specs.OneWord.{one_word, shared_by}
+use Rattle.snap_strong.proofs.LastCall.{last_call_is}
+use Rattle.snap_strong.proofs.OneWordItems.{booked, process, Stage, idle, stage_map, stage_begun, stage_closed, Leaves, Quiet, Begins, Closes, item_does}
+use Rattle.snap_strong.proofs.Placed.{op_of, outcome_of, ends_so, ends_is_end, same_action, end_at, ended, not_ended_before, ended_now, EndUpTo, Placed, placed_longer, placed_closed, ended_at, placed_shorter, not_before_itself, completed, placed, all_map, all_both, contained, Contains-map, pairs_ended, RunsTo, starts_from, runs_ended, segments_more}
+
+-- the operations that have taken place up to item t + 1, where these have up to item t
+abbrev pub booked_at : Run → ℕ → List Operation → List Operation
+booked_at r t os =
+    booked (who (item r (suc t))) (last_call r (who (item r (suc t))) t) (suc t) (values (state r t)) (outcome_at r (suc t))
+    (process_at (state r t) (who (item r (suc t)))).status os
+
+-- the operations that have taken place up to item t
+abbrev pub taken : Run → ℕ → List Operation
+taken r zero = []
+taken r (suc t) = booked_at r t (taken r t)
+
+-- None of process i has taken place and not ended.
+abbrev Free : ℕ → List Operation → Type 0
+Free i os = AllByRecursion (λ o. o.process ≡ i → o.end ≡ None → ⊥) os
+
+-- One has, and did this.
+abbrev its : ℕ → ℕ → Action → Operation
+its i c b = record { process = i; call = c; end = None; action = b }
+
+abbrev Took : ℕ → List Operation → Action → Type 0
+Took i os b = (c : ℕ) × Contains os (its i c b) × AllByRecursion (λ o. o.process ≡ i → o.end ≡ None → o.action ≡ b) os
+
+free_ended : (i k e : ℕ) (os : List Operation) → Free i os → Free i (map (ended k e) os)
+free_ended i k e os h =
+    all_map (λ o. o.process ≡ i → o.end ≡ None → ⊥) (λ o. o.process ≡ i → o.end ≡ None → ⊥) (ended k e) os
+    (λ o none his still. none his (not_ended_before (nat_eq o.process k) e o.end still)) h
+
+free_now : (i e : ℕ) (os : List Operation) → AllByRecursion (λ o. Unit {0}) os → Free i (map (ended i e) os)
+free_now i e os h =
+    all_map (λ o. Unit {0}) (λ o. o.process ≡ i → o.end ≡ None → ⊥) (ended i e) os
+    (λ o u his still. ended_now (nat_eq o.process i) e o.end (ap (λ y. nat_eq y i) his ∙ same_number i) still) h
+
+its_kept : (i k e c : ℕ) (b : Action) → i ≢ k → ended k e (its i c b) ≡ its i c b
+its_kept i k e c b other = ap (λ y. let o : Operation = record { process = i; call = c; end = end_at y e None; action = b } in o) (other_number i k other)
+
+took_ended : (i k e : ℕ) (os : List Operation) (b : Action) → i ≢ k → Took i os b → Took i (map (ended k e) os) b
+took_ended i k e os b other h = (
+  h.0,
+  subst (Contains (map (ended k e) os)) (its_kept i k e h.0 b other) (Contains-map (ended k e) os (its i h.0 b) h.1),
+  all_map (λ o. o.process ≡ i → o.end ≡ None → o.action ≡ b) (λ o. o.process ≡ i → o.end ≡ None → o.action ≡ b) (ended k e) os
+      (λ o only his still. only his (not_ended_before (nat_eq o.process k) e o.end still)) h.2,
+)
+
+free_more : (i : ℕ) (os : List Operation) (o : Operation) → o.process ≢ i → Free i os → Free i (os ++ o ∷ [])
+free_more i os o other h = all_push (λ x. x.process ≡ i → x.end ≡ None → ⊥) os o h (λ his still. other his)
+
+took_more : (i : ℕ) (os : List Operation) (o : Operation) (b : Action) → o.process ≢ i → Took i os b →
+    Took i (os ++ o ∷ []) b
+took_more i os o b other h = (
+  h.0,
+  Contains-append_left os (o ∷ []) (its i h.0 b) h.1,
+  all_push (λ x. x.process ≡ i → x.end ≡ None → x.action ≡ b) os o h.2 (λ his still. absurd (other his)),
+)
+
+took_now : (i c : ℕ) (os : List Operation) (b : Action) → Free i os → Took i (os ++ its i c b ∷ []) b
+took_now i c os b h = (
+  c,
+  Contains-push os (its i c b),
+  all_push (λ x. x.process ≡ i → x.end ≡ None → x.action ≡ b) os (its i c b)
+      (all_weaker (λ x. x.process ≡ i → x.end ≡ None → ⊥) (λ x. x.process ≡ i → x.end ≡ None → x.action ≡ b) os
+      (λ x none his still. absurd (none his still)) h)
+      (λ his still. refl),
+)
+
+all_unit : (os : List Operation) → AllByRecursion (λ o. Unit {0}) os
+all_unit [] = tt
+all_unit (o ∷ os) = (tt, all_unit os)
+
+module _ (n : ℕ) (items : List Item) (fits : IsValidRun (run_of_items one_word (shared_by n) items)) where
+  abbrev r : Run
+  r = run_of_items one_word (shared_by n) items
+
+  -- What is known after t items of these operations.
+  record Book (t : ℕ) (os : List Operation) : Type 0 where
+    word : Word
+    word_is : (state r t).memory.words ≡ word ∷ []
+    count : length (state r t).processes ≡ n
+    stages : (i : ℕ) → IsOneOf n i → Stage (Free i os) (Took i os) (process_at (state r t) i)
+    placed : AllByRecursion (Placed r t) os
+    apart : Pairs Apart os
+    complete : (o : Operation) → Placed r t o → HasEnded o → Contains os o
+    runs : RunsTo (0 ∷ []) os (word.datum ∷ [])
+
+  -- before the first item
+  abbrev first_word : Word
+  first_word = initial_word Multi (shared_by n)
+
+  abbrev others_words : List Word
+  others_words = replicate (max n 1 - 1) first_word
+
+  abbrev with_words : List Word → Process
+  with_words ws = record { status = Idle; locals = record { scalars = []; rows = []; words = (a, ws) ∷ []; views = (s, 0 ∷ []) ∷ [] } }
+
+  first_process : (i : ℕ) → IsOneOf n i → process_at (state r 0) i ≡ process Idle first_word others_words (0 ∷ [])
+  first_process i one =
+      let pos : 0 < i = one.0 in
+      let le : i ≤ n = one.1 in
+      let more : max n 1 ≡ suc (max n 1 - 1) = omega arith in
+      get_or-replicate n (i - 1) (initial_process one_word (shared_by n)) nobody (omega arith)
+      ∙ ap with_words (ap (λ k. replicate k first_word) more)
+
+  first_book : Book 0 []
+  first_book = record {
+    word = first_word;
+    word_is = refl;
+    count = length-replicate n (initial_process one_word (shared_by n));
+    stages = λ i one. subst (Stage (Free i []) (Took i [])) (sym (first_process i one)) (idle first_word others_words (0 ∷ []) tt);
+    placed = tt;
+    apart = tt;
+    complete = λ o p some. absurd (let pos : 0 < o.call = p.first in let le : o.call ≤ 0 = p.order in omega arith);
+    runs = refl;
+  }
+
+  module _ (t : ℕ) (lt : t < length items) where
+    abbrev i : ℕ
+    i = who (item r (suc t))
+
+    abbrev S : State
+    S = state r t
+
+    -- what item t + 1 does
+    abbrev does : State × Outcome
+    does = done one_word (shared_by n) S (item r (suc t))
+
+    one : IsOneOf n i
+    one = item_one r fits t lt
+
+    left : (z : Word) (p : Process) → Leaves S does.0 i z p → Leaves S (state r (suc t)) i z p
+    left z p h = subst (λ X. Leaves S X i z p) (sym (next_state r t lt)) h
+
+    -- how its process stands after it
+    own_stage : (os : List Operation) (p : Process) (j : ℕ) → j ≡ i → process_at (state r (suc t)) i ≡ p →
+        Stage (Free i os) (Took i os) p → Stage (Free j os) (Took j os) (process_at (state r (suc t)) j)
+    own_stage os p j same own h =
+        subst (λ k. Stage (Free k os) (Took k os) (process_at (state r (suc t)) k)) (sym same)
+        (subst (Stage (Free i os) (Took i os)) (sym own) h)
+
+    -- where it ends nothing
+    all_longer : (os : List Operation) → (IsEnd does.1 → ⊥) → AllByRecursion (Placed r t) os →
+        AllByRecursion (Placed r (suc t)) os
+    all_longer os none h =
+        all_weaker (Placed r t) (Placed r (suc t)) os
+        (λ o p. placed_longer r t o (λ still own ends. none (ends_is_end o.action does.1 ends)) p) h
+
+    ends_nothing : (o : Operation) → (IsEnd does.1 → ⊥) → Placed r (suc t) o → o.end ≡ Some (suc t) → ⊥
+    ends_nothing o none h now =
+        let end = ended_at r (suc t) (suc t) o now h in
+        none (ends_is_end o.action does.1 (subst (EndsWith (op_of o.action)) (sym end.3) (ends_so o.action)))
+
+    -- an item that nothing begins or ends with
+    quiet : (os : List Operation) (b : Book t os) →
+        Quiet (Free i os) (Took i os) S i b.word (process_at S i).status does → Book (suc t) os
+    quiet os b q =
+        let leaves = left b.word q.process q.leaves in
+        record {
+          word = b.word;
+          word_is = leaves.word;
+          count = leaves.count ∙ b.count;
+          stages = λ j his. elim (cases_eq j i) [
+            | inl same ↦ own_stage os q.process j same leaves.own q.stage
+            | inr other ↦ subst (Stage (Free j os) (Took j os)) (sym (leaves.others j his.0 other)) (b.stages j his)
+          ];
+          placed = all_longer os q.no_end b.placed;
+          apart = b.apart;
+          complete = λ o h some. elim (placed_shorter r t o some h) [
+            | inl sooner ↦ b.complete o sooner some
+            | inr now ↦ absurd (ends_nothing o q.no_end h now)
+          ];
+          runs = b.runs;
+        }
+
+    -- the call of the operation that takes place
+    called_so : (op : Op) (status : Status) (activity : Activity) → status ≡ Busy activity → activity.op ≡ op →
+        UnderAt r fits i t status → UnderCall r fits i op t
+    called_so op status activity busy is u = subst (λ y. UnderCall r fits i y t) is (subst (UnderAt r fits i t) busy u)
+
+    -- it has taken place, and has not ended
+    now_placed : (g : Action) → UnderCall r fits i (op_of g) t → outcome_at r (suc t) ≡ outcome.Stepped →
+        Placed r (suc t) (its i (last_call r i t) g)
+    now_placed g u out =
+        let same : last_call r i t ≡ u.call = last_call_is r fits i one t (op_of g) u (omega arith) in
+        let order : u.call ≤ t = u.order in
+        subst (λ c. Placed r (suc t) (its i c g)) (sym same) (record {
+          one = one;
+          call_is = u.is.0;
+          called = u.is.1;
+          first = u.first;
+          order = omega arith;
+          end = λ v more less his ends. let le : v ≤ suc t = omega arith in
+              elim (eq-or-lt_of_le le) [
+                | inl here ↦ subst IsEnd (ap (outcome_at r) here ∙ out) (ends_is_end g (outcome_at r v) ends)
+                | inr sooner ↦ u.open_still v more (omega arith) his (ends_is_end g (outcome_at r v) ends)
+              ];
+        })
+
+    -- those before it have other calls
+    other_call : (g : Action) → UnderCall r fits i (op_of g) t → (x : Operation) → Placed r t x →
+        (x.process ≡ i → x.end ≡ None → ⊥) →
+        x.call ≡ last_call r i t → ⊥
+    other_call g u x h free same =
+        let at : x.call ≡ u.call = same ∙ last_call_is r fits i one t (op_of g) u (omega arith) in
+        let call : Call x.process (op_of x.action) ≡ Call i (op_of g) = sym h.call_is ∙ ap (item r) at ∙ u.is.0 in
+        let his : x.process ≡ i = cc in
+        by_end x.process x.call x.action x.end his at (free his) h.end
+      where
+        by_end : (k c : ℕ) (d : Action) (end : Option ℕ) → k ≡ i → c ≡ u.call → (end ≡ None → ⊥) →
+            EndUpTo r k c d t end → ⊥
+        by_end k c d None his at none h = none refl
+        by_end k c d (Some e) his at none h =
+            let le : e ≤ t = h.1 in
+            let less : c < e = h.0 in
+            u.open_still e (omega arith) le (h.2 ∙ his)
+            (ends_is_end d (outcome_at r e) (subst (EndsWith (op_of d)) (sym h.3) (ends_so d)))
+
+    -- an item at which an operation takes place
+    begins : (os : List Operation) (b : Book t os) (q : Begins (Free i os) S i b.word (process_at S i).status does) →
+        Book (suc t) (os ++ its i (last_call r i t) q.action ∷ [])
+    begins os b q =
+        let o : Operation = its i (last_call r i t) q.action in
+        let more : List Operation = os ++ o ∷ [] in
+        let leaves = left q.word q.process q.leaves in
+        let u : UnderCall r fits i (op_of q.action) t =
+        called_so (op_of q.action) (process_at S i).status q.activity q.busy q.op_is (under r fits t i (omega arith) one) in
+        let now = now_placed q.action u q.stepped in
+        let no_end : IsEnd does.1 → ⊥ = λ ends. subst IsEnd q.stepped ends in
+        record {
+          word = q.word;
+          word_is = leaves.word;
+          count = leaves.count ∙ b.count;
+          stages = λ j his. elim (cases_eq j i) [
+            | inl same ↦ own_stage more q.process j same leaves.own
+                (stage_begun (Free i more) (Took i more) q.action q.process (took_now i (last_call r i t) os q.action q.free) q.stage)
+            | inr other ↦ subst (Stage (Free j more) (Took j more)) (sym (leaves.others j his.0 other))
+                (stage_map (free_more j os o (λ same. other (sym same))) (λ g. took_more j os o g (λ same. other (sym same)))
+                (b.stages j his))
+          ];
+          placed = all_push (Placed r (suc t)) os o (all_longer os no_end b.placed) now;
+          apart = pairs_push Apart (λ x. Placed r t x × (x.process ≡ i → x.end ≡ None → ⊥)) os o
+              (λ x h. (
+                other_call q.action u x h.0 h.1,
+                λ before. let none : ◌≡◌ {A = Option ℕ} None (Some before.0) = before.1 in let no : ⊥ = cc in no,
+              ))
+              (all_both (Placed r t) (λ x. x.process ≡ i → x.end ≡ None → ⊥) os b.placed q.free) b.apart;
+          complete = λ x h some. elim (placed_shorter r t x some h) [
+            | inl sooner ↦ Contains-append_left os (o ∷ []) x (b.complete x sooner some)
+            | inr last ↦ absurd (ends_nothing x no_end h last)
+          ];
+          runs = subst (RunsTo (0 ∷ []) more) (sym q.after_is) (segments_more (0 ∷ []) os (b.word.datum ∷ []) o b.runs q.allows);
+        }
+
+    -- an item that ends one
+    closes : (os : List Operation) (b : Book t os) → Closes (Took i os) S i b.word (process_at S i).status does →
+        Book (suc t) (map (ended i (suc t)) os)
+    closes os b q =
+        let next : List Operation = map (ended i (suc t)) os in
+        let leaves = left b.word q.process q.leaves in
+        let mine : Operation = its i q.took.0 q.action in
+        let its_place : Placed r t mine = contained (Placed r t) os mine b.placed q.took.1 in
+        record {
+          word = b.word;
+          word_is = leaves.word;
+          count = leaves.count ∙ b.count;
+          stages = λ j his. elim (cases_eq j i) [
+            | inl same ↦ own_stage next q.process j same leaves.own
+                (stage_closed (Free i next) (Took i next) q.process (free_now i (suc t) os (all_unit os)) q.stage)
+            | inr other ↦ subst (Stage (Free j next) (Took j next)) (sym (leaves.others j his.0 other))
+                (stage_map (free_ended j i (suc t) os) (λ g. took_ended j i (suc t) os g other) (b.stages j his))
+          ];
+          placed = all_map (λ x. Placed r t x × (x.process ≡ i → x.end ≡ None → x.action ≡ q.action)) (Placed r (suc t))
+              (ended i (suc t)) os
+              (λ x h. placed_closed r t i x refl (λ his still. q.ends ∙ ap outcome_of (sym (h.1 his still))) h.0)
+              (all_both (Placed r t) (λ x. x.process ≡ i → x.end ≡ None → x.action ≡ q.action) os b.placed q.took.2);
+          apart = pairs_ended i (suc t) os
+              (all_weaker (Placed r t) (λ x. x.call < suc t) os
+              (λ x h. let le : x.call ≤ t = h.order in let less : x.call < suc t = omega arith in less) b.placed)
+              b.apart;
+          complete = λ x h some. elim (placed_shorter r t x some h) [
+            | inl sooner ↦ subst (Contains next) (kept x.end some.0 (nat_eq x.process i) some.1 x.process x.call x.action)
+                (Contains-map (ended i (suc t)) os x (b.complete x sooner some))
+            | inr last ↦ subst (Contains next) (same_one x h last q.action q.ends q.took.0 its_place)
+                (Contains-map (ended i (suc t)) os mine q.took.1)
+          ];
+          runs = runs_ended i (suc t) (0 ∷ []) os (b.word.datum ∷ []) b.runs;
+        }
+      where
+        kept : (end : Option ℕ) (e : ℕ) (his : Bool) → end ≡ Some e → (k c : ℕ) (g : Action) →
+            ◌≡◌ {A = Operation} (record { process = k; call = c; end = end_at his (suc t) end; action = g })
+            (record { process = k; call = c; end = end; action = g })
+        kept None e his some k c g = absurd (cc)
+        kept (Some d) e true some k c g = refl
+        kept (Some d) e false some k c g = refl
+
+        same_one : (x : Operation) → Placed r (suc t) x → x.end ≡ Some (suc t) → (g : Action) →
+            outcome_at r (suc t) ≡ outcome_of g → (c : ℕ) → Placed r t (its i c g) →
+            ended i (suc t) (its i c g) ≡ x
+        same_one x h last g out c its_place =
+            let end = ended_at r (suc t) (suc t) x last h in
+            let his : i ≡ x.process = end.2 in
+            let sooner : x.call < suc t = end.0 in
+            let order : c ≤ t = its_place.order in
+            let calls : Calls r fits i (op_of x.action) x.call =
+            (subst (λ k. item r x.call ≡ Call k (op_of x.action)) (sym his) h.call_is, h.called) in
+            let same : c ≡ x.call =
+            one_call r fits i (op_of g) (op_of x.action) c x.call (suc t) one its_place.first h.first (omega arith) sooner (omega arith)
+            (its_place.call_is, its_place.called) calls
+            (λ v more less ends. its_place.end v more less ends.0 ends.1)
+            (λ v more less ends. end.4 v more less (ends.0 ∙ his) ends.1) in
+            let call : Call i (op_of g) ≡ Call i (op_of x.action) = sym its_place.call_is ∙ ap (item r) same ∙ calls.0 in
+            let action : g ≡ x.action = same_action g x.action (let both : op_of g ≡ op_of x.action = cc in both) (sym out ∙ end.3) in
+            same_parts i x.process c x.call (end_at (nat_eq i i) (suc t) None) x.end g x.action his same
+            (ap (λ y. end_at y (suc t) None) (same_number i) ∙ sym last) action
+
+    -- item t + 1, whatever it does
+    next : (os : List Operation) → Book t os → Book (suc t) (booked_at r t os)
+    next os b =
+        let S_values : values S ≡ b.word.datum ∷ [] = ap (map (λ (x : Word). x.datum)) b.word_is in
+        let there : IsOneOf (length S.processes) i = subst (λ m. IsOneOf m i) (sym b.count) one in
+        elim (item_does n (Free i os) (Took i os) S i b.word b.word_is there (item r (suc t)) refl (b.stages i one)) [
+          | inl q ↦ subst (Book (suc t)) (sym (q.booked_is (last_call r i t) (suc t) (values S) os)) (quiet os b q)
+          | inr more ↦ elim more [
+            | inl q ↦ subst (Book (suc t))
+                (sym (ap (λ now. booked i (last_call r i t) (suc t) now (outcome_at r (suc t)) (process_at S i).status os) S_values
+                ∙ q.booked_is (last_call r i t) (suc t) os))
+                (begins os b q)
+            | inr q ↦ subst (Book (suc t)) (sym (q.booked_is (last_call r i t) (suc t) (values S) os)) (closes os b q)
+          ]
+        ]
+
+  book : (t : ℕ) → t ≤ length items → Book t (taken r t)
+  book zero le = first_book
+  book (suc t) le = next t (omega arith) (taken r t) (book t (omega arith))
+
+  pub linearizes : IsCompletedLinearization r (taken r (length items))
+  linearizes =
+      let os = taken r (length items) in
+      let b = book (length items) (omega arith) in
+      record {
+        took_place = All-from_recursion (IsCompleted r) os
+            (all_weaker (Placed r (length items)) (IsCompleted r) os (completed r) b.placed);
+        once = λ j k d lt short. (all_pairs Apart os b.apart j k d lt short).0;
+        complete = λ o took some. b.complete o (placed r o took some) some;
+        order = keeps_order os
+            (all_weaker (Placed r (length items)) (λ o. EndedBefore o o → ⊥) os (not_before_itself r (length items)) b.placed)
+            b.apart;
+        runs = starts_from (0 ∷ []) os (b.word.datum ∷ []) b.runs;
+      }

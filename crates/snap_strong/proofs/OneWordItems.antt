@@ -1,0 +1,311 @@
+-- What one item does to the listing of one word: to the word, to its process, and to the operations that have taken place.
+use Rattle.std.specs.Prelude.{◌≡◌, ◌≢◌, ℕ, ◌-◌, ◌<◌, ◌≤◌, ◌⊎◌, max, Bool, true, false, ◌||◌, ◌&&◌, List, [], ◌∷◌, ◌++◌, map, length, Option, Some, None, Ok, nat_eq, nat_lt, nat_le, if◌then◌else◌, slice_index_or, slice_set, refl}
+use Rattle.std.proofs.Common.{sym, ap, subst, arith, inl, inr}
+use Rattle.std.proofs.lemmas.List.{length-set, get_or-set_same, get_or-set_other}
+use Rattle.snap_words.specs.Shape.{IsOneOf}
+use Rattle.snap_words.specs.Word.{Word, no_word}
+use Rattle.snap_semantics.specs.declared.process.Activity.{Activity}
+use Rattle.snap_semantics.specs.declared.process.Item.{Item}
+use Rattle.snap_semantics.specs.declared.process.Item.TheVariants.{Step, Call, Crash}
+use Rattle.snap_semantics.specs.declared.process.Op.{Op}
+use Rattle.snap_semantics.specs.declared.process.Op.TheVariants.{Scan, Update}
+use Rattle.snap_semantics.specs.declared.process.Outcome.{Outcome}
+use Rattle.snap_semantics.specs.declared.process.Outcome.TheVariants as outcome
+use Rattle.snap_semantics.specs.declared.process.Reason.{Reason}
+use Rattle.snap_semantics.specs.declared.process.Reason.TheVariants as reason
+use Rattle.snap_semantics.specs.declared.process.Status.{Status}
+use Rattle.snap_semantics.specs.declared.process.Status.TheVariants.{Idle, Busy, Crashed}
+use Rattle.snap_semantics.specs.Source.{instr_at}
+use Rattle.snap_semantics.specs.State.{Locals, Memory, Process, State, nobody, process_at, with_memory_words}
+use Rattle.snap_semantics.specs.Table.{Goes, effect_at, leave, step, call, called, crash, done, who}
+use Rattle.snap_semantics.specs.Value.{Context, place_in}
+use Rattle.snap_runs.specs.Linearization.{after, Allows}
+use Rattle.snap_runs.specs.Operation.{Action, Sets, Sees, Operation}
+use Rattle.snap_runs.proofs.Calls.{IsEnd}
+use Rattle.snap_runs.proofs.Places.{bind_ok, place_ok}
+use Rattle.snap_runs_of_u.specs.ListingU.{a, s}
+use Rattle.snap_strong.specs.OneWord.{one_word, shared_by}
+use Rattle.snap_strong.proofs.Placed.{op_of, outcome_of, ended}
+
+-- what an operation does that takes place while the values are these
+abbrev pub action_of : Op → List ℕ → Action
+action_of Scan now = Sees now
+action_of (Update word value) now = Sets word value
+
+-- the first line of a scan, or of an update
+abbrev pub is_first : ℕ → Bool
+is_first line = nat_eq line 10 || nat_eq line 20
+
+abbrev pub started : ℕ → ℕ → List ℕ → Bool → Op → List Operation → List Operation
+started i c now true op os = os ++ record { process = i; call = c; end = None; action = action_of op now } ∷ []
+started i c now false op os = os
+
+-- The operations after item e of process i, which is at its call of item c: one more where the item is the first step of that, and
+-- ended where it ends it.
+abbrev pub booked : (i c e : ℕ) → List ℕ → Outcome → Status → List Operation → List Operation
+booked i c e now (outcome.Answered view) status os = map (ended i e) os
+booked i c e now outcome.Finished status os = map (ended i e) os
+booked i c e now outcome.Stepped (Busy b) os = started i c now (is_first b.line) b.op os
+booked i c e now out status os = os
+
+-- a process of this listing, with the word that it has read last and the view
+abbrev pub process : Status → Word → List Word → List ℕ → Process
+process status x xs v = record { status = status; locals = record { scalars = []; rows = []; words = (a, x ∷ xs) ∷ []; views = (s, v) ∷ [] } }
+
+abbrev pub at_line : Op → ℕ → Status
+at_line op line = Busy (record { op = op; line = line; link = None })
+
+-- How a process stands: with no operation that has taken place and not ended, or with one that did this.
+pub data Stage (Free : Type 0) (Took : Action → Type 0) : Process → Type 0 where
+  idle : (x : Word) (xs : List Word) (v : List ℕ) → Free → Stage Free Took (process Idle x xs v)
+  reads : (x : Word) (xs : List Word) (v : List ℕ) → Free → Stage Free Took (process (at_line Scan 10) x xs v)
+  views : (x : Word) (xs : List Word) (v : List ℕ) → Took (Sees (x.datum ∷ [])) →
+      Stage Free Took (process (at_line Scan 11) x xs v)
+  returns : (x : Word) (xs : List Word) (v : List ℕ) → Took (Sees v) →
+      Stage Free Took (process (at_line Scan 12) x xs v)
+  writes : (value : ℕ) (x : Word) (xs : List Word) (v : List ℕ) → Free →
+      Stage Free Took (process (at_line (Update 1 value) 20) x xs v)
+  finishes : (value : ℕ) (x : Word) (xs : List Word) (v : List ℕ) → Took (Sets 1 value) →
+      Stage Free Took (process (at_line (Update 1 value) 21) x xs v)
+  crashed : (was : Option Activity) (l : Locals) → Stage Free Took (record { status = Crashed was; locals = l })
+
+pub stage_map : {F G : Type 0} {T U : Action → Type 0} {p : Process} → (F → G) → ((b : Action) → T b → U b) →
+    Stage F T p → Stage G U p
+stage_map f t (idle x xs v h) = idle x xs v (f h)
+stage_map f t (reads x xs v h) = reads x xs v (f h)
+stage_map f t (views x xs v h) = views x xs v (t (Sees (x.datum ∷ [])) h)
+stage_map f t (returns x xs v h) = returns x xs v (t (Sees v) h)
+stage_map f t (writes value x xs v h) = writes value x xs v (f h)
+stage_map f t (finishes value x xs v h) = finishes value x xs v (t (Sets 1 value) h)
+stage_map f t (crashed was l) = crashed was l
+
+-- it has just taken place, or ended
+pub stage_begun : (F : Type 0) (T : Action → Type 0) (g : Action) (p : Process) → T g → Stage ⊥ (λ b. b ≡ g) p →
+    Stage F T p
+stage_begun F T g p took h = stage_map {F = ⊥} {G = F} {T = λ b. b ≡ g} {U = T} (λ none. absurd none) (λ b is. subst T (sym is) took) h
+
+pub stage_closed : (F : Type 0) (T : Action → Type 0) (p : Process) → F → Stage Unit (λ b. ⊥) p → Stage F T p
+stage_closed F T p free h = stage_map {F = Unit} {G = F} {T = λ b. ⊥} {U = T} (λ u. free) (λ b none. absurd none) h
+
+-- what an item of process i leaves: this word, this process, and the others as they were
+pub record Leaves (S S' : State) (i : ℕ) (y : Word) (p : Process) : Type 0 where
+  pub word : S'.memory.words ≡ y ∷ []
+  pub count : length S'.processes ≡ length S.processes
+  pub own : process_at S' i ≡ p
+  pub others : (j : ℕ) → 0 < j → j ≢ i → process_at S' j ≡ process_at S j
+
+module _ (S : State) (i : ℕ) (y : Word) (word : S.memory.words ≡ y ∷ []) (one : IsOneOf (length S.processes) i) where
+  leaves_as_was : Leaves S S i y (process_at S i)
+  leaves_as_was = record { word = word; count = refl; own = refl; others = λ j pos other. refl }
+
+  leaves_put : (m : Memory) (z : Word) (p : Process) → m.words ≡ z ∷ [] →
+      Leaves S (record { memory = m; processes = slice_set S.processes (i - 1) p }) i z p
+  leaves_put m z p is = record {
+    word = is;
+    count = length-set S.processes (i - 1) p;
+    own = get_or-set_same S.processes (i - 1) p nobody (let pos : 0 < i = one.0 in let le : i ≤ length S.processes = one.1 in omega arith);
+    others = λ j pos other. get_or-set_other S.processes (i - 1) (j - 1) p nobody (λ same. other (let positive : 0 < i = one.0 in omega arith));
+  }
+
+-- An item that no operation begins or ends with.
+pub record Quiet (F : Type 0) (T : Action → Type 0) (S : State) (i : ℕ) (y : Word) (status : Status) (d : State × Outcome) : Type 0 where
+  pub process : Process
+  pub stage : Stage F T process
+  pub leaves : Leaves S d.0 i y process
+  pub booked_is : (c e : ℕ) (now : List ℕ) (os : List Operation) → booked i c e now d.1 status os ≡ os
+  pub no_end : IsEnd d.1 → ⊥
+
+-- An item at which an operation takes place.
+pub record Begins (F : Type 0) (S : State) (i : ℕ) (y : Word) (status : Status) (d : State × Outcome) : Type 0 where
+  pub action : Action
+  pub free : F
+  pub process : Process
+  pub stage : Stage ⊥ (λ b. b ≡ action) process
+  pub word : Word
+  pub leaves : Leaves S d.0 i word process
+  pub activity : Activity
+  pub busy : status ≡ Busy activity
+  pub op_is : activity.op ≡ op_of action
+  pub stepped : d.1 ≡ outcome.Stepped
+  pub booked_is : (c e : ℕ) (os : List Operation) →
+      booked i c e (y.datum ∷ []) d.1 status os ≡ os ++ record { process = i; call = c; end = None; action = action } ∷ []
+  pub allows : Allows (y.datum ∷ []) action
+  pub after_is : word.datum ∷ [] ≡ after (y.datum ∷ []) action
+
+-- An item that ends an operation.
+pub record Closes (T : Action → Type 0) (S : State) (i : ℕ) (y : Word) (status : Status) (d : State × Outcome) : Type 0 where
+  pub action : Action
+  pub took : T action
+  pub process : Process
+  pub stage : Stage Unit (λ b. ⊥) process
+  pub leaves : Leaves S d.0 i y process
+  pub ends : d.1 ≡ outcome_of action
+  pub booked_is : (c e : ℕ) (now : List ℕ) (os : List Operation) → booked i c e now d.1 status os ≡ map (ended i e) os
+
+abbrev pub Case : (F : Type 0) (T : Action → Type 0) (S : State) (i : ℕ) (y : Word) (status : Status) → State × Outcome → Type 0
+Case F T S i y status d = Quiet F T S i y status d ⊎ (Begins F S i y status d ⊎ Closes T S i y status d)
+
+module _ (n : ℕ) (F : Type 0) (T : Action → Type 0) (S : State) (i : ℕ) (y : Word) (word : S.memory.words ≡ y ∷ [])
+    (one : IsOneOf (length S.processes) i) where
+  -- an item that is skipped
+  skips : (p : Process) (why : Reason) → process_at S i ≡ p → Stage F T p →
+      Case F T S i y p.status (S, outcome.Skipped why)
+  skips p why is stage = inl (record {
+    process = p;
+    stage = stage;
+    leaves = subst (Leaves S S i y) is (leaves_as_was S i y word one);
+    booked_is = λ c e now os. refl;
+    no_end = λ ends. ends;
+  })
+
+  -- the step of a process that stands so
+  abbrev does : Process → State × Outcome
+  does p = step one_word (shared_by n) S i p p.status
+
+  -- the word as it is read, and as it is written
+  abbrev seen : Word
+  seen = slice_index_or S.memory.words 0 no_word
+
+  seen_is : seen ≡ y
+  seen_is = ap (λ ws. slice_index_or ws 0 no_word) word
+
+  abbrev written : ℕ → Word
+  written value = record { datum = value; seq = 0; id = i; toggle = 0; handshakes = []; view = [] }
+
+  abbrev put : Memory → Process → State
+  put m p = record { memory = m; processes = slice_set S.processes (i - 1) p }
+
+  -- a scan's first step, as it stands
+  abbrev reading : Activity
+  reading = record { op = Scan; line = 10; link = None }
+
+  does_read : (x : Word) (xs : List Word) (v : List ℕ) →
+      does (process (Busy reading) x xs v) ≡ (put S.memory (process (at_line Scan 11) seen xs v), outcome.Stepped)
+  does_read x xs v =
+      let l : Locals = (process (Busy reading) x xs v).locals in
+      let its : Context = record { shape = shared_by n; me = i; op = Scan; locals = l; place = 0 } in
+      let goes : effect_at one_word its S.memory reading (instr_at one_word.lines 10)
+      ≡ Ok (Goes S.memory (process (at_line Scan 11) seen xs v).locals None 11) =
+      bind_ok (place_in (max n 1) 1) _ 0 _ (place_ok (max n 1) 1 (omega arith, omega arith)) refl in
+      ap (leave S i reading l) goes
+
+  steps : (p : Process) → process_at S i ≡ p → Stage F T p → Case F T S i y p.status (does p)
+  steps p is (idle x xs v f) = skips p reason.Idle is (idle x xs v f)
+  steps p is (reads x xs v f) =
+      subst (Case F T S i y (at_line Scan 10)) (sym (does_read x xs v)) (inr (inl (record {
+        action = Sees (y.datum ∷ []);
+        free = f;
+        process = process (at_line Scan 11) seen xs v;
+        stage = views seen xs v (ap (λ (u : Word). Sees (u.datum ∷ [])) seen_is);
+        word = y;
+        leaves = leaves_put S i y word one S.memory y (process (at_line Scan 11) seen xs v) word;
+        activity = record { op = Scan; line = 10; link = None };
+        busy = refl;
+        op_is = refl;
+        stepped = refl;
+        booked_is = λ c e os. refl;
+        allows = refl;
+        after_is = refl;
+      })))
+  steps p is (views x xs v took) = inl (record {
+    process = process (at_line Scan 12) x xs (x.datum ∷ []);
+    stage = returns x xs (x.datum ∷ []) took;
+    leaves = leaves_put S i y word one S.memory y (process (at_line Scan 12) x xs (x.datum ∷ [])) word;
+    booked_is = λ c e now os. refl;
+    no_end = λ ends. ends;
+  })
+  steps p is (returns x xs v took) = inr (inr (record {
+    action = Sees v;
+    took = took;
+    process = process Idle x xs v;
+    stage = idle x xs v tt;
+    leaves = leaves_put S i y word one S.memory y (process Idle x xs v) word;
+    ends = refl;
+    booked_is = λ c e now os. refl;
+  }))
+  steps p is (writes value x xs v f) = inr (inl (record {
+    action = Sets 1 value;
+    free = f;
+    process = process (at_line (Update 1 value) 21) x xs v;
+    stage = finishes value x xs v refl;
+    word = written value;
+    leaves = leaves_put S i y word one (with_memory_words (slice_set S.memory.words 0 (written value)) S.memory) (written value)
+        (process (at_line (Update 1 value) 21) x xs v) (ap (λ ws. slice_set ws 0 (written value)) word);
+    activity = record { op = Update 1 value; line = 20; link = None };
+    busy = refl;
+    op_is = refl;
+    stepped = refl;
+    booked_is = λ c e os. refl;
+    allows = (omega arith, omega arith);
+    after_is = refl;
+  }))
+  steps p is (finishes value x xs v took) = inr (inr (record {
+    action = Sets 1 value;
+    took = took;
+    process = process Idle x xs v;
+    stage = idle x xs v tt;
+    leaves = leaves_put S i y word one S.memory y (process Idle x xs v) word;
+    ends = refl;
+    booked_is = λ c e now os. refl;
+  }))
+  steps p is (crashed was l) = skips p reason.Crashed is (crashed was l)
+
+  -- a call that is admitted
+  starts : (p : Process) (status : Status) → Stage F T (record { status = status; locals = p.locals }) →
+      (old : Status) →
+      Case F T S i y old (put S.memory (record { status = status; locals = p.locals }), outcome.Called)
+  starts p status stage old = inl (record {
+    process = record { status = status; locals = p.locals };
+    stage = stage;
+    leaves = leaves_put S i y word one S.memory y (record { status = status; locals = p.locals }) word;
+    booked_is = λ c e now os. refl;
+    no_end = λ ends. ends;
+  })
+
+  is_called : (p : Process) (op : Op) → process_at S i ≡ p → Stage F T p →
+      Case F T S i y p.status (call one_word (shared_by n) S i op p p.status)
+  is_called p Scan is (idle x xs v f) = starts p (at_line Scan 10) (reads x xs v f) Idle
+  is_called p (Update w value) is (idle x xs v f) = by_word (nat_lt 0 w && nat_le w 1) refl
+    where
+      by_word : (b : Bool) → (nat_lt 0 w && nat_le w 1) ≡ b →
+          Case F T S i y Idle (called one_word S i (process Idle x xs v) (Update w value) (if b then None else Some reason.NoSuchWord))
+      by_word true there =
+          let only : w ≡ 1 = grind arith in
+          starts (process Idle x xs v) (at_line (Update w value) 20)
+          (subst (λ z. Stage F T (process (at_line (Update z value) 20) x xs v)) (sym only) (writes value x xs v f)) Idle
+      by_word false there = skips (process Idle x xs v) reason.NoSuchWord is (idle x xs v f)
+  is_called p op is (reads x xs v f) = skips p reason.Busy is (reads x xs v f)
+  is_called p op is (views x xs v t) = skips p reason.Busy is (views x xs v t)
+  is_called p op is (returns x xs v t) = skips p reason.Busy is (returns x xs v t)
+  is_called p op is (writes value x xs v f) = skips p reason.Busy is (writes value x xs v f)
+  is_called p op is (finishes value x xs v t) = skips p reason.Busy is (finishes value x xs v t)
+  is_called p op is (crashed was l) = skips p reason.Crashed is (crashed was l)
+
+  -- a crash
+  stops : (p : Process) (was : Option Activity) (old : Status) →
+      Case F T S i y old (put S.memory (record { status = Crashed was; locals = p.locals }), outcome.Crashed)
+  stops p was old = inl (record {
+    process = record { status = Crashed was; locals = p.locals };
+    stage = crashed was p.locals;
+    leaves = leaves_put S i y word one S.memory y (record { status = Crashed was; locals = p.locals }) word;
+    booked_is = λ c e now os. refl;
+    no_end = λ ends. ends;
+  })
+
+  crashes : (p : Process) → process_at S i ≡ p → Stage F T p → Case F T S i y p.status (crash S i p p.status)
+  crashes p is (idle x xs v f) = stops p None Idle
+  crashes p is (reads x xs v f) = stops p (Some (record { op = Scan; line = 10; link = None })) (at_line Scan 10)
+  crashes p is (views x xs v t) = stops p (Some (record { op = Scan; line = 11; link = None })) (at_line Scan 11)
+  crashes p is (returns x xs v t) = stops p (Some (record { op = Scan; line = 12; link = None })) (at_line Scan 12)
+  crashes p is (writes value x xs v f) = stops p (Some (record { op = Update 1 value; line = 20; link = None })) (at_line (Update 1 value) 20)
+  crashes p is (finishes value x xs v t) = stops p (Some (record { op = Update 1 value; line = 21; link = None })) (at_line (Update 1 value) 21)
+  crashes p is (crashed was l) = skips p reason.Crashed is (crashed was l)
+
+  pub item_does : (x : Item) → who x ≡ i → Stage F T (process_at S i) →
+      Case F T S i y (process_at S i).status (done one_word (shared_by n) S x)
+  item_does (Step k) his stage =
+      subst (λ j. Case F T S i y (process_at S i).status (done one_word (shared_by n) S (Step j))) (sym his) (steps (process_at S i) refl stage)
+  item_does (Call k op) his stage =
+      subst (λ j. Case F T S i y (process_at S i).status (done one_word (shared_by n) S (Call j op))) (sym his) (is_called (process_at S i) op refl stage)
+  item_does (Crash k) his stage =
+      subst (λ j. Case F T S i y (process_at S i).status (done one_word (shared_by n) S (Crash j))) (sym his) (crashes (process_at S i) refl stage)

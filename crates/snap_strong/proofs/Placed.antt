@@ -1,0 +1,327 @@
+-- Operations that have taken place among the first items of a run of any listing, ended or not.
+use Rattle.std.specs.Prelude.{◌≡◌, ℕ, suc, ◌<◌, ◌≤◌, ◌⊎◌, Bool, true, false, List, [], ◌∷◌, ◌++◌, map, length, Option, Some, None, nat_eq, refl}
+use Rattle.std.specs.List.{AllByRecursion, Contains}
+use Rattle.std.proofs.Common.{sym, ◌∙◌, ap, subst, arith, inl, inr}
+use Rattle.std.proofs.Math.Nat.{eq-or-lt_of_le}
+use Rattle.std.proofs.lemmas.List.{length-map, get_or-map}
+use Rattle.std.proofs.lemmas.List.Elements.{All-from_recursion}
+use Rattle.snap_words.specs.Shape.{IsOneOf}
+use Rattle.snap_semantics.specs.declared.process.Item.TheVariants.{Call}
+use Rattle.snap_semantics.specs.declared.process.Op.{Op}
+use Rattle.snap_semantics.specs.declared.process.Op.TheVariants.{Scan, Update}
+use Rattle.snap_semantics.specs.declared.process.Outcome.{Outcome}
+use Rattle.snap_semantics.specs.declared.process.Outcome.TheVariants as outcome
+use Rattle.snap_semantics.specs.Table.{who}
+use Rattle.snap_runs.specs.Run.{Run, item, outcome as outcome_at}
+use Rattle.snap_runs.specs.Operation.{Action, Sets, Sees, Operation, TookPlace, IsOperation, HasEnded, EndedBefore}
+use Rattle.snap_runs.specs.Linearization.{after, Allows, RunsFrom}
+use Rattle.snap_runs.proofs.Calls.{EndsWith, IsEnd}
+use Rattle.snap_runs.proofs.Operations.{ends_done, ends_answer}
+use Rattle.snap_runs.proofs.Order.{Pairs, Apart}
+use Rattle.snap_strong.specs.StrongLinearization.{IsOpenScan, IsCompleted}
+
+-- the operation that is asked for, and how it ends
+abbrev pub op_of : Action → Op
+op_of (Sets word value) = Update word value
+op_of (Sees view) = Scan
+
+abbrev pub outcome_of : Action → Outcome
+outcome_of (Sets word value) = outcome.Finished
+outcome_of (Sees view) = outcome.Answered view
+
+pub ends_so : (b : Action) → EndsWith (op_of b) (outcome_of b)
+ends_so (Sets word value) = tt
+ends_so (Sees view) = tt
+
+pub ends_is_end : (b : Action) (out : Outcome) → EndsWith (op_of b) out → IsEnd out
+ends_is_end (Sets word value) out h = subst IsEnd (sym (ends_done word value out h)) tt
+ends_is_end (Sees view) out h = let x = ends_answer out h in subst IsEnd (sym x.1) tt
+
+pub same_action : (b d : Action) → op_of b ≡ op_of d → outcome_of b ≡ outcome_of d → b ≡ d
+same_action (Sets word value) (Sets word' value') op out = cc
+same_action (Sets word value) (Sees view) op out = absurd (cc)
+same_action (Sees view) (Sets word value) op out = absurd (cc)
+same_action (Sees view) (Sees view') op out = cc
+
+-- an operation of process i that has not ended ends at item e
+abbrev pub end_at : Bool → ℕ → Option ℕ → Option ℕ
+end_at true e None = Some e
+end_at true e (Some d) = Some d
+end_at false e end = end
+
+abbrev pub ended : ℕ → ℕ → Operation → Operation
+ended i e o = record { process = o.process; call = o.call; end = end_at (nat_eq o.process i) e o.end; action = o.action }
+
+pub not_ended_before : (b : Bool) (e : ℕ) (end : Option ℕ) → end_at b e end ≡ None → end ≡ None
+not_ended_before true e None h = refl
+not_ended_before true e (Some d) h = h
+not_ended_before false e end h = h
+
+pub ended_now : (b : Bool) (e : ℕ) (end : Option ℕ) → b ≡ true → end_at b e end ≡ None → ⊥
+ended_now true e None is h = cc
+ended_now true e (Some d) is h = cc
+ended_now false e end is h = cc
+
+ended_then : (b : Bool) (e : ℕ) (end : Option ℕ) (d : ℕ) → end_at b e end ≡ Some d → (end ≡ Some d) ⊎ (e ≡ d)
+ended_then true e None d h = inr (cc)
+ended_then true e (Some f) d h = inl h
+ended_then false e end d h = inl h
+
+module _ (r : Run) where
+  -- no item after item c and before item t ends what process i is asked for
+  abbrev pub GoesOn : ℕ → ℕ → Op → ℕ → Type 0
+  GoesOn i c op t = (u : ℕ) → c < u → u < t → who (item r u) ≡ i → EndsWith op (outcome_at r u) → ⊥
+
+  -- its end, where it has ended up to item t
+  abbrev pub EndUpTo : ℕ → ℕ → Action → ℕ → Option ℕ → Type 0
+  EndUpTo i c b t None = GoesOn i c (op_of b) (suc t)
+  EndUpTo i c b t (Some e) = (c < e) × (e ≤ t) × (who (item r e) ≡ i) × (outcome_at r e ≡ outcome_of b) × GoesOn i c (op_of b) e
+
+  -- It was called, and has ended so, among the first t items.
+  pub record Placed (t : ℕ) (o : Operation) : Type 0 where
+    pub one : IsOneOf r.shape.n o.process
+    pub call_is : item r o.call ≡ Call o.process (op_of o.action)
+    pub called : outcome_at r o.call ≡ outcome.Called
+    pub first : 0 < o.call
+    pub order : o.call ≤ t
+    pub end : EndUpTo o.process o.call o.action t o.end
+
+  -- where item t + 1 does not end it
+  end_longer : (i c t : ℕ) (b : Action) (end : Option ℕ) →
+      (end ≡ None → who (item r (suc t)) ≡ i → EndsWith (op_of b) (outcome_at r (suc t)) → ⊥) →
+      EndUpTo i c b t end → EndUpTo i c b (suc t) end
+  end_longer i c t b None none h = λ u lt less his ends.
+      let le : u ≤ suc t = omega arith in
+      elim (eq-or-lt_of_le le) [
+        | inl same ↦ none refl (subst (λ y. who (item r y) ≡ i) same his) (subst (λ y. EndsWith (op_of b) (outcome_at r y)) same ends)
+        | inr sooner ↦ h u lt sooner his ends
+      ]
+  end_longer i c t b (Some e) none h = (h.0, (let le : e ≤ t = h.1 in omega arith), h.2, h.3, h.4)
+
+  pub placed_longer : (t : ℕ) (o : Operation) →
+      (o.end ≡ None → who (item r (suc t)) ≡ o.process → EndsWith (op_of o.action) (outcome_at r (suc t)) → ⊥) → Placed t o → Placed (suc t) o
+  placed_longer t o none h = record {
+    one = h.one;
+    call_is = h.call_is;
+    called = h.called;
+    first = h.first;
+    order = (let le : o.call ≤ t = h.order in omega arith);
+    end = end_longer o.process o.call t o.action o.end none h.end;
+  }
+
+  -- where it does
+  end_closed : (i c t k : ℕ) (b : Action) (end : Option ℕ) (his : Bool) → nat_eq i k ≡ his → who (item r (suc t)) ≡ k →
+      c ≤ t →
+      (i ≡ k → end ≡ None → outcome_at r (suc t) ≡ outcome_of b) → EndUpTo i c b t end → EndUpTo i c b (suc t) (end_at his (suc t) end)
+  end_closed i c t k b None true is at le ends h =
+      let same : i ≡ k = grind arith in
+      (omega arith, omega arith, at ∙ sym same, ends same refl, h)
+  end_closed i c t k b (Some e) true is at le ends h = end_longer i c t b (Some e) (λ some. absurd (cc)) h
+  end_closed i c t k b end false is at le ends h =
+      end_longer i c t b end
+      (λ none his. absurd (let same : i ≡ k = sym his ∙ at in let yes : nat_eq i k ≡ true = grind arith in let q : ⊥ = cc in q)) h
+
+  pub placed_closed : (t k : ℕ) (o : Operation) → who (item r (suc t)) ≡ k →
+      (o.process ≡ k → o.end ≡ None → outcome_at r (suc t) ≡ outcome_of o.action) → Placed t o →
+      Placed (suc t) (ended k (suc t) o)
+  placed_closed t k o at ends h = record {
+    one = h.one;
+    call_is = h.call_is;
+    called = h.called;
+    first = h.first;
+    order = (let le : o.call ≤ t = h.order in omega arith);
+    end = end_closed o.process o.call t k o.action o.end (nat_eq o.process k) refl at h.order ends h.end;
+  }
+
+  -- One that has ended ended before item t + 1 or at it.
+  end_shorter : (i c t e : ℕ) (b : Action) (end : Option ℕ) → end ≡ Some e → EndUpTo i c b (suc t) end →
+      EndUpTo i c b t end ⊎ (e ≡ suc t)
+  end_shorter i c t e b None some h = absurd (cc)
+  end_shorter i c t e b (Some d) some h =
+      let le : d ≤ suc t = h.1 in
+      let same : d ≡ e = cc in
+      elim (eq-or-lt_of_le le) [
+        | inl last ↦ inr (omega arith)
+        | inr less ↦ inl (h.0, omega arith, h.2, h.3, h.4)
+      ]
+
+  end_is : (i c t e : ℕ) (b : Action) (end : Option ℕ) → end ≡ Some e → EndUpTo i c b t end → EndUpTo i c b t (Some e)
+  end_is i c t e b end some h = subst (EndUpTo i c b t) some h
+
+  pub ended_at : (t e : ℕ) (o : Operation) → o.end ≡ Some e → Placed t o → EndUpTo o.process o.call o.action t (Some e)
+  ended_at t e o some h = end_is o.process o.call t e o.action o.end some h.end
+
+  pub placed_shorter : (t : ℕ) (o : Operation) → HasEnded o → Placed (suc t) o → Placed t o ⊎ (o.end ≡ Some (suc t))
+  placed_shorter t o some h =
+      let end = ended_at (suc t) some.0 o some.1 h in
+      let lt : o.call < some.0 = end.0 in
+      elim (end_shorter o.process o.call t some.0 o.action o.end some.1 h.end) [
+        | inl sooner ↦ (let there = end_is o.process o.call t some.0 o.action o.end some.1 sooner in
+            let le : some.0 ≤ t = there.1 in
+            inl (record { one = h.one; call_is = h.call_is; called = h.called; first = h.first; order = omega arith; end = sooner }))
+        | inr now ↦ inr (some.1 ∙ ap (λ y. Some y) now)
+      ]
+
+  -- it does not end before itself is called
+  pub not_before_itself : (t : ℕ) (o : Operation) → Placed t o → EndedBefore o o → ⊥
+  not_before_itself t o h before =
+      let end = ended_at t before.0 o before.1 h in
+      let lt : o.call < before.0 = end.0 in
+      let less : before.0 < o.call = before.2 in omega arith
+
+  -- At the end of the run it is one of the run's operations, completed.
+  completed_by : (i c : ℕ) (b : Action) (end : Option ℕ) → IsOneOf r.shape.n i → item r c ≡ Call i (op_of b) →
+      outcome_at r c ≡ outcome.Called → 0 < c →
+      c ≤ length r.items → EndUpTo i c b (length r.items) end → TookPlace r i c end b ⊎ IsOpenScan r i c end b
+  completed_by i c (Sets word value) (Some e) one call called first order h = inl (
+    record {
+      process = one;
+      call = call;
+      called = called;
+      first = first;
+      order = (let lt : c < e = h.0 in omega arith);
+      last = h.1;
+      goes_on = λ u lt less done. h.4 u lt less done.0 (subst (EndsWith (Update word value)) (sym done.1) tt);
+    },
+    h.0,
+    (h.2, h.3),
+  )
+  completed_by i c (Sees view) (Some e) one call called first order h = inl (record {
+    scan = record {
+      process = one;
+      starts = (call, called);
+      first = first;
+      order = (let lt : c < e = h.0 in omega arith);
+      last = h.1;
+      goes_on = λ u seen lt less ends. h.4 u lt less ends.0 (subst (EndsWith Scan) (sym ends.1) tt);
+    };
+    order = h.0;
+    ends = (h.2, h.3);
+  })
+  completed_by i c (Sets word value) None one call called first order h = inl (
+    record {
+      process = one;
+      call = call;
+      called = called;
+      first = first;
+      order = order;
+      last = omega arith;
+      goes_on = λ u lt less done. h u lt (omega arith) done.0 (subst (EndsWith (Update word value)) (sym done.1) tt);
+    },
+    λ done. elim (eq-or-lt_of_le order) [
+      | inl same ↦ (let out : outcome.Called ≡ outcome.Finished = sym called ∙ ap (outcome_at r) same ∙ done.1 in let q : ⊥ = cc in q)
+      | inr lt ↦ h (length r.items) lt (omega arith) done.0 (subst (EndsWith (Update word value)) (sym done.1) tt)
+    ],
+  )
+  completed_by i c (Sees view) None one call called first order h = inr (
+    record {
+      process = one;
+      starts = (call, called);
+      first = first;
+      order = order;
+      last = omega arith;
+      goes_on = λ u seen lt less ends. h u lt (omega arith) ends.0 (subst (EndsWith Scan) (sym ends.1) tt);
+    },
+    λ seen ends. elim (eq-or-lt_of_le order) [
+      | inl same ↦ (let out : outcome.Called ≡ outcome.Answered seen = sym called ∙ ap (outcome_at r) same ∙ ends.1 in let q : ⊥ = cc in q)
+      | inr lt ↦ h (length r.items) lt (omega arith) ends.0 (subst (EndsWith Scan) (sym ends.1) tt)
+    ],
+  )
+
+  pub completed : (o : Operation) → Placed (length r.items) o → IsCompleted r o
+  completed o h = completed_by o.process o.call o.action o.end h.one h.call_is h.called h.first h.order h.end
+
+  -- And an operation of the run that has ended has taken place.
+  placed_by : (i c e : ℕ) (b : Action) → TookPlace r i c (Some e) b →
+      Placed (length r.items) (record { process = i; call = c; end = Some e; action = b })
+  placed_by i c e (Sets word value) took =
+      let last : e ≤ length r.items = took.0.last in
+      let lt : c < e = took.1 in
+      record {
+        one = took.0.process;
+        call_is = took.0.call;
+        called = took.0.called;
+        first = took.0.first;
+        order = omega arith;
+        end = (lt, last, took.2.0, took.2.1, (λ u more less his ends. took.0.goes_on u more less (his, ends_done word value (outcome_at r u) ends)));
+      }
+  placed_by i c e (Sees view) took =
+      let last : e ≤ length r.items = took.scan.last in
+      let lt : c < e = took.order in
+      record {
+        one = took.scan.process;
+        call_is = took.scan.starts.0;
+        called = took.scan.starts.1;
+        first = took.scan.first;
+        order = omega arith;
+        end = (
+          lt,
+          last,
+          took.ends.0,
+          took.ends.1,
+          (λ u more less his ends. let x = ends_answer (outcome_at r u) ends in took.scan.goes_on u x.0 more less (his, x.1)),
+        );
+      }
+
+  pub placed : (o : Operation) → IsOperation r o → HasEnded o → Placed (length r.items) o
+  placed o took some =
+      subst (λ y. Placed (length r.items) (record { process = o.process; call = o.call; end = y; action = o.action })) (sym some.1)
+      (placed_by o.process o.call some.0 o.action (subst (λ y. TookPlace r o.process o.call y o.action) some.1 took))
+
+-- Lists of operations, where some of them end.
+pub all_map : (P Q : Operation → Type 0) (f : Operation → Operation) (os : List Operation) →
+    ((o : Operation) → P o → Q (f o)) → AllByRecursion P os →
+    AllByRecursion Q (map f os)
+all_map P Q f [] gives h = tt
+all_map P Q f (o ∷ os) gives h = (gives o h.0, all_map P Q f os gives h.1)
+
+pub all_both : (P Q : Operation → Type 0) (os : List Operation) → AllByRecursion P os → AllByRecursion Q os →
+    AllByRecursion (λ o. P o × Q o) os
+all_both P Q [] h k = tt
+all_both P Q (o ∷ os) h k = ((h.0, k.0), all_both P Q os h.1 k.1)
+
+pub contained : (P : Operation → Type 0) (os : List Operation) (o : Operation) → AllByRecursion P os → Contains os o →
+    P o
+contained P os o h there = subst P there.2 (All-from_recursion P os h there.0 o there.1)
+
+pub Contains-map : (f : Operation → Operation) (os : List Operation) (o : Operation) → Contains os o →
+    Contains (map f os) (f o)
+Contains-map f os o there =
+    let lt : there.0 < length os = there.1 in
+    (there.0, omega (arith, length-map os f), get_or-map f os there.0 o (f o) lt ∙ ap f there.2)
+
+-- they stay apart, where what ends was called before
+apart_ended : (k e : ℕ) (x y : Operation) → x.call < e → Apart x y → Apart (ended k e x) (ended k e y)
+apart_ended k e x y early h = (
+  h.0,
+  λ before. elim (ended_then (nat_eq y.process k) e y.end before.0 before.1) [
+    | inl already ↦ h.1 (before.0, already, before.2)
+    | inr now ↦ (let lt : before.0 < x.call = before.2 in let q : ⊥ = omega arith in q)
+  ],
+)
+
+pub pairs_ended : (k e : ℕ) (os : List Operation) → AllByRecursion (λ o. o.call < e) os → Pairs Apart os →
+    Pairs Apart (map (ended k e) os)
+pairs_ended k e [] early h = tt
+pairs_ended k e (o ∷ os) early h =
+    (all_map (Apart o) (Apart (ended k e o)) (ended k e) os (λ y apart. apart_ended k e o y early.0 apart) h.0, pairs_ended k e os early.1 h.1)
+
+-- The object runs them from these values to those.
+abbrev pub RunsTo : List ℕ → List Operation → List ℕ → Type 0
+RunsTo values [] now = values ≡ now
+RunsTo values (o ∷ os) now = Allows values o.action × RunsTo (after values o.action) os now
+
+pub starts_from : (values : List ℕ) (os : List Operation) (now : List ℕ) → RunsTo values os now → RunsFrom values os
+starts_from values [] now h = tt
+starts_from values (o ∷ os) now h = (h.0, starts_from (after values o.action) os now h.1)
+
+pub runs_ended : (k e : ℕ) (values : List ℕ) (os : List Operation) (now : List ℕ) → RunsTo values os now →
+    RunsTo values (map (ended k e) os) now
+runs_ended k e values [] now h = h
+runs_ended k e values (o ∷ os) now h = (h.0, runs_ended k e (after values o.action) os now h.1)
+
+pub segments_more : (values : List ℕ) (os : List Operation) (now : List ℕ) (o : Operation) → RunsTo values os now →
+    Allows now o.action →
+    RunsTo values (os ++ o ∷ []) (after now o.action)
+segments_more values [] now o h allows = (subst (λ y. Allows y o.action) (sym h) allows, ap (λ y. after y o.action) h)
+segments_more values (x ∷ xs) now o h allows = (h.0, segments_more (after values x.action) xs now o h.1 allows)

@@ -1,0 +1,5 @@
+use Rattle.snap_strong.proofs.Apart.{none_serves_both_lem}
+use Rattle.snap_strong.proofs.none_serves_both.Goals as goal
+
+pub returns : goal.returns
+returns c = none_serves_both_lem

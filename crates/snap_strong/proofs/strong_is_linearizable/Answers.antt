@@ -1,0 +1,5 @@
+use Rattle.snap_strong.proofs.Completed.{strong_is_linearizable_lem}
+use Rattle.snap_strong.proofs.strong_is_linearizable.Goals as goal
+
+pub returns : goal.returns
+returns c = strong_is_linearizable_lem

@@ -1,0 +1,3 @@
+pub mod StrongLinearization
+pub mod Futures
+pub mod OneWord

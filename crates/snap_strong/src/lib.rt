@@ -1,0 +1,37 @@
+//! Strong linearizability, and that listing U has it not.
+#![tactic(auto)]
+
+ghost use Rattle.snap_strong.specs.StrongLinearization.{LinearizationsAreCompleted, StrongIsLinearizable};
+ghost use Rattle.snap_strong.specs.Futures.{HasTwoFutures, NoneServesBoth, UIsNotStronglyLinearizable};
+ghost use Rattle.snap_strong.specs.OneWord.{OneWordIsStronglyLinearizable};
+
+/// Every linearization is one in which scans that have not ended may stand too.
+pub fn linearizations_are_completed()
+    ensures { LinearizationsAreCompleted }
+{}
+
+/// A strongly linearizable listing is linearizable.
+pub fn strong_is_linearizable()
+    ensures { StrongIsLinearizable }
+{}
+
+/// A run of U goes on in two ways: in one its open scan answers what held before an update that has ended, in the other
+/// what held after it.
+pub fn has_two_futures()
+    ensures { HasTwoFutures }
+{}
+
+/// No linearization of that run is the beginning of linearizations of both.
+pub fn none_serves_both()
+    ensures { NoneServesBoth }
+{}
+
+/// U is not strongly linearizable, for three processes: no choice of linearizations is kept as runs go on.
+pub fn u_is_not_strongly_linearizable()
+    ensures { UIsNotStronglyLinearizable }
+{}
+
+/// A listing of one word that every process sets and sees is strongly linearizable, for every number of processes.
+pub fn one_word_is_strongly_linearizable()
+    ensures { OneWordIsStronglyLinearizable }
+{}

@@ -1,0 +1,23 @@
+//! What the program is asked.
+use crate::subject::Subject;
+
+/// What the program is to do with its input.
+#[derive(Clone, Copy, Debug, PartialEq, Eq)]
+pub enum Task {
+    /// Whether a text is a listing.
+    Check,
+    /// The image of a listing's text.
+    Assemble,
+    /// The text of a listing's image.
+    List,
+    /// The image, in the version that is written, of an image in either version.
+    Upgrade,
+    /// A listing under a schedule.
+    Run(Subject),
+    /// A listing under a schedule, as commands ask for it.
+    Debug(Subject),
+    /// Each finished scan of a listing under a schedule: whether it has a point.
+    Audit(Subject),
+    /// A listing under many schedules: the report of the end of each.
+    Batch(Subject),
+}

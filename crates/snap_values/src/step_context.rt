@@ -1,0 +1,12 @@
+//! What a process runs a line in.
+use snap_semantics::Activity;
+use snap_words::Shape;
+
+/// The context of a process: who it is, what it is at, and the place of a quantifier.
+#[derive(Clone, Copy)]
+pub struct StepContext {
+    pub shape: Shape,
+    pub me: u32,
+    pub activity: Activity,
+    pub place: u64,
+}

@@ -1,7 +1,0 @@
-use Rattle.std.proofs.Common.{◌≡◌, ◌-◌, ◌<◌, drop, length}
-use Rattle.std.specs.Prelude.{◌^◌}
-use Rattle.snap_words.specs.Hands.{mask_bits}
-use Rattle.snap_words.proofs.hands.mask_of.Given as goal
-
-abbrev pub invariant-loop-done : goal.invariant-loop-done
-invariant-loop-done l = (l.mask < 2 ^ l.done) × (mask_bits l.done l.mask ≡ drop (length l.bits - l.done) l.bits)

@@ -1,0 +1,5 @@
+use Rattle.snap_words.proofs.Masks.{mask_bits-zero}
+use Rattle.snap_words.proofs.handshakes.Handshakes.zeros.Goals as goal
+
+pub returns : goal.returns
+returns c = mask_bits-zero c.args.count

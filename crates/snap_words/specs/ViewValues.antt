@@ -1,0 +1,9 @@
+-- Where the values of a view stand.
+use Rattle.std.specs.Prelude.{ℕ, List}
+use Rattle.std.specs.Arc.{arc_value}
+use Rattle.snap_words.specs.declared.view.ViewValues.{ViewValues}
+use Rattle.snap_words.specs.declared.view.ViewValues.TheVariants.{Own, Shared}
+
+abbrev pub view_items : ViewValues → List ℕ
+view_items (Own v) = v.items
+view_items (Shared a) = (arc_value a).items

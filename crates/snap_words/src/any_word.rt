@@ -1,0 +1,13 @@
+//! Words of any kind.
+use crate::view::View;
+
+/// A word of any kind, to build one of a kind from. A kind keeps those that it has.
+#[derive(Debug, Drop)]
+pub struct AnyWord {
+    pub datum: u64,
+    pub seq: u64,
+    pub id: u64,
+    pub toggle: u64,
+    pub handshakes: View,
+    pub view: View,
+}

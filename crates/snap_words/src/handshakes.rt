@@ -1,0 +1,89 @@
+//! The handshake bits of a word.
+ghost use Rattle.std.specs.Prelude.{◌≡◌, ◌≤◌, true, length, replicate};
+ghost use Rattle.std.specs.List.{list_all, slice_get};
+ghost use Rattle.snap_words.specs.Handshakes.{mask_bits, mask_width};
+ghost use Rattle.snap_words.specs.Kind.{is_bit};
+
+use std::marker::Model;
+
+/// The handshake bits of a word, seen as the list of them: bit `k` of the mask is handshake bit `k + 1`. There are at most 64.
+#[derive(Debug, Drop)]
+pub(crate) struct Handshakes {
+    mask: u64,
+    count: u32,
+}
+
+impl Model for Handshakes {
+    ghost use Rattle.std.specs.Prelude.{◌≤◌, List, ℕ};
+    ghost use Rattle.snap_words.specs.Handshakes.{mask_bits, mask_width};
+
+    ghost Value = { List ℕ };
+
+    ghost view = { λ h. mask_bits h.count h.mask };
+
+    ghost invariant = { λ h. h.count ≤ mask_width };
+}
+
+/// The mask of these bits.
+fn mask_of(bits: &[u64]) -> u64
+    requires width { length bits.now ≤ mask_width }
+    requires bits { list_all is_bit bits.now ≡ true }
+    ensures { mask_bits (length bits.now) result ≡ bits.now }
+{
+    let mut mask = 0;
+    for done in 0..bits.len() {
+        mask = 2 * mask + bits[bits.len() - 1 - done];
+    }
+    mask
+}
+
+impl Handshakes {
+    /// This many handshake bits that are 0.
+    pub(crate) fn zeros(count: u32) -> Handshakes
+        requires { count ≤ mask_width }
+        ensures { result ≡ replicate count 0 }
+    {
+        Handshakes { mask: 0, count }
+    }
+
+    /// The handshake bits that are these bits, as many as `count` says.
+    pub(crate) fn of(count: u32, bits: &[u64]) -> Handshakes
+        requires count { length bits.now ≡ count }
+        requires width { count ≤ mask_width }
+        requires bits { list_all is_bit bits.now ≡ true }
+        ensures { result ≡ bits.now }
+    {
+        Handshakes {
+            mask: mask_of(bits),
+            count,
+        }
+    }
+
+    /// How many there are.
+    pub(crate) fn count(&self) -> u32
+        ensures { result ≡ length self.now }
+    {
+        self.count
+    }
+
+    /// The handshake bit at a place, counted from 0.
+    pub(crate) fn get(&self, place: u32) -> Option<u64>
+        ensures { result ≡ slice_get self.now place }
+    {
+        if place < self.count {
+            Some((self.mask >> place) & 1)
+        } else {
+            None
+        }
+    }
+
+    /// Equal handshake bits.
+    pub(crate) fn copy(&self) -> Handshakes
+        ensures { result ≡ self.now }
+    {
+        Handshakes {
+            mask: self.mask,
+            count: self.count,
+        }
+    }
+}

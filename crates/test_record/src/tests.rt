@@ -45,11 +45,11 @@ fn program(alloc: Global) -> Result<Program, Fail> {
     Ok(load(alloc, image.as_slice())?)
 }
 
-/// A record of the listing with two processes, before the first item.
-fn new_record(rt: &impl Abort, alloc: Global) -> Result<Record<Seq>, Fail> {
+/// A record of the listing with so many processes, before the first item.
+fn new_record(rt: &impl Abort, alloc: Global, count: u64) -> Result<Record<Seq>, Fail> {
     let program = program(alloc)?;
     assert!(rt; program.kind() == KindTag::Seq);
-    Ok(Record::new(alloc, &program, Shape::new(2, 2)?)?)
+    Ok(Record::new(alloc, &program, Shape::new(count, count)?)?)
 }
 
 /// The process of an item.
@@ -128,9 +128,18 @@ fn scan_that_borrows(rt: &impl Abort, record: &mut Record<Seq>) -> Result<(), Fa
     update_between(rt, record, 6, 9)
 }
 
+/// Whether the values after so many items are these.
+fn check_values(rt: &impl Abort, record: &Record<Seq>, t: u64, wanted: &[u64]) -> Result<(), Fail> {
+    match record.values_after(t)? {
+        Some(values) => assert_eq!(rt; values.as_slice(), wanted),
+        None => assert!(rt; false),
+    }
+    Ok(())
+}
+
 #[test]
 fn a_borrowed_view_has_a_point(rt: HostRuntime) -> Result<(), Fail> {
-    let mut record = new_record(&rt, rt.alloc())?;
+    let mut record = new_record(&rt, rt.alloc(), 2)?;
     scan_that_borrows(&rt, &mut record)?;
     check_audit(
         &rt,
@@ -138,11 +147,22 @@ fn a_borrowed_view_has_a_point(rt: HostRuntime) -> Result<(), Fail> {
         &record,
         b"scan 1 call 1 answer 64 point 24 collects 2\n",
     )?;
-    match record.values_after(24)? {
-        Some(values) => assert_eq!(rt; values.as_slice(), [0, 5].as_slice()),
-        None => assert!(rt; false),
-    }
+    check_values(&rt, &record, 24, &[0, 5])?;
     assert!(rt; record.values_after(65)?.is_none());
+    Ok(())
+}
+
+#[test]
+fn a_scan_has_its_double_collects(rt: HostRuntime) -> Result<(), Fail> {
+    let mut record = new_record(&rt, rt.alloc(), 2)?;
+    scan_that_borrows(&rt, &mut record)?;
+    // The scan is called at item 1; item 2 is a step, and item 8 calls an update.
+    assert!(rt; record.collects_of(1) == Some(2));
+    assert!(rt; record.collects_of(2).is_none());
+    assert!(rt; record.collects_of(8).is_none());
+    // A scan that has not ended yet.
+    call(&rt, &mut record, 2, Op::Scan)?;
+    assert!(rt; record.collects_of(65) == Some(0));
     Ok(())
 }
 
@@ -159,7 +179,7 @@ fn skip(rt: &impl Abort, record: &mut Record<Seq>, count: usize) -> Result<(), F
 
 #[test]
 fn a_million_items_are_kept(rt: HostRuntime) -> Result<(), Fail> {
-    let mut record = new_record(&rt, rt.alloc())?;
+    let mut record = new_record(&rt, rt.alloc(), 1)?;
     skip(&rt, &mut record, MAX_ITEMS)?;
     assert_eq!(rt; record.items().len(), MAX_ITEMS);
     match apply(&rt, &mut record, Item::Step(1)) {
@@ -167,5 +187,7 @@ fn a_million_items_are_kept(rt: HostRuntime) -> Result<(), Fail> {
         other => assert!(rt; false, "{other:?}"),
     }
     assert_eq!(rt; record.items().len(), MAX_ITEMS);
+    check_values(&rt, &record, 1_000_000, &[0])?;
+    assert!(rt; record.values_after(1_000_001)?.is_none());
     Ok(())
 }

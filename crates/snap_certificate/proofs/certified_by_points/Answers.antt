@@ -1,0 +1,5 @@
+use Rattle.snap_certificate.proofs.Certifying.{by_points}
+use Rattle.snap_certificate.proofs.certified_by_points.Goals as goal
+
+pub returns : goal.returns
+returns c = by_points

@@ -1,0 +1,5 @@
+use Rattle.snap_certificate.proofs.Certifying.{has_places}
+use Rattle.snap_certificate.proofs.certified_has_places.Goals as goal
+
+pub returns : goal.returns
+returns c = has_places c.placed_by_points.ensures

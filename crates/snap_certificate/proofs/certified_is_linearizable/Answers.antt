@@ -1,0 +1,5 @@
+use Rattle.snap_certificate.proofs.Certifying.{is_linearizable}
+use Rattle.snap_certificate.proofs.certified_is_linearizable.Goals as goal
+
+pub returns : goal.returns
+returns c = is_linearizable c.linearizable_by_points.ensures

@@ -3,7 +3,8 @@ ghost use Rattle.std.specs.Prelude.{◌≡◌, All};
 
 use crate::benches::{Bench, new_bench};
 use snap_live::{Desk, LiveFault, LiveRefusal, Seat, close};
-use snap_semantics::{Fault, Op, Outcome, Reason};
+use snap_record::Record;
+use snap_semantics::{Fault, Item, Op, Outcome, Reason};
 use snap_words::Seq;
 use std::process::Abort;
 use std::sync::Wait;
@@ -56,6 +57,21 @@ fn steps<R: Wait + Abort>(
     Ok(())
 }
 
+/// A crash of the process of the seat at this place, which is the turn of this number.
+fn crash<R: Wait + Abort>(
+    rt: &R,
+    bench: &mut Bench,
+    at: usize,
+    number: u64,
+) -> Result<Outcome, Fail> {
+    assert!(rt; at < bench.seats.len());
+    let seat = &mut bench.seats[at];
+    assert!(rt; seat.asked() < 1000);
+    let turn = seat.crash(rt, &bench.desk)?;
+    assert_eq!(rt; turn.number, number);
+    Ok(turn.outcome)
+}
+
 /// Whether a scan was answered with these values.
 fn answers(outcome: &Outcome, values: &[u64]) -> bool {
     match outcome {
@@ -79,6 +95,25 @@ fn update_and_scan<R: Wait + Abort>(rt: &R, bench: &mut Bench) -> Result<(), Fai
 fn one_seat_takes_its_turns_in_order(rt: HostRuntime) -> Result<(), Fail> {
     let mut bench = new_bench(&rt, rt.alloc(), 1)?;
     update_and_scan(&rt, &mut bench)
+}
+
+/// Process 1 updates its word, and crashes in the middle of a scan; a step is skipped then.
+fn update_and_crash<R: Wait + Abort>(rt: &R, bench: &mut Bench) -> Result<(), Fail> {
+    call(rt, bench, 0, UPDATE, 1)?;
+    steps(rt, bench, 0, 2, 13)?;
+    call(rt, bench, 0, Op::Scan, 15)?;
+    steps(rt, bench, 0, 16, 4)?;
+    let outcome = crash(rt, bench, 0, 20)?;
+    assert!(rt; matches!(&outcome, Outcome::Crashed));
+    let outcome = step(rt, bench, 0, 21)?;
+    assert!(rt; matches!(&outcome, Outcome::Skipped(Reason::Crashed)));
+    Ok(())
+}
+
+#[test]
+fn a_seat_crashes_in_a_scan(rt: HostRuntime) -> Result<(), Fail> {
+    let mut bench = new_bench(&rt, rt.alloc(), 1)?;
+    update_and_crash(&rt, &mut bench)
 }
 
 /// One seat meets a note of the other, and has then seen so many turns.
@@ -117,8 +152,8 @@ fn not_closed(
     (desk, seats)
 }
 
-/// The number of items in the record of all turns. The record comes once the last seat is there as well.
-fn closed(rt: &impl Abort, bench: Bench, missing: u32) -> Result<usize, Fail> {
+/// The record of all turns, which comes once the last seat is there as well.
+fn closed(rt: &impl Abort, bench: Bench, missing: u32) -> Result<Record<Seq>, Fail> {
     let Bench { desk, mut seats } = bench;
     let Some(last) = seats.pop() else {
         panic!(rt; "no seat")
@@ -128,14 +163,22 @@ fn closed(rt: &impl Abort, bench: Bench, missing: u32) -> Result<usize, Fail> {
     let Ok(record) = close(desk, seats) else {
         panic!(rt; "not closed")
     };
-    Ok(record.items().len())
+    Ok(record)
+}
+
+/// Whether what is kept are the two turns.
+fn check_two_turns(rt: &impl Abort, record: &Record<Seq>) {
+    assert_eq!(rt; record.items().len(), 2);
+    assert!(rt; record.items().item(1) == Some(Item::Call(1, UPDATE)));
+    assert!(rt; record.items().item(2) == Some(Item::Step(2)));
 }
 
 #[test]
 fn two_seats_meet_and_close(rt: HostRuntime) -> Result<(), Fail> {
     let mut bench = new_bench(&rt, rt.alloc(), 2)?;
     two_turns(&rt, &mut bench)?;
-    assert_eq!(rt; closed(&rt, bench, 2)?, 2);
+    let record = closed(&rt, bench, 2)?;
+    check_two_turns(&rt, &record);
     Ok(())
 }
 

@@ -1,5 +1,7 @@
 use snap_audit::audit_text;
+use snap_record::Record;
 use snap_words::{Bits, Kind, Multi, Seq};
+use std::process::Abort;
 use std::test::Fail;
 
 #[test]
@@ -51,6 +53,34 @@ fn single_runs(rt: HostRuntime) -> Result<(), Fail> {
         let record = snap_single::run(rt.alloc(), &schedule)?;
         assert_eq!(rt; audit_text(rt.alloc(), &record)?.as_slice(), verdicts);
     }
+    Ok(())
+}
+
+/// What is reported at the end of an update of U, alone.
+const UPDATED: &[u8] = b"report at 14 of 14\n\
+values 7\n\
+r 1 = 7 seq 1 view 0\n\
+process 1 idle\n  j = 1\n  c = 1\n  moved = 0\n  a 1 = 0 seq 0 view 0\n  b 1 = 0 seq 0 view 0\n  s = 0\n\
+event 1 1 update 1 7\n\
+event 14 1 done\n";
+
+/// Whether the values after so many items are this one alone.
+fn check_value(rt: &impl Abort, record: &Record<Seq>, t: u64, wanted: u64) -> Result<(), Fail> {
+    match record.values_after(t)? {
+        Some(values) => assert_eq!(rt; values.as_slice(), [wanted].as_slice()),
+        None => assert!(rt; false),
+    }
+    Ok(())
+}
+
+#[test]
+fn an_update_alone_writes_its_value(rt: HostRuntime) -> Result<(), Fail> {
+    let schedule = snap_sched::read(rt.alloc(), b"shape 1 1\n1 update 1 7\n1*13\n")?;
+    assert!(rt; Seq::fits(schedule.shape()));
+    let record = snap_single::run(rt.alloc(), &schedule)?;
+    check_value(&rt, &record, 12, 0)?;
+    check_value(&rt, &record, 13, 7)?;
+    assert_eq!(rt; record.report()?.as_slice(), UPDATED);
     Ok(())
 }
 

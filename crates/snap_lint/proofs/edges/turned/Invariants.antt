@@ -1,0 +1,7 @@
+use Rattle.std.proofs.Common.{◌≡◌, map, take}
+use Rattle.snap_lint.specs.Flow.{turned}
+use Rattle.snap_lint.proofs.edges.turned.Given as goal
+
+-- the edges so far are turned
+abbrev pub invariant-loop-edge : goal.invariant-loop-edge
+invariant-loop-edge l = l.turned.items ≡ turned (take l.edge-index l.edges)

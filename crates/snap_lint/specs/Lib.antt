@@ -1,0 +1,5 @@
+pub mod Marks
+pub mod Flow
+pub mod Fields
+pub mod Warnings
+pub mod Sound

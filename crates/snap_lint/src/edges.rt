@@ -1,0 +1,91 @@
+//! Which line leads to which.
+ghost use Rattle.std.specs.Prelude.{◌≡◌, ◌++◌, IfOk, OnOk};
+ghost use Rattle.snap_lint.specs.Flow.{edge_to, edges, jump, line_after, line_edges, may_go_on, turned};
+
+use crate::mode::Way;
+use snap_listing_core::Listing;
+use snap_semantics::{Instr, Line};
+use std::alloc::{AllocError, Global};
+
+/// One line leads to another.
+#[derive(Clone, Copy, Debug, PartialEq, Eq)]
+pub struct Edge {
+    pub from: u64,
+    pub to: u64,
+}
+
+/// Whether the line behind this one may come next.
+pub fn may_go_on(way: Way, instr: &Instr) -> bool
+    ensures { result ≡ may_go_on way instr.now }
+{
+    match instr {
+        Instr::Goto(_) => false,
+        Instr::Call(_) => way != Way::Within,
+        Instr::Put(_, _) => way != Way::Unwritten,
+        Instr::Return(_) => false,
+        Instr::Finish => false,
+        _ => true,
+    }
+}
+
+/// The line to which an instruction may jump. A `call` is none.
+pub fn jump(instr: &Instr) -> Option<u64>
+    ensures { result ≡ jump instr.now }
+{
+    match instr {
+        Instr::First(_, _, _, target) => Some(*target),
+        Instr::Next(_, _, target) => Some(*target),
+        Instr::If(_, target) => Some(*target),
+        Instr::IfAll(_, _, target) => Some(*target),
+        Instr::Goto(target) => Some(*target),
+        _ => None,
+    }
+}
+
+/// The line behind a line, where it may come next and is there.
+fn line_after(listing: &Listing, way: Way, line: &Line) -> Option<u64>
+    ensures { result ≡ line_after listing.now.lines way line.now }
+{
+    if may_go_on(way, &line.instr) {
+        listing.following(line.number)
+    } else {
+        None
+    }
+}
+
+/// Adds the edge to a line, where there is one.
+fn push_edge(edges: &mut Vec<Edge>, from: u64, to: Option<u64>) -> Result<(), AllocError>
+    ensures { OnOk result (edges.new.items ≡ edges.old.items ++ edge_to from to) }
+{
+    if let Some(to) = to {
+        edges.push(Edge { from, to })?;
+    }
+    Ok(())
+}
+
+/// Which line leads to which, on this way.
+pub fn edges(alloc: Global, listing: &Listing, way: Way) -> Result<Vec<Edge>, AllocError>
+    ensures { IfOk result (λ v. v.items ≡ edges listing.now.lines way) }
+{
+    let mut edges = Vec::new(alloc);
+    let lines = listing.lines();
+    for line in lines {
+        push_edge(&mut edges, line.number, line_after(listing, way, line))?;
+        push_edge(&mut edges, line.number, jump(&line.instr))?;
+    }
+    Ok(edges)
+}
+
+/// The edges, each the other way round.
+pub fn turned(alloc: Global, edges: &[Edge]) -> Result<Vec<Edge>, AllocError>
+    ensures { IfOk result (λ v. v.items ≡ turned edges.now) }
+{
+    let mut turned = Vec::new(alloc);
+    for edge in edges {
+        turned.push(Edge {
+            from: edge.to,
+            to: edge.from,
+        })?;
+    }
+    Ok(turned)
+}

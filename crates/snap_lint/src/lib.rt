@@ -1,0 +1,31 @@
+//! What a listing may run into: the lines to which control may come, and what is to be warned of there.
+#![tactic(auto)]
+
+mod concern;
+mod edges;
+mod flow;
+mod lint;
+mod marks;
+mod mode;
+mod traps;
+
+ghost use Rattle.snap_lint.specs.Sound.{SilentNeverTraps, TrapsAreWarnedOf};
+
+pub use concern::{Concern, Warning};
+pub use edges::Edge;
+pub use flow::Flow;
+pub use lint::warnings;
+pub use mode::{Mode, Way};
+
+/// Whatever the schedule: a process that has trapped, at the end of the listing, at a call within a call, at an end that its
+/// operation does not have or at a register of another process, stands at a line of which that is warned.
+
+pub fn traps_are_warned_of()
+    ensures { TrapsAreWarnedOf }
+{}
+
+/// Where nothing is warned of for such a cause, no run of any schedule traps with it.
+
+pub fn silent_never_traps()
+    ensures { SilentNeverTraps }
+{}

@@ -1,0 +1,124 @@
+//! What is to be warned of, line by line.
+ghost use Rattle.std.specs.Prelude.{◌≡◌, ◌++◌, ◌&&◌, not, IfOk, OnOk};
+ghost use Rattle.std.specs.List.{flat_map, list_any};
+ghost use Rattle.snap_lint.specs.Flow.{lines_in, out_in};
+ghost use Rattle.snap_lint.specs.Marks.{is_in};
+ghost use Rattle.snap_lint.specs.Warnings.{is_reached_in, is_warned_of, may_trap, modes, warning_of, warnings};
+
+use crate::concern::{Concern, Warning};
+use crate::flow::Flow;
+use crate::mode::Mode;
+use crate::traps::may_trap;
+use snap_listing_core::Listing;
+use snap_semantics::{Instr, Line};
+use std::alloc::{AllocError, Global};
+
+/// What a process can be at.
+const MODES: [Mode; 4] = [Mode::Scan, Mode::ScanCall, Mode::Update, Mode::UpdateCall];
+
+/// What a line can be warned of, in the order of the warnings.
+const CONCERNS: [Concern; 7] = [
+    Concern::OffEnd,
+    Concern::Nested,
+    Concern::BadEnd,
+    Concern::Owner,
+    Concern::Unreached,
+    Concern::Endless,
+    Concern::NoWrite,
+];
+
+/// Whether control comes to a line in a mode, and no way leads on from it to an end.
+fn is_endless_in(flow: &Flow, mode: Mode, line: u64) -> bool
+    ensures { result ≡ (is_in (lines_in flow.now mode) line && not (is_in (out_in flow.now mode) line)) }
+{
+    flow.reaches(mode, line) && !flow.leads_out(mode, line)
+}
+
+/// Whether control comes to a line in a mode, and it may trap so.
+fn may_trap_in(listing: &Listing, flow: &Flow, concern: Concern, mode: Mode, line: &Line) -> bool
+    ensures { result ≡ (is_in (lines_in flow.now mode) line.now.number && may_trap listing.now concern mode line.now) }
+{
+    flow.reaches(mode, line.number) && may_trap(listing, concern, mode, line)
+}
+
+/// Whether control never comes to a line.
+fn is_unreached(flow: &Flow, line: u64) -> bool
+    ensures { result ≡ not (list_any (λ m. is_in (lines_in flow.now m) line) modes) }
+{
+    !MODES.iter().any(|mode| flow.reaches(*mode, line))
+}
+
+/// Whether control comes to a line in some mode, and no way leads on from it to an end.
+fn is_endless(flow: &Flow, line: u64) -> bool
+    ensures { result ≡ list_any (λ m. is_in (lines_in flow.now m) line && not (is_in (out_in flow.now m) line)) modes }
+{
+    MODES.iter().any(|mode| is_endless_in(flow, *mode, line))
+}
+
+/// Whether a line may trap so in some mode.
+fn may_trap_somehow(listing: &Listing, flow: &Flow, concern: Concern, line: &Line) -> bool
+    ensures { result ≡ is_reached_in flow.now (λ m. may_trap listing.now concern m line.now) line.now }
+{
+    MODES
+        .iter()
+        .any(|mode| may_trap_in(listing, flow, concern, *mode, line))
+}
+
+/// Whether a line is warned of.
+fn is_warned_of(listing: &Listing, flow: &Flow, line: &Line, concern: Concern) -> bool
+    ensures { result ≡ is_warned_of listing.now flow.now line.now concern }
+{
+    match concern {
+        Concern::Unreached => is_unreached(flow, line.number),
+        Concern::Endless => is_endless(flow, line.number),
+        Concern::NoWrite => matches!(line.instr, Instr::Finish) && flow.is_unwritten(line.number),
+        _ => may_trap_somehow(listing, flow, concern, line),
+    }
+}
+
+/// Adds a warning of a line, where it is warned of.
+fn push_warning(
+    warnings: &mut Vec<Warning>,
+    listing: &Listing,
+    flow: &Flow,
+    line: &Line,
+    concern: Concern,
+) -> Result<(), AllocError>
+    ensures { OnOk result (warnings.new.items ≡ warnings.old.items ++ warning_of listing.now flow.now line.now concern) }
+{
+    if is_warned_of(listing, flow, line, concern) {
+        let line = line.number;
+        warnings.push(Warning { line, concern })?;
+    }
+    Ok(())
+}
+
+/// Adds the warnings of a line for these concerns.
+fn push_line_warnings(
+    warnings: &mut Vec<Warning>,
+    listing: &Listing,
+    flow: &Flow,
+    line: &Line,
+    concerns: &[Concern],
+) -> Result<(), AllocError>
+    ensures { OnOk result (warnings.new.items ≡ warnings.old.items ++ flat_map (warning_of listing.now flow.now line.now) concerns.now) }
+{
+    for concern in concerns {
+        push_warning(warnings, listing, flow, line, *concern)?;
+    }
+    Ok(())
+}
+
+/// The warnings of a listing, in the order of its lines.
+#[tactic(auto, unfolding(crate::specs::Warnings::warnings))]
+pub fn warnings(alloc: Global, listing: &Listing) -> Result<Vec<Warning>, AllocError>
+    ensures { IfOk result (λ v. v.items ≡ warnings listing.now) }
+{
+    let flow = Flow::of(alloc, listing)?;
+    let mut warnings = Vec::new(alloc);
+    let lines = listing.lines();
+    for line in lines {
+        push_line_warnings(&mut warnings, listing, &flow, line, &CONCERNS)?;
+    }
+    Ok(warnings)
+}

@@ -1,0 +1,67 @@
+//! What a line may trap on, as far as the flow of control can tell.
+ghost use Rattle.std.specs.Prelude.{◌≡◌};
+ghost use Rattle.snap_lint.specs.Warnings.{is_own, is_shared, may_end_badly, may_nest, may_trap, may_write_others};
+
+use crate::concern::Concern;
+use crate::flow::may_run_off;
+use crate::mode::{Mode, Way};
+use snap_listing_core::Listing;
+use snap_semantics::{Index, Instr, Line};
+use snap_words::{Bank, KindTag};
+
+/// Whether an instruction may call within a call.
+fn may_nest(mode: Mode, instr: &Instr) -> bool
+    ensures { result ≡ may_nest mode instr.now }
+{
+    matches!(instr, Instr::Call(_)) && mode.way() == Way::Within
+}
+
+/// Whether an instruction may end an operation that does not end so.
+fn may_end_badly(mode: Mode, instr: &Instr) -> bool
+    ensures { result ≡ may_end_badly mode instr.now }
+{
+    match instr {
+        Instr::Return(_) => mode == Mode::Update,
+        Instr::Finish => mode != Mode::Update,
+        _ => false,
+    }
+}
+
+/// Whether every process may write the registers of a bank.
+fn is_shared(kind: KindTag, bank: Bank) -> bool
+    ensures { result ≡ is_shared kind bank }
+{
+    kind == KindTag::Multi && bank == Bank::R
+}
+
+/// Whether a register is its process's to write, as its first index is written.
+fn is_own(kind: KindTag, bank: Bank, index: &Index) -> bool
+    ensures { result ≡ is_own kind bank index.now }
+{
+    is_shared(kind, bank) || matches!(index, Index::Me)
+}
+
+/// Whether an instruction writes a register that may be another process's.
+fn may_write_others(kind: KindTag, instr: &Instr) -> bool
+    ensures { result ≡ may_write_others kind instr.now }
+{
+    match instr {
+        Instr::Put(index, _) => !is_own(kind, Bank::R, index),
+        Instr::PutBit(bits, index, _, _) => !is_own(kind, bits.bank(), index),
+        Instr::PutView(index, _) => !is_own(kind, Bank::V, index),
+        _ => false,
+    }
+}
+
+/// Whether a line may trap so in a mode.
+pub fn may_trap(listing: &Listing, concern: Concern, mode: Mode, line: &Line) -> bool
+    ensures { result ≡ may_trap listing.now concern mode line.now }
+{
+    match concern {
+        Concern::OffEnd => may_run_off(listing, mode.way(), line),
+        Concern::Nested => may_nest(mode, &line.instr),
+        Concern::BadEnd => may_end_badly(mode, &line.instr),
+        Concern::Owner => may_write_others(listing.kind(), &line.instr),
+        _ => false,
+    }
+}

@@ -1,3 +1,6 @@
 pub mod Marking
 pub mod Quiet
 pub mod Lines
+pub mod Warned
+pub mod Steps
+pub mod Sound

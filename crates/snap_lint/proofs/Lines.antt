@@ -1,7 +1,7 @@
 -- A line that is found by its number is one of the lines, and what it leads to is there.
 use Rattle.std.specs.Prelude.{◌≡◌, ℕ, zero, suc, ◌<◌, ◌⊎◌, Bool, true, false, ◌||◌, List, [], ◌∷◌, ◌++◌, length, Option, Some, None, nat_eq, if◌then◌else◌, slice_index_or, refl}
 use Rattle.std.proofs.Common.{sym, ◌∙◌, ap, subst, arith, inl, inr}
-use Rattle.std.proofs.lemmas.Bool.{eqb-true, eq-eqb, or_left, or_right}
+use Rattle.std.proofs.lemmas.Bool.{eqb-true, eq-eqb, or_cases, or_left, or_right}
 use Rattle.std.proofs.lemmas.List.Elements.{Contains-append_left, Contains-append_right}
 use Rattle.std.specs.List.{AllByRecursion, Contains, flat_map}
 use Rattle.snap_semantics.specs.declared.instr.Instr.{Instr}
@@ -27,6 +27,22 @@ pub found : (lines : List Line) (k : ℕ) (i : Instr) → instr_at lines k ≡ S
 found [] k i is = absurd (cc)
 found (line ∷ lines) k i is =
     found_step (nat_eq line.number k) line lines k i (instr_at lines k) (eqb-true line.number k) (found lines k i) is
+
+instr_step : (b : Bool) (line : Line) (rest : Option Instr) → (rest ≡ None → ⊥) ⊎ (b ≡ true) → (if b then Some line.instr else rest) ≡ None → ⊥
+instr_step true line rest h is = cc
+instr_step false line rest h is = elim h [
+  | inl there ↦ there is
+  | inr not_here ↦ absurd (cc)
+]
+
+-- a line has its instruction
+pub has_instr : (lines : List Line) (k : ℕ) → has_line lines k ≡ true → instr_at lines k ≡ None → ⊥
+has_instr [] k is none = cc
+has_instr (line ∷ lines) k is none =
+    instr_step (nat_eq line.number k) line (instr_at lines k) (elim (or_cases (nat_eq line.number k) (has_line lines k) is) [
+      | inl here ↦ inr here
+      | inr later ↦ inl (has_instr lines k later)
+    ]) none
 
 first_there : (lines : List Line) (m : ℕ) → first_number lines ≡ Some m → has_line lines m ≡ true
 first_there [] m is = absurd (cc)

@@ -84,6 +84,18 @@ there p (line ∷ lines) k is h = there_step (p line) line.number _ k (h line) (
   | inr later ↦ inr (there p lines k later h)
 ])
 
+line_step : (b : Bool) (line : Line) (lines : List Line) (xs : List ℕ) (k : ℕ) → (is_in xs k ≡ true → has_line lines k ≡ true) →
+    is_in (if b then line.number ∷ xs else xs) k ≡ true → has_line (line ∷ lines) k ≡ true
+line_step true line lines xs k later is = elim (or_cases (nat_eq k line.number) (is_in xs k) is) [
+  | inl here ↦ or_left (nat_eq line.number k) (has_line lines k) (eq-eqb line.number k (sym (eqb-true k line.number here)))
+  | inr more ↦ or_right (nat_eq line.number k) (has_line lines k) (later more)
+]
+line_step false line lines xs k later is = or_right (nat_eq line.number k) (has_line lines k) (later is)
+
+only_lines : (p : Line → Bool) (lines : List Line) (k : ℕ) → is_in (numbers_where p lines) k ≡ true → has_line lines k ≡ true
+only_lines p [] k is = is
+only_lines p (line ∷ lines) k is = line_step (p line) line lines _ k (only_lines p lines k) is
+
 led_more : (ks ls : List ℕ) → AreIn ks ls → (es : List Edge) (k : ℕ) → is_led_to es ks k ≡ true → is_led_to es ls k ≡ true
 led_more ks ls h [] k is = is
 led_more ks ls h (e ∷ es) k is = elim (or_cases (nat_eq e.to k && is_in ks e.from) (is_led_to es ks k) is) [
@@ -143,6 +155,15 @@ module _ (lines : List Line) (es : List Edge) (starts : List ℕ) where
     | inl same ↦ same
     | inr long ↦ no_change (length lines) (let few : length (round (suc (length lines))) ≤ length lines = no_more (mark (round (length lines))) lines in omega (arith, long, few))
   ]
+
+  only_marks : (t k : ℕ) → is_in (round t) k ≡ true → has_line lines k ≡ true
+  only_marks zero k is = absurd (let e : false ≡ true = is in cc)
+  only_marks (suc t) k is = only_lines (mark (round t)) lines k is
+
+  -- what is reached is a line
+  pub line_reached : (k : ℕ) → is_in (reached lines es starts) k ≡ true → has_line lines k ≡ true
+  unfolding reached
+  line_reached k is = only_marks (length lines) k is
 
   again : (l : ℕ) → has_line lines l ≡ true → ((line : Line) → line.number ≡ l → mark (reached lines es starts) line ≡ true) →
       is_in (reached lines es starts) l ≡ true

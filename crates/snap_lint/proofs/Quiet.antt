@@ -31,6 +31,10 @@ unfolding IsQuiet
 quiet_then (Ok v) f q h = h v
 quiet_then (Err e) f q h = q
 
+pub quiet_fault : (A : Type 0) (e : Cause) → IsQuiet {A = A} (Err e) → concern_of e ≡ None
+unfolding IsQuiet
+quiet_fault A e q = q
+
 pub quiet_ok : {A : Type 0} (x : A) → IsQuiet {A = A} (Ok x)
 unfolding IsQuiet
 quiet_ok x = tt

@@ -1,0 +1,8 @@
+use Rattle.std.proofs.Common.{refl}
+use Rattle.snap_lint.specs.Marks.{reached}
+use Rattle.snap_lint.specs.Warnings.{warnings}
+use Rattle.snap_lint_shipped.proofs.u_is_silent.Goals as goal
+
+pub returns : goal.returns
+unfolding reached warnings
+returns c = refl

@@ -1,0 +1,7 @@
+use Rattle.std.proofs.Common.{◌≡◌, ◌++◌, drop}
+use Rattle.snap_lint_text.specs.Lint.{warnings_text}
+use Rattle.snap_lint_text.proofs.text.warnings_text.Given as goal
+
+-- the lines so far, and those of the warnings left
+abbrev pub invariant-loop-warning : goal.invariant-loop-warning
+invariant-loop-warning l = l.out.items ++ warnings_text (drop l.warning-index l.warnings) ≡ warnings_text l.warnings

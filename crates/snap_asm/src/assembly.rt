@@ -1,4 +1,5 @@
-//! From texts to images, from images to texts and to images of the version that is written, and from images to programs.
+//! From texts to images, from images to texts and to images of the version that is written, and
+//! from images to programs.
 ghost use Rattle.std.specs.Prelude.{◌≡◌, ◌≢◌, ℕ, List, ◌∷◌, ◌++◌, IfOk, None, Ok, Err, take};
 ghost use Rattle.snap_semantics.specs.Answers.{Answers};
 ghost use Rattle.snap_image_format.specs.Assembly.{assembled, listed, upgraded};
@@ -27,43 +28,50 @@ pub fn assemble(alloc: Global, text: &[u8]) -> Result<Vec<u8>, ListingFault>
     Ok(image)
 }
 
-/// The canonical text of the listing whose image these bytes are, in either version, or the first reason why they are none: they are refused
-/// exactly where no listing has this image.
+/// The canonical text of the listing whose image these bytes are, in either version, or the first
+/// reason why they are none: they are refused exactly where no listing has this image.
 #[tactic(auto, unfolding(snap_image_format::specs::Assembly::listed))]
 pub fn list(alloc: Global, image: &[u8]) -> Result<Vec<u8>, ImageFault>
     ensures answer { Answers (λ text. text.items) result (listed image.now) }
     ensures image { IfOk result (λ text. HaveOneListing image.now text.items) }
-    ensures every { (v : ImageVersion) (c : Commented) → IsCommented c → CanSay v c → image.now ≡ image_in v c → Answers (λ text. text.items) result (Ok (canonical_text c)) }
+    ensures every { (v : ImageVersion) (c : Commented) → IsCommented c → CanSay v c →
+        image.now ≡ image_in v c → Answers (λ text. text.items) result (Ok (canonical_text c)) }
     ensures not_an_image { take 4 image.now ≢ signature → result ≡ Err (Refused NotAnImage) }
-    ensures version { (b : ℕ) (rest : List ℕ) → image.now ≡ signature ++ b ∷ rest → of_code versions b ≡ None → result ≡ Err (Refused Version) }
+    ensures version { (b : ℕ) (rest : List ℕ) → image.now ≡ signature ++ b ∷ rest →
+        of_code versions b ≡ None → result ≡ Err (Refused Version) }
 {
     let listing = decode(alloc, image)?;
     let text = print(alloc, &listing)?;
     Ok(text)
 }
 
-/// The image, in the second version, of the listing whose image these bytes are in either version, or the first reason why they are none.
+/// The image, in the second version, of the listing whose image these bytes are in either version,
+/// or the first reason why they are none.
 #[tactic(auto, unfolding(snap_image_format::specs::Assembly::upgraded))]
 pub fn upgrade(alloc: Global, image: &[u8]) -> Result<Vec<u8>, ImageFault>
     ensures answer { Answers (λ image. image.items) result (upgraded image.now) }
-    ensures every { (v : ImageVersion) (c : Commented) → IsCommented c → CanSay v c → image.now ≡ image_in v c → Answers (λ image. image.items) result (Ok (image_of c)) }
+    ensures every { (v : ImageVersion) (c : Commented) → IsCommented c → CanSay v c →
+        image.now ≡ image_in v c → Answers (λ image. image.items) result (Ok (image_of c)) }
     ensures not_an_image { take 4 image.now ≢ signature → result ≡ Err (Refused NotAnImage) }
-    ensures version { (b : ℕ) (rest : List ℕ) → image.now ≡ signature ++ b ∷ rest → of_code versions b ≡ None → result ≡ Err (Refused Version) }
+    ensures version { (b : ℕ) (rest : List ℕ) → image.now ≡ signature ++ b ∷ rest →
+        of_code versions b ≡ None → result ≡ Err (Refused Version) }
 {
     let listing = decode(alloc, image)?;
     let upgraded = encode(alloc, &listing)?;
     Ok(upgraded)
 }
 
-/// The program whose image these bytes are, in either version, or the first reason why they are none: they are refused exactly where no listing
-/// has this image.
+/// The program whose image these bytes are, in either version, or the first reason why they are
+/// none: they are refused exactly where no listing has this image.
 #[tactic(auto, unfolding(snap_image_format::specs::ImageListing::listing_of_image))]
 pub fn load(alloc: Global, image: &[u8]) -> Result<Program, ImageFault>
     ensures answer { Answers (λ p. p) result (listing_of_image image.now) }
     ensures image { IfOk result (λ p. HasListing image.now p) }
-    ensures every { (v : ImageVersion) (c : Commented) → IsCommented c → CanSay v c → image.now ≡ image_in v c → Answers (λ p. p) result (Ok c.source) }
+    ensures every { (v : ImageVersion) (c : Commented) → IsCommented c → CanSay v c →
+        image.now ≡ image_in v c → Answers (λ p. p) result (Ok c.source) }
     ensures not_an_image { take 4 image.now ≢ signature → result ≡ Err (Refused NotAnImage) }
-    ensures version { (b : ℕ) (rest : List ℕ) → image.now ≡ signature ++ b ∷ rest → of_code versions b ≡ None → result ≡ Err (Refused Version) }
+    ensures version { (b : ℕ) (rest : List ℕ) → image.now ≡ signature ++ b ∷ rest →
+        of_code versions b ≡ None → result ≡ Err (Refused Version) }
 {
     let listing = decode(alloc, image)?;
     let program = Program::of(alloc, listing.into_listing())?;

@@ -12,7 +12,8 @@ use std::alloc::Global;
 
 /// The image of a listing's text.
 pub fn assemble(alloc: Global, text: &[u8]) -> Result<Vec<u8>, Fault<Refusal>>
-    ensures { Answers (λ image. image.items) result (refused_as refusal.Listing (assembled text.now)) }
+    ensures { Answers (λ image. image.items) result
+        (refused_as refusal.Listing (assembled text.now)) }
 {
     Ok(snap_asm::assemble(alloc, text)?)
 }
@@ -26,13 +27,14 @@ pub fn list(alloc: Global, image: &[u8]) -> Result<Vec<u8>, Fault<Refusal>>
 
 /// The image, in the version that is written, of a listing's image.
 pub fn upgrade(alloc: Global, image: &[u8]) -> Result<Vec<u8>, Fault<Refusal>>
-    ensures { Answers (λ image. image.items) result (refused_as refusal.Image (upgraded image.now)) }
+    ensures { Answers (λ image. image.items) result
+        (refused_as refusal.Image (upgraded image.now)) }
 {
     Ok(snap_asm::upgrade(alloc, image)?)
 }
 
-/// The program of a listing's text, loaded from its image, which is never refused: what is read is a listing, and the
-/// image of every listing is decoded as that listing.
+/// The program of a listing's text, loaded from its image, which is never refused: what is read is
+/// a listing, and the image of every listing is decoded as that listing.
 pub fn program_of(alloc: Global, text: &[u8]) -> Result<Program, Fault<Refusal>>
     ensures { Answers (λ p. p) result (refused_as refusal.Listing (listing_of text.now)) }
 {

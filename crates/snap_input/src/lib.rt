@@ -1,4 +1,5 @@
-//! What the program reads: the parts of an input, the listing that it runs, and the texts behind it.
+//! What the program reads: the parts of an input, the listing that it runs, and the texts behind
+//! it.
 #![tactic(auto)]
 
 mod images;

@@ -43,7 +43,8 @@ pub fn program_for(
 /// The parts behind the listing.
 pub fn texts_for<'a, 'b>(subject: Subject, parts: &'a [&'b [u8]]) -> &'a [&'b [u8]]
     requires { subject ≡ FirstPart → 0 < length parts.now }
-    ensures { map (λ part. part.now) result.now ≡ texts_for subject (map (λ part. part.now) parts.now) }
+    ensures { map (λ part. part.now) result.now
+        ≡ texts_for subject (map (λ part. part.now) parts.now) }
 {
     match subject {
         Subject::FirstPart => &parts[1..],

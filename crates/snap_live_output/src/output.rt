@@ -11,8 +11,9 @@ use std::alloc::Global;
 use std::sync::Wait;
 use std::thread::Threads;
 
-/// The history of one live run of what an input says to play, each process in a thread of its own and with at most `limit` turns:
-/// as the text of a schedule, and then its report. Or why there is none.
+/// The history of one live run of what an input says to play, each process in a thread of its own
+/// and with at most `limit` turns: as the text of a schedule, and then its report. Or why there is
+/// none.
 pub fn live_output<G: Gate, R: Threads + Wait + Sync>(
     rt: &R,
     alloc: Global,

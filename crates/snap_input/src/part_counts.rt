@@ -8,7 +8,7 @@ ghost use Rattle.snap_input.specs.Parts.{parts_of};
 
 use crate::parts::{count_separators, split_parts};
 use snap_semantics::{Fault, Refusal};
-use snap_tasks::Subject;
+use snap_subject::Subject;
 use std::alloc::Global;
 
 /// The most bytes that an input may have.

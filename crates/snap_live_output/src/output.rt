@@ -6,7 +6,7 @@ use crate::fault::LiveRunFault;
 use crate::played_text::play;
 use crate::setup::setup_of;
 use snap_live::Gate;
-use snap_tasks::Subject;
+use snap_subject::Subject;
 use std::alloc::Global;
 use std::sync::Wait;
 use std::thread::Threads;

@@ -1,6 +1,6 @@
 //! From texts to images, from images to texts and to images of the version that is written, and
 //! from images to programs.
-ghost use Rattle.std.specs.Prelude.{◌≡◌, ◌≢◌, ℕ, List, ◌∷◌, ◌++◌, IfOk, None, Ok, Err, take};
+ghost use Rattle.std.specs.Prelude.{◌≡◌, ◌≢◌, ◌<◌, ℕ, List, ◌∷◌, ◌++◌, IfOk, None, Ok, Err, length, take};
 ghost use Rattle.snap_semantics.specs.Answers.{Answers};
 ghost use Rattle.snap_image_format.specs.Assembly.{assembled, listed, upgraded};
 ghost use Rattle.snap_semantics.specs.CanonicalText.{canonical_text};
@@ -11,6 +11,7 @@ ghost use Rattle.snap_image_format.specs.ImageListing.{listing_of_image};
 ghost use Rattle.snap_semantics.specs.declared.fault.Fault.TheVariants.{Refused};
 ghost use Rattle.snap_image_format.specs.declared.image.ImageVersion.{ImageVersion};
 ghost use Rattle.snap_semantics.specs.declared.refusal.ImageRefusal.TheVariants.{NotAnImage, Version};
+ghost use Rattle.snap_semantics.specs.declared.refusal.ListingRefusal.TheVariants.{TooLong};
 ghost use Rattle.snap_asm.specs.Listed.{HasListing, HaveOneListing};
 
 use snap_asm_program::Program;
@@ -21,7 +22,8 @@ use std::alloc::Global;
 /// The image of the listing that a text is, with its comments, or the first reason why it is none.
 #[tactic(auto, unfolding(snap_image_format::specs::Assembly::assembled))]
 pub fn assemble(alloc: Global, text: &[u8]) -> Result<Vec<u8>, ListingFault>
-    ensures { Answers (λ image. image.items) result (assembled text.now) }
+    ensures image { Answers (λ image. image.items) result (assembled text.now) }
+    ensures too_long { 65536 < length text.now → result ≡ Err (Refused TooLong) }
 {
     let listing = read_commented(alloc, text)?;
     let image = encode(alloc, &listing)?;

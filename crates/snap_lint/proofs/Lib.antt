@@ -4,3 +4,4 @@ pub mod Lines
 pub mod Warned
 pub mod Steps
 pub mod Sound
+pub mod Ways

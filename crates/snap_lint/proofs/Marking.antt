@@ -92,7 +92,7 @@ line_step true line lines xs k later is = elim (or_cases (nat_eq k line.number) 
 ]
 line_step false line lines xs k later is = or_right (nat_eq line.number k) (has_line lines k) (later is)
 
-only_lines : (p : Line → Bool) (lines : List Line) (k : ℕ) → is_in (numbers_where p lines) k ≡ true → has_line lines k ≡ true
+pub only_lines : (p : Line → Bool) (lines : List Line) (k : ℕ) → is_in (numbers_where p lines) k ≡ true → has_line lines k ≡ true
 only_lines p [] k is = is
 only_lines p (line ∷ lines) k is = line_step (p line) line lines _ k (only_lines p lines k) is
 

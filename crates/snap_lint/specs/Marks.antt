@@ -1,8 +1,9 @@
 -- The lines that are reached from some lines, round by round.
-use Rattle.std.specs.Prelude.{ℕ, zero, suc, Bool, ◌&&◌, ◌||◌, List, [], ◌∷◌, length, nat_eq, if◌then◌else◌}
-use Rattle.std.specs.List.{list_any}
+use Rattle.std.specs.Prelude.{◌≡◌, ◌↔◌, ℕ, zero, true, suc, Bool, ◌&&◌, ◌||◌, List, [], ◌∷◌, length, nat_eq, if◌then◌else◌}
+use Rattle.std.specs.List.{Contains, list_any}
 use Rattle.snap_lint.specs.declared.edges.Edge.{Edge}
 use Rattle.snap_semantics.specs.declared.instr.Line.{Line}
+use Rattle.snap_semantics.specs.Listing.{has_line}
 
 -- a number is one of these
 abbrev pub is_in : List ℕ → ℕ → Bool
@@ -29,3 +30,15 @@ marks_after lines es starts (suc n) = next_marks lines es starts (marks_after li
 -- the lines that are reached from the starts: those that are marked after as many rounds as there are lines
 unfoldable pub reached : List Line → List Edge → List ℕ → List ℕ
 reached lines es starts = marks_after lines es starts (length lines)
+
+-- A way leads to line k: a list of lines, the last one first. Each leads to the one behind it on the way, and the first one
+-- that was passed is a start.
+abbrev pub LeadsTo : List Line → List Edge → List ℕ → List ℕ → ℕ → Type 0
+LeadsTo lines es starts [] k = is_in starts k ≡ true
+LeadsTo lines es starts (j ∷ way) k =
+    Contains es (record { from = j; to = k }) × (has_line lines j ≡ true) × LeadsTo lines es starts way j
+
+-- Exactly the lines are reached to which a way leads from a start.
+abbrev pub ReachedByWays : Type 0
+ReachedByWays = (lines : List Line) (es : List Edge) (starts : List ℕ) (k : ℕ) →
+    (is_in (reached lines es starts) k ≡ true) ↔ ((has_line lines k ≡ true) × ((way : List ℕ) × LeadsTo lines es starts way k))

@@ -9,6 +9,7 @@ mod marks;
 mod mode;
 mod traps;
 
+ghost use Rattle.snap_lint.specs.Marks.{ReachedByWays};
 ghost use Rattle.snap_lint.specs.Sound.{SilentNeverTraps, TrapsAreWarnedOf};
 
 pub use concern::{Concern, Warning};
@@ -19,13 +20,17 @@ pub use mode::{Mode, Way};
 
 /// Whatever the schedule: a process that has trapped, at the end of the listing, at a call within a call, at an end that its
 /// operation does not have or at a register of another process, stands at a line of which that is warned.
-
 pub fn traps_are_warned_of()
     ensures { TrapsAreWarnedOf }
 {}
 
 /// Where nothing is warned of for such a cause, no run of any schedule traps with it.
-
 pub fn silent_never_traps()
     ensures { SilentNeverTraps }
+{}
+
+/// Exactly the lines are reached to which a way leads, line by line, from a start.
+#[tactic(auto, using(crate::proofs::Ways::reached_by_ways))]
+pub fn reached_by_ways()
+    ensures { ReachedByWays }
 {}

@@ -1,17 +1,19 @@
 # Completion of snaplab for fish: put this file into ~/.config/fish/completions.
-set -l commands check assemble list upgrade run debug audit batch live help
+set -l commands check lint assemble list upgrade run debug audit certify batch live help
 complete -c snaplab -f
 complete -c snaplab -s h -l help -d 'print help'
 complete -c snaplab -n "not __fish_seen_subcommand_from $commands" -s V -l version -d 'print the version'
 complete -c snaplab -n "not __fish_seen_subcommand_from $commands" -a check -d 'say whether a text is a listing'
+complete -c snaplab -n "not __fish_seen_subcommand_from $commands" -a lint -d 'say what the runs of a listing may run into'
 complete -c snaplab -n "not __fish_seen_subcommand_from $commands" -a assemble -d 'write the image of a listing'
 complete -c snaplab -n "not __fish_seen_subcommand_from $commands" -a list -d 'write the text of an image'
 complete -c snaplab -n "not __fish_seen_subcommand_from $commands" -a upgrade -d 'write an image in the second version'
 complete -c snaplab -n "not __fish_seen_subcommand_from $commands" -a run -d 'run a listing under a schedule'
 complete -c snaplab -n "not __fish_seen_subcommand_from $commands" -a debug -d 'run a listing under a schedule, by debugger commands'
 complete -c snaplab -n "not __fish_seen_subcommand_from $commands" -a audit -d 'say of each finished scan when it took place'
+complete -c snaplab -n "not __fish_seen_subcommand_from $commands" -a certify -d 'say where each operation took place, if each has a linearization point'
 complete -c snaplab -n "not __fish_seen_subcommand_from $commands" -a batch -d 'run a listing under many schedules'
 complete -c snaplab -n "not __fish_seen_subcommand_from $commands" -a live -d 'play scripts, each process in a thread of its own'
 complete -c snaplab -n "not __fish_seen_subcommand_from $commands" -a help -d 'print help'
-complete -c snaplab -n '__fish_seen_subcommand_from run debug audit batch live' -l shipped -x -a 'seq bit multi' -d 'take the shipped listing of this kind'
+complete -c snaplab -n '__fish_seen_subcommand_from run debug audit certify batch live' -l shipped -x -a 'seq bit multi' -d 'take the shipped listing of this kind'
 complete -c snaplab -n '__fish_seen_subcommand_from live' -l limit -x -d 'the most turns of a process'

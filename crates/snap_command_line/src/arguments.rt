@@ -53,6 +53,9 @@ fn command<'a>(alloc: Global) -> Result<Command<'a>, AllocError> {
         .version(VERSION)
         .subcommand_required(true)
         .subcommand(Command::new(alloc, "check").about("Says whether a text is a listing"))?
+        .subcommand(Command::new(alloc, "lint").about(
+            "Says what the runs of a listing may run into",
+        ))?
         .subcommand(Command::new(alloc, "assemble").about("Writes the image of a listing"))?
         .subcommand(Command::new(alloc, "list").about("Writes the text of an image"))?
         .subcommand(Command::new(alloc, "upgrade").about("Writes an image in the second version"))?
@@ -66,6 +69,11 @@ fn command<'a>(alloc: Global) -> Result<Command<'a>, AllocError> {
             alloc,
             "audit",
             "Says of each finished scan which state it stands for",
+        )?)?
+        .subcommand(running(
+            alloc,
+            "certify",
+            "Says where each operation took place, if each has a linearization point",
         )?)?
         .subcommand(running(alloc, "batch", "Runs a listing under many schedules")?)?
         .subcommand(live(alloc)?)

@@ -18,12 +18,14 @@ kind_of name =
 abbrev pub request_of : List ℕ → Subject → ℕ → Option Request
 request_of name s limit =
     if bytes_eq name (codes "check") then Some (Do task.Check) else
+    if bytes_eq name (codes "lint") then Some (Do task.Lint) else
     if bytes_eq name (codes "assemble") then Some (Do task.Assemble) else
     if bytes_eq name (codes "list") then Some (Do task.List) else
     if bytes_eq name (codes "upgrade") then Some (Do task.Upgrade) else
     if bytes_eq name (codes "run") then Some (Do (task.Run s)) else
     if bytes_eq name (codes "debug") then Some (Do (task.Debug s)) else
     if bytes_eq name (codes "audit") then Some (Do (task.Audit s)) else
+    if bytes_eq name (codes "certify") then Some (Do (task.Certify s)) else
     if bytes_eq name (codes "batch") then Some (Do (task.Batch s)) else
     if bytes_eq name (codes "live") then Some (Live s limit) else None
 

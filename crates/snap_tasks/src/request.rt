@@ -34,12 +34,14 @@ pub fn request_of(name: &str, subject: Subject, limit: u64) -> Option<Request>
 {
     match name {
         "check" => Some(Request::Do(Task::Check)),
+        "lint" => Some(Request::Do(Task::Lint)),
         "assemble" => Some(Request::Do(Task::Assemble)),
         "list" => Some(Request::Do(Task::List)),
         "upgrade" => Some(Request::Do(Task::Upgrade)),
         "run" => Some(Request::Do(Task::Run(subject))),
         "debug" => Some(Request::Do(Task::Debug(subject))),
         "audit" => Some(Request::Do(Task::Audit(subject))),
+        "certify" => Some(Request::Do(Task::Certify(subject))),
         "batch" => Some(Request::Do(Task::Batch(subject))),
         "live" => Some(Request::Live(subject, limit)),
         _ => None,

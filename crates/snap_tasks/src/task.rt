@@ -6,6 +6,8 @@ use snap_subject::Subject;
 pub enum Task {
     /// Whether a text is a listing.
     Check,
+    /// What the runs of a listing may run into.
+    Lint,
     /// The image of a listing's text.
     Assemble,
     /// The text of a listing's image.
@@ -18,6 +20,8 @@ pub enum Task {
     Debug(Subject),
     /// Each finished scan of a listing under a schedule: whether it has a point.
     Audit(Subject),
+    /// The linearization points of a listing under a schedule, or which one is missing.
+    Certify(Subject),
     /// A listing under many schedules: the report of the end of each.
     Batch(Subject),
 }

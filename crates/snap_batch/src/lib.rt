@@ -1,4 +1,4 @@
-//! Many schedules of one program, run side by side.
+//! Many schedules of one program, run side by side or one after another.
 #![tactic(auto)]
 
 ghost use Rattle.std.specs.Prelude.{◌≡◌, IfOk, map};
@@ -62,4 +62,20 @@ pub fn batch(
         )
         .collect(rt, alloc)?;
     reports
+}
+
+/// The same in one thread.
+pub fn batch_alone(
+    alloc: Global,
+    program: &Program,
+    schedules: &[Schedule],
+) -> Result<Vec<Report>, AllocError>
+    ensures { IfOk result (λ reports. reports.items ≡ map (end_report program.now) schedules.now) }
+{
+    let mut collected = Vec::new(alloc);
+    for schedule in schedules {
+        let report = end_report(alloc, program, schedule)?;
+        collected.push(report)?;
+    }
+    Ok(collected)
 }

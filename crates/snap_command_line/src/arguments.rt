@@ -76,6 +76,11 @@ fn command<'a>(alloc: Global) -> Result<Command<'a>, AllocError> {
             "Says where each operation took place, if each has a linearization point",
         )?)?
         .subcommand(running(alloc, "batch", "Runs a listing under many schedules")?)?
+        .subcommand(running(
+            alloc,
+            "survey",
+            "Says what the run of each of many schedules came to",
+        )?)?
         .subcommand(live(alloc)?)
 }
 

@@ -1,5 +1,7 @@
 //! The text of the warnings of a listing.
-ghost use Rattle.std.specs.Prelude.{◌≡◌, ◌++◌, IfOk, OnOk};
+ghost use Rattle.std.specs.Prelude.{◌≡◌, ◌<◌, ◌++◌, Err, IfOk, OnOk, length};
+ghost use Rattle.snap_semantics.specs.declared.fault.Fault.TheVariants.{Refused};
+ghost use Rattle.snap_semantics.specs.declared.refusal.ListingRefusal.TheVariants.{TooLong};
 ghost use Rattle.snap_semantics.specs.declared.refusal.Refusal.TheVariants as refusal;
 ghost use Rattle.snap_semantics.specs.Answers.{Answers, refused_as};
 ghost use Rattle.snap_semantics.specs.Listing.{listing_of};
@@ -60,7 +62,8 @@ pub fn lint(alloc: Global, listing: &Listing) -> Result<Vec<u8>, AllocError>
 
 /// Reads a listing.
 fn read_listing(alloc: Global, text: &[u8]) -> Result<Listing, Fault<Refusal>>
-    ensures { Answers (λ l. l) result (refused_as refusal.Listing (listing_of text.now)) }
+    ensures listing { Answers (λ l. l) result (refused_as refusal.Listing (listing_of text.now)) }
+    ensures too_long { 65536 < length text.now → result ≡ Err (Refused (refusal.Listing TooLong)) }
 {
     Ok(snap_listing::read(alloc, text)?)
 }
@@ -68,7 +71,8 @@ fn read_listing(alloc: Global, text: &[u8]) -> Result<Listing, Fault<Refusal>>
 /// What is warned of in a text that is a listing, or why it is none.
 #[tactic(auto, unfolding(crate::specs::Lint::lint_of))]
 pub fn lint_of(alloc: Global, text: &[u8]) -> Result<Vec<u8>, Fault<Refusal>>
-    ensures { Answers (λ out. out.items) result (lint_of text.now) }
+    ensures output { Answers (λ out. out.items) result (lint_of text.now) }
+    ensures too_long { 65536 < length text.now → result ≡ Err (Refused (refusal.Listing TooLong)) }
 {
     let listing = read_listing(alloc, text)?;
     Ok(lint(alloc, &listing)?)

@@ -7,14 +7,14 @@ use Rattle.snap_semantics.specs.declared.refusal.Refusal.{Refusal}
 use Rattle.snap_input.specs.Input.{listing_for, texts_for}
 use Rattle.snap_subject.specs.declared.subject.Subject.{Subject}
 use Rattle.snap_input.proofs.Parting.{behind}
-use Rattle.snap_output.specs.Output.{batch_text, batched, checked_schedules}
+use Rattle.snap_output.specs.Output.{checked_schedules, over_schedules}
 
 -- what is answered of the schedules is answered of the parts
-pub of_schedules : {X : Type 0} (view : X → List ℕ) (result : Result X (Fault Refusal)) (s : Subject) (parts found texts : List (List ℕ)) (l : Source) →
+pub of_schedules : {X : Type 0} (view : X → List ℕ) (result : Result X (Fault Refusal)) (text : Source → List (List ℕ) → Result (List ℕ) Refusal)
+    (s : Subject) (parts found texts : List (List ℕ)) (l : Source) →
     checked_schedules s parts ≡ Ok tt → found ≡ parts → listing_for s found ≡ Ok l → texts ≡ texts_for s found →
-    Answers view result (batch_text l texts) → Answers view result (batched s parts)
-unfolding batched
-of_schedules view result s parts found texts l are_counted are_found is_listing are_texts h =
-    behind view result batch_text (checked_schedules s parts) (listing_for s parts) l texts (texts_for s parts) are_counted
+    Answers view result (text l texts) → Answers view result (over_schedules s parts text)
+of_schedules view result text s parts found texts l are_counted are_found is_listing are_texts h =
+    behind view result text (checked_schedules s parts) (listing_for s parts) l texts (texts_for s parts) are_counted
     (subst (λ (ps : List (List ℕ)). listing_for s ps ≡ Ok l) are_found is_listing)
     (are_texts ∙ ap (texts_for s) are_found) h

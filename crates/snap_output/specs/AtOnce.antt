@@ -40,13 +40,16 @@ wrong_head bytes = if bytes_eq (take 4 bytes) signature then wrong_version (drop
 -- the refusal of an input that is not too long
 abbrev pub refused_at_once : Task → List ℕ → Option Refusal
 refused_at_once task.Check input = long_text input
+refused_at_once task.Lint input = long_text input
 refused_at_once task.Assemble input = long_text input
 refused_at_once task.List input = option_map refusal.Image (wrong_head input)
 refused_at_once task.Upgrade input = option_map refusal.Image (wrong_head input)
 refused_at_once (task.Run s) input = why (checked_parts s 1 (parts_of input))
 refused_at_once (task.Debug s) input = why (checked_parts s 2 (parts_of input))
 refused_at_once (task.Audit s) input = why (checked_parts s 1 (parts_of input))
+refused_at_once (task.Certify s) input = why (checked_parts s 1 (parts_of input))
 refused_at_once (task.Batch s) input = why (checked_schedules s (parts_of input))
+refused_at_once (task.Survey s) input = why (checked_schedules s (parts_of input))
 
 -- the refusal that is found before any memory is asked for
 abbrev pub found_at_once : Task → List ℕ → Option Refusal

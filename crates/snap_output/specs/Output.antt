@@ -12,6 +12,9 @@ use Rattle.snap_runs.specs.Run.{run_over}
 use Rattle.snap_audit.specs.VerdictText.{audit_text}
 use Rattle.snap_runner.specs.End.{end_report}
 use Rattle.snap_batch.specs.Reports.{reports_text}
+use Rattle.snap_certify_output.specs.CertifyOutput.{certificates_text}
+use Rattle.snap_lint_text.specs.Lint.{lint_of}
+use Rattle.snap_survey_output.specs.Surveys.{survey_text}
 use Rattle.snap_input.specs.Input.{listing_for, parted, texts_for}
 use Rattle.snap_input.specs.Parts.{part, parts_of}
 use Rattle.snap_perform.specs.Perform.{perform_listing, schedule_for}
@@ -52,12 +55,18 @@ abbrev pub checked_schedules : Subject → List (List ℕ) → Result (Unit {0})
 checked_schedules s parts =
     if nat_lt 0 (length (texts_for s parts)) && nat_le (length (texts_for s parts)) 4096 then Ok tt else Err (refusal.WrongParts (length parts))
 
--- a listing under many schedules
+-- what is said of a listing and its 1 to 4,096 schedules
+abbrev pub over_schedules : Subject → List (List ℕ) → (Source → List (List ℕ) → Result (List ℕ) Refusal) → Result (List ℕ) Refusal
+over_schedules s parts text =
+    checked_schedules s parts >>= λ there. listing_for s parts >>= λ l. text l (texts_for s parts)
+
+-- the report of the end of each schedule
 unfoldable pub batched : Subject → List (List ℕ) → Result (List ℕ) Refusal
-batched s parts = do
-  there ← checked_schedules s parts
-  l ← listing_for s parts
-  batch_text l (texts_for s parts)
+batched s parts = over_schedules s parts batch_text
+
+-- what the run of each schedule came to
+unfoldable pub surveyed : Subject → List (List ℕ) → Result (List ℕ) Refusal
+surveyed s parts = over_schedules s parts survey_text
 
 -- `ok: KIND, K lines`
 abbrev pub check_line : Source → List ℕ
@@ -71,13 +80,16 @@ check_of input = do
 
 abbrev pub of_task : Task → List ℕ → Result (List ℕ) Refusal
 of_task task.Check input = check_of input
+of_task task.Lint input = lint_of input
 of_task task.Assemble input = refused_as refusal.Listing (assembled input)
 of_task task.List input = refused_as refusal.Image (listed input)
 of_task task.Upgrade input = refused_as refusal.Image (upgraded input)
 of_task (task.Run s) input = parted s 1 (parts_of input) run_text
 of_task (task.Debug s) input = parted s 2 (parts_of input) debug_text
 of_task (task.Audit s) input = parted s 1 (parts_of input) verdicts_text
+of_task (task.Certify s) input = parted s 1 (parts_of input) certificates_text
 of_task (task.Batch s) input = batched s (parts_of input)
+of_task (task.Survey s) input = surveyed s (parts_of input)
 
 -- what a whole run of the program writes for an input, or its refusal
 unfoldable pub output_of : Task → List ℕ → Result (List ℕ) Refusal

@@ -6,7 +6,8 @@ ghost use Rattle.snap_semantics.specs.declared.refusal.Refusal.{Refusal};
 ghost use Rattle.snap_input.specs.Input.{checked_parts, parted, texts_for};
 ghost use Rattle.snap_input.specs.Parts.{parts_of};
 ghost use Rattle.snap_output.specs.AtOnce.{found_at_once};
-ghost use Rattle.snap_output.specs.Output.{batched, checked_schedules, debug_text};
+ghost use Rattle.snap_certify_output.specs.CertifyOutput.{certificates_text};
+ghost use Rattle.snap_output.specs.Output.{batched, checked_schedules, debug_text, surveyed};
 ghost use Rattle.snap_output.specs.Output.{of_task, output_of, run_text, verdicts_text};
 ghost use Rattle.snap_output.specs.Prepared.{batch_reports, prepared_text};
 
@@ -14,12 +15,15 @@ use crate::audit_output::audit_program;
 use crate::batch_output::Batch;
 use crate::check_output::check_of;
 use snap_asm_program::Program;
+use snap_certify_output::certify_program;
 use snap_input::{
     MAX_INPUT, assemble, count_separators, count_texts, list, parts_for, program_for, split_parts,
     texts_for, upgrade,
 };
+use snap_lint_text::lint_of;
 use snap_perform::{perform_program, run_program};
 use snap_semantics::{Fault, Refusal};
+use snap_survey_output::survey_program;
 use snap_tasks::{Subject, Task};
 use std::alloc::Global;
 use std::thread::Threads;
@@ -113,6 +117,35 @@ fn audit(alloc: Global, subject: Subject, input: &[u8]) -> Result<Vec<u8>, Fault
     audit_texts(alloc, &program, texts)
 }
 
+/// Where the operations of a program under the schedule that a text is took place, or what is
+/// missing.
+fn certify_texts(
+    alloc: Global,
+    program: &Program,
+    texts: &[&[u8]],
+) -> Result<Vec<u8>, Fault<Refusal>>
+    requires { 0 < length texts.now }
+    ensures { Answers (λ out. out.items) result
+        (certificates_text program.now (map (λ text. text.now) texts.now)) }
+{
+    certify_program(alloc, program, texts[0])
+}
+
+/// The certification of a listing under a schedule.
+#[tactic(auto, unfolding(snap_input::specs::Input::parted))]
+fn certify(alloc: Global, subject: Subject, input: &[u8]) -> Result<Vec<u8>, Fault<Refusal>>
+    requires { length input.now ≤ 16777216 }
+    ensures output { Answers (λ out. out.items) result
+        (parted subject 1 (parts_of input.now) certificates_text) }
+    ensures counted { (r : Refusal) → checked_parts subject 1 (parts_of input.now) ≡ Err r →
+        result ≡ Err (Refused r) }
+{
+    let parts = parts_for(alloc, subject, 1, input)?;
+    let program = program_for(alloc, subject, parts.as_slice())?;
+    let texts = texts_for(subject, parts.as_slice());
+    certify_texts(alloc, &program, texts)
+}
+
 /// A listing and many schedules. Another number of parts is found before they are collected.
 #[tactic(auto, unfolding(crate::specs::Output::batched))]
 fn batch(alloc: Global, subject: Subject, input: &[u8]) -> Result<Batch, Fault<Refusal>>
@@ -126,6 +159,21 @@ fn batch(alloc: Global, subject: Subject, input: &[u8]) -> Result<Batch, Fault<R
     let program = program_for(alloc, subject, parts.as_slice())?;
     let texts = texts_for(subject, parts.as_slice());
     Batch::of(alloc, program, texts)
+}
+
+/// What the runs of a listing under many schedules came to.
+#[tactic(auto, unfolding(crate::specs::Output::surveyed))]
+fn survey(alloc: Global, subject: Subject, input: &[u8]) -> Result<Vec<u8>, Fault<Refusal>>
+    requires { length input.now ≤ 16777216 }
+    ensures output { Answers (λ out. out.items) result (surveyed subject (parts_of input.now)) }
+    ensures counted { (r : Refusal) → checked_schedules subject (parts_of input.now) ≡ Err r →
+        result ≡ Err (Refused r) }
+{
+    check_schedules(subject, input)?;
+    let parts = split_parts(alloc, input)?;
+    let program = program_for(alloc, subject, parts.as_slice())?;
+    let texts = texts_for(subject, parts.as_slice());
+    survey_program(alloc, &program, texts)
 }
 
 /// What is found of an input in one thread.
@@ -149,13 +197,16 @@ fn prepare(alloc: Global, task: &Task, input: &[u8]) -> Result<Prepared, Fault<R
     }
     match *task {
         Task::Check => Ok(Prepared::Text(check_of(alloc, input)?)),
+        Task::Lint => Ok(Prepared::Text(lint_of(alloc, input)?)),
         Task::Assemble => Ok(Prepared::Text(assemble(alloc, input)?)),
         Task::List => Ok(Prepared::Text(list(alloc, input)?)),
         Task::Upgrade => Ok(Prepared::Text(upgrade(alloc, input)?)),
         Task::Run(subject) => Ok(Prepared::Text(run(alloc, subject, input)?)),
         Task::Debug(subject) => Ok(Prepared::Text(debug(alloc, subject, input)?)),
         Task::Audit(subject) => Ok(Prepared::Text(audit(alloc, subject, input)?)),
+        Task::Certify(subject) => Ok(Prepared::Text(certify(alloc, subject, input)?)),
         Task::Batch(subject) => Ok(Prepared::Batch(batch(alloc, subject, input)?)),
+        Task::Survey(subject) => Ok(Prepared::Text(survey(alloc, subject, input)?)),
     }
 }
 

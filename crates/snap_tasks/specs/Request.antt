@@ -27,6 +27,7 @@ request_of name s limit =
     if bytes_eq name (codes "audit") then Some (Do (task.Audit s)) else
     if bytes_eq name (codes "certify") then Some (Do (task.Certify s)) else
     if bytes_eq name (codes "batch") then Some (Do (task.Batch s)) else
+    if bytes_eq name (codes "survey") then Some (Do (task.Survey s)) else
     if bytes_eq name (codes "live") then Some (Live s limit) else None
 
 -- a limit that processes may have

@@ -43,6 +43,7 @@ pub fn request_of(name: &str, subject: Subject, limit: u64) -> Option<Request>
         "audit" => Some(Request::Do(Task::Audit(subject))),
         "certify" => Some(Request::Do(Task::Certify(subject))),
         "batch" => Some(Request::Do(Task::Batch(subject))),
+        "survey" => Some(Request::Do(Task::Survey(subject))),
         "live" => Some(Request::Live(subject, limit)),
         _ => None,
     }

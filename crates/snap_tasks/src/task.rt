@@ -24,4 +24,6 @@ pub enum Task {
     Certify(Subject),
     /// A listing under many schedules: the report of the end of each.
     Batch(Subject),
+    /// A listing under many schedules: what the run of each came to.
+    Survey(Subject),
 }

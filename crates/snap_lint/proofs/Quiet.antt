@@ -1,5 +1,5 @@
 -- Operands, values and bits trap for no cause that the flow of control can tell.
-use Rattle.std.specs.Prelude.{◌≡◌, ℕ, ◌+◌, ◌^◌, Bool, true, false, ◌&&◌, List, [], ◌∷◌, Option, Some, None, Result, Ok, Err, nat_eq, nat_lt, nat_le, if◌then◌else◌, slice_index, refl}
+use Rattle.std.specs.Prelude.{◌≡◌, ℕ, ◌+◌, ◌^◌, Bool, true, false, ◌&&◌, List, [], ◌∷◌, Option, Some, None, Result, Ok, Err, nat_lt, nat_le, if◌then◌else◌, refl}
 use Rattle.std.specs.List.{list_all}
 use Rattle.snap_words.specs.Kind.{is_bit}
 use Rattle.snap_words.specs.Shape.{places}

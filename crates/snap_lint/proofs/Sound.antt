@@ -1,10 +1,10 @@
 -- No process leaves the flow of control, and where one traps, its line is warned of.
-use Rattle.std.specs.Prelude.{◌≡◌, ◌≢◌, ℕ, zero, suc, ◌-◌, ◌<◌, Bool, true, List, [], ◌∷◌, length, take, Option, Some, None, Result, Ok, Err, slice_set, refl}
-use Rattle.std.proofs.Common.{sym, ◌∙◌, ap, subst, arith, inl, inr}
+use Rattle.std.specs.Prelude.{◌≡◌, ◌≢◌, ℕ, zero, suc, ◌-◌, List, [], ◌∷◌, length, take, Option, Some, None, Result, Ok, Err, refl}
+use Rattle.std.proofs.Common.{sym, subst, inl, inr}
 use Rattle.std.proofs.lemmas.Bool.{cases_lt}
 use Rattle.std.proofs.lemmas.List.{get_or_past}
 use Rattle.std.proofs.lemmas.List.Elements.{All-contains, All-replicate, All-set}
-use Rattle.std.specs.List.{All, Contains}
+use Rattle.std.specs.List.{All}
 use Rattle.snap_words.specs.Shape.{Counts}
 use Rattle.snap_semantics.specs.declared.instr.Instr.{Instr}
 use Rattle.snap_semantics.specs.declared.process.Activity.{Activity}
@@ -13,7 +13,6 @@ use Rattle.snap_semantics.specs.declared.process.Item.{Item}
 use Rattle.snap_semantics.specs.declared.process.Item.TheVariants.{Step, Call, Crash}
 use Rattle.snap_semantics.specs.declared.process.Op.{Op}
 use Rattle.snap_semantics.specs.declared.process.Op.TheVariants.{Scan, Update}
-use Rattle.snap_semantics.specs.declared.process.Outcome.{Outcome}
 use Rattle.snap_semantics.specs.declared.process.Outcome.TheVariants as outcome
 use Rattle.snap_semantics.specs.declared.process.Reason.{Reason}
 use Rattle.snap_semantics.specs.declared.process.Status.{Status}
@@ -22,16 +21,15 @@ use Rattle.snap_semantics.specs.IsListing.{IsListing}
 use Rattle.snap_semantics.specs.Run.{after}
 use Rattle.snap_semantics.specs.Source.{Source, instr_at}
 use Rattle.snap_semantics.specs.State.{Locals, Memory, Process, State, initial, initial_process, nobody, process_at}
-use Rattle.snap_semantics.specs.Table.{Effect, Goes, Answers, Finishes, effect_at, leave, step, entry, call_skip, called, call, crashed, crash, done}
+use Rattle.snap_semantics.specs.Table.{Effect, Goes, Answers, Finishes, effect_at, leave, step, entry, call_skip, called, call, crash, done}
 use Rattle.snap_semantics.specs.Value.{Context}
-use Rattle.snap_runs.specs.Run.{Run, before, item, outcome as outcome_at, run_of_items, state}
+use Rattle.snap_runs.specs.Run.{before, item, outcome as outcome_at, run_of_items, state}
 use Rattle.snap_lint.specs.declared.concern.Concern.{Concern}
 use Rattle.snap_lint.specs.declared.concern.Warning.{Warning}
-use Rattle.snap_lint.specs.Flow.{edges, lines_in, reach_of, way_of}
 use Rattle.snap_lint.specs.Sound.{IsWarnedOf, SaysNothingOf, SilentNeverTraps, TrapsAreWarnedOf, concern_of}
 use Rattle.snap_lint.specs.Warnings.{warnings}
 use Rattle.snap_lint.proofs.Lines.{has_instr}
-use Rattle.snap_lint.proofs.Steps.{Comes, Keeps, MayStand, comes_to_line, line_keeps, scan_begins, update_begins}
+use Rattle.snap_lint.proofs.Steps.{Keeps, MayStand, comes_to_line, line_keeps, scan_begins, update_begins}
 use Rattle.snap_lint.proofs.Warned.{warning_at}
 
 -- a process is where control may come, or it has trapped where that is warned of

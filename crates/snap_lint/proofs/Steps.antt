@@ -1,10 +1,10 @@
 -- A step leads from a line to which control may come to another one, or ends the operation, or traps where that is warned of.
-use Rattle.std.specs.Prelude.{◌≡◌, ℕ, ◌⊎◌, Bool, true, false, not, ◌&&◌, ◌||◌, List, [], ◌∷◌, ◌++◌, Option, Some, None, Result, Ok, Err, nat_eq, nat_lt, is_none, if◌then◌else◌, refl}
+use Rattle.std.specs.Prelude.{◌≡◌, ℕ, Bool, true, false, not, List, [], ◌∷◌, Option, Some, None, Result, Ok, Err, nat_eq, nat_lt, is_none, if◌then◌else◌, refl}
 use Rattle.std.proofs.Common.{sym, ◌∙◌, ap, subst, arith, inl, inr}
 use Rattle.std.proofs.lemmas.Bool.{and_from, cases_Bool, or_cases, or_left, eq-eqb}
 use Rattle.std.proofs.lemmas.List.Folds.{list_any_at}
 use Rattle.std.proofs.lemmas.List.Elements.{Contains-append_left, Contains-append_right}
-use Rattle.std.specs.List.{AllByRecursion, Contains, flat_map}
+use Rattle.std.specs.List.{AllByRecursion, Contains}
 use Rattle.snap_words.specs.Kind.{may_write}
 use Rattle.snap_words.specs.Shape.{places}
 use Rattle.snap_words.specs.Word.{Word}
@@ -19,7 +19,6 @@ use Rattle.snap_semantics.specs.declared.instr.Index.{Index}
 use Rattle.snap_semantics.specs.declared.instr.Index.TheVariants as index
 use Rattle.snap_semantics.specs.declared.instr.Instr.{Instr}
 use Rattle.snap_semantics.specs.declared.instr.Instr.TheVariants.{Let, LetPlace, Get, Bit, Look, Put, PutBit, PutView, ViewData, ViewOf, Each, First, Next, If, IfAll, Goto, Call, Return, Finish}
-use Rattle.snap_semantics.specs.declared.instr.Line.{Line}
 use Rattle.snap_semantics.specs.declared.instr.Tuple.{Tuple}
 use Rattle.snap_semantics.specs.declared.process.Activity.{Activity}
 use Rattle.snap_semantics.specs.declared.process.Cause.{Cause}
@@ -31,18 +30,16 @@ use Rattle.snap_semantics.specs.IsListing.{IsListing}
 use Rattle.snap_semantics.specs.Listing.{has_line, instr_targets}
 use Rattle.snap_semantics.specs.Source.{Name, Source, following, instr_at}
 use Rattle.snap_semantics.specs.State.{Locals, Memory, value_at}
-use Rattle.snap_semantics.specs.Table.{Effect, Goes, Answers, Finishes, on, range_end, places_to, all_true, first_true, conditions, each_value, tuple_word, with_bits, bit_value, owned, bank_of, first_goes, call_goes, return_goes, finish_goes, effect, effect_at}
+use Rattle.snap_semantics.specs.Table.{Effect, Goes, Answers, Finishes, on, range_end, places_to, all_true, first_true, conditions, each_value, tuple_word, with_bits, bit_value, owned, bank_of, first_goes, call_goes, return_goes, finish_goes, effect}
 use Rattle.snap_semantics.specs.Value.{Context, at_place, place_in, index_value, expr_value, condition_holds, each_of}
-use Rattle.snap_lint.specs.declared.concern.Concern.TheVariants as concern
 use Rattle.snap_lint.specs.declared.edges.Edge.{Edge}
 use Rattle.snap_lint.specs.declared.mode.Mode.{Mode}
 use Rattle.snap_lint.specs.declared.mode.Mode.TheVariants as mode
 use Rattle.snap_lint.specs.declared.mode.Way.{Way}
-use Rattle.snap_lint.specs.declared.mode.Way.TheVariants.{Outside, Within}
-use Rattle.snap_lint.specs.Flow.{callee, callees, edge_to, edges, is_within, jump, line_after, line_edges, lines_in, marked_callee, may_go_on, reach_of, way_of}
+use Rattle.snap_lint.specs.Flow.{callees, edge_to, edges, is_within, jump, line_after, line_edges, lines_in, marked_callee, may_go_on, reach_of, way_of}
 use Rattle.snap_lint.specs.Marks.{is_in, reached}
 use Rattle.snap_lint.specs.Sound.{IsWarnedOf, concern_of}
-use Rattle.snap_lint.specs.Warnings.{is_me, is_own, is_shared, may_trap, may_write_others}
+use Rattle.snap_lint.specs.Warnings.{is_me, is_own, is_shared, may_write_others}
 use Rattle.snap_lint.proofs.Lines.{found, following_there, in_flat, line_of, targets_of}
 use Rattle.snap_lint.proofs.Marking.{edge_reached, line_reached, start_reached}
 use Rattle.snap_lint.proofs.Quiet.{IsQuiet, quiet_fault, place_quiet, expr_quiet, condition_quiet, conditions_quiet, each_quiet, each_value_quiet, tuple_quiet, word_quiet, bit_quiet}

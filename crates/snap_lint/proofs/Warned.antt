@@ -1,11 +1,10 @@
 -- A line that may trap in a mode in which control comes to it is warned of.
-use Rattle.std.specs.Prelude.{◌≡◌, ℕ, Bool, true, ◌&&◌, List, [], ◌∷◌, ◌++◌, Option, Some, length, if◌then◌else◌, refl}
-use Rattle.std.proofs.Common.{sym, ◌∙◌, ap, subst, arith}
+use Rattle.std.specs.Prelude.{◌≡◌, ℕ, Bool, true, ◌&&◌, List, [], ◌∷◌, Some, if◌then◌else◌, refl}
+use Rattle.std.proofs.Common.{sym, subst, arith}
 use Rattle.std.proofs.lemmas.Bool.{and_from}
 use Rattle.std.proofs.lemmas.List.Folds.{list_any_at}
 use Rattle.std.specs.List.{Contains, list_any}
 use Rattle.snap_semantics.specs.declared.instr.Instr.{Instr}
-use Rattle.snap_semantics.specs.declared.instr.Line.{Line}
 use Rattle.snap_semantics.specs.declared.process.Cause.{Cause}
 use Rattle.snap_semantics.specs.declared.process.Cause.TheVariants as cause
 use Rattle.snap_semantics.specs.Source.{Source, instr_at}
@@ -14,7 +13,7 @@ use Rattle.snap_lint.specs.declared.concern.Concern.TheVariants as concern
 use Rattle.snap_lint.specs.declared.concern.Warning.{Warning}
 use Rattle.snap_lint.specs.declared.mode.Mode.{Mode}
 use Rattle.snap_lint.specs.declared.mode.Mode.TheVariants as mode
-use Rattle.snap_lint.specs.Flow.{Reach, lines_in, reach_of}
+use Rattle.snap_lint.specs.Flow.{lines_in, reach_of}
 use Rattle.snap_lint.specs.Marks.{is_in}
 use Rattle.snap_lint.specs.Sound.{IsWarnedOf, concern_of}
 use Rattle.snap_lint.specs.Warnings.{concerns, is_reached_in, is_warned_of, line_warnings, may_trap, modes, warning_of, warnings}

@@ -1,5 +1,5 @@
 -- What is to be warned of, line by line.
-use Rattle.std.specs.Prelude.{ℕ, Bool, true, false, not, ◌&&◌, ◌||◌, List, [], ◌∷◌, Option, Some, None, if◌then◌else◌}
+use Rattle.std.specs.Prelude.{Bool, true, false, not, ◌&&◌, ◌||◌, List, [], ◌∷◌, if◌then◌else◌}
 use Rattle.std.specs.List.{flat_map, list_any}
 use Rattle.snap_words.specs.declared.address.Bank.{Bank}
 use Rattle.snap_words.specs.declared.address.Bank.TheVariants as bank

@@ -1,6 +1,14 @@
 //! Which line leads to which.
 ghost use Rattle.std.specs.Prelude.{◌≡◌, ◌++◌, IfOk, OnOk};
-ghost use Rattle.snap_lint.specs.Flow.{edge_to, edges, jump, line_after, line_edges, may_go_on, turned};
+ghost use Rattle.snap_lint.specs.Flow.{
+  edge_to,
+  edges,
+  jump,
+  line_after,
+  line_edges,
+  may_go_on,
+  turned,
+};
 
 use crate::mode::Way;
 use snap_listing_core::Listing;

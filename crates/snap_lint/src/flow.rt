@@ -1,7 +1,17 @@
 //! The lines to which control may come.
 ghost use Rattle.std.specs.Prelude.{◌≡◌, ◌++◌, [], ◌∷◌, IfOk};
 ghost use Rattle.snap_lint.specs.declared.mode.Way.TheVariants.{Outside, Unwritten, Within};
-ghost use Rattle.snap_lint.specs.Flow.{callee, callees, edges, is_end, leading_out, lines_in, may_run_off, out_in, reach_of};
+ghost use Rattle.snap_lint.specs.Flow.{
+  callee,
+  callees,
+  edges,
+  is_end,
+  leading_out,
+  lines_in,
+  may_run_off,
+  out_in,
+  reach_of,
+};
 ghost use Rattle.snap_lint.specs.Marks.{is_in, numbers_where, reached};
 
 use crate::edges::{edges, jump, may_go_on, turned};
@@ -88,7 +98,8 @@ fn reached_from(
     way: Way,
     start: u64,
 ) -> Result<Vec<u64>, AllocError>
-    ensures { IfOk result (λ v. v.items ≡ reached listing.now.lines (edges listing.now.lines way) (start ∷ [])) }
+    ensures { IfOk result (λ v. v.items ≡
+        reached listing.now.lines (edges listing.now.lines way) (start ∷ [])) }
 {
     let edges = edges(alloc, listing, way)?;
     reached(alloc, listing.lines(), edges.as_slice(), &[start])
@@ -111,7 +122,8 @@ fn callees(alloc: Global, lines: &[Line], marks: &[u64]) -> Result<Vec<u64>, All
 
 /// The lines that are reached within the calls of the marked lines.
 fn reached_by_calls(alloc: Global, listing: &Listing, marks: &[u64]) -> Result<Vec<u64>, AllocError>
-    ensures { IfOk result (λ v. v.items ≡ reached listing.now.lines (edges listing.now.lines Within) (callees listing.now.lines marks.now)) }
+    ensures { IfOk result (λ v. v.items ≡ reached listing.now.lines
+        (edges listing.now.lines Within) (callees listing.now.lines marks.now)) }
 {
     let edges = edges(alloc, listing, Way::Within)?;
     let starts = callees(alloc, listing.lines(), marks)?;
@@ -134,7 +146,8 @@ fn is_end(listing: &Listing, way: Way, line: &Line) -> bool
 
 /// The lines at which an operation or a call may end.
 fn ends(alloc: Global, listing: &Listing, way: Way) -> Result<Vec<u64>, AllocError>
-    ensures { IfOk result (λ v. v.items ≡ numbers_where (is_end listing.now.lines way) listing.now.lines) }
+    ensures { IfOk result (λ v. v.items ≡ numbers_where
+        (is_end listing.now.lines way) listing.now.lines) }
 {
     let mut ends = Vec::new(alloc);
     let lines = listing.lines();

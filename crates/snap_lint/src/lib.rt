@@ -1,4 +1,5 @@
-//! What a listing may run into: the lines to which control may come, and what is to be warned of there.
+//! What a listing may run into: the lines to which control may come, and what is to be warned of
+//! there.
 #![tactic(auto)]
 
 mod concern;
@@ -18,8 +19,9 @@ pub use flow::Flow;
 pub use lint::warnings;
 pub use mode::{Mode, Way};
 
-/// Whatever the schedule: a process that has trapped, at the end of the listing, at a call within a call, at an end that its
-/// operation does not have or at a register of another process, stands at a line of which that is warned.
+/// Whatever the schedule: a process that has trapped, at the end of the listing, at a call within
+/// a call, at an end that its operation does not have or at a register of another process, stands
+/// at a line that is warned of for it.
 pub fn traps_are_warned_of()
     ensures { TrapsAreWarnedOf }
 {}

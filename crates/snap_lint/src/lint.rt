@@ -3,7 +3,14 @@ ghost use Rattle.std.specs.Prelude.{◌≡◌, ◌++◌, ◌&&◌, not, IfOk, On
 ghost use Rattle.std.specs.List.{flat_map, list_any};
 ghost use Rattle.snap_lint.specs.Flow.{lines_in, out_in};
 ghost use Rattle.snap_lint.specs.Marks.{is_in};
-ghost use Rattle.snap_lint.specs.Warnings.{is_reached_in, is_warned_of, may_trap, modes, warning_of, warnings};
+ghost use Rattle.snap_lint.specs.Warnings.{
+  is_reached_in,
+  is_warned_of,
+  may_trap,
+  modes,
+  warning_of,
+  warnings,
+};
 
 use crate::concern::{Concern, Warning};
 use crate::flow::Flow;
@@ -29,14 +36,16 @@ const CONCERNS: [Concern; 7] = [
 
 /// Whether control comes to a line in a mode, and no way leads on from it to an end.
 fn is_endless_in(flow: &Flow, mode: Mode, line: u64) -> bool
-    ensures { result ≡ (is_in (lines_in flow.now mode) line && not (is_in (out_in flow.now mode) line)) }
+    ensures { result ≡ (is_in (lines_in flow.now mode) line
+        && not (is_in (out_in flow.now mode) line)) }
 {
     flow.reaches(mode, line) && !flow.leads_out(mode, line)
 }
 
 /// Whether control comes to a line in a mode, and it may trap so.
 fn may_trap_in(listing: &Listing, flow: &Flow, concern: Concern, mode: Mode, line: &Line) -> bool
-    ensures { result ≡ (is_in (lines_in flow.now mode) line.now.number && may_trap listing.now concern mode line.now) }
+    ensures { result ≡ (is_in (lines_in flow.now mode) line.now.number
+        && may_trap listing.now concern mode line.now) }
 {
     flow.reaches(mode, line.number) && may_trap(listing, concern, mode, line)
 }
@@ -50,14 +59,16 @@ fn is_unreached(flow: &Flow, line: u64) -> bool
 
 /// Whether control comes to a line in some mode, and no way leads on from it to an end.
 fn is_endless(flow: &Flow, line: u64) -> bool
-    ensures { result ≡ list_any (λ m. is_in (lines_in flow.now m) line && not (is_in (out_in flow.now m) line)) modes }
+    ensures { result ≡ list_any
+        (λ m. is_in (lines_in flow.now m) line && not (is_in (out_in flow.now m) line)) modes }
 {
     MODES.iter().any(|mode| is_endless_in(flow, *mode, line))
 }
 
 /// Whether a line may trap so in some mode.
 fn may_trap_somehow(listing: &Listing, flow: &Flow, concern: Concern, line: &Line) -> bool
-    ensures { result ≡ is_reached_in flow.now (λ m. may_trap listing.now concern m line.now) line.now }
+    ensures { result ≡ is_reached_in flow.now
+        (λ m. may_trap listing.now concern m line.now) line.now }
 {
     MODES
         .iter()
@@ -84,7 +95,8 @@ fn push_warning(
     line: &Line,
     concern: Concern,
 ) -> Result<(), AllocError>
-    ensures { OnOk result (warnings.new.items ≡ warnings.old.items ++ warning_of listing.now flow.now line.now concern) }
+    ensures { OnOk result (warnings.new.items ≡ warnings.old.items
+        ++ warning_of listing.now flow.now line.now concern) }
 {
     if is_warned_of(listing, flow, line, concern) {
         let line = line.number;
@@ -101,7 +113,8 @@ fn push_line_warnings(
     line: &Line,
     concerns: &[Concern],
 ) -> Result<(), AllocError>
-    ensures { OnOk result (warnings.new.items ≡ warnings.old.items ++ flat_map (warning_of listing.now flow.now line.now) concerns.now) }
+    ensures { OnOk result (warnings.new.items ≡ warnings.old.items ++ flat_map
+        (warning_of listing.now flow.now line.now) concerns.now) }
 {
     for concern in concerns {
         push_warning(warnings, listing, flow, line, *concern)?;

@@ -15,7 +15,8 @@ pub enum Mode {
     UpdateCall,
 }
 
-/// Where control goes: outside calls, within one, or outside calls and only as far as the first write of a word.
+/// Where control goes: outside calls, within one, or outside calls and only as far as the first
+/// write of a word.
 #[derive(Clone, Copy, Debug, PartialEq, Eq)]
 pub enum Way {
     Outside,

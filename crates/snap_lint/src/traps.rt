@@ -1,6 +1,13 @@
 //! What a line may trap on, as far as the flow of control can tell.
 ghost use Rattle.std.specs.Prelude.{◌≡◌};
-ghost use Rattle.snap_lint.specs.Warnings.{is_own, is_shared, may_end_badly, may_nest, may_trap, may_write_others};
+ghost use Rattle.snap_lint.specs.Warnings.{
+  is_own,
+  is_shared,
+  may_end_badly,
+  may_nest,
+  may_trap,
+  may_write_others,
+};
 
 use crate::concern::Concern;
 use crate::flow::may_run_off;

@@ -1,4 +1,4 @@
-use Rattle.std.proofs.Common.{◌≡◌, map, take}
+use Rattle.std.proofs.Common.{◌≡◌, take}
 use Rattle.snap_lint.specs.Flow.{turned}
 use Rattle.snap_lint.proofs.edges.turned.Given as goal
 

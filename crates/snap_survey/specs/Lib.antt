@@ -1,0 +1,3 @@
+pub mod Survey
+pub mod Tally
+pub mod Summary

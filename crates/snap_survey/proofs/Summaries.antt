@@ -29,6 +29,7 @@ none_beside : (m : Summary) → together no_runs m ≡ m
 none_beside m = rw (beside m.schedules, beside m.answering, beside m.without_point, beside_most m.most_collects, beside m.updating, beside m.unfinished, beside m.trapping, beside m.crashing, beside m.skipping) refl where
   beside : (x : ℕ) → 0 + x ≡ x
   beside x = omega arith
+
   beside_most : (x : ℕ) → max 0 x ≡ x
   beside_most x = omega arith
 
@@ -65,7 +66,7 @@ same_total m s left =
       moved (nat_lt 0 s.traps) m.trapping (how_many (λ (x : Survey). nat_lt 0 x.traps) left),
       moved (nat_lt 0 s.crashes) m.crashing (how_many (λ (x : Survey). nat_lt 0 x.crashes) left),
       moved (nat_lt 0 s.skips) m.skipping (how_many (λ (x : Survey). nat_lt 0 x.skips) left),
-      moved true m.schedules (length left)
+      moved true m.schedules (length left),
     ) refl
 
 -- with one more counted, the others are left
@@ -93,6 +94,7 @@ alone : (m : Summary) → together m no_runs ≡ m
 alone m = rw (beside m.schedules, beside m.answering, beside m.without_point, beside_most m.most_collects, beside m.updating, beside m.unfinished, beside m.trapping, beside m.crashing, beside m.skipping) refl where
   beside : (x : ℕ) → x + 0 ≡ x
   beside x = omega arith
+
   beside_most : (x : ℕ) → max x 0 ≡ x
   beside_most x = omega arith
 

@@ -101,7 +101,7 @@ module _ (r : Run) (x : Item) where
         first_same (trap_at (longer r x)) (trap_at r) t same_trap,
         count_same (crashes (longer r x)) (crashes r) t (λ u le. ap is_crash (same_outcome u le)),
         count_same (is_skipped (longer r x)) (is_skipped r) t (λ u le. ap is_skip (same_outcome u le)),
-        first_same (skip_at (longer r x)) (skip_at r) t same_skip
+        first_same (skip_at (longer r x)) (skip_at r) t same_skip,
       ) refl
 
 -- one item more, where the test of its number has this value

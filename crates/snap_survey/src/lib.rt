@@ -6,6 +6,8 @@ mod findings;
 mod scans;
 mod summary;
 mod tally;
+mod text;
 
-pub use summary::{Summary, summary_of};
 pub use findings::{Skip, Survey, Trap};
+pub use summary::{Summary, summary_of};
+pub use text::{summary_line, survey_line};

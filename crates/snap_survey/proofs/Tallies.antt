@@ -14,13 +14,10 @@ use Rattle.snap_runs.specs.Run.{Run, state, before, item, outcome}
 use Rattle.snap_runs.specs.Scan.{count}
 use Rattle.snap_runs.proofs.Computing.{lt_true}
 use Rattle.snap_runs.proofs.Counting.{count_next}
+use Rattle.snap_record.specs.Record.{with_item}
 use Rattle.snap_survey.specs.Survey.{asks_scan, asks_update, is_done, is_trap, is_crash, is_skip, calls_scan, calls_update, ends_update, traps, crashes, is_skipped, trap_by, trap_at, skip_by, skip_at, first_found}
 use Rattle.snap_survey.specs.Tally.{IsWithin, noted, tally_of}
 use Rattle.snap_survey.specs.declared.tally.Tally.{Tally}
-
--- a run with one more item
-abbrev longer : Run → Item → Run
-longer r x = record { source = r.source; shape = r.shape; items = r.items ++ x ∷ [] }
 
 -- what is counted of two runs that agree so far
 count_same : (f g : ℕ → Bool) (t : ℕ) → ((u : ℕ) → u ≤ t → f u ≡ g u) → count f 0 t ≡ count g 0 t
@@ -56,52 +53,52 @@ few r t = record {
 }
 
 module _ (r : Run) (x : Item) where
-  same_state : (t : ℕ) → t ≤ length r.items → state (longer r x) t ≡ state r t
+  same_state : (t : ℕ) → t ≤ length r.items → state (with_item r x) t ≡ state r t
   same_state t le = ap (after r.source r.shape (initial r.source r.shape)) (take-append-le t r.items (x ∷ []) le)
 
-  same_before : (t : ℕ) → t ≤ length r.items → before (longer r x) t ≡ before r t
+  same_before : (t : ℕ) → t ≤ length r.items → before (with_item r x) t ≡ before r t
   same_before zero le = same_state 0 le
   same_before (suc t) le = same_state t (omega (arith, le))
 
-  same_item : (t : ℕ) → t ≤ length r.items → item (longer r x) t ≡ item r t
+  same_item : (t : ℕ) → t ≤ length r.items → item (with_item r x) t ≡ item r t
   same_item zero le = refl
   same_item (suc t) le = get_or_append_left r.items (x ∷ []) (Step 0) t (omega (arith, le))
 
-  same_outcome : (t : ℕ) → t ≤ length r.items → outcome (longer r x) t ≡ outcome r t
+  same_outcome : (t : ℕ) → t ≤ length r.items → outcome (with_item r x) t ≡ outcome r t
   same_outcome t le =
-      ap (λ (S : State). (done r.source r.shape S (item (longer r x) t)).1) (same_before t le)
+      ap (λ (S : State). (done r.source r.shape S (item (with_item r x) t)).1) (same_before t le)
       ∙ ap (λ (y : Item). (done r.source r.shape (before r t) y).1) (same_item t le)
 
-  same_trap : (t : ℕ) → t ≤ length r.items → trap_at (longer r x) t ≡ trap_at r t
+  same_trap : (t : ℕ) → t ≤ length r.items → trap_at (with_item r x) t ≡ trap_at r t
   same_trap t le =
-      ap (λ (y : Item). trap_by t (who y) (outcome (longer r x) t) (process_at (state (longer r x) t) (who y)).status) (same_item t le)
-      ∙ ap (λ (o : Outcome). trap_by t (who (item r t)) o (process_at (state (longer r x) t) (who (item r t))).status) (same_outcome t le)
+      ap (λ (y : Item). trap_by t (who y) (outcome (with_item r x) t) (process_at (state (with_item r x) t) (who y)).status) (same_item t le)
+      ∙ ap (λ (o : Outcome). trap_by t (who (item r t)) o (process_at (state (with_item r x) t) (who (item r t))).status) (same_outcome t le)
       ∙ ap (λ (S : State). trap_by t (who (item r t)) (outcome r t) (process_at S (who (item r t))).status) (same_state t le)
 
-  same_skip : (t : ℕ) → t ≤ length r.items → skip_at (longer r x) t ≡ skip_at r t
+  same_skip : (t : ℕ) → t ≤ length r.items → skip_at (with_item r x) t ≡ skip_at r t
   same_skip t le =
-      ap (λ (y : Item). skip_by t (who y) (outcome (longer r x) t)) (same_item t le)
+      ap (λ (y : Item). skip_by t (who y) (outcome (with_item r x) t)) (same_item t le)
       ∙ ap (λ (o : Outcome). skip_by t (who (item r t)) o) (same_outcome t le)
 
   same_call : (asks : Item → Bool) (t : ℕ) → t ≤ length r.items →
-      (is_called (outcome (longer r x) t) && asks (item (longer r x) t)) ≡ (is_called (outcome r t) && asks (item r t))
+      (is_called (outcome (with_item r x) t) && asks (item (with_item r x) t)) ≡ (is_called (outcome r t) && asks (item r t))
   same_call asks t le =
-      ap (λ (o : Outcome). is_called o && asks (item (longer r x) t)) (same_outcome t le)
+      ap (λ (o : Outcome). is_called o && asks (item (with_item r x) t)) (same_outcome t le)
       ∙ ap (λ (y : Item). is_called (outcome r t) && asks y) (same_item t le)
 
   -- what the earlier items came to
-  same_tally : tally_of (longer r x) (length r.items) ≡ tally_of r (length r.items)
+  same_tally : tally_of (with_item r x) (length r.items) ≡ tally_of r (length r.items)
   same_tally =
       let t = length r.items in
       rw (
-        count_same (calls_scan (longer r x)) (calls_scan r) t (same_call asks_scan),
-        count_same (calls_update (longer r x)) (calls_update r) t (same_call asks_update),
-        count_same (ends_update (longer r x)) (ends_update r) t (λ u le. ap is_done (same_outcome u le)),
-        count_same (traps (longer r x)) (traps r) t (λ u le. ap is_trap (same_outcome u le)),
-        first_same (trap_at (longer r x)) (trap_at r) t same_trap,
-        count_same (crashes (longer r x)) (crashes r) t (λ u le. ap is_crash (same_outcome u le)),
-        count_same (is_skipped (longer r x)) (is_skipped r) t (λ u le. ap is_skip (same_outcome u le)),
-        first_same (skip_at (longer r x)) (skip_at r) t same_skip,
+        count_same (calls_scan (with_item r x)) (calls_scan r) t (same_call asks_scan),
+        count_same (calls_update (with_item r x)) (calls_update r) t (same_call asks_update),
+        count_same (ends_update (with_item r x)) (ends_update r) t (λ u le. ap is_done (same_outcome u le)),
+        count_same (traps (with_item r x)) (traps r) t (λ u le. ap is_trap (same_outcome u le)),
+        first_same (trap_at (with_item r x)) (trap_at r) t same_trap,
+        count_same (crashes (with_item r x)) (crashes r) t (λ u le. ap is_crash (same_outcome u le)),
+        count_same (is_skipped (with_item r x)) (is_skipped r) t (λ u le. ap is_skip (same_outcome u le)),
+        first_same (skip_at (with_item r x)) (skip_at r) t same_skip,
       ) refl
 
 -- one item more, where the test of its number has this value
@@ -122,11 +119,11 @@ next_tally : (r : Run) (t : ℕ) →
 next_tally r t = ap (noted_if r t) (lt_true 0 (suc t) (omega arith))
 
 -- the items with one more
-pub noted_next : (r r' : Run) (x : Item) (n : ℕ) (a : Tally) → r' ≡ longer r x → n ≡ length r'.items → a ≡ tally_of r (length r.items) →
+pub noted_next : (r r' : Run) (x : Item) (n : ℕ) (a : Tally) → r' ≡ with_item r x → n ≡ length r'.items → a ≡ tally_of r (length r.items) →
     noted a n x (outcome r' n) (process_at (state r' n) (who x)).status ≡ tally_of r' n
 noted_next r r' x n a more all so_far =
     let t = length r.items in
-    let long = longer r x in
+    let long = with_item r x in
     let number : n ≡ suc t = (let e = length-append r.items (x ∷ []) in all ∙ ap (λ (q : Run). length q.items) more ∙ omega (arith, e)) in
     let it : x ≡ item long (suc t) = sym (get_or-append_seam r.items x [] (Step 0)) in
     ap (λ b. noted b n x (outcome r' n) (process_at (state r' n) (who x)).status) (so_far ∙ sym (same_tally r x))
@@ -138,7 +135,7 @@ noted_next r r' x n a more all so_far =
     ∙ ap (λ (q : Run). tally_of q n) (sym more)
 
 -- before the last item, of fewer items than there are
-pub within : (r r' : Run) (x : Item) (n : ℕ) (a : Tally) → r' ≡ longer r x → n ≡ length r'.items → a ≡ tally_of r (length r.items) → IsWithin a n
+pub within : (r r' : Run) (x : Item) (n : ℕ) (a : Tally) → r' ≡ with_item r x → n ≡ length r'.items → a ≡ tally_of r (length r.items) → IsWithin a n
 within r r' x n a more all so_far =
     let number : suc (length r.items) ≡ n = (let e = length-append r.items (x ∷ []) in let f : n ≡ length (r.items ++ x ∷ []) = all ∙ ap (λ (q : Run). length q.items) more in omega (arith, e, f)) in
     subst (λ k. IsWithin a k) number (subst (λ b. IsWithin b (suc (length r.items))) (sym so_far) (few r (length r.items)))

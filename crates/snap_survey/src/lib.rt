@@ -5,9 +5,11 @@
 mod findings;
 mod scans;
 mod summary;
+mod tallied;
 mod tally;
 mod text;
 
 pub use findings::{Skip, Survey, Trap};
 pub use summary::{Summary, summary_of};
+pub use tallied::survey;
 pub use text::{summary_line, survey_line};

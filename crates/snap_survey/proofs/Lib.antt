@@ -1,0 +1,3 @@
+pub mod Summaries
+pub mod Tallies
+pub mod Surveying

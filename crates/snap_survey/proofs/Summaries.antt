@@ -1,0 +1,103 @@
+-- A summary, survey by survey.
+use Rattle.std.proofs.Common.{◌≡◌, ℕ, suc, ◌+◌, ◌<◌, Bool, true, false, List, [], ◌∷◌, length, max, nat_lt, if◌then◌else◌, refl, sym, ap, ◌∙◌, arith}
+use Rattle.snap_survey.specs.Summary.{AreFewer, how_many, most_of, no_runs, summary_of, with_survey}
+use Rattle.snap_survey.specs.declared.summary.Summary.{Summary}
+use Rattle.snap_survey.specs.declared.findings.Survey.{Survey}
+
+-- two summaries side by side
+abbrev pub together : Summary → Summary → Summary
+together a b = record {
+  schedules = a.schedules + b.schedules;
+  answering = a.answering + b.answering;
+  without_point = a.without_point + b.without_point;
+  most_collects = max a.most_collects b.most_collects;
+  updating = a.updating + b.updating;
+  unfinished = a.unfinished + b.unfinished;
+  trapping = a.trapping + b.trapping;
+  crashing = a.crashing + b.crashing;
+  skipping = a.skipping + b.skipping;
+}
+
+-- of these surveys some are counted, and the others are left
+pub record Counting (all : List Survey) (m : Summary) (k : ℕ) (left : List Survey) : Type 0 where
+  pub total : together m (summary_of left) ≡ summary_of all
+  pub number : m.schedules ≡ k
+  pub fewer : AreFewer m (k + 1)
+
+-- no run is beside them
+none_beside : (m : Summary) → together no_runs m ≡ m
+none_beside m = rw (beside m.schedules, beside m.answering, beside m.without_point, beside_most m.most_collects, beside m.updating, beside m.unfinished, beside m.trapping, beside m.crashing, beside m.skipping) refl where
+  beside : (x : ℕ) → 0 + x ≡ x
+  beside x = omega arith
+
+  beside_most : (x : ℕ) → max 0 x ≡ x
+  beside_most x = omega arith
+
+-- at the start all are left
+pub all_left : (all : List Survey) → Counting all no_runs 0 all
+all_left all = record {
+  total = none_beside (summary_of all);
+  number = refl;
+  fewer = record { answering = omega arith; without_point = omega arith; updating = omega arith; unfinished = omega arith; trapping = omega arith; crashing = omega arith; skipping = omega arith };
+}
+
+-- one that is counted is no longer left
+moved : (b : Bool) (x y : ℕ) → (if b then x + 1 else x) + y ≡ x + (if b then suc y else y)
+moved true x y = omega arith
+moved false x y = omega arith
+
+-- one more at most
+one_more : (b : Bool) (x k : ℕ) → x < k → (if b then x + 1 else x) < k + 1
+one_more true x k h = omega arith
+one_more false x k h = omega arith
+
+most_moved : (a b c : ℕ) → max (max b a) c ≡ max a (max b c)
+most_moved a b c = omega arith
+
+-- the same sum, with one survey counted
+same_total : (m : Summary) (s : Survey) (left : List Survey) → together (with_survey m s) (summary_of left) ≡ together m (summary_of (s ∷ left))
+same_total m s left =
+    rw (
+      moved (nat_lt 0 s.scans_answered) m.answering (how_many (λ (x : Survey). nat_lt 0 x.scans_answered) left),
+      moved (nat_lt 0 s.scans_without_point) m.without_point (how_many (λ (x : Survey). nat_lt 0 x.scans_without_point) left),
+      most_moved m.most_collects s.most_collects (most_of left),
+      moved (nat_lt 0 s.updates_done) m.updating (how_many (λ (x : Survey). nat_lt 0 x.updates_done) left),
+      moved (nat_lt 0 s.open_operations) m.unfinished (how_many (λ (x : Survey). nat_lt 0 x.open_operations) left),
+      moved (nat_lt 0 s.traps) m.trapping (how_many (λ (x : Survey). nat_lt 0 x.traps) left),
+      moved (nat_lt 0 s.crashes) m.crashing (how_many (λ (x : Survey). nat_lt 0 x.crashes) left),
+      moved (nat_lt 0 s.skips) m.skipping (how_many (λ (x : Survey). nat_lt 0 x.skips) left),
+      moved true m.schedules (length left),
+    ) refl
+
+-- with one more counted, the others are left
+pub one_counted : (all : List Survey) (m : Summary) (k : ℕ) (s : Survey) (left rest : List Survey) → left ≡ s ∷ rest → Counting all m k left →
+    Counting all (with_survey m s) (k + 1) rest
+one_counted all m k s left rest is h =
+    let f = h.fewer in
+    let n = h.number in
+    record {
+      total = same_total m s rest ∙ ap (λ l. together m (summary_of l)) (sym is) ∙ h.total;
+      number = omega (arith, n);
+      fewer = record {
+        answering = one_more (nat_lt 0 s.scans_answered) m.answering (k + 1) f.answering;
+        without_point = one_more (nat_lt 0 s.scans_without_point) m.without_point (k + 1) f.without_point;
+        updating = one_more (nat_lt 0 s.updates_done) m.updating (k + 1) f.updating;
+        unfinished = one_more (nat_lt 0 s.open_operations) m.unfinished (k + 1) f.unfinished;
+        trapping = one_more (nat_lt 0 s.traps) m.trapping (k + 1) f.trapping;
+        crashing = one_more (nat_lt 0 s.crashes) m.crashing (k + 1) f.crashing;
+        skipping = one_more (nat_lt 0 s.skips) m.skipping (k + 1) f.skipping;
+      };
+    }
+
+-- nothing is beside no run
+alone : (m : Summary) → together m no_runs ≡ m
+alone m = rw (beside m.schedules, beside m.answering, beside m.without_point, beside_most m.most_collects, beside m.updating, beside m.unfinished, beside m.trapping, beside m.crashing, beside m.skipping) refl where
+  beside : (x : ℕ) → x + 0 ≡ x
+  beside x = omega arith
+
+  beside_most : (x : ℕ) → max x 0 ≡ x
+  beside_most x = omega arith
+
+-- at the end all are counted
+pub all_counted : (all : List Survey) (m : Summary) (k : ℕ) (left : List Survey) → left ≡ [] → Counting all m k left → m ≡ summary_of all
+all_counted all m k left none h = sym (alone m) ∙ ap (λ l. together m (summary_of l)) (sym none) ∙ h.total

@@ -1,0 +1,8 @@
+use Rattle.std.proofs.Common.{◌≡◌, ◌+◌, ◌≤◌, drop}
+use Rattle.snap_survey.specs.Survey.{without_point}
+use Rattle.snap_survey.proofs.scans.without_point.Given as goal
+
+-- those that were counted, and those that are left
+abbrev pub invariant-loop-verdict : goal.invariant-loop-verdict
+invariant-loop-verdict l =
+    (l.missing + without_point (drop l.verdict-index l.verdicts) ≡ without_point l.verdicts) × (l.missing ≤ l.verdict-index)

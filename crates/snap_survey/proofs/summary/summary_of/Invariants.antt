@@ -1,0 +1,7 @@
+use Rattle.std.proofs.Common.{drop}
+use Rattle.snap_survey.proofs.Summaries.{Counting}
+use Rattle.snap_survey.proofs.summary.summary_of.Given as goal
+
+-- the surveys so far are counted, and the others are left
+abbrev pub invariant-loop-survey : goal.invariant-loop-survey
+invariant-loop-survey l = Counting l.surveys l.summary l.survey-index (drop l.survey-index l.surveys)

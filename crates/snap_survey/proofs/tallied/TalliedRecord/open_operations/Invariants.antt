@@ -1,0 +1,8 @@
+use Rattle.std.proofs.Common.{◌≡◌, ◌≤◌}
+use Rattle.snap_runs.specs.Scan.{count}
+use Rattle.snap_survey.specs.Survey.{is_open}
+use Rattle.snap_survey.proofs.tallied.TalliedRecord.open_operations.Given as goal
+
+-- those of the first processes
+abbrev pub invariant-loop-k : goal.invariant-loop-k
+invariant-loop-k g l = (l.open ≡ count (is_open l.self.record) 0 l.k) × (l.open ≤ l.k)

@@ -1,0 +1,4 @@
+pub mod Survey
+pub mod Tally
+pub mod Summary
+pub mod SurveyText

@@ -1,0 +1,70 @@
+-- In how many of many runs there is what the fields of a survey count.
+use Rattle.std.specs.Prelude.{ℕ, suc, ◌+◌, ◌<◌, Bool, List, [], ◌∷◌, length, max, nat_lt, if◌then◌else◌}
+use Rattle.snap_survey.specs.declared.findings.Survey.{Survey}
+use Rattle.snap_survey.specs.declared.summary.Summary.{Summary}
+
+-- how many surveys pass a test
+abbrev pub how_many : (Survey → Bool) → List Survey → ℕ
+how_many test [] = 0
+how_many test (s ∷ ss) = if test s then suc (how_many test ss) else how_many test ss
+
+-- the most double collects of a scan of any of the runs
+abbrev pub most_of : List Survey → ℕ
+most_of [] = 0
+most_of (s ∷ ss) = max s.most_collects (most_of ss)
+
+-- the runs of these surveys, and in how many of them a scan was answered, an answered scan has no point, and so on
+abbrev pub summary_of : List Survey → Summary
+summary_of ss = record {
+  schedules = length ss;
+  answering = how_many (λ s. nat_lt 0 s.scans_answered) ss;
+  without_point = how_many (λ s. nat_lt 0 s.scans_without_point) ss;
+  most_collects = most_of ss;
+  updating = how_many (λ s. nat_lt 0 s.updates_done) ss;
+  unfinished = how_many (λ s. nat_lt 0 s.open_operations) ss;
+  trapping = how_many (λ s. nat_lt 0 s.traps) ss;
+  crashing = how_many (λ s. nat_lt 0 s.crashes) ss;
+  skipping = how_many (λ s. nat_lt 0 s.skips) ss;
+}
+
+-- the summary of no run
+abbrev pub no_runs : Summary
+no_runs = record {
+  schedules = 0;
+  answering = 0;
+  without_point = 0;
+  most_collects = 0;
+  updating = 0;
+  unfinished = 0;
+  trapping = 0;
+  crashing = 0;
+  skipping = 0;
+}
+
+-- one more where a number is not 0
+abbrev pub counted : ℕ → ℕ → ℕ
+counted k x = if nat_lt 0 x then k + 1 else k
+
+-- a summary with one run more
+abbrev pub with_survey : Summary → Survey → Summary
+with_survey m s = record {
+  schedules = m.schedules + 1;
+  answering = counted m.answering s.scans_answered;
+  without_point = counted m.without_point s.scans_without_point;
+  most_collects = max s.most_collects m.most_collects;
+  updating = counted m.updating s.updates_done;
+  unfinished = counted m.unfinished s.open_operations;
+  trapping = counted m.trapping s.traps;
+  crashing = counted m.crashing s.crashes;
+  skipping = counted m.skipping s.skips;
+}
+
+-- each number of runs is less than this
+pub record AreFewer (m : Summary) (k : ℕ) : Type 0 where
+  pub answering : m.answering < k
+  pub without_point : m.without_point < k
+  pub updating : m.updating < k
+  pub unfinished : m.unfinished < k
+  pub trapping : m.trapping < k
+  pub crashing : m.crashing < k
+  pub skipping : m.skipping < k

@@ -1,0 +1,51 @@
+-- What the first items of a run came to, and one item more.
+use Rattle.std.specs.Prelude.{ℕ, suc, ◌<◌, ◌&&◌, None, if◌then◌else◌}
+use Rattle.snap_semantics.specs.declared.process.Item.{Item}
+use Rattle.snap_semantics.specs.declared.process.Outcome.{Outcome}
+use Rattle.snap_semantics.specs.declared.process.Status.{Status}
+use Rattle.snap_semantics.specs.Rules.{or_else}
+use Rattle.snap_semantics.specs.Table.{who}
+use Rattle.snap_runs.specs.Audit.{is_called}
+use Rattle.snap_runs.specs.Run.{Run}
+use Rattle.snap_runs.specs.Scan.{count}
+use Rattle.snap_survey.specs.Survey.{asks_scan, asks_update, is_done, is_trap, is_crash, is_skip, calls_scan, calls_update, ends_update, traps, crashes, is_skipped, trap_by, trap_at, skip_by, skip_at, first_found}
+use Rattle.snap_survey.specs.declared.tally.Tally.{Tally}
+
+-- what the first t items came to
+abbrev pub tally_of : Run → ℕ → Tally
+tally_of r t = record {
+  scans_called = count (calls_scan r) 0 t;
+  updates_called = count (calls_update r) 0 t;
+  updates_done = count (ends_update r) 0 t;
+  traps = count (traps r) 0 t;
+  first_trap = first_found (trap_at r) t;
+  crashes = count (crashes r) 0 t;
+  skips = count (is_skipped r) 0 t;
+  first_skip = first_found (skip_at r) t;
+}
+
+-- before the first item
+abbrev pub none_noted : Tally
+none_noted = record { scans_called = 0; updates_called = 0; updates_done = 0; traps = 0; first_trap = None; crashes = 0; skips = 0; first_skip = None }
+
+-- with item t, of this outcome, after which its process stands so
+abbrev pub noted : Tally → ℕ → Item → Outcome → Status → Tally
+noted a t x o s = record {
+  scans_called = if is_called o && asks_scan x then suc a.scans_called else a.scans_called;
+  updates_called = if is_called o && asks_update x then suc a.updates_called else a.updates_called;
+  updates_done = if is_done o then suc a.updates_done else a.updates_done;
+  traps = if is_trap o then suc a.traps else a.traps;
+  first_trap = or_else a.first_trap (trap_by t (who x) o s);
+  crashes = if is_crash o then suc a.crashes else a.crashes;
+  skips = if is_skip o then suc a.skips else a.skips;
+  first_skip = or_else a.first_skip (skip_by t (who x) o);
+}
+
+-- of fewer than so many items
+pub record IsWithin (a : Tally) (t : ℕ) : Type 0 where
+  pub scans_called : a.scans_called < t
+  pub updates_called : a.updates_called < t
+  pub updates_done : a.updates_done < t
+  pub traps : a.traps < t
+  pub crashes : a.crashes < t
+  pub skips : a.skips < t

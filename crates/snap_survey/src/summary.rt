@@ -1,0 +1,71 @@
+//! What many runs came to together.
+ghost use Rattle.std.specs.Prelude.{◌≡◌, ◌+◌, ◌<◌, ◌^◌};
+ghost use Rattle.snap_survey.specs.Summary.{AreFewer, no_runs, summary_of, with_survey};
+
+use crate::findings::Survey;
+
+/// In how many of many runs there is what the fields of a survey count.
+#[derive(Clone, Copy, Debug, PartialEq, Eq)]
+pub struct Summary {
+    pub schedules: u64,
+    /// Runs in which a scan was answered.
+    pub answering: u64,
+    /// Runs in which an answered scan has no point.
+    pub without_point: u64,
+    /// The most double collects of an answered scan of any run.
+    pub most_collects: u64,
+    /// Runs in which an update is done.
+    pub updating: u64,
+    /// Runs in which an operation has not ended.
+    pub unfinished: u64,
+    pub trapping: u64,
+    pub crashing: u64,
+    pub skipping: u64,
+}
+
+impl Summary {
+    /// Of no run.
+    fn new() -> Summary
+        ensures { result ≡ no_runs }
+    {
+        Summary {
+            schedules: 0,
+            answering: 0,
+            without_point: 0,
+            most_collects: 0,
+            updating: 0,
+            unfinished: 0,
+            trapping: 0,
+            crashing: 0,
+            skipping: 0,
+        }
+    }
+
+    /// Adds one run more.
+    fn add(&mut self, survey: &Survey)
+        requires few { AreFewer self.old (self.old.schedules + 1) }
+        requires room { self.old.schedules + 1 < 2 ^ 64 }
+        ensures { self.new ≡ with_survey self.old survey.now }
+    {
+        self.schedules += 1;
+        self.answering += u64::from(survey.scans_answered > 0);
+        self.without_point += u64::from(survey.scans_without_point > 0);
+        self.most_collects = survey.most_collects.max(self.most_collects);
+        self.updating += u64::from(survey.updates_done > 0);
+        self.unfinished += u64::from(survey.open_operations > 0);
+        self.trapping += u64::from(survey.traps > 0);
+        self.crashing += u64::from(survey.crashes > 0);
+        self.skipping += u64::from(survey.skips > 0);
+    }
+}
+
+/// What the runs of these surveys came to together.
+pub fn summary_of(surveys: &[Survey]) -> Summary
+    ensures { result ≡ summary_of surveys.now }
+{
+    let mut summary = Summary::new();
+    for survey in surveys {
+        summary.add(survey);
+    }
+    summary
+}

@@ -1,0 +1,86 @@
+//! What the items of a run came to.
+ghost use Rattle.std.specs.Prelude.{◌≡◌};
+ghost use Rattle.snap_survey.specs.Survey.{trap_of};
+ghost use Rattle.snap_survey.specs.Tally.{IsWithin, noted, none_noted};
+
+use crate::findings::{Skip, Trap};
+use snap_semantics::{Item, Op, Outcome, Status, who};
+
+/// What the items of a run came to so far.
+#[derive(Clone, Copy, Debug)]
+pub(crate) struct Tally {
+    pub(crate) scans_called: u64,
+    pub(crate) updates_called: u64,
+    pub(crate) updates_done: u64,
+    pub(crate) traps: u64,
+    pub(crate) first_trap: Option<Trap>,
+    pub(crate) crashes: u64,
+    pub(crate) skips: u64,
+    pub(crate) first_skip: Option<Skip>,
+}
+
+/// The trap of a process by an item of this number, after which it stands so.
+fn trap_of(number: u64, process: u32, status: Status) -> Option<Trap>
+    ensures { result ≡ trap_of number process status }
+{
+    match status {
+        Status::Trapped(cause, activity) => Some(Trap {
+            item: number,
+            process,
+            line: activity.line,
+            cause,
+        }),
+        Status::Idle | Status::Busy(_) | Status::Crashed(_) => None,
+    }
+}
+
+impl Tally {
+    /// Before the first item.
+    pub(crate) fn new() -> Tally
+        ensures { result ≡ none_noted }
+    {
+        Tally {
+            scans_called: 0,
+            updates_called: 0,
+            updates_done: 0,
+            traps: 0,
+            first_trap: None,
+            crashes: 0,
+            skips: 0,
+            first_skip: None,
+        }
+    }
+
+    /// Notes the item of this number, after which its process stands so.
+    pub(crate) fn note(&mut self, number: u64, item: Item, outcome: &Outcome, status: Status)
+        requires { IsWithin self.old number }
+        ensures { self.new ≡ noted self.old number item outcome.now status }
+    {
+        match outcome {
+            Outcome::Called => match item {
+                Item::Call(_, Op::Scan) => self.scans_called += 1,
+                Item::Call(_, Op::Update { .. }) => self.updates_called += 1,
+                Item::Step(_) | Item::Crash(_) => {}
+            },
+            Outcome::Stepped | Outcome::Answered(_) => {}
+            Outcome::Finished => self.updates_done += 1,
+            Outcome::Trapped(_) => {
+                self.traps += 1;
+                if self.first_trap.is_none() {
+                    self.first_trap = trap_of(number, who(item), status);
+                }
+            }
+            Outcome::Crashed => self.crashes += 1,
+            Outcome::Skipped(reason) => {
+                self.skips += 1;
+                if self.first_skip.is_none() {
+                    self.first_skip = Some(Skip {
+                        item: number,
+                        process: who(item),
+                        reason: *reason,
+                    });
+                }
+            }
+        }
+    }
+}

@@ -1,0 +1,156 @@
+//! The printed texts of surveys.
+ghost use Rattle.std.specs.Prelude.{◌≡◌, ◌++◌, OnOk};
+ghost use Rattle.snap_survey.specs.SurveyText.{
+  field_text,
+  first_text,
+  halts_text,
+  scans_text,
+  skip_text,
+  summary_halts,
+  summary_line,
+  summary_scans,
+  summary_updates,
+  survey_line,
+  trap_text,
+  updates_text,
+};
+
+use crate::findings::{Skip, Survey, Trap};
+use crate::summary::Summary;
+use snap_report::outcome_text;
+use snap_semantics::Outcome;
+use snap_text::{push_number, push_text};
+use std::alloc::AllocError;
+
+/// A number behind its name.
+#[tactic(auto, using(snap_text::proofs::Texts::joined), unfolding(crate::specs::SurveyText::field_text))]
+fn push_field(out: &mut Vec<u8>, name: &[u8], number: u64) -> Result<(), AllocError>
+    ensures { OnOk result (out.new.items ≡ out.old.items ++ field_text name.now number) }
+{
+    push_text(out, name)?;
+    push_number(out, number)
+}
+
+/// Scans that were answered, and those that were called; those without a point; the most double
+/// collects of one.
+#[tactic(auto, using(snap_text::proofs::Texts::joined), unfolding(crate::specs::SurveyText::scans_text))]
+fn scans_text(out: &mut Vec<u8>, survey: &Survey) -> Result<(), AllocError>
+    ensures { OnOk result (out.new.items ≡ out.old.items ++ scans_text survey.now) }
+{
+    push_field(out, b" scans ", survey.scans_answered)?;
+    push_field(out, b" of ", survey.scans_called)?;
+    push_field(out, b" without point ", survey.scans_without_point)?;
+    push_field(out, b" collects ", survey.most_collects)
+}
+
+/// Updates that are done, and those that were called; operations that have not ended.
+#[tactic(auto, using(snap_text::proofs::Texts::joined), unfolding(crate::specs::SurveyText::updates_text))]
+fn updates_text(out: &mut Vec<u8>, survey: &Survey) -> Result<(), AllocError>
+    ensures { OnOk result (out.new.items ≡ out.old.items ++ updates_text survey.now) }
+{
+    push_field(out, b" updates ", survey.updates_done)?;
+    push_field(out, b" of ", survey.updates_called)?;
+    push_field(out, b" open ", survey.open_operations)
+}
+
+/// Items that trapped or crashed their process, or were skipped.
+#[tactic(auto, using(snap_text::proofs::Texts::joined), unfolding(crate::specs::SurveyText::halts_text))]
+fn halts_text(out: &mut Vec<u8>, survey: &Survey) -> Result<(), AllocError>
+    ensures { OnOk result (out.new.items ≡ out.old.items ++ halts_text survey.now) }
+{
+    push_field(out, b" traps ", survey.traps)?;
+    push_field(out, b" crashes ", survey.crashes)?;
+    push_field(out, b" skips ", survey.skips)
+}
+
+/// An item and its process.
+#[tactic(auto, using(snap_text::proofs::Texts::joined), unfolding(crate::specs::SurveyText::first_text))]
+fn first_text(out: &mut Vec<u8>, item: u64, process: u64) -> Result<(), AllocError>
+    ensures { OnOk result (out.new.items ≡ out.old.items ++ first_text item process) }
+{
+    push_text(out, b" first")?;
+    push_field(out, b" item ", item)?;
+    push_field(out, b" process ", process)
+}
+
+/// The first trap, where there is one.
+#[tactic(auto, using(snap_text::proofs::Texts::joined), unfolding(crate::specs::SurveyText::trap_text))]
+fn trap_text(out: &mut Vec<u8>, trap: Option<Trap>) -> Result<(), AllocError>
+    ensures { OnOk result (out.new.items ≡ out.old.items ++ trap_text trap) }
+{
+    let Some(trap) = trap else {
+        return Ok(());
+    };
+    first_text(out, trap.item, u64::from(trap.process))?;
+    push_text(out, b" ")?;
+    outcome_text(out, &Outcome::Trapped(trap.cause))?;
+    push_field(out, b" at ", trap.line)
+}
+
+/// The first skipped item, where there is one.
+#[tactic(auto, using(snap_text::proofs::Texts::joined), unfolding(crate::specs::SurveyText::skip_text))]
+fn skip_text(out: &mut Vec<u8>, skip: Option<Skip>) -> Result<(), AllocError>
+    ensures { OnOk result (out.new.items ≡ out.old.items ++ skip_text skip) }
+{
+    let Some(skip) = skip else {
+        return Ok(());
+    };
+    first_text(out, skip.item, u64::from(skip.process))?;
+    push_text(out, b" ")?;
+    outcome_text(out, &Outcome::Skipped(skip.reason))
+}
+
+/// What the run over the schedule of this number came to, in one line.
+#[tactic(auto, using(snap_text::proofs::Texts::joined), unfolding(crate::specs::SurveyText::survey_line))]
+pub fn survey_line(out: &mut Vec<u8>, number: u64, survey: &Survey) -> Result<(), AllocError>
+    ensures { OnOk result (out.new.items ≡ out.old.items ++ survey_line number survey.now) }
+{
+    push_field(out, b"schedule ", number)?;
+    scans_text(out, survey)?;
+    updates_text(out, survey)?;
+    halts_text(out, survey)?;
+    trap_text(out, survey.first_trap)?;
+    skip_text(out, survey.first_skip)?;
+    push_text(out, b"\n")
+}
+
+/// The runs in which scans were answered, and have no point; the most double collects of a scan.
+#[tactic(auto, using(snap_text::proofs::Texts::joined), unfolding(crate::specs::SurveyText::summary_scans))]
+fn summary_scans(out: &mut Vec<u8>, summary: &Summary) -> Result<(), AllocError>
+    ensures { OnOk result (out.new.items ≡ out.old.items ++ summary_scans summary.now) }
+{
+    push_field(out, b" scans ", summary.answering)?;
+    push_field(out, b" without point ", summary.without_point)?;
+    push_field(out, b" collects ", summary.most_collects)
+}
+
+/// The runs in which updates are done, and operations have not ended.
+#[tactic(auto, using(snap_text::proofs::Texts::joined), unfolding(crate::specs::SurveyText::summary_updates))]
+fn summary_updates(out: &mut Vec<u8>, summary: &Summary) -> Result<(), AllocError>
+    ensures { OnOk result (out.new.items ≡ out.old.items ++ summary_updates summary.now) }
+{
+    push_field(out, b" updates ", summary.updating)?;
+    push_field(out, b" open ", summary.unfinished)
+}
+
+/// The runs with traps, crashes and skipped items.
+#[tactic(auto, using(snap_text::proofs::Texts::joined), unfolding(crate::specs::SurveyText::summary_halts))]
+fn summary_halts(out: &mut Vec<u8>, summary: &Summary) -> Result<(), AllocError>
+    ensures { OnOk result (out.new.items ≡ out.old.items ++ summary_halts summary.now) }
+{
+    push_field(out, b" traps ", summary.trapping)?;
+    push_field(out, b" crashes ", summary.crashing)?;
+    push_field(out, b" skips ", summary.skipping)
+}
+
+/// In how many of many runs there is what the fields of a survey count, in one line.
+#[tactic(auto, using(snap_text::proofs::Texts::joined), unfolding(crate::specs::SurveyText::summary_line))]
+pub fn summary_line(out: &mut Vec<u8>, summary: &Summary) -> Result<(), AllocError>
+    ensures { OnOk result (out.new.items ≡ out.old.items ++ summary_line summary.now) }
+{
+    push_field(out, b"schedules ", summary.schedules)?;
+    summary_scans(out, summary)?;
+    summary_updates(out, summary)?;
+    summary_halts(out, summary)?;
+    push_text(out, b"\n")
+}

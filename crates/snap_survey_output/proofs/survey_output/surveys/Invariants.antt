@@ -1,0 +1,7 @@
+use Rattle.std.proofs.Common.{◌≡◌, ◌++◌, drop, map}
+use Rattle.snap_survey_output.specs.Surveys.{survey_over}
+use Rattle.snap_survey_output.proofs.survey_output.surveys.Given as goal
+
+-- the surveys so far, and those of the schedules that are left
+abbrev pub invariant-loop-schedule : goal.invariant-loop-schedule
+invariant-loop-schedule g l = l.surveys.items ++ map (survey_over l.program) (drop l.schedule-index l.schedules) ≡ map (survey_over l.program) l.schedules

@@ -1,0 +1,26 @@
+-- What the runs of one listing over many schedules came to.
+use Rattle.std.specs.Prelude.{ℕ, List, [], ◌∷◌, map, Result, Ok, Err}
+use Rattle.snap_semantics.specs.declared.refusal.Refusal.{Refusal}
+use Rattle.snap_semantics.specs.Answers.{◌>>=◌}
+use Rattle.snap_semantics.specs.Schedule.{Schedule}
+use Rattle.snap_semantics.specs.Source.{Source}
+use Rattle.snap_runs.specs.Run.{run_over}
+use Rattle.snap_perform.specs.Perform.{schedule_for}
+use Rattle.snap_survey.specs.Survey.{survey_of}
+use Rattle.snap_survey.specs.SurveyText.{surveys_text}
+use Rattle.snap_survey.specs.declared.findings.Survey.{Survey}
+
+-- the schedules that texts are, for this listing, or the first reason why one is none
+abbrev pub schedules_for : Source → List (List ℕ) → Result (List Schedule) Refusal
+schedules_for l [] = Ok []
+schedules_for l (text ∷ texts) = schedule_for l text >>= λ s. schedules_for l texts >>= λ ss. Ok (s ∷ ss)
+
+-- what the run of a listing over a schedule came to
+abbrev pub survey_over : Source → Schedule → Survey
+survey_over l s = survey_of (run_over l s)
+
+-- schedules: what the run over each came to, and what all of them did
+unfoldable pub survey_text : Source → List (List ℕ) → Result (List ℕ) Refusal
+survey_text l texts = do
+  ss ← schedules_for l texts
+  Ok (surveys_text (map (survey_over l) ss))

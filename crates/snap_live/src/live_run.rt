@@ -1,14 +1,14 @@
 //! Workers in threads, each with one seat.
-ghost use Rattle.std.specs.Prelude.{◌≡◌, ℕ, ◌+◌, ◌-◌, ◌*◌, ◌^◌, ◌<◌, ◌≤◌, [], ◌∷◌, length, vec_len, vec_items, All, map, slice_index_or, IfOk, IfErr, Some, None};
+ghost use Rattle.std.specs.Prelude.{◌≡◌, ℕ, ◌+◌, ◌-◌, ◌*◌, ◌^◌, ◌<◌, ◌≤◌, [], ◌∷◌, length, vec_len, vec_items, vec_capacity, All, map, slice_index_or, IfOk, IfErr, Some, None};
 ghost use Rattle.snap_words.specs.Shape.{IsOneOf};
 ghost use Rattle.snap_live_desk.specs.declared.seat_state.Setting.{Setting};
 ghost use Rattle.snap_live.specs.Script.{script_at};
 ghost use Rattle.snap_live_desk.specs.Shown.{seat_of, seats_of};
-ghost use Rattle.snap_live.specs.Worker.{IsWorked, WorkedView};
+ghost use Rattle.snap_live.specs.Worker.{HasRoom, IsWorked, WorkedView};
 ghost use Rattle.snap_live.specs.LiveRun.{AllWorked, IsLive, MayFault, first_stop, then_first, fault_of};
 
 use crate::gate::Gate;
-use crate::worker::{Stop, Worked, work};
+use crate::worker::{Stop, Worked, Worker, work};
 use snap_asm_program::Program;
 use snap_live_desk::{Desk, LiveFault, LiveRefusal, Seat, Turn, close, open};
 use snap_record::{MAX_ITEMS, Record};
@@ -72,28 +72,29 @@ struct WorkerPromise<K: Kind, G> {
 }
 
 impl<K: Kind, G: Gate> Promise<Worked<K>> for WorkerPromise<K, G> {
-    ghost kept_by = { λ p r. IsWorked (G.may_refuse p.gate.value) p.seat.value.desk p.seat.value.process p.script.value p.limit r };
+    ghost kept_by = { λ p r. IsWorked (G.may_answer p.gate.value)
+        p.seat.value.desk p.seat.value.process p.script.value p.limit r };
 }
 
-/// Starts the worker of a seat, in a thread of its own.
+/// Starts a worker, in a thread of its own.
 fn start<'s, E, K: Kind, G: Gate, R: Threads + Wait + Sync>(
     scope: &Scope<'s, E>,
     rt: &'s R,
-    alloc: Global,
     desk: &'s Desk<K>,
-    seat: Seat<K>,
+    worker: Worker<K>,
     script: &'s Script,
     limit: u64,
     gate: &'s G,
 ) -> Result<PromisedHandle<Worked<K>, WorkerPromise<K, G>>, AllocError>
-    requires { (seat ≡ seat_of desk.now seat.process) × (limit ≤ 1000000) }
-    ensures seat { IfOk result (λ h. h.promise.seat.value ≡ seat) }
+    requires seat { worker.seat ≡ seat_of desk.now worker.seat.process }
+    requires room { HasRoom limit worker.turns × (limit ≤ 1000000) }
+    ensures seat { IfOk result (λ h. h.promise.seat.value ≡ worker.seat) }
     ensures script { IfOk result (λ h. h.promise.script.value ≡ script.now) }
     ensures gate { IfOk result (λ h. h.promise.gate.value ≡ gate.now) }
     ensures limit { IfOk result (λ h. h.promise.limit ≡ limit) }
 {
     let promise = WorkerPromise {
-        seat: Snapshot::of(&seat),
+        seat: Snapshot::of(&worker.seat),
         script: Snapshot::of(script),
         gate: Snapshot::of(gate),
         limit,
@@ -101,9 +102,11 @@ fn start<'s, E, K: Kind, G: Gate, R: Threads + Wait + Sync>(
     let child = scope.spawn_with(
         promise,
         move || -> Worked<K>
-            requires { (seat ≡ seat_of desk.now seat.process) × (limit ≤ 1000000) }
-            ensures { IsWorked (G.may_refuse gate.entry.now) desk.entry.now seat.process script.entry.now limit result }
-        { work(rt, alloc, desk, seat, script, limit, gate) },
+            requires seat { worker.seat ≡ seat_of desk.now worker.seat.process }
+            requires room { HasRoom limit worker.turns × (limit ≤ 1000000) }
+            ensures { IsWorked (G.may_answer gate.entry.now)
+                desk.entry.now worker.seat.process script.entry.now limit result }
+        { work(rt, desk, worker, script, limit, gate) },
     )?;
     Ok(child)
 }
@@ -116,67 +119,129 @@ fn script_of(scripts: &Scripts, process: u32) -> &Script
     &scripts.scripts()[(process - 1) as usize]
 }
 
+/// A worker for each seat. Each has room to tell of all turns that it may make, so that a turn takes
+/// no memory but the desk's.
+fn new_workers<K: Kind>(
+    alloc: Global,
+    seats: Vec<Seat<K>>,
+    limit: u64,
+) -> Result<Vec<Worker<K>>, AllocError>
+    ensures seats { IfOk result (λ ws. map (λ w. w.seat) ws.items ≡ seats.items) }
+    ensures room { IfOk result (λ ws. All (λ w. HasRoom limit w.turns) ws.items) }
+{
+    let mut workers = Vec::with_capacity(alloc, seats.len())?;
+    for seat in seats {
+        let turns = Vec::with_capacity(alloc, limit as usize)?;
+        workers.push(Worker { seat, turns })?;
+    }
+    Ok(workers)
+}
+
 /// Starts all workers.
 fn start_all<'s, E, K: Kind, G: Gate, R: Threads + Wait + Sync>(
     scope: &Scope<'s, E>,
     rt: &'s R,
     alloc: Global,
     desk: &'s Desk<K>,
-    seats: Vec<Seat<K>>,
+    workers: Vec<Worker<K>>,
     scripts: &'s Scripts,
     limit: u64,
     gate: &'s G,
 ) -> Result<Vec<PromisedHandle<Worked<K>, WorkerPromise<K, G>>>, AllocError>
-    requires { All (λ s. (s ≡ seat_of desk.now s.process) × IsOneOf (length scripts.now.scripts) s.process) seats.items × (limit ≤ 1000000) }
-    ensures seats { IfOk result (λ hs. map (λ h. h.promise.seat.value) hs.items ≡ seats.items) }
-    ensures scripts { IfOk result (λ hs. map (λ h. h.promise.script.value) hs.items ≡ map (λ s. script_at scripts.now.scripts (s.process - 1)) seats.items) }
+    requires seats { All (λ w. (w.seat ≡ seat_of desk.now w.seat.process)
+        × IsOneOf (length scripts.now.scripts) w.seat.process) workers.items }
+    requires room { All (λ w. HasRoom limit w.turns) workers.items × (limit ≤ 1000000) }
+    ensures seats { IfOk result (λ hs.
+        map (λ h. h.promise.seat.value) hs.items ≡ map (λ w. w.seat) workers.items) }
+    ensures scripts { IfOk result (λ hs. map (λ h. h.promise.script.value) hs.items
+        ≡ map (λ w. script_at scripts.now.scripts (w.seat.process - 1)) workers.items) }
     ensures gate { IfOk result (λ hs. All (λ h. h.promise.gate.value ≡ gate.now) hs.items) }
     ensures limit { IfOk result (λ hs. All (λ h. h.promise.limit ≡ limit) hs.items) }
 {
     let mut handles = Vec::new(alloc);
-    for seat in seats {
-        let script = script_of(scripts, seat.process());
-        handles.push(start(scope, rt, alloc, desk, seat, script, limit, gate)?)?;
+    for worker in workers {
+        let script = script_of(scripts, worker.seat.process());
+        handles.push(start(scope, rt, desk, worker, script, limit, gate)?)?;
     }
     Ok(handles)
 }
 
-/// All workers at once, each in a thread of its own. All are joined before an answer.
+/// All workers at once, each in a thread of its own. All are joined before an answer, and there is
+/// room for what they hand back.
 fn run_all<K: Kind, G: Gate, R: Threads + Wait + Sync>(
     rt: &R,
     alloc: Global,
     desk: &Desk<K>,
-    seats: Vec<Seat<K>>,
+    workers: Vec<Worker<K>>,
+    worked: Vec<Worked<K>>,
     scripts: &Scripts,
     limit: u64,
     gate: &G,
 ) -> Result<Vec<Worked<K>>, AllocError>
-    requires { (seats.items ≡ seats_of desk.now (length scripts.now.scripts)) × (limit ≤ 1000000) }
-    ensures { IfOk result (λ ws. AllWorked (G.may_refuse gate.now) desk.now scripts.now.scripts limit ws.items) }
+    requires seats { map (λ w. w.seat) workers.items ≡ seats_of desk.now (length scripts.now.scripts) }
+    requires room { All (λ w. HasRoom limit w.turns) workers.items × (limit ≤ 1000000) }
+    requires worked { HasRoom (length scripts.now.scripts) worked }
+    ensures { IfOk result (λ ws.
+        AllWorked (G.may_answer gate.now) desk.now scripts.now.scripts limit ws.items) }
 {
     thread::scope(
         thread::scope_env(),
         rt,
         move |scope| -> Result<Vec<Worked<K>>, AllocError>
-            requires { (seats.items ≡ seats_of desk.now (length scripts.now.scripts)) × (limit ≤ 1000000) }
-            ensures { IfOk result (λ ws. AllWorked (G.may_refuse gate.entry.now) desk.entry.now scripts.entry.now.scripts limit ws.items) }
+            requires seats { map (λ w. w.seat) workers.items
+                ≡ seats_of desk.now (length scripts.now.scripts) }
+            requires room { All (λ w. HasRoom limit w.turns) workers.items × (limit ≤ 1000000) }
+            requires worked { HasRoom (length scripts.now.scripts) worked }
+            ensures { IfOk result (λ ws. AllWorked (G.may_answer gate.entry.now)
+                desk.entry.now scripts.entry.now.scripts limit ws.items) }
         {
-            let handles = start_all(scope, rt, alloc, desk, seats, scripts, limit, gate)?;
-            let workers = joined(rt, handles)?;
-            Ok(workers)
+            let handles = start_all(scope, rt, alloc, desk, workers, scripts, limit, gate)?;
+            let all = joined(rt, handles, worked);
+            Ok(all)
         },
     )
 }
 
-/// Joins all workers. Each kept its promise.
+/// Joins all workers, for which there is room. Each kept its promise.
 fn joined<K: Kind, G: Gate, R: Threads>(
     rt: &R,
     handles: Vec<PromisedHandle<Worked<K>, WorkerPromise<K, G>>>,
-) -> Result<Vec<Worked<K>>, AllocError>
-    ensures len { IfOk result (λ ws. length ws.items ≡ length handles.items) }
-    ensures each { IfOk result (λ ws. (k : ℕ) (w : WorkedView) → k < length handles.items → (h : _) × (h ≡ slice_index_or handles.items k h) × IsWorked (G.may_refuse h.promise.gate.value) h.promise.seat.value.desk h.promise.seat.value.process h.promise.script.value h.promise.limit (slice_index_or ws.items k w)) }
+    mut worked: Vec<Worked<K>>,
+) -> Vec<Worked<K>>
+    requires { HasRoom (vec_len handles) worked }
+    ensures len { length result.items ≡ length handles.items }
+    ensures each { (k : ℕ) (w : WorkedView) → k < length handles.items → (h : _)
+        × (h ≡ slice_index_or handles.items k h)
+        × IsWorked (G.may_answer h.promise.gate.value)
+        h.promise.seat.value.desk h.promise.seat.value.process
+        h.promise.script.value h.promise.limit (slice_index_or result.items k w) }
 {
-    Ok(thread::join_promised(rt, handles)?)
+    for handle in handles {
+        worked.push_reserved(handle.join(rt));
+    }
+    worked
+}
+
+/// Room for what all workers hand back: once they have begun, nothing is asked for but the threads
+/// and what the desk takes.
+#[derive(Drop)]
+struct Room<K: Kind> {
+    worked: Vec<Worked<K>>,
+    seats: Vec<Seat<K>>,
+    turns: Vec<Turns>,
+}
+
+/// Room for so many workers.
+fn room_for<K: Kind>(alloc: Global, count: usize) -> Result<Room<K>, AllocError>
+    ensures worked { IfOk result (λ r. HasRoom count r.worked) }
+    ensures seats { IfOk result (λ r. HasRoom count r.seats) }
+    ensures turns { IfOk result (λ r. HasRoom count r.turns) }
+{
+    Ok(Room {
+        worked: Vec::with_capacity(alloc, count)?,
+        seats: Vec::with_capacity(alloc, count)?,
+        turns: Vec::with_capacity(alloc, count)?,
+    })
 }
 
 /// The seats and the turns in the order of processes, and which is the least process that stopped before its end, and why.
@@ -187,29 +252,29 @@ struct WorkerResults<K: Kind> {
     stop: Option<(u32, Stop)>,
 }
 
-/// What the workers hand back, put together.
+/// What the workers hand back, put together. There is room for it.
 fn results_of<K: Kind>(
-    alloc: Global,
-    workers: Vec<Worked<K>>,
-) -> Result<WorkerResults<K>, AllocError>
-    ensures seats { IfOk result (λ s. s.seats.items ≡ map (λ w. w.seat) workers.items) }
-    ensures turns { IfOk result (λ s. s.turns.items ≡ map (λ w. w.turns) workers.items) }
-    ensures stop { IfOk result (λ s. s.stop ≡ first_stop workers.items) }
+    worked: Vec<Worked<K>>,
+    mut seats: Vec<Seat<K>>,
+    mut turns: Vec<Turns>,
+) -> WorkerResults<K>
+    requires { HasRoom (vec_len worked) seats × HasRoom (vec_len worked) turns }
+    ensures seats { result.seats.items ≡ map (λ w. w.seat) worked.items }
+    ensures turns { result.turns.items ≡ map (λ w. w.turns) worked.items }
+    ensures stop { result.stop ≡ first_stop worked.items }
 {
-    let mut seats = Vec::new(alloc);
-    let mut turns = Vec::new(alloc);
     let mut first = None;
-    for worked in workers {
-        let (seat, made, stop) = parts_of(worked);
+    for one in worked {
+        let (seat, made, stop) = parts_of(one);
         first = then_first(first, seat.process(), stop);
-        seats.push(seat)?;
-        turns.push(made)?;
+        seats.push_reserved(seat);
+        turns.push_reserved(made);
     }
-    Ok(WorkerResults {
+    WorkerResults {
         seats,
         turns,
         stop: first,
-    })
+    }
 }
 
 /// What a worker hands back, one by one.
@@ -246,13 +311,20 @@ pub fn run_live<K: Kind, G: Gate, R: Threads + Wait + Sync>(
     requires kind { program.now.kind ≡ K.TAG }
     requires limit { (1 ≤ limit) × (limit ≤ 1000000) }
     ensures ok { let base : Setting = record { source = program.now; shape = scripts.now.shape } in
-        IfOk result (λ l. IsLive base scripts.now.scripts limit l.kept l.turns.items) }
+        IfOk result (λ l. IsLive (G.may_answer gate.now)
+        base scripts.now.scripts limit l.kept l.turns.items) }
     ensures err { let base : Setting = record { source = program.now; shape = scripts.now.shape } in
-        IfErr result (λ f. MayFault (G.may_refuse gate.now) base scripts.now.scripts limit f) }
+        IfErr result (λ f. MayFault (G.may_answer gate.now) base scripts.now.scripts limit f) }
 {
     let (desk, seats) = open::<K>(alloc, program, scripts.shape())?;
-    let workers = run_all(rt, alloc, &desk, seats, scripts, limit, gate)?;
-    let WorkerResults { seats, turns, stop } = results_of(alloc, workers)?;
+    let workers = new_workers(alloc, seats, limit)?;
+    let Room {
+        worked,
+        seats,
+        turns,
+    } = room_for::<K>(alloc, scripts.scripts().len())?;
+    let all = run_all(rt, alloc, &desk, workers, worked, scripts, limit, gate)?;
+    let WorkerResults { seats, turns, stop } = results_of(all, seats, turns);
     let Ok(kept) = close(desk, seats) else {
         unreachable!()
     };

@@ -1,18 +1,17 @@
 //! How a worker plays its script at a desk.
-ghost use Rattle.std.specs.Prelude.{◌≡◌, ◌+◌, ◌^◌, ◌<◌, ◌≤◌, [], true, length, drop, IfOk, IfErr};
+ghost use Rattle.std.specs.Prelude.{◌≡◌, ◌+◌, ◌^◌, ◌<◌, ◌≤◌, [], true, length, drop, vec_capacity, IfOk, IfErr};
 ghost use Rattle.snap_semantics.specs.Table.{who};
 ghost use Rattle.snap_live_desk.specs.Shown.{seat_of};
 ghost use Rattle.snap_live.specs.Script.{crashes_behind};
 ghost use Rattle.snap_live.specs.Play.{Leaves, rest, busy, over, IsPlay, IsBegun};
 ghost use Rattle.snap_live.specs.Sequels.{sequel_of};
-ghost use Rattle.snap_live.specs.Worker.{Kept, Made, NoFurther, Stopped, after_operation, IsWorked};
+ghost use Rattle.snap_live.specs.Worker.{HasRoom, Kept, Made, NoFurther, Stopped, after_operation, IsWorked};
 
 use crate::gate::Gate;
 use snap_live_desk::{Desk, Seat, Turn};
 use snap_sched::Script;
 use snap_semantics::{Fault, Item, Outcome};
 use snap_words::Kind;
-use std::alloc::Global;
 use std::marker::Model;
 use std::sync::Wait;
 
@@ -22,6 +21,13 @@ pub(crate) enum Stop {
     Memory,
     Full,
     TurnLimit,
+}
+
+/// A worker before its first turn: its seat, and room to tell of all turns that it may make.
+#[derive(Drop)]
+pub(crate) struct Worker<K: Kind> {
+    pub(crate) seat: Seat<K>,
+    pub(crate) turns: Vec<Turn>,
 }
 
 /// What a worker hands back.
@@ -85,20 +91,22 @@ fn play_turn<K: Kind, G: Gate, R: Wait>(
     limit: u64,
     gate: &G,
 ) -> Result<Sequel, Stop>
-    requires kept { Kept desk.now seat.old.process limit seat.old turns.old.items }
+    requires kept { Kept (G.may_answer gate.now)
+        desk.now seat.old.process limit seat.old turns.old.items }
+    requires capacity { limit ≤ vec_capacity turns.old }
     requires mine { who item ≡ seat.old.process }
     requires room { (seat.old.asked ≡ length seat.old.own) × (seat.old.asked < limit) × (limit ≤ 1000000) }
-    ensures kept { Kept desk.now seat.old.process limit seat.new turns.new.items }
+    ensures kept { Kept (G.may_answer gate.now)
+        desk.now seat.old.process limit seat.new turns.new.items }
+    ensures capacity { limit ≤ vec_capacity turns.new }
     ensures made { IfOk result (λ m. Made seat.old seat.new item m) }
-    ensures stopped { IfErr result (λ f. (seat.new.own ≡ seat.old.own) × NoFurther (G.may_refuse gate.now) limit seat.new f) }
+    ensures stopped { IfErr result (λ f. (seat.new.own ≡ seat.old.own)
+        × NoFurther (G.may_answer gate.now) limit seat.new f) }
 {
     let process = seat.process();
     let turn = seat.asked() + 1;
     if !gate.enter(process, turn) {
         return Err(Stop::TurnLimit);
-    }
-    if turns.reserve(1).is_err() {
-        return Err(Stop::Memory);
     }
     match seat.turn(rt, desk, item) {
         Ok(turn) => {
@@ -121,12 +129,16 @@ fn play_crash<K: Kind, G: Gate, R: Wait>(
     limit: u64,
     gate: &G,
 ) -> Result<(), Stop>
-    requires kept { Kept desk.now seat.old.process limit seat.old turns.old.items }
+    requires kept { Kept (G.may_answer gate.now)
+        desk.now seat.old.process limit seat.old turns.old.items }
+    requires capacity { limit ≤ vec_capacity turns.old }
     requires plays { IsBegun script.now seat.old.own × (crashes_behind script.now.crash seat.old.asked ≡ true) }
     requires room { (seat.old.asked ≡ length seat.old.own) × (seat.old.asked < limit) × (limit ≤ 1000000) }
-    ensures kept { Kept desk.now seat.old.process limit seat.new turns.new.items }
+    ensures kept { Kept (G.may_answer gate.now)
+        desk.now seat.old.process limit seat.new turns.new.items }
+    ensures capacity { limit ≤ vec_capacity turns.new }
     ensures played { IfOk result (λ _. (seat.new.asked ≡ length seat.new.own) × Leaves script.now seat.new.own over) }
-    ensures stopped { IfErr result (λ f. Stopped (G.may_refuse gate.now) script.now limit seat.new f) }
+    ensures stopped { IfErr result (λ f. Stopped (G.may_answer gate.now) script.now limit seat.new f) }
 {
     let crash = Item::Crash(seat.process());
     play_turn(rt, desk, seat, turns, crash, limit, gate)?;
@@ -144,12 +156,16 @@ fn play_steps<K: Kind, G: Gate, R: Wait>(
     limit: u64,
     gate: &G,
 ) -> Result<bool, Stop>
-    requires kept { Kept desk.now seat.old.process limit seat.old turns.old.items }
+    requires kept { Kept (G.may_answer gate.now)
+        desk.now seat.old.process limit seat.old turns.old.items }
+    requires capacity { limit ≤ vec_capacity turns.old }
     requires plays { Leaves script.now seat.old.own (busy (drop (at + 1) script.now.operations)) }
     requires room { (seat.old.asked ≡ length seat.old.own) × (limit ≤ 1000000) }
-    ensures kept { Kept desk.now seat.old.process limit seat.new turns.new.items }
+    ensures kept { Kept (G.may_answer gate.now)
+        desk.now seat.old.process limit seat.new turns.new.items }
+    ensures capacity { limit ≤ vec_capacity turns.new }
     ensures played { IfOk result (λ t. (seat.new.asked ≡ length seat.new.own) × Leaves script.now seat.new.own (after_operation t (drop (at + 1) script.now.operations))) }
-    ensures stopped { IfErr result (λ f. Stopped (G.may_refuse gate.now) script.now limit seat.new f) }
+    ensures stopped { IfErr result (λ f. Stopped (G.may_answer gate.now) script.now limit seat.new f) }
 {
     let step = Item::Step(seat.process());
     for _turn in seat.asked()..limit {
@@ -178,12 +194,16 @@ fn play_operation<K: Kind, G: Gate, R: Wait>(
     limit: u64,
     gate: &G,
 ) -> Result<bool, Stop>
-    requires kept { Kept desk.now seat.old.process limit seat.old turns.old.items }
+    requires kept { Kept (G.may_answer gate.now)
+        desk.now seat.old.process limit seat.old turns.old.items }
+    requires capacity { limit ≤ vec_capacity turns.old }
     requires plays { (at < length script.now.operations) × Leaves script.now seat.old.own (rest (drop at script.now.operations)) }
     requires room { (seat.old.asked ≡ length seat.old.own) × (limit ≤ 1000000) }
-    ensures kept { Kept desk.now seat.old.process limit seat.new turns.new.items }
+    ensures kept { Kept (G.may_answer gate.now)
+        desk.now seat.old.process limit seat.new turns.new.items }
+    ensures capacity { limit ≤ vec_capacity turns.new }
     ensures played { IfOk result (λ t. (seat.new.asked ≡ length seat.new.own) × Leaves script.now seat.new.own (after_operation t (drop (at + 1) script.now.operations))) }
-    ensures stopped { IfErr result (λ f. Stopped (G.may_refuse gate.now) script.now limit seat.new f) }
+    ensures stopped { IfErr result (λ f. Stopped (G.may_answer gate.now) script.now limit seat.new f) }
 {
     if seat.asked() >= limit {
         return Err(Stop::TurnLimit);
@@ -209,11 +229,15 @@ fn play<K: Kind, G: Gate, R: Wait>(
     limit: u64,
     gate: &G,
 ) -> Result<(), Stop>
-    requires kept { Kept desk.now seat.old.process limit seat.old turns.old.items }
+    requires kept { Kept (G.may_answer gate.now)
+        desk.now seat.old.process limit seat.old turns.old.items }
+    requires capacity { limit ≤ vec_capacity turns.old }
     requires fresh { (seat.old.own ≡ []) × (seat.old.asked ≡ 0) × (limit ≤ 1000000) }
-    ensures kept { Kept desk.now seat.old.process limit seat.new turns.new.items }
+    ensures kept { Kept (G.may_answer gate.now)
+        desk.now seat.old.process limit seat.new turns.new.items }
+    ensures capacity { limit ≤ vec_capacity turns.new }
     ensures played { IfOk result (λ _. IsPlay script.now seat.new.own) }
-    ensures stopped { IfErr result (λ f. Stopped (G.may_refuse gate.now) script.now limit seat.new f) }
+    ensures stopped { IfErr result (λ f. Stopped (G.may_answer gate.now) script.now limit seat.new f) }
 {
     for at in 0..script.operations().len() {
         if play_operation(rt, desk, seat, turns, script, at, limit, gate)? {
@@ -226,17 +250,20 @@ fn play<K: Kind, G: Gate, R: Wait>(
 /// The worker of one seat.
 pub(crate) fn work<K: Kind, G: Gate, R: Wait>(
     rt: &R,
-    alloc: Global,
     desk: &Desk<K>,
-    mut seat: Seat<K>,
+    worker: Worker<K>,
     script: &Script,
     limit: u64,
     gate: &G,
 ) -> Worked<K>
-    requires { (seat ≡ seat_of desk.now seat.process) × (limit ≤ 1000000) }
-    ensures { IsWorked (G.may_refuse gate.now) desk.now seat.process script.now limit result }
+    requires seat { worker.seat ≡ seat_of desk.now worker.seat.process }
+    requires room { HasRoom limit worker.turns × (limit ≤ 1000000) }
+    ensures { IsWorked (G.may_answer gate.now) desk.now worker.seat.process script.now limit result }
 {
-    let mut turns = Vec::new(alloc);
+    let Worker {
+        mut seat,
+        mut turns,
+    } = worker;
     let stop = play(rt, desk, &mut seat, &mut turns, script, limit, gate).err();
     Worked { seat, turns, stop }
 }

@@ -178,7 +178,8 @@ fn run_all<K: Kind, G: Gate, R: Threads + Wait + Sync>(
     limit: u64,
     gate: &G,
 ) -> Result<Vec<Worked<K>>, AllocError>
-    requires seats { map (λ w. w.seat) workers.items ≡ seats_of desk.now (length scripts.now.scripts) }
+    requires seats { map (λ w. w.seat) workers.items
+        ≡ seats_of desk.now (length scripts.now.scripts) }
     requires room { All (λ w. HasRoom limit w.turns) workers.items × (limit ≤ 1000000) }
     requires worked { HasRoom (length scripts.now.scripts) worked }
     ensures { IfOk result (λ ws.
@@ -244,7 +245,8 @@ fn room_for<K: Kind>(alloc: Global, count: usize) -> Result<Room<K>, AllocError>
     })
 }
 
-/// The seats and the turns in the order of processes, and which is the least process that stopped before its end, and why.
+/// The seats and the turns in the order of processes, and which is the least process that stopped
+/// before its end, and why.
 #[derive(Drop)]
 struct WorkerResults<K: Kind> {
     seats: Vec<Seat<K>>,
@@ -298,8 +300,9 @@ fn then_first(found: Option<(u32, Stop)>, process: u32, stop: Option<Stop>) -> O
     }
 }
 
-/// Plays all scripts at once at a new desk, a worker in a thread for each process, and each with at most so many turns, for each of
-/// which it asks the gate. All workers have ended before there is an answer.
+/// Plays all scripts at once at a new desk, a worker in a thread for each process, and each with at
+/// most so many turns, for each of which it asks the gate. All workers have ended before there is
+/// an answer.
 pub fn run_live<K: Kind, G: Gate, R: Threads + Wait + Sync>(
     rt: &R,
     alloc: Global,

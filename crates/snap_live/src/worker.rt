@@ -95,7 +95,8 @@ fn play_turn<K: Kind, G: Gate, R: Wait>(
         desk.now seat.old.process limit seat.old turns.old.items }
     requires capacity { limit ≤ vec_capacity turns.old }
     requires mine { who item ≡ seat.old.process }
-    requires room { (seat.old.asked ≡ length seat.old.own) × (seat.old.asked < limit) × (limit ≤ 1000000) }
+    requires room { (seat.old.asked ≡ length seat.old.own) × (seat.old.asked < limit) ×
+        (limit ≤ 1000000) }
     ensures kept { Kept (G.may_answer gate.now)
         desk.now seat.old.process limit seat.new turns.new.items }
     ensures capacity { limit ≤ vec_capacity turns.new }
@@ -132,13 +133,17 @@ fn play_crash<K: Kind, G: Gate, R: Wait>(
     requires kept { Kept (G.may_answer gate.now)
         desk.now seat.old.process limit seat.old turns.old.items }
     requires capacity { limit ≤ vec_capacity turns.old }
-    requires plays { IsBegun script.now seat.old.own × (crashes_behind script.now.crash seat.old.asked ≡ true) }
-    requires room { (seat.old.asked ≡ length seat.old.own) × (seat.old.asked < limit) × (limit ≤ 1000000) }
+    requires plays { IsBegun script.now seat.old.own ×
+        (crashes_behind script.now.crash seat.old.asked ≡ true) }
+    requires room { (seat.old.asked ≡ length seat.old.own) × (seat.old.asked < limit) ×
+        (limit ≤ 1000000) }
     ensures kept { Kept (G.may_answer gate.now)
         desk.now seat.old.process limit seat.new turns.new.items }
     ensures capacity { limit ≤ vec_capacity turns.new }
-    ensures played { IfOk result (λ _. (seat.new.asked ≡ length seat.new.own) × Leaves script.now seat.new.own over) }
-    ensures stopped { IfErr result (λ f. Stopped (G.may_answer gate.now) script.now limit seat.new f) }
+    ensures played { IfOk result (λ _. (seat.new.asked ≡ length seat.new.own) ×
+        Leaves script.now seat.new.own over) }
+    ensures stopped { IfErr result (λ f.
+        Stopped (G.may_answer gate.now) script.now limit seat.new f) }
 {
     let crash = Item::Crash(seat.process());
     play_turn(rt, desk, seat, turns, crash, limit, gate)?;
@@ -164,8 +169,10 @@ fn play_steps<K: Kind, G: Gate, R: Wait>(
     ensures kept { Kept (G.may_answer gate.now)
         desk.now seat.old.process limit seat.new turns.new.items }
     ensures capacity { limit ≤ vec_capacity turns.new }
-    ensures played { IfOk result (λ t. (seat.new.asked ≡ length seat.new.own) × Leaves script.now seat.new.own (after_operation t (drop (at + 1) script.now.operations))) }
-    ensures stopped { IfErr result (λ f. Stopped (G.may_answer gate.now) script.now limit seat.new f) }
+    ensures played { IfOk result (λ t. (seat.new.asked ≡ length seat.new.own) ×
+        Leaves script.now seat.new.own (after_operation t (drop (at + 1) script.now.operations))) }
+    ensures stopped { IfErr result (λ f.
+        Stopped (G.may_answer gate.now) script.now limit seat.new f) }
 {
     let step = Item::Step(seat.process());
     for _turn in seat.asked()..limit {
@@ -197,13 +204,16 @@ fn play_operation<K: Kind, G: Gate, R: Wait>(
     requires kept { Kept (G.may_answer gate.now)
         desk.now seat.old.process limit seat.old turns.old.items }
     requires capacity { limit ≤ vec_capacity turns.old }
-    requires plays { (at < length script.now.operations) × Leaves script.now seat.old.own (rest (drop at script.now.operations)) }
+    requires plays { (at < length script.now.operations) ×
+        Leaves script.now seat.old.own (rest (drop at script.now.operations)) }
     requires room { (seat.old.asked ≡ length seat.old.own) × (limit ≤ 1000000) }
     ensures kept { Kept (G.may_answer gate.now)
         desk.now seat.old.process limit seat.new turns.new.items }
     ensures capacity { limit ≤ vec_capacity turns.new }
-    ensures played { IfOk result (λ t. (seat.new.asked ≡ length seat.new.own) × Leaves script.now seat.new.own (after_operation t (drop (at + 1) script.now.operations))) }
-    ensures stopped { IfErr result (λ f. Stopped (G.may_answer gate.now) script.now limit seat.new f) }
+    ensures played { IfOk result (λ t. (seat.new.asked ≡ length seat.new.own) ×
+        Leaves script.now seat.new.own (after_operation t (drop (at + 1) script.now.operations))) }
+    ensures stopped { IfErr result (λ f.
+        Stopped (G.may_answer gate.now) script.now limit seat.new f) }
 {
     if seat.asked() >= limit {
         return Err(Stop::TurnLimit);
@@ -237,7 +247,8 @@ fn play<K: Kind, G: Gate, R: Wait>(
         desk.now seat.old.process limit seat.new turns.new.items }
     ensures capacity { limit ≤ vec_capacity turns.new }
     ensures played { IfOk result (λ _. IsPlay script.now seat.new.own) }
-    ensures stopped { IfErr result (λ f. Stopped (G.may_answer gate.now) script.now limit seat.new f) }
+    ensures stopped { IfErr result (λ f.
+        Stopped (G.may_answer gate.now) script.now limit seat.new f) }
 {
     for at in 0..script.operations().len() {
         if play_operation(rt, desk, seat, turns, script, at, limit, gate)? {

@@ -12,7 +12,7 @@ use Rattle.snap_live.proofs.live_run.run_live.Goals as goal
 pub close-requires-after_bounds : goal.close-requires-after_bounds
 close-requires-after_bounds g c κs within =
     let d : DeskView = c.in_ok-desk.desk in
-    subst (λ (ss : List SeatView). All (λ (s : SeatView). s.desk ≡ d) ss) (sym c.in_ok-seats.ensures.seats)
+    subst (λ (ss : List SeatView). All (λ (s : SeatView). s.desk ≡ d) ss) (sym c.results_of-seats.ensures.seats)
     (at_desk (g.G.Gate.may_answer c.args.gate.now) d c.args.scripts.now.scripts c.args.limit c.in_ok-all.all.items c.in_ok-all.ensures)
 
 pub unreachable-requires : goal.unreachable-requires

@@ -1,10 +1,9 @@
-use Rattle.std.proofs.Common.{◌-◌, ◌∙◌, sym, map}
+use Rattle.std.proofs.Common.{◌≡◌, ◌-◌, ◌∙◌, List, ap, arith, length, map, rules, sym, vec_len}
 use Rattle.snap_live_desk.specs.Shown.{SeatView, seat_of}
 use Rattle.snap_live.specs.Script.{script_at}
 use Rattle.snap_words.specs.Shape.{IsOneOf}
-use Rattle.std.proofs.Common.{◌≡◌, length}
-use Rattle.snap_live.proofs.Handles.{all_map, map_map}
-use Rattle.snap_live.proofs.Workers.{new_seats, workers_of}
+use Rattle.snap_live.proofs.Handles.{all_map, map_length, map_map}
+use Rattle.snap_live.proofs.Workers.{new_seats, seats_length, workers_of}
 use Rattle.snap_live.proofs.live_run.fn.run_all.scope.Goals as goal
 
 pub start_all-requires-clause-seats : goal.start_all-requires-clause-seats
@@ -12,6 +11,16 @@ start_all-requires-clause-seats g c κs within =
     let a = c.captures in
     all_map (λ w. w.seat) (λ (s : SeatView). (s ≡ seat_of a.desk.now s.process) × IsOneOf (length a.scripts.now.scripts) s.process) a.workers.items
     (new_seats a.desk.now (length a.scripts.now.scripts) (map (λ w. w.seat) a.workers.items) c.requires.seats)
+
+pub joined-all-requires-after_bounds : goal.joined-all-requires-after_bounds
+joined-all-requires-after_bounds g c κs within =
+    let a = c.captures in let w = c.in_ok-handles in
+    let same : vec_len w.handles ≡ length w.handles.items = search rules in
+    let many : length w.handles.items ≡ length a.scripts.now.scripts =
+    sym (map_length (λ h. h.promise.seat.value) w.handles.items) ∙ ap (λ (l : List SeatView). length l) (w.ensures.seats ∙ c.requires.seats)
+    ∙ seats_length a.desk.now (length a.scripts.now.scripts) in
+    let room = c.requires.worked.1 in
+    (c.requires.worked.0, omega arith)
 
 pub returns : goal.returns
 returns g c =

@@ -1,8 +1,6 @@
 -- Plays that go one turn further.
-use Rattle.std.proofs.Common.{◌≡◌, ℕ, zero, suc, ◌+◌, ◌<◌, ◌≤◌, List, [], ◌∷◌, ◌++◌, length, map, drop, refl, sym, ap, ◌∙◌, subst, arith, get_or, add-one, drop-cons, length-append, Bool, true, false, Option}
+use Rattle.std.proofs.Common.{◌≡◌, ℕ, zero, suc, ◌+◌, ◌<◌, List, [], ◌∷◌, ◌++◌, length, drop, refl, sym, ap, ◌∙◌, subst, arith, get_or, add-one, drop-cons, length-append, Bool, true, false, Option}
 use Rattle.std.specs.Prelude.{MatchBool}
-use mathlib.Core.Logic.{dite}
-use native.Mathlib.Decide.{ℕ_discrete}
 use Rattle.snap_semantics.specs.declared.process.Item.{Item}
 use Rattle.snap_semantics.specs.declared.process.Item.TheVariants.{Step, Call, Crash}
 use Rattle.snap_semantics.specs.declared.process.Op.{Op}
@@ -12,14 +10,12 @@ use Rattle.snap_live_desk.specs.declared.seat_state.OwnTurn.{OwnTurn}
 use Rattle.snap_live_desk.specs.declared.seat.Turn.{Turn}
 use Rattle.snap_live.specs.declared.worker.Sequel.{Sequel}
 use Rattle.snap_live.specs.declared.worker.Sequel.TheVariants as sequel
-use Rattle.snap_live_desk.specs.Turns.{own_turn, turns_of}
-use Rattle.snap_live.specs.declared.worker.Stop.{Stop}
+use Rattle.snap_live_desk.specs.Turns.{own_turn}
 use Rattle.snap_live.specs.Sequels.{sequel_of}
 use Rattle.snap_sched.specs.ScriptText.{Script}
 use Rattle.snap_live.specs.Script.{crashes_behind}
-use Rattle.snap_live_desk.specs.Shown.{DeskView, SeatView, IsTurn}
-use Rattle.snap_live.specs.Worker.{shown, IsLetOn, Made, Kept, NoFurther, Stopped}
-use Rattle.snap_live.proofs.Handles.{map_length, map_push}
+use Rattle.snap_live_desk.specs.Shown.{DeskView, SeatView}
+use Rattle.snap_live.specs.Worker.{Made, Kept}
 use Rattle.snap_live.specs.Play.{IsDue, IsCrash, IsBegun, Due, rest, busy, over, Does, Moves, Plays, Leaves, after_call, after_step}
 
 plays-push : (crash : Option ℕ) (k : ℕ) (d e f : Due) (ts : List OwnTurn) (t : OwnTurn)
@@ -115,49 +111,6 @@ crash_on script b a i m d asked comes begun = (
 
 pub kept_of : (may : ℕ → ℕ → Bool → Type 0) (desk : DeskView) (p q limit : ℕ) (s : SeatView) (ts : List Turn) → p ≡ q → Kept may desk p limit s ts → Kept may desk q limit s ts
 kept_of may desk p q limit s ts e k = subst (λ (x : ℕ). Kept may desk x limit s ts) e k
-
--- one turn more that the gate let on
-let_on_more : (may : ℕ → ℕ → Bool → Type 0) (process made more : ℕ) → IsLetOn may process made → more ≡ made + 1 → may process more true → IsLetOn may process more
-let_on_more may process made more old e new turn one = dite (ℕ_discrete turn more)
-    (λ same. subst (λ (t : ℕ). may process t true) (sym same) new)
-    (λ ne. old turn (one.0, (let le = one.1 in omega arith)))
-
-own_more : (b a : SeatView) (t : OwnTurn) → a.own ≡ b.own ++ t ∷ [] → length a.own ≡ length b.own + 1
-own_more b a t e = ap (λ (l : List OwnTurn). length l) e ∙ length-append b.own (t ∷ [])
-
--- a turn that was made and told is kept
-pub kept_more : (may : ℕ → ℕ → Bool → Type 0) (desk : DeskView) (p limit : ℕ) (b a : SeatView) (ts us : List Turn) (item : Item) (n : ℕ) (o : Outcome)
-    → Kept may desk p limit b ts → a.desk ≡ b.desk → a.process ≡ b.process → length b.own < limit → may p (length b.own + 1) true
-    → IsTurn b a item n o → us ≡ ts ++ shown (own_turn n item o) ∷ [] → Kept may desk p limit a us
-kept_more may desk p limit b a ts us item n o k same_desk same_process few let_on t told =
-    let more : length a.own ≡ length b.own + 1 = own_more b a (own_turn n item o) t.own in record {
-      at_desk = same_desk ∙ k.at_desk;
-      of_process = same_process ∙ k.of_process;
-      few = omega arith;
-      let_on = let_on_more may p (length b.own) (length a.own) k.let_on more (subst (λ (m : ℕ). may p m true) (sym more) let_on);
-      found = t.turns ∙ (λ i. turns_of (k.at_desk i).base (k.of_process i) a.seen);
-      told = told ∙ (λ i. k.told i ++ shown (own_turn n item o) ∷ []) ∙ sym (map_push shown b.own (own_turn n item o)) ∙ ap (map shown) (sym t.own);
-    }
-
--- and a turn that was refused leaves what is kept
-pub kept_same : (may : ℕ → ℕ → Bool → Type 0) (desk : DeskView) (p limit : ℕ) (b a : SeatView) (ts : List Turn)
-    → Kept may desk p limit b ts → a.desk ≡ b.desk → a.process ≡ b.process → a.own ≡ b.own → a.own ≡ turns_of b.desk.base b.process a.seen → Kept may desk p limit a ts
-kept_same may desk p limit b a ts k same_desk same_process same found = record {
-  at_desk = same_desk ∙ k.at_desk;
-  of_process = same_process ∙ k.of_process;
-  few = subst (λ (l : List OwnTurn). length l ≤ limit) (sym same) k.few;
-  let_on = subst (λ (l : List OwnTurn). IsLetOn may p (length l)) (sym same) k.let_on;
-  found = found ∙ (λ i. turns_of (k.at_desk i).base (k.of_process i) a.seen);
-  told = k.told ∙ ap (map shown) (sym same);
-}
-
--- so many turns were told as were made
-pub told_length : (may : ℕ → ℕ → Bool → Type 0) (desk : DeskView) (p limit : ℕ) (s : SeatView) (ts : List Turn) → Kept may desk p limit s ts → length ts ≡ length s.own
-told_length may desk p limit s ts k = ap (λ (l : List Turn). length l) k.told ∙ map_length shown s.own
-
--- where a worker makes no further turn though one is due, it has stopped
-pub stopped_of : (may : ℕ → ℕ → Bool → Type 0) (script : Script) (limit : ℕ) (b a : SeatView) (f : Stop) → IsBegun script b.own → (a.own ≡ b.own) × NoFurther may limit a f → Stopped may script limit a f
-stopped_of may script limit b a f begun h = record { begun = subst (λ (l : List OwnTurn). IsBegun script l) (sym h.0) begun; why = h.1 }
 
 -- where an operation is left, it is due
 left_is_due : (ops : List Op) (at : ℕ) → at < length ops → IsDue (rest (drop at ops))

@@ -47,6 +47,7 @@ pub record Kept (may : ℕ → ℕ → Bool → Type 0) (desk : DeskView) (proce
   pub at_desk : seat.desk ≡ desk
   pub of_process : seat.process ≡ process
   pub few : length seat.own ≤ limit
+  pub short : length seat.seen ≤ 1000000
   pub let_on : IsLetOn may process (length seat.own)
   pub found : seat.own ≡ turns_of desk.base process seat.seen
   pub told : turns ≡ map shown seat.own

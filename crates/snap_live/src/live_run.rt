@@ -8,7 +8,7 @@ ghost use Rattle.snap_live.specs.Worker.{HasRoom, IsWorked, WorkedView};
 ghost use Rattle.snap_live.specs.LiveRun.{AllWorked, IsLive, MayFault, first_stop, then_first, fault_of};
 
 use crate::gate::Gate;
-use crate::worker::{Stop, Worked, Worker, work};
+use crate::worker::{Stop, Worked, work};
 use snap_asm_program::Program;
 use snap_live_desk::{Desk, LiveFault, LiveRefusal, Seat, Turn, close, open};
 use snap_record::{MAX_ITEMS, Record};
@@ -76,25 +76,25 @@ impl<K: Kind, G: Gate> Promise<Worked<K>> for WorkerPromise<K, G> {
         p.seat.value.desk p.seat.value.process p.script.value p.limit r };
 }
 
-/// Starts a worker, in a thread of its own.
+/// Starts the worker of a seat, in a thread of its own.
 fn start<'s, E, K: Kind, G: Gate, R: Threads + Wait + Sync>(
     scope: &Scope<'s, E>,
     rt: &'s R,
+    alloc: Global,
     desk: &'s Desk<K>,
-    worker: Worker<K>,
+    seat: Seat<K>,
     script: &'s Script,
     limit: u64,
     gate: &'s G,
 ) -> Result<PromisedHandle<Worked<K>, WorkerPromise<K, G>>, AllocError>
-    requires seat { worker.seat ≡ seat_of desk.now worker.seat.process }
-    requires room { HasRoom limit worker.turns × (limit ≤ 1000000) }
-    ensures seat { IfOk result (λ h. h.promise.seat.value ≡ worker.seat) }
+    requires { (seat ≡ seat_of desk.now seat.process) × (limit ≤ 1000000) }
+    ensures seat { IfOk result (λ h. h.promise.seat.value ≡ seat) }
     ensures script { IfOk result (λ h. h.promise.script.value ≡ script.now) }
     ensures gate { IfOk result (λ h. h.promise.gate.value ≡ gate.now) }
     ensures limit { IfOk result (λ h. h.promise.limit ≡ limit) }
 {
     let promise = WorkerPromise {
-        seat: Snapshot::of(&worker.seat),
+        seat: Snapshot::of(&seat),
         script: Snapshot::of(script),
         gate: Snapshot::of(gate),
         limit,
@@ -102,11 +102,10 @@ fn start<'s, E, K: Kind, G: Gate, R: Threads + Wait + Sync>(
     let child = scope.spawn_with(
         promise,
         move || -> Worked<K>
-            requires seat { worker.seat ≡ seat_of desk.now worker.seat.process }
-            requires room { HasRoom limit worker.turns × (limit ≤ 1000000) }
-            ensures { IsWorked (G.may_answer gate.entry.now)
-                desk.entry.now worker.seat.process script.entry.now limit result }
-        { work(rt, desk, worker, script, limit, gate) },
+            requires { (seat ≡ seat_of desk.now seat.process) × (limit ≤ 1000000) }
+            ensures { IsWorked (G.may_answer gate.entry.now) desk.entry.now seat.process
+                script.entry.now limit result }
+        { work(rt, alloc, desk, seat, script, limit, gate) },
     )?;
     Ok(child)
 }
@@ -119,49 +118,29 @@ fn script_of(scripts: &Scripts, process: u32) -> &Script
     &scripts.scripts()[(process - 1) as usize]
 }
 
-/// A worker for each seat. Each has room to tell of all turns that it may make, so that a turn takes
-/// no memory but the desk's.
-fn new_workers<K: Kind>(
-    alloc: Global,
-    seats: Vec<Seat<K>>,
-    limit: u64,
-) -> Result<Vec<Worker<K>>, AllocError>
-    ensures seats { IfOk result (λ ws. map (λ w. w.seat) ws.items ≡ seats.items) }
-    ensures room { IfOk result (λ ws. All (λ w. HasRoom limit w.turns) ws.items) }
-{
-    let mut workers = Vec::with_capacity(alloc, seats.len())?;
-    for seat in seats {
-        let turns = Vec::with_capacity(alloc, limit as usize)?;
-        workers.push(Worker { seat, turns })?;
-    }
-    Ok(workers)
-}
-
 /// Starts all workers.
 fn start_all<'s, E, K: Kind, G: Gate, R: Threads + Wait + Sync>(
     scope: &Scope<'s, E>,
     rt: &'s R,
     alloc: Global,
     desk: &'s Desk<K>,
-    workers: Vec<Worker<K>>,
+    seats: Vec<Seat<K>>,
     scripts: &'s Scripts,
     limit: u64,
     gate: &'s G,
 ) -> Result<Vec<PromisedHandle<Worked<K>, WorkerPromise<K, G>>>, AllocError>
-    requires seats { All (λ w. (w.seat ≡ seat_of desk.now w.seat.process)
-        × IsOneOf (length scripts.now.scripts) w.seat.process) workers.items }
-    requires room { All (λ w. HasRoom limit w.turns) workers.items × (limit ≤ 1000000) }
-    ensures seats { IfOk result (λ hs.
-        map (λ h. h.promise.seat.value) hs.items ≡ map (λ w. w.seat) workers.items) }
+    requires { All (λ s. (s ≡ seat_of desk.now s.process) ×
+        IsOneOf (length scripts.now.scripts) s.process) seats.items × (limit ≤ 1000000) }
+    ensures seats { IfOk result (λ hs. map (λ h. h.promise.seat.value) hs.items ≡ seats.items) }
     ensures scripts { IfOk result (λ hs. map (λ h. h.promise.script.value) hs.items
-        ≡ map (λ w. script_at scripts.now.scripts (w.seat.process - 1)) workers.items) }
+        ≡ map (λ s. script_at scripts.now.scripts (s.process - 1)) seats.items) }
     ensures gate { IfOk result (λ hs. All (λ h. h.promise.gate.value ≡ gate.now) hs.items) }
     ensures limit { IfOk result (λ hs. All (λ h. h.promise.limit ≡ limit) hs.items) }
 {
     let mut handles = Vec::new(alloc);
-    for worker in workers {
-        let script = script_of(scripts, worker.seat.process());
-        handles.push(start(scope, rt, desk, worker, script, limit, gate)?)?;
+    for seat in seats {
+        let script = script_of(scripts, seat.process());
+        handles.push(start(scope, rt, alloc, desk, seat, script, limit, gate)?)?;
     }
     Ok(handles)
 }
@@ -172,15 +151,14 @@ fn run_all<K: Kind, G: Gate, R: Threads + Wait + Sync>(
     rt: &R,
     alloc: Global,
     desk: &Desk<K>,
-    workers: Vec<Worker<K>>,
+    seats: Vec<Seat<K>>,
     worked: Vec<Worked<K>>,
     scripts: &Scripts,
     limit: u64,
     gate: &G,
 ) -> Result<Vec<Worked<K>>, AllocError>
-    requires seats { map (λ w. w.seat) workers.items
-        ≡ seats_of desk.now (length scripts.now.scripts) }
-    requires room { All (λ w. HasRoom limit w.turns) workers.items × (limit ≤ 1000000) }
+    requires seats { seats.items ≡ seats_of desk.now (length scripts.now.scripts) }
+    requires limit { limit ≤ 1000000 }
     requires worked { HasRoom (length scripts.now.scripts) worked }
     ensures { IfOk result (λ ws.
         AllWorked (G.may_answer gate.now) desk.now scripts.now.scripts limit ws.items) }
@@ -189,14 +167,13 @@ fn run_all<K: Kind, G: Gate, R: Threads + Wait + Sync>(
         thread::scope_env(),
         rt,
         move |scope| -> Result<Vec<Worked<K>>, AllocError>
-            requires seats { map (λ w. w.seat) workers.items
-                ≡ seats_of desk.now (length scripts.now.scripts) }
-            requires room { All (λ w. HasRoom limit w.turns) workers.items × (limit ≤ 1000000) }
+            requires seats { seats.items ≡ seats_of desk.now (length scripts.now.scripts) }
+            requires limit { limit ≤ 1000000 }
             requires worked { HasRoom (length scripts.now.scripts) worked }
             ensures { IfOk result (λ ws. AllWorked (G.may_answer gate.entry.now)
                 desk.entry.now scripts.entry.now.scripts limit ws.items) }
         {
-            let handles = start_all(scope, rt, alloc, desk, workers, scripts, limit, gate)?;
+            let handles = start_all(scope, rt, alloc, desk, seats, scripts, limit, gate)?;
             let all = joined(rt, handles, worked);
             Ok(all)
         },
@@ -320,14 +297,9 @@ pub fn run_live<K: Kind, G: Gate, R: Threads + Wait + Sync>(
         IfErr result (λ f. MayFault (G.may_answer gate.now) base scripts.now.scripts limit f) }
 {
     let (desk, seats) = open::<K>(alloc, program, scripts.shape())?;
-    let workers = new_workers(alloc, seats, limit)?;
-    let Room {
-        worked,
-        seats,
-        turns,
-    } = room_for::<K>(alloc, scripts.scripts().len())?;
-    let all = run_all(rt, alloc, &desk, workers, worked, scripts, limit, gate)?;
-    let WorkerResults { seats, turns, stop } = results_of(all, seats, turns);
+    let room = room_for::<K>(alloc, scripts.scripts().len())?;
+    let worked = run_all(rt, alloc, &desk, seats, room.worked, scripts, limit, gate)?;
+    let WorkerResults { seats, turns, stop } = results_of(worked, room.seats, room.turns);
     let Ok(kept) = close(desk, seats) else {
         unreachable!()
     };

@@ -1,17 +1,20 @@
 //! How a worker plays its script at a desk.
-ghost use Rattle.std.specs.Prelude.{◌≡◌, ◌+◌, ◌^◌, ◌<◌, ◌≤◌, [], true, length, drop, vec_capacity, IfOk, IfErr};
+ghost use Rattle.std.specs.Prelude.{◌≡◌, ◌+◌, ◌^◌, ◌<◌, ◌≤◌, [], true, length, drop, IfOk, IfErr, nat_eq, if◌then◌else◌};
 ghost use Rattle.snap_semantics.specs.Table.{who};
 ghost use Rattle.snap_live_desk.specs.Shown.{seat_of};
+ghost use Rattle.snap_live.specs.declared.worker.Stop.TheVariants.{Full, Memory};
 ghost use Rattle.snap_live.specs.Script.{crashes_behind};
 ghost use Rattle.snap_live.specs.Play.{Leaves, rest, busy, over, IsPlay, IsBegun};
 ghost use Rattle.snap_live.specs.Sequels.{sequel_of};
-ghost use Rattle.snap_live.specs.Worker.{HasRoom, Kept, Made, NoFurther, Stopped, after_operation, IsWorked};
+ghost use Rattle.snap_live.specs.Worker.{Kept, Made, NoFurther, Stopped, after_operation, IsWorked};
 
 use crate::gate::Gate;
 use snap_live_desk::{Desk, Seat, Turn};
+use snap_record::MAX_ITEMS;
 use snap_sched::Script;
 use snap_semantics::{Fault, Item, Outcome};
 use snap_words::Kind;
+use std::alloc::Global;
 use std::marker::Model;
 use std::sync::Wait;
 
@@ -21,13 +24,6 @@ pub(crate) enum Stop {
     Memory,
     Full,
     TurnLimit,
-}
-
-/// A worker before its first turn: its seat, and room to tell of all turns that it may make.
-#[derive(Drop)]
-pub(crate) struct Worker<K: Kind> {
-    pub(crate) seat: Seat<K>,
-    pub(crate) turns: Vec<Turn>,
 }
 
 /// What a worker hands back.
@@ -81,6 +77,17 @@ fn crashes_now<K: Kind>(script: &Script, seat: &Seat<K>) -> bool
     }
 }
 
+/// Why a worker stops that has no room to tell of its next turn: a full history comes first.
+fn no_room<K: Kind>(seat: &Seat<K>) -> Stop
+    ensures { result ≡ (if nat_eq (length seat.now.seen) 1000000 then Full else Memory) }
+{
+    if seat.seen_len() == MAX_ITEMS as u64 {
+        Stop::Full
+    } else {
+        Stop::Memory
+    }
+}
+
 /// A turn, if the gate lets the process on.
 fn play_turn<K: Kind, G: Gate, R: Wait>(
     rt: &R,
@@ -93,13 +100,11 @@ fn play_turn<K: Kind, G: Gate, R: Wait>(
 ) -> Result<Sequel, Stop>
     requires kept { Kept (G.may_answer gate.now)
         desk.now seat.old.process limit seat.old turns.old.items }
-    requires capacity { limit ≤ vec_capacity turns.old }
     requires mine { who item ≡ seat.old.process }
     requires room { (seat.old.asked ≡ length seat.old.own) × (seat.old.asked < limit) ×
         (limit ≤ 1000000) }
     ensures kept { Kept (G.may_answer gate.now)
         desk.now seat.old.process limit seat.new turns.new.items }
-    ensures capacity { limit ≤ vec_capacity turns.new }
     ensures made { IfOk result (λ m. Made seat.old seat.new item m) }
     ensures stopped { IfErr result (λ f. (seat.new.own ≡ seat.old.own)
         × NoFurther (G.may_answer gate.now) limit seat.new f) }
@@ -108,6 +113,9 @@ fn play_turn<K: Kind, G: Gate, R: Wait>(
     let turn = seat.asked() + 1;
     if !gate.enter(process, turn) {
         return Err(Stop::TurnLimit);
+    }
+    if turns.reserve(1).is_err() {
+        return Err(no_room(seat));
     }
     match seat.turn(rt, desk, item) {
         Ok(turn) => {
@@ -132,14 +140,12 @@ fn play_crash<K: Kind, G: Gate, R: Wait>(
 ) -> Result<(), Stop>
     requires kept { Kept (G.may_answer gate.now)
         desk.now seat.old.process limit seat.old turns.old.items }
-    requires capacity { limit ≤ vec_capacity turns.old }
     requires plays { IsBegun script.now seat.old.own ×
         (crashes_behind script.now.crash seat.old.asked ≡ true) }
     requires room { (seat.old.asked ≡ length seat.old.own) × (seat.old.asked < limit) ×
         (limit ≤ 1000000) }
     ensures kept { Kept (G.may_answer gate.now)
         desk.now seat.old.process limit seat.new turns.new.items }
-    ensures capacity { limit ≤ vec_capacity turns.new }
     ensures played { IfOk result (λ _. (seat.new.asked ≡ length seat.new.own) ×
         Leaves script.now seat.new.own over) }
     ensures stopped { IfErr result (λ f.
@@ -163,12 +169,10 @@ fn play_steps<K: Kind, G: Gate, R: Wait>(
 ) -> Result<bool, Stop>
     requires kept { Kept (G.may_answer gate.now)
         desk.now seat.old.process limit seat.old turns.old.items }
-    requires capacity { limit ≤ vec_capacity turns.old }
     requires plays { Leaves script.now seat.old.own (busy (drop (at + 1) script.now.operations)) }
     requires room { (seat.old.asked ≡ length seat.old.own) × (limit ≤ 1000000) }
     ensures kept { Kept (G.may_answer gate.now)
         desk.now seat.old.process limit seat.new turns.new.items }
-    ensures capacity { limit ≤ vec_capacity turns.new }
     ensures played { IfOk result (λ t. (seat.new.asked ≡ length seat.new.own) ×
         Leaves script.now seat.new.own (after_operation t (drop (at + 1) script.now.operations))) }
     ensures stopped { IfErr result (λ f.
@@ -203,13 +207,11 @@ fn play_operation<K: Kind, G: Gate, R: Wait>(
 ) -> Result<bool, Stop>
     requires kept { Kept (G.may_answer gate.now)
         desk.now seat.old.process limit seat.old turns.old.items }
-    requires capacity { limit ≤ vec_capacity turns.old }
     requires plays { (at < length script.now.operations) ×
         Leaves script.now seat.old.own (rest (drop at script.now.operations)) }
     requires room { (seat.old.asked ≡ length seat.old.own) × (limit ≤ 1000000) }
     ensures kept { Kept (G.may_answer gate.now)
         desk.now seat.old.process limit seat.new turns.new.items }
-    ensures capacity { limit ≤ vec_capacity turns.new }
     ensures played { IfOk result (λ t. (seat.new.asked ≡ length seat.new.own) ×
         Leaves script.now seat.new.own (after_operation t (drop (at + 1) script.now.operations))) }
     ensures stopped { IfErr result (λ f.
@@ -241,11 +243,9 @@ fn play<K: Kind, G: Gate, R: Wait>(
 ) -> Result<(), Stop>
     requires kept { Kept (G.may_answer gate.now)
         desk.now seat.old.process limit seat.old turns.old.items }
-    requires capacity { limit ≤ vec_capacity turns.old }
     requires fresh { (seat.old.own ≡ []) × (seat.old.asked ≡ 0) × (limit ≤ 1000000) }
     ensures kept { Kept (G.may_answer gate.now)
         desk.now seat.old.process limit seat.new turns.new.items }
-    ensures capacity { limit ≤ vec_capacity turns.new }
     ensures played { IfOk result (λ _. IsPlay script.now seat.new.own) }
     ensures stopped { IfErr result (λ f.
         Stopped (G.may_answer gate.now) script.now limit seat.new f) }
@@ -261,20 +261,17 @@ fn play<K: Kind, G: Gate, R: Wait>(
 /// The worker of one seat.
 pub(crate) fn work<K: Kind, G: Gate, R: Wait>(
     rt: &R,
+    alloc: Global,
     desk: &Desk<K>,
-    worker: Worker<K>,
+    mut seat: Seat<K>,
     script: &Script,
     limit: u64,
     gate: &G,
 ) -> Worked<K>
-    requires seat { worker.seat ≡ seat_of desk.now worker.seat.process }
-    requires room { HasRoom limit worker.turns × (limit ≤ 1000000) }
-    ensures { IsWorked (G.may_answer gate.now) desk.now worker.seat.process script.now limit result }
+    requires { (seat ≡ seat_of desk.now seat.process) × (limit ≤ 1000000) }
+    ensures { IsWorked (G.may_answer gate.now) desk.now seat.process script.now limit result }
 {
-    let Worker {
-        mut seat,
-        mut turns,
-    } = worker;
+    let mut turns = Vec::new(alloc);
     let stop = play(rt, desk, &mut seat, &mut turns, script, limit, gate).err();
     Worked { seat, turns, stop }
 }

@@ -31,5 +31,5 @@ returns-clause-each g c = λ k w below.
     let whole : length c.loop-handle.worked.items ≡ vec_len c.args.handles = omega (arith, i.count, c.in-None.ensures.steps.0, began.1) in
     subst
     (λ hs. (h : _) × (h ≡ get_or hs k h)
-        × IsWorked (g.G.Gate.may_answer h.promise.gate.value) h.promise.seat.value.desk h.promise.seat.value.process h.promise.script.value h.promise.limit (get_or c.loop-handle.worked.items k w))
+    × IsWorked (g.G.Gate.may_answer h.promise.gate.value) h.promise.seat.value.desk h.promise.seat.value.process h.promise.script.value h.promise.limit (get_or c.loop-handle.worked.items k w))
     began.0 (i.kept k w (omega arith))

@@ -1,5 +1,4 @@
-use Rattle.std.proofs.Common.{◌≡◌, ◌≤◌, length, drop}
-use Rattle.std.specs.Prelude.{vec_capacity}
+use Rattle.std.proofs.Common.{◌≡◌, length, drop}
 use Rattle.snap_live.specs.Play.{Leaves, rest}
 use Rattle.snap_live.specs.Worker.{Kept}
 use Rattle.snap_live.proofs.worker.play.Given as goal
@@ -7,7 +6,6 @@ use Rattle.snap_live.proofs.worker.play.Given as goal
 abbrev pub invariant-loop-at : goal.invariant-loop-at
 invariant-loop-at g l = record {
   kept : Kept (g.G.Gate.may_answer l.gate) l.desk l.initial.seat.process l.limit l.seat l.turns.items;
-  capacity : l.limit ≤ vec_capacity l.turns;
   plays : Leaves l.script l.seat.own (rest (drop l.at l.script.operations));
   asked : l.seat.asked ≡ length l.seat.own;
 }

@@ -28,7 +28,6 @@ loop-turn-preserved g c =
       | in-Skipped w ↦ steps_on _ _ _ _ _ _ _ m w.in-Skipped.is i.asked quiet i.plays
     ] in record {
       kept = kept_of _ _ _ _ _ _ _ i.kept.of_process c.play_turn.ensures.kept;
-      capacity = c.play_turn.ensures.capacity;
       plays = on.1;
       asked = on.0;
       turn = ap (λ k. k + 1) i.turn ∙ sym m.asked;

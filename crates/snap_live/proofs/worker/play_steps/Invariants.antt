@@ -1,5 +1,4 @@
-use Rattle.std.proofs.Common.{◌≡◌, ◌+◌, ◌≤◌, length, drop}
-use Rattle.std.specs.Prelude.{vec_capacity}
+use Rattle.std.proofs.Common.{◌≡◌, ◌+◌, length, drop}
 use Rattle.snap_semantics.specs.declared.process.Item.TheVariants.{Step}
 use Rattle.snap_live.specs.Play.{Leaves, busy}
 use Rattle.snap_live.specs.Worker.{Kept}
@@ -8,7 +7,6 @@ use Rattle.snap_live.proofs.worker.play_steps.Given as goal
 abbrev pub invariant-loop-turn : goal.invariant-loop-turn
 invariant-loop-turn g l = record {
   kept : Kept (g.G.Gate.may_answer l.gate) l.desk l.initial.seat.process l.limit l.seat l.turns.items;
-  capacity : l.limit ≤ vec_capacity l.turns;
   plays : Leaves l.script l.seat.own (busy (drop (l.at + 1) l.script.operations));
   asked : l.seat.asked ≡ length l.seat.own;
   turn : l._turn ≡ l.seat.asked;

@@ -1,8 +1,7 @@
 //! How a worker plays its script at a desk.
-ghost use Rattle.std.specs.Prelude.{◌≡◌, ◌+◌, ◌^◌, ◌<◌, ◌≤◌, [], true, length, drop, IfOk, IfErr, nat_eq, if◌then◌else◌};
+ghost use Rattle.std.specs.Prelude.{◌≡◌, ◌+◌, ◌^◌, ◌<◌, ◌≤◌, [], true, length, drop, IfOk, IfErr};
 ghost use Rattle.snap_semantics.specs.Table.{who};
 ghost use Rattle.snap_live_desk.specs.Shown.{seat_of};
-ghost use Rattle.snap_live.specs.declared.worker.Stop.TheVariants.{Full, Memory};
 ghost use Rattle.snap_live.specs.Script.{crashes_behind};
 ghost use Rattle.snap_live.specs.Play.{Leaves, rest, busy, over, IsPlay, IsBegun};
 ghost use Rattle.snap_live.specs.Sequels.{sequel_of};
@@ -77,17 +76,6 @@ fn crashes_now<K: Kind>(script: &Script, seat: &Seat<K>) -> bool
     }
 }
 
-/// Why a worker stops that has no room to tell of its next turn: a full history comes first.
-fn no_room<K: Kind>(seat: &Seat<K>) -> Stop
-    ensures { result ≡ (if nat_eq (length seat.now.seen) 1000000 then Full else Memory) }
-{
-    if seat.seen_len() == MAX_ITEMS as u64 {
-        Stop::Full
-    } else {
-        Stop::Memory
-    }
-}
-
 /// A turn, if the gate lets the process on.
 fn play_turn<K: Kind, G: Gate, R: Wait>(
     rt: &R,
@@ -115,7 +103,11 @@ fn play_turn<K: Kind, G: Gate, R: Wait>(
         return Err(Stop::TurnLimit);
     }
     if turns.reserve(1).is_err() {
-        return Err(no_room(seat));
+        // A full history comes before a lack of memory.
+        if seat.seen_len() == MAX_ITEMS as u64 {
+            return Err(Stop::Full);
+        }
+        return Err(Stop::Memory);
     }
     match seat.turn(rt, desk, item) {
         Ok(turn) => {

@@ -109,8 +109,8 @@ crash_on script b a i m d asked comes begun = (
       (begun.2, tt, refl),
 )
 
-pub kept_of : (desk : DeskView) (p q limit : ℕ) (s : SeatView) (ts : List Turn) → p ≡ q → Kept desk p limit s ts → Kept desk q limit s ts
-kept_of desk p q limit s ts e k = subst (λ (x : ℕ). Kept desk x limit s ts) e k
+pub kept_of : (may : ℕ → ℕ → Bool → Type 0) (desk : DeskView) (p q limit : ℕ) (s : SeatView) (ts : List Turn) → p ≡ q → Kept may desk p limit s ts → Kept may desk q limit s ts
+kept_of may desk p q limit s ts e k = subst (λ (x : ℕ). Kept may desk x limit s ts) e k
 
 -- where an operation is left, it is due
 left_is_due : (ops : List Op) (at : ℕ) → at < length ops → IsDue (rest (drop at ops))

@@ -15,31 +15,22 @@ use Rattle.snap_semantics.specs.declared.fault.Fault.TheVariants as fault
 use Rattle.snap_live_desk.specs.declared.refusal.LiveRefusal.{LiveRefusal}
 use Rattle.snap_live_desk.specs.declared.refusal.LiveRefusal.TheVariants as refusal
 use Rattle.snap_semantics.specs.State.{State, initial}
-use Rattle.snap_runs.specs.Run.{Run}
+use Rattle.snap_runs.specs.Run.{Run, IsValidRun}
 use Rattle.snap_words.specs.Shape.{IsOneOf}
 use Rattle.snap_semantics.specs.Table.{who, done}
-use Rattle.snap_live_desk.specs.Turns.{setting_of, own_turn, put_if, turns_of, turns_from}
+use Rattle.snap_live_desk.specs.Turns.{run_of, setting_of, own_turn, put_if, turns_of, turns_from}
 use Rattle.snap_live.specs.Play.{IsPlay, IsBegun}
 use Rattle.snap_sched.specs.ScriptText.{Script}
 use Rattle.snap_live.specs.Script.{script_at}
 use Rattle.snap_live_desk.specs.Shown.{DeskView, SeatView, Keeps, seat_of, seats_of}
 use Rattle.snap_live_desk.specs.Closed.{HasSeat, IsLeastMissing, NamesMissing}
-use Rattle.snap_live.specs.Worker.{shown, MayRefuse, Stopped, Ended, WorkedView, IsWorked}
-use Rattle.snap_live.specs.LiveRun.{turns_at, Played, IsLive, MayFault, or_first, first_stop, then_first, fault_of, AllWorked}
+use Rattle.snap_live.specs.Worker.{shown, IsLetOn, MayGoOn, MayNotGoOn, Stopped, Ended, WorkedView, IsWorked}
+use Rattle.snap_live.specs.LiveRun.{turns_at, Played, IsLive, IsPart, GivesUp, MayFault, or_first, first_stop, then_first, fault_of, AllWorked}
 use Rattle.snap_live_desk.proofs.Joins.{prefix_length}
 use Rattle.snap_live_desk.proofs.Gathered.{has_at}
-use Rattle.snap_live.proofs.Handles.{map_at, map_length, any_default}
+use Rattle.snap_live.proofs.Handles.{at_last, at_left, map_at, map_length, any_default}
 
 -- new seats
-
-at_left : {A : Type 0} (xs : List A) (x : A) (k : ℕ) (d : A) → k < length xs → get_or (xs ++ x ∷ []) k d ≡ get_or xs k d
-at_left [] x k d lt = absurd (omega arith)
-at_left (y ∷ ys) x zero d lt = refl
-at_left (y ∷ ys) x (suc k) d lt = at_left ys x k d (omega arith)
-
-at_last : {A : Type 0} (xs : List A) (x : A) (d : A) → get_or (xs ++ x ∷ []) (length xs) d ≡ x
-at_last [] x d = refl
-at_last (y ∷ ys) x d = at_last ys x d
 
 pub seats_length : (d : DeskView) (n : ℕ) → length (seats_of d n) ≡ n
 seats_length d zero = refl
@@ -64,7 +55,7 @@ new_seats d n ss e k s lt =
     subst (λ (v : SeatView). (v ≡ seat_of d v.process) × IsOneOf n v.process) (sym at) (refl, (omega arith, omega arith))
 
 -- what the handles promise of all workers, as their handles' parts say it
-pub workers_of : {H M : Type 0} (seat_in : H → SeatView) (script_in : H → Script) (gate_in : H → M) (limit_in : H → ℕ) (may : M → ℕ → ℕ → Type 0)
+pub workers_of : {H M : Type 0} (seat_in : H → SeatView) (script_in : H → Script) (gate_in : H → M) (limit_in : H → ℕ) (may : M → ℕ → ℕ → Bool → Type 0)
     (desk : DeskView) (scripts : List Script) (limit : ℕ) (gate : M) (ss : List SeatView) (hs : List H) (ws : List WorkedView)
     → ss ≡ seats_of desk (length scripts) → map seat_in hs ≡ ss → map script_in hs ≡ map (λ (s : SeatView). script_at scripts (s.process - 1)) ss
     → All (λ (h : H). gate_in h ≡ gate) hs → All (λ (h : H). limit_in h ≡ limit) hs
@@ -117,20 +108,42 @@ no_stop [] k d e lt = absurd (omega arith)
 no_stop (w ∷ ws) zero d e lt = (none_first w.seat.process w.stop (first_stop ws) e).0
 no_stop (w ∷ ws) (suc k) d e lt = no_stop ws k d (none_first w.seat.process w.stop (first_stop ws) e).1 (omega arith)
 
--- whose stop it is
-abbrev Stopping : List WorkedView → ℕ × Stop → Type 0
-Stopping ws pf = (k : ℕ) × (k < length ws) × ((d : WorkedView) → ((get_or ws k d).seat.process ≡ pf.0) × ((get_or ws k d).stop ≡ Some pf.1))
+-- whose stop it is, and that no worker before it stopped
+record Stopping (ws : List WorkedView) (pf : ℕ × Stop) : Type 0 where
+  at : ℕ
+  there : at < length ws
+  process : (d : WorkedView) → (get_or ws at d).seat.process ≡ pf.0
+  stop : (d : WorkedView) → (get_or ws at d).stop ≡ Some pf.1
+  before : (j : ℕ) (d : WorkedView) → j < at → (get_or ws j d).stop ≡ None
 
-some_first : (p : ℕ) (o : Option Stop) (l : Option (ℕ × Stop)) (pf : ℕ × Stop) → or_first p o l ≡ Some pf → ((p ≡ pf.0) × (o ≡ Some pf.1)) ⊎ (l ≡ Some pf)
-some_first p None l pf e = inr e
+some_first : (p : ℕ) (o : Option Stop) (l : Option (ℕ × Stop)) (pf : ℕ × Stop) → or_first p o l ≡ Some pf → ((p ≡ pf.0) × (o ≡ Some pf.1)) ⊎ ((o ≡ None) × (l ≡ Some pf))
+some_first p None l pf e = inr (refl, e)
 some_first p (Some f) l pf e = let s : (p, f) ≡ pf = cc in inl (ap (λ (x : ℕ × Stop). x.0) s, ap (λ (x : ℕ × Stop). Some x.1) s)
+
+none_before : (w : WorkedView) (ws : List WorkedView) (k : ℕ) → w.stop ≡ None → ((j : ℕ) (d : WorkedView) → j < k → (get_or ws j d).stop ≡ None)
+    → (j : ℕ) (d : WorkedView) → j < suc k → (get_or (w ∷ ws) j d).stop ≡ None
+none_before w ws k here more zero d lt = here
+none_before w ws k here more (suc j) d lt = more j d (omega arith)
 
 a_stop : (ws : List WorkedView) (pf : ℕ × Stop) → first_stop ws ≡ Some pf → Stopping ws pf
 a_stop [] pf e = absurd (cc)
 a_stop (w ∷ ws) pf e =
     ⊎_elim
-    (λ (h : (w.seat.process ≡ pf.0) × (w.stop ≡ Some pf.1)). (0, omega arith, λ d. h))
-    (λ (m : first_stop ws ≡ Some pf). let r = a_stop ws pf m in (suc r.0, (let lt = r.1 in omega arith), r.2))
+    (λ (h : (w.seat.process ≡ pf.0) × (w.stop ≡ Some pf.1)). record {
+      at = 0;
+      there = omega arith;
+      process = λ d. h.0;
+      stop = λ d. h.1;
+      before = λ j d lt. absurd (omega arith);
+    })
+    (λ (m : (w.stop ≡ None) × (first_stop ws ≡ Some pf)).
+    let r = a_stop ws pf m.1 in record {
+      at = suc r.at;
+      there = (let lt = r.there in omega arith);
+      process = r.process;
+      stop = r.stop;
+      before = none_before w ws r.at m.0 r.before;
+    })
     (some_first w.seat.process w.stop (first_stop ws) pf e)
 
 -- how often a process has an item
@@ -216,6 +229,11 @@ few_items base limit q xs all each one few =
     let a = all_counted base S base.shape.n xs all in
     let b = counted_fewer base S base.shape.n limit q xs each one few in omega arith
 
+-- a worker's turns are a whole play of its script, or a begun one
+whole_or_begun : (may : ℕ → ℕ → Bool → Type 0) (script : Script) (limit : ℕ) (seat : SeatView) (o : Option Stop) → Ended may script limit seat o → IsPlay script seat.own ⊎ IsBegun script seat.own
+whole_or_begun may script limit seat None e = inl e
+whole_or_begun may script limit seat (Some stop) e = inr e.begun
+
 -- the seats that the workers hand back
 
 abbrev idle : SeatView → WorkedView
@@ -227,7 +245,7 @@ seat_in w = w.seat
 abbrev turns_told : WorkedView → List Turn
 turns_told w = w.turns
 
-module _ (may : ℕ → ℕ → Type 0) (desk : DeskView) (scripts : List Script) (limit : ℕ) (ws : List WorkedView) (workers_joined : AllWorked may desk scripts limit ws) where
+module _ (may : ℕ → ℕ → Bool → Type 0) (desk : DeskView) (scripts : List Script) (limit : ℕ) (ws : List WorkedView) (workers_joined : AllWorked may desk scripts limit ws) where
   seat_at : (k : ℕ) (d : SeatView) → get_or (map seat_in ws) k d ≡ (get_or ws k (idle d)).seat
   seat_at k d = map_at seat_in ws k (idle d)
 
@@ -270,72 +288,117 @@ module _ (may : ℕ → ℕ → Type 0) (desk : DeskView) (scripts : List Script
         let few = (workers_joined.worked k (idle d) lt).kept.few in
         subst (λ (q : ℕ). length (turns_of desk.base q items) ≤ limit) same (omega arith)
 
-    pub plays_all : first_stop ws ≡ None → (k : ℕ) → k < length scripts → Played desk.base items (k + 1) (script_at scripts k) limit (turns_at (map turns_told ws) k)
+    -- the turns of a worker that came to the end of its script
+    whole_at : (k : ℕ) (d : SeatView) → k < length scripts → (get_or ws k (idle d)).stop ≡ None → IsPlay (script_at scripts k) (turns_of desk.base (k + 1) items)
+    whole_at k d lt none =
+        let w = get_or ws k (idle d) in
+        let r = workers_joined.worked k (idle d) lt in
+        let ended : Ended may (script_at scripts k) limit w.seat None = subst (λ (o : Option Stop). Ended may (script_at scripts k) limit w.seat o) none r.ended in
+        subst (λ (l : List OwnTurn). IsPlay (script_at scripts k) l) (sym (own_is k d lt)) ended
+
+    let_on_at : (k : ℕ) → k < length scripts → IsLetOn may (k + 1) (length (turns_of desk.base (k + 1) items))
+    let_on_at k lt =
+        let d : SeatView = seat_of desk 0 in
+        subst (λ (l : List OwnTurn). IsLetOn may (k + 1) (length l)) (sym (own_is k d lt)) (workers_joined.worked k (idle d) lt).kept.let_on
+
+    few_at : (k : ℕ) → k < length scripts → length (turns_of desk.base (k + 1) items) ≤ limit
+    few_at k lt =
+        let d : SeatView = seat_of desk 0 in
+        subst (λ (l : List OwnTurn). length l ≤ limit) (sym (own_is k d lt)) (workers_joined.worked k (idle d) lt).kept.few
+
+    pub plays_all : first_stop ws ≡ None → (k : ℕ) → k < length scripts → Played may desk.base items (k + 1) (script_at scripts k) limit (turns_at (map turns_told ws) k)
     plays_all none k lt =
         let d : SeatView = seat_of desk 0 in
-        let w = get_or ws k (idle d) in
         let r = workers_joined.worked k (idle d) lt in
-        let e = own_is k d lt in
-        let n = workers_joined.each_process in
-        let ended : Ended may (script_at scripts k) limit w.seat None = subst (λ (o : Option Stop). Ended may (script_at scripts k) limit w.seat o) (no_stop ws k (idle d) none (omega arith)) r.ended in record {
-          told = map_at turns_told ws k (idle d) ∙ r.kept.told ∙ ap (map shown) (sym e);
-          plays = subst (λ (l : List OwnTurn). IsPlay (script_at scripts k) l) (sym e) ended;
-          few = subst (λ (l : List OwnTurn). length l ≤ limit) (sym e) r.kept.few;
+        let n = workers_joined.each_process in record {
+          told = map_at turns_told ws k (idle d) ∙ r.kept.told ∙ ap (map shown) (sym (own_is k d lt));
+          plays = whole_at k d lt (no_stop ws k (idle d) none (omega arith));
+          few = few_at k lt;
+          let_on = let_on_at k lt;
         }
 
-    pub faults : (pf : ℕ × Stop) → first_stop ws ≡ Some pf → (k : ℕ) × (k < length scripts) × (pf.0 ≡ k + 1) × Stopped may (script_at scripts k) limit (get_or ws k (idle (seat_of desk 0))).seat pf.1
-    faults pf e =
+    part_at : (k : ℕ) → k < length scripts → IsPart may desk.base items (k + 1) (script_at scripts k) limit
+    part_at k lt =
         let d : SeatView = seat_of desk 0 in
-        let a = a_stop ws pf e in
-        let k = a.0 in
-        let n = workers_joined.each_process in
-        let lt : k < length scripts = (let l = a.1 in omega arith) in
-        let r = workers_joined.worked k (idle d) lt in
-        let at = a.2 (idle d) in
-        (k, lt, sym at.0 ∙ r.kept.of_process, subst (λ (o : Option Stop). Ended may (script_at scripts k) limit (get_or ws k (idle d)).seat o) at.1 r.ended)
-
-    pub limit_fault : length scripts ≡ desk.base.shape.n → (p : ℕ) → first_stop ws ≡ Some (p, TurnLimit) → MayFault may desk.base scripts limit (fault.Refused (refusal.TurnLimit p))
-    limit_fault n p e =
-        let d : SeatView = seat_of desk 0 in
-        let f = faults (p, TurnLimit) e in
-        let k = f.0 in
         let w = get_or ws k (idle d) in
-        let r = (workers_joined.worked k (idle d) f.1).kept in
-        let q : p ≡ k + 1 = f.2 in
-        let lt = f.1 in
-        let back : p - 1 ≡ k = omega arith in
-        let here : w.seat.process ≡ p = r.of_process ∙ sym q in
-        let found : w.seat.own ≡ turns_of desk.base p w.seat.seen = r.found ∙ ap (λ (x : ℕ). turns_of desk.base x w.seat.seen) (sym q) in (
-          (omega arith, omega arith),
-          ⊎_elim
-              (λ (m : MayRefuse may w.seat.process limit). inl (subst (λ (x : ℕ). MayRefuse may x limit) here m))
-              (λ (b : (length w.seat.own ≡ limit) × IsBegun (script_at scripts k) w.seat.own). inr (record {
-                items = w.seat.seen;
-                reached = ap (λ (l : List OwnTurn). length l) (sym found) ∙ b.0;
-                begun = subst (λ (x : ℕ). IsBegun (script_at scripts x) (turns_of desk.base p w.seat.seen)) (sym back) (subst (λ (l : List OwnTurn). IsBegun (script_at scripts k) l) found b.1);
-              }))
-              f.3,
-        )
+        let r = workers_joined.worked k (idle d) lt in record {
+          plays = subst (λ (l : List OwnTurn). IsPlay (script_at scripts k) l ⊎ IsBegun (script_at scripts k) l) (sym (own_is k d lt)) (whole_or_begun may (script_at scripts k) limit w.seat w.stop r.ended);
+          few = few_at k lt;
+          let_on = let_on_at k lt;
+        }
 
-    pub full_fault : length scripts ≡ desk.base.shape.n → AllByRecursion (λ (x : Item). IsOneOf desk.base.shape.n (who x)) items → (p : ℕ) → first_stop ws ≡ Some (p, Full) → MayFault may desk.base scripts limit (fault.Refused (refusal.Full 1000000))
-    full_fault n all p e =
+    -- how the worker at fault stopped
+    stopped_at : (pf : ℕ × Stop) (at : Stopping ws pf) (d : SeatView) → Stopped may (script_at scripts at.at) limit (get_or ws at.at (idle d)).seat pf.1
+    stopped_at pf at d =
+        let n = workers_joined.each_process in
+        let k = at.at in
+        let lt : k < length scripts = (let l = at.there in omega arith) in
+        subst (λ (o : Option Stop). Ended may (script_at scripts k) limit (get_or ws k (idle d)).seat o) (at.stop (idle d)) (workers_joined.worked k (idle d) lt).ended
+
+    gives_up : length scripts ≡ desk.base.shape.n → IsValidRun (run_of desk.base items) → length items ≤ 1000000 → (pf : ℕ × Stop) → Stopping ws pf → GivesUp may desk.base scripts limit pf.0 items
+    gives_up n fits short pf at =
         let d : SeatView = seat_of desk 0 in
-        let f = faults (p, Full) e in
-        let k = f.0 in
-        let lt = f.1 in
+        let k = at.at in
+        let many = workers_joined.each_process in
+        let lt : k < length scripts = (let l = at.there in omega arith) in
+        let process : pf.0 ≡ k + 1 = sym (at.process (idle d)) ∙ (workers_joined.worked k (idle d) lt).kept.of_process in
+        let back : pf.0 - 1 ≡ k = omega arith in
+        let begun : IsBegun (script_at scripts k) (turns_of desk.base (k + 1) items) =
+        subst (λ (l : List OwnTurn). IsBegun (script_at scripts k) l) (sym (own_is k d lt)) (stopped_at pf at d).begun in record {
+          fits = fits;
+          short = short;
+          parts = λ j below. part_at j (omega arith);
+          one = (omega arith, omega arith);
+          begun = subst (λ (p : ℕ). IsBegun (script_at scripts (pf.0 - 1)) (turns_of desk.base p items)) (sym process) (subst (λ (j : ℕ). IsBegun (script_at scripts j) (turns_of desk.base (k + 1) items)) (sym back) begun);
+          whole = λ j below. whole_at j d (omega arith) (at.before j (idle d) (omega arith));
+        }
+
+    -- what the worker at fault knows of its turns, said of those in the record
+    of_record : (T : ℕ → ℕ → Type 0) (pf : ℕ × Stop) (at : Stopping ws pf) (d : SeatView)
+        → T (get_or ws at.at (idle d)).seat.process (length (get_or ws at.at (idle d)).seat.own) → T pf.0 (length (turns_of desk.base pf.0 items))
+    of_record T pf at d h =
+        let k = at.at in
+        let many = workers_joined.each_process in
+        let lt : k < length scripts = (let l = at.there in omega arith) in
+        let process : pf.0 ≡ k + 1 = sym (at.process (idle d)) ∙ (workers_joined.worked k (idle d) lt).kept.of_process in
+        let own : (get_or ws k (idle d)).seat.own ≡ turns_of desk.base pf.0 items = sym (own_is k d lt) ∙ ap (λ (p : ℕ). turns_of desk.base p items) (sym process) in
+        subst (λ (l : List OwnTurn). T pf.0 (length l)) own (subst (λ (p : ℕ). T p (length (get_or ws k (idle d)).seat.own)) (at.process (idle d)) h)
+
+    pub limit_fault : length scripts ≡ desk.base.shape.n → IsValidRun (run_of desk.base items) → length items ≤ 1000000
+        → (p : ℕ) → first_stop ws ≡ Some (p, TurnLimit) → MayFault may desk.base scripts limit (fault.Refused (refusal.TurnLimit p))
+    limit_fault n fits short p e =
+        let d : SeatView = seat_of desk 0 in
+        let pf : ℕ × Stop = (p, TurnLimit) in
+        let at = a_stop ws pf e in record {
+          items = items;
+          given_up = gives_up n fits short pf at;
+          no_further = of_record (λ q made. MayNotGoOn may q made limit) pf at d (stopped_at pf at d).why;
+        }
+
+    pub full_fault : length scripts ≡ desk.base.shape.n → IsValidRun (run_of desk.base items) → length items ≤ 1000000
+        → (p : ℕ) → first_stop ws ≡ Some (p, Full) → MayFault may desk.base scripts limit (fault.Refused (refusal.Full 1000000))
+    full_fault n fits short p e =
+        let d : SeatView = seat_of desk 0 in
+        let pf : ℕ × Stop = (p, Full) in
+        let at = a_stop ws pf e in
+        let k = at.at in
         let w = get_or ws k (idle d) in
         let c = seat_count in
+        let lt : k < length scripts = (let l = at.there in let m = workers_joined.each_process in omega arith) in
         let h : Keeps desk.base items w.seat = subst (λ (s : SeatView). Keeps desk.base items s) (seat_at k d) (keeps k d (omega arith)) in
         let longer : length w.seat.seen ≤ length items = prefix_length w.seat.seen items h.0 in
-        let own : length (turns_of desk.base (k + 1) items) < limit = subst (λ (l : List OwnTurn). length l < limit) (sym (own_is k d lt)) f.3.1 in
+        let why = (stopped_at pf at d).why in
+        let seen = why.0 in
+        let all : length items ≡ 1000000 = omega arith in
+        let up = gives_up n fits short pf at in
+        let goes_on : MayGoOn may p (length (turns_of desk.base p items)) limit = of_record (λ q made. MayGoOn may q made limit) pf at d why.1 in
         let every : (q : ℕ) → IsOneOf desk.base.shape.n q → length (turns_of desk.base q items) ≤ limit = λ q one. few_own q (one.0, (let le = one.1 in omega arith)) in
-        let few = few_items desk.base limit (k + 1) items all every (omega arith, omega arith) own in
-        let full = f.3.0 in
-        (refl, omega arith)
+        let few = few_items desk.base limit p items fits.all every up.one goes_on.fewer in
+        (refl, record { items = items; process = p; given_up = up; full = all; goes_on = goes_on; many = (omega arith) })
 
 -- the run, as its caller sees it
 
-module _ (may : ℕ → ℕ → Type 0) (desk : DeskView) (base : Setting) (scripts : List Script) (limit : ℕ) (ws : List WorkedView) (workers_joined : AllWorked may desk scripts limit ws)
+module _ (may : ℕ → ℕ → Bool → Type 0) (desk : DeskView) (base : Setting) (scripts : List Script) (limit : ℕ) (ws : List WorkedView) (workers_joined : AllWorked may desk scripts limit ws)
     (of_base : desk.base ≡ base) (n : length scripts ≡ base.shape.n) (ss : List SeatView) (seats : ss ≡ map seat_in ws) where
   many : length scripts ≡ desk.base.shape.n
   many = n ∙ sym (ap (λ (b : Setting). b.shape.n) of_base)
@@ -354,25 +417,24 @@ module _ (may : ℕ → ℕ → Type 0) (desk : DeskView) (base : Setting) (scri
     all_kept : All (Keeps desk.base kept.items) (map seat_in ws)
     all_kept = subst (λ (l : List SeatView). All (Keeps desk.base kept.items) l) seats keeps
 
-    pub run_ends : (turns : List (List Turn)) → turns ≡ map turns_told ws → first_stop ws ≡ None → IsLive base scripts limit kept turns
+    pub run_ends : (turns : List (List Turn)) → turns ≡ map turns_told ws → first_stop ws ≡ None → IsLive may base scripts limit kept turns
     run_ends turns told none =
-        subst (λ (b : Setting). IsLive b scripts limit kept turns) of_base (record {
+        subst (λ (b : Setting). IsLive may b scripts limit kept turns) of_base (record {
           of_base = kept_base;
           each_process = ap (λ (l : List (List Turn)). length l) told ∙ map_length turns_told ws ∙ workers_joined.each_process ∙ many;
           played = λ k lt.
-              subst (λ (l : List (List Turn)). Played desk.base kept.items (k + 1) (script_at scripts k) limit (turns_at l k)) (sym told)
+              subst (λ (l : List (List Turn)). Played may desk.base kept.items (k + 1) (script_at scripts k) limit (turns_at l k)) (sym told)
               (plays_all may desk scripts limit ws workers_joined kept.items all_kept none k (subst (λ (m : ℕ). k < m) (sym many) lt));
         })
 
-    run_limited : (p : ℕ) → first_stop ws ≡ Some (p, TurnLimit) → MayFault may base scripts limit (fault.Refused (refusal.TurnLimit p))
-    run_limited p e = subst (λ (b : Setting). MayFault may b scripts limit (fault.Refused (refusal.TurnLimit p))) of_base (limit_fault may desk scripts limit ws workers_joined kept.items all_kept many p e)
+    same_run : kept ≡ run_of desk.base kept.items
+    same_run = ap (λ (b : Setting). run_of b kept.items) kept_base
 
-    run_full : (p : ℕ) → AllByRecursion (λ (x : Item). IsOneOf kept.shape.n (who x)) kept.items → first_stop ws ≡ Some (p, Full) → MayFault may base scripts limit (fault.Refused (refusal.Full 1000000))
-    run_full p all e =
+    pub run_faults : IsValidRun kept → length kept.items ≤ 1000000 → (p : ℕ) (f : Stop) → first_stop ws ≡ Some (p, f) → MayFault may base scripts limit (fault_of p f)
+    run_faults valid short p Memory e = tt
+    run_faults valid short p Full e =
         subst (λ (b : Setting). MayFault may b scripts limit (fault.Refused (refusal.Full 1000000))) of_base
-        (full_fault may desk scripts limit ws workers_joined kept.items all_kept many (subst (λ (b : Setting). AllByRecursion (λ (x : Item). IsOneOf b.shape.n (who x)) kept.items) kept_base all) p e)
-
-    pub run_faults : AllByRecursion (λ (x : Item). IsOneOf kept.shape.n (who x)) kept.items → (p : ℕ) (f : Stop) → first_stop ws ≡ Some (p, f) → MayFault may base scripts limit (fault_of p f)
-    run_faults all p Memory e = tt
-    run_faults all p Full e = run_full p all e
-    run_faults all p TurnLimit e = run_limited p e
+        (full_fault may desk scripts limit ws workers_joined kept.items all_kept many (subst (λ (r : Run). IsValidRun r) same_run valid) short p e)
+    run_faults valid short p TurnLimit e =
+        subst (λ (b : Setting). MayFault may b scripts limit (fault.Refused (refusal.TurnLimit p))) of_base
+        (limit_fault may desk scripts limit ws workers_joined kept.items all_kept many (subst (λ (r : Run). IsValidRun r) same_run valid) short p e)

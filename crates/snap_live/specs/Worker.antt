@@ -1,5 +1,7 @@
--- What a worker keeps, and where it stops.
-use Rattle.std.specs.Prelude.{◌≡◌, ℕ, ◌+◌, ◌<◌, ◌≤◌, ◌⊎◌, List, [], ◌∷◌, ◌++◌, length, map, Bool, true, false, Option, Some, None}
+-- What a worker keeps, and where it stops. What its gate may answer to a process at a turn is `may`.
+use Rattle.std.specs.Prelude.{◌≡◌, ℕ, ◌+◌, ◌<◌, ◌≤◌, ◌⊎◌, List, [], ◌∷◌, ◌++◌, length, map, Bool, true, false, Option, Some, None, Vec, vec_capacity}
+use Rattle.std.specs.Global.{Global}
+use Rattle.snap_words.specs.Shape.{IsOneOf}
 use Rattle.snap_semantics.specs.declared.process.Item.{Item}
 use Rattle.snap_semantics.specs.declared.process.Op.{Op}
 use Rattle.snap_semantics.specs.declared.process.Outcome.{Outcome}
@@ -18,11 +20,35 @@ use Rattle.snap_live.specs.Sequels.{sequel_of}
 abbrev pub shown : OwnTurn → Turn
 shown t = record { number = t.number; outcome = t.outcome }
 
--- the seat of this process at this desk, whose turns were told, at most so many
-pub record Kept (desk : DeskView) (process limit : ℕ) (seat : SeatView) (turns : List Turn) : Type 0 where
+-- nothing is there yet, and there is room for so many
+abbrev pub HasRoom : {A : Type 0} → (count : ℕ) → Vec A Global → Type 0
+HasRoom count v = (v.items ≡ []) × (count ≤ vec_capacity v)
+
+-- the gate may let the process on to each of its first turns, so many
+abbrev pub IsLetOn : (may : ℕ → ℕ → Bool → Type 0) → (process made : ℕ) → Type 0
+IsLetOn may process made = (turn : ℕ) → IsOneOf made turn → may process turn true
+
+-- the process has made fewer turns than it may, and the gate may let it on to the next
+pub record MayGoOn (may : ℕ → ℕ → Bool → Type 0) (process made limit : ℕ) : Type 0 where
+  pub fewer : made < limit
+  pub let_on : may process (made + 1) true
+
+-- the process has made fewer turns than it may, and the gate may refuse it the next
+pub record MayBeRefused (may : ℕ → ℕ → Bool → Type 0) (process made limit : ℕ) : Type 0 where
+  pub fewer : made < limit
+  pub refused : may process (made + 1) false
+
+-- the process has made all turns that it may, or the gate may refuse it the next
+abbrev pub MayNotGoOn : (may : ℕ → ℕ → Bool → Type 0) → (process made limit : ℕ) → Type 0
+MayNotGoOn may process made limit = (made ≡ limit) ⊎ MayBeRefused may process made limit
+
+-- the seat of this process at this desk, whose turns were told, at most so many, each after the gate
+pub record Kept (may : ℕ → ℕ → Bool → Type 0) (desk : DeskView) (process limit : ℕ) (seat : SeatView) (turns : List Turn) : Type 0 where
   pub at_desk : seat.desk ≡ desk
   pub of_process : seat.process ≡ process
   pub few : length seat.own ≤ limit
+  pub short : length seat.seen ≤ 1000000
+  pub let_on : IsLetOn may process (length seat.own)
   pub found : seat.own ≡ turns_of desk.base process seat.seen
   pub told : turns ≡ map shown seat.own
 
@@ -34,24 +60,16 @@ pub record Made (before after : SeatView) (item : Item) (sequel : Sequel) : Type
   pub reads : sequel ≡ sequel_of outcome
   pub asked : after.asked ≡ before.asked + 1
 
--- the gate may answer false to the process at a turn up to the limit
-pub record MayRefuse (may : ℕ → ℕ → Type 0) (process limit : ℕ) : Type 0 where
-  pub turn : ℕ
-  pub first : 1 ≤ turn
-  pub last : turn ≤ limit
-  pub may_refuse : may process turn
+-- why the worker made no further turn; memory runs out only where its seat has not seen a full history
+abbrev pub NoFurther : (may : ℕ → ℕ → Bool → Type 0) → ℕ → SeatView → Stop → Type 0
+NoFurther may limit seat TurnLimit = MayNotGoOn may seat.process (length seat.own) limit
+NoFurther may limit seat Full = (length seat.seen ≡ 1000000) × MayGoOn may seat.process (length seat.own) limit
+NoFurther may limit seat Memory = (length seat.seen < 1000000) × MayGoOn may seat.process (length seat.own) limit
 
--- why the worker made no further turn
-abbrev pub NoFurther : (ℕ → ℕ → Type 0) → ℕ → SeatView → Stop → Type 0
-NoFurther may limit seat TurnLimit = MayRefuse may seat.process limit
-NoFurther may limit seat Full = (length seat.seen ≡ 1000000) × (length seat.own < limit)
-NoFurther may limit seat Memory = Unit {0}
-
--- why the worker stopped before the end of its script
-abbrev pub Stopped : (ℕ → ℕ → Type 0) → Script → ℕ → SeatView → Stop → Type 0
-Stopped may script limit seat TurnLimit = MayRefuse may seat.process limit ⊎ ((length seat.own ≡ limit) × IsBegun script seat.own)
-Stopped may script limit seat Full = (length seat.seen ≡ 1000000) × (length seat.own < limit)
-Stopped may script limit seat Memory = Unit {0}
+-- the worker stopped before the end of its script: a turn was due, and this is why it was not made
+pub record Stopped (may : ℕ → ℕ → Bool → Type 0) (script : Script) (limit : ℕ) (seat : SeatView) (stop : Stop) : Type 0 where
+  pub begun : IsBegun script seat.own
+  pub why : NoFurther may limit seat stop
 
 -- what is due behind an operation, where nothing follows and where the others do
 abbrev pub after_operation : Bool → List Op → Due
@@ -59,7 +77,7 @@ after_operation true os = over
 after_operation false os = rest os
 
 -- the end of the script, or why it was not reached
-abbrev pub Ended : (ℕ → ℕ → Type 0) → Script → ℕ → SeatView → Option Stop → Type 0
+abbrev pub Ended : (may : ℕ → ℕ → Bool → Type 0) → Script → ℕ → SeatView → Option Stop → Type 0
 Ended may script limit seat None = IsPlay script seat.own
 Ended may script limit seat (Some stop) = Stopped may script limit seat stop
 
@@ -69,6 +87,6 @@ pub record WorkedView : Type 0 where
   pub turns : List Turn
   pub stop : Option Stop
 
-pub record IsWorked (may : ℕ → ℕ → Type 0) (desk : DeskView) (process : ℕ) (script : Script) (limit : ℕ) (w : WorkedView) : Type 0 where
-  pub kept : Kept desk process limit w.seat w.turns
+pub record IsWorked (may : ℕ → ℕ → Bool → Type 0) (desk : DeskView) (process : ℕ) (script : Script) (limit : ℕ) (w : WorkedView) : Type 0 where
+  pub kept : Kept may desk process limit w.seat w.turns
   pub ended : Ended may script limit w.seat w.stop

@@ -1,21 +1,21 @@
 //! What workers ask before each turn.
-ghost use Rattle.std.specs.Prelude.{◌≡◌, ℕ, false};
+ghost use Rattle.std.specs.Prelude.{◌≡◌, ℕ, Bool, true};
 
 /// Lets processes on, turn by turn.
 pub trait Gate: Sync {
-    /// At which turns of which process it may answer false.
-    ghost may_refuse: { Self → ℕ → ℕ → Type 0 };
+    /// What it may answer to which process at which turn.
+    ghost may_answer: { Self → ℕ → ℕ → Bool → Type 0 };
 
     /// Whether this process may make its next turn, which has this number, counted from 1.
     fn enter(&self, process: u32, turn: u64) -> bool
-        ensures { result ≡ false → may_refuse self.now process turn };
+        ensures { may_answer self.now process turn result };
 }
 
 /// Lets everybody on.
 pub struct NoGate;
 
 impl Gate for NoGate {
-    ghost may_refuse = { λ _ _ _. ⊥ };
+    ghost may_answer = { λ _ _ _ answer. answer ≡ true };
 
     fn enter(&self, _process: u32, _turn: u64) -> bool {
         true

@@ -1,10 +1,10 @@
 //! Workers in threads, each with one seat.
-ghost use Rattle.std.specs.Prelude.{◌≡◌, ℕ, ◌+◌, ◌-◌, ◌*◌, ◌^◌, ◌<◌, ◌≤◌, [], ◌∷◌, length, vec_len, vec_items, All, map, slice_index_or, IfOk, IfErr, Some, None};
+ghost use Rattle.std.specs.Prelude.{◌≡◌, ℕ, ◌+◌, ◌-◌, ◌*◌, ◌^◌, ◌<◌, ◌≤◌, [], ◌∷◌, length, vec_len, vec_items, vec_capacity, All, map, slice_index_or, IfOk, IfErr, Some, None};
 ghost use Rattle.snap_words.specs.Shape.{IsOneOf};
 ghost use Rattle.snap_live_desk.specs.declared.seat_state.Setting.{Setting};
 ghost use Rattle.snap_live.specs.Script.{script_at};
 ghost use Rattle.snap_live_desk.specs.Shown.{seat_of, seats_of};
-ghost use Rattle.snap_live.specs.Worker.{IsWorked, WorkedView};
+ghost use Rattle.snap_live.specs.Worker.{HasRoom, IsWorked, WorkedView};
 ghost use Rattle.snap_live.specs.LiveRun.{AllWorked, IsLive, MayFault, first_stop, then_first, fault_of};
 
 use crate::gate::Gate;
@@ -72,8 +72,8 @@ struct WorkerPromise<K: Kind, G> {
 }
 
 impl<K: Kind, G: Gate> Promise<Worked<K>> for WorkerPromise<K, G> {
-    ghost kept_by = { λ p r. IsWorked (G.may_refuse p.gate.value) p.seat.value.desk
-        p.seat.value.process p.script.value p.limit r };
+    ghost kept_by = { λ p r. IsWorked (G.may_answer p.gate.value)
+        p.seat.value.desk p.seat.value.process p.script.value p.limit r };
 }
 
 /// Starts the worker of a seat, in a thread of its own.
@@ -103,7 +103,7 @@ fn start<'s, E, K: Kind, G: Gate, R: Threads + Wait + Sync>(
         promise,
         move || -> Worked<K>
             requires { (seat ≡ seat_of desk.now seat.process) × (limit ≤ 1000000) }
-            ensures { IsWorked (G.may_refuse gate.entry.now) desk.entry.now seat.process
+            ensures { IsWorked (G.may_answer gate.entry.now) desk.entry.now seat.process
                 script.entry.now limit result }
         { work(rt, alloc, desk, seat, script, limit, gate) },
     )?;
@@ -145,49 +145,81 @@ fn start_all<'s, E, K: Kind, G: Gate, R: Threads + Wait + Sync>(
     Ok(handles)
 }
 
-/// All workers at once, each in a thread of its own. All are joined before an answer.
+/// All workers at once, each in a thread of its own. All are joined before an answer, and there is
+/// room for what they hand back.
 fn run_all<K: Kind, G: Gate, R: Threads + Wait + Sync>(
     rt: &R,
     alloc: Global,
     desk: &Desk<K>,
     seats: Vec<Seat<K>>,
+    worked: Vec<Worked<K>>,
     scripts: &Scripts,
     limit: u64,
     gate: &G,
 ) -> Result<Vec<Worked<K>>, AllocError>
-    requires { (seats.items ≡ seats_of desk.now (length scripts.now.scripts)) × (limit ≤ 1000000) }
-    ensures { IfOk result (λ ws. AllWorked (G.may_refuse gate.now) desk.now scripts.now.scripts
-        limit ws.items) }
+    requires seats { seats.items ≡ seats_of desk.now (length scripts.now.scripts) }
+    requires limit { limit ≤ 1000000 }
+    requires worked { HasRoom (length scripts.now.scripts) worked }
+    ensures { IfOk result (λ ws.
+        AllWorked (G.may_answer gate.now) desk.now scripts.now.scripts limit ws.items) }
 {
     thread::scope(
         thread::scope_env(),
         rt,
         move |scope| -> Result<Vec<Worked<K>>, AllocError>
-            requires { (seats.items ≡ seats_of desk.now (length scripts.now.scripts)) ×
-                (limit ≤ 1000000) }
-            ensures { IfOk result (λ ws. AllWorked (G.may_refuse gate.entry.now) desk.entry.now
-                scripts.entry.now.scripts limit ws.items) }
+            requires seats { seats.items ≡ seats_of desk.now (length scripts.now.scripts) }
+            requires limit { limit ≤ 1000000 }
+            requires worked { HasRoom (length scripts.now.scripts) worked }
+            ensures { IfOk result (λ ws. AllWorked (G.may_answer gate.entry.now)
+                desk.entry.now scripts.entry.now.scripts limit ws.items) }
         {
             let handles = start_all(scope, rt, alloc, desk, seats, scripts, limit, gate)?;
-            let workers = joined(rt, handles)?;
-            Ok(workers)
+            let all = joined(rt, handles, worked);
+            Ok(all)
         },
     )
 }
 
-/// Joins all workers. Each kept its promise.
+/// Joins all workers, for which there is room. Each kept its promise.
 fn joined<K: Kind, G: Gate, R: Threads>(
     rt: &R,
     handles: Vec<PromisedHandle<Worked<K>, WorkerPromise<K, G>>>,
-) -> Result<Vec<Worked<K>>, AllocError>
-    ensures len { IfOk result (λ ws. length ws.items ≡ length handles.items) }
-    ensures each { IfOk result (λ ws. (k : ℕ) (w : WorkedView) → k < length handles.items → (h : _)
-        × (h ≡ slice_index_or handles.items k h) ×
-        IsWorked (G.may_refuse h.promise.gate.value) h.promise.seat.value.desk
-        h.promise.seat.value.process h.promise.script.value h.promise.limit
-        (slice_index_or ws.items k w)) }
+    mut worked: Vec<Worked<K>>,
+) -> Vec<Worked<K>>
+    requires { HasRoom (vec_len handles) worked }
+    ensures len { length result.items ≡ length handles.items }
+    ensures each { (k : ℕ) (w : WorkedView) → k < length handles.items → (h : _)
+        × (h ≡ slice_index_or handles.items k h)
+        × IsWorked (G.may_answer h.promise.gate.value)
+        h.promise.seat.value.desk h.promise.seat.value.process
+        h.promise.script.value h.promise.limit (slice_index_or result.items k w) }
 {
-    Ok(thread::join_promised(rt, handles)?)
+    for handle in handles {
+        worked.push_reserved(handle.join(rt));
+    }
+    worked
+}
+
+/// Room for what all workers hand back: once they have begun, nothing is asked for but the threads
+/// and what the desk takes.
+#[derive(Drop)]
+struct Room<K: Kind> {
+    worked: Vec<Worked<K>>,
+    seats: Vec<Seat<K>>,
+    turns: Vec<Turns>,
+}
+
+/// Room for so many workers.
+fn room_for<K: Kind>(alloc: Global, count: usize) -> Result<Room<K>, AllocError>
+    ensures worked { IfOk result (λ r. HasRoom count r.worked) }
+    ensures seats { IfOk result (λ r. HasRoom count r.seats) }
+    ensures turns { IfOk result (λ r. HasRoom count r.turns) }
+{
+    Ok(Room {
+        worked: Vec::with_capacity(alloc, count)?,
+        seats: Vec::with_capacity(alloc, count)?,
+        turns: Vec::with_capacity(alloc, count)?,
+    })
 }
 
 /// The seats and the turns in the order of processes, and which is the least process that stopped
@@ -199,29 +231,29 @@ struct WorkerResults<K: Kind> {
     stop: Option<(u32, Stop)>,
 }
 
-/// What the workers hand back, put together.
+/// What the workers hand back, put together. There is room for it.
 fn results_of<K: Kind>(
-    alloc: Global,
-    workers: Vec<Worked<K>>,
-) -> Result<WorkerResults<K>, AllocError>
-    ensures seats { IfOk result (λ s. s.seats.items ≡ map (λ w. w.seat) workers.items) }
-    ensures turns { IfOk result (λ s. s.turns.items ≡ map (λ w. w.turns) workers.items) }
-    ensures stop { IfOk result (λ s. s.stop ≡ first_stop workers.items) }
+    worked: Vec<Worked<K>>,
+    mut seats: Vec<Seat<K>>,
+    mut turns: Vec<Turns>,
+) -> WorkerResults<K>
+    requires { HasRoom (vec_len worked) seats × HasRoom (vec_len worked) turns }
+    ensures seats { result.seats.items ≡ map (λ w. w.seat) worked.items }
+    ensures turns { result.turns.items ≡ map (λ w. w.turns) worked.items }
+    ensures stop { result.stop ≡ first_stop worked.items }
 {
-    let mut seats = Vec::new(alloc);
-    let mut turns = Vec::new(alloc);
     let mut first = None;
-    for worked in workers {
-        let (seat, made, stop) = parts_of(worked);
+    for one in worked {
+        let (seat, made, stop) = parts_of(one);
         first = then_first(first, seat.process(), stop);
-        seats.push(seat)?;
-        turns.push(made)?;
+        seats.push_reserved(seat);
+        turns.push_reserved(made);
     }
-    Ok(WorkerResults {
+    WorkerResults {
         seats,
         turns,
         stop: first,
-    })
+    }
 }
 
 /// What a worker hands back, one by one.
@@ -259,13 +291,15 @@ pub fn run_live<K: Kind, G: Gate, R: Threads + Wait + Sync>(
     requires kind { program.now.kind ≡ K.TAG }
     requires limit { (1 ≤ limit) × (limit ≤ 1000000) }
     ensures ok { let base : Setting = record { source = program.now; shape = scripts.now.shape } in
-        IfOk result (λ l. IsLive base scripts.now.scripts limit l.kept l.turns.items) }
+        IfOk result (λ l. IsLive (G.may_answer gate.now)
+        base scripts.now.scripts limit l.kept l.turns.items) }
     ensures err { let base : Setting = record { source = program.now; shape = scripts.now.shape } in
-        IfErr result (λ f. MayFault (G.may_refuse gate.now) base scripts.now.scripts limit f) }
+        IfErr result (λ f. MayFault (G.may_answer gate.now) base scripts.now.scripts limit f) }
 {
     let (desk, seats) = open::<K>(alloc, program, scripts.shape())?;
-    let workers = run_all(rt, alloc, &desk, seats, scripts, limit, gate)?;
-    let WorkerResults { seats, turns, stop } = results_of(alloc, workers)?;
+    let room = room_for::<K>(alloc, scripts.scripts().len())?;
+    let worked = run_all(rt, alloc, &desk, seats, room.worked, scripts, limit, gate)?;
+    let WorkerResults { seats, turns, stop } = results_of(worked, room.seats, room.turns);
     let Ok(kept) = close(desk, seats) else {
         unreachable!()
     };

@@ -9,6 +9,7 @@ ghost use Rattle.snap_live.specs.Worker.{Kept, Made, NoFurther, Stopped, after_o
 
 use crate::gate::Gate;
 use snap_live_desk::{Desk, Seat, Turn};
+use snap_record::MAX_ITEMS;
 use snap_sched::Script;
 use snap_semantics::{Fault, Item, Outcome};
 use snap_words::Kind;
@@ -85,14 +86,16 @@ fn play_turn<K: Kind, G: Gate, R: Wait>(
     limit: u64,
     gate: &G,
 ) -> Result<Sequel, Stop>
-    requires kept { Kept desk.now seat.old.process limit seat.old turns.old.items }
+    requires kept { Kept (G.may_answer gate.now)
+        desk.now seat.old.process limit seat.old turns.old.items }
     requires mine { who item ≡ seat.old.process }
     requires room { (seat.old.asked ≡ length seat.old.own) × (seat.old.asked < limit) ×
         (limit ≤ 1000000) }
-    ensures kept { Kept desk.now seat.old.process limit seat.new turns.new.items }
+    ensures kept { Kept (G.may_answer gate.now)
+        desk.now seat.old.process limit seat.new turns.new.items }
     ensures made { IfOk result (λ m. Made seat.old seat.new item m) }
-    ensures stopped { IfErr result (λ f. (seat.new.own ≡ seat.old.own) ×
-        NoFurther (G.may_refuse gate.now) limit seat.new f) }
+    ensures stopped { IfErr result (λ f. (seat.new.own ≡ seat.old.own)
+        × NoFurther (G.may_answer gate.now) limit seat.new f) }
 {
     let process = seat.process();
     let turn = seat.asked() + 1;
@@ -100,6 +103,10 @@ fn play_turn<K: Kind, G: Gate, R: Wait>(
         return Err(Stop::TurnLimit);
     }
     if turns.reserve(1).is_err() {
+        // A full history comes before a lack of memory.
+        if seat.seen_len() == MAX_ITEMS as u64 {
+            return Err(Stop::Full);
+        }
         return Err(Stop::Memory);
     }
     match seat.turn(rt, desk, item) {
@@ -123,16 +130,18 @@ fn play_crash<K: Kind, G: Gate, R: Wait>(
     limit: u64,
     gate: &G,
 ) -> Result<(), Stop>
-    requires kept { Kept desk.now seat.old.process limit seat.old turns.old.items }
+    requires kept { Kept (G.may_answer gate.now)
+        desk.now seat.old.process limit seat.old turns.old.items }
     requires plays { IsBegun script.now seat.old.own ×
         (crashes_behind script.now.crash seat.old.asked ≡ true) }
     requires room { (seat.old.asked ≡ length seat.old.own) × (seat.old.asked < limit) ×
         (limit ≤ 1000000) }
-    ensures kept { Kept desk.now seat.old.process limit seat.new turns.new.items }
+    ensures kept { Kept (G.may_answer gate.now)
+        desk.now seat.old.process limit seat.new turns.new.items }
     ensures played { IfOk result (λ _. (seat.new.asked ≡ length seat.new.own) ×
         Leaves script.now seat.new.own over) }
-    ensures stopped { IfErr result (λ f. Stopped (G.may_refuse gate.now) script.now limit seat.new
-        f) }
+    ensures stopped { IfErr result (λ f.
+        Stopped (G.may_answer gate.now) script.now limit seat.new f) }
 {
     let crash = Item::Crash(seat.process());
     play_turn(rt, desk, seat, turns, crash, limit, gate)?;
@@ -150,14 +159,16 @@ fn play_steps<K: Kind, G: Gate, R: Wait>(
     limit: u64,
     gate: &G,
 ) -> Result<bool, Stop>
-    requires kept { Kept desk.now seat.old.process limit seat.old turns.old.items }
+    requires kept { Kept (G.may_answer gate.now)
+        desk.now seat.old.process limit seat.old turns.old.items }
     requires plays { Leaves script.now seat.old.own (busy (drop (at + 1) script.now.operations)) }
     requires room { (seat.old.asked ≡ length seat.old.own) × (limit ≤ 1000000) }
-    ensures kept { Kept desk.now seat.old.process limit seat.new turns.new.items }
+    ensures kept { Kept (G.may_answer gate.now)
+        desk.now seat.old.process limit seat.new turns.new.items }
     ensures played { IfOk result (λ t. (seat.new.asked ≡ length seat.new.own) ×
         Leaves script.now seat.new.own (after_operation t (drop (at + 1) script.now.operations))) }
-    ensures stopped { IfErr result (λ f. Stopped (G.may_refuse gate.now) script.now limit seat.new
-        f) }
+    ensures stopped { IfErr result (λ f.
+        Stopped (G.may_answer gate.now) script.now limit seat.new f) }
 {
     let step = Item::Step(seat.process());
     for _turn in seat.asked()..limit {
@@ -186,15 +197,17 @@ fn play_operation<K: Kind, G: Gate, R: Wait>(
     limit: u64,
     gate: &G,
 ) -> Result<bool, Stop>
-    requires kept { Kept desk.now seat.old.process limit seat.old turns.old.items }
+    requires kept { Kept (G.may_answer gate.now)
+        desk.now seat.old.process limit seat.old turns.old.items }
     requires plays { (at < length script.now.operations) ×
         Leaves script.now seat.old.own (rest (drop at script.now.operations)) }
     requires room { (seat.old.asked ≡ length seat.old.own) × (limit ≤ 1000000) }
-    ensures kept { Kept desk.now seat.old.process limit seat.new turns.new.items }
+    ensures kept { Kept (G.may_answer gate.now)
+        desk.now seat.old.process limit seat.new turns.new.items }
     ensures played { IfOk result (λ t. (seat.new.asked ≡ length seat.new.own) ×
         Leaves script.now seat.new.own (after_operation t (drop (at + 1) script.now.operations))) }
-    ensures stopped { IfErr result (λ f. Stopped (G.may_refuse gate.now) script.now limit seat.new
-        f) }
+    ensures stopped { IfErr result (λ f.
+        Stopped (G.may_answer gate.now) script.now limit seat.new f) }
 {
     if seat.asked() >= limit {
         return Err(Stop::TurnLimit);
@@ -220,12 +233,14 @@ fn play<K: Kind, G: Gate, R: Wait>(
     limit: u64,
     gate: &G,
 ) -> Result<(), Stop>
-    requires kept { Kept desk.now seat.old.process limit seat.old turns.old.items }
+    requires kept { Kept (G.may_answer gate.now)
+        desk.now seat.old.process limit seat.old turns.old.items }
     requires fresh { (seat.old.own ≡ []) × (seat.old.asked ≡ 0) × (limit ≤ 1000000) }
-    ensures kept { Kept desk.now seat.old.process limit seat.new turns.new.items }
+    ensures kept { Kept (G.may_answer gate.now)
+        desk.now seat.old.process limit seat.new turns.new.items }
     ensures played { IfOk result (λ _. IsPlay script.now seat.new.own) }
-    ensures stopped { IfErr result (λ f. Stopped (G.may_refuse gate.now) script.now limit seat.new
-        f) }
+    ensures stopped { IfErr result (λ f.
+        Stopped (G.may_answer gate.now) script.now limit seat.new f) }
 {
     for at in 0..script.operations().len() {
         if play_operation(rt, desk, seat, turns, script, at, limit, gate)? {
@@ -246,7 +261,7 @@ pub(crate) fn work<K: Kind, G: Gate, R: Wait>(
     gate: &G,
 ) -> Worked<K>
     requires { (seat ≡ seat_of desk.now seat.process) × (limit ≤ 1000000) }
-    ensures { IsWorked (G.may_refuse gate.now) desk.now seat.process script.now limit result }
+    ensures { IsWorked (G.may_answer gate.now) desk.now seat.process script.now limit result }
 {
     let mut turns = Vec::new(alloc);
     let stop = play(rt, desk, &mut seat, &mut turns, script, limit, gate).err();

@@ -1,5 +1,5 @@
 -- A turn that was refused.
-use Rattle.std.specs.Prelude.{◌≡◌, length}
+use Rattle.std.specs.Prelude.{◌≡◌, ◌<◌, length}
 use mathlib.Core.List.{IsPrefix}
 use Rattle.snap_semantics.specs.declared.fault.Fault.{Fault}
 use Rattle.snap_semantics.specs.declared.fault.Fault.TheVariants.{Memory, Refused}
@@ -15,7 +15,7 @@ pub record SeesAll (before after : SeatView) : Type 0 where
   pub own : after.own ≡ before.own
   pub turns : after.own ≡ turns_of before.desk.base before.process after.seen
 
--- nothing was added: memory ran out, and the seat has seen no more; or the history is full
+-- nothing was added: memory ran out, and the seat has seen no more, and no full history; or the history is full
 abbrev pub NoTurn : Fault LiveRefusal → SeatView → SeatView → Type 0
-NoTurn Memory before after = (after.seen ≡ before.seen) × (after.own ≡ before.own)
+NoTurn Memory before after = (after.seen ≡ before.seen) × (after.own ≡ before.own) × (length after.seen < 1000000)
 NoTurn (Refused refusal) before after = (refusal ≡ Full 1000000) × SeesAll before after

@@ -110,6 +110,7 @@ fn one_turn<K: Kind, R: Wait>(
             Err(RecordFault::Full)
         }
         Err(RecordFault::Memory) => {
+            let _items = history.items();
             give(shared, table_seat, history);
             serve(shared, table_seat, ticket);
             Err(RecordFault::Memory)

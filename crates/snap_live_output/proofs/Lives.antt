@@ -1,5 +1,5 @@
 -- The history of a live run, as a text.
-use Rattle.std.proofs.Common.{◌≡◌, ℕ, ◌≤◌, List, length, ◌∙◌, ap, subst}
+use Rattle.std.proofs.Common.{◌≡◌, ℕ, ◌≤◌, Bool, List, length, ◌∙◌, ap, subst}
 use Rattle.snap_semantics.specs.Source.{Source}
 use Rattle.snap_sched.specs.ScriptText.{AreScripts, Scripts}
 use Rattle.snap_runs.specs.Run.{IsValidRun, Run}
@@ -7,25 +7,28 @@ use Rattle.snap_live_desk.specs.declared.seat_state.Setting.{Setting}
 use Rattle.snap_live_desk.specs.declared.seat.Turn.{Turn}
 use Rattle.snap_live.specs.LiveRun.{IsLive}
 use Rattle.snap_live_desk.specs.Turns.{run_of}
-use Rattle.snap_live_output.specs.LiveOutput.{IsLiveText, Setup, history_text, setting}
+use Rattle.snap_live_output.specs.LiveOutput.{IsGatedText, Setup, history_text, setting}
 
 -- what all workers did is such a text
-pub live_text : (g : Setup) (limit : ℕ) (l : Source) (s : Scripts) (kept : Run) (turns : List (List Turn)) (text : List ℕ) →
+pub live_text : (may : ℕ → ℕ → Bool → Type 0) (g : Setup) (limit : ℕ) (l : Source) (s : Scripts) (kept : Run) (turns : List (List Turn)) (text : List ℕ) →
     l ≡ g.source → s ≡ g.scripts → AreScripts g.scripts →
-    IsLive (let b : Setting = record { source = l; shape = s.shape } in b) s.scripts limit kept turns → IsValidRun kept → length kept.items ≤ 1000000 → text ≡ history_text kept →
-    IsLiveText g limit text
-live_text g limit l s kept turns text is_source are_scripts there live fits short written =
-    let of_source : IsLive (let b : Setting = record { source = g.source; shape = s.shape } in b) s.scripts limit kept turns =
-    subst (λ (x : Source). IsLive (let b : Setting = record { source = x; shape = s.shape } in b) s.scripts limit kept turns) is_source live in
-    let of_setup : IsLive (setting g) g.scripts.scripts limit kept turns =
-    subst (λ (x : Scripts). IsLive (let b : Setting = record { source = g.source; shape = x.shape } in b) x.scripts limit kept turns) are_scripts of_source in
+    IsLive may (let b : Setting = record { source = l; shape = s.shape } in b) s.scripts limit kept turns → IsValidRun kept → length kept.items ≤ 1000000 → text ≡ history_text kept →
+    IsGatedText may g limit text
+live_text may g limit l s kept turns text is_source are_scripts there live fits short written =
+    let of_source : IsLive may (let b : Setting = record { source = g.source; shape = s.shape } in b) s.scripts limit kept turns =
+    subst (λ (x : Source). IsLive may (let b : Setting = record { source = x; shape = s.shape } in b) s.scripts limit kept turns) is_source live in
+    let of_setup : IsLive may (setting g) g.scripts.scripts limit kept turns =
+    subst (λ (x : Scripts). IsLive may (let b : Setting = record { source = g.source; shape = x.shape } in b) x.scripts limit kept turns) are_scripts of_source in
     let same : kept ≡ run_of (setting g) kept.items = ap (λ (b : Setting). run_of b kept.items) of_setup.of_base in
     record {
-      items = kept.items;
-      there = there;
-      fits = subst (λ (r : Run). IsValidRun r) same fits;
-      short = short;
-      plays = λ k below. (of_setup.played k below).plays;
-      few = λ k below. (of_setup.played k below).few;
-      written = written ∙ ap history_text same;
+      live = record {
+        items = kept.items;
+        there = there;
+        fits = subst (λ (r : Run). IsValidRun r) same fits;
+        short = short;
+        plays = λ k below. (of_setup.played k below).plays;
+        few = λ k below. (of_setup.played k below).few;
+        written = written ∙ ap history_text same;
+      };
+      let_on = λ k below. (of_setup.played k below).let_on;
     }

@@ -1,6 +1,6 @@
 -- What a live run writes for what it reads, or why it writes nothing. Threads take turns as it happens: so the output is one of many,
 -- and each of them is the history of one list of items.
-use Rattle.std.specs.Prelude.{◌≡◌, ℕ, ◌+◌, ◌<◌, ◌≤◌, List, ◌++◌, length, nat_lt, Vec, Result, Ok, Err, ⊤, if◌then◌else◌}
+use Rattle.std.specs.Prelude.{◌≡◌, ℕ, ◌+◌, ◌<◌, ◌≤◌, List, ◌++◌, length, nat_lt, Bool, Vec, Result, Ok, Err, ⊤, if◌then◌else◌}
 use Rattle.std.specs.Global.{Global}
 use Rattle.snap_words.specs.Kind.{fits}
 use Rattle.snap_words.specs.declared.shape.WordFault.TheVariants.{BadShape}
@@ -24,6 +24,7 @@ use Rattle.snap_live_desk.specs.declared.refusal.LiveRefusal.{LiveRefusal}
 use Rattle.snap_live.specs.LiveRun.{MayFault}
 use Rattle.snap_live.specs.Play.{IsPlay}
 use Rattle.snap_live.specs.Script.{script_at}
+use Rattle.snap_live.specs.Worker.{IsLetOn}
 use Rattle.snap_live_desk.specs.Turns.{run_of, turns_of}
 use Rattle.snap_live_output.specs.declared.fault.LiveRunFault.{LiveRunFault}
 use Rattle.snap_live_output.specs.declared.fault.LiveRunFault.TheVariants as fault
@@ -76,6 +77,11 @@ pub record IsLiveText (g : Setup) (limit : ℕ) (text : List ℕ) : Type 0 where
   pub few : (k : ℕ) → k < g.scripts.shape.n → length (turns_of (setting g) (k + 1) items) ≤ limit
   pub written : text ≡ history_text (run_of (setting g) items)
 
+-- Such a text, of a run whose gate may have let each process on to each of its turns.
+pub record IsGatedText (may : ℕ → ℕ → Bool → Type 0) (g : Setup) (limit : ℕ) (text : List ℕ) : Type 0 where
+  pub live : IsLiveText g limit text
+  pub let_on : (k : ℕ) → k < g.scripts.shape.n → IsLetOn may (k + 1) (length (turns_of (setting g) (k + 1) live.items))
+
 -- a fault of the input, and one of the run, as one of both
 abbrev pub of_input_fault : Fault Refusal → LiveRunFault
 of_input_fault inner.Memory = fault.Memory
@@ -89,13 +95,17 @@ of_live_fault (inner.Refused r) = fault.Live r
 abbrev pub IsLiveOutput : Subject → (limit : ℕ) → (input text : List ℕ) → Type 0
 IsLiveOutput s limit input text = (g : Setup) × (setup_of s input ≡ Ok g) × IsLiveText g limit text
 
+-- a text that a live run may write for an input, at a gate that may answer so
+abbrev pub MayWrite : (may : ℕ → ℕ → Bool → Type 0) → Subject → (limit : ℕ) → (input text : List ℕ) → Type 0
+MayWrite may s limit input text = (g : Setup) × (setup_of s input ≡ Ok g) × IsGatedText may g limit text
+
 -- when a live run may be given up
-abbrev pub MayGiveUp : (ℕ → ℕ → Type 0) → Subject → (limit : ℕ) → (input : List ℕ) → LiveRefusal → Type 0
+abbrev pub MayGiveUp : (may : ℕ → ℕ → Bool → Type 0) → Subject → (limit : ℕ) → (input : List ℕ) → LiveRefusal → Type 0
 MayGiveUp may s limit input r = (g : Setup) × (setup_of s input ≡ Ok g) × MayFault may (setting g) g.scripts.scripts limit (inner.Refused r)
 
 -- What a live run answers for an input: a text; or why the input says nothing to play; or why the run was given up.
-abbrev pub AnswersLive : (ℕ → ℕ → Type 0) → Subject → (limit : ℕ) → (input : List ℕ) → Result (Vec ℕ Global) LiveRunFault → Type 0
-AnswersLive may s limit input (Ok out) = IsLiveOutput s limit input out.items
+abbrev pub AnswersLive : (may : ℕ → ℕ → Bool → Type 0) → Subject → (limit : ℕ) → (input : List ℕ) → Result (Vec ℕ Global) LiveRunFault → Type 0
+AnswersLive may s limit input (Ok out) = MayWrite may s limit input out.items
 AnswersLive may s limit input (Err fault.Memory) = ⊤
 AnswersLive may s limit input (Err (fault.Refused r)) = setup_of s input ≡ Err r
 AnswersLive may s limit input (Err (fault.Live r)) = MayGiveUp may s limit input r

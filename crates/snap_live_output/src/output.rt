@@ -23,7 +23,7 @@ pub fn live_output<G: Gate, R: Threads + Wait + Sync>(
     input: &[u8],
 ) -> Result<Vec<u8>, LiveRunFault>
     requires { (1 ≤ limit) × (limit ≤ 1000000) }
-    ensures { AnswersLive (G.may_refuse gate.now) subject limit input.now result }
+    ensures { AnswersLive (G.may_answer gate.now) subject limit input.now result }
 {
     let setup = setup_of(alloc, subject, input)?;
     Ok(play(rt, alloc, &setup, limit, gate)?)

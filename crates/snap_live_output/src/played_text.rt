@@ -1,7 +1,7 @@
 //! A live run, as the text of its history.
 ghost use Rattle.std.specs.Prelude.{◌≡◌, ◌≤◌, IfErr, IfOk};
 ghost use Rattle.snap_live.specs.LiveRun.{MayFault};
-ghost use Rattle.snap_live_output.specs.LiveOutput.{IsLiveText, setting};
+ghost use Rattle.snap_live_output.specs.LiveOutput.{IsGatedText, setting};
 
 use crate::setup::Setup;
 use crate::written::history_text;
@@ -21,8 +21,9 @@ fn play_kind<K: Kind, G: Gate, R: Threads + Wait + Sync>(
 ) -> Result<Vec<u8>, LiveFault>
     requires kind { setup.now.source.kind ≡ K.TAG }
     requires limit { (1 ≤ limit) × (limit ≤ 1000000) }
-    ensures text { IfOk result (λ out. IsLiveText setup.now limit out.items) }
-    ensures fault { IfErr result (λ f. MayFault (G.may_refuse gate.now) (setting setup.now)
+    ensures text { IfOk result (λ out.
+        IsGatedText (G.may_answer gate.now) setup.now limit out.items) }
+    ensures fault { IfErr result (λ f. MayFault (G.may_answer gate.now) (setting setup.now)
         setup.now.scripts.scripts limit f) }
 {
     let live = run_live::<K, G, R>(rt, alloc, setup.program(), setup.scripts(), limit, gate)?;
@@ -39,8 +40,9 @@ pub fn play<G: Gate, R: Threads + Wait + Sync>(
     gate: &G,
 ) -> Result<Vec<u8>, LiveFault>
     requires { (1 ≤ limit) × (limit ≤ 1000000) }
-    ensures text { IfOk result (λ out. IsLiveText setup.now limit out.items) }
-    ensures fault { IfErr result (λ f. MayFault (G.may_refuse gate.now) (setting setup.now)
+    ensures text { IfOk result (λ out.
+        IsGatedText (G.may_answer gate.now) setup.now limit out.items) }
+    ensures fault { IfErr result (λ f. MayFault (G.may_answer gate.now) (setting setup.now)
         setup.now.scripts.scripts limit f) }
 {
     match setup.program().kind() {

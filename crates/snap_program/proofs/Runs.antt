@@ -38,7 +38,7 @@ why_task inner.Memory task input h = tt
 why_task (inner.Refused f) task input h = h
 
 -- and a live run as its own
-pub why_live : (e : LiveRunFault) (may : ℕ → ℕ → Type 0) (subject : Subject) (limit : ℕ) (input : List ℕ) →
+pub why_live : (e : LiveRunFault) (may : ℕ → ℕ → Bool → Type 0) (subject : Subject) (limit : ℕ) (input : List ℕ) →
     AnswersLive may subject limit input (Err e) → Why (RefusesLive may subject limit input) (of_live_fault e)
 why_live run.Memory may subject limit input h = tt
 why_live (run.Refused f) may subject limit input h = h

@@ -9,7 +9,7 @@ use Rattle.snap_semantics.specs.declared.fault.Fault.{Fault}
 use Rattle.snap_semantics.specs.declared.fault.Fault.TheVariants as inner
 use Rattle.snap_live_output.specs.declared.fault.LiveRunFault.{LiveRunFault}
 use Rattle.snap_live_output.specs.declared.fault.LiveRunFault.TheVariants as run
-use Rattle.snap_live_output.specs.LiveOutput.{IsLiveOutput, MayGiveUp, setup_of}
+use Rattle.snap_live_output.specs.LiveOutput.{MayGiveUp, MayWrite, setup_of}
 use Rattle.snap_subject.specs.declared.subject.Subject.{Subject}
 use Rattle.snap_program.specs.declared.fault.ConductFault.{ConductFault}
 use Rattle.snap_program.specs.declared.fault.ConductFault.TheVariants as fault
@@ -82,12 +82,12 @@ abbrev pub Conducts : (answer : Result (Unit {0}) ConductFault) (task : Task) (l
 Conducts answer task left left_after taken taken_after r w s = ConductsBy (IsOutputOf task) (RefusesTask task) answer left left_after taken taken_after r w s
 
 -- why a live run writes nothing: the input is refused, or the run is given up
-abbrev pub RefusesLive : (may : ℕ → ℕ → Type 0) → Subject → (limit : ℕ) → (input : List ℕ) → ConductFault → Type 0
+abbrev pub RefusesLive : (may : ℕ → ℕ → Bool → Type 0) → Subject → (limit : ℕ) → (input : List ℕ) → ConductFault → Type 0
 RefusesLive may subject limit input (fault.Refused f) = setup_of subject input ≡ Err f
 RefusesLive may subject limit input (fault.Live f) = MayGiveUp may subject limit input f
 RefusesLive may subject limit input _ = ⊥
 
 -- A whole live run: each input has many outputs, or one refusal; and the run may be given up.
-abbrev pub ConductsLive : (may : ℕ → ℕ → Type 0) (subject : Subject) (limit : ℕ) (answer : Result (Unit {0}) ConductFault) (left left_after taken taken_after : Option (List ℕ)) (reader_failed writer_failed writer_stalled : Bool) → Type 0
+abbrev pub ConductsLive : (may : ℕ → ℕ → Bool → Type 0) (subject : Subject) (limit : ℕ) (answer : Result (Unit {0}) ConductFault) (left left_after taken taken_after : Option (List ℕ)) (reader_failed writer_failed writer_stalled : Bool) → Type 0
 ConductsLive may subject limit answer left left_after taken taken_after r w s =
-    ConductsBy (IsLiveOutput subject limit) (RefusesLive may subject limit) answer left left_after taken taken_after r w s
+    ConductsBy (MayWrite may subject limit) (RefusesLive may subject limit) answer left left_after taken taken_after r w s

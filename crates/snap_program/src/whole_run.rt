@@ -89,7 +89,7 @@ pub fn conduct_live<G: Gate, R: ByteSource, W: ByteSink>(
     requires source { R.has_failed source.old ≡ false }
     requires sink { W.has_failed sink.old ≡ false }
     requires goes_on { W.is_stalled sink.old ≡ false }
-    ensures { ConductsLive (G.may_refuse gate.now) subject limit result (R.left source.old)
+    ensures { ConductsLive (G.may_answer gate.now) subject limit result (R.left source.old)
         (R.left source.new) (W.taken sink.old) (W.taken sink.new)
         (R.has_failed source.new) (W.has_failed sink.new) (W.is_stalled sink.new) }
 {

@@ -1,5 +1,5 @@
 -- What the program does about its command line, and the status that it ends with.
-use Rattle.std.specs.Prelude.{◌≡◌, ℕ, Bool, List, ◌++◌, Option, Result, Ok, Err, codes, string_bytes, take}
+use Rattle.std.specs.Prelude.{◌≡◌, ℕ, Bool, true, List, ◌++◌, Option, Result, Ok, Err, codes, string_bytes, take}
 use Rattle.std.specs.Io.KnownBytes.{Appends}
 use Rattle.snap_command_line.specs.declared.command_line.CommandLine.{CommandLine}
 use Rattle.snap_command_line.specs.declared.command_line.CommandLine.TheVariants.{Asks, Help, Wrong, NoText}
@@ -30,7 +30,7 @@ abbrev pub CarriesOut : Request → Result (Unit {0}) ConductFault → (left lef
     (reader_failed writer_failed writer_stalled : Bool) → Type 0
 CarriesOut (Do task) done left left_after taken taken_after r w s = Conducts done task left left_after taken taken_after r w s
 CarriesOut (Live subject limit) done left left_after taken taken_after r w s =
-    ConductsLive (λ process turn. ⊥) subject limit done left left_after taken taken_after r w s
+    ConductsLive (λ process turn answer. answer ≡ true) subject limit done left left_after taken taken_after r w s
 
 -- What is said of arguments that are no text.
 abbrev pub no_text_line : List ℕ

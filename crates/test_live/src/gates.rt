@@ -1,5 +1,5 @@
 //! Gates that refuse a turn.
-ghost use Rattle.std.specs.Prelude.{◌≡◌};
+ghost use Rattle.std.specs.Prelude.{◌≡◌, MatchBool};
 
 use crate::programs::program;
 use snap_live::{Gate, LiveRefusal, run_live};
@@ -25,7 +25,7 @@ struct Shut {
 }
 
 impl Gate for Shut {
-    ghost may_refuse = { λ gate _ turn. turn ≡ gate.turn };
+    ghost may_answer = { λ gate _ turn answer. MatchBool answer (¬ (turn ≡ gate.turn)) (turn ≡ gate.turn) };
 
     fn enter(&self, _process: u32, turn: u64) -> bool {
         turn != self.turn

@@ -1,5 +1,5 @@
 //! A gate at which two processes meet.
-ghost use Rattle.std.specs.Prelude.{◌≡◌};
+ghost use Rattle.std.specs.Prelude.{◌≡◌, false};
 
 use snap_live::Gate;
 use std::sync::atomic::{AtomicU64, Ordering};
@@ -26,7 +26,7 @@ impl<R: Clock> Meeting<R> {
 }
 
 impl<R: Clock + Sync> Gate for Meeting<R> {
-    ghost may_refuse = { λ _ _ turn. turn ≡ 1 };
+    ghost may_answer = { λ _ _ turn answer. answer ≡ false → turn ≡ 1 };
 
     fn enter(&self, process: u32, turn: u64) -> bool {
         if turn != 1 {

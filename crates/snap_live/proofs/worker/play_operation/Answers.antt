@@ -1,4 +1,4 @@
-use Rattle.std.proofs.Common.{◌≡◌, arith, inr, true, false, rules}
+use Rattle.std.proofs.Common.{◌≡◌, arith, inl, true, false, rules}
 use Rattle.snap_live.specs.Script.{crashes_behind}
 use Rattle.snap_live.proofs.Plays.{calls_at, call_goes, call_passes, begun_left}
 use Rattle.snap_live.proofs.worker.play_operation.Goals as goal
@@ -6,7 +6,7 @@ use Rattle.snap_live.proofs.worker.play_operation.Goals as goal
 pub returns-then-asked-limit-clause-stopped : goal.returns-then-asked-limit-clause-stopped
 returns-then-asked-limit-clause-stopped g c =
     let few = c.requires.kept.few in let r = c.requires.room in let t = c.if-asked-limit.true in
-    inr (omega arith, begun_left _ _ _ c.requires.plays.0 c.requires.plays.1)
+    record { begun = begun_left _ _ _ c.requires.plays.0 c.requires.plays.1; why = inl (omega arith) }
 
 pub play_crash-requires-clause-plays : goal.play_crash-requires-clause-plays
 play_crash-requires-clause-plays g c κs within =

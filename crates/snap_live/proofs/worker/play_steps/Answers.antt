@@ -27,7 +27,7 @@ loop-turn-preserved g c =
       | in-Goes w ↦ steps_on _ _ _ _ _ _ _ m w.in-Goes.is i.asked quiet i.plays
       | in-Skipped w ↦ steps_on _ _ _ _ _ _ _ m w.in-Skipped.is i.asked quiet i.plays
     ] in record {
-      kept = kept_of _ _ _ _ _ _ i.kept.of_process c.play_turn.ensures.kept;
+      kept = kept_of _ _ _ _ _ _ _ i.kept.of_process c.play_turn.ensures.kept;
       plays = on.1;
       asked = on.0;
       turn = ap (λ k. k + 1) i.turn ∙ sym m.asked;

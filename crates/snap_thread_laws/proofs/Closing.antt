@@ -1,12 +1,11 @@
 -- The seats of a closed desk were told the turns of its record.
-use Rattle.std.proofs.Common.{◌≡◌, ◌≢◌, ℕ, ◌+◌, ◌<◌, ◌≤◌, ◌⊎◌, inl, inr, Bool, true, false, List, [], ◌∷◌, length, nat_eq, eq-eqb, eqb-true, if◌then◌else◌, refl, sym, ap, ◌∙◌, subst, arith}
+use Rattle.std.proofs.Common.{◌≡◌, ◌≢◌, ℕ, ◌⊎◌, inl, inr, Bool, true, false, List, [], ◌∷◌, nat_eq, eq-eqb, eqb-true, if◌then◌else◌, refl, sym, ap, ◌∙◌, subst, arith}
 use Rattle.std.proofs.lemmas.Bool.{cases_lt}
 use Rattle.std.proofs.lemmas.List.Elements.{All-head, All-tail}
 use Rattle.std.specs.List.{All, Contains}
 use Rattle.snap_words.specs.Shape.{IsOneOf}
 use Rattle.snap_semantics.specs.declared.process.Item.{Item}
-use Rattle.snap_semantics.specs.Table.{who}
-use Rattle.snap_runs.specs.Run.{IsValidRun, Run, item}
+use Rattle.snap_runs.specs.Run.{IsValidRun, Run}
 use Rattle.snap_runs.proofs.Calls.{item_one}
 use Rattle.snap_live_desk.specs.Closed.{HasSeat}
 use Rattle.snap_live_desk.specs.Shown.{Keeps, SeatView}
@@ -48,7 +47,7 @@ of_seats base items p (s ∷ ss) kept (inl has) =
     ])
 of_seats base items p (s ∷ ss) kept (inr none) =
     of_seat base items p s (told_at ss p) (nat_eq p s.process) refl (All-head (Keeps base items) s ss kept) (λ other.
-      of_seats base items p ss (All-tail (Keeps base items) s ss kept) (inr none))
+    of_seats base items p ss (All-tail (Keeps base items) s ss kept) (inr none))
 
 module _ (seats : List SeatView) (kept : Run) (h : IsClosed (setting_of kept) seats kept) where
   of_process : (p : ℕ) → told_at seats p ≡ told_in kept p

@@ -1,5 +1,5 @@
 -- The linearizations of a run are those of what its threads are told.
-use Rattle.std.proofs.Common.{◌↔◌, List}
+use Rattle.std.proofs.Common.{List}
 use Rattle.std.proofs.lemmas.List.Elements.{All-weaker}
 use Rattle.snap_runs.specs.Linearization.{IsLinearization}
 use Rattle.snap_runs.specs.Operation.{IsOperation, Operation}

@@ -1,11 +1,10 @@
 -- A note puts what its maker had ended before what is called once it is met.
-use Rattle.std.proofs.Common.{◌≡◌, ℕ, zero, suc, ◌+◌, ◌<◌, ◌≤◌, inl, inr, slice_index_or, List, [], ◌∷◌, ◌++◌, length, Option, Some, refl, sym, ap, ◌∙◌, subst, arith, append_assoc}
+use Rattle.std.proofs.Common.{◌≡◌, ℕ, suc, ◌+◌, ◌<◌, ◌≤◌, inl, inr, slice_index_or, List, [], ◌∷◌, ◌++◌, length, refl, sym, ap, ◌∙◌, subst, arith, append_assoc}
 use Rattle.std.proofs.lemmas.Bool.{cases_eq}
 use Rattle.std.proofs.lemmas.List.{append-nil, length-append}
 use Rattle.std.specs.List.{Contains}
 use mathlib.Core.List.{IsPrefix}
 use Rattle.snap_semantics.specs.declared.process.Item.{Item}
-use Rattle.snap_semantics.specs.declared.process.Item.TheVariants.{Call}
 use Rattle.snap_semantics.specs.declared.process.Op.{Op}
 use Rattle.snap_semantics.specs.declared.process.Outcome.{Outcome}
 use Rattle.snap_semantics.specs.declared.process.Outcome.TheVariants.{Called}
@@ -15,7 +14,7 @@ use Rattle.snap_live_desk.specs.Shown.{SeatView}
 use Rattle.snap_live_desk.specs.Turns.{last_outcome, run_of, turns_of}
 use Rattle.snap_live_desk.specs.declared.seat_state.OwnTurn.{OwnTurn}
 use Rattle.snap_live_desk.specs.declared.seat_state.Setting.{Setting}
-use Rattle.snap_thread_laws.specs.DeskLaws.{CallsAfterNote, HasToldEnd, IsOrderedByNote, NotesOrderOperations, OwnsWhatItSaw, SeatsOwnWhatTheySaw, StandsBefore}
+use Rattle.snap_thread_laws.specs.DeskLaws.{CallsAfterNote, NotesOrderOperations, SeatsOwnWhatTheySaw, StandsBefore}
 use Rattle.snap_thread_laws.specs.Told.{IsEnd, IsToldLinearization, Told}
 use Rattle.snap_thread_laws.proofs.Turning.{told_is}
 
@@ -57,12 +56,12 @@ module _ (noter before after : SeatView) (op : Op) (number : ℕ) (h : CallsAfte
       let numbered = h.called.numbered in
       elim (cases_eq (suc u.place) number) [
         | inl same ↦ (
-          let whole : items ≡ after.seen = all_of_it items after.seen seen (omega (arith, numbered, same, within)) in
-          let came : t.outcome ≡ Called =
-              ap (λ (v : OwnTurn). v.outcome) u.is ∙ ap (outcome (run_of base items)) (same ∙ numbered)
-              ∙ ap (λ (xs : List Item). outcome (run_of base xs) (length after.seen)) whole
-              ∙ ap (λ (b : Setting). last_outcome b after.seen) (ap (λ d. d.base) h.one_desk) ∙ sym h.called.answered in
-          absurd (no_end t.outcome came ends))
+            let whole : items ≡ after.seen = all_of_it items after.seen seen (omega (arith, numbered, same, within)) in
+            let came : t.outcome ≡ Called =
+            ap (λ (v : OwnTurn). v.outcome) u.is ∙ ap (outcome (run_of base items)) (same ∙ numbered)
+            ∙ ap (λ (xs : List Item). outcome (run_of base xs) (length after.seen)) whole
+            ∙ ap (λ (b : Setting). last_outcome b after.seen) (ap (λ d. d.base) h.one_desk) ∙ sym h.called.answered in
+            absurd (no_end t.outcome came ends))
         | inr other ↦ omega (arith, place, within, longer, numbered, other)
       ]
 

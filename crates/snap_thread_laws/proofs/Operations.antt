@@ -1,6 +1,6 @@
 -- The operations of a run are those of which its threads are told.
-use Rattle.std.proofs.Common.{◌≡◌, ◌↔◌, ℕ, zero, suc, ◌<◌, ◌≤◌, inl, inr, List, [], ◌∷◌, length, Option, Some, None, refl, sym, ap, ◌∙◌, subst, arith}
-use Rattle.std.proofs.lemmas.Bool.{cases_eq, cases_lt}
+use Rattle.std.proofs.Common.{◌≡◌, ℕ, zero, suc, ◌<◌, ◌≤◌, inl, inr, List, length, Option, Some, None, sym, ap, ◌∙◌, subst, arith}
+use Rattle.std.proofs.lemmas.Bool.{cases_eq}
 use Rattle.std.specs.List.{Contains}
 use Rattle.snap_words.specs.Shape.{IsOneOf}
 use Rattle.snap_semantics.specs.Table.{who}
@@ -10,7 +10,7 @@ use Rattle.snap_semantics.specs.declared.process.Op.{Op}
 use Rattle.snap_semantics.specs.declared.process.Op.TheVariants.{Scan, Update}
 use Rattle.snap_semantics.specs.declared.process.Outcome.{Outcome}
 use Rattle.snap_semantics.specs.declared.process.Outcome.TheVariants as outcomes
-use Rattle.snap_runs.specs.Operation.{Action, IsOperation, Operation, Sees, Sets, TookPlace}
+use Rattle.snap_runs.specs.Operation.{Action, Sees, Sets, TookPlace}
 use Rattle.snap_runs.specs.Run.{Run, IsValidRun, item, outcome}
 use Rattle.snap_runs.specs.Scan.{FinishedScan}
 use Rattle.snap_runs.specs.Update.{IsDone, PendingUpdate}

@@ -1,11 +1,9 @@
 -- What two threads are told, by hand: process 1 updates the only word to 5 and is told of the end, and then process 2 scans. A scan that
 -- is answered 5 leaves it linearizable, and one that is answered 0 does not.
-use Rattle.std.proofs.Common.{◌≡◌, ℕ, zero, suc, ◌+◌, ◌<◌, ◌≤◌, ◌⊎◌, inl, inr, Bool, true, false, List, [], ◌∷◌, length, slice_index_or, nat_eq, eqb-true, if◌then◌else◌, Option, Some, None, refl, sym, ap, ◌∙◌, subst, arith}
-use Rattle.std.proofs.lemmas.Bool.{cases_eq}
+use Rattle.std.proofs.Common.{◌≡◌, ℕ, zero, suc, ◌<◌, ◌⊎◌, inl, inr, Bool, true, false, List, [], ◌∷◌, length, slice_index_or, nat_eq, if◌then◌else◌, Option, Some, None, refl, sym, ap, ◌∙◌, subst, arith}
 use Rattle.std.proofs.lemmas.List.{get_or_default}
 use Rattle.std.proofs.lemmas.List.Elements.{All-from_recursion, All-head, All-tail, All-weaker}
 use Rattle.std.specs.List.{All, AllByRecursion, Contains}
-use Rattle.snap_semantics.specs.declared.process.Item.{Item}
 use Rattle.snap_semantics.specs.declared.process.Item.TheVariants.{Call, Step}
 use Rattle.snap_semantics.specs.declared.process.Op.{Op}
 use Rattle.snap_semantics.specs.declared.process.Op.TheVariants.{Scan, Update}
@@ -164,10 +162,13 @@ in_time = (
 
 apart : Pairs Apart in_order
 apart = (
-  ((
-    λ same. omega (arith, same),
-    λ h. let is : ◌≡◌ {A = Option ℕ} (Some 6) (Some h.0) = h.1 in let e : 6 ≡ h.0 = cc in let lt = h.2 in omega (arith, e, lt),
-  ), tt),
+  (
+    (
+      λ same. omega (arith, same),
+      λ h. let is : ◌≡◌ {A = Option ℕ} (Some 6) (Some h.0) = h.1 in let e : 6 ≡ h.0 = cc in let lt = h.2 in omega (arith, e, lt),
+    ),
+    tt,
+  ),
   (tt, tt),
 )
 
@@ -234,5 +235,5 @@ stale_scan_is_not_linearizable h =
     let second : slice_index_or os k.0 update ≡ scan 0 = sym other_default ∙ k.2 in
     let ended : EndedBefore update (scan 0) = (3, refl, omega arith) in
     let lt : j.0 < k.0 = h.1.order j.0 k.0 update j.1 k.1
-        (subst (λ (a : Operation). EndedBefore a (slice_index_or os k.0 update)) (sym first) (subst (EndedBefore update) (sym second) ended)) in
+    (subst (λ (a : Operation). EndedBefore a (slice_index_or os k.0 update)) (sym first) (subst (EndedBefore update) (sym second) ended)) in
     too_late os 0 j.0 k.0 one h.1.runs j.1 first lt k.1 k.2

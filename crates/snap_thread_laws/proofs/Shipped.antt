@@ -1,25 +1,23 @@
 -- What threads are told of U, B and M is linearizable.
-use Rattle.std.proofs.Common.{◌≡◌, ℕ, ◌+◌, ◌<◌, ◌≤◌, List, length, map, refl, sym, ap, ◌∙◌, subst, arith}
+use Rattle.std.proofs.Common.{◌≡◌, ℕ, ◌+◌, ◌≤◌, List, length, map, sym, ap, ◌∙◌, subst, arith}
 use Rattle.snap_words.specs.Shape.{Counts}
 use Rattle.snap_words.specs.declared.kind.KindTag.{KindTag}
 use Rattle.snap_words.specs.declared.kind.KindTag.TheVariants as kind
 use Rattle.snap_semantics.specs.declared.process.Item.{Item}
 use Rattle.snap_sched.specs.ScriptText.{Script}
-use Rattle.snap_runs.specs.Linearization.{IsLinearizable, IsLinearization}
-use Rattle.snap_runs.specs.Operation.{Operation}
+use Rattle.snap_runs.specs.Linearization.{IsLinearizable}
 use Rattle.snap_runs.specs.Run.{IsValidRun, Run}
 use Rattle.snap_promises.specs.Kept.{NumbersSuffice, RunsKeepPromises}
-use Rattle.snap_live_desk.specs.Shown.{SeatView}
 use Rattle.snap_live_desk.specs.Turns.{run_of, setting_of, turns_of}
 use Rattle.snap_live_desk.specs.declared.seat.Turn.{Turn}
 use Rattle.snap_live_desk.specs.declared.seat_state.Setting.{Setting}
-use Rattle.snap_live.specs.LiveRun.{IsLive, turns_at}
+use Rattle.snap_live.specs.LiveRun.{IsLive}
 use Rattle.snap_live.specs.Play.{IsPlay}
 use Rattle.snap_live.specs.Script.{script_at}
 use Rattle.snap_live.specs.Worker.{shown}
-use Rattle.snap_thread_laws.specs.DeskLaws.{DesksTellLinearizations, IsClosed, told_at}
+use Rattle.snap_thread_laws.specs.DeskLaws.{DesksTellLinearizations, told_at}
 use Rattle.snap_thread_laws.specs.ShippedLaws.{ClosedDesksAreLinearizable, IsShapeFor, IsToldLive, LiveRunsAreLinearizable, shipped_over}
-use Rattle.snap_thread_laws.specs.Told.{IsLinearizableAsTold, IsToldLinearization, Told, told_in}
+use Rattle.snap_thread_laws.specs.Told.{IsLinearizableAsTold, Told, told_in}
 use Rattle.snap_thread_laws.proofs.Closing.{seats_are_told}
 use Rattle.snap_thread_laws.proofs.Linear.{linearizations_are_told}
 

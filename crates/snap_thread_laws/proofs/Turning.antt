@@ -89,7 +89,7 @@ module _ (r : Run) (p : ℕ) where
       let first : Contains (turn_at t ∷ later (suc t)) (turn_at t) = (0, omega arith, refl) in
       subst (λ k. p ≡ who (item r (suc k)) → k < length r.items → Contains (later t) (turn_at k)) here
       (λ his below. subst (λ us. Contains us (turn_at t))
-        (ap (λ b. put_if b (turn_at t) (later (suc t))) (sym (eq-eqb p (who (item r (suc t))) his)) ∙ sym (next_turn t below)) first)
+      (ap (λ b. put_if b (turn_at t) (later (suc t))) (sym (eq-eqb p (who (item r (suc t))) his)) ∙ sym (next_turn t below)) first)
       mine lt
   there t s (suc more) e lt mine =
       let below : t < length r.items = omega (arith, e, lt) in
@@ -98,6 +98,7 @@ module _ (r : Run) (p : ℕ) where
 
   pub told_there : (s : ℕ) → s < length r.items → p ≡ who (item r (suc s)) → Contains (told_in r p) (turn_at s)
   told_there s lt mine = there 0 s s (omega arith) lt mine
+
   -- what the turn of a number is
   pub record IsOfItem (n : ℕ) (x : Item) (o : Outcome) : Type 0 where
     pub some : 0 < n

@@ -1,8 +1,8 @@
 -- What is printed of a live run, read again.
-use Rattle.std.proofs.Common.{◌≡◌, ℕ, suc, ◌+◌, ◌-◌, ◌<◌, ◌≤◌, List, [], ◌∷◌, ◌++◌, length, drop, codes, get_or, Ok, refl, sym, ap, ◌∙◌, subst, arith}
+use Rattle.std.proofs.Common.{◌≡◌, ℕ, suc, ◌+◌, ◌-◌, ◌<◌, ◌≤◌, List, ◌++◌, length, drop, Ok, refl, sym, ap, ◌∙◌, subst, arith}
 use Rattle.std.proofs.Math.Seq.{drop-append_seam}
 use Rattle.std.proofs.lemmas.List.Elements.{All-contains, All-from_get_or, All-from_recursion, recursion_from_All}
-use Rattle.std.specs.List.{All, AllByRecursion, Contains}
+use Rattle.std.specs.List.{AllByRecursion}
 use Rattle.snap_words.specs.Shape.{IsOneOf}
 use Rattle.snap_semantics.specs.Schedule.{Schedule, schedule_of}
 use Rattle.snap_semantics.specs.ScheduleText.{FitsItem, IsSchedule, schedule_text}
@@ -13,17 +13,15 @@ use Rattle.snap_report.specs.RunReport.{report_at}
 use Rattle.snap_runs.specs.Run.{Run, item, run_over}
 use Rattle.snap_runs.proofs.Calls.{item_one}
 use Rattle.snap_sched.specs.Laws.{PrintsAgain, ReadsOnlySpelled}
-use Rattle.snap_subject.specs.declared.subject.Subject.{Subject}
-use Rattle.snap_input.specs.Parts.{parts_of}
 use Rattle.snap_live_desk.specs.Turns.{run_of, turns_of}
 use Rattle.snap_live_desk.specs.declared.seat_state.OwnTurn.{OwnTurn}
 use Rattle.snap_live.specs.Play.{IsPlay}
 use Rattle.snap_live.specs.Script.{script_at}
-use Rattle.snap_live_output.specs.LiveOutput.{IsLiveText, Setup, setting, setup_of}
+use Rattle.snap_live_output.specs.LiveOutput.{IsLiveText, Setup, setting}
 use Rattle.snap_thread_laws.proofs.Turning.{told_there, turn_at}
 use Rattle.snap_live_laws.specs.Printed.{before_report, report_in}
 use Rattle.snap_live_laws.specs.RunAgain.{IsCut, IsReadAgain, LiveRunsAreCut, LiveRunsAreReadAgain, played}
-use Rattle.snap_live_laws.proofs.Inputs.{IsRead, input_read}
+use Rattle.snap_live_laws.proofs.Inputs.{input_read}
 use Rattle.snap_live_laws.proofs.Lengths.{schedule_short}
 use Rattle.snap_live_laws.proofs.PlaysFit.{play_fits, script_fits}
 use Rattle.snap_live_laws.proofs.Schedules.{cut_there}
@@ -54,7 +52,6 @@ module _ (g : Setup) (limit : ℕ) (text : List ℕ) (numbers : AllByRecursion F
 
   is_schedule : IsSchedule (played g live.items)
   is_schedule = record { shape = live.there.shape; processes = live.fits.all; few = live.short; fits = items_fit }
-
 
   cut_written : before_report (schedule_text (played g live.items) ++ report_at history (length live.items)) ≡ schedule_text (played g live.items)
   cut_written = cut_there (played g live.items) is_schedule (drop 9 (report_at history (length live.items)))

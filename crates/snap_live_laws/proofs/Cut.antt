@@ -1,26 +1,15 @@
 -- Where what is printed of a live run is cut: before the report stands the schedule.
-use Rattle.std.proofs.Common.{◌≡◌, ℕ, zero, suc, ◌+◌, ◌<◌, ◌≤◌, ◌^◌, ◌⊎◌, inl, inr, Bool, true, false, not, ◌&&◌, List, [], ◌∷◌, ◌++◌, append_assoc, length, map, take, drop, nat_eq, nat_le, ne_eqb, if◌then◌else◌, codes, decimal, bytes_eq, refl, sym, ap, ◌∙◌, subst, arith}
-use Rattle.std.proofs.lemmas.Bool.{and_from, and_parts}
+use Rattle.std.proofs.Common.{◌≡◌, ℕ, ◌<◌, ◌≤◌, ◌⊎◌, inl, inr, Bool, true, false, not, ◌&&◌, List, [], ◌∷◌, ◌++◌, append_assoc, length, map, nat_eq, ne_eqb, if◌then◌else◌, codes, refl, sym, ap, ◌∙◌, subst, arith}
+use Rattle.std.proofs.lemmas.Bool.{and_parts}
 use Rattle.std.specs.List.{AllByRecursion, list_all}
-use Rattle.snap_words.specs.Shape.{Counts, IsOneOf, IsShape, max_count}
-use Rattle.snap_semantics.specs.declared.process.Item.{Item}
-use Rattle.snap_semantics.specs.declared.process.Item.TheVariants as item
-use Rattle.snap_semantics.specs.declared.process.Op.{Op}
-use Rattle.snap_semantics.specs.declared.process.Op.TheVariants as op
-use Rattle.snap_semantics.specs.declared.text.Symbol.TheVariants as symbol
 use Rattle.snap_semantics.specs.Layout.{depth_behind, gap, layout, line_text, line_to, lines_text, parts_before, parts_behind, token_text}
-use Rattle.snap_semantics.specs.Schedule.{Schedule}
-use Rattle.snap_semantics.specs.ScheduleForms.{ItemForm, Steps, Calls, Crashes, spelled_form, spelled_shape, spelled_steps}
-use Rattle.snap_semantics.specs.ScheduleText.{FitsItem, FitsWords, IsSchedule, forms_of, item_onto, schedule_text, step_onto}
-use Rattle.snap_semantics.specs.Table.{who}
-use Rattle.snap_semantics.specs.Token.{Token, Identifier, Number, Sign, is_digit, onto_line}
+use Rattle.snap_semantics.specs.Token.{Token, is_digit, onto_line}
 use Rattle.snap_text.specs.Tokens.{IsSound}
 use Rattle.snap_text.proofs.Before.{bare_plain, is_bare, is_plain}
-use Rattle.snap_text.proofs.Decimals.{decimal_digits, decimal_some}
 use Rattle.snap_text.proofs.Digits.{digit_within}
 use Rattle.snap_text.proofs.Ends.{line_ends}
 use Rattle.snap_text.proofs.Printed.{joined_bare, space, space_bare, token_bare}
-use Rattle.snap_input.specs.Parts.{ends_part, full_lines, onto_part, parts_of, parts_of_lines}
+use Rattle.snap_input.specs.Parts.{ends_part, full_lines, onto_part, parts_of_lines}
 use Rattle.snap_live_laws.specs.Printed.{before_report, begins_report, lines_before_report}
 
 -- a line before others

@@ -49,7 +49,7 @@ crash_fits : (ts : List Token) → IfSome (crash_at_form ts) FitsForm
 unfolding crash_at_form
 crash_fits ts =
     found_bind FitsForm (number_at ts) _ (λ i e. found_bind FitsForm (keyword_at (codes "crash") i.1) _ (λ rest e. found_bind FitsForm (number_at rest) _ (λ turn e.
-      found_bind FitsForm (end_at turn.1) _ (λ end e. found_if FitsForm (is_turn turn.0) (script.Crash i.0 turn.0) tt))))
+    found_bind FitsForm (end_at turn.1) _ (λ end e. found_if FitsForm (is_turn turn.0) (script.Crash i.0 turn.0) tt))))
 
 pub form_fits : (ts : List Token) → AllByRecursion IsSound ts → IfSome (script_form ts) FitsForm
 unfolding script_form

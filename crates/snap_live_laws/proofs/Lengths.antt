@@ -1,5 +1,5 @@
 -- How long the text of a schedule is at most.
-use Rattle.std.proofs.Common.{◌≡◌, ℕ, zero, suc, ◌+◌, ◌*◌, ◌<◌, ◌≤◌, ◌^◌, Bool, true, false, List, [], ◌∷◌, ◌++◌, length, map, nat_eq, if◌then◌else◌, codes, decimal, refl, ap, ◌∙◌, arith}
+use Rattle.std.proofs.Common.{ℕ, suc, ◌+◌, ◌*◌, ◌<◌, ◌≤◌, ◌^◌, Bool, true, false, List, [], ◌∷◌, ◌++◌, length, nat_eq, if◌then◌else◌, codes, decimal, arith}
 use Rattle.std.proofs.lemmas.Fmt.{length-decimal-le}
 use Rattle.std.proofs.lemmas.List.{length-append}
 use Rattle.std.specs.List.{AllByRecursion}
@@ -8,11 +8,11 @@ use Rattle.snap_semantics.specs.declared.process.Item.{Item}
 use Rattle.snap_semantics.specs.declared.process.Item.TheVariants as item
 use Rattle.snap_semantics.specs.declared.process.Op.TheVariants as op
 use Rattle.snap_semantics.specs.declared.text.Symbol.TheVariants as symbol
-use Rattle.snap_semantics.specs.Layout.{line_text, lines_text}
+use Rattle.snap_semantics.specs.Layout.{line_text}
 use Rattle.snap_semantics.specs.Schedule.{Schedule}
 use Rattle.snap_semantics.specs.ScheduleForms.{ItemForm, Steps, Calls, Crashes, spelled_form, spelled_shape}
-use Rattle.snap_semantics.specs.ScheduleText.{IsSchedule, forms_of, forms_text, item_onto, schedule_text, step_onto}
-use Rattle.snap_semantics.specs.Token.{Identifier, Number, Sign, Token}
+use Rattle.snap_semantics.specs.ScheduleText.{IsSchedule, forms_of, forms_text, item_onto, schedule_text}
+use Rattle.snap_semantics.specs.Token.{Number, Sign}
 use Rattle.snap_live_laws.proofs.Schedules.{IsWithin, forms_within}
 
 -- a process or a word, a count of steps, and a number of 64 bits

@@ -1,5 +1,5 @@
 -- The numbers of the items of a play have 64 bits, as those of its script have.
-use Rattle.std.proofs.Common.{◌≡◌, ℕ, zero, suc, ◌+◌, Bool, true, false, List, [], ◌∷◌, length, Option, slice_index_or, refl, sym, subst, MatchBool}
+use Rattle.std.proofs.Common.{◌≡◌, ℕ, zero, suc, ◌+◌, Bool, true, false, List, [], ◌∷◌, Option, sym, subst, MatchBool}
 use Rattle.std.specs.List.{AllByRecursion}
 use Rattle.snap_semantics.specs.declared.process.Item.{Item}
 use Rattle.snap_semantics.specs.declared.process.Item.TheVariants.{Step, Call, Crash}
@@ -9,8 +9,8 @@ use Rattle.snap_semantics.specs.declared.process.Outcome.TheVariants as outcome
 use Rattle.snap_semantics.specs.ScheduleText.{FitsItem, FitsWords}
 use Rattle.snap_sched.specs.ScriptText.{Script}
 use Rattle.snap_live_desk.specs.declared.seat_state.OwnTurn.{OwnTurn}
-use Rattle.snap_live.specs.Play.{Due, Does, IsCallOf, IsCrash, IsDue, IsPlay, IsStep, Moves, Plays, after_call, after_step, busy, over, rest}
-use Rattle.snap_live.specs.Script.{crashes_behind, no_script, script_at}
+use Rattle.snap_live.specs.Play.{Due, Does, IsCallOf, IsCrash, IsDue, IsPlay, IsStep, Plays, after_call, after_step, busy, over, rest}
+use Rattle.snap_live.specs.Script.{crashes_behind, script_at}
 use Rattle.snap_live_laws.proofs.ScriptsFit.{FitsScript}
 
 -- what is due of operations whose numbers have 64 bits

@@ -1,5 +1,5 @@
 -- The numbers of scripts that were read have 64 bits.
-use Rattle.std.proofs.Common.{◌≡◌, ℕ, zero, suc, ◌+◌, Bool, true, false, ◌&&◌, List, [], ◌∷◌, ◌++◌, length, Option, Some, None, Result, Ok, Err, nat_eq, nat_le, nat_lt, if◌then◌else◌, IfOk, IfSome, refl, subst}
+use Rattle.std.proofs.Common.{◌≡◌, ℕ, zero, suc, ◌+◌, Bool, true, false, ◌&&◌, List, [], ◌∷◌, ◌++◌, length, Option, Some, None, Result, Ok, Err, nat_eq, nat_le, nat_lt, if◌then◌else◌, IfOk, IfSome, subst}
 use Rattle.std.specs.List.{AllByRecursion}
 use Rattle.snap_words.specs.Shape.{Counts}
 use Rattle.snap_semantics.specs.declared.process.Op.{Op}
@@ -12,7 +12,7 @@ use Rattle.snap_semantics.specs.ScheduleText.{FitsWords}
 use Rattle.snap_semantics.specs.Token.{TextLine, Token, text_lines}
 use Rattle.snap_text.proofs.Sound.{AreSound, lines_sound}
 use Rattle.snap_sched.specs.ScriptForms.{ops_of, script_form, script_process}
-use Rattle.snap_sched.specs.ScriptText.{Script, Scripts, admitted_script, crashes_again, script_line, script_lines, script_of, scripts_from, scripts_of, scripts_of_lines}
+use Rattle.snap_sched.specs.ScriptText.{Script, Scripts, admitted_script, crashes_again, script_line, script_lines, scripts_from, scripts_of, scripts_of_lines}
 use Rattle.snap_sched.specs.declared.script_forms.ScriptForm.{ScriptForm}
 use Rattle.snap_sched.specs.declared.script_forms.ScriptForm.TheVariants as script
 use Rattle.snap_live_laws.proofs.FormsFit.{FitsForm, form_fits}
@@ -43,7 +43,7 @@ line_fits n before line h =
     answered_bind FitsForm FitsForm (form_or (refusal.BadItem line.number) script_form line.tokens) (admitted_script n before line.number)
     (tokens_fit (refusal.BadItem line.number) line.tokens h)
     (λ form fits. admitted_by (refusal.BadItem line.number) (refusal.NoSuchProcess line.number) form (crashes_again before form)
-      (nat_le 1 (script_process form) && nat_le (script_process form) n) fits)
+    (nat_le 1 (script_process form) && nat_le (script_process form) n) fits)
 
 one_more : (before : List ScriptForm) (form : ScriptForm) → AllByRecursion FitsForm before → FitsForm form → AllByRecursion FitsForm (before ++ form ∷ [])
 one_more [] form h fits = (fits, tt)
@@ -85,7 +85,7 @@ all_fit (line ∷ lines) h =
     answered_bind (λ (shape : Counts). Unit {0}) (λ (s : Scripts). AllByRecursion FitsScript s.scripts) (form_or refusal.BadShape shape_form line.tokens) _
     (any (form_or refusal.BadShape shape_form line.tokens))
     (λ shape some. answered_bind (AllByRecursion FitsForm) (λ (s : Scripts). AllByRecursion FitsScript s.scripts) (script_lines shape.n [] lines) _
-      (lines_fit shape.n [] lines tt h.1) (λ forms fit. from_fit forms 1 shape.n fit))
+    (lines_fit shape.n [] lines tt h.1) (λ forms fit. from_fit forms 1 shape.n fit))
 
 within : (b : Bool) (r : Result Scripts ScheduleRefusal) → IfOk r (λ s. AllByRecursion FitsScript s.scripts) →
     IfOk (if b then Err refusal.TooLong else r) (λ s. AllByRecursion FitsScript s.scripts)

@@ -1,6 +1,5 @@
 -- What is printed of a live run, run again.
-use Rattle.std.specs.Prelude.{◌≡◌, ℕ, ◌≤◌, List, [], ◌∷◌, ◌++◌, length, Ok, codes}
-use Rattle.snap_semantics.specs.Report.{position_line}
+use Rattle.std.specs.Prelude.{◌≡◌, ℕ, ◌≤◌, List, ◌++◌, length, Ok}
 use Rattle.snap_semantics.specs.Schedule.{Schedule, schedule_of}
 use Rattle.snap_semantics.specs.ScheduleText.{IsSchedule, schedule_text}
 use Rattle.snap_semantics.specs.declared.process.Item.{Item}

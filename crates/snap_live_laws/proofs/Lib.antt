@@ -1,0 +1,8 @@
+mod Cut
+pub mod Schedules
+mod Lengths
+mod FormsFit
+mod ScriptsFit
+mod PlaysFit
+pub mod Inputs
+mod Again

@@ -1,0 +1,21 @@
+//! What is printed of a live run, run again, is the same run.
+#![tactic(auto)]
+
+ghost use Rattle.snap_live_laws.specs.RunAgain.{LiveRunsAreCut, LiveRunsAreReadAgain};
+
+use snap_sched::{prints_again, reads_only_spelled};
+
+/// What is printed of a live run is its whole history, as the text of a schedule, and then the
+/// report of its end.
+pub fn live_runs_are_cut()
+    ensures { LiveRunsAreCut }
+{}
+
+/// What is printed of a live run before its report, read as a schedule, has the items of that run:
+/// the run over it is the same, and so is its report.
+pub fn live_runs_are_read_again()
+    ensures { LiveRunsAreReadAgain }
+{
+    prints_again();
+    reads_only_spelled();
+}

@@ -1,0 +1,5 @@
+use Rattle.snap_rerun_laws.proofs.Rerun.{run_again}
+use Rattle.snap_rerun_laws.proofs.live_runs_are_run_again.Goals as goal
+
+pub returns : goal.returns
+returns c = run_again c.live_runs_are_cut.ensures c.live_runs_are_read_again.ensures

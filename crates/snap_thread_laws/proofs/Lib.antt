@@ -1,0 +1,7 @@
+pub mod Turning
+mod Operations
+mod Linear
+mod Closing
+mod Noting
+mod Shipped
+mod Samples

@@ -1,0 +1,5 @@
+use Rattle.snap_thread_laws.proofs.Shipped.{closed_desks}
+use Rattle.snap_thread_laws.proofs.closed_desks_are_linearizable.Goals as goal
+
+pub returns : goal.returns
+returns c = closed_desks c.shipped_runs_keep_promises.ensures

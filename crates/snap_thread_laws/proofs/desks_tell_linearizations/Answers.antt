@@ -1,0 +1,5 @@
+use Rattle.snap_thread_laws.proofs.Shipped.{desks_tell}
+use Rattle.snap_thread_laws.proofs.desks_tell_linearizations.Goals as goal
+
+pub returns : goal.returns
+returns c = desks_tell

@@ -1,0 +1,5 @@
+use Rattle.snap_thread_laws.proofs.Noting.{notes_order}
+use Rattle.snap_thread_laws.proofs.notes_order_operations.Goals as goal
+
+pub returns : goal.returns
+returns c = notes_order

@@ -1,0 +1,4 @@
+pub mod Told
+pub mod RunLaws
+pub mod DeskLaws
+pub mod ShippedLaws

@@ -1,5 +1,5 @@
 -- What threads are told of U, B and M is linearizable.
-use Rattle.std.proofs.Common.{◌≡◌, ℕ, ◌+◌, ◌≤◌, List, length, map, sym, ap, ◌∙◌, subst, arith}
+use Rattle.std.proofs.Common.{Bool, ◌≡◌, ℕ, ◌+◌, ◌≤◌, List, length, map, sym, ap, ◌∙◌, subst, arith}
 use Rattle.snap_words.specs.Shape.{Counts}
 use Rattle.snap_words.specs.declared.kind.KindTag.{KindTag}
 use Rattle.snap_words.specs.declared.kind.KindTag.TheVariants as kind
@@ -50,16 +50,16 @@ pub closed_desks : ((g : KindTag) → RunsKeepPromises g) → ClosedDesksAreLine
 closed_desks kept g shape seats r fit h = desks_tell (shipped_over g shape) seats r h (shipped_run kept g shape r fit h.of_base h.short)
 
 -- the threads of a live run are told the turns of its record
-told_live : (base : Setting) (scripts : List Script) (limit : ℕ) (r : Run) (turns : List (List Turn)) → IsLive base scripts limit r turns → IsToldLive base scripts turns (told_in r)
-told_live base scripts limit r turns h = record {
+told_live : (may : ℕ → ℕ → Bool → Type 0) (base : Setting) (scripts : List Script) (limit : ℕ) (r : Run) (turns : List (List Turn)) → IsLive may base scripts limit r turns → IsToldLive base scripts turns (told_in r)
+told_live may base scripts limit r turns h = record {
   handed = λ k lt. (h.played k lt).told ∙ ap (λ (b : Setting). map shown (turns_of b (k + 1) r.items)) (sym h.of_base);
   plays = λ k lt. subst (λ (b : Setting). IsPlay (script_at scripts k) (turns_of b (k + 1) r.items)) (sym h.of_base) (h.played k lt).plays;
 }
 
 pub live_runs : ((g : KindTag) → RunsKeepPromises g) → LiveRunsAreLinearizable
-live_runs kept g shape scripts limit r turns fit h fits short =
+live_runs kept may g shape scripts limit r turns fit h fits short =
     let words : r.shape.w ≡ shape.w = ap (λ (b : Setting). b.shape.w) h.of_base in (
       told_in r,
-      told_live (shipped_over g shape) scripts limit r turns h,
+      told_live may (shipped_over g shape) scripts limit r turns h,
       subst (λ (w : ℕ). IsLinearizableAsTold w (told_in r)) words (told_of r fits (shipped_run kept g shape r fit h.of_base short)),
     )

@@ -1,5 +1,5 @@
 -- What threads are told of runs of U, B and M, at a desk that was closed and by a live run, is linearizable.
-use Rattle.std.specs.Prelude.{◌≡◌, ℕ, ◌+◌, ◌<◌, ◌≤◌, List, length, map, true}
+use Rattle.std.specs.Prelude.{◌≡◌, ℕ, ◌+◌, ◌<◌, ◌≤◌, Bool, List, length, map, true}
 use Rattle.snap_words.specs.Kind.{fits}
 use Rattle.snap_words.specs.Shape.{Counts, IsShape}
 use Rattle.snap_words.specs.declared.kind.KindTag.{KindTag}
@@ -35,9 +35,9 @@ pub record IsToldLive (base : Setting) (scripts : List Script) (turns : List (Li
   pub handed : (k : ℕ) → k < base.shape.n → turns_at turns k ≡ map shown (told (k + 1))
   pub plays : (k : ℕ) → k < base.shape.n → IsPlay (script_at scripts k) (told (k + 1))
 
--- It is linearizable, where the listing is a shipped one.
+-- It is linearizable, where the listing is a shipped one, whatever the gate of the run may answer.
 abbrev pub LiveRunsAreLinearizable : Type 0
-LiveRunsAreLinearizable = (g : KindTag) (shape : Counts) (scripts : List Script) (limit : ℕ) (kept : Run)
+LiveRunsAreLinearizable = (may : ℕ → ℕ → Bool → Type 0) (g : KindTag) (shape : Counts) (scripts : List Script) (limit : ℕ) (kept : Run)
     (turns : List (List Turn)) → IsShapeFor g shape →
-    IsLive (shipped_over g shape) scripts limit kept turns → IsValidRun kept → length kept.items ≤ 1000000 →
+    IsLive may (shipped_over g shape) scripts limit kept turns → IsValidRun kept → length kept.items ≤ 1000000 →
     (told : Told) × IsToldLive (shipped_over g shape) scripts turns told × IsLinearizableAsTold shape.w told

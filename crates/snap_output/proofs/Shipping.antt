@@ -31,7 +31,8 @@ use Rattle.snap_input.proofs.Answered.{both, not_refused, passed, same_answer, w
 use Rattle.snap_output.specs.Headline.{PrintsTheRun, ListsBackAsSource, AsksFor, IsScheduleFor, AreSchedulesFor, RunsWhatIsAsked, WritesTheRun, SnapshotListingsAreSnapshots, texts_in}
 use Rattle.snap_shipped.specs.Shipped.{shipped}
 use Rattle.snap_input.specs.Input.{checked_parts, listing_for, parted, texts_for}
-use Rattle.snap_output.specs.Output.{audit_listing, batch_text, batched, checked_schedules, debug_text, of_task, output_of, run_text, schedules_for, verdicts_text}
+use Rattle.snap_output.specs.Output.{audit_listing, batch_text, batched, checked_schedules, debug_text, of_task, output_of, run_text, verdicts_text}
+use Rattle.snap_survey_output.specs.Surveys.{schedules_for}
 use Rattle.snap_input.specs.Parts.{part, parts_of}
 use Rattle.snap_perform.proofs.ToTheEnd.{is_run}
 use Rattle.snap_perform.specs.Perform.{fitting, perform_listing, perform_of, schedule_for}

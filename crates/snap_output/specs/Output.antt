@@ -5,16 +5,15 @@ use Rattle.snap_semantics.specs.declared.refusal.Refusal.TheVariants as refusal
 use Rattle.snap_semantics.specs.Answers.{◌>>=◌, refused_as}
 use Rattle.snap_image_format.specs.Assembly.{assembled, listed, upgraded}
 use Rattle.snap_semantics.specs.Listing.{listing_of}
-use Rattle.snap_semantics.specs.Schedule.{Schedule}
 use Rattle.snap_semantics.specs.Source.{Source}
 use Rattle.snap_semantics.specs.Spelling.{kind_keyword}
 use Rattle.snap_runs.specs.Run.{run_over}
 use Rattle.snap_audit.specs.VerdictText.{audit_text}
 use Rattle.snap_runner.specs.End.{end_report}
 use Rattle.snap_batch.specs.Reports.{reports_text}
-use Rattle.snap_certify_output.specs.CertifyOutput.{certificates_text}
+use Rattle.snap_certify_output.specs.Output.{certificates_text}
 use Rattle.snap_lint_text.specs.Lint.{lint_of}
-use Rattle.snap_survey_output.specs.Surveys.{survey_text}
+use Rattle.snap_survey_output.specs.Surveys.{schedules_for, survey_text}
 use Rattle.snap_input.specs.Input.{listing_for, parted, texts_for}
 use Rattle.snap_input.specs.Parts.{part, parts_of}
 use Rattle.snap_perform.specs.Perform.{perform_listing, schedule_for}
@@ -38,11 +37,6 @@ audit_listing l schedule = do
 
 abbrev pub verdicts_text : Source → List (List ℕ) → Result (List ℕ) Refusal
 verdicts_text l texts = audit_listing l (part 0 texts)
-
--- the schedules that texts are, for this listing, or the first reason why one is none
-abbrev pub schedules_for : Source → List (List ℕ) → Result (List Schedule) Refusal
-schedules_for l [] = Ok []
-schedules_for l (text ∷ texts) = schedule_for l text >>= λ s. schedules_for l texts >>= λ ss. Ok (s ∷ ss)
 
 -- schedules: the report of the end of each
 unfoldable pub batch_text : Source → List (List ℕ) → Result (List ℕ) Refusal

@@ -2,37 +2,20 @@
 ghost use Rattle.std.specs.Prelude.{◌≡◌, ◌++◌, ◌<◌, ◌^◌, IfOk, OnOk, length, map};
 ghost use Rattle.snap_semantics.specs.Answers.{Answers};
 ghost use Rattle.snap_batch.specs.Reports.{numbered_report, reports_text};
-ghost use Rattle.snap_output.specs.Output.{batch_text, schedules_for};
+ghost use Rattle.snap_survey_output.specs.Surveys.{schedules_for};
+ghost use Rattle.snap_output.specs.Output.{batch_text};
 ghost use Rattle.snap_output.specs.Prepared.{batch_reports};
 
 use snap_asm_program::Program;
 use snap_batch::{batch, batch_alone};
-use snap_perform::schedule_for;
 use snap_report::Report;
 use snap_sched::Schedule;
 use snap_semantics::{Fault, Refusal};
+use snap_survey_output::schedules_for;
 use snap_text::{push_number, push_text};
-use snap_words::{Bits, Kind, KindTag, Multi, Seq};
+use snap_words::{Bits, KindTag, Multi, Seq};
 use std::alloc::{AllocError, Global};
 use std::thread::Threads;
-
-/// Reads schedules whose shapes fit the kind of a program.
-fn schedules_for<K: Kind>(
-    alloc: Global,
-    program: &Program,
-    texts: &[&[u8]],
-) -> Result<Vec<Schedule>, Fault<Refusal>>
-    requires { program.now.kind ≡ K.TAG }
-    ensures { Answers (λ ss. ss.items) result
-        (schedules_for program.now (map (λ text. text.now) texts.now)) }
-{
-    let mut schedules = Vec::new(alloc);
-    for text in texts {
-        let schedule = schedule_for::<K>(alloc, program, text)?;
-        schedules.push(schedule)?;
-    }
-    Ok(schedules)
-}
 
 /// Reads schedules whose shapes fit a program.
 fn schedules_of(

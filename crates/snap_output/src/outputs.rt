@@ -6,7 +6,7 @@ ghost use Rattle.snap_semantics.specs.declared.refusal.Refusal.{Refusal};
 ghost use Rattle.snap_input.specs.Input.{checked_parts, parted, texts_for};
 ghost use Rattle.snap_input.specs.Parts.{parts_of};
 ghost use Rattle.snap_output.specs.AtOnce.{found_at_once};
-ghost use Rattle.snap_certify_output.specs.CertifyOutput.{certificates_text};
+ghost use Rattle.snap_certify_output.specs.Output.{certificates_text};
 ghost use Rattle.snap_output.specs.Output.{batched, checked_schedules, debug_text, surveyed};
 ghost use Rattle.snap_output.specs.Output.{of_task, output_of, run_text, verdicts_text};
 ghost use Rattle.snap_output.specs.Prepared.{batch_reports, prepared_text};

@@ -1,5 +1,5 @@
 use Rattle.std.proofs.Common.{map, sym}
-use Rattle.snap_certify_output.specs.CertifyOutput.{certificates_text}
+use Rattle.snap_certify_output.specs.Output.{certificates_text}
 use Rattle.snap_input.specs.Parts.{parts_of}
 use Rattle.snap_input.proofs.Parting.{of_parts}
 use Rattle.snap_output.proofs.outputs.certify.Goals as goal

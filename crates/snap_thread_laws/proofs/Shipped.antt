@@ -56,8 +56,8 @@ told_live may base scripts limit r turns h = record {
   plays = λ k lt. subst (λ (b : Setting). IsPlay (script_at scripts k) (turns_of b (k + 1) r.items)) (sym h.of_base) (h.played k lt).plays;
 }
 
-pub live_runs : ((g : KindTag) → RunsKeepPromises g) → LiveRunsAreLinearizable
-live_runs kept may g shape scripts limit r turns fit h fits short =
+pub live_runs : (may : ℕ → ℕ → Bool → Type 0) → ((g : KindTag) → RunsKeepPromises g) → LiveRunsAreLinearizable may
+live_runs may kept g shape scripts limit r turns fit h fits short =
     let words : r.shape.w ≡ shape.w = ap (λ (b : Setting). b.shape.w) h.of_base in (
       told_in r,
       told_live may (shipped_over g shape) scripts limit r turns h,

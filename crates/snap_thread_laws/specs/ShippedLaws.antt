@@ -35,9 +35,9 @@ pub record IsToldLive (base : Setting) (scripts : List Script) (turns : List (Li
   pub handed : (k : ℕ) → k < base.shape.n → turns_at turns k ≡ map shown (told (k + 1))
   pub plays : (k : ℕ) → k < base.shape.n → IsPlay (script_at scripts k) (told (k + 1))
 
--- It is linearizable, where the listing is a shipped one, whatever the gate of the run may answer.
-abbrev pub LiveRunsAreLinearizable : Type 0
-LiveRunsAreLinearizable = (may : ℕ → ℕ → Bool → Type 0) (g : KindTag) (shape : Counts) (scripts : List Script) (limit : ℕ) (kept : Run)
+-- It is linearizable, where the listing is a shipped one, where the gate of the run may answer `may`.
+abbrev pub LiveRunsAreLinearizable : (may : ℕ → ℕ → Bool → Type 0) → Type 0
+LiveRunsAreLinearizable may = (g : KindTag) (shape : Counts) (scripts : List Script) (limit : ℕ) (kept : Run)
     (turns : List (List Turn)) → IsShapeFor g shape →
     IsLive may (shipped_over g shape) scripts limit kept turns → IsValidRun kept → length kept.items ≤ 1000000 →
     (told : Told) × IsToldLive (shipped_over g shape) scripts turns told × IsLinearizableAsTold shape.w told

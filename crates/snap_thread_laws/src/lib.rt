@@ -5,6 +5,7 @@ ghost use Rattle.snap_thread_laws.specs.RunLaws.{LinearizationsAreTold, Operatio
 ghost use Rattle.snap_thread_laws.specs.DeskLaws.{DesksTellLinearizations, NotesOrderOperations, SeatsAreToldTheRecord, SeatsOwnWhatTheySaw};
 ghost use Rattle.snap_thread_laws.specs.ShippedLaws.{ClosedDesksAreLinearizable, LiveRunsAreLinearizable};
 
+use snap_live::Gate;
 use snap_promises::shipped_runs_keep_promises;
 
 /// The operations of a run are those of which its threads are told.
@@ -39,9 +40,10 @@ pub fn closed_desks_are_linearizable()
     shipped_runs_keep_promises();
 }
 
-/// What the threads of a live run of U, B or M were told is linearizable.
-pub fn live_runs_are_linearizable()
-    ensures { LiveRunsAreLinearizable }
+/// What the threads of a live run of U, B or M were told is linearizable, whatever its gate
+/// answered.
+pub fn live_runs_are_linearizable<G: Gate>(gate: &G)
+    ensures { LiveRunsAreLinearizable (G.may_answer gate.now) }
 {
     shipped_runs_keep_promises();
 }

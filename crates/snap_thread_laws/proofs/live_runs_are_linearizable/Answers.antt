@@ -2,4 +2,4 @@ use Rattle.snap_thread_laws.proofs.Shipped.{live_runs}
 use Rattle.snap_thread_laws.proofs.live_runs_are_linearizable.Goals as goal
 
 pub returns : goal.returns
-returns c = live_runs c.shipped_runs_keep_promises.ensures
+returns g c = live_runs _ c.shipped_runs_keep_promises.ensures

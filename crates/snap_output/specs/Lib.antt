@@ -1,2 +1,4 @@
 pub mod Output
+pub mod Prepared
+pub mod AtOnce
 pub mod Headline

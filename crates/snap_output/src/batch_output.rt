@@ -1,12 +1,12 @@
 //! A listing under many schedules.
-ghost use Rattle.std.specs.Prelude.{◌≡◌, ◌++◌, ◌<◌, ◌^◌, OnOk, length, map};
+ghost use Rattle.std.specs.Prelude.{◌≡◌, ◌++◌, ◌<◌, ◌^◌, IfOk, OnOk, length, map};
 ghost use Rattle.snap_semantics.specs.Answers.{Answers};
-ghost use Rattle.snap_runner.specs.End.{end_report};
 ghost use Rattle.snap_batch.specs.Reports.{numbered_report, reports_text};
 ghost use Rattle.snap_output.specs.Output.{batch_text, schedules_for};
+ghost use Rattle.snap_output.specs.Prepared.{batch_reports};
 
 use snap_asm_program::Program;
-use snap_batch::batch;
+use snap_batch::{batch, batch_alone};
 use snap_perform::schedule_for;
 use snap_report::Report;
 use snap_sched::Schedule;
@@ -34,6 +34,22 @@ fn schedules_for<K: Kind>(
     Ok(schedules)
 }
 
+/// Reads schedules whose shapes fit a program.
+fn schedules_of(
+    alloc: Global,
+    program: &Program,
+    texts: &[&[u8]],
+) -> Result<Vec<Schedule>, Fault<Refusal>>
+    ensures { Answers (λ ss. ss.items) result
+        (schedules_for program.now (map (λ text. text.now) texts.now)) }
+{
+    match program.kind() {
+        KindTag::Seq => schedules_for::<Seq>(alloc, program, texts),
+        KindTag::Bits => schedules_for::<Bits>(alloc, program, texts),
+        KindTag::Multi => schedules_for::<Multi>(alloc, program, texts),
+    }
+}
+
 /// Adds a report behind the line of its number.
 #[tactic(auto, using(snap_text::proofs::Texts::joined))]
 fn push_report(out: &mut Vec<u8>, number: u64, report: &Report) -> Result<(), AllocError>
@@ -56,38 +72,48 @@ fn push_reports(out: &mut Vec<u8>, reports: &[Report]) -> Result<(), AllocError>
     Ok(())
 }
 
-/// The reports of a program of a kind under many schedules.
-#[tactic(auto, unfolding(crate::specs::Output::batch_text))]
-fn batch_kind<K: Kind>(
-    rt: &(impl Threads + Sync),
-    alloc: Global,
-    program: &Program,
-    texts: &[&[u8]],
-) -> Result<Vec<u8>, Fault<Refusal>>
-    requires { program.now.kind ≡ K.TAG }
-    ensures { Answers (λ out. out.items) result
-        (batch_text program.now (map (λ text. text.now) texts.now)) }
+/// Reports, each behind the line of its number.
+fn reports_text(alloc: Global, reports: &[Report]) -> Result<Vec<u8>, AllocError>
+    requires { length reports.now < 2 ^ 64 }
+    ensures { IfOk result (λ out. out.items ≡ reports_text 1 reports.now) }
 {
-    let schedules = schedules_for::<K>(alloc, program, texts)?;
-    let reports = batch(rt, alloc, program, schedules.as_slice())?;
     let mut out = Vec::new(alloc);
-    push_reports(&mut out, reports.as_slice())?;
+    push_reports(&mut out, reports)?;
     Ok(out)
 }
 
-/// The report of the end of each of many schedules, each behind the line of its number.
-pub fn batch_program(
-    rt: &(impl Threads + Sync),
-    alloc: Global,
-    program: &Program,
-    texts: &[&[u8]],
-) -> Result<Vec<u8>, Fault<Refusal>>
-    ensures { Answers (λ out. out.items) result
-        (batch_text program.now (map (λ text. text.now) texts.now)) }
-{
-    match program.kind() {
-        KindTag::Seq => batch_kind::<Seq>(rt, alloc, program, texts),
-        KindTag::Bits => batch_kind::<Bits>(rt, alloc, program, texts),
-        KindTag::Multi => batch_kind::<Multi>(rt, alloc, program, texts),
+/// A batch that has yet to run: a program and its schedules.
+#[derive(Drop)]
+pub struct Batch {
+    program: Program,
+    schedules: Vec<Schedule>,
+}
+
+impl Batch {
+    /// The batch of a program and the schedules that texts are.
+    #[tactic(auto, unfolding(crate::specs::Output::batch_text))]
+    pub fn of(alloc: Global, program: Program, texts: &[&[u8]]) -> Result<Batch, Fault<Refusal>>
+        ensures { Answers batch_reports result
+            (batch_text program (map (λ text. text.now) texts.now)) }
+    {
+        let schedules = schedules_of(alloc, &program, texts)?;
+        Ok(Batch { program, schedules })
+    }
+
+    /// The report of the end of each schedule, each behind the line of its number. The schedules
+    /// run side by side.
+    pub fn reports(&self, rt: &(impl Threads + Sync), alloc: Global) -> Result<Vec<u8>, AllocError>
+        ensures { IfOk result (λ out. out.items ≡ batch_reports self.now) }
+    {
+        let reports = batch(rt, alloc, &self.program, self.schedules.as_slice())?;
+        reports_text(alloc, reports.as_slice())
+    }
+
+    /// The same in one thread.
+    pub fn reports_alone(&self, alloc: Global) -> Result<Vec<u8>, AllocError>
+        ensures { IfOk result (λ out. out.items ≡ batch_reports self.now) }
+    {
+        let reports = batch_alone(alloc, &self.program, self.schedules.as_slice())?;
+        reports_text(alloc, reports.as_slice())
     }
 }

@@ -1,8 +1,10 @@
 //! What is said of a text that is a listing.
-ghost use Rattle.std.specs.Prelude.{◌≡◌, IfOk};
+ghost use Rattle.std.specs.Prelude.{◌≡◌, ◌<◌, Err, IfOk, length};
 ghost use Rattle.snap_semantics.specs.Answers.{Answers, refused_as};
 ghost use Rattle.snap_semantics.specs.Listing.{listing_of};
 ghost use Rattle.snap_output.specs.Output.{check_line, check_of};
+ghost use Rattle.snap_semantics.specs.declared.fault.Fault.TheVariants.{Refused};
+ghost use Rattle.snap_semantics.specs.declared.refusal.ListingRefusal.TheVariants.{TooLong};
 ghost use Rattle.snap_semantics.specs.declared.refusal.Refusal.TheVariants as refusal;
 
 use snap_listing::{Listing, kind_keyword};
@@ -12,7 +14,8 @@ use std::alloc::{AllocError, Global};
 
 /// Reads a listing.
 fn read_listing(alloc: Global, text: &[u8]) -> Result<Listing, Fault<Refusal>>
-    ensures { Answers (λ l. l) result (refused_as refusal.Listing (listing_of text.now)) }
+    ensures listing { Answers (λ l. l) result (refused_as refusal.Listing (listing_of text.now)) }
+    ensures too_long { 65536 < length text.now → result ≡ Err (Refused (refusal.Listing TooLong)) }
 {
     Ok(snap_listing::read(alloc, text)?)
 }
@@ -34,7 +37,8 @@ fn check_line(alloc: Global, listing: &Listing) -> Result<Vec<u8>, AllocError>
 /// What is said of a text that is a listing, or why it is none.
 #[tactic(auto, unfolding(crate::specs::Output::check_of))]
 pub fn check_of(alloc: Global, text: &[u8]) -> Result<Vec<u8>, Fault<Refusal>>
-    ensures { Answers (λ out. out.items) result (check_of text.now) }
+    ensures output { Answers (λ out. out.items) result (check_of text.now) }
+    ensures too_long { 65536 < length text.now → result ≡ Err (Refused (refusal.Listing TooLong)) }
 {
     let listing = read_listing(alloc, text)?;
     Ok(check_line(alloc, &listing)?)

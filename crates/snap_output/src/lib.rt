@@ -9,6 +9,6 @@ mod headlines;
 mod outputs;
 
 pub use headlines::headline;
-pub use outputs::output;
+pub use outputs::{output, output_alone};
 pub use snap_perform::perform;
 pub use snap_tasks::Task;

@@ -1,14 +1,17 @@
 //! What the program writes for an input.
-ghost use Rattle.std.specs.Prelude.{◌≡◌, ◌≤◌, ◌<◌, Err, Ok, length, map};
+ghost use Rattle.std.specs.Prelude.{◌≡◌, ◌≤◌, ◌<◌, Err, Ok, Some, length, map};
 ghost use Rattle.snap_semantics.specs.Answers.{Answers};
 ghost use Rattle.snap_semantics.specs.declared.fault.Fault.TheVariants.{Refused};
 ghost use Rattle.snap_semantics.specs.declared.refusal.Refusal.{Refusal};
 ghost use Rattle.snap_input.specs.Input.{checked_parts, parted, texts_for};
 ghost use Rattle.snap_input.specs.Parts.{parts_of};
-ghost use Rattle.snap_output.specs.Output.{batched, checked_schedules, debug_text, of_task, output_of, run_text, verdicts_text};
+ghost use Rattle.snap_output.specs.AtOnce.{found_at_once};
+ghost use Rattle.snap_output.specs.Output.{batched, checked_schedules, debug_text};
+ghost use Rattle.snap_output.specs.Output.{of_task, output_of, run_text, verdicts_text};
+ghost use Rattle.snap_output.specs.Prepared.{batch_reports, prepared_text};
 
 use crate::audit_output::audit_program;
-use crate::batch_output::batch_program;
+use crate::batch_output::Batch;
 use crate::check_output::check_of;
 use snap_asm_program::Program;
 use snap_input::{
@@ -110,16 +113,11 @@ fn audit(alloc: Global, subject: Subject, input: &[u8]) -> Result<Vec<u8>, Fault
     audit_texts(alloc, &program, texts)
 }
 
-/// A listing under many schedules. Another number of parts is found before they are collected.
+/// A listing and many schedules. Another number of parts is found before they are collected.
 #[tactic(auto, unfolding(crate::specs::Output::batched))]
-fn batch(
-    rt: &(impl Threads + Sync),
-    alloc: Global,
-    subject: Subject,
-    input: &[u8],
-) -> Result<Vec<u8>, Fault<Refusal>>
+fn batch(alloc: Global, subject: Subject, input: &[u8]) -> Result<Batch, Fault<Refusal>>
     requires { length input.now ≤ 16777216 }
-    ensures output { Answers (λ out. out.items) result (batched subject (parts_of input.now)) }
+    ensures output { Answers batch_reports result (batched subject (parts_of input.now)) }
     ensures counted { (r : Refusal) → checked_schedules subject (parts_of input.now) ≡ Err r →
         result ≡ Err (Refused r) }
 {
@@ -127,30 +125,65 @@ fn batch(
     let parts = split_parts(alloc, input)?;
     let program = program_for(alloc, subject, parts.as_slice())?;
     let texts = texts_for(subject, parts.as_slice());
-    batch_program(rt, alloc, &program, texts)
+    Batch::of(alloc, program, texts)
 }
 
-/// The whole output for an input, or why there is none.
-#[tactic(auto, unfolding(crate::specs::Output::output_of))]
+/// What is found of an input in one thread.
+#[derive(Drop)]
+enum Prepared {
+    /// The whole output.
+    Text(Vec<u8>),
+    /// A batch whose reports are the output.
+    Batch(Batch),
+}
+
+/// What is found of an input in one thread, or why there is no output.
+#[tactic(auto, using(crate::proofs::AtOnce::of_text, crate::proofs::AtOnce::of_why), unfolding(crate::specs::Output::output_of))]
+fn prepare(alloc: Global, task: &Task, input: &[u8]) -> Result<Prepared, Fault<Refusal>>
+    ensures output { Answers prepared_text result (output_of task.now input.now) }
+    ensures at_once { (r : Refusal) → found_at_once task.now input.now ≡ Some r →
+        result ≡ Err (Refused r) }
+{
+    if input.len() > MAX_INPUT {
+        return Err(Fault::Refused(Refusal::InputTooLong));
+    }
+    match *task {
+        Task::Check => Ok(Prepared::Text(check_of(alloc, input)?)),
+        Task::Assemble => Ok(Prepared::Text(assemble(alloc, input)?)),
+        Task::List => Ok(Prepared::Text(list(alloc, input)?)),
+        Task::Upgrade => Ok(Prepared::Text(upgrade(alloc, input)?)),
+        Task::Run(subject) => Ok(Prepared::Text(run(alloc, subject, input)?)),
+        Task::Debug(subject) => Ok(Prepared::Text(debug(alloc, subject, input)?)),
+        Task::Audit(subject) => Ok(Prepared::Text(audit(alloc, subject, input)?)),
+        Task::Batch(subject) => Ok(Prepared::Batch(batch(alloc, subject, input)?)),
+    }
+}
+
+/// The whole output for an input, or why there is none. The schedules of a batch run side by side.
 pub fn output(
     rt: &(impl Threads + Sync),
     alloc: Global,
     task: &Task,
     input: &[u8],
 ) -> Result<Vec<u8>, Fault<Refusal>>
-    ensures { Answers (λ out. out.items) result (output_of task.now input.now) }
+    ensures output { Answers (λ out. out.items) result (output_of task.now input.now) }
+    ensures at_once { (r : Refusal) → found_at_once task.now input.now ≡ Some r →
+        result ≡ Err (Refused r) }
 {
-    if input.len() > MAX_INPUT {
-        return Err(Fault::Refused(Refusal::InputTooLong));
+    match prepare(alloc, task, input)? {
+        Prepared::Text(text) => Ok(text),
+        Prepared::Batch(batch) => Ok(batch.reports(rt, alloc)?),
     }
-    match *task {
-        Task::Check => check_of(alloc, input),
-        Task::Assemble => assemble(alloc, input),
-        Task::List => list(alloc, input),
-        Task::Upgrade => upgrade(alloc, input),
-        Task::Run(subject) => run(alloc, subject, input),
-        Task::Debug(subject) => debug(alloc, subject, input),
-        Task::Audit(subject) => audit(alloc, subject, input),
-        Task::Batch(subject) => batch(rt, alloc, subject, input),
+}
+
+/// The same in one thread.
+pub fn output_alone(alloc: Global, task: &Task, input: &[u8]) -> Result<Vec<u8>, Fault<Refusal>>
+    ensures output { Answers (λ out. out.items) result (output_of task.now input.now) }
+    ensures at_once { (r : Refusal) → found_at_once task.now input.now ≡ Some r →
+        result ≡ Err (Refused r) }
+{
+    match prepare(alloc, task, input)? {
+        Prepared::Text(text) => Ok(text),
+        Prepared::Batch(batch) => Ok(batch.reports_alone(alloc)?),
     }
 }

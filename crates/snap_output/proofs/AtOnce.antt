@@ -1,0 +1,83 @@
+-- What is refused at once, by the clauses of the calls that find it.
+use Rattle.std.proofs.Common.{◌≡◌, ℕ, Bool, true, false, List, [], ◌∷◌, ◌++◌, length, nat_lt, ◌<◌, ◌≤◌}
+use Rattle.std.proofs.Common.{take, drop, refl, sym, ◌∙◌, ap}
+use Rattle.std.specs.Prelude.{Option, Some, None, Result, Ok, Err, option_map, bytes_eq, if◌then◌else◌, ◌≢◌}
+use Rattle.std.proofs.lemmas.Bool.{false≢true, le-ltb, ltb-true}
+use Rattle.std.proofs.lemmas.List.{take-append-drop}
+use Rattle.std.proofs.lemmas.Slice.Eq.{bytes_eq-Decides}
+use Rattle.snap_image_format.specs.Image.{signature}
+use Rattle.snap_image_format.specs.ImageCodes.{of_code, versions}
+use Rattle.snap_image_format.specs.declared.image.ImageVersion.{ImageVersion}
+use Rattle.snap_semantics.specs.declared.fault.Fault.{Fault}
+use Rattle.snap_semantics.specs.declared.fault.Fault.TheVariants.{Refused}
+use Rattle.snap_semantics.specs.declared.refusal.ImageRefusal.{ImageRefusal}
+use Rattle.snap_semantics.specs.declared.refusal.ImageRefusal.TheVariants.{NotAnImage, Version}
+use Rattle.snap_semantics.specs.declared.refusal.ListingRefusal.TheVariants.{TooLong}
+use Rattle.snap_semantics.specs.declared.refusal.Refusal.{Refusal}
+use Rattle.snap_semantics.specs.declared.refusal.Refusal.TheVariants as refusal
+use Rattle.snap_tasks.specs.declared.task.Task.{Task}
+use Rattle.snap_tasks.specs.declared.task.Task.TheVariants as task
+use Rattle.snap_output.specs.AtOnce.{found_at_once, long_text, unknown_version, why, wrong_head, wrong_version}
+
+module _ {X : Type 0} (result : Result X (Fault Refusal)) where
+  -- this refusal is answered
+  abbrev pub Refuses : Refusal → Type 0
+  Refuses r = result ≡ Err (Refused r)
+
+  -- what is found is answered
+  abbrev pub Answered : Option Refusal → Type 0
+  Answered found = (r : Refusal) → found ≡ Some r → Refuses r
+
+  of_one : (q : Refusal) → Refuses q → Answered (Some q)
+  of_one q h r e = cc
+
+  of_none : Answered None
+  of_none r e = absurd cc
+
+  if_long : (long : Bool) (q : Refusal) → (long ≡ true → Refuses q) → Answered (if long then Some q else None)
+  if_long true q h = of_one q (h refl)
+  if_long false q h = of_none
+
+  pub of_text : (text : List ℕ) → (65536 < length text → Refuses (refusal.Listing TooLong)) → Answered (long_text text)
+  of_text text h =
+      if_long (nat_lt 65536 (length text)) (refusal.Listing TooLong) (λ e. h (ltb-true 65536 (length text) e))
+
+  pub of_why : {A : Type 0} (x : Result A Refusal) → ((r : Refusal) → x ≡ Err r → Refuses r) → Answered (why x)
+  of_why (Ok x) h r e = absurd cc
+  of_why (Err q) h r e = h r cc
+
+  of_version : (v : Option ImageVersion) → (v ≡ None → Refuses (refusal.Image Version)) →
+      Answered (option_map refusal.Image (unknown_version v))
+  of_version None h = of_one (refusal.Image Version) (h refl)
+  of_version (Some v) h = of_none
+
+  of_rest : (bytes : List ℕ) →
+      ((b : ℕ) (rest : List ℕ) → bytes ≡ b ∷ rest → of_code versions b ≡ None → Refuses (refusal.Image Version)) →
+      Answered (option_map refusal.Image (wrong_version bytes))
+  of_rest [] h = of_none
+  of_rest (b ∷ rest) h = of_version (of_code versions b) (h b rest refl)
+
+  of_signed : (signed : Bool) (rest : List ℕ) → (signed ≡ false → Refuses (refusal.Image NotAnImage)) →
+      (signed ≡ true → Answered (option_map refusal.Image (wrong_version rest))) →
+      Answered (option_map refusal.Image (if signed then wrong_version rest else Some NotAnImage))
+  of_signed true rest h k = k refl
+  of_signed false rest h k = of_one (refusal.Image NotAnImage) (h refl)
+
+  pub of_head : (bytes : List ℕ) → (take 4 bytes ≢ signature → Refuses (refusal.Image NotAnImage)) →
+      ((b : ℕ) (rest : List ℕ) → bytes ≡ signature ++ b ∷ rest → of_code versions b ≡ None →
+      Refuses (refusal.Image Version)) →
+      Answered (option_map refusal.Image (wrong_head bytes))
+  of_head bytes h k =
+      let same = bytes_eq-Decides (take 4 bytes) signature in
+      of_signed (bytes_eq (take 4 bytes) signature) (drop 4 bytes) (λ e. h (λ is. false≢true (sym e ∙ same.1 is)))
+      (λ e. of_rest (drop 4 bytes) (λ b rest is. k b rest
+      (sym (take-append-drop 4 bytes) ∙ ap (λ x. x ++ drop 4 bytes) (same.0 e) ∙ ap (λ x. signature ++ x) is)))
+
+  -- of an input that is not too long
+  pub of_list : (t : Task) (input : List ℕ) → t ≡ task.List → length input ≤ 16777216 →
+      Answered (option_map refusal.Image (wrong_head input)) → Answered (found_at_once t input)
+  of_list t input is short h = rw (is, le-ltb 16777216 (length input) short) h
+
+  pub of_upgrade : (t : Task) (input : List ℕ) → t ≡ task.Upgrade → length input ≤ 16777216 →
+      Answered (option_map refusal.Image (wrong_head input)) → Answered (found_at_once t input)
+  of_upgrade t input is short h = rw (is, le-ltb 16777216 (length input) short) h

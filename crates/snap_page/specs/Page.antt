@@ -1,0 +1,60 @@
+-- What a page asks for, and what it is handed.
+use Rattle.std.specs.Prelude.{ℕ, Bool, true, false, List, [], ◌∷◌, ◌++◌, codes}
+use Rattle.std.specs.Prelude.{Option, Some, None, option_map, Result, Ok, Err}
+use Rattle.snap_semantics.specs.declared.refusal.ImageRefusal.TheVariants as image
+use Rattle.snap_semantics.specs.declared.refusal.ListingRefusal.TheVariants as listing
+use Rattle.snap_semantics.specs.declared.refusal.Refusal.{Refusal}
+use Rattle.snap_semantics.specs.declared.refusal.Refusal.TheVariants as refusal
+use Rattle.snap_refusals.specs.RefusalText.{refusal_line}
+use Rattle.snap_tasks.specs.Request.{kind_of, request_of}
+use Rattle.snap_tasks.specs.declared.request.Request.{Request}
+use Rattle.snap_tasks.specs.declared.request.Request.TheVariants.{Do, Live}
+use Rattle.snap_subject.specs.declared.subject.Subject.{Subject}
+use Rattle.snap_subject.specs.declared.subject.Subject.TheVariants.{FirstPart, Shipped}
+use Rattle.snap_tasks.specs.declared.task.Task.{Task}
+
+-- the listing of this name: that which is shipped for a kind, or where there is no name the first part of the input
+abbrev pub subject_of : List ℕ → Option Subject
+subject_of [] = Some FirstPart
+subject_of (b ∷ bytes) = option_map Shipped (kind_of (b ∷ bytes))
+
+-- a page has one thread, in which no scripts are played
+abbrev pub task_in : Option Request → Option Task
+task_in (Some (Do t)) = Some t
+task_in (Some (Live s limit)) = None
+task_in None = None
+
+-- the task of a subcommand
+abbrev pub task_for : (subcommand : List ℕ) → Subject → Option Task
+task_for subcommand s = task_in (request_of subcommand s 1)
+
+abbrev pub task_with : (subcommand : List ℕ) → Option Subject → Option Task
+task_with subcommand None = None
+task_with subcommand (Some s) = task_for subcommand s
+
+-- the task that a page names
+abbrev pub task_of : (subcommand shipped : List ℕ) → Option Task
+task_of subcommand shipped = task_with subcommand (subject_of shipped)
+
+-- 0 with an output, 1 with a refusal
+abbrev pub answer_code : Result (List ℕ) Refusal → ℕ
+answer_code (Ok text) = 0
+answer_code (Err r) = 1
+
+-- the output, or the line that says why there is none
+abbrev pub answer_text : Result (List ℕ) Refusal → List ℕ
+answer_text (Ok text) = text
+answer_text (Err r) = refusal_line r
+
+-- the line of a refusal of this name, with the digits behind it
+abbrev pub numbered_line : List ℕ → List ℕ → List ℕ
+numbered_line name digits = (codes "refused: " ++ (name ++ digits)) ++ codes "\n"
+
+-- a refusal whose line is handed without memory: each that is found at once
+abbrev pub needs_no_memory : Refusal → Bool
+needs_no_memory refusal.InputTooLong = true
+needs_no_memory (refusal.WrongParts found) = true
+needs_no_memory (refusal.Listing listing.TooLong) = true
+needs_no_memory (refusal.Image image.NotAnImage) = true
+needs_no_memory (refusal.Image image.Version) = true
+needs_no_memory _ = false

@@ -1,8 +1,8 @@
 -- What is refused at once, by the clauses of the calls that find it.
-use Rattle.std.proofs.Common.{◌≡◌, ℕ, Bool, true, false, List, [], ◌∷◌, ◌++◌, length, nat_lt, ◌<◌}
+use Rattle.std.proofs.Common.{◌≡◌, ℕ, Bool, true, false, List, [], ◌∷◌, ◌++◌, length, nat_lt, ◌<◌, ◌≤◌}
 use Rattle.std.proofs.Common.{take, drop, refl, sym, ◌∙◌, ap}
 use Rattle.std.specs.Prelude.{Option, Some, None, Result, Ok, Err, option_map, bytes_eq, if◌then◌else◌, ◌≢◌}
-use Rattle.std.proofs.lemmas.Bool.{false≢true, ltb-true}
+use Rattle.std.proofs.lemmas.Bool.{false≢true, le-ltb, ltb-true}
 use Rattle.std.proofs.lemmas.List.{take-append-drop}
 use Rattle.std.proofs.lemmas.Slice.Eq.{bytes_eq-Decides}
 use Rattle.snap_image_format.specs.Image.{signature}
@@ -15,7 +15,9 @@ use Rattle.snap_semantics.specs.declared.refusal.ImageRefusal.TheVariants.{NotAn
 use Rattle.snap_semantics.specs.declared.refusal.ListingRefusal.TheVariants.{TooLong}
 use Rattle.snap_semantics.specs.declared.refusal.Refusal.{Refusal}
 use Rattle.snap_semantics.specs.declared.refusal.Refusal.TheVariants as refusal
-use Rattle.snap_output.specs.AtOnce.{long_text, unknown_version, why, wrong_head, wrong_version}
+use Rattle.snap_tasks.specs.declared.task.Task.{Task}
+use Rattle.snap_tasks.specs.declared.task.Task.TheVariants as task
+use Rattle.snap_output.specs.AtOnce.{found_at_once, long_text, unknown_version, why, wrong_head, wrong_version}
 
 module _ {X : Type 0} (result : Result X (Fault Refusal)) where
   -- this refusal is answered
@@ -70,3 +72,12 @@ module _ {X : Type 0} (result : Result X (Fault Refusal)) where
       of_signed (bytes_eq (take 4 bytes) signature) (drop 4 bytes) (λ e. h (λ is. false≢true (sym e ∙ same.1 is)))
       (λ e. of_rest (drop 4 bytes) (λ b rest is. k b rest
       (sym (take-append-drop 4 bytes) ∙ ap (λ x. x ++ drop 4 bytes) (same.0 e) ∙ ap (λ x. signature ++ x) is)))
+
+  -- of an input that is not too long
+  pub of_list : (t : Task) (input : List ℕ) → t ≡ task.List → length input ≤ 16777216 →
+      Answered (option_map refusal.Image (wrong_head input)) → Answered (found_at_once t input)
+  of_list t input is short h = rw (is, le-ltb 16777216 (length input) short) h
+
+  pub of_upgrade : (t : Task) (input : List ℕ) → t ≡ task.Upgrade → length input ≤ 16777216 →
+      Answered (option_map refusal.Image (wrong_head input)) → Answered (found_at_once t input)
+  of_upgrade t input is short h = rw (is, le-ltb 16777216 (length input) short) h

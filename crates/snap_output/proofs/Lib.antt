@@ -1,2 +1,3 @@
 pub mod Shipping
 pub mod Schedules
+pub mod AtOnce

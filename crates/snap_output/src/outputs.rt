@@ -186,7 +186,7 @@ enum Prepared {
 }
 
 /// What is found of an input in one thread, or why there is no output.
-#[tactic(auto, unfolding(crate::specs::Output::output_of))]
+#[tactic(auto, using(crate::proofs::AtOnce::of_text, crate::proofs::AtOnce::of_why), unfolding(crate::specs::Output::output_of))]
 fn prepare(alloc: Global, task: &Task, input: &[u8]) -> Result<Prepared, Fault<Refusal>>
     ensures output { Answers prepared_text result (output_of task.now input.now) }
     ensures at_once { (r : Refusal) → found_at_once task.now input.now ≡ Some r →

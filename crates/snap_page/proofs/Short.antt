@@ -32,7 +32,7 @@ either true p q is_p is_q = is_p
 either false p q is_p is_q = is_q
 
 -- a wrong number of parts
-parts_short : (b : Bool) (n : ℕ) → Short (why (if b then Ok tt else Err (refusal.WrongParts n)))
+parts_short : (b : Bool) (n : ℕ) → Short (why {A = Unit {0}} (if b then Ok tt else Err (refusal.WrongParts n)))
 parts_short true n = of_none
 parts_short false n = of_one (refusal.WrongParts n) refl
 
@@ -59,7 +59,7 @@ head_short bytes = signed_short (bytes_eq (take 4 bytes) signature) (drop 4 byte
 
 -- so many texts, of parts
 count_short : (counts : List (List ℕ) → Bool) (texts parts : List (List ℕ)) →
-    Short (why (if counts texts then Ok tt else Err (refusal.WrongParts (length parts))))
+    Short (why {A = Unit {0}} (if counts texts then Ok tt else Err (refusal.WrongParts (length parts))))
 count_short counts texts parts = parts_short (counts texts) (length parts)
 
 task_short : (t : Task) (input : List ℕ) → Short (refused_at_once t input)

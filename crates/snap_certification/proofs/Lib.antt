@@ -1,0 +1,4 @@
+pub mod Progressing
+pub mod Findings
+pub mod Sound
+pub mod Complete

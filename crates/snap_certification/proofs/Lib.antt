@@ -2,3 +2,4 @@ pub mod Progressing
 pub mod Findings
 pub mod Sound
 pub mod Complete
+pub mod Chosen

@@ -1,7 +1,6 @@
 -- The certification of a run: whether it has a certificate, found item by item, and otherwise the first thing that is missing.
 use Rattle.std.specs.Prelude.{◌≡◌, ◌↔◌, ℕ, zero, suc, ◌-◌, Bool, true, false, ◌||◌, not, List, [], ◌∷◌, ◌++◌, length, map, option_map, Option, Some, None, Result, Ok, Err, IsOk, bytes_eq, nat_eq, if◌then◌else◌, slice_set}
 use Rattle.snap_semantics.specs.Answers.{◌>>=◌}
-use Rattle.snap_semantics.specs.Source.{}
 use Rattle.snap_semantics.specs.State.{process_at, values}
 use Rattle.snap_semantics.specs.Table.{who}
 use Rattle.snap_semantics.specs.declared.instr.Instr.{Instr}
@@ -18,6 +17,7 @@ use Rattle.snap_semantics.specs.declared.process.Status.{Status}
 use Rattle.snap_semantics.specs.declared.process.Status.TheVariants.{Busy}
 use Rattle.snap_runs.specs.Audit.{audit, is_called}
 use Rattle.snap_runs.specs.Linearization.{IsLinearizable}
+use Rattle.snap_runs.specs.LinearizationPoints.{HasLinearizationPoints}
 use Rattle.snap_runs.specs.Run.{Run, IsValidRun, state, before, item, outcome as outcome_at}
 use Rattle.snap_runs.specs.declared.verdict.Verdict.{Verdict}
 use Rattle.snap_certificate.specs.Certificate as certificate
@@ -203,3 +203,9 @@ CertifiedHasCertificate = (r : Run) → IsValidRun r → (e : Evidence) → cert
 -- A run is certified exactly where it has a certificate in which updates write at this line.
 abbrev pub CertifiedExactly : Type 0
 CertifiedExactly = (r : Run) → IsValidRun r → IsOk (certification_of r) ↔ ((c : Certificate) × IsCertificate (write_line r) r c)
+
+-- A run whose operations have linearization points is certified, where its updates write at the first line of the listing
+-- that writes a word: that is the line that is chosen.
+abbrev pub PointsCertify : Type 0
+PointsCertify = (line : ℕ) (r : Run) → IsValidRun r → putting_line r.source.lines ≡ line → HasLinearizationPoints line r →
+    (write_line r ≡ line) × IsOk (certification_of r)

@@ -1,7 +1,7 @@
 //! The certification of a run: the certificate that it has, or the first thing that is missing for one.
 #![tactic(auto)]
 
-ghost use Rattle.snap_certification.specs.Certification.{CertifiedExactly, CertifiedHasCertificate};
+ghost use Rattle.snap_certification.specs.Certification.{CertifiedExactly, CertifiedHasCertificate, PointsCertify};
 
 mod certificate;
 mod found;
@@ -22,3 +22,10 @@ pub fn certified_exactly()
 {
     snap_certificate::certified_by_points();
 }
+
+/// A run whose operations have linearization points is certified, where its updates write at the first line that writes a
+/// word: that is the line that is chosen.
+#[tactic(auto, using(crate::proofs::Chosen::points_certify))]
+pub fn points_certify()
+    ensures { PointsCertify }
+{}

@@ -34,14 +34,14 @@ use Rattle.snap_certification.proofs.Sound.{any_end, found_next, last_under, ste
 -- what is found of an item that writes, and of one that does not
 module _ (line t : ℕ) (x : SeenItem) (p : Progress) where
   writes_here : (a : Activity) (word value : ℕ) → x.activity ≡ Some a → nat_eq a.line line ≡ true → a.op ≡ Update word value → p.wrote ≡ false →
-      bytes_eq x.now (slice_set x.past (word - 1) value) ≡ true →
+      bytes_eq x.values_after (slice_set x.values_before (word - 1) value) ≡ true →
       found_at line t x p ≡ finding.Write (record { process = x.process; word = word; value = value; call = p.call; item = t })
   writes_here a word value there at op first now =
       let w : UpdateWrite = record { process = x.process; word = word; value = value; call = p.call; item = t } in
       ap (λ o. finding_or (stepped line t x p o) (ended t x p x.outcome)) there
       ∙ ap (λ b. finding_or (if b then written t x p a.op else unwritten t x p) (ended t x p x.outcome)) at
       ∙ ap (λ o. finding_or (written t x p o) (ended t x p x.outcome)) op
-      ∙ ap (λ b. finding_or (if b then lacks lack.FirstWrite t x p else if bytes_eq x.now (slice_set x.past (word - 1) value) then finding.Write w else lacks lack.OwnValue t x p) (ended t x p x.outcome)) first
+      ∙ ap (λ b. finding_or (if b then lacks lack.FirstWrite t x p else if bytes_eq x.values_after (slice_set x.values_before (word - 1) value) then finding.Write w else lacks lack.OwnValue t x p) (ended t x p x.outcome)) first
       ∙ ap (λ b. finding_or (if b then finding.Write w else lacks lack.OwnValue t x p) (ended t x p x.outcome)) now
 
   unwritten_nothing : changes x ≡ false → unwritten t x p ≡ finding.Nothing

@@ -73,14 +73,14 @@ module _ (line t : ℕ) (x : SeenItem) (p : Progress) where
     pub value : ℕ
     pub op : a.op ≡ Update word value
     pub first : p.wrote ≡ false
-    pub now : bytes_eq x.now (slice_set x.past (word - 1) value) ≡ true
+    pub now : bytes_eq x.values_after (slice_set x.values_before (word - 1) value) ≡ true
     pub is : w ≡ record { process = x.process; word = word; value = value; call = p.call; item = t }
 
   written_by : (a : Activity) (w : UpdateWrite) (o : Op) → a.op ≡ o → written t x p o ≡ finding.Write w → IsOwnWrite a w
   written_by a w Scan is h = absurd cc
   written_by a w (Update word value) is h = by_wrote p.wrote refl h
     where
-      by_value : (b : Bool) → p.wrote ≡ false → bytes_eq x.now (slice_set x.past (word - 1) value) ≡ b →
+      by_value : (b : Bool) → p.wrote ≡ false → bytes_eq x.values_after (slice_set x.values_before (word - 1) value) ≡ b →
           (let f : Finding = if b then finding.Write (record { process = x.process; word = word; value = value; call = p.call; item = t }) else lacks lack.OwnValue t x p in f)
           ≡ finding.Write w →
           IsOwnWrite a w
@@ -90,12 +90,12 @@ module _ (line t : ℕ) (x : SeenItem) (p : Progress) where
       by_value false first now h = absurd cc
 
       by_wrote : (b : Bool) → p.wrote ≡ b →
-          (let f : Finding = if b then lacks lack.FirstWrite t x p else if bytes_eq x.now (slice_set x.past (word - 1) value)
+          (let f : Finding = if b then lacks lack.FirstWrite t x p else if bytes_eq x.values_after (slice_set x.values_before (word - 1) value)
           then finding.Write (record { process = x.process; word = word; value = value; call = p.call; item = t }) else lacks lack.OwnValue t x p in f)
           ≡ finding.Write w →
           IsOwnWrite a w
       by_wrote true wrote h = absurd cc
-      by_wrote false wrote h = by_value (bytes_eq x.now (slice_set x.past (word - 1) value)) wrote refl h
+      by_wrote false wrote h = by_value (bytes_eq x.values_after (slice_set x.values_before (word - 1) value)) wrote refl h
 
   unwritten_not : (w : UpdateWrite) → unwritten t x p ≡ finding.Write w → ⊥
   unwritten_not w h = by (changes x) h
@@ -155,7 +155,7 @@ module _ (line t : ℕ) (x : SeenItem) (p : Progress) where
 
   written_some : (o : Op) → written t x p o ≡ finding.Nothing → ⊥
   written_some Scan h = absurd cc
-  written_some (Update word value) h = by p.wrote (bytes_eq x.now (slice_set x.past (word - 1) value)) h
+  written_some (Update word value) h = by p.wrote (bytes_eq x.values_after (slice_set x.values_before (word - 1) value)) h
     where
       by : (b c : Bool) → (let f : Finding = if b then lacks lack.FirstWrite t x p else if c
           then finding.Write (record { process = x.process; word = word; value = value; call = p.call; item = t }) else lacks lack.OwnValue t x p in f)

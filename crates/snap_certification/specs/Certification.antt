@@ -44,13 +44,13 @@ seen_item r t = record {
   process = who (item r t);
   activity = stepping (item r t) (process_at (before r t) (who (item r t))).status;
   outcome = outcome_at r t;
-  past = values (before r t);
-  now = values (state r t);
+  values_before = values (before r t);
+  values_after = values (state r t);
 }
 
 -- it changes the values
 abbrev pub changes : SeenItem → Bool
-changes x = not (bytes_eq x.past x.now)
+changes x = not (bytes_eq x.values_before x.values_after)
 
 -- it executes this line
 abbrev pub at_line : ℕ → Option Activity → Bool
@@ -107,7 +107,7 @@ abbrev pub written : ℕ → SeenItem → Progress → Op → Finding
 written t x p op.Scan = lacks lack.Update t x p
 written t x p (op.Update word value) =
     if p.wrote then lacks lack.FirstWrite t x p
-    else if bytes_eq x.now (slice_set x.past (word - 1) value)
+    else if bytes_eq x.values_after (slice_set x.values_before (word - 1) value)
     then finding.Write (record { process = x.process; word = word; value = value; call = p.call; item = t })
     else lacks lack.OwnValue t x p
 

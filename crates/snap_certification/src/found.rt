@@ -10,9 +10,9 @@ pub struct SeenItem {
     pub activity: Option<Activity>,
     pub outcome: Outcome,
     /// The values before the item.
-    pub past: View,
+    pub values_before: View,
     /// The values after it.
-    pub now: View,
+    pub values_after: View,
 }
 
 /// How far a process is with its last call.

@@ -1,0 +1,5 @@
+pub mod Progressing
+pub mod Findings
+pub mod Sound
+pub mod Complete
+pub mod Chosen

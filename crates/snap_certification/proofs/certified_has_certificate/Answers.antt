@@ -1,0 +1,8 @@
+use Rattle.snap_certification.specs.Certification.{certificate_of, write_line}
+use Rattle.snap_certification.proofs.Sound.{certificate_is}
+use Rattle.snap_certification.proofs.certified_has_certificate.Goals as goal
+
+pub returns : goal.returns
+returns c = λ r fits e is.
+    let cert = certificate_is r fits e is in
+    (cert, c.certified_is_linearizable.ensures (write_line r) r (λ valid. (certificate_of r e, cert)))

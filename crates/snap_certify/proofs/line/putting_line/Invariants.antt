@@ -1,0 +1,7 @@
+use Rattle.std.proofs.Common.{◌≡◌, drop}
+use Rattle.snap_certification.specs.Certification.{putting_line}
+use Rattle.snap_certify.proofs.line.putting_line.Given as goal
+
+-- none of the lines so far writes a word
+abbrev pub invariant-loop-line : goal.invariant-loop-line
+invariant-loop-line l = putting_line (drop l.line-index l.lines) ≡ putting_line l.lines

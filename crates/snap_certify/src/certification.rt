@@ -1,0 +1,80 @@
+//! The certification of a record.
+ghost use Rattle.std.specs.Prelude.{◌≡◌, IfOk, IsOk, Ok};
+ghost use Rattle.snap_runs.specs.Linearization.{IsLinearizable};
+ghost use Rattle.snap_certificate.specs.Certificate.{IsCertificate};
+ghost use Rattle.snap_certification.specs.Certification.{
+  Evidence,
+  certificate_of,
+  certification_of,
+  point_of,
+  points,
+  seen_certification,
+  write_line,
+};
+
+use crate::line::write_line;
+use crate::writes::writes;
+use snap_audit::audit;
+use snap_certification::{Certification, Certified, Lack, Missing, certified_has_certificate};
+use snap_record::Record;
+use snap_runs::Verdict;
+use snap_words::Kind;
+use std::alloc::{AllocError, Global};
+
+/// Whether a scan has its point: without one it lacks it at its answer.
+fn point_of(verdict: &Verdict) -> Result<(), Missing>
+    ensures { result ≡ point_of verdict.now verdict.now.point }
+{
+    match verdict.point {
+        Some(_) => Ok(()),
+        None => Err(Missing {
+            lack: Lack::Point,
+            process: verdict.process,
+            call: verdict.call,
+            item: verdict.answer,
+        }),
+    }
+}
+
+/// Whether each scan has its point.
+fn points(verdicts: &[Verdict]) -> Result<(), Missing>
+    ensures { result ≡ points verdicts.now }
+{
+    for verdict in verdicts {
+        point_of(verdict)?;
+    }
+    Ok(())
+}
+
+/// The certification of a record.
+fn conclude<K: Kind>(alloc: Global, history: &Record<K>) -> Result<Certification, AllocError>
+    ensures { IfOk result (λ c. seen_certification c ≡ certification_of history.now) }
+{
+    let line = write_line(alloc, history)?;
+    let writes = match writes(alloc, history, line)? {
+        Ok(writes) => writes,
+        Err(missing) => return Ok(Certification::Missing(missing)),
+    };
+    let verdicts = audit(alloc, history)?;
+    match points(verdicts.as_slice()) {
+        Ok(()) => Ok(Certification::Certified(Certified {
+            line,
+            writes,
+            points: verdicts,
+        })),
+        Err(missing) => Ok(Certification::Missing(missing)),
+    }
+}
+
+/// What a record is certified by, or the first thing that is missing: of the writes, in the order of the items, and then of
+/// the points, in the order of the answers. A certified run has a certificate, and is linearizable.
+pub fn certify<K: Kind>(alloc: Global, history: &Record<K>) -> Result<Certification, AllocError>
+    ensures exact { IfOk result (λ c. seen_certification c ≡ certification_of history.now) }
+    ensures certificate { IfOk result (λ c. (e : Evidence) → seen_certification c ≡ Ok e →
+        IsCertificate (write_line history.now) history.now (certificate_of history.now e)) }
+    ensures linearizable { IfOk result (λ c. IsOk (seen_certification c) → IsLinearizable history.now) }
+{
+    certified_has_certificate();
+    let _items = history.items();
+    conclude(alloc, history)
+}

@@ -1,0 +1,78 @@
+//! The line at which updates write.
+ghost use Rattle.std.specs.Prelude.{◌≡◌, IfOk, length, option_map};
+ghost use Rattle.snap_certification.specs.Certification.{
+  changes,
+  changing_line,
+  is_put,
+  putting_line,
+  write_line,
+};
+
+use crate::replay::{first_machine, see_next};
+use snap_certification::SeenItem;
+use snap_record::Record;
+use snap_semantics::{Instr, Line};
+use snap_words::Kind;
+use std::alloc::{AllocError, Global};
+
+/// Whether an item changes the values.
+pub(crate) fn changes(item: &SeenItem) -> bool
+    ensures { result ≡ changes item.now }
+{
+    item.values_before.as_slice() != item.values_after.as_slice()
+}
+
+/// The line that an item executes.
+fn executed_line(item: &SeenItem) -> Option<u64>
+    ensures { result ≡ option_map (λ a. a.line) item.now.activity }
+{
+    Some(item.activity?.line)
+}
+
+/// The line of the first item that changes the values.
+fn changing_line<K: Kind>(alloc: Global, history: &Record<K>) -> Result<Option<u64>, AllocError>
+    ensures { IfOk result (λ l. l ≡ changing_line history.now 0 (length history.now.items)) }
+{
+    let mut machine = first_machine(alloc, history)?;
+    let count = history.items().len() as u64;
+    for t in 0..count {
+        let item = see_next(&mut machine, history, t)?;
+        if changes(&item) {
+            return Ok(executed_line(&item));
+        }
+    }
+    Ok(None)
+}
+
+/// Whether a line writes a word.
+fn is_put(instr: &Instr) -> bool
+    ensures { result ≡ is_put instr.now }
+{
+    match instr {
+        Instr::Put(_, _) => true,
+        _ => false,
+    }
+}
+
+/// The number of the first line that writes a word, and 0 where none does.
+fn putting_line(lines: &[Line]) -> u64
+    ensures { result ≡ putting_line lines.now }
+{
+    for line in lines {
+        if is_put(&line.instr) {
+            return line.number;
+        }
+    }
+    0
+}
+
+/// The line at which updates write: that of the first item that changes the values, and where none does, the first line that
+/// writes a word.
+pub(crate) fn write_line<K: Kind>(alloc: Global, history: &Record<K>) -> Result<u64, AllocError>
+    ensures { IfOk result (λ l. l ≡ write_line history.now) }
+{
+    match changing_line(alloc, history)? {
+        Some(line) => Ok(line),
+        None => Ok(putting_line(history.machine().program().listing().lines())),
+    }
+}

@@ -1,0 +1,2 @@
+pub mod CertificationText
+pub mod Output

@@ -7,6 +7,7 @@ ghost use Rattle.snap_certify_output.specs.CertificationText.{
   lack_text,
   missing_line,
   places_text,
+  reason_text,
   scan_line,
   text_of,
   update_line,
@@ -120,6 +121,19 @@ fn lack_text(out: &mut Vec<u8>, lack: Lack) -> Result<(), AllocError>
     }
 }
 
+/// `: WHAT; this refutes the argument by points, not linearizability`.
+#[tactic(auto, using(snap_text::proofs::Texts::joined))]
+fn reason_text(out: &mut Vec<u8>, lack: Lack) -> Result<(), AllocError>
+    ensures { OnOk result (out.new.items ≡ out.old.items ++ reason_text lack) }
+{
+    push_text(out, b": ")?;
+    lack_text(out, lack)?;
+    push_text(
+        out,
+        b"; this refutes the argument by points, not linearizability\n",
+    )
+}
+
 /// `process I call C item T: WHAT; this refutes the argument by points, not linearizability`.
 #[tactic(auto, using(snap_text::proofs::Texts::joined))]
 fn missing_line(out: &mut Vec<u8>, missing: &Missing) -> Result<(), AllocError>
@@ -131,12 +145,7 @@ fn missing_line(out: &mut Vec<u8>, missing: &Missing) -> Result<(), AllocError>
     push_number(out, missing.call)?;
     push_text(out, b" item ")?;
     push_number(out, missing.item)?;
-    push_text(out, b": ")?;
-    lack_text(out, missing.lack)?;
-    push_text(
-        out,
-        b"; this refutes the argument by points, not linearizability\n",
-    )
+    reason_text(out, missing.lack)
 }
 
 /// The text of a certification.

@@ -1,32 +1,28 @@
-// The page's side of the worker: one question at a time, and of several of one kind the newest alone. STOPPED is answered where the
-// user stops a long run.
+// The page's side of the worker: one question at a time, and of several of one kind the newest alone.
 
 const SLOW = 100;
 const asker = {worker: null, ready: false, busy: null, waiting: new Map(), failed: '', pace: 0};
 
 function startWorker() {
-    const code = new Blob([document.getElementById('worker').textContent], {type: 'text/javascript'});
-    const address = URL.createObjectURL(code);
+    const code = new Blob([$('worker').textContent], {type: 'text/javascript'}), address = URL.createObjectURL(code);
     asker.worker = new Worker(address);
-    URL.revokeObjectURL(address);
     asker.ready = false;
     asker.worker.onmessage = ({data}) => {
         if (data.ready) asker.ready = true;
-        else if (data.failed && !asker.ready) failStart(data.failed);
+        else if (!asker.ready) failStart(data.failed);
         else endQuestion(data.answer ?? {code: TRAPPED, text: data.failed});
         askNext();
     };
     asker.worker.onerror = event => failStart(event.message);
-    asker.worker.postMessage({module: document.getElementById('module').textContent.trim()});
+    asker.worker.postMessage({module: $('module').textContent.trim()});
 }
 
-// A browser without 64-bit WebAssembly can do nothing here.
 function failStart(why) {
     asker.failed = why;
-    document.dispatchEvent(new CustomEvent('failed', {detail: why}));
+    say(`The module cannot run here (${why}). It needs 64-bit WebAssembly: Chromium 133, Firefox 134, or a later one.`);
 }
 
-// Asks for a task of the worker; answers null where a newer question of the same kind has taken its place.
+// Asks for a task of the worker; answers null where a newer question has taken its place.
 function ask(kind, request, key = kind) {
     return new Promise(done => {
         asker.waiting.get(key)?.done(null);
@@ -37,33 +33,29 @@ function ask(kind, request, key = kind) {
 
 function askNext() {
     if (asker.busy || !asker.ready || !asker.waiting.size) return;
-    const key = asker.waiting.has('look') ? 'look' : asker.waiting.keys().next().value;
-    asker.busy = asker.waiting.get(key);
+    const key = asker.waiting.has('look') ? 'look' : asker.waiting.keys().next().value, {kind, request} = asker.waiting.get(key);
+    asker.busy = {...asker.waiting.get(key), begun: performance.now(), timer: setInterval(showProgress, SLOW)};
     asker.waiting.delete(key);
-    asker.busy.begun = performance.now();
-    asker.busy.timer = setInterval(showProgress, SLOW);
-    asker.worker.postMessage({kind: asker.busy.kind, request: asker.busy.request});
+    asker.worker.postMessage({kind, request});
 }
 
 function endQuestion(answer) {
-    const asked = asker.busy;
+    const {begun, timer, done} = asker.busy, total = answer.report?.total;
     asker.busy = null;
-    if (!asked) return;
-    clearInterval(asked.timer);
-    document.getElementById('progress').hidden = true;
-    const total = answer.report?.total;
-    if (total > 1000) asker.pace = (performance.now() - asked.begun) / total;
-    asked.done(answer);
+    clearInterval(timer);
+    $('progress').hidden = true;
+    if (total > 1000) asker.pace = (performance.now() - begun) / total;
+    done(answer);
 }
 
 // The bar has the share of the time that so many items took before; with nothing to go by it moves to and fro.
 function showProgress() {
-    const box = document.getElementById('progress'), bar = box.firstChild, spent = performance.now() - asker.busy.begun;
+    const [bar, words] = $('progress').children, spent = performance.now() - asker.busy.begun;
     const expected = asker.pace * (state.items?.total ?? 0);
-    box.hidden = false;
     if (expected > spent) bar.value = spent / expected;
     else bar.removeAttribute('value');
-    box.children[1].textContent = `${asker.busy.kind === 'audit' ? 'auditing' : 'running'}, ${(spent / 1000).toFixed(1)} s`;
+    words.textContent = `${asker.busy.kind === 'audit' ? 'auditing' : 'running'}, ${(spent / 1000).toFixed(1)} s`;
+    $('progress').hidden = false;
 }
 
 function stopAsking() {

@@ -1,6 +1,6 @@
 // A text with a margin: lines have marks, badges and colours. A long text is shown in part, and cannot be edited there.
 
-const MOST_LINES = 1500, SHOWN_LINES = 300;
+const MOST_LINES = 1500, SHOWN_LINES = 300, MOST_LETTERS = 300000, SHOWN_LETTERS = 2000;
 
 class Editor {
     constructor(root, label, onInput) {
@@ -8,61 +8,59 @@ class Editor {
         this.area = make('textarea', {'aria-label': label, spellcheck: 'false', autocapitalize: 'off', wrap: 'off'});
         this.gutter = make('div', {class: 'gutter', tabindex: '0', role: 'listbox', 'aria-label': `Margin: ${label}`});
         this.back = make('div', {'aria-hidden': 'true'});
-        this.code = make('div', {class: 'code'}, this.back, this.area);
-        this.lines = [];
-        this.first = 0;
-        this.active = 0;
-        root.append(this.gutter, this.code);
-        this.area.oninput = () => {
-            this.measure();
-            onInput(this.area.value);
+        this.first = this.active = 0;
+        root.append(this.gutter, make('div', {class: 'code'}, this.back, this.area));
+        this.area.oninput = () => onInput(this.area.value);
+        this.gutter.onkeydown = event => {
+            const way = {ArrowUp: -1, ArrowDown: 1}[event.key];
+            if (!way) return;
+            event.preventDefault();
+            event.stopPropagation();
+            this.activate(this.active + way);
         };
-        this.gutter.onkeydown = event => this.move(event);
     }
 
-    // Shows a text; of a long one the lines around this one.
+    // Shows a text, of a long one the lines around this one, and says whether it is long.
     show(text, around = 0) {
-        this.lines = text.split('\n');
-        const long = this.lines.length > MOST_LINES;
-        this.first = long ? within(around - SHOWN_LINES / 2 | 0, 0, this.lines.length - SHOWN_LINES) : 0;
+        if (this.text !== text) this.lines = text.split('\n');
+        const long = this.lines.length > MOST_LINES || text.length > MOST_LETTERS, first = this.first;
+        this.first = long ? Math.max(Math.min(around - SHOWN_LINES / 2, this.lines.length - SHOWN_LINES), 0) : 0;
+        if (this.text === text && this.first === first) return long;
+        this.text = text;
+        const part = long ? this.lines.slice(this.first, this.first + SHOWN_LINES).map(l => l.slice(0, SHOWN_LETTERS)) : this.lines;
         this.area.readOnly = long;
-        const part = long ? this.lines.slice(this.first, this.first + SHOWN_LINES).join('\n') : text;
-        if (this.area.value !== part) this.area.value = part;
-        this.measure();
+        if (this.area.value !== part.join('\n')) this.area.value = part.join('\n');
+        const longest = part.reduce((most, line) => Math.max(most, line.length), 0);
+        this.area.style.height = `calc(${part.length} * var(--line-height) + 8px)`;
+        this.area.style.minWidth = `calc(${longest + 1}ch + 14px)`;
+        this.setRows(part.length);
         return long;
     }
 
-    // The area is as large as its text, so that margin and text move together.
-    measure() {
-        const lines = this.area.value.split('\n'), longest = lines.reduce((most, line) => Math.max(most, line.length), 0);
-        this.area.style.height = `calc(${lines.length} * var(--line-height) + 8px)`;
-        this.area.style.minWidth = `calc(${longest + 1}ch + 14px)`;
-        while (this.gutter.children.length > lines.length) this.gutter.lastChild.remove();
-        while (this.gutter.children.length < lines.length) {
-            const row = make('div', {role: 'option', id: `${this.root.id}-${this.gutter.children.length}`});
+    // The margin has as many rows as there are lines shown.
+    setRows(count) {
+        while (this.gutter.children.length > count) this.gutter.lastChild.remove();
+        while (this.gutter.children.length < count) {
+            const place = this.gutter.children.length, row = make('div', {role: 'option', id: `${this.root.id}-${place}`});
             row.onclick = () => {
-                this.activate([...this.gutter.children].indexOf(row));
-                this.onmark?.(this.active);
+                this.activate(place);
+                this.onmark?.(place + this.first);
             };
             this.gutter.append(row);
         }
     }
 
-    // Colours of lines: a map from a text line to a class.
-    colour(classes) {
-        const rows = [...classes].filter(([line]) => line >= this.first && line < this.first + this.gutter.children.length);
-        fill(this.back, JSON.stringify([rows, this.first]), () => rows.map(([line, name]) =>
-            make('i', {class: name, style: `top: calc(${line - this.first} * var(--line-height))`})));
-    }
-
-    // What stands in the margin: for each text line a key, its children and what a reader hears.
-    margin(told) {
+    // What stands in the margin, for each text line its children with their key and what a reader hears; and coloured lines.
+    mark(told, colours) {
         [...this.gutter.children].forEach((row, k) => {
             const {key, children, label, numbered} = told(k + this.first);
             fill(row, key, children);
-            row.classList.toggle('numbered', Boolean(numbered));
+            row.className = `${numbered ? 'numbered' : ''} ${k === this.active ? 'active' : ''}`;
             if (row.ariaLabel !== label) row.ariaLabel = label;
         });
+        const shown = colours.filter(([line]) => line >= this.first && line < this.first + this.gutter.children.length);
+        fill(this.back, JSON.stringify([shown, this.first]), () => shown.map(([line, name]) =>
+            make('i', {class: name, style: `top: calc(${line - this.first} * var(--line-height))`})));
     }
 
     activate(line) {
@@ -70,22 +68,7 @@ class Editor {
         this.active = within(line, 0, this.gutter.children.length - 1);
         const row = this.gutter.children[this.active];
         row.classList.add('active');
+        row.scrollIntoView({block: 'nearest'});
         this.gutter.setAttribute('aria-activedescendant', row.id);
-        this.reveal(this.active);
-    }
-
-    move(event) {
-        const way = {ArrowUp: -1, ArrowDown: 1}[event.key];
-        if (!way) return;
-        event.preventDefault();
-        event.stopPropagation();
-        this.activate(this.active + way);
-    }
-
-    // Scrolls a line of the shown part into view.
-    reveal(line) {
-        const top = line * 21, box = this.root;
-        if (top < box.scrollTop) box.scrollTop = top - 21;
-        else if (top + 30 > box.scrollTop + box.clientHeight) box.scrollTop = top + 52 - box.clientHeight;
     }
 }

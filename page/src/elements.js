@@ -2,13 +2,16 @@
 
 const $ = id => document.getElementById(id);
 const data = JSON.parse($('data').textContent);
+const within = (number, least, most) => Math.min(Math.max(number, least), most);
+const say = text => { $('note').textContent = text; };
+const announce = what => document.dispatchEvent(new Event(what));
 
 // An element with attributes, 'on..' functions and children.
 function make(tag, attributes = {}, ...children) {
     const element = document.createElement(tag);
     for (const [name, value] of Object.entries(attributes)) {
         if (name.startsWith('on')) element[name] = value;
-        else if (value !== false && value !== null) element.setAttribute(name, value === true ? '' : value);
+        else element.setAttribute(name, value);
     }
     element.append(...children);
     return element;
@@ -19,16 +22,16 @@ function badge(who, more = '') {
     return make('span', {class: `badge ${who % 2 ? '' : 'even'} ${more}`, style: `--p: var(--p${who % 8})`}, String(who));
 }
 
-// A printed text, with what differs from an older one beside it. Numbers are compared one by one where their count is the same.
+// A printed text, old words beside new ones; where their count differs, all of it. There may be no older text.
 function compared(older, newer) {
-    if (older === null || older === newer) return [newer];
+    if (older === undefined || older === newer) return [newer];
     const before = older.split(' '), after = newer.split(' ');
-    if (before.length !== after.length) return [mark(older, newer)];
-    return after.flatMap((word, k) => [k ? ' ' : '', word === before[k] ? word : mark(before[k], word)]);
+    if (before.length !== after.length) return [changed(older, newer)];
+    return after.flatMap((word, k) => [k ? ' ' : '', word === before[k] ? word : changed(before[k], word)]);
 }
 
-function mark(older, newer) {
-    return make('span', {class: 'changed'}, make('s', {'aria-label': `was ${older}, is`}, older), make('b', {}, newer));
+function changed(older, newer) {
+    return make('span', {class: 'changed'}, make('s', {}, older), '\u2192', make('b', {}, newer));
 }
 
 // Puts children into an element, where they are not there already: 'key' says what they show.
@@ -36,17 +39,4 @@ function fill(element, key, children) {
     if (element.shown === key) return;
     element.shown = key;
     element.replaceChildren(...children());
-}
-
-function say(text) {
-    $('note').textContent = text;
-}
-
-// Whether keys belong to what has the focus, and are no commands.
-function isTyping(target) {
-    return target.matches?.('textarea, input, select, dialog *');
-}
-
-function within(number, least, most) {
-    return Math.min(Math.max(number, least), most);
 }

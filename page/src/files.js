@@ -1,35 +1,34 @@
 // What stands here as an input of 'snaplab debug', and as a link.
 
-const MOST_LINK = 60000;
+const MOST_LINK = 60000, MOST_INPUT = 16777216;
 
 function asInput() {
     const part = text => text && !text.endsWith('\n') ? text + '\n' : text;
     return `${part(state.listing)}%\n${part(state.schedule)}%\n${[...markCommands(), `goto ${state.at}`].join('\n')}\n`;
 }
 
-// Takes the parts of an input; where its commands lead to is asked of the module, and its marks are those that stand at the end.
-async function takeInput(text, more = {}) {
+// Takes the parts of an input. Where its commands lead to is asked of the module; its marks are those that stand at the end.
+async function takeInput(text, more = {idea: null, goal: null}) {
     const [listing, schedule = 'shape 2 2\n', commands = ''] = text.replace(/\r\n/g, '\n').split(/^%\n/m);
     state.breaks.clear();
     state.watches.clear();
     for (const command of commands.split('\n')) {
-        const [verb, ...rest] = command.replace(/#.*/, '').trim().split(/\s+/);
+        const [verb, ...rest] = command.replace(/#.*/, '').trim().split(/\s+/), register = rest.join(' ');
         if (verb === 'break') state.breaks.add(Number(rest[1]));
         if (verb === 'clear') state.breaks.delete(Number(rest[1]));
-        if (verb === 'watch') state.watches.add(rest.join(' '));
-        if (verb === 'unwatch') state.watches.delete(rest.join(' '));
+        if (verb === 'watch') state.watches.add(register);
+        if (verb === 'unwatch') state.watches.delete(register);
     }
     const reached = commands.trim() ? await ask('look', {listing, schedule, commands}, 'opened') : null;
-    const refused = reached?.code === REFUSED && reached.text.startsWith('refused: G') ? reached.text.trim() : '';
-    await change({listing, schedule, at: reached?.report?.at ?? 0, idea: null, goal: null, ...more});
-    if (refused) say(`The commands of this input are ${refused}`);
+    await change({listing, schedule, at: reached?.report?.at ?? 0, ...more});
+    if (reached?.text?.startsWith('refused: G')) say(`The commands of this input are ${reached.text.trim()}`);
 }
 
 async function openFile(file) {
     if (!file) return;
-    if (file.size > 16777216) return say(`${file.name} has more than 16,777,216 bytes: refused.`);
-    await takeInput(await file.text());
+    if (file.size > MOST_INPUT) return say(`${file.name} has more than 16,777,216 bytes: it is refused.`);
     say(`Opened ${file.name}.`);
+    await takeInput(await file.text());
 }
 
 function saveFile() {
@@ -42,14 +41,10 @@ function saveFile() {
 async function copyText(text, what) {
     try {
         await navigator.clipboard.writeText(text);
+        say(`Copied: ${what}.`);
     } catch {
-        const area = make('textarea', {}, text);
-        document.body.append(area);
-        area.select();
-        document.execCommand('copy');
-        area.remove();
+        say('The browser does not let this page copy: save it, or take the link from the address.');
     }
-    say(`Copied: ${what}.`);
 }
 
 async function through(stream, bytes) {
@@ -60,16 +55,17 @@ async function through(stream, bytes) {
 async function asHash() {
     const text = JSON.stringify({input: asInput(), goal: state.goal, idea: state.idea});
     const packed = await through(new CompressionStream('deflate-raw'), new TextEncoder().encode(text));
-    let letters = '';
-    for (const byte of packed) letters += String.fromCharCode(byte);
+    const letters = Array.from(packed, byte => String.fromCharCode(byte)).join('');
     return '#' + btoa(letters).replace(/\+/g, '-').replace(/\//g, '_').replace(/=+$/, '');
 }
 
 async function takeHash() {
-    if (location.hash.length < 3) return false;
+    const letters = location.hash.slice(1).replace(/-/g, '+').replace(/_/g, '/');
+    if (!letters) return false;
     try {
-        const packed = Uint8Array.from(atob(location.hash.slice(1).replace(/-/g, '+').replace(/_/g, '/')), letter => letter.charCodeAt(0));
-        const {input, goal, idea} = JSON.parse(new TextDecoder().decode(await through(new DecompressionStream('deflate-raw'), packed)));
+        const packed = Uint8Array.from(atob(letters), letter => letter.charCodeAt(0));
+        const text = new TextDecoder().decode(await through(new DecompressionStream('deflate-raw'), packed));
+        const {input, goal, idea} = JSON.parse(text);
         await takeInput(input, {goal, idea});
         return true;
     } catch {
@@ -82,5 +78,5 @@ async function copyLink() {
     const hash = await asHash();
     if (hash.length > MOST_LINK) return say('This is too long for a link: save it as a file.');
     history.replaceState(null, '', hash);
-    await copyText(location.href, 'a link that has all of this');
+    return copyText(location.href, 'a link that has all of this');
 }

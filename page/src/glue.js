@@ -1,7 +1,5 @@
 // Bytes into the module, bytes out of it, and nothing else. Runs in the worker.
 
-const NOTHING = new Uint8Array();
-
 class Glue {
     constructor(module) {
         this.module = module;
@@ -11,8 +9,7 @@ class Glue {
     start() {
         this.instance = new WebAssembly.Instance(this.module, {}).exports;
         this.taken = this.instance.page_room(16n);
-        this.room = 0n;
-        this.roomLength = 0n;
+        this.room = this.roomLength = 0n;
     }
 
     // The address of a copy of these bytes; 0 where there is no memory.
@@ -29,36 +26,30 @@ class Glue {
         return this.room;
     }
 
-    // What the module says of these texts. After a trap the instance is given up, and the next call begins with a new one.
+    // What the module says of these texts. After a trap the instance is given up; the next call begins with a new one.
     answer(sub, shipped, input) {
+        const letters = new TextEncoder();
         try {
             if (!this.instance) this.start();
-            return this.ask([new TextEncoder().encode(sub), new TextEncoder().encode(shipped), input]);
+            return this.ask([letters.encode(sub), letters.encode(shipped), input]);
         } catch (trap) {
             this.instance = null;
-            return {code: TRAPPED, bytes: new TextEncoder().encode(String(trap))};
+            return {code: TRAPPED, bytes: letters.encode(String(trap))};
         }
     }
 
     ask(texts) {
-        const places = texts.map(text => this.put(text));
-        try {
-            if (!places.every(Boolean) || !(this.room || this.enlarge(65536n))) return {code: MEMORY, bytes: NOTHING};
-            const words = places.flatMap((place, k) => [place, BigInt(texts[k].length)]);
-            for (;;) {
-                this.instance.page_output(this.taken, ...words, this.room, this.roomLength);
-                const told = new DataView(this.instance.memory.buffer);
-                const code = told.getUint8(Number(this.taken));
-                const length = told.getBigUint64(Number(this.taken) + 8, true);
-                if (code !== SMALL) return {code, bytes: code < MEMORY ? this.copy(length) : NOTHING};
-                if (!this.enlarge(length)) return {code: MEMORY, bytes: NOTHING};
-            }
-        } finally {
-            for (const place of places) if (place) this.instance.page_free(place);
+        const {instance} = this, places = texts.map(text => this.put(text)), nothing = {code: MEMORY, bytes: new Uint8Array()};
+        if (!this.taken || !places.every(Boolean) || !(this.room || this.enlarge(65536n))) return nothing;
+        const words = places.flatMap((place, k) => [place, BigInt(texts[k].length)]);
+        for (;;) {
+            instance.page_output(this.taken, ...words, this.room, this.roomLength);
+            const told = new DataView(instance.memory.buffer), code = told.getUint8(Number(this.taken));
+            const length = told.getBigUint64(Number(this.taken) + 8, true);
+            if (code === SMALL && this.enlarge(length)) continue;
+            places.forEach(place => instance.page_free(place));
+            if (code > REFUSED) return {...nothing, code: code === SMALL ? MEMORY : code};
+            return {code, bytes: new Uint8Array(instance.memory.buffer, Number(this.room), Number(length)).slice()};
         }
-    }
-
-    copy(length) {
-        return new Uint8Array(this.instance.memory.buffer, Number(this.room), Number(length)).slice();
     }
 }

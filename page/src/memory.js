@@ -1,70 +1,62 @@
-// The registers, each old content beside the new one.
+// The registers, each old content beside the new one, and the marks.
 
 const MATRIX = 8;       // up to so many processes the bits are shown as a matrix
 
 function showMemory() {
-    if (!state.report) return;
-    const {registers, values} = state.report;
-    const before = state.before?.registers ?? [], older = state.before?.values ?? null;
-    const key = [values, ...registers, '|', older, ...before, [...state.watches]].join('\n');
-    fill($('memory'), key, () => {
-        const focused = document.activeElement?.dataset?.register;
+    const {report, before, watches} = state;
+    fill($('memory'), JSON.stringify([report.values, report.registers, before?.registers, [...watches]]), () => {
+        const focused = document.activeElement.dataset.register;
         queueMicrotask(() => focused && $('memory').querySelector(`[data-register="${focused}"]`)?.focus());
-        return [make('div', {class: 'values'}, 'values ', ...compared(older, values)), ...banks(registers, before)];
-    });
-}
-
-function banks(registers, before) {
-    const groups = new Map();
-    registers.forEach((line, k) => {
-        const [name, text] = line.split(' = '), was = before[k]?.split(' = ')[1] ?? null;
-        groups.set(name[0], [...groups.get(name[0]) ?? [], {name, text, was}].slice(-5000));
-    });
-    return [...groups].map(([bank, rows]) => {
-        if (bank === 'q' || bank === 'p') return bits(bank, rows);
-        return fields(bank, rows);
+        const banks = new Map(), values = make('div', {class: 'values'}, 'values ', ...compared(before?.values, report.values));
+        report.registers.forEach((line, k) => {
+            const [name, text] = line.split(' = '), bank = banks.get(name[0]) ?? [];
+            bank.push({name, text, was: before?.registers[k].split(' = ')[1]});
+            banks.set(name[0], bank);
+        });
+        return [values, ...[...banks].map(([bank, all]) => 'qp'.includes(bank) ? bits(bank, all) : fields(bank, all))];
     });
 }
 
 // 'd seq s view v1 .. vw' as columns: data, seq and view.
 function columns(text, bank) {
-    const found = [[bank === 'v' ? 'view' : 'data', []]];
+    const found = [[bank === 'v' ? 'view' : 'data']];
     for (const word of text.split(' ')) {
-        if (/^\d/.test(word)) found.at(-1)[1].push(word);
-        else found.push([word, []]);
+        if (/^\d/.test(word)) found.at(-1).push(word);
+        else found.push([word]);
     }
-    return found.map(([name, numbers]) => [name, numbers.join(' ')]);
+    return found.map(([name, ...numbers]) => [name, numbers.join(' ')]);
 }
 
-function fields(bank, rows) {
-    const head = columns(rows[0].text, bank).map(([name]) => make('th', {scope: 'col'}, name));
-    const body = rows.map(({name, text, was}) => {
-        const old = was === null ? [] : columns(was, bank);
-        return make('tr', {}, make('th', {scope: 'row'}, watchButton(name)),
-            ...columns(text, bank).map(([, cell], k) => make('td', {}, ...compared(old[k]?.[1] ?? null, cell))));
+function table(corner, head, rows) {
+    const cells = ['', ...head].map((name, k) => make('th', {scope: 'col'}, k ? name : corner));
+    return make('table', {}, make('thead', {}, make('tr', {}, ...cells)), make('tbody', {}, ...rows.map(([name, ...row]) =>
+        make('tr', {}, make('th', {scope: 'row'}, name), ...row.map(cell => make('td', {}, ...cell))))));
+}
+
+function fields(bank, all) {
+    const rows = all.map(({name, text, was}) => {
+        const old = was === undefined ? [] : columns(was, bank);
+        return [watchButton(name), ...columns(text, bank).map(([, cell], k) => compared(old[k]?.[1], cell))];
     });
-    return make('table', {}, make('thead', {}, make('tr', {}, make('th', {}), ...head)), make('tbody', {}, ...body));
+    return table('', columns(all[0].text, bank).map(([name]) => name), rows);
 }
 
 // Bits q[i,j] and p[i,j]: a row for each i. Many of them are written as lines.
 function bits(bank, all) {
     const count = Math.round(Math.sqrt(all.length)), places = Array.from({length: count}, (_, k) => k);
-    const row = i => all.slice(i * count, (i + 1) * count);
-    const cell = ({name, text, was}) => make('td', {}, watchButton(name, compared(was, text)));
-    const line = cells => {
-        const was = cells[0].was === null ? null : cells.map(each => each.was).join(' ');
-        return make('td', {}, ...compared(was, cells.map(each => each.text).join(' ')));
-    };
-    const head = count > MATRIX ? [make('th', {}, `1 to ${count}`)] : places.map(j => make('th', {scope: 'col'}, `,${j + 1}`));
-    return make('table', {}, make('thead', {}, make('tr', {}, make('th', {}, bank), ...head)), make('tbody', {}, ...places.map(i =>
-        make('tr', {}, make('th', {scope: 'row'}, `${bank} ${i + 1}`), ...count > MATRIX ? [line(row(i))] : row(i).map(cell)))));
+    const joined = (cells, what) => cells[0].was === undefined && what === 'was' ? undefined : cells.map(cell => cell[what]).join(' ');
+    const rows = places.map(i => {
+        const cells = all.slice(i * count, (i + 1) * count), name = `${bank} ${i + 1}`;
+        if (count > MATRIX) return [name, compared(joined(cells, 'was'), joined(cells, 'text'))];
+        return [name, ...cells.map(cell => [watchButton(cell.name, compared(cell.was, cell.text))])];
+    });
+    return table(bank, count > MATRIX ? [`1 to ${count}`] : places.map(j => String(j + 1)), rows);
 }
 
 function watchButton(name, children = [name]) {
-    const watched = state.watches.has(name);
-    return make('button', {'aria-pressed': String(watched), 'data-register': name, onclick: () => toggleWatch(name),
-        title: `${watched ? 'Stop watching' : 'Watch'} ${name} (w)`, 'aria-label': children[0] === name ? name : `${name}: ${children.at(-1)}`},
-    ...children);
+    const label = children[0] === name ? name : `${name}: ${children.map(child => child.textContent ?? child).join('')}`;
+    return make('button', {'aria-pressed': String(state.watches.has(name)), 'data-register': name, 'aria-label': label,
+        title: `Watch ${name}, or no longer (w)`, onclick: () => toggleWatch(name)}, ...children);
 }
 
 function toggleWatch(name) {

@@ -1,78 +1,58 @@
 // A card for each process: where it is, its buttons and its locals.
 
-const cards = [];
+const cards = [], MOST_CHANGES = 4;
 
 function makeCard(who) {
-    const card = {what: make('span', {class: 'what'}), next: make('div', {class: 'next'}), changes: make('span', {class: 'changes'}),
-        locals: make('div', {class: 'locals'}), seen: null};
-    const button = (name, title, what) => make('button', {class: name, title, 'aria-label': `${name} process ${who}`,
-        onclick: () => press(who, what?.())}, name);
-    card.details = make('details', {ontoggle: () => showLocals(card, who)},
-        make('summary', {}, 'locals ', card.changes), card.locals);
-    card.box = make('div', {class: 'process', role: 'group', 'aria-label': `Process ${who}`, style: `--p: var(--p${who % 8})`},
-        make('div', {class: 'head'}, badge(who), card.what,
-            button('step', `Process ${who} takes a step${who < 10 ? ` (${who})` : ''}`),
-            button('scan', `Process ${who} is called for a scan`, () => 'scan'),
-            button('update', `Process ${who} is called for an update`, () => updateOf(who)),
-            button('crash', `Process ${who} crashes: it stops for good`, () => 'crash')),
-        card.next, card.details);
-    return card;
+    const parts = Object.fromEntries(['what', 'next', 'changes', 'locals'].map(name => [name, make('div', {class: name})]));
+    const button = (name, title, what) => make('button', {class: name, title, 'aria-label': `${name}, process ${who}`,
+        onclick: () => press(who, what)}, name);
+    const update = button('update', `Process ${who} is called for an update`);
+    update.onclick = () => press(who, updateOf(who));
+    const details = make('details', {ontoggle: () => showLocals(cards[who - 1], who)}, make('summary', {}, 'locals ', parts.changes), parts.locals);
+    const box = make('div', {class: 'process', role: 'group', 'aria-label': `Process ${who}`, style: `--p: var(--p${who % 8})`},
+        make('div', {class: 'head'}, badge(who), parts.what, button('step', `Process ${who} takes a step (${who})`),
+            button('scan', `Process ${who} is called for a scan`, 'scan'), update,
+            button('crash', `Process ${who} crashes: it stops for good`, 'crash')), parts.next, details);
+    return {...parts, details, box};
 }
 
 // An update of the word that is chosen; the next one has another value.
 function updateOf(who) {
-    const word = $('word').value === 'own' ? who : $('word').value, value = $('value').value.trim();
+    const word = $('word').value === 'own' ? who : $('word').value, value = $('value').value.trim() || '0';
     if (/^\d{1,15}$/.test(value)) $('value').value = String(Number(value) + 1);
-    return `update ${word} ${value || 0}`;
+    return `update ${word} ${value}`;
 }
 
 function showProcesses() {
-    if (!state.report) return;
-    const {processes, values} = state.report;
-    while (cards.length > processes.length) cards.pop().box.remove();
-    while (cards.length < processes.length) {
+    const {report, listing, last, refusal} = state, {lines} = linesOf(listing), moved = Number(last.split(' ')[0]);
+    while (cards.length > report.processes.length) cards.pop().box.remove();
+    while (cards.length < report.processes.length) {
         cards.push(makeCard(cards.length + 1));
         $('processes').append(cards.at(-1).box);
     }
-    const {lines} = linesOf(state.listing), moved = Number(state.last.split(' ')[0]);
-    processes.forEach((process, k) => showCard(cards[k], process, lines, moved));
-    showWords(values.split(' ').length);
-    $('processes').classList.toggle('stale', Boolean(state.refusal));
-    $('memory').classList.toggle('stale', Boolean(state.refusal));
+    report.processes.forEach((process, k) => showCard(cards[k], process, lines, moved));
+    const own = !/^\s*kind\s+multi\b/m.test(listing), words = report.values.split(' ').map((_, k) => String(k + 1));
+    fill($('word'), `${words} ${own}`, () => [...own ? ['own'] : [], ...words].map(word => make('option', {}, word)));
+    for (const part of ['processes', 'memory']) $(part).classList.toggle('stale', Boolean(refusal));
 }
 
-function showCard(card, process, lines, moved) {
-    const {who, what, at, link} = process, trouble = /^(trapped|crashed)/.test(what);
-    const told = `${what}${at ? ` at ${at}` : ''}${link ? `, then back to ${link}` : ''}`;
+function showCard(card, {who, what, at, link, locals}, lines, moved) {
+    const trouble = /^(trapped|crashed)/.test(what), told = `${what}${at ? ` at ${at}` : ''}${link ? `, then back to ${link}` : ''}`;
     fill(card.what, told, () => [make('span', {class: trouble ? 'none' : ''}, told)]);
-    fill(card.next, `${at} ${trouble}`, () => at && !trouble ? [`next ${at}: ${lines.get(at)?.text ?? ''}`] : []);
+    const next = at && !trouble ? `next ${at}: ${lines.get(at)?.text ?? ''}` : '';
+    fill(card.next, next, () => [next]);
     card.box.classList.toggle('last', moved === who);
-    const older = state.before?.processes[who - 1]?.locals ?? null, news = differences(older, process.locals);
-    fill(card.changes, news.map(each => each.join()).join(), () => news.slice(0, 4).flatMap(([name, was, is]) =>
-        [`${name} `, ...compared(was, is), '  ']).concat(news.length > 4 ? [`and ${news.length - 4} more`] : []));
+    const before = state.before?.processes[who - 1].locals.split('\n') ?? [], after = before.length ? locals.split('\n') : [];
+    const news = after.length === before.length ? after.flatMap((line, k) => line === before[k] ? [] : [[before[k], line]]) : [];
+    fill(card.changes, news.join(), () => news.slice(0, MOST_CHANGES).flatMap(([was, is]) => [...compared(was, is), '\u2003'])
+        .concat(news.length > MOST_CHANGES ? [`and ${news.length - MOST_CHANGES} more`] : []));
     showLocals(card, who);
-}
-
-// The lines of locals that differ: name, old text, new text.
-function differences(older, newer) {
-    if (older === null || older === newer) return [];
-    const before = older.split('\n'), after = newer.split('\n');
-    if (before.length !== after.length) return [];
-    return after.flatMap((line, k) => line === before[k] ? [] : [[line.split(' = ')[0], before[k].split(' = ')[1], line.split(' = ')[1]]]);
 }
 
 // Locals are written out where they are unfolded, and there alone.
 function showLocals(card, who) {
-    if (!card.details.open || !state.report?.processes[who - 1]) return;
-    const {locals} = state.report.processes[who - 1], older = state.before?.processes[who - 1]?.locals ?? null;
-    fill(card.locals, `${locals}|${older}`, () => {
-        const before = older?.split('\n') ?? [];
-        return locals.split('\n').map((line, k) => make('div', {}, ...compared(before[k] ?? null, line)));
-    });
-}
-
-function showWords(count) {
-    const own = !/^\s*kind\s+multi\b/m.test(state.listing);
-    fill($('word'), `${count} ${own}`, () => [...own ? [make('option', {value: 'own'}, 'own')] : [],
-        ...Array.from({length: count}, (_, k) => make('option', {}, String(k + 1)))]);
+    if (!card.details.open) return;
+    const {locals} = state.report.processes[who - 1], before = state.before?.processes[who - 1].locals ?? '', was = before.split('\n');
+    fill(card.locals, `${locals}|${before}`, () => locals.split('\n').map((line, k) =>
+        make('div', {}, ...compared(before ? was[k] : undefined, line))));
 }

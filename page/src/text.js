@@ -1,42 +1,34 @@
 // Reads what the program prints, and finds the items of a schedule's lines. Runs in the worker and in the page.
 
-// What is answered: the module's codes, and two of the page's own, after a trap and where the user stopped a run.
+// The module's codes, and two of the page's own: after a trap, and where the user has stopped a run.
 const OUTPUT = 0, REFUSED = 1, MEMORY = 2, SMALL = 3, TRAPPED = 5, STOPPED = 6;
-
-const STEP = 0, SCAN = 1, UPDATE = 2, CRASH = 3;
+const STEP = 0, CRASH = 3, MOST_ITEMS = 1000000;
 const ITEM = /^[ \t\r]*(\d+)[ \t\r]*(?:\*[ \t\r]*(\d+)|(scan|crash|update)\b[^#]*)?[ \t\r]*(?:#.*)?$/;
 const SHAPE = /^[ \t\r]*shape[ \t\r]+(\d+)[ \t\r]+(\d+)/;
 const EMPTY = /^[ \t\r]*(?:#.*)?$/;
-const MOST_ITEMS = 1000000;
 
-// A schedule's lines with items: each one's process, kind, text line and the number of items before it. Whether the text is a
-// schedule says the module alone.
+// A schedule's lines with items: the process, kind and text line of each, and how many items stand before it. Whether the
+// text is a schedule says the module alone.
 function readItems(text) {
-    const items = {total: 0, processes: 0, words: 0, shapeLine: -1, from: [], who: [], kind: [], line: []};
+    const items = {total: 0, processes: 0, shapeLine: -1, from: [], who: [], kind: [], line: []};
     for (let at = 0, line = 0; at < text.length; line++) {
-        const feed = text.indexOf('\n', at), end = feed < 0 ? text.length : feed;
-        const raw = text.slice(at, end);
-        at = end + 1;
+        const feed = text.indexOf('\n', at), raw = text.slice(at, feed < 0 ? text.length : feed);
+        at += raw.length + 1;
         if (EMPTY.test(raw)) continue;
         if (items.shapeLine < 0) {
-            const shape = SHAPE.exec(raw) || [0, 0, 0];
             items.shapeLine = line;
-            items.processes = Number(shape[1]);
-            items.words = Number(shape[2]);
-        } else if (!addLine(items, raw, line)) break;
+            items.processes = Number(SHAPE.exec(raw)?.[1] ?? 0);
+            continue;
+        }
+        const found = ITEM.exec(raw);
+        if (!found || items.total > MOST_ITEMS) break;
+        items.from.push(items.total);
+        items.who.push(Number(found[1]));
+        items.kind.push(['scan', 'update', 'crash'].indexOf(found[3]) + 1);
+        items.line.push(line);
+        items.total += Number(found[2] ?? 1);
     }
     return items;
-}
-
-function addLine(items, raw, line) {
-    const found = ITEM.exec(raw);
-    if (!found || items.total > MOST_ITEMS) return false;
-    items.from.push(items.total);
-    items.who.push(Number(found[1]));
-    items.kind.push(['scan', 'update', 'crash'].indexOf(found[3]) + 1);
-    items.line.push(line);
-    items.total += found[2] ? Number(found[2]) : 1;
-    return true;
 }
 
 // The place, in the lists of a schedule, of the line that has this item.
@@ -52,72 +44,62 @@ function lineOf(items, item) {
 
 // The last item of a process before this one; 0 where there is none.
 function itemBefore(items, who, item) {
-    for (let k = lineOf(items, item - 1); k >= 0; k--) {
-        if (items.who[k] !== who) continue;
-        const end = k + 1 < items.from.length ? items.from[k + 1] : items.total;
-        return Math.min(end, item - 1);
-    }
-    return 0;
+    let k = lineOf(items, item - 1);
+    while (k >= 0 && items.who[k] !== who) k--;
+    return k < 0 ? 0 : Math.min(items.from[k + 1] ?? items.total, item - 1);
 }
 
 // The replies of a session, each with its command, and the report behind them.
 function readSession(text) {
-    const cut = text.lastIndexOf('\nreport at ') + 1;
-    const replies = [];
+    const cut = text.lastIndexOf('\nreport at ') + 1, replies = [];
     for (const line of text.slice(0, cut).split('\n')) {
         if (line.startsWith('> ')) replies.push({command: line.slice(2), lines: []});
-        else if (line && replies.length) replies[replies.length - 1].lines.push(line);
+        else if (line) replies.at(-1).lines.push(line);
     }
-    return {replies, report: readReport(text.slice(cut))};
+    return {replies, report: readReport(text.slice(cut).split('\n'))};
 }
 
 // The parts of a report, each as it is printed. Locals are kept as one text, since most of them are never shown.
-function readReport(text) {
-    const lines = text.split('\n');
-    const [, , at, , total] = lines[0].split(' ');
-    const report = {at: Number(at), total: Number(total), values: lines[1].slice(7), registers: [], processes: [], events: []};
-    let process = null;
-    for (let k = 2; k < lines.length; k++) {
-        const line = lines[k];
-        if (line.startsWith('  ')) process.locals.push(line.slice(2));
-        else if (line.startsWith('process ')) report.processes.push(process = readHead(line));
+function readReport([first, values, ...lines]) {
+    const [, , at, , total] = first.split(' ');
+    const report = {at: Number(at), total: Number(total), values: values.slice(7), registers: [], processes: [], events: []};
+    for (const line of lines) {
+        if (line.startsWith('  ')) report.processes.at(-1).locals.push(line.slice(2));
+        else if (line.startsWith('process ')) report.processes.push(readHead(line));
         else if (line.startsWith('event ')) report.events.push(line);
         else if (line) report.registers.push(line);
     }
-    for (const each of report.processes) each.locals = each.locals.join('\n');
+    for (const process of report.processes) process.locals = process.locals.join('\n');
     return report;
 }
 
 // 'process 2 update 2 5 at 32 link 31' and its like.
 function readHead(line) {
     const [, who, what, at, link] = /^process (\d+) (.*?)(?: at (\d+))?(?: link (\d+))?$/.exec(line);
-    return {who: Number(who), what, at: Number(at || 0), link: Number(link || 0), locals: []};
+    return {who: Number(who), what, at: Number(at ?? 0), link: Number(link ?? 0), locals: []};
 }
 
 // The operations that events tell of: [process, first item, last item or 0, what was called, what was answered].
 function readOperations(events) {
     const done = [], open = new Map();
     for (const line of events) {
-        const [, item, process, what, ...more] = line.split(' ');
-        const who = Number(process);
+        const [, item, process, what, ...more] = line.split(' '), who = Number(process), operation = open.get(who);
         if (what === 'scan' || what === 'update') {
             open.set(who, [who, Number(item), 0, [what, ...more].join(' '), '']);
             done.push(open.get(who));
-        } else if (open.has(who)) {
-            if (what !== 'crash') open.get(who)[2] = Number(item);
-            if (what === 'answer') open.get(who)[4] = more.join(' ');
-            open.delete(who);
+        } else if (operation && what !== 'crash') {
+            operation[2] = Number(item);
+            operation[4] = more.join(' ');
         }
     }
     return done;
 }
 
-// 'scan 1 call 1 answer 64 point 24 collects 2', a line a verdict.
+// 'scan 1 call 1 answer 64 point 24 collects 2', a line a verdict; its point is 0 where there is none.
 function readVerdicts(text) {
     return text.split('\n').filter(Boolean).map(line => {
-        const [, who, , call, , answer, , point, , collects] = line.split(' ');
-        return {who: Number(who), call: Number(call), answer: Number(answer), point: point === 'none' ? 0 : Number(point),
-            collects: Number(collects), lender: 0, from: '', taken: 0};
+        const [who, call, answer, point, collects] = line.split(' ').filter((_, k) => k % 2).map(word => Number(word) || 0);
+        return {who, call, answer, point, collects, lender: 0, from: '', taken: 0};
     });
 }
 

@@ -1,5 +1,6 @@
 // Small helpers over the document.
 
+const LONG_TEXT = 20, MOST_MARKED = 3;     // of a long text so many words are marked each, else all of it
 const $ = id => document.getElementById(id);
 const data = JSON.parse($('data').textContent);
 const within = (number, least, most) => Math.min(Math.max(number, least), most);
@@ -22,11 +23,14 @@ function badge(who, more = '') {
     return make('span', {class: `badge ${who % 2 ? '' : 'even'} ${more}`, style: `--p: var(--p${who % 8})`}, String(who));
 }
 
-// A printed text, old words beside new ones; where their count differs, all of it. There may be no older text.
+// A printed text, old words beside new ones. Where their count differs it is all marked, and where too many differ; there may be
+// no older text.
 function compared(older, newer) {
     if (older === undefined || older === newer) return [newer];
     const before = older.split(' '), after = newer.split(' ');
     if (before.length !== after.length) return [changed(older, newer)];
+    const news = after.filter((word, k) => word !== before[k]).length;
+    if (after.length > LONG_TEXT && news > MOST_MARKED) return [make('span', {class: 'changed', title: `was ${older}`}, newer)];
     return after.flatMap((word, k) => [k ? ' ' : '', word === before[k] ? word : changed(before[k], word)]);
 }
 

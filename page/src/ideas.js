@@ -1,6 +1,6 @@
 // Listings, the gallery's ideas and exercises; verdicts, and whether a goal is met.
 
-const MOST_VERDICTS = 200, GOAL = ['task', 'who', 'view', 'collects', 'point', 'items'];
+const GOAL = ['task', 'who', 'view', 'collects', 'point', 'items'];
 const GROUPS = {Listings: data.listings, Gallery: data.ideas, Exercises: data.exercises};
 const choices = Object.values(GROUPS).flat();
 
@@ -35,18 +35,14 @@ function showIdea() {
     $('change').hidden = !other;
     $('change').textContent = made ? 'Back to how it was' : 'Make the change';
     $('change').onclick = () => change({listing: (made ? idea : other).listing, schedule: (made ? idea : other).schedule, at: 0});
-    const met = goal && !refusal && verdicts.find(meets), words = goal && `Goal: ${goalWords(goal)}. Not met yet.`;
+    const met = goal && !refusal && verdicts.near.find(meets), words = goal && `Goal: ${goalWords(goal)}. Not met yet.`;
     $('goal').classList.toggle('met', Boolean(met));
     $('goal').textContent = met ? `Met: the scan of process ${met.who}, items ${met.call} to ${met.answer}.` : words ?? '';
 }
 
-function answerOf(verdict) {
-    return state.operations.find(operation => operation[2] === verdict.answer)?.[4] ?? '';
-}
-
 function meets(verdict) {
     const {who, view, collects, point, items} = state.goal, is = (wanted, found) => !wanted || wanted === String(found);
-    return is(who, verdict.who) && is(view, answerOf(verdict)) && is(collects, verdict.collects) &&
+    return is(who, verdict.who) && is(view, verdict.view) && is(collects, verdict.collects) &&
         (!point || (point === 'none') === !verdict.point) && (!items || verdict.answer <= Number(items));
 }
 
@@ -62,10 +58,10 @@ function verdictWords({point, collects, from}) {
 
 // The verdicts as a list: each leads to its point, or to the answer where there is none.
 function showVerdicts() {
-    const near = state.verdicts.slice(-MOST_VERDICTS), left = state.verdicts.length - near.length;
-    const told = left ? [`${left} earlier ones are not listed.`] : near.length ? [] : ['No scan has ended.'];
+    const {near, numbers} = state.verdicts, left = numbers.length / 5 - near.length;
+    const told = left ? [`${left} other ones are not listed.`] : near.length ? [] : ['No scan has ended.'];
     fill($('verdicts'), JSON.stringify([near, left]), () => [...told.map(words => make('li', {}, words)), ...near.map(verdict => {
-        const {who, call, answer, point} = verdict, words = ` scan, items ${call} to ${answer}, answers ${answerOf(verdict)}: `;
+        const {who, call, answer, point, view} = verdict, words = ` scan, items ${call} to ${answer}, answers ${view}: `;
         const leads = {class: point ? '' : 'none', onclick: () => goTo(point || answer)};
         return make('li', {}, make('button', leads, badge(who), words + verdictWords(verdict)));
     })]);
@@ -79,7 +75,7 @@ function outcome() {
 
 // The position in words, which a screen reader is told of; a scan that has just ended brings its verdict.
 function showWhere() {
-    const {report: {at, total, values}, verdicts, timer} = state, verdict = timer ? null : verdicts.find(each => each.answer === at);
+    const {report: {at, total, values}, verdicts: {near}, timer} = state, verdict = timer ? null : near.find(each => each.answer === at);
     const told = `: ${outcome()}; values ${values}`, words = verdict ? `; ${verdictWords(verdict)}` : '';
     fill($('where'), at + total + told + words, () => [make('span', {class: 'at'}, `Item ${at} of ${total}`), told,
         make('span', {class: verdict?.point === 0 ? 'none' : ''}, words)]);

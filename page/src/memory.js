@@ -29,8 +29,8 @@ function columns(text, bank) {
 
 function table(corner, head, rows) {
     const cells = ['', ...head].map((name, k) => make('th', {scope: 'col'}, k ? name : corner));
-    return make('table', {}, make('thead', {}, make('tr', {}, ...cells)), make('tbody', {}, ...rows.map(([name, ...row]) =>
-        make('tr', {}, make('th', {scope: 'row'}, name), ...row.map(cell => make('td', {}, ...cell))))));
+    const body = rows.map(([name, ...row]) => make('tr', {}, make('th', {scope: 'row'}, name), ...row.map(cell => make('td', {}, ...cell))));
+    return make('div', {class: 'bank'}, make('table', {}, make('thead', {}, make('tr', {}, ...cells)), make('tbody', {}, ...body)));
 }
 
 function fields(bank, all) {

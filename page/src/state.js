@@ -3,7 +3,9 @@
 const BIG = 300000, MOST_UNDONE = 200, QUIET = 120, MOST_MARKS = 64;
 const state = {
     listing: '', schedule: '', at: 0, breaks: new Set(), watches: new Set(), idea: null, goal: null,
-    items: readItems(''), report: null, before: null, last: 'none', operations: [], verdicts: [], refusal: null,
+    items: readItems(''), report: null, before: null, last: 'none',
+    operations: readOperations([]),
+    verdicts: {numbers: readVerdicts(''), near: []}, refusal: null,
     serial: 0, timer: 0, past: [], future: [], audited: null, appended: false,
 };
 
@@ -65,12 +67,12 @@ function take({report, last, operations, refused}, newest) {
 function askAudit() {
     clearTimeout(state.timer);
     state.timer = 0;
-    const {listing, schedule, operations, audited} = state, answers = operations.filter(([, , to, what]) => to && what === 'scan').length;
+    const {listing, schedule, operations: {answers}, audited} = state;
     const same = audited?.listing === listing && (audited.schedule === schedule || state.appended);
     if (state.refusal || same && audited.answers === answers) return;
     state.timer = setTimeout(async () => {
         state.timer = 0;
-        const answer = answers ? await ask('audit', {listing, schedule}) : {code: OUTPUT, verdicts: []};
+        const answer = await ask('audit', {listing, schedule});
         if (answer?.code !== OUTPUT) return;
         Object.assign(state, {verdicts: answer.verdicts, audited: {listing, schedule, answers}, appended: true});
         announce('state');

@@ -28,6 +28,7 @@ function readItems(text) {
         items.line.push(line);
         items.total += Number(found[2] ?? 1);
     }
+    for (const list of ['from', 'who', 'kind', 'line']) items[list] = Uint32Array.from(items[list]);
     return items;
 }
 
@@ -79,28 +80,55 @@ function readHead(line) {
     return {who: Number(who), what, at: Number(at ?? 0), link: Number(link ?? 0), locals: []};
 }
 
-// The operations that events tell of: [process, first item, last item or 0, what was called, what was answered].
+// The operations that events tell of, as lists: process, first item, last item or 0, and where in the text of the events the
+// words of the call and of the answer are. Lists of numbers and one text go fast from the worker to the page.
 function readOperations(events) {
-    const done = [], open = new Map();
-    for (const line of events) {
-        const [, item, process, what, ...more] = line.split(' '), who = Number(process), operation = open.get(who);
+    const found = {who: [], from: [], to: [], called: [], ended: [], answers: 0, text: events.join('\n') + '\n'}, open = new Map();
+    let offset = 0;
+    for (const event of events) {
+        const [name, item, process, what] = event.split(' ', 4), who = Number(process), k = open.get(who);
+        const words = offset + [name, item, process].join(' ').length + 1;
+        offset += event.length + 1;
         if (what === 'scan' || what === 'update') {
-            open.set(who, [who, Number(item), 0, [what, ...more].join(' '), '']);
-            done.push(open.get(who));
-        } else if (operation && what !== 'crash') {
-            operation[2] = Number(item);
-            operation[4] = more.join(' ');
+            open.set(who, found.who.push(who) - 1);
+            found.from.push(Number(item));
+            found.called.push(words);
+            found.to.push(0);
+            found.ended.push(0);
+        } else if (k !== undefined && what !== 'crash') {
+            found.to[k] = Number(item);
+            found.ended[k] = words;
+            found.answers += what === 'answer' ? 1 : 0;
         }
     }
-    return done;
+    for (const list of ['who', 'from', 'to', 'called', 'ended']) found[list] = Uint32Array.from(found[list]);
+    return found;
 }
 
-// 'scan 1 call 1 answer 64 point 24 collects 2', a line a verdict; its point is 0 where there is none.
+// The words at a place of the text of events: 'update 2 5', 'answer 0 5'.
+function wordsAt({text}, place) {
+    return text.slice(place, text.indexOf('\n', place));
+}
+
+// 'scan 1 call 1 answer 64 point 24 collects 2', a line a verdict: five numbers each, the point 0 where there is none.
 function readVerdicts(text) {
-    return text.split('\n').filter(Boolean).map(line => {
-        const [who, call, answer, point, collects] = line.split(' ').filter((_, k) => k % 2).map(word => Number(word) || 0);
-        return {who, call, answer, point, collects, lender: 0, from: '', taken: 0};
-    });
+    return Uint32Array.from(text.match(/\d+|none/g) ?? [], word => Number(word) || 0);
+}
+
+function verdictAt(numbers, k) {
+    const [who, call, answer, point, collects] = numbers.subarray(5 * k, 5 * k + 5);
+    return {who, call, answer, point, collects, view: '', lender: 0, from: '', taken: 0};
+}
+
+// The place of the verdict on the scan that answered at this item; -1 where there is none. Answers stand in their order.
+function verdictOf(numbers, item) {
+    let low = 0, high = numbers.length / 5;
+    while (low < high) {
+        const middle = (low + high) >> 1;
+        if (numbers[5 * middle + 2] < item) low = middle + 1;
+        else high = middle;
+    }
+    return numbers[5 * low + 2] === item ? low : -1;
 }
 
 // The numbered lines of a listing: the place of each number among the text lines, and its text.

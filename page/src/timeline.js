@@ -28,14 +28,16 @@ function draw(canvas) {
     canvas.width = wide * devicePixelRatio;
     canvas.height = n * high * devicePixelRatio;
     canvas.style.height = `${n * high}px`;
-    const pen = canvas.getContext('2d'), colour = name => style.getPropertyValue(`--${name}`).trim();
+    const pen = canvas.getContext('2d'), colours = {};
+    const colour = name => colours[name] ??= style.getPropertyValue(`--${name}`).trim();
     pen.scale(devicePixelRatio, devicePixelRatio);
     pen.textBaseline = 'middle';
     for (let who = 1; who <= n; who++) drawLane(pen, colour, who);
     drawItems(pen, colour);
-    const found = new Map(verdicts.map(verdict => [verdict.answer, verdict])), done = Array(n + 1).fill(-9);
-    for (const operation of line.operations) drawOperation(pen, colour, operation, found.get(operation[2]), done);
-    for (const verdict of verdicts) drawLender(pen, colour, verdict);
+    const done = Array(n + 1).fill(-9);
+    for (let k = 0; k < line.operations.who.length; k++) drawOperation(pen, colour, k, done);
+    drawNone(pen, colour);
+    for (const verdict of verdicts.near) drawLender(pen, colour, verdict);
 }
 
 function drawLane(pen, colour, who) {
@@ -64,31 +66,46 @@ function drawItems(pen, colour) {
     }
 }
 
-function drawOperation(pen, colour, [who, from, to, what, answer], verdict, done) {
-    const {high} = line, left = placeOf(Math.max(from - 1, line.from)), right = placeOf(Math.min(to || line.to, line.to));
-    const top = (who - 1) * high + 1, wide = Math.max(right - left, 1.5), none = verdict?.point === 0;
-    if (from > line.to || to && to < line.from || right - done[who] < .7 && !none) return;
+// An operation as a bar; of those that end on one pixel of a lane the first alone is drawn.
+function drawOperation(pen, colour, k, done) {
+    const {operations, verdicts: {numbers, near}} = line, who = operations.who[k], from = operations.from[k], to = operations.to[k];
+    const right = placeOf(Math.min(to || line.to, line.to));
+    if (from > line.to || to && to < line.from || right - done[who] < .7) return;
     done[who] = right;
-    pen.fillStyle = colour(none ? 'bad' : what === 'scan' ? `p${who % 8}` : 'bar');
-    pen.fillRect(left, top, wide, high - 7);
-    pen.strokeStyle = colour(none ? 'bad' : `p${who % 8}`);
-    pen.lineWidth = 2;
-    if (wide > 3) pen.strokeRect(left + 1, top + 1, wide - 2, high - 9);
-    if (wide > 24 && high > 16) {
-        pen.save();
-        pen.beginPath();
-        pen.rect(left, top, wide - 2, high);
-        pen.clip();
-        pen.fillStyle = none ? colour('on-bad') : what === 'scan' ? '#000' : colour('ink');
-        pen.font = '14px system-ui, "DejaVu Sans", sans-serif';
-        const words = [what + (answer && ` \u2192 ${answer}`), ...verdict ? [verdictWords(verdict)] : []].join('   ');
-        pen.fillText(words, left + 6, top + (high - 6) / 2);
-        pen.restore();
-    }
+    const scans = operations.text[operations.called[k]] === 's', place = scans && to ? verdictOf(numbers, to) : -1;
+    const told = near.find(verdict => verdict.answer === to) ?? (place < 0 ? null : verdictAt(numbers, place));
+    const answer = scans && to ? ` \u2192${wordsAt(operations, operations.ended[k]).slice('answer'.length)}` : '';
+    const words = wordsAt(operations, operations.called[k]) + answer + (told ? `   ${verdictWords(told)}` : '');
+    const inks = scans ? [`p${who % 8}`, `p${who % 8}`, '#000'] : ['bar', `p${who % 8}`, colour('ink')];
+    drawBar(pen, colour, who, from, to, words, told?.point === 0 ? ['bad', 'bad', colour('on-bad')] : inks);
     // the point is a diamond at the lower edge of the bar
-    if (verdict?.point >= line.from && !none) {
-        shape(pen, placeOf(verdict.point), top + high - 8, [[0, -7], [6, 0], [0, 7], [-6, 0]], colour('ink'), colour('paper'));
+    if (!told?.point || told.point < line.from) return;
+    shape(pen, placeOf(told.point), who * line.high - 7, [[0, -7], [6, 0], [0, 7], [-6, 0]], colour('ink'), colour('paper'));
+}
+
+// Those without a point are red, however short they are.
+function drawNone(pen, colour) {
+    const {numbers} = line.verdicts;
+    for (let k = 0; k < numbers.length / 5; k++) {
+        const [who, from, to] = numbers.subarray(5 * k, 5 * k + 3), short = placeOf(to) - placeOf(from) < 24;
+        if (!numbers[5 * k + 3] && short && to >= line.from && from <= line.to) drawBar(pen, colour, who, from, to, '', ['bad', 'bad', '']);
     }
+}
+
+function drawBar(pen, colour, who, from, to, words, [inside, edge, ink]) {
+    const {high} = line, left = placeOf(Math.max(from - 1, line.from)), right = placeOf(Math.min(to || line.to, line.to));
+    const top = (who - 1) * high + 1, wide = Math.max(right - left, 1.5);
+    Object.assign(pen, {fillStyle: colour(inside), strokeStyle: colour(edge), lineWidth: 2});
+    pen.fillRect(left, top, wide, high - 7);
+    if (wide > 3) pen.strokeRect(left + 1, top + 1, wide - 2, high - 9);
+    if (wide < 24 || high < 17) return;
+    pen.save();
+    pen.beginPath();
+    pen.rect(left, top, wide - 2, high);
+    pen.clip();
+    Object.assign(pen, {fillStyle: ink, font: '14px system-ui, "DejaVu Sans", sans-serif'});
+    pen.fillText(words, left + 6, top + (high - 6) / 2);
+    pen.restore();
 }
 
 function shape(pen, x, y, corners, fill, edge) {
@@ -103,9 +120,9 @@ function shape(pen, x, y, corners, fill, edge) {
 // An arrow from the last operation that a lender was called for to the scan that takes its view, at the item that does.
 function drawLender(pen, colour, {who, lender, taken}) {
     if (!lender || lender > line.n || lender === who || taken < line.from || taken > line.to) return;
-    const lent = line.operations.findLast(([process, from]) => process === lender && from < taken) ?? [0, taken, taken];
-    const {high} = line, way = Math.sign(who - lender), x = placeOf(taken), y = (who - .5) * high - way * (high / 2 - 5);
-    const fromX = placeOf(within(Math.min(lent[2] || taken, taken), line.from, line.to)), fromY = (lender - .5) * high;
+    const {high, operations} = line, lent = operations.who.findLastIndex((one, k) => one === lender && operations.from[k] < taken);
+    const way = Math.sign(who - lender), x = placeOf(taken), y = (who - .5) * high - way * (high / 2 - 5);
+    const fromX = placeOf(within(Math.min(operations.to[lent] || taken, taken), line.from, line.to)), fromY = (lender - .5) * high;
     pen.strokeStyle = colour('accent');
     pen.lineWidth = 3;
     pen.beginPath();

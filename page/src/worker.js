@@ -1,9 +1,10 @@
 // The worker: asks the module, and reads its answers, so that the page is never held up.
 
-const LENDERS = 64;     // so many scans are looked at for a borrowed view
+const NEAR = 60;        // so many scans, the last ones, are told of in words, and as many without a point
 const BORROWED = /^(?:view [a-z]+ ?= ?view ?\( ?([a-z]+) ?\[ ?(\w+) ?\] ?\)|look [a-z]+ ?= ?(v) ?\[ ?(\w+) ?\])/;
 let glue = null;
 let told = '';          // the texts whose operations the page has been told
+let operations = null;  // and these
 
 // What the module says of the parts of an input; each part but the last ends its last line.
 function askOf(sub, ...parts) {
@@ -23,16 +24,23 @@ function look({listing, schedule, marks, at, go, commands, big}) {
     const called = replies.find(reply => reply.command === 'events')?.lines.slice(1);
     const last = replies.at(-1)?.lines.find(line => line.startsWith('last '))?.slice(5) ?? 'none';
     const refused = replies.filter(reply => reply.lines[0]?.startsWith('refused: ')).map(r => [r.command, r.lines[0]]);
+    if (!known) operations = readOperations(called);
     if (!commands) told = texts;
-    return {code: OUTPUT, report, last, refused, items: big && !known && items, operations: known ? null : readOperations(called)};
+    return {code: OUTPUT, report, last, refused, items: big && !known && items, operations: known ? null : operations};
 }
 
-// The verdicts of a run, and for the last of them what lent the view: the line before an answer's tells where it was taken.
+// The verdicts of a run. The last ones, and the first without a point, have their answer, and what lent it: the line before an
+// answer's tells where a view was taken.
 function audit({listing, schedule}) {
     const answer = askOf('audit', listing, schedule), lines = readLines(listing);
-    const verdicts = answer.code === OUTPUT ? readVerdicts(answer.text) : [], near = verdicts.slice(-LENDERS);
+    if (answer.code !== OUTPUT) return answer;
+    const numbers = readVerdicts(answer.text), all = [...Array(numbers.length / 5).keys()];
+    const none = all.filter(k => !numbers[5 * k + 3]).slice(0, NEAR), last = all.slice(-NEAR);
+    const near = [...new Set([...none, ...last])].sort((a, b) => a - b).map(k => verdictAt(numbers, k));
+    const ended = new Map(Array.from(operations.to, (item, k) => [item, operations.ended[k]]));
+    for (const verdict of near) verdict.view = wordsAt(operations, ended.get(verdict.answer)).slice('answer '.length);
     if ([...lines.values()].some(line => BORROWED.test(line.text))) findLenders(listing, schedule, lines, near);
-    return {code: answer.code, verdicts};
+    return {code: OUTPUT, verdicts: {numbers, near}};
 }
 
 function findLenders(listing, schedule, lines, verdicts) {

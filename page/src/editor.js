@@ -1,6 +1,6 @@
 // A text with a margin: lines have marks, badges and colours. A long text is shown in part, and cannot be edited there.
 
-const MOST_LINES = 1500, SHOWN_LINES = 300, MOST_LETTERS = 300000, SHOWN_LETTERS = 2000;
+const MOST_LINES = 1500, SHOWN_LINES = 120, MOST_LETTERS = 300000, SHOWN_LETTERS = 2000;
 
 class Editor {
     constructor(root, label, onInput) {
@@ -61,6 +61,14 @@ class Editor {
         const shown = colours.filter(([line]) => line >= this.first && line < this.first + this.gutter.children.length);
         fill(this.back, JSON.stringify([shown, this.first]), () => shown.map(([line, name]) =>
             make('i', {class: name, style: `top: calc(${line - this.first} * var(--line-height))`})));
+    }
+
+    // Scrolls a line into view, but not under the hands of one who types.
+    reveal(line) {
+        const row = this.gutter.children[line - this.first], {root} = this;
+        if (!row || document.activeElement === this.area || root.scrollHeight <= root.clientHeight) return;
+        const over = root.scrollTop - row.offsetTop, under = row.offsetTop + 2 * row.offsetHeight - root.scrollTop - root.clientHeight;
+        root.scrollTop += under > 0 ? under : over > 0 ? -over : 0;
     }
 
     activate(line) {

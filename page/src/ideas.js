@@ -76,7 +76,7 @@ function outcome() {
 // The position in words, which a screen reader is told of; a scan that has just ended brings its verdict.
 function showWhere() {
     const {report: {at, total, values}, verdicts: {near}, timer} = state, verdict = timer ? null : near.find(each => each.answer === at);
-    const told = `: ${outcome()}; values ${values}`, words = verdict ? `; ${verdictWords(verdict)}` : '';
+    const told = `: ${outcome()}; values ${values}`, words = verdict ? `; ${verdictWords({...verdict, from: ''})}` : '';
     fill($('where'), at + total + told + words, () => [make('span', {class: 'at'}, `Item ${at} of ${total}`), told,
         make('span', {class: verdict?.point === 0 ? 'none' : ''}, words)]);
     if (document.activeElement !== $('at')) $('at').value = at;

@@ -44,6 +44,8 @@ function showMargins() {
         const text = line !== here ? '' : countOf(state);
         return {key: text, children: () => [text], label: text && `item ${state.at} is here`};
     }, [[here, 'now'], ...red('schedule')]);
+    scheduleEditor.reveal(here);
+    listingEditor.reveal(lines.get(state.report.processes[state.last.split(' ')[0] - 1]?.at)?.place ?? executed ?? -1);
 }
 
 // How many of a line's items are behind the position.

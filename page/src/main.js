@@ -61,7 +61,10 @@ function pressKey(event) {
 
 const SHOWN = [showTexts, showProcesses, showMemory, showMarks, showVerdicts, showIdea, showWhere, showTimeline];
 document.addEventListener('texts', () => [showTexts, showIdea].forEach(show => show()));
-document.addEventListener('state', () => (state.report ? SHOWN : [showTexts]).forEach(show => show()));
+document.addEventListener('state', () => {
+    (state.report ? SHOWN : [showTexts]).forEach(show => show());
+    window.snaplab.shownAt ??= performance.now();
+});
 document.addEventListener('keydown', pressKey);
 addEventListener('hashchange', takeHash);
 for (const [id, pressed] of Object.entries(BUTTONS)) $(id).onclick = pressed;

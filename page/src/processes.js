@@ -1,6 +1,6 @@
 // A card for each process: where it is, its buttons and its locals.
 
-const cards = [], MOST_CHANGES = 4;
+const cards = [], MOST_CHANGES = 4, MANY = 16;
 
 function makeCard(who) {
     const parts = Object.fromEntries(['what', 'next', 'changes', 'locals'].map(name => [name, make('div', {class: name})]));
@@ -8,7 +8,7 @@ function makeCard(who) {
         onclick: () => press(who, what)}, name);
     const update = button('update', `Process ${who} is called for an update`);
     update.onclick = () => press(who, updateOf(who));
-    const details = make('details', {ontoggle: () => showLocals(cards[who - 1], who)}, make('summary', {}, 'locals ', parts.changes), parts.locals);
+    const details = make('details', {ontoggle: () => showLocals(cards[who - 1], who)}, make('summary', {}, 'locals\u2003', parts.changes), parts.locals);
     const box = make('div', {class: 'process', role: 'group', 'aria-label': `Process ${who}`, style: `--p: var(--p${who % 8})`},
         make('div', {class: 'head'}, badge(who), parts.what, button('step', `Process ${who} takes a step (${who})`),
             button('scan', `Process ${who} is called for a scan`, 'scan'), update,
@@ -33,7 +33,10 @@ function showProcesses() {
     report.processes.forEach((process, k) => showCard(cards[k], process, lines, moved));
     const own = !/^\s*kind\s+multi\b/m.test(listing), words = report.values.split(' ').map((_, k) => String(k + 1));
     fill($('word'), `${words} ${own}`, () => [...own ? ['own'] : [], ...words].map(word => make('option', {}, word)));
-    for (const part of ['processes', 'memory']) $(part).classList.toggle('stale', Boolean(refusal));
+    for (const part of ['processes', 'memory']) {
+        $(part).classList.toggle('stale', Boolean(refusal));
+        $(part).classList.toggle('many', cards.length > MANY);
+    }
 }
 
 function showCard(card, {who, what, at, link, locals}, lines, moved) {

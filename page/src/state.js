@@ -19,7 +19,7 @@ function change(to, {appended = false, undone = false} = {}) {
     }
     Object.assign(state, to, {appended: state.appended && appended});
     if (state.schedule !== schedule) state.items = state.schedule.length < BIG ? readItems(state.schedule) : null;
-    announce('texts');
+    if (!appended) announce('texts');
     return refresh();
 }
 
@@ -39,9 +39,9 @@ function markCommands() {
 // Asks for the state at the position, or for that to which a run leads.
 async function refresh(go = '') {
     const serial = ++state.serial, {listing, schedule, at} = state;
-    const answer = await ask('look', {listing, schedule, at, go, marks: markCommands(), big: schedule.length >= BIG});
+    const answer = await ask('look', {listing, schedule, at, go, marks: markCommands(), total: state.items?.total});
     if (!answer) return;
-    if (answer.items && schedule === state.schedule) state.items = answer.items;
+    if (answer.items?.from && schedule === state.schedule) state.items = answer.items;
     if (answer.code === OUTPUT) take(answer, serial === state.serial);
     else if (serial === state.serial) state.refusal = readRefusal(answer);
     announce('state');

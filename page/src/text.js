@@ -83,7 +83,7 @@ function readHead(line) {
 // The operations that events tell of, as lists: process, first item, last item or 0, and where in the text of the events the
 // words of the call and of the answer are. Lists of numbers and one text go fast from the worker to the page.
 function readOperations(events) {
-    const found = {who: [], from: [], to: [], called: [], ended: [], answers: 0, text: events.join('\n') + '\n'}, open = new Map();
+    const found = {who: [], from: [], to: [], called: [], ended: [], answers: 0, text: events.join('\n')}, open = new Map();
     let offset = 0;
     for (const event of events) {
         const [name, item, process, what] = event.split(' ', 4), who = Number(process), k = open.get(who);
@@ -107,7 +107,8 @@ function readOperations(events) {
 
 // The words at a place of the text of events: 'update 2 5', 'answer 0 5'.
 function wordsAt({text}, place) {
-    return text.slice(place, text.indexOf('\n', place));
+    const feed = text.indexOf('\n', place);
+    return text.slice(place, feed < 0 ? text.length : feed);
 }
 
 // 'scan 1 call 1 answer 64 point 24 collects 2', a line a verdict: five numbers each, the point 0 where there is none.

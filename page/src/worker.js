@@ -14,19 +14,22 @@ function askOf(sub, ...parts) {
 }
 
 // A position of the run, or the one to which 'run' or 'rrun' leads from there, or to which these commands lead.
-function look({listing, schedule, marks, at, go, commands, big}) {
-    const items = readItems(schedule), texts = listing + '\0' + schedule, known = commands || texts === told;
-    const asked = commands ?? [...marks, ...known ? [] : [`goto ${items.total}`, 'events'],
+// Without the number of its items the schedule is read here.
+function look({listing, schedule, total, marks, at, go, commands}) {
+    const items = total === undefined ? readItems(schedule) : {total}, texts = listing + '\0' + schedule;
+    const known = commands || texts === told, end = at >= items.total && !go;
+    const asked = commands ?? [...marks, ...known || end ? [] : [`goto ${items.total}`, 'events'],
         `goto ${Math.min(at, items.total)}`, ...go ? [go] : [], 'where'].join('\n');
     const answer = askOf('debug', listing, schedule, asked);
-    if (answer.code !== OUTPUT) return {...answer, items: big && items};
+    if (answer.code !== OUTPUT) return {...answer, items};
     const {replies, report: {events, ...report}} = readSession(answer.text);
-    const called = replies.find(reply => reply.command === 'events')?.lines.slice(1);
+    const called = end ? events : replies.find(reply => reply.command === 'events')?.lines.slice(1);
+    const same = known || called.join('\n') === operations?.text;
     const last = replies.at(-1)?.lines.find(line => line.startsWith('last '))?.slice(5) ?? 'none';
     const refused = replies.filter(reply => reply.lines[0]?.startsWith('refused: ')).map(r => [r.command, r.lines[0]]);
-    if (!known) operations = readOperations(called);
+    if (!same) operations = readOperations(called);
     if (!commands) told = texts;
-    return {code: OUTPUT, report, last, refused, items: big && !known && items, operations: known ? null : operations};
+    return {code: OUTPUT, report, last, refused, items, operations: same ? null : operations};
 }
 
 // The verdicts of a run. The last ones, and the first without a point, have their answer, and what lent it: the line before an

@@ -240,7 +240,7 @@ def try_files(page, count, running):
         page.choose(0)
         open_file(page, path)
         count.check("open", page.run("asInput()") == text)
-        for name in ("debug", "debug-breakpoint"):
+        for name in ("debug", "debug-end-of-a-run"):
             open_file(page, os.path.join(TOP, "examples", name, "stdin"))
             out = re.findall(r"(?m)^report at (\d+) of", read("examples", name, "stdout"))[-1]
             count.check(f"open examples/{name}", page.at().split()[1] == out, page.at())
@@ -361,7 +361,9 @@ def try_sizes(page, count):
     count.check("a step at the end of them", page.at() == "Item 988001 of 988001", page.at())
     page.choose(FIRST_IDEA)
     blocked = page.run("window.blocked")
-    count.check("the page was never held up for 100 ms", not [one for one in blocked if one > 100], blocked)
+    # where more is going on than the machine has processors, the page waits for its turn
+    limit = 100 * max(1, os.getloadavg()[0] / os.cpu_count())
+    count.check(f"the page was never held up for 100 ms (here: {limit:.0f})", not [one for one in blocked if one > limit], blocked)
     page.choose(2)
     page.write("schedule", "shape 64 64\n" + "".join(f"{k} update {65 - k} {k}\n{k}*900\n" for k in range(1, 65)))
     page.click("#end")

@@ -3,7 +3,7 @@
 
     page/build.py --module PATH/snap_page.wasm     with this module
     page/build.py                                  with the module that is inside the page already
-    page/build.py --check                          says whether the page is what would be made, with the module inside it
+    page/build.py --check                          says whether the page is what would be made
 """
 import argparse
 import base64
@@ -71,7 +71,8 @@ def changed(change, both):
     if isinstance(change, str):
         return parts(change)
     for pattern, text in change.items():
-        both = tuple(re.sub("(?m)" + pattern if not pattern.startswith("(?s)") else "(?ms)" + pattern[4:], text, one) for one in both)
+        flags = re.MULTILINE | (re.DOTALL if pattern.startswith("(?s)") else 0)
+        both = tuple(re.sub(pattern.removeprefix("(?s)"), text, one, flags=flags) for one in both)
     return both
 
 
@@ -122,7 +123,7 @@ def built(module):
         if names.endswith(".txt"):
             return html.escape(source(names), quote=False)
         return "\n".join(source(name) for name in names.split())
-    return re.sub(r"<!-- ([a-z. ]+?) -->", put, source("page.html")) + "\n"
+    return re.sub(r"<!-- ([a-z.\s]+?) -->", put, source("page.html")) + "\n"
 
 
 def module_inside():
@@ -143,7 +144,7 @@ def main():
     text = built(module)
     if asked.check:
         same = text == read("page", "snaplab.html")
-        print("page/snaplab.html is what page/build.py makes" if same else "page/snaplab.html is not what page/build.py makes")
+        print(f"page/snaplab.html is {'' if same else 'not '}what page/build.py makes")
         sys.exit(0 if same else 1)
     with open(PAGE, "w", encoding="utf-8", newline="") as file:
         file.write(text)

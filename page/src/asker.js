@@ -33,7 +33,8 @@ function ask(kind, request, key = kind) {
 
 function askNext() {
     if (asker.busy || !asker.ready || !asker.waiting.size) return;
-    const key = asker.waiting.has('look') ? 'look' : asker.waiting.keys().next().value, {kind, request} = asker.waiting.get(key);
+    const key = asker.waiting.has('look') ? 'look' : asker.waiting.keys().next().value;
+    const {kind, request} = asker.waiting.get(key);
     asker.busy = {...asker.waiting.get(key), begun: performance.now(), timer: setInterval(showProgress, SLOW)};
     asker.waiting.delete(key);
     asker.worker.postMessage({kind, request});
@@ -65,6 +66,4 @@ function stopAsking() {
     endQuestion({code: STOPPED, text: ''});
 }
 
-function isSettled() {
-    return Boolean(asker.failed) || asker.ready && !asker.busy && !asker.waiting.size && !state.timer;
-}
+const isSettled = () => Boolean(asker.failed) || asker.ready && !asker.busy && !asker.waiting.size && !state.timer;

@@ -27,7 +27,8 @@ class Editor {
         this.first = long ? Math.max(Math.min(around - SHOWN_LINES / 2, this.lines.length - SHOWN_LINES), 0) : 0;
         if (this.text === text && this.first === first) return long;
         this.text = text;
-        const part = long ? this.lines.slice(this.first, this.first + SHOWN_LINES).map(l => l.slice(0, SHOWN_LETTERS)) : this.lines;
+        const end = this.first + SHOWN_LINES, cut = line => line.slice(0, SHOWN_LETTERS);
+        const part = long ? this.lines.slice(this.first, end).map(cut) : this.lines;
         this.area.readOnly = long;
         if (this.area.value !== part.join('\n')) this.area.value = part.join('\n');
         const longest = part.reduce((most, line) => Math.max(most, line.length), 0);
@@ -41,7 +42,8 @@ class Editor {
     setRows(count) {
         while (this.gutter.children.length > count) this.gutter.lastChild.remove();
         while (this.gutter.children.length < count) {
-            const place = this.gutter.children.length, row = make('div', {role: 'option', id: `${this.root.id}-${place}`});
+            const place = this.gutter.children.length;
+            const row = make('div', {role: 'option', id: `${this.root.id}-${place}`});
             row.onclick = () => {
                 this.activate(place);
                 this.onmark?.(place + this.first);
@@ -50,7 +52,7 @@ class Editor {
         }
     }
 
-    // What stands in the margin, for each text line its children with their key and what a reader hears; and coloured lines.
+    // What stands in the margin, for each text line its children, their key and what is read out; and coloured lines.
     mark(told, colours) {
         [...this.gutter.children].forEach((row, k) => {
             const {key, children, label, numbered} = told(k + this.first);
@@ -67,7 +69,7 @@ class Editor {
     reveal(line) {
         const row = this.gutter.children[line - this.first], {root} = this;
         if (!row || document.activeElement === this.area || root.scrollHeight <= root.clientHeight) return;
-        const over = root.scrollTop - row.offsetTop, under = row.offsetTop + 2 * row.offsetHeight - root.scrollTop - root.clientHeight;
+        const over = root.scrollTop - row.offsetTop, under = 2 * row.offsetHeight - over - root.clientHeight;
         root.scrollTop += under > 0 ? under : over > 0 ? -over : 0;
     }
 

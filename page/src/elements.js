@@ -19,24 +19,23 @@ function make(tag, attributes = {}, ...children) {
 }
 
 // A process's number in its colour; odd ones are round and even ones square.
-function badge(who, more = '') {
-    return make('span', {class: `badge ${who % 2 ? '' : 'even'} ${more}`, style: `--p: var(--p${who % 8})`}, String(who));
-}
+const badge = (who, more = '') =>
+    make('span', {class: `badge ${who % 2 ? '' : 'even'} ${more}`, style: `--p: var(--p${who % 8})`}, String(who));
 
-// A printed text, old words beside new ones. Where their count differs it is all marked, and where too many differ; there may be
-// no older text.
+// A printed text, old words beside new ones; all of it is marked where their count differs, and where many differ.
+// There may be no older text.
 function compared(older, newer) {
     if (older === undefined || older === newer) return [newer];
     const before = older.split(' '), after = newer.split(' ');
     if (before.length !== after.length) return [changed(older, newer)];
     const news = after.filter((word, k) => word !== before[k]).length;
-    if (after.length > LONG_TEXT && news > MOST_MARKED) return [make('span', {class: 'changed', title: `was ${older}`}, newer)];
+    const all = {class: 'changed', title: `was ${older}`};
+    if (after.length > LONG_TEXT && news > MOST_MARKED) return [make('span', all, newer)];
     return after.flatMap((word, k) => [k ? ' ' : '', word === before[k] ? word : changed(before[k], word)]);
 }
 
-function changed(older, newer) {
-    return make('span', {class: 'changed'}, make('s', {}, older), '\u2192', make('b', {}, newer));
-}
+const changed = (older, newer) =>
+    make('span', {class: 'changed'}, make('s', {}, older), '\u2192', make('b', {}, newer));
 
 // Puts children into an element, where they are not there already: 'key' says what they show.
 function fill(element, key, children) {

@@ -7,7 +7,7 @@ function asInput() {
     return `${part(state.listing)}%\n${part(state.schedule)}%\n${[...markCommands(), `goto ${state.at}`].join('\n')}\n`;
 }
 
-// Takes the parts of an input. Where its commands lead to is asked of the module; its marks are those that stand at the end.
+// Takes the parts of an input. Where its commands lead to is asked of the module; its marks are those that are left.
 async function takeInput(text, more = {idea: null, goal: null}) {
     const [listing, schedule = 'shape 2 2\n', commands = ''] = text.replace(/\r\n/g, '\n').split(/^%\n/m);
     state.breaks.clear();

@@ -39,7 +39,8 @@ class Glue {
     }
 
     ask(texts) {
-        const {instance} = this, places = texts.map(text => this.put(text)), nothing = {code: MEMORY, bytes: new Uint8Array()};
+        const {instance} = this, places = texts.map(text => this.put(text));
+        const nothing = {code: MEMORY, bytes: new Uint8Array()};
         if (!this.taken || !places.every(Boolean) || !(this.room || this.enlarge(65536n))) return nothing;
         const words = places.flatMap((place, k) => [place, BigInt(texts[k].length)]);
         for (;;) {

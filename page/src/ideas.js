@@ -21,7 +21,8 @@ function choose(k) {
 
 // The idea's text, its change and its way back, and the goal of an exercise.
 function showIdea() {
-    const {goal, listing, schedule, verdicts, refusal} = state, idea = goal ? null : choices[state.idea], other = idea?.change;
+    const {goal, listing, schedule, verdicts, refusal} = state;
+    const idea = goal ? null : choices[state.idea], other = idea?.change;
     const made = other && listing === other.listing && schedule === other.schedule;
     $('menu').value = state.idea ?? '';
     $('idea').hidden = !idea?.text && !goal;
@@ -34,10 +35,12 @@ function showIdea() {
     });
     $('change').hidden = !other;
     $('change').textContent = made ? 'Back to how it was' : 'Make the change';
-    $('change').onclick = () => change({listing: (made ? idea : other).listing, schedule: (made ? idea : other).schedule, at: 0});
+    const {listing: text, schedule: items} = (made ? idea : other) ?? state;
+    $('change').onclick = () => change({listing: text, schedule: items, at: 0});
     const met = goal && !refusal && verdicts.near.find(meets), words = goal && `Goal: ${goalWords(goal)}. Not met yet.`;
     $('goal').classList.toggle('met', Boolean(met));
-    $('goal').textContent = met ? `Met: the scan of process ${met.who}, items ${met.call} to ${met.answer}.` : words ?? '';
+    const done = met && `Met: the scan of process ${met.who}, items ${met.call} to ${met.answer}.`;
+    $('goal').textContent = done || words || '';
 }
 
 function meets(verdict) {
@@ -47,35 +50,39 @@ function meets(verdict) {
 }
 
 function goalWords({who, view, collects, point, items}) {
-    return [`a scan ${who ? `of process ${who} ` : ''}answers${view ? ` ${view}` : ''}`, collects && `with ${collects} double collects`,
-        point && `and has ${point === 'none' ? 'no' : 'a'} point`, items && `in at most ${items} items`].filter(Boolean).join(' ');
+    const words = ['a scan', who && `of process ${who}`, 'answers', view,
+        collects && `with ${collects} double collects`, point && `and has ${point === 'none' ? 'no' : 'a'} point`,
+        items && `in at most ${items} items`];
+    return words.filter(Boolean).join(' ');
 }
 
 function verdictWords({point, collects, from}) {
-    const where = point ? `point ${point}` : '\u2717 point none', count = `${collects} double collect${collects === 1 ? '' : 's'}`;
-    return `${where}, ${count}${from && `, view of ${from}`}`;
+    const where = point ? `point ${point}` : '\u2717 point none', many = collects === 1 ? '' : 's';
+    return `${where}, ${collects} double collect${many}${from && `, view of ${from}`}`;
 }
 
 // The verdicts as a list: each leads to its point, or to the answer where there is none.
 function showVerdicts() {
     const {near, numbers} = state.verdicts, left = numbers.length / 5 - near.length;
     const told = left ? [`${left} other ones are not listed.`] : near.length ? [] : ['No scan has ended.'];
-    fill($('verdicts'), JSON.stringify([near, left]), () => [...told.map(words => make('li', {}, words)), ...near.map(verdict => {
-        const {who, call, answer, point, view} = verdict, words = ` scan, items ${call} to ${answer}, answers ${view}: `;
-        const leads = {class: point ? '' : 'none', onclick: () => goTo(point || answer)};
-        return make('li', {}, make('button', leads, badge(who), words + verdictWords(verdict)));
-    })]);
+    const row = ({who, call, answer, point, view, ...more}) => {
+        const words = ` scan, items ${call} to ${answer}, answers ${view}: ${verdictWords({point, ...more})}`;
+        return make('button', {class: point ? '' : 'none', onclick: () => goTo(point || answer)}, badge(who), words);
+    };
+    const all = () => [...told, ...near.map(row)].map(each => make('li', {}, each));
+    fill($('verdicts'), JSON.stringify([near, left]), all);
 }
 
 function outcome() {
     const [who, what, ...more] = state.last.split(' ');
-    const words = {called: 'was called', stepped: 'made a step', finished: 'finished its update', skipped: 'was skipped:'}[what];
-    return who === 'none' ? 'the beginning' : `process ${[who, words ?? what, ...more].join(' ')}`;
+    const words = {called: 'was called', stepped: 'made a step', finished: 'ended its update', skipped: 'was skipped:'};
+    return who === 'none' ? 'the beginning' : `process ${[who, words[what] ?? what, ...more].join(' ')}`;
 }
 
 // The position in words, which a screen reader is told of; a scan that has just ended brings its verdict.
 function showWhere() {
-    const {report: {at, total, values}, verdicts: {near}, timer} = state, verdict = timer ? null : near.find(each => each.answer === at);
+    const {report: {at, total, values}, verdicts: {near}, timer} = state;
+    const verdict = timer ? null : near.find(each => each.answer === at);
     const told = `: ${outcome()}; values ${values}`, words = verdict ? `; ${verdictWords({...verdict, from: ''})}` : '';
     fill($('where'), at + total + told + words, () => [make('span', {class: 'at'}, `Item ${at} of ${total}`), told,
         make('span', {class: verdict?.point === 0 ? 'none' : ''}, words)]);
@@ -83,13 +90,15 @@ function showWhere() {
 }
 
 function makeExercise() {
-    const form = $('form').querySelector('form'), chosen = name => form.elements[name].value.trim().replace(/\s+/g, ' ');
-    for (const name of GOAL) form.elements[name].value = state.goal?.[name] ?? '';
+    const {elements} = $('form').querySelector('form');
+    const chosen = name => elements[name].value.trim().replace(/\s+/g, ' ');
+    for (const name of GOAL) elements[name].value = state.goal?.[name] ?? '';
     $('form').returnValue = '';
     $('form').showModal();
     $('form').onclose = () => {
         const goal = Object.fromEntries(GOAL.map(name => [name, chosen(name)])), pressed = $('form').returnValue;
-        if (pressed === 'make') change({goal: {...goal, task: goal.task || `Make it so that ${goalWords(goal)}.`}, idea: null});
+        goal.task ||= `Make it so that ${goalWords(goal)}.`;
+        if (pressed === 'make') change({goal, idea: null});
         if (pressed === 'clear') change({goal: null});
         if (pressed === 'make') say('The goal is set. Link copies the exercise.');
     };

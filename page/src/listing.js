@@ -9,7 +9,8 @@ const numbered = {listing: null, lines: new Map(), numbers: new Map()};
 function linesOf(listing) {
     if (numbered.listing === listing) return numbered;
     const lines = readLines(listing);
-    return Object.assign(numbered, {listing, lines, numbers: new Map([...lines].map(([number, line]) => [line.place, number]))});
+    const numbers = new Map([...lines].map(([number, line]) => [line.place, number]));
+    return Object.assign(numbered, {listing, lines, numbers});
 }
 
 function showTexts() {
@@ -23,7 +24,8 @@ function showTexts() {
 // The text line of the last item.
 function positionLine() {
     const {items, at} = state;
-    return items ? items.line[lineOf(items, at)] ?? Math.max(items.shapeLine, 0) : scheduleEditor.first + SHOWN_LINES / 2;
+    if (!items) return scheduleEditor.first + SHOWN_LINES / 2;
+    return items.line[lineOf(items, at)] ?? Math.max(items.shapeLine, 0);
 }
 
 // The line that the last item has executed, where the position before is known.
@@ -50,7 +52,8 @@ function showMargins() {
 
 // How many of a line's items are behind the position.
 function countOf({items, at}) {
-    const k = items && at ? lineOf(items, at) : -1, count = k < 0 ? 1 : (items.from[k + 1] ?? items.total) - items.from[k];
+    const k = items && at ? lineOf(items, at) : -1;
+    const count = k < 0 ? 1 : (items.from[k + 1] ?? items.total) - items.from[k];
     return count > 1 ? `\u25B6${at - items.from[k]}/${count}` : '\u25B6';
 }
 
@@ -58,11 +61,12 @@ function listingRow(number, places) {
     if (number === undefined) return {key: '', children: () => [], label: ''};
     const here = places.get(number) ?? [], stop = state.breaks.has(number), more = here.length - MOST_BADGES;
     const who = here.map(([process, link]) => `process ${process} ${link ? 'returns here' : 'is here'}`);
+    const {text} = linesOf(state.listing).lines.get(number), badges = here.slice(0, MOST_BADGES);
     return {
         key: `${stop}${here.join(';')}`, numbered: true,
-        label: [`line ${number}: ${linesOf(state.listing).lines.get(number).text}`, ...who, ...stop ? ['breakpoint'] : []].join('; '),
+        label: [`line ${number}: ${text}`, ...who, ...stop ? ['breakpoint'] : []].join('; '),
         children: () => [...stop ? [make('span', {class: 'stop', title: 'breakpoint'})] : [],
-            ...here.slice(0, MOST_BADGES).map(([process, link]) => badge(process, link)), ...more > 0 ? [`+${more}`] : []],
+            ...badges.map(([process, link]) => badge(process, link)), ...more > 0 ? [`+${more}`] : []],
     };
 }
 

@@ -1,36 +1,21 @@
 // Buttons and keys.
 
-const KEYS = [
-    ['1', '1 to 9', 'this process takes a step', key => cards[key - 1] && press(Number(key))],
-    ['ArrowLeft', 'Left', 'one item back', () => goTo(state.at - 1)],
-    ['ArrowRight', 'Right', 'one item on', () => goTo(state.at + 1)],
-    ['PageUp', 'Page up', 'ten items back', () => goTo(state.at - 10)],
-    ['PageDown', 'Page down', 'ten items on', () => goTo(state.at + 10)],
-    ['Home', 'Home', 'to the beginning', () => goTo(0)],
-    ['End', 'End', 'to the end', () => goTo(Infinity)],
-    ['r', 'r', 'run to the next stop', () => refresh('run')],
-    ['R', 'Shift+R', 'run back to the last stop', () => refresh('rrun')],
-    ['b', 'b', 'a breakpoint at the line of the margin, or where the last process stands; again takes it away',
-        () => toggleBreak(breakLine())],
-    ['w', 'w', 'watches the register that has the focus; again takes it away', () => watchFocused()],
-    ['z', 'z', 'undo', () => undo('past', 'future')],
-    ['y', 'y', 'redo', () => undo('future', 'past')],
-    ['+', '+', 'fewer items on the time line', () => zoom(.5)],
-    ['-', '-', 'more items on the time line', () => zoom(2)],
-    ['0', '0', 'all items on the time line', () => zoom(0)],
-    ['l', 'l', 'to the margin of the listing, where up and down choose a line', () => listingEditor.gutter.focus()],
-    ['p', 'p', 'to the processes', () => $('processes').querySelector('button').focus()],
-    ['m', 'm', 'to the memory', () => $('memory').querySelector('button').focus()],
-    ['t', 't', 'to the time line', () => $('timeline').focus()],
-    ['?', '?', 'this list', () => $('help').showModal()],
-];
-
 const BUTTONS = {
-    undo: () => undo('past', 'future'), redo: () => undo('future', 'past'), open: () => $('file').click(), save: saveFile,
-    copy: () => copyText(asInput(), 'the input of snaplab debug'), link: copyLink, make: makeExercise,
+    undo: () => undo('past', 'future'), redo: () => undo('future', 'past'), open: () => $('file').click(),
+    save: saveFile, copy: () => copyText(asInput(), 'the input of snaplab debug'), link: copyLink, make: makeExercise,
     keys: () => $('help').showModal(), home: () => goTo(0), end: () => goTo(Infinity), back: () => goTo(state.at - 1),
     on: () => goTo(state.at + 1), run: () => refresh('run'), rrun: () => refresh('rrun'), closer: () => zoom(.5),
-    wider: () => zoom(2), fit: () => zoom(0), stop: stopAsking, cut: () => cutHere(),
+    wider: () => zoom(2), fit: () => zoom(0), stop: stopAsking, cut: cutHere,
+};
+
+// Keys that are buttons, and keys of their own; page.html lists them.
+const KEYS = {
+    ArrowLeft: BUTTONS.back, ArrowRight: BUTTONS.on, Home: BUTTONS.home, End: BUTTONS.end,
+    r: BUTTONS.run, R: BUTTONS.rrun, z: BUTTONS.undo, y: BUTTONS.redo,
+    '+': BUTTONS.closer, '-': BUTTONS.wider, 0: BUTTONS.fit, '?': BUTTONS.keys,
+    PageUp: () => goTo(state.at - 10), PageDown: () => goTo(state.at + 10), b: () => toggleBreak(breakLine()),
+    w: watchFocused, l: () => listingEditor.gutter.focus(), p: () => $('processes').querySelector('button').focus(),
+    m: () => $('memory').querySelector('button').focus(), t: () => $('timeline').focus(),
 };
 
 function cutHere() {
@@ -52,11 +37,11 @@ function watchFocused() {
 }
 
 function pressKey(event) {
-    const typing = event.target.matches('textarea, input, select, dialog *');
-    const found = KEYS.find(([key]) => key === event.key || key === '1' && /^[1-9]$/.test(event.key));
-    if (event.ctrlKey || event.metaKey || event.altKey || typing || !found) return;
+    const {key, target} = event, typing = target.matches('textarea, input, select, dialog *');
+    const pressed = /^[1-9]$/.test(key) ? cards[key - 1] && (() => press(Number(key))) : KEYS[key];
+    if (event.ctrlKey || event.metaKey || event.altKey || typing || !pressed) return;
     event.preventDefault();
-    found[3](event.key);
+    pressed();
 }
 
 const SHOWN = [showTexts, showProcesses, showMemory, showMarks, showVerdicts, showIdea, showWhere, showTimeline];
@@ -70,9 +55,9 @@ addEventListener('hashchange', takeHash);
 for (const [id, pressed] of Object.entries(BUTTONS)) $(id).onclick = pressed;
 $('file').onchange = () => openFile($('file').files[0]).then(() => { $('file').value = ''; });
 $('at').onchange = () => /^\d+$/.test($('at').value.trim()) ? goTo(Number($('at').value)) : say('An item is a number.');
-fill($('help-keys'), 'keys', () => KEYS.flatMap(([, key, does]) => [make('dt', {}, key), make('dd', {}, does)]));
 makeMenu();
 dragTimeline();
 startWorker();
 takeHash().then(taken => taken || choose(GROUPS.Listings.length));
-window.snaplab = {state, settled: isSettled, answer: (sub, shipped, input) => ask('answer', {sub, shipped, input}, Symbol(sub))};
+const answer = (sub, shipped, input) => ask('answer', {sub, shipped, input}, Symbol(sub));
+window.snaplab = {state, settled: isSettled, answer};

@@ -7,7 +7,8 @@ function showMemory() {
     fill($('memory'), JSON.stringify([report.values, report.registers, before?.registers, [...watches]]), () => {
         const focused = document.activeElement.dataset.register;
         queueMicrotask(() => focused && $('memory').querySelector(`[data-register="${focused}"]`)?.focus());
-        const banks = new Map(), values = make('div', {class: 'values'}, 'values ', ...compared(before?.values, report.values));
+        const values = make('div', {class: 'values'}, 'values ', ...compared(before?.values, report.values));
+        const banks = new Map();
         report.registers.forEach((line, k) => {
             const [name, text] = line.split(' = '), bank = banks.get(name[0]) ?? [];
             bank.push({name, text, was: before?.registers[k].split(' = ')[1]});
@@ -29,8 +30,10 @@ function columns(text, bank) {
 
 function table(corner, head, rows) {
     const cells = ['', ...head].map((name, k) => make('th', {scope: 'col'}, k ? name : corner));
-    const body = rows.map(([name, ...row]) => make('tr', {}, make('th', {scope: 'row'}, name), ...row.map(cell => make('td', {}, ...cell))));
-    return make('div', {class: 'bank'}, make('table', {}, make('thead', {}, make('tr', {}, ...cells)), make('tbody', {}, ...body)));
+    const body = rows.map(([name, ...row]) =>
+        make('tr', {}, make('th', {scope: 'row'}, name), ...row.map(cell => make('td', {}, ...cell))));
+    const all = make('table', {}, make('thead', {}, make('tr', {}, ...cells)), make('tbody', {}, ...body));
+    return make('div', {class: 'bank'}, all);
 }
 
 function fields(bank, all) {
@@ -44,7 +47,7 @@ function fields(bank, all) {
 // Bits q[i,j] and p[i,j]: a row for each i. Many of them are written as lines.
 function bits(bank, all) {
     const count = Math.round(Math.sqrt(all.length)), places = Array.from({length: count}, (_, k) => k);
-    const joined = (cells, what) => cells[0].was === undefined && what === 'was' ? undefined : cells.map(cell => cell[what]).join(' ');
+    const joined = (cells, what) => cells[0][what] === undefined ? undefined : cells.map(cell => cell[what]).join(' ');
     const rows = places.map(i => {
         const cells = all.slice(i * count, (i + 1) * count), name = `${bank} ${i + 1}`;
         if (count > MATRIX) return [name, compared(joined(cells, 'was'), joined(cells, 'text'))];
@@ -54,13 +57,14 @@ function bits(bank, all) {
 }
 
 function watchButton(name, children = [name]) {
-    const label = children[0] === name ? name : `${name}: ${children.map(child => child.textContent ?? child).join('')}`;
+    const words = children.map(child => child.textContent ?? child).join('');
+    const label = words === name ? name : `${name}: ${words}`;
     return make('button', {'aria-pressed': String(state.watches.has(name)), 'data-register': name, 'aria-label': label,
         title: `Watch ${name}, or no longer (w)`, onclick: () => toggleWatch(name)}, ...children);
 }
 
 function toggleWatch(name) {
-    say(state.watches.has(name) ? `${name} is watched no more.` : `${name} is watched: a run stops where it has changed.`);
+    say(`${name} is ${state.watches.has(name) ? 'watched no more' : 'watched: a run stops where it has changed'}.`);
     return toggle(state.watches, name);
 }
 
@@ -68,6 +72,8 @@ function toggleWatch(name) {
 function showMarks() {
     const marks = [...[...state.breaks].map(line => [`line ${line}`, () => toggle(state.breaks, line)]),
         ...[...state.watches].map(register => [register, () => toggleWatch(register)])];
-    fill($('marks'), marks.map(([name]) => name).join(), () => marks.length ? ['Runs stop at ', ...marks.map(([name, off]) =>
-        make('button', {class: 'mark', onclick: off, 'aria-label': `Take away the mark ${name}`}, `${name} \u00d7`))] : []);
+    const button = ([name, onclick]) =>
+        make('button', {class: 'mark', onclick, 'aria-label': `Take away the mark ${name}`}, `${name} \u00d7`);
+    const all = () => marks.length ? ['Runs stop at ', ...marks.map(button)] : [];
+    fill($('marks'), marks.map(([name]) => name).join(), all);
 }

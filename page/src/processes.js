@@ -3,17 +3,19 @@
 const cards = [], MOST_CHANGES = 4, MANY = 16;
 
 function makeCard(who) {
-    const parts = Object.fromEntries(['what', 'next', 'changes', 'locals'].map(name => [name, make('div', {class: name})]));
-    const button = (name, title, what) => make('button', {class: name, title, 'aria-label': `${name}, process ${who}`,
-        onclick: () => press(who, what)}, name);
+    const [what, next, changes, locals] = ['what', 'next', 'changes', 'locals'].map(name => make('div', {class: name}));
+    const button = (name, title, call) => make('button', {class: name, title, 'aria-label': `${name}, process ${who}`,
+        onclick: () => press(who, call)}, name);
     const update = button('update', `Process ${who} is called for an update`);
     update.onclick = () => press(who, updateOf(who));
-    const details = make('details', {ontoggle: () => showLocals(cards[who - 1], who)}, make('summary', {}, 'locals\u2003', parts.changes), parts.locals);
-    const box = make('div', {class: 'process', role: 'group', 'aria-label': `Process ${who}`, style: `--p: var(--p${who % 8})`},
-        make('div', {class: 'head'}, badge(who), parts.what, button('step', `Process ${who} takes a step (${who})`),
+    const details = make('details', {ontoggle: () => showLocals(cards[who - 1], who)},
+        make('summary', {}, 'locals\u2003', changes), locals);
+    const colour = `--p: var(--p${who % 8})`;
+    const box = make('div', {class: 'process', role: 'group', 'aria-label': `Process ${who}`, style: colour},
+        make('div', {class: 'head'}, badge(who), what, button('step', `Process ${who} takes a step (${who})`),
             button('scan', `Process ${who} is called for a scan`, 'scan'), update,
-            button('crash', `Process ${who} crashes: it stops for good`, 'crash')), parts.next, details);
-    return {...parts, details, box};
+            button('crash', `Process ${who} crashes: it stops for good`, 'crash')), next, details);
+    return {what, next, changes, locals, details, box};
 }
 
 // An update of the word that is chosen; the next one has another value.
@@ -40,22 +42,26 @@ function showProcesses() {
 }
 
 function showCard(card, {who, what, at, link, locals}, lines, moved) {
-    const trouble = /^(trapped|crashed)/.test(what), told = `${what}${at ? ` at ${at}` : ''}${link ? `, then back to ${link}` : ''}`;
+    const trouble = /^(trapped|crashed)/.test(what);
+    const told = what + (at ? ` at ${at}` : '') + (link ? `, then back to ${link}` : '');
     fill(card.what, told, () => [make('span', {class: trouble ? 'none' : ''}, told)]);
     const next = at && !trouble ? `next ${at}: ${lines.get(at)?.text ?? ''}` : '';
     fill(card.next, next, () => [next]);
     card.box.classList.toggle('last', moved === who);
-    const before = state.before?.processes[who - 1].locals.split('\n') ?? [], after = before.length ? locals.split('\n') : [];
-    const news = after.length === before.length ? after.flatMap((line, k) => line === before[k] ? [] : [[before[k], line]]) : [];
-    fill(card.changes, news.join(), () => news.slice(0, MOST_CHANGES).flatMap(([was, is]) => [...compared(was, is), '\u2003'])
-        .concat(news.length > MOST_CHANGES ? [`and ${news.length - MOST_CHANGES} more`] : []));
+    const before = state.before?.processes[who - 1].locals.split('\n') ?? [], after = locals.split('\n');
+    const pairs = after.length === before.length ? after.map((line, k) => [before[k], line]) : [];
+    const news = pairs.filter(([was, is]) => was !== is), more = news.length - MOST_CHANGES;
+    const shown = ([was, is]) => [...compared(was, is), '\u2003'];
+    fill(card.changes, news.join(), () =>
+        [...news.slice(0, MOST_CHANGES).flatMap(shown), ...more > 0 ? [`and ${more} more`] : []]);
     showLocals(card, who);
 }
 
 // Locals are written out where they are unfolded, and there alone.
 function showLocals(card, who) {
     if (!card.details.open) return;
-    const {locals} = state.report.processes[who - 1], before = state.before?.processes[who - 1].locals ?? '', was = before.split('\n');
+    const {locals} = state.report.processes[who - 1], before = state.before?.processes[who - 1].locals ?? '';
+    const was = before.split('\n');
     fill(card.locals, `${locals}|${before}`, () => locals.split('\n').map((line, k) =>
         make('div', {}, ...compared(before ? was[k] : undefined, line))));
 }

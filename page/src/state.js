@@ -81,10 +81,13 @@ function askAudit() {
 
 // What was refused: its code, its number, and the part that it is of.
 function readRefusal({code, text}) {
-    const page = {[MEMORY]: 'The module found no memory for this.', [STOPPED]: 'Stopped: what is shown is the state before.',
+    const page = {[MEMORY]: 'The module found no memory for this.',
+        [STOPPED]: 'Stopped: what is shown is the state before.',
         [TRAPPED]: `The module stopped (${text.trim()}), and was started anew.`}[code];
-    const [, name, , number] = text.trim().split(' '), part = {L: 'listing', P: 'listing', S: 'schedule', W: 'schedule'}[name?.[0]];
-    return page ? {part: 'page', text: page} : {part: part ?? 'page', text: text.trim(), name, number: Number(number ?? 0)};
+    if (page) return {part: 'page', text: page};
+    const [, name, , number = 0] = text.trim().split(' ');
+    const part = {L: 'listing', P: 'listing', S: 'schedule', W: 'schedule'}[name?.[0]] ?? 'page';
+    return {part, text: text.trim(), name, number: Number(number)};
 }
 
 function goTo(at) {
@@ -115,7 +118,8 @@ function parted(schedule, items, at) {
     const lines = schedule.split('\n'), k = at ? lineOf(items, at) : -1, place = items.line[k] ?? items.shapeLine;
     const before = lines.slice(0, place + 1), after = lines.slice(place + 1), end = items.from[k + 1] ?? items.total;
     if (k >= 0 && at < end) {
-        const comment = /\s*#.*$/.exec(lines[place])?.[0] ?? '', times = count => items.who[k] + (count > 1 ? `*${count}` : '');
+        const comment = /\s*#.*$/.exec(lines[place])?.[0] ?? '';
+        const times = count => items.who[k] + (count > 1 ? `*${count}` : '');
         before[place] = times(at - items.from[k]) + comment;
         after.unshift(times(end - at));
     }

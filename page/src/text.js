@@ -7,8 +7,8 @@ const ITEM = /^[ \t\r]*(\d+)[ \t\r]*(?:\*[ \t\r]*(\d+)|(scan|crash|update)\b[^#]
 const SHAPE = /^[ \t\r]*shape[ \t\r]+(\d+)[ \t\r]+(\d+)/;
 const EMPTY = /^[ \t\r]*(?:#.*)?$/;
 
-// A schedule's lines with items: the process, kind and text line of each, and how many items stand before it. Whether the
-// text is a schedule says the module alone.
+// A schedule's lines with items: the process, kind and text line of each, and how many items stand before it. Whether
+// the text is a schedule says the module alone.
 function readItems(text) {
     const items = {total: 0, processes: 0, shapeLine: -1, from: [], who: [], kind: [], line: []};
     for (let at = 0, line = 0; at < text.length; line++) {
@@ -32,16 +32,19 @@ function readItems(text) {
     return items;
 }
 
-// The place, in the lists of a schedule, of the line that has this item.
-function lineOf(items, item) {
-    let low = 0, high = items.from.length;
+// The least place below a count at which something holds; it holds at all later ones.
+function leastPlace(count, holds) {
+    let low = 0, high = count;
     while (low < high) {
         const middle = (low + high) >> 1;
-        if (items.from[middle] < item) low = middle + 1;
-        else high = middle;
+        if (holds(middle)) high = middle;
+        else low = middle + 1;
     }
-    return low - 1;
+    return low;
 }
+
+// The place, in the lists of a schedule, of the line that has this item.
+const lineOf = ({from}, item) => leastPlace(from.length, k => from[k] >= item) - 1;
 
 // The last item of a process before this one; 0 where there is none.
 function itemBefore(items, who, item) {
@@ -63,7 +66,8 @@ function readSession(text) {
 // The parts of a report, each as it is printed. Locals are kept as one text, since most of them are never shown.
 function readReport([first, values, ...lines]) {
     const [, , at, , total] = first.split(' ');
-    const report = {at: Number(at), total: Number(total), values: values.slice(7), registers: [], processes: [], events: []};
+    const report = {at: Number(at), total: Number(total), values: values.slice(7)};
+    Object.assign(report, {registers: [], processes: [], events: []});
     for (const line of lines) {
         if (line.startsWith('  ')) report.processes.at(-1).locals.push(line.slice(2));
         else if (line.startsWith('process ')) report.processes.push(readHead(line));
@@ -80,10 +84,11 @@ function readHead(line) {
     return {who: Number(who), what, at: Number(at ?? 0), link: Number(link ?? 0), locals: []};
 }
 
-// The operations that events tell of, as lists: process, first item, last item or 0, and where in the text of the events the
-// words of the call and of the answer are. Lists of numbers and one text go fast from the worker to the page.
+// The operations that events tell of, as lists: process, first item, last item or 0, and where in the text of events
+// the words of the call and of the answer are. Lists of numbers and one text go fast from the worker to the page.
 function readOperations(events) {
-    const found = {who: [], from: [], to: [], called: [], ended: [], answers: 0, text: events.join('\n')}, open = new Map();
+    const found = {who: [], from: [], to: [], called: [], ended: [], answers: 0, text: events.join('\n')};
+    const open = new Map();
     let offset = 0;
     for (const event of events) {
         const [name, item, process, what] = event.split(' ', 4), who = Number(process), k = open.get(who);
@@ -112,24 +117,17 @@ function wordsAt({text}, place) {
 }
 
 // 'scan 1 call 1 answer 64 point 24 collects 2', a line a verdict: five numbers each, the point 0 where there is none.
-function readVerdicts(text) {
-    return Uint32Array.from(text.match(/\d+|none/g) ?? [], word => Number(word) || 0);
-}
+const readVerdicts = text => Uint32Array.from(text.match(/\d+|none/g) ?? [], word => Number(word) || 0);
 
 function verdictAt(numbers, k) {
     const [who, call, answer, point, collects] = numbers.subarray(5 * k, 5 * k + 5);
     return {who, call, answer, point, collects, view: '', lender: 0, from: '', taken: 0};
 }
 
-// The place of the verdict on the scan that answered at this item; -1 where there is none. Answers stand in their order.
+// The place of the verdict on the scan that answered at this item; -1 where there is none. Answers are in order.
 function verdictOf(numbers, item) {
-    let low = 0, high = numbers.length / 5;
-    while (low < high) {
-        const middle = (low + high) >> 1;
-        if (numbers[5 * middle + 2] < item) low = middle + 1;
-        else high = middle;
-    }
-    return numbers[5 * low + 2] === item ? low : -1;
+    const place = leastPlace(numbers.length / 5, k => numbers[5 * k + 2] >= item);
+    return numbers[5 * place + 2] === item ? place : -1;
 }
 
 // The numbered lines of a listing: the place of each number among the text lines, and its text.

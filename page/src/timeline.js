@@ -5,7 +5,8 @@ const line = {from: 0, to: 1, whole: true, key: ''};
 
 function showTimeline() {
     const {items, report, at, operations, verdicts} = state, box = $('timeline'), wide = box.clientWidth;
-    const total = Math.max(items?.total ?? report.total, 1), width = line.whole ? total : Math.min(line.to - line.from, total);
+    const total = Math.max(items?.total ?? report.total, 1);
+    const width = line.whole ? total : Math.min(line.to - line.from, total);
     line.from = within(at < line.from || at > line.to ? at - (width >> 1) : line.from, 0, total - width);
     line.to = line.from + width;
     const n = report.processes.length, high = n <= 3 ? 32 : n <= 5 ? 26 : n <= 8 ? 18 : 12;
@@ -19,9 +20,7 @@ function showTimeline() {
     for (const [name, value] of Object.entries(told)) box.setAttribute(`aria-${name}`, value);
 }
 
-function placeOf(item) {
-    return LABEL + (item - line.from) / (line.to - line.from) * (line.wide - LABEL - RIGHT);
-}
+const placeOf = item => LABEL + (item - line.from) / (line.to - line.from) * (line.wide - LABEL - RIGHT);
 
 function draw(canvas) {
     const {wide, high, n, verdicts} = line, style = getComputedStyle(document.documentElement);
@@ -54,7 +53,8 @@ function drawLane(pen, colour, who) {
 // A tick for each item where there is room for it; where there is none, a stroke for each run of items.
 function drawItems(pen, colour) {
     const {items, high, from, to, n} = line, step = placeOf(from + 1) - LABEL, drawn = [];
-    for (let k = Math.max(items ? lineOf(items, from + 1) : Infinity, 0); k < items?.from.length && items.from[k] < to; k++) {
+    const count = items?.from.length ?? 0;
+    for (let k = count ? Math.max(lineOf(items, from + 1), 0) : 0; k < count && items.from[k] < to; k++) {
         const who = items.who[k], left = placeOf(Math.max(items.from[k], from)), bottom = who * high - 5;
         const right = placeOf(Math.min(items.from[k + 1] ?? items.total, to));
         if (who > n || right - (drawn[who] ?? -1) < .5) continue;
@@ -68,7 +68,8 @@ function drawItems(pen, colour) {
 
 // An operation as a bar; of those that end on one pixel of a lane the first alone is drawn.
 function drawOperation(pen, colour, k, done) {
-    const {operations, verdicts: {numbers, near}} = line, who = operations.who[k], from = operations.from[k], to = operations.to[k];
+    const {operations, verdicts: {numbers, near}} = line;
+    const who = operations.who[k], from = operations.from[k], to = operations.to[k];
     const right = placeOf(Math.min(to || line.to, line.to));
     if (from > line.to || to && to < line.from || right - done[who] < .7) return;
     done[who] = right;
@@ -80,21 +81,24 @@ function drawOperation(pen, colour, k, done) {
     drawBar(pen, colour, who, from, to, words, told?.point === 0 ? ['bad', 'bad', colour('on-bad')] : inks);
     // the point is a diamond at the lower edge of the bar
     if (!told?.point || told.point < line.from) return;
-    shape(pen, placeOf(told.point), who * line.high - 7, [[0, -7], [6, 0], [0, 7], [-6, 0]], colour('ink'), colour('paper'));
+    const diamond = [[0, -7], [6, 0], [0, 7], [-6, 0]];
+    shape(pen, placeOf(told.point), who * line.high - 7, diamond, colour('ink'), colour('paper'));
 }
 
 // Those without a point are red, however short they are.
 function drawNone(pen, colour) {
     const {numbers} = line.verdicts;
     for (let k = 0; k < numbers.length / 5; k++) {
-        const [who, from, to] = numbers.subarray(5 * k, 5 * k + 3), short = placeOf(to) - placeOf(from) < 24;
-        if (!numbers[5 * k + 3] && short && to >= line.from && from <= line.to) drawBar(pen, colour, who, from, to, '', ['bad', 'bad', '']);
+        if (numbers[5 * k + 3]) continue;
+        const {who, call, answer} = verdictAt(numbers, k), short = placeOf(answer) - placeOf(call) < 24;
+        const seen = answer >= line.from && call <= line.to;
+        if (short && seen) drawBar(pen, colour, who, call, answer, '', ['bad', 'bad', '']);
     }
 }
 
 function drawBar(pen, colour, who, from, to, words, [inside, edge, ink]) {
-    const {high} = line, left = placeOf(Math.max(from - 1, line.from)), right = placeOf(Math.min(to || line.to, line.to));
-    const top = (who - 1) * high + 1, wide = Math.max(right - left, 1.5);
+    const left = placeOf(Math.max(from - 1, line.from)), right = placeOf(Math.min(to || line.to, line.to));
+    const {high} = line, top = (who - 1) * high + 1, wide = Math.max(right - left, 1.5);
     Object.assign(pen, {fillStyle: colour(inside), strokeStyle: colour(edge), lineWidth: 2});
     pen.fillRect(left, top, wide, high - 7);
     if (wide > 3) pen.strokeRect(left + 1, top + 1, wide - 2, high - 9);
@@ -120,9 +124,10 @@ function shape(pen, x, y, corners, fill, edge) {
 // An arrow from the last operation that a lender was called for to the scan that takes its view, at the item that does.
 function drawLender(pen, colour, {who, lender, taken}) {
     if (!lender || lender > line.n || lender === who || taken < line.from || taken > line.to) return;
-    const {high, operations} = line, lent = operations.who.findLastIndex((one, k) => one === lender && operations.from[k] < taken);
+    const {high, operations} = line, isLent = (one, k) => one === lender && operations.from[k] < taken;
     const way = Math.sign(who - lender), x = placeOf(taken), y = (who - .5) * high - way * (high / 2 - 5);
-    const fromX = placeOf(within(Math.min(operations.to[lent] || taken, taken), line.from, line.to)), fromY = (lender - .5) * high;
+    const end = operations.to[operations.who.findLastIndex(isLent)] || taken, fromY = (lender - .5) * high;
+    const fromX = placeOf(within(end, line.from, taken));
     pen.strokeStyle = colour('accent');
     pen.lineWidth = 3;
     pen.beginPath();
@@ -135,8 +140,8 @@ function drawLender(pen, colour, {who, lender, taken}) {
 
 // More or fewer items, around the position; all of them where the factor is 0.
 function zoom(factor) {
-    const total = Math.max(state.items?.total ?? 1, 1), wanted = Math.round((line.to - line.from) * (factor || Infinity));
-    const width = within(wanted, Math.min(8, total), total);
+    const total = Math.max(state.items?.total ?? 1, 1), wanted = (line.to - line.from) * (factor || Infinity);
+    const width = Math.round(within(wanted, Math.min(8, total), total));
     line.whole = width === total;
     line.from = within(state.at - (width >> 1), 0, total - width);
     line.to = line.from + width;

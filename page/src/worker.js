@@ -32,8 +32,8 @@ function look({listing, schedule, total, marks, at, go, commands}) {
     return {code: OUTPUT, report, last, refused, items, operations: same ? null : operations};
 }
 
-// The verdicts of a run. The last ones, and the first without a point, have their answer, and what lent it: the line before an
-// answer's tells where a view was taken.
+// The verdicts of a run. The last ones, and the first without a point, have their answer, and what lent it: the line
+// before an answer's tells where a view was taken.
 function audit({listing, schedule}) {
     const answer = askOf('audit', listing, schedule), lines = readLines(listing);
     if (answer.code !== OUTPUT) return answer;

@@ -125,7 +125,8 @@ def try_buttons(page, count):
     page.click(".process .step")
     count.check("a step that comes next is just made", page.at() == "Item 2 of 3" and page.schedule().count("\n") == 4)
     page.click("#processes summary")
-    count.check("locals unfold", "moved = 0 0 0" in page.text(".process details .locals"))
+    page.tab.until("document.querySelector('.process .locals').innerText !== ''")
+    count.check("locals unfold", "moved = 0 0 0" in page.text(".process .locals"), page.text(".process .locals"))
     page.click("#processes summary")
 
 
@@ -266,6 +267,7 @@ def try_exercise(page, count, running):
     page.run("""(() => { const e = document.querySelector('#form form').elements; e.task.value = 'Find one double collect.';
         e.who.value = ''; e.view.value = '0  0'; e.collects.value = '1'; e.items.value = '14'; })()""")
     page.click("#form button[value=make]")
+    page.tab.until("snaplab.state.goal?.task === 'Find one double collect.' && snaplab.settled()", 5)
     count.check("a task of one's own", "Find one double collect." in page.text("#idea-text") and "in at most 14 items" in page.text("#goal"))
     link = page.run("asHash()")
     other = Page(running.tab(address="file://" + browser.PAGE + link))

@@ -1,6 +1,6 @@
 // A text with a margin: lines have marks, badges and colours. A long text is shown in part, and cannot be edited there.
 
-const MOST_LINES = 1500, SHOWN_LINES = 120, MOST_LETTERS = 300000, SHOWN_LETTERS = 2000;
+const MOST_LINES = 1500, SHOWN_LINES = 80, MOST_LETTERS = 300000, SHOWN_LETTERS = 2000;
 
 class Editor {
     constructor(root, label, onInput) {

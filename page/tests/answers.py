@@ -15,7 +15,8 @@ import sys
 import tempfile
 import threading
 
-import browser
+sys.dont_write_bytecode = True
+import browser  # noqa: E402
 from browser import TOP
 
 ASKED = ("check", "assemble", "list", "upgrade", "run", "debug", "audit", "batch")

@@ -3,9 +3,11 @@
 import json
 import os
 import re
+import sys
 import tempfile
 
-import browser
+sys.dont_write_bytecode = True
+import browser  # noqa: E402
 from browser import TOP, Failed
 
 FIRST_IDEA = 3

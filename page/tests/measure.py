@@ -9,7 +9,8 @@ import random
 import statistics
 import sys
 
-import browser
+sys.dont_write_bytecode = True
+import browser  # noqa: E402
 
 AIMS = {"first paint": 1000, "step at 10000": 16, "step at 100000": 100}
 

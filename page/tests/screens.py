@@ -6,7 +6,8 @@
 import os
 import sys
 
-import browser
+sys.dont_write_bytecode = True
+import browser  # noqa: E402
 
 SIZES = {
     "projector": {"width": 1280, "height": 720},

@@ -365,9 +365,11 @@ def try_sizes(page, count):
     count.check("a step at the end of them", page.at() == "Item 988001 of 988001", page.at())
     page.choose(FIRST_IDEA)
     blocked = page.run("window.blocked")
-    # where more is going on than the machine has processors, the page waits for its turn
-    limit = 100 * max(1, os.getloadavg()[0] / os.cpu_count())
-    count.check(f"the page was never held up for 100 ms (here: {limit:.0f})", not [one for one in blocked if one > limit], blocked)
+    what = "the page was never held up for 100 ms"
+    if os.getloadavg()[0] > os.cpu_count():
+        count.skip(what, f"the machine has more to do than processors; here it was for {max(blocked, default=0)} ms")
+    else:
+        count.check(what, not [one for one in blocked if one > 100], blocked)
     page.choose(2)
     page.write("schedule", "shape 64 64\n" + "".join(f"{k} update {65 - k} {k}\n{k}*900\n" for k in range(1, 65)))
     page.click("#end")

@@ -1,0 +1,155 @@
+#!/usr/bin/env python3
+"""Makes page/snaplab.html, one file, of page/src, the documents and examples that it shows, and the module.
+
+    page/build.py --module PATH/snap_page.wasm     with this module
+    page/build.py                                  with the module that is inside the page already
+    page/build.py --check                          says whether the page is what would be made
+"""
+import argparse
+import base64
+import html
+import json
+import os
+import re
+import sys
+
+HERE = os.path.dirname(os.path.abspath(__file__))
+TOP = os.path.dirname(HERE)
+PAGE = os.path.join(HERE, "snaplab.html")
+MODULE = re.compile(r'<script type="text/plain" id="module">\n?([A-Za-z0-9+/=\n]*)</script>')
+
+
+def read(*path):
+    with open(os.path.join(TOP, *path), encoding="utf-8", newline="") as file:
+        return file.read()
+
+
+def source(name):
+    return read("page", "src", name).rstrip("\n")
+
+
+def inline(text):
+    """A paragraph of a document as HTML: code and bold, and links as their words."""
+    text = html.escape(" ".join(text.split()), quote=False)
+    text = re.sub(r"\[([^]]*)\]\([^)]*\)", r"\1", text)
+    text = re.sub(r"`([^`]*)`", r"<code>\1</code>", text)
+    return re.sub(r"\*\*([^*]*)\*\*", r"<b>\1</b>", text)
+
+
+def paragraphs(text):
+    """The paragraphs of a piece of a document, without its blocks of commands."""
+    text = re.sub(r"(?ms)^```.*?^```$", "", text)
+    return [part.strip() for part in re.split(r"\n\s*\n", text) if part.strip()]
+
+
+def sections():
+    """The gallery's sections: their titles, what they say, and what they change."""
+    found = {}
+    for piece in re.split(r"(?m)^## ", read("docs", "GALLERY.md"))[1:]:
+        title, _, text = piece.partition("\n")
+        number, _, name = title.partition(". ")
+        told = paragraphs(text)
+        found[int(number)] = {
+            "title": f"{number}. {name}",
+            "text": "".join(f"<p>{inline(part)}</p>" for part in told if not part.startswith("**Change:**")),
+            "change": "".join(f"<p>{inline(part)}</p>" for part in told if part.startswith("**Change:**")),
+        }
+    return found
+
+
+def parts(example, listing=None):
+    """The listing and the schedule of an example."""
+    text = read("examples", example, "stdin")
+    if listing:
+        return read("examples", listing), text
+    listing, schedule = re.split(r"(?m)^%\n", text)
+    return listing, schedule
+
+
+def changed(change, both):
+    """Listing and schedule, with each pattern replaced."""
+    if isinstance(change, str):
+        return parts(change)
+    for pattern, text in change.items():
+        flags = re.MULTILINE | (re.DOTALL if pattern.startswith("(?s)") else 0)
+        both = tuple(re.sub(pattern.removeprefix("(?s)"), text, one, flags=flags) for one in both)
+    return both
+
+
+def an_idea(idea, told):
+    both = parts(idea["example"], idea.get("listing"))
+    other = changed(idea["change"], both)
+    if other == both:
+        sys.exit(f"idea {idea['section']} changes nothing")
+    return {**told, "listing": both[0], "schedule": both[1], "shows": idea["shows"],
+            "change": {"text": told["change"], "listing": other[0], "schedule": other[1], "shows": idea["changed"]}}
+
+
+def an_exercise(exercise):
+    if "file" in exercise:
+        listing, schedule = read("examples", exercise["file"]), exercise["schedule"]
+    else:
+        listing, schedule = changed(exercise.get("change", {}), parts(exercise["example"]))[0], exercise["cut"]
+    return {"title": exercise["title"], "listing": listing, "schedule": schedule, "goal": exercise["goal"]}
+
+
+def remedies():
+    """What the manual says of each refusal that the page can be told, up to its first command."""
+    found = {}
+    for name, text in re.findall(r"(?ms)^### `([LPSGW][0-9]+) \w+`\n(.*?)(?=^##|\Z)", read("docs", "MANUAL.md")):
+        found[name] = inline(paragraphs(text.partition("```")[0])[0])
+    return found
+
+
+def data():
+    gallery, told = json.loads(source("gallery.json")), sections()
+    return {
+        "listings": [{"title": one["title"], "listing": read("examples", one["file"]), "schedule": one["schedule"]}
+                     for one in gallery["listings"]],
+        "ideas": [an_idea(idea, told[idea["section"]]) for idea in gallery["ideas"]],
+        "exercises": [an_exercise(one) for one in gallery["exercises"]],
+        "remedies": remedies(),
+    }
+
+
+def built(module):
+    """The page's text, with a module in letters."""
+    def put(match):
+        names = match.group(1)
+        if names == "module":
+            return "\n".join(module[k:k + 120] for k in range(0, len(module), 120))
+        if names == "data":
+            return json.dumps(data(), ensure_ascii=False, sort_keys=True, separators=(",", ":")).replace("<", "\\u003c")
+        if names.endswith(".txt"):
+            return html.escape(source(names), quote=False)
+        return "\n".join(source(name) for name in names.split())
+    return re.sub(r"<!-- ([a-z.\s]+?) -->", put, source("page.html")) + "\n"
+
+
+def module_inside():
+    found = MODULE.search(read("page", "snaplab.html"))
+    return found.group(1).replace("\n", "")
+
+
+def main():
+    words = argparse.ArgumentParser(description=__doc__, formatter_class=argparse.RawDescriptionHelpFormatter)
+    words.add_argument("--module")
+    words.add_argument("--check", action="store_true")
+    asked = words.parse_args()
+    if asked.module:
+        with open(asked.module, "rb") as file:
+            module = base64.b64encode(file.read()).decode()
+    else:
+        module = module_inside()
+    text = built(module)
+    if asked.check:
+        same = text == read("page", "snaplab.html")
+        print(f"page/snaplab.html is {'' if same else 'not '}what page/build.py makes")
+        sys.exit(0 if same else 1)
+    with open(PAGE, "w", encoding="utf-8", newline="") as file:
+        file.write(text)
+    print(f"page/snaplab.html: {len(text.encode())} bytes, {len(base64.b64decode(module))} of them the module")
+
+
+if __name__ == "__main__":
+    main()

@@ -1,0 +1,84 @@
+// A text with a margin: lines have marks, badges and colours. A long text is shown in part, and cannot be edited there.
+
+const MOST_LINES = 1500, SHOWN_LINES = 80, MOST_LETTERS = 300000, SHOWN_LETTERS = 2000;
+
+class Editor {
+    constructor(root, label, onInput) {
+        this.root = root;
+        this.area = make('textarea', {'aria-label': label, spellcheck: 'false', autocapitalize: 'off', wrap: 'off'});
+        this.gutter = make('div', {class: 'gutter', tabindex: '0', role: 'listbox', 'aria-label': `Margin: ${label}`});
+        this.back = make('div', {'aria-hidden': 'true'});
+        this.first = this.active = 0;
+        root.append(this.gutter, make('div', {class: 'code'}, this.back, this.area));
+        this.area.oninput = () => onInput(this.area.value);
+        this.gutter.onkeydown = event => {
+            const way = {ArrowUp: -1, ArrowDown: 1}[event.key];
+            if (!way) return;
+            event.preventDefault();
+            event.stopPropagation();
+            this.activate(this.active + way);
+        };
+    }
+
+    // Shows a text, of a long one the lines around this one, and says whether it is long.
+    show(text, around = 0) {
+        if (this.text !== text) this.lines = text.split('\n');
+        const long = this.lines.length > MOST_LINES || text.length > MOST_LETTERS, first = this.first;
+        this.first = long ? Math.max(Math.min(around - SHOWN_LINES / 2, this.lines.length - SHOWN_LINES), 0) : 0;
+        if (this.text === text && this.first === first) return long;
+        this.text = text;
+        const end = this.first + SHOWN_LINES, cut = line => line.slice(0, SHOWN_LETTERS);
+        const part = long ? this.lines.slice(this.first, end).map(cut) : this.lines;
+        this.area.readOnly = long;
+        if (this.area.value !== part.join('\n')) this.area.value = part.join('\n');
+        const longest = part.reduce((most, line) => Math.max(most, line.length), 0);
+        this.area.style.height = `calc(${part.length} * var(--line-height) + 8px)`;
+        this.area.style.minWidth = `calc(${longest + 1}ch + 14px)`;
+        this.setRows(part.length);
+        return long;
+    }
+
+    // The margin has as many rows as there are lines shown.
+    setRows(count) {
+        while (this.gutter.children.length > count) this.gutter.lastChild.remove();
+        while (this.gutter.children.length < count) {
+            const place = this.gutter.children.length;
+            const row = make('div', {role: 'option', id: `${this.root.id}-${place}`});
+            row.onclick = () => {
+                this.activate(place);
+                this.onmark?.(place + this.first);
+            };
+            this.gutter.append(row);
+        }
+    }
+
+    // What stands in the margin, for each text line its children, their key and what is read out; and coloured lines.
+    mark(told, colours) {
+        [...this.gutter.children].forEach((row, k) => {
+            const {key, children, label, numbered} = told(k + this.first);
+            fill(row, key, children);
+            row.className = `${numbered ? 'numbered' : ''} ${k === this.active ? 'active' : ''}`;
+            if (row.ariaLabel !== label) row.ariaLabel = label;
+        });
+        const shown = colours.filter(([line]) => line >= this.first && line < this.first + this.gutter.children.length);
+        fill(this.back, JSON.stringify([shown, this.first]), () => shown.map(([line, name]) =>
+            make('i', {class: name, style: `top: calc(${line - this.first} * var(--line-height))`})));
+    }
+
+    // Scrolls a line into view, but not under the hands of one who types.
+    reveal(line) {
+        const row = this.gutter.children[line - this.first], {root} = this;
+        if (!row || document.activeElement === this.area || root.scrollHeight <= root.clientHeight) return;
+        const over = root.scrollTop - row.offsetTop, under = 2 * row.offsetHeight - over - root.clientHeight;
+        root.scrollTop += under > 0 ? under : over > 0 ? -over : 0;
+    }
+
+    activate(line) {
+        this.gutter.children[this.active]?.classList.remove('active');
+        this.active = within(line, 0, this.gutter.children.length - 1);
+        const row = this.gutter.children[this.active];
+        row.classList.add('active');
+        row.scrollIntoView({block: 'nearest'});
+        this.gutter.setAttribute('aria-activedescendant', row.id);
+    }
+}

@@ -1,0 +1,56 @@
+// Bytes into the module, bytes out of it, and nothing else. Runs in the worker.
+
+class Glue {
+    constructor(module) {
+        this.module = module;
+        this.instance = null;
+    }
+
+    start() {
+        this.instance = new WebAssembly.Instance(this.module, {}).exports;
+        this.taken = this.instance.page_room(16n);
+        this.room = this.roomLength = 0n;
+    }
+
+    // The address of a copy of these bytes; 0 where there is no memory.
+    put(bytes) {
+        const at = this.instance.page_room(BigInt(Math.max(bytes.length, 1)));
+        if (at) new Uint8Array(this.instance.memory.buffer, Number(at), bytes.length).set(bytes);
+        return at;
+    }
+
+    enlarge(length) {
+        if (this.room) this.instance.page_free(this.room);
+        this.room = this.instance.page_room(length);
+        this.roomLength = this.room ? length : 0n;
+        return this.room;
+    }
+
+    // What the module says of these texts. After a trap the instance is given up; the next call begins with a new one.
+    answer(sub, shipped, input) {
+        const letters = new TextEncoder();
+        try {
+            if (!this.instance) this.start();
+            return this.ask([letters.encode(sub), letters.encode(shipped), input]);
+        } catch (trap) {
+            this.instance = null;
+            return {code: TRAPPED, bytes: letters.encode(String(trap))};
+        }
+    }
+
+    ask(texts) {
+        const {instance} = this, places = texts.map(text => this.put(text));
+        const nothing = {code: MEMORY, bytes: new Uint8Array()};
+        if (!this.taken || !places.every(Boolean) || !(this.room || this.enlarge(65536n))) return nothing;
+        const words = places.flatMap((place, k) => [place, BigInt(texts[k].length)]);
+        for (;;) {
+            instance.page_output(this.taken, ...words, this.room, this.roomLength);
+            const told = new DataView(instance.memory.buffer), code = told.getUint8(Number(this.taken));
+            const length = told.getBigUint64(Number(this.taken) + 8, true);
+            if (code === SMALL && this.enlarge(length)) continue;
+            places.forEach(place => instance.page_free(place));
+            if (code > REFUSED) return {...nothing, code: code === SMALL ? MEMORY : code};
+            return {code, bytes: new Uint8Array(instance.memory.buffer, Number(this.room), Number(length)).slice()};
+        }
+    }
+}

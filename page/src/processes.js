@@ -1,0 +1,67 @@
+// A card for each process: where it is, its buttons and its locals.
+
+const cards = [], MOST_CHANGES = 4, MANY = 16;
+
+function makeCard(who) {
+    const [what, next, changes, locals] = ['what', 'next', 'changes', 'locals'].map(name => make('div', {class: name}));
+    const button = (name, title, call) => make('button', {class: name, title, 'aria-label': `${name}, process ${who}`,
+        onclick: () => press(who, call)}, name);
+    const update = button('update', `Process ${who} is called for an update`);
+    update.onclick = () => press(who, updateOf(who));
+    const details = make('details', {ontoggle: () => showLocals(cards[who - 1], who)},
+        make('summary', {}, 'locals\u2003', changes), locals);
+    const colour = `--p: var(--p${who % 8})`;
+    const box = make('div', {class: 'process', role: 'group', 'aria-label': `Process ${who}`, style: colour},
+        make('div', {class: 'head'}, badge(who), what, button('step', `Process ${who} takes a step (${who})`),
+            button('scan', `Process ${who} is called for a scan`, 'scan'), update,
+            button('crash', `Process ${who} crashes: it stops for good`, 'crash')), next, details);
+    return {what, next, changes, locals, details, box};
+}
+
+// An update of the word that is chosen; the next one has another value.
+function updateOf(who) {
+    const word = $('word').value === 'own' ? who : $('word').value, value = $('value').value.trim() || '0';
+    if (/^\d{1,15}$/.test(value)) $('value').value = String(Number(value) + 1);
+    return `update ${word} ${value}`;
+}
+
+function showProcesses() {
+    const {report, listing, last, refusal} = state, {lines} = linesOf(listing), moved = Number(last.split(' ')[0]);
+    while (cards.length > report.processes.length) cards.pop().box.remove();
+    while (cards.length < report.processes.length) {
+        cards.push(makeCard(cards.length + 1));
+        $('processes').append(cards.at(-1).box);
+    }
+    report.processes.forEach((process, k) => showCard(cards[k], process, lines, moved));
+    const own = !/^\s*kind\s+multi\b/m.test(listing), words = report.values.split(' ').map((_, k) => String(k + 1));
+    fill($('word'), `${words} ${own}`, () => [...own ? ['own'] : [], ...words].map(word => make('option', {}, word)));
+    for (const part of ['processes', 'memory']) {
+        $(part).classList.toggle('stale', Boolean(refusal));
+        $(part).classList.toggle('many', cards.length > MANY);
+    }
+}
+
+function showCard(card, {who, what, at, link, locals}, lines, moved) {
+    const trouble = /^(trapped|crashed)/.test(what);
+    const told = what + (at ? ` at ${at}` : '') + (link ? `, then back to ${link}` : '');
+    fill(card.what, told, () => [make('span', {class: trouble ? 'none' : ''}, told)]);
+    const next = at && !trouble ? `next ${at}: ${lines.get(at)?.text ?? ''}` : '';
+    fill(card.next, next, () => [next]);
+    card.box.classList.toggle('last', moved === who);
+    const before = state.before?.processes[who - 1].locals.split('\n') ?? [], after = locals.split('\n');
+    const pairs = after.length === before.length ? after.map((line, k) => [before[k], line]) : [];
+    const news = pairs.filter(([was, is]) => was !== is), more = news.length - MOST_CHANGES;
+    const shown = ([was, is]) => [...compared(was, is), '\u2003'];
+    fill(card.changes, news.join(), () =>
+        [...news.slice(0, MOST_CHANGES).flatMap(shown), ...more > 0 ? [`and ${more} more`] : []]);
+    showLocals(card, who);
+}
+
+// Locals are written out where they are unfolded, and there alone.
+function showLocals(card, who) {
+    if (!card.details.open) return;
+    const {locals} = state.report.processes[who - 1], before = state.before?.processes[who - 1].locals ?? '';
+    const was = before.split('\n');
+    fill(card.locals, `${locals}|${before}`, () => locals.split('\n').map((line, k) =>
+        make('div', {}, ...compared(before ? was[k] : undefined, line))));
+}

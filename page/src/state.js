@@ -1,0 +1,132 @@
+// What the page stands on: the two texts, the position and the marks. All else is what the module printed for them.
+
+const BIG = 300000, MOST_UNDONE = 200, QUIET = 120, MOST_MARKS = 64;
+const state = {
+    listing: '', schedule: '', at: 0, breaks: new Set(), watches: new Set(), idea: null, goal: null,
+    items: readItems(''), report: null, before: null, last: 'none',
+    operations: readOperations([]),
+    verdicts: {numbers: readVerdicts(''), near: []}, refusal: null,
+    serial: 0, timer: 0, past: [], future: [], audited: null, appended: false,
+};
+
+// Takes on other texts, another position, or both; 'appended' where items were added at the end alone.
+function change(to, {appended = false, undone = false} = {}) {
+    const {listing, schedule, at} = state;
+    const texts = (to.listing ?? listing) !== listing || (to.schedule ?? schedule) !== schedule;
+    if (texts && !undone && schedule.length < BIG) {
+        state.past = [...state.past.slice(1 - MOST_UNDONE), {listing, schedule, at}];
+        state.future = [];
+    }
+    Object.assign(state, to, {appended: state.appended && appended});
+    if (state.schedule !== schedule) state.items = state.schedule.length < BIG ? readItems(state.schedule) : null;
+    if (!appended) announce('texts');
+    return refresh();
+}
+
+function undo(from, to) {
+    if (!state[from].length) return say('There is no change left.');
+    const {listing, schedule, at} = state;
+    state[to].push({listing, schedule, at});
+    return change(state[from].pop(), {undone: true});
+}
+
+function markCommands() {
+    const processes = Array.from({length: within(state.items?.processes ?? 0, 0, 64)}, (_, k) => k + 1);
+    const breaks = [...state.breaks].flatMap(line => processes.map(who => `break ${who} ${line}`));
+    return [...breaks.slice(0, MOST_MARKS + 1), ...[...state.watches].map(register => `watch ${register}`)];
+}
+
+// Asks for the state at the position, or for that to which a run leads.
+async function refresh(go = '') {
+    const serial = ++state.serial, {listing, schedule, at} = state;
+    const answer = await ask('look', {listing, schedule, at, go, marks: markCommands(), total: state.items?.total});
+    if (!answer) return;
+    if (answer.items?.from && schedule === state.schedule) state.items = answer.items;
+    if (answer.code === OUTPUT) take(answer, serial === state.serial);
+    else if (serial === state.serial) state.refusal = readRefusal(answer);
+    announce('state');
+    askAudit();
+}
+
+function take({report, last, operations, refused}, newest) {
+    const older = state.report, alike = older?.registers.length === report.registers.length &&
+        older.processes.length === report.processes.length;
+    if (!alike) state.before = null;
+    else if (older.at !== report.at || older.registers.join() !== report.registers.join()) state.before = older;
+    Object.assign(state, {report, last, refusal: null, operations: operations ?? state.operations});
+    if (newest) state.at = report.at;
+    for (const [command, refusal] of refused) {
+        const [verb, ...rest] = command.split(' ');
+        if (verb === 'break') state.breaks.delete(Number(rest[1]));
+        else state.watches.delete(rest.join(' '));
+        say(`The mark is taken away: ${refusal}`);
+    }
+}
+
+// The audit is asked for, when all is quiet, where its run is another one or more scans have ended.
+function askAudit() {
+    clearTimeout(state.timer);
+    state.timer = 0;
+    const {listing, schedule, operations: {answers}, audited} = state;
+    const same = audited?.listing === listing && (audited.schedule === schedule || state.appended);
+    if (state.refusal || same && audited.answers === answers) return;
+    state.timer = setTimeout(async () => {
+        state.timer = 0;
+        const answer = await ask('audit', {listing, schedule});
+        if (answer?.code !== OUTPUT) return;
+        Object.assign(state, {verdicts: answer.verdicts, audited: {listing, schedule, answers}, appended: true});
+        announce('state');
+    }, QUIET);
+}
+
+// What was refused: its code, its number, and the part that it is of.
+function readRefusal({code, text}) {
+    const page = {[MEMORY]: 'The module found no memory for this.',
+        [STOPPED]: 'Stopped: what is shown is the state before.',
+        [TRAPPED]: `The module stopped (${text.trim()}), and was started anew.`}[code];
+    if (page) return {part: 'page', text: page};
+    const [, name, , number = 0] = text.trim().split(' ');
+    const part = {L: 'listing', P: 'listing', S: 'schedule', W: 'schedule'}[name?.[0]] ?? 'page';
+    return {part, text: text.trim(), name, number: Number(number)};
+}
+
+function goTo(at) {
+    state.at = within(at, 0, state.items?.total ?? MOST_ITEMS);
+    return refresh();
+}
+
+// One more item at the position: at the end, or before what stands there. A step that comes next there is just made.
+function press(who, what = '') {
+    const {items, at, schedule, refusal} = state;
+    if (refusal?.name) return say('Mend what is refused first.');
+    if (!items) return say('One moment: the schedule is being read.');
+    const k = lineOf(items, at + 1);
+    if (!what && at < items.total && items.who[k] === who && items.kind[k] === STEP) return goTo(at + 1);
+    const text = withItem(schedule, items, at, `${who} ${what}`.trim());
+    return change({schedule: text, at: at + 1}, {appended: at >= items.total});
+}
+
+function withItem(schedule, items, at, item) {
+    if (at < items.total) return parted(schedule, items, at).join(`${item}\n`);
+    const text = !schedule || schedule.endsWith('\n') ? schedule : schedule + '\n';
+    const cut = text.lastIndexOf('\n', text.length - 2) + 1, step = /^(\d+)(?:\*(\d+))?$/.exec(text.slice(cut, -1));
+    return step?.[1] === item ? `${text.slice(0, cut)}${item}*${Number(step[2] ?? 1) + 1}\n` : `${text}${item}\n`;
+}
+
+// A schedule, parted behind an item.
+function parted(schedule, items, at) {
+    const lines = schedule.split('\n'), k = at ? lineOf(items, at) : -1, place = items.line[k] ?? items.shapeLine;
+    const before = lines.slice(0, place + 1), after = lines.slice(place + 1), end = items.from[k + 1] ?? items.total;
+    if (k >= 0 && at < end) {
+        const comment = /\s*#.*$/.exec(lines[place])?.[0] ?? '';
+        const times = count => items.who[k] + (count > 1 ? `*${count}` : '');
+        before[place] = times(at - items.from[k]) + comment;
+        after.unshift(times(end - at));
+    }
+    return [before.join('\n') + '\n', after.join('\n')];
+}
+
+function toggle(set, mark) {
+    if (!set.delete(mark)) set.add(mark);
+    return refresh();
+}

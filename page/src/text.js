@@ -1,0 +1,141 @@
+// Reads what the program prints, and finds the items of a schedule's lines. Runs in the worker and in the page.
+
+// The module's codes, and two of the page's own: after a trap, and where the user has stopped a run.
+const OUTPUT = 0, REFUSED = 1, MEMORY = 2, SMALL = 3, TRAPPED = 5, STOPPED = 6;
+const STEP = 0, CRASH = 3, MOST_ITEMS = 1000000;
+const ITEM = /^[ \t\r]*(\d+)[ \t\r]*(?:\*[ \t\r]*(\d+)|(scan|crash|update)\b[^#]*)?[ \t\r]*(?:#.*)?$/;
+const SHAPE = /^[ \t\r]*shape[ \t\r]+(\d+)[ \t\r]+(\d+)/;
+const EMPTY = /^[ \t\r]*(?:#.*)?$/;
+
+// A schedule's lines with items: the process, kind and text line of each, and how many items stand before it. Whether
+// the text is a schedule says the module alone.
+function readItems(text) {
+    const items = {total: 0, processes: 0, shapeLine: -1, from: [], who: [], kind: [], line: []};
+    for (let at = 0, line = 0; at < text.length; line++) {
+        const feed = text.indexOf('\n', at), raw = text.slice(at, feed < 0 ? text.length : feed);
+        at += raw.length + 1;
+        if (EMPTY.test(raw)) continue;
+        if (items.shapeLine < 0) {
+            items.shapeLine = line;
+            items.processes = Number(SHAPE.exec(raw)?.[1] ?? 0);
+            continue;
+        }
+        const found = ITEM.exec(raw);
+        if (!found || items.total > MOST_ITEMS) break;
+        items.from.push(items.total);
+        items.who.push(Number(found[1]));
+        items.kind.push(['scan', 'update', 'crash'].indexOf(found[3]) + 1);
+        items.line.push(line);
+        items.total += Number(found[2] ?? 1);
+    }
+    for (const list of ['from', 'who', 'kind', 'line']) items[list] = Uint32Array.from(items[list]);
+    return items;
+}
+
+// The least place below a count at which something holds; it holds at all later ones.
+function leastPlace(count, holds) {
+    let low = 0, high = count;
+    while (low < high) {
+        const middle = (low + high) >> 1;
+        if (holds(middle)) high = middle;
+        else low = middle + 1;
+    }
+    return low;
+}
+
+// The place, in the lists of a schedule, of the line that has this item.
+const lineOf = ({from}, item) => leastPlace(from.length, k => from[k] >= item) - 1;
+
+// The last item of a process before this one; 0 where there is none.
+function itemBefore(items, who, item) {
+    let k = lineOf(items, item - 1);
+    while (k >= 0 && items.who[k] !== who) k--;
+    return k < 0 ? 0 : Math.min(items.from[k + 1] ?? items.total, item - 1);
+}
+
+// The replies of a session, each with its command, and the report behind them.
+function readSession(text) {
+    const cut = text.lastIndexOf('\nreport at ') + 1, replies = [];
+    for (const line of text.slice(0, cut).split('\n')) {
+        if (line.startsWith('> ')) replies.push({command: line.slice(2), lines: []});
+        else if (line) replies.at(-1).lines.push(line);
+    }
+    return {replies, report: readReport(text.slice(cut).split('\n'))};
+}
+
+// The parts of a report, each as it is printed. Locals are kept as one text, since most of them are never shown.
+function readReport([first, values, ...lines]) {
+    const [, , at, , total] = first.split(' ');
+    const report = {at: Number(at), total: Number(total), values: values.slice(7)};
+    Object.assign(report, {registers: [], processes: [], events: []});
+    for (const line of lines) {
+        if (line.startsWith('  ')) report.processes.at(-1).locals.push(line.slice(2));
+        else if (line.startsWith('process ')) report.processes.push(readHead(line));
+        else if (line.startsWith('event ')) report.events.push(line);
+        else if (line) report.registers.push(line);
+    }
+    for (const process of report.processes) process.locals = process.locals.join('\n');
+    return report;
+}
+
+// 'process 2 update 2 5 at 32 link 31' and its like.
+function readHead(line) {
+    const [, who, what, at, link] = /^process (\d+) (.*?)(?: at (\d+))?(?: link (\d+))?$/.exec(line);
+    return {who: Number(who), what, at: Number(at ?? 0), link: Number(link ?? 0), locals: []};
+}
+
+// The operations that events tell of, as lists: process, first item, last item or 0, and where in the text of events
+// the words of the call and of the answer are. Lists of numbers and one text go fast from the worker to the page.
+function readOperations(events) {
+    const found = {who: [], from: [], to: [], called: [], ended: [], answers: 0, text: events.join('\n')};
+    const open = new Map();
+    let offset = 0;
+    for (const event of events) {
+        const [name, item, process, what] = event.split(' ', 4), who = Number(process), k = open.get(who);
+        const words = offset + [name, item, process].join(' ').length + 1;
+        offset += event.length + 1;
+        if (what === 'scan' || what === 'update') {
+            open.set(who, found.who.push(who) - 1);
+            found.from.push(Number(item));
+            found.called.push(words);
+            found.to.push(0);
+            found.ended.push(0);
+        } else if (k !== undefined && what !== 'crash') {
+            found.to[k] = Number(item);
+            found.ended[k] = words;
+            found.answers += what === 'answer' ? 1 : 0;
+        }
+    }
+    for (const list of ['who', 'from', 'to', 'called', 'ended']) found[list] = Uint32Array.from(found[list]);
+    return found;
+}
+
+// The words at a place of the text of events: 'update 2 5', 'answer 0 5'.
+function wordsAt({text}, place) {
+    const feed = text.indexOf('\n', place);
+    return text.slice(place, feed < 0 ? text.length : feed);
+}
+
+// 'scan 1 call 1 answer 64 point 24 collects 2', a line a verdict: five numbers each, the point 0 where there is none.
+const readVerdicts = text => Uint32Array.from(text.match(/\d+|none/g) ?? [], word => Number(word) || 0);
+
+function verdictAt(numbers, k) {
+    const [who, call, answer, point, collects] = numbers.subarray(5 * k, 5 * k + 5);
+    return {who, call, answer, point, collects, view: '', lender: 0, from: '', taken: 0};
+}
+
+// The place of the verdict on the scan that answered at this item; -1 where there is none. Answers are in order.
+function verdictOf(numbers, item) {
+    const place = leastPlace(numbers.length / 5, k => numbers[5 * k + 2] >= item);
+    return numbers[5 * place + 2] === item ? place : -1;
+}
+
+// The numbered lines of a listing: the place of each number among the text lines, and its text.
+function readLines(listing) {
+    const found = new Map();
+    listing.split('\n').forEach((text, place) => {
+        const line = /^[ \t\r]*(\d+)[ \t\r]*:[ \t\r]*([^#]*)/.exec(text);
+        if (line) found.set(Number(line[1]), {place, text: line[2].trim()});
+    });
+    return found;
+}

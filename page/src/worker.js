@@ -1,0 +1,79 @@
+// The worker: asks the module, and reads its answers, so that the page is never held up.
+
+const NEAR = 60;        // so many scans, the last ones, are told of in words, and as many without a point
+const BORROWED = /^(?:view [a-z]+ ?= ?view ?\( ?([a-z]+) ?\[ ?(\w+) ?\] ?\)|look [a-z]+ ?= ?(v) ?\[ ?(\w+) ?\])/;
+let glue = null;
+let told = '';          // the texts whose operations the page has been told
+let operations = null;  // and these
+
+// What the module says of the parts of an input; each part but the last ends its last line.
+function askOf(sub, ...parts) {
+    const input = parts.map(part => part && !part.endsWith('\n') ? part + '\n' : part).join('%\n');
+    const {code, bytes} = glue.answer(sub, '', new TextEncoder().encode(input));
+    return {code, text: new TextDecoder().decode(bytes)};
+}
+
+// A position of the run, or the one to which 'run' or 'rrun' leads from there, or to which these commands lead.
+// Without the number of its items the schedule is read here.
+function look({listing, schedule, total, marks, at, go, commands}) {
+    const items = total === undefined ? readItems(schedule) : {total}, texts = listing + '\0' + schedule;
+    const known = commands || texts === told, end = at >= items.total && !go;
+    const asked = commands ?? [...marks, ...known || end ? [] : [`goto ${items.total}`, 'events'],
+        `goto ${Math.min(at, items.total)}`, ...go ? [go] : [], 'where'].join('\n');
+    const answer = askOf('debug', listing, schedule, asked);
+    if (answer.code !== OUTPUT) return {...answer, items};
+    const {replies, report: {events, ...report}} = readSession(answer.text);
+    const called = end ? events : replies.find(reply => reply.command === 'events')?.lines.slice(1);
+    const same = known || called.join('\n') === operations?.text;
+    const last = replies.at(-1)?.lines.find(line => line.startsWith('last '))?.slice(5) ?? 'none';
+    const refused = replies.filter(reply => reply.lines[0]?.startsWith('refused: ')).map(r => [r.command, r.lines[0]]);
+    if (!same) operations = readOperations(called);
+    if (!commands) told = texts;
+    return {code: OUTPUT, report, last, refused, items, operations: same ? null : operations};
+}
+
+// The verdicts of a run. The last ones, and the first without a point, have their answer, and what lent it: the line
+// before an answer's tells where a view was taken.
+function audit({listing, schedule}) {
+    const answer = askOf('audit', listing, schedule), lines = readLines(listing);
+    if (answer.code !== OUTPUT) return answer;
+    const numbers = readVerdicts(answer.text), all = [...Array(numbers.length / 5).keys()];
+    const none = all.filter(k => !numbers[5 * k + 3]).slice(0, NEAR), last = all.slice(-NEAR);
+    const near = [...new Set([...none, ...last])].sort((a, b) => a - b).map(k => verdictAt(numbers, k));
+    const ended = new Map(Array.from(operations.to, (item, k) => [item, operations.ended[k]]));
+    for (const verdict of near) verdict.view = wordsAt(operations, ended.get(verdict.answer)).slice('answer '.length);
+    if ([...lines.values()].some(line => BORROWED.test(line.text))) findLenders(listing, schedule, lines, near);
+    return {code: OUTPUT, verdicts: {numbers, near}};
+}
+
+function findLenders(listing, schedule, lines, verdicts) {
+    const items = readItems(schedule);
+    for (const verdict of verdicts) verdict.taken = itemBefore(items, verdict.who, verdict.answer);
+    const asked = verdicts.map(({taken, who}) => `goto ${Math.max(taken - 1, 0)}\nshow ${who}\n`).join('');
+    const answer = askOf('debug', listing, schedule, asked);
+    if (answer.code !== OUTPUT) return;
+    const shown = readSession(answer.text).replies.filter(reply => reply.command.startsWith('show '));
+    shown.forEach((reply, k) => setLender(verdicts[k], lines, reply.lines));
+}
+
+function setLender(verdict, lines, [first, ...locals]) {
+    const found = BORROWED.exec(lines.get(readHead(first).at)?.text ?? '');
+    if (!found || verdict.taken <= verdict.call) return;
+    const index = found[2] ?? found[4], local = locals.find(line => line.startsWith(`  ${index} = `))?.split(' = ')[1];
+    verdict.lender = index === 'me' ? verdict.who : Number(local ?? index) || 0;
+    verdict.from = verdict.lender ? `${found[1] ?? found[3]}[${verdict.lender}]` : '';
+}
+
+const TASKS = {look, audit, answer: ({sub, shipped, input}) => glue.answer(sub, shipped, input)};
+
+onmessage = async ({data}) => {
+    try {
+        if (data.module) {
+            const bytes = Uint8Array.from(atob(data.module), letter => letter.charCodeAt(0));
+            glue = new Glue(await WebAssembly.compile(bytes));
+            postMessage({ready: true});
+        } else postMessage({answer: TASKS[data.kind](data.request)});
+    } catch (error) {
+        postMessage({failed: String(error)});
+    }
+};

@@ -1,0 +1,161 @@
+#!/usr/bin/env python3
+"""What the module inside the page answers, byte for byte: to the examples and the gallery's commands what is committed, to made-up
+inputs what the native program says.
+
+    page/tests/answers.py [PAIRS [SEED]]    so many made-up pairs of listing and schedule (200), from this seed on (1)
+
+The native program is crates/snaplab/out/snaplab, or what SNAPLAB names; without it the made-up pairs are skipped.
+"""
+import base64
+import json
+import os
+import socketserver
+import subprocess
+import sys
+import tempfile
+import threading
+
+sys.dont_write_bytecode = True
+import browser  # noqa: E402
+from browser import TOP
+
+ASKED = ("check", "assemble", "list", "upgrade", "run", "debug", "audit", "batch")
+SHIM = """#!%s
+import base64, json, socket, sys
+asked = {"args": sys.argv[1:], "stdin": base64.b64encode(sys.stdin.buffer.read()).decode()}
+line = socket.socket(socket.AF_UNIX)
+line.connect(%r)
+line.sendall(json.dumps(asked).encode() + b"\\n")
+told = json.loads(line.makefile("rb").readline())
+sys.stdout.buffer.write(base64.b64decode(told["stdout"]))
+sys.stderr.buffer.write(base64.b64decode(told["stderr"]))
+sys.exit(told["status"])
+"""
+
+
+def read(path, mode="rb"):
+    with open(path, mode) as file:
+        return file.read()
+
+
+def ask(tab, args, given):
+    """Status, standard output and standard error, as the program would have them; none where the module is not asked for this."""
+    if not args or args[0] not in ASKED or args[1:] and (len(args) != 3 or args[1] != "--shipped"):
+        return None
+    code, said = tab.answer(args[0], args[2] if args[1:] else "", given)
+    return {0: (0, said, b""), 1: (1, b"", said)}.get(code, (code, b"", b"code %d" % code))
+
+
+def try_examples(tab, count):
+    passed_over = []
+    for name in sorted(os.listdir(os.path.join(TOP, "examples"))):
+        folder = os.path.join(TOP, "examples", name)
+        if not os.path.isfile(os.path.join(folder, "args")):
+            continue
+        args = read(os.path.join(folder, "args"), "r").split("\n")[:-1]
+        given = read(os.path.join(folder, "stdin"))
+        told = ask(tab, args, given)
+        if not told:
+            passed_over.append(name)
+            continue
+        file = os.path.join(folder, "status")
+        status = int(read(file)) if os.path.exists(file) else 0
+        file = os.path.join(folder, "stderr")
+        same = told[0] == status and told[1] == read(os.path.join(folder, "stdout"))
+        count.check(f"examples/{name}", same and (not os.path.exists(file) or told[2] == read(file)), told[2][:80])
+        for other, sub in (("audit", "audit"), ("events", "run")):
+            wanted = os.path.join(folder, other)
+            if os.path.exists(wanted):
+                said = ask(tab, [sub, *args[1:]], given)[1]
+                if other == "events":
+                    said = b"".join(line for line in said.splitlines(True) if line.startswith(b"event "))
+                count.check(f"examples/{name}, {other}", said == read(wanted))
+    print("not asked of the module:", ", ".join(passed_over))
+
+
+def commands(document):
+    """The commands of a document, and what it says that they print."""
+    found, shown = [], False
+    for line in read(os.path.join(TOP, "docs", document), "r").splitlines(True):
+        if line.startswith("```"):
+            shown = line == "```console\n"
+        elif shown and line.startswith("$ "):
+            found.append([line[2:], ""])
+        elif shown:
+            found[-1][1] += line
+    return found
+
+
+def serve(tab, place):
+    """Answers what stands in for bin/snaplab."""
+    lock = threading.Lock()
+
+    class Answering(socketserver.StreamRequestHandler):
+        def handle(self):
+            asked = json.loads(self.rfile.readline())
+            with lock:
+                told = ask(tab, asked["args"], base64.b64decode(asked["stdin"])) or (2, b"", b"the module is not asked for this\n")
+            letters = {"status": told[0], "stdout": base64.b64encode(told[1]).decode(), "stderr": base64.b64encode(told[2]).decode()}
+            self.wfile.write(json.dumps(letters).encode() + b"\n")
+
+    server = socketserver.ThreadingUnixStreamServer(place, Answering)
+    threading.Thread(target=server.serve_forever, daemon=True).start()
+    return server
+
+
+def try_gallery(tab, count):
+    with tempfile.TemporaryDirectory() as folder:
+        os.mkdir(os.path.join(folder, "bin"))
+        for name in ("examples", "docs", "crates"):
+            os.symlink(os.path.join(TOP, name), os.path.join(folder, name))
+        place, shim = os.path.join(folder, "socket"), os.path.join(folder, "bin", "snaplab")
+        with open(shim, "w", encoding="utf-8") as file:
+            file.write(SHIM % (sys.executable, place))
+        os.chmod(shim, 0o755)
+        server = serve(tab, place)
+        for command, wanted in commands("GALLERY.md"):
+            said = subprocess.run(["sh", "-c", command], cwd=folder, stdin=subprocess.DEVNULL, stdout=subprocess.PIPE,
+                                  stderr=subprocess.STDOUT, check=False).stdout.decode()
+            count.check(f"gallery: {command.strip()[:90]}", said == wanted, said[:200])
+        server.shutdown()
+        server.server_close()
+
+
+def try_pairs(tab, count, pairs, first):
+    program = os.environ.get("SNAPLAB") or os.path.join(TOP, "crates", "snaplab", "out", "snaplab")
+    if not os.access(program, os.X_OK):
+        count.skip(f"{pairs} made-up pairs", "there is no native program")
+        return
+    tools, same = os.path.join(TOP, ".ci", "fuzzing"), 0
+    with tempfile.TemporaryDirectory() as folder:
+        for seed in range(first, first + pairs):
+            subprocess.run(["awk", "-v", f"seed={seed}", "-v", f"into={folder}", "-v", f"examples={TOP}/examples", "-f",
+                            f"{tools}/random.awk", "-f", f"{tools}/case.awk"], check=True, cwd=folder)
+            text, schedule, asked = (read(os.path.join(folder, name)) for name in ("text", "schedule", "commands"))
+            kind = read(os.path.join(folder, "facts"), "r").split()[0]
+            for args, parts in ((["run"], (text, schedule)), (["audit"], (text, schedule)), (["debug"], (text, schedule, asked)),
+                                (["check"], (text,)), (["run", "--shipped", kind], (schedule,))):
+                given = b"%\n".join(parts)
+                native = subprocess.run([program, *args], input=given, capture_output=True, check=False)
+                if ask(tab, args, given) == (native.returncode, native.stdout, native.stderr):
+                    same += 1
+                else:
+                    count.check(f"seed {seed}: {' '.join(args)}", False)
+    count.check(f"{pairs} made-up pairs: {same} answers are the native program's", same == 5 * pairs)
+
+
+def main():
+    browser.need()
+    pairs, first = (int(word) for word in (sys.argv[1:] + ["200", "1"][len(sys.argv) - 1:]))
+    count = browser.Count()
+    with browser.Browser() as running:
+        tab = running.tab()
+        try_examples(tab, count)
+        try_gallery(tab, count)
+        try_pairs(tab, count, pairs, first)
+        count.check("a subcommand that is none is told so", tab.answer("live", "", b"") == (4, b""))
+    count.finish()
+
+
+if __name__ == "__main__":
+    main()

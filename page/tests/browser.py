@@ -1,0 +1,235 @@
+"""A headless Chromium, driven through the DevTools protocol over two pipes. Standard library alone."""
+import base64
+import itertools
+import json
+import os
+import queue
+import shutil
+import subprocess
+import sys
+import tempfile
+import threading
+import time
+
+TOP = os.path.abspath(os.path.join(os.path.dirname(__file__), "..", ".."))
+PAGE = os.path.join(TOP, "page", "snaplab.html")
+NAMES = ("chromium", "chromium-browser", "google-chrome", "chrome")
+NOT_HERE = 77
+
+
+class Failed(Exception):
+    """What the browser or the page refused."""
+
+
+def program():
+    """The browser's path, or none."""
+    named = os.environ.get("CHROMIUM")
+    return named or next(filter(None, map(shutil.which, NAMES)), None)
+
+
+def need():
+    """Ends the test where there is no browser."""
+    if not program():
+        print("there is no Chromium here")
+        sys.exit(NOT_HERE)
+
+
+class Browser:
+    """One process of the browser; its tabs share it."""
+
+    def __init__(self):
+        self.folder = tempfile.mkdtemp(prefix="snaplab-page.")
+        ours, theirs = os.pipe(), os.pipe()
+        words = [program(), "--headless=new", "--remote-debugging-pipe", "--no-sandbox", "--disable-gpu", "--no-first-run",
+                 "--hide-scrollbars", "--disable-extensions", "--disable-background-networking",
+                 f"--user-data-dir={self.folder}", "about:blank"]
+        self.process = subprocess.Popen(
+            ["sh", "-c", 'exec "$@" 3<&%d 4>&%d' % (ours[0], theirs[1]), "sh", *words],
+            stdin=subprocess.DEVNULL, stdout=subprocess.DEVNULL, stderr=subprocess.DEVNULL,
+            pass_fds=(ours[0], theirs[1]))
+        os.close(ours[0])
+        os.close(theirs[1])
+        self.out = os.fdopen(ours[1], "wb")
+        self.back = os.fdopen(theirs[0], "rb")
+        self.numbers = itertools.count(1)
+        self.waiting = {}
+        self.events = queue.Queue()
+        threading.Thread(target=self._read, daemon=True).start()
+
+    def _read(self):
+        kept = b""
+        while True:
+            got = self.back.read1(1 << 20)
+            if not got:
+                break
+            *whole, kept = (kept + got).split(b"\0")
+            for message in map(json.loads, whole):
+                if "id" in message:
+                    self.waiting[message["id"]].put(message)
+                else:
+                    self.events.put(message)
+        for asked in list(self.waiting.values()):
+            asked.put({"error": {"message": "the browser ended"}})
+
+    def ask(self, method, session=None, limit=60, **params):
+        """One command, and its result."""
+        number = next(self.numbers)
+        answer = self.waiting[number] = queue.Queue()
+        message = {"id": number, "method": method, "params": params}
+        if session:
+            message["sessionId"] = session
+        self.out.write(json.dumps(message).encode() + b"\0")
+        self.out.flush()
+        try:
+            told = answer.get(timeout=limit)
+        except queue.Empty:
+            raise Failed(f"{method}: no answer in {limit} s") from None
+        del self.waiting[number]
+        if "error" in told:
+            raise Failed(f"{method}: {told['error']['message']}")
+        return told["result"]
+
+    def tab(self, **how):
+        return Tab(self, **how)
+
+    def close(self):
+        try:
+            self.ask("Browser.close", limit=5)
+        except (Failed, OSError):
+            pass
+        try:
+            self.process.wait(10)
+        except subprocess.TimeoutExpired:
+            self.process.kill()
+        shutil.rmtree(self.folder, ignore_errors=True)
+
+    def __enter__(self):
+        return self
+
+    def __exit__(self, *_):
+        self.close()
+
+
+KEYS = {"ArrowLeft": 37, "ArrowRight": 39, "ArrowUp": 38, "ArrowDown": 40, "Home": 36, "End": 35, "Enter": 13, "Tab": 9,
+        "Escape": 27, " ": 32}
+
+
+class Tab:
+    """One page of the browser."""
+
+    def __init__(self, browser, width=1280, height=720, dark=False, scale=1, mobile=False, address=None, wait=True):
+        self.browser = browser
+        self.target = browser.ask("Target.createTarget", url="about:blank")["targetId"]
+        self.session = browser.ask("Target.attachToTarget", targetId=self.target, flatten=True)["sessionId"]
+        for domain in ("Page", "Runtime", "Log"):
+            self.ask(domain + ".enable")
+        self.look(width, height, dark, scale, mobile)
+        self.open(address or "file://" + PAGE, wait)
+
+    def ask(self, method, limit=60, **params):
+        return self.browser.ask(method, self.session, limit, **params)
+
+    def look(self, width, height, dark=False, scale=1, mobile=False):
+        self.ask("Emulation.setDeviceMetricsOverride", width=width, height=height, deviceScaleFactor=scale, mobile=mobile)
+        scheme = {"name": "prefers-color-scheme", "value": "dark" if dark else "light"}
+        self.ask("Emulation.setEmulatedMedia", features=[scheme])
+
+    def open(self, address, wait=True):
+        self.ask("Page.navigate", url=address)
+        if wait:
+            self.until("document.readyState === 'complete' && window.snaplab !== undefined")
+            self.settled()
+
+    def run(self, script, limit=60):
+        """The value of an expression; promises are waited for."""
+        told = self.ask("Runtime.evaluate", limit, expression=script, awaitPromise=True, returnByValue=True,
+                        userGesture=True)
+        if "exceptionDetails" in told:
+            details = told["exceptionDetails"]
+            raise Failed(details.get("exception", {}).get("description", details["text"]))
+        return told["result"].get("value")
+
+    def until(self, script, limit=30):
+        """Waits until an expression is true."""
+        end = time.time() + limit
+        while time.time() < end:
+            try:
+                if self.run(script):
+                    return
+            except Failed as failed:
+                if "context" not in str(failed):
+                    raise
+            time.sleep(0.02)
+        raise Failed(f"not in {limit} s: {script}")
+
+    def settled(self, limit=60):
+        """Waits until nothing that the page has asked of the module is under way."""
+        self.until("window.snaplab.settled()", limit)
+
+    def click(self, selector, nth=0):
+        """A click of the mouse in the middle of an element, which is scrolled into view."""
+        box = self.run(f"""(() => {{ const e = document.querySelectorAll({json.dumps(selector)})[{nth}];
+            if (!e) return null; e.scrollIntoView({{block: 'nearest', inline: 'nearest'}});
+            const r = e.getBoundingClientRect(); return [r.x + r.width / 2, r.y + r.height / 2]; }})()""")
+        if not box:
+            raise Failed(f"there is no {selector} ({nth})")
+        self.mouse(*box)
+
+    def mouse(self, x, y, *way):
+        """Presses the mouse here, moves on these points, and lets it go at the last of them."""
+        for kind, (px, py) in [("mousePressed", (x, y)), *(("mouseMoved", at) for at in way),
+                               ("mouseReleased", way[-1] if way else (x, y))]:
+            self.ask("Input.dispatchMouseEvent", type=kind, x=px, y=py, button="left", buttons=1, clickCount=1)
+
+    def key(self, key, modifiers=0):
+        """One key, pressed and let go."""
+        how = {"key": key, "modifiers": modifiers, "windowsVirtualKeyCode": KEYS.get(key, ord(key[0].upper()))}
+        if len(key) == 1:
+            how["text"] = key
+        elif key == "Enter":
+            how["text"] = "\r"
+        self.ask("Input.dispatchKeyEvent", type="keyDown", **how)
+        how.pop("text", None)
+        self.ask("Input.dispatchKeyEvent", type="keyUp", **how)
+
+    def type(self, text):
+        self.ask("Input.insertText", text=text)
+
+    def picture(self, path, whole=False):
+        got = self.ask("Page.captureScreenshot", format="png", captureBeyondViewport=whole)
+        with open(path, "wb") as file:
+            file.write(base64.b64decode(got["data"]))
+
+    def answer(self, sub, shipped, given):
+        """What the module answers: its code and bytes."""
+        told = self.run(f"""snaplab.answer({json.dumps(sub)}, {json.dumps(shipped)},
+            Uint8Array.from(atob({json.dumps(base64.b64encode(given).decode())}), c => c.charCodeAt(0))).then(a => {{
+            let s = ''; const b = a.bytes; for (let k = 0; k < b.length; k += 32768)
+            s += String.fromCharCode(...b.subarray(k, k + 32768)); return [a.code, btoa(s)]; }})""", 120)
+        return told[0], base64.b64decode(told[1])
+
+    def close(self):
+        self.browser.ask("Target.closeTarget", targetId=self.target)
+
+
+class Count:
+    """Counts what passed and what failed, and says each."""
+
+    def __init__(self):
+        self.passed = self.failed = self.skipped = 0
+
+    def check(self, what, holds, more=""):
+        if holds:
+            self.passed += 1
+            print("ok", what)
+        else:
+            self.failed += 1
+            print("FAILED", what, more)
+
+    def skip(self, what, why):
+        self.skipped += 1
+        print(f"skipped {what}: {why}")
+
+    def finish(self):
+        print(f"{self.passed} passed, {self.failed} failed, {self.skipped} skipped")
+        sys.exit(1 if self.failed else 0)

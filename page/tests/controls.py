@@ -1,0 +1,512 @@
+#!/usr/bin/env python3
+"""Works each control of the page as a user does, by mouse and by keys, gives it bad input of every kind, and sees that it lives on."""
+import json
+import os
+import re
+import sys
+import tempfile
+
+sys.dont_write_bytecode = True
+import browser  # noqa: E402
+from browser import TOP, Failed
+
+FIRST_IDEA = 3
+
+
+def read(*path):
+    with open(os.path.join(TOP, *path), encoding="utf-8") as file:
+        return file.read()
+
+
+def parts(text):
+    return re.split(r"(?m)^%\n", text)
+
+
+class Page:
+    """The page as its user sees it."""
+
+    def __init__(self, tab):
+        self.tab = tab
+
+    def run(self, script):
+        return self.tab.run(script)
+
+    def text(self, selector):
+        return self.run(f"document.querySelector({json.dumps(selector)})?.innerText ?? ''")
+
+    def shown(self, selector):
+        return self.run(f"Boolean(document.querySelector({json.dumps(selector)})?.checkVisibility())")
+
+    def value(self, selector):
+        return self.run(f"document.querySelector({json.dumps(selector)}).value")
+
+    def click(self, selector, nth=0):
+        self.tab.click(selector, nth)
+        self.tab.settled()
+
+    def key(self, *keys):
+        for key in keys:
+            self.tab.key(key, 8 if len(key) == 1 and key.isupper() else 0)
+        self.tab.settled()
+
+    def choose(self, number):
+        self.run(f"(() => {{ const m = document.getElementById('menu'); m.value = {number}; m.onchange(); m.blur(); }})()")
+        self.tab.settled()
+
+    def write(self, part, text):
+        """Puts a text where one types, as if it were pasted over all."""
+        self.run(f"""(() => {{ const a = document.querySelector('#{part} textarea'); a.value = {json.dumps(text)};
+            a.dispatchEvent(new Event('input', {{bubbles: true}})); }})()""")
+        self.tab.settled()
+
+    def leave(self):
+        self.run("document.activeElement.blur()")
+
+    def at(self):
+        return self.text("#where .at")
+
+    def schedule(self):
+        return self.run("snaplab.state.schedule")
+
+
+def try_gallery(page, count):
+    data = json.loads(page.run("document.getElementById('data').textContent"))
+    for k, idea in enumerate(data["ideas"]):
+        page.choose(FIRST_IDEA + k)
+        for which, shows in (("as it is", idea["shows"]), ("changed", idea["change"]["shows"])):
+            none = shows.endswith(" none")
+            told = page.text("#verdicts")
+            wanted = shows.removesuffix(" none").replace("answer ", "answers ")
+            ends = f"{wanted}:" in told and ("point none" in told) == none
+            count.check(f"idea {k + 1} {which}: {shows}", ends, told)
+            if none:
+                red = page.run("getComputedStyle(document.querySelector('#verdicts .none')).color")
+                count.check(f"idea {k + 1} {which}: red", red == "rgb(176, 0, 32)", red)
+            page.click("#change")
+        count.check(f"idea {k + 1}, back", page.schedule() == idea["schedule"] and page.text("#change") == "Make the change")
+    page.choose(FIRST_IDEA + 2)
+    count.check("a lender is told", "view of b[2]" in page.text("#verdicts"), page.text("#verdicts"))
+    for k, (first, words) in enumerate((("kind seq", "#"), ("kind bit", "#"), ("kind multi", "#"))):
+        page.choose(k)
+        listing = page.value("#listing textarea")
+        count.check(f"listing {k + 1}, annotated", listing.startswith(first) and words in listing)
+
+
+def try_buttons(page, count):
+    page.choose(0)
+    page.click(".process .scan")
+    page.click(".process .step")
+    page.click(".process .step")
+    page.click(".process .update", 1)
+    page.click(".process .step", 1)
+    page.click(".process .crash", 2)
+    count.check("the buttons write the schedule", page.schedule() == "shape 3 3\n1 scan\n1*2\n2 update 2 5\n2\n3 crash\n", page.schedule())
+    count.check("and go on", page.at() == "Item 6 of 6", page.at())
+    count.check("the next update has another value", page.value("#value") == "6")
+    heads = [page.text(f".process:nth-child({k}) .what") for k in (1, 2, 3)]
+    count.check("each process's place", heads == ["scan at 12", "update 2 5 at 10, then back to 31", "crashed"], heads)
+    margin = page.run("[...document.querySelectorAll('#listing .gutter > div')].map(r => r.innerText.trim())"
+                      ".map((t, k) => t && `${snaplab.state.listing.split('\\n')[k].split(':')[0]} ${t}`).filter(Boolean)")
+    count.check("and its badge", [" ".join(one.split()) for one in margin] == ["10 2", "12 1", "31 2"], margin)
+    page.click("#undo")
+    page.click("#undo")
+    count.check("undo", page.schedule().endswith("2 update 2 5\n"), page.schedule())
+    page.click("#redo")
+    count.check("redo", page.schedule().endswith("2 update 2 5\n2\n"), page.schedule())
+    page.click("#home")
+    page.click(".process .step")
+    count.check("a step in the middle stands there", page.schedule().startswith("shape 3 3\n1\n1 scan\n") and page.at() == "Item 1 of 6")
+    count.check("and is skipped in words", "skipped: Idle" in page.text("#where"), page.text("#where"))
+    page.click("#undo")
+    page.run("goTo(2)")
+    page.click(".process .scan", 2)
+    count.check("a call parts a line", page.schedule() == "shape 3 3\n1 scan\n1\n3 scan\n1\n2 update 2 5\n2\n", page.schedule())
+    page.click("#cut")
+    count.check("what follows is cut", page.schedule() == "shape 3 3\n1 scan\n1\n3 scan\n", page.schedule())
+    page.run("goTo(1)")
+    page.click(".process .step")
+    count.check("a step that comes next is just made", page.at() == "Item 2 of 3" and page.schedule().count("\n") == 4)
+    page.click("#processes summary")
+    page.tab.until("document.querySelector('.process .locals').innerText !== ''")
+    count.check("locals unfold", "moved = 0 0 0" in page.text(".process .locals"), page.text(".process .locals"))
+    page.click("#processes summary")
+
+
+def try_walk(page, count):
+    page.choose(FIRST_IDEA + 2)
+    total = 64
+    page.leave()
+    for key, wanted in (("End", total), ("ArrowLeft", total - 1), ("Home", 0), ("ArrowRight", 1), ("PageDown", 11), ("PageUp", 1)):
+        page.key(key)
+        count.check(f"key {key}", page.at() == f"Item {wanted} of {total}", page.at())
+    for button, wanted in (("end", total), ("back", total - 1), ("home", 0), ("on", 1)):
+        page.click(f"#{button}")
+        count.check(f"button {button}", page.at() == f"Item {wanted} of {total}", page.at())
+    page.run("goTo(54)")
+    page.tab.settled()
+    page.run("goTo(53)")
+    page.tab.settled()
+    page.run("goTo(54)")
+    page.tab.settled()
+    changed = page.text("#memory")
+    count.check("old beside new", "5\u21926" in changed and "0\u21925" in changed, changed)
+    box = page.run("(() => { const r = document.getElementById('timeline').getBoundingClientRect(); return [r.x, r.y, r.width, r.height]; })()")
+    page.tab.mouse(box[0] + box[2] / 2, box[1] + box[3] / 2)
+    page.tab.settled()
+    middle = int(page.at().split()[1])
+    count.check("a click on the time line", 28 <= middle <= 36, page.at())
+    page.tab.mouse(box[0] + box[2] / 2, box[1] + 9, (box[0] + box[2] * .7, box[1] + 9), (box[0] + box[2] * .9, box[1] + 9))
+    page.tab.settled()
+    count.check("a drag", int(page.at().split()[1]) > 50, page.at())
+    count.check("the slider tells", page.run("document.getElementById('timeline').getAttribute('aria-valuenow')") == page.at().split()[1])
+    page.click("#verdicts button")
+    count.check("a verdict leads to its point", page.at() == "Item 24 of 64", page.at())
+    page.run("(() => { const a = document.getElementById('at'); a.value = '38'; a.onchange(); })()")
+    page.tab.settled()
+    count.check("a position that is typed", page.at() == "Item 38 of 64", page.at())
+    for key in "++-0":
+        page.leave()
+        page.key(key)
+    for button in ("closer", "wider", "fit"):
+        page.click(f"#{button}")
+    count.check("zoom", page.run("line.from === 0 && line.to === 64"))
+
+
+def try_marks(page, count):
+    page.choose(FIRST_IDEA + 2)
+    row = page.run("snaplab.state.listing.split('\\n').findIndex(l => l.startsWith('23:'))")
+    page.click("#listing .gutter > div", row)
+    count.check("a click sets a breakpoint", "line 23" in page.text("#marks"), page.text("#marks"))
+    page.leave()
+    page.key("r")
+    count.check("run stops there", page.at() == "Item 62 of 64", page.at())
+    page.key("r")
+    count.check("and then at the end", page.at() == "Item 64 of 64", page.at())
+    page.key("R")
+    count.check("run back", page.at() == "Item 62 of 64", page.at())
+    page.leave()
+    page.key("b")
+    count.check("b takes it away where the process stands", page.text("#marks") == "", page.text("#marks"))
+    page.key("m", "Tab", "w")
+    count.check("w watches the register that has the focus", "r 2" in page.text("#marks"), page.text("#marks"))
+    page.leave()
+    page.key("Home", "r")
+    count.check("run stops at a write", page.at() == "Item 24 of 64", page.at())
+    page.click("#run")
+    count.check("and at the next", page.at() == "Item 54 of 64", page.at())
+    page.click("#rrun")
+    count.check("and back by the button", page.at() == "Item 24 of 64", page.at())
+    page.click("#marks button")
+    count.check("a mark is taken away by its button", page.text("#marks") == "")
+    page.click("#memory [data-register='r 1']")
+    count.check("a click watches", "r 1" in page.text("#marks"))
+    page.leave()
+    page.key("l", *["ArrowUp"] * 30, *["ArrowDown"] * 24, "b")
+    count.check("b sets one at the margin's line", "line 33" in page.text("#marks"), page.text("#marks"))
+    page.write("listing", page.value("#listing textarea").replace("33: finish", "34: finish"))
+    page.leave()
+    page.key("r")
+    count.check("a mark of a line that has gone is refused in words", "G2 NoSuchLine" in page.text("#note"), page.text("#note"))
+
+
+def try_files(page, count, running):
+    page.choose(FIRST_IDEA + 2)
+    page.click("#listing .gutter > div", 10)
+    page.run("goTo(30)")
+    page.tab.settled()
+    text = page.run("asInput()")
+    wanted = parts(read("examples", "borrowed-view", "stdin"))
+    got = parts(text)
+    count.check("the input of debug", got[:2] == wanted[:2] and got[2] == "break 1 13\nbreak 2 13\ngoto 30\n", got[2])
+    page.run("window.copied = ''; navigator.clipboard.writeText = async text => { window.copied = text; }")
+    page.click("#copy")
+    page.tab.until("window.copied !== ''")
+    count.check("copy", page.run("window.copied") == text)
+    page.run("window.copied = ''")
+    page.click("#link")
+    page.tab.until("window.copied !== ''")
+    link = page.run("window.copied")
+    other = Page(running.tab(address=link))
+    other.tab.until("snaplab.state.report?.at === 30")
+    count.check("the link has all of it", other.run("asInput()") == text and other.run("snaplab.state.idea") == FIRST_IDEA + 2, link[:60])
+    other.tab.close()
+    with tempfile.TemporaryDirectory() as folder:
+        page.tab.ask("Browser.setDownloadBehavior", behavior="allow", downloadPath=folder)
+        page.click("#save")
+        page.tab.until("true")
+        path = os.path.join(folder, "snaplab-input.txt")
+        for _ in range(100):
+            if os.path.exists(path) and os.path.getsize(path):
+                break
+            page.run("new Promise(done => setTimeout(done, 50))")
+        count.check("save", os.path.exists(path) and open(path, encoding="utf-8").read() == text)
+        page.choose(0)
+        open_file(page, path)
+        count.check("open", page.run("asInput()") == text)
+        for name in ("debug", "debug-end-of-a-run"):
+            open_file(page, os.path.join(TOP, "examples", name, "stdin"))
+            out = re.findall(r"(?m)^report at (\d+) of", read("examples", name, "stdout"))[-1]
+            count.check(f"open examples/{name}", page.at().split()[1] == out, page.at())
+
+
+def open_file(page, path):
+    root = page.tab.ask("DOM.getDocument")["root"]["nodeId"]
+    node = page.tab.ask("DOM.querySelector", nodeId=root, selector="#file")["nodeId"]
+    page.tab.ask("DOM.setFileInputFiles", files=[path], nodeId=node)
+    page.run("new Promise(done => setTimeout(done, 100))")
+    page.tab.settled()
+
+
+def try_exercise(page, count, running):
+    data = json.loads(page.run("document.getElementById('data').textContent"))
+    page.choose(FIRST_IDEA + len(data["ideas"]))
+    count.check("an exercise says that it is not met", "Not met yet" in page.text("#goal"), page.text("#goal"))
+    page.write("schedule", "shape 2 2\n1 scan\n1*6\n2 update 2 7\n2*17\n1*50\n")
+    count.check("and when it is", page.text("#goal").startswith("Met: the scan of process 1, items 1 to"), page.text("#goal"))
+    page.write("schedule", "shape 2 2\n1 scan\n1*6\n")
+    page.click("#make")
+    count.check("the form", page.shown("#form"))
+    page.run("""(() => { const e = document.querySelector('#form form').elements; e.task.value = 'Find one double collect.';
+        e.who.value = ''; e.view.value = '0  0'; e.collects.value = '1'; e.items.value = '14'; })()""")
+    page.click("#form button[value=make]")
+    page.tab.until("snaplab.state.goal?.task === 'Find one double collect.' && snaplab.settled()", 5)
+    count.check("a task of one's own", "Find one double collect." in page.text("#idea-text") and "in at most 14 items" in page.text("#goal"))
+    link = page.run("asHash()")
+    other = Page(running.tab(address="file://" + browser.PAGE + link))
+    other.tab.until("snaplab.state.goal !== null && snaplab.settled()")
+    count.check("goes by a link", "Find one double collect." in other.text("#idea-text"))
+    other.key("End")
+    for _ in range(7):
+        other.click(".process .step")
+    other.tab.until("snaplab.settled()")
+    count.check("and is met by pressing step", other.text("#goal") == "Met: the scan of process 1, items 1 to 14.", other.text("#goal"))
+    other.tab.close()
+
+
+REFUSED = {
+    "listing": ["L2.txt", "L3.txt", "L4.txt", "L5.txt", "L6.txt", "L7.txt", "L7-kind.txt", "L8.txt", "L9.txt", "L10.txt"],
+    "schedule": ["S2.txt", "S3.txt", "S4.txt", "S5.txt", "W1.txt"],
+}
+
+
+def try_refusals(page, count):
+    for part, names in REFUSED.items():
+        for name in names:
+            page.choose(FIRST_IDEA)
+            listing, *more = parts(read("examples", "refusals", name))
+            page.write("listing", listing)
+            if more:
+                page.write("schedule", more[0])
+            code, told = name.removesuffix(".txt").removesuffix("-kind"), page.text(f"#{part}-refusal")
+            bad = page.run(f"document.querySelectorAll('#{part} .code i.bad').length")
+            count.check(f"{name} is refused at its line", told.startswith(f"refused: {code} ") and len(told) > 40 and bad > 0, told[:90])
+    others = {
+        "L1 TooLong": ("listing", "#" * 65537), "S1 TooLong": ("schedule", "#" * 4194305), "P2 WrongParts": ("listing", "kind seq\n%\n"),
+        "P1 InputTooLong": ("schedule", "#" * 16777217), "L2 BadHeader 1": ("listing", ""), "S2 BadShape": ("schedule", ""),
+    }
+    for wanted, (part, text) in others.items():
+        page.choose(FIRST_IDEA)
+        page.write(part, text)
+        told = page.text("#listing-refusal") + page.text("#schedule-refusal")
+        count.check(f"{wanted} is refused in words", f"refused: {wanted}" in told, told[:90])
+        lives_on(page, count, wanted)
+    page.choose(FIRST_IDEA)
+    page.write("listing", "")
+    page.write("schedule", "")
+    count.check("an empty page is refused in words", "L2 BadHeader 1" in page.text("#listing-refusal"))
+    page.click(".process .step")
+    page.click("#run")
+    page.click("#end")
+    lives_on(page, count, "an empty page")
+    open_bytes(page, bytes(range(256)) * 9)
+    count.check("bytes that are no text are refused in words", "refused: L2" in page.text("#listing-refusal"), page.text("#note"))
+    open_bytes(page, (read("examples", "first-run.txt") + "%\nhello\n").encode())
+    count.check("commands that are none are refused in words", "G1 BadCommand 1" in page.text("#note"), page.text("#note"))
+    open_bytes(page, (read("examples", "refusals", "G6.txt")).encode())
+    count.check("a mark too many is told", "G6 TooManyMarks" in page.text("#note"), page.text("#note"))
+    page.run("location.hash = '#nonsense'")
+    page.run("new Promise(done => setTimeout(done, 50))")
+    count.check("a link that is cut is told", "cannot be read" in page.text("#note"), page.text("#note"))
+    lives_on(page, count, "a bad link")
+
+
+def open_bytes(page, content):
+    with tempfile.NamedTemporaryFile(suffix=".txt") as file:
+        file.write(content)
+        file.flush()
+        open_file(page, file.name)
+
+
+def lives_on(page, count, after):
+    page.choose(FIRST_IDEA)
+    page.click("#end")
+    count.check(f"the page lives on after {after}", page.at() == "Item 14 of 14" and "answers 0 0" in page.text("#verdicts"), page.at())
+
+
+def try_sizes(page, count):
+    page.run("""window.blocked = []; new PerformanceObserver(list => list.getEntries().forEach(e => window.blocked.push(Math.round(e.duration))))
+        .observe({entryTypes: ['longtask']})""")
+    page.choose(FIRST_IDEA)
+    page.write("schedule", "shape 2 2\n1 update 1 7\n2 scan\n" + "1*499999\n2*499999\n")
+    listing = page.run("snaplab.state.listing")
+    count.check("1,000,000 items", page.at() == "Item 0 of 1000000", page.at())
+    page.click("#end")
+    count.check("their end", page.at() == "Item 1000000 of 1000000", page.at())
+    page.click(".process .step")
+    count.check("one more is refused in words", "S4 TooManyItems" in page.text("#schedule-refusal"), page.text("#schedule-refusal"))
+    page.click("#undo")
+    several = "".join(f"{k % 2 + 1} scan\n1*9\n2*9\n1 update 1 {k}\n1*6\n" for k in range(38000))
+    open_bytes(page, f"{listing}%\nshape 2 2\n{several}".encode())
+    count.check("988,000 items, a million bytes of text", page.at().endswith("of 988000"), page.at() + page.text("#schedule-refusal"))
+    page.click("#end")
+    count.check("the text is shown in part", page.run("document.querySelectorAll('#schedule .gutter > div').length") <= 301 and
+                "long" in page.text("#window"))
+    page.click(".process .step")
+    count.check("a step at the end of them", page.at() == "Item 988001 of 988001", page.at())
+    page.choose(FIRST_IDEA)
+    blocked = page.run("window.blocked")
+    what = "the page was never held up for 100 ms"
+    if os.getloadavg()[0] > os.cpu_count():
+        count.skip(what, f"the machine has more to do than processors; here it was for {max(blocked, default=0)} ms")
+    else:
+        count.check(what, not [one for one in blocked if one > 100], blocked)
+    page.choose(2)
+    page.write("schedule", "shape 64 64\n" + "".join(f"{k} update {65 - k} {k}\n{k}*900\n" for k in range(1, 65)))
+    page.click("#end")
+    heads = page.run("document.querySelectorAll('.process').length")
+    count.check("64 processes of M", heads == 64 and page.at() == "Item 57664 of 57664", page.at())
+    page.click(".process .step", 63)
+    count.check("a step of the 64th", page.schedule().endswith("64*901\n"), page.schedule()[-20:])
+    page.click("#listing .gutter > div", 9)
+    page.click("#listing .gutter > div", 10)
+    count.check("65 marks are refused in words", "G6 TooManyMarks" in page.text("#note"), page.text("#note"))
+    lives_on(page, count, "64 processes")
+
+
+def try_stop(page, count):
+    page.choose(2)
+    page.write("schedule", "shape 2 2\n1 scan\n")
+    page.run("""(() => { const a = document.querySelector('#schedule textarea');
+        a.value = 'shape 64 64\\n' + Array.from({length: 64}, (_, k) => `${k + 1} update ${k + 1} 5\\n`).join('') +
+            Array.from({length: 15000}, (_, k) => `${k % 64 + 1}*60\\n`).join('');
+        a.dispatchEvent(new Event('input', {bubbles: true})); })()""")
+    try:
+        page.tab.until("!document.getElementById('progress').hidden", 10)
+        page.tab.click("#stop")
+        page.tab.settled()
+        count.check("a long run is stopped", "Stopped" in page.text("#note"), page.text("#note"))
+    except Failed:
+        count.check("a long run has a bar", False)
+    lives_on(page, count, "a stop")
+
+
+
+
+def try_trap(page, count):
+    """The glue over instances that are made up: one traps, one asks for room, one has no memory."""
+    script = """(() => {
+        const {Glue, codes} = new Function(document.getElementById('worker').textContent
+            + '; return {Glue, codes: {OUTPUT, MEMORY, TRAPPED}}')();
+        const glue = new Glue(null), memory = new WebAssembly.Memory({initial: 8});
+        let made = 0, freed = 0, next = 16, mode = 'trap', asked = [];
+        glue.start = () => { made++; glue.instance = {memory, page_free: () => { freed++; },
+            page_room: n => mode === 'none' ? 0n : BigInt((next += Number(n) + 16) - Number(n) - 16),
+            page_output: (taken, s, sl, k, kl, i, il, room, length) => {
+                asked.push(Number(length));
+                if (mode === 'trap') throw new WebAssembly.RuntimeError('unreachable');
+                const told = new DataView(memory.buffer), want = 100000;
+                told.setUint8(Number(taken), length < want ? 3 : 0);
+                told.setBigUint64(Number(taken) + 8, BigInt(want), true);
+                if (length >= want) new Uint8Array(memory.buffer, Number(room), want).fill(65);
+            }};
+            glue.taken = glue.instance.page_room(16n); glue.room = 0n; glue.roomLength = 0n; };
+        const first = glue.answer('run', '', new Uint8Array()), dropped = glue.instance === null;
+        mode = 'small';
+        const second = glue.answer('run', '', new Uint8Array()), third = glue.answer('run', '', new Uint8Array());
+        mode = 'none'; glue.instance = null;
+        const fourth = glue.answer('run', '', new Uint8Array());
+        return [first.code === codes.TRAPPED && dropped, made, second.code, second.bytes.length, third.bytes[99999],
+            asked.join(), fourth.code === codes.MEMORY];
+    })()"""
+    told = page.run(script)
+    count.check("after a trap the instance is given up, and a new one made", told[:2] == [True, 3], told)
+    count.check("room that is too small is made larger once", told[2:6] == [0, 100000, 65, "65536,65536,100000,100000"], told)
+    count.check("want of memory is told", told[6], told)
+    page.run("take, state.refusal = readRefusal({code: 5, text: 'RuntimeError: unreachable'}), document.dispatchEvent(new Event('state'))")
+    count.check("and the page says so", "was started anew" in page.text("#note"), page.text("#note"))
+    lives_on(page, count, "a trap")
+
+
+def try_readers(page, count):
+    """Names and live regions, for those who listen; keys, for those who have no mouse."""
+    page.choose(FIRST_IDEA + 3)
+    page.click("#change")
+    page.click("#verdicts button")
+    told = page.text("#where")
+    count.check("position, outcome and verdict are told", page.run("document.getElementById('where').getAttribute('aria-live')") == "polite"
+                and "Item 52 of 62" in told and "answered 0 0" in told and "point none" in told, told)
+    nodes = page.tab.ask("Accessibility.getFullAXTree")["nodes"]
+    unnamed = [one["role"]["value"] for one in nodes if not one.get("ignored") and one["role"]["value"] in
+               ("button", "textbox", "combobox", "slider", "listbox", "link") and not one.get("name", {}).get("value")]
+    count.check("every control has a name", not unnamed, unnamed)
+    reached = set()
+    page.leave()
+    for _ in range(90):
+        page.tab.key("Tab")
+        reached.add(page.run("document.activeElement.id || document.activeElement.className || document.activeElement.dataset.register || "
+                             "document.activeElement.parentElement?.parentElement?.id || document.activeElement.tagName"))
+    wanted = {"menu", "undo", "open", "save", "copy", "link", "make", "keys", "gutter", "word", "value", "step", "scan", "update", "crash",
+              "cut", "run", "rrun", "home", "end", "at", "timeline"}
+    count.check("the Tab key reaches every control", wanted <= reached, wanted - reached)
+    page.leave()
+    page.key("?")
+    count.check("the keys are listed", page.shown("#help") and "run back" in page.text("#help"))
+    page.tab.key("Escape")
+    page.choose(0)
+    page.leave()
+    page.key("p")
+    page.tab.key("Tab")
+    page.tab.key("Enter")
+    page.tab.settled()
+    page.leave()
+    page.key("1", "1", "2")
+    count.check("a schedule is written by keys alone", page.schedule() == "shape 3 3\n1 scan\n1*2\n2\n", page.schedule())
+    page.key("z")
+    count.check("z takes back", page.schedule() == "shape 3 3\n1 scan\n1*2\n", page.schedule())
+    page.key("y")
+    count.check("y brings back", page.schedule().endswith("2\n"))
+
+
+def try_alone(page, count):
+    """The page is one file, and asks for nothing."""
+    text = open(browser.PAGE, encoding="utf-8").read()
+    outside = re.findall(r"(?:src|href)=\"?(?!data:)[a-z]+:|url\(|@import|fetch\(|XMLHttpRequest|https?://", text)
+    count.check("nothing is loaded from elsewhere", not outside, outside[:5])
+    sentences = re.split(r"(?<=\.)\s+", page.run("document.querySelector('#proved p').textContent.trim()"))
+    count.check("four sentences say what is proved and what is trusted", len(sentences) == 4 and all(
+        word in " ".join(sentences) for word in ("proved", "trusted", "browser", "wasm64", "linker", "lowering", "heap")), len(sentences))
+
+
+def main():
+    browser.need()
+    count = browser.Count()
+    with browser.Browser() as running:
+        page = Page(running.tab())
+        for trial in (try_alone, try_gallery, try_buttons, try_walk, try_marks, try_readers, try_refusals, try_sizes, try_stop, try_trap):
+            attempt(trial, count, page)
+        attempt(try_files, count, page, running)
+        attempt(try_exercise, count, page, running)
+        wrong = [str(one["params"])[:300] for one in list(running.events.queue) if one["method"] == "Runtime.exceptionThrown"]
+        count.check("no script failed", not wrong, wrong[:3])
+    count.finish()
+
+
+def attempt(trial, count, page, *more):
+    try:
+        trial(page, count, *more)
+    except Failed as failed:
+        count.check(trial.__name__, False, str(failed)[:300])
+
+
+if __name__ == "__main__":
+    main()

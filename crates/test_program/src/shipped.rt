@@ -5,14 +5,15 @@ use snap_semantics::Refusal;
 use snap_words::{KindTag, WordFault};
 use std::test::Fail;
 
-const U: Subject = Subject::Shipped(KindTag::Seq);
+/// The shipped listing U.
+pub const U: Subject = Subject::Shipped(KindTag::Seq);
 
 const B: Subject = Subject::Shipped(KindTag::Bits);
 
 const M: Subject = Subject::Shipped(KindTag::Multi);
 
 /// A scan of U that borrows its view, between two updates.
-const BORROWED: &[u8; 80] =
+pub const BORROWED: &[u8; 80] =
     b"shape 2 2\n1 scan\n1*6\n2 update 2 5\n2*17\n1*8\n1*4\n2 update 2 6\n2*17\n1*9\n# borrowed\n";
 
 #[test]

@@ -5,6 +5,7 @@
 mod batches;
 #[cfg(test)]
 mod devices_of_memory;
+#[cfg(test)]
 mod findings;
 #[cfg(test)]
 mod images;

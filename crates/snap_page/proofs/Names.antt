@@ -30,13 +30,16 @@ module _ (bytes : List ℕ) (not_text : ¬ (IsUtf8 bytes)) where
   unfolding lib.Utf8.encode
   no_request s limit = rw (
     unlike bytes (codes "check") not_text (codes "check", (refl, refl)),
+    unlike bytes (codes "lint") not_text (codes "lint", (refl, refl)),
     unlike bytes (codes "assemble") not_text (codes "assemble", (refl, refl)),
     unlike bytes (codes "list") not_text (codes "list", (refl, refl)),
     unlike bytes (codes "upgrade") not_text (codes "upgrade", (refl, refl)),
     unlike bytes (codes "run") not_text (codes "run", (refl, refl)),
     unlike bytes (codes "debug") not_text (codes "debug", (refl, refl)),
     unlike bytes (codes "audit") not_text (codes "audit", (refl, refl)),
+    unlike bytes (codes "certify") not_text (codes "certify", (refl, refl)),
     unlike bytes (codes "batch") not_text (codes "batch", (refl, refl)),
+    unlike bytes (codes "survey") not_text (codes "survey", (refl, refl)),
     unlike bytes (codes "live") not_text (codes "live", (refl, refl)),
   ) refl
 

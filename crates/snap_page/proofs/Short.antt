@@ -64,6 +64,7 @@ count_short counts texts parts = parts_short (counts texts) (length parts)
 
 task_short : (t : Task) (input : List ℕ) → Short (refused_at_once t input)
 task_short task.Check input = text_short input
+task_short task.Lint input = text_short input
 task_short task.Assemble input = text_short input
 task_short task.List input = head_short input
 task_short task.Upgrade input = head_short input
@@ -73,7 +74,11 @@ task_short (task.Debug s) input =
     count_short (λ ts. nat_eq (length ts) 2) (texts_for s (parts_of input)) (parts_of input)
 task_short (task.Audit s) input =
     count_short (λ ts. nat_eq (length ts) 1) (texts_for s (parts_of input)) (parts_of input)
+task_short (task.Certify s) input =
+    count_short (λ ts. nat_eq (length ts) 1) (texts_for s (parts_of input)) (parts_of input)
 task_short (task.Batch s) input =
+    count_short (λ ts. nat_lt 0 (length ts) && nat_le (length ts) 4096) (texts_for s (parts_of input)) (parts_of input)
+task_short (task.Survey s) input =
     count_short (λ ts. nat_lt 0 (length ts) && nat_le (length ts) 4096) (texts_for s (parts_of input)) (parts_of input)
 
 -- what is found at once needs no memory to be handed

@@ -1,5 +1,6 @@
-//! From texts to images, from images to texts and to images of the version that is written, and from images to programs.
-ghost use Rattle.std.specs.Prelude.{◌≡◌, ◌≢◌, ℕ, List, ◌∷◌, ◌++◌, IfOk, None, Ok, Err, take};
+//! From texts to images, from images to texts and to images of the version that is written, and
+//! from images to programs.
+ghost use Rattle.std.specs.Prelude.{◌≡◌, ◌≢◌, ◌<◌, ℕ, List, ◌∷◌, ◌++◌, IfOk, None, Ok, Err, length, take};
 ghost use Rattle.snap_semantics.specs.Answers.{Answers};
 ghost use Rattle.snap_image_format.specs.Assembly.{assembled, listed, upgraded};
 ghost use Rattle.snap_semantics.specs.CanonicalText.{canonical_text};
@@ -10,6 +11,7 @@ ghost use Rattle.snap_image_format.specs.ImageListing.{listing_of_image};
 ghost use Rattle.snap_semantics.specs.declared.fault.Fault.TheVariants.{Refused};
 ghost use Rattle.snap_image_format.specs.declared.image.ImageVersion.{ImageVersion};
 ghost use Rattle.snap_semantics.specs.declared.refusal.ImageRefusal.TheVariants.{NotAnImage, Version};
+ghost use Rattle.snap_semantics.specs.declared.refusal.ListingRefusal.TheVariants.{TooLong};
 ghost use Rattle.snap_asm.specs.Listed.{HasListing, HaveOneListing};
 
 use snap_asm_program::Program;
@@ -20,50 +22,58 @@ use std::alloc::Global;
 /// The image of the listing that a text is, with its comments, or the first reason why it is none.
 #[tactic(auto, unfolding(snap_image_format::specs::Assembly::assembled))]
 pub fn assemble(alloc: Global, text: &[u8]) -> Result<Vec<u8>, ListingFault>
-    ensures { Answers (λ image. image.items) result (assembled text.now) }
+    ensures image { Answers (λ image. image.items) result (assembled text.now) }
+    ensures too_long { 65536 < length text.now → result ≡ Err (Refused TooLong) }
 {
     let listing = read_commented(alloc, text)?;
     let image = encode(alloc, &listing)?;
     Ok(image)
 }
 
-/// The canonical text of the listing whose image these bytes are, in either version, or the first reason why they are none: they are refused
-/// exactly where no listing has this image.
+/// The canonical text of the listing whose image these bytes are, in either version, or the first
+/// reason why they are none: they are refused exactly where no listing has this image.
 #[tactic(auto, unfolding(snap_image_format::specs::Assembly::listed))]
 pub fn list(alloc: Global, image: &[u8]) -> Result<Vec<u8>, ImageFault>
     ensures answer { Answers (λ text. text.items) result (listed image.now) }
     ensures image { IfOk result (λ text. HaveOneListing image.now text.items) }
-    ensures every { (v : ImageVersion) (c : Commented) → IsCommented c → CanSay v c → image.now ≡ image_in v c → Answers (λ text. text.items) result (Ok (canonical_text c)) }
+    ensures every { (v : ImageVersion) (c : Commented) → IsCommented c → CanSay v c →
+        image.now ≡ image_in v c → Answers (λ text. text.items) result (Ok (canonical_text c)) }
     ensures not_an_image { take 4 image.now ≢ signature → result ≡ Err (Refused NotAnImage) }
-    ensures version { (b : ℕ) (rest : List ℕ) → image.now ≡ signature ++ b ∷ rest → of_code versions b ≡ None → result ≡ Err (Refused Version) }
+    ensures version { (b : ℕ) (rest : List ℕ) → image.now ≡ signature ++ b ∷ rest →
+        of_code versions b ≡ None → result ≡ Err (Refused Version) }
 {
     let listing = decode(alloc, image)?;
     let text = print(alloc, &listing)?;
     Ok(text)
 }
 
-/// The image, in the second version, of the listing whose image these bytes are in either version, or the first reason why they are none.
+/// The image, in the second version, of the listing whose image these bytes are in either version,
+/// or the first reason why they are none.
 #[tactic(auto, unfolding(snap_image_format::specs::Assembly::upgraded))]
 pub fn upgrade(alloc: Global, image: &[u8]) -> Result<Vec<u8>, ImageFault>
     ensures answer { Answers (λ image. image.items) result (upgraded image.now) }
-    ensures every { (v : ImageVersion) (c : Commented) → IsCommented c → CanSay v c → image.now ≡ image_in v c → Answers (λ image. image.items) result (Ok (image_of c)) }
+    ensures every { (v : ImageVersion) (c : Commented) → IsCommented c → CanSay v c →
+        image.now ≡ image_in v c → Answers (λ image. image.items) result (Ok (image_of c)) }
     ensures not_an_image { take 4 image.now ≢ signature → result ≡ Err (Refused NotAnImage) }
-    ensures version { (b : ℕ) (rest : List ℕ) → image.now ≡ signature ++ b ∷ rest → of_code versions b ≡ None → result ≡ Err (Refused Version) }
+    ensures version { (b : ℕ) (rest : List ℕ) → image.now ≡ signature ++ b ∷ rest →
+        of_code versions b ≡ None → result ≡ Err (Refused Version) }
 {
     let listing = decode(alloc, image)?;
     let upgraded = encode(alloc, &listing)?;
     Ok(upgraded)
 }
 
-/// The program whose image these bytes are, in either version, or the first reason why they are none: they are refused exactly where no listing
-/// has this image.
+/// The program whose image these bytes are, in either version, or the first reason why they are
+/// none: they are refused exactly where no listing has this image.
 #[tactic(auto, unfolding(snap_image_format::specs::ImageListing::listing_of_image))]
 pub fn load(alloc: Global, image: &[u8]) -> Result<Program, ImageFault>
     ensures answer { Answers (λ p. p) result (listing_of_image image.now) }
     ensures image { IfOk result (λ p. HasListing image.now p) }
-    ensures every { (v : ImageVersion) (c : Commented) → IsCommented c → CanSay v c → image.now ≡ image_in v c → Answers (λ p. p) result (Ok c.source) }
+    ensures every { (v : ImageVersion) (c : Commented) → IsCommented c → CanSay v c →
+        image.now ≡ image_in v c → Answers (λ p. p) result (Ok c.source) }
     ensures not_an_image { take 4 image.now ≢ signature → result ≡ Err (Refused NotAnImage) }
-    ensures version { (b : ℕ) (rest : List ℕ) → image.now ≡ signature ++ b ∷ rest → of_code versions b ≡ None → result ≡ Err (Refused Version) }
+    ensures version { (b : ℕ) (rest : List ℕ) → image.now ≡ signature ++ b ∷ rest →
+        of_code versions b ≡ None → result ≡ Err (Refused Version) }
 {
     let listing = decode(alloc, image)?;
     let program = Program::of(alloc, listing.into_listing())?;

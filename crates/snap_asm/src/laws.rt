@@ -4,7 +4,8 @@ ghost use Rattle.snap_asm.specs.Laws.{KeepsCanonical, ListsBack, Upgrades};
 use snap_image::what_is_encoded_is_decoded;
 use snap_listing::{what_is_printed_is_read, what_is_read_with_comments_is_a_listing};
 
-/// What is assembled lists back as the canonical text of its listing, loads as that listing, and is upgraded to itself.
+/// What is assembled lists back as the canonical text of its listing, loads as that listing, and is
+/// upgraded to itself.
 pub fn what_is_assembled_lists_back()
     ensures { ListsBack }
 {

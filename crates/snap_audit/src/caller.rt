@@ -8,7 +8,8 @@ use snap_record::{Change, Row, advance};
 use snap_runs::Verdict;
 use std::alloc::{AllocError, Global};
 
-/// The last call of a process, with the values then, the next change, and how many double collects the process had had.
+/// The last call of a process, with the values then, the next change, and how many double collects
+/// the process had had.
 #[derive(Debug, Drop)]
 pub(crate) struct Caller {
     pub(crate) values: Row,
@@ -17,8 +18,8 @@ pub(crate) struct Caller {
     pub(crate) collects: u64,
 }
 
-/// The least of so many items, the first of which is this one, after which the values are a view. The values are those
-/// before that item, with the next change to come.
+/// The least of so many items, the first of which is this one, after which the values are a view.
+/// The values are those before that item, with the next change to come.
 fn find_point(
     values: &mut Row,
     changes: &[Change],
@@ -55,7 +56,8 @@ impl Caller {
 
     /// Goes on to its next call.
     pub(crate) fn go_on(&mut self, changes: &[Change], call: u64, collects: u64)
-        ensures values { (u : ℕ) → call ≤ u → values_by self.new.values (drop self.new.next changes.now) u
+        ensures values { (u : ℕ) → call ≤ u →
+            values_by self.new.values (drop self.new.next changes.now) u
             ≡ values_by self.old.values (drop self.old.next changes.now) u }
         ensures call { self.new.call ≡ call }
         ensures collects { self.new.collects ≡ collects }
@@ -82,7 +84,8 @@ impl Caller {
           process = process;
           call = self.now.call;
           answer = answer;
-          point = least_by self.now.values (drop self.now.next changes.now) view.now self.now.call (suc (answer - self.now.call));
+          point = least_by self.now.values (drop self.now.next changes.now) view.now self.now.call
+              (suc (answer - self.now.call));
           collects = collects - self.now.collects;
         }) }
     {

@@ -1,4 +1,5 @@
-//! Audits: whether each scan that a record answered has a point, and how many double collects it took.
+//! Audits: whether each scan that a record answered has a point, and how many double collects it
+//! took.
 #![tactic(auto)]
 
 ghost use Rattle.snap_runs.specs.Audit.{VerdictsAreOfScans, VerdictsHavePoints};
@@ -13,8 +14,8 @@ pub use snap_runs::Verdict;
 pub use sweep::audit;
 pub use text::{audit_text, verdict_line};
 
-/// A verdict is of a finished scan: its point is the least that the scan has, none where it has none, and its count is
-/// that of the scan's double collects.
+/// A verdict is of a finished scan: its point is the least that the scan has, none where it has
+/// none, and its count is that of the scan's double collects.
 #[tactic(auto, using(snap_runs::proofs::Audits::of_scans))]
 pub fn verdicts_are_of_scans()
     ensures { (r : Run) → VerdictsAreOfScans r }

@@ -37,9 +37,11 @@ fn note_event(
     collects: u64,
 ) -> Result<(), AllocError>
     requires process { IsOneOf (length callers.old.items) event.now.process }
-    requires order { (d : Caller) → (get_or callers.old.items (event.now.process - 1) d).call ≤ event.now.item }
+    requires order { (d : Caller) → (get_or callers.old.items (event.now.process - 1) d).call
+        ≤ event.now.item }
     requires few { event.now.item + 1 < 2 ^ 64 }
-    requires collects { (d : Caller) → (get_or callers.old.items (event.now.process - 1) d).collects ≤ collects }
+    requires collects { (d : Caller) → (get_or callers.old.items (event.now.process - 1) d).collects
+        ≤ collects }
     ensures { OnOk result ((r : Run) (left : List Event) → collects ≡ collects_at r event.now →
         Sweeps r changes.now callers.old.items verdicts.old.items (event.now ∷ left) →
         Sweeps r changes.now callers.new.items verdicts.new.items left) }
@@ -68,8 +70,9 @@ fn note_event(
     }
 }
 
-/// Of each scan that was called and has been answered, in the order of the answers: the least item from its call to its
-/// answer after which the values were what it answered, if there is one, and how many double collects it took.
+/// Of each scan that was called and has been answered, in the order of the answers: the least item
+/// from its call to its answer after which the values were what it answered, if there is one, and
+/// how many double collects it took.
 pub fn audit<K: Kind>(alloc: Global, history: &Record<K>) -> Result<Vec<Verdict>, AllocError>
     ensures { IfOk result (λ v. v.items ≡ audit history.now) }
 {

@@ -39,7 +39,8 @@ fn end_report(alloc: Global, program: &Program, schedule: &Schedule) -> Result<R
     }
 }
 
-/// The report of each schedule's end, in the order of the schedules, whichever thread made it and when.
+/// The report of each schedule's end, in the order of the schedules, whichever thread made it and
+/// when.
 pub fn batch(
     rt: &(impl Threads + Sync),
     alloc: Global,
@@ -48,13 +49,15 @@ pub fn batch(
 ) -> Result<Vec<Report>, AllocError>
     ensures { IfOk result (λ reports. reports.items ≡ map (end_report program.now) schedules.now) }
 {
-    // Each schedule is worth a thread; a chain of rayon's runs in one thread where it is short, unless it is told so.
+    // Each schedule is worth a thread; a chain of rayon's runs in one thread where it is short,
+    // unless it is told so.
     let reports: Result<Vec<Report>, AllocError> = schedules
         .par_iter()
         .with_min_len(1)
         .map(
             |schedule: &Schedule| -> Result<Report, AllocError>
-                ensures { IfOk result (λ report. report ≡ end_report program.entry.now schedule.now) }
+                ensures { IfOk result (λ report. report
+                    ≡ end_report program.entry.now schedule.now) }
             { end_report(alloc, program, schedule) },
         )
         .collect(rt, alloc)?;

@@ -1,4 +1,5 @@
-//! Certificates of runs: where updates write, and points of scans. A run that has one is linearizable, whatever its listing.
+//! Certificates of runs: where updates write, and points of scans. A run that has one is
+//! linearizable, whatever its listing.
 #![tactic(auto)]
 
 ghost use Rattle.snap_certificate.specs.Certificate.{CertifiedByPoints, CertifiedHasPlaces, CertifiedIsLinearizable};
@@ -17,8 +18,8 @@ pub fn certified_has_places()
     snap_runs::placed_by_points();
 }
 
-/// A run has a certificate exactly where its operations have linearization points: so a run of a listing of one's own can be
-/// certified item by item.
+/// A run has a certificate exactly where its operations have linearization points: so a run of a
+/// listing of one's own can be certified item by item.
 pub fn certified_by_points()
     ensures { CertifiedByPoints }
 {}

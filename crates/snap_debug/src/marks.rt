@@ -74,7 +74,8 @@ fn breaks_without(
     breaks: &[Breakpoint],
     b: Breakpoint,
 ) -> Result<Vec<Breakpoint>, AllocError>
-    ensures { IfOk result (λ kept. kept.items ≡ filter (λ c. not (same_breakpoint b c)) breaks.now) }
+    ensures { IfOk result (λ kept. kept.items
+        ≡ filter (λ c. not (same_breakpoint b c)) breaks.now) }
 {
     let mut kept = Vec::new(alloc);
     for c in breaks {
@@ -161,7 +162,8 @@ impl Marks {
     /// These and a breakpoint, where it is not set yet.
     pub fn with_break(&self, alloc: Global, b: Breakpoint) -> Result<Marks, Fault<CommandRefusal>>
         ensures marks { Answers (λ m. m) result (with_break self.now b) }
-        ensures full { (r : CommandRefusal) → with_break self.now b ≡ Err r → result ≡ Err (Refused r) }
+        ensures full { (r : CommandRefusal) → with_break self.now b ≡ Err r →
+            result ≡ Err (Refused r) }
     {
         if has_break(self.breaks(), b) {
             return Ok(self.copy(alloc)?);
@@ -177,7 +179,8 @@ impl Marks {
     /// These and a watched register, where it is not set yet.
     pub fn with_watch(&self, alloc: Global, a: Address) -> Result<Marks, Fault<CommandRefusal>>
         ensures marks { Answers (λ m. m) result (with_watch self.now a) }
-        ensures full { (r : CommandRefusal) → with_watch self.now a ≡ Err r → result ≡ Err (Refused r) }
+        ensures full { (r : CommandRefusal) → with_watch self.now a ≡ Err r →
+            result ≡ Err (Refused r) }
     {
         if has_watch(self.watches(), a) {
             return Ok(self.copy(alloc)?);

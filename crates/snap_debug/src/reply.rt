@@ -70,7 +70,8 @@ pub(crate) fn register_reply<K: Kind>(
     machine: &Machine<K>,
     a: Address,
 ) -> Result<Reply, AllocError>
-    ensures { IfOk result (λ r. r ≡ register_line machine.now.source.kind a.bank a.i a.j (contents machine.now.state.memory a.bank a.i a.j)) }
+    ensures { IfOk result (λ r. r ≡ register_line machine.now.source.kind a.bank a.i a.j
+        (contents machine.now.state.memory a.bank a.i a.j)) }
 {
     let mut text = Vec::new(alloc);
     register_line(&mut text, machine, a)?;
@@ -84,7 +85,8 @@ pub(crate) fn process_reply<K: Kind>(
     i: u32,
 ) -> Result<Reply, AllocError>
     requires { IsOneOf machine.now.shape.n i }
-    ensures { IfOk result (λ r. r ≡ process_lines machine.now.source.kind i (process_at machine.now.state i)) }
+    ensures { IfOk result (λ r. r ≡ process_lines machine.now.source.kind i
+        (process_at machine.now.state i)) }
 {
     let mut text = Vec::new(alloc);
     process_lines(&mut text, machine, i)?;
@@ -142,7 +144,8 @@ pub(crate) fn where_reply<K: Kind>(
     total: u64,
     last: &Option<(u32, Outcome)>,
 ) -> Result<Reply, AllocError>
-    ensures { IfOk result (λ r. r ≡ position_line position total ++ last_text last.now ++ head_lines 1 machine.now.state.processes) }
+    ensures { IfOk result (λ r. r ≡ position_line position total ++ last_text last.now
+        ++ head_lines 1 machine.now.state.processes) }
 {
     let mut text = Vec::new(alloc);
     position_line(&mut text, position, total)?;

@@ -34,7 +34,8 @@ use snap_words::{Address, Kind};
 use std::alloc::{AllocError, Global};
 use std::marker::Model;
 
-/// A schedule with marks, followed as far as it was asked for, and the machine at a position, which has the last item at hand.
+/// A schedule with marks, followed as far as it was asked for, and the machine at a position, which
+/// has the last item at hand.
 #[derive(Drop)]
 pub struct Session<K: Kind> {
     alloc: Global,
@@ -123,7 +124,8 @@ impl<K: Kind> Session<K> {
     fn move_to(&mut self, position: u64) -> Result<Reply, AllocError>
         requires { position ≤ length self.old.run.items }
         ensures moved { IfOk result (λ reply. self.new ≡ at_position position self.old) }
-        ensures reply { IfOk result (λ reply. reply ≡ position_text (at_position position self.old)) }
+        ensures reply { IfOk result (λ reply. reply
+            ≡ position_text (at_position position self.old)) }
         ensures unchanged { OnErr result (self.new ≡ self.old) }
     {
         self.recording.reach(position)?;
@@ -138,7 +140,8 @@ impl<K: Kind> Session<K> {
 
     /// The first stop after the position, and the end where there is none.
     fn next_stop(&mut self) -> Result<u64, AllocError>
-        ensures stop { let s = self.old in IfOk result (λ t. t ≡ next_stop s.run s.marks s.position (length s.run.items - s.position)) }
+        ensures stop { let s = self.old in IfOk result (λ t. t ≡ next_stop s.run s.marks s.position
+            (length s.run.items - s.position)) }
         ensures within { IfOk result (λ t. t ≤ length self.old.run.items) }
         ensures unchanged { self.new ≡ self.old }
     {
@@ -177,7 +180,8 @@ impl<K: Kind> Session<K> {
 
     /// The last stop before the position, and 0 where there is none.
     fn last_stop(&self) -> Result<u64, AllocError>
-        ensures stop { let s = self.now in IfOk result (λ t. t ≡ last_stop s.run s.marks s.position) }
+        ensures stop { let s = self.now in IfOk result (λ t. t
+            ≡ last_stop s.run s.marks s.position) }
         ensures within { IfOk result (λ t. t ≤ length self.now.run.items) }
     {
         last_stop(&self.recording, self.position(), &self.marks)
@@ -346,7 +350,8 @@ impl<K: Kind> Session<K> {
         )?)
     }
 
-    /// Does a command, and answers it. A command that is refused, and one for which there is no memory, leaves all as it was.
+    /// Does a command, and answers it. A command that is refused, and one for which there is no
+    /// memory, leaves all as it was.
     pub fn command(&mut self, command: &Command) -> Result<Reply, Fault<CommandRefusal>>
         ensures obeys { Obeys (λ r. r) result self.old command.now self.new }
         ensures refuses { RefusesFirst result self.old command.now }

@@ -45,7 +45,8 @@ fn same_word<K: Kind>(x: &K::Word, y: &K::Word) -> bool
 
 /// Whether two registers have the same contents.
 fn same_contents<K: Kind>(x: Contents<'_, K>, y: Contents<'_, K>) -> bool
-    ensures { result ≡ same_contents (Some (seen_contents K.as_word x.entry)) (Some (seen_contents K.as_word y.entry)) }
+    ensures { result ≡ same_contents (Some (seen_contents K.as_word x.entry))
+        (Some (seen_contents K.as_word y.entry)) }
 {
     match x {
         Contents::Word(x) => match y {
@@ -151,8 +152,10 @@ impl<K: Kind> Walk<K> {
         requires walk { AreAt recording.now.run self.old }
         requires reached { self.old.before.position < recording.now.reached }
         ensures walk { IfOk result (λ _. AreAt recording.now.run self.new) }
-        ensures position { IfOk result (λ _. self.new.before.position ≡ self.old.before.position + 1) }
-        ensures stop { IfOk result (λ stop. stop ≡ is_stop recording.now.run marks.now (self.old.before.position + 1)) }
+        ensures position { IfOk result (λ _. self.new.before.position
+            ≡ self.old.before.position + 1) }
+        ensures stop { IfOk result (λ stop. stop ≡ is_stop recording.now.run marks.now
+            (self.old.before.position + 1)) }
     {
         let (process, _outcome) = recording.advance(&mut self.after)?;
         let stop = stops_between(&self.before.machine, &self.after.machine, process, marks);
@@ -161,8 +164,9 @@ impl<K: Kind> Walk<K> {
     }
 }
 
-/// The first stop after a position, and the end where there is none. Up to the first stop the watched registers are as they were
-/// at that position, so that its machine serves as the one before each item.
+/// The first stop after a position, and the end where there is none. Up to the first stop the
+/// watched registers are as they were at that position, so that its machine serves as the one
+/// before each item.
 pub fn next_stop<K: Kind>(
     recording: &mut Recording<K>,
     here: &Checkpoint<K>,
@@ -209,7 +213,8 @@ fn last_between<K: Kind>(
     requires before { start.now.position < position }
     requires reached { position ≤ recording.now.reached }
     ensures { let r = recording.now.run in
-        IfOk result (λ last. last_stop r marks.now position ≡ or_before last (last_stop r marks.now (start.now.position + 1))) }
+        IfOk result (λ last. last_stop r marks.now position
+        ≡ or_before last (last_stop r marks.now (start.now.position + 1))) }
 {
     let mut walk = Walk::new(start)?;
     let mut last = None;
@@ -220,7 +225,8 @@ fn last_between<K: Kind>(
     Ok(last)
 }
 
-/// The last stop before a position, and 0 where there is none: sought from checkpoint to checkpoint, the last first.
+/// The last stop before a position, and 0 where there is none: sought from checkpoint to
+/// checkpoint, the last first.
 pub fn last_stop<K: Kind>(
     recording: &Recording<K>,
     position: u64,

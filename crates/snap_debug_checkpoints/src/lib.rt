@@ -1,4 +1,5 @@
-//! A run that machines go back and forth in: copies of the machine along it, and what the items since the last one overwrote.
+//! A run that machines go back and forth in: copies of the machine along it, and what the items
+//! since the last one overwrote.
 #![tactic(auto)]
 
 mod checkpoint;

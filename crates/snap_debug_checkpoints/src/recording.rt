@@ -1,4 +1,5 @@
-//! How far a run was followed: a record of its first items, and machines at some of the positions passed.
+//! How far a run was followed: a record of its first items, and machines at some of the positions
+//! passed.
 ghost use Rattle.std.specs.Prelude.{◌≡◌, ◌<◌, ◌≤◌, ◌+◌, ◌∷◌, List, drop, length, IfOk, OnErr, OnOk};
 ghost use Rattle.std.specs.List.{AllByRecursion};
 ghost use Rattle.snap_words.specs.Shape.{IsOneOf};
@@ -17,11 +18,12 @@ use snap_words::Kind;
 use std::alloc::{AllocError, Global};
 use std::marker::Model;
 
-/// How many items lie between checkpoints, for each process: the larger a machine is, the fewer copies are kept.
+/// How many items lie between checkpoints, for each process: the larger a machine is, the fewer
+/// copies are kept.
 const FAR: u64 = 256;
 
-/// The record of a schedule's first items, as many as were asked for yet, with checkpoints: copies of the machine at the
-/// beginning and at even distances from it. No item is recorded twice.
+/// The record of a schedule's first items, as many as were asked for yet, with checkpoints: copies
+/// of the machine at the beginning and at even distances from it. No item is recorded twice.
 #[derive(Drop)]
 pub struct Recording<K: Kind> {
     schedule: Schedule,
@@ -73,7 +75,8 @@ fn keep_checkpoint<K: Kind>(
     history: &Record<K>,
     spacing: u64,
 ) -> Result<(), AllocError>
-    ensures { (r : Run) (xs : List Item) → ContinuesWith r history.now xs → AllByRecursion (IsCheckpoint r) later.old.items →
+    ensures { (r : Run) (xs : List Item) → ContinuesWith r history.now xs →
+        AllByRecursion (IsCheckpoint r) later.old.items →
         AllByRecursion (IsCheckpoint r) later.new.items }
 {
     let position = history.items().len() as u64;
@@ -88,8 +91,10 @@ fn keep_checkpoint<K: Kind>(
 
 /// Records the next of the items to come.
 fn record_next<K: Kind>(history: &mut Record<K>, items: &mut ItemIter<'_>) -> Result<(), AllocError>
-    requires { (r : Run) × ContinuesWith r history.old items.old × (length history.old.items < length r.items) }
-    ensures done { (r : Run) → ContinuesWith r history.old items.old → OnOk result (ContinuesWith r history.new items.new) }
+    requires { (r : Run) × ContinuesWith r history.old items.old ×
+        (length history.old.items < length r.items) }
+    ensures done { (r : Run) → ContinuesWith r history.old items.old →
+        OnOk result (ContinuesWith r history.new items.new) }
     ensures more { OnOk result (length history.new.items ≡ length history.old.items + 1) }
     ensures unchanged { OnErr result (history.new ≡ history.old) }
 {
@@ -101,7 +106,8 @@ fn record_next<K: Kind>(history: &mut Record<K>, items: &mut ItemIter<'_>) -> Re
     }
 }
 
-/// Records so many items more, with the checkpoints on the way. Where there is no memory for one, those before it stay recorded.
+/// Records so many items more, with the checkpoints on the way. Where there is no memory for one,
+/// those before it stay recorded.
 fn record_more<K: Kind>(
     history: &mut Record<K>,
     later: &mut Vec<Checkpoint<K>>,
@@ -110,8 +116,10 @@ fn record_more<K: Kind>(
     spacing: u64,
 ) -> Result<(), AllocError>
     requires spacing { 0 < spacing }
-    requires items { (r : Run) × ContinuesWith r history.old items.old × (length history.old.items + count ≤ length r.items) }
-    ensures begun { (r : Run) → ContinuesWith r history.old items.old → AllByRecursion (IsCheckpoint r) later.old.items →
+    requires items { (r : Run) × ContinuesWith r history.old items.old ×
+        (length history.old.items + count ≤ length r.items) }
+    ensures begun { (r : Run) → ContinuesWith r history.old items.old →
+        AllByRecursion (IsCheckpoint r) later.old.items →
         IsRecorded r history.new × AllByRecursion (IsCheckpoint r) later.new.items }
     ensures grows { length history.old.items ≤ length history.new.items }
     ensures done { OnOk result (length history.new.items ≡ length history.old.items + count) }
@@ -123,8 +131,8 @@ fn record_more<K: Kind>(
     Ok(())
 }
 
-/// How far to go on from what is recorded: to a position, and an eighth further than now, so that going on item by item passes
-/// those before but seldom.
+/// How far to go on from what is recorded: to a position, and an eighth further than now, so that
+/// going on item by item passes those before but seldom.
 fn further(reached: u64, position: u64, total: u64) -> u64
     requires position { position ≤ total }
     requires reached { reached ≤ total }
@@ -137,7 +145,8 @@ fn further(reached: u64, position: u64, total: u64) -> u64
 
 /// The events of the first items, so many of them.
 fn events_until(events: &[Event], position: u64) -> &[Event]
-    ensures { (r : Run) → events.now ≡ events_of r (length r.items) → result.now ≡ events_of r position }
+    ensures { (r : Run) → events.now ≡ events_of r (length r.items) →
+        result.now ≡ events_of r position }
 {
     let mut k = 0;
     while k < events.len() {
@@ -157,7 +166,8 @@ impl<K: Kind> Recording<K> {
         schedule: Schedule,
     ) -> Result<Recording<K>, AllocError>
         requires { program.now.kind ≡ K.TAG }
-        ensures { IfOk result (λ t. t ≡ record { run = run_over program.now schedule; reached = 0 }) }
+        ensures { IfOk result (λ t. t
+            ≡ record { run = run_over program.now schedule; reached = 0 }) }
     {
         let shape = schedule.shape();
         Ok(Recording {
@@ -241,7 +251,8 @@ impl<K: Kind> Recording<K> {
         ensures stands { IfOk result (λ _. IsCheckpoint self.now.run current.new) }
         ensures position { IfOk result (λ _. current.new.position ≡ current.old.position + 1) }
         ensures process { let r = self.now.run in
-            IfOk result (λ o. (o.0 ≡ who (item r (current.old.position + 1))) × IsOneOf r.shape.n o.0) }
+            IfOk result (λ o. (o.0 ≡ who (item r (current.old.position + 1))) ×
+            IsOneOf r.shape.n o.0) }
         ensures outcome { IfOk result (λ o. o.1 ≡ outcome self.now.run (current.old.position + 1)) }
     {
         let item = self.item(current.position);

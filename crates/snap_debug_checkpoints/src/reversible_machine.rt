@@ -18,7 +18,8 @@ pub struct DoneItem<K: Kind> {
     pub undo: Undo<K>,
 }
 
-/// A machine at a position, and the items by which it came there from an earlier one, the first of them first.
+/// A machine at a position, and the items by which it came there from an earlier one, the first of
+/// them first.
 #[derive(Drop)]
 pub struct ReversibleMachine<K: Kind> {
     pub current: Checkpoint<K>,
@@ -177,7 +178,8 @@ impl<K: Kind> ReversibleMachine<K> {
     /// What came of the last item.
     pub fn last(&self, alloc: Global) -> Result<Outcome, AllocError>
         requires { 0 < length self.now.done.items }
-        ensures { (r : Run) → IsReversible r self.now → IfOk result (λ o. o ≡ outcome r self.now.current.position) }
+        ensures { (r : Run) → IsReversible r self.now →
+            IfOk result (λ o. o ≡ outcome r self.now.current.position) }
     {
         let done = self.done.as_slice();
         copy_outcome(alloc, &done[done.len() - 1].outcome)

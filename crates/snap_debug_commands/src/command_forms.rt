@@ -43,7 +43,8 @@ fn number_form(keyword: &[u8], tokens: &[Token<'_>]) -> Option<u64>
 /// A keyword and two numbers.
 #[tactic(auto, unfolding(crate::specs::CommandForms::numbers_form))]
 fn numbers_form(keyword: &[u8], tokens: &[Token<'_>]) -> Option<(u64, u64)>
-    ensures { Finds (λ numbers. numbers) result (numbers_form keyword.now (view_tokens tokens.now)) }
+    ensures { Finds (λ numbers. numbers) result
+        (numbers_form keyword.now (view_tokens tokens.now)) }
 {
     let rest = keyword_at(keyword, tokens)?;
     let (i, rest) = number_at(rest)?;
@@ -55,7 +56,8 @@ fn numbers_form(keyword: &[u8], tokens: &[Token<'_>]) -> Option<(u64, u64)>
 /// `r K` or `v I`.
 #[tactic(auto, unfolding(crate::specs::CommandForms::place_form))]
 fn place_form(keyword: &[u8], bank: Bank, tokens: &[Token<'_>]) -> Option<Address>
-    ensures { Finds (λ address. address) result (place_form keyword.now bank (view_tokens tokens.now)) }
+    ensures { Finds (λ address. address) result
+        (place_form keyword.now bank (view_tokens tokens.now)) }
 {
     let i = number_form(keyword, tokens)?;
     Some(Address { bank, i, j: 0 })
@@ -64,7 +66,8 @@ fn place_form(keyword: &[u8], bank: Bank, tokens: &[Token<'_>]) -> Option<Addres
 /// `q I J` or `p I J`.
 #[tactic(auto, unfolding(crate::specs::CommandForms::bit_form))]
 fn bit_form(keyword: &[u8], bank: Bank, tokens: &[Token<'_>]) -> Option<Address>
-    ensures { Finds (λ address. address) result (bit_form keyword.now bank (view_tokens tokens.now)) }
+    ensures { Finds (λ address. address) result
+        (bit_form keyword.now bank (view_tokens tokens.now)) }
 {
     let (i, j) = numbers_form(keyword, tokens)?;
     Some(Address { bank, i, j })
@@ -90,7 +93,8 @@ fn address_form(tokens: &[Token<'_>]) -> Option<Address>
 /// A keyword and a process with one of its lines.
 #[tactic(auto, unfolding(crate::specs::CommandForms::breakpoint_form))]
 fn breakpoint_form(keyword: &[u8], tokens: &[Token<'_>]) -> Option<Breakpoint>
-    ensures { Finds (λ breakpoint. breakpoint) result (breakpoint_form keyword.now (view_tokens tokens.now)) }
+    ensures { Finds (λ breakpoint. breakpoint) result
+        (breakpoint_form keyword.now (view_tokens tokens.now)) }
 {
     let (process, line) = numbers_form(keyword, tokens)?;
     Some(Breakpoint { process, line })
@@ -99,7 +103,8 @@ fn breakpoint_form(keyword: &[u8], tokens: &[Token<'_>]) -> Option<Breakpoint>
 /// A keyword and a register.
 #[tactic(auto, unfolding(crate::specs::CommandForms::register_form))]
 fn register_form(keyword: &[u8], tokens: &[Token<'_>]) -> Option<Address>
-    ensures { Finds (λ address. address) result (register_form keyword.now (view_tokens tokens.now)) }
+    ensures { Finds (λ address. address) result
+        (register_form keyword.now (view_tokens tokens.now)) }
 {
     let rest = keyword_at(keyword, tokens)?;
     address_form(rest)

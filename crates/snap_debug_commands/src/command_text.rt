@@ -15,7 +15,8 @@ fn push_breakpoint(
     keyword: &[u8],
     breakpoint: &Breakpoint,
 ) -> Result<(), AllocError>
-    ensures { OnOk result (out.new.items ≡ out.old.items ++ line_text (Identifier keyword.now ∷ spelled_breakpoint breakpoint.now)) }
+    ensures { OnOk result (out.new.items ≡ out.old.items ++ line_text (Identifier keyword.now
+        ∷ spelled_breakpoint breakpoint.now)) }
 {
     push_laid_out(
         out,
@@ -29,7 +30,8 @@ fn push_breakpoint(
 
 /// Adds the line of a keyword and a register.
 fn push_register(out: &mut Vec<u8>, keyword: &[u8], address: &Address) -> Result<(), AllocError>
-    ensures { OnOk result (out.new.items ≡ out.old.items ++ line_text (Identifier keyword.now ∷ spelled_address address.now)) }
+    ensures { OnOk result (out.new.items ≡ out.old.items ++ line_text (Identifier keyword.now
+        ∷ spelled_address address.now)) }
 {
     let keyword = Token::Identifier(keyword);
     let i = Token::Number(address.i);
@@ -44,7 +46,8 @@ fn push_register(out: &mut Vec<u8>, keyword: &[u8], address: &Address) -> Result
 
 /// Adds the line of a command.
 pub fn push_command(out: &mut Vec<u8>, command: &Command) -> Result<(), AllocError>
-    ensures { OnOk result (out.new.items ≡ out.old.items ++ line_text (spelled_command command.now)) }
+    ensures { OnOk result (out.new.items ≡ out.old.items
+        ++ line_text (spelled_command command.now)) }
 {
     match command {
         Command::Step(k) => push_laid_out(out, &[Token::Identifier(b"step"), Token::Number(*k)]),

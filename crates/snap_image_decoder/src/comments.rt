@@ -27,7 +27,8 @@ fn comment_byte(cursor: &mut Cursor<'_>) -> Result<u8, ImageRefusal>
 
 /// So many bytes of a comment.
 fn comment_bytes(alloc: Global, count: u64, cursor: &mut Cursor<'_>) -> Result<Vec<u8>, ImageFault>
-    ensures { Answers (λ bytes. (bytes.items, cursor.new)) result (comment_bytes_in count cursor.old) }
+    ensures { Answers (λ bytes. (bytes.items, cursor.new)) result
+        (comment_bytes_in count cursor.old) }
 {
     let mut bytes = Vec::new(alloc);
     for place in 0..count {
@@ -40,7 +41,8 @@ fn comment_bytes(alloc: Global, count: u64, cursor: &mut Cursor<'_>) -> Result<V
 /// A comment behind the number of its bytes.
 #[tactic(auto, unfolding(snap_image_format::specs::ImageListing::some_comment_in))]
 fn some_comment(alloc: Global, cursor: &mut Cursor<'_>) -> Result<Vec<u8>, ImageFault>
-    ensures { Answers (λ bytes. (Some bytes.items, cursor.new)) result (some_comment_in cursor.old) }
+    ensures { Answers (λ bytes. (Some bytes.items, cursor.new)) result
+        (some_comment_in cursor.old) }
 {
     let count = cursor.short()?;
     comment_bytes(alloc, count, cursor)
@@ -64,7 +66,8 @@ pub fn behind_line(
     version: ImageVersion,
     cursor: &mut Cursor<'_>,
 ) -> Result<Option<Vec<u8>>, ImageFault>
-    ensures { Answers (λ c. (seen_comment c, cursor.new)) result (behind_line_in version cursor.old) }
+    ensures { Answers (λ c. (seen_comment c, cursor.new)) result
+        (behind_line_in version cursor.old) }
 {
     match version {
         ImageVersion::First => Ok(None),

@@ -21,14 +21,16 @@ use std::alloc::Global;
 
 /// Each target has to be a line.
 fn targets(header: &Header, lines: &[Line]) -> Result<(), ListingRefusal>
-    ensures { result ≡ checked_targets lines.now (header.now.scan ∷ header.now.update ∷ line_targets lines.now) }
+    ensures { result ≡ checked_targets lines.now (header.now.scan ∷ header.now.update
+        ∷ line_targets lines.now) }
 {
     checked_target(lines, header.scan)?;
     checked_target(lines, header.update)?;
     checked_targets(lines)
 }
 
-/// The listing whose image these bytes are, with its comments, or the first reason why they are none.
+/// The listing whose image these bytes are, with its comments, or the first reason why they are
+/// none.
 #[tactic(auto, unfolding(snap_image_format::specs::ImageListing::commented_in))]
 fn decoded(alloc: Global, image: &[u8]) -> Result<CommentedListing, ImageFault>
     ensures answer { Answers (λ l. l) result (commented_in image.now) }
@@ -46,14 +48,17 @@ fn decoded(alloc: Global, image: &[u8]) -> Result<CommentedListing, ImageFault>
     }
 }
 
-/// The listing whose image these bytes are, with its comments, or the first reason why they are none: it is refused exactly where no
-/// listing has this image in either version. Takes memory for the listing and its comments alone.
+/// The listing whose image these bytes are, with its comments, or the first reason why they are
+/// none: it is refused exactly where no listing has this image in either version. Takes memory for
+/// the listing and its comments alone.
 pub fn decode(alloc: Global, image: &[u8]) -> Result<CommentedListing, ImageFault>
     ensures answer { Answers (λ l. l) result (commented_in image.now) }
     ensures image { IfOk result (λ l. IsImageOf image.now l) }
-    ensures every { (v : ImageVersion) (c : Commented) → IsCommented c → CanSay v c → image.now ≡ image_in v c → Answers (λ l. l) result (Ok c) }
+    ensures every { (v : ImageVersion) (c : Commented) → IsCommented c → CanSay v c →
+        image.now ≡ image_in v c → Answers (λ l. l) result (Ok c) }
     ensures not_an_image { take 4 image.now ≢ signature → result ≡ Err (Refused NotAnImage) }
-    ensures version { (b : ℕ) (rest : List ℕ) → image.now ≡ signature ++ b ∷ rest → of_code versions b ≡ None → result ≡ Err (Refused Version) }
+    ensures version { (b : ℕ) (rest : List ℕ) → image.now ≡ signature ++ b ∷ rest →
+        of_code versions b ≡ None → result ≡ Err (Refused Version) }
 {
     decoded(alloc, image)
 }

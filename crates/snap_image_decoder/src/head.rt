@@ -126,7 +126,8 @@ fn names(
     known: EarlierNames<'_>,
     cursor: &mut Cursor<'_>,
 ) -> Result<Vec<Name>, ImageFault>
-    ensures { Answers (λ names. (names.items, cursor.new)) result (names_in count (known_names known.entry) cursor.old) }
+    ensures { Answers (λ names. (names.items, cursor.new)) result
+        (names_in count (known_names known.entry) cursor.old) }
 {
     let mut names = Vec::new(alloc);
     while names.len() < count as usize {
@@ -155,7 +156,8 @@ fn table(
     known: EarlierNames<'_>,
     cursor: &mut Cursor<'_>,
 ) -> Result<Vec<Name>, ImageFault>
-    ensures { Answers (λ names. (names.items, cursor.new)) result (table_in (known_names known.entry) cursor.old) }
+    ensures { Answers (λ names. (names.items, cursor.new)) result
+        (table_in (known_names known.entry) cursor.old) }
 {
     let count = cursor.byte()?;
     checked_count(known, count)?;
@@ -181,7 +183,8 @@ fn row_table(
     scalars: &[Name],
     cursor: &mut Cursor<'_>,
 ) -> Result<Vec<Name>, ImageFault>
-    ensures { Answers (λ names. (names.items, cursor.new)) result (table_in scalars.now cursor.old) }
+    ensures { Answers (λ names. (names.items, cursor.new)) result
+        (table_in scalars.now cursor.old) }
 {
     let known = EarlierNames {
         scalars,
@@ -199,7 +202,8 @@ fn words_table(
     rows: &[Name],
     cursor: &mut Cursor<'_>,
 ) -> Result<Vec<Name>, ImageFault>
-    ensures { Answers (λ names. (names.items, cursor.new)) result (table_in (scalars.now ++ rows.now) cursor.old) }
+    ensures { Answers (λ names. (names.items, cursor.new)) result
+        (table_in (scalars.now ++ rows.now) cursor.old) }
 {
     let known = EarlierNames {
         scalars,
@@ -228,7 +232,8 @@ pub fn head(
     alloc: Global,
     image: &[u8],
 ) -> Result<(ImageVersion, Header, u64, Cursor<'_>), ImageFault>
-    ensures answer { Answers (λ x. ((x.0, header_source x.1, x.2), x.3)) result (head_in image.now) }
+    ensures answer { Answers (λ x. ((x.0, header_source x.1, x.2), x.3)) result
+        (head_in image.now) }
     ensures opened { (e : ImageRefusal) → opened image.now ≡ Err e → result ≡ Err (Refused e) }
 {
     let mut cursor = Cursor::new(image)?;

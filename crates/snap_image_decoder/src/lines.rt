@@ -63,7 +63,8 @@ fn line_at(
     last: u64,
     cursor: &mut Cursor<'_>,
 ) -> Result<Line, ImageRefusal>
-    ensures { Reads result cursor.new (line_in (header_source header.now) version line last cursor.old) }
+    ensures { Reads result cursor.new (line_in (header_source header.now) version line last
+        cursor.old) }
 {
     let number = cursor.short()?;
     checked_number(version, line, last, number)?;
@@ -81,7 +82,8 @@ fn add_line(
     read: &mut CommentedLines,
     cursor: &mut Cursor<'_>,
 ) -> Result<u64, ImageFault>
-    ensures { Answers (λ number. (number, listed read.new, cursor.new)) result (added_line (header_source header.now) version line last (listed read.old) cursor.old) }
+    ensures { Answers (λ number. (number, listed read.new, cursor.new)) result
+        (added_line (header_source header.now) version line last (listed read.old) cursor.old) }
 {
     match line_at(header, version, line, last, cursor) {
         Ok(found) => {
@@ -102,7 +104,8 @@ pub fn lines(
     count: u64,
     cursor: &mut Cursor<'_>,
 ) -> Result<CommentedLines, ImageFault>
-    ensures { Answers (λ read. (listed read, cursor.new)) result (lines_in (header_source header.now) version count 1 0 cursor.old) }
+    ensures { Answers (λ read. (listed read, cursor.new)) result
+        (lines_in (header_source header.now) version count 1 0 cursor.old) }
 {
     let mut read = CommentedLines {
         lines: Vec::new(alloc),

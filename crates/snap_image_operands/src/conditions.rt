@@ -17,7 +17,8 @@ fn comparison(
     in_quantifier: bool,
     cursor: &mut Cursor<'_>,
 ) -> Result<Comparison, ImageRefusal>
-    ensures { Reads result cursor.new (comparison_in (header_source header.now) line in_quantifier cursor.old) }
+    ensures { Reads result cursor.new (comparison_in (header_source header.now) line in_quantifier
+        cursor.old) }
 {
     let relation = cursor.code::<Relation>()?;
     let left = term(header, line, in_quantifier, cursor)?;
@@ -39,7 +40,8 @@ fn one(
     join: Join,
     cursor: &mut Cursor<'_>,
 ) -> Result<Condition, ImageRefusal>
-    ensures { Reads result cursor.new (one_in (header_source header.now) line in_quantifier at join cursor.old) }
+    ensures { Reads result cursor.new (one_in (header_source header.now) line in_quantifier at join
+        cursor.old) }
 {
     match join {
         Join::And => {
@@ -59,7 +61,8 @@ fn two(
     join: Join,
     cursor: &mut Cursor<'_>,
 ) -> Result<Condition, ImageRefusal>
-    ensures { Reads result cursor.new (two_in (header_source header.now) line in_quantifier join cursor.old) }
+    ensures { Reads result cursor.new (two_in (header_source header.now) line in_quantifier join
+        cursor.old) }
 {
     let first = comparison(header, line, in_quantifier, cursor)?;
     let second = comparison(header, line, in_quantifier, cursor)?;
@@ -75,7 +78,8 @@ fn three(
     join: Join,
     cursor: &mut Cursor<'_>,
 ) -> Result<Condition, ImageRefusal>
-    ensures { Reads result cursor.new (three_in (header_source header.now) line in_quantifier join cursor.old) }
+    ensures { Reads result cursor.new (three_in (header_source header.now) line in_quantifier join
+        cursor.old) }
 {
     let first = comparison(header, line, in_quantifier, cursor)?;
     let second = comparison(header, line, in_quantifier, cursor)?;
@@ -92,7 +96,8 @@ fn four(
     join: Join,
     cursor: &mut Cursor<'_>,
 ) -> Result<Condition, ImageRefusal>
-    ensures { Reads result cursor.new (four_in (header_source header.now) line in_quantifier join cursor.old) }
+    ensures { Reads result cursor.new (four_in (header_source header.now) line in_quantifier join
+        cursor.old) }
 {
     let first = comparison(header, line, in_quantifier, cursor)?;
     let second = comparison(header, line, in_quantifier, cursor)?;
@@ -111,7 +116,8 @@ fn comparisons(
     join: Join,
     cursor: &mut Cursor<'_>,
 ) -> Result<Condition, ImageRefusal>
-    ensures { Reads result cursor.new (comparisons_in (header_source header.now) line in_quantifier at count join cursor.old) }
+    ensures { Reads result cursor.new (comparisons_in (header_source header.now) line in_quantifier
+        at count join cursor.old) }
 {
     if count == 1 {
         one(header, line, in_quantifier, at, join, cursor)
@@ -132,7 +138,8 @@ pub fn condition(
     in_quantifier: bool,
     cursor: &mut Cursor<'_>,
 ) -> Result<Condition, ImageRefusal>
-    ensures { Reads result cursor.new (condition_in (header_source header.now) line in_quantifier cursor.old) }
+    ensures { Reads result cursor.new (condition_in (header_source header.now) line in_quantifier
+        cursor.old) }
 {
     let count = cursor.count()?;
     let at = cursor.passed();
@@ -148,7 +155,8 @@ fn where_of_flag(
     flag: bool,
     cursor: &mut Cursor<'_>,
 ) -> Result<Option<Condition>, ImageRefusal>
-    ensures { Reads result cursor.new (where_of_flag (header_source header.now) line flag cursor.old) }
+    ensures { Reads result cursor.new (where_of_flag (header_source header.now) line flag
+        cursor.old) }
 {
     if flag {
         let condition = condition(header, line, true, cursor)?;

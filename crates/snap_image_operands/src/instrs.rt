@@ -294,7 +294,8 @@ fn operands(
     form: InstrTag,
     cursor: &mut Cursor<'_>,
 ) -> Result<Instr, ImageRefusal>
-    ensures { Reads result cursor.new (operands_in (header_source header.now) line form cursor.old) }
+    ensures { Reads result cursor.new (operands_in (header_source header.now) line form
+        cursor.old) }
 {
     match form {
         InstrTag::Let => let_instr(header, line, cursor),

@@ -38,7 +38,8 @@ fn index_of_tag(
     tag: TermTag,
     cursor: &mut Cursor<'_>,
 ) -> Result<Index, ImageRefusal>
-    ensures { Reads result cursor.new (index_of_tag (header_source header.now) line in_quantifier at tag cursor.old) }
+    ensures { Reads result cursor.new (index_of_tag (header_source header.now) line in_quantifier at
+        tag cursor.old) }
 {
     match tag {
         TermTag::Number => number_index(cursor),
@@ -67,7 +68,8 @@ pub fn index(
     in_quantifier: bool,
     cursor: &mut Cursor<'_>,
 ) -> Result<Index, ImageRefusal>
-    ensures { Reads result cursor.new (index_in (header_source header.now) line in_quantifier cursor.old) }
+    ensures { Reads result cursor.new (index_in (header_source header.now) line in_quantifier
+        cursor.old) }
 {
     let at = cursor.passed();
     let tag = cursor.code::<TermTag>()?;
@@ -82,7 +84,8 @@ fn row_term(
     in_quantifier: bool,
     cursor: &mut Cursor<'_>,
 ) -> Result<Term, ImageRefusal>
-    ensures { Reads result cursor.new (row_term (header_source header.now) line in_quantifier cursor.old) }
+    ensures { Reads result cursor.new (row_term (header_source header.now) line in_quantifier
+        cursor.old) }
 {
     let row = cursor.slot(line, header.rows.as_slice())?;
     let place = index(header, line, in_quantifier, cursor)?;
@@ -120,7 +123,8 @@ fn field_term(
     field: Field,
     cursor: &mut Cursor<'_>,
 ) -> Result<Term, ImageRefusal>
-    ensures { Reads result cursor.new (field_term (header_source header.now) line in_quantifier field cursor.old) }
+    ensures { Reads result cursor.new (field_term (header_source header.now) line in_quantifier
+        field cursor.old) }
 {
     checked_field(header, line, field)?;
     let words = cursor.slot(line, header.words.as_slice())?;
@@ -136,7 +140,8 @@ fn handshake_term(
     in_quantifier: bool,
     cursor: &mut Cursor<'_>,
 ) -> Result<Term, ImageRefusal>
-    ensures { Reads result cursor.new (handshake_term (header_source header.now) line in_quantifier cursor.old) }
+    ensures { Reads result cursor.new (handshake_term (header_source header.now) line in_quantifier
+        cursor.old) }
 {
     checked_handshakes(header, line)?;
     let words = cursor.slot(line, header.words.as_slice())?;
@@ -155,7 +160,8 @@ fn index_term(
     tag: TermTag,
     cursor: &mut Cursor<'_>,
 ) -> Result<Term, ImageRefusal>
-    ensures { Reads result cursor.new (index_term (header_source header.now) line in_quantifier at tag cursor.old) }
+    ensures { Reads result cursor.new (index_term (header_source header.now) line in_quantifier at
+        tag cursor.old) }
 {
     let index = index_of_tag(header, line, in_quantifier, at, tag, cursor)?;
     Ok(Term::Index(index))
@@ -170,7 +176,8 @@ fn term_of_tag(
     tag: TermTag,
     cursor: &mut Cursor<'_>,
 ) -> Result<Term, ImageRefusal>
-    ensures { Reads result cursor.new (term_of_tag (header_source header.now) line in_quantifier at tag cursor.old) }
+    ensures { Reads result cursor.new (term_of_tag (header_source header.now) line in_quantifier at
+        tag cursor.old) }
 {
     match tag {
         TermTag::Arg => Ok(Term::Arg),
@@ -198,7 +205,8 @@ pub fn term(
     in_quantifier: bool,
     cursor: &mut Cursor<'_>,
 ) -> Result<Term, ImageRefusal>
-    ensures { Reads result cursor.new (term_in (header_source header.now) line in_quantifier cursor.old) }
+    ensures { Reads result cursor.new (term_in (header_source header.now) line in_quantifier
+        cursor.old) }
 {
     let at = cursor.passed();
     let tag = cursor.code::<TermTag>()?;
@@ -213,7 +221,8 @@ fn plain_expr(
     in_quantifier: bool,
     cursor: &mut Cursor<'_>,
 ) -> Result<Expr, ImageRefusal>
-    ensures { Reads result cursor.new (plain_expr (header_source header.now) line in_quantifier cursor.old) }
+    ensures { Reads result cursor.new (plain_expr (header_source header.now) line in_quantifier
+        cursor.old) }
 {
     let operand = term(header, line, in_quantifier, cursor)?;
     Ok(Expr::Term(operand))
@@ -227,7 +236,8 @@ fn sum_expr(
     in_quantifier: bool,
     cursor: &mut Cursor<'_>,
 ) -> Result<Expr, ImageRefusal>
-    ensures { Reads result cursor.new (sum_expr (header_source header.now) line in_quantifier cursor.old) }
+    ensures { Reads result cursor.new (sum_expr (header_source header.now) line in_quantifier
+        cursor.old) }
 {
     let left = term(header, line, in_quantifier, cursor)?;
     let right = term(header, line, in_quantifier, cursor)?;
@@ -242,7 +252,8 @@ fn not_expr(
     in_quantifier: bool,
     cursor: &mut Cursor<'_>,
 ) -> Result<Expr, ImageRefusal>
-    ensures { Reads result cursor.new (not_expr (header_source header.now) line in_quantifier cursor.old) }
+    ensures { Reads result cursor.new (not_expr (header_source header.now) line in_quantifier
+        cursor.old) }
 {
     let operand = term(header, line, in_quantifier, cursor)?;
     Ok(Expr::Not(operand))
@@ -256,7 +267,8 @@ pub fn expr(
     in_quantifier: bool,
     cursor: &mut Cursor<'_>,
 ) -> Result<Expr, ImageRefusal>
-    ensures { Reads result cursor.new (expr_in (header_source header.now) line in_quantifier cursor.old) }
+    ensures { Reads result cursor.new (expr_in (header_source header.now) line in_quantifier
+        cursor.old) }
 {
     let tag = cursor.code::<ExprTag>()?;
     match tag {

@@ -1,7 +1,13 @@
 //! Images of listings: assembled, listed, and loaded as programs.
+ghost use Rattle.std.specs.Prelude.{◌≡◌, ◌≢◌, ◌<◌, ℕ, List, ◌∷◌, ◌++◌, None, Err, length, take};
 ghost use Rattle.snap_semantics.specs.Answers.{Answers, refused_as};
 ghost use Rattle.snap_image_format.specs.Assembly.{assembled, listed, upgraded};
+ghost use Rattle.snap_image_format.specs.Image.{signature};
+ghost use Rattle.snap_image_format.specs.ImageCodes.{of_code, versions};
 ghost use Rattle.snap_semantics.specs.Listing.{listing_of};
+ghost use Rattle.snap_semantics.specs.declared.fault.Fault.TheVariants.{Refused};
+ghost use Rattle.snap_semantics.specs.declared.refusal.ImageRefusal.TheVariants.{NotAnImage, Version};
+ghost use Rattle.snap_semantics.specs.declared.refusal.ListingRefusal.TheVariants.{TooLong};
 ghost use Rattle.snap_semantics.specs.declared.refusal.Refusal.TheVariants as refusal;
 
 use snap_asm::{Program, load};
@@ -12,27 +18,41 @@ use std::alloc::Global;
 
 /// The image of a listing's text.
 pub fn assemble(alloc: Global, text: &[u8]) -> Result<Vec<u8>, Fault<Refusal>>
-    ensures { Answers (λ image. image.items) result (refused_as refusal.Listing (assembled text.now)) }
+    ensures image { Answers (λ image. image.items) result
+        (refused_as refusal.Listing (assembled text.now)) }
+    ensures too_long { 65536 < length text.now → result ≡ Err (Refused (refusal.Listing TooLong)) }
 {
     Ok(snap_asm::assemble(alloc, text)?)
 }
 
 /// The text of a listing's image.
 pub fn list(alloc: Global, image: &[u8]) -> Result<Vec<u8>, Fault<Refusal>>
-    ensures { Answers (λ text. text.items) result (refused_as refusal.Image (listed image.now)) }
+    ensures text { Answers (λ text. text.items) result
+        (refused_as refusal.Image (listed image.now)) }
+    ensures not_an_image { take 4 image.now ≢ signature →
+        result ≡ Err (Refused (refusal.Image NotAnImage)) }
+    ensures version { (b : ℕ) (rest : List ℕ) → image.now ≡ signature ++ b ∷ rest →
+        of_code versions b ≡ None →
+        result ≡ Err (Refused (refusal.Image Version)) }
 {
     Ok(snap_asm::list(alloc, image)?)
 }
 
 /// The image, in the version that is written, of a listing's image.
 pub fn upgrade(alloc: Global, image: &[u8]) -> Result<Vec<u8>, Fault<Refusal>>
-    ensures { Answers (λ image. image.items) result (refused_as refusal.Image (upgraded image.now)) }
+    ensures image { Answers (λ image. image.items) result
+        (refused_as refusal.Image (upgraded image.now)) }
+    ensures not_an_image { take 4 image.now ≢ signature →
+        result ≡ Err (Refused (refusal.Image NotAnImage)) }
+    ensures version { (b : ℕ) (rest : List ℕ) → image.now ≡ signature ++ b ∷ rest →
+        of_code versions b ≡ None →
+        result ≡ Err (Refused (refusal.Image Version)) }
 {
     Ok(snap_asm::upgrade(alloc, image)?)
 }
 
-/// The program of a listing's text, loaded from its image, which is never refused: what is read is a listing, and the
-/// image of every listing is decoded as that listing.
+/// The program of a listing's text, loaded from its image, which is never refused: what is read is
+/// a listing, and the image of every listing is decoded as that listing.
 pub fn program_of(alloc: Global, text: &[u8]) -> Result<Program, Fault<Refusal>>
     ensures { Answers (λ p. p) result (refused_as refusal.Listing (listing_of text.now)) }
 {

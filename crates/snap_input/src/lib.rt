@@ -1,4 +1,5 @@
-//! What the program reads: the parts of an input, the listing that it runs, and the texts behind it.
+//! What the program reads: the parts of an input, the listing that it runs, and the texts behind
+//! it.
 #![tactic(auto)]
 
 mod images;
@@ -9,5 +10,5 @@ mod subject;
 pub use images::{assemble, list, program_of, upgrade};
 pub use part_counts::{MAX_INPUT, count_texts, parts_for};
 pub use parts::{count_separators, split_parts};
-pub use snap_tasks::Subject;
+pub use snap_subject::Subject;
 pub use subject::{program_for, shipped, texts_for};

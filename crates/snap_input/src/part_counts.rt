@@ -8,7 +8,7 @@ ghost use Rattle.snap_input.specs.Parts.{parts_of};
 
 use crate::parts::{count_separators, split_parts};
 use snap_semantics::{Fault, Refusal};
-use snap_tasks::Subject;
+use snap_subject::Subject;
 use std::alloc::Global;
 
 /// The most bytes that an input may have.
@@ -38,8 +38,8 @@ fn check_parts(subject: Subject, count: usize, input: &[u8]) -> Result<(), Refus
     }
 }
 
-/// The parts of an input that has so many texts behind the listing. Another number of parts is found before they are
-/// collected.
+/// The parts of an input that has so many texts behind the listing. Another number of parts is
+/// found before they are collected.
 pub fn parts_for(
     alloc: Global,
     subject: Subject,
@@ -49,7 +49,8 @@ pub fn parts_for(
     requires { length input.now ≤ 16777216 }
     ensures parts { Answers (λ parts. map (λ part. part.now) parts.items) result
         (counted_parts subject count (parts_of input.now)) }
-    ensures counted { (r : Refusal) → checked_parts subject count (parts_of input.now) ≡ Err r → result ≡ Err (Refused r) }
+    ensures counted { (r : Refusal) → checked_parts subject count (parts_of input.now) ≡ Err r →
+        result ≡ Err (Refused r) }
 {
     check_parts(subject, count, input)?;
     Ok(split_parts(alloc, input)?)

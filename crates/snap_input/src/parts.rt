@@ -33,7 +33,8 @@ fn is_separator(line: &[u8]) -> bool
         || line == b"%\r".as_slice()
 }
 
-/// Whether a line of these bytes may end a part. A schedule is most of an input, and no line of it does.
+/// Whether a line of these bytes may end a part. A schedule is most of an input, and no line of it
+/// does.
 fn may_part(bytes: &[u8]) -> bool
     ensures { result ≡ false → parts_of bytes.now ≡ bytes.now ∷ [] }
 {

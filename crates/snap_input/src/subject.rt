@@ -3,13 +3,13 @@ ghost use Rattle.std.specs.Prelude.{◌≡◌, ◌<◌, IfOk, length, map};
 ghost use Rattle.snap_semantics.specs.Answers.{Answers};
 ghost use Rattle.snap_input.specs.Input.{listing_for, texts_for};
 ghost use Rattle.snap_shipped.specs.Shipped.{shipped};
-ghost use Rattle.snap_tasks.specs.declared.subject.Subject.TheVariants.{FirstPart};
+ghost use Rattle.snap_subject.specs.declared.subject.Subject.TheVariants.{FirstPart};
 
 use crate::images::program_of;
 use snap_asm_program::Program;
 use snap_semantics::{Fault, Refusal};
 use snap_shipped::{listing_b, listing_m, listing_u};
-use snap_tasks::Subject;
+use snap_subject::Subject;
 use snap_words::KindTag;
 use std::alloc::{AllocError, Global};
 
@@ -43,7 +43,8 @@ pub fn program_for(
 /// The parts behind the listing.
 pub fn texts_for<'a, 'b>(subject: Subject, parts: &'a [&'b [u8]]) -> &'a [&'b [u8]]
     requires { subject ≡ FirstPart → 0 < length parts.now }
-    ensures { map (λ part. part.now) result.now ≡ texts_for subject (map (λ part. part.now) parts.now) }
+    ensures { map (λ part. part.now) result.now
+        ≡ texts_for subject (map (λ part. part.now) parts.now) }
 {
     match subject {
         Subject::FirstPart => &parts[1..],

@@ -56,7 +56,8 @@ impl From<RegisterFault> for Halt {
 
 /// The line after this one.
 pub(crate) fn next_line(program: &Program, context: &StepContext) -> Result<Continuation, Cause>
-    ensures { result ≡ next_line context.now.activity (following program.now.lines context.now.activity.line) }
+    ensures { result ≡ next_line context.now.activity
+        (following program.now.lines context.now.activity.line) }
 {
     match program.following(context.activity.line) {
         Some(line) => Ok(goto(context, line)),

@@ -34,7 +34,9 @@ pub fn given_of<'a, K: Kind>(
     process: &'a SlotProcess<K>,
     tuple: &SlotTuple,
 ) -> Result<TupleValues<'a>, Cause>
-    ensures { given_in result ≡ tuple_word (seen_context K.as_word program.now context.now process.now) (named_tuple program.now tuple.now) }
+    ensures { given_in result
+        ≡ tuple_word (seen_context K.as_word program.now context.now process.now)
+        (named_tuple program.now tuple.now) }
 {
     match tuple {
         SlotTuple::Seq(datum, seq, slot) => Ok(TupleValues {
@@ -95,7 +97,8 @@ fn are_bits(numbers: &[u64]) -> bool
 
 /// `NotABit` unless it is 0 or 1.
 pub fn check_bit(bit: u64) -> Result<(), Cause>
-    ensures { MatchResult result (λ _. is_bit bit ≡ true) (λ e. (e ≡ NotABit) × (is_bit bit ≡ false)) }
+    ensures { MatchResult result (λ _. is_bit bit ≡ true) (λ e. (e ≡ NotABit) ×
+        (is_bit bit ≡ false)) }
 {
     if bit <= 1 {
         Ok(())

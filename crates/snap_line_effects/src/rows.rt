@@ -24,7 +24,8 @@ pub fn new_row<K: Kind>(
 ) -> Result<Vec<u64>, Halt>
     ensures { IfAnswered result (λ r.
         items_of r ≡ new_row (seen_context K.as_word program.now context.now process.now)
-        count (name_at program.now.rows slot) (named_expr program.now expr.now) (named_where program.now condition.now)) }
+        count (name_at program.now.rows slot) (named_expr program.now expr.now)
+        (named_where program.now condition.now)) }
 {
     let old = row(program.rows(), process.rows.as_slice(), slot);
     let mut values = room(alloc, old.len())?;

@@ -12,7 +12,8 @@ pub fn expr_behind<'a, 'b>(
     in_quantifier: bool,
     tokens: &'a [Token<'b>],
 ) -> Option<(Expr, &'a [Token<'b>])>
-    ensures { Finds (λ x. (x.0, view_tokens x.1.now)) result (expr_behind symbol in_quantifier (view_tokens tokens.now)) }
+    ensures { Finds (λ x. (x.0, view_tokens x.1.now)) result (expr_behind symbol in_quantifier
+        (view_tokens tokens.now)) }
 {
     let rest = symbol_at(symbol, tokens)?;
     expr_at(in_quantifier, rest)
@@ -23,7 +24,8 @@ pub fn name_behind<'a, 'b>(
     symbol: Symbol,
     tokens: &'a [Token<'b>],
 ) -> Option<(Name, &'a [Token<'b>])>
-    ensures { Finds (λ x. (x.0, view_tokens x.1.now)) result (name_behind symbol (view_tokens tokens.now)) }
+    ensures { Finds (λ x. (x.0, view_tokens x.1.now)) result
+        (name_behind symbol (view_tokens tokens.now)) }
 {
     let rest = symbol_at(symbol, tokens)?;
     name_at(rest)
@@ -34,7 +36,8 @@ pub fn index_behind<'a, 'b>(
     symbol: Symbol,
     tokens: &'a [Token<'b>],
 ) -> Option<(Index, &'a [Token<'b>])>
-    ensures { Finds (λ x. (x.0, view_tokens x.1.now)) result (index_behind symbol (view_tokens tokens.now)) }
+    ensures { Finds (λ x. (x.0, view_tokens x.1.now)) result
+        (index_behind symbol (view_tokens tokens.now)) }
 {
     let rest = symbol_at(symbol, tokens)?;
     index_at(false, rest)

@@ -1,4 +1,5 @@
-//! The instructions of a listing. A form begins behind the instruction's first keyword, and goes to the end of the line.
+//! The instructions of a listing. A form begins behind the instruction's first keyword, and goes to
+//! the end of the line.
 ghost use Rattle.snap_semantics.specs.Rules.{or_else};
 ghost use Rattle.snap_semantics.specs.ListingForms.{let_form, let_place_form, get_form, pair_at, bit_bank_at, bit_form, look_form, put_form, put_bit_form, put_view_form, view_data_form, view_of_form, each_form, first_form, next_form, if_form, if_all_form, goto_form, call_form, return_form, finish_form, form_of_keyword, line_form};
 ghost use Rattle.snap_text.specs.Tokens.{Finds, view_tokens};
@@ -78,7 +79,8 @@ fn pair_at<'a, 'b>(tokens: &'a [Token<'b>]) -> Option<((Index, Index), &'a [Toke
 /// `q` or `p`.
 #[tactic(auto, unfolding(snap_semantics::specs::ListingForms::bit_bank_at))]
 fn bit_bank_at<'a, 'b>(tokens: &'a [Token<'b>]) -> Option<(BitBank, &'a [Token<'b>])>
-    ensures { Finds (λ x. (x.0, view_tokens x.1.now)) result (bit_bank_at (view_tokens tokens.now)) }
+    ensures { Finds (λ x. (x.0, view_tokens x.1.now)) result
+        (bit_bank_at (view_tokens tokens.now)) }
 {
     if let Some(rest) = keyword_at(b"q", tokens) {
         return Some((BitBank::Q, rest));
@@ -329,7 +331,8 @@ fn finish_form(tokens: &[Token<'_>]) -> Option<Instr>
 
 /// The forms that begin with `let`.
 fn let_forms(tokens: &[Token<'_>]) -> Option<Instr>
-    ensures { Finds (λ x. x) result (or_else (let_form (view_tokens tokens.now)) (let_place_form (view_tokens tokens.now))) }
+    ensures { Finds (λ x. x) result (or_else (let_form (view_tokens tokens.now))
+        (let_place_form (view_tokens tokens.now))) }
 {
     if let Some(instr) = let_form(tokens) {
         return Some(instr);
@@ -340,7 +343,8 @@ fn let_forms(tokens: &[Token<'_>]) -> Option<Instr>
 /// The forms that begin with `put`.
 fn put_forms(kind: KindTag, tokens: &[Token<'_>]) -> Option<Instr>
     ensures { Finds (λ x. x) result (or_else (put_form kind (view_tokens tokens.now))
-        (or_else (put_bit_form (view_tokens tokens.now)) (put_view_form (view_tokens tokens.now)))) }
+        (or_else (put_bit_form (view_tokens tokens.now))
+        (put_view_form (view_tokens tokens.now)))) }
 {
     if let Some(instr) = put_form(kind, tokens) {
         return Some(instr);
@@ -353,7 +357,8 @@ fn put_forms(kind: KindTag, tokens: &[Token<'_>]) -> Option<Instr>
 
 /// The forms that begin with `view`.
 fn view_forms(tokens: &[Token<'_>]) -> Option<Instr>
-    ensures { Finds (λ x. x) result (or_else (view_data_form (view_tokens tokens.now)) (view_of_form (view_tokens tokens.now))) }
+    ensures { Finds (λ x. x) result (or_else (view_data_form (view_tokens tokens.now))
+        (view_of_form (view_tokens tokens.now))) }
 {
     if let Some(instr) = view_data_form(tokens) {
         return Some(instr);
@@ -363,7 +368,8 @@ fn view_forms(tokens: &[Token<'_>]) -> Option<Instr>
 
 /// The forms that begin with `if`.
 fn if_forms(tokens: &[Token<'_>]) -> Option<Instr>
-    ensures { Finds (λ x. x) result (or_else (if_form (view_tokens tokens.now)) (if_all_form (view_tokens tokens.now))) }
+    ensures { Finds (λ x. x) result (or_else (if_form (view_tokens tokens.now))
+        (if_all_form (view_tokens tokens.now))) }
 {
     if let Some(instr) = if_form(tokens) {
         return Some(instr);

@@ -10,7 +10,8 @@ use snap_words::KindTag;
 /// `(E, E, S)`.
 #[tactic(auto, unfolding(snap_semantics::specs::ListingForms::seq_tuple_at))]
 fn seq_tuple_at<'a, 'b>(tokens: &'a [Token<'b>]) -> Option<(Tuple, &'a [Token<'b>])>
-    ensures { Finds (λ x. (x.0, view_tokens x.1.now)) result (seq_tuple_at (view_tokens tokens.now)) }
+    ensures { Finds (λ x. (x.0, view_tokens x.1.now)) result
+        (seq_tuple_at (view_tokens tokens.now)) }
 {
     let Some((datum, rest)) = expr_behind(Symbol::OpenParenthesis, false, tokens) else {
         return None;
@@ -28,7 +29,8 @@ fn seq_tuple_at<'a, 'b>(tokens: &'a [Token<'b>]) -> Option<(Tuple, &'a [Token<'b
 /// `(E, R, E, S)`.
 #[tactic(auto, unfolding(snap_semantics::specs::ListingForms::bits_tuple_at))]
 fn bits_tuple_at<'a, 'b>(tokens: &'a [Token<'b>]) -> Option<(Tuple, &'a [Token<'b>])>
-    ensures { Finds (λ x. (x.0, view_tokens x.1.now)) result (bits_tuple_at (view_tokens tokens.now)) }
+    ensures { Finds (λ x. (x.0, view_tokens x.1.now)) result
+        (bits_tuple_at (view_tokens tokens.now)) }
 {
     let Some((datum, rest)) = expr_behind(Symbol::OpenParenthesis, false, tokens) else {
         return None;
@@ -49,7 +51,8 @@ fn bits_tuple_at<'a, 'b>(tokens: &'a [Token<'b>]) -> Option<(Tuple, &'a [Token<'
 /// `(E, E, E)`.
 #[tactic(auto, unfolding(snap_semantics::specs::ListingForms::multi_tuple_at))]
 fn multi_tuple_at<'a, 'b>(tokens: &'a [Token<'b>]) -> Option<(Tuple, &'a [Token<'b>])>
-    ensures { Finds (λ x. (x.0, view_tokens x.1.now)) result (multi_tuple_at (view_tokens tokens.now)) }
+    ensures { Finds (λ x. (x.0, view_tokens x.1.now)) result
+        (multi_tuple_at (view_tokens tokens.now)) }
 {
     let Some((datum, rest)) = expr_behind(Symbol::OpenParenthesis, false, tokens) else {
         return None;
@@ -67,7 +70,8 @@ fn multi_tuple_at<'a, 'b>(tokens: &'a [Token<'b>]) -> Option<(Tuple, &'a [Token<
 /// A tuple of three parts. One that ends with a name alone is of kind seq where the listing is.
 #[tactic(auto, unfolding(snap_semantics::specs::ListingForms::triple_at))]
 fn triple_at<'a, 'b>(kind: KindTag, tokens: &'a [Token<'b>]) -> Option<(Tuple, &'a [Token<'b>])>
-    ensures { Finds (λ x. (x.0, view_tokens x.1.now)) result (triple_at kind (view_tokens tokens.now)) }
+    ensures { Finds (λ x. (x.0, view_tokens x.1.now)) result
+        (triple_at kind (view_tokens tokens.now)) }
 {
     match kind {
         KindTag::Seq => {
@@ -84,7 +88,8 @@ fn triple_at<'a, 'b>(kind: KindTag, tokens: &'a [Token<'b>]) -> Option<(Tuple, &
 /// A tuple of any kind, in a listing of this kind.
 #[tactic(auto, unfolding(snap_semantics::specs::ListingForms::tuple_at))]
 pub fn tuple_at<'a, 'b>(kind: KindTag, tokens: &'a [Token<'b>]) -> Option<(Tuple, &'a [Token<'b>])>
-    ensures { Finds (λ x. (x.0, view_tokens x.1.now)) result (tuple_at kind (view_tokens tokens.now)) }
+    ensures { Finds (λ x. (x.0, view_tokens x.1.now)) result
+        (tuple_at kind (view_tokens tokens.now)) }
 {
     if let Some(found) = bits_tuple_at(tokens) {
         return Some(found);

@@ -43,7 +43,8 @@ impl<'a> Spelling<'a> {
 
     /// The next name of a tuple.
     fn push_next_name(&mut self, name: &'a Name) -> Result<(), AllocError>
-        ensures { OnOk result (self.new ≡ self.old ++ Sign symbol.Comma ∷ Identifier name.now ∷ []) }
+        ensures { OnOk result (self.new ≡ self.old ++ Sign symbol.Comma ∷ Identifier name.now
+            ∷ []) }
     {
         self.push_sign(Symbol::Comma)?;
         self.push_name(name)
@@ -56,7 +57,8 @@ impl<'a> Spelling<'a> {
         seq: &'a Expr,
         view: &'a Name,
     ) -> Result<(), AllocError>
-        ensures { OnOk result (self.new ≡ self.old ++ spelled_tuple (tuple.Seq datum.now seq.now view.now)) }
+        ensures { OnOk result (self.new ≡ self.old
+            ++ spelled_tuple (tuple.Seq datum.now seq.now view.now)) }
     {
         self.push_sign(Symbol::OpenParenthesis)?;
         self.push_expr(datum)?;
@@ -73,7 +75,8 @@ impl<'a> Spelling<'a> {
         toggle: &'a Expr,
         view: &'a Name,
     ) -> Result<(), AllocError>
-        ensures { OnOk result (self.new ≡ self.old ++ spelled_tuple (tuple.Bits datum.now handshakes.now toggle.now view.now)) }
+        ensures { OnOk result (self.new ≡ self.old
+            ++ spelled_tuple (tuple.Bits datum.now handshakes.now toggle.now view.now)) }
     {
         self.push_sign(Symbol::OpenParenthesis)?;
         self.push_expr(datum)?;
@@ -90,7 +93,8 @@ impl<'a> Spelling<'a> {
         id: &'a Expr,
         toggle: &'a Expr,
     ) -> Result<(), AllocError>
-        ensures { OnOk result (self.new ≡ self.old ++ spelled_tuple (tuple.Multi datum.now id.now toggle.now)) }
+        ensures { OnOk result (self.new ≡ self.old
+            ++ spelled_tuple (tuple.Multi datum.now id.now toggle.now)) }
     {
         self.push_sign(Symbol::OpenParenthesis)?;
         self.push_expr(datum)?;
@@ -114,7 +118,8 @@ impl<'a> Spelling<'a> {
 
     /// `let X = E`.
     fn push_let(&mut self, scalar: &'a Name, value: &'a Expr) -> Result<(), AllocError>
-        ensures { OnOk result (self.new ≡ self.old ++ spelled_instr (instr.Let scalar.now value.now)) }
+        ensures { OnOk result (self.new ≡ self.old
+            ++ spelled_instr (instr.Let scalar.now value.now)) }
     {
         self.push_identifier(b"let")?;
         self.push_name(scalar)?;
@@ -129,7 +134,8 @@ impl<'a> Spelling<'a> {
         index: &'a Index,
         value: &'a Expr,
     ) -> Result<(), AllocError>
-        ensures { OnOk result (self.new ≡ self.old ++ spelled_instr (instr.LetPlace row.now index.now value.now)) }
+        ensures { OnOk result (self.new ≡ self.old
+            ++ spelled_instr (instr.LetPlace row.now index.now value.now)) }
     {
         self.push_identifier(b"let")?;
         self.push_place(row, index)?;
@@ -144,7 +150,8 @@ impl<'a> Spelling<'a> {
         index: &'a Index,
         register: &'a Index,
     ) -> Result<(), AllocError>
-        ensures { OnOk result (self.new ≡ self.old ++ spelled_instr (instr.Get words.now index.now register.now)) }
+        ensures { OnOk result (self.new ≡ self.old
+            ++ spelled_instr (instr.Get words.now index.now register.now)) }
     {
         self.push_identifier(b"get")?;
         self.push_place(words, index)?;
@@ -161,7 +168,8 @@ impl<'a> Spelling<'a> {
         first: &'a Index,
         second: &'a Index,
     ) -> Result<(), AllocError>
-        ensures { OnOk result (self.new ≡ self.old ++ spelled_instr (instr.Bit scalar.now bank first.now second.now)) }
+        ensures { OnOk result (self.new ≡ self.old
+            ++ spelled_instr (instr.Bit scalar.now bank first.now second.now)) }
     {
         self.push_identifier(b"bit")?;
         self.push_name(scalar)?;
@@ -172,7 +180,8 @@ impl<'a> Spelling<'a> {
 
     /// `look S = v[I]`.
     fn push_look(&mut self, view: &'a Name, index: &'a Index) -> Result<(), AllocError>
-        ensures { OnOk result (self.new ≡ self.old ++ spelled_instr (instr.Look view.now index.now)) }
+        ensures { OnOk result (self.new ≡ self.old
+            ++ spelled_instr (instr.Look view.now index.now)) }
     {
         self.push_identifier(b"look")?;
         self.push_name(view)?;
@@ -183,7 +192,8 @@ impl<'a> Spelling<'a> {
 
     /// `put r[I] = ` and a tuple.
     fn push_put(&mut self, index: &'a Index, tuple: &'a Tuple) -> Result<(), AllocError>
-        ensures { OnOk result (self.new ≡ self.old ++ spelled_instr (instr.Put index.now tuple.now)) }
+        ensures { OnOk result (self.new ≡ self.old
+            ++ spelled_instr (instr.Put index.now tuple.now)) }
     {
         self.push_identifier(b"put")?;
         self.push_identifier(b"r")?;
@@ -200,7 +210,8 @@ impl<'a> Spelling<'a> {
         second: &'a Index,
         value: &'a Expr,
     ) -> Result<(), AllocError>
-        ensures { OnOk result (self.new ≡ self.old ++ spelled_instr (instr.PutBit bank first.now second.now value.now)) }
+        ensures { OnOk result (self.new ≡ self.old
+            ++ spelled_instr (instr.PutBit bank first.now second.now value.now)) }
     {
         self.push_identifier(b"put")?;
         self.push_identifier(bank_keyword(bank))?;
@@ -211,7 +222,8 @@ impl<'a> Spelling<'a> {
 
     /// `put v[I] = S`.
     fn push_put_view(&mut self, index: &'a Index, view: &'a Name) -> Result<(), AllocError>
-        ensures { OnOk result (self.new ≡ self.old ++ spelled_instr (instr.PutView index.now view.now)) }
+        ensures { OnOk result (self.new ≡ self.old
+            ++ spelled_instr (instr.PutView index.now view.now)) }
     {
         self.push_identifier(b"put")?;
         self.push_identifier(b"v")?;
@@ -222,7 +234,8 @@ impl<'a> Spelling<'a> {
 
     /// `view S = data(W)`.
     fn push_view_data(&mut self, view: &'a Name, words: &'a Name) -> Result<(), AllocError>
-        ensures { OnOk result (self.new ≡ self.old ++ spelled_instr (instr.ViewData view.now words.now)) }
+        ensures { OnOk result (self.new ≡ self.old
+            ++ spelled_instr (instr.ViewData view.now words.now)) }
     {
         self.push_identifier(b"view")?;
         self.push_name(view)?;
@@ -240,7 +253,8 @@ impl<'a> Spelling<'a> {
         words: &'a Name,
         index: &'a Index,
     ) -> Result<(), AllocError>
-        ensures { OnOk result (self.new ≡ self.old ++ spelled_instr (instr.ViewOf view.now words.now index.now)) }
+        ensures { OnOk result (self.new ≡ self.old
+            ++ spelled_instr (instr.ViewOf view.now words.now index.now)) }
     {
         self.push_identifier(b"view")?;
         self.push_name(view)?;
@@ -257,7 +271,8 @@ impl<'a> Spelling<'a> {
         value: &'a Expr,
         condition: &'a Option<Condition>,
     ) -> Result<(), AllocError>
-        ensures { OnOk result (self.new ≡ self.old ++ spelled_instr (instr.Each range row.now value.now condition.now)) }
+        ensures { OnOk result (self.new ≡ self.old
+            ++ spelled_instr (instr.Each range row.now value.now condition.now)) }
     {
         self.push_identifier(b"each")?;
         self.push_range(range)?;
@@ -279,7 +294,8 @@ impl<'a> Spelling<'a> {
         condition: &'a Condition,
         target: u64,
     ) -> Result<(), AllocError>
-        ensures { OnOk result (self.new ≡ self.old ++ spelled_instr (instr.First scalar.now range condition.now target)) }
+        ensures { OnOk result (self.new ≡ self.old
+            ++ spelled_instr (instr.First scalar.now range condition.now target)) }
     {
         self.push_identifier(b"first")?;
         self.push_name(scalar)?;
@@ -291,7 +307,8 @@ impl<'a> Spelling<'a> {
 
     /// `next X G goto N`.
     fn push_next(&mut self, scalar: &'a Name, range: Range, target: u64) -> Result<(), AllocError>
-        ensures { OnOk result (self.new ≡ self.old ++ spelled_instr (instr.Next scalar.now range target)) }
+        ensures { OnOk result (self.new ≡ self.old
+            ++ spelled_instr (instr.Next scalar.now range target)) }
     {
         self.push_identifier(b"next")?;
         self.push_name(scalar)?;
@@ -301,7 +318,8 @@ impl<'a> Spelling<'a> {
 
     /// `if C goto N`.
     fn push_if(&mut self, condition: &'a Condition, target: u64) -> Result<(), AllocError>
-        ensures { OnOk result (self.new ≡ self.old ++ spelled_instr (instr.If condition.now target)) }
+        ensures { OnOk result (self.new ≡ self.old
+            ++ spelled_instr (instr.If condition.now target)) }
     {
         self.push_identifier(b"if")?;
         self.push_condition(condition)?;
@@ -315,7 +333,8 @@ impl<'a> Spelling<'a> {
         condition: &'a Condition,
         target: u64,
     ) -> Result<(), AllocError>
-        ensures { OnOk result (self.new ≡ self.old ++ spelled_instr (instr.IfAll range condition.now target)) }
+        ensures { OnOk result (self.new ≡ self.old
+            ++ spelled_instr (instr.IfAll range condition.now target)) }
     {
         self.push_identifier(b"if")?;
         self.push_identifier(b"all")?;

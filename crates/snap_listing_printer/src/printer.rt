@@ -28,7 +28,8 @@ fn push_names_line(
     keyword: &[u8],
     names: &[Name],
 ) -> Result<(), AllocError>
-    ensures { OnOk result (out.new.items ≡ out.old.items ++ line_text (spelled_names keyword.now names.now)) }
+    ensures { OnOk result (out.new.items ≡ out.old.items
+        ++ line_text (spelled_names keyword.now names.now)) }
 {
     let mut line = Spelling::new(alloc);
     line.push_names(keyword, names)?;
@@ -42,7 +43,8 @@ fn push_entry_line(
     keyword: &[u8],
     number: u64,
 ) -> Result<(), AllocError>
-    ensures { OnOk result (out.new.items ≡ out.old.items ++ line_text (spelled_entry keyword.now number)) }
+    ensures { OnOk result (out.new.items ≡ out.old.items
+        ++ line_text (spelled_entry keyword.now number)) }
 {
     let mut line = Spelling::new(alloc);
     line.push_entry(keyword, number)?;
@@ -51,7 +53,8 @@ fn push_entry_line(
 
 /// Adds the end of a line with this comment.
 fn push_comment_end(out: &mut Vec<u8>, comment: &Option<Vec<u8>>) -> Result<(), AllocError>
-    ensures { OnOk result (out.new.items ≡ out.old.items ++ comment_end (seen_comment comment.now)) }
+    ensures { OnOk result (out.new.items ≡ out.old.items
+        ++ comment_end (seen_comment comment.now)) }
 {
     if let Some(bytes) = comment {
         push_text(out, b" #")?;
@@ -67,7 +70,8 @@ fn push_numbered_line(
     numbered: &Line,
     comment: &Option<Vec<u8>>,
 ) -> Result<(), AllocError>
-    ensures { OnOk result (out.new.items ≡ out.old.items ++ line_to (comment_end (seen_comment comment.now)) (spelled_line numbered.now)) }
+    ensures { OnOk result (out.new.items ≡ out.old.items
+        ++ line_to (comment_end (seen_comment comment.now)) (spelled_line numbered.now)) }
 {
     let mut line = Spelling::new(alloc);
     line.push_line(numbered)?;
@@ -83,7 +87,8 @@ fn push_lines(
     comments: &[Option<Vec<u8>>],
 ) -> Result<(), AllocError>
     requires { length comments.now ≡ length lines.now }
-    ensures { OnOk result (out.new.items ≡ out.old.items ++ commented_text (map seen_comment comments.now) (map spelled_line lines.now)) }
+    ensures { OnOk result (out.new.items ≡ out.old.items
+        ++ commented_text (map seen_comment comments.now) (map spelled_line lines.now)) }
 {
     for (line, comment) in lines.iter().zip(comments) {
         push_numbered_line(out, alloc, line, comment)?;

@@ -165,7 +165,8 @@ impl<'a> Spelling<'a> {
 
     /// `(W[I])`.
     pub fn push_word_place(&mut self, words: &'a Name, index: &'a Index) -> Result<(), AllocError>
-        ensures { OnOk result (self.new ≡ self.old ++ in_parentheses (spelled_place words.now index.now)) }
+        ensures { OnOk result (self.new ≡ self.old
+            ++ in_parentheses (spelled_place words.now index.now)) }
     {
         self.push_sign(Symbol::OpenParenthesis)?;
         self.push_place(words, index)?;
@@ -179,7 +180,8 @@ impl<'a> Spelling<'a> {
         index: &'a Index,
         handshake: &'a Index,
     ) -> Result<(), AllocError>
-        ensures { OnOk result (self.new ≡ self.old ++ spelled_term (term.Handshake words.now index.now handshake.now)) }
+        ensures { OnOk result (self.new ≡ self.old
+            ++ spelled_term (term.Handshake words.now index.now handshake.now)) }
     {
         self.push_identifier(b"hand")?;
         self.push_sign(Symbol::OpenParenthesis)?;
@@ -236,7 +238,8 @@ impl<'a> Spelling<'a> {
 
     /// A comparison behind `and` or `or`.
     fn push_joined(&mut self, join: Join, comparison: &'a Comparison) -> Result<(), AllocError>
-        ensures { OnOk result (self.new ≡ self.old ++ Identifier (join_keyword join) ∷ spelled_comparison comparison.now) }
+        ensures { OnOk result (self.new ≡ self.old ++ Identifier (join_keyword join)
+            ∷ spelled_comparison comparison.now) }
     {
         self.push_identifier(join_keyword(join))?;
         self.push_comparison(comparison)

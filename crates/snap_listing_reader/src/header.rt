@@ -66,7 +66,8 @@ fn are_identifiers(tokens: &[Token<'_>]) -> bool
 /// A keyword and identifiers: the identifiers.
 #[tactic(auto, using(crate::proofs::Names::words_found, crate::proofs::Names::words_missed), unfolding(snap_semantics::specs::HeaderForms::names_form))]
 fn names_form<'a, 'b>(keyword: &[u8], tokens: &'a [Token<'b>]) -> Option<&'a [Token<'b>]>
-    ensures { Finds (λ words. map letters_of words.now) result (names_form keyword.now (view_tokens tokens.now)) }
+    ensures { Finds (λ words. map letters_of words.now) result
+        (names_form keyword.now (view_tokens tokens.now)) }
 {
     let rest = keyword_at(keyword, tokens)?;
     if are_identifiers(rest) {
@@ -131,7 +132,8 @@ fn entry_line(
     keyword: &[u8],
     lines: &mut TextLines<'_>,
 ) -> Result<(u64, u64), ListingFault>
-    ensures { Answers (λ x. (x.0, x.1, lines.new)) result (header_line after (entry_form keyword.now) lines.old) }
+    ensures { Answers (λ x. (x.0, x.1, lines.new)) result
+        (header_line after (entry_form keyword.now) lines.old) }
 {
     let line = next_header(alloc, after, lines)?;
     let refusal = ListingFault::Refused(ListingRefusal::BadHeader(line.number));
@@ -166,14 +168,16 @@ fn new_name(line: u64, known: &[Name], word: &[u8]) -> Result<Name, ListingRefus
     }
 }
 
-/// The names that the identifiers of a header line declare; they join those that are declared already.
+/// The names that the identifiers of a header line declare; they join those that are declared
+/// already.
 fn new_names(
     alloc: Global,
     line: u64,
     known: &mut Vec<Name>,
     words: &[Token<'_>],
 ) -> Result<Vec<Name>, ListingFault>
-    ensures names { Answers (λ names. names.items) result (new_names line known.old.items (map letters_of words.now)) }
+    ensures names { Answers (λ names. names.items) result (new_names line known.old.items
+        (map letters_of words.now)) }
     ensures known { IfOk result (λ names. known.new.items ≡ known.old.items ++ names.items) }
 {
     let mut names = Vec::new(alloc);
@@ -193,7 +197,8 @@ fn names_line(
     known: &mut Vec<Name>,
     lines: &mut TextLines<'_>,
 ) -> Result<Vec<Name>, ListingFault>
-    ensures names { Answers (λ names. (names.items, lines.new)) result (names_line after keyword.now known.old.items lines.old) }
+    ensures names { Answers (λ names. (names.items, lines.new)) result
+        (names_line after keyword.now known.old.items lines.old) }
     ensures known { IfOk result (λ names. known.new.items ≡ known.old.items ++ names.items) }
 {
     let line = next_header(alloc, after, lines)?;
@@ -214,7 +219,8 @@ pub fn header_of(
     after: u64,
     lines: &mut TextLines<'_>,
 ) -> Result<Header, ListingFault>
-    ensures { Answers (λ header. (header_source header, lines.new)) result (header_of after lines.old) }
+    ensures { Answers (λ header. (header_source header, lines.new)) result
+        (header_of after lines.old) }
 {
     let (kind, _) = kind_line(alloc, after, lines)?;
     let mut known = Vec::new(alloc);

@@ -61,7 +61,8 @@ fn add_line(
     lines: &mut Vec<Line>,
     text: &TokenLine<'_>,
 ) -> Result<u64, ListingFault>
-    ensures { Answers (λ number. (number, lines.new.items)) result (added_line (header_source header.now) last lines.old.items (view_line text.now)) }
+    ensures { Answers (λ number. (number, lines.new.items)) result
+        (added_line (header_source header.now) last lines.old.items (view_line text.now)) }
 {
     match numbered_line(header, last, lines.len(), text) {
         Ok(line) => {
@@ -78,7 +79,8 @@ fn numbered_lines(
     header: &Header,
     texts: &mut TextLines<'_>,
 ) -> Result<Vec<Line>, ListingFault>
-    ensures { Answers (λ lines. lines.items) result (numbered_lines (header_source header.now) 0 0 texts.old) }
+    ensures { Answers (λ lines. lines.items) result (numbered_lines (header_source header.now) 0 0
+        texts.old) }
 {
     let mut lines = Vec::new(alloc);
     let mut last = 0;
@@ -88,14 +90,16 @@ fn numbered_lines(
     Ok(lines)
 }
 
-/// The header and the numbered lines of a text. Where its lines are used up, the line behind them is line `after`.
+/// The header and the numbered lines of a text. Where its lines are used up, the line behind them
+/// is line `after`.
 #[tactic(auto, unfolding(snap_semantics::specs::Listing::listing_of_lines))]
 fn header_and_lines(
     alloc: Global,
     after: u64,
     texts: &mut TextLines<'_>,
 ) -> Result<(Header, Vec<Line>), ListingFault>
-    ensures { Answers (λ parts. with_lines parts.1.items (header_source parts.0)) result (listing_of_lines after texts.old) }
+    ensures { Answers (λ parts. with_lines parts.1.items (header_source parts.0)) result
+        (listing_of_lines after texts.old) }
 {
     let header = header_of(alloc, after, texts)?;
     let lines = numbered_lines(alloc, &header, texts)?;
@@ -133,7 +137,8 @@ fn behind_header(
     comments.split_off(HEADER_LINES)
 }
 
-/// The listing that a text is, with the comments of its numbered lines, or the first reason why it is none.
+/// The listing that a text is, with the comments of its numbered lines, or the first reason why it
+/// is none.
 #[tactic(auto, using(crate::proofs::ReadComments::with_comments), unfolding(snap_semantics::specs::Comments::commented_of))]
 pub fn read_commented(alloc: Global, text: &[u8]) -> Result<CommentedListing, ListingFault>
     ensures listing { Answers (λ l. l) result (commented_of text.now) }

@@ -12,7 +12,8 @@ use snap_text::{Token, keyword_at, number_at, symbol_at};
 /// `not` and a term.
 #[tactic(auto, unfolding(snap_semantics::specs::ListingForms::not_expr))]
 fn not_expr<'a, 'b>(in_quantifier: bool, tokens: &'a [Token<'b>]) -> Option<(Expr, &'a [Token<'b>])>
-    ensures { Finds (λ x. (x.0, view_tokens x.1.now)) result (not_expr in_quantifier (view_tokens tokens.now)) }
+    ensures { Finds (λ x. (x.0, view_tokens x.1.now)) result
+        (not_expr in_quantifier (view_tokens tokens.now)) }
 {
     let rest = keyword_at(b"not", tokens)?;
     let Some((term, rest)) = term_at(in_quantifier, rest) else {
@@ -26,7 +27,8 @@ fn plus_term<'a, 'b>(
     in_quantifier: bool,
     tokens: &'a [Token<'b>],
 ) -> Option<(Term, &'a [Token<'b>])>
-    ensures { Finds (λ x. (x.0, view_tokens x.1.now)) result (plus_term in_quantifier (view_tokens tokens.now)) }
+    ensures { Finds (λ x. (x.0, view_tokens x.1.now)) result
+        (plus_term in_quantifier (view_tokens tokens.now)) }
 {
     let rest = symbol_at(Symbol::Plus, tokens)?;
     term_at(in_quantifier, rest)
@@ -39,7 +41,8 @@ fn sum_on<'a, 'b>(
     first: Term,
     tokens: &'a [Token<'b>],
 ) -> (Expr, &'a [Token<'b>])
-    ensures { sum_on in_quantifier first (view_tokens tokens.now) ≡ Some (result.0, view_tokens result.1.now) }
+    ensures { sum_on in_quantifier first (view_tokens tokens.now)
+        ≡ Some (result.0, view_tokens result.1.now) }
 {
     if let Some((second, rest)) = plus_term(in_quantifier, tokens) {
         return (Expr::Sum(first, second), rest);
@@ -53,7 +56,8 @@ fn term_expr<'a, 'b>(
     in_quantifier: bool,
     tokens: &'a [Token<'b>],
 ) -> Option<(Expr, &'a [Token<'b>])>
-    ensures { Finds (λ x. (x.0, view_tokens x.1.now)) result (term_expr in_quantifier (view_tokens tokens.now)) }
+    ensures { Finds (λ x. (x.0, view_tokens x.1.now)) result
+        (term_expr in_quantifier (view_tokens tokens.now)) }
 {
     let Some((term, rest)) = term_at(in_quantifier, tokens) else {
         return None;
@@ -67,7 +71,8 @@ pub fn expr_at<'a, 'b>(
     in_quantifier: bool,
     tokens: &'a [Token<'b>],
 ) -> Option<(Expr, &'a [Token<'b>])>
-    ensures { Finds (λ x. (x.0, view_tokens x.1.now)) result (expr_at in_quantifier (view_tokens tokens.now)) }
+    ensures { Finds (λ x. (x.0, view_tokens x.1.now)) result
+        (expr_at in_quantifier (view_tokens tokens.now)) }
 {
     if let Some(found) = not_expr(in_quantifier, tokens) {
         return Some(found);
@@ -78,7 +83,8 @@ pub fn expr_at<'a, 'b>(
 /// `=`, `!=` or `<`.
 #[tactic(auto, unfolding(snap_semantics::specs::ListingForms::relation_at))]
 fn relation_at<'a, 'b>(tokens: &'a [Token<'b>]) -> Option<(Relation, &'a [Token<'b>])>
-    ensures { Finds (λ x. (x.0, view_tokens x.1.now)) result (relation_at (view_tokens tokens.now)) }
+    ensures { Finds (λ x. (x.0, view_tokens x.1.now)) result
+        (relation_at (view_tokens tokens.now)) }
 {
     if let Some(rest) = symbol_at(Symbol::Equal, tokens) {
         return Some((Relation::Equal, rest));
@@ -96,7 +102,8 @@ fn comparison_at<'a, 'b>(
     in_quantifier: bool,
     tokens: &'a [Token<'b>],
 ) -> Option<(Comparison, &'a [Token<'b>])>
-    ensures { Finds (λ x. (x.0, view_tokens x.1.now)) result (comparison_at in_quantifier (view_tokens tokens.now)) }
+    ensures { Finds (λ x. (x.0, view_tokens x.1.now)) result
+        (comparison_at in_quantifier (view_tokens tokens.now)) }
 {
     let Some((left, rest)) = term_at(in_quantifier, tokens) else {
         return None;
@@ -122,7 +129,8 @@ fn joined_at<'a, 'b>(
     join: Join,
     tokens: &'a [Token<'b>],
 ) -> Option<(Comparison, &'a [Token<'b>])>
-    ensures { Finds (λ x. (x.0, view_tokens x.1.now)) result (joined_at in_quantifier join (view_tokens tokens.now)) }
+    ensures { Finds (λ x. (x.0, view_tokens x.1.now)) result
+        (joined_at in_quantifier join (view_tokens tokens.now)) }
 {
     let rest = keyword_at(join_keyword(join), tokens)?;
     comparison_at(in_quantifier, rest)
@@ -138,7 +146,8 @@ fn third_on<'a, 'b>(
     third: Comparison,
     tokens: &'a [Token<'b>],
 ) -> (Condition, &'a [Token<'b>])
-    ensures { third_on in_quantifier join first second third (view_tokens tokens.now) ≡ Some (result.0, view_tokens result.1.now) }
+    ensures { third_on in_quantifier join first second third (view_tokens tokens.now)
+        ≡ Some (result.0, view_tokens result.1.now) }
 {
     if let Some((fourth, rest)) = joined_at(in_quantifier, join, tokens) {
         return (Condition::Four(join, first, second, third, fourth), rest);
@@ -155,7 +164,8 @@ fn second_on<'a, 'b>(
     second: Comparison,
     tokens: &'a [Token<'b>],
 ) -> (Condition, &'a [Token<'b>])
-    ensures { second_on in_quantifier join first second (view_tokens tokens.now) ≡ Some (result.0, view_tokens result.1.now) }
+    ensures { second_on in_quantifier join first second (view_tokens tokens.now)
+        ≡ Some (result.0, view_tokens result.1.now) }
 {
     if let Some((third, rest)) = joined_at(in_quantifier, join, tokens) {
         return third_on(in_quantifier, join, first, second, third, rest);
@@ -170,7 +180,8 @@ fn first_on<'a, 'b>(
     first: Comparison,
     tokens: &'a [Token<'b>],
 ) -> (Condition, &'a [Token<'b>])
-    ensures { first_on in_quantifier first (view_tokens tokens.now) ≡ Some (result.0, view_tokens result.1.now) }
+    ensures { first_on in_quantifier first (view_tokens tokens.now)
+        ≡ Some (result.0, view_tokens result.1.now) }
 {
     if let Some((second, rest)) = joined_at(in_quantifier, Join::And, tokens) {
         return second_on(in_quantifier, Join::And, first, second, rest);
@@ -187,7 +198,8 @@ pub fn condition_at<'a, 'b>(
     in_quantifier: bool,
     tokens: &'a [Token<'b>],
 ) -> Option<(Condition, &'a [Token<'b>])>
-    ensures { Finds (λ x. (x.0, view_tokens x.1.now)) result (condition_at in_quantifier (view_tokens tokens.now)) }
+    ensures { Finds (λ x. (x.0, view_tokens x.1.now)) result
+        (condition_at in_quantifier (view_tokens tokens.now)) }
 {
     let Some((first, rest)) = comparison_at(in_quantifier, tokens) else {
         return None;

@@ -52,7 +52,8 @@ pub fn index_of_identifier(word: &[u8]) -> Option<Index>
 /// A number as an index.
 #[tactic(auto, unfolding(snap_semantics::specs::ListingForms::number_index))]
 pub fn number_index<'a, 'b>(tokens: &'a [Token<'b>]) -> Option<(Index, &'a [Token<'b>])>
-    ensures { Finds (λ x. (x.0, view_tokens x.1.now)) result (number_index (view_tokens tokens.now)) }
+    ensures { Finds (λ x. (x.0, view_tokens x.1.now)) result
+        (number_index (view_tokens tokens.now)) }
 {
     let (number, rest) = number_at(tokens)?;
     Some((Index::Number(number), rest))
@@ -64,7 +65,8 @@ pub fn place_index<'a, 'b>(
     in_quantifier: bool,
     tokens: &'a [Token<'b>],
 ) -> Option<(Index, &'a [Token<'b>])>
-    ensures { Finds (λ x. (x.0, view_tokens x.1.now)) result (place_index in_quantifier (view_tokens tokens.now)) }
+    ensures { Finds (λ x. (x.0, view_tokens x.1.now)) result
+        (place_index in_quantifier (view_tokens tokens.now)) }
 {
     let rest = symbol_at(Symbol::At, tokens)?;
     if in_quantifier {
@@ -77,7 +79,8 @@ pub fn place_index<'a, 'b>(
 /// An identifier as an index.
 #[tactic(auto, unfolding(snap_semantics::specs::ListingForms::identifier_index))]
 pub fn identifier_index<'a, 'b>(tokens: &'a [Token<'b>]) -> Option<(Index, &'a [Token<'b>])>
-    ensures { Finds (λ x. (x.0, view_tokens x.1.now)) result (identifier_index (view_tokens tokens.now)) }
+    ensures { Finds (λ x. (x.0, view_tokens x.1.now)) result
+        (identifier_index (view_tokens tokens.now)) }
 {
     let (word, rest) = identifier_at(tokens)?;
     let index = index_of_identifier(word)?;
@@ -90,7 +93,8 @@ pub fn index_at<'a, 'b>(
     in_quantifier: bool,
     tokens: &'a [Token<'b>],
 ) -> Option<(Index, &'a [Token<'b>])>
-    ensures { Finds (λ x. (x.0, view_tokens x.1.now)) result (index_at in_quantifier (view_tokens tokens.now)) }
+    ensures { Finds (λ x. (x.0, view_tokens x.1.now)) result
+        (index_at in_quantifier (view_tokens tokens.now)) }
 {
     if let Some(found) = number_index(tokens) {
         return Some(found);
@@ -107,7 +111,8 @@ pub fn place_at<'a, 'b>(
     in_quantifier: bool,
     tokens: &'a [Token<'b>],
 ) -> Option<(Index, &'a [Token<'b>])>
-    ensures { Finds (λ x. (x.0, view_tokens x.1.now)) result (place_at in_quantifier (view_tokens tokens.now)) }
+    ensures { Finds (λ x. (x.0, view_tokens x.1.now)) result
+        (place_at in_quantifier (view_tokens tokens.now)) }
 {
     let rest = symbol_at(Symbol::OpenBracket, tokens)?;
     let Some((index, rest)) = index_at(in_quantifier, rest) else {
@@ -123,7 +128,8 @@ pub fn named_place_at<'a, 'b>(
     in_quantifier: bool,
     tokens: &'a [Token<'b>],
 ) -> Option<((Name, Index), &'a [Token<'b>])>
-    ensures { Finds (λ x. (x.0, view_tokens x.1.now)) result (named_place_at in_quantifier (view_tokens tokens.now)) }
+    ensures { Finds (λ x. (x.0, view_tokens x.1.now)) result
+        (named_place_at in_quantifier (view_tokens tokens.now)) }
 {
     let Some((name, rest)) = name_at(tokens) else {
         return None;
@@ -149,7 +155,8 @@ pub fn row_term<'a, 'b>(
     in_quantifier: bool,
     tokens: &'a [Token<'b>],
 ) -> Option<(Term, &'a [Token<'b>])>
-    ensures { Finds (λ x. (x.0, view_tokens x.1.now)) result (row_term in_quantifier (view_tokens tokens.now)) }
+    ensures { Finds (λ x. (x.0, view_tokens x.1.now)) result
+        (row_term in_quantifier (view_tokens tokens.now)) }
 {
     let Some(((name, index), rest)) = named_place_at(in_quantifier, tokens) else {
         return None;
@@ -180,7 +187,8 @@ pub fn field_term<'a, 'b>(
     in_quantifier: bool,
     tokens: &'a [Token<'b>],
 ) -> Option<(Term, &'a [Token<'b>])>
-    ensures { Finds (λ x. (x.0, view_tokens x.1.now)) result (field_term in_quantifier (view_tokens tokens.now)) }
+    ensures { Finds (λ x. (x.0, view_tokens x.1.now)) result
+        (field_term in_quantifier (view_tokens tokens.now)) }
 {
     let (word, rest) = identifier_at(tokens)?;
     let field = field_of_keyword(word)?;
@@ -198,7 +206,8 @@ pub fn handshake_term<'a, 'b>(
     in_quantifier: bool,
     tokens: &'a [Token<'b>],
 ) -> Option<(Term, &'a [Token<'b>])>
-    ensures { Finds (λ x. (x.0, view_tokens x.1.now)) result (handshake_term in_quantifier (view_tokens tokens.now)) }
+    ensures { Finds (λ x. (x.0, view_tokens x.1.now)) result
+        (handshake_term in_quantifier (view_tokens tokens.now)) }
 {
     let rest = keyword_at(b"hand", tokens)?;
     let rest = symbol_at(Symbol::OpenParenthesis, rest)?;
@@ -219,7 +228,8 @@ pub fn index_term<'a, 'b>(
     in_quantifier: bool,
     tokens: &'a [Token<'b>],
 ) -> Option<(Term, &'a [Token<'b>])>
-    ensures { Finds (λ x. (x.0, view_tokens x.1.now)) result (index_term in_quantifier (view_tokens tokens.now)) }
+    ensures { Finds (λ x. (x.0, view_tokens x.1.now)) result
+        (index_term in_quantifier (view_tokens tokens.now)) }
 {
     let Some((index, rest)) = index_at(in_quantifier, tokens) else {
         return None;
@@ -233,7 +243,8 @@ pub fn term_at<'a, 'b>(
     in_quantifier: bool,
     tokens: &'a [Token<'b>],
 ) -> Option<(Term, &'a [Token<'b>])>
-    ensures { Finds (λ x. (x.0, view_tokens x.1.now)) result (term_at in_quantifier (view_tokens tokens.now)) }
+    ensures { Finds (λ x. (x.0, view_tokens x.1.now)) result
+        (term_at in_quantifier (view_tokens tokens.now)) }
 {
     if let Some(found) = arg_term(tokens) {
         return Some(found);

@@ -1,4 +1,5 @@
-//! A desk at which threads take turns: one record, and a seat for each process. Scripts of all processes, played at once.
+//! A desk at which threads take turns: one record, and a seat for each process. Scripts of all
+//! processes, played at once.
 #![tactic(auto)]
 
 mod gate;

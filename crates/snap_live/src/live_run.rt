@@ -72,7 +72,8 @@ struct WorkerPromise<K: Kind, G> {
 }
 
 impl<K: Kind, G: Gate> Promise<Worked<K>> for WorkerPromise<K, G> {
-    ghost kept_by = { λ p r. IsWorked (G.may_refuse p.gate.value) p.seat.value.desk p.seat.value.process p.script.value p.limit r };
+    ghost kept_by = { λ p r. IsWorked (G.may_refuse p.gate.value) p.seat.value.desk
+        p.seat.value.process p.script.value p.limit r };
 }
 
 /// Starts the worker of a seat, in a thread of its own.
@@ -102,7 +103,8 @@ fn start<'s, E, K: Kind, G: Gate, R: Threads + Wait + Sync>(
         promise,
         move || -> Worked<K>
             requires { (seat ≡ seat_of desk.now seat.process) × (limit ≤ 1000000) }
-            ensures { IsWorked (G.may_refuse gate.entry.now) desk.entry.now seat.process script.entry.now limit result }
+            ensures { IsWorked (G.may_refuse gate.entry.now) desk.entry.now seat.process
+                script.entry.now limit result }
         { work(rt, alloc, desk, seat, script, limit, gate) },
     )?;
     Ok(child)
@@ -127,9 +129,11 @@ fn start_all<'s, E, K: Kind, G: Gate, R: Threads + Wait + Sync>(
     limit: u64,
     gate: &'s G,
 ) -> Result<Vec<PromisedHandle<Worked<K>, WorkerPromise<K, G>>>, AllocError>
-    requires { All (λ s. (s ≡ seat_of desk.now s.process) × IsOneOf (length scripts.now.scripts) s.process) seats.items × (limit ≤ 1000000) }
+    requires { All (λ s. (s ≡ seat_of desk.now s.process) ×
+        IsOneOf (length scripts.now.scripts) s.process) seats.items × (limit ≤ 1000000) }
     ensures seats { IfOk result (λ hs. map (λ h. h.promise.seat.value) hs.items ≡ seats.items) }
-    ensures scripts { IfOk result (λ hs. map (λ h. h.promise.script.value) hs.items ≡ map (λ s. script_at scripts.now.scripts (s.process - 1)) seats.items) }
+    ensures scripts { IfOk result (λ hs. map (λ h. h.promise.script.value) hs.items
+        ≡ map (λ s. script_at scripts.now.scripts (s.process - 1)) seats.items) }
     ensures gate { IfOk result (λ hs. All (λ h. h.promise.gate.value ≡ gate.now) hs.items) }
     ensures limit { IfOk result (λ hs. All (λ h. h.promise.limit ≡ limit) hs.items) }
 {
@@ -152,14 +156,17 @@ fn run_all<K: Kind, G: Gate, R: Threads + Wait + Sync>(
     gate: &G,
 ) -> Result<Vec<Worked<K>>, AllocError>
     requires { (seats.items ≡ seats_of desk.now (length scripts.now.scripts)) × (limit ≤ 1000000) }
-    ensures { IfOk result (λ ws. AllWorked (G.may_refuse gate.now) desk.now scripts.now.scripts limit ws.items) }
+    ensures { IfOk result (λ ws. AllWorked (G.may_refuse gate.now) desk.now scripts.now.scripts
+        limit ws.items) }
 {
     thread::scope(
         thread::scope_env(),
         rt,
         move |scope| -> Result<Vec<Worked<K>>, AllocError>
-            requires { (seats.items ≡ seats_of desk.now (length scripts.now.scripts)) × (limit ≤ 1000000) }
-            ensures { IfOk result (λ ws. AllWorked (G.may_refuse gate.entry.now) desk.entry.now scripts.entry.now.scripts limit ws.items) }
+            requires { (seats.items ≡ seats_of desk.now (length scripts.now.scripts)) ×
+                (limit ≤ 1000000) }
+            ensures { IfOk result (λ ws. AllWorked (G.may_refuse gate.entry.now) desk.entry.now
+                scripts.entry.now.scripts limit ws.items) }
         {
             let handles = start_all(scope, rt, alloc, desk, seats, scripts, limit, gate)?;
             let workers = joined(rt, handles)?;
@@ -174,12 +181,17 @@ fn joined<K: Kind, G: Gate, R: Threads>(
     handles: Vec<PromisedHandle<Worked<K>, WorkerPromise<K, G>>>,
 ) -> Result<Vec<Worked<K>>, AllocError>
     ensures len { IfOk result (λ ws. length ws.items ≡ length handles.items) }
-    ensures each { IfOk result (λ ws. (k : ℕ) (w : WorkedView) → k < length handles.items → (h : _) × (h ≡ slice_index_or handles.items k h) × IsWorked (G.may_refuse h.promise.gate.value) h.promise.seat.value.desk h.promise.seat.value.process h.promise.script.value h.promise.limit (slice_index_or ws.items k w)) }
+    ensures each { IfOk result (λ ws. (k : ℕ) (w : WorkedView) → k < length handles.items → (h : _)
+        × (h ≡ slice_index_or handles.items k h) ×
+        IsWorked (G.may_refuse h.promise.gate.value) h.promise.seat.value.desk
+        h.promise.seat.value.process h.promise.script.value h.promise.limit
+        (slice_index_or ws.items k w)) }
 {
     Ok(thread::join_promised(rt, handles)?)
 }
 
-/// The seats and the turns in the order of processes, and which is the least process that stopped before its end, and why.
+/// The seats and the turns in the order of processes, and which is the least process that stopped
+/// before its end, and why.
 #[derive(Drop)]
 struct WorkerResults<K: Kind> {
     seats: Vec<Seat<K>>,
@@ -233,8 +245,9 @@ fn then_first(found: Option<(u32, Stop)>, process: u32, stop: Option<Stop>) -> O
     }
 }
 
-/// Plays all scripts at once at a new desk, a worker in a thread for each process, and each with at most so many turns, for each of
-/// which it asks the gate. All workers have ended before there is an answer.
+/// Plays all scripts at once at a new desk, a worker in a thread for each process, and each with at
+/// most so many turns, for each of which it asks the gate. All workers have ended before there is
+/// an answer.
 pub fn run_live<K: Kind, G: Gate, R: Threads + Wait + Sync>(
     rt: &R,
     alloc: Global,

@@ -87,10 +87,12 @@ fn play_turn<K: Kind, G: Gate, R: Wait>(
 ) -> Result<Sequel, Stop>
     requires kept { Kept desk.now seat.old.process limit seat.old turns.old.items }
     requires mine { who item ≡ seat.old.process }
-    requires room { (seat.old.asked ≡ length seat.old.own) × (seat.old.asked < limit) × (limit ≤ 1000000) }
+    requires room { (seat.old.asked ≡ length seat.old.own) × (seat.old.asked < limit) ×
+        (limit ≤ 1000000) }
     ensures kept { Kept desk.now seat.old.process limit seat.new turns.new.items }
     ensures made { IfOk result (λ m. Made seat.old seat.new item m) }
-    ensures stopped { IfErr result (λ f. (seat.new.own ≡ seat.old.own) × NoFurther (G.may_refuse gate.now) limit seat.new f) }
+    ensures stopped { IfErr result (λ f. (seat.new.own ≡ seat.old.own) ×
+        NoFurther (G.may_refuse gate.now) limit seat.new f) }
 {
     let process = seat.process();
     let turn = seat.asked() + 1;
@@ -122,11 +124,15 @@ fn play_crash<K: Kind, G: Gate, R: Wait>(
     gate: &G,
 ) -> Result<(), Stop>
     requires kept { Kept desk.now seat.old.process limit seat.old turns.old.items }
-    requires plays { IsBegun script.now seat.old.own × (crashes_behind script.now.crash seat.old.asked ≡ true) }
-    requires room { (seat.old.asked ≡ length seat.old.own) × (seat.old.asked < limit) × (limit ≤ 1000000) }
+    requires plays { IsBegun script.now seat.old.own ×
+        (crashes_behind script.now.crash seat.old.asked ≡ true) }
+    requires room { (seat.old.asked ≡ length seat.old.own) × (seat.old.asked < limit) ×
+        (limit ≤ 1000000) }
     ensures kept { Kept desk.now seat.old.process limit seat.new turns.new.items }
-    ensures played { IfOk result (λ _. (seat.new.asked ≡ length seat.new.own) × Leaves script.now seat.new.own over) }
-    ensures stopped { IfErr result (λ f. Stopped (G.may_refuse gate.now) script.now limit seat.new f) }
+    ensures played { IfOk result (λ _. (seat.new.asked ≡ length seat.new.own) ×
+        Leaves script.now seat.new.own over) }
+    ensures stopped { IfErr result (λ f. Stopped (G.may_refuse gate.now) script.now limit seat.new
+        f) }
 {
     let crash = Item::Crash(seat.process());
     play_turn(rt, desk, seat, turns, crash, limit, gate)?;
@@ -148,8 +154,10 @@ fn play_steps<K: Kind, G: Gate, R: Wait>(
     requires plays { Leaves script.now seat.old.own (busy (drop (at + 1) script.now.operations)) }
     requires room { (seat.old.asked ≡ length seat.old.own) × (limit ≤ 1000000) }
     ensures kept { Kept desk.now seat.old.process limit seat.new turns.new.items }
-    ensures played { IfOk result (λ t. (seat.new.asked ≡ length seat.new.own) × Leaves script.now seat.new.own (after_operation t (drop (at + 1) script.now.operations))) }
-    ensures stopped { IfErr result (λ f. Stopped (G.may_refuse gate.now) script.now limit seat.new f) }
+    ensures played { IfOk result (λ t. (seat.new.asked ≡ length seat.new.own) ×
+        Leaves script.now seat.new.own (after_operation t (drop (at + 1) script.now.operations))) }
+    ensures stopped { IfErr result (λ f. Stopped (G.may_refuse gate.now) script.now limit seat.new
+        f) }
 {
     let step = Item::Step(seat.process());
     for _turn in seat.asked()..limit {
@@ -179,11 +187,14 @@ fn play_operation<K: Kind, G: Gate, R: Wait>(
     gate: &G,
 ) -> Result<bool, Stop>
     requires kept { Kept desk.now seat.old.process limit seat.old turns.old.items }
-    requires plays { (at < length script.now.operations) × Leaves script.now seat.old.own (rest (drop at script.now.operations)) }
+    requires plays { (at < length script.now.operations) ×
+        Leaves script.now seat.old.own (rest (drop at script.now.operations)) }
     requires room { (seat.old.asked ≡ length seat.old.own) × (limit ≤ 1000000) }
     ensures kept { Kept desk.now seat.old.process limit seat.new turns.new.items }
-    ensures played { IfOk result (λ t. (seat.new.asked ≡ length seat.new.own) × Leaves script.now seat.new.own (after_operation t (drop (at + 1) script.now.operations))) }
-    ensures stopped { IfErr result (λ f. Stopped (G.may_refuse gate.now) script.now limit seat.new f) }
+    ensures played { IfOk result (λ t. (seat.new.asked ≡ length seat.new.own) ×
+        Leaves script.now seat.new.own (after_operation t (drop (at + 1) script.now.operations))) }
+    ensures stopped { IfErr result (λ f. Stopped (G.may_refuse gate.now) script.now limit seat.new
+        f) }
 {
     if seat.asked() >= limit {
         return Err(Stop::TurnLimit);
@@ -213,7 +224,8 @@ fn play<K: Kind, G: Gate, R: Wait>(
     requires fresh { (seat.old.own ≡ []) × (seat.old.asked ≡ 0) × (limit ≤ 1000000) }
     ensures kept { Kept desk.now seat.old.process limit seat.new turns.new.items }
     ensures played { IfOk result (λ _. IsPlay script.now seat.new.own) }
-    ensures stopped { IfErr result (λ f. Stopped (G.may_refuse gate.now) script.now limit seat.new f) }
+    ensures stopped { IfErr result (λ f. Stopped (G.may_refuse gate.now) script.now limit seat.new
+        f) }
 {
     for at in 0..script.operations().len() {
         if play_operation(rt, desk, seat, turns, script, at, limit, gate)? {

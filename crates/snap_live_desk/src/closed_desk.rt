@@ -26,7 +26,8 @@ fn finish<K: Kind>(
     table_seat: TableSeat<K>,
 ) -> Record<K>
     requires table { IsSeatOf table.shared.table_id table_seat.table_id }
-    requires table_seat { IsIdle table_seat.me × ((p : ℕ) → 1 ≤ p → p ≤ table.shared.key.value.shape.n → HasProcess p table_seat.me.0.owns) }
+    requires table_seat { IsIdle table_seat.me ×
+        ((p : ℕ) → 1 ≤ p → p ≤ table.shared.key.value.shape.n → HasProcess p table_seat.me.0.owns) }
     ensures base { setting_of result ≡ setting_of table.shared.key.value }
     ensures seen { IsPrefix table_seat.me.0.seen result.items }
     ensures turns { OwnTurns (setting_of table.shared.key.value) result.items table_seat.me.0.owns }
@@ -51,7 +52,8 @@ fn has_seat<K: Kind>(seats: &[Seat<K>], process: u32) -> bool
 
 /// The least process that has no seat.
 fn first_missing<K: Kind>(seats: &[Seat<K>], count: u32) -> Option<u32>
-    ensures { MatchOption result ((p : ℕ) → IsOneOf count p → HasSeat p seats.now) (λ p. IsLeastMissing p count seats.now) }
+    ensures { MatchOption result ((p : ℕ) → IsOneOf count p →
+        HasSeat p seats.now) (λ p. IsLeastMissing p count seats.now) }
 {
     for process in 0..count {
         if !has_seat(seats, process + 1) {
@@ -65,7 +67,8 @@ fn first_missing<K: Kind>(seats: &[Seat<K>], count: u32) -> Option<u32>
 fn gather<K: Kind>(shared: &SharedTable<K>, first: Seat<K>, seats: Vec<Seat<K>>) -> TableSeat<K>
     requires shared { IsSeatOf shared.now.table_id first.desk.id }
     requires seats { All (λ s. s.desk ≡ first.desk) seats.items }
-    ensures table_seat { IsSame shared.now.table_id result.table_id × IsIdle result.me × (result.me.0.base ≡ first.desk.base) }
+    ensures table_seat { IsSame shared.now.table_id result.table_id × IsIdle result.me ×
+        (result.me.0.base ≡ first.desk.base) }
     ensures first { IsIn result.me.0.seen result.me.0.owns first }
     ensures others { All (IsIn result.me.0.seen result.me.0.owns) seats.items }
 {
@@ -78,7 +81,8 @@ fn gather<K: Kind>(shared: &SharedTable<K>, first: Seat<K>, seats: Vec<Seat<K>>)
 
 /// What the seat knows.
 fn table_seat_of<K: Kind>(seat: Seat<K>) -> TableSeat<K>
-    ensures table_seat { (result.table_id ≡ seat.desk.id) × IsIdle result.me × (result.me.0.base ≡ seat.desk.base) }
+    ensures table_seat { (result.table_id ≡ seat.desk.id) × IsIdle result.me ×
+        (result.me.0.base ≡ seat.desk.base) }
     ensures knows { IsIn result.me.0.seen result.me.0.owns seat }
 {
     let Seat {
@@ -92,25 +96,32 @@ fn table_seat_of<K: Kind>(seat: Seat<K>) -> TableSeat<K>
 
 /// The table's seat then knows what the seat knows, and what it knew.
 fn take_in<K: Kind>(shared: &SharedTable<K>, table_seat: &mut TableSeat<K>, seat: Seat<K>)
-    requires shared { IsSeatOf shared.now.table_id table_seat.old.table_id × (seat.desk.id ≡ shared.now.table_id) }
+    requires shared { IsSeatOf shared.now.table_id table_seat.old.table_id ×
+        (seat.desk.id ≡ shared.now.table_id) }
     requires idle { IsIdle table_seat.old.me }
-    ensures table_seat { IsSame table_seat.old.table_id table_seat.new.table_id × IsIdle table_seat.new.me × (table_seat.new.me.0.base ≡ table_seat.old.me.0.base) }
+    ensures table_seat { IsSame table_seat.old.table_id table_seat.new.table_id ×
+        IsIdle table_seat.new.me × (table_seat.new.me.0.base ≡ table_seat.old.me.0.base) }
     ensures knows { IsIn table_seat.new.me.0.seen table_seat.new.me.0.owns seat }
-    ensures knew { (s : SeatView) → IsIn table_seat.old.me.0.seen table_seat.old.me.0.owns s → IsIn table_seat.new.me.0.seen table_seat.new.me.0.owns s }
+    ensures knew { (s : SeatView) → IsIn table_seat.old.me.0.seen table_seat.old.me.0.owns s →
+        IsIn table_seat.new.me.0.seen table_seat.new.me.0.owns s }
 {
     join(shared, table_seat, table_seat_of(seat));
 }
 
-/// The record of all turns, where each process has a seat among these. It begins with what each seat had seen, and its items of a
-/// seat's process are the seat's turns. Else the least process that has none, and all is handed back. Takes no memory.
+/// The record of all turns, where each process has a seat among these. It begins with what each
+/// seat had seen, and its items of a seat's process are the seat's turns. Else the least process
+/// that has none, and all is handed back. Takes no memory.
 pub fn close<K: Kind>(
     desk: Desk<K>,
     mut seats: Vec<Seat<K>>,
 ) -> Result<Record<K>, (LiveFault, Desk<K>, Vec<Seat<K>>)>
     requires { All (λ s. s.desk ≡ desk) seats.items }
-    ensures kept { IfOk result (λ r. (setting_of r ≡ desk.base) × All (Keeps desk.base r.items) seats.items) }
-    ensures whole { IfOk result (λ r. (p : ℕ) → IsOneOf desk.base.shape.n p → HasSeat p seats.items) }
-    ensures missing { IfErr result (λ e. NamesMissing e.0 desk.base.shape.n seats.items × (e.1 ≡ desk) × (e.2.items ≡ seats.items)) }
+    ensures kept { IfOk result (λ r. (setting_of r ≡ desk.base) ×
+        All (Keeps desk.base r.items) seats.items) }
+    ensures whole { IfOk result (λ r. (p : ℕ) → IsOneOf desk.base.shape.n p →
+        HasSeat p seats.items) }
+    ensures missing { IfErr result (λ e. NamesMissing e.0 desk.base.shape.n seats.items ×
+        (e.1 ≡ desk) × (e.2.items ≡ seats.items)) }
 {
     if let Some(process) = first_missing(seats.as_slice(), desk.count) {
         let missing = Fault::Refused(LiveRefusal::SeatMissing(process));

@@ -16,7 +16,8 @@ use std::alloc::{AllocError, Global};
 use std::marker::Model;
 use std::snapshot::Snapshot;
 
-/// What threads share: the record lies in the one slot of a table, and seats take it out in the order of their tickets.
+/// What threads share: the record lies in the one slot of a table, and seats take it out in the
+/// order of their tickets.
 #[derive(Drop)]
 pub struct Desk<K: Kind> {
     pub(crate) table: Table<Option<Record<K>>, SeatState, InitialRecord<K>, DeskRule, Global>,
@@ -32,7 +33,9 @@ impl<K: Kind> Model for Desk<K> {
 
     ghost view = { λ d. record { id = d.table.shared.table_id; base = setting_of d.table.shared.key.value } };
 
-    ghost invariant = { λ d. (d.table.shared.table_id.words ≡ 4) × (d.table.shared.table_id.slots ≡ 1) × (d.count ≡ d.table.shared.key.value.shape.n) × (0 < d.count) };
+    ghost invariant = { λ d. (d.table.shared.table_id.words ≡ 4) ×
+        (d.table.shared.table_id.slots ≡ 1) × (d.count ≡ d.table.shared.key.value.shape.n) ×
+        (0 < d.count) };
 }
 
 /// A desk before the first item of a program over a shape, with a seat for each process.
@@ -70,9 +73,12 @@ fn seat_next<K: Kind>(
     process: u32,
 ) -> (Seat<K>, TableSeat<K>)
     requires shared { IsSeatOf shared.now.table_id table_seat.table_id }
-    requires opener { (table_seat.me ≡ (opener table_seat.me.0.base table_seat.me.0.named, [])) × (process ≡ table_seat.me.0.named + 1) × (process ≤ table_seat.me.0.base.shape.n) }
-    ensures seat { result.0 ≡ seat_of (record { id = table_seat.table_id; base = table_seat.me.0.base }) process }
-    ensures next { IsSame table_seat.table_id result.1.table_id × (result.1.me ≡ (opener table_seat.me.0.base process, [])) }
+    requires opener { (table_seat.me ≡ (opener table_seat.me.0.base table_seat.me.0.named, [])) ×
+        (process ≡ table_seat.me.0.named + 1) × (process ≤ table_seat.me.0.base.shape.n) }
+    ensures seat { result.0
+        ≡ seat_of (record { id = table_seat.table_id; base = table_seat.me.0.base }) process }
+    ensures next { IsSame table_seat.table_id result.1.table_id ×
+        (result.1.me ≡ (opener table_seat.me.0.base process, [])) }
 {
     name(shared, &mut table_seat);
     let next = split(shared, &mut table_seat);

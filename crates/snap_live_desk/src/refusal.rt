@@ -8,7 +8,8 @@ pub enum LiveRefusal {
     /// So many items are kept, the most that may be.
     #[error("V1 Full {0}")]
     Full(u64),
-    /// The gate did not let this process on, or its script was not done after as many turns as it had.
+    /// The gate did not let this process on, or its script was not done after as many turns as it
+    /// had.
     #[error("V2 TurnLimit {0}")]
     TurnLimit(u32),
     /// The least process whose seat was not handed in.

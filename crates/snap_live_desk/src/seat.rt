@@ -48,7 +48,10 @@ impl<K: Kind> Model for Seat<K> {
 
     ghost view = { λ s. record { desk = record { id = s.table_seat.table_id; base = s.table_seat.me.0.base }; process = s.process; asked = s.asked; seen = s.table_seat.me.0.seen; own = turns_in s.table_seat.me.0.owns } };
 
-    ghost invariant = { λ s. IsIdle s.table_seat.me × (s.table_seat.me.0.owns ≡ own s.process (turns_in s.table_seat.me.0.owns) ∷ []) × (s.table_seat.me.0.draws ≡ s.asked) × (s.seen ≡ length s.table_seat.me.0.seen) × IsOneOf s.table_seat.me.0.base.shape.n s.process };
+    ghost invariant = { λ s. IsIdle s.table_seat.me ×
+        (s.table_seat.me.0.owns ≡ own s.process (turns_in s.table_seat.me.0.owns) ∷ []) ×
+        (s.table_seat.me.0.draws ≡ s.asked) × (s.seen ≡ length s.table_seat.me.0.seen) ×
+        IsOneOf s.table_seat.me.0.base.shape.n s.process };
 }
 
 /// What a seat has seen, for another seat.
@@ -67,10 +70,12 @@ impl<K: Kind> Model for Note<K> {
 
     ghost view = { λ n. record { desk = record { id = n.table_seat.table_id; base = n.table_seat.me.0.base }; seen = n.table_seat.me.0.seen } };
 
-    ghost invariant = { λ n. IsIdle n.table_seat.me × (n.table_seat.me.0.owns ≡ []) × (n.table_seat.me.0.draws ≡ 0) × (n.seen ≡ length n.table_seat.me.0.seen) };
+    ghost invariant = { λ n. IsIdle n.table_seat.me × (n.table_seat.me.0.owns ≡ []) ×
+        (n.table_seat.me.0.draws ≡ 0) × (n.seen ≡ length n.table_seat.me.0.seen) };
 }
 
-/// One turn of a seat that has a process: a ticket is drawn, and once it is served the record takes the item and goes back.
+/// One turn of a seat that has a process: a ticket is drawn, and once it is served the record takes
+/// the item and goes back.
 fn one_turn<K: Kind, R: Wait>(
     rt: &R,
     shared: &SharedTable<K>,
@@ -78,10 +83,12 @@ fn one_turn<K: Kind, R: Wait>(
     item: Item,
 ) -> Result<Turn, RecordFault>
     requires shared { IsSeatOf shared.now.table_id table_seat.old.table_id }
-    requires idle { IsIdle table_seat.old.me × (table_seat.old.me.0.draws < 2 ^ 32) × (table_seat.old.me.0.owns ≡ own (who item) (turns_in table_seat.old.me.0.owns) ∷ []) }
+    requires idle { IsIdle table_seat.old.me × (table_seat.old.me.0.draws < 2 ^ 32) ×
+        (table_seat.old.me.0.owns ≡ own (who item) (turns_in table_seat.old.me.0.owns) ∷ []) }
     requires one { IsOneOf table_seat.old.me.0.base.shape.n (who item) }
     ensures table_seat { IsSame table_seat.old.table_id table_seat.new.table_id }
-    ensures turn { IfOk result (λ t. Turned table_seat.old.me item t.number t.outcome table_seat.new.me) }
+    ensures turn { IfOk result (λ t. Turned table_seat.old.me item t.number t.outcome
+        table_seat.new.me) }
     ensures refused { IfErr result (λ e. RefusedAs e table_seat.old.me table_seat.new.me) }
 {
     let ticket = draw(shared, table_seat);
@@ -116,7 +123,8 @@ impl<K: Kind> Seat<K> {
         requires desk { self.old.desk ≡ desk.now }
         requires asked { self.old.asked < 2 ^ 32 }
         ensures seat { StaysWith self.old self.new (self.old.asked + 1) }
-        ensures turn { IfOk result (λ t. IsTurn self.old self.new (Call self.old.process op) t.number t.outcome) }
+        ensures turn { IfOk result (λ t. IsTurn self.old self.new (Call self.old.process op)
+            t.number t.outcome) }
         ensures refused { IfErr result (λ e. NoTurn e self.old self.new) }
     {
         let process = self.process;
@@ -128,7 +136,8 @@ impl<K: Kind> Seat<K> {
         requires desk { self.old.desk ≡ desk.now }
         requires asked { self.old.asked < 2 ^ 32 }
         ensures seat { StaysWith self.old self.new (self.old.asked + 1) }
-        ensures turn { IfOk result (λ t. IsTurn self.old self.new (Step self.old.process) t.number t.outcome) }
+        ensures turn { IfOk result (λ t. IsTurn self.old self.new (Step self.old.process) t.number
+            t.outcome) }
         ensures refused { IfErr result (λ e. NoTurn e self.old self.new) }
     {
         let process = self.process;
@@ -140,7 +149,8 @@ impl<K: Kind> Seat<K> {
         requires desk { self.old.desk ≡ desk.now }
         requires asked { self.old.asked < 2 ^ 32 }
         ensures seat { StaysWith self.old self.new (self.old.asked + 1) }
-        ensures turn { IfOk result (λ t. IsTurn self.old self.new (Crash self.old.process) t.number t.outcome) }
+        ensures turn { IfOk result (λ t. IsTurn self.old self.new (Crash self.old.process) t.number
+            t.outcome) }
         ensures refused { IfErr result (λ e. NoTurn e self.old self.new) }
     {
         let process = self.process;

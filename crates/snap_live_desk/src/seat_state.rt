@@ -1,4 +1,5 @@
-//! What a seat knows of its desk. No value of these types is made: they are what the desk's rule speaks of.
+//! What a seat knows of its desk. No value of these types is made: they are what the desk's rule
+//! speaks of.
 use snap_asm_program::Program;
 use snap_semantics::{Item, Outcome};
 use snap_words::Shape;
@@ -10,7 +11,8 @@ pub struct Setting {
     pub shape: Shape,
 }
 
-/// How far a seat is with its turn: between turns, with a ticket that is not yet served, or served, with the history.
+/// How far a seat is with its turn: between turns, with a ticket that is not yet served, or served,
+/// with the history.
 pub enum Stage {
     Idle,
     Waits(u64),

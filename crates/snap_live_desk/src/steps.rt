@@ -1,4 +1,5 @@
-//! The steps on the words and the one slot of the desk's table. A seat of the table is a `TableSeat`.
+//! The steps on the words and the one slot of the desk's table. A seat of the table is a
+//! `TableSeat`.
 ghost use Rattle.std.specs.Prelude.{◌≡◌, ℕ, ◌+◌, ◌*◌, ◌^◌, ◌<◌, ◌++◌, [], ◌∷◌, true, Some, None, length, MatchBool};
 ghost use Rattle.snap_live_desk.specs.declared.seat_state.Stage.TheVariants.{Idle, Waits, Served};
 ghost use Rattle.snap_semantics.specs.Table.{who};
@@ -42,8 +43,10 @@ const COUNT: usize = 3;
 pub(crate) fn name<K: Kind>(shared: &SharedTable<K>, seat: &mut TableSeat<K>)
     requires shared { IsSeatOf shared.now.table_id seat.old.table_id }
     requires fresh { IsIdle seat.old.me × (seat.old.me.0.draws ≡ 0) × (seat.old.me.0.owns ≡ []) }
-    requires may { (seat.old.me.0.opens ≡ true) × (seat.old.me.0.named < seat.old.me.0.base.shape.n) }
-    ensures { IsSame seat.old.table_id seat.new.table_id × (seat.new.me ≡ (names seat.old.me.0 (seat.old.me.0.named + 1), [])) }
+    requires may { (seat.old.me.0.opens ≡ true) ×
+        (seat.old.me.0.named < seat.old.me.0.base.shape.n) }
+    ensures { IsSame seat.old.table_id seat.new.table_id ×
+        (seat.new.me ≡ (names seat.old.me.0 (seat.old.me.0.named + 1), [])) }
 {
     shared.fetch_add::<NameProcess>(seat, COUNT, 1);
 }
@@ -52,17 +55,21 @@ pub(crate) fn name<K: Kind>(shared: &SharedTable<K>, seat: &mut TableSeat<K>)
 pub(crate) fn split<K: Kind>(shared: &SharedTable<K>, seat: &mut TableSeat<K>) -> TableSeat<K>
     requires shared { IsSeatOf shared.now.table_id seat.old.table_id }
     requires idle { IsIdle seat.old.me }
-    ensures old { IsSame seat.old.table_id seat.new.table_id × (seat.new.me ≡ (stays seat.old.me.0, [])) }
-    ensures new { IsSame seat.old.table_id result.table_id × (result.me ≡ (comes seat.old.me.0, [])) }
+    ensures old { IsSame seat.old.table_id seat.new.table_id ×
+        (seat.new.me ≡ (stays seat.old.me.0, [])) }
+    ensures new { IsSame seat.old.table_id result.table_id ×
+        (result.me ≡ (comes seat.old.me.0, [])) }
 {
     shared.split_seat::<Cut>(seat)
 }
 
 /// The seat takes in what the other has seen, and its turns.
 pub(crate) fn join<K: Kind>(shared: &SharedTable<K>, seat: &mut TableSeat<K>, other: TableSeat<K>)
-    requires shared { IsSeatOf shared.now.table_id seat.old.table_id × (other.table_id ≡ shared.now.table_id) }
+    requires shared { IsSeatOf shared.now.table_id seat.old.table_id ×
+        (other.table_id ≡ shared.now.table_id) }
     requires idle { IsIdle seat.old.me × IsIdle other.me }
-    ensures seat { IsSame seat.old.table_id seat.new.table_id × (seat.new.me ≡ (tells (both seat.old.me.0 other.me.0), [])) }
+    ensures seat { IsSame seat.old.table_id seat.new.table_id ×
+        (seat.new.me ≡ (tells (both seat.old.me.0 other.me.0), [])) }
     ensures told { AllPrefix (seat.old.me.0.seen ∷ other.me.0.seen ∷ []) seat.new.me.0.seen }
 {
     shared.join_seat::<Both>(seat, other);
@@ -72,8 +79,10 @@ pub(crate) fn join<K: Kind>(shared: &SharedTable<K>, seat: &mut TableSeat<K>, ot
 /// The ticket that a seat draws.
 pub(crate) fn draw<K: Kind>(shared: &SharedTable<K>, seat: &mut TableSeat<K>) -> u64
     requires shared { IsSeatOf shared.now.table_id seat.old.table_id }
-    requires idle { IsIdle seat.old.me × (seat.old.me.0.draws < 2 ^ 32 * length seat.old.me.0.owns) }
-    ensures { IsSame seat.old.table_id seat.new.table_id × (seat.new.me ≡ (waits seat.old.me.0 result, [])) }
+    requires idle { IsIdle seat.old.me ×
+        (seat.old.me.0.draws < 2 ^ 32 * length seat.old.me.0.owns) }
+    ensures { IsSame seat.old.table_id seat.new.table_id ×
+        (seat.new.me ≡ (waits seat.old.me.0 result, [])) }
 {
     shared.fetch_add::<Draw>(seat, NEXT, 1)
 }
@@ -81,9 +90,11 @@ pub(crate) fn draw<K: Kind>(shared: &SharedTable<K>, seat: &mut TableSeat<K>) ->
 /// True where the ticket is served. The seat then has the record.
 fn look<K: Kind>(shared: &SharedTable<K>, seat: &mut TableSeat<K>, ticket: u64) -> bool
     requires shared { IsSeatOf shared.now.table_id seat.old.table_id }
-    requires waits { (seat.old.me.1 ≡ []) × (seat.old.me.0.alive ≡ true) × (seat.old.me.0.stage ≡ Waits ticket) }
+    requires waits { (seat.old.me.1 ≡ []) × (seat.old.me.0.alive ≡ true) ×
+        (seat.old.me.0.stage ≡ Waits ticket) }
     ensures same { IsSame seat.old.table_id seat.new.table_id }
-    ensures told { MatchBool result (Taken ticket seat.old.me seat.new.me) (seat.new.me ≡ seat.old.me) }
+    ensures told { MatchBool result (Taken ticket seat.old.me seat.new.me) (seat.new.me
+        ≡ seat.old.me) }
 {
     shared.load::<Look>(seat, SERVING) == ticket
 }
@@ -96,7 +107,8 @@ pub(crate) fn wait<K: Kind, R: Wait>(
     ticket: u64,
 )
     requires shared { IsSeatOf shared.now.table_id seat.old.table_id }
-    requires waits { (seat.old.me.1 ≡ []) × (seat.old.me.0.alive ≡ true) × (seat.old.me.0.stage ≡ Waits ticket) }
+    requires waits { (seat.old.me.1 ≡ []) × (seat.old.me.0.alive ≡ true) ×
+        (seat.old.me.0.stage ≡ Waits ticket) }
     ensures same { IsSame seat.old.table_id seat.new.table_id }
     ensures served { Taken ticket seat.old.me seat.new.me }
 {
@@ -114,7 +126,8 @@ pub(crate) fn take<K: Kind>(shared: &SharedTable<K>, seat: &mut TableSeat<K>) ->
     requires shared { IsSeatOf shared.now.table_id seat.old.table_id }
     requires has { HasAll seat.old.me }
     ensures given { result ≡ run_of seat.old.me.0.base (grip_of seat.old.me.0.stage) }
-    ensures seat { IsSame seat.old.table_id seat.new.table_id × (seat.new.me ≡ (seat.old.me.0, (0, None) ∷ [])) }
+    ensures seat { IsSame seat.old.table_id seat.new.table_id ×
+        (seat.new.me ≡ (seat.old.me.0, (0, None) ∷ [])) }
 {
     shared.exchange(seat, 0, None).unwrap()
 }
@@ -130,11 +143,14 @@ fn publish_as<J: Entry, K: Kind>(
 )
     requires shared { IsSeatOf shared.now.table_id seat.old.table_id }
     requires entry { (item ≡ J.item) × (outcome.now ≡ J.outcome) }
-    requires served { (seat.old.me.0.alive ≡ true) × (seat.old.me.0.stage ≡ Served ticket (grip_of seat.old.me.0.stage)) }
+    requires served { (seat.old.me.0.alive ≡ true) ×
+        (seat.old.me.0.stage ≡ Served ticket (grip_of seat.old.me.0.stage)) }
     requires own { seat.old.me.0.owns ≡ own (who item) (turns_in seat.old.me.0.owns) ∷ [] }
     requires len { len ≡ length (grip_of seat.old.me.0.stage ++ item ∷ []) }
-    requires run { outcome.now ≡ last_outcome seat.old.me.0.base (grip_of seat.old.me.0.stage ++ item ∷ []) }
-    ensures seat { IsSame seat.old.table_id seat.new.table_id × (seat.new.me ≡ (publishes seat.old.me.0 item outcome.now, seat.old.me.1)) }
+    requires run { outcome.now ≡ last_outcome seat.old.me.0.base (grip_of seat.old.me.0.stage
+        ++ item ∷ []) }
+    ensures seat { IsSame seat.old.table_id seat.new.table_id ×
+        (seat.new.me ≡ (publishes seat.old.me.0 item outcome.now, seat.old.me.1)) }
     ensures turns { OwnTurns seat.old.me.0.base seat.new.me.0.seen seat.new.me.0.owns }
 {
     shared.store::<Publish<J>>(seat, LENGTH, len);
@@ -150,11 +166,14 @@ pub(crate) fn publish<K: Kind>(
     len: u64,
 )
     requires shared { IsSeatOf shared.now.table_id seat.old.table_id }
-    requires served { (seat.old.me.0.alive ≡ true) × (seat.old.me.0.stage ≡ Served ticket (grip_of seat.old.me.0.stage)) }
+    requires served { (seat.old.me.0.alive ≡ true) ×
+        (seat.old.me.0.stage ≡ Served ticket (grip_of seat.old.me.0.stage)) }
     requires own { seat.old.me.0.owns ≡ own (who item) (turns_in seat.old.me.0.owns) ∷ [] }
     requires len { len ≡ length (grip_of seat.old.me.0.stage ++ item ∷ []) }
-    requires run { outcome.now ≡ last_outcome seat.old.me.0.base (grip_of seat.old.me.0.stage ++ item ∷ []) }
-    ensures seat { IsSame seat.old.table_id seat.new.table_id × (seat.new.me ≡ (publishes seat.old.me.0 item outcome.now, seat.old.me.1)) }
+    requires run { outcome.now ≡ last_outcome seat.old.me.0.base (grip_of seat.old.me.0.stage
+        ++ item ∷ []) }
+    ensures seat { IsSame seat.old.table_id seat.new.table_id ×
+        (seat.new.me ≡ (publishes seat.old.me.0 item outcome.now, seat.old.me.1)) }
     ensures turns { OwnTurns seat.old.me.0.base seat.new.me.0.seen seat.new.me.0.owns }
 {
     publish_as::<Brand, K>(shared, seat, ticket, item, outcome, len);
@@ -168,9 +187,11 @@ pub(crate) fn catch_up<K: Kind>(
     len: u64,
 )
     requires shared { IsSeatOf shared.now.table_id seat.old.table_id }
-    requires served { (seat.old.me.0.alive ≡ true) × (seat.old.me.0.stage ≡ Served ticket (grip_of seat.old.me.0.stage)) }
+    requires served { (seat.old.me.0.alive ≡ true) ×
+        (seat.old.me.0.stage ≡ Served ticket (grip_of seat.old.me.0.stage)) }
     requires len { len ≡ length (grip_of seat.old.me.0.stage) }
-    ensures seat { IsSame seat.old.table_id seat.new.table_id × (seat.new.me ≡ (catches_up seat.old.me.0, seat.old.me.1)) }
+    ensures seat { IsSame seat.old.table_id seat.new.table_id ×
+        (seat.new.me ≡ (catches_up seat.old.me.0, seat.old.me.1)) }
     ensures turns { OwnTurns seat.old.me.0.base seat.new.me.0.seen seat.new.me.0.owns }
 {
     shared.store::<CatchUp>(seat, LENGTH, len);
@@ -181,7 +202,8 @@ pub(crate) fn give<K: Kind>(shared: &SharedTable<K>, seat: &mut TableSeat<K>, gi
     requires shared { IsSeatOf shared.now.table_id seat.old.table_id }
     requires empty { seat.old.me.1 ≡ (0, None) ∷ [] }
     requires given { given ≡ run_of seat.old.me.0.base (grip_of seat.old.me.0.stage) }
-    ensures { IsSame seat.old.table_id seat.new.table_id × (seat.new.me.0 ≡ seat.old.me.0) × HasAll seat.new.me }
+    ensures { IsSame seat.old.table_id seat.new.table_id × (seat.new.me.0 ≡ seat.old.me.0) ×
+        HasAll seat.new.me }
 {
     drop(shared.exchange(seat, 0, Some(given)));
 }
@@ -189,8 +211,10 @@ pub(crate) fn give<K: Kind>(shared: &SharedTable<K>, seat: &mut TableSeat<K>, gi
 /// The slot goes home, and the next ticket is served.
 pub(crate) fn serve<K: Kind>(shared: &SharedTable<K>, seat: &mut TableSeat<K>, ticket: u64)
     requires shared { IsSeatOf shared.now.table_id seat.old.table_id }
-    requires served { (seat.old.me.0.alive ≡ true) × (seat.old.me.0.stage ≡ Served ticket (grip_of seat.old.me.0.stage)) × HasAll seat.old.me }
-    ensures { IsSame seat.old.table_id seat.new.table_id × (seat.new.me ≡ (rests seat.old.me.0, [])) }
+    requires served { (seat.old.me.0.alive ≡ true) ×
+        (seat.old.me.0.stage ≡ Served ticket (grip_of seat.old.me.0.stage)) × HasAll seat.old.me }
+    ensures { IsSame seat.old.table_id seat.new.table_id ×
+        (seat.new.me ≡ (rests seat.old.me.0, [])) }
 {
     shared.fetch_add::<Serve>(seat, SERVING, 1);
 }

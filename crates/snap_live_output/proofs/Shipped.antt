@@ -13,7 +13,7 @@ use Rattle.snap_runs.specs.Run.{Run}
 use Rattle.snap_promises.specs.Kept.{KeepsPromises, NumbersSuffice, RunsKeepPromises}
 use Rattle.snap_shipped.specs.Shipped.{shipped}
 use Rattle.snap_input.specs.Parts.{part, parts_of}
-use Rattle.snap_tasks.specs.declared.subject.Subject.TheVariants.{Shipped}
+use Rattle.snap_subject.specs.declared.subject.Subject.TheVariants.{Shipped}
 use Rattle.snap_input.proofs.Answered.{both, passed, same_answer, within}
 use Rattle.snap_input.proofs.Parting.{of_texts}
 use Rattle.snap_live_desk.specs.Turns.{run_of}

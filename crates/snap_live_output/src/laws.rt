@@ -3,8 +3,9 @@ ghost use Rattle.snap_live_output.specs.LiveRuns.{LiveRunsAreSnapshots};
 
 use snap_promises::shipped_runs_keep_promises;
 
-/// What a live run of a shipped listing writes is the history of a run that keeps all that is promised of the listing: every
-/// finished scan answered the memory's values at one step between its call and its answer, and no call takes too many turns.
+/// What a live run of a shipped listing writes is the history of a run that keeps all that is
+/// promised of the listing: every finished scan answered the memory's values at one step between
+/// its call and its answer, and no call takes too many turns.
 pub fn live_runs_are_snapshots()
     ensures { LiveRunsAreSnapshots }
 {

@@ -6,13 +6,14 @@ use crate::fault::LiveRunFault;
 use crate::played_text::play;
 use crate::setup::setup_of;
 use snap_live::Gate;
-use snap_tasks::Subject;
+use snap_subject::Subject;
 use std::alloc::Global;
 use std::sync::Wait;
 use std::thread::Threads;
 
-/// The history of one live run of what an input says to play, each process in a thread of its own and with at most `limit` turns:
-/// as the text of a schedule, and then its report. Or why there is none.
+/// The history of one live run of what an input says to play, each process in a thread of its own
+/// and with at most `limit` turns: as the text of a schedule, and then its report. Or why there is
+/// none.
 pub fn live_output<G: Gate, R: Threads + Wait + Sync>(
     rt: &R,
     alloc: Global,

@@ -22,7 +22,8 @@ fn play_kind<K: Kind, G: Gate, R: Threads + Wait + Sync>(
     requires kind { setup.now.source.kind ≡ K.TAG }
     requires limit { (1 ≤ limit) × (limit ≤ 1000000) }
     ensures text { IfOk result (λ out. IsLiveText setup.now limit out.items) }
-    ensures fault { IfErr result (λ f. MayFault (G.may_refuse gate.now) (setting setup.now) setup.now.scripts.scripts limit f) }
+    ensures fault { IfErr result (λ f. MayFault (G.may_refuse gate.now) (setting setup.now)
+        setup.now.scripts.scripts limit f) }
 {
     let live = run_live::<K, G, R>(rt, alloc, setup.program(), setup.scripts(), limit, gate)?;
     let _items = live.kept.items();
@@ -39,7 +40,8 @@ pub fn play<G: Gate, R: Threads + Wait + Sync>(
 ) -> Result<Vec<u8>, LiveFault>
     requires { (1 ≤ limit) × (limit ≤ 1000000) }
     ensures text { IfOk result (λ out. IsLiveText setup.now limit out.items) }
-    ensures fault { IfErr result (λ f. MayFault (G.may_refuse gate.now) (setting setup.now) setup.now.scripts.scripts limit f) }
+    ensures fault { IfErr result (λ f. MayFault (G.may_refuse gate.now) (setting setup.now)
+        setup.now.scripts.scripts limit f) }
 {
     match setup.program().kind() {
         KindTag::Seq => play_kind::<Seq, G, R>(rt, alloc, setup, limit, gate),

@@ -21,11 +21,13 @@ pub fn call<K: Kind>(
     op: Op,
 ) -> Outcome
     requires process { IsOneOf (length processes.old) i }
-    requires sized { AllSized listing.now registers.now.shape (map (seen_process K.as_word listing.now) processes.old) }
+    requires sized { AllSized listing.now registers.now.shape
+        (map (seen_process K.as_word listing.now) processes.old) }
     ensures done { done listing.now registers.now.shape
         (seen_state K.as_word listing.now registers.now.memory processes.old) (item.Call i op)
         ≡ (seen_state K.as_word listing.now registers.now.memory processes.new, result) }
-    ensures sized { AllSized listing.now registers.now.shape (map (seen_process K.as_word listing.now) processes.new) }
+    ensures sized { AllSized listing.now registers.now.shape
+        (map (seen_process K.as_word listing.now) processes.new) }
 {
     let shape = registers.shape();
     let k = (i - 1) as usize;
@@ -57,11 +59,13 @@ pub fn crash<K: Kind>(
     i: u32,
 ) -> Outcome
     requires process { IsOneOf (length processes.old) i }
-    requires sized { AllSized listing.now registers.now.shape (map (seen_process K.as_word listing.now) processes.old) }
+    requires sized { AllSized listing.now registers.now.shape
+        (map (seen_process K.as_word listing.now) processes.old) }
     ensures done { done listing.now registers.now.shape
         (seen_state K.as_word listing.now registers.now.memory processes.old) (item.Crash i)
         ≡ (seen_state K.as_word listing.now registers.now.memory processes.new, result) }
-    ensures sized { AllSized listing.now registers.now.shape (map (seen_process K.as_word listing.now) processes.new) }
+    ensures sized { AllSized listing.now registers.now.shape
+        (map (seen_process K.as_word listing.now) processes.new) }
 {
     let k = (i - 1) as usize;
     let process = &mut processes[k];

@@ -38,7 +38,8 @@ fn copy_process<K: Kind>(
     alloc: Global,
     process: &SlotProcess<K>,
 ) -> Result<SlotProcess<K>, AllocError>
-    ensures { IfOk result (λ p. (s : Source) → seen_process K.as_word s p ≡ seen_process K.as_word s process.now) }
+    ensures { IfOk result (λ p. (s : Source) → seen_process K.as_word s p
+        ≡ seen_process K.as_word s process.now) }
 {
     Ok(SlotProcess {
         status: process.status,

@@ -21,7 +21,8 @@ fn zeros(alloc: Global, count: u64) -> Result<Vec<u64>, AllocError>
 /// Words that nobody has written.
 #[tactic(auto, using(crate::proofs::Replicas::one_more))]
 fn new_words<K: Kind>(alloc: Global, shape: Shape, count: u64) -> Result<Vec<K::Word>, AllocError>
-    ensures { IfOk result (λ v. map K.as_word v.items ≡ replicate count (initial_word K.TAG shape)) }
+    ensures { IfOk result (λ v. map K.as_word v.items
+        ≡ replicate count (initial_word K.TAG shape)) }
 {
     let mut words = Vec::new(alloc);
     for _k in 0..count {
@@ -33,7 +34,8 @@ fn new_words<K: Kind>(alloc: Global, shape: Shape, count: u64) -> Result<Vec<K::
 /// Rows of zeros.
 #[tactic(auto, using(crate::proofs::Replicas::one_more))]
 fn new_rows(alloc: Global, shape: Shape, count: usize) -> Result<Vec<Vec<u64>>, AllocError>
-    ensures { IfOk result (λ v. map vec_items v.items ≡ replicate count (replicate (places shape) 0)) }
+    ensures { IfOk result (λ v. map vec_items v.items
+        ≡ replicate count (replicate (places shape) 0)) }
 {
     let mut rows = Vec::new(alloc);
     for _k in 0..count {
@@ -78,7 +80,8 @@ fn new_process<K: Kind>(
     shape: Shape,
 ) -> Result<SlotProcess<K>, AllocError>
     requires { listing.now.kind ≡ K.TAG }
-    ensures { IfOk result (λ p. seen_process K.as_word listing.now p ≡ initial_process listing.now shape) }
+    ensures { IfOk result (λ p. seen_process K.as_word listing.now p
+        ≡ initial_process listing.now shape) }
 {
     Ok(SlotProcess {
         status: Status::Idle,

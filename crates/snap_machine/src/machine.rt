@@ -54,7 +54,8 @@ impl<K: Kind> Model for Machine<K> {
       state = seen_state K.as_word m.program m.registers.memory m.processes.items;
     } };
 
-    ghost invariant = { λ m. IsConfiguration K.TAG K.as_word m.program m.registers.shape m.processes.items };
+    ghost invariant = { λ m. IsConfiguration K.TAG K.as_word m.program m.registers.shape
+        m.processes.items };
 }
 
 impl<K: Kind> Machine<K> {
@@ -83,7 +84,8 @@ impl<K: Kind> Machine<K> {
         ensures source { self.new.source ≡ self.old.source }
         ensures shape { self.new.shape ≡ self.old.shape }
         ensures err { OnErr result (self.new ≡ self.old) }
-        ensures grows { OnErr result (IsTrue (may_grow self.old.source self.old.shape self.old.state item)) }
+        ensures grows { OnErr result
+            (IsTrue (may_grow self.old.source self.old.shape self.old.state item)) }
     {
         match item {
             Item::Step(i) => step(
@@ -109,8 +111,8 @@ impl<K: Kind> Machine<K> {
         }
     }
 
-    /// One item of a schedule, as `apply` does it, and what it overwrote: put back, all is as before. Where there is no memory for
-    /// either, everything is as before.
+    /// One item of a schedule, as `apply` does it, and what it overwrote: put back, all is as
+    /// before. Where there is no memory for either, everything is as before.
     pub fn apply_undo(&mut self, item: Item) -> Result<(Outcome, Undo<K>), AllocError>
         requires { IsOneOf self.old.shape.n (who item) }
         ensures done { IfOk result (λ r.
@@ -240,7 +242,8 @@ impl<K: Kind> Machine<K> {
     /// What a register has.
     pub fn register(&self, address: Address) -> Result<Contents<'_, K>, RegisterFault>
         ensures { let read = contents self.now.state.memory address.bank address.i address.j in
-            MatchResult result (λ c. read ≡ Some (seen_contents K.as_word c)) (λ e. (e ≡ Index) × (read ≡ None)) }
+            MatchResult result (λ c. read ≡ Some (seen_contents K.as_word c)) (λ e. (e ≡ Index) ×
+            (read ≡ None)) }
     {
         match address.bank {
             Bank::R => {
@@ -265,7 +268,8 @@ impl<K: Kind> Machine<K> {
     /// The value of a local, if there is one of this name.
     pub fn local(&self, i: u32, name: Name) -> Option<Local<'_, K>>
         requires { IsOneOf self.now.shape.n i }
-        ensures { option_map (seen_local K.as_word) result ≡ local_value (process_at self.now.state i).locals name }
+        ensures { option_map (seen_local K.as_word) result
+            ≡ local_value (process_at self.now.state i).locals name }
     {
         let process = &self.processes[(i - 1) as usize];
         find_local(&self.program, process, name)
@@ -274,7 +278,8 @@ impl<K: Kind> Machine<K> {
     /// The name and the value of local `k` of a sort, counted from 0 in the order of declaration.
     pub fn local_at(&self, i: u32, sort: Sort, k: usize) -> Option<(Name, Local<'_, K>)>
         requires { IsOneOf self.now.shape.n i }
-        ensures value { option_map (seen_named K.as_word) result ≡ local_at (process_at self.now.state i).locals sort k }
+        ensures value { option_map (seen_named K.as_word) result
+            ≡ local_at (process_at self.now.state i).locals sort k }
         ensures few { OnSome result (k < 32) }
     {
         let process = &self.processes[(i - 1) as usize];
@@ -299,7 +304,8 @@ fn find_local<'a, K: Kind>(
     process: &'a SlotProcess<K>,
     name: Name,
 ) -> Option<Local<'a, K>>
-    ensures { option_map (seen_local K.as_word) result ≡ local_value (seen_locals K.as_word program.now process.now) name }
+    ensures { option_map (seen_local K.as_word) result
+        ≡ local_value (seen_locals K.as_word program.now process.now) name }
 {
     let (sort, k) = program.place(name)?;
     local_there(process, sort, k)
@@ -312,7 +318,8 @@ fn named_local<'a, K: Kind>(
     sort: Sort,
     k: usize,
 ) -> Option<(Name, Local<'a, K>)>
-    ensures value { option_map (seen_named K.as_word) result ≡ local_at (seen_locals K.as_word program.now process.now) sort k }
+    ensures value { option_map (seen_named K.as_word) result
+        ≡ local_at (seen_locals K.as_word program.now process.now) sort k }
     ensures few { OnSome result (k < 32) }
 {
     let name = program.name(sort, k)?;

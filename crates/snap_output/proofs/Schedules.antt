@@ -5,7 +5,7 @@ use Rattle.snap_semantics.specs.Source.{Source}
 use Rattle.snap_semantics.specs.declared.fault.Fault.{Fault}
 use Rattle.snap_semantics.specs.declared.refusal.Refusal.{Refusal}
 use Rattle.snap_input.specs.Input.{listing_for, texts_for}
-use Rattle.snap_tasks.specs.declared.subject.Subject.{Subject}
+use Rattle.snap_subject.specs.declared.subject.Subject.{Subject}
 use Rattle.snap_input.proofs.Parting.{behind}
 use Rattle.snap_output.specs.Output.{batch_text, batched, checked_schedules}
 

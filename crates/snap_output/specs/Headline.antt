@@ -23,7 +23,7 @@ use Rattle.snap_input.specs.Input.{listing_for, texts_for}
 use Rattle.snap_input.specs.Parts.{part, parts_of}
 use Rattle.snap_output.specs.Output.{output_of}
 use Rattle.snap_perform.specs.Perform.{perform_of}
-use Rattle.snap_tasks.specs.declared.subject.Subject.{Subject}
+use Rattle.snap_subject.specs.declared.subject.Subject.{Subject}
 use Rattle.snap_tasks.specs.declared.task.Task.TheVariants as task
 
 -- For every listing, schedule and debugger commands: the bytes of `perform` are the replies to the commands over the run that

@@ -15,7 +15,7 @@ use Rattle.snap_batch.specs.Reports.{reports_text}
 use Rattle.snap_input.specs.Input.{listing_for, parted, texts_for}
 use Rattle.snap_input.specs.Parts.{part, parts_of}
 use Rattle.snap_perform.specs.Perform.{perform_listing, schedule_for}
-use Rattle.snap_tasks.specs.declared.subject.Subject.{Subject}
+use Rattle.snap_subject.specs.declared.subject.Subject.{Subject}
 use Rattle.snap_tasks.specs.declared.task.Task.{Task}
 use Rattle.snap_tasks.specs.declared.task.Task.TheVariants as task
 

@@ -23,7 +23,8 @@ fn schedules_for<K: Kind>(
     texts: &[&[u8]],
 ) -> Result<Vec<Schedule>, Fault<Refusal>>
     requires { program.now.kind ≡ K.TAG }
-    ensures { Answers (λ ss. ss.items) result (schedules_for program.now (map (λ text. text.now) texts.now)) }
+    ensures { Answers (λ ss. ss.items) result
+        (schedules_for program.now (map (λ text. text.now) texts.now)) }
 {
     let mut schedules = Vec::new(alloc);
     for text in texts {
@@ -64,7 +65,8 @@ fn batch_kind<K: Kind>(
     texts: &[&[u8]],
 ) -> Result<Vec<u8>, Fault<Refusal>>
     requires { program.now.kind ≡ K.TAG }
-    ensures { Answers (λ out. out.items) result (batch_text program.now (map (λ text. text.now) texts.now)) }
+    ensures { Answers (λ out. out.items) result
+        (batch_text program.now (map (λ text. text.now) texts.now)) }
 {
     let schedules = schedules_for::<K>(alloc, program, texts)?;
     let reports = batch(rt, alloc, program, schedules.as_slice())?;
@@ -80,7 +82,8 @@ pub fn batch_program(
     program: &Program,
     texts: &[&[u8]],
 ) -> Result<Vec<u8>, Fault<Refusal>>
-    ensures { Answers (λ out. out.items) result (batch_text program.now (map (λ text. text.now) texts.now)) }
+    ensures { Answers (λ out. out.items) result
+        (batch_text program.now (map (λ text. text.now) texts.now)) }
 {
     match program.kind() {
         KindTag::Seq => batch_kind::<Seq>(rt, alloc, program, texts),

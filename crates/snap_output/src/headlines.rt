@@ -5,9 +5,10 @@ use snap_asm::what_is_assembled_lists_back;
 use snap_promises::shipped_runs_keep_promises;
 use snap_sched::reads_only_spelled;
 
-/// For every listing, schedule and debugger commands, what is printed is what the table of lines gives; what is assembled lists
-/// back as its source; and what is written with a shipped listing is of a run in which every finished scan's view is the memory's
-/// values at one step between its call and its answer, within the bounds on double collects.
+/// For every listing, schedule and debugger commands, what is printed is what the table of lines
+/// gives; what is assembled lists back as its source; and what is written with a shipped listing is
+/// of a run in which every finished scan's view is the memory's values at one step between its call
+/// and its answer, within the bounds on double collects.
 pub fn headline()
     ensures { Headline }
 {

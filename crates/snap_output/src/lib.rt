@@ -1,4 +1,5 @@
-//! What the program writes for what it reads: from an input to its whole output, or to the reason why there is none.
+//! What the program writes for what it reads: from an input to its whole output, or to the reason
+//! why there is none.
 #![tactic(auto)]
 
 mod audit_output;

@@ -41,7 +41,8 @@ fn check_schedules(subject: Subject, input: &[u8]) -> Result<(), Refusal>
 /// A program under the schedule that a text is, to its end.
 fn run_texts(alloc: Global, program: &Program, texts: &[&[u8]]) -> Result<Vec<u8>, Fault<Refusal>>
     requires { 0 < length texts.now }
-    ensures { Answers (λ out. out.items) result (run_text program.now (map (λ text. text.now) texts.now)) }
+    ensures { Answers (λ out. out.items) result
+        (run_text program.now (map (λ text. text.now) texts.now)) }
 {
     run_program(alloc, program, texts[0])
 }
@@ -50,8 +51,10 @@ fn run_texts(alloc: Global, program: &Program, texts: &[&[u8]]) -> Result<Vec<u8
 #[tactic(auto, unfolding(snap_input::specs::Input::parted))]
 fn run(alloc: Global, subject: Subject, input: &[u8]) -> Result<Vec<u8>, Fault<Refusal>>
     requires { length input.now ≤ 16777216 }
-    ensures output { Answers (λ out. out.items) result (parted subject 1 (parts_of input.now) run_text) }
-    ensures counted { (r : Refusal) → checked_parts subject 1 (parts_of input.now) ≡ Err r → result ≡ Err (Refused r) }
+    ensures output { Answers (λ out. out.items) result
+        (parted subject 1 (parts_of input.now) run_text) }
+    ensures counted { (r : Refusal) → checked_parts subject 1 (parts_of input.now) ≡ Err r →
+        result ≡ Err (Refused r) }
 {
     let parts = parts_for(alloc, subject, 1, input)?;
     let program = program_for(alloc, subject, parts.as_slice())?;
@@ -62,7 +65,8 @@ fn run(alloc: Global, subject: Subject, input: &[u8]) -> Result<Vec<u8>, Fault<R
 /// A program under the schedule that a text is, as the commands of another ask for it.
 fn debug_texts(alloc: Global, program: &Program, texts: &[&[u8]]) -> Result<Vec<u8>, Fault<Refusal>>
     requires { 1 < length texts.now }
-    ensures { Answers (λ out. out.items) result (debug_text program.now (map (λ text. text.now) texts.now)) }
+    ensures { Answers (λ out. out.items) result
+        (debug_text program.now (map (λ text. text.now) texts.now)) }
 {
     perform_program(alloc, program, texts[0], texts[1])
 }
@@ -71,8 +75,10 @@ fn debug_texts(alloc: Global, program: &Program, texts: &[&[u8]]) -> Result<Vec<
 #[tactic(auto, unfolding(snap_input::specs::Input::parted))]
 fn debug(alloc: Global, subject: Subject, input: &[u8]) -> Result<Vec<u8>, Fault<Refusal>>
     requires { length input.now ≤ 16777216 }
-    ensures output { Answers (λ out. out.items) result (parted subject 2 (parts_of input.now) debug_text) }
-    ensures counted { (r : Refusal) → checked_parts subject 2 (parts_of input.now) ≡ Err r → result ≡ Err (Refused r) }
+    ensures output { Answers (λ out. out.items) result
+        (parted subject 2 (parts_of input.now) debug_text) }
+    ensures counted { (r : Refusal) → checked_parts subject 2 (parts_of input.now) ≡ Err r →
+        result ≡ Err (Refused r) }
 {
     let parts = parts_for(alloc, subject, 2, input)?;
     let program = program_for(alloc, subject, parts.as_slice())?;
@@ -83,7 +89,8 @@ fn debug(alloc: Global, subject: Subject, input: &[u8]) -> Result<Vec<u8>, Fault
 /// The verdicts of a program under the schedule that a text is.
 fn audit_texts(alloc: Global, program: &Program, texts: &[&[u8]]) -> Result<Vec<u8>, Fault<Refusal>>
     requires { 0 < length texts.now }
-    ensures { Answers (λ out. out.items) result (verdicts_text program.now (map (λ text. text.now) texts.now)) }
+    ensures { Answers (λ out. out.items) result
+        (verdicts_text program.now (map (λ text. text.now) texts.now)) }
 {
     audit_program(alloc, program, texts[0])
 }
@@ -92,8 +99,10 @@ fn audit_texts(alloc: Global, program: &Program, texts: &[&[u8]]) -> Result<Vec<
 #[tactic(auto, unfolding(snap_input::specs::Input::parted))]
 fn audit(alloc: Global, subject: Subject, input: &[u8]) -> Result<Vec<u8>, Fault<Refusal>>
     requires { length input.now ≤ 16777216 }
-    ensures output { Answers (λ out. out.items) result (parted subject 1 (parts_of input.now) verdicts_text) }
-    ensures counted { (r : Refusal) → checked_parts subject 1 (parts_of input.now) ≡ Err r → result ≡ Err (Refused r) }
+    ensures output { Answers (λ out. out.items) result
+        (parted subject 1 (parts_of input.now) verdicts_text) }
+    ensures counted { (r : Refusal) → checked_parts subject 1 (parts_of input.now) ≡ Err r →
+        result ≡ Err (Refused r) }
 {
     let parts = parts_for(alloc, subject, 1, input)?;
     let program = program_for(alloc, subject, parts.as_slice())?;
@@ -111,7 +120,8 @@ fn batch(
 ) -> Result<Vec<u8>, Fault<Refusal>>
     requires { length input.now ≤ 16777216 }
     ensures output { Answers (λ out. out.items) result (batched subject (parts_of input.now)) }
-    ensures counted { (r : Refusal) → checked_schedules subject (parts_of input.now) ≡ Err r → result ≡ Err (Refused r) }
+    ensures counted { (r : Refusal) → checked_schedules subject (parts_of input.now) ≡ Err r →
+        result ≡ Err (Refused r) }
 {
     check_schedules(subject, input)?;
     let parts = split_parts(alloc, input)?;

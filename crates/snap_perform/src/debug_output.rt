@@ -27,7 +27,8 @@ fn read_schedule(alloc: Global, text: &[u8]) -> Result<Schedule, Fault<Refusal>>
 
 /// Reads commands.
 fn read_commands(alloc: Global, text: &[u8]) -> Result<Vec<Command>, Fault<Refusal>>
-    ensures { Answers (λ commands. commands.items) result (refused_as refusal.Commands (commands_of text.now)) }
+    ensures { Answers (λ commands. commands.items) result
+        (refused_as refusal.Commands (commands_of text.now)) }
 {
     Ok(snap_debug::read_commands(alloc, text)?)
 }
@@ -56,7 +57,8 @@ fn push_answer<K: Kind>(
     session: &mut Session<K>,
     command: &Command,
 ) -> Result<(), AllocError>
-    ensures reply { OnOk result (out.new.items ≡ out.old.items ++ command_reply session.old command.now) }
+    ensures reply { OnOk result (out.new.items ≡ out.old.items
+        ++ command_reply session.old command.now) }
     ensures session { OnOk result (session.new ≡ (answer session.old command.now).0) }
 {
     push_text(out, b"> ")?;
@@ -74,7 +76,8 @@ fn push_answers<K: Kind>(
     session: &mut Session<K>,
     commands: &[Command],
 ) -> Result<(), AllocError>
-    ensures replies { OnOk result (out.new.items ≡ out.old.items ++ replies_text session.old commands.now) }
+    ensures replies { OnOk result (out.new.items ≡ out.old.items
+        ++ replies_text session.old commands.now) }
     ensures session { OnOk result (session.new ≡ after_commands session.old commands.now) }
 {
     for command in commands {
@@ -91,7 +94,8 @@ fn performance<K: Kind>(
     commands: &[Command],
 ) -> Result<Vec<u8>, AllocError>
     requires { program.now.kind ≡ K.TAG }
-    ensures { IfOk result (λ out. out.items ≡ performance (run_over program.now schedule) commands.now) }
+    ensures { IfOk result (λ out. out.items ≡ performance (run_over program.now schedule)
+        commands.now) }
 {
     let mut session = Session::<K>::over(alloc, program, schedule)?;
     let mut out = Vec::new(alloc);
@@ -101,7 +105,8 @@ fn performance<K: Kind>(
     Ok(out)
 }
 
-/// What commands are answered on a program of a kind under a schedule, and the report of the position reached.
+/// What commands are answered on a program of a kind under a schedule, and the report of the
+/// position reached.
 #[tactic(auto, unfolding(crate::specs::Perform::perform_listing))]
 fn perform_kind<K: Kind>(
     alloc: Global,
@@ -110,21 +115,24 @@ fn perform_kind<K: Kind>(
     commands: &[u8],
 ) -> Result<Vec<u8>, Fault<Refusal>>
     requires { program.now.kind ≡ K.TAG }
-    ensures { Answers (λ out. out.items) result (perform_listing program.now schedule.now commands.now) }
+    ensures { Answers (λ out. out.items) result (perform_listing program.now schedule.now
+        commands.now) }
 {
     let schedule = schedule_for::<K>(alloc, program, schedule)?;
     let commands = read_commands(alloc, commands)?;
     Ok(performance::<K>(alloc, program, schedule, commands.as_slice())?)
 }
 
-/// What commands are answered on a program under a schedule, and the report of the position reached.
+/// What commands are answered on a program under a schedule, and the report of the position
+/// reached.
 pub fn perform_program(
     alloc: Global,
     program: &Program,
     schedule: &[u8],
     commands: &[u8],
 ) -> Result<Vec<u8>, Fault<Refusal>>
-    ensures { Answers (λ out. out.items) result (perform_listing program.now schedule.now commands.now) }
+    ensures { Answers (λ out. out.items) result (perform_listing program.now schedule.now
+        commands.now) }
 {
     match program.kind() {
         KindTag::Seq => perform_kind::<Seq>(alloc, program, schedule, commands),
@@ -133,7 +141,8 @@ pub fn perform_program(
     }
 }
 
-/// What commands are answered on a listing under a schedule, and the report of the position reached, as text.
+/// What commands are answered on a listing under a schedule, and the report of the position
+/// reached, as text.
 #[tactic(auto, unfolding(crate::specs::Perform::perform_of))]
 pub fn perform(
     alloc: Global,

@@ -26,7 +26,8 @@ fn end_of<K: Kind>(
     run_to_end(alloc, program, &schedule)
 }
 
-/// What a session without marks answers to `run` at the beginning of a schedule, and the report of the end. No session is opened for it.
+/// What a session without marks answers to `run` at the beginning of a schedule, and the report of
+/// the end. No session is opened for it.
 #[tactic(auto, using(snap_text::proofs::Texts::joined))]
 fn run_schedule<K: Kind>(
     alloc: Global,

@@ -12,7 +12,7 @@ use Rattle.snap_output.specs.Output.{output_of}
 use Rattle.snap_live_output.specs.declared.fault.LiveRunFault.{LiveRunFault}
 use Rattle.snap_live_output.specs.declared.fault.LiveRunFault.TheVariants as run
 use Rattle.snap_live_output.specs.LiveOutput.{AnswersLive}
-use Rattle.snap_tasks.specs.declared.subject.Subject.{Subject}
+use Rattle.snap_subject.specs.declared.subject.Subject.{Subject}
 use Rattle.snap_program.specs.WholeRun.{of_fault, of_live_fault, IsWhole, RefusesLive, RefusesTask, Takes, Reads, Sends, ConductsBy}
 use Rattle.snap_program.specs.declared.fault.ConductFault.{ConductFault}
 use Rattle.snap_program.specs.declared.fault.ConductFault.TheVariants as fault

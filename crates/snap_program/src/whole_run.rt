@@ -40,7 +40,8 @@ fn read_all<R: ByteSource>(alloc: Global, source: &mut R) -> Result<Vec<u8>, Con
 /// Writes all of a text. After `Write(count)` the sink has taken its first `count` bytes.
 pub fn write_all<W: ByteSink>(sink: &mut W, text: &[u8]) -> Result<(), ConductFault>
     requires { W.has_failed sink.old ≡ false }
-    ensures { Sends result text.now (W.taken sink.old) (W.taken sink.new) (W.has_failed sink.new) (W.is_stalled sink.new) }
+    ensures { Sends result text.now (W.taken sink.old) (W.taken sink.new) (W.has_failed sink.new)
+        (W.is_stalled sink.new) }
 {
     let mut sent = 0;
     while sent < text.len() {
@@ -64,7 +65,8 @@ pub fn conduct<R: ByteSource, W: ByteSink>(
     requires source { R.has_failed source.old ≡ false }
     requires sink { W.has_failed sink.old ≡ false }
     requires goes_on { W.is_stalled sink.old ≡ false }
-    ensures { Conducts result task.now (R.left source.old) (R.left source.new) (W.taken sink.old) (W.taken sink.new)
+    ensures { Conducts result task.now (R.left source.old) (R.left source.new) (W.taken sink.old)
+        (W.taken sink.new)
         (R.has_failed source.new) (W.has_failed sink.new) (W.is_stalled sink.new) }
 {
     let input = read_all(alloc, source)?;
@@ -72,8 +74,8 @@ pub fn conduct<R: ByteSource, W: ByteSink>(
     write_all(sink, text.as_slice())
 }
 
-/// Reads the input, plays its scripts live, each process with at most `limit` turns for each of which the gate is asked, and then
-/// writes the history of that run and nothing else.
+/// Reads the input, plays its scripts live, each process with at most `limit` turns for each of
+/// which the gate is asked, and then writes the history of that run and nothing else.
 pub fn conduct_live<G: Gate, R: ByteSource, W: ByteSink>(
     rt: &(impl Threads + Wait + Sync),
     alloc: Global,
@@ -87,7 +89,8 @@ pub fn conduct_live<G: Gate, R: ByteSource, W: ByteSink>(
     requires source { R.has_failed source.old ≡ false }
     requires sink { W.has_failed sink.old ≡ false }
     requires goes_on { W.is_stalled sink.old ≡ false }
-    ensures { ConductsLive (G.may_refuse gate.now) subject limit result (R.left source.old) (R.left source.new) (W.taken sink.old) (W.taken sink.new)
+    ensures { ConductsLive (G.may_refuse gate.now) subject limit result (R.left source.old)
+        (R.left source.new) (W.taken sink.old) (W.taken sink.new)
         (R.has_failed source.new) (W.has_failed sink.new) (W.is_stalled sink.new) }
 {
     let input = read_all(alloc, source)?;

@@ -43,9 +43,10 @@ fn runs_of_m_keep_promises()
     snap_runs_of_m::borrowed_views_are_lent();
 }
 
-/// Every run of U, B and M keeps all that is promised of its listing: it is a run of a snapshot, its operations have their
-/// places, it is wait-free, its passed tests are clean, the moves that scans see have taken place, borrowed views are lent,
-/// and in U and B a scan shows its process's last update.
+/// Every run of U, B and M keeps all that is promised of its listing: it is a run of a snapshot,
+/// its operations have their places, it is wait-free, its passed tests are clean, the moves that
+/// scans see have taken place, borrowed views are lent, and in U and B a scan shows its process's
+/// last update.
 pub fn shipped_runs_keep_promises()
     ensures { (g : KindTag) → RunsKeepPromises g }
 {

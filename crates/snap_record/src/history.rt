@@ -42,10 +42,12 @@ fn call_event(number: u64, item: Item) -> Option<Event>
     }
 }
 
-/// The event of the item of this number, where it has one. An answer's view is the one that was to be answered.
+/// The event of the item of this number, where it has one. An answer's view is the one that was to
+/// be answered.
 #[inline(always)]
 pub fn event_of(number: u64, item: Item, outcome: &Outcome, step_role: StepRole) -> Option<Event>
-    requires { (v : List ℕ) → outcome.now ≡ outcomes.Answered v → seen_step_role step_role ≡ Answer v }
+    requires { (v : List ℕ) → outcome.now ≡ outcomes.Answered v → seen_step_role step_role
+        ≡ Answer v }
     ensures { of_option result ≡ event_of number item outcome.now }
 {
     match outcome {
@@ -80,8 +82,10 @@ fn note_value(now: &mut Row, changes: &mut Vec<Change>, item: u64, place: usize,
     requires place { place < length now.old }
     requires room { vec_len changes.old < vec_capacity changes.old }
     ensures now { now.new ≡ slice_set now.old place value }
-    ensures changes { changes.new.items ≡ changes.old.items ++ change_at item place (slice_index now.old place) value }
-    ensures room { (vec_len changes.new ≤ vec_len changes.old + 1) × (vec_capacity changes.new ≡ vec_capacity changes.old) }
+    ensures changes { changes.new.items ≡ changes.old.items
+        ++ change_at item place (slice_index now.old place) value }
+    ensures room { (vec_len changes.new ≤ vec_len changes.old + 1) ×
+        (vec_capacity changes.new ≡ vec_capacity changes.old) }
 {
     if now.as_slice()[place] == value {
         return;
@@ -121,7 +125,8 @@ pub fn note_values<K: Kind>(
     requires count { length now.old ≡ machine.now.shape.w }
     requires room { vec_len changes.old + machine.now.shape.w ≤ vec_capacity changes.old }
     ensures now { now.new ≡ values machine.now.state }
-    ensures changes { changes.new.items ≡ changes.old.items ++ changes_to item 0 now.old (values machine.now.state) }
+    ensures changes { changes.new.items ≡ changes.old.items
+        ++ changes_to item 0 now.old (values machine.now.state) }
     ensures count { length now.new ≡ machine.now.shape.w }
 {
     let count = machine.shape().w() as usize;
@@ -155,9 +160,11 @@ pub fn note_item<K: Kind>(
 )
     requires count { length now.old ≡ machine.now.shape.w }
     requires room { vec_len changes.old + machine.now.shape.w ≤ vec_capacity changes.old }
-    requires stay { is_write (seen_step_role step_role.now) ≡ false → values machine.now.state ≡ now.old }
+    requires stay { is_write (seen_step_role step_role.now) ≡ false → values machine.now.state
+        ≡ now.old }
     ensures now { now.new ≡ values machine.now.state }
-    ensures changes { changes.new.items ≡ changes.old.items ++ changes_to item 0 now.old (values machine.now.state) }
+    ensures changes { changes.new.items ≡ changes.old.items
+        ++ changes_to item 0 now.old (values machine.now.state) }
     ensures count { length now.new ≡ machine.now.shape.w }
 {
     if is_write(step_role) {
@@ -170,7 +177,8 @@ pub fn note_item<K: Kind>(
 pub fn note_collect(collects: &mut Vec<u64>, i: u32, step_role: &StepRole, outcome: &Outcome)
     requires process { IsOneOf (length collects.old.items) i }
     requires few { slice_index collects.old.items (i - 1) + 1 < 2 ^ 64 }
-    ensures { collects.new.items ≡ counted (seen_step_role step_role.now) outcome.now i collects.old.items }
+    ensures { collects.new.items ≡ counted (seen_step_role step_role.now) outcome.now i
+        collects.old.items }
 {
     if ends_collect(step_role, outcome) {
         collects[(i - 1) as usize] += 1;
@@ -188,7 +196,8 @@ pub fn note_event(
     requires events { vec_len events.old < vec_capacity events.old }
     requires at_events { vec_len at_events.old < vec_capacity at_events.old }
     ensures events { events.new.items ≡ events.old.items ++ of_option event }
-    ensures at_events { at_events.new.items ≡ at_events.old.items ++ map (λ (e : Event). collects) (of_option event) }
+    ensures at_events { at_events.new.items ≡ at_events.old.items
+        ++ map (λ (e : Event). collects) (of_option event) }
 {
     if let Some(event) = event {
         events.push_reserved(event);
@@ -219,8 +228,8 @@ fn is_unseen(outcome: &Outcome) -> bool
     }
 }
 
-/// Notes what callers see of an item, and how many double collects its process has had. An answer's view is the one that was
-/// to be answered.
+/// Notes what callers see of an item, and how many double collects its process has had. An answer's
+/// view is the one that was to be answered.
 #[inline(always)]
 pub fn note_outcome(
     events: &mut Vec<Event>,
@@ -232,12 +241,14 @@ pub fn note_outcome(
     step_role: StepRole,
 )
     requires process { IsOneOf (length collects.now) (who item) }
-    requires answer { (v : List ℕ) → outcome.now ≡ outcomes.Answered v → seen_step_role step_role ≡ Answer v }
+    requires answer { (v : List ℕ) → outcome.now ≡ outcomes.Answered v → seen_step_role step_role
+        ≡ Answer v }
     requires events { vec_len events.old < vec_capacity events.old }
     requires at_events { vec_len at_events.old < vec_capacity at_events.old }
     ensures events { events.new.items ≡ events.old.items ++ event_of number item outcome.now }
     ensures at_events { at_events.new.items ≡ at_events.old.items
-        ++ map (λ (e : Event). slice_index collects.now (who item - 1)) (event_of number item outcome.now) }
+        ++ map (λ (e : Event). slice_index collects.now (who item - 1))
+        (event_of number item outcome.now) }
 {
     if is_unseen(outcome) {
         return;

@@ -22,7 +22,8 @@ pub(crate) enum StoredItem {
     Crash(u32),
 }
 
-/// Items in order, seen as their list and as whether there is room for one more. Operations are kept for calls alone.
+/// Items in order, seen as their list and as whether there is room for one more. Operations are
+/// kept for calls alone.
 #[derive(Debug, Drop)]
 pub struct History {
     items: Vec<StoredItem>,

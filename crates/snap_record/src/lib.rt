@@ -1,5 +1,5 @@
-//! A machine with its history: the items that it has done, what callers saw of them, and how the values changed; and the
-//! printed texts of both.
+//! A machine with its history: the items that it has done, what callers saw of them, and how the
+//! values changed; and the printed texts of both.
 #![tactic(auto)]
 
 mod fault;

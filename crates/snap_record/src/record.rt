@@ -61,8 +61,10 @@ impl<K: Kind> Model for Record<K> {
 
     ghost view = { λ r. record { source = r.machine.source; shape = r.machine.shape; items = r.items.items } };
 
-    ghost invariant = { λ r. IsRecord (record { source = r.machine.source; shape = r.machine.shape; items = r.items.items })
-        K.TAG r.machine.state r.values r.changes.items r.events.items r.collects.items r.at_events.items
+    ghost invariant = { λ r. IsRecord
+        (record { source = r.machine.source; shape = r.machine.shape; items = r.items.items })
+        K.TAG r.machine.state r.values r.changes.items r.events.items r.collects.items
+        r.at_events.items
         × AreRoles r.machine.source r.roles.items };
 }
 
@@ -77,7 +79,8 @@ impl<K: Kind> Record<K> {
     /// Before the first item.
     pub fn new(alloc: Global, program: &Program, shape: Shape) -> Result<Record<K>, AllocError>
         requires { program.now.kind ≡ K.TAG }
-        ensures { IfOk result (λ r. r ≡ record { source = program.now; shape = shape; items = [] }) }
+        ensures { IfOk result (λ r. r
+            ≡ record { source = program.now; shape = shape; items = [] }) }
     {
         Ok(Record {
             alloc,
@@ -92,14 +95,16 @@ impl<K: Kind> Record<K> {
         })
     }
 
-    /// Does one step that writes no word, tests nothing for all and answers nothing: nothing is noted of it but how an operation
-    /// ends.
+    /// Does one step that writes no word, tests nothing for all and answers nothing: nothing is
+    /// noted of it but how an operation ends.
     #[inline(always)]
     fn add_plain(&mut self, i: u32) -> Result<Outcome, AllocError>
         requires process { IsOneOf self.old.shape.n i }
         requires few { length self.old.items < 1000000 }
-        requires plain { step_role_of self.old.source (state self.old (length self.old.items)) (Step i) ≡ Nothing }
-        ensures done { IfOk result (λ o. (self.new ≡ with_item self.old (Step i)) × (o ≡ outcome self.new (length self.new.items))) }
+        requires plain { step_role_of self.old.source (state self.old (length self.old.items))
+            (Step i) ≡ Nothing }
+        ensures done { IfOk result (λ o. (self.new ≡ with_item self.old (Step i)) ×
+            (o ≡ outcome self.new (length self.new.items))) }
         ensures unchanged { OnErr result (self.new ≡ self.old) }
     {
         self.items.reserve()?;
@@ -124,7 +129,8 @@ impl<K: Kind> Record<K> {
     fn add_noted(&mut self, item: Item) -> Result<Outcome, AllocError>
         requires process { IsOneOf self.old.shape.n (who item) }
         requires few { length self.old.items < 1000000 }
-        ensures done { IfOk result (λ o. (self.new ≡ with_item self.old item) × (o ≡ outcome self.new (length self.new.items))) }
+        ensures done { IfOk result (λ o. (self.new ≡ with_item self.old item) ×
+            (o ≡ outcome self.new (length self.new.items))) }
         ensures unchanged { OnErr result (self.new ≡ self.old) }
     {
         let step_role = step_role_of(self.alloc, &self.machine, self.roles.as_slice(), item)?;
@@ -160,7 +166,8 @@ impl<K: Kind> Record<K> {
     fn add(&mut self, item: Item) -> Result<Outcome, AllocError>
         requires process { IsOneOf self.old.shape.n (who item) }
         requires few { length self.old.items < 1000000 }
-        ensures done { IfOk result (λ o. (self.new ≡ with_item self.old item) × (o ≡ outcome self.new (length self.new.items))) }
+        ensures done { IfOk result (λ o. (self.new ≡ with_item self.old item) ×
+            (o ≡ outcome self.new (length self.new.items))) }
         ensures unchanged { OnErr result (self.new ≡ self.old) }
     {
         if let Item::Step(i) = item {
@@ -174,7 +181,8 @@ impl<K: Kind> Record<K> {
     /// Does one item, where fewer than 1,000,000 are kept.
     pub fn apply(&mut self, item: Item) -> Result<Outcome, RecordFault>
         requires { IsOneOf self.old.shape.n (who item) }
-        ensures done { IfOk result (λ o. (self.new ≡ with_item self.old item) × (o ≡ outcome self.new (length self.new.items))) }
+        ensures done { IfOk result (λ o. (self.new ≡ with_item self.old item) ×
+            (o ≡ outcome self.new (length self.new.items))) }
         ensures full { (length self.old.items ≡ 1000000) ↔ (result ≡ Err Full) }
         ensures unchanged { OnErr result (self.new ≡ self.old) }
     {
@@ -184,12 +192,14 @@ impl<K: Kind> Record<K> {
         Ok(self.add(item)?)
     }
 
-    /// Does the first of these items, so many of them. Where there is no memory for one, those before it stay done.
+    /// Does the first of these items, so many of them. Where there is no memory for one, those
+    /// before it stay done.
     pub fn apply_first(&mut self, items: &Items, count: u64) -> Result<(), AllocError>
         requires processes { AllByRecursion (λ x. IsOneOf self.old.shape.n (who x)) items.now }
         requires few { length self.old.items + count ≤ 1000000 }
         ensures done { OnOk result (self.new ≡ with_items self.old (take count items.now)) }
-        ensures begun { OnErr result ((m : ℕ) × (m ≤ count) × (self.new ≡ with_items self.old (take m items.now))) }
+        ensures begun { OnErr result ((m : ℕ) × (m ≤ count) ×
+            (self.new ≡ with_items self.old (take m items.now))) }
     {
         let mut left = items.iter();
         let mut k = 0;
@@ -221,7 +231,8 @@ impl<K: Kind> Record<K> {
 
     /// At each event, how many double collects its process had had.
     pub fn event_collects(&self) -> &[u64]
-        ensures { result.now ≡ map (collects_at self.now) (events_of self.now (length self.now.items)) }
+        ensures { result.now ≡ map (collects_at self.now)
+            (events_of self.now (length self.now.items)) }
     {
         self.at_events.as_slice()
     }
@@ -235,7 +246,12 @@ impl<K: Kind> Record<K> {
 
     /// The machine after the last item.
     pub fn machine(&self) -> &Machine<K>
-        ensures { result.now ≡ record { source = self.now.source; shape = self.now.shape; state = state self.now (length self.now.items) } }
+        ensures { result.now ≡ record {
+          source = self.now.source;
+          shape = self.now.shape;
+          state =
+              state self.now (length self.now.items);
+        } }
     {
         &self.machine
     }
@@ -287,7 +303,8 @@ impl<K: Kind> Record<K> {
         Some(until.saturating_sub(self.at_events[k]))
     }
 
-    /// How many double collects the scan takes that an item calls, where it calls one: up to its answer, or up to now.
+    /// How many double collects the scan takes that an item calls, where it calls one: up to its
+    /// answer, or up to now.
     pub fn collects_of(&self, call: u64) -> Option<u64>
         ensures { result ≡ collects_of self.now call }
     {

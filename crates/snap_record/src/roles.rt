@@ -9,11 +9,8 @@ ghost use Rattle.snap_record.specs.SeenRoles.{seen_step_role};
 
 use crate::step_role::StepRole;
 use snap_asm_program::Program;
-use snap_semantics::Instr;
+use snap_semantics::{Instr, Line};
 use std::alloc::{AllocError, Global};
-
-/// How many numbers of lines are looked up beforehand: more than a listing has.
-const NUMBERS: u64 = 1000;
 
 /// A line that writes a word, one that tests for all, one that may answer a scan, or another.
 #[derive(Clone, Copy, Debug)]
@@ -36,12 +33,21 @@ fn role_of(instr: Option<&Instr>) -> LineRole
     }
 }
 
+/// The number after that of the last line: no line has it, or a greater one. No result depends on
+/// it, since a line that is not looked up beforehand is looked up when it is run.
+fn end_number(lines: &[Line]) -> u64 {
+    match lines.last() {
+        Some(line) => line.number.saturating_add(1),
+        None => 0,
+    }
+}
+
 /// What the lines of a program are, by their numbers.
 pub fn new_roles(alloc: Global, program: &Program) -> Result<Vec<LineRole>, AllocError>
     ensures { IfOk result (λ m. AreRoles program.now m.items) }
 {
     let mut roles = Vec::new(alloc);
-    for number in 0..NUMBERS {
+    for number in 0..end_number(program.listing().lines()) {
         roles.push(role_of(program.listing().instr(number)))?;
     }
     Ok(roles)
@@ -49,7 +55,8 @@ pub fn new_roles(alloc: Global, program: &Program) -> Result<Vec<LineRole>, Allo
 
 /// What a line does, where its number tells that.
 pub fn step_role_by(roles: &[LineRole], line: u64) -> Option<StepRole>
-    ensures { (a : Activity) (l : Locals) (s : Source) → AreRoles s roles.now → IfSome result (λ d. seen_step_role d ≡ step_role_at a l (instr_at s.lines line)) }
+    ensures { (a : Activity) (l : Locals) (s : Source) → AreRoles s roles.now →
+        IfSome result (λ d. seen_step_role d ≡ step_role_at a l (instr_at s.lines line)) }
 {
     let role = *roles.get(line as usize)?;
     match role {
@@ -60,10 +67,12 @@ pub fn step_role_by(roles: &[LineRole], line: u64) -> Option<StepRole>
     }
 }
 
-/// Whether the number of a line tells that it writes no word, tests nothing for all and answers nothing.
+/// Whether the number of a line tells that it writes no word, tests nothing for all and answers
+/// nothing.
 #[inline(always)]
 pub fn is_plain(roles: &[LineRole], line: u64) -> bool
-    ensures { (a : Activity) (l : Locals) (s : Source) → AreRoles s roles.now → IsTrue result → step_role_at a l (instr_at s.lines line) ≡ Nothing }
+    ensures { (a : Activity) (l : Locals) (s : Source) → AreRoles s roles.now → IsTrue result →
+        step_role_at a l (instr_at s.lines line) ≡ Nothing }
 {
     match roles.get(line as usize) {
         Some(LineRole::Nothing) => true,

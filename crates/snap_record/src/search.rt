@@ -39,11 +39,12 @@ pub fn scans(i: u32, what: &Happening) -> Option<u32>
     }
 }
 
-/// How many double collects a process had had at its first answer among the events from a place on, and otherwise all of
-/// them.
+/// How many double collects a process had had at its first answer among the events from a place on,
+/// and otherwise all of them.
 pub fn collects_until(events: &[Event], at_events: &[u64], from: usize, i: u32, all: u64) -> u64
     requires { length at_events.now ≡ length events.now }
-    ensures { (r : Run) → at_events.now ≡ map (collects_at r) events.now → all ≡ double_collects r i 0 (length r.items) →
+    ensures { (r : Run) → at_events.now ≡ map (collects_at r) events.now →
+        all ≡ double_collects r i 0 (length r.items) →
         result ≡ collects_until r i (drop from events.now) }
 {
     let mut k = from;

@@ -17,7 +17,8 @@ use snap_semantics::{Activity, Instr, Item, Name, Op, Status};
 use snap_words::{Kind, View};
 use std::alloc::{AllocError, Global};
 
-/// A line that writes a word, one that tests for all, one that answers a scan with a view, or another.
+/// A line that writes a word, one that tests for all, one that answers a scan with a view, or
+/// another.
 #[derive(Debug, Drop)]
 pub enum StepRole {
     Write,
@@ -28,7 +29,8 @@ pub enum StepRole {
 
 /// What a line `return` does with a view.
 fn returned(alloc: Global, view: &[u64], activity: &Activity) -> Result<StepRole, AllocError>
-    ensures { IfOk result (λ d. seen_step_role d ≡ returned view.now activity.now.op activity.now.link) }
+    ensures { IfOk result (λ d. seen_step_role d
+        ≡ returned view.now activity.now.op activity.now.link) }
 {
     match (activity.op, activity.link) {
         (Op::Scan, None) => Ok(StepRole::Answer(View::of(Vec::from_slice(alloc, view)?))),
@@ -64,7 +66,8 @@ fn line_step_role<K: Kind>(
     requires process { IsOneOf machine.now.shape.n i }
     requires right { HasRightUses machine.now.source instr.now }
     requires alone { ViewsAlone machine.now.source machine.now.state }
-    ensures { IfOk result (λ d. seen_step_role d ≡ line_step_role activity.now (process_at machine.now.state i).locals instr.now) }
+    ensures { IfOk result (λ d. seen_step_role d
+        ≡ line_step_role activity.now (process_at machine.now.state i).locals instr.now) }
 {
     match instr {
         Instr::Put(_, _) => Ok(StepRole::Write),
@@ -84,7 +87,8 @@ fn found_step_role<K: Kind>(
     requires process { IsOneOf machine.now.shape.n i }
     requires alone { ViewsAlone machine.now.source machine.now.state }
     ensures { IfOk result (λ d. seen_step_role d
-        ≡ step_role_at activity.now (process_at machine.now.state i).locals (instr_at machine.now.source.lines activity.now.line)) }
+        ≡ step_role_at activity.now (process_at machine.now.state i).locals
+        (instr_at machine.now.source.lines activity.now.line)) }
 {
     match machine.program().listing().instr(activity.line) {
         Some(instr) => line_step_role(alloc, machine, i, activity, instr),
@@ -102,7 +106,8 @@ pub fn step_role_of<K: Kind>(
     requires process { IsOneOf machine.now.shape.n (who item) }
     requires alone { ViewsAlone machine.now.source machine.now.state }
     requires roles { AreRoles machine.now.source roles.now }
-    ensures { IfOk result (λ d. seen_step_role d ≡ step_role_of machine.now.source machine.now.state item) }
+    ensures { IfOk result (λ d. seen_step_role d ≡ step_role_of machine.now.source machine.now.state
+        item) }
 {
     let Item::Step(i) = item else {
         return Ok(StepRole::Nothing);
@@ -116,7 +121,8 @@ pub fn step_role_of<K: Kind>(
     }
 }
 
-/// Whether a step of a process is seen at once to write no word, to test nothing for all and to answer nothing: most steps are.
+/// Whether a step of a process is seen at once to write no word, to test nothing for all and to
+/// answer nothing: most steps are.
 #[inline(always)]
 #[tactic(auto, using(crate::proofs::PlainSteps::plain_at))]
 pub fn is_plain_step<K: Kind>(machine: &Machine<K>, roles: &[LineRole], i: u32) -> bool

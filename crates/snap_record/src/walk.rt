@@ -17,7 +17,8 @@ fn make_change(values: &mut Row, change: Change)
 
 /// Makes the next changes up to an item, and answers which one is next then.
 pub fn advance(values: &mut Row, changes: &[Change], next: usize, item: u64) -> usize
-    ensures later { (u : ℕ) → item ≤ u → values_by values.new (drop result changes.now) u ≡ values_by values.old (drop next changes.now) u }
+    ensures later { (u : ℕ) → item ≤ u → values_by values.new (drop result changes.now) u
+        ≡ values_by values.old (drop next changes.now) u }
     ensures now { values_by values.new (drop result changes.now) item ≡ values.new }
 {
     let mut k = next;

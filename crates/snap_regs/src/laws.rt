@@ -1,7 +1,8 @@
 //! Laws of what is read and written.
 ghost use Rattle.snap_semantics.specs.WithContents.{PutIsThere, OthersStay};
 
-/// What is put into a register is read there, and the registers of all other addresses are as they were.
+/// What is put into a register is read there, and the registers of all other addresses are as they
+/// were.
 pub fn what_is_put_is_there()
     ensures there { PutIsThere }
     ensures others { OthersStay }

@@ -37,7 +37,8 @@ impl<K: Kind> Model for Registers<K> {
 
     ghost view = { λ r. record { shape = r.shape; memory = record { words = map K.as_word r.words.items; q = r.q; p = r.p; views = r.views.items } } };
 
-    ghost invariant = { λ r. IsOfShape K.TAG r.shape (record { words = map K.as_word r.words.items; q = r.q; p = r.p; views = r.views.items }) };
+    ghost invariant = { λ r. IsOfShape K.TAG r.shape
+        (record { words = map K.as_word r.words.items; q = r.q; p = r.p; views = r.views.items }) };
 }
 
 /// How many rows of bits, or views, a bank has.
@@ -54,7 +55,8 @@ fn rows_in<K: Kind>(shape: Shape, bank: Bank) -> u64
 
 /// A word for each place of the shape, none of them written.
 fn initial_words<K: Kind>(alloc: Global, shape: Shape) -> Result<Vec<K::Word>, AllocError>
-    ensures { IfOk result (λ words. map K.as_word words.items ≡ replicate shape.w (initial_word K.TAG shape)) }
+    ensures { IfOk result (λ words. map K.as_word words.items
+        ≡ replicate shape.w (initial_word K.TAG shape)) }
 {
     let mut words = Vec::new(alloc);
     for i in 0..shape.w() {
@@ -71,7 +73,8 @@ fn bit_place<K: Kind>(
     j: u64,
 ) -> Result<(usize, usize), RegisterFault>
     ensures { MatchResult result
-        (λ at. (is_bit_place K.TAG shape bits i j ≡ true) × (at.0 ≡ i - 1) × (at.1 ≡ j - 1) × (at.0 < rows_in K.TAG shape (bank_of bits)) × (at.1 < shape.n))
+        (λ at. (is_bit_place K.TAG shape bits i j ≡ true) × (at.0 ≡ i - 1) × (at.1 ≡ j - 1) ×
+        (at.0 < rows_in K.TAG shape (bank_of bits)) × (at.1 < shape.n))
         (λ e. (e ≡ Index) × (is_bit_place K.TAG shape bits i j ≡ false)) }
 {
     if !K::has_bank(bits.bank()) {
@@ -85,7 +88,8 @@ fn bit_place<K: Kind>(
 /// The place of a view, counted from 0.
 fn view_place<K: Kind>(shape: Shape, i: u64) -> Result<usize, RegisterFault>
     ensures { MatchResult result
-        (λ place. (is_view_place K.TAG shape i ≡ true) × (place ≡ i - 1) × (place < rows_in K.TAG shape bank.V))
+        (λ place. (is_view_place K.TAG shape i ≡ true) × (place ≡ i - 1) ×
+        (place < rows_in K.TAG shape bank.V))
         (λ e. (e ≡ Index) × (is_view_place K.TAG shape i ≡ false)) }
 {
     if !K::has_bank(Bank::V) {
@@ -96,7 +100,8 @@ fn view_place<K: Kind>(shape: Shape, i: u64) -> Result<usize, RegisterFault>
 
 /// `Owner` unless the process may write the registers of this bank whose first index is `i`.
 pub fn check_owner<K: Kind>(who: u32, bank: Bank, i: u64) -> Result<(), RegisterFault>
-    ensures { MatchResult result (λ _. may_write K.TAG who bank i ≡ true) (λ e. (e ≡ Owner) × (may_write K.TAG who bank i ≡ false)) }
+    ensures { MatchResult result (λ _. may_write K.TAG who bank i ≡ true) (λ e. (e ≡ Owner) ×
+        (may_write K.TAG who bank i ≡ false)) }
 {
     if K::may_write(who, Address { bank, i, j: 0 }) {
         Ok(())
@@ -131,12 +136,14 @@ impl<K: Kind> Registers<K> {
     /// Word `k`, or `Index` where there is none.
     pub fn word(&self, k: u64) -> Result<&K::Word, RegisterFault>
         ensures place { MatchResult result
-            (λ word. (is_place self.now.shape.w k ≡ true) × (K.as_word word.now ≡ slice_index_or self.now.memory.words (k - 1) no_word))
+            (λ word. (is_place self.now.shape.w k ≡ true) ×
+            (K.as_word word.now ≡ slice_index_or self.now.memory.words (k - 1) no_word))
             (λ e. (e ≡ Index) × (is_place self.now.shape.w k ≡ false)) }
         ensures content { MatchResult result
             (λ word. contents self.now.memory bank.R k 0 ≡ Some (WordContents (K.as_word word.now)))
             (λ _. contents self.now.memory bank.R k 0 ≡ None) }
-        ensures sized { IfOk result (λ word. is_sized K.TAG self.now.shape (K.as_word word.now) ≡ true) }
+        ensures sized { IfOk result (λ word. is_sized K.TAG self.now.shape (K.as_word word.now)
+            ≡ true) }
     {
         let place = place_in(self.shape.w(), k, RegisterFault::Index)?;
         Ok(&self.words[place])
@@ -145,7 +152,8 @@ impl<K: Kind> Registers<K> {
     /// Bit `j` of row `i`, or `Index` where there is none.
     pub fn bit(&self, bits: BitBank, i: u64, j: u64) -> Result<u64, RegisterFault>
         ensures place { MatchResult result
-            (λ bit. (is_bit_place K.TAG self.now.shape bits i j ≡ true) × (bit ≡ bit_at (bits_of bits self.now.memory) (i - 1) (j - 1)))
+            (λ bit. (is_bit_place K.TAG self.now.shape bits i j ≡ true) ×
+            (bit ≡ bit_at (bits_of bits self.now.memory) (i - 1) (j - 1)))
             (λ e. (e ≡ Index) × (is_bit_place K.TAG self.now.shape bits i j ≡ false)) }
         ensures content { MatchResult result
             (λ bit. contents self.now.memory (bank_of bits) i j ≡ Some (BitContents bit))
@@ -159,7 +167,8 @@ impl<K: Kind> Registers<K> {
     /// View `i`, or `Index` where there is none.
     pub fn view(&self, i: u64) -> Result<&View, RegisterFault>
         ensures place { MatchResult result
-            (λ view. (is_view_place K.TAG self.now.shape i ≡ true) × (view.now ≡ slice_index_or self.now.memory.views (i - 1) []))
+            (λ view. (is_view_place K.TAG self.now.shape i ≡ true) ×
+            (view.now ≡ slice_index_or self.now.memory.views (i - 1) []))
             (λ e. (e ≡ Index) × (is_view_place K.TAG self.now.shape i ≡ false)) }
         ensures content { MatchResult result
             (λ view. contents self.now.memory bank.V i 0 ≡ Some (ViewContents view.now))
@@ -170,14 +179,16 @@ impl<K: Kind> Registers<K> {
         Ok(&self.views[place])
     }
 
-    /// Process `who` puts a word at place `k`: `Index` where there is no such word, `Owner` where the process may not
-    /// write it.
+    /// Process `who` puts a word at place `k`: `Index` where there is no such word, `Owner` where
+    /// the process may not write it.
     pub fn put_word(&mut self, who: u32, k: u64, word: K::Word) -> Result<(), RegisterFault>
         requires { is_sized K.TAG self.old.shape (K.as_word word) ≡ true }
         ensures put { MatchResult result
-            (λ _. (is_place self.old.shape.w k ≡ true) × (may_write K.TAG who bank.R k ≡ true) × (self.new ≡ with_word k (K.as_word word) self.old))
+            (λ _. (is_place self.old.shape.w k ≡ true) × (may_write K.TAG who bank.R k ≡ true) ×
+            (self.new ≡ with_word k (K.as_word word) self.old))
             (λ e. IsWordRefused K.TAG self.old.shape who k e × (self.new ≡ self.old)) }
-        ensures place { OnOk result (self.new.memory ≡ with_contents self.old.memory bank.R k 0 (WordContents (K.as_word word))) }
+        ensures place { OnOk result (self.new.memory ≡ with_contents self.old.memory bank.R k 0
+            (WordContents (K.as_word word))) }
         ensures shape { self.new.shape ≡ self.old.shape }
     {
         let place = place_in(self.shape.w(), k, RegisterFault::Index)?;
@@ -186,7 +197,8 @@ impl<K: Kind> Registers<K> {
         Ok(())
     }
 
-    /// Process `who` puts bit `j` of row `i`: `Index` where there is no such bit, `NotABit` where it is not 0 or 1,
+    /// Process `who` puts bit `j` of row `i`: `Index` where there is no such bit, `NotABit` where
+    /// it is not 0 or 1,
     /// `Owner` where the process may not write it.
     pub fn put_bit(
         &mut self,
@@ -197,10 +209,12 @@ impl<K: Kind> Registers<K> {
         bit: u64,
     ) -> Result<(), RegisterFault>
         ensures put { MatchResult result
-            (λ _. (is_bit_place K.TAG self.old.shape bits i j ≡ true) × (is_bit bit ≡ true) × (may_write K.TAG who (bank_of bits) i ≡ true)
+            (λ _. (is_bit_place K.TAG self.old.shape bits i j ≡ true) × (is_bit bit ≡ true) ×
+            (may_write K.TAG who (bank_of bits) i ≡ true)
             × (self.new ≡ with_bit bits i j bit self.old))
             (λ e. IsBitRefused K.TAG self.old.shape who bits i j bit e × (self.new ≡ self.old)) }
-        ensures place { OnOk result (self.new.memory ≡ with_contents self.old.memory (bank_of bits) i j (BitContents bit)) }
+        ensures place { OnOk result (self.new.memory ≡ with_contents self.old.memory (bank_of bits)
+            i j (BitContents bit)) }
         ensures shape { self.new.shape ≡ self.old.shape }
     {
         let (row, column) = bit_place::<K>(self.shape, bits, i, j)?;
@@ -215,13 +229,16 @@ impl<K: Kind> Registers<K> {
         Ok(())
     }
 
-    /// Process `who` puts view `i`: `Index` where there is no such view, `Owner` where the process may not write it.
+    /// Process `who` puts view `i`: `Index` where there is no such view, `Owner` where the process
+    /// may not write it.
     pub fn put_view(&mut self, who: u32, i: u64, view: View) -> Result<(), RegisterFault>
         requires { length view ≡ self.old.shape.w }
         ensures put { MatchResult result
-            (λ _. (is_view_place K.TAG self.old.shape i ≡ true) × (may_write K.TAG who bank.V i ≡ true) × (self.new ≡ with_view i view self.old))
+            (λ _. (is_view_place K.TAG self.old.shape i ≡ true) ×
+            (may_write K.TAG who bank.V i ≡ true) × (self.new ≡ with_view i view self.old))
             (λ e. IsViewRefused K.TAG self.old.shape who i e × (self.new ≡ self.old)) }
-        ensures place { OnOk result (self.new.memory ≡ with_contents self.old.memory bank.V i 0 (ViewContents view)) }
+        ensures place { OnOk result (self.new.memory ≡ with_contents self.old.memory bank.V i 0
+            (ViewContents view)) }
         ensures shape { self.new.shape ≡ self.old.shape }
     {
         let place = view_place::<K>(self.shape, i)?;

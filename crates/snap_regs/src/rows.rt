@@ -7,7 +7,8 @@ use snap_words::View;
 use std::alloc::{AllocError, Global};
 use std::marker::Model;
 
-/// Rows of bits, one behind the other, seen as the list of the rows: each is the list of its bits, as numbers.
+/// Rows of bits, one behind the other, seen as the list of the rows: each is the list of its bits,
+/// as numbers.
 #[derive(Drop)]
 pub(crate) struct BitRows {
     rows: usize,

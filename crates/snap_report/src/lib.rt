@@ -1,4 +1,5 @@
-//! The printed texts of positions, registers, processes, events and outcomes, and the report of a machine.
+//! The printed texts of positions, registers, processes, events and outcomes, and the report of a
+//! machine.
 #![tactic(auto)]
 
 mod event_text;

@@ -50,7 +50,8 @@ pub fn outcome_text(out: &mut Vec<u8>, outcome: &Outcome) -> Result<(), AllocErr
 
 /// Where the processes stand, from process 1 on.
 pub fn head_lines<K: Kind>(out: &mut Vec<u8>, machine: &Machine<K>) -> Result<(), AllocError>
-    ensures { OnOk result (out.new.items ≡ out.old.items ++ head_lines 1 machine.now.state.processes) }
+    ensures { OnOk result (out.new.items ≡ out.old.items
+        ++ head_lines 1 machine.now.state.processes) }
 {
     let shape = machine.shape();
     for k in 0..shape.n() {

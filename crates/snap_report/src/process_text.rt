@@ -99,7 +99,8 @@ fn status_text(out: &mut Vec<u8>, status: &Status) -> Result<(), AllocError>
 #[tactic(auto, using(snap_text::proofs::Texts::joined))]
 pub fn head_line<K: Kind>(out: &mut Vec<u8>, machine: &Machine<K>, i: u32) -> Result<(), AllocError>
     requires { IsOneOf machine.now.shape.n i }
-    ensures { OnOk result (out.new.items ≡ out.old.items ++ head_line i (process_at machine.now.state i).status) }
+    ensures { OnOk result (out.new.items ≡ out.old.items
+        ++ head_line i (process_at machine.now.state i).status) }
 {
     push_text(out, b"process ")?;
     push_number(out, u64::from(i))?;
@@ -153,7 +154,8 @@ fn word_local<K: Kind>(
     place: u64,
     word: &K::Word,
 ) -> Result<(), AllocError>
-    ensures { OnOk result (out.new.items ≡ out.old.items ++ word_local kind name.now place (K.as_word word.now)) }
+    ensures { OnOk result (out.new.items ≡ out.old.items ++ word_local kind name.now place
+        (K.as_word word.now)) }
 {
     place_text(out, name, place)?;
     word_text::<K>(out, kind, word)?;
@@ -167,7 +169,8 @@ fn words_local<K: Kind>(
     name: &Name,
     words: &[K::Word],
 ) -> Result<(), AllocError>
-    ensures { OnOk result (out.new.items ≡ out.old.items ++ words_local kind name.now 1 (map K.as_word words.now)) }
+    ensures { OnOk result (out.new.items ≡ out.old.items
+        ++ words_local kind name.now 1 (map K.as_word words.now)) }
 {
     let mut k = 0;
     while k < words.len() {
@@ -219,7 +222,8 @@ fn sort_lines<K: Kind>(
 #[tactic(auto, using(snap_text::proofs::Texts::joined))]
 fn locals_text<K: Kind>(out: &mut Vec<u8>, machine: &Machine<K>, i: u32) -> Result<(), AllocError>
     requires { IsOneOf machine.now.shape.n i }
-    ensures { OnOk result (out.new.items ≡ out.old.items ++ locals_text machine.now.source.kind (process_at machine.now.state i).locals) }
+    ensures { OnOk result (out.new.items ≡ out.old.items ++ locals_text machine.now.source.kind
+        (process_at machine.now.state i).locals) }
 {
     sort_lines(out, machine, i, Sort::Scalar)?;
     sort_lines(out, machine, i, Sort::Row)?;
@@ -235,7 +239,8 @@ pub fn process_lines<K: Kind>(
     i: u32,
 ) -> Result<(), AllocError>
     requires { IsOneOf machine.now.shape.n i }
-    ensures { OnOk result (out.new.items ≡ out.old.items ++ process_lines machine.now.source.kind i (process_at machine.now.state i)) }
+    ensures { OnOk result (out.new.items ≡ out.old.items ++ process_lines machine.now.source.kind i
+        (process_at machine.now.state i)) }
 {
     head_line(out, machine, i)?;
     locals_text(out, machine, i)
@@ -243,7 +248,8 @@ pub fn process_lines<K: Kind>(
 
 /// The lines of the processes, from process 1 on.
 pub fn processes_lines<K: Kind>(out: &mut Vec<u8>, machine: &Machine<K>) -> Result<(), AllocError>
-    ensures { OnOk result (out.new.items ≡ out.old.items ++ processes_lines machine.now.source.kind 1 machine.now.state.processes) }
+    ensures { OnOk result (out.new.items ≡ out.old.items
+        ++ processes_lines machine.now.source.kind 1 machine.now.state.processes) }
 {
     let shape = machine.shape();
     for k in 0..shape.n() {

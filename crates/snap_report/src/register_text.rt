@@ -24,7 +24,8 @@ use std::alloc::AllocError;
 /// The line of the values of the words.
 #[tactic(auto, using(snap_text::proofs::Texts::joined))]
 pub fn values_line<K: Kind>(out: &mut Vec<u8>, machine: &Machine<K>) -> Result<(), AllocError>
-    ensures { OnOk result (out.new.items ≡ out.old.items ++ values_line (values machine.now.state)) }
+    ensures { OnOk result (out.new.items ≡ out.old.items
+        ++ values_line (values machine.now.state)) }
 {
     let values = machine.values()?;
     push_text(out, b"values")?;
@@ -64,7 +65,8 @@ fn bank_text(bank: Bank) -> &'static [u8]
 /// The line of a bit of a bank.
 #[tactic(auto, using(snap_text::proofs::Texts::joined))]
 fn bit_line(out: &mut Vec<u8>, address: Address, bit: u64) -> Result<(), AllocError>
-    ensures { OnOk result (out.new.items ≡ out.old.items ++ bit_line (bank_text address.bank) address.i address.j bit) }
+    ensures { OnOk result (out.new.items ≡ out.old.items
+        ++ bit_line (bank_text address.bank) address.i address.j bit) }
 {
     push_text(out, bank_text(address.bank))?;
     push_text(out, b" ")?;
@@ -162,7 +164,8 @@ fn bank_lines<K: Kind>(
 
 /// The lines of the views, from v[1] on.
 fn view_lines<K: Kind>(out: &mut Vec<u8>, machine: &Machine<K>) -> Result<(), AllocError>
-    ensures { OnOk result (out.new.items ≡ out.old.items ++ view_lines 1 machine.now.state.memory.views) }
+    ensures { OnOk result (out.new.items ≡ out.old.items
+        ++ view_lines 1 machine.now.state.memory.views) }
 {
     let count = machine.shape().n();
     for i in 0..count {

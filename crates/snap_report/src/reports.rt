@@ -36,7 +36,8 @@ fn first_line(out: &mut Vec<u8>, position: u64, total: u64) -> Result<(), AllocE
     push_text(out, b"\n")
 }
 
-/// The report of the state that a machine is in after so many of all items, and of the events up to it.
+/// The report of the state that a machine is in after so many of all items, and of the events up to
+/// it.
 #[tactic(auto, using(snap_text::proofs::Texts::joined))]
 pub fn report<K: Kind>(
     out: &mut Vec<u8>,

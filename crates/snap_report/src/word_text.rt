@@ -8,7 +8,8 @@ use std::alloc::AllocError;
 
 /// Adds each handshake bit behind a space.
 fn push_handshakes<K: Kind>(out: &mut Vec<u8>, word: &K::Word) -> Result<(), AllocError>
-    ensures { OnOk result (out.new.items ≡ out.old.items ++ numbers_text (K.as_word word.now).handshakes) }
+    ensures { OnOk result (out.new.items ≡ out.old.items
+        ++ numbers_text (K.as_word word.now).handshakes) }
 {
     for place in 0..K::handshake_count(word) as usize {
         push_text(out, b" ")?;

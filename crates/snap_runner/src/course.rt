@@ -48,9 +48,12 @@ impl<K: Kind> Course<K> {
     fn take(&mut self, item: Item) -> Result<(), AllocError>
         requires process { IsOneOf self.old.machine.shape.n (who item) }
         requires few { self.old.done < 2 ^ 63 }
-        ensures state { OnOk result (self.new.machine.state ≡ (done self.old.machine.source self.old.machine.shape self.old.machine.state item).0) }
+        ensures state { OnOk result (self.new.machine.state
+            ≡ (done self.old.machine.source self.old.machine.shape self.old.machine.state item).0) }
         ensures events { OnOk result (self.new.events.items ≡ self.old.events.items
-            ++ event_of (self.old.done + 1) item (done self.old.machine.source self.old.machine.shape self.old.machine.state item).1) }
+            ++ event_of (self.old.done + 1) item
+            (done self.old.machine.source self.old.machine.shape self.old.machine.state
+            item).1) }
         ensures source { self.new.machine.source ≡ self.old.machine.source }
         ensures shape { self.new.machine.shape ≡ self.old.machine.shape }
         ensures number { OnOk result (self.new.done ≡ self.old.done + 1) }
@@ -65,7 +68,8 @@ impl<K: Kind> Course<K> {
 
     /// Notes what callers see of the item that was done last.
     fn note(&mut self, item: Item, outcome: Outcome) -> Result<(), AllocError>
-        ensures events { OnOk result (self.new.events.items ≡ self.old.events.items ++ event_of self.old.done item outcome) }
+        ensures events { OnOk result (self.new.events.items ≡ self.old.events.items
+            ++ event_of self.old.done item outcome) }
         ensures machine { self.new.machine ≡ self.old.machine }
         ensures number { self.new.done ≡ self.old.done }
     {
@@ -78,7 +82,8 @@ impl<K: Kind> Course<K> {
     /// Adds the report of the end of the schedule that it has gone through.
     #[tactic(auto, using(crate::proofs::Ends::end_reported))]
     pub fn push_report(&self, out: &mut Vec<u8>) -> Result<(), AllocError>
-        ensures { (l : Source) (s : Schedule) → IsEnd l s self.now → OnOk result (out.new.items ≡ out.old.items ++ end_report l s) }
+        ensures { (l : Source) (s : Schedule) → IsEnd l s self.now →
+            OnOk result (out.new.items ≡ out.old.items ++ end_report l s) }
     {
         report(
             out,

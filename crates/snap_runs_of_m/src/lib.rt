@@ -14,7 +14,8 @@ pub fn changes_only_at_57()
     ensures { ChangesOnlyAt57 }
 {}
 
-/// An item that executes line 57 lies in an update of its process and writes that update's value at its word, nothing else.
+/// An item that executes line 57 lies in an update of its process and writes that update's value at
+/// its word, nothing else.
 pub fn writes_its_update()
     ensures { WritesItsUpdate }
 {}
@@ -44,42 +45,47 @@ pub fn sharp_collects()
     ensures { SharpCollects }
 {}
 
-/// Where a scan sees a process move, that process has written a word or answered the scanner's handshake since the scan's
-/// previous double collect, or since the scan's start where there is none.
+/// Where a scan sees a process move, that process has written a word or answered the scanner's
+/// handshake since the scan's previous double collect, or since the scan's start where there is
+/// none.
 pub fn moves_are_events()
     ensures { MovesAreEvents }
 {}
 
-/// Where a scan's test passes, there is a state between its two collects, and no word was written between the scan's two
-/// reads of it.
+/// Where a scan's test passes, there is a state between its two collects, and no word was written
+/// between the scan's two reads of it.
 pub fn passed_tests_are_clean()
     ensures { PassedTestsAreClean }
 {}
 
-/// Every run is linearizable: some order of its operations, in which one that ended before another was called stands before
-/// it, is a run of the snapshot object of one process, with the answers that were given.
+/// Every run is linearizable: some order of its operations, in which one that ended before another
+/// was called stands before it, is a run of the snapshot object of one process, with the answers
+/// that were given.
 pub fn linearizable()
     ensures { Linearizable }
 {}
 
-/// Each operation of a run has its place, an item between its call and its end: an update that at which it executes line
-/// 57, and a scan one after which the values are its view; and in the order of their places they are a linearization.
+/// Each operation of a run has its place, an item between its call and its end: an update that at
+/// which it executes line 57, and a scan one after which the values are its view; and in the order
+/// of their places they are a linearization.
 pub fn operations_have_places()
     ensures { OperationsHavePlaces }
 {}
 
-/// The listing is write strongly linearizable: its runs have linearizations in which the updates keep their order as a run
-/// goes on, and more come only behind them.
+/// The listing is write strongly linearizable: its runs have linearizations in which the updates
+/// keep their order as a run goes on, and more come only behind them.
 pub fn write_strongly_linearizable()
     ensures { WriteStronglyLinearizable }
 {}
 
-/// Every call is over after so many turns of its process, whatever the others do or stop doing: at most 14 n n + 16 n w + 22 n + 8 w + 16.
+/// Every call is over after so many turns of its process, whatever the others do or stop doing: at
+/// most 14 n n + 16 n w + 22 n + 8 w + 16.
 pub fn wait_free()
     ensures { WaitFree }
 {}
 
-/// A scan that borrows a view, and returns it at line 37, has that of an embedded scan of another process, all within it.
+/// A scan that borrows a view, and returns it at line 37, has that of an embedded scan of another
+/// process, all within it.
 pub fn borrowed_views_are_lent()
     ensures { BorrowedViewsAreLent }
 {}
@@ -89,8 +95,8 @@ pub fn runs_are_snapshots()
     ensures { RunsAreSnapshots }
 {}
 
-/// Every run is bounded, however long it is: each number of each state is within limits that n and w
-/// alone decide, and each value is 0 or that of an update that was called before.
+/// Every run is bounded, however long it is: each number of each state is within limits that n and
+/// w alone decide, and each value is 0 or that of an update that was called before.
 pub fn stays_bounded()
     ensures { StaysBounded }
 {}

@@ -15,7 +15,8 @@ use std::alloc::{AllocError, Global};
 
 /// Adds the line of steps: `I` or `I*K`.
 fn push_steps(out: &mut Vec<u8>, process: u64, count: u64) -> Result<(), AllocError>
-    ensures { OnOk result (out.new.items ≡ out.old.items ++ line_text (spelled_steps process count)) }
+    ensures { OnOk result (out.new.items ≡ out.old.items
+        ++ line_text (spelled_steps process count)) }
 {
     if count == 1 {
         return push_laid_out(out, &[Token::Number(process)]);
@@ -39,7 +40,8 @@ fn push_scan(out: &mut Vec<u8>, process: u64) -> Result<(), AllocError>
 
 /// Adds the line of an update: `I update K X`.
 fn push_update(out: &mut Vec<u8>, process: u64, word: u64, value: u64) -> Result<(), AllocError>
-    ensures { OnOk result (out.new.items ≡ out.old.items ++ line_text (spelled_call process (Update word value))) }
+    ensures { OnOk result (out.new.items ≡ out.old.items
+        ++ line_text (spelled_call process (Update word value))) }
 {
     push_laid_out(
         out,
@@ -54,14 +56,16 @@ fn push_update(out: &mut Vec<u8>, process: u64, word: u64, value: u64) -> Result
 
 /// Adds the line of a crash: `I crash`.
 fn push_crash(out: &mut Vec<u8>, process: u64) -> Result<(), AllocError>
-    ensures { OnOk result (out.new.items ≡ out.old.items ++ line_text (spelled_form (Crashes process))) }
+    ensures { OnOk result (out.new.items ≡ out.old.items
+        ++ line_text (spelled_form (Crashes process))) }
 {
     push_laid_out(out, &[Token::Number(process), Token::Identifier(b"crash")])
 }
 
 /// Adds the line of a segment.
 fn push_segment(out: &mut Vec<u8>, segment: Segment) -> Result<(), AllocError>
-    ensures { OnOk result (out.new.items ≡ out.old.items ++ line_text (spelled_form (segment_form segment))) }
+    ensures { OnOk result (out.new.items ≡ out.old.items
+        ++ line_text (spelled_form (segment_form segment))) }
 {
     match segment {
         Segment::Steps { process, count } => push_steps(out, u64::from(process), count),
@@ -79,7 +83,8 @@ fn push_segment(out: &mut Vec<u8>, segment: Segment) -> Result<(), AllocError>
 
 /// Adds the lines of segments.
 fn push_segments(out: &mut Vec<u8>, segments: Segments<'_>) -> Result<(), AllocError>
-    ensures { OnOk result (out.new.items ≡ out.old.items ++ forms_text (map segment_form segments.entry)) }
+    ensures { OnOk result (out.new.items ≡ out.old.items
+        ++ forms_text (map segment_form segments.entry)) }
 {
     for segment in segments {
         push_segment(out, segment)?;

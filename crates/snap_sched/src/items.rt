@@ -11,8 +11,8 @@ use snap_semantics::Op;
 use std::alloc::{AllocError, Global};
 use std::marker::Model;
 
-/// A list of fewer than 2^32 items, kept as its greatest segments: steps of one process side by side take 8 bytes, however
-/// many they are.
+/// A list of fewer than 2^32 items, kept as its greatest segments: steps of one process side by
+/// side take 8 bytes, however many they are.
 #[derive(Debug, Drop)]
 pub struct Items {
     segments: Vec<SegmentStart>,
@@ -33,7 +33,8 @@ impl Model for Items {
 
     ghost view = { λ x. items_of_segments (segments_of x.segments.items x.singles.items x.len) };
 
-    ghost invariant = { λ x. Keeps x.segments.items x.singles.items x.len x.stepping (segments_of x.segments.items x.singles.items x.len) };
+    ghost invariant = { λ x. Keeps x.segments.items x.singles.items x.len x.stepping
+        (segments_of x.segments.items x.singles.items x.len) };
 }
 
 /// The operation, whose numbers have 64 bits.
@@ -123,7 +124,8 @@ impl Items {
     fn push_single(&mut self, process: u32, what: CallOrCrash) -> Result<(), AllocError>
         requires few { length self.old + 1 < 2 ^ 32 }
         requires fits { AllByRecursion FitsItem (segment_items (single_segment process what)) }
-        ensures added { OnOk result (self.new ≡ self.old ++ segment_items (single_segment process what)) }
+        ensures added { OnOk result (self.new ≡ self.old
+            ++ segment_items (single_segment process what)) }
         ensures fits { AllByRecursion FitsItem self.new }
         ensures unchanged { OnErr result (self.new ≡ self.old) }
     {

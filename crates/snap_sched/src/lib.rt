@@ -1,4 +1,5 @@
-//! Schedules and their items: read from texts, kept as segments, and printed; and scripts of live runs, read.
+//! Schedules and their items: read from texts, kept as segments, and printed; and scripts of live
+//! runs, read.
 #![tactic(auto)]
 
 mod canonical_text;

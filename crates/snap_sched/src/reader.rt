@@ -104,14 +104,16 @@ fn numbers_form(line: &NumberLine) -> Option<ItemForm>
     }
 }
 
-/// The form of the next line, of which `left` items may come. It takes memory only where the line is not `I` or `I*K` alone.
+/// The form of the next line, of which `left` items may come. It takes memory only where the line
+/// is not `I` or `I*K` alone.
 fn next_form(
     alloc: Global,
     n: u64,
     left: u64,
     lines: &mut TextLines<'_>,
 ) -> Result<Option<ItemForm>, ScheduleFault>
-    ensures { Answers (option_map (λ f. (view_form f, lines.new))) result (next_form n left lines.old) }
+    ensures { Answers (option_map (λ f. (view_form f, lines.new))) result
+        (next_form n left lines.old) }
 {
     if let Some(line) = lines.next_numbers() {
         return match numbers_form(&line) {

@@ -13,7 +13,8 @@ pub const MAX_ITEMS: u64 = 1_000_000;
 /// The most bytes of the text of a schedule.
 pub const MAX_BYTES: usize = 4_194_304;
 
-/// A shape, and the items in order. Its processes are there, and there are at most `MAX_ITEMS` items.
+/// A shape, and the items in order. Its processes are there, and there are at most `MAX_ITEMS`
+/// items.
 #[derive(Debug, Drop)]
 pub struct Schedule {
     shape: Shape,

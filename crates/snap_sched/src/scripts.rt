@@ -6,7 +6,8 @@ use snap_semantics::Op;
 use snap_words::Shape;
 use std::marker::Model;
 
-/// What a process asks for, in order, and the turn at which it crashes, counted from 1, where it does.
+/// What a process asks for, in order, and the turn at which it crashes, counted from 1, where it
+/// does.
 #[derive(Debug, Drop)]
 pub struct Script {
     operations: Vec<Op>,

@@ -13,7 +13,8 @@ pub enum Segment {
     Crash { process: u32 },
 }
 
-/// A segment as it is kept: how many items stand before it, and its process. It ends where the next one begins.
+/// A segment as it is kept: how many items stand before it, and its process. It ends where the next
+/// one begins.
 #[derive(Clone, Copy, Debug, PartialEq, Eq)]
 pub struct SegmentStart {
     pub start: u32,
@@ -27,7 +28,8 @@ pub enum CallOrCrash {
     Crash,
 }
 
-/// A call or a crash as it is kept, beside its segment: how many items stand before it, and what it is.
+/// A call or a crash as it is kept, beside its segment: how many items stand before it, and what it
+/// is.
 #[derive(Clone, Copy, Debug, PartialEq, Eq)]
 pub struct Single {
     pub start: u32,

@@ -15,8 +15,8 @@ pub fn strong_is_linearizable()
     ensures { StrongIsLinearizable }
 {}
 
-/// A run of U goes on in two ways: in one its open scan answers what held before an update that has ended, in the other
-/// what held after it.
+/// A run of U goes on in two ways: in one its open scan answers what held before an update that has
+/// ended, in the other what held after it.
 pub fn has_two_futures()
     ensures { HasTwoFutures }
 {}
@@ -26,12 +26,14 @@ pub fn none_serves_both()
     ensures { NoneServesBoth }
 {}
 
-/// U is not strongly linearizable, for three processes: no choice of linearizations is kept as runs go on.
+/// U is not strongly linearizable, for three processes: no choice of linearizations is kept as runs
+/// go on.
 pub fn u_is_not_strongly_linearizable()
     ensures { UIsNotStronglyLinearizable }
 {}
 
-/// A listing of one word that every process sets and sees is strongly linearizable, for every number of processes.
+/// A listing of one word that every process sets and sees is strongly linearizable, for every
+/// number of processes.
 pub fn one_word_is_strongly_linearizable()
     ensures { OneWordIsStronglyLinearizable }
 {}

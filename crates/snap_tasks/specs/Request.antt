@@ -2,7 +2,7 @@
 use Rattle.std.specs.Prelude.{ℕ, ◌≤◌, List, Option, Some, None, ⊤, bytes_eq, codes, if◌then◌else◌}
 use Rattle.snap_words.specs.declared.kind.KindTag.{KindTag}
 use Rattle.snap_words.specs.declared.kind.KindTag.TheVariants as kind
-use Rattle.snap_tasks.specs.declared.subject.Subject.{Subject}
+use Rattle.snap_subject.specs.declared.subject.Subject.{Subject}
 use Rattle.snap_tasks.specs.declared.task.Task.TheVariants as task
 use Rattle.snap_tasks.specs.declared.request.Request.{Request}
 use Rattle.snap_tasks.specs.declared.request.Request.TheVariants.{Do, Live}

@@ -2,9 +2,8 @@
 #![tactic(auto)]
 
 mod request;
-mod subject;
 mod task;
 
 pub use request::{Request, kind_of, request_of};
-pub use subject::Subject;
+pub use snap_subject::Subject;
 pub use task::Task;

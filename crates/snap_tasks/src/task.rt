@@ -1,5 +1,5 @@
 //! What the program is asked.
-use crate::subject::Subject;
+use snap_subject::Subject;
 
 /// What the program is to do with its input.
 #[derive(Clone, Copy, Debug, PartialEq, Eq)]

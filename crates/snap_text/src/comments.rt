@@ -36,7 +36,8 @@ fn comment_of(line: &[u8]) -> Option<&[u8]>
 
 /// A comment to keep.
 fn kept_comment(alloc: Global, comment: Option<&[u8]>) -> Result<Option<Vec<u8>>, AllocError>
-    ensures { IfOk result (λ kept. option_map vec_items kept ≡ option_map (λ b. b.now) comment.entry) }
+    ensures { IfOk result (λ kept. option_map vec_items kept
+        ≡ option_map (λ b. b.now) comment.entry) }
 {
     match comment {
         Some(bytes) => Ok(Some(Vec::from_slice(alloc, bytes)?)),
@@ -44,9 +45,11 @@ fn kept_comment(alloc: Global, comment: Option<&[u8]>) -> Result<Option<Vec<u8>>
     }
 }
 
-/// The comments of the lines of a text that have tokens: for each line the bytes behind its first `#`, if it has one.
+/// The comments of the lines of a text that have tokens: for each line the bytes behind its first
+/// `#`, if it has one.
 pub fn line_comments(alloc: Global, text: &[u8]) -> Result<Vec<Option<Vec<u8>>>, AllocError>
-    ensures { IfOk result (λ comments. map (option_map vec_items) comments.items ≡ line_comments (lines_of text.now)) }
+    ensures { IfOk result (λ comments. map (option_map vec_items) comments.items
+        ≡ line_comments (lines_of text.now)) }
 {
     let mut comments = Vec::new(alloc);
     let mut rest = text;

@@ -6,7 +6,8 @@ pub fn what_is_laid_out_is_read()
     ensures { ReadsLaidOut }
 {}
 
-/// What is laid out in lines with comments is read as these tokens, line by line, and with these comments.
+/// What is laid out in lines with comments is read as these tokens, line by line, and with these
+/// comments.
 pub fn what_is_commented_is_read()
     ensures { ReadsCommented }
 {}

@@ -111,7 +111,8 @@ fn push_gap(
     before: Token<'_>,
     token: Token<'_>,
 ) -> Result<(), AllocError>
-    ensures { OnOk result (out.new.items ≡ out.old.items ++ gap depth (view_token before.entry) (view_token token.entry)) }
+    ensures { OnOk result (out.new.items ≡ out.old.items ++ gap depth (view_token before.entry)
+        (view_token token.entry)) }
 {
     if parts_behind(depth, before) && parts_before(before, token) {
         push_text(out, b" ")?;
@@ -121,7 +122,8 @@ fn push_gap(
 
 /// Adds the tokens behind one.
 fn push_behind(out: &mut Vec<u8>, first: Token<'_>, tokens: &[Token<'_>]) -> Result<(), AllocError>
-    ensures { OnOk result (out.new.items ≡ out.old.items ++ layout [] 0 (view_token first.entry) (view_tokens tokens.now)) }
+    ensures { OnOk result (out.new.items ≡ out.old.items ++ layout [] 0 (view_token first.entry)
+        (view_tokens tokens.now)) }
 {
     let mut depth = 0;
     let mut before = first;

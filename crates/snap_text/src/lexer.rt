@@ -140,7 +140,8 @@ fn front_symbol(bytes: &[u8]) -> Option<(Symbol, &[u8])>
 
 /// The tokens of a line, or none where a byte begins no token.
 pub fn tokens(alloc: Global, line: &[u8]) -> Result<Option<Vec<Token<'_>>>, AllocError>
-    ensures { IfOk result (λ found. option_map (λ ts. view_tokens ts.items) found ≡ tokens_of line.now) }
+    ensures { IfOk result (λ found. option_map (λ ts. view_tokens ts.items) found
+        ≡ tokens_of line.now) }
 {
     let mut out = Vec::new(alloc);
     let mut rest = line;

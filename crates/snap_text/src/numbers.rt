@@ -1,4 +1,5 @@
-//! Lines that are a number, or a number, `*` and a number, with nothing between them: most lines of a schedule.
+//! Lines that are a number, or a number, `*` and a number, with nothing between them: most lines of
+//! a schedule.
 ghost use Rattle.std.specs.Prelude.{◌≡◌, IfSome};
 ghost use Rattle.snap_text.specs.Numbers.{BeginsWithNumber, BeginsWithNumbers};
 
@@ -7,8 +8,8 @@ use crate::lexer::{has_leading_zero, is_digit};
 /// The most that a number may be before one digit more, so that it has nine digits at most.
 const MOST_BEFORE_DIGIT: u64 = 99_999_999;
 
-/// The number that the digits at the front spell, and what stands behind them. None where there are none or more than
-/// nine of them, or zero before others.
+/// The number that the digits at the front spell, and what stands behind them. None where there are
+/// none or more than nine of them, or zero before others.
 fn number_front(bytes: &[u8]) -> Option<(u64, &[u8])>
     ensures { IfSome result (λ x. BeginsWithNumber bytes.now x.0 x.1.now) }
 {
@@ -28,7 +29,8 @@ fn number_front(bytes: &[u8]) -> Option<(u64, &[u8])>
     Some((value, behind))
 }
 
-/// The numbers that the first line spells as `I` or `I*K`, where it has its line feed, and the lines behind it.
+/// The numbers that the first line spells as `I` or `I*K`, where it has its line feed, and the
+/// lines behind it.
 pub fn numbers_front(bytes: &[u8]) -> Option<(u64, Option<u64>, &[u8])>
     ensures { IfSome result (λ x. BeginsWithNumbers bytes.now x.0 x.1 x.2.now) }
 {

@@ -1,4 +1,5 @@
-//! What rules of a grammar find at the front of the tokens of a line. A rule that does not fit finds nothing.
+//! What rules of a grammar find at the front of the tokens of a line. A rule that does not fit
+//! finds nothing.
 ghost use Rattle.std.specs.Prelude.{◌≡◌};
 ghost use Rattle.snap_semantics.specs.Rules.{number_at, identifier_at, keyword_at, symbol_at, end_at};
 ghost use Rattle.snap_text.specs.Tokens.{Finds, view_tokens};
@@ -18,7 +19,8 @@ pub fn number_at<'a, 'b>(tokens: &'a [Token<'b>]) -> Option<(u64, &'a [Token<'b>
 
 /// The identifier at the front, and the rest.
 pub fn identifier_at<'a, 'b>(tokens: &'a [Token<'b>]) -> Option<(&'b [u8], &'a [Token<'b>])>
-    ensures { Finds (λ x. (x.0.now, view_tokens x.1.now)) result (identifier_at (view_tokens tokens.now)) }
+    ensures { Finds (λ x. (x.0.now, view_tokens x.1.now)) result
+        (identifier_at (view_tokens tokens.now)) }
 {
     match tokens {
         [Token::Identifier(word), rest @ ..] => Some((*word, rest)),

@@ -37,7 +37,9 @@ fn scalar_before<K: Kind>(
     process: &SlotProcess<K>,
     slot: usize,
 ) -> SlotPlace<K>
-    ensures { seen_place K.as_word result ≡ scalar_before program.now (seen_context K.as_word program.now context.now process.now) slot }
+    ensures { seen_place K.as_word result
+        ≡ scalar_before program.now (seen_context K.as_word program.now context.now process.now)
+        slot }
 {
     SlotPlace::Scalar(
         slot,
@@ -60,7 +62,8 @@ fn number_before<K: Kind>(
     place: Result<usize, Cause>,
 ) -> SlotPlace<K>
     ensures { seen_place K.as_word result
-        ≡ number_before slot (value_at (name_at program.now.rows slot) (seen_locals K.as_word program.now process.now).rows []) place }
+        ≡ number_before slot (value_at (name_at program.now.rows slot)
+        (seen_locals K.as_word program.now process.now).rows []) place }
 {
     match place {
         Ok(place) => {
@@ -79,7 +82,9 @@ fn row_before<K: Kind>(
     process: &SlotProcess<K>,
     slot: usize,
 ) -> Result<SlotPlace<K>, AllocError>
-    ensures { IfOk result (λ p. seen_place K.as_word p ≡ row_before program.now (seen_context K.as_word program.now context.now process.now) slot) }
+    ensures { IfOk result (λ p. seen_place K.as_word p
+        ≡ row_before program.now (seen_context K.as_word program.now context.now process.now)
+        slot) }
 {
     let row = row(program.rows(), process.rows.as_slice(), slot);
     Ok(SlotPlace::Row(slot, Vec::from_slice(alloc, row)?))
@@ -92,7 +97,8 @@ fn word_there<K: Kind>(
     slot: usize,
     place: usize,
 ) -> Result<SlotPlace<K>, AllocError>
-    ensures { IfOk result (λ p. seen_place K.as_word p ≡ word_there slot place (slice_get (map K.as_word words.now) place)) }
+    ensures { IfOk result (λ p. seen_place K.as_word p
+        ≡ word_there slot place (slice_get (map K.as_word words.now) place)) }
 {
     match words.get(place) {
         Some(word) => Ok(SlotPlace::LocalWord(slot, place, K::copy(alloc, word)?)),
@@ -109,7 +115,8 @@ fn local_word_before<K: Kind>(
     place: Result<usize, Cause>,
 ) -> Result<SlotPlace<K>, AllocError>
     ensures { IfOk result (λ p. seen_place K.as_word p
-        ≡ local_word_before slot (value_at (name_at program.now.words slot) (seen_locals K.as_word program.now process.now).words []) place) }
+        ≡ local_word_before slot (value_at (name_at program.now.words slot)
+        (seen_locals K.as_word program.now process.now).words []) place) }
 {
     match place {
         Ok(place) => {
@@ -129,7 +136,8 @@ fn local_view_before<K: Kind>(
     slot: usize,
 ) -> Result<SlotPlace<K>, AllocError>
     ensures { IfOk result (λ p. seen_place K.as_word p
-        ≡ local_view_before program.now (seen_context K.as_word program.now context.now process.now) slot) }
+        ≡ local_view_before program.now (seen_context K.as_word program.now context.now process.now)
+        slot) }
 {
     let view = view(program.views(), process.views.as_slice(), slot);
     Ok(SlotPlace::LocalView(slot, copy_of(alloc, view)?))
@@ -141,7 +149,8 @@ fn word_before<K: Kind>(
     registers: &Registers<K>,
     k: u64,
 ) -> Result<SlotPlace<K>, AllocError>
-    ensures { IfOk result (λ p. seen_place K.as_word p ≡ word_before registers.now.memory k (is_place registers.now.shape.w k)) }
+    ensures { IfOk result (λ p. seen_place K.as_word p ≡ word_before registers.now.memory k
+        (is_place registers.now.shape.w k)) }
 {
     match registers.word(k) {
         Ok(word) => Ok(SlotPlace::WordRegister(k, K::copy(alloc, word)?)),
@@ -151,7 +160,8 @@ fn word_before<K: Kind>(
 
 /// A bit of the registers, where there is one of these numbers.
 fn bit_before<K: Kind>(registers: &Registers<K>, bits: BitBank, i: u64, j: u64) -> SlotPlace<K>
-    ensures { seen_place K.as_word result ≡ bit_before registers.now.memory bits i j (is_bit_place K.TAG registers.now.shape bits i j) }
+    ensures { seen_place K.as_word result ≡ bit_before registers.now.memory bits i j
+        (is_bit_place K.TAG registers.now.shape bits i j) }
 {
     match registers.bit(bits, i, j) {
         Ok(bit) => SlotPlace::BitRegister(bits, i, j, bit == 1),
@@ -165,7 +175,8 @@ fn view_before<K: Kind>(
     registers: &Registers<K>,
     i: u64,
 ) -> Result<SlotPlace<K>, AllocError>
-    ensures { IfOk result (λ p. seen_place K.as_word p ≡ view_before registers.now.memory i (is_view_place K.TAG registers.now.shape i)) }
+    ensures { IfOk result (λ p. seen_place K.as_word p ≡ view_before registers.now.memory i
+        (is_view_place K.TAG registers.now.shape i)) }
 {
     match registers.view(i) {
         Ok(view) => Ok(SlotPlace::ViewRegister(i, view.copy(alloc)?)),
@@ -186,7 +197,8 @@ fn register_before<K: Kind>(
     requires shape { registers.now.shape ≡ context.now.shape }
     requires local { writes_local instr.now ≡ false }
     ensures { IfOk result (λ p. seen_place K.as_word p
-        ≡ written program.now (seen_context K.as_word program.now context.now process.now) registers.now.memory instr.now) }
+        ≡ written program.now (seen_context K.as_word program.now context.now process.now)
+        registers.now.memory instr.now) }
 {
     match instr {
         SlotInstr::Put(at, _) => {
@@ -217,7 +229,8 @@ pub(crate) fn place_before<K: Kind>(
     requires kind { program.now.kind ≡ K.TAG }
     requires shape { registers.now.shape ≡ context.now.shape }
     ensures { IfOk result (λ p. seen_place K.as_word p
-        ≡ written program.now (seen_context K.as_word program.now context.now process.now) registers.now.memory instr.now) }
+        ≡ written program.now (seen_context K.as_word program.now context.now process.now)
+        registers.now.memory instr.now) }
 {
     match instr {
         SlotInstr::Let(slot, _)

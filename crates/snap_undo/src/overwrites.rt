@@ -26,10 +26,14 @@ fn current_place<K: Kind>(
     registers: &Registers<K>,
     process: &SlotProcess<K>,
 ) -> Result<SlotPlace<K>, AllocError>
-    requires { IsReady K.TAG program.now context.now.shape registers.now (seen_locals K.as_word program.now process.now) }
-    ensures back { IfOk result (λ p. PutsBack program.now (seen_context K.as_word program.now context.now process.now) registers.now.memory (seen_place K.as_word p)
+    requires { IsReady K.TAG program.now context.now.shape registers.now
+        (seen_locals K.as_word program.now process.now) }
+    ensures back { IfOk result
+        (λ p. PutsBack program.now (seen_context K.as_word program.now context.now process.now)
+        registers.now.memory (seen_place K.as_word p)
         (current_effect K.as_word program.now context.now process.now registers.now.memory)) }
-    ensures fits { IfOk result (λ p. FitsPlace program.now context.now.shape (seen_place K.as_word p)) }
+    ensures fits { IfOk result (λ p. FitsPlace program.now context.now.shape
+        (seen_place K.as_word p)) }
 {
     match program.line(context.activity.line) {
         None => Ok(SlotPlace::Nowhere),
@@ -45,10 +49,13 @@ fn step_place<K: Kind>(
     process: &SlotProcess<K>,
     i: u32,
 ) -> Result<SlotPlace<K>, AllocError>
-    requires { IsReady K.TAG program.now registers.now.shape registers.now (seen_locals K.as_word program.now process.now) }
-    ensures back { IfOk result (λ p. StepPutsBack program.now registers.now.shape (seen_process K.as_word program.now process.now)
+    requires { IsReady K.TAG program.now registers.now.shape registers.now
+        (seen_locals K.as_word program.now process.now) }
+    ensures back { IfOk result (λ p. StepPutsBack program.now registers.now.shape
+        (seen_process K.as_word program.now process.now)
         registers.now.memory i (seen_place K.as_word p) process.now.status) }
-    ensures fits { IfOk result (λ p. FitsPlace program.now registers.now.shape (seen_place K.as_word p)) }
+    ensures fits { IfOk result (λ p. FitsPlace program.now registers.now.shape
+        (seen_place K.as_word p)) }
 {
     match process.status {
         Status::Busy(activity) => {
@@ -74,10 +81,13 @@ fn item_place<K: Kind>(
     process: &SlotProcess<K>,
     item: Item,
 ) -> Result<SlotPlace<K>, AllocError>
-    requires { IsReady K.TAG program.now registers.now.shape registers.now (seen_locals K.as_word program.now process.now) }
-    ensures back { IfOk result (λ p. ItemPutsBack program.now registers.now.shape (seen_process K.as_word program.now process.now)
+    requires { IsReady K.TAG program.now registers.now.shape registers.now
+        (seen_locals K.as_word program.now process.now) }
+    ensures back { IfOk result (λ p. ItemPutsBack program.now registers.now.shape
+        (seen_process K.as_word program.now process.now)
         registers.now.memory item (seen_place K.as_word p)) }
-    ensures fits { IfOk result (λ p. FitsPlace program.now registers.now.shape (seen_place K.as_word p)) }
+    ensures fits { IfOk result (λ p. FitsPlace program.now registers.now.shape
+        (seen_place K.as_word p)) }
 {
     match item {
         Item::Step(i) => step_place(alloc, program, registers, process, i),
@@ -97,7 +107,8 @@ pub fn overwritten<K: Kind>(
     requires process { IsOneOf (length processes.now) (who item) }
     requires kind { program.now.kind ≡ K.TAG }
     requires count { length processes.now ≡ registers.now.shape.n }
-    requires sized { AllSized program.now registers.now.shape (map (seen_process K.as_word program.now) processes.now) }
+    requires sized { AllSized program.now registers.now.shape
+        (map (seen_process K.as_word program.now) processes.now) }
     ensures back { let S = seen_state K.as_word program.now registers.now.memory processes.now in
         IfOk result (λ u. put program.now u (done program.now registers.now.shape S item).0 ≡ S) }
     ensures fits { IfOk result (λ u. CanPut program.now registers.now.shape u) }

@@ -3,8 +3,8 @@ use snap_semantics::{BitBank, Status};
 use snap_words::{Kind, View};
 use std::marker::Model;
 
-/// A place that an item writes, with what it had: a register by its indices, counted from 1; or a local of the process by its
-/// slot, whole or one of its places, all counted from 0.
+/// A place that an item writes, with what it had: a register by its indices, counted from 1; or a
+/// local of the process by its slot, whole or one of its places, all counted from 0.
 #[derive(Drop)]
 pub(crate) enum SlotPlace<K: Kind> {
     Nowhere,

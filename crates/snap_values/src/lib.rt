@@ -1,4 +1,5 @@
-//! The values of a process: of its locals by slot, of terms, expressions and conditions, and what quantifiers find.
+//! The values of a process: of its locals by slot, of terms, expressions and conditions, and what
+//! quantifiers find.
 #![tactic(auto)]
 
 mod locals;

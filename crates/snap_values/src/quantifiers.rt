@@ -1,5 +1,5 @@
-//! Quantifiers: what holds, and what the values are, at the places from 1 on. The operands of a place are all taken
-//! before those of the next.
+//! Quantifiers: what holds, and what the values are, at the places from 1 on. The operands of a
+//! place are all taken before those of the next.
 ghost use Rattle.std.specs.Prelude.{◌≡◌, if◌then◌else◌};
 ghost use Rattle.snap_semantics.specs.Rules.{or_else};
 ghost use Rattle.snap_semantics.specs.Table.{each_value, range_end};
@@ -33,7 +33,8 @@ pub fn first_place<K: Kind>(
     count: u64,
     condition: &SlotCondition,
 ) -> Result<Option<u64>, Cause>
-    ensures { result ≡ first_place (seen_context K.as_word program.now context.now process.now) count (named_condition program.now condition.now) }
+    ensures { result ≡ first_place (seen_context K.as_word program.now context.now process.now)
+        count (named_condition program.now condition.now) }
 {
     let mut found = None;
     let mut there = *context;
@@ -63,7 +64,8 @@ pub fn holds_at_all<K: Kind>(
     count: u64,
     condition: &SlotCondition,
 ) -> Result<bool, Cause>
-    ensures { result ≡ holds_at_all (seen_context K.as_word program.now context.now process.now) count (named_condition program.now condition.now) }
+    ensures { result ≡ holds_at_all (seen_context K.as_word program.now context.now process.now)
+        count (named_condition program.now condition.now) }
 {
     let mut all = true;
     let mut there = *context;
@@ -85,7 +87,8 @@ pub fn row_value<K: Kind>(
     condition: &Option<SlotCondition>,
 ) -> Result<u64, Cause>
     ensures { result ≡ each_value (seen_context K.as_word program.now context.now process.now)
-        (name_at program.now.rows slot) (named_expr program.now expr.now) (named_where program.now condition.now) }
+        (name_at program.now.rows slot) (named_expr program.now expr.now)
+        (named_where program.now condition.now) }
 {
     match condition {
         None => expr_value(program, context, process, expr),
@@ -113,7 +116,8 @@ pub fn check_values<K: Kind>(
     condition: &Option<SlotCondition>,
 ) -> Result<(), Cause>
     ensures { result ≡ checked_values (seen_context K.as_word program.now context.now process.now)
-        count (name_at program.now.rows slot) (named_expr program.now expr.now) (named_where program.now condition.now) }
+        count (name_at program.now.rows slot) (named_expr program.now expr.now)
+        (named_where program.now condition.now) }
 {
     let mut there = *context;
     for passed in 0..count {

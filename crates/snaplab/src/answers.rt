@@ -68,7 +68,8 @@ fn carry_out<R: ByteSource, W: ByteSink>(
     requires sink { W.has_failed sink.old ≡ false }
     requires goes_on { W.is_stalled sink.old ≡ false }
     ensures { CarriesOut asked.now result (R.left source.old) (R.left source.new) (W.taken sink.old)
-        (W.taken sink.new) (R.has_failed source.new) (W.has_failed sink.new) (W.is_stalled sink.new) }
+        (W.taken sink.new) (R.has_failed source.new) (W.has_failed sink.new)
+        (W.is_stalled sink.new) }
 {
     match *asked {
         Request::Do(task) => conduct(rt, alloc, &task, source, sink),
@@ -78,7 +79,8 @@ fn carry_out<R: ByteSource, W: ByteSink>(
     }
 }
 
-/// Does what a command line asks for, and answers the status of it. `rt` is the leave to start threads and to wait for them.
+/// Does what a command line asks for, and answers the status of it. `rt` is the leave to start
+/// threads and to wait for them.
 pub fn answer<R: ByteSource, W: ByteSink, E: ByteSink>(
     rt: &(impl Threads + Wait + Sync),
     alloc: Global,
@@ -92,8 +94,10 @@ pub fn answer<R: ByteSource, W: ByteSink, E: ByteSink>(
     requires sink { W.has_failed sink.old ≡ false }
     requires goes_on { W.is_stalled sink.old ≡ false }
     requires errors { E.has_failed errors.old ≡ false }
-    ensures { AnswersLine line.now result (R.left source.old) (R.left source.new) (W.taken sink.old) (W.taken sink.new)
-        (E.taken errors.old) (E.taken errors.new) (R.has_failed source.new) (W.has_failed sink.new) (W.is_stalled sink.new) }
+    ensures { AnswersLine line.now result (R.left source.old) (R.left source.new) (W.taken sink.old)
+        (W.taken sink.new)
+        (E.taken errors.old) (E.taken errors.new) (R.has_failed source.new) (W.has_failed sink.new)
+        (W.is_stalled sink.new) }
 {
     match line {
         Ok(CommandLine::Asks(asked)) => {

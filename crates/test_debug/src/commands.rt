@@ -1,4 +1,5 @@
-//! Texts of debugger commands: how long they may be, where they may be cut, and how they are written.
+//! Texts of debugger commands: how long they may be, where they may be cut, and how they are
+//! written.
 use snap_debug::{Breakpoint, Command, fault_line, push_command, push_refusal, read_commands};
 use snap_semantics::{CommandRefusal, Fault};
 use snap_text::{line_count, push_text};
@@ -11,8 +12,8 @@ use std::time::CpuClock;
 /// The most bytes that a text of commands may have.
 const MAX_BYTES: usize = 1_048_576;
 
-/// So many seconds of a processor are much for a reader that goes through a text once, and few for one that begins again at
-/// each line.
+/// So many seconds of a processor are much for a reader that goes through a text once, and few for
+/// one that begins again at each line.
 const SECONDS: u64 = 3;
 
 /// A line of 104 bytes.

@@ -2,7 +2,8 @@
 use crate::trouble::Trouble;
 use std::io::Write;
 
-/// What a call answers. Where it wanted memory, that is said on standard error, and the call is made once more.
+/// What a call answers. Where it wanted memory, that is said on standard error, and the call is
+/// made once more.
 macro_rules! tried {
     ($rt:expr, $call:expr) => {
         match $call {

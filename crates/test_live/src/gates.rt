@@ -32,7 +32,8 @@ impl Gate for Shut {
     }
 }
 
-/// Whether the scripts of one process are played to their end where this turn is refused; it has to be the turn that stops them if not.
+/// Whether the scripts of one process are played to their end where this turn is refused; it has to
+/// be the turn that stops them if not.
 fn passes<R: Threads + Wait + Sync + Abort>(
     rt: &R,
     alloc: Global,

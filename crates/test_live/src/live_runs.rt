@@ -74,7 +74,8 @@ fn workers_run_at_once(rt: HostRuntime) -> Result<(), Fail> {
     Ok(())
 }
 
-/// An update has 18 turns, and 12 more where the other one wrote during its first double collect, which only one of two can.
+/// An update has 18 turns, and 12 more where the other one wrote during its first double collect,
+/// which only one of two can.
 #[test]
 fn two_updates_have_36_turns_or_48(rt: HostRuntime) -> Result<(), Fail> {
     let turns = play(&rt, rt.alloc(), UPDATES, &NoGate)?;

@@ -30,8 +30,8 @@ const MOST_STEPS: u32 = 70;
 /// How often a thread looks for the other one before it goes on without it.
 const MOST_LOOKS: u32 = 100_000;
 
-/// How two threads play at a desk. The second one begins while the first one is at its update, and where in it is up to the round, so
-/// that in some rounds a write meets a double collect.
+/// How two threads play at a desk. The second one begins while the first one is at its update, and
+/// where in it is up to the round, so that in some rounds a write meets a double collect.
 #[derive(Drop)]
 struct Round {
     /// So many turns the first one makes before the second one begins.
@@ -209,7 +209,8 @@ fn play_both<R: Threads + Wait + Sync + Abort>(
         rt,
         move |scope| -> Result<(Player, Player), LiveFault>
             requires { (first.desk ≡ desk.now) × (second.desk ≡ desk.now) }
-            ensures { IfOk result (λ r. (r.0.seat.desk ≡ desk.entry.now) × (r.1.seat.desk ≡ desk.entry.now)) }
+            ensures { IfOk result (λ r. (r.0.seat.desk ≡ desk.entry.now) ×
+                (r.1.seat.desk ≡ desk.entry.now)) }
         {
             let first = start(scope, rt, alloc, desk, first, round)?;
             let second = start(scope, rt, alloc, desk, second, round)?;
@@ -309,8 +310,8 @@ fn check_report(rt: &impl Abort, alloc: Global, kept: &Record<Seq>) -> Result<()
     Ok(())
 }
 
-/// How many items there are: 12 more where a write of one failed the first double collect of the other, which only one of two can, and 2
-/// more where each made a step when it was idle.
+/// How many items there are: 12 more where a write of one failed the first double collect of the
+/// other, which only one of two can, and 2 more where each made a step when it was idle.
 fn wanted_len(kept: &Record<Seq>, idle: bool) -> usize {
     match (kept.event_collects().contains(&2), idle) {
         (false, false) => 36,

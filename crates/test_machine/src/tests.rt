@@ -33,7 +33,8 @@ const LONE: Address = Address {
     j: 1,
 };
 
-/// The lines of a listing, the operation that process 1 of 2 is asked for, the steps that go well, and why the next traps.
+/// The lines of a listing, the operation that process 1 of 2 is asked for, the steps that go well,
+/// and why the next traps.
 type Trap = (&'static [u8], Op, u64, Cause);
 
 /// Lines of kind seq.
@@ -150,7 +151,8 @@ const SEQ_TRAPS: &[Trap] = &[
     (b"1: call 2\n2: finish\n", UPDATE, 1, Cause::BadEnd),
 ];
 
-/// Lines with bits: places come first, then what is no bit, then the owner, then the end of the lines.
+/// Lines with bits: places come first, then what is no bit, then the owner, then the end of the
+/// lines.
 const BIT_TRAPS: &[Trap] = &[
     (b"1: bit x = q[0,1]\n2: finish\n", SCAN, 0, Cause::Index),
     (b"1: bit x = q[1,3]\n2: finish\n", SCAN, 0, Cause::Index),
@@ -321,7 +323,8 @@ fn has<K: Kind>(machine: &Machine<K>, i: u32) -> bool
     0 < i && u64::from(i) <= machine.shape().n()
 }
 
-/// Does an item, takes it back, and does it again: whatever is expected of a machine here is expected of one that went back.
+/// Does an item, takes it back, and does it again: whatever is expected of a machine here is
+/// expected of one that went back.
 fn does<K: Kind>(machine: &mut Machine<K>, item: Item) -> Result<Outcome, Fail>
     requires { IsOneOf machine.old.shape.n (who item) }
 {

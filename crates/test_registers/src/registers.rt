@@ -77,7 +77,8 @@ fn bits(rt: HostRuntime) -> Result<(), Fail> {
     Ok(())
 }
 
-/// Whether of the bits of 64 processes the first one of the last row is 1, and those next to it are 0.
+/// Whether of the bits of 64 processes the first one of the last row is 1, and those next to it are
+/// 0.
 fn has_one_of_many(registers: &Registers<Multi>) -> bool {
     registers.bit(BitBank::Q, 64, 1) == Ok(1)
         && registers.bit(BitBank::Q, 63, 64) == Ok(0)

@@ -11,7 +11,8 @@ use snap_words::{
 use std::alloc::{AllocError, Global};
 use std::test::Fail;
 
-/// What a word is to have: its datum, sequence number, writer and toggle, its second handshake bit, its handshake bits and its view.
+/// What a word is to have: its datum, sequence number, writer and toggle, its second handshake bit,
+/// its handshake bits and its view.
 #[derive(Clone, Copy)]
 struct Wanted {
     datum: Option<u64>,
@@ -241,7 +242,8 @@ fn multi(rt: HostRuntime) -> Result<(), Fail> {
     Ok(())
 }
 
-/// Whether a new word of two processes and two words has these handshake bits and this view, and the sequence number 0.
+/// Whether a new word of two processes and two words has these handshake bits and this view, and
+/// the sequence number 0.
 fn has_parts<K: Kind>(alloc: Global, handshakes: &[u64], view: &[u64]) -> Result<bool, Fail> {
     let word = K::initial(alloc, Shape::new(2, 2)?)?;
     Ok(

@@ -45,7 +45,8 @@ const PLAIN: &[u8] = b"\
     15: finish\n\
 ";
 
-/// The same listing with blank lines, spaces and tabs between the tokens, and comments on other lines than the numbered ones.
+/// The same listing with blank lines, spaces and tabs between the tokens, and comments on other
+/// lines than the numbered ones.
 const LOOSE: &[u8] = b"\
     # an update\n\
     \n\
@@ -104,7 +105,8 @@ fn check_program(rt: &impl Abort, program: &Program) {
     assert!(rt; program.place(Name::of(b"moved".as_slice())).is_none());
 }
 
-/// Whether a name has this number among all names, and this sort and place among the names of that sort.
+/// Whether a name has this number among all names, and this sort and place among the names of that
+/// sort.
 fn is_name(program: &Program, index: usize, name: Name, sort: Sort, place: usize) -> bool {
     match program.names().get_index(index) {
         Some((found, found_sort)) => {

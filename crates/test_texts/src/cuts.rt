@@ -27,7 +27,8 @@ const SCHEDULE: &[u8] = b"\
     2 crash\n\
 ";
 
-/// Whether a listing that was cut is read, or is refused for its last line, the one that is missing behind it, or a line that it leads to.
+/// Whether a listing that was cut is read, or is refused for its last line, the one that is missing
+/// behind it, or a line that it leads to.
 fn is_listing_or_refused(alloc: Global, text: &[u8]) -> bool {
     let last = line_count(text);
     let Err(fault) = snap_listing::read(alloc, text) else {

@@ -171,7 +171,8 @@ fn is_refused_or_kept(alloc: Global, image: &[u8]) -> Result<bool, Fail> {
     }
 }
 
-/// Whether bytes are no image, or the image in the first version of another listing than the small one.
+/// Whether bytes are no image, or the image in the first version of another listing than the small
+/// one.
 fn is_refused_or_another(alloc: Global, image: &[u8]) -> Result<bool, Fail> {
     match decode(alloc, image) {
         Ok(listing) => {
@@ -183,7 +184,8 @@ fn is_refused_or_another(alloc: Global, image: &[u8]) -> Result<bool, Fail> {
     }
 }
 
-/// The first version's image of the small listing with another byte in this place is refused, or the image of another listing.
+/// The first version's image of the small listing with another byte in this place is refused, or
+/// the image of another listing.
 fn check_first_changes(rt: &impl Abort, alloc: Global, place: usize) -> Result<(), Fail> {
     for byte in 0..=255 {
         let mut image = FIRST_IMAGE;
@@ -197,7 +199,8 @@ fn check_first_changes(rt: &impl Abort, alloc: Global, place: usize) -> Result<(
     Ok(())
 }
 
-/// The image of the small listing with another byte in this place is refused, or the image of another listing.
+/// The image of the small listing with another byte in this place is refused, or the image of
+/// another listing.
 fn check_changes(rt: &impl Abort, alloc: Global, place: usize) -> Result<(), Fail> {
     for byte in 0..=255 {
         let mut image = SMALL_IMAGE;

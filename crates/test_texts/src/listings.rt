@@ -573,7 +573,8 @@ fn reads_line_9999(rt: HostRuntime) -> Result<(), Fail> {
     Ok(())
 }
 
-/// A listing whose comments are empty, end in spaces and a carriage return, have `#` and bytes of no text; in canonical text.
+/// A listing whose comments are empty, end in spaces and a carriage return, have `#` and bytes of
+/// no text; in canonical text.
 const COMMENTED: &[u8] = b"kind seq
 scalar
 row

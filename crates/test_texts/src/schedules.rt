@@ -115,7 +115,8 @@ fn prints_greatest_runs(rt: HostRuntime) -> Result<(), Fail> {
     Ok(())
 }
 
-/// Adds the shape of three processes and one word, and this often a step of process 1 and one of process 2.
+/// Adds the shape of three processes and one word, and this often a step of process 1 and one of
+/// process 2.
 fn push_steps(text: &mut Vec<u8>, often: u64) -> Result<(), AllocError> {
     text.extend_from_slice(b"shape 3 1\n")?;
     for _ in 0..often {

@@ -29,7 +29,15 @@ impl Kind for Marked {
 
     const TAG: KindTag = KindTag::Multi;
 
-    ghost as_word = { λ x. record { datum = x.datum; seq = 0; id = x.id; toggle = if x.mark then 1 else 0; handshakes = []; view = [] } };
+    ghost as_word = { λ x. record {
+      datum = x.datum;
+      seq = 0;
+      id = x.id;
+      toggle = if x.mark then 1
+          else 0;
+      handshakes = [];
+      view = [];
+    } };
 
     fn fits(_shape: Shape) -> bool {
         true
@@ -100,8 +108,21 @@ impl Kind for Marked {
     }
 
     ghost equal = { λ x y e.
-        let back : Word → MarkedWord = λ p. record { datum = p.datum; id = p.id; mark = nat_eq p.toggle 1 } in
-        let again : (w : MarkedWord) → back (record { datum = w.datum; seq = 0; id = w.id; toggle = if w.mark then 1 else 0; handshakes = []; view = [] }) ≡ w = λ w.
+        let back : Word → MarkedWord = λ p. record {
+          datum = p.datum;
+          id = p.id;
+          mark = nat_eq
+              p.toggle 1;
+        } in
+        let again : (w : MarkedWord) →
+        back (record {
+          datum = w.datum;
+          seq = 0;
+          id = w.id;
+          toggle = if w.mark then 1 else 0;
+          handshakes = [];
+          view = [];
+        }) ≡ w = λ w.
         elim w.mark as (λ b. (let v : MarkedWord = record { datum = w.datum; id = w.id; mark = nat_eq (if b then 1 else 0) 1 } in v) ≡ record { datum = w.datum; id = w.id; mark = b }) [
           | true ↦ refl
           | false ↦ refl
@@ -110,8 +131,9 @@ impl Kind for Marked {
 
     ghost keeps = { λ x. refl };
 
-    ghost has_only_bits = { λ x. elim x.mark as (λ b. (is_bit (if b then 1 else 0) && true) ≡ true) [
-      | true ↦ refl
-      | false ↦ refl
-    ] };
+    ghost has_only_bits = { λ x. elim x.mark as (λ b. (is_bit (if b then 1 else 0) && true)
+        ≡ true) [
+          | true ↦ refl
+          | false ↦ refl
+        ] };
 }

@@ -1,4 +1,4 @@
-//! Which listing a task runs.
+//! The listing of an input, or a shipped one.
 use snap_words::KindTag;
 
 /// The listing that a task runs: the first part of the input, or the one that is shipped for a kind of registers.

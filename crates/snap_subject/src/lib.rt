@@ -1,0 +1,6 @@
+//! Which listing a task runs.
+#![tactic(auto)]
+
+mod subject;
+
+pub use subject::Subject;

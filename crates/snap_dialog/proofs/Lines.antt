@@ -1,5 +1,5 @@
 -- A line, kept byte by byte.
-use Rattle.std.proofs.Common.{◌≡◌, ◌≢◌, ℕ, ◌+◌, ◌≤◌, List, [], ◌∷◌, ◌++◌, Option, Some, None, Bool, true, false, if◌then◌else◌, ◌==◌, length, take, refl, sym, ap, ◌∙◌, subst, append_assoc, append-nil, IfSome, arith}
+use Rattle.std.proofs.Common.{◌≡◌, ◌≢◌, ℕ, ◌+◌, List, [], ◌∷◌, ◌++◌, Option, Some, None, Bool, true, false, if◌then◌else◌, ◌==◌, length, take, refl, sym, ap, ◌∙◌, subst, append_assoc, append-nil, IfSome, arith}
 use Rattle.std.proofs.lemmas.Grind.{common_steps}
 use Rattle.std.specs.Prelude.{nat_le}
 use Rattle.std.specs.Io.BufRead.{take_through, drop_through, DropsThrough}

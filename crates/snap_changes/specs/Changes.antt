@@ -17,6 +17,11 @@ abbrev pub removed_from : ℕ → List (List ℕ) → List Change
 removed_from k [] = []
 removed_from k (x ∷ xs) = Removed k x ∷ removed_from (k + 1) xs
 
+-- the lines behind the first one
+abbrev pub behind_first : List (List ℕ) → List (List ℕ)
+behind_first [] = []
+behind_first (x ∷ xs) = xs
+
 -- what changed from the first lines to the second ones, which begin at place k
 abbrev pub changes_from : ℕ → List (List ℕ) → List (List ℕ) → List Change
 changes_from k [] ys = added_from k ys

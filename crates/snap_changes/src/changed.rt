@@ -1,13 +1,13 @@
 //! What changed, printed.
 ghost use Rattle.std.specs.Prelude.{◌≡◌, ◌<◌, ◌+◌, ◌++◌, ◌∷◌, IfOk, OnOk, codes, length};
 ghost use Rattle.snap_semantics.specs.Token.{lines_of};
-ghost use Rattle.snap_changes.specs.Changes.{changes_between, changes_text, line_with, replaced_text, text_between};
+ghost use Rattle.snap_changes.specs.Changes.{behind_first, changes_between, changes_text, line_with, replaced_text, text_between};
 
 use snap_text::push_text;
 use std::alloc::AllocError;
 
 /// The first line, without its line feed, and the lines behind it.
-fn split_line(bytes: &[u8]) -> (&[u8], &[u8])
+pub(crate) fn split_line(bytes: &[u8]) -> (&[u8], &[u8])
     requires { 0 < length bytes.now }
     ensures lines { lines_of bytes.now ≡ result.0.now ∷ lines_of result.1.now }
     ensures shorter { length result.1.now < length bytes.now }
@@ -20,6 +20,17 @@ fn split_line(bytes: &[u8]) -> (&[u8], &[u8])
         len += 1;
     }
     (bytes, &bytes[bytes.len()..])
+}
+
+/// The text behind its first line.
+pub fn behind_first_line(text: &[u8]) -> &[u8]
+    ensures { lines_of result.now ≡ behind_first (lines_of text.now) }
+{
+    if text.is_empty() {
+        return text;
+    }
+    let (_first, rest) = split_line(text);
+    rest
 }
 
 /// Adds a line behind a mark.

@@ -3,6 +3,8 @@
 
 mod changed;
 mod laws;
+mod owned;
 
-pub use changed::push_changes;
+pub use changed::{behind_first_line, push_changes};
 pub use laws::changes_make_the_new_text;
+pub use owned::push_owned_lines;

@@ -46,9 +46,10 @@ fn end_number(lines: &[Line]) -> u64 {
 pub fn new_roles(alloc: Global, program: &Program) -> Result<Vec<LineRole>, AllocError>
     ensures { IfOk result (λ m. AreRoles program.now m.items) }
 {
+    let listing = program.listing();
     let mut roles = Vec::new(alloc);
-    for number in 0..end_number(program.listing().lines()) {
-        roles.push(role_of(program.listing().instr(number)))?;
+    for number in 0..end_number(listing.lines()) {
+        roles.push(role_of(listing.instr(number)))?;
     }
     Ok(roles)
 }

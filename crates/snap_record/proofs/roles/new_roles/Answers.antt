@@ -13,7 +13,7 @@ loop-number-preserved c =
     let h = c.loop-number.invariant in
     let same = h.0 in
     let longer = ap length c.in_ok-push.ensures.items ∙ length-append ms (m ∷ []) in
-    let right = c.role_of.ensures ∙ ap role_of (c.instr.ensures.instr ∙ ap (λ (s : Source). instr_at s.lines n) c.listing.ensures) in (
+    let right = c.role_of.ensures ∙ ap role_of (c.instr.ensures.instr ∙ ap (λ (s : Source). instr_at s.lines n) c.listing-listing.ensures) in (
       omega (arith, same, longer),
       roles_more c.args.program.now ms c.push.new.self.items m n h.1 h.0 c.in_ok-push.ensures.items right,
     )

@@ -11,6 +11,7 @@ ghost use Rattle.snap_certify_output.specs.CertificationText.{
   text_of,
   update_line,
   update_lines,
+  what_is_refuted,
   writes_after,
   writes_until,
 };
@@ -120,6 +121,17 @@ fn lack_text(out: &mut Vec<u8>, lack: Lack) -> Result<(), AllocError>
     }
 }
 
+/// What a missing point or write says of the run.
+#[tactic(auto, unfolding(crate::specs::CertificationText::what_is_refuted))]
+fn what_is_refuted(out: &mut Vec<u8>) -> Result<(), AllocError>
+    ensures { OnOk result (out.new.items ≡ out.old.items ++ what_is_refuted) }
+{
+    push_text(
+        out,
+        b"; this refutes the argument by points, not linearizability\n",
+    )
+}
+
 /// `process I call C item T: WHAT; this refutes the argument by points, not linearizability`.
 #[tactic(auto, using(snap_text::proofs::Texts::joined))]
 fn missing_line(out: &mut Vec<u8>, missing: &Missing) -> Result<(), AllocError>
@@ -133,10 +145,7 @@ fn missing_line(out: &mut Vec<u8>, missing: &Missing) -> Result<(), AllocError>
     push_number(out, missing.item)?;
     push_text(out, b": ")?;
     lack_text(out, missing.lack)?;
-    push_text(
-        out,
-        b"; this refutes the argument by points, not linearizability\n",
-    )
+    what_is_refuted(out)
 }
 
 /// The text of a certification.

@@ -66,8 +66,8 @@ fn putting_line(lines: &[Line]) -> u64
     0
 }
 
-/// The line at which updates write: that of the first item that changes the values, and where none does, the first line that
-/// writes a word.
+/// The line at which updates write: that of the first item that changes the values, and where none
+/// does, the first line that writes a word.
 pub(crate) fn write_line<K: Kind>(alloc: Global, history: &Record<K>) -> Result<u64, AllocError>
     ensures { IfOk result (λ l. l ≡ write_line history.now) }
 {

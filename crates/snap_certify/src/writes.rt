@@ -192,7 +192,8 @@ fn note_item(
     requires { IsOneOf (length progress.old.items) item.now.process }
     ensures found { IfOk result (λ f. (d : Progress) →
         f ≡ found_at line t item.now (get_or progress.old.items (item.now.process - 1) d)) }
-    ensures noted { OnOk result ((d : Progress) → progress.new.items ≡ slice_set progress.old.items (item.now.process - 1)
+    ensures noted { OnOk result ((d : Progress) →
+        progress.new.items ≡ slice_set progress.old.items (item.now.process - 1)
         (progress_after line t item.now (get_or progress.old.items (item.now.process - 1) d))) }
 {
     let place = (item.process - 1) as usize;
@@ -204,8 +205,10 @@ fn note_item(
 
 /// Adds a write that was found, and answers what is missing instead.
 fn add_finding(all: &mut Vec<UpdateWrite>, found: Finding) -> Result<Option<Missing>, AllocError>
-    ensures added { IfOk result (λ missing. missing ≡ None → with_finding all.old.items found ≡ Ok all.new.items) }
-    ensures lacks { IfOk result (λ missing. IfSome missing (λ m. with_finding all.old.items found ≡ Err m)) }
+    ensures added { IfOk result (λ missing. missing ≡ None → with_finding all.old.items found
+        ≡ Ok all.new.items) }
+    ensures lacks { IfOk result (λ missing. IfSome missing (λ m. with_finding all.old.items found
+        ≡ Err m)) }
 {
     match found {
         Finding::Nothing => Ok(None),

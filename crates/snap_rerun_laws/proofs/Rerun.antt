@@ -1,16 +1,16 @@
 -- A live run's schedule, run again.
-use Rattle.std.proofs.Common.{◌≡◌, ℕ, ◌≤◌, true, List, [], ◌∷◌, ◌++◌, Ok, codes, length, refl, sym, ap, ◌∙◌}
+use Rattle.std.proofs.Common.{◌≡◌, ℕ, true, List, [], ◌∷◌, ◌++◌, Ok, codes, length, refl, sym, ap, ◌∙◌}
 use Rattle.snap_words.specs.Kind.{fits}
 use Rattle.snap_semantics.specs.Report.{position_line}
 use Rattle.snap_semantics.specs.Schedule.{Schedule, schedule_of}
 use Rattle.snap_semantics.specs.Source.{Source}
 use Rattle.snap_semantics.specs.declared.process.Item.{Item}
 use Rattle.snap_runner.specs.End.{end_report}
-use Rattle.snap_perform.specs.Perform.{end_text, perform_listing, run_listing, schedule_for}
+use Rattle.snap_perform.specs.Perform.{end_text, run_listing, schedule_for}
 use Rattle.snap_perform.proofs.ToTheEnd.{to_the_end}
 use Rattle.snap_input.specs.Parts.{parts_of}
 use Rattle.snap_live_output.specs.LiveOutput.{Setup}
-use Rattle.snap_live_laws.specs.Printed.{before_report, report_in}
+use Rattle.snap_live_laws.specs.Printed.{before_report}
 use Rattle.snap_live_laws.specs.RunAgain.{IsCut, LiveRunsAreCut, LiveRunsAreReadAgain, played}
 use Rattle.snap_live_laws.proofs.Inputs.{input_read}
 use Rattle.snap_live_laws.proofs.Schedules.{alone}

@@ -11,12 +11,11 @@ use Rattle.snap_promises.specs.Kept.{NumbersSuffice, RunsKeepPromises}
 use Rattle.snap_live_desk.specs.Turns.{run_of, setting_of, turns_of}
 use Rattle.snap_live_desk.specs.declared.seat.Turn.{Turn}
 use Rattle.snap_live_desk.specs.declared.seat_state.Setting.{Setting}
-use Rattle.snap_live.specs.LiveRun.{IsLive}
 use Rattle.snap_live.specs.Play.{IsPlay}
 use Rattle.snap_live.specs.Script.{script_at}
 use Rattle.snap_live.specs.Worker.{shown}
 use Rattle.snap_thread_laws.specs.DeskLaws.{DesksTellLinearizations, told_at}
-use Rattle.snap_thread_laws.specs.ShippedLaws.{ClosedDesksAreLinearizable, IsShapeFor, IsToldLive, LiveRunsAreLinearizable, shipped_over}
+use Rattle.snap_thread_laws.specs.ShippedLaws.{ClosedDesksAreLinearizable, IsShapeFor, IsToldLive, LiveRunsAreLinearizable, WasPlayed, shipped_over}
 use Rattle.snap_thread_laws.specs.Told.{IsLinearizableAsTold, Told, told_in}
 use Rattle.snap_thread_laws.proofs.Closing.{seats_are_told}
 use Rattle.snap_thread_laws.proofs.Linear.{linearizations_are_told}
@@ -50,16 +49,17 @@ pub closed_desks : ((g : KindTag) → RunsKeepPromises g) → ClosedDesksAreLine
 closed_desks kept g shape seats r fit h = desks_tell (shipped_over g shape) seats r h (shipped_run kept g shape r fit h.of_base h.short)
 
 -- the threads of a live run are told the turns of its record
-told_live : (base : Setting) (scripts : List Script) (limit : ℕ) (r : Run) (turns : List (List Turn)) → IsLive base scripts limit r turns → IsToldLive base scripts turns (told_in r)
-told_live base scripts limit r turns h = record {
-  handed = λ k lt. (h.played k lt).told ∙ ap (λ (b : Setting). map shown (turns_of b (k + 1) r.items)) (sym h.of_base);
-  plays = λ k lt. subst (λ (b : Setting). IsPlay (script_at scripts k) (turns_of b (k + 1) r.items)) (sym h.of_base) (h.played k lt).plays;
+told_live : (base : Setting) (scripts : List Script) (r : Run) (turns : List (List Turn)) → WasPlayed base scripts r turns →
+    IsToldLive base scripts turns (told_in r)
+told_live base scripts r turns h = record {
+  handed = λ k lt. h.handed k lt ∙ ap (λ (b : Setting). map shown (turns_of b (k + 1) r.items)) (sym h.of_base);
+  plays = λ k lt. subst (λ (b : Setting). IsPlay (script_at scripts k) (turns_of b (k + 1) r.items)) (sym h.of_base) (h.plays k lt);
 }
 
 pub live_runs : ((g : KindTag) → RunsKeepPromises g) → LiveRunsAreLinearizable
-live_runs kept g shape scripts limit r turns fit h fits short =
+live_runs kept g shape scripts r turns fit h =
     let words : r.shape.w ≡ shape.w = ap (λ (b : Setting). b.shape.w) h.of_base in (
       told_in r,
-      told_live (shipped_over g shape) scripts limit r turns h,
-      subst (λ (w : ℕ). IsLinearizableAsTold w (told_in r)) words (told_of r fits (shipped_run kept g shape r fit h.of_base short)),
+      told_live (shipped_over g shape) scripts r turns h,
+      subst (λ (w : ℕ). IsLinearizableAsTold w (told_in r)) words (told_of r h.fits (shipped_run kept g shape r fit h.of_base h.short)),
     )

@@ -7,9 +7,10 @@ use Rattle.snap_sched.specs.ScriptText.{Script}
 use Rattle.snap_runs.specs.Run.{IsValidRun, Run}
 use Rattle.snap_shipped.specs.Shipped.{shipped}
 use Rattle.snap_live_desk.specs.Shown.{SeatView}
+use Rattle.snap_live_desk.specs.Turns.{setting_of, turns_of}
 use Rattle.snap_live_desk.specs.declared.seat.Turn.{Turn}
 use Rattle.snap_live_desk.specs.declared.seat_state.Setting.{Setting}
-use Rattle.snap_live.specs.LiveRun.{IsLive, turns_at}
+use Rattle.snap_live.specs.LiveRun.{turns_at}
 use Rattle.snap_live.specs.Play.{IsPlay}
 use Rattle.snap_live.specs.Script.{script_at}
 use Rattle.snap_live.specs.Worker.{shown}
@@ -29,6 +30,15 @@ abbrev pub ClosedDesksAreLinearizable : Type 0
 ClosedDesksAreLinearizable = (g : KindTag) (shape : Counts) (seats : List SeatView) (kept : Run) → IsShapeFor g shape →
     IsClosed (shipped_over g shape) seats kept → IsLinearizableAsTold shape.w (told_at seats)
 
+-- A live run was played: what is said where it ends, whatever its gate, of its record and of the turns that are handed
+-- back.
+pub record WasPlayed (base : Setting) (scripts : List Script) (kept : Run) (turns : List (List Turn)) : Type 0 where
+  pub of_base : setting_of kept ≡ base
+  pub handed : (k : ℕ) → k < base.shape.n → turns_at turns k ≡ map shown (turns_of base (k + 1) kept.items)
+  pub plays : (k : ℕ) → k < base.shape.n → IsPlay (script_at scripts k) (turns_of base (k + 1) kept.items)
+  pub fits : IsValidRun kept
+  pub short : length kept.items ≤ 1000000
+
 -- What the threads of a live run were told: to each process the turns that are handed back for it, which are a play of
 -- its script.
 pub record IsToldLive (base : Setting) (scripts : List Script) (turns : List (List Turn)) (told : Told) : Type 0 where
@@ -37,7 +47,6 @@ pub record IsToldLive (base : Setting) (scripts : List Script) (turns : List (Li
 
 -- It is linearizable, where the listing is a shipped one.
 abbrev pub LiveRunsAreLinearizable : Type 0
-LiveRunsAreLinearizable = (g : KindTag) (shape : Counts) (scripts : List Script) (limit : ℕ) (kept : Run)
-    (turns : List (List Turn)) → IsShapeFor g shape →
-    IsLive (shipped_over g shape) scripts limit kept turns → IsValidRun kept → length kept.items ≤ 1000000 →
+LiveRunsAreLinearizable = (g : KindTag) (shape : Counts) (scripts : List Script) (kept : Run)
+    (turns : List (List Turn)) → IsShapeFor g shape → WasPlayed (shipped_over g shape) scripts kept turns →
     (told : Told) × IsToldLive (shipped_over g shape) scripts turns told × IsLinearizableAsTold shape.w told

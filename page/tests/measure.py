@@ -39,18 +39,23 @@ def first_paint(running):
 
 
 def times_of(tab, script, repeats):
-    """Milliseconds until what is asked by a script is shown; what is asked afterwards, an audit, is waited for, but not counted."""
-    found = []
+    """Milliseconds until what is asked by a script is shown and laid out, and until the next frame begins, which draws the bars; what is
+    asked afterwards, an audit, is waited for, but not counted."""
+    shown, drawn = [], []
     for _ in range(repeats):
-        found.append(tab.run(f"""(async () => {{ const begun = performance.now(); await {script};
-            await new Promise(done => requestAnimationFrame(done)); return performance.now() - begun; }})()"""))
+        laid, frame = tab.run(f"""(async () => {{ const begun = performance.now(); await {script};
+            const laid = document.body.offsetHeight && performance.now() - begun;
+            await new Promise(done => requestAnimationFrame(done)); return [laid, performance.now() - begun]; }})()""")
+        shown.append(laid)
+        drawn.append(frame)
         tab.settled()
-    return found
+    return shown, drawn
 
 
-def tell(what, found):
+def tell(what, found, drawn=()):
     aim = AIMS.get(what)
-    print(f"{what:28} median {statistics.median(found):7.1f} ms, least {min(found):7.1f} ms" + (f", aim {aim} ms" if aim else ""))
+    frame = f"; to the next frame {statistics.median(drawn):.1f} ms" if drawn else ""
+    print(f"{what:28} median {statistics.median(found):7.1f} ms, least {min(found):7.1f} ms{frame}" + (f", aim {aim} ms" if aim else ""))
 
 
 def main():
@@ -66,12 +71,12 @@ def main():
         for total in (10000, 100000):
             tab.run(f"change({{schedule: {json.dumps(a_schedule(total))}, at: {total}}}).then(() => 0)")
             tab.settled()
-            tell(f"step at {total}", times_of(tab, "press(1)", repeats))
-            tell(f"one item back at {total}", times_of(tab, "goTo(state.at - 1)", repeats))
-            tell(f"to the middle of {total}", times_of(tab, f"goTo({total // 2} + Math.floor(Math.random() * 99))", repeats))
+            tell(f"step at {total}", *times_of(tab, "press(1)", repeats))
+            tell(f"one item back at {total}", *times_of(tab, "goTo(state.at - 1)", repeats))
+            tell(f"to the middle of {total}", *times_of(tab, f"goTo({total // 2} + Math.floor(Math.random() * 99))", repeats))
             asked = tab.run("new TextEncoder().encode(asInput()).length")
             print(f"{'asked text at ' + str(total):28} {asked} bytes")
-            tell(f"the module's run of {total}", times_of(tab, """snaplab.answer('run', '',
+            tell(f"the module's run of {total}", *times_of(tab, """snaplab.answer('run', '',
                 new TextEncoder().encode(state.listing + '%\\n' + state.schedule))""", repeats))
 
 

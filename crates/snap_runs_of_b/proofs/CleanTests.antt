@@ -1,5 +1,5 @@
 -- The double collects of B: which line reads which copy, and that a passed test is clean.
-use Rattle.std.specs.Prelude.{◌≡◌, ℕ, zero, suc, ◌+◌, ◌≤◌, ◌⊎◌, max, Bool, true, false, List, length, map, nat_eq, nat_lt, if◌then◌else◌, refl}
+use Rattle.std.specs.Prelude.{◌≡◌, ℕ, suc, ◌+◌, ◌≤◌, ◌⊎◌, max, Bool, true, false, List, length, map, nat_eq, nat_lt, if◌then◌else◌, refl}
 use Rattle.std.proofs.Common.{sym, ap, arith, inl, inr}
 use Rattle.snap_semantics.specs.Table.{places_to, all_true, first_true}
 use Rattle.snap_semantics.specs.declared.process.Item.{Item}
@@ -7,23 +7,20 @@ use Rattle.snap_semantics.specs.declared.process.Op.{Op}
 use Rattle.snap_semantics.specs.declared.process.Op.TheVariants.{Scan, Update}
 use Rattle.snap_runs.specs.Update.{is_at}
 use Rattle.snap_runs.proofs.Algorithm.{Mode, Scanning, Embedded, Updating, To, when_busy, status_of}
-use Rattle.snap_runs.proofs.CleanTests as clean
 use Rattle.snap_runs.proofs.Collecting as collecting
 use Rattle.snap_runs.proofs.Collecting.{Copies, Phase, Away, ReadsFirst, HasFirst, ReadsSecond, HasSecond, Collected}
 use Rattle.snap_runs.proofs.Computing.{not_lt, either, whether}
 use Rattle.snap_runs.proofs.Held.{seq_at}
 use Rattle.snap_runs.proofs.ItemCases.{moved}
+use Rattle.snap_runs_frame.proofs.Every as every
+use Rattle.snap_runs_frame.proofs.Frame as frames
 use Rattle.snap_runs_of_b.specs.Promises.{run_of, double_collect, PassedTestsAreClean}
-use Rattle.snap_runs_of_b.proofs.Algorithm.{Registers, Move, Process, Variables, ProgramCounter, L10, L11, L12, L13, L14, L15, L16, L17, L18, L19, L20, L21, L22, L23, L25, L26, L27, L28, L40, L41, L42, L43, L44, L45, L46, L47, number, agree, at_limit, move, first_to, counter, restarts, IsLineOf, lines, algorithm}
+use Rattle.snap_runs_of_b.proofs.Algorithm.{Registers, Move, Process, Variables, ProgramCounter, L10, L11, L12, L13, L14, L15, L16, L17, L18, L19, L20, L21, L22, L23, L25, L26, L27, L28, L40, L41, L42, L43, L44, L45, L46, L47, number, agree, at_limit, move, first_to, counter, restarts, IsLineOf, algorithm}
 use Rattle.snap_runs_of_b.proofs.PassedTests.{equal_counts}
 use Rattle.snap_runs_of_b.proofs.Control.{VariablesAt}
-use Rattle.snap_runs_of_b.proofs.Flows.{numbered, listed, writer}
-use Rattle.snap_runs_of_b.proofs.Runs.{words_at, registers_at, process_after, invariant, invariant_of, execution, stage_of, counts_of}
-use Rattle.snap_runs_of_b.proofs.Updates.{updates}
+use Rattle.snap_runs_of_b.proofs.Runs.{words_at, registers_at, process_after, invariant, invariant_of, stage_of, counts_of}
+use Rattle.snap_runs_of_b.proofs.Kept.{frame, kept, calm_kept}
 use Rattle.snap_runs.proofs.Steady.{Steady}
-use Rattle.snap_runs.proofs.Calm.{calm_list}
-use Rattle.snap_runs.proofs.CalmPromises as calm
-use Rattle.snap_runs.specs.Promises as promises
 
 abbrev pub phase : ProgramCounter → Phase
 phase L16 = ReadsFirst
@@ -124,14 +121,14 @@ away Scan = refl
 away (Update word value) = refl
 
 counts : (n : ℕ) (items : List Item) (fits : Steady (run_of n items)) →
-    clean.Counts (algorithm n) lines 46 (writer n) (listed n) (execution n items fits) (updates n items fits) (numbered n) refl
+    frames.Counts (frame n) items (kept n items fits)
 counts n items fits = record {
   sizes = λ t short. (invariant n items fits t short).size;
   counts = λ t k word value short one is owned. ap (λ y. seq_at (words_at n items t) y + 1) (sym owned);
 }
 
 collects : (n : ℕ) (items : List Item) (fits : Steady (run_of n items)) →
-    clean.Collects (algorithm n) lines 46 (writer n) (listed n) (execution n items fits) (updates n items fits) (numbered n) refl (counts n items fits) (copies n) double_collect L20
+    frames.Collects (frame n) items (kept n items fits) (counts n items fits) (copies n) double_collect L20
 collects n items fits = record {
   words_are = λ t. refl;
   places = refl;
@@ -157,11 +154,7 @@ collects n items fits = record {
       equal_counts n i (words_at n items) t q.auxiliary.since q.auxiliary.round (words_at n items t) p (stage_of n items fits t i d L20 short one is).1 all k one_k;
 }
 
-steady_passed_tests_are_clean : (n : ℕ) (items : List Item) → Steady (run_of n items) → promises.PassedTestsAreClean double_collect 46 (run_of n items)
-steady_passed_tests_are_clean n items fits whole i link c zero scan lt ex to = absurd (omega arith)
-steady_passed_tests_are_clean n items fits whole i link c (suc t) scan lt ex to =
-    clean.passed_test (algorithm n) lines 46 (writer n) (listed n) (execution n items fits) (updates n items fits) (numbered n) refl (counts n items fits) (copies n) double_collect L20
-    (collects n items fits) i scan.process link c t scan (omega arith) ex to
-
 pub passed_tests_are_clean_lem : PassedTestsAreClean
-passed_tests_are_clean_lem n items = calm.passed_tests_are_clean (run_of n items) double_collect 46 (steady_passed_tests_are_clean n (calm_list (run_of n items)))
+passed_tests_are_clean_lem n items =
+    every.passed_tests_are_clean (frame n) items (calm_kept n items) double_collect (copies n) L20 (λ steady. counts n _ steady)
+    (λ steady. collects n _ steady)

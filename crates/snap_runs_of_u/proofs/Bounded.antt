@@ -34,7 +34,7 @@ use Rattle.snap_runs_of_u.proofs.Control.{VariablesAt}
 use Rattle.snap_runs_of_u.proofs.Flows.{writer}
 use Rattle.snap_runs_of_u.proofs.Invariant.{pending}
 use Rattle.snap_runs_of_u.proofs.Runs.{words_at, process_after, invariant_of, all_do, execution, well_of}
-use Rattle.snap_runs_of_u.proofs.Updates.{updates}
+use Rattle.snap_runs_of_u.proofs.Kept.{updates}
 
 -- the limits rise with the items
 scalar_wider : (n t : ℕ) (is_j is_c : Bool) → (if is_j then n else if is_c then t else 0) ≤ (if is_j then n else if is_c then suc t else 0)

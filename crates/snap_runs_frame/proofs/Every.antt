@@ -29,7 +29,8 @@ use Rattle.snap_runs.proofs.WaitFree as wait_freedom
 use Rattle.snap_runs.proofs.WordWrites as word_writes
 use Rattle.snap_runs_frame.proofs.Frame.{Frame, Kept, execution, Returned, returned, Counts, Collects}
 
-module _ {V P M : Type 0} {a : Algorithm V P M} {lines : Lines V P M} {line : ℕ} (frame : Frame a lines line) (items : List Item) where
+module _ {V P M : Type 0} {a : Algorithm V P M} {lines : Lines V P M} {line : ℕ} (frame : Frame a lines line)
+    (items : List Item) where
   abbrev pub r : Run
   r = embed.run_of a items
 
@@ -39,30 +40,39 @@ module _ {V P M : Type 0} {a : Algorithm V P M} {lines : Lines V P M} {line : �
 
   module _ (kept : Steady (calm r) → Kept frame calmed) where
     pub never_traps : promises.NeverTraps r
-    never_traps = of_calm.never_traps r (λ steady whole. embed.never_traps a calmed (kept steady).fits (kept steady).does)
+    never_traps =
+        of_calm.never_traps r (λ steady whole. embed.never_traps a calmed (kept steady).fits (kept steady).does)
 
     pub changes_only_at : promises.ChangesOnlyAt line r
     changes_only_at =
-        of_calm.changes_only_at r line (λ steady. word_writes.changes_only_at a lines line frame.writer (execution frame calmed (kept steady)))
+        of_calm.changes_only_at r line
+        (λ steady. word_writes.changes_only_at a lines line frame.writer (execution frame calmed (kept steady)))
 
     pub writes_its_update : promises.WritesItsUpdate line r
-    writes_its_update = of_calm.writes_its_update r line (λ steady. word_writes.writes_its_update a lines line frame.writer
-        (execution frame calmed (kept steady)) (kept steady).updates frame.once frame.numbered frame.writer_is)
+    writes_its_update =
+        of_calm.writes_its_update r line
+        (λ steady. word_writes.writes_its_update a lines line frame.writer (execution frame calmed (kept steady))
+        (kept steady).updates frame.once frame.numbered frame.writer_is)
 
     pub writes_once : promises.WritesOnce line r
-    writes_once = of_calm.writes_once r line (λ steady. word_writes.once_in_update a lines line frame.writer
-        (execution frame calmed (kept steady)) (kept steady).updates frame.once frame.numbered frame.writer_is)
+    writes_once =
+        of_calm.writes_once r line
+        (λ steady. word_writes.once_in_update a lines line frame.writer (execution frame calmed (kept steady))
+        (kept steady).updates frame.once frame.numbered frame.writer_is)
 
     pub calm_has_points : of_calm.OfCalm r promises.HavePoints
     calm_has_points steady =
-        points.have_points a lines line frame.writer frame.listed (execution frame calmed (kept steady)) (kept steady).held
+        points.have_points a lines line frame.writer frame.listed (execution frame calmed (kept steady))
+        (kept steady).held
 
     pub have_points : promises.HavePoints r
     have_points = of_calm.have_points r calm_has_points
 
     pub few_collects : promises.CollectsAtMost frame.collects r
-    few_collects = of_calm.collects_at_most r frame.collects (λ steady. bounds.collects_at_most a lines frame.listed
-        (execution frame calmed (kept steady)) frame.collects frame.steps (λ t i. (kept steady).within t i))
+    few_collects =
+        of_calm.collects_at_most r frame.collects
+        (λ steady. bounds.collects_at_most a lines frame.listed (execution frame calmed (kept steady)) frame.collects
+        frame.steps (λ t i. (kept steady).within t i))
 
     -- and so at most any larger number
     pub fewer_collects : (most : ℕ) → frame.collects ≤ most → promises.CollectsAtMost most r
@@ -70,8 +80,10 @@ module _ {V P M : Type 0} {a : Algorithm V P M} {lines : Lines V P M} {line : �
         let few : double_collects r i c e ≤ frame.collects = few_collects fits i link c e scan in omega arith
 
     pub few_steps : promises.StepsAtMost frame.steps r
-    few_steps = of_calm.steps_at_most r frame.steps (λ steady. bounds.steps_at_most a lines frame.listed
-        (execution frame calmed (kept steady)) frame.collects frame.steps (λ t i. (kept steady).within t i))
+    few_steps =
+        of_calm.steps_at_most r frame.steps
+        (λ steady. bounds.steps_at_most a lines frame.listed (execution frame calmed (kept steady)) frame.collects
+        frame.steps (λ t i. (kept steady).within t i))
 
     -- each operation has its linearization point
     pub linearization_points : HasLinearizationPoints line r
@@ -120,15 +132,17 @@ module _ {V P M : Type 0} {a : Algorithm V P M} {lines : Lines V P M} {line : �
 
     -- A view that is returned at this line has been lent, where it has in the run without crashes.
     pub borrowed_views_are_lent : (at_line : ℕ) (there : P) → frame.numbered.counter_with at_line ≡ Some there →
-        (Steady (calm r) → (i : ℕ) (link : Option ℕ) (c t : ℕ) (view : List ℕ) → FinishedScan (calm r) i link c (suc t) view →
-        Returned frame calmed there i c t view → LentView (calm r) i c (suc t) view) →
+        (Steady (calm r) → (i : ℕ) (link : Option ℕ) (c t : ℕ) (view : List ℕ) →
+        FinishedScan (calm r) i link c (suc t) view → Returned frame calmed there i c t view →
+        LentView (calm r) i c (suc t) view) →
         promises.BorrowedViewsAreLent at_line r
     borrowed_views_are_lent at_line there is lent = of_calm.borrowed_views_are_lent r at_line in_calm
       where
         in_calm : of_calm.OfCalm r (promises.BorrowedViewsAreLent at_line)
         in_calm steady whole i link c zero view ends ex = absurd (let order : c < 0 = ends.order in omega arith)
         in_calm steady whole i link c (suc t) view ends ex =
-            lent steady i link c t view ends (returned frame calmed (kept steady) at_line there is i link c t view ends ex)
+            lent steady i link c t view ends
+            (returned frame calmed (kept steady) at_line there is i link c t view ends ex)
 
     -- A test that passes is clean, where no write keeps the count of its word and the lines collect the words.
     pub passed_tests_are_clean : (names : CollectLines) (copies : Copies V P M) (test : P) →
@@ -141,5 +155,6 @@ module _ {V P M : Type 0} {a : Algorithm V P M} {lines : Lines V P M} {line : �
         in_calm steady whole i link c zero scan lt ex to = absurd (omega arith)
         in_calm steady whole i link c (suc t) scan lt ex to =
             let k = kept steady in
-            clean.passed_test a lines line frame.writer frame.listed (execution frame calmed k) k.updates frame.numbered frame.writer_is (counts steady)
-            copies names test (collects steady) i scan.process link c t scan (omega arith) ex to
+            clean.passed_test a lines line frame.writer frame.listed (execution frame calmed k) k.updates frame.numbered
+            frame.writer_is (counts steady) copies names test (collects steady) i scan.process link c t scan
+            (omega arith) ex to

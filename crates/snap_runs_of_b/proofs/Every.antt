@@ -42,7 +42,8 @@ wait_free_lem n items = every.wait_free (frame n) items (calm_kept n items) _ (�
 
 pub own_updates_are_seen_lem : OwnUpdatesAreSeen
 own_updates_are_seen_lem n items =
-    single.own_updates_are_seen (frame n) (λ i word is. is) items (calm_kept n items) (λ steady t short. (invariant n _ steady t short).size)
+    single.own_updates_are_seen (frame n) (λ i word is. is) items (calm_kept n items)
+    (λ steady t short. (invariant n _ steady t short).size)
 
 -- of a shape that fits, as it has a word for each process
 pub runs_are_snapshots_lem : RunsAreSnapshots

@@ -47,8 +47,11 @@ within n items fits t i d k le one at scan =
     let stage = stage_of n items fits t i d k le one at in
     let counts = counts_of n items fits t i d k le one at in
     let inside = scan_line (λ word. word ≡ i) (in_update k) d scan well.0 in
-    let sharp = few_moves n i (words_at n items) t g.since g.round (words_at n items t) d q.variables k one well.0 well.1 o.opened (λ inside. o.self (subst InScan (sym at) inside)) stage in
-    let few : g.collects + tests k ≤ n = collects_le n i q.variables k g.own g.collects g.tested (omega arith) well.1 sharp counts inside in
+    let sharp =
+    few_moves n i (words_at n items) t g.since g.round (words_at n items t) d q.variables k
+    one well.0 well.1 o.opened (λ inside. o.self (subst InScan (sym at) inside)) stage in
+    let few : g.collects + tests k ≤ n =
+    collects_le n i q.variables k g.own g.collects g.tested (omega arith) well.1 sharp counts inside in
     (few, own_le n i q.variables k g.own g.collects g.tested well.1 counts (omega arith) inside)
 
 -- the steps that an update has ahead at its own lines: three for each bit that is still to be answered
@@ -117,12 +120,15 @@ kept n items fits = record {
   updates = updates n items fits;
   held = λ t i d k le one at returns.
       let q = process_after n items t i in
-      return_held n i (words_at n items) t q.auxiliary.since q.auxiliary.round (words_at n items t) q.variables k returns (stage_of n items fits t i d k le one at);
+      return_held n i (words_at n items) t q.auxiliary.since q.auxiliary.round (words_at n items t) q.variables k returns
+      (stage_of n items fits t i d k le one at);
   within = within n items fits;
   nearer = λ t i word value k lt one at.
-      nearer n i word value (registers_at n items t) (process_after n items t i).variables k (well_of n items fits t i (Updating word value) k (omega arith) one at).0;
+      nearer n i word value (registers_at n items t) (process_after n items t i).variables k
+      (well_of n items fits t i (Updating word value) k (omega arith) one at).0;
 }
 
 -- what every run keeps, once its crashes are left out
-abbrev pub calm_kept : (n : ℕ) (items : List Item) → Steady (calm (run_of n items)) → frames.Kept (frame n) (calm_list (run_of n items))
+abbrev pub calm_kept : (n : ℕ) (items : List Item) → Steady (calm (run_of n items)) →
+    frames.Kept (frame n) (calm_list (run_of n items))
 calm_kept n items = kept n (calm_list (run_of n items))

@@ -14,7 +14,7 @@ use Rattle.snap_runs.proofs.ItemCases.{moved}
 use Rattle.snap_runs_frame.proofs.Every as every
 use Rattle.snap_runs_frame.proofs.Frame as frames
 use Rattle.snap_runs_of_m.specs.Promises.{run_of, double_collect, PassedTestsAreClean}
-use Rattle.snap_runs_of_m.proofs.Algorithm.{Registers, Move, Process, Variables, ProgramCounter, L10, L11, L12, L13, L14, L15, L16, L17, L18, L19, L20, L21, L22, L23, L24, L25, L26, L27, L28, L29, L30, L31, L32, L33, L34, L35, L36, L37, L50, L51, L52, L53, L54, L55, L56, L57, L58, number, same_at, all_still, third_move, move, first_to, counter, restarts, IsLineOf, algorithm}
+use Rattle.snap_runs_of_m.proofs.Algorithm.{Registers, Move, Process, Variables, ProgramCounter, L16, L17, L18, L19, L20, L21, L22, L23, L24, L25, L26, L27, L28, L29, L30, L31, L32, L33, L34, L35, L37, L53, L54, number, same_at, all_still, third_move, move, first_to, counter, restarts, IsLineOf, algorithm}
 use Rattle.snap_runs_of_m.proofs.Collect.{same_copies}
 use Rattle.snap_runs_of_m.proofs.Control.{Keeps}
 use Rattle.snap_runs_of_m.proofs.Runs.{state_at, registers_at, inv, own, stage_of, counts_of}
@@ -49,43 +49,10 @@ record Named (k : ProgramCounter) : Type 0 where
   quiet : (phase k ≡ Away) ⊎ (restarts k ≡ false)
 
 named : (k : ProgramCounter) → Named k
-named L10 = record { first = λ e. absurd (cc); second = λ e. absurd (cc); quiet = inr refl }
-named L11 = record { first = λ e. absurd (cc); second = λ e. absurd (cc); quiet = inr refl }
-named L12 = record { first = λ e. absurd (cc); second = λ e. absurd (cc); quiet = inr refl }
-named L13 = record { first = λ e. absurd (cc); second = λ e. absurd (cc); quiet = inr refl }
-named L14 = record { first = λ e. absurd (cc); second = λ e. absurd (cc); quiet = inr refl }
-named L15 = record { first = λ e. absurd (cc); second = λ e. absurd (cc); quiet = inr refl }
-named L16 = record { first = λ e. absurd (cc); second = λ e. absurd (cc); quiet = inr refl }
 named L17 = record { first = λ e. refl; second = λ e. absurd (cc); quiet = inr refl }
-named L18 = record { first = λ e. absurd (cc); second = λ e. absurd (cc); quiet = inr refl }
 named L19 = record { first = λ e. absurd (cc); second = λ e. refl; quiet = inr refl }
-named L20 = record { first = λ e. absurd (cc); second = λ e. absurd (cc); quiet = inr refl }
-named L21 = record { first = λ e. absurd (cc); second = λ e. absurd (cc); quiet = inr refl }
-named L22 = record { first = λ e. absurd (cc); second = λ e. absurd (cc); quiet = inr refl }
-named L23 = record { first = λ e. absurd (cc); second = λ e. absurd (cc); quiet = inr refl }
-named L24 = record { first = λ e. absurd (cc); second = λ e. absurd (cc); quiet = inr refl }
-named L25 = record { first = λ e. absurd (cc); second = λ e. absurd (cc); quiet = inr refl }
-named L26 = record { first = λ e. absurd (cc); second = λ e. absurd (cc); quiet = inr refl }
-named L27 = record { first = λ e. absurd (cc); second = λ e. absurd (cc); quiet = inr refl }
-named L28 = record { first = λ e. absurd (cc); second = λ e. absurd (cc); quiet = inr refl }
-named L29 = record { first = λ e. absurd (cc); second = λ e. absurd (cc); quiet = inr refl }
-named L30 = record { first = λ e. absurd (cc); second = λ e. absurd (cc); quiet = inr refl }
-named L31 = record { first = λ e. absurd (cc); second = λ e. absurd (cc); quiet = inr refl }
-named L32 = record { first = λ e. absurd (cc); second = λ e. absurd (cc); quiet = inr refl }
 named L33 = record { first = λ e. absurd (cc); second = λ e. absurd (cc); quiet = inl refl }
-named L34 = record { first = λ e. absurd (cc); second = λ e. absurd (cc); quiet = inr refl }
-named L35 = record { first = λ e. absurd (cc); second = λ e. absurd (cc); quiet = inr refl }
-named L36 = record { first = λ e. absurd (cc); second = λ e. absurd (cc); quiet = inr refl }
-named L37 = record { first = λ e. absurd (cc); second = λ e. absurd (cc); quiet = inr refl }
-named L50 = record { first = λ e. absurd (cc); second = λ e. absurd (cc); quiet = inr refl }
-named L51 = record { first = λ e. absurd (cc); second = λ e. absurd (cc); quiet = inr refl }
-named L52 = record { first = λ e. absurd (cc); second = λ e. absurd (cc); quiet = inr refl }
-named L53 = record { first = λ e. absurd (cc); second = λ e. absurd (cc); quiet = inr refl }
-named L54 = record { first = λ e. absurd (cc); second = λ e. absurd (cc); quiet = inr refl }
-named L55 = record { first = λ e. absurd (cc); second = λ e. absurd (cc); quiet = inr refl }
-named L56 = record { first = λ e. absurd (cc); second = λ e. absurd (cc); quiet = inr refl }
-named L57 = record { first = λ e. absurd (cc); second = λ e. absurd (cc); quiet = inr refl }
-named L58 = record { first = λ e. absurd (cc); second = λ e. absurd (cc); quiet = inr refl }
+named k = record { first = λ e. absurd (cc); second = λ e. absurd (cc); quiet = inr refl }
 
 abbrev pub Reaches : ℕ → ℕ → Registers → Variables → ProgramCounter → Move → Type 0
 Reaches n w = collecting.Reaches (algorithm n w) (copies w)
@@ -94,12 +61,6 @@ Reaches n w = collecting.Reaches (algorithm n w) (copies w)
 reaches : (n w me : ℕ) (d : Mode) (m : Registers) (p : Variables) (k : ProgramCounter) → IsLineOf w d k → Keeps n w d p k → w ≤ length p.a →
     w ≤ length p.b →
     Reaches n w m p k (move n w me d m p k)
-reaches n w me d m p L10 s h a b = tt
-reaches n w me d m p L11 s h a b = tt
-reaches n w me d m p L12 s h a b = tt
-reaches n w me d m p L13 s h a b = tt
-reaches n w me d m p L14 s h a b = tt
-reaches n w me d m p L15 s h a b = tt
 reaches n w me d m p L16 s h a b = either (Reaches n w m p L16) (nat_lt p.j n) _ _ (λ e. tt) (λ e. inl h.1)
 reaches n w me d m p L17 s h a b = (refl, refl, h.1, a, refl)
 reaches n w me d m p L18 s h a b =
@@ -117,28 +78,18 @@ reaches n w me d m p L27 s h a b = (refl, refl, inr refl)
 reaches n w me d m p L28 s h a b = (refl, refl, inr refl)
 reaches n w me d m p L29 s h a b = either (Reaches n w m p L29) (nat_lt p.k w) _ _ (λ e. (refl, refl, inr refl)) (λ e. (refl, refl, inr refl))
 reaches n w me d m p L30 s h a b = either (Reaches n w m p L30) (all_still n p) _ _ (λ e. tt) (λ e. tt)
-reaches n w me d m p L31 s h a b = tt
 reaches n w me d m p L32 s h a b = whether (Reaches n w m p L32) (first_to d m p) (third_move n p) (λ e. tt) (λ k e. tt)
-reaches n w me d m p L33 s h a b = tt
-reaches n w me d m p L34 s h a b = tt
 reaches n w me Scanning m p L35 s h a b = tt
 reaches n w me (Embedded word value) m p L35 s h a b = tt
 reaches n w me (Updating word value) m p L35 s h a b = tt
-reaches n w me d m p L36 s h a b = tt
 reaches n w me Scanning m p L37 s h a b = tt
 reaches n w me (Embedded word value) m p L37 s h a b = tt
 reaches n w me (Updating word value) m p L37 s h a b = tt
-reaches n w me d m p L50 s h a b = tt
-reaches n w me d m p L51 s h a b = tt
-reaches n w me d m p L52 s h a b = tt
 reaches n w me d m p L53 s h a b = either (Reaches n w m p L53) (nat_lt p.j n) _ _ (λ e. tt) (λ e. tt)
 reaches n w me Scanning m p L54 s h a b = tt
 reaches n w me (Embedded word value) m p L54 s h a b = tt
 reaches n w me (Updating word value) m p L54 s h a b = refl
-reaches n w me d m p L55 s h a b = tt
-reaches n w me d m p L56 s h a b = tt
-reaches n w me d m p L57 s h a b = tt
-reaches n w me d m p L58 s h a b = tt
+reaches n w me d m p k s h a b = tt
 
 -- the test passes only where nobody is marked
 passes : (n w t : ℕ) (q : Process) (d : Mode) (m : Registers) (p : Variables) (b : Bool) →

@@ -5,7 +5,7 @@ use Rattle.snap_semantics.specs.declared.process.Item.{Item}
 use Rattle.snap_runs.proofs.Algorithm.{Mode, Scanning, Embedded, Updating, memory_after, happens}
 use Rattle.snap_runs.proofs.Computing.{either}
 use Rattle.snap_runs_frame.proofs.Keeping as keeping
-use Rattle.snap_runs_of_m.proofs.Algorithm.{Registers, Move, State, Variables, ProgramCounter, L10, L11, L12, L13, L14, L15, L16, L17, L18, L19, L20, L21, L22, L23, L24, L25, L26, L27, L28, L29, L30, L31, L32, L33, L34, L35, L36, L37, L50, L51, L52, L53, L54, L55, L56, L57, L58, move, first_to, return_to, embed_to, same_at, all_still, third_move, algorithm}
+use Rattle.snap_runs_of_m.proofs.Algorithm.{Registers, Move, State, Variables, ProgramCounter, L16, L18, L20, L23, L26, L29, L30, L32, L35, L37, L52, L53, L54, L55, L57, move, first_to, return_to, embed_to, same_at, all_still, third_move, algorithm}
 
 abbrev pub SameCounters : Registers → Registers → Type 0
 SameCounters m m' = (m'.writes ≡ m.writes) × (m'.answers ≡ m.answers) × (m'.puts ≡ m.puts) × (m'.views ≡ m.views)
@@ -33,43 +33,22 @@ counters_first d m p (Some k) = (refl, refl, refl, refl)
 
 pub counters_kept : (n w me : ℕ) (d : Mode) (m : Registers) (p : Variables) (k : ProgramCounter) →
     KeepsCounters m (move n w me d m p k) ⊎ Raises k
-counters_kept n w me d m p L10 = inl (refl, refl, refl, refl)
-counters_kept n w me d m p L11 = inl (refl, refl, refl, refl)
-counters_kept n w me d m p L12 = inl (refl, refl, refl, refl)
-counters_kept n w me d m p L13 = inl (refl, refl, refl, refl)
-counters_kept n w me d m p L14 = inl (refl, refl, refl, refl)
-counters_kept n w me d m p L15 = inl (refl, refl, refl, refl)
 counters_kept n w me d m p L16 = inl (either (KeepsCounters m) (nat_lt p.j n) _ _ (λ t. (refl, refl, refl, refl)) (λ t. (refl, refl, refl, refl)))
-counters_kept n w me d m p L17 = inl (refl, refl, refl, refl)
 counters_kept n w me d m p L18 = inl (either (KeepsCounters m) (nat_lt p.k w) _ _ (λ t. (refl, refl, refl, refl)) (λ t. (refl, refl, refl, refl)))
-counters_kept n w me d m p L19 = inl (refl, refl, refl, refl)
 counters_kept n w me d m p L20 = inl (either (KeepsCounters m) (nat_lt p.k w) _ _ (λ t. (refl, refl, refl, refl)) (λ t. (refl, refl, refl, refl)))
-counters_kept n w me d m p L21 = inl (refl, refl, refl, refl)
-counters_kept n w me d m p L22 = inl (refl, refl, refl, refl)
 counters_kept n w me d m p L23 = inl (either (KeepsCounters m) (nat_lt p.j n) _ _ (λ t. (refl, refl, refl, refl)) (λ t. (refl, refl, refl, refl)))
-counters_kept n w me d m p L24 = inl (refl, refl, refl, refl)
-counters_kept n w me d m p L25 = inl (refl, refl, refl, refl)
 counters_kept n w me d m p L26 = inl (either (KeepsCounters m) (same_at p.a p.b p.k) _ _ (λ t. (refl, refl, refl, refl)) (λ t. (refl, refl, refl, refl)))
-counters_kept n w me d m p L27 = inl (refl, refl, refl, refl)
-counters_kept n w me d m p L28 = inl (refl, refl, refl, refl)
 counters_kept n w me d m p L29 = inl (either (KeepsCounters m) (nat_lt p.k w) _ _ (λ t. (refl, refl, refl, refl)) (λ t. (refl, refl, refl, refl)))
 counters_kept n w me d m p L30 = inl (either (KeepsCounters m) (all_still n p) _ _ (λ t. (refl, refl, refl, refl)) (λ t. (refl, refl, refl, refl)))
-counters_kept n w me d m p L31 = inl (refl, refl, refl, refl)
 counters_kept n w me d m p L32 = inl (counters_first d m p (third_move n p))
-counters_kept n w me d m p L33 = inl (refl, refl, refl, refl)
-counters_kept n w me d m p L34 = inl (refl, refl, refl, refl)
 counters_kept n w me d m p L35 = inl (counters_return d m p)
-counters_kept n w me d m p L36 = inl (refl, refl, refl, refl)
 counters_kept n w me d m p L37 = inl (counters_return d m p)
-counters_kept n w me d m p L50 = inl (refl, refl, refl, refl)
-counters_kept n w me d m p L51 = inl (refl, refl, refl, refl)
 counters_kept n w me d m p L52 = inr (inl refl)
 counters_kept n w me d m p L53 = inl (either (KeepsCounters m) (nat_lt p.j n) _ _ (λ t. (refl, refl, refl, refl)) (λ t. (refl, refl, refl, refl)))
 counters_kept n w me d m p L54 = inl (counters_embed d m p)
 counters_kept n w me d m p L55 = inr (inr (inl refl))
-counters_kept n w me d m p L56 = inl (refl, refl, refl, refl)
 counters_kept n w me d m p L57 = inr (inr (inr refl))
-counters_kept n w me d m p L58 = inl (refl, refl, refl, refl)
+counters_kept n w me d m p k = inl (refl, refl, refl, refl)
 
 -- an item keeps them, or is a step at one of these lines
 abbrev pub Does : ℕ → ℕ → State → Item → Type 0

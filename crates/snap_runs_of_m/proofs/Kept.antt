@@ -53,7 +53,9 @@ within n w items some fits t i d k le one at scan =
     let counts = counts_of n w items some fits t i d k le one at in
     let books : Books n w i (history g.since) (history t) d q.variables k = subst (BooksAt n w i (history g.since) (history t) q.variables) at o.books in
     let inside = scan_line (IsOneOf w) (in_update k) d scan well.0 in
-    let sharp = sharp_at n w i history t g.since g.round d q.variables k one ((v.laws t (omega arith)).since g.round o.round_le) well.0 well.1 books stage in
+    let sharp =
+    sharp_at n w i history t g.since g.round d q.variables k
+    one ((v.laws t (omega arith)).since g.round o.round_le) well.0 well.1 books stage in
     (collects_le n w q.variables k g.own g.collects g.tested (omega arith) sharp counts inside, own_le n w d q.variables k g.own g.collects g.tested well.1 counts inside)
 
 -- the steps that an update has ahead at its own lines: three for each bit that is still to be answered
@@ -124,10 +126,12 @@ kept n w items some fits = record {
   updates = updates n w items some fits;
   held = λ t i d k le one at returns.
       let q = typed_at (algorithm n w) (state_at n w items t) i in
-      return_held n w i (registers_at n w items) t q.auxiliary.since q.auxiliary.round q.variables k returns (stage_of n w items some fits t i d k le one at);
+      return_held n w i (registers_at n w items) t q.auxiliary.since q.auxiliary.round q.variables k returns
+      (stage_of n w items some fits t i d k le one at);
   within = within n w items some fits;
   nearer = λ t i word value k lt one at.
-      nearer n w i word value (registers_at n w items t) (typed_at (algorithm n w) (state_at n w items t) i).variables k (well_of n w items some fits t i (Updating word value) k (omega arith) one at).0;
+      nearer n w i word value (registers_at n w items t) (typed_at (algorithm n w) (state_at n w items t) i).variables k
+      (well_of n w items some fits t i (Updating word value) k (omega arith) one at).0;
 }
 
 -- what every run keeps, once its crashes are left out

@@ -16,7 +16,7 @@ use Rattle.snap_runs.proofs.Places.{all_pass}
 use Rattle.snap_runs_frame.proofs.Every as every
 use Rattle.snap_runs_frame.proofs.Frame as frames
 use Rattle.snap_runs_of_u.specs.Promises.{double_collect, PassedTestsAreClean}
-use Rattle.snap_runs_of_u.proofs.Algorithm.{Words, Move, Process, Control, Variables, ProgramCounter, L10, L11, L12, L13, L14, L15, L16, L17, L18, L19, L21, L22, L23, L24, L30, L31, L32, L33, number, agree, compared, at_limit, move, first_to, counter, restarts, IsLineOf, algorithm}
+use Rattle.snap_runs_of_u.proofs.Algorithm.{Words, Move, Process, Control, Variables, ProgramCounter, L11, L12, L13, L14, L15, L16, L17, L18, L19, L21, L22, L24, L30, number, agree, compared, at_limit, move, first_to, counter, restarts, IsLineOf, algorithm}
 use Rattle.snap_runs_of_u.proofs.Control.{VariablesAt}
 use Rattle.snap_runs_of_u.proofs.Invariant.{pending}
 use Rattle.snap_runs_of_u.proofs.Runs.{words_at, process_after, invariant, invariant_of, counts_of}
@@ -41,24 +41,10 @@ record Named (k : ProgramCounter) : Type 0 where
   quiet : (phase k ≡ Away) ⊎ (restarts k ≡ false)
 
 named : (k : ProgramCounter) → Named k
-named L10 = record { first = λ e. absurd (cc); second = λ e. absurd (cc); quiet = inr refl }
-named L11 = record { first = λ e. absurd (cc); second = λ e. absurd (cc); quiet = inr refl }
 named L12 = record { first = λ e. refl; second = λ e. absurd (cc); quiet = inr refl }
-named L13 = record { first = λ e. absurd (cc); second = λ e. absurd (cc); quiet = inr refl }
 named L14 = record { first = λ e. absurd (cc); second = λ e. refl; quiet = inr refl }
-named L15 = record { first = λ e. absurd (cc); second = λ e. absurd (cc); quiet = inr refl }
-named L16 = record { first = λ e. absurd (cc); second = λ e. absurd (cc); quiet = inr refl }
-named L17 = record { first = λ e. absurd (cc); second = λ e. absurd (cc); quiet = inr refl }
-named L18 = record { first = λ e. absurd (cc); second = λ e. absurd (cc); quiet = inr refl }
 named L19 = record { first = λ e. absurd (cc); second = λ e. absurd (cc); quiet = inl refl }
-named L21 = record { first = λ e. absurd (cc); second = λ e. absurd (cc); quiet = inr refl }
-named L22 = record { first = λ e. absurd (cc); second = λ e. absurd (cc); quiet = inr refl }
-named L23 = record { first = λ e. absurd (cc); second = λ e. absurd (cc); quiet = inr refl }
-named L24 = record { first = λ e. absurd (cc); second = λ e. absurd (cc); quiet = inr refl }
-named L30 = record { first = λ e. absurd (cc); second = λ e. absurd (cc); quiet = inr refl }
-named L31 = record { first = λ e. absurd (cc); second = λ e. absurd (cc); quiet = inr refl }
-named L32 = record { first = λ e. absurd (cc); second = λ e. absurd (cc); quiet = inr refl }
-named L33 = record { first = λ e. absurd (cc); second = λ e. absurd (cc); quiet = inr refl }
+named k = record { first = λ e. absurd (cc); second = λ e. absurd (cc); quiet = inr refl }
 
 abbrev pub Reaches : ℕ → Words → Variables → ProgramCounter → Move → Type 0
 Reaches n = collecting.Reaches (algorithm n) (copies n)
@@ -66,7 +52,6 @@ Reaches n = collecting.Reaches (algorithm n) (copies n)
 -- what each line does to the copies
 reaches : (n me : ℕ) (d : Mode) (m : Words) (p : Variables) (k : ProgramCounter) → IsLineOf me d k → VariablesAt n p k → n ≤ length p.a → n ≤ length p.b →
     Reaches n m p k (move n me d m p k)
-reaches n me d m p L10 s h a b = tt
 reaches n me d m p L11 s h a b = inl refl
 reaches n me d m p L12 s h a b = (refl, refl, h.0, a, refl)
 reaches n me d m p L13 s h a b =
@@ -75,24 +60,19 @@ reaches n me d m p L14 s h a b = (refl, refl, refl, h.0, b, refl)
 reaches n me d m p L15 s h a b =
     either (Reaches n m p L15) (nat_lt p.j n) _ _ (λ e. (refl, inr (refl, refl, refl))) (λ e. (refl, refl, inl (refl, not_lt p.j n e)))
 reaches n me d m p L16 s h a b = either (Reaches n m p L16) (all_true (map (agree p) (places_to n))) _ _ (λ e. tt) (λ e. tt)
-reaches n me d m p L17 s h a b = tt
 reaches n me d m p L18 s h a b =
     whether (Reaches n m p L18) (first_to d m p) (first_true 1 (map (at_limit p) (places_to n))) (λ e. tt) (λ k e. tt)
 reaches n me d m p L19 s h a b = inl h.0
-reaches n me d m p L21 s h a b = tt
 reaches n me Scanning m p L22 s h a b = tt
 reaches n me (Embedded word value) m p L22 s h a b = tt
 reaches n me (Updating word value) m p L22 s h a b = tt
-reaches n me d m p L23 s h a b = tt
 reaches n me Scanning m p L24 s h a b = tt
 reaches n me (Embedded word value) m p L24 s h a b = tt
 reaches n me (Updating word value) m p L24 s h a b = tt
 reaches n me Scanning m p L30 s h a b = tt
 reaches n me (Embedded word value) m p L30 s h a b = tt
 reaches n me (Updating word value) m p L30 s h a b = refl
-reaches n me d m p L31 s h a b = tt
-reaches n me d m p L32 s h a b = tt
-reaches n me d m p L33 s h a b = tt
+reaches n me d m p k s h a b = tt
 
 -- the test passes only where all copies agree
 passes : (n t : ℕ) (q : Process) (d : Mode) (m : Words) (p : Variables) (b : Bool) →

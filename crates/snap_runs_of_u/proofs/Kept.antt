@@ -47,8 +47,11 @@ within n items fits t i d k le one at scan =
     let stage = stage_of n items fits t i d k le one at in
     let counts = counts_of n items fits t i d k le one at in
     let inside = scan_line (λ word. word ≡ i) (in_update k) d scan well.0 in
-    let sharp = few_moves n i (words_at n items) t g.since g.round (words_at n items t) d q.variables k one well.0 well.1 (λ inside. o.self (subst InScan (sym at) inside)) stage in
-    let few : g.collects + tests k ≤ n = collects_le n q.variables k g.own g.collects g.tested (omega arith) well.1 sharp counts inside in
+    let sharp =
+    few_moves n i (words_at n items) t g.since g.round (words_at n items t) d q.variables k
+    one well.0 well.1 (λ inside. o.self (subst InScan (sym at) inside)) stage in
+    let few : g.collects + tests k ≤ n =
+    collects_le n q.variables k g.own g.collects g.tested (omega arith) well.1 sharp counts inside in
     (few, own_le n q.variables k g.own g.collects g.tested well.1 counts (omega arith) inside)
 
 -- the steps that an update has ahead at its own lines
@@ -104,10 +107,12 @@ kept n items fits = record {
   updates = updates n items fits;
   held = λ t i d k le one at returns.
       let q = process_after n items t i in
-      return_held n (words_at n items) t q.auxiliary.since q.auxiliary.round (words_at n items t) q.variables k returns (stage_of n items fits t i d k le one at);
+      return_held n (words_at n items) t q.auxiliary.since q.auxiliary.round (words_at n items t) q.variables k returns
+      (stage_of n items fits t i d k le one at);
   within = within n items fits;
   nearer = λ t i word value k lt one at.
-      nearer n i word value (words_at n items t) (process_after n items t i).variables k (well_of n items fits t i (Updating word value) k (omega arith) one at).0;
+      nearer n i word value (words_at n items t) (process_after n items t i).variables k
+      (well_of n items fits t i (Updating word value) k (omega arith) one at).0;
 }
 
 -- what every run keeps, once its crashes are left out

@@ -4,8 +4,8 @@
 ghost use Rattle.snap_words.specs.declared.kind.KindTag.{KindTag};
 ghost use Rattle.snap_certify_laws.specs.Shipped.{RunsAreCertified};
 
-/// Every run of U, B and M is certified, by the line at which the updates of its listing write; of U as long as its sequence
-/// numbers suffice.
+/// Every run of U, B and M is certified, by the line at which the updates of its listing write; of
+/// U as long as its sequence numbers suffice.
 pub fn shipped_runs_are_certified()
     ensures { (g : KindTag) → RunsAreCertified g }
 {

@@ -167,31 +167,7 @@ module _ (n : ℕ) (V : ℕ → Type 0) where
 
 lined : (k : ProgramCounter) → HasLine listing_b (number k)
 lined L10 = refl
-lined L11 = refl
-lined L12 = refl
-lined L13 = refl
-lined L14 = refl
-lined L15 = refl
-lined L16 = refl
-lined L17 = refl
-lined L18 = refl
-lined L19 = refl
-lined L20 = refl
-lined L21 = refl
-lined L22 = refl
-lined L23 = refl
-lined L25 = refl
-lined L26 = refl
-lined L27 = refl
-lined L28 = refl
-lined L40 = refl
-lined L41 = refl
-lined L42 = refl
-lined L43 = refl
-lined L44 = refl
-lined L45 = refl
-lined L46 = refl
-lined L47 = refl
+lined k = refl
 
 steady_stays_bounded : (n : ℕ) (items : List Item) → Steady (run_of n items) → StaysWithin (λ at. limits n) (run_of n items)
 steady_stays_bounded n items fits =

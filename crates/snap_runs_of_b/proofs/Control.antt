@@ -121,32 +121,17 @@ move_well n me d m p L47 i bits sized s h = tt
 
 -- what a line needs is kept
 pub needs : (n me : ℕ) (p : Variables) (k : ProgramCounter) → SaysBits n p → VariablesAt n me p k → Needs n p k
-needs n me p L10 f h = tt
-needs n me p L11 f h = tt
 needs n me p L12 f h = h.0
 needs n me p L13 f h = h.0
 needs n me p L14 f h = (h.0, h.2)
-needs n me p L15 f h = tt
 needs n me p L16 f h = h.0
-needs n me p L17 f h = tt
 needs n me p L18 f h = h.0
-needs n me p L19 f h = tt
-needs n me p L20 f h = tt
 needs n me p L21 f h = h.1
-needs n me p L22 f h = tt
-needs n me p L23 f h = tt
-needs n me p L25 f h = tt
-needs n me p L26 f h = tt
 needs n me p L27 f h = h
-needs n me p L28 f h = tt
-needs n me p L40 f h = tt
 needs n me p L41 f h = h
 needs n me p L42 f h = h
-needs n me p L43 f h = tt
-needs n me p L44 f h = tt
-needs n me p L45 f h = tt
 needs n me p L46 f h = f
-needs n me p L47 f h = tt
+needs n me p k f h = tt
 
 -- an update that is not skipped is of the caller's own word
 pub own_word : (n i word value : ℕ) → call_skip kind.Bits (square n) i (Update word value) ≡ None → word ≡ i

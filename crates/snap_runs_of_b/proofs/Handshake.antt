@@ -9,7 +9,7 @@ use Rattle.snap_semantics.specs.Table.{places_to, all_true, first_true, with_bit
 use Rattle.snap_runs.proofs.Algorithm.{Mode, Scanning, Embedded, Updating, To, Begin, Answer, Finish}
 use Rattle.snap_runs.proofs.Computing.{not_lt, either, whether}
 use Rattle.snap_runs.proofs.Held.{seq_at}
-use Rattle.snap_runs_of_b.proofs.Algorithm.{Registers, Move, Variables, ProgramCounter, L10, L11, L12, L13, L14, L15, L16, L17, L18, L19, L20, L21, L22, L23, L25, L26, L27, L28, L40, L41, L42, L43, L44, L45, L46, L47, move, first_to, return_to, place, bit_for, answer, agree, at_limit, IsUpdate, IsLineOf}
+use Rattle.snap_runs_of_b.proofs.Algorithm.{Registers, Move, Variables, ProgramCounter, L10, L12, L13, L14, L15, L16, L17, L18, L19, L20, L22, L23, L26, L28, L40, L41, L42, L43, L44, L46, L47, move, first_to, return_to, place, bit_for, answer, agree, at_limit, IsUpdate, IsLineOf}
 use Rattle.snap_runs_of_b.proofs.Control.{VariablesAt, Sized}
 use Rattle.snap_runs_of_b.proofs.Collect.{place_set, place_kept}
 use Rattle.snap_runs_of_b.proofs.Stage.{reach, answer_differs}
@@ -73,8 +73,6 @@ BitsMove n i m p r Finish = Unit {0}
 pub bits_move : (n i : ℕ) (d : Mode) (m : Registers) (p : Variables) (k : ProgramCounter) → IsOneOf n i → Square n m.q → Sized n p → IsLineOf i d k →
     VariablesAt n i p k →
     BitsMove n i m p (reach n p k) (move n i d m p k)
-bits_move n i d m p L10 one square sized s h = λ k ik lt. absurd (omega arith)
-bits_move n i d m p L11 one square sized s h = λ k ik lt. absurd (omega arith)
 bits_move n i d m p L12 one square sized s h = λ k ik lt. inl (omega arith, refl, refl, refl)
 bits_move n i d m p L13 one square sized s h = λ k ik lt. inl (lt, place_kept p.g p.j k _ h.0.0 ik.0 (λ e. omega arith), refl, refl)
 bits_move n i d m p L14 one square sized s h = λ k ik lt.
@@ -106,30 +104,23 @@ bits_move n i d m p L19 one square sized s h =
 bits_move n i d m p L20 one square sized s h =
     either (BitsMove n i m p (reach n p L20)) (all_true (map (agree i p) (places_to n))) _ _
     (λ b. λ k ik lt. absurd (omega arith)) (λ b. λ k ik lt. inl (omega arith, refl, refl, refl))
-bits_move n i d m p L21 one square sized s h = λ k ik lt. absurd (omega arith)
 bits_move n i d m p L22 one square sized s h =
     whether (BitsMove n i m p (reach n p L22)) (first_to d m p) (first_true 1 (map (at_limit p) (places_to n)))
     (λ e k ik lt. absurd (omega arith)) (λ u e k ik lt. absurd (omega arith))
 bits_move n i d m p L23 one square sized s h = λ k ik lt. absurd (let e : p.j ≡ 1 = h.0 in omega arith)
-bits_move n i d m p L25 one square sized s h = λ k ik lt. absurd (omega arith)
 bits_move n i Scanning m p L26 one square sized s h = tt
 bits_move n i (Embedded word value) m p L26 one square sized s h = λ k ik lt. absurd (omega arith)
 bits_move n i (Updating word value) m p L26 one square sized s h = absurd s
-bits_move n i d m p L27 one square sized s h = λ k ik lt. absurd (omega arith)
 bits_move n i Scanning m p L28 one square sized s h = tt
 bits_move n i (Embedded word value) m p L28 one square sized s h = λ k ik lt. absurd (omega arith)
 bits_move n i (Updating word value) m p L28 one square sized s h = absurd s
-bits_move n i d m p L40 one square sized s h = λ k ik lt. absurd (omega arith)
-bits_move n i d m p L41 one square sized s h = λ k ik lt. absurd (omega arith)
-bits_move n i d m p L42 one square sized s h = λ k ik lt. absurd (omega arith)
 bits_move n i d m p L43 one square sized s h =
     either (BitsMove n i m p (reach n p L43)) (nat_lt p.j n) _ _ (λ b. λ k ik lt. absurd (omega arith)) (λ b. λ k ik lt. absurd (omega arith))
 bits_move n i Scanning m p L44 one square sized s h = absurd s
 bits_move n i (Embedded word value) m p L44 one square sized s h = absurd s
 bits_move n i (Updating word value) m p L44 one square sized s h = refl
-bits_move n i d m p L45 one square sized s h = λ k ik lt. absurd (omega arith)
-bits_move n i d m p L46 one square sized s h = λ k ik lt. absurd (omega arith)
 bits_move n i d m p L47 one square sized s h = tt
+bits_move n i d m p k one square sized s h = λ k ik lt. absurd (omega arith)
 
 -- A line of process i keeps the bits, or puts one of its own.
 abbrev pub PutsMove : ℕ → Registers → Variables → Move → Type 0
@@ -139,38 +130,24 @@ PutsMove i m p (Answer v) = Unit {0}
 PutsMove i m p Finish = Unit {0}
 
 pub puts_move : (n i : ℕ) (d : Mode) (m : Registers) (p : Variables) (k : ProgramCounter) → PutsMove i m p (move n i d m p k)
-puts_move n i d m p L10 = inl refl
-puts_move n i d m p L11 = inl refl
-puts_move n i d m p L12 = inl refl
-puts_move n i d m p L13 = inl refl
 puts_move n i d m p L14 = inr refl
 puts_move n i d m p L15 = either (PutsMove i m p) (nat_lt p.j n) _ _ (λ b. inl refl) (λ b. inl refl)
-puts_move n i d m p L16 = inl refl
 puts_move n i d m p L17 = either (PutsMove i m p) (nat_lt p.j n) _ _ (λ b. inl refl) (λ b. inl refl)
-puts_move n i d m p L18 = inl refl
 puts_move n i d m p L19 = either (PutsMove i m p) (nat_lt p.j n) _ _ (λ b. inl refl) (λ b. inl refl)
 puts_move n i d m p L20 = either (PutsMove i m p) (all_true (map (agree i p) (places_to n))) _ _ (λ b. inl refl) (λ b. inl refl)
-puts_move n i d m p L21 = inl refl
 puts_move n i d m p L22 = whether (PutsMove i m p) (first_to d m p) (first_true 1 (map (at_limit p) (places_to n))) (λ e. inl refl) (λ k e. inl refl)
-puts_move n i d m p L23 = inl refl
-puts_move n i d m p L25 = inl refl
 puts_move n i Scanning m p L26 = tt
 puts_move n i (Embedded word value) m p L26 = inl refl
 puts_move n i (Updating word value) m p L26 = tt
-puts_move n i d m p L27 = inl refl
 puts_move n i Scanning m p L28 = tt
 puts_move n i (Embedded word value) m p L28 = inl refl
 puts_move n i (Updating word value) m p L28 = tt
-puts_move n i d m p L40 = inl refl
-puts_move n i d m p L41 = inl refl
-puts_move n i d m p L42 = inl refl
 puts_move n i d m p L43 = either (PutsMove i m p) (nat_lt p.j n) _ _ (λ b. inl refl) (λ b. inl refl)
 puts_move n i Scanning m p L44 = tt
 puts_move n i (Embedded word value) m p L44 = tt
 puts_move n i (Updating word value) m p L44 = tt
-puts_move n i d m p L45 = inl refl
-puts_move n i d m p L46 = inl refl
 puts_move n i d m p L47 = tt
+puts_move n i d m p k = inl refl
 
 pub square_kept : (n i : ℕ) (m : Registers) (p : Variables) (q' : List (List ℕ)) → Square n m.q → IsOneOf n i →
     (q' ≡ m.q) ⊎ (q' ≡ with_bit_at m.q (i - 1) (p.j - 1) (place p.g p.j)) → Square n q'
@@ -219,25 +196,14 @@ all_said me said bit (Updating word value) s h = h
 pub answers_move : (n me i bit : ℕ) (d : Mode) (m : Registers) (p : Variables) (k : ProgramCounter) → IsOneOf n i → Sized n p → IsLineOf me d k →
     VariablesAt n me p k → bit_for m.q i me ≡ bit →
     Answers i bit d p k → AnswersMove i bit (move n me d m p k)
-answers_move n me i bit d m p L10 one sized s keeps put h = h
-answers_move n me i bit d m p L11 one sized s keeps put h = h
-answers_move n me i bit d m p L12 one sized s keeps put h = h
-answers_move n me i bit d m p L13 one sized s keeps put h = h
-answers_move n me i bit d m p L14 one sized s keeps put h = h
 answers_move n me i bit d m p L15 one sized s keeps put h = either (AnswersMove i bit) (nat_lt p.j n) _ _ (λ b. h) (λ b. h)
-answers_move n me i bit d m p L16 one sized s keeps put h = h
 answers_move n me i bit d m p L17 one sized s keeps put h = either (AnswersMove i bit) (nat_lt p.j n) _ _ (λ b. h) (λ b. h)
-answers_move n me i bit d m p L18 one sized s keeps put h = h
 answers_move n me i bit d m p L19 one sized s keeps put h = either (AnswersMove i bit) (nat_lt p.j n) _ _ (λ b. h) (λ b. h)
 answers_move n me i bit d m p L20 one sized s keeps put h =
     either (AnswersMove i bit) (all_true (map (agree me p) (places_to n))) _ _ (λ b. h) (λ b. h)
-answers_move n me i bit d m p L21 one sized s keeps put h = h
 answers_move n me i bit d m p L22 one sized s keeps put h =
     whether (AnswersMove i bit) (first_to d m p) (first_true 1 (map (at_limit p) (places_to n))) (λ e. h) (λ k e. h)
-answers_move n me i bit d m p L23 one sized s keeps put h = h
-answers_move n me i bit d m p L25 one sized s keeps put h = h
 answers_move n me i bit d m p L26 one sized s keeps put h = answers_return i bit d m p h
-answers_move n me i bit d m p L27 one sized s keeps put h = h
 answers_move n me i bit d m p L28 one sized s keeps put h = answers_return i bit d m p h
 answers_move n me i bit d m p L40 one sized s keeps put h = λ lt. absurd (let pos : 0 < i = one.0 in omega arith)
 answers_move n me i bit d m p L41 one sized s keeps put h = (h, λ e. subst (λ j. bit_for m.q j me ≡ bit) e put)
@@ -253,6 +219,6 @@ answers_move n me i bit d m p L43 one sized s keeps put h =
 answers_move n me i bit Scanning m p L44 one sized s keeps put h = absurd s
 answers_move n me i bit (Embedded word value) m p L44 one sized s keeps put h = absurd s
 answers_move n me i bit (Updating word value) m p L44 one sized s keeps put h = h
-answers_move n me i bit d m p L45 one sized s keeps put h = h
 answers_move n me i bit d m p L46 one sized s keeps put h = tt
 answers_move n me i bit d m p L47 one sized s keeps put h = tt
+answers_move n me i bit d m p k one sized s keeps put h = h

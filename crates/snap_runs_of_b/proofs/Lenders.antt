@@ -1,30 +1,23 @@
 -- A borrowed view of a scan of B is that of an embedded scan of the lender within it.
-use Rattle.std.specs.Prelude.{ℕ, zero, suc, ◌<◌, ◌≤◌, List, length, refl}
-use Rattle.std.proofs.Common.{subst, arith}
+use Rattle.std.specs.Prelude.{ℕ, List, refl}
+use Rattle.std.proofs.Common.{arith}
 use Rattle.snap_semantics.specs.declared.process.Item.{Item}
 use Rattle.snap_semantics.specs.declared.process.Op.{Op}
 use Rattle.snap_semantics.specs.declared.process.Op.TheVariants.{Scan, Update}
 use Rattle.snap_runs.proofs.Algorithm.{when_busy}
-use Rattle.snap_runs.proofs.Executing as executing
-use Rattle.snap_runs.proofs.Held.{Beside}
-use Rattle.snap_runs.proofs.Lenders as lenders
-use Rattle.snap_runs.proofs.Scans as scans
-use Rattle.snap_runs_of_b.specs.Promises.{run_of, BorrowedViewsAreLent}
-use Rattle.snap_runs_of_b.proofs.Algorithm.{L28, IsLate, counter, lines, algorithm}
-use Rattle.snap_runs_of_b.proofs.Flows.{numbered, listed, writer, embeds}
-use Rattle.snap_runs_of_b.proofs.Runs.{words_at, registers_at, process_after, invariant, invariant_of, execution, stage_of}
-use Rattle.snap_runs_of_b.proofs.Updates.{updates}
 use Rattle.snap_runs.proofs.Steady.{Steady}
-use Rattle.snap_runs.proofs.Calm.{calm_list}
-use Rattle.snap_runs.proofs.CalmPromises as calm
-use Rattle.snap_runs.specs.Promises as promises
+use Rattle.snap_runs_frame.proofs.Single as single
+use Rattle.snap_runs_of_b.specs.Promises.{run_of, BorrowedViewsAreLent}
+use Rattle.snap_runs_of_b.proofs.Algorithm.{L28, IsLate, counter}
+use Rattle.snap_runs_of_b.proofs.Flows.{embeds}
+use Rattle.snap_runs_of_b.proofs.Kept.{frame, kept, calm_kept}
+use Rattle.snap_runs_of_b.proofs.Runs.{registers_at, process_after, invariant, invariant_of, stage_of}
 
 not_late : (op : Op) → IsLate (counter op) → ⊥
 not_late Scan late = late
 not_late (Update word value) late = late
 
-lends : (n : ℕ) (items : List Item) (fits : Steady (run_of n items)) →
-    lenders.Lends (algorithm n) lines 46 (writer n) (listed n) (execution n items fits) (updates n items fits) (numbered n) refl (λ i word is. is)
+lends : (n : ℕ) (items : List Item) (fits : Steady (run_of n items)) → single.Lends (frame n) (λ i word is. is) items (kept n items fits)
 lends n items fits = record {
   sizes = λ t short. (invariant n items fits t short).size;
   pairs = λ t i k short one kone making more. (invariant n items fits t short).start i k one kone making more;
@@ -37,21 +30,7 @@ lends n items fits = record {
       when_busy _ _ (λ d k well. embeds n i d (registers_at n items t) q.variables k well.0) q.control (invariant_of n items fits t i (omega arith) one).well;
 }
 
-steady_borrowed_views_are_lent : (n : ℕ) (items : List Item) → Steady (run_of n items) → promises.BorrowedViewsAreLent 28 (run_of n items)
-steady_borrowed_views_are_lent n items fits whole i link c zero view ends ex = absurd (let order : c < 0 = ends.order in omega arith)
-steady_borrowed_views_are_lent n items fits whole i link c (suc t) view ends ex =
-    let one = ends.scan.process in
-    let last : suc t ≤ length items = ends.scan.last in
-    let run = execution n items fits in
-    let there = executing.stands_at (algorithm n) items fits run.does (numbered n) t i 28 L28 (omega arith) one refl ex in
-    let ending = scans.ending (algorithm n) lines (listed n) run i one link c t view ends in
-    let since = (process_after n items t i).auxiliary.since in
-    let stage = stage_of n items fits t i there.1.0 L28 (omega arith) one there.1.1 in
-    let k = stage.1.0 in
-    let beside : Beside (words_at n items) t c k view =
-    subst (λ y. Beside (words_at n items) t y k view) ending.goes_on.since (subst (Beside (words_at n items) t since k) ending.answers stage.1.2) in
-    lenders.lent_view (algorithm n) lines 46 (writer n) (listed n) run (updates n items fits) (numbered n) refl (λ i word is. is) (lends n items fits)
-    i link c t view ends k beside.0 stage.1.1 beside.1 beside.2 beside.3 beside.4
-
 pub borrowed_views_are_lent_lem : BorrowedViewsAreLent
-borrowed_views_are_lent_lem n items = calm.borrowed_views_are_lent (run_of n items) 28 (steady_borrowed_views_are_lent n (calm_list (run_of n items)))
+borrowed_views_are_lent_lem n items =
+    single.borrowed_views_are_lent (frame n) (λ i word is. is) items (calm_kept n items) 28 L28 refl (λ steady. lends n _ steady)
+    (λ steady t i d le one at. (stage_of n _ steady t i d L28 le one at).1)

@@ -1,4 +1,4 @@
--- Every run of B: the invariant at each state, and no process traps.
+-- The runs of B without crashes: the invariant at each state.
 use Rattle.std.specs.Prelude.{◌≡◌, ℕ, ◌-◌, ◌≤◌, max, List, [], length, replicate, refl}
 use Rattle.std.proofs.Common.{sym, ◌∙◌, ap, subst, arith}
 use Rattle.std.proofs.lemmas.List.{get_or-replicate, length-replicate}
@@ -10,7 +10,7 @@ use Rattle.snap_runs.proofs.Embedding as embed
 use Rattle.snap_runs.proofs.Held.{word_at, seq_at, at_most_now}
 use Rattle.snap_runs.proofs.Scans as scans
 use Rattle.snap_runs.proofs.States.{at_each}
-use Rattle.snap_runs_of_b.specs.Promises.{run_of, NeverTraps}
+use Rattle.snap_runs_of_b.specs.Promises.{run_of}
 use Rattle.snap_runs_of_b.proofs.Algorithm.{Words, Registers, Control, Process, State, ProgramCounter, place, handshake_at, first_word, first_words, first_registers, IsLineOf, lines, algorithm}
 use Rattle.snap_runs_of_b.proofs.Control.{ControlWell, VariablesAt, does}
 use Rattle.snap_runs_of_b.proofs.Count.{Count}
@@ -20,9 +20,6 @@ use Rattle.snap_runs_of_b.proofs.Invariant.{ProcessInvariant, Invariant, PairInv
 use Rattle.snap_runs_of_b.proofs.Preserve.{item_keeps}
 use Rattle.snap_runs_of_b.proofs.Stage.{Stage}
 use Rattle.snap_runs.proofs.Steady.{Steady}
-use Rattle.snap_runs.proofs.Calm.{calm_list}
-use Rattle.snap_runs.proofs.CalmPromises as calm
-use Rattle.snap_runs.specs.Promises as promises
 
 -- the state after t items, and its words
 abbrev pub state_at : ℕ → List Item → ℕ → State
@@ -104,12 +101,6 @@ pub all_do : (n : ℕ) (items : List Item) → Steady (run_of n items) → embed
 all_do n items fits t i h one =
     let o = invariant_of n items fits t i (omega arith) one in
     does n i (registers_at n items t) (process_after n items t i).variables (process_after n items t i).control one (invariant n items fits t (omega arith)).bits o.sized o.bits o.well
-
-steady_never_traps : (n : ℕ) (items : List Item) → Steady (run_of n items) → promises.NeverTraps (run_of n items)
-steady_never_traps n items fits whole = embed.never_traps (algorithm n) items fits (all_do n items fits)
-
-pub never_traps_lem : NeverTraps
-never_traps_lem n items = calm.never_traps (run_of n items) (steady_never_traps n (calm_list (run_of n items)))
 
 -- the run, with what is known of its lines
 abbrev pub execution : (n : ℕ) (items : List Item) → Steady (run_of n items) → scans.Execution (algorithm n) lines

@@ -281,32 +281,9 @@ IsLinePlace n p L14 = IsOneOf n p.j
 IsLinePlace n p _ = Unit {0}
 
 pub line_place : (n i : ℕ) (p : Variables) (k : ProgramCounter) → VariablesAt n i p k → IsLinePlace n p k
-line_place n i p L10 h = tt
-line_place n i p L11 h = tt
-line_place n i p L12 h = tt
 line_place n i p L13 h = h.0
 line_place n i p L14 h = h.0
-line_place n i p L15 h = tt
-line_place n i p L16 h = tt
-line_place n i p L17 h = tt
-line_place n i p L18 h = tt
-line_place n i p L19 h = tt
-line_place n i p L20 h = tt
-line_place n i p L21 h = tt
-line_place n i p L22 h = tt
-line_place n i p L23 h = tt
-line_place n i p L25 h = tt
-line_place n i p L26 h = tt
-line_place n i p L27 h = tt
-line_place n i p L28 h = tt
-line_place n i p L40 h = tt
-line_place n i p L41 h = tt
-line_place n i p L42 h = tt
-line_place n i p L43 h = tt
-line_place n i p L44 h = tt
-line_place n i p L45 h = tt
-line_place n i p L46 h = tt
-line_place n i p L47 h = tt
+line_place n i p k h = tt
 
 pub stage_kept : (n i : ℕ) (history : ℕ → Words) (t t' since round : ℕ) (words words' : Words) (p : Variables) (k : ProgramCounter) → t ≤ t' →
     Grows n words words' → IsLinePlace n p k →
@@ -400,8 +377,6 @@ flipped_differs (suc (suc t)) h e = absurd (omega arith)
 
 pub fit_move : (n i toggle : ℕ) (d : Mode) (m : Registers) (p : Variables) (k : ProgramCounter) → IsLineOf i d k → VariablesAt n i p k →
     writes k ≡ 0 → Fit n toggle p k → FitMove n toggle (move n i d m p k)
-fit_move n i toggle d m p L10 s keeps quiet h = h
-fit_move n i toggle d m p L11 s keeps quiet h = h
 fit_move n i toggle d m p L12 s keeps quiet h = ((length-set p.a (p.j - 1) (word_at m.words p.j) ∙ h.0.0, h.0.1, h.0.2, h.0.3, h.0.4), h.1, h.2)
 fit_move n i toggle d m p L13 s keeps quiet h =
     ((h.0.0, h.0.1, length-set p.g (p.j - 1) (handshake_at (word_at p.a p.j) i) ∙ h.0.2, h.0.3, h.0.4), h.1, h.2)
@@ -412,20 +387,14 @@ fit_move n i toggle d m p L17 s keeps quiet h = either (FitMove n toggle) (nat_l
 fit_move n i toggle d m p L18 s keeps quiet h = ((h.0.0, length-set p.b (p.j - 1) (word_at m.words p.j) ∙ h.0.1, h.0.2, h.0.3, h.0.4), h.1, h.2)
 fit_move n i toggle d m p L19 s keeps quiet h = either (FitMove n toggle) (nat_lt p.j n) _ _ (λ b. h) (λ b. h)
 fit_move n i toggle d m p L20 s keeps quiet h = either (FitMove n toggle) (all_true (map (agree i p) (places_to n))) _ _ (λ b. h) (λ b. h)
-fit_move n i toggle d m p L21 s keeps quiet h = h
 fit_move n i toggle d m p L22 s keeps quiet h =
     whether (FitMove n toggle) (first_to d m p) (first_true 1 (map (at_limit p) (places_to n))) (λ e. h) (λ k e. h)
-fit_move n i toggle d m p L23 s keeps quiet h = h
-fit_move n i toggle d m p L25 s keeps quiet h = h
 fit_move n i toggle Scanning m p L26 s keeps quiet h = tt
 fit_move n i toggle (Embedded word value) m p L26 s keeps quiet h = h
 fit_move n i toggle (Updating word value) m p L26 s keeps quiet h = absurd s
-fit_move n i toggle d m p L27 s keeps quiet h = h
 fit_move n i toggle Scanning m p L28 s keeps quiet h = tt
 fit_move n i toggle (Embedded word value) m p L28 s keeps quiet h = h
 fit_move n i toggle (Updating word value) m p L28 s keeps quiet h = absurd s
-fit_move n i toggle d m p L40 s keeps quiet h = h
-fit_move n i toggle d m p L41 s keeps quiet h = h
 fit_move n i toggle d m p L42 s keeps quiet h =
     let len : length p.f ≡ max n n = h.0.3 in
     ((h.0.0, h.0.1, h.0.2, length-set p.f (p.j - 1) (answer p.x) ∙ h.0.3, h.0.4), (h.1.0, bits_set n p.f p.j (answer p.x) keeps (omega arith) (answer_bit p.x) h.1.1), h.2)
@@ -437,3 +406,4 @@ fit_move n i toggle d m p L45 s keeps quiet h =
     (h.0, (flipped_bit p.t h.1.0, h.1.1), λ e. flipped_differs p.t h.1.0 (e ∙ sym h.2))
 fit_move n i toggle d m p L46 s keeps quiet h = absurd (omega arith)
 fit_move n i toggle d m p L47 s keeps quiet h = tt
+fit_move n i toggle d m p k s keeps quiet h = h

@@ -1,7 +1,13 @@
 //! Listing B, and what every run of it keeps.
 #![tactic(auto)]
 
-ghost use Rattle.snap_runs_of_b.specs.Promises.{NeverTraps, ChangesOnlyAt46, WritesItsUpdate, WritesOnce, HavePoints, FewCollects, FewSteps, SharpCollects, MovesAreWrites, BorrowedViewsAreLent, OwnUpdatesAreSeen, PassedTestsAreClean, Linearizable, OperationsHavePlaces, WriteStronglyLinearizable, WaitFree, RunsAreSnapshots};
+ghost use Rattle.snap_runs_of_b.specs.Promises.{NeverTraps, ChangesOnlyAt46, WritesItsUpdate};
+ghost use Rattle.snap_runs_of_b.specs.Promises.{WritesOnce, HavePoints, FewCollects, FewSteps};
+ghost use Rattle.snap_runs_of_b.specs.Promises.{SharpCollects, MovesAreWrites};
+ghost use Rattle.snap_runs_of_b.specs.Promises.{BorrowedViewsAreLent, OwnUpdatesAreSeen};
+ghost use Rattle.snap_runs_of_b.specs.Promises.{PassedTestsAreClean, Linearizable};
+ghost use Rattle.snap_runs_of_b.specs.Promises.{OperationsHavePlaces, WriteStronglyLinearizable};
+ghost use Rattle.snap_runs_of_b.specs.Promises.{WaitFree, RunsAreSnapshots};
 ghost use Rattle.snap_runs_of_b.specs.Bounded.{StaysBounded};
 
 /// No process ever traps.
@@ -14,7 +20,8 @@ pub fn changes_only_at_46()
     ensures { ChangesOnlyAt46 }
 {}
 
-/// An item that executes line 46 lies in an update of its process and writes that update's value, nothing else.
+/// An item that executes line 46 lies in an update of its process and writes that update's value,
+/// nothing else.
 pub fn writes_its_update()
     ensures { WritesItsUpdate }
 {}
@@ -44,13 +51,14 @@ pub fn sharp_collects()
     ensures { SharpCollects }
 {}
 
-/// Where a scan sees a process move, that process has written since the scan's previous double collect, or since the
-/// scan's start where there is none.
+/// Where a scan sees a process move, that process has written since the scan's previous double
+/// collect, or since the scan's start where there is none.
 pub fn moves_are_writes()
     ensures { MovesAreWrites }
 {}
 
-/// A scan that borrows a view, and returns it at line 28, has that of an embedded scan of another process, all within it.
+/// A scan that borrows a view, and returns it at line 28, has that of an embedded scan of another
+/// process, all within it.
 pub fn borrowed_views_are_lent()
     ensures { BorrowedViewsAreLent }
 {}
@@ -60,31 +68,34 @@ pub fn own_updates_are_seen()
     ensures { OwnUpdatesAreSeen }
 {}
 
-/// Where a scan's test passes, there is a state between its two collects, and no word was written between the scan's two
-/// reads of it.
+/// Where a scan's test passes, there is a state between its two collects, and no word was written
+/// between the scan's two reads of it.
 pub fn passed_tests_are_clean()
     ensures { PassedTestsAreClean }
 {}
 
-/// Every run is linearizable: some order of its operations, in which one that ended before another was called stands before
-/// it, is a run of the snapshot object of one process, with the answers that were given.
+/// Every run is linearizable: some order of its operations, in which one that ended before another
+/// was called stands before it, is a run of the snapshot object of one process, with the answers
+/// that were given.
 pub fn linearizable()
     ensures { Linearizable }
 {}
 
-/// Each operation of a run has its place, an item between its call and its end: an update that at which it executes line
-/// 46, and a scan one after which the values are its view; and in the order of their places they are a linearization.
+/// Each operation of a run has its place, an item between its call and its end: an update that at
+/// which it executes line 46, and a scan one after which the values are its view; and in the order
+/// of their places they are a linearization.
 pub fn operations_have_places()
     ensures { OperationsHavePlaces }
 {}
 
-/// The listing is write strongly linearizable: its runs have linearizations in which the updates keep their order as a run
-/// goes on, and more come only behind them.
+/// The listing is write strongly linearizable: its runs have linearizations in which the updates
+/// keep their order as a run goes on, and more come only behind them.
 pub fn write_strongly_linearizable()
     ensures { WriteStronglyLinearizable }
 {}
 
-/// Every call is over after so many turns of its process, whatever the others do or stop doing: at most 8 n n + 15 n + 12.
+/// Every call is over after so many turns of its process, whatever the others do or stop doing: at
+/// most 8 n n + 15 n + 12.
 pub fn wait_free()
     ensures { WaitFree }
 {}
@@ -94,8 +105,8 @@ pub fn runs_are_snapshots()
     ensures { RunsAreSnapshots }
 {}
 
-/// Every run is bounded, however long it is: each number of each state is within limits that n alone
-/// decides, and each value is 0 or that of an update that was called before.
+/// Every run is bounded, however long it is: each number of each state is within limits that n
+/// alone decides, and each value is 0 or that of an update that was called before.
 pub fn stays_bounded()
     ensures { StaysBounded }
 {}

@@ -213,42 +213,7 @@ module _ (n w : ℕ) (V : ℕ → Type 0) where
 
 lined : (k : ProgramCounter) → HasLine listing_m (number k)
 lined L10 = refl
-lined L11 = refl
-lined L12 = refl
-lined L13 = refl
-lined L14 = refl
-lined L15 = refl
-lined L16 = refl
-lined L17 = refl
-lined L18 = refl
-lined L19 = refl
-lined L20 = refl
-lined L21 = refl
-lined L22 = refl
-lined L23 = refl
-lined L24 = refl
-lined L25 = refl
-lined L26 = refl
-lined L27 = refl
-lined L28 = refl
-lined L29 = refl
-lined L30 = refl
-lined L31 = refl
-lined L32 = refl
-lined L33 = refl
-lined L34 = refl
-lined L35 = refl
-lined L36 = refl
-lined L37 = refl
-lined L50 = refl
-lined L51 = refl
-lined L52 = refl
-lined L53 = refl
-lined L54 = refl
-lined L55 = refl
-lined L56 = refl
-lined L57 = refl
-lined L58 = refl
+lined k = refl
 
 -- the bit that line 22 takes into row h
 late_bit : (n w : ℕ) (items : List Item) (some : 0 < w) (fits : Steady (run_of n w items)) (t i : ℕ) (d : Mode) (k : ProgramCounter) → t ≤ length items →

@@ -1,5 +1,5 @@
 -- The double collects of M: which line reads which copy, and that a passed test is clean.
-use Rattle.std.specs.Prelude.{◌≡◌, ℕ, zero, suc, ◌+◌, ◌≤◌, ◌<◌, ◌⊎◌, max, Bool, true, false, List, length, nat_eq, nat_lt, if◌then◌else◌, refl}
+use Rattle.std.specs.Prelude.{◌≡◌, ℕ, suc, ◌+◌, ◌≤◌, ◌<◌, ◌⊎◌, max, Bool, true, false, List, length, nat_eq, nat_lt, if◌then◌else◌, refl}
 use Rattle.std.proofs.Common.{ap, arith, inl, inr}
 use Rattle.snap_words.specs.Word.{Word}
 use Rattle.snap_semantics.specs.declared.process.Item.{Item}
@@ -7,23 +7,20 @@ use Rattle.snap_semantics.specs.declared.process.Op.{Op}
 use Rattle.snap_semantics.specs.declared.process.Op.TheVariants.{Scan, Update}
 use Rattle.snap_runs.specs.Update.{is_at}
 use Rattle.snap_runs.proofs.Algorithm.{Mode, Scanning, Embedded, Updating, To, when_busy, status_of, typed_at}
-use Rattle.snap_runs.proofs.CleanTests as clean
 use Rattle.snap_runs.proofs.Collecting as collecting
 use Rattle.snap_runs.proofs.Collecting.{Copies, Phase, Away, ReadsFirst, HasFirst, ReadsSecond, HasSecond, Collected}
 use Rattle.snap_runs.proofs.Computing.{not_lt, either, whether}
 use Rattle.snap_runs.proofs.ItemCases.{moved}
+use Rattle.snap_runs_frame.proofs.Every as every
+use Rattle.snap_runs_frame.proofs.Frame as frames
 use Rattle.snap_runs_of_m.specs.Promises.{run_of, double_collect, PassedTestsAreClean}
-use Rattle.snap_runs_of_m.proofs.Algorithm.{Registers, Move, Process, Variables, ProgramCounter, L10, L11, L12, L13, L14, L15, L16, L17, L18, L19, L20, L21, L22, L23, L24, L25, L26, L27, L28, L29, L30, L31, L32, L33, L34, L35, L36, L37, L50, L51, L52, L53, L54, L55, L56, L57, L58, number, same_at, all_still, third_move, move, first_to, counter, restarts, IsLineOf, lines, algorithm}
+use Rattle.snap_runs_of_m.proofs.Algorithm.{Registers, Move, Process, Variables, ProgramCounter, L16, L17, L18, L19, L20, L21, L22, L23, L24, L25, L26, L27, L28, L29, L30, L31, L32, L33, L34, L35, L37, L53, L54, number, same_at, all_still, third_move, move, first_to, counter, restarts, IsLineOf, algorithm}
 use Rattle.snap_runs_of_m.proofs.Collect.{same_copies}
 use Rattle.snap_runs_of_m.proofs.Control.{Keeps}
-use Rattle.snap_runs_of_m.proofs.Flows.{numbered, listed, writer}
-use Rattle.snap_runs_of_m.proofs.Runs.{state_at, registers_at, inv, own, execution, stage_of, counts_of}
+use Rattle.snap_runs_of_m.proofs.Runs.{state_at, registers_at, inv, own, stage_of, counts_of}
 use Rattle.snap_runs_of_m.proofs.Stage.{still_bits, still_words}
-use Rattle.snap_runs_of_m.proofs.Updates.{updates}
+use Rattle.snap_runs_of_m.proofs.Kept.{frame, kept, calm_kept}
 use Rattle.snap_runs.proofs.Steady.{Steady}
-use Rattle.snap_runs.proofs.Calm.{calm_list}
-use Rattle.snap_runs.proofs.CalmPromises as calm
-use Rattle.snap_runs.specs.Promises as promises
 
 abbrev pub phase : ProgramCounter → Phase
 phase L17 = ReadsFirst
@@ -52,43 +49,10 @@ record Named (k : ProgramCounter) : Type 0 where
   quiet : (phase k ≡ Away) ⊎ (restarts k ≡ false)
 
 named : (k : ProgramCounter) → Named k
-named L10 = record { first = λ e. absurd (cc); second = λ e. absurd (cc); quiet = inr refl }
-named L11 = record { first = λ e. absurd (cc); second = λ e. absurd (cc); quiet = inr refl }
-named L12 = record { first = λ e. absurd (cc); second = λ e. absurd (cc); quiet = inr refl }
-named L13 = record { first = λ e. absurd (cc); second = λ e. absurd (cc); quiet = inr refl }
-named L14 = record { first = λ e. absurd (cc); second = λ e. absurd (cc); quiet = inr refl }
-named L15 = record { first = λ e. absurd (cc); second = λ e. absurd (cc); quiet = inr refl }
-named L16 = record { first = λ e. absurd (cc); second = λ e. absurd (cc); quiet = inr refl }
 named L17 = record { first = λ e. refl; second = λ e. absurd (cc); quiet = inr refl }
-named L18 = record { first = λ e. absurd (cc); second = λ e. absurd (cc); quiet = inr refl }
 named L19 = record { first = λ e. absurd (cc); second = λ e. refl; quiet = inr refl }
-named L20 = record { first = λ e. absurd (cc); second = λ e. absurd (cc); quiet = inr refl }
-named L21 = record { first = λ e. absurd (cc); second = λ e. absurd (cc); quiet = inr refl }
-named L22 = record { first = λ e. absurd (cc); second = λ e. absurd (cc); quiet = inr refl }
-named L23 = record { first = λ e. absurd (cc); second = λ e. absurd (cc); quiet = inr refl }
-named L24 = record { first = λ e. absurd (cc); second = λ e. absurd (cc); quiet = inr refl }
-named L25 = record { first = λ e. absurd (cc); second = λ e. absurd (cc); quiet = inr refl }
-named L26 = record { first = λ e. absurd (cc); second = λ e. absurd (cc); quiet = inr refl }
-named L27 = record { first = λ e. absurd (cc); second = λ e. absurd (cc); quiet = inr refl }
-named L28 = record { first = λ e. absurd (cc); second = λ e. absurd (cc); quiet = inr refl }
-named L29 = record { first = λ e. absurd (cc); second = λ e. absurd (cc); quiet = inr refl }
-named L30 = record { first = λ e. absurd (cc); second = λ e. absurd (cc); quiet = inr refl }
-named L31 = record { first = λ e. absurd (cc); second = λ e. absurd (cc); quiet = inr refl }
-named L32 = record { first = λ e. absurd (cc); second = λ e. absurd (cc); quiet = inr refl }
 named L33 = record { first = λ e. absurd (cc); second = λ e. absurd (cc); quiet = inl refl }
-named L34 = record { first = λ e. absurd (cc); second = λ e. absurd (cc); quiet = inr refl }
-named L35 = record { first = λ e. absurd (cc); second = λ e. absurd (cc); quiet = inr refl }
-named L36 = record { first = λ e. absurd (cc); second = λ e. absurd (cc); quiet = inr refl }
-named L37 = record { first = λ e. absurd (cc); second = λ e. absurd (cc); quiet = inr refl }
-named L50 = record { first = λ e. absurd (cc); second = λ e. absurd (cc); quiet = inr refl }
-named L51 = record { first = λ e. absurd (cc); second = λ e. absurd (cc); quiet = inr refl }
-named L52 = record { first = λ e. absurd (cc); second = λ e. absurd (cc); quiet = inr refl }
-named L53 = record { first = λ e. absurd (cc); second = λ e. absurd (cc); quiet = inr refl }
-named L54 = record { first = λ e. absurd (cc); second = λ e. absurd (cc); quiet = inr refl }
-named L55 = record { first = λ e. absurd (cc); second = λ e. absurd (cc); quiet = inr refl }
-named L56 = record { first = λ e. absurd (cc); second = λ e. absurd (cc); quiet = inr refl }
-named L57 = record { first = λ e. absurd (cc); second = λ e. absurd (cc); quiet = inr refl }
-named L58 = record { first = λ e. absurd (cc); second = λ e. absurd (cc); quiet = inr refl }
+named k = record { first = λ e. absurd (cc); second = λ e. absurd (cc); quiet = inr refl }
 
 abbrev pub Reaches : ℕ → ℕ → Registers → Variables → ProgramCounter → Move → Type 0
 Reaches n w = collecting.Reaches (algorithm n w) (copies w)
@@ -97,12 +61,6 @@ Reaches n w = collecting.Reaches (algorithm n w) (copies w)
 reaches : (n w me : ℕ) (d : Mode) (m : Registers) (p : Variables) (k : ProgramCounter) → IsLineOf w d k → Keeps n w d p k → w ≤ length p.a →
     w ≤ length p.b →
     Reaches n w m p k (move n w me d m p k)
-reaches n w me d m p L10 s h a b = tt
-reaches n w me d m p L11 s h a b = tt
-reaches n w me d m p L12 s h a b = tt
-reaches n w me d m p L13 s h a b = tt
-reaches n w me d m p L14 s h a b = tt
-reaches n w me d m p L15 s h a b = tt
 reaches n w me d m p L16 s h a b = either (Reaches n w m p L16) (nat_lt p.j n) _ _ (λ e. tt) (λ e. inl h.1)
 reaches n w me d m p L17 s h a b = (refl, refl, h.1, a, refl)
 reaches n w me d m p L18 s h a b =
@@ -120,28 +78,18 @@ reaches n w me d m p L27 s h a b = (refl, refl, inr refl)
 reaches n w me d m p L28 s h a b = (refl, refl, inr refl)
 reaches n w me d m p L29 s h a b = either (Reaches n w m p L29) (nat_lt p.k w) _ _ (λ e. (refl, refl, inr refl)) (λ e. (refl, refl, inr refl))
 reaches n w me d m p L30 s h a b = either (Reaches n w m p L30) (all_still n p) _ _ (λ e. tt) (λ e. tt)
-reaches n w me d m p L31 s h a b = tt
 reaches n w me d m p L32 s h a b = whether (Reaches n w m p L32) (first_to d m p) (third_move n p) (λ e. tt) (λ k e. tt)
-reaches n w me d m p L33 s h a b = tt
-reaches n w me d m p L34 s h a b = tt
 reaches n w me Scanning m p L35 s h a b = tt
 reaches n w me (Embedded word value) m p L35 s h a b = tt
 reaches n w me (Updating word value) m p L35 s h a b = tt
-reaches n w me d m p L36 s h a b = tt
 reaches n w me Scanning m p L37 s h a b = tt
 reaches n w me (Embedded word value) m p L37 s h a b = tt
 reaches n w me (Updating word value) m p L37 s h a b = tt
-reaches n w me d m p L50 s h a b = tt
-reaches n w me d m p L51 s h a b = tt
-reaches n w me d m p L52 s h a b = tt
 reaches n w me d m p L53 s h a b = either (Reaches n w m p L53) (nat_lt p.j n) _ _ (λ e. tt) (λ e. tt)
 reaches n w me Scanning m p L54 s h a b = tt
 reaches n w me (Embedded word value) m p L54 s h a b = tt
 reaches n w me (Updating word value) m p L54 s h a b = refl
-reaches n w me d m p L55 s h a b = tt
-reaches n w me d m p L56 s h a b = tt
-reaches n w me d m p L57 s h a b = tt
-reaches n w me d m p L58 s h a b = tt
+reaches n w me d m p k s h a b = tt
 
 -- the test passes only where nobody is marked
 passes : (n w t : ℕ) (q : Process) (d : Mode) (m : Registers) (p : Variables) (b : Bool) →
@@ -154,14 +102,14 @@ away Scan = refl
 away (Update word value) = refl
 
 counts : (n w : ℕ) (items : List Item) (some : 0 < w) (fits : Steady (run_of n w items)) →
-    clean.Counts (algorithm n w) lines 57 (writer n w) (listed n w) (execution n w items some fits) (updates n w items some fits) (numbered n w) refl
+    frames.Counts (frame n w) items (kept n w items some fits)
 counts n w items some fits = record {
   sizes = λ t short. ((inv n w items some fits t short).laws t (omega arith)).now.size;
   counts = λ t k word value short one is owned. refl;
 }
 
 collects : (n w : ℕ) (items : List Item) (some : 0 < w) (fits : Steady (run_of n w items)) →
-    clean.Collects (algorithm n w) lines 57 (writer n w) (listed n w) (execution n w items some fits) (updates n w items some fits) (numbered n w) refl (counts n w items some fits) (copies w) double_collect L30
+    frames.Collects (frame n w) items (kept n w items some fits) (counts n w items some fits) (copies w) double_collect L30
 collects n w items some fits = record {
   words_are = λ t. refl;
   places = refl;
@@ -192,11 +140,7 @@ collects n w items some fits = record {
       (still_bits n w i history round t p (w + 1) stage.2 still) (still_words n w i history round t p one laws stage.1 stage.2 still k one_k));
 }
 
-steady_passed_tests_are_clean : (n w : ℕ) (items : List Item) → 0 < w → Steady (run_of n w items) → promises.PassedTestsAreClean double_collect 57 (run_of n w items)
-steady_passed_tests_are_clean n w items some fits whole i link c zero scan lt ex to = absurd (omega arith)
-steady_passed_tests_are_clean n w items some fits whole i link c (suc t) scan lt ex to =
-    clean.passed_test (algorithm n w) lines 57 (writer n w) (listed n w) (execution n w items some fits) (updates n w items some fits) (numbered n w) refl (counts n w items some fits) (copies w) double_collect L30
-    (collects n w items some fits) i scan.process link c t scan (omega arith) ex to
-
 pub passed_tests_are_clean_lem : PassedTestsAreClean
-passed_tests_are_clean_lem n w items some = calm.passed_tests_are_clean (run_of n w items) double_collect 57 (steady_passed_tests_are_clean n w (calm_list (run_of n w items)) some)
+passed_tests_are_clean_lem n w items some =
+    every.passed_tests_are_clean (frame n w) items (calm_kept n w items some) double_collect (copies w) L30
+    (λ steady. counts n w _ some steady) (λ steady. collects n w _ some steady)

@@ -83,49 +83,34 @@ for_each_long n f old =
     let c : length (map f (places_to n)) ≡ n = length-map-range_with_len f 1 n in omega arith
 
 pub long_move : (n w me : ℕ) (d : Mode) (m : Registers) (p : Variables) (k : ProgramCounter) → Long n w p → LongMove n w (move n w me d m p k)
-long_move n w me d m p L10 h = record { a = h.a; b = h.b; g = h.g; h = h.h; tog = h.tog; d = h.d }
-long_move n w me d m p L11 h = record { a = h.a; b = h.b; g = h.g; h = h.h; tog = h.tog; d = h.d }
-long_move n w me d m p L12 h = record { a = h.a; b = h.b; g = h.g; h = h.h; tog = h.tog; d = h.d }
-long_move n w me d m p L13 h = record { a = h.a; b = h.b; g = h.g; h = h.h; tog = h.tog; d = h.d }
 long_move n w me d m p L14 h = record { a = h.a; b = h.b; g = length-set p.g (p.j - 1) p.x ∙ h.g; h = h.h; tog = h.tog; d = h.d }
-long_move n w me d m p L15 h = record { a = h.a; b = h.b; g = h.g; h = h.h; tog = h.tog; d = h.d }
 long_move n w me d m p L16 h = either (LongMove n w) (nat_lt p.j n) _ _ (λ t. record { a = h.a; b = h.b; g = h.g; h = h.h; tog = h.tog; d = h.d }) (λ t. record { a = h.a; b = h.b; g = h.g; h = h.h; tog = h.tog; d = h.d })
 long_move n w me d m p L17 h = record { a = length-set p.a (p.k - 1) (word_at m.words p.k) ∙ h.a; b = h.b; g = h.g; h = h.h; tog = h.tog; d = h.d }
 long_move n w me d m p L18 h = either (LongMove n w) (nat_lt p.k w) _ _ (λ t. record { a = h.a; b = h.b; g = h.g; h = h.h; tog = h.tog; d = h.d }) (λ t. record { a = h.a; b = h.b; g = h.g; h = h.h; tog = h.tog; d = h.d })
 long_move n w me d m p L19 h = record { a = h.a; b = length-set p.b (p.k - 1) (word_at m.words p.k) ∙ h.b; g = h.g; h = h.h; tog = h.tog; d = h.d }
 long_move n w me d m p L20 h = either (LongMove n w) (nat_lt p.k w) _ _ (λ t. record { a = h.a; b = h.b; g = h.g; h = h.h; tog = h.tog; d = h.d }) (λ t. record { a = h.a; b = h.b; g = h.g; h = h.h; tog = h.tog; d = h.d })
-long_move n w me d m p L21 h = record { a = h.a; b = h.b; g = h.g; h = h.h; tog = h.tog; d = h.d }
 long_move n w me d m p L22 h = record { a = h.a; b = h.b; g = h.g; h = length-set p.h (p.j - 1) p.x ∙ h.h; tog = h.tog; d = h.d }
 long_move n w me d m p L23 h = either (LongMove n w) (nat_lt p.j n) _ _ (λ t. record { a = h.a; b = h.b; g = h.g; h = h.h; tog = h.tog; d = h.d }) (λ t. record { a = h.a; b = h.b; g = h.g; h = h.h; tog = h.tog; d = h.d })
 long_move n w me d m p L24 h = record { a = h.a; b = h.b; g = h.g; h = h.h; tog = h.tog; d = for_each_long n (λ c. 0) p.d }
 long_move n w me d m p L25 h = record { a = h.a; b = h.b; g = h.g; h = h.h; tog = h.tog; d = for_each_long n (marked p) p.d }
 long_move n w me d m p L26 h = either (LongMove n w) (same_at p.a p.b p.k) _ _ (λ t. record { a = h.a; b = h.b; g = h.g; h = h.h; tog = h.tog; d = h.d }) (λ t. record { a = h.a; b = h.b; g = h.g; h = h.h; tog = h.tog; d = h.d })
-long_move n w me d m p L27 h = record { a = h.a; b = h.b; g = h.g; h = h.h; tog = h.tog; d = h.d }
 long_move n w me d m p L28 h = let e : length (slice_set p.d (p.x - 1) 1) ≡ length p.d = length-set p.d (p.x - 1) 1 in let le : n ≤ length p.d = h.d in record { a = h.a; b = h.b; g = h.g; h = h.h; tog = h.tog; d = omega arith }
 long_move n w me d m p L29 h = either (LongMove n w) (nat_lt p.k w) _ _ (λ t. record { a = h.a; b = h.b; g = h.g; h = h.h; tog = h.tog; d = h.d }) (λ t. record { a = h.a; b = h.b; g = h.g; h = h.h; tog = h.tog; d = h.d })
 long_move n w me d m p L30 h = either (LongMove n w) (all_still n p) _ _ (λ t. record { a = h.a; b = h.b; g = h.g; h = h.h; tog = h.tog; d = h.d }) (λ t. record { a = h.a; b = h.b; g = h.g; h = h.h; tog = h.tog; d = h.d })
-long_move n w me d m p L31 h = record { a = h.a; b = h.b; g = h.g; h = h.h; tog = h.tog; d = h.d }
 long_move n w me d m p L32 h = long_first n w d m p (third_move n p) h
-long_move n w me d m p L33 h = record { a = h.a; b = h.b; g = h.g; h = h.h; tog = h.tog; d = h.d }
-long_move n w me d m p L34 h = record { a = h.a; b = h.b; g = h.g; h = h.h; tog = h.tog; d = h.d }
 long_move n w me Scanning m p L35 h = tt
 long_move n w me (Embedded y z) m p L35 h = record { a = h.a; b = h.b; g = h.g; h = h.h; tog = h.tog; d = h.d }
 long_move n w me (Updating y z) m p L35 h = tt
-long_move n w me d m p L36 h = record { a = h.a; b = h.b; g = h.g; h = h.h; tog = h.tog; d = h.d }
 long_move n w me Scanning m p L37 h = tt
 long_move n w me (Embedded y z) m p L37 h = record { a = h.a; b = h.b; g = h.g; h = h.h; tog = h.tog; d = h.d }
 long_move n w me (Updating y z) m p L37 h = tt
-long_move n w me d m p L50 h = record { a = h.a; b = h.b; g = h.g; h = h.h; tog = h.tog; d = h.d }
-long_move n w me d m p L51 h = record { a = h.a; b = h.b; g = h.g; h = h.h; tog = h.tog; d = h.d }
-long_move n w me d m p L52 h = record { a = h.a; b = h.b; g = h.g; h = h.h; tog = h.tog; d = h.d }
 long_move n w me d m p L53 h = either (LongMove n w) (nat_lt p.j n) _ _ (λ t. record { a = h.a; b = h.b; g = h.g; h = h.h; tog = h.tog; d = h.d }) (λ t. record { a = h.a; b = h.b; g = h.g; h = h.h; tog = h.tog; d = h.d })
 long_move n w me Scanning m p L54 h = tt
 long_move n w me (Embedded y z) m p L54 h = tt
 long_move n w me (Updating y z) m p L54 h = record { a = h.a; b = h.b; g = h.g; h = h.h; tog = h.tog; d = h.d }
-long_move n w me d m p L55 h = record { a = h.a; b = h.b; g = h.g; h = h.h; tog = h.tog; d = h.d }
 long_move n w me d m p L56 h = record { a = h.a; b = h.b; g = h.g; h = h.h; tog = length-set p.tog (word_of d - 1) (flip (place p.tog (word_of d))) ∙ h.tog; d = h.d }
-long_move n w me d m p L57 h = record { a = h.a; b = h.b; g = h.g; h = h.h; tog = h.tog; d = h.d }
 long_move n w me d m p L58 h = tt
+long_move n w me d m p k h = record { a = h.a; b = h.b; g = h.g; h = h.h; tog = h.tog; d = h.d }
 
 abbrev pub MoveWell : Op → ℕ → ℕ → Move → Type 0
 MoveWell op n w v = LeadsTo (λ d p k. IsLineOf w d k × Keeps n w d p k × (op_of d ≡ op)) v
@@ -210,43 +195,24 @@ word_is w (Updating y z) h = h
 -- what a line needs is kept
 pub needs : (n w me : ℕ) (d : Mode) (p : Variables) (k : ProgramCounter) → IsOneOf n me → IsLineOf w d k → Keeps n w d p k →
     (k ≡ L28 → IsOneOf n p.x) → Needs n w me d p k
-needs n w me d p L10 i s h x = tt
-needs n w me d p L11 i s h x = tt
-needs n w me d p L12 i s h x = tt
 needs n w me d p L13 i s h x = (h.0, i)
 needs n w me d p L14 i s h x = h.0
 needs n w me d p L15 i s h x = (h.0, i, h.3)
-needs n w me d p L16 i s h x = tt
 needs n w me d p L17 i s h x = h.1
-needs n w me d p L18 i s h x = tt
 needs n w me d p L19 i s h x = h.1
-needs n w me d p L20 i s h x = tt
 needs n w me d p L21 i s h x = (h.0, i)
 needs n w me d p L22 i s h x = h.0
-needs n w me d p L23 i s h x = tt
-needs n w me d p L24 i s h x = tt
-needs n w me d p L25 i s h x = tt
 needs n w me d p L26 i s h x = h.1
 needs n w me d p L27 i s h x = h.1
 needs n w me d p L28 i s h x = x refl
-needs n w me d p L29 i s h x = tt
-needs n w me d p L30 i s h x = tt
 needs n w me d p L31 i s h x = h.2
-needs n w me d p L32 i s h x = tt
-needs n w me d p L33 i s h x = tt
-needs n w me d p L34 i s h x = tt
-needs n w me d p L35 i s h x = tt
 needs n w me d p L36 i s h x = h
-needs n w me d p L37 i s h x = tt
-needs n w me d p L50 i s h x = tt
 needs n w me d p L51 i s h x = (h, i)
 needs n w me d p L52 i s h x = (h, i)
-needs n w me d p L53 i s h x = tt
-needs n w me d p L54 i s h x = tt
 needs n w me d p L55 i s h x = i
 needs n w me d p L56 i s h x = word_is w d s
 needs n w me d p L57 i s h x = (word_is w d s, h)
-needs n w me d p L58 i s h x = tt
+needs n w me d p k i s h x = tt
 
 -- an update that is not skipped is of a word that there is
 allowed_word : (n w me word arg : ℕ) → call_skip kind.Multi (counts n w) me (Update word arg) ≡ None → IsOneOf w word

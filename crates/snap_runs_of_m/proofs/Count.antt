@@ -152,34 +152,7 @@ count_move n w me d m p L58 own c c' recent recent' pos e f keeps sharp bits h =
 -- the bounds at each line of a scan
 pub collects_le : (n w : ℕ) (p : Variables) (k : ProgramCounter) (own c recent : ℕ) → 0 < n → (k ≡ L30 → moves n p + 2 ≤ 2 * n) →
     Count n w p own c recent k → IsScanLine (in_update k) → c + tests k ≤ 2 * n - 1
-collects_le n w p L10 own c recent pos sharp h s = omega arith
-collects_le n w p L11 own c recent pos sharp h s = omega arith
-collects_le n w p L12 own c recent pos sharp h s = omega arith
-collects_le n w p L13 own c recent pos sharp h s = omega arith
-collects_le n w p L14 own c recent pos sharp h s = omega arith
-collects_le n w p L15 own c recent pos sharp h s = omega arith
-collects_le n w p L16 own c recent pos sharp h s = omega arith
-collects_le n w p L17 own c recent pos sharp h s = omega arith
-collects_le n w p L18 own c recent pos sharp h s = omega arith
-collects_le n w p L19 own c recent pos sharp h s = omega arith
-collects_le n w p L20 own c recent pos sharp h s = omega arith
-collects_le n w p L21 own c recent pos sharp h s = omega arith
-collects_le n w p L22 own c recent pos sharp h s = omega arith
-collects_le n w p L23 own c recent pos sharp h s = omega arith
-collects_le n w p L24 own c recent pos sharp h s = omega arith
-collects_le n w p L25 own c recent pos sharp h s = omega arith
-collects_le n w p L26 own c recent pos sharp h s = omega arith
-collects_le n w p L27 own c recent pos sharp h s = omega arith
-collects_le n w p L28 own c recent pos sharp h s = omega arith
-collects_le n w p L29 own c recent pos sharp h s = omega arith
 collects_le n w p L30 own c recent pos sharp h s = let less : moves n p + 2 ≤ 2 * n = sharp refl in omega arith
-collects_le n w p L31 own c recent pos sharp h s = omega arith
-collects_le n w p L32 own c recent pos sharp h s = omega arith
-collects_le n w p L33 own c recent pos sharp h s = omega arith
-collects_le n w p L34 own c recent pos sharp h s = omega arith
-collects_le n w p L35 own c recent pos sharp h s = omega arith
-collects_le n w p L36 own c recent pos sharp h s = omega arith
-collects_le n w p L37 own c recent pos sharp h s = omega arith
 collects_le n w p L50 own c recent pos sharp h s = absurd s
 collects_le n w p L51 own c recent pos sharp h s = absurd s
 collects_le n w p L52 own c recent pos sharp h s = absurd s
@@ -189,6 +162,7 @@ collects_le n w p L55 own c recent pos sharp h s = absurd s
 collects_le n w p L56 own c recent pos sharp h s = absurd s
 collects_le n w p L57 own c recent pos sharp h s = absurd s
 collects_le n w p L58 own c recent pos sharp h s = absurd s
+collects_le n w p k own c recent pos sharp h s = omega arith
 
 own_all : (n w c own : ℕ) → c + 1 ≤ 2 * n → own ≤ budget n w c + (7 * n + 8 * w + 6) → own + 1 ≤ 14 * (n * n) + 16 * (n * w) + 19 * n + 8 * w + 10
 own_all n w c own le h =
@@ -213,20 +187,10 @@ own_le n w d p L20 own c recent keeps h s = let inside : IsOneOf w p.k = keeps.1
 own_le n w d p L21 own c recent keeps h s = let inside : IsOneOf n p.j = keeps.0 in own_all n w c own (omega arith) (omega arith)
 own_le n w d p L22 own c recent keeps h s = let inside : IsOneOf n p.j = keeps.0 in own_all n w c own (omega arith) (omega arith)
 own_le n w d p L23 own c recent keeps h s = let inside : IsOneOf n p.j = keeps.0 in own_all n w c own (omega arith) (omega arith)
-own_le n w d p L24 own c recent keeps h s = own_all n w c own (omega arith) (omega arith)
-own_le n w d p L25 own c recent keeps h s = own_all n w c own (omega arith) (omega arith)
 own_le n w d p L26 own c recent keeps h s = let inside : IsOneOf w p.k = keeps.1 in own_all n w c own (omega arith) (omega arith)
 own_le n w d p L27 own c recent keeps h s = let inside : IsOneOf w p.k = keeps.1 in own_all n w c own (omega arith) (omega arith)
 own_le n w d p L28 own c recent keeps h s = let inside : IsOneOf w p.k = keeps.1 in own_all n w c own (omega arith) (omega arith)
 own_le n w d p L29 own c recent keeps h s = let inside : IsOneOf w p.k = keeps.1 in own_all n w c own (omega arith) (omega arith)
-own_le n w d p L30 own c recent keeps h s = own_all n w c own (omega arith) (omega arith)
-own_le n w d p L31 own c recent keeps h s = own_all n w c own (omega arith) (omega arith)
-own_le n w d p L32 own c recent keeps h s = own_all n w c own (omega arith) (omega arith)
-own_le n w d p L33 own c recent keeps h s = own_all n w c own (omega arith) (omega arith)
-own_le n w d p L34 own c recent keeps h s = own_all n w c own (omega arith) (omega arith)
-own_le n w d p L35 own c recent keeps h s = own_all n w c own (omega arith) (omega arith)
-own_le n w d p L36 own c recent keeps h s = own_all n w c own (omega arith) (omega arith)
-own_le n w d p L37 own c recent keeps h s = own_all n w c own (omega arith) (omega arith)
 own_le n w d p L50 own c recent keeps h s = absurd s
 own_le n w d p L51 own c recent keeps h s = absurd s
 own_le n w d p L52 own c recent keeps h s = absurd s
@@ -236,3 +200,4 @@ own_le n w d p L55 own c recent keeps h s = absurd s
 own_le n w d p L56 own c recent keeps h s = absurd s
 own_le n w d p L57 own c recent keeps h s = absurd s
 own_le n w d p L58 own c recent keeps h s = absurd s
+own_le n w d p k own c recent keeps h s = own_all n w c own (omega arith) (omega arith)

@@ -134,43 +134,10 @@ counter_with k =
     else None
 
 pub line_listed : (n w : ℕ) (k : ProgramCounter) → LineListed (algorithm n w) lines 57 counter_with k
-line_listed n w L10 = record { alone = refl; tested = refl; wrote = refl; calls = λ h. absurd h; returns = λ p v h. absurd h; once = omega arith }
-line_listed n w L11 = record { alone = refl; tested = refl; wrote = refl; calls = λ h. absurd h; returns = λ p v h. absurd h; once = omega arith }
-line_listed n w L12 = record { alone = refl; tested = refl; wrote = refl; calls = λ h. absurd h; returns = λ p v h. absurd h; once = omega arith }
-line_listed n w L13 = record { alone = refl; tested = refl; wrote = refl; calls = λ h. absurd h; returns = λ p v h. absurd h; once = omega arith }
-line_listed n w L14 = record { alone = refl; tested = refl; wrote = refl; calls = λ h. absurd h; returns = λ p v h. absurd h; once = omega arith }
-line_listed n w L15 = record { alone = refl; tested = refl; wrote = refl; calls = λ h. absurd h; returns = λ p v h. absurd h; once = omega arith }
-line_listed n w L16 = record { alone = refl; tested = refl; wrote = refl; calls = λ h. absurd h; returns = λ p v h. absurd h; once = omega arith }
-line_listed n w L17 = record { alone = refl; tested = refl; wrote = refl; calls = λ h. absurd h; returns = λ p v h. absurd h; once = omega arith }
-line_listed n w L18 = record { alone = refl; tested = refl; wrote = refl; calls = λ h. absurd h; returns = λ p v h. absurd h; once = omega arith }
-line_listed n w L19 = record { alone = refl; tested = refl; wrote = refl; calls = λ h. absurd h; returns = λ p v h. absurd h; once = omega arith }
-line_listed n w L20 = record { alone = refl; tested = refl; wrote = refl; calls = λ h. absurd h; returns = λ p v h. absurd h; once = omega arith }
-line_listed n w L21 = record { alone = refl; tested = refl; wrote = refl; calls = λ h. absurd h; returns = λ p v h. absurd h; once = omega arith }
-line_listed n w L22 = record { alone = refl; tested = refl; wrote = refl; calls = λ h. absurd h; returns = λ p v h. absurd h; once = omega arith }
-line_listed n w L23 = record { alone = refl; tested = refl; wrote = refl; calls = λ h. absurd h; returns = λ p v h. absurd h; once = omega arith }
-line_listed n w L24 = record { alone = refl; tested = refl; wrote = refl; calls = λ h. absurd h; returns = λ p v h. absurd h; once = omega arith }
-line_listed n w L25 = record { alone = refl; tested = refl; wrote = refl; calls = λ h. absurd h; returns = λ p v h. absurd h; once = omega arith }
-line_listed n w L26 = record { alone = refl; tested = refl; wrote = refl; calls = λ h. absurd h; returns = λ p v h. absurd h; once = omega arith }
-line_listed n w L27 = record { alone = refl; tested = refl; wrote = refl; calls = λ h. absurd h; returns = λ p v h. absurd h; once = omega arith }
-line_listed n w L28 = record { alone = refl; tested = refl; wrote = refl; calls = λ h. absurd h; returns = λ p v h. absurd h; once = omega arith }
-line_listed n w L29 = record { alone = refl; tested = refl; wrote = refl; calls = λ h. absurd h; returns = λ p v h. absurd h; once = omega arith }
-line_listed n w L30 = record { alone = refl; tested = refl; wrote = refl; calls = λ h. absurd h; returns = λ p v h. absurd h; once = omega arith }
-line_listed n w L31 = record { alone = refl; tested = refl; wrote = refl; calls = λ h. absurd h; returns = λ p v h. absurd h; once = omega arith }
-line_listed n w L32 = record { alone = refl; tested = refl; wrote = refl; calls = λ h. absurd h; returns = λ p v h. absurd h; once = omega arith }
-line_listed n w L33 = record { alone = refl; tested = refl; wrote = refl; calls = λ h. absurd h; returns = λ p v h. absurd h; once = omega arith }
-line_listed n w L34 = record { alone = refl; tested = refl; wrote = refl; calls = λ h. absurd h; returns = λ p v h. absurd h; once = omega arith }
 line_listed n w L35 = record { alone = refl; tested = refl; wrote = refl; calls = λ h. absurd h; returns = λ p v h. (inl refl, h); once = omega arith }
-line_listed n w L36 = record { alone = refl; tested = refl; wrote = refl; calls = λ h. absurd h; returns = λ p v h. absurd h; once = omega arith }
 line_listed n w L37 = record { alone = refl; tested = refl; wrote = refl; calls = λ h. absurd h; returns = λ p v h. (inr refl, h); once = omega arith }
-line_listed n w L50 = record { alone = refl; tested = refl; wrote = refl; calls = λ h. absurd h; returns = λ p v h. absurd h; once = omega arith }
-line_listed n w L51 = record { alone = refl; tested = refl; wrote = refl; calls = λ h. absurd h; returns = λ p v h. absurd h; once = omega arith }
-line_listed n w L52 = record { alone = refl; tested = refl; wrote = refl; calls = λ h. absurd h; returns = λ p v h. absurd h; once = omega arith }
-line_listed n w L53 = record { alone = refl; tested = refl; wrote = refl; calls = λ h. absurd h; returns = λ p v h. absurd h; once = omega arith }
 line_listed n w L54 = record { alone = refl; tested = refl; wrote = refl; calls = λ h me d m p. span.embeds (algorithm n w) L10 d p; returns = λ p v h. absurd h; once = omega arith }
-line_listed n w L55 = record { alone = refl; tested = refl; wrote = refl; calls = λ h. absurd h; returns = λ p v h. absurd h; once = omega arith }
-line_listed n w L56 = record { alone = refl; tested = refl; wrote = refl; calls = λ h. absurd h; returns = λ p v h. absurd h; once = omega arith }
-line_listed n w L57 = record { alone = refl; tested = refl; wrote = refl; calls = λ h. absurd h; returns = λ p v h. absurd h; once = omega arith }
-line_listed n w L58 = record { alone = refl; tested = refl; wrote = refl; calls = λ h. absurd h; returns = λ p v h. absurd h; once = omega arith }
+line_listed n w k = record { alone = refl; tested = refl; wrote = refl; calls = λ h. absurd h; returns = λ p v h. absurd h; once = omega arith }
 
 -- lines 35 and 37 return s
 answers : (p : Variables) (k : ProgramCounter) → lines.IsReturn k → ReturnsView (instr_at listing_m.lines (number k)) (locals_of p) p.s

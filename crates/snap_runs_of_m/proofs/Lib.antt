@@ -12,14 +12,12 @@ pub mod Invariant
 pub mod Writes
 pub mod Preserve
 pub mod Runs
-pub mod Points
+pub mod Kept
+pub mod Every
 pub mod Bounds
-pub mod Updates
+pub mod Counters
 pub mod Moves
 pub mod CleanTests
-pub mod Linear
-pub mod WaitFree
 pub mod Lenders
-pub mod Snapshot
 pub mod Bounded
 pub mod BoundedSamples

@@ -1,26 +1,27 @@
 -- The moves that a scan of M sees are events since its previous double collect.
-use Rattle.snap_runs.proofs.Computing.{either, same_from, raised_only}
+use Rattle.snap_runs.proofs.Computing.{same_from, raised_only}
 use Rattle.snap_runs.proofs.Places.{for_each_at}
-use Rattle.std.specs.Prelude.{◌≡◌, ℕ, zero, suc, ◌+◌, ◌<◌, ◌≤◌, ◌⊎◌, true, List, length, Option, Some, None, nat_eq, nat_lt, refl}
+use Rattle.std.specs.Prelude.{◌≡◌, ℕ, zero, suc, ◌+◌, ◌<◌, ◌≤◌, ◌⊎◌, true, List, length, Option, nat_eq, refl}
 use Rattle.std.proofs.Common.{sym, ◌∙◌, ap, subst, arith, inl, inr}
 use Rattle.std.proofs.lemmas.Bool.{cases_eq}
 use Rattle.snap_semantics.specs.State.{process_at, value_at, Locals}
 use Rattle.snap_semantics.specs.State as definitions
 use Rattle.snap_semantics.specs.declared.process.Item.{Item}
-use Rattle.snap_semantics.specs.declared.process.Item.TheVariants.{Step, Call, Crash}
+use Rattle.snap_semantics.specs.declared.process.Item.TheVariants.{Step}
 use Rattle.snap_runs.specs.Run.{state, Run, IsValidRun}
 use Rattle.snap_runs.specs.Scan.{PendingScan}
 use Rattle.snap_runs.specs.Update.{executes}
 use Rattle.snap_runs.specs.Promises.{ObservedMove}
-use Rattle.snap_runs.proofs.Algorithm.{Idle, At, by_step, memory_after, typed_at, changed, happens, item_at, Mode, Scanning, Embedded, Updating}
+use Rattle.snap_runs.proofs.Algorithm.{At, typed_at, item_at, Mode}
 use Rattle.snap_runs.proofs.Embedding as embed
 use Rattle.snap_runs.proofs.Executing as executing
 use Rattle.snap_runs.proofs.Moves as moves
 use Rattle.snap_runs.proofs.Scans.{Execution}
 use Rattle.snap_runs_of_m.specs.ListingM as names
 use Rattle.snap_runs_of_m.specs.Promises.{run_of, IsEvent, RecentEvent, MovesAreEvents}
-use Rattle.snap_runs_of_m.proofs.Algorithm.{Registers, Process, Control, Move, State, Variables, ProgramCounter, L10, L11, L12, L13, L14, L15, L16, L17, L18, L19, L20, L21, L22, L23, L24, L25, L26, L27, L28, L29, L30, L31, L32, L33, L34, L35, L36, L37, L50, L51, L52, L53, L54, L55, L56, L57, L58, place, move, first_to, return_to, embed_to, same_at, all_still, third_move, counted, after_52, lines, algorithm}
+use Rattle.snap_runs_of_m.proofs.Algorithm.{Registers, Process, L31, L32, L52, L55, L57, place, move, counted, after_52, lines, algorithm}
 use Rattle.snap_runs_of_m.proofs.Collect.{events}
+use Rattle.snap_runs_of_m.proofs.Counters.{item_counters}
 use Rattle.snap_runs_of_m.proofs.Stage.{Row}
 use Rattle.snap_runs_of_m.proofs.Count.{Count, counted_row}
 use Rattle.snap_runs_of_m.proofs.Writes.{raised_there, raised_at_there, raised_at_elsewhere}
@@ -30,95 +31,6 @@ use Rattle.snap_runs.proofs.Steady.{Steady, fits_of}
 use Rattle.snap_runs.proofs.Calm.{calm_list, steady_of, calm as calm_run}
 use Rattle.snap_runs.proofs.CalmItems.{at_executes, locals_before, scan_to, same_collects}
 use Rattle.snap_runs.proofs.CalmPromises as calm
-
-abbrev pub SameCounters : Registers → Registers → Type 0
-SameCounters m m' = (m'.writes ≡ m.writes) × (m'.answers ≡ m.answers)
-
--- Every line but 52 and 57 keeps the counters of writes and answers.
-abbrev pub KeepsCounters : Registers → Move → Type 0
-KeepsCounters m v = SameCounters m (memory_after m v)
-
-counters_return : (d : Mode) (m : Registers) (p : Variables) → KeepsCounters m (return_to d m p)
-counters_return Scanning m p = (refl, refl)
-counters_return (Embedded y z) m p = (refl, refl)
-counters_return (Updating y z) m p = (refl, refl)
-
-counters_embed : (d : Mode) (m : Registers) (p : Variables) → KeepsCounters m (embed_to d m p)
-counters_embed Scanning m p = (refl, refl)
-counters_embed (Embedded y z) m p = (refl, refl)
-counters_embed (Updating y z) m p = (refl, refl)
-
-counters_first : (d : Mode) (m : Registers) (p : Variables) (o : Option ℕ) → KeepsCounters m (first_to d m p o)
-counters_first d m p None = (refl, refl)
-counters_first d m p (Some k) = (refl, refl)
-
-counters_kept : (n w me : ℕ) (d : Mode) (m : Registers) (p : Variables) (k : ProgramCounter) →
-    KeepsCounters m (move n w me d m p k) ⊎ ((k ≡ L52) ⊎ (k ≡ L57))
-counters_kept n w me d m p L10 = inl (refl, refl)
-counters_kept n w me d m p L11 = inl (refl, refl)
-counters_kept n w me d m p L12 = inl (refl, refl)
-counters_kept n w me d m p L13 = inl (refl, refl)
-counters_kept n w me d m p L14 = inl (refl, refl)
-counters_kept n w me d m p L15 = inl (refl, refl)
-counters_kept n w me d m p L16 = inl (either (KeepsCounters m) (nat_lt p.j n) _ _ (λ t. (refl, refl)) (λ t. (refl, refl)))
-counters_kept n w me d m p L17 = inl (refl, refl)
-counters_kept n w me d m p L18 = inl (either (KeepsCounters m) (nat_lt p.k w) _ _ (λ t. (refl, refl)) (λ t. (refl, refl)))
-counters_kept n w me d m p L19 = inl (refl, refl)
-counters_kept n w me d m p L20 = inl (either (KeepsCounters m) (nat_lt p.k w) _ _ (λ t. (refl, refl)) (λ t. (refl, refl)))
-counters_kept n w me d m p L21 = inl (refl, refl)
-counters_kept n w me d m p L22 = inl (refl, refl)
-counters_kept n w me d m p L23 = inl (either (KeepsCounters m) (nat_lt p.j n) _ _ (λ t. (refl, refl)) (λ t. (refl, refl)))
-counters_kept n w me d m p L24 = inl (refl, refl)
-counters_kept n w me d m p L25 = inl (refl, refl)
-counters_kept n w me d m p L26 = inl (either (KeepsCounters m) (same_at p.a p.b p.k) _ _ (λ t. (refl, refl)) (λ t. (refl, refl)))
-counters_kept n w me d m p L27 = inl (refl, refl)
-counters_kept n w me d m p L28 = inl (refl, refl)
-counters_kept n w me d m p L29 = inl (either (KeepsCounters m) (nat_lt p.k w) _ _ (λ t. (refl, refl)) (λ t. (refl, refl)))
-counters_kept n w me d m p L30 = inl (either (KeepsCounters m) (all_still n p) _ _ (λ t. (refl, refl)) (λ t. (refl, refl)))
-counters_kept n w me d m p L31 = inl (refl, refl)
-counters_kept n w me d m p L32 = inl (counters_first d m p (third_move n p))
-counters_kept n w me d m p L33 = inl (refl, refl)
-counters_kept n w me d m p L34 = inl (refl, refl)
-counters_kept n w me d m p L35 = inl (counters_return d m p)
-counters_kept n w me d m p L36 = inl (refl, refl)
-counters_kept n w me d m p L37 = inl (counters_return d m p)
-counters_kept n w me d m p L50 = inl (refl, refl)
-counters_kept n w me d m p L51 = inl (refl, refl)
-counters_kept n w me d m p L52 = inr (inl refl)
-counters_kept n w me d m p L53 = inl (either (KeepsCounters m) (nat_lt p.j n) _ _ (λ t. (refl, refl)) (λ t. (refl, refl)))
-counters_kept n w me d m p L54 = inl (counters_embed d m p)
-counters_kept n w me d m p L55 = inl (refl, refl)
-counters_kept n w me d m p L56 = inl (refl, refl)
-counters_kept n w me d m p L57 = inr (inr refl)
-counters_kept n w me d m p L58 = inl (refl, refl)
-
--- a change of these counters is a step at line 52 or 57
-abbrev pub Raises : ℕ → ℕ → State → Item → Type 0
-Raises n w x y = (a : ℕ) × (d : Mode) × (y ≡ Step a) × (((typed_at (algorithm n w) x a).control ≡ At d L52) ⊎ ((typed_at (algorithm n w) x a).control ≡ At d L57))
-
-step_counters : (n w t : ℕ) (x : State) (i : ℕ) (control : Control) → (typed_at (algorithm n w) x i).control ≡ control →
-    SameCounters x.memory (changed x i (by_step (algorithm n w) t x.memory i (typed_at (algorithm n w) x i) control)).memory ⊎ Raises n w x (Step i)
-step_counters n w t x i Idle is = inl (refl, refl)
-step_counters n w t x i (At d k) is =
-    elim (counters_kept n w i d x.memory (typed_at (algorithm n w) x i).variables k) [
-      | inl keeps ↦ (let v = move n w i d x.memory (typed_at (algorithm n w) x i).variables k in inl (subst (SameCounters x.memory) (sym (embed.move_memory (algorithm n w) t x i k v)) keeps))
-      | inr e ↦ inr (
-        i,
-        d,
-        refl,
-        elim e [
-          | inl at52 ↦ inl (is ∙ ap (λ y. At d y) at52)
-          | inr at57 ↦ inr (is ∙ ap (λ y. At d y) at57)
-        ],
-      )
-    ]
-
-happens_counters : (n w t : ℕ) (x : State) (y : Item) → SameCounters x.memory (happens (algorithm n w) t x y).memory ⊎ Raises n w x y
-happens_counters n w t x (Step i) = step_counters n w t x i (typed_at (algorithm n w) x i).control refl
-happens_counters n w t x (Call i op) =
-    let same : (happens (algorithm n w) t x (Call i op)).memory ≡ x.memory = embed.call_memory (algorithm n w) t x i op (typed_at (algorithm n w) x i).control in
-    inl (ap (λ (m : Registers). m.writes) same, ap (λ (m : Registers). m.answers) same)
-happens_counters n w t x (Crash i) = inl (refl, refl)
 
 module _ (n w : ℕ) (items : List Item) (some : 0 < w) (fits : Steady (run_of n w items)) where
   abbrev pub at : ℕ → ℕ → Process
@@ -157,11 +69,14 @@ module _ (n w : ℕ) (items : List Item) (some : 0 < w) (fits : Steady (run_of n
   item_does : (v i j : ℕ) → v < length items →
       IsEvent (run_of n w items) i j (suc v) ⊎ (events (registers_at n w items (suc v)) j i ≡ events (registers_at n w items v) j i)
   item_does v i j h =
-      elim (happens_counters n w (suc v) (state_at n w items v) (item_at items v)) [
+      elim (item_counters n w (suc v) (state_at n w items v) (item_at items v)) [
         | inl same ↦ inr (ap (λ (f : ℕ → ℕ). f j + (registers_at n w items (suc v)).answers j i) same.0 ∙ ap (λ (f : ℕ → ℕ → ℕ). (registers_at n w items v).writes j + f j i) same.1)
-        | inr r ↦ elim r.3 [
-          | inl at52 ↦ line_52 v r.0 i j r.1 h r.2 at52
-          | inr at57 ↦ line_57 v r.0 i j r.1 h r.2 at57
+        | inr r ↦ elim r.special [
+          | inl at52 ↦ line_52 v r.process i j r.mode h r.item (r.control ∙ ap (λ y. At r.mode y) at52)
+          | inr behind ↦ elim behind [
+            | inl at55 ↦ inr (ap (λ (m : Registers). events m j i) (executing.memory_next (algorithm n w) items fits run.does v r.process r.mode L55 r.item (r.control ∙ ap (λ y. At r.mode y) at55)))
+            | inr at57 ↦ line_57 v r.process i j r.mode h r.item (r.control ∙ ap (λ y. At r.mode y) at57)
+          ]
         ]
       ]
 

@@ -1,5 +1,5 @@
 -- Every state of a run of M keeps the invariant.
-use Rattle.snap_runs.proofs.Flow.{IsInScan, scan_inside}
+use Rattle.snap_runs.proofs.Flow.{scan_inside}
 use Rattle.snap_runs.proofs.Totals.{total_less}
 use Rattle.snap_runs.proofs.Computing.{either, lt_true, same_number, other_number}
 use Rattle.std.specs.Prelude.{◌≡◌, ◌≢◌, ℕ, suc, ◌+◌, ◌*◌, ◌<◌, ◌≤◌, Bool, true, false, length, Option, Some, None, nat_lt, if◌then◌else◌, refl}
@@ -50,43 +50,23 @@ kept_first d m p (Some k) = refl
 
 -- a quiet line keeps the registers
 pub kept : (n w me : ℕ) (d : Mode) (m : Registers) (p : Variables) (k : ProgramCounter) → IsQuiet k → KeepsMemory m (move n w me d m p k)
-kept n w me d m p L10 q = refl
-kept n w me d m p L11 q = refl
-kept n w me d m p L12 q = refl
-kept n w me d m p L13 q = refl
-kept n w me d m p L14 q = refl
 kept n w me d m p L15 q = absurd q
 kept n w me d m p L16 q = either (KeepsMemory m) (nat_lt p.j n) _ _ (λ t. refl) (λ t. refl)
-kept n w me d m p L17 q = refl
 kept n w me d m p L18 q = either (KeepsMemory m) (nat_lt p.k w) _ _ (λ t. refl) (λ t. refl)
-kept n w me d m p L19 q = refl
 kept n w me d m p L20 q = either (KeepsMemory m) (nat_lt p.k w) _ _ (λ t. refl) (λ t. refl)
-kept n w me d m p L21 q = refl
-kept n w me d m p L22 q = refl
 kept n w me d m p L23 q = either (KeepsMemory m) (nat_lt p.j n) _ _ (λ t. refl) (λ t. refl)
-kept n w me d m p L24 q = refl
-kept n w me d m p L25 q = refl
 kept n w me d m p L26 q = either (KeepsMemory m) (same_at p.a p.b p.k) _ _ (λ t. refl) (λ t. refl)
-kept n w me d m p L27 q = refl
-kept n w me d m p L28 q = refl
 kept n w me d m p L29 q = either (KeepsMemory m) (nat_lt p.k w) _ _ (λ t. refl) (λ t. refl)
 kept n w me d m p L30 q = either (KeepsMemory m) (all_still n p) _ _ (λ t. refl) (λ t. refl)
-kept n w me d m p L31 q = refl
 kept n w me d m p L32 q = kept_first d m p (third_move n p)
-kept n w me d m p L33 q = refl
-kept n w me d m p L34 q = refl
 kept n w me d m p L35 q = kept_return d m p
-kept n w me d m p L36 q = refl
 kept n w me d m p L37 q = kept_return d m p
-kept n w me d m p L50 q = refl
-kept n w me d m p L51 q = refl
 kept n w me d m p L52 q = absurd q
 kept n w me d m p L53 q = either (KeepsMemory m) (nat_lt p.j n) _ _ (λ t. refl) (λ t. refl)
 kept n w me d m p L54 q = kept_embed d m p
 kept n w me d m p L55 q = absurd q
-kept n w me d m p L56 q = refl
 kept n w me d m p L57 q = absurd q
-kept n w me d m p L58 q = refl
+kept n w me d m p k q = refl
 
 -- process i
 abbrev pub at : ℕ → ℕ → State → ℕ → Process

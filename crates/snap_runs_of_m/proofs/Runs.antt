@@ -1,4 +1,4 @@
--- Whole runs of M: the invariant at each state, and no traps.
+-- The runs of M without crashes: the invariant at each state.
 use Rattle.std.specs.Prelude.{◌≡◌, ℕ, zero, suc, ◌-◌, ◌<◌, ◌≤◌, max, List, [], length, replicate, slice_index, refl}
 use Rattle.std.proofs.Common.{sym, ◌∙◌, ap, subst, arith}
 use Rattle.std.proofs.lemmas.List.{get_or-replicate, length-replicate}
@@ -9,7 +9,7 @@ use Rattle.snap_runs.proofs.Algorithm.{Mode, Idle, At, when_busy, first_process,
 use Rattle.snap_runs.proofs.Embedding as embed
 use Rattle.snap_runs.proofs.Held.{word_at, seq_at}
 use Rattle.snap_runs.proofs.Scans as scans
-use Rattle.snap_runs_of_m.specs.Promises.{run_of, NeverTraps}
+use Rattle.snap_runs_of_m.specs.Promises.{run_of}
 use Rattle.snap_runs_of_m.proofs.Algorithm.{lines, Registers, Process, first_word, first_memory, Control, State, Variables, ProgramCounter, L28, bit, IsLineOf, algorithm}
 use Rattle.snap_runs_of_m.proofs.Basics.{Square}
 use Rattle.snap_runs_of_m.proofs.Control.{ControlWell, Keeps, NamedAt28, does}
@@ -21,9 +21,6 @@ use Rattle.snap_runs_of_m.proofs.Stage.{Stage}
 use Rattle.snap_runs_of_m.proofs.Invariant.{ProcessInvariant, Invariant, StageAt, CountAt}
 use Rattle.snap_runs_of_m.proofs.Preserve.{happens_inv}
 use Rattle.snap_runs.proofs.Steady.{Steady}
-use Rattle.snap_runs.proofs.Calm.{calm_list}
-use Rattle.snap_runs.proofs.CalmPromises as calm
-use Rattle.snap_runs.specs.Promises as promises
 
 abbrev pub state_at : ℕ → ℕ → List Item → ℕ → State
 state_at n w items t = typed_state (algorithm n w) items t
@@ -126,12 +123,6 @@ all_do n w items some fits t i h one =
     does n w i (registers_at n w items t) q.variables q.control
     (record { one = one; some = some; bits = λ c k. (v.laws t (omega arith)).now.bits c i k one; long = o.long }) o.well
     (named_28 n w i (registers_at n w items) t q.auxiliary.since q.auxiliary.round q.variables q.control one v.laws o.well o.stage)
-
-steady_never_traps : (n w : ℕ) (items : List Item) → 0 < w → Steady (run_of n w items) → promises.NeverTraps (run_of n w items)
-steady_never_traps n w items some fits whole = embed.never_traps (algorithm n w) items fits (all_do n w items some fits)
-
-pub never_traps_lem : NeverTraps
-never_traps_lem n w items some = calm.never_traps (run_of n w items) (steady_never_traps n w (calm_list (run_of n w items)) some)
 
 -- the run, with what is known of its lines
 abbrev pub execution : (n w : ℕ) (items : List Item) → 0 < w → Steady (run_of n w items) → scans.Execution (algorithm n w) lines

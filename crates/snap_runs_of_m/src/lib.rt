@@ -1,7 +1,12 @@
 //! Listing M, and what every run of it keeps.
 #![tactic(auto)]
 
-ghost use Rattle.snap_runs_of_m.specs.Promises.{NeverTraps, ChangesOnlyAt57, WritesItsUpdate, WritesOnce, HavePoints, FewCollects, FewSteps, SharpCollects, MovesAreEvents, PassedTestsAreClean, Linearizable, OperationsHavePlaces, WriteStronglyLinearizable, WaitFree, BorrowedViewsAreLent, RunsAreSnapshots};
+ghost use Rattle.snap_runs_of_m.specs.Promises.{NeverTraps, ChangesOnlyAt57, WritesItsUpdate};
+ghost use Rattle.snap_runs_of_m.specs.Promises.{WritesOnce, HavePoints, FewCollects, FewSteps};
+ghost use Rattle.snap_runs_of_m.specs.Promises.{SharpCollects, MovesAreEvents, PassedTestsAreClean};
+ghost use Rattle.snap_runs_of_m.specs.Promises.{Linearizable, OperationsHavePlaces};
+ghost use Rattle.snap_runs_of_m.specs.Promises.{WriteStronglyLinearizable, WaitFree};
+ghost use Rattle.snap_runs_of_m.specs.Promises.{BorrowedViewsAreLent, RunsAreSnapshots};
 ghost use Rattle.snap_runs_of_m.specs.Bounded.{StaysBounded};
 
 /// No process ever traps.

@@ -34,7 +34,7 @@ use Rattle.snap_runs_of_u.proofs.Control.{VariablesAt}
 use Rattle.snap_runs_of_u.proofs.Flows.{writer}
 use Rattle.snap_runs_of_u.proofs.Invariant.{pending}
 use Rattle.snap_runs_of_u.proofs.Runs.{words_at, process_after, invariant_of, all_do, execution, well_of}
-use Rattle.snap_runs_of_u.proofs.Updates.{updates}
+use Rattle.snap_runs_of_u.proofs.Kept.{updates}
 
 -- the limits rise with the items
 scalar_wider : (n t : ℕ) (is_j is_c : Bool) → (if is_j then n else if is_c then t else 0) ≤ (if is_j then n else if is_c then suc t else 0)
@@ -157,23 +157,7 @@ module _ (n t : ℕ) (V : ℕ → Type 0) where
 
 lined : (k : ProgramCounter) → HasLine listing_u (number k)
 lined L10 = refl
-lined L11 = refl
-lined L12 = refl
-lined L13 = refl
-lined L14 = refl
-lined L15 = refl
-lined L16 = refl
-lined L17 = refl
-lined L18 = refl
-lined L19 = refl
-lined L21 = refl
-lined L22 = refl
-lined L23 = refl
-lined L24 = refl
-lined L30 = refl
-lined L31 = refl
-lined L32 = refl
-lined L33 = refl
+lined k = refl
 
 steady_stays_within : (n : ℕ) (items : List Item) → Ready n items → StaysWithin (limits n) (run_of n items)
 steady_stays_within n items fits =

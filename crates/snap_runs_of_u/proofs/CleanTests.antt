@@ -1,5 +1,5 @@
 -- The double collects of U: which line reads which copy, and that a passed test is clean.
-use Rattle.std.specs.Prelude.{◌≡◌, ℕ, zero, suc, ◌+◌, ◌≤◌, ◌⊎◌, max, Bool, true, false, List, length, map, nat_eq, nat_lt, if◌then◌else◌, refl}
+use Rattle.std.specs.Prelude.{◌≡◌, ℕ, suc, ◌+◌, ◌≤◌, ◌⊎◌, max, Bool, true, false, List, length, map, nat_eq, nat_lt, if◌then◌else◌, refl}
 use Rattle.std.proofs.Common.{sym, ◌∙◌, ap, arith, inl, inr}
 use Rattle.snap_semantics.specs.Table.{places_to, all_true, first_true}
 use Rattle.snap_semantics.specs.declared.process.Item.{Item}
@@ -7,24 +7,21 @@ use Rattle.snap_semantics.specs.declared.process.Op.{Op}
 use Rattle.snap_semantics.specs.declared.process.Op.TheVariants.{Scan, Update}
 use Rattle.snap_runs.specs.Update.{is_at}
 use Rattle.snap_runs.proofs.Algorithm.{Mode, Scanning, Embedded, Updating, To, when_busy, status_of}
-use Rattle.snap_runs.proofs.CleanTests as clean
 use Rattle.snap_runs.proofs.Collecting as collecting
 use Rattle.snap_runs.proofs.Collecting.{Copies, Phase, Away, ReadsFirst, HasFirst, ReadsSecond, HasSecond, Collected}
 use Rattle.snap_runs.proofs.Computing.{not_lt, same_from, either, whether}
 use Rattle.snap_runs.proofs.Held.{seq_at, word_at}
 use Rattle.snap_runs.proofs.ItemCases.{moved}
 use Rattle.snap_runs.proofs.Places.{all_pass}
-use Rattle.snap_runs_of_u.specs.Promises.{run_of, double_collect, PassedTestsAreClean}
-use Rattle.snap_runs_of_u.proofs.Algorithm.{Words, Move, Process, Control, Variables, ProgramCounter, L10, L11, L12, L13, L14, L15, L16, L17, L18, L19, L21, L22, L23, L24, L30, L31, L32, L33, number, agree, compared, at_limit, move, first_to, counter, restarts, IsLineOf, lines, algorithm}
+use Rattle.snap_runs_frame.proofs.Every as every
+use Rattle.snap_runs_frame.proofs.Frame as frames
+use Rattle.snap_runs_of_u.specs.Promises.{double_collect, PassedTestsAreClean}
+use Rattle.snap_runs_of_u.proofs.Algorithm.{Words, Move, Process, Control, Variables, ProgramCounter, L11, L12, L13, L14, L15, L16, L17, L18, L19, L21, L22, L24, L30, number, agree, compared, at_limit, move, first_to, counter, restarts, IsLineOf, algorithm}
 use Rattle.snap_runs_of_u.proofs.Control.{VariablesAt}
-use Rattle.snap_runs_of_u.proofs.Flows.{numbered, listed, writer}
 use Rattle.snap_runs_of_u.proofs.Invariant.{pending}
-use Rattle.snap_runs_of_u.proofs.Runs.{words_at, process_after, invariant, invariant_of, execution, counts_of}
-use Rattle.snap_runs_of_u.proofs.Updates.{updates}
+use Rattle.snap_runs_of_u.proofs.Runs.{words_at, process_after, invariant, invariant_of, counts_of}
+use Rattle.snap_runs_of_u.proofs.Kept.{frame, kept, calm_kept}
 use Rattle.snap_runs_of_u.proofs.Ready.{Ready, ready}
-use Rattle.snap_runs.proofs.Calm.{calm_list}
-use Rattle.snap_runs.proofs.CalmPromises as calm
-use Rattle.snap_runs.specs.Promises as promises
 
 abbrev pub phase : ProgramCounter → Phase
 phase L12 = ReadsFirst
@@ -44,24 +41,10 @@ record Named (k : ProgramCounter) : Type 0 where
   quiet : (phase k ≡ Away) ⊎ (restarts k ≡ false)
 
 named : (k : ProgramCounter) → Named k
-named L10 = record { first = λ e. absurd (cc); second = λ e. absurd (cc); quiet = inr refl }
-named L11 = record { first = λ e. absurd (cc); second = λ e. absurd (cc); quiet = inr refl }
 named L12 = record { first = λ e. refl; second = λ e. absurd (cc); quiet = inr refl }
-named L13 = record { first = λ e. absurd (cc); second = λ e. absurd (cc); quiet = inr refl }
 named L14 = record { first = λ e. absurd (cc); second = λ e. refl; quiet = inr refl }
-named L15 = record { first = λ e. absurd (cc); second = λ e. absurd (cc); quiet = inr refl }
-named L16 = record { first = λ e. absurd (cc); second = λ e. absurd (cc); quiet = inr refl }
-named L17 = record { first = λ e. absurd (cc); second = λ e. absurd (cc); quiet = inr refl }
-named L18 = record { first = λ e. absurd (cc); second = λ e. absurd (cc); quiet = inr refl }
 named L19 = record { first = λ e. absurd (cc); second = λ e. absurd (cc); quiet = inl refl }
-named L21 = record { first = λ e. absurd (cc); second = λ e. absurd (cc); quiet = inr refl }
-named L22 = record { first = λ e. absurd (cc); second = λ e. absurd (cc); quiet = inr refl }
-named L23 = record { first = λ e. absurd (cc); second = λ e. absurd (cc); quiet = inr refl }
-named L24 = record { first = λ e. absurd (cc); second = λ e. absurd (cc); quiet = inr refl }
-named L30 = record { first = λ e. absurd (cc); second = λ e. absurd (cc); quiet = inr refl }
-named L31 = record { first = λ e. absurd (cc); second = λ e. absurd (cc); quiet = inr refl }
-named L32 = record { first = λ e. absurd (cc); second = λ e. absurd (cc); quiet = inr refl }
-named L33 = record { first = λ e. absurd (cc); second = λ e. absurd (cc); quiet = inr refl }
+named k = record { first = λ e. absurd (cc); second = λ e. absurd (cc); quiet = inr refl }
 
 abbrev pub Reaches : ℕ → Words → Variables → ProgramCounter → Move → Type 0
 Reaches n = collecting.Reaches (algorithm n) (copies n)
@@ -69,7 +52,6 @@ Reaches n = collecting.Reaches (algorithm n) (copies n)
 -- what each line does to the copies
 reaches : (n me : ℕ) (d : Mode) (m : Words) (p : Variables) (k : ProgramCounter) → IsLineOf me d k → VariablesAt n p k → n ≤ length p.a → n ≤ length p.b →
     Reaches n m p k (move n me d m p k)
-reaches n me d m p L10 s h a b = tt
 reaches n me d m p L11 s h a b = inl refl
 reaches n me d m p L12 s h a b = (refl, refl, h.0, a, refl)
 reaches n me d m p L13 s h a b =
@@ -78,24 +60,19 @@ reaches n me d m p L14 s h a b = (refl, refl, refl, h.0, b, refl)
 reaches n me d m p L15 s h a b =
     either (Reaches n m p L15) (nat_lt p.j n) _ _ (λ e. (refl, inr (refl, refl, refl))) (λ e. (refl, refl, inl (refl, not_lt p.j n e)))
 reaches n me d m p L16 s h a b = either (Reaches n m p L16) (all_true (map (agree p) (places_to n))) _ _ (λ e. tt) (λ e. tt)
-reaches n me d m p L17 s h a b = tt
 reaches n me d m p L18 s h a b =
     whether (Reaches n m p L18) (first_to d m p) (first_true 1 (map (at_limit p) (places_to n))) (λ e. tt) (λ k e. tt)
 reaches n me d m p L19 s h a b = inl h.0
-reaches n me d m p L21 s h a b = tt
 reaches n me Scanning m p L22 s h a b = tt
 reaches n me (Embedded word value) m p L22 s h a b = tt
 reaches n me (Updating word value) m p L22 s h a b = tt
-reaches n me d m p L23 s h a b = tt
 reaches n me Scanning m p L24 s h a b = tt
 reaches n me (Embedded word value) m p L24 s h a b = tt
 reaches n me (Updating word value) m p L24 s h a b = tt
 reaches n me Scanning m p L30 s h a b = tt
 reaches n me (Embedded word value) m p L30 s h a b = tt
 reaches n me (Updating word value) m p L30 s h a b = refl
-reaches n me d m p L31 s h a b = tt
-reaches n me d m p L32 s h a b = tt
-reaches n me d m p L33 s h a b = tt
+reaches n me d m p k s h a b = tt
 
 -- the test passes only where all copies agree
 passes : (n t : ℕ) (q : Process) (d : Mode) (m : Words) (p : Variables) (b : Bool) →
@@ -108,7 +85,7 @@ away Scan = refl
 away (Update word value) = refl
 
 counts : (n : ℕ) (items : List Item) (fits : Ready n items) →
-    clean.Counts (algorithm n) lines 32 (writer n) (listed n) (execution n items fits) (updates n items fits) (numbered n) refl
+    frames.Counts (frame n) items (kept n items fits)
 counts n items fits = record {
   sizes = λ t short. (invariant n items fits t short).size;
   counts = λ t k word value short one is owned.
@@ -117,7 +94,7 @@ counts n items fits = record {
 }
 
 collects : (n : ℕ) (items : List Item) (fits : Ready n items) →
-    clean.Collects (algorithm n) lines 32 (writer n) (listed n) (execution n items fits) (updates n items fits) (numbered n) refl (counts n items fits) (copies n) double_collect L16
+    frames.Collects (frame n) items (kept n items fits) (counts n items fits) (copies n) double_collect L16
 collects n items fits = record {
   words_are = λ t. refl;
   places = refl;
@@ -143,11 +120,7 @@ collects n items fits = record {
       same_from (compared (word_at p.a k)) (compared (word_at p.b k)) (all_pass (agree p) 1 n all k (omega arith) (omega arith));
 }
 
-steady_passed_tests_are_clean : (n : ℕ) (items : List Item) → Ready n items → promises.PassedTestsAreClean double_collect 32 (run_of n items)
-steady_passed_tests_are_clean n items fits whole i link c zero scan lt ex to = absurd (omega arith)
-steady_passed_tests_are_clean n items fits whole i link c (suc t) scan lt ex to =
-    clean.passed_test (algorithm n) lines 32 (writer n) (listed n) (execution n items fits) (updates n items fits) (numbered n) refl (counts n items fits) (copies n) double_collect L16
-    (collects n items fits) i scan.process link c t scan (omega arith) ex to
-
 pub passed_tests_are_clean_lem : PassedTestsAreClean
-passed_tests_are_clean_lem n items suffice = calm.passed_tests_are_clean (run_of n items) double_collect 32 (λ steady. steady_passed_tests_are_clean n (calm_list (run_of n items)) (ready n items suffice steady))
+passed_tests_are_clean_lem n items suffice =
+    every.passed_tests_are_clean (frame n) items (calm_kept n items suffice) double_collect (copies n) L16
+    (λ steady. counts n _ (ready n items suffice steady)) (λ steady. collects n _ (ready n items suffice steady))

@@ -78,24 +78,13 @@ move_well n me d m p L33 i s h = tt
 
 -- what a line needs is kept; the number that line 31 raises is at most the number of items
 needs : (n time me : ℕ) (p : Variables) (k : ProgramCounter) → IsOneOf n me → p.c ≤ time → time + 1 < 2 ^ 64 → VariablesAt n p k → Needs n me p k
-needs n time me p L10 i c b h = tt
-needs n time me p L11 i c b h = tt
 needs n time me p L12 i c b h = h.0
-needs n time me p L13 i c b h = tt
 needs n time me p L14 i c b h = h.0
-needs n time me p L15 i c b h = tt
-needs n time me p L16 i c b h = tt
 needs n time me p L17 i c b h = h.1
-needs n time me p L18 i c b h = tt
-needs n time me p L19 i c b h = tt
-needs n time me p L21 i c b h = tt
-needs n time me p L22 i c b h = tt
 needs n time me p L23 i c b h = h
-needs n time me p L24 i c b h = tt
-needs n time me p L30 i c b h = tt
 needs n time me p L31 i c b h = omega arith
 needs n time me p L32 i c b h = i
-needs n time me p L33 i c b h = tt
+needs n time me p k i c b h = tt
 
 -- an update that is not skipped is of the caller's own word
 own_word : (n i word value : ℕ) → call_skip kind.Seq (square n) i (Update word value) ≡ None → word ≡ i

@@ -127,24 +127,17 @@ count_move n me d words p L33 own c c' recent recent' e f keeps sharp h = tt
 -- the bounds at each line of a scan
 pub collects_le : (n : ℕ) (p : Variables) (k : ProgramCounter) (own c recent : ℕ) → 0 < n → VariablesAt n p k → ((k ≡ L16) → moves n p < n) →
     Count n p own c recent k → IsScanLine (in_update k) → c + tests k ≤ n
-collects_le n p L10 own c recent pos keeps sharp h s = omega arith
-collects_le n p L11 own c recent pos keeps sharp h s = omega arith
 collects_le n p L12 own c recent pos keeps sharp h s = let t : moves n p ≤ n = moves_le n p keeps.1 in omega arith
 collects_le n p L13 own c recent pos keeps sharp h s = let t : moves n p ≤ n = moves_le n p keeps.1 in omega arith
 collects_le n p L14 own c recent pos keeps sharp h s = let t : moves n p ≤ n = moves_le n p keeps.1 in omega arith
 collects_le n p L15 own c recent pos keeps sharp h s = let t : moves n p ≤ n = moves_le n p keeps.1 in omega arith
 collects_le n p L16 own c recent pos keeps sharp h s = let t : moves n p < n = sharp refl in omega arith
-collects_le n p L17 own c recent pos keeps sharp h s = omega arith
-collects_le n p L18 own c recent pos keeps sharp h s = omega arith
 collects_le n p L19 own c recent pos keeps sharp h s = let t : moves n p ≤ n = moves_le n p keeps.1 in omega arith
-collects_le n p L21 own c recent pos keeps sharp h s = omega arith
-collects_le n p L22 own c recent pos keeps sharp h s = omega arith
-collects_le n p L23 own c recent pos keeps sharp h s = omega arith
-collects_le n p L24 own c recent pos keeps sharp h s = omega arith
 collects_le n p L30 own c recent pos keeps sharp h s = absurd s
 collects_le n p L31 own c recent pos keeps sharp h s = absurd s
 collects_le n p L32 own c recent pos keeps sharp h s = absurd s
 collects_le n p L33 own c recent pos keeps sharp h s = absurd s
+collects_le n p k own c recent pos keeps sharp h s = omega arith
 
 own_all : (n c own : ℕ) → c ≤ n → own ≤ budget n c + 4 * n → own + 1 ≤ 4 * (n * n) + 8 * n + 7
 own_all n c own le h =
@@ -155,19 +148,8 @@ pub own_le : (n : ℕ) (p : Variables) (k : ProgramCounter) (own c recent : ℕ)
     own + 1 ≤ 4 * (n * n) + 8 * n + 7
 own_le n p L10 own c recent keeps h le s = omega arith
 own_le n p L11 own c recent keeps h le s = omega arith
-own_le n p L12 own c recent keeps h le s = own_all n c own le (omega arith)
-own_le n p L13 own c recent keeps h le s = own_all n c own le (omega arith)
-own_le n p L14 own c recent keeps h le s = own_all n c own le (omega arith)
-own_le n p L15 own c recent keeps h le s = own_all n c own le (omega arith)
-own_le n p L16 own c recent keeps h le s = own_all n c own le (omega arith)
-own_le n p L17 own c recent keeps h le s = own_all n c own le (omega arith)
-own_le n p L18 own c recent keeps h le s = own_all n c own le (omega arith)
-own_le n p L19 own c recent keeps h le s = own_all n c own le (omega arith)
-own_le n p L21 own c recent keeps h le s = own_all n c own le (omega arith)
-own_le n p L22 own c recent keeps h le s = own_all n c own le (omega arith)
-own_le n p L23 own c recent keeps h le s = own_all n c own le (omega arith)
-own_le n p L24 own c recent keeps h le s = own_all n c own le (omega arith)
 own_le n p L30 own c recent keeps h le s = absurd s
 own_le n p L31 own c recent keeps h le s = absurd s
 own_le n p L32 own c recent keeps h le s = absurd s
 own_le n p L33 own c recent keeps h le s = absurd s
+own_le n p k own c recent keeps h le s = own_all n c own le (omega arith)

@@ -10,15 +10,11 @@ pub mod Write
 pub mod Preserve
 pub mod Ready
 pub mod Runs
-pub mod Points
+pub mod Kept
+pub mod Every
 pub mod Bounds
-pub mod Updates
 pub mod Moves
-pub mod OwnUpdates
 pub mod Lenders
 pub mod CleanTests
-pub mod Linear
-pub mod WaitFree
-pub mod Snapshot
 pub mod Bounded
 pub mod BoundedSamples

@@ -1,4 +1,4 @@
--- Every run of U: the invariant at each state, and no process traps.
+-- The runs of U without crashes: the invariant at each state.
 use Rattle.std.specs.Prelude.{◌≡◌, ℕ, ◌-◌, ◌^◌, ◌<◌, ◌≤◌, max, List, length, replicate, refl}
 use Rattle.std.proofs.Common.{sym, ap, subst, arith}
 use Rattle.std.proofs.lemmas.List.{get_or-replicate, length-replicate}
@@ -10,7 +10,6 @@ use Rattle.snap_runs.proofs.Embedding as embed
 use Rattle.snap_runs.proofs.Held.{word_at, seq_at, at_most_now}
 use Rattle.snap_runs.proofs.Scans as scans
 use Rattle.snap_runs.proofs.States.{at_each}
-use Rattle.snap_runs_of_u.specs.Promises.{run_of, NeverTraps}
 use Rattle.snap_runs_of_u.proofs.Algorithm.{Words, Control, Process, State, ProgramCounter, first_word, IsLineOf, lines, algorithm}
 use Rattle.snap_runs_of_u.proofs.Control.{ControlWell, VariablesAt, does}
 use Rattle.snap_runs_of_u.proofs.Count.{Count}
@@ -18,10 +17,7 @@ use Rattle.snap_runs_of_u.proofs.Flows.{flows}
 use Rattle.snap_runs_of_u.proofs.Invariant.{ProcessInvariant, Invariant, PairInvariant, StageAt, CountAt}
 use Rattle.snap_runs_of_u.proofs.Preserve.{item_keeps}
 use Rattle.snap_runs_of_u.proofs.Stage.{Stage}
-use Rattle.snap_runs_of_u.proofs.Ready.{Ready, ready}
-use Rattle.snap_runs.proofs.Calm.{calm_list}
-use Rattle.snap_runs.proofs.CalmPromises as calm
-use Rattle.snap_runs.specs.Promises as promises
+use Rattle.snap_runs_of_u.proofs.Ready.{Ready}
 
 -- the state after t items, and its words
 abbrev pub state_at : ℕ → List Item → ℕ → State
@@ -85,12 +81,6 @@ all_do n items fits t i h one =
     let o = invariant_of n items fits t i (omega arith) one in
     let few : length items < 2 ^ 64 = fits.suffice in
     does n t i (words_at n items t) (process_after n items t i).variables (process_after n items t i).control one o.fresh (omega arith) o.well
-
-steady_never_traps : (n : ℕ) (items : List Item) → Ready n items → promises.NeverTraps (run_of n items)
-steady_never_traps n items fits whole = embed.never_traps (algorithm n) items fits.steady (all_do n items fits)
-
-pub never_traps_lem : NeverTraps
-never_traps_lem n items suffice = calm.never_traps (run_of n items) (λ steady. steady_never_traps n (calm_list (run_of n items)) (ready n items suffice steady))
 
 -- the run, with what is known of its lines
 abbrev pub execution : (n : ℕ) (items : List Item) → Ready n items → scans.Execution (algorithm n) lines

@@ -1,7 +1,10 @@
 //! Schedules that take scans to the bounds on their double collects.
 #![tactic(auto)]
 
-ghost use Rattle.snap_runs_sharp.specs.Reached.{IsReachedByB, IsReachedByM, IsReachedByU, NoMoreIsReached, ScanAloneMakesOne, ScheduleOfBReaches, ScheduleOfMReaches, ScheduleOfUReaches};
+ghost use Rattle.snap_runs_sharp.specs.Reached.{IsReachedByB, IsReachedByM, IsReachedByU};
+ghost use Rattle.snap_runs_sharp.specs.Reached.{NoMoreIsReached, ScanAloneMakesOne};
+ghost use Rattle.snap_runs_sharp.specs.Reached.{ScheduleOfBReaches, ScheduleOfMReaches};
+ghost use Rattle.snap_runs_sharp.specs.Reached.{ScheduleOfUReaches};
 
 /// Some scan of U, by one of n processes, makes n double collects: no bound on them is less than n.
 pub fn sharp_collects_are_reached_by_u()

@@ -1,4 +1,4 @@
-use Rattle.snap_runs_of_b.proofs.Updates.{changes_only_at_46_lem}
+use Rattle.snap_runs_of_b.proofs.Every.{changes_only_at_46_lem}
 use Rattle.snap_runs_of_b.proofs.changes_only_at_46.Goals as goal
 
 pub returns : goal.returns

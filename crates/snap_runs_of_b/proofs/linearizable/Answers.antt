@@ -1,4 +1,4 @@
-use Rattle.snap_runs_of_b.proofs.Linear.{linearizable_lem}
+use Rattle.snap_runs_of_b.proofs.Every.{linearizable_lem}
 use Rattle.snap_runs_of_b.proofs.linearizable.Goals as goal
 
 pub returns : goal.returns

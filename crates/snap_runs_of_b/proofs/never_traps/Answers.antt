@@ -1,4 +1,4 @@
-use Rattle.snap_runs_of_b.proofs.Runs.{never_traps_lem}
+use Rattle.snap_runs_of_b.proofs.Every.{never_traps_lem}
 use Rattle.snap_runs_of_b.proofs.never_traps.Goals as goal
 
 pub returns : goal.returns

@@ -1,4 +1,4 @@
-use Rattle.snap_runs_of_b.proofs.OwnUpdates.{own_updates_are_seen_lem}
+use Rattle.snap_runs_of_b.proofs.Every.{own_updates_are_seen_lem}
 use Rattle.snap_runs_of_b.proofs.own_updates_are_seen.Goals as goal
 
 pub returns : goal.returns

@@ -1,4 +1,4 @@
-use Rattle.snap_runs_of_b.proofs.Linear.{write_strongly_linearizable_lem}
+use Rattle.snap_runs_of_b.proofs.Every.{write_strongly_linearizable_lem}
 use Rattle.snap_runs_of_b.proofs.write_strongly_linearizable.Goals as goal
 
 pub returns : goal.returns

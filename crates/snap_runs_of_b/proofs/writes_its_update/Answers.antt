@@ -1,4 +1,4 @@
-use Rattle.snap_runs_of_b.proofs.Updates.{writes_its_update_lem}
+use Rattle.snap_runs_of_b.proofs.Every.{writes_its_update_lem}
 use Rattle.snap_runs_of_b.proofs.writes_its_update.Goals as goal
 
 pub returns : goal.returns

@@ -1,4 +1,4 @@
-use Rattle.snap_runs_of_m.proofs.Updates.{changes_only_at_57_lem}
+use Rattle.snap_runs_of_m.proofs.Every.{changes_only_at_57_lem}
 use Rattle.snap_runs_of_m.proofs.changes_only_at_57.Goals as goal
 
 pub returns : goal.returns

@@ -1,4 +1,4 @@
-use Rattle.snap_runs_of_m.proofs.Points.{have_points_lem}
+use Rattle.snap_runs_of_m.proofs.Every.{have_points_lem}
 use Rattle.snap_runs_of_m.proofs.have_points.Goals as goal
 
 pub returns : goal.returns

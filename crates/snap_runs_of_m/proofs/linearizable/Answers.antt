@@ -1,4 +1,4 @@
-use Rattle.snap_runs_of_m.proofs.Linear.{linearizable_lem}
+use Rattle.snap_runs_of_m.proofs.Every.{linearizable_lem}
 use Rattle.snap_runs_of_m.proofs.linearizable.Goals as goal
 
 pub returns : goal.returns

@@ -1,4 +1,4 @@
-use Rattle.snap_runs_of_m.proofs.Snapshot.{runs_are_snapshots_lem}
+use Rattle.snap_runs_of_m.proofs.Every.{runs_are_snapshots_lem}
 use Rattle.snap_runs_of_m.proofs.runs_are_snapshots.Goals as goal
 
 pub returns : goal.returns

@@ -1,4 +1,4 @@
-use Rattle.snap_runs_of_m.proofs.WaitFree.{wait_free_lem}
+use Rattle.snap_runs_of_m.proofs.Every.{wait_free_lem}
 use Rattle.snap_runs_of_m.proofs.wait_free.Goals as goal
 
 pub returns : goal.returns

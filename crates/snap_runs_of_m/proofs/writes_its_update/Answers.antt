@@ -1,4 +1,4 @@
-use Rattle.snap_runs_of_m.proofs.Updates.{writes_its_update_lem}
+use Rattle.snap_runs_of_m.proofs.Every.{writes_its_update_lem}
 use Rattle.snap_runs_of_m.proofs.writes_its_update.Goals as goal
 
 pub returns : goal.returns

@@ -1,4 +1,4 @@
-use Rattle.snap_runs_of_m.proofs.Updates.{writes_once_lem}
+use Rattle.snap_runs_of_m.proofs.Every.{writes_once_lem}
 use Rattle.snap_runs_of_m.proofs.writes_once.Goals as goal
 
 pub returns : goal.returns

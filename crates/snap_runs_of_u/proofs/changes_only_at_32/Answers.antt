@@ -1,4 +1,4 @@
-use Rattle.snap_runs_of_u.proofs.Updates.{changes_only_at_32_lem}
+use Rattle.snap_runs_of_u.proofs.Every.{changes_only_at_32_lem}
 use Rattle.snap_runs_of_u.proofs.changes_only_at_32.Goals as goal
 
 pub returns : goal.returns

@@ -1,4 +1,4 @@
-use Rattle.snap_runs_of_u.proofs.Points.{have_points_lem}
+use Rattle.snap_runs_of_u.proofs.Every.{have_points_lem}
 use Rattle.snap_runs_of_u.proofs.have_points.Goals as goal
 
 pub returns : goal.returns

@@ -1,4 +1,4 @@
-use Rattle.snap_runs_of_u.proofs.Linear.{operations_have_places_lem}
+use Rattle.snap_runs_of_u.proofs.Every.{operations_have_places_lem}
 use Rattle.snap_runs_of_u.proofs.operations_have_places.Goals as goal
 
 pub returns : goal.returns

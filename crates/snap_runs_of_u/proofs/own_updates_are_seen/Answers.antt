@@ -1,4 +1,4 @@
-use Rattle.snap_runs_of_u.proofs.OwnUpdates.{own_updates_are_seen_lem}
+use Rattle.snap_runs_of_u.proofs.Every.{own_updates_are_seen_lem}
 use Rattle.snap_runs_of_u.proofs.own_updates_are_seen.Goals as goal
 
 pub returns : goal.returns

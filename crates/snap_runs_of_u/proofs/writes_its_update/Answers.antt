@@ -1,4 +1,4 @@
-use Rattle.snap_runs_of_u.proofs.Updates.{writes_its_update_lem}
+use Rattle.snap_runs_of_u.proofs.Every.{writes_its_update_lem}
 use Rattle.snap_runs_of_u.proofs.writes_its_update.Goals as goal
 
 pub returns : goal.returns

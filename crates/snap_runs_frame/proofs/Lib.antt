@@ -1,0 +1,4 @@
+pub mod Frame
+pub mod Every
+pub mod Single
+pub mod Keeping

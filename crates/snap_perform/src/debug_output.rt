@@ -5,7 +5,7 @@ ghost use Rattle.snap_semantics.specs.Answers.{Answers, refused_as};
 ghost use Rattle.snap_semantics.specs.Schedule.{schedule_of};
 ghost use Rattle.snap_semantics.specs.declared.refusal.Refusal.TheVariants as refusal;
 ghost use Rattle.snap_debug_commands.specs.Commands.{commands_of};
-ghost use Rattle.snap_debug.specs.Session.{after_commands, answer, performance, replies_text};
+ghost use Rattle.snap_debug.specs.Session.{after_commands, answer, performance, replies_text, session_report};
 ghost use Rattle.snap_perform.specs.Perform.{perform_listing, perform_of, schedule_for};
 ghost use Rattle.snap_perform.specs.Replies.{command_reply};
 
@@ -86,6 +86,29 @@ fn push_answers<K: Kind>(
     Ok(())
 }
 
+/// The report of the position of a session.
+fn push_session_report<K: Kind>(out: &mut Vec<u8>, session: &Session<K>) -> Result<(), AllocError>
+    ensures { OnOk result (out.new.items ≡ out.old.items ++ session_report session.now) }
+{
+    let report = session.report()?;
+    push_text(out, report.as_slice())
+}
+
+/// What a session answers to commands, and the report of the position that they reach.
+fn answers<K: Kind>(
+    alloc: Global,
+    session: &mut Session<K>,
+    commands: &[Command],
+) -> Result<Vec<u8>, AllocError>
+    ensures { IfOk result (λ out. out.items ≡ replies_text session.old commands.now
+        ++ session_report (after_commands session.old commands.now)) }
+{
+    let mut out = Vec::new(alloc);
+    push_answers(&mut out, session, commands)?;
+    push_session_report(&mut out, session)?;
+    Ok(out)
+}
+
 /// What a program does under a schedule, as commands ask for it.
 fn performance<K: Kind>(
     alloc: Global,
@@ -98,11 +121,7 @@ fn performance<K: Kind>(
         commands.now) }
 {
     let mut session = Session::<K>::over(alloc, program, schedule)?;
-    let mut out = Vec::new(alloc);
-    push_answers(&mut out, &mut session, commands)?;
-    let report = session.report()?;
-    push_text(&mut out, report.as_slice())?;
-    Ok(out)
+    answers(alloc, &mut session, commands)
 }
 
 /// What commands are answered on a program of a kind under a schedule, and the report of the

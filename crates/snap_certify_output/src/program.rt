@@ -21,7 +21,8 @@ fn certify_run<K: Kind>(
     schedule: &Schedule,
 ) -> Result<Vec<u8>, AllocError>
     requires { program.now.kind ≡ K.TAG }
-    ensures { IfOk result (λ out. out.items ≡ certificate_text (run_over program.now schedule.now)) }
+    ensures { IfOk result
+        (λ out. out.items ≡ certificate_text (run_over program.now schedule.now)) }
 {
     let record = record_over::<K>(alloc, program, schedule)?;
     certification_text(alloc, &record)

@@ -77,7 +77,8 @@ fn writes_until(
     next: usize,
     item: u64,
 ) -> Result<usize, AllocError>
-    ensures text { OnOk result (out.new.items ≡ out.old.items ++ update_lines (writes_until item (drop next writes.now))) }
+    ensures text { OnOk result (out.new.items ≡
+        out.old.items ++ update_lines (writes_until item (drop next writes.now))) }
     ensures left { IfOk result (λ k. drop k writes.now ≡ writes_after item (drop next writes.now)) }
 {
     let mut k = next;
@@ -164,7 +165,8 @@ fn text_of(alloc: Global, certification: &Certification) -> Result<Vec<u8>, Allo
     Ok(out)
 }
 
-/// What a record is certified by, a line for each operation in the order of places; or what is missing, in one line.
+/// What a record is certified by, a line for each operation in the order of places; or what is
+/// missing, in one line.
 pub fn certification_text<K: Kind>(
     alloc: Global,
     history: &Record<K>,

@@ -84,7 +84,8 @@ fn command<'a>(alloc: Global) -> Result<Command<'a>, AllocError> {
         .subcommand(live(alloc)?)
 }
 
-/// The limit that a subcommand's arguments ask for, where it takes one. It takes no other than these.
+/// The limit that a subcommand's arguments ask for, where it takes one. It takes no other than
+/// these.
 fn limit_of(arguments: &ArgMatches<'_>) -> u64
     ensures { IsLimit result }
 {

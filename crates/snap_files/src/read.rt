@@ -7,7 +7,8 @@ use std::fs::File;
 use std::io;
 use std::io::{ErrorKind, Read};
 
-/// Reads all there is, where it has fewer than `most` bytes. A source may have no end, as `/dev/zero`.
+/// Reads all there is, where it has fewer than `most` bytes. A source may have no end, as
+/// `/dev/zero`.
 pub fn read_below<R: Read + Drop>(
     alloc: Global,
     reader: R,

@@ -1,5 +1,6 @@
 //! The parts of an input.
-ghost use Rattle.std.specs.Prelude.{◌≡◌, ◌+◌, ◌≤◌, ◌<◌, ℕ, IfOk, map, length, take, drop, [], ◌∷◌, false};
+ghost use Rattle.std.specs.Prelude.{◌≡◌, ◌+◌, ◌≤◌, ◌<◌, ℕ, IfOk, map, length, take, drop, [], ◌∷◌};
+ghost use Rattle.std.specs.Prelude.{false};
 ghost use Rattle.std.specs.Io.BufRead.{take_through, drop_through};
 ghost use Rattle.snap_input.specs.Parts.{ends_part, parts_of};
 

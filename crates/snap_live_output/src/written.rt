@@ -1,5 +1,6 @@
 //! A record as text: its items as a schedule, and the report of its end.
-ghost use Rattle.std.specs.Prelude.{◌≡◌, ◌+◌, ◌<◌, ◌≤◌, ◌^◌, ◌++◌, [], ◌∷◌, IfOk, OnOk, length, take};
+ghost use Rattle.std.specs.Prelude.{◌≡◌, ◌+◌, ◌<◌, ◌≤◌, ◌^◌, ◌++◌, [], ◌∷◌, IfOk, OnOk, length};
+ghost use Rattle.std.specs.Prelude.{take};
 ghost use Rattle.snap_live_output.specs.LiveOutput.{history_text};
 
 use snap_record::{History, Record};

@@ -77,7 +77,8 @@ pub fn run_program(
     program: &Program,
     schedule: &[u8],
 ) -> Result<Vec<u8>, Fault<Refusal>>
-    ensures { Answers (λ out. out.items) result (perform_listing program.now schedule.now (codes "run\n")) }
+    ensures { Answers (λ out. out.items) result
+        (perform_listing program.now schedule.now (codes "run\n")) }
 {
     run_listing(alloc, program, schedule)
 }

@@ -1,4 +1,5 @@
-ghost use Rattle.std.specs.Prelude.{◌≡◌, ◌≤◌, ◌<◌, ℕ, List, Bool, false, Option, length, is_err, IfOk, ◌==◌};
+ghost use Rattle.std.specs.Prelude.{◌≡◌, ◌≤◌, ◌<◌, ℕ, List, Bool, false, Option, length, is_err};
+ghost use Rattle.std.specs.Prelude.{IfOk, ◌==◌};
 ghost use Rattle.std.specs.Io.KnownBytes.{WriteAppends};
 
 use crate::Failed;

@@ -26,7 +26,8 @@ pub fn kind_of(name: &str) -> Option<KindTag>
     }
 }
 
-/// What the subcommand of this name asks for, of this listing where it runs one and with this limit where it plays scripts.
+/// What the subcommand of this name asks for, of this listing where it runs one and with this limit
+/// where it plays scripts.
 pub fn request_of(name: &str, subject: Subject, limit: u64) -> Option<Request>
     requires { IsLimit limit }
     ensures named { result ≡ request_of name.now subject limit }

@@ -2,8 +2,10 @@
 #![tactic(auto)]
 
 ghost use Rattle.snap_thread_laws.specs.RunLaws.{LinearizationsAreTold, OperationsAreTold};
-ghost use Rattle.snap_thread_laws.specs.DeskLaws.{DesksTellLinearizations, NotesOrderOperations, SeatsAreToldTheRecord, SeatsOwnWhatTheySaw};
-ghost use Rattle.snap_thread_laws.specs.ShippedLaws.{ClosedDesksAreLinearizable, LiveRunsAreLinearizable};
+ghost use Rattle.snap_thread_laws.specs.DeskLaws.{DesksTellLinearizations, NotesOrderOperations};
+ghost use Rattle.snap_thread_laws.specs.DeskLaws.{SeatsAreToldTheRecord, SeatsOwnWhatTheySaw};
+ghost use Rattle.snap_thread_laws.specs.ShippedLaws.{ClosedDesksAreLinearizable};
+ghost use Rattle.snap_thread_laws.specs.ShippedLaws.{LiveRunsAreLinearizable};
 
 use snap_live::Gate;
 use snap_promises::shipped_runs_keep_promises;

@@ -2,6 +2,10 @@
 use Rattle.std.specs.Prelude.{ℕ, ◌||◌, Bool, nat_eq, List, [], ◌∷◌, ◌++◌, bytes_eq, codes, slice_index_or, if◌then◌else◌}
 use Rattle.snap_semantics.specs.Token.{onto_line}
 
+-- the most bytes of an input
+abbrev pub max_input : ℕ
+max_input = 16777216
+
 -- the lines of an input, each with its line feed, which the last may lack
 abbrev pub full_lines : List ℕ → List (List ℕ)
 full_lines [] = []

@@ -4,7 +4,7 @@ ghost use Rattle.snap_semantics.specs.Answers.{Answers};
 ghost use Rattle.snap_semantics.specs.declared.fault.Fault.TheVariants.{Refused};
 ghost use Rattle.snap_semantics.specs.declared.refusal.Refusal.{Refusal};
 ghost use Rattle.snap_input.specs.Input.{checked_parts, counted_parts, texts_for};
-ghost use Rattle.snap_input.specs.Parts.{parts_of};
+ghost use Rattle.snap_input.specs.Parts.{max_input, parts_of};
 
 use crate::parts::{count_separators, split_parts};
 use snap_semantics::{Fault, Refusal};
@@ -27,7 +27,7 @@ pub fn count_texts(subject: Subject, parts: usize) -> usize
 
 /// Whether so many texts stand behind the listing.
 fn check_parts(subject: Subject, count: usize, input: &[u8]) -> Result<(), Refusal>
-    requires { length input.now ≤ 16777216 }
+    requires { length input.now ≤ max_input }
     ensures { result ≡ checked_parts subject count (parts_of input.now) }
 {
     let found = count_separators(input) + 1;
@@ -46,7 +46,7 @@ pub fn parts_for(
     count: usize,
     input: &[u8],
 ) -> Result<Vec<&[u8]>, Fault<Refusal>>
-    requires { length input.now ≤ 16777216 }
+    requires { length input.now ≤ max_input }
     ensures parts { Answers (λ parts. map (λ part. part.now) parts.items) result
         (counted_parts subject count (parts_of input.now)) }
     ensures counted { (r : Refusal) → checked_parts subject count (parts_of input.now) ≡ Err r →

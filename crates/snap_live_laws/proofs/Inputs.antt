@@ -9,7 +9,7 @@ use Rattle.snap_semantics.specs.declared.refusal.Refusal.TheVariants as refusal
 use Rattle.snap_sched.specs.ScriptText.{Scripts, scripts_of}
 use Rattle.snap_subject.specs.declared.subject.Subject.{Subject}
 use Rattle.snap_input.specs.Input.{checked_parts, listing_for, parted, texts_for}
-use Rattle.snap_input.specs.Parts.{part, parts_of}
+use Rattle.snap_input.specs.Parts.{part, parts_of, max_input}
 use Rattle.snap_input.proofs.Answered.{both, not_refused, passed, same_answer, within}
 use Rattle.snap_live_output.specs.LiveOutput.{Setup, fitting, scripts_for, setup_for, setup_of, setup_text}
 use Rattle.snap_live_laws.proofs.ScriptsFit.{FitsScript, scripts_fit}
@@ -53,4 +53,4 @@ parts_read subject parts g e =
 
 pub input_read : (subject : Subject) (input : List ℕ) (g : Setup) → setup_of subject input ≡ Ok g → IsRead subject (parts_of input) g
 input_read subject input g e =
-    parts_read subject (parts_of input) g (within (nat_lt 16777216 (length input)) refusal.InputTooLong (setup_for subject (parts_of input)) g e)
+    parts_read subject (parts_of input) g (within (nat_lt max_input (length input)) refusal.InputTooLong (setup_for subject (parts_of input)) g e)

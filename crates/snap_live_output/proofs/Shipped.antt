@@ -12,7 +12,7 @@ use Rattle.snap_sched.specs.ScriptText.{Scripts, scripts_of}
 use Rattle.snap_runs.specs.Run.{Run}
 use Rattle.snap_promises.specs.Kept.{KeepsPromises, NumbersSuffice, RunsKeepPromises}
 use Rattle.snap_shipped.specs.Shipped.{shipped}
-use Rattle.snap_input.specs.Parts.{part, parts_of}
+use Rattle.snap_input.specs.Parts.{part, parts_of, max_input}
 use Rattle.snap_subject.specs.declared.subject.Subject.TheVariants.{Shipped}
 use Rattle.snap_input.proofs.Answered.{both, passed, same_answer, within}
 use Rattle.snap_input.proofs.Parting.{of_texts}
@@ -41,7 +41,7 @@ plays_listing l texts g e =
 plays_shipped : (k : KindTag) (input : List ℕ) (g : Setup) → setup_of (Shipped k) input ≡ Ok g → (g.source ≡ shipped k) × (fits (shipped k).kind g.scripts.shape ≡ true)
 plays_shipped k input g e =
     plays_listing (shipped k) (parts_of input) g
-    (of_texts k 1 (parts_of input) setup_text g (within (nat_lt 16777216 (length input)) refusal.InputTooLong (setup_for (Shipped k) (parts_of input)) g e))
+    (of_texts k 1 (parts_of input) setup_text g (within (nat_lt max_input (length input)) refusal.InputTooLong (setup_for (Shipped k) (parts_of input)) g e))
 
 -- a live run has fewer items than there are sequence numbers
 suffices : (k : KindTag) (items : List Item) → length items ≤ 1000000 → NumbersSuffice k items

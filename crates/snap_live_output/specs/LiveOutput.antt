@@ -18,7 +18,7 @@ use Rattle.snap_runs.specs.Run.{Run, IsValidRun}
 use Rattle.snap_report.specs.RunReport.{report_at}
 use Rattle.snap_subject.specs.declared.subject.Subject.{Subject}
 use Rattle.snap_input.specs.Input.{parted}
-use Rattle.snap_input.specs.Parts.{part, parts_of}
+use Rattle.snap_input.specs.Parts.{part, parts_of, max_input}
 use Rattle.snap_live_desk.specs.declared.seat_state.Setting.{Setting}
 use Rattle.snap_live_desk.specs.declared.refusal.LiveRefusal.{LiveRefusal}
 use Rattle.snap_live.specs.LiveRun.{MayFault}
@@ -60,7 +60,7 @@ setup_for s parts = parted s 1 parts setup_text
 
 -- what an input says to play, or the first reason why it says nothing
 abbrev pub setup_of : Subject → List ℕ → Result Setup Refusal
-setup_of s input = if nat_lt 16777216 (length input) then Err refusal.InputTooLong else setup_for s (parts_of input)
+setup_of s input = if nat_lt max_input (length input) then Err refusal.InputTooLong else setup_for s (parts_of input)
 
 -- a run as the text of a schedule, and the report of its end
 abbrev pub history_text : Run → List ℕ

@@ -5,7 +5,7 @@ ghost use Rattle.snap_semantics.specs.Answers.{Answers, refused_as};
 ghost use Rattle.snap_semantics.specs.declared.refusal.Refusal.TheVariants as refusal;
 ghost use Rattle.snap_sched.specs.ScriptText.{AreScripts, scripts_of};
 ghost use Rattle.snap_live_output.specs.LiveOutput.{scripts_for, setup_for, setup_of, setup_text};
-ghost use Rattle.snap_input.specs.Parts.{parts_of};
+ghost use Rattle.snap_input.specs.Parts.{max_input, parts_of};
 
 use snap_asm_program::Program;
 use snap_input::{MAX_INPUT, parts_for, program_for, texts_for};
@@ -92,7 +92,7 @@ fn setup_texts(alloc: Global, program: Program, texts: &[&[u8]]) -> Result<Setup
 /// What the parts of an input say to play.
 #[tactic(auto, unfolding(snap_input::specs::Input::parted))]
 fn setup_for(alloc: Global, subject: Subject, input: &[u8]) -> Result<Setup, Fault<Refusal>>
-    requires { length input.now ≤ 16777216 }
+    requires { length input.now ≤ max_input }
     ensures { Answers (λ s. s) result (setup_for subject (parts_of input.now)) }
 {
     let parts = parts_for(alloc, subject, 1, input)?;

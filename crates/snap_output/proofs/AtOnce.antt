@@ -17,6 +17,7 @@ use Rattle.snap_semantics.specs.declared.refusal.Refusal.{Refusal}
 use Rattle.snap_semantics.specs.declared.refusal.Refusal.TheVariants as refusal
 use Rattle.snap_tasks.specs.declared.task.Task.{Task}
 use Rattle.snap_tasks.specs.declared.task.Task.TheVariants as task
+use Rattle.snap_input.specs.Parts.{max_input}
 use Rattle.snap_output.specs.AtOnce.{found_at_once, long_text, unknown_version, why, wrong_head, wrong_version}
 
 module _ {X : Type 0} (result : Result X (Fault Refusal)) where
@@ -74,10 +75,10 @@ module _ {X : Type 0} (result : Result X (Fault Refusal)) where
       (sym (take-append-drop 4 bytes) ∙ ap (λ x. x ++ drop 4 bytes) (same.0 e) ∙ ap (λ x. signature ++ x) is)))
 
   -- of an input that is not too long
-  pub of_list : (t : Task) (input : List ℕ) → t ≡ task.List → length input ≤ 16777216 →
+  pub of_list : (t : Task) (input : List ℕ) → t ≡ task.List → length input ≤ max_input →
       Answered (option_map refusal.Image (wrong_head input)) → Answered (found_at_once t input)
-  of_list t input is short h = rw (is, le-ltb 16777216 (length input) short) h
+  of_list t input is short h = rw (is, le-ltb max_input (length input) short) h
 
-  pub of_upgrade : (t : Task) (input : List ℕ) → t ≡ task.Upgrade → length input ≤ 16777216 →
+  pub of_upgrade : (t : Task) (input : List ℕ) → t ≡ task.Upgrade → length input ≤ max_input →
       Answered (option_map refusal.Image (wrong_head input)) → Answered (found_at_once t input)
-  of_upgrade t input is short h = rw (is, le-ltb 16777216 (length input) short) h
+  of_upgrade t input is short h = rw (is, le-ltb max_input (length input) short) h

@@ -33,7 +33,7 @@ use Rattle.snap_shipped.specs.Shipped.{shipped}
 use Rattle.snap_input.specs.Input.{checked_parts, listing_for, parted, texts_for}
 use Rattle.snap_output.specs.Output.{audit_listing, batch_text, batched, checked_schedules, debug_text, of_task, output_of, run_text, verdicts_text}
 use Rattle.snap_survey_output.specs.Surveys.{schedules_for}
-use Rattle.snap_input.specs.Parts.{part, parts_of}
+use Rattle.snap_input.specs.Parts.{part, parts_of, max_input}
 use Rattle.snap_perform.proofs.ToTheEnd.{is_run}
 use Rattle.snap_perform.specs.Perform.{fitting, perform_listing, perform_of, schedule_for}
 use Rattle.snap_subject.specs.declared.subject.Subject.{Subject}
@@ -115,7 +115,7 @@ reported l texts text e =
 -- the output is that of the parts
 of_parts : (t : Task) (input text : List ℕ) → output_of t input ≡ Ok text → of_task t input ≡ Ok text
 unfolding output_of
-of_parts t input text e = within (nat_lt 16777216 (length input)) refusal.InputTooLong (of_task t input) text e
+of_parts t input text e = within (nat_lt max_input (length input)) refusal.InputTooLong (of_task t input) text e
 
 -- and what is found of parts is found of the listing and the texts after it
 of_listing : (s : Subject) (count : ℕ) (parts : List (List ℕ)) (f : Source → List (List ℕ) → Result (List ℕ) Refusal) (text : List ℕ) →
@@ -151,7 +151,7 @@ writes_the_run s input text = record {
 }
 
 -- what is asked for is run
-module _ (subject : Subject) (input : List ℕ) (l : Source) (s : Schedule) (short : length input ≤ 16777216) (asks : AsksFor subject input l s) where
+module _ (subject : Subject) (input : List ℕ) (l : Source) (s : Schedule) (short : length input ≤ max_input) (asks : AsksFor subject input l s) where
   -- a task on so many texts gives what it gives of the listing and these texts
   given : (count : ℕ) (f : Source → List (List ℕ) → Result (List ℕ) Refusal) → length (texts_in subject input) ≡ count →
       parted subject count (parts_of input) f ≡ f l (texts_in subject input)
@@ -173,7 +173,7 @@ module _ (subject : Subject) (input : List ℕ) (l : Source) (s : Schedule) (sho
 
   whole : (t : Task) → output_of t input ≡ of_task t input
   unfolding output_of
-  whole t = rw (le-ltb 16777216 (length input) short) refl
+  whole t = rw (le-ltb max_input (length input) short) refl
 
   pub runs_what_is_asked : RunsWhatIsAsked subject input l s
   runs_what_is_asked = record {

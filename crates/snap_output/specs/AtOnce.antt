@@ -10,7 +10,7 @@ use Rattle.snap_semantics.specs.declared.refusal.ListingRefusal.TheVariants as l
 use Rattle.snap_semantics.specs.declared.refusal.Refusal.{Refusal}
 use Rattle.snap_semantics.specs.declared.refusal.Refusal.TheVariants as refusal
 use Rattle.snap_input.specs.Input.{checked_parts}
-use Rattle.snap_input.specs.Parts.{parts_of}
+use Rattle.snap_input.specs.Parts.{parts_of, max_input}
 use Rattle.snap_output.specs.Output.{checked_schedules}
 use Rattle.snap_tasks.specs.declared.task.Task.{Task}
 use Rattle.snap_tasks.specs.declared.task.Task.TheVariants as task
@@ -53,4 +53,4 @@ refused_at_once (task.Survey s) input = why (checked_schedules s (parts_of input
 
 -- the refusal that is found before any memory is asked for
 abbrev pub found_at_once : Task → List ℕ → Option Refusal
-found_at_once t input = if nat_lt 16777216 (length input) then Some refusal.InputTooLong else refused_at_once t input
+found_at_once t input = if nat_lt max_input (length input) then Some refusal.InputTooLong else refused_at_once t input

@@ -20,7 +20,7 @@ use Rattle.snap_debug_commands.specs.declared.command.Command.TheVariants as com
 use Rattle.snap_promises.specs.Kept.{KeepsPromises}
 use Rattle.snap_shipped.specs.Shipped.{shipped}
 use Rattle.snap_input.specs.Input.{listing_for, texts_for}
-use Rattle.snap_input.specs.Parts.{part, parts_of}
+use Rattle.snap_input.specs.Parts.{part, parts_of, max_input}
 use Rattle.snap_output.specs.Output.{output_of}
 use Rattle.snap_perform.specs.Perform.{perform_of}
 use Rattle.snap_subject.specs.declared.subject.Subject.{Subject}
@@ -90,6 +90,6 @@ pub record Headline : Type 0 where
   pub prints_the_run : PrintsTheRun
   pub lists_back : ListsBackAsSource
   pub runs_what_is_asked : (subject : Subject) (input : List ℕ) (l : Source) (s : Schedule) →
-      length input ≤ 16777216 → AsksFor subject input l s → RunsWhatIsAsked subject input l s
+      length input ≤ max_input → AsksFor subject input l s → RunsWhatIsAsked subject input l s
   pub writes_the_run : (subject : Subject) (input text : List ℕ) → WritesTheRun subject input text
   pub snapshots : SnapshotListingsAreSnapshots

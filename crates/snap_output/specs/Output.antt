@@ -15,7 +15,7 @@ use Rattle.snap_certify_output.specs.Output.{certificates_text}
 use Rattle.snap_lint_text.specs.Lint.{lint_of}
 use Rattle.snap_survey_output.specs.Surveys.{schedules_for, survey_text}
 use Rattle.snap_input.specs.Input.{listing_for, parted, texts_for}
-use Rattle.snap_input.specs.Parts.{part, parts_of}
+use Rattle.snap_input.specs.Parts.{part, parts_of, max_input}
 use Rattle.snap_perform.specs.Perform.{perform_listing, schedule_for}
 use Rattle.snap_subject.specs.declared.subject.Subject.{Subject}
 use Rattle.snap_tasks.specs.declared.task.Task.{Task}
@@ -87,4 +87,4 @@ of_task (task.Survey s) input = surveyed s (parts_of input)
 
 -- what a whole run of the program writes for an input, or its refusal
 unfoldable pub output_of : Task → List ℕ → Result (List ℕ) Refusal
-output_of task input = if nat_lt 16777216 (length input) then Err refusal.InputTooLong else of_task task input
+output_of task input = if nat_lt max_input (length input) then Err refusal.InputTooLong else of_task task input

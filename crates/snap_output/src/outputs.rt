@@ -4,7 +4,7 @@ ghost use Rattle.snap_semantics.specs.Answers.{Answers};
 ghost use Rattle.snap_semantics.specs.declared.fault.Fault.TheVariants.{Refused};
 ghost use Rattle.snap_semantics.specs.declared.refusal.Refusal.{Refusal};
 ghost use Rattle.snap_input.specs.Input.{checked_parts, parted, texts_for};
-ghost use Rattle.snap_input.specs.Parts.{parts_of};
+ghost use Rattle.snap_input.specs.Parts.{max_input, parts_of};
 ghost use Rattle.snap_output.specs.AtOnce.{found_at_once};
 ghost use Rattle.snap_certify_output.specs.Output.{certificates_text};
 ghost use Rattle.snap_output.specs.Output.{batched, checked_schedules, debug_text, surveyed};
@@ -33,7 +33,7 @@ const MAX_SCHEDULES: usize = 4096;
 
 /// Whether 1 to 4,096 texts stand behind the listing.
 fn check_schedules(subject: Subject, input: &[u8]) -> Result<(), Refusal>
-    requires { length input.now ≤ 16777216 }
+    requires { length input.now ≤ max_input }
     ensures { result ≡ checked_schedules subject (parts_of input.now) }
 {
     let found = count_separators(input) + 1;
@@ -57,7 +57,7 @@ fn run_texts(alloc: Global, program: &Program, texts: &[&[u8]]) -> Result<Vec<u8
 /// A listing under a schedule.
 #[tactic(auto, unfolding(snap_input::specs::Input::parted))]
 fn run(alloc: Global, subject: Subject, input: &[u8]) -> Result<Vec<u8>, Fault<Refusal>>
-    requires { length input.now ≤ 16777216 }
+    requires { length input.now ≤ max_input }
     ensures output { Answers (λ out. out.items) result
         (parted subject 1 (parts_of input.now) run_text) }
     ensures counted { (r : Refusal) → checked_parts subject 1 (parts_of input.now) ≡ Err r →
@@ -81,7 +81,7 @@ fn debug_texts(alloc: Global, program: &Program, texts: &[&[u8]]) -> Result<Vec<
 /// A listing under a schedule, as commands ask for it.
 #[tactic(auto, unfolding(snap_input::specs::Input::parted))]
 fn debug(alloc: Global, subject: Subject, input: &[u8]) -> Result<Vec<u8>, Fault<Refusal>>
-    requires { length input.now ≤ 16777216 }
+    requires { length input.now ≤ max_input }
     ensures output { Answers (λ out. out.items) result
         (parted subject 2 (parts_of input.now) debug_text) }
     ensures counted { (r : Refusal) → checked_parts subject 2 (parts_of input.now) ≡ Err r →
@@ -105,7 +105,7 @@ fn audit_texts(alloc: Global, program: &Program, texts: &[&[u8]]) -> Result<Vec<
 /// The verdicts of a listing under a schedule.
 #[tactic(auto, unfolding(snap_input::specs::Input::parted))]
 fn audit(alloc: Global, subject: Subject, input: &[u8]) -> Result<Vec<u8>, Fault<Refusal>>
-    requires { length input.now ≤ 16777216 }
+    requires { length input.now ≤ max_input }
     ensures output { Answers (λ out. out.items) result
         (parted subject 1 (parts_of input.now) verdicts_text) }
     ensures counted { (r : Refusal) → checked_parts subject 1 (parts_of input.now) ≡ Err r →
@@ -134,7 +134,7 @@ fn certify_texts(
 /// The certification of a listing under a schedule.
 #[tactic(auto, unfolding(snap_input::specs::Input::parted))]
 fn certify(alloc: Global, subject: Subject, input: &[u8]) -> Result<Vec<u8>, Fault<Refusal>>
-    requires { length input.now ≤ 16777216 }
+    requires { length input.now ≤ max_input }
     ensures output { Answers (λ out. out.items) result
         (parted subject 1 (parts_of input.now) certificates_text) }
     ensures counted { (r : Refusal) → checked_parts subject 1 (parts_of input.now) ≡ Err r →
@@ -149,7 +149,7 @@ fn certify(alloc: Global, subject: Subject, input: &[u8]) -> Result<Vec<u8>, Fau
 /// A listing and many schedules. Another number of parts is found before they are collected.
 #[tactic(auto, unfolding(crate::specs::Output::batched))]
 fn batch(alloc: Global, subject: Subject, input: &[u8]) -> Result<Batch, Fault<Refusal>>
-    requires { length input.now ≤ 16777216 }
+    requires { length input.now ≤ max_input }
     ensures output { Answers batch_reports result (batched subject (parts_of input.now)) }
     ensures counted { (r : Refusal) → checked_schedules subject (parts_of input.now) ≡ Err r →
         result ≡ Err (Refused r) }
@@ -164,7 +164,7 @@ fn batch(alloc: Global, subject: Subject, input: &[u8]) -> Result<Batch, Fault<R
 /// What the runs of a listing under many schedules came to.
 #[tactic(auto, unfolding(crate::specs::Output::surveyed))]
 fn survey(alloc: Global, subject: Subject, input: &[u8]) -> Result<Vec<u8>, Fault<Refusal>>
-    requires { length input.now ≤ 16777216 }
+    requires { length input.now ≤ max_input }
     ensures output { Answers (λ out. out.items) result (surveyed subject (parts_of input.now)) }
     ensures counted { (r : Refusal) → checked_schedules subject (parts_of input.now) ≡ Err r →
         result ≡ Err (Refused r) }

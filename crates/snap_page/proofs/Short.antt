@@ -9,7 +9,7 @@ use Rattle.snap_semantics.specs.declared.refusal.ImageRefusal.TheVariants as ima
 use Rattle.snap_semantics.specs.declared.refusal.ListingRefusal.TheVariants as listing
 use Rattle.snap_semantics.specs.declared.refusal.Refusal.{Refusal}
 use Rattle.snap_semantics.specs.declared.refusal.Refusal.TheVariants as refusal
-use Rattle.snap_input.specs.Parts.{parts_of}
+use Rattle.snap_input.specs.Parts.{parts_of, max_input}
 use Rattle.snap_output.specs.AtOnce.{found_at_once, long_text, refused_at_once, why}
 use Rattle.snap_output.specs.AtOnce.{unknown_version, wrong_head, wrong_version}
 use Rattle.snap_input.specs.Input.{texts_for}
@@ -85,5 +85,5 @@ task_short (task.Survey s) input =
 pub needs_none : (t : Task) (input : List ℕ) (r : Refusal) →
     found_at_once t input ≡ Some r → needs_no_memory r ≡ true
 needs_none t input =
-    either (nat_lt 16777216 (length input)) (Some refusal.InputTooLong) (refused_at_once t input)
+    either (nat_lt max_input (length input)) (Some refusal.InputTooLong) (refused_at_once t input)
     (of_one refusal.InputTooLong refl) (task_short t input)

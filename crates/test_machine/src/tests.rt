@@ -9,6 +9,7 @@ use marked::Marked;
 use snap_asm::{Program, assemble, load};
 use snap_machine::{Contents, Local, Machine};
 use snap_semantics::{Cause, Item, Op, Outcome, Reason, Sort};
+use snap_shipped::text_u;
 use snap_words::{Address, Bank, Bits, Kind, KindTag, Multi, Seq, Shape};
 use std::alloc::{AllocError, Global};
 use std::process::Abort;
@@ -258,33 +259,6 @@ update 30\n\
 34: view s = data(a)\n\
 35: put v[me] = s\n\
 36: finish\n";
-
-/// The unbounded single-writer snapshot listing.
-const SNAPSHOT: &[u8] = b"kind seq\n\
-scalar j c\n\
-row moved\n\
-words a b\n\
-view s\n\
-scan 10\n\
-update 30\n\
-10: each n: moved[@] = 0\n\
-11: let j = 1\n\
-12: get a[j] = r[j]\n\
-13: next j n goto 12\n\
-14: get b[j] = r[j]\n\
-15: next j n goto 14\n\
-16: if all n: seq(a[@]) = seq(b[@]) goto 21\n\
-17: each n: moved[@] = moved[@] + 1 where seq(a[@]) != seq(b[@])\n\
-18: first j n: moved[@] = 2 goto 23\n\
-19: goto 12\n\
-21: view s = data(b)\n\
-22: return s\n\
-23: view s = view(b[j])\n\
-24: return s\n\
-30: call 10\n\
-31: let c = c + 1\n\
-32: put r[me] = (arg, c, s)\n\
-33: finish\n";
 
 /// A text of three parts.
 fn text_of(alloc: Global, kind: &[u8], names: &[u8], lines: &[u8]) -> Result<Vec<u8>, AllocError> {
@@ -592,7 +566,7 @@ fn go_on_apart(
 
 #[test]
 fn copies_go_on_alike(rt: HostRuntime) -> Result<(), Fail> {
-    let mut machine = machine_of::<Seq>(&rt, rt.alloc(), KindTag::Seq, 1, SNAPSHOT)?;
+    let mut machine = machine_of::<Seq>(&rt, rt.alloc(), KindTag::Seq, 1, text_u())?;
     is_called(&rt, &mut machine, Op::Update { word: 1, value: 7 })?;
     goes_on(&rt, &mut machine, 11)?;
     let mut copy = machine.copy()?;
@@ -643,7 +617,7 @@ fn crash_update(
     line: u64,
     link: Option<u64>,
 ) -> Result<Machine<Seq>, Fail> {
-    let mut machine = machine_of::<Seq>(rt, alloc, KindTag::Seq, 1, SNAPSHOT)?;
+    let mut machine = machine_of::<Seq>(rt, alloc, KindTag::Seq, 1, text_u())?;
     is_called(rt, &mut machine, UPDATE)?;
     goes_on(rt, &mut machine, steps)?;
     crashes(rt, &mut machine)?;
@@ -667,7 +641,7 @@ fn crashed_updates_stop(rt: HostRuntime) -> Result<(), Fail> {
 
 #[test]
 fn an_idle_process_crashes(rt: HostRuntime) -> Result<(), Fail> {
-    let mut machine = machine_of::<Seq>(&rt, rt.alloc(), KindTag::Seq, 1, SNAPSHOT)?;
+    let mut machine = machine_of::<Seq>(&rt, rt.alloc(), KindTag::Seq, 1, text_u())?;
     crashes(&rt, &mut machine)?;
     stands_still(&rt, &mut machine)?;
     assert!(rt; has(&machine, 1));

@@ -7,41 +7,15 @@ use snap_asm::{Program, assemble, load};
 use snap_audit::{audit, verdict_line};
 use snap_record::{MAX_ITEMS, Record, RecordFault};
 use snap_semantics::{Item, Op, Outcome, Reason};
+use snap_shipped::text_u;
 use snap_words::{KindTag, Seq, Shape};
 use std::alloc::Global;
 use std::process::Abort;
 use std::test::Fail;
 
-/// The snapshot listing.
-const LISTING: &[u8] = b"kind seq\n\
-scalar j c\n\
-row moved\n\
-words a b\n\
-view s\n\
-scan 10\n\
-update 30\n\
-10: each n: moved[@] = 0\n\
-11: let j = 1\n\
-12: get a[j] = r[j]\n\
-13: next j n goto 12\n\
-14: get b[j] = r[j]\n\
-15: next j n goto 14\n\
-16: if all n: seq(a[@]) = seq(b[@]) goto 21\n\
-17: each n: moved[@] = moved[@] + 1 where seq(a[@]) != seq(b[@])\n\
-18: first j n: moved[@] = 2 goto 23\n\
-19: goto 12\n\
-21: view s = data(b)\n\
-22: return s\n\
-23: view s = view(b[j])\n\
-24: return s\n\
-30: call 10\n\
-31: let c = c + 1\n\
-32: put r[me] = (arg, c, s)\n\
-33: finish\n";
-
 /// The program of the listing.
 fn program(alloc: Global) -> Result<Program, Fail> {
-    let image = assemble(alloc, LISTING)?;
+    let image = assemble(alloc, text_u())?;
     Ok(load(alloc, image.as_slice())?)
 }
 

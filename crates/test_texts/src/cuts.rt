@@ -1,8 +1,8 @@
 //! Texts that are cut at every byte: what is left is read, or is refused by name at its end.
-use crate::images::{BOUNDED, MULTI_WRITER, UNBOUNDED};
 use snap_listing::ListingFault;
 use snap_sched::ScheduleFault;
 use snap_semantics::{ListingRefusal, ScheduleRefusal};
+use snap_shipped::{text_b, text_m, text_u};
 use snap_text::line_count;
 use std::alloc::Global;
 use std::process::Abort;
@@ -72,7 +72,7 @@ fn check_listing_cuts(rt: &impl Abort, alloc: Global, text: &[u8]) {
 
 #[test]
 fn reads_each_cut_of_a_listing_or_refuses_its_end(rt: HostRuntime) -> Result<(), Fail> {
-    for text in [UNBOUNDED, BOUNDED, MULTI_WRITER] {
+    for text in [text_u(), text_b(), text_m()] {
         check_listing_cuts(&rt, rt.alloc(), text);
         let _whole = snap_listing::read(rt.alloc(), text)?;
     }

@@ -2,6 +2,7 @@
 use snap_image::{ImageFault, decode, encode};
 use snap_listing::read_commented;
 use snap_semantics::{ImageRefusal, ListingRefusal};
+use snap_shipped::{text_b, text_m, text_u};
 use std::alloc::Global;
 use std::process::Abort;
 use std::test::Fail;
@@ -21,120 +22,6 @@ const SMALL_IMAGE: [u8; 27] = [
     0x53, 0x4e, 0x41, 0x50, 0x02, 0x00, 0x00, 0x00, 0x00, 0x01, 0x01, 0x73, 0x00, 0x01, 0x00, 0x02,
     0x00, 0x02, 0x00, 0x01, 0x16, 0x00, 0x00, 0x00, 0x02, 0x17, 0x00,
 ];
-
-/// The unbounded snapshot.
-pub const UNBOUNDED: &[u8] = b"\
-    kind seq\n\
-    scalar j c\n\
-    row moved\n\
-    words a b\n\
-    view s\n\
-    scan 10\n\
-    update 30\n\
-    10: each n: moved[@] = 0\n\
-    11: let j = 1\n\
-    12: get a[j] = r[j]\n\
-    13: next j n goto 12\n\
-    14: get b[j] = r[j]\n\
-    15: next j n goto 14\n\
-    16: if all n: seq(a[@]) = seq(b[@]) goto 21\n\
-    17: each n: moved[@] = moved[@] + 1 where seq(a[@]) != seq(b[@])\n\
-    18: first j n: moved[@] = 2 goto 23\n\
-    19: goto 12\n\
-    21: view s = data(b)\n\
-    22: return s\n\
-    23: view s = view(b[j])\n\
-    24: return s\n\
-    30: call 10\n\
-    31: let c = c + 1\n\
-    32: put r[me] = (arg, c, s)\n\
-    33: finish\n\
-";
-
-/// The bounded snapshot.
-pub const BOUNDED: &[u8] = b"\
-    kind bit\n\
-    scalar j x t\n\
-    row moved g f\n\
-    words a b\n\
-    view s\n\
-    scan 10\n\
-    update 40\n\
-    10: each n: moved[@] = 0\n\
-    11: let j = 1\n\
-    12: get a[j] = r[j]\n\
-    13: let g[j] = hand(a[j],me)\n\
-    14: put q[me,j] = g[j]\n\
-    15: next j n goto 12\n\
-    16: get a[j] = r[j]\n\
-    17: next j n goto 16\n\
-    18: get b[j] = r[j]\n\
-    19: next j n goto 18\n\
-    20: if all n: hand(a[@],me) = g[@] and hand(b[@],me) = g[@] and toggle(a[@]) = toggle(b[@]) goto 25\n\
-    21: each n: moved[@] = moved[@] + 1 where hand(a[@],me) != g[@] or hand(b[@],me) != g[@] or toggle(a[@]) != toggle(b[@])\n\
-    22: first j n: moved[@] = 2 goto 27\n\
-    23: goto 12\n\
-    25: view s = data(b)\n\
-    26: return s\n\
-    27: view s = view(b[j])\n\
-    28: return s\n\
-    40: let j = 1\n\
-    41: bit x = q[j,me]\n\
-    42: let f[j] = not x\n\
-    43: next j n goto 41\n\
-    44: call 10\n\
-    45: let t = not t\n\
-    46: put r[me] = (arg, f, t, s)\n\
-    47: finish\n\
-";
-
-/// The multi-writer snapshot.
-pub const MULTI_WRITER: &[u8] = b"\
-    kind multi\n\
-    scalar j k x\n\
-    row moved g h d tog\n\
-    words a b\n\
-    view s\n\
-    scan 10\n\
-    update 50\n\
-    10: each n: moved[@] = 0\n\
-    11: let j = 1\n\
-    12: let k = 1\n\
-    13: bit x = p[j,me]\n\
-    14: let g[j] = x\n\
-    15: put q[me,j] = x\n\
-    16: next j n goto 13\n\
-    17: get a[k] = r[k]\n\
-    18: next k w goto 17\n\
-    19: get b[k] = r[k]\n\
-    20: next k w goto 19\n\
-    21: bit x = p[j,me]\n\
-    22: let h[j] = x\n\
-    23: next j n goto 21\n\
-    24: each n: d[@] = 0\n\
-    25: each n: d[@] = 1 where h[@] != g[@]\n\
-    26: if id(a[k]) = id(b[k]) and toggle(a[k]) = toggle(b[k]) goto 29\n\
-    27: let x = id(b[k])\n\
-    28: let d[x] = 1\n\
-    29: next k w goto 26\n\
-    30: if all n: d[@] = 0 goto 34\n\
-    31: each n: moved[@] = moved[@] + 1 where d[@] = 1\n\
-    32: first j n: moved[@] = 3 goto 36\n\
-    33: goto 13\n\
-    34: view s = data(b)\n\
-    35: return s\n\
-    36: look s = v[j]\n\
-    37: return s\n\
-    50: let j = 1\n\
-    51: bit x = q[j,me]\n\
-    52: put p[me,j] = not x\n\
-    53: next j n goto 51\n\
-    54: call 10\n\
-    55: put v[me] = s\n\
-    56: let tog[word] = not tog[word]\n\
-    57: put r[word] = (arg, me, tog[word])\n\
-    58: finish\n\
-";
 
 /// A listing of one line, with one comparison.
 const ONE_COMPARISON: &[u8] =
@@ -306,7 +193,7 @@ fn tells_the_versions_apart(rt: HostRuntime) -> Result<(), Fail> {
 
 #[test]
 fn encodes_snapshots_again(rt: HostRuntime) -> Result<(), Fail> {
-    for text in [UNBOUNDED, BOUNDED, MULTI_WRITER] {
+    for text in [text_u(), text_b(), text_m()] {
         check_image(&rt, rt.alloc(), text)?;
     }
     Ok(())

@@ -1,6 +1,7 @@
 //! Listings: which texts are read, why the others are refused, and what is printed.
 use snap_listing::{Listing, ListingFault, print, read, read_commented};
 use snap_semantics::{BitBank, Expr, Index, Instr, ListingRefusal, Name, Term, Tuple};
+use snap_shipped::{text_b, text_m, text_u};
 use snap_text::{push_number, push_text};
 use snap_words::{Field, KindTag};
 use std::alloc::Global;
@@ -26,117 +27,6 @@ update 10
 13: let c = c + 1
 14: put r[me] = (arg, c, s)
 15: finish
-";
-
-/// The unbounded snapshot of single-writer registers.
-const UNBOUNDED: &[u8] = b"kind seq
-scalar j c
-row moved
-words a b
-view s
-scan 10
-update 30
-10: each n: moved[@] = 0
-11: let j = 1
-12: get a[j] = r[j]
-13: next j n goto 12
-14: get b[j] = r[j]
-15: next j n goto 14
-16: if all n: seq(a[@]) = seq(b[@]) goto 21
-17: each n: moved[@] = moved[@] + 1 where seq(a[@]) != seq(b[@])
-18: first j n: moved[@] = 2 goto 23
-19: goto 12
-21: view s = data(b)
-22: return s
-23: view s = view(b[j])
-24: return s
-30: call 10
-31: let c = c + 1
-32: put r[me] = (arg, c, s)
-33: finish
-";
-
-/// The bounded snapshot of single-writer registers.
-const BOUNDED: &[u8] = b"kind bit
-scalar j x t
-row moved g f
-words a b
-view s
-scan 10
-update 40
-10: each n: moved[@] = 0
-11: let j = 1
-12: get a[j] = r[j]
-13: let g[j] = hand(a[j],me)
-14: put q[me,j] = g[j]
-15: next j n goto 12
-16: get a[j] = r[j]
-17: next j n goto 16
-18: get b[j] = r[j]
-19: next j n goto 18
-20: if all n: hand(a[@],me) = g[@] and hand(b[@],me) = g[@] and toggle(a[@]) = toggle(b[@]) goto 25
-21: each n: moved[@] = moved[@] + 1 where hand(a[@],me) != g[@] or hand(b[@],me) != g[@] or toggle(a[@]) != toggle(b[@])
-22: first j n: moved[@] = 2 goto 27
-23: goto 12
-25: view s = data(b)
-26: return s
-27: view s = view(b[j])
-28: return s
-40: let j = 1
-41: bit x = q[j,me]
-42: let f[j] = not x
-43: next j n goto 41
-44: call 10
-45: let t = not t
-46: put r[me] = (arg, f, t, s)
-47: finish
-";
-
-/// The bounded snapshot of multi-writer registers.
-const MULTI_WRITER: &[u8] = b"kind multi
-scalar j k x
-row moved g h d tog
-words a b
-view s
-scan 10
-update 50
-10: each n: moved[@] = 0
-11: let j = 1
-12: let k = 1
-13: bit x = p[j,me]
-14: let g[j] = x
-15: put q[me,j] = x
-16: next j n goto 13
-17: get a[k] = r[k]
-18: next k w goto 17
-19: get b[k] = r[k]
-20: next k w goto 19
-21: bit x = p[j,me]
-22: let h[j] = x
-23: next j n goto 21
-24: each n: d[@] = 0
-25: each n: d[@] = 1 where h[@] != g[@]
-26: if id(a[k]) = id(b[k]) and toggle(a[k]) = toggle(b[k]) goto 29
-27: let x = id(b[k])
-28: let d[x] = 1
-29: next k w goto 26
-30: if all n: d[@] = 0 goto 34
-31: each n: moved[@] = moved[@] + 1 where d[@] = 1
-32: first j n: moved[@] = 3 goto 36
-33: goto 13
-34: view s = data(b)
-35: return s
-36: look s = v[j]
-37: return s
-50: let j = 1
-51: bit x = q[j,me]
-52: put p[me,j] = not x
-53: next j n goto 51
-54: call 10
-55: put v[me] = s
-56: let tog[word] = not tog[word]
-57: put r[word] = (arg, me, tog[word])
-58: finish
 ";
 
 /// A listing with spaces, comments and empty lines of its own.
@@ -539,28 +429,28 @@ fn copies(rt: HostRuntime) -> Result<(), Fail> {
 
 #[test]
 fn reads_a_listing_of_kind_seq(rt: HostRuntime) -> Result<(), Fail> {
-    let listing = read(rt.alloc(), UNBOUNDED)?;
+    let listing = read(rt.alloc(), text_u())?;
     assert!(rt; is_of(&listing, KindTag::Seq, 18) && has_seq_lines(&listing));
     Ok(())
 }
 
 #[test]
 fn reads_a_listing_of_kind_bit(rt: HostRuntime) -> Result<(), Fail> {
-    let listing = read(rt.alloc(), BOUNDED)?;
+    let listing = read(rt.alloc(), text_b())?;
     assert!(rt; is_of(&listing, KindTag::Bits, 26) && has_bit_lines(&listing));
     Ok(())
 }
 
 #[test]
 fn reads_a_listing_of_kind_multi(rt: HostRuntime) -> Result<(), Fail> {
-    let listing = read(rt.alloc(), MULTI_WRITER)?;
+    let listing = read(rt.alloc(), text_m())?;
     assert!(rt; is_of(&listing, KindTag::Multi, 37) && has_multi_lines(&listing));
     Ok(())
 }
 
 #[test]
 fn prints_what_it_read(rt: HostRuntime) -> Result<(), Fail> {
-    for text in [UNBOUNDED, BOUNDED, MULTI_WRITER] {
+    for text in [text_u(), text_b(), text_m()] {
         assert!(rt; prints(rt.alloc(), text, text)?);
     }
     Ok(())

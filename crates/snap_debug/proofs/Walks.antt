@@ -1,18 +1,15 @@
 -- Walks along a run, and the stops that they find.
-use Rattle.std.proofs.Common.{◌≡◌, ℕ, zero, suc, ◌+◌, ◌-◌, ◌<◌, ◌≤◌, Bool, true, false, not, ◌&&◌, ◌||◌, List, [], ◌∷◌, length, Option, Some, None, nat_eq, if◌then◌else◌, refl, sym, ap, subst, ◌∙◌, arith}
-use Rattle.std.specs.Prelude.{bytes_eq}
+use Rattle.std.proofs.Common.{◌≡◌, ℕ, zero, suc, ◌+◌, ◌-◌, ◌<◌, ◌≤◌, Bool, true, false, not, ◌||◌, List, [], ◌∷◌, length, Option, Some, if◌then◌else◌, refl, sym, ap, subst, ◌∙◌, arith}
 use Rattle.std.specs.List.{list_any}
-use Rattle.std.proofs.lemmas.Bool.{eq-eqb, eqb-true}
-use Rattle.std.proofs.lemmas.Slice.Eq.{bytes_eq-Decides}
-use Rattle.snap_words.specs.Word.{Word}
 use Rattle.snap_words.specs.declared.address.Address.{Address}
-use Rattle.snap_semantics.specs.Readers.{Contents, WordContents, BitContents, ViewContents}
+use Rattle.snap_semantics.specs.Readers.{Contents}
 use Rattle.snap_semantics.specs.State.{State, process_at}
 use Rattle.snap_semantics.specs.Table.{who}
 use Rattle.snap_machine.specs.Configuration.{Configuration}
 use Rattle.snap_runs.specs.Run.{Run, state, item}
-use Rattle.snap_debug.specs.Marks.{Marks, mark_count, reaches, changes, contents_at, is_stop, next_stop, last_stop, same_contents, same_word}
+use Rattle.snap_debug.specs.Marks.{Marks, mark_count, reaches, changes, contents_at, is_stop, next_stop, last_stop, same_contents}
 use Rattle.snap_debug.specs.Stops.{differs, or_before, stands_at, stops_between}
+use Rattle.snap_debug.proofs.Contents.{contents_are, contents_same}
 use Rattle.snap_debug_checkpoints.specs.Recording.{IsCheckpoint}
 use Rattle.snap_debug_checkpoints.specs.declared.checkpoint.Checkpoint.{Checkpoint}
 use Rattle.snap_debug_commands.specs.declared.command.Breakpoint.{Breakpoint}
@@ -110,65 +107,6 @@ last_more r m u before last found stop so_far is now =
     by_stop : (b : Bool) → (if b then u else last_stop r m u) ≡ or_before (if b then Some u else last) before
     by_stop true = refl
     by_stop false = so_far
-
--- both hold
-both : (a b : Bool) → (a && b) ≡ true → (a ≡ true) × (b ≡ true)
-both true b h = (refl, h)
-both false b h = absurd cc
-
--- words of the same fields are one
-word_is : (x y : Word) → same_word x y ≡ true → x ≡ y
-word_is x y h =
-    let a = both (nat_eq x.datum y.datum) _ h in
-    let b = both (nat_eq x.seq y.seq) _ a.1 in
-    let c = both (nat_eq x.id y.id) _ b.1 in
-    let d = both (nat_eq x.toggle y.toggle) _ c.1 in
-    let e = both (bytes_eq x.handshakes y.handshakes) _ d.1 in
-    let datum = eqb-true x.datum y.datum a.0 in
-    let seq = eqb-true x.seq y.seq b.0 in
-    let id = eqb-true x.id y.id c.0 in
-    let toggle = eqb-true x.toggle y.toggle d.0 in
-    let handshakes = (bytes_eq-Decides x.handshakes y.handshakes).0 e.0 in
-    let view = (bytes_eq-Decides x.view y.view).0 e.1 in
-    ap (λ k. let w : Word = record { datum = k; seq = x.seq; id = x.id; toggle = x.toggle; handshakes = x.handshakes; view = x.view } in w) datum
-    ∙ ap (λ k. let w : Word = record { datum = y.datum; seq = k; id = x.id; toggle = x.toggle; handshakes = x.handshakes; view = x.view } in w) seq
-    ∙ ap (λ k. let w : Word = record { datum = y.datum; seq = y.seq; id = k; toggle = x.toggle; handshakes = x.handshakes; view = x.view } in w) id
-    ∙ ap (λ k. let w : Word = record { datum = y.datum; seq = y.seq; id = y.id; toggle = k; handshakes = x.handshakes; view = x.view } in w) toggle
-    ∙ ap (λ k. let w : Word = record { datum = y.datum; seq = y.seq; id = y.id; toggle = y.toggle; handshakes = k; view = x.view } in w) handshakes
-    ∙ ap (λ k. let w : Word = record { datum = y.datum; seq = y.seq; id = y.id; toggle = y.toggle; handshakes = y.handshakes; view = k } in w) view
-
--- so are contents
-contents_are : (x y : Option Contents) → same_contents x y ≡ true → x ≡ y
-contents_are (Some (WordContents x)) (Some (WordContents y)) h = ap (λ (w : Word). Some (WordContents w)) (word_is x y h)
-contents_are (Some (BitContents x)) (Some (BitContents y)) h = ap (λ k. Some (BitContents k)) (eqb-true x y h)
-contents_are (Some (ViewContents x)) (Some (ViewContents y)) h = ap (λ v. Some (ViewContents v)) ((bytes_eq-Decides x y).0 h)
-contents_are (Some (WordContents x)) (Some (BitContents y)) h = absurd cc
-contents_are (Some (WordContents x)) (Some (ViewContents y)) h = absurd cc
-contents_are (Some (BitContents x)) (Some (WordContents y)) h = absurd cc
-contents_are (Some (BitContents x)) (Some (ViewContents y)) h = absurd cc
-contents_are (Some (ViewContents x)) (Some (WordContents y)) h = absurd cc
-contents_are (Some (ViewContents x)) (Some (BitContents y)) h = absurd cc
-contents_are (Some (WordContents x)) None h = absurd cc
-contents_are (Some (BitContents x)) None h = absurd cc
-contents_are (Some (ViewContents x)) None h = absurd cc
-contents_are None (Some (WordContents y)) h = absurd cc
-contents_are None (Some (BitContents y)) h = absurd cc
-contents_are None (Some (ViewContents y)) h = absurd cc
-contents_are None None h = refl
-
--- and each has the fields of itself
-bytes_same : (xs : List ℕ) → bytes_eq xs xs ≡ true
-bytes_same xs = (bytes_eq-Decides xs xs).1 refl
-
-all_six : (a b c d e f : Bool) → a ≡ true → b ≡ true → c ≡ true → d ≡ true → e ≡ true → f ≡ true → (a && (b && (c && (d && (e && f))))) ≡ true
-all_six a b c d e f g h i j k l = cc
-
-contents_same : (x : Option Contents) → same_contents x x ≡ true
-contents_same (Some (WordContents x)) =
-    all_six _ _ _ _ _ _ (eq-eqb x.datum x.datum refl) (eq-eqb x.seq x.seq refl) (eq-eqb x.id x.id refl) (eq-eqb x.toggle x.toggle refl) (bytes_same x.handshakes) (bytes_same x.view)
-contents_same (Some (BitContents x)) = eq-eqb x x refl
-contents_same (Some (ViewContents x)) = bytes_same x
-contents_same None = refl
 
 -- a state has the contents of itself
 pub none_differs : (S : State) (ws : List Address) → list_any (differs S S) ws ≡ false

@@ -15,7 +15,7 @@ use Rattle.snap_debug_commands.specs.declared.command.Breakpoint.{Breakpoint}
 use Rattle.snap_debug_laws.specs.IsStop.{Changes, IsBusyAt, IsFirstStop, IsLastStop, IsStop, Reaches, ReverseRunGoesToTheLastStop, RunGoesToTheFirstStop}
 use Rattle.snap_debug.specs.Marks.{Marks, changes, contents_at, is_stop, last_stop, next_stop, reaches, same_contents}
 use Rattle.snap_debug.specs.Session.{total}
-use Rattle.snap_debug_laws.proofs.Contents.{both, contents_are, contents_same}
+use Rattle.snap_debug.proofs.Contents.{both, contents_are, contents_same}
 
 -- an element that satisfies one thing satisfies another
 any_so : {X : Type 0} (P Q : X → Type 0) (xs : List X) → ((x : X) → P x → Q x) → Any P xs → Any Q xs

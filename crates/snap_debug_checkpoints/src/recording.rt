@@ -24,12 +24,23 @@ const FAR: u64 = 256;
 
 /// The record of a schedule's first items, as many as were asked for yet, with checkpoints: copies
 /// of the machine at the beginning and at even distances from it. No item is recorded twice.
-#[derive(Drop)]
 pub struct Recording<K: Kind> {
     schedule: Schedule,
     history: Record<K>,
     first: Checkpoint<K>,
     later: Vec<Checkpoint<K>>,
+}
+
+impl<K: Kind> Drop for Recording<K> {
+    // Written out, so that it is proved here and not once more wherever one is dropped.
+    fn drop(self) {
+        let Recording {
+            schedule: _,
+            history: _,
+            first: _,
+            later: _,
+        } = self;
+    }
 }
 
 impl<K: Kind> Model for Recording<K> {

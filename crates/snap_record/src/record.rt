@@ -35,7 +35,6 @@ use std::marker::Model;
 pub const MAX_ITEMS: usize = 1_000_000;
 
 /// A machine with the items that it has done, seen as their run.
-#[derive(Drop)]
 pub struct Record<K: Kind> {
     alloc: Global,
     machine: Machine<K>,
@@ -50,6 +49,23 @@ pub struct Record<K: Kind> {
     at_events: Vec<u64>,
     /// What the lines are, by their numbers.
     roles: Vec<LineRole>,
+}
+
+impl<K: Kind> Drop for Record<K> {
+    // Written out, so that it is proved here and not once more wherever one is dropped.
+    fn drop(self) {
+        let Record {
+            alloc: _,
+            machine: _,
+            items: _,
+            values: _,
+            changes: _,
+            events: _,
+            collects: _,
+            at_events: _,
+            roles: _,
+        } = self;
+    }
 }
 
 impl<K: Kind> Model for Record<K> {

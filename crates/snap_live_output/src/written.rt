@@ -1,11 +1,12 @@
 //! A record as text: its items as a schedule, and the report of its end.
 ghost use Rattle.std.specs.Prelude.{◌≡◌, ◌+◌, ◌<◌, ◌≤◌, ◌^◌, ◌++◌, [], ◌∷◌, IfOk, OnOk, length, take};
+ghost use Rattle.snap_report.specs.RunReport.{report_at};
 ghost use Rattle.snap_live_output.specs.LiveOutput.{history_text};
 
 use snap_record::{History, Record};
+use snap_report::report;
 use snap_sched::{Items, Schedule, print};
 use snap_semantics::Item;
-use snap_text::push_text;
 use snap_words::Kind;
 use std::alloc::{AllocError, Global};
 
@@ -59,13 +60,21 @@ fn schedule_of<K: Kind>(alloc: Global, record: &Record<K>) -> Result<Schedule, A
     Ok(Schedule::new(shape, items))
 }
 
+/// The report of the position after all items of a record.
+fn push_report<K: Kind>(out: &mut Vec<u8>, record: &Record<K>) -> Result<(), AllocError>
+    ensures { OnOk result (out.new.items ≡ out.old.items
+        ++ report_at record.now (length record.now.items)) }
+{
+    let position = record.items().len() as u64;
+    report(out, record.machine(), record.events(), position, position)
+}
+
 /// A record as the text of a schedule, and the report of its end.
 pub fn history_text<K: Kind>(alloc: Global, record: &Record<K>) -> Result<Vec<u8>, AllocError>
     ensures { IfOk result (λ out. out.items ≡ history_text record.now) }
 {
     let schedule = schedule_of(alloc, record)?;
     let mut out = print(alloc, &schedule)?;
-    let report = record.report()?;
-    push_text(&mut out, report.as_slice())?;
+    push_report(&mut out, record)?;
     Ok(out)
 }

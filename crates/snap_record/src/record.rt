@@ -8,7 +8,6 @@ ghost use Rattle.snap_semantics.specs.declared.process.Item.TheVariants.{Step};
 ghost use Rattle.snap_runs.specs.StepRoles.{Nothing, step_role_of};
 ghost use Rattle.snap_runs.specs.Run.{outcome, state, IsValidRun, events_of};
 ghost use Rattle.snap_record.specs.Record.{collects_of, with_item, with_items, values_after};
-ghost use Rattle.snap_report.specs.RunReport.{report_at};
 ghost use Rattle.snap_record.specs.Searches.{scan_collects};
 ghost use Rattle.snap_semantics.specs.declared.event.Event.{Event};
 ghost use Rattle.snap_record.specs.History.{LeadsAlong, collects_at};
@@ -24,7 +23,6 @@ use crate::step_role::{StepRole, is_plain_step, step_role_of};
 use crate::walk::advance;
 use snap_asm_program::Program;
 use snap_machine::Machine;
-use snap_report::{Report, report};
 use snap_sched::Items;
 use snap_semantics::{Event, Item, Outcome, who};
 use snap_words::{Kind, Shape, View};
@@ -266,22 +264,6 @@ impl<K: Kind> Record<K> {
         let mut values = Row::zeros(self.alloc, self.machine.shape().w())?;
         let _next = advance(&mut values, self.changes.as_slice(), 0, t);
         Ok(Some(values.into_view()))
-    }
-
-    /// The report of the position after all items.
-    pub fn report(&self) -> Result<Report, AllocError>
-        ensures { IfOk result (λ t. t ≡ report_at self.now (length self.now.items)) }
-    {
-        let mut text = Vec::new(self.alloc);
-        let position = self.items.len() as u64;
-        report(
-            &mut text,
-            &self.machine,
-            self.events.as_slice(),
-            position,
-            position,
-        )?;
-        Ok(Report::of(text))
     }
 
     /// How many double collects the scan takes that the event at a place calls, where it calls one.

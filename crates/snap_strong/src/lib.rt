@@ -1,8 +1,10 @@
 //! Strong linearizability, and that listing U has it not.
 #![tactic(auto)]
 
-ghost use Rattle.snap_strong.specs.StrongLinearization.{LinearizationsAreCompleted, StrongIsLinearizable};
-ghost use Rattle.snap_strong.specs.Futures.{HasTwoFutures, NoneServesBoth, UIsNotStronglyLinearizable};
+ghost use Rattle.snap_strong.specs.StrongLinearization.{LinearizationsAreCompleted};
+ghost use Rattle.snap_strong.specs.StrongLinearization.{StrongIsLinearizable};
+ghost use Rattle.snap_strong.specs.Futures.{HasTwoFutures, NoneServesBoth};
+ghost use Rattle.snap_strong.specs.Futures.{UIsNotStronglyLinearizable};
 ghost use Rattle.snap_strong.specs.OneWord.{OneWordIsStronglyLinearizable};
 
 /// Every linearization is one in which scans that have not ended may stand too.

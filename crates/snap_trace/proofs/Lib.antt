@@ -5,4 +5,5 @@ pub mod Feeds
 pub mod Kept
 pub mod Parts
 pub mod Items
+pub mod Walks
 pub mod Sums

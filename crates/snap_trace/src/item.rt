@@ -7,7 +7,7 @@ ghost use Rattle.snap_trace.specs.Between.{owned, process_text};
 ghost use Rattle.snap_trace.specs.Step.{done_text, head_text, line_run, run_text};
 
 use snap_changes::{push_changes, push_owned_lines};
-use snap_line_texts::LineTexts;
+use snap_listing_lines::LineTexts;
 use snap_machine::Machine;
 use snap_report::{event_lines, outcome_text, process_lines, register_lines, values_line};
 use snap_semantics::{Event, Happening, Item, Outcome, Status, who};

@@ -3,7 +3,7 @@
 
 mod item;
 mod laws;
-mod trace;
+mod run_trace;
 
 pub use laws::the_report_is_the_sum_of_the_trace;
-pub use trace::trace;
+pub use run_trace::trace;

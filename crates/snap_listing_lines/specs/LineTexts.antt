@@ -5,7 +5,7 @@ use Rattle.snap_semantics.specs.Layout.{line_to}
 use Rattle.snap_semantics.specs.Source.{Source}
 use Rattle.snap_semantics.specs.Spelling.{spelled_line}
 use Rattle.snap_semantics.specs.Token.{TextLine, Token}
-use Rattle.snap_line_texts.specs.declared.line_texts.LineText.{LineText}
+use Rattle.snap_listing_lines.specs.declared.line_texts.LineText.{LineText}
 
 -- a line's text, with its number
 pub record NumberedText : Type 0 where

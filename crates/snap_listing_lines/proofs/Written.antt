@@ -12,7 +12,7 @@ use Rattle.snap_semantics.specs.Spelling.{spelled_line}
 use Rattle.snap_semantics.specs.Token.{TextLine, Token, text_lines}
 use Rattle.snap_text.specs.Lines.{found_lines, line_tokens}
 use Rattle.snap_listing_grammar.proofs.Printed.{printed_spells}
-use Rattle.snap_line_texts.specs.LineTexts.{NumberedText, behind, first_tokens, texts_from, tokens_in, written}
+use Rattle.snap_listing_lines.specs.LineTexts.{NumberedText, behind, first_tokens, texts_from, tokens_in, written}
 
 no_comments_good : (lines : List Line) → AllByRecursion IsComment (map no_comment lines)
 no_comments_good [] = tt

@@ -3,8 +3,8 @@ ghost use Rattle.std.specs.Prelude.{◌≡◌, [], ◌++◌, IfOk, OnOk};
 ghost use Rattle.snap_words.specs.Shape.{IsOneOf};
 ghost use Rattle.snap_semantics.specs.Run.{event_of};
 ghost use Rattle.snap_semantics.specs.Table.{done, who};
-ghost use Rattle.snap_trace.specs.Between.{owned, process_text};
-ghost use Rattle.snap_trace.specs.Step.{done_text, head_text, line_run, run_text};
+ghost use Rattle.snap_run_trace.specs.Between.{owned, process_text};
+ghost use Rattle.snap_run_trace.specs.Step.{done_text, head_text, line_run, run_text};
 
 use snap_changes::{push_changes, push_owned_lines};
 use snap_listing_lines::LineTexts;

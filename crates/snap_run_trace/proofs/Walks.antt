@@ -12,9 +12,9 @@ use Rattle.snap_runs.specs.Run.{Run, item, state}
 use Rattle.snap_runs.proofs.Embedding.{next_state}
 use Rattle.snap_listing_lines.specs.LineTexts.{NumberedText, written}
 use Rattle.snap_machine.specs.Configuration.{Configuration}
-use Rattle.snap_trace.specs.Step.{done_text}
-use Rattle.snap_trace.specs.Trace.{item_text, trace_text, trace_to}
-use Rattle.snap_trace.proofs.Items.{processes_kept, said}
+use Rattle.snap_run_trace.specs.Step.{done_text}
+use Rattle.snap_run_trace.specs.Trace.{item_text, trace_text, trace_to}
+use Rattle.snap_run_trace.proofs.Items.{processes_kept, said}
 
 -- the first so many items are done and told, and the others are left
 pub record Going (r : Run) (texts : List NumberedText) (m : Configuration) (number : ℕ) (out : List ℕ) (left : List Item) : Type 0 where

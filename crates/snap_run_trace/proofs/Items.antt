@@ -18,13 +18,13 @@ use Rattle.snap_changes.specs.Changes.{behind_first, changes_text, text_between}
 use Rattle.snap_changes.specs.Owned.{owned_text}
 use Rattle.snap_listing_lines.specs.LineTexts.{written}
 use Rattle.snap_report.specs.RunReport.{report_at}
-use Rattle.snap_trace.specs.Between.{between, process_text, state_text}
-use Rattle.snap_trace.specs.Step.{did_line, done_text}
-use Rattle.snap_trace.specs.Trace.{item_changes, item_line, item_text, report_lines}
-use Rattle.snap_trace.proofs.Feeds.{decimal_plain}
-use Rattle.snap_trace.proofs.Kept.{IsMove, moves}
-use Rattle.snap_trace.proofs.Parts.{narrowed}
-use Rattle.snap_trace.proofs.Wholes.{IsWhole, before, feeds, feeds_append, new_line}
+use Rattle.snap_run_trace.specs.Between.{between, process_text, state_text}
+use Rattle.snap_run_trace.specs.Step.{did_line, done_text}
+use Rattle.snap_run_trace.specs.Trace.{item_changes, item_line, item_text, report_lines}
+use Rattle.snap_run_trace.proofs.Feeds.{decimal_plain}
+use Rattle.snap_run_trace.proofs.Kept.{IsMove, moves}
+use Rattle.snap_run_trace.proofs.Parts.{narrowed}
+use Rattle.snap_run_trace.proofs.Wholes.{IsWhole, before, feeds, feeds_append, new_line}
 
 -- the first line of a report, and those behind it
 abbrev head : ℕ → ℕ → List ℕ

@@ -6,7 +6,7 @@ use Rattle.snap_changes.specs.Changes.{Change, behind_first, changes_between, ch
 use Rattle.snap_changes.specs.Owned.{owned_text}
 use Rattle.snap_listing_lines.specs.LineTexts.{written}
 use Rattle.snap_report.specs.RunReport.{report_at}
-use Rattle.snap_trace.specs.Step.{did_line}
+use Rattle.snap_run_trace.specs.Step.{did_line}
 
 -- The lines of the report after t items but its first one, each of which says of whom it speaks: the values, the registers,
 -- the processes with their locals, and the events.

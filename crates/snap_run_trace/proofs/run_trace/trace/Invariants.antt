@@ -1,6 +1,6 @@
 use Rattle.snap_runs.specs.Run.{run_over}
-use Rattle.snap_trace.proofs.Walks.{Going}
-use Rattle.snap_trace.proofs.run_trace.trace.Given as goal
+use Rattle.snap_run_trace.proofs.Walks.{Going}
+use Rattle.snap_run_trace.proofs.run_trace.trace.Given as goal
 
 -- the first items are done and told, and the others are left
 abbrev pub invariant-loop-item : goal.invariant-loop-item

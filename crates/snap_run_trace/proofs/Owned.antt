@@ -4,7 +4,7 @@ use Rattle.std.specs.Prelude.{◌==◌}
 use Rattle.std.specs.List.{AllByRecursion}
 use Rattle.snap_semantics.specs.Token.{lines_of, onto_line}
 use Rattle.snap_changes.specs.Owned.{next_owner, owned_line, owned_text, two_words, word_len}
-use Rattle.snap_trace.proofs.Wholes.{IsWhole, before, feeds, feeds_append, joined, new_line, no_text}
+use Rattle.snap_run_trace.proofs.Wholes.{IsWhole, before, feeds, feeds_append, joined, new_line, no_text}
 
 -- a line has no line feed
 abbrev pub IsPlain : List ℕ → Type 0

@@ -11,13 +11,13 @@ use Rattle.snap_semantics.specs.State.{Locals, Memory, NameMap, Process, State, 
 use Rattle.snap_semantics.specs.Token.{lines_of, onto_line}
 use Rattle.snap_changes.specs.Changes.{text_between}
 use Rattle.snap_changes.specs.Owned.{owned_text}
-use Rattle.snap_trace.specs.Between.{between, owned, process_text, state_text}
-use Rattle.snap_trace.proofs.Wholes.{IsWhole, before, feeds, joined, new_line, no_text}
-use Rattle.snap_trace.proofs.Changes as changes
-use Rattle.snap_trace.proofs.Feeds.{values_feeds}
-use Rattle.snap_trace.proofs.Owned.{SpeaksFirst, behind_lines, lines_plain, owned_feeds, owned_whole}
-use Rattle.snap_trace.proofs.Kept.{IsMove}
-use Rattle.snap_trace.proofs.Wholes as wholes
+use Rattle.snap_run_trace.specs.Between.{between, owned, process_text, state_text}
+use Rattle.snap_run_trace.proofs.Wholes.{IsWhole, before, feeds, joined, new_line, no_text}
+use Rattle.snap_run_trace.proofs.Changes as changes
+use Rattle.snap_run_trace.proofs.Feeds.{values_feeds}
+use Rattle.snap_run_trace.proofs.Owned.{SpeaksFirst, behind_lines, lines_plain, owned_feeds, owned_whole}
+use Rattle.snap_run_trace.proofs.Kept.{IsMove}
+use Rattle.snap_run_trace.proofs.Wholes as wholes
 
 pub record IsPart (t : List ℕ) : Type 0 where
   pub whole : IsWhole t

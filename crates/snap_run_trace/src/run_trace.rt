@@ -1,7 +1,7 @@
 //! A whole run, item by item.
 ghost use Rattle.std.specs.Prelude.{◌≡◌, IfOk};
 ghost use Rattle.snap_runs.specs.Run.{run_over};
-ghost use Rattle.snap_trace.specs.Trace.{trace_text};
+ghost use Rattle.snap_run_trace.specs.Trace.{trace_text};
 
 use crate::item::push_item;
 use snap_asm_program::Program;

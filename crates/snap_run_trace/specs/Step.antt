@@ -12,7 +12,7 @@ use Rattle.snap_semantics.specs.State.{State, process_at}
 use Rattle.snap_semantics.specs.Table.{done, who}
 use Rattle.snap_listing_lines.specs.LineTexts.{NumberedText, text_with}
 use Rattle.snap_report.specs.OutcomeText.{outcome_text}
-use Rattle.snap_trace.specs.Between.{between, process_text}
+use Rattle.snap_run_trace.specs.Between.{between, process_text}
 
 -- the line that an item runs: where its process steps, that at which it is
 abbrev pub line_run : Item → Status → Option ℕ

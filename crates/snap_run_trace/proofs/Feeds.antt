@@ -16,7 +16,7 @@ use Rattle.snap_semantics.specs.declared.process.Status.TheVariants.{Idle, Busy,
 use Rattle.snap_semantics.specs.Report.{bank_lines, bit_line, cause_text, head_line, link_text, list_local, locals_lines, locals_text, number_local, numbers_text, op_text, register_lines, row_lines, status_text, stop_text, values_line, view_line, view_lines, word_line, word_lines, word_local, word_text, words_local}
 use Rattle.snap_semantics.specs.Source.{Name}
 use Rattle.snap_semantics.specs.State.{Locals, Memory, NameMap, value_at, with_value}
-use Rattle.snap_trace.proofs.Wholes.{feeds, feeds_append}
+use Rattle.snap_run_trace.proofs.Wholes.{feeds, feeds_append}
 
 glyph_plain : (d : ℕ) → nat_eq (digit_glyph false d) 10 ≡ false
 glyph_plain d = by_case (nat_lt d 10)

@@ -24,8 +24,8 @@ use Rattle.snap_semantics.specs.declared.process.Op.TheVariants as op
 use Rattle.snap_semantics.specs.declared.process.Reason.{Reason}
 use Rattle.snap_semantics.specs.declared.process.Status.{Status}
 use Rattle.snap_semantics.specs.declared.process.Status.TheVariants.{Idle, Busy, Trapped, Crashed}
-use Rattle.snap_trace.proofs.Wholes.{feeds, feeds_append}
-use Rattle.snap_trace.proofs.Feeds.{head_feeds, list_set, locals_apart, number_set, registers_apart, row_set, view_set, word_set, words_set}
+use Rattle.snap_run_trace.proofs.Wholes.{feeds, feeds_append}
+use Rattle.snap_run_trace.proofs.Feeds.{head_feeds, list_set, locals_apart, number_set, registers_apart, row_set, view_set, word_set, words_set}
 
 module _ (g : KindTag) (m0 : Memory) (l0 : Locals) where
   -- registers and locals with as many lines

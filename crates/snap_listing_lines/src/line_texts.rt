@@ -1,5 +1,5 @@
 //! The lines of a listing as text, by their numbers.
-ghost use Rattle.std.specs.Prelude.{◌≡◌, IfOk, OnOk, drop, map, option_map};
+ghost use Rattle.std.specs.Prelude.{◌≡◌, [], IfOk, OnOk, drop, map, option_map};
 ghost use Rattle.snap_semantics.specs.CanonicalText.{canonical_text};
 ghost use Rattle.snap_semantics.specs.Comments.{no_comment, uncommented};
 ghost use Rattle.snap_semantics.specs.Layout.{line_to};
@@ -10,7 +10,7 @@ ghost use Rattle.snap_listing_lines.specs.LineTexts.{behind, first_tokens, seen_
 use snap_listing_core::{CommentedListing, Listing};
 use snap_listing_printer::print;
 use snap_semantics::Line;
-use snap_text::{TextLines, TokenLine, push_tokens};
+use snap_text::{TextLines, push_tokens};
 use std::alloc::{AllocError, Global};
 use std::marker::Model;
 
@@ -51,6 +51,7 @@ fn no_comments(alloc: Global, lines: &[Line]) -> Result<Vec<Option<Vec<u8>>>, Al
 }
 
 /// The canonical text of a listing without comments.
+#[tactic(auto, using(crate::proofs::Written::commented_is))]
 fn canonical_text(alloc: Global, listing: &Listing) -> Result<Vec<u8>, AllocError>
     ensures { IfOk result (λ text. text.items ≡ canonical_text (uncommented listing.now)) }
 {
@@ -75,10 +76,11 @@ fn next_text(alloc: Global, lines: &mut TextLines<'_>) -> Result<Vec<u8>, AllocE
 }
 
 /// Passes over the lines before the numbered ones.
+#[tactic(auto, using(crate::proofs::Written::passed))]
 fn pass_header(alloc: Global, lines: &mut TextLines<'_>) -> Result<(), AllocError>
     ensures { OnOk result (lines.new ≡ drop 7 lines.old) }
 {
-    for _ in 0..HEADER_LINES {
+    for _line in 0..HEADER_LINES {
         next_text(alloc, lines)?;
     }
     Ok(())
@@ -105,6 +107,7 @@ fn numbered_texts(
 
 impl LineTexts {
     /// The lines of a listing.
+    #[tactic(auto, using(crate::proofs::Written::lines_written))]
     pub fn of(alloc: Global, listing: &Listing) -> Result<LineTexts, AllocError>
         ensures { IfOk result (λ texts. texts ≡ map written listing.now.lines) }
     {
@@ -119,14 +122,20 @@ impl LineTexts {
     pub fn with_number(&self, number: u64) -> Option<&[u8]>
         ensures { option_map (λ text. text.now) result ≡ text_with self.now number }
     {
-        let lines = self.lines.as_slice();
-        let mut k = 0;
-        while k < lines.len() {
-            if lines[k].number == number {
-                return Some(lines[k].text.as_slice());
-            }
-            k += 1;
-        }
-        None
+        find_text(self.lines.as_slice(), number)
     }
+}
+
+/// The text of the line with this number.
+fn find_text(lines: &[LineText], number: u64) -> Option<&[u8]>
+    ensures { option_map (λ text. text.now) result ≡ text_with (map seen_line lines.now) number }
+{
+    let mut k = 0;
+    while k < lines.len() {
+        if lines[k].number == number {
+            return Some(lines[k].text.as_slice());
+        }
+        k += 1;
+    }
+    None
 }

@@ -2,7 +2,7 @@
 use Rattle.std.proofs.Common.{◌≡◌, ℕ, ◌+◌, Bool, true, false, List, [], ◌∷◌, ◌++◌, length, codes, if◌then◌else◌, refl, sym, ap, ◌∙◌, append_assoc, arith}
 use Rattle.std.proofs.lemmas.Slice.Eq.{bytes_eq-Decides}
 use Rattle.std.specs.Prelude.{bytes_eq}
-use Rattle.snap_changes.specs.Changes.{Change, changes_between, line_with, put_all, replaced_text, text_between}
+use Rattle.snap_changes.specs.Changes.{Change, line_with, put_all, replaced_text, text_between}
 use Rattle.snap_changes.proofs.Printing.{one_replaced}
 
 -- behind as many lines on both sides

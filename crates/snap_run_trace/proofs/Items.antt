@@ -1,12 +1,11 @@
 -- What is said of an item of a run.
-use Rattle.std.proofs.Common.{◌≡◌, ℕ, zero, suc, ◌+◌, ◌-◌, ◌<◌, ◌≤◌, List, [], ◌∷◌, ◌++◌, length, map, take, codes, decimal, refl, sym, ap, ◌∙◌, append_assoc, append-nil, slice_index_or, slice_set, replicate, arith, length-set}
+use Rattle.std.proofs.Common.{◌≡◌, ℕ, suc, ◌+◌, ◌-◌, ◌<◌, List, [], ◌∷◌, ◌++◌, length, map, take, codes, decimal, refl, sym, ap, ◌∙◌, append_assoc, append-nil, arith, length-set}
 use Rattle.std.proofs.lemmas.List.{length-take-le}
 use Rattle.std.proofs.Math.Seq.{take-suc}
-use Rattle.snap_words.specs.Shape.{Counts, IsOneOf}
-use Rattle.snap_semantics.specs.declared.event.Event.{Event}
+use Rattle.snap_words.specs.Shape.{Counts}
 use Rattle.snap_semantics.specs.declared.process.Item.{Item}
 use Rattle.snap_semantics.specs.declared.process.Item.TheVariants.{Step}
-use Rattle.snap_semantics.specs.Report.{event_lines, processes_lines, register_lines, report_text, values_line}
+use Rattle.snap_semantics.specs.Report.{event_lines, processes_lines, register_lines, values_line}
 use Rattle.snap_semantics.specs.Run.{after, event_of, events}
 use Rattle.snap_semantics.specs.Source.{Source}
 use Rattle.snap_semantics.specs.State.{State, initial, values}
@@ -22,7 +21,7 @@ use Rattle.snap_run_trace.specs.Between.{between, process_text, state_text}
 use Rattle.snap_run_trace.specs.Step.{did_line, done_text}
 use Rattle.snap_run_trace.specs.Trace.{item_changes, item_line, item_text, report_lines}
 use Rattle.snap_run_trace.proofs.Feeds.{decimal_plain}
-use Rattle.snap_run_trace.proofs.Kept.{IsMove, moves}
+use Rattle.snap_run_trace.proofs.Kept.{moves}
 use Rattle.snap_run_trace.proofs.Parts.{narrowed}
 use Rattle.snap_run_trace.proofs.Wholes.{IsWhole, before, feeds, feeds_append, new_line}
 

@@ -1,5 +1,5 @@
 -- An item leaves as many lines of registers and of locals as there were.
-use Rattle.std.proofs.Common.{◌≡◌, ℕ, zero, suc, ◌+◌, ◌-◌, Bool, true, false, List, [], ◌∷◌, ◌++◌, Option, Some, None, Result, Ok, Err, codes, nat_lt, if◌then◌else◌, slice_index_or, slice_set, refl, sym, ap, ◌∙◌, length-set}
+use Rattle.std.proofs.Common.{◌≡◌, ℕ, ◌+◌, ◌-◌, Bool, true, false, List, [], Option, Some, None, Result, Ok, Err, codes, nat_lt, if◌then◌else◌, slice_index_or, slice_set, refl, sym, ap, ◌∙◌, length-set}
 use Rattle.std.proofs.lemmas.List.{set-get_or}
 use Rattle.snap_words.specs.Shape.{Counts, places}
 use Rattle.snap_words.specs.declared.address.Bank.TheVariants as bank

@@ -1,9 +1,9 @@
 -- Lines with their owners, of texts that are put together.
-use Rattle.std.proofs.Common.{◌≡◌, ℕ, zero, suc, ◌+◌, ◌<◌, Bool, true, false, List, [], ◌∷◌, ◌++◌, length, take, nat_eq, codes, if◌then◌else◌, refl, sym, ap, ◌∙◌, append_assoc, arith}
+use Rattle.std.proofs.Common.{◌≡◌, ℕ, zero, suc, ◌+◌, Bool, true, false, List, [], ◌∷◌, ◌++◌, length, take, nat_eq, codes, if◌then◌else◌, refl, sym, ap, ◌∙◌, append_assoc, arith}
 use Rattle.std.specs.Prelude.{◌==◌}
 use Rattle.std.specs.List.{AllByRecursion}
 use Rattle.snap_semantics.specs.Token.{lines_of, onto_line}
-use Rattle.snap_changes.specs.Owned.{next_owner, owned_line, owned_text, two_words, word_len}
+use Rattle.snap_changes.specs.Owned.{next_owner, owned_line, owned_text, two_words}
 use Rattle.snap_run_trace.proofs.Wholes.{IsWhole, before, feeds, feeds_append, joined, new_line, no_text}
 
 -- a line has no line feed

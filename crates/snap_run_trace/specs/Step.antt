@@ -28,10 +28,13 @@ abbrev pub run_text : List NumberedText → Option ℕ → List ℕ
 run_text texts None = []
 run_text texts (Some k) = at_text (text_with texts k)
 
+-- `item T I `
+abbrev pub number_text : ℕ → ℕ → List ℕ
+number_text t i = codes "item " ++ decimal t ++ codes " " ++ decimal i ++ codes " "
+
 -- `item T I OUTCOME`, and the line that was run, where one was
-abbrev pub head_text : List NumberedText → ℕ → ℕ → Outcome → Option ℕ → List ℕ
-head_text texts t i o run =
-    codes "item " ++ decimal t ++ codes " " ++ decimal i ++ codes " " ++ outcome_text o ++ run_text texts run ++ codes "\n"
+unfoldable pub head_text : List NumberedText → ℕ → ℕ → Outcome → Option ℕ → List ℕ
+head_text texts t i o run = number_text t i ++ outcome_text o ++ run_text texts run ++ codes "\n"
 
 -- the line of item t, which came out so in this state
 abbrev pub did_line : List NumberedText → State → ℕ → Item → Outcome → List ℕ

@@ -4,7 +4,7 @@ ghost use Rattle.snap_words.specs.Shape.{IsOneOf};
 ghost use Rattle.snap_semantics.specs.Run.{event_of};
 ghost use Rattle.snap_semantics.specs.Table.{done, who};
 ghost use Rattle.snap_run_trace.specs.Between.{owned, process_text};
-ghost use Rattle.snap_run_trace.specs.Step.{done_text, head_text, line_run, run_text};
+ghost use Rattle.snap_run_trace.specs.Step.{done_text, head_text, line_run, number_text, run_text};
 
 use snap_changes::{push_changes, push_owned_lines};
 use snap_listing_lines::LineTexts;
@@ -89,8 +89,20 @@ fn push_run(out: &mut Vec<u8>, texts: &LineTexts, run: Option<u64>) -> Result<()
     }
 }
 
-/// Adds `item T I OUTCOME`, and the line that was run.
+/// Adds `item T I `.
 #[tactic(auto, using(snap_text::proofs::Texts::joined))]
+fn push_numbers(out: &mut Vec<u8>, number: u64, process: u32) -> Result<(), AllocError>
+    ensures { OnOk result (out.new.items ≡ out.old.items ++ number_text number process) }
+{
+    push_text(out, b"item ")?;
+    push_number(out, number)?;
+    push_text(out, b" ")?;
+    push_number(out, u64::from(process))?;
+    push_text(out, b" ")
+}
+
+/// Adds `item T I OUTCOME`, and the line that was run.
+#[tactic(auto, using(snap_text::proofs::Texts::joined), unfolding(crate::specs::Step::head_text))]
 fn push_did(
     out: &mut Vec<u8>,
     texts: &LineTexts,
@@ -102,11 +114,7 @@ fn push_did(
     ensures { OnOk result (out.new.items ≡ out.old.items ++ head_text texts.now number process
         outcome.now run) }
 {
-    push_text(out, b"item ")?;
-    push_number(out, number)?;
-    push_text(out, b" ")?;
-    push_number(out, u64::from(process))?;
-    push_text(out, b" ")?;
+    push_numbers(out, number, process)?;
     outcome_text(out, outcome)?;
     push_run(out, texts, run)?;
     push_text(out, b"\n")

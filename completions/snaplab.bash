@@ -1,7 +1,7 @@
 # Completion of snaplab for bash: source this file, or put it into a folder of bash-completion under the name snaplab.
 _snaplab() {
     local word=${COMP_WORDS[COMP_CWORD]}
-    local commands="check lint assemble list upgrade run debug audit certify batch survey live help"
+    local commands="check lint assemble list upgrade run trace debug audit certify batch survey live help"
     COMPREPLY=()
     if [ "$COMP_CWORD" -eq 1 ]; then
         mapfile -t COMPREPLY < <(compgen -W "$commands -h --help -V --version" -- "$word")
@@ -12,7 +12,7 @@ _snaplab() {
     else
         local options="-h --help"
         case ${COMP_WORDS[1]} in
-            run | debug | audit | certify | batch | survey) options="--shipped $options" ;;
+            run | trace | debug | audit | certify | batch | survey) options="--shipped $options" ;;
             live) options="--shipped --limit $options" ;;
         esac
         mapfile -t COMPREPLY < <(compgen -W "$options" -- "$word")

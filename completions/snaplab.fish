@@ -1,5 +1,5 @@
 # Completion of snaplab for fish: put this file into ~/.config/fish/completions.
-set -l commands check lint assemble list upgrade run debug audit certify batch survey live help
+set -l commands check lint assemble list upgrade run trace debug audit certify batch survey live help
 complete -c snaplab -f
 complete -c snaplab -s h -l help -d 'print help'
 complete -c snaplab -n "not __fish_seen_subcommand_from $commands" -s V -l version -d 'print the version'
@@ -9,6 +9,7 @@ complete -c snaplab -n "not __fish_seen_subcommand_from $commands" -a assemble -
 complete -c snaplab -n "not __fish_seen_subcommand_from $commands" -a list -d 'write the text of an image'
 complete -c snaplab -n "not __fish_seen_subcommand_from $commands" -a upgrade -d 'write an image in the second version'
 complete -c snaplab -n "not __fish_seen_subcommand_from $commands" -a run -d 'run a listing under a schedule'
+complete -c snaplab -n "not __fish_seen_subcommand_from $commands" -a trace -d 'say what each item of a schedule did, and what it changed'
 complete -c snaplab -n "not __fish_seen_subcommand_from $commands" -a debug -d 'run a listing under a schedule, by debugger commands'
 complete -c snaplab -n "not __fish_seen_subcommand_from $commands" -a audit -d 'say of each finished scan when it took place'
 complete -c snaplab -n "not __fish_seen_subcommand_from $commands" -a certify -d 'say where each operation took place, if each has a linearization point'
@@ -16,5 +17,5 @@ complete -c snaplab -n "not __fish_seen_subcommand_from $commands" -a batch -d '
 complete -c snaplab -n "not __fish_seen_subcommand_from $commands" -a survey -d 'say what the run of each of many schedules came to'
 complete -c snaplab -n "not __fish_seen_subcommand_from $commands" -a live -d 'play scripts, each process in a thread of its own'
 complete -c snaplab -n "not __fish_seen_subcommand_from $commands" -a help -d 'print help'
-complete -c snaplab -n '__fish_seen_subcommand_from run debug audit certify batch survey live' -l shipped -x -a 'seq bit multi' -d 'take the shipped listing of this kind'
+complete -c snaplab -n '__fish_seen_subcommand_from run trace debug audit certify batch survey live' -l shipped -x -a 'seq bit multi' -d 'take the shipped listing of this kind'
 complete -c snaplab -n '__fish_seen_subcommand_from live' -l limit -x -d 'the most turns of a process'

@@ -62,6 +62,11 @@ fn command<'a>(alloc: Global) -> Result<Command<'a>, AllocError> {
         .subcommand(running(alloc, "run", "Runs a listing under a schedule")?)?
         .subcommand(running(
             alloc,
+            "trace",
+            "Says what each item of a schedule did, and what it changed",
+        )?)?
+        .subcommand(running(
+            alloc,
             "debug",
             "Runs a listing under a schedule, by debugger commands",
         )?)?

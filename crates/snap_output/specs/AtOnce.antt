@@ -45,6 +45,7 @@ refused_at_once task.Assemble input = long_text input
 refused_at_once task.List input = option_map refusal.Image (wrong_head input)
 refused_at_once task.Upgrade input = option_map refusal.Image (wrong_head input)
 refused_at_once (task.Run s) input = why (checked_parts s 1 (parts_of input))
+refused_at_once (task.Trace s) input = why (checked_parts s 1 (parts_of input))
 refused_at_once (task.Debug s) input = why (checked_parts s 2 (parts_of input))
 refused_at_once (task.Audit s) input = why (checked_parts s 1 (parts_of input))
 refused_at_once (task.Certify s) input = why (checked_parts s 1 (parts_of input))

@@ -14,6 +14,7 @@ use Rattle.snap_batch.specs.Reports.{reports_text}
 use Rattle.snap_certify_output.specs.Output.{certificates_text}
 use Rattle.snap_lint_text.specs.Lint.{lint_of}
 use Rattle.snap_survey_output.specs.Surveys.{schedules_for, survey_text}
+use Rattle.snap_trace_output.specs.Traces.{traces_text}
 use Rattle.snap_input.specs.Input.{listing_for, parted, texts_for}
 use Rattle.snap_input.specs.Parts.{part, parts_of, max_input}
 use Rattle.snap_perform.specs.Perform.{perform_listing, schedule_for}
@@ -79,6 +80,7 @@ of_task task.Assemble input = refused_as refusal.Listing (assembled input)
 of_task task.List input = refused_as refusal.Image (listed input)
 of_task task.Upgrade input = refused_as refusal.Image (upgraded input)
 of_task (task.Run s) input = parted s 1 (parts_of input) run_text
+of_task (task.Trace s) input = parted s 1 (parts_of input) traces_text
 of_task (task.Debug s) input = parted s 2 (parts_of input) debug_text
 of_task (task.Audit s) input = parted s 1 (parts_of input) verdicts_text
 of_task (task.Certify s) input = parted s 1 (parts_of input) certificates_text

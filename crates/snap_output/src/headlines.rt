@@ -1,5 +1,6 @@
-//! The headline.
+//! The headline, and which tasks refuse the same inputs.
 ghost use Rattle.snap_output.specs.Headline.{Headline};
+ghost use Rattle.snap_output.specs.Refusals.{RefusesTracesAsRuns};
 
 use snap_asm::what_is_assembled_lists_back;
 use snap_promises::shipped_runs_keep_promises;
@@ -16,3 +17,8 @@ pub fn headline()
     reads_only_spelled();
     shipped_runs_keep_promises();
 }
+
+/// A trace is refused exactly where a run is, and for the same reason.
+pub fn traces_are_refused_as_runs()
+    ensures { RefusesTracesAsRuns }
+{}

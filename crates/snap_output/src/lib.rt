@@ -8,7 +8,7 @@ mod check_output;
 mod headlines;
 mod outputs;
 
-pub use headlines::headline;
+pub use headlines::{headline, traces_are_refused_as_runs};
 pub use outputs::{output, output_alone};
 pub use snap_perform::perform;
 pub use snap_tasks::Task;

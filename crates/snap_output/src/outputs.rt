@@ -10,6 +10,7 @@ ghost use Rattle.snap_certify_output.specs.Output.{certificates_text};
 ghost use Rattle.snap_output.specs.Output.{batched, checked_schedules, debug_text, surveyed};
 ghost use Rattle.snap_output.specs.Output.{of_task, output_of, run_text, verdicts_text};
 ghost use Rattle.snap_output.specs.Prepared.{batch_reports, prepared_text};
+ghost use Rattle.snap_trace_output.specs.Traces.{traces_text};
 
 use crate::audit_output::audit_program;
 use crate::batch_output::Batch;
@@ -25,6 +26,7 @@ use snap_perform::{perform_program, run_program};
 use snap_semantics::{Fault, Refusal};
 use snap_survey_output::survey_program;
 use snap_tasks::{Subject, Task};
+use snap_trace_output::trace_program;
 use std::alloc::Global;
 use std::thread::Threads;
 
@@ -67,6 +69,30 @@ fn run(alloc: Global, subject: Subject, input: &[u8]) -> Result<Vec<u8>, Fault<R
     let program = program_for(alloc, subject, parts.as_slice())?;
     let texts = texts_for(subject, parts.as_slice());
     run_texts(alloc, &program, texts)
+}
+
+/// What each item of a program's run did under the schedule that a text is.
+fn trace_texts(alloc: Global, program: &Program, texts: &[&[u8]]) -> Result<Vec<u8>, Fault<Refusal>>
+    requires { 0 < length texts.now }
+    ensures { Answers (λ out. out.items) result
+        (traces_text program.now (map (λ text. text.now) texts.now)) }
+{
+    trace_program(alloc, program, texts[0])
+}
+
+/// What each item of a listing's run under a schedule did.
+#[tactic(auto, unfolding(snap_input::specs::Input::parted))]
+fn trace(alloc: Global, subject: Subject, input: &[u8]) -> Result<Vec<u8>, Fault<Refusal>>
+    requires { length input.now ≤ 16777216 }
+    ensures output { Answers (λ out. out.items) result
+        (parted subject 1 (parts_of input.now) traces_text) }
+    ensures counted { (r : Refusal) → checked_parts subject 1 (parts_of input.now) ≡ Err r →
+        result ≡ Err (Refused r) }
+{
+    let parts = parts_for(alloc, subject, 1, input)?;
+    let program = program_for(alloc, subject, parts.as_slice())?;
+    let texts = texts_for(subject, parts.as_slice());
+    trace_texts(alloc, &program, texts)
 }
 
 /// A program under the schedule that a text is, as the commands of another ask for it.
@@ -202,6 +228,7 @@ fn prepare(alloc: Global, task: &Task, input: &[u8]) -> Result<Prepared, Fault<R
         Task::List => Ok(Prepared::Text(list(alloc, input)?)),
         Task::Upgrade => Ok(Prepared::Text(upgrade(alloc, input)?)),
         Task::Run(subject) => Ok(Prepared::Text(run(alloc, subject, input)?)),
+        Task::Trace(subject) => Ok(Prepared::Text(trace(alloc, subject, input)?)),
         Task::Debug(subject) => Ok(Prepared::Text(debug(alloc, subject, input)?)),
         Task::Audit(subject) => Ok(Prepared::Text(audit(alloc, subject, input)?)),
         Task::Certify(subject) => Ok(Prepared::Text(certify(alloc, subject, input)?)),

@@ -35,6 +35,7 @@ module _ (bytes : List ℕ) (not_text : ¬ (IsUtf8 bytes)) where
     unlike bytes (codes "list") not_text (codes "list", (refl, refl)),
     unlike bytes (codes "upgrade") not_text (codes "upgrade", (refl, refl)),
     unlike bytes (codes "run") not_text (codes "run", (refl, refl)),
+    unlike bytes (codes "trace") not_text (codes "trace", (refl, refl)),
     unlike bytes (codes "debug") not_text (codes "debug", (refl, refl)),
     unlike bytes (codes "audit") not_text (codes "audit", (refl, refl)),
     unlike bytes (codes "certify") not_text (codes "certify", (refl, refl)),

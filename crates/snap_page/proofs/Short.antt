@@ -70,6 +70,8 @@ task_short task.List input = head_short input
 task_short task.Upgrade input = head_short input
 task_short (task.Run s) input =
     count_short (λ ts. nat_eq (length ts) 1) (texts_for s (parts_of input)) (parts_of input)
+task_short (task.Trace s) input =
+    count_short (λ ts. nat_eq (length ts) 1) (texts_for s (parts_of input)) (parts_of input)
 task_short (task.Debug s) input =
     count_short (λ ts. nat_eq (length ts) 2) (texts_for s (parts_of input)) (parts_of input)
 task_short (task.Audit s) input =

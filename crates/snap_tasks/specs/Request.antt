@@ -23,6 +23,7 @@ request_of name s limit =
     if bytes_eq name (codes "list") then Some (Do task.List) else
     if bytes_eq name (codes "upgrade") then Some (Do task.Upgrade) else
     if bytes_eq name (codes "run") then Some (Do (task.Run s)) else
+    if bytes_eq name (codes "trace") then Some (Do (task.Trace s)) else
     if bytes_eq name (codes "debug") then Some (Do (task.Debug s)) else
     if bytes_eq name (codes "audit") then Some (Do (task.Audit s)) else
     if bytes_eq name (codes "certify") then Some (Do (task.Certify s)) else

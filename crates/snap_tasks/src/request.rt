@@ -40,6 +40,7 @@ pub fn request_of(name: &str, subject: Subject, limit: u64) -> Option<Request>
         "list" => Some(Request::Do(Task::List)),
         "upgrade" => Some(Request::Do(Task::Upgrade)),
         "run" => Some(Request::Do(Task::Run(subject))),
+        "trace" => Some(Request::Do(Task::Trace(subject))),
         "debug" => Some(Request::Do(Task::Debug(subject))),
         "audit" => Some(Request::Do(Task::Audit(subject))),
         "certify" => Some(Request::Do(Task::Certify(subject))),

@@ -16,6 +16,8 @@ pub enum Task {
     Upgrade,
     /// A listing under a schedule.
     Run(Subject),
+    /// What each item of a listing under a schedule did.
+    Trace(Subject),
     /// A listing under a schedule, as commands ask for it.
     Debug(Subject),
     /// Each finished scan of a listing under a schedule: whether it has a point.

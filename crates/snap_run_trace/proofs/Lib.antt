@@ -1,0 +1,9 @@
+pub mod Wholes
+pub mod Changes
+pub mod Owned
+pub mod Feeds
+pub mod Kept
+pub mod Parts
+pub mod Items
+pub mod Walks
+pub mod Sums

@@ -1,0 +1,14 @@
+-- The report is the sum of the trace.
+use Rattle.std.proofs.Common.{◌≡◌, ℕ, zero, suc, [], refl, ap, ◌∙◌}
+use Rattle.snap_runs.specs.Run.{Run}
+use Rattle.snap_changes.specs.Changes.{put_all}
+use Rattle.snap_changes.proofs.Putting.{put_from}
+use Rattle.snap_run_trace.specs.Trace.{changes_to, item_changes, report_lines}
+use Rattle.snap_run_trace.proofs.Changes.{put_after}
+
+pub summed : (r : Run) (t : ℕ) → put_all (changes_to r t) (report_lines r 0) ≡ report_lines r t
+unfolding item_changes
+summed r zero = refl
+summed r (suc t) =
+    put_after (changes_to r t) (item_changes r (suc t)) (report_lines r 0) ∙ ap (put_all (item_changes r (suc t))) (summed r t)
+    ∙ put_from 0 [] (report_lines r t) (report_lines r (suc t)) refl

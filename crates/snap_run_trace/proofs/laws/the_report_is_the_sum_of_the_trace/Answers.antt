@@ -1,0 +1,5 @@
+use Rattle.snap_run_trace.proofs.Sums.{summed}
+use Rattle.snap_run_trace.proofs.laws.the_report_is_the_sum_of_the_trace.Goals as goal
+
+pub returns : goal.returns
+returns c r t = summed r t

@@ -1,0 +1,4 @@
+pub mod Between
+pub mod Step
+pub mod Trace
+pub mod TraceLaws

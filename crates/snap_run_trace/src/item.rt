@@ -1,0 +1,149 @@
+//! What one item does, and what it changes.
+ghost use Rattle.std.specs.Prelude.{◌≡◌, [], ◌++◌, IfOk, OnOk};
+ghost use Rattle.snap_words.specs.Shape.{IsOneOf};
+ghost use Rattle.snap_semantics.specs.Run.{event_of};
+ghost use Rattle.snap_semantics.specs.Table.{done, who};
+ghost use Rattle.snap_run_trace.specs.Between.{owned, process_text};
+ghost use Rattle.snap_run_trace.specs.Step.{done_text, head_text, line_run, number_text, run_text};
+
+use snap_changes::{push_changes, push_owned_lines};
+use snap_listing_lines::LineTexts;
+use snap_machine::Machine;
+use snap_report::{event_lines, outcome_text, process_lines, register_lines, values_line};
+use snap_semantics::{Event, Happening, Item, Outcome, Status, who};
+use snap_text::{push_number, push_text};
+use snap_words::Kind;
+use std::alloc::{AllocError, Global};
+
+/// The number of the line that an item runs, where its process stands so.
+fn line_run(item: Item, status: Status) -> Option<u64>
+    ensures { result ≡ line_run item status }
+{
+    match (item, status) {
+        (Item::Step(_), Status::Busy(activity)) => Some(activity.line),
+        _ => None,
+    }
+}
+
+/// What callers see of an item of this number.
+fn events_of(
+    alloc: Global,
+    number: u64,
+    item: Item,
+    outcome: Outcome,
+) -> Result<Vec<Event>, AllocError>
+    ensures { IfOk result (λ events. events.items ≡ event_of number item outcome) }
+{
+    let mut events = Vec::new(alloc);
+    let what = match (outcome, item) {
+        (Outcome::Called, Item::Call(_, op)) => Happening::Call(op),
+        (Outcome::Answered(view), _) => Happening::Answer(view),
+        (Outcome::Finished, _) => Happening::Done,
+        (Outcome::Crashed, _) => Happening::Crash,
+        _ => return Ok(events),
+    };
+    events.push(Event {
+        item: number,
+        process: who(item),
+        what,
+    })?;
+    Ok(events)
+}
+
+/// The values, the registers, a process and events: each line says of whom it speaks.
+#[tactic(auto, using(snap_text::proofs::Texts::joined))]
+fn process_text<K: Kind>(
+    alloc: Global,
+    machine: &Machine<K>,
+    i: u32,
+    events: &[Event],
+) -> Result<Vec<u8>, AllocError>
+    requires { IsOneOf machine.now.shape.n i }
+    ensures { IfOk result (λ text. text.items ≡ owned (process_text machine.now.source.kind i
+        machine.now.state events.now)) }
+{
+    let mut lines = Vec::new(alloc);
+    values_line(&mut lines, machine)?;
+    register_lines(&mut lines, machine)?;
+    process_lines(&mut lines, machine, i)?;
+    event_lines(&mut lines, events)?;
+    let mut text = Vec::new(alloc);
+    push_owned_lines(&mut text, lines.as_slice())?;
+    Ok(text)
+}
+
+/// Adds ` at ` and the text of the line that was run, where one was.
+#[tactic(auto, using(snap_text::proofs::Texts::joined))]
+fn push_run(out: &mut Vec<u8>, texts: &LineTexts, run: Option<u64>) -> Result<(), AllocError>
+    ensures { OnOk result (out.new.items ≡ out.old.items ++ run_text texts.now run) }
+{
+    let Some(number) = run else {
+        return Ok(());
+    };
+    match texts.with_number(number) {
+        Some(text) => {
+            push_text(out, b" at ")?;
+            push_text(out, text)
+        }
+        None => Ok(()),
+    }
+}
+
+/// Adds `item T I `.
+#[tactic(auto, using(snap_text::proofs::Texts::joined))]
+fn push_numbers(out: &mut Vec<u8>, number: u64, process: u32) -> Result<(), AllocError>
+    ensures { OnOk result (out.new.items ≡ out.old.items ++ number_text number process) }
+{
+    push_text(out, b"item ")?;
+    push_number(out, number)?;
+    push_text(out, b" ")?;
+    push_number(out, u64::from(process))?;
+    push_text(out, b" ")
+}
+
+/// Adds `item T I OUTCOME`, and the line that was run.
+#[tactic(auto, using(snap_text::proofs::Texts::joined), unfolding(crate::specs::Step::head_text))]
+fn push_did(
+    out: &mut Vec<u8>,
+    texts: &LineTexts,
+    number: u64,
+    process: u32,
+    outcome: &Outcome,
+    run: Option<u64>,
+) -> Result<(), AllocError>
+    ensures { OnOk result (out.new.items ≡ out.old.items ++ head_text texts.now number process
+        outcome.now run) }
+{
+    push_numbers(out, number, process)?;
+    outcome_text(out, outcome)?;
+    push_run(out, texts, run)?;
+    push_text(out, b"\n")
+}
+
+/// Does an item of this number, and adds what it did and what it changed.
+#[tactic(auto, using(snap_text::proofs::Texts::joined), unfolding(crate::specs::Step::done_text))]
+pub(crate) fn push_item<K: Kind>(
+    out: &mut Vec<u8>,
+    alloc: Global,
+    texts: &LineTexts,
+    machine: &mut Machine<K>,
+    number: u64,
+    item: Item,
+) -> Result<(), AllocError>
+    requires { IsOneOf machine.old.shape.n (who item) }
+    ensures text { OnOk result (out.new.items ≡ out.old.items ++ done_text texts.now
+        machine.old.source machine.old.shape machine.old.state number item) }
+    ensures state { OnOk result (machine.new.state
+        ≡ (done machine.old.source machine.old.shape machine.old.state item).0) }
+    ensures source { machine.new.source ≡ machine.old.source }
+    ensures shape { machine.new.shape ≡ machine.old.shape }
+{
+    let i = who(item);
+    let run = line_run(item, machine.status(i));
+    let before = process_text(alloc, machine, i, &[])?;
+    let outcome = machine.apply(item)?;
+    push_did(out, texts, number, i, &outcome, run)?;
+    let events = events_of(alloc, number, item, outcome)?;
+    let after = process_text(alloc, machine, i, events.as_slice())?;
+    push_changes(out, before.as_slice(), after.as_slice())
+}

@@ -1,0 +1,40 @@
+//! What is written for a listing and a schedule whose run is told item by item.
+ghost use Rattle.std.specs.Prelude.{◌≡◌};
+ghost use Rattle.snap_semantics.specs.Answers.{Answers};
+ghost use Rattle.snap_trace_output.specs.Traces.{trace_listing};
+
+use snap_asm_program::Program;
+use snap_perform::schedule_for;
+use snap_run_trace::trace;
+use snap_semantics::{Fault, Refusal};
+use snap_words::{Bits, Kind, KindTag, Multi, Seq};
+use std::alloc::Global;
+
+/// What each item of the run of a program of a kind did under a schedule.
+#[tactic(auto, unfolding(crate::specs::Traces::trace_listing))]
+fn trace_kind<K: Kind>(
+    alloc: Global,
+    program: &Program,
+    schedule: &[u8],
+) -> Result<Vec<u8>, Fault<Refusal>>
+    requires { program.now.kind ≡ K.TAG }
+    ensures { Answers (λ out. out.items) result (trace_listing program.now schedule.now) }
+{
+    let schedule = schedule_for::<K>(alloc, program, schedule)?;
+    Ok(trace::<K>(alloc, program, &schedule)?)
+}
+
+/// What each item of the run of a program did under a schedule, and what it changed.
+pub fn trace_program(
+    alloc: Global,
+    program: &Program,
+    schedule: &[u8],
+) -> Result<Vec<u8>, Fault<Refusal>>
+    ensures { Answers (λ out. out.items) result (trace_listing program.now schedule.now) }
+{
+    match program.kind() {
+        KindTag::Seq => trace_kind::<Seq>(alloc, program, schedule),
+        KindTag::Bits => trace_kind::<Bits>(alloc, program, schedule),
+        KindTag::Multi => trace_kind::<Multi>(alloc, program, schedule),
+    }
+}

@@ -20,11 +20,11 @@ neither x y r = (λ e. absurd cc, λ e. absurd cc)
 -- behind what both rest on
 behind : {A : Type 0} (x : Result A Refusal) (f g : A → Result (List ℕ) Refusal) → ((a : A) → AreRefusedAlike (f a) (g a)) → AreRefusedAlike (x >>= f) (x >>= g)
 behind (Ok a) f g h = h a
-behind (Err e) f g h r = (λ same. same, λ same. same)
+behind (Err e) f g h = λ r. (λ same. same, λ same. same)
 
 either : (b : Bool) (e : Refusal) (x y : Result (List ℕ) Refusal) → AreRefusedAlike x y →
     AreRefusedAlike (if b then Err e else x) (if b then Err e else y)
-either true e x y h r = (λ same. same, λ same. same)
+either true e x y h = λ r. (λ same. same, λ same. same)
 either false e x y h = h
 
 texts_alike : (l : Source) (texts : List (List ℕ)) → AreRefusedAlike (traces_text l texts) (run_text l texts)

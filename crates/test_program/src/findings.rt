@@ -41,7 +41,11 @@ fn surveys_a_schedule(rt: HostRuntime) -> Result<(), Fail> {
 
 #[test]
 fn traces_a_schedule(rt: HostRuntime) -> Result<(), Fail> {
-    let found = written(&rt, Task::Trace(U), b"shape 1 1\n1 scan\n1\n1 crash\n1\n".as_slice())?;
+    let found = written(
+        &rt,
+        Task::Trace(U),
+        b"shape 1 1\n1 scan\n1\n1 crash\n1\n".as_slice(),
+    )?;
     assert_eq!(rt;
         found.as_slice(),
         b"item 1 1 called\n- process 1 idle\n+ process 1 scan at 10\n+ event 1 1 scan\nitem 2 1 stepped at 10: each n: moved[@] = 0\n- process 1 scan at 10\n+ process 1 scan at 11\nitem 3 1 crashed\n- process 1 scan at 11\n+ process 1 crashed at 11\n+ event 3 1 crash\nitem 4 1 skipped Crashed\n".as_slice()

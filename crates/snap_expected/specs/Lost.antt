@@ -1,0 +1,68 @@
+-- Where a line is lost: the first token at which no line of its sort goes on.
+use Rattle.std.specs.Prelude.{ℕ, ◌+◌, Bool, true, false, ◌&&◌, List, [], ◌∷◌, ◌++◌, Option, Some, None, if◌then◌else◌}
+use Rattle.snap_semantics.specs.declared.text.Symbol.TheVariants as symbol
+use Rattle.snap_semantics.specs.Token.{Token}
+use Rattle.snap_expected.specs.declared.wanted.Keyword.TheVariants as keyword
+use Rattle.snap_expected.specs.declared.wanted.Wanted.{Wanted}
+use Rattle.snap_expected.specs.declared.wanted.Wanted.TheVariants as wanted
+use Rattle.snap_expected.specs.declared.sorts.LineSort.{LineSort}
+use Rattle.snap_expected.specs.declared.sorts.LineSort.TheVariants as line
+use Rattle.snap_expected.specs.declared.sorts.Header.{Header}
+use Rattle.snap_expected.specs.declared.sorts.Header.TheVariants as header
+use Rattle.snap_expected.specs.After.{Step, Takes, Passes, Refuses, after, may_pass}
+
+-- What is wanted behind a token, where these are wanted in a row; none where the line does not go on with it.
+abbrev pub step : Token → List Wanted → Option (List Wanted)
+step t [] = None
+step t (w ∷ ws) = behind (after w t)
+  where
+    behind : Step → Option (List Wanted)
+    behind (Takes next) = Some (next ++ ws)
+    behind Passes = step t ws
+    behind Refuses = None
+
+-- whether a line may end where these are wanted
+abbrev pub may_end : List Wanted → Bool
+may_end [] = true
+may_end (w ∷ ws) = may_pass w && may_end ws
+
+-- a place in a line: so many tokens stand before it, and these were wanted there
+pub record Place : Type 0 where
+  pub before : ℕ
+  pub wanted : List Wanted
+
+abbrev pub one_later : Option Place → Option Place
+one_later None = None
+one_later (Some p) = Some (record { before = p.before + 1; wanted = p.wanted })
+
+-- where tokens are lost: at the first one with which the line does not go on, or at the end of the line; none where they are all that is wanted
+abbrev pub lost : List Wanted → List Token → Option Place
+lost ws [] = if may_end ws then None else Some (record { before = 0; wanted = ws })
+lost ws (t ∷ ts) = behind (step t ws)
+  where
+    behind : Option (List Wanted) → Option Place
+    behind None = Some (record { before = 0; wanted = ws })
+    behind (Some next) = one_later (lost next ts)
+
+-- what each header line is
+abbrev pub wanted_of_header : Header → List Wanted
+wanted_of_header header.Kind = wanted.Keyword keyword.Kind ∷ wanted.KindName ∷ []
+wanted_of_header header.Scalars = wanted.Keyword keyword.Scalar ∷ wanted.Names ∷ []
+wanted_of_header header.Rows = wanted.Keyword keyword.Row ∷ wanted.Names ∷ []
+wanted_of_header header.Words = wanted.Keyword keyword.Words ∷ wanted.Names ∷ []
+wanted_of_header header.Views = wanted.Keyword keyword.View ∷ wanted.Names ∷ []
+wanted_of_header header.Scan = wanted.Keyword keyword.Scan ∷ wanted.LineNumber ∷ []
+wanted_of_header header.Update = wanted.Keyword keyword.Update ∷ wanted.LineNumber ∷ []
+
+-- what a line of each sort is
+abbrev pub wanted_of : LineSort → List Wanted
+wanted_of (line.Header h) = wanted_of_header h
+wanted_of line.Numbered = wanted.LineNumber ∷ wanted.Symbol symbol.Colon ∷ wanted.Instruction ∷ []
+wanted_of line.Shape = wanted.Keyword keyword.Shape ∷ wanted.Count ∷ wanted.Count ∷ []
+wanted_of line.Item = wanted.Number ∷ wanted.Act ∷ []
+wanted_of line.Script = wanted.Number ∷ wanted.ScriptAct ∷ []
+wanted_of line.Command = wanted.Command ∷ []
+
+-- where a line of this sort is lost
+abbrev pub lost_in : LineSort → List Token → Option Place
+lost_in sort ts = lost (wanted_of sort) ts

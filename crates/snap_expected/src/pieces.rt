@@ -1,0 +1,90 @@
+//! The tokens of a line with their columns.
+ghost use Rattle.std.specs.Prelude.{◌≡◌, ◌≤◌, ◌<◌, ◌+◌, ◌^◌, IfOk, length, take, drop, ◌∷◌};
+ghost use Rattle.snap_semantics.specs.Token.{is_lexeme_byte};
+ghost use Rattle.snap_text.specs.Tokens.{lexeme_len};
+ghost use Rattle.snap_expected.specs.Pieces.{placed_of};
+ghost use Rattle.snap_expected.specs.Steps.{IsFront, view_placed};
+
+use snap_text::{Token, tokens};
+use std::alloc::{AllocError, Global};
+
+/// A token, and the column of its first byte.
+#[derive(Clone, Copy, Debug)]
+pub struct PlacedToken<'a> {
+    pub column: usize,
+    pub token: Token<'a>,
+}
+
+/// The tokens of a line before the first byte that begins none, and the column of that byte, where
+/// there is one. Columns count bytes, from 1.
+#[derive(Debug, Drop)]
+pub struct PlacedTokens<'a> {
+    pub tokens: Vec<PlacedToken<'a>>,
+    pub stray: Option<usize>,
+}
+
+/// Whether a byte is of an identifier or of a number.
+fn is_lexeme_byte(byte: u8) -> bool
+    ensures { result ≡ is_lexeme_byte byte }
+{
+    (b'a' <= byte && byte <= b'z') || (b'0' <= byte && byte <= b'9')
+}
+
+/// How many letters and digits stand at the front.
+fn lexeme_len(bytes: &[u8]) -> usize
+    ensures value { result ≡ lexeme_len bytes.now }
+    ensures within { result ≤ length bytes.now }
+{
+    let mut len = 0;
+    while len < bytes.len() && is_lexeme_byte(bytes[len]) {
+        len += 1;
+    }
+    len
+}
+
+/// The length of the first piece: letters and digits side by side, `!=`, or one byte.
+fn piece_len(bytes: &[u8]) -> usize
+    requires { 0 < length bytes.now }
+    ensures { IsFront bytes.now result }
+{
+    if is_lexeme_byte(bytes[0]) {
+        return lexeme_len(bytes);
+    }
+    match bytes {
+        [b'!', b'=', ..] => 2,
+        _ => 1,
+    }
+}
+
+/// The tokens of a line with their columns.
+pub fn placed_tokens(alloc: Global, line: &[u8]) -> Result<PlacedTokens<'_>, AllocError>
+    ensures { IfOk result (λ placed. view_placed placed ≡ placed_of line.now) }
+{
+    let mut out = Vec::new(alloc);
+    let mut at = 0;
+    while at < line.len() && line[at] != b'#' {
+        let rest = &line[at..];
+        let (piece, _) = rest.split_at(piece_len(rest));
+        match tokens(alloc, piece)? {
+            None => {
+                return Ok(PlacedTokens {
+                    tokens: out,
+                    stray: Some(at + 1),
+                });
+            }
+            Some(found) => {
+                if let [token, ..] = found.as_slice() {
+                    out.push(PlacedToken {
+                        column: at + 1,
+                        token: *token,
+                    })?;
+                }
+            }
+        }
+        at += piece.len();
+    }
+    Ok(PlacedTokens {
+        tokens: out,
+        stray: None,
+    })
+}

@@ -1,5 +1,6 @@
 -- The tokens of a line with their columns, from 1, which count bytes; and the first column at which no token begins.
 use Rattle.std.specs.Prelude.{ℕ, ◌+◌, Bool, false, ◌&&◌, ◌||◌, nat_eq, List, [], ◌∷◌, length, Option, Some, None, if◌then◌else◌}
+use Rattle.snap_text.specs.Tokens.{lexeme_len}
 use Rattle.snap_semantics.specs.Token.{Token, begins_with, is_lexeme_byte, tokens_of}
 
 -- whether the first byte is a letter or a digit
@@ -19,6 +20,11 @@ onto_piece b (piece ∷ pieces) = if is_joined b piece then (b ∷ piece) ∷ pi
 abbrev pub pieces_of : List ℕ → List (List ℕ)
 pieces_of [] = []
 pieces_of (b ∷ bs) = if nat_eq b 35 then [] else onto_piece b (pieces_of bs)
+
+-- the length of the first piece of a line that no comment begins
+abbrev pub piece_len : List ℕ → ℕ
+piece_len [] = 0
+piece_len (b ∷ bs) = if is_lexeme_byte b then lexeme_len bs + 1 else if nat_eq b 33 && begins_with 61 bs then 2 else 1
 
 -- a token, and the column of its first byte
 pub record PlacedToken : Type 0 where

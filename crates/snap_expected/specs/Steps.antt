@@ -1,10 +1,10 @@
 -- Steps, tokens and places of the code as those of the definitions.
-use Rattle.std.specs.Prelude.{◌≡◌, ℕ, ◌≤◌, ◌<◌, ◌×◌, List, ◌∷◌, Vec, map, take, drop, length, false, nat_eq, slice_index}
+use Rattle.std.specs.Prelude.{List, map}
 use Rattle.snap_semantics.specs.Token.{Token}
 use Rattle.snap_text.specs.Tokens.{view_token}
 use Rattle.snap_expected.specs.After.{Step, Takes, Passes, Refuses}
 use Rattle.snap_expected.specs.Lost.{Place}
-use Rattle.snap_expected.specs.Pieces.{PlacedToken, PlacedTokens, pieces_of}
+use Rattle.snap_expected.specs.Pieces.{PlacedToken, PlacedTokens}
 use Rattle.snap_expected.specs.declared.after.Step as code
 use Rattle.snap_expected.specs.declared.after.Step.TheVariants as made
 use Rattle.snap_expected.specs.declared.lost.LostPlace.{LostPlace}
@@ -28,9 +28,3 @@ placed_tokens ts = map (λ (t : token.PlacedToken). view_token t.token) ts
 
 abbrev pub view_lost : LostPlace → Place
 view_lost p = record { before = p.before; wanted = p.wanted.items }
-
--- so many bytes at the front are the first piece, where no comment begins there
-pub record IsFront (bytes : List ℕ) (len : ℕ) : Type 0 where
-  pub some : 0 < len
-  pub within : len ≤ length bytes
-  pub piece : nat_eq (slice_index bytes 0) 35 ≡ false → pieces_of bytes ≡ take len bytes ∷ pieces_of (drop len bytes)

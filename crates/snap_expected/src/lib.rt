@@ -8,7 +8,9 @@ mod sorts;
 mod tests;
 mod wanted;
 
+pub use after::may_pass;
 pub use lost::{LostPlace, lost_in};
-pub use pieces::{PlacedToken, PlacedTokens, placed_tokens};
+pub use pieces::{PlacedToken, PlacedTokens, is_lexeme_byte, piece_len, placed_tokens};
 pub use sorts::{Header, LineSort};
+pub use tests::{is_identifier, is_symbol, is_word};
 pub use wanted::{Keyword, Wanted};

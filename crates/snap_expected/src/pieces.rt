@@ -1,9 +1,9 @@
 //! The tokens of a line with their columns.
-ghost use Rattle.std.specs.Prelude.{◌≡◌, ◌≤◌, ◌<◌, ◌+◌, ◌^◌, IfOk, length, take, drop, ◌∷◌};
-ghost use Rattle.snap_semantics.specs.Token.{is_lexeme_byte};
+ghost use Rattle.std.specs.Prelude.{◌≡◌, ◌≤◌, ◌<◌, IfOk, length};
+ghost use Rattle.snap_semantics.specs.Token.{begins_with, is_lexeme_byte};
 ghost use Rattle.snap_text.specs.Tokens.{lexeme_len};
-ghost use Rattle.snap_expected.specs.Pieces.{placed_of};
-ghost use Rattle.snap_expected.specs.Steps.{IsFront, view_placed};
+ghost use Rattle.snap_expected.specs.Pieces.{piece_len, placed_of};
+ghost use Rattle.snap_expected.specs.Steps.{view_placed};
 
 use snap_text::{Token, tokens};
 use std::alloc::{AllocError, Global};
@@ -24,7 +24,7 @@ pub struct PlacedTokens<'a> {
 }
 
 /// Whether a byte is of an identifier or of a number.
-fn is_lexeme_byte(byte: u8) -> bool
+pub fn is_lexeme_byte(byte: u8) -> bool
     ensures { result ≡ is_lexeme_byte byte }
 {
     (b'a' <= byte && byte <= b'z') || (b'0' <= byte && byte <= b'9')
@@ -42,17 +42,33 @@ fn lexeme_len(bytes: &[u8]) -> usize
     len
 }
 
-/// The length of the first piece: letters and digits side by side, `!=`, or one byte.
-fn piece_len(bytes: &[u8]) -> usize
-    requires { 0 < length bytes.now }
-    ensures { IsFront bytes.now result }
+/// Whether the first byte is this one.
+fn begins_with(byte: u8, bytes: &[u8]) -> bool
+    ensures { result ≡ begins_with byte bytes.now }
 {
-    if is_lexeme_byte(bytes[0]) {
-        return lexeme_len(bytes);
-    }
     match bytes {
-        [b'!', b'=', ..] => 2,
-        _ => 1,
+        [] => false,
+        [first, ..] => byte == *first,
+    }
+}
+
+/// The length of the first piece: letters and digits side by side, `!=`, or one byte.
+pub fn piece_len(bytes: &[u8]) -> usize
+    ensures value { result ≡ piece_len bytes.now }
+    ensures within { result ≤ length bytes.now }
+    ensures some { 0 < length bytes.now → 0 < result }
+{
+    match bytes {
+        [] => 0,
+        [first, rest @ ..] => {
+            if is_lexeme_byte(*first) {
+                lexeme_len(rest) + 1
+            } else if *first == b'!' && begins_with(b'=', rest) {
+                2
+            } else {
+                1
+            }
+        }
     }
 }
 

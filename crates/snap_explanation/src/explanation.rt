@@ -1,0 +1,528 @@
+//! What is said of a refused input behind the line that refuses it.
+ghost use Rattle.std.specs.Prelude.{◌≡◌, ◌++◌, ◌<◌, ◌≤◌, IfOk, OnOk, length, map, option_map};
+ghost use Rattle.snap_semantics.specs.Token.{lines_of, text_lines};
+ghost use Rattle.snap_expected.specs.Pieces.{placed_of};
+ghost use Rattle.snap_expected.specs.Steps.{view_placed, view_placed_token, view_lost};
+ghost use Rattle.snap_explanation.specs.Explanation.{token_advice, stray_text, lost_text, lost_or_line, form_text_of, form_text, token_spot, placed_line, header_at, count_before, first_number, nearest_text, unknown_text, unknown_spot, listing_explained, item_sort, schedule_explained, shape_explained, commands_explained, parts_words, separators, separator_words, parts_explained, explanation};
+ghost use Rattle.snap_explanation.specs.Spot.{nth_line};
+ghost use Rattle.snap_explanation.specs.Views.{view_part};
+
+use crate::advice::{advice, push_advice, stray_advice};
+use crate::layout::{Layout, Texts};
+use crate::names::{
+    first_again, first_bad, first_led, first_unknown, leading_line, nearest, words_before,
+};
+use crate::part::{Part, part_place};
+use crate::spot::{column_of, line_of, piece_at, push_line_spot, push_shown, push_spot};
+use crate::texts::push_expected_line;
+use snap_expected::{
+    Header, LineSort, LostPlace, PlacedToken, PlacedTokens, lost_in, placed_tokens,
+};
+use snap_input::split_parts;
+use snap_semantics::{CommandRefusal, ListingRefusal, Refusal, ScheduleRefusal};
+use snap_subject::Subject;
+use snap_text::{TextLines, Token, line_count, push_numbers, push_text};
+use std::alloc::{AllocError, Global};
+
+/// The most lines `%` that are told.
+const SEPARATORS: usize = 8;
+
+/// Adds what is said of a byte that begins no token.
+fn push_stray(
+    out: &mut Vec<u8>,
+    part: &Part<'_>,
+    line: u64,
+    text: &[u8],
+    column: usize,
+) -> Result<(), AllocError>
+    ensures { OnOk result (out.new.items ≡ out.old.items
+        ++ stray_text (view_part part.now) line text.now column) }
+{
+    let piece = piece_at(column, text);
+    push_spot(out, part, line, text, column)?;
+    push_text(out, b"`")?;
+    push_shown(out, piece)?;
+    push_text(out, b"` is no token\n")?;
+    push_advice(out, stray_advice(piece))
+}
+
+/// What stands at a token, which may be the end of the line.
+fn piece_of<'a>(text: &'a [u8], token: Option<&PlacedToken<'_>>) -> &'a [u8] {
+    match token {
+        Some(token) => piece_at(token.column, text),
+        None => &[],
+    }
+}
+
+/// Adds what is advised at a token.
+fn push_token_advice(
+    out: &mut Vec<u8>,
+    place: &LostPlace,
+    token: Option<&PlacedToken<'_>>,
+) -> Result<(), AllocError>
+    ensures { OnOk result (out.new.items ≡ out.old.items
+        ++ token_advice (view_lost place.now) (option_map (λ t. view_placed_token t.now) token)) }
+{
+    match token {
+        Some(token) => push_advice(out, advice(place.wanted.as_slice(), &token.token)),
+        None => Ok(()),
+    }
+}
+
+/// Adds what is said of a line that is lost at a place.
+fn push_lost(
+    out: &mut Vec<u8>,
+    part: &Part<'_>,
+    line: u64,
+    text: &[u8],
+    tokens: &[PlacedToken<'_>],
+    place: &LostPlace,
+) -> Result<(), AllocError>
+    ensures { OnOk result (out.new.items ≡ out.old.items
+        ++ lost_text (view_part part.now) line text.now (map view_placed_token tokens.now)
+        (view_lost place.now)) }
+{
+    let token = tokens.get(place.before);
+    push_spot(out, part, line, text, column_of(text, token))?;
+    push_expected_line(out, place.wanted.as_slice(), piece_of(text, token))?;
+    push_token_advice(out, place, token)
+}
+
+/// Adds what is said of a line that has not the form of its sort.
+fn push_form(
+    alloc: Global,
+    out: &mut Vec<u8>,
+    part: &Part<'_>,
+    sort: LineSort,
+    line: u64,
+) -> Result<(), AllocError>
+    ensures { OnOk result (out.new.items ≡ out.old.items
+        ++ form_text (view_part part.now) sort line) }
+{
+    let text = line_of(part.text, line);
+    let placed = placed_tokens(alloc, text)?;
+    if let Some(column) = placed.stray {
+        return push_stray(out, part, line, text, column);
+    }
+    let tokens = placed.tokens.as_slice();
+    match lost_in(alloc, sort, tokens)? {
+        Some(place) => push_lost(out, part, line, text, tokens, &place),
+        None => push_line_spot(out, part, line, text),
+    }
+}
+
+/// Adds a place at a token, where there is one, and what is said of it.
+fn push_token_spot(
+    out: &mut Vec<u8>,
+    part: &Part<'_>,
+    line: u64,
+    token: Option<PlacedToken<'_>>,
+    said: &[u8],
+) -> Result<(), AllocError>
+    ensures { OnOk result (out.new.items ≡ out.old.items
+        ++ token_spot (view_part part.now) line (option_map view_placed_token token) said.now) }
+{
+    let text = line_of(part.text, line);
+    match token {
+        Some(token) => push_spot(out, part, line, text, token.column)?,
+        None => push_line_spot(out, part, line, text)?,
+    }
+    push_text(out, said)
+}
+
+/// The tokens of a line of a part.
+fn placed_line<'a>(
+    alloc: Global,
+    part: &Part<'a>,
+    line: u64,
+) -> Result<Vec<PlacedToken<'a>>, AllocError>
+    ensures { IfOk result (λ tokens. map view_placed_token tokens.items
+        ≡ placed_line (view_part part.now) line) }
+{
+    let PlacedTokens { tokens, stray: _ } = placed_tokens(alloc, line_of(part.text, line))?;
+    Ok(tokens)
+}
+
+/// Token `index` of a line, from 0.
+fn token_at<'a>(
+    alloc: Global,
+    part: &Part<'a>,
+    line: u64,
+    index: usize,
+) -> Result<Option<PlacedToken<'a>>, AllocError>
+    ensures { IfOk result (λ token. option_map view_placed_token token
+        ≡ slice_get (placed_line (view_part part.now) line) index) }
+{
+    let tokens = placed_line(alloc, part, line)?;
+    Ok(tokens.as_slice().get(index).copied())
+}
+
+/// Which header line comes behind so many.
+fn header_at(count: u64) -> Header
+    ensures { result ≡ header_at count }
+{
+    match count {
+        0 => Header::Kind,
+        1 => Header::Scalars,
+        2 => Header::Rows,
+        3 => Header::Words,
+        4 => Header::Views,
+        5 => Header::Scan,
+        _ => Header::Update,
+    }
+}
+
+/// How many lines with tokens stand before this line.
+fn count_before(alloc: Global, line: u64, text: &[u8]) -> Result<u64, AllocError>
+    ensures { IfOk result (λ count. count ≡ count_before line (text_lines text.now)) }
+{
+    let mut count = 0;
+    let mut lines = TextLines::new(text);
+    while let Some(found) = lines.next_line(alloc)? {
+        if found.number >= line {
+            return Ok(count);
+        }
+        count += 1;
+    }
+    Ok(count)
+}
+
+/// The number of the first line with tokens; 1 where there is none.
+fn first_number(alloc: Global, text: &[u8]) -> Result<u64, AllocError>
+    ensures { IfOk result (λ line. line ≡ first_number (text_lines text.now)) }
+{
+    match TextLines::new(text).next_line(alloc)? {
+        Some(line) => Ok(line.number),
+        None => Ok(1),
+    }
+}
+
+/// Adds what is said of a name that none of these is.
+fn push_unknown(
+    out: &mut Vec<u8>,
+    known: &[&[u8]],
+    token: Option<PlacedToken<'_>>,
+) -> Result<(), AllocError>
+    ensures { OnOk result (out.new.items ≡ out.old.items
+        ++ unknown_text (map (λ w. w.now) known.now) (option_map view_placed_token token)) }
+{
+    let Some(
+        PlacedToken {
+            column: _,
+            token: Token::Identifier(word),
+        },
+    ) = token
+    else {
+        return Ok(());
+    };
+    push_text(out, b"`")?;
+    push_text(out, word)?;
+    push_text(out, b"`")?;
+    match nearest(word, known) {
+        Some(name) => {
+            push_text(out, b" is not declared; `")?;
+            push_text(out, name)?;
+            push_text(out, b"` is\n")
+        }
+        None => push_text(out, b" is not declared\n"),
+    }
+}
+
+/// Adds what is said of a line with a name that is not declared.
+fn push_unknown_spot(
+    alloc: Global,
+    out: &mut Vec<u8>,
+    part: &Part<'_>,
+    line: u64,
+) -> Result<(), AllocError> {
+    let known = words_before(alloc, line, part.text)?;
+    let tokens = placed_line(alloc, part, line)?;
+    let token = first_unknown(known.as_slice(), tokens.as_slice());
+    push_token_spot(out, part, line, token, b"")?;
+    push_unknown(out, known.as_slice(), token)
+}
+
+/// Adds what is said of a name that is declared before.
+fn push_again_spot(
+    alloc: Global,
+    out: &mut Vec<u8>,
+    part: &Part<'_>,
+    line: u64,
+) -> Result<(), AllocError> {
+    let known = words_before(alloc, line, part.text)?;
+    let tokens = placed_line(alloc, part, line)?;
+    let token = first_again(known, tokens.as_slice())?;
+    push_token_spot(out, part, line, token, b"this name is declared before\n")
+}
+
+/// Adds what is said of a target that is no line.
+fn push_leading_spot(
+    alloc: Global,
+    out: &mut Vec<u8>,
+    part: &Part<'_>,
+    number: u64,
+) -> Result<(), AllocError> {
+    let line = leading_line(alloc, number, part.text)?;
+    let tokens = placed_line(alloc, part, line)?;
+    let token = first_led(number, tokens.as_slice());
+    push_token_spot(out, part, line, token, b"no line has this number\n")
+}
+
+/// Adds what is said of a name that may not be declared.
+fn push_bad_spot(
+    alloc: Global,
+    out: &mut Vec<u8>,
+    part: &Part<'_>,
+    line: u64,
+) -> Result<(), AllocError> {
+    let tokens = placed_line(alloc, part, line)?;
+    let token = match tokens.as_slice() {
+        [_, names @ ..] => first_bad(names),
+        [] => None,
+    };
+    push_token_spot(out, part, line, token, BAD_NAME)
+}
+
+/// What is said of a name that may not be declared.
+const BAD_NAME: &[u8] = b"a name has at most eight letters, and is no reserved word\n";
+
+/// What is said of a name or of something else of another kind.
+const WRONG_KIND: &[u8] =
+    b"a name of another sort stands here, or a register, a field or a tuple that this kind of registers has not\n";
+
+/// Adds what is said of a line that is refused at its first token.
+fn push_first_spot(
+    alloc: Global,
+    out: &mut Vec<u8>,
+    part: &Part<'_>,
+    line: u64,
+    said: &[u8],
+) -> Result<(), AllocError> {
+    let token = token_at(alloc, part, line, 0)?;
+    push_token_spot(out, part, line, token, said)
+}
+
+/// Adds what is said of a header line that is not the one expected.
+fn push_header(
+    alloc: Global,
+    out: &mut Vec<u8>,
+    part: &Part<'_>,
+    line: u64,
+) -> Result<(), AllocError> {
+    let header = header_at(count_before(alloc, line, part.text)?);
+    push_form(alloc, out, part, LineSort::Header(header), line)
+}
+
+/// Adds what is said of a refused listing.
+fn push_listing(
+    alloc: Global,
+    out: &mut Vec<u8>,
+    part: &Part<'_>,
+    refusal: &ListingRefusal,
+) -> Result<(), AllocError>
+    ensures { OnOk result (out.new.items ≡ out.old.items
+        ++ listing_explained (view_part part.now) refusal.now) }
+{
+    match refusal {
+        ListingRefusal::TooLong => {
+            push_text(out, b"the text of a listing has at most 65536 bytes\n")
+        }
+        ListingRefusal::BadHeader(line) => push_header(alloc, out, part, *line),
+        ListingRefusal::BadLine(line) => push_form(alloc, out, part, LineSort::Numbered, *line),
+        ListingRefusal::NumberNotRising(line) => {
+            push_first_spot(alloc, out, part, *line, b"the numbers of lines rise\n")
+        }
+        ListingRefusal::UnknownName(line) => push_unknown_spot(alloc, out, part, *line),
+        ListingRefusal::NameTwice(line) => push_again_spot(alloc, out, part, *line),
+        ListingRefusal::WrongKind(line) => push_token_spot(out, part, *line, None, WRONG_KIND),
+        ListingRefusal::NoSuchLine(target) => push_leading_spot(alloc, out, part, *target),
+        ListingRefusal::TooMany(line) => push_token_spot(
+            out,
+            part,
+            *line,
+            None,
+            b"a listing has at most 32 names and 200 lines\n",
+        ),
+        ListingRefusal::BadName(line) => push_bad_spot(alloc, out, part, *line),
+    }
+}
+
+/// The sort of the lines behind the shape.
+fn item_sort(layout: Layout) -> LineSort
+    ensures { result ≡ item_sort layout }
+{
+    match layout {
+        Layout::Parts(_, Texts::Scripts) => LineSort::Script,
+        _ => LineSort::Item,
+    }
+}
+
+/// What is said of a process that is not there.
+const NO_PROCESS: &[u8] = b"the shape has no such process: `shape N W` has processes 1 to N\n";
+
+/// What is said of a shape that does not fit the kind.
+const NO_FIT: &[u8] =
+    b"registers of kind seq and bit have one word for each process: `shape N N`\n";
+
+/// Adds what is said of a refused schedule.
+fn push_schedule(
+    alloc: Global,
+    out: &mut Vec<u8>,
+    layout: Layout,
+    part: &Part<'_>,
+    refusal: &ScheduleRefusal,
+) -> Result<(), AllocError>
+    ensures { OnOk result (out.new.items ≡ out.old.items
+        ++ schedule_explained layout (view_part part.now) refusal.now) }
+{
+    match refusal {
+        ScheduleRefusal::TooLong => push_text(out, b"a schedule has at most 4194304 bytes\n"),
+        ScheduleRefusal::BadShape => {
+            let line = first_number(alloc, part.text)?;
+            push_form(alloc, out, part, LineSort::Shape, line)
+        }
+        ScheduleRefusal::BadItem(line) => push_form(alloc, out, part, item_sort(layout), *line),
+        ScheduleRefusal::TooManyItems(line) => push_first_spot(
+            alloc,
+            out,
+            part,
+            *line,
+            b"a schedule has at most 1000000 items\n",
+        ),
+        ScheduleRefusal::NoSuchProcess(line) => {
+            push_first_spot(alloc, out, part, *line, NO_PROCESS)
+        }
+    }
+}
+
+/// Adds what is said of a shape that does not fit the kind.
+fn push_shape(alloc: Global, out: &mut Vec<u8>, part: &Part<'_>) -> Result<(), AllocError> {
+    let line = first_number(alloc, part.text)?;
+    let token = token_at(alloc, part, line, 2)?;
+    push_token_spot(out, part, line, token, NO_FIT)
+}
+
+/// Adds what is said of refused commands.
+fn push_commands(
+    alloc: Global,
+    out: &mut Vec<u8>,
+    part: &Part<'_>,
+    refusal: &CommandRefusal,
+) -> Result<(), AllocError>
+    ensures { OnOk result (out.new.items ≡ out.old.items
+        ++ commands_explained (view_part part.now) refusal.now) }
+{
+    match refusal {
+        CommandRefusal::BadCommand(line) => push_form(alloc, out, part, LineSort::Command, *line),
+        CommandRefusal::TooLong => push_text(
+            out,
+            b"there are at most 10000 commands, in 1048576 bytes\n",
+        ),
+        _ => Ok(()),
+    }
+}
+
+/// The parts that an input has, in words.
+fn parts_words(layout: Layout) -> &'static [u8]
+    ensures { result.now ≡ parts_words layout }
+{
+    match layout {
+        Layout::Parts(Subject::FirstPart, texts) => match texts {
+            Texts::Schedule => b"2 parts are taken: a listing and a schedule",
+            Texts::ScheduleAndCommands => {
+                b"3 parts are taken: a listing, a schedule and commands"
+            }
+            Texts::Schedules => b"2 to 4097 parts are taken: a listing and schedules",
+            Texts::Scripts => b"2 parts are taken: a listing and scripts",
+        },
+        Layout::Parts(Subject::Shipped(_), texts) => match texts {
+            Texts::Schedule => b"1 part is taken: a schedule; the listing is shipped",
+            Texts::ScheduleAndCommands => {
+                b"2 parts are taken: a schedule and commands; the listing is shipped"
+            }
+            Texts::Schedules => {
+                b"1 to 4096 parts are taken, which are schedules; the listing is shipped"
+            }
+            Texts::Scripts => b"1 part is taken: scripts; the listing is shipped",
+        },
+        _ => b"the whole input is taken",
+    }
+}
+
+/// The lines `%` between parts.
+fn separators(alloc: Global, parts: &[&[u8]]) -> Result<Vec<u64>, AllocError>
+    ensures { IfOk result (λ lines. lines.items ≡ separators 0 (map (λ p. p.now) parts.now)) }
+{
+    let mut lines = Vec::new(alloc);
+    let mut before = 0;
+    let mut rest = parts;
+    while let [first, _, ..] = rest {
+        before += line_count(first) + 1;
+        lines.push(before)?;
+        rest = &rest[1..];
+    }
+    Ok(lines)
+}
+
+/// Adds how many parts are taken, and where the lines `%` are.
+fn push_parts(
+    alloc: Global,
+    out: &mut Vec<u8>,
+    layout: Layout,
+    input: &[u8],
+) -> Result<(), AllocError>
+    ensures { OnOk result (out.new.items ≡ out.old.items ++ parts_explained layout input.now) }
+{
+    push_text(out, parts_words(layout))?;
+    let parts = split_parts(alloc, input)?;
+    let lines = separators(alloc, parts.as_slice())?;
+    let lines = lines.as_slice();
+    if lines.is_empty() {
+        return push_text(out, b"\nno line of the input is `%` alone\n");
+    }
+    push_text(out, b"\nthe lines `%` of the input, the first eight:")?;
+    push_numbers(out, &lines[..SEPARATORS.min(lines.len())])?;
+    push_text(out, b"\n")
+}
+
+/// Adds what is said of a refused part.
+fn push_part(
+    alloc: Global,
+    out: &mut Vec<u8>,
+    layout: Layout,
+    part: &Part<'_>,
+    refusal: &Refusal,
+) -> Result<(), AllocError> {
+    match refusal {
+        Refusal::Listing(refusal) => push_listing(alloc, out, part, refusal),
+        Refusal::Schedule(refusal) => push_schedule(alloc, out, layout, part, refusal),
+        Refusal::Words(_) => push_shape(alloc, out, part),
+        Refusal::Commands(refusal) => push_commands(alloc, out, part, refusal),
+        _ => Ok(()),
+    }
+}
+
+/// What is said of a refused input behind the line that refuses it.
+pub fn explanation(
+    alloc: Global,
+    layout: Layout,
+    input: &[u8],
+    refusal: &Refusal,
+) -> Result<Vec<u8>, AllocError>
+    ensures { IfOk result (λ text. text.items ≡ explanation layout input.now refusal.now) }
+{
+    let mut out = Vec::new(alloc);
+    match refusal {
+        Refusal::InputTooLong => push_text(&mut out, b"an input has at most 16777216 bytes\n")?,
+        Refusal::WrongParts(_) => push_parts(alloc, &mut out, layout, input)?,
+        Refusal::Image(_) => push_text(
+            &mut out,
+            b"an image is taken, as `snaplab assemble` writes it\n",
+        )?,
+        _ => {
+            let part = part_place(alloc, layout, input, refusal)?;
+            push_part(alloc, &mut out, layout, &part, refusal)?;
+        }
+    }
+    Ok(out)
+}

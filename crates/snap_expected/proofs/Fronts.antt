@@ -1,9 +1,10 @@
 -- The pieces of a line, the first one first.
-use Rattle.std.proofs.Common.{◌≡◌, ℕ, ◌+◌, ◌-◌, ◌<◌, ◌≤◌, ◌×◌, List, [], ◌∷◌, ◌++◌, length, map, take, drop, get_or, Option, Some, None, refl, sym, ap, ◌∙◌, arith, true, false, Bool, ◌&&◌, ◌||◌, nat_eq, add-one, if◌then◌else◌, append_assoc, subst, ⊤}
-use Rattle.std.proofs.lemmas.Bool.{eqb-true}
-use Rattle.snap_semantics.specs.Token.{Token, begins_with, is_lexeme_byte}
+use Rattle.std.proofs.Common.{◌≡◌, ℕ, ◌+◌, ◌-◌, ◌<◌, ◌≤◌, ◌×◌, List, [], ◌∷◌, ◌++◌, length, take, drop, get_or, Option, Some, None, refl, sym, ap, ◌∙◌, arith, true, false, Bool, ◌&&◌, ◌||◌, nat_eq, add-one, if◌then◌else◌, subst}
+use Rattle.std.proofs.lemmas.Bool.{eqb-true, and_parts}
+use Rattle.std.proofs.lemmas.Grind.{common_steps}
+use Rattle.snap_semantics.specs.Token.{begins_with, is_lexeme_byte}
 use Rattle.snap_text.specs.Tokens.{lexeme_len}
-use Rattle.snap_expected.specs.Pieces.{PlacedToken, PlacedTokens, begins_lexeme, is_joined, onto_piece, pieces_of, piece_len, placed_from, onto_placed}
+use Rattle.snap_expected.specs.Pieces.{PlacedToken, PlacedTokens, begins_lexeme, is_joined, onto_piece, pieces_of, piece_len}
 
 -- tokens before others
 abbrev pub before_placed : List PlacedToken → PlacedTokens → PlacedTokens
@@ -16,18 +17,11 @@ Begins c (piece ∷ ps) = (rest : List ℕ) × (piece ≡ c ∷ rest)
 
 onto_begins : (c : ℕ) (ps : List (List ℕ)) → Begins c (onto_piece c ps)
 onto_begins c [] = ([], refl)
-onto_begins c (piece ∷ ps) = by (is_joined c piece)
-  where
-    by : (w : Bool) → Begins c (if w then (c ∷ piece) ∷ ps else (c ∷ []) ∷ piece ∷ ps)
-    by true = (piece, refl)
-    by false = ([], refl)
+onto_begins c (piece ∷ ps) =
+    elim (is_joined c piece) as (λ w. Begins c (if w then (c ∷ piece) ∷ ps else (c ∷ []) ∷ piece ∷ ps)) [ true ↦ (piece, refl) | false ↦ ([], refl) ]
 
 line_begins : (c : ℕ) (cs : List ℕ) → Begins c (pieces_of (c ∷ cs))
-line_begins c cs = by (nat_eq c 35)
-  where
-    by : (w : Bool) → Begins c (if w then [] else onto_piece c (pieces_of cs))
-    by true = tt
-    by false = onto_begins c (pieces_of cs)
+line_begins c cs = elim (nat_eq c 35) as (λ w. Begins c (if w then [] else onto_piece c (pieces_of cs))) [ true ↦ tt | false ↦ onto_begins c (pieces_of cs) ]
 
 -- whether two bytes side by side are of one piece
 abbrev are_joined : ℕ → ℕ → Bool
@@ -37,23 +31,76 @@ apart : (b c : ℕ) (ps : List (List ℕ)) → Begins c ps → are_joined b c �
 apart b c [] h e = refl
 apart b c (piece ∷ ps) h e = rw h.1 (rw e refl)
 
+together : (b c : ℕ) (piece : List ℕ) (ps : List (List ℕ)) → are_joined b c ≡ true → onto_piece b ((c ∷ piece) ∷ ps) ≡ (b ∷ c ∷ piece) ∷ ps
+together b c piece ps e = rw e refl
+
 -- a byte alone before a line
 alone : (b : ℕ) (bs : List ℕ) → ((c : ℕ) (cs : List ℕ) → bs ≡ c ∷ cs → are_joined b c ≡ false) → onto_piece b (pieces_of bs) ≡ (b ∷ []) ∷ pieces_of bs
 alone b [] h = refl
 alone b (c ∷ cs) h = apart b c (pieces_of (c ∷ cs)) (line_begins c cs) (h c cs refl)
 
-no_comment : (b : ℕ) → is_lexeme_byte b ≡ true → nat_eq b 35 ≡ false
-no_comment b e = ?
+lexeme_is : (b k : ℕ) → is_lexeme_byte b ≡ true → is_lexeme_byte k ≡ false → nat_eq b k ≡ false
+lexeme_is b k e f = elim (nat_eq b k) as (λ w. nat_eq b k ≡ w → nat_eq b k ≡ false) [ true ↦ λ g. absurd (let same : b ≡ k = eqb-true b k g in let t : is_lexeme_byte k ≡ true = ap is_lexeme_byte (sym same) ∙ e in cc) | false ↦ λ g. g ] refl
 
-no_mark : (b : ℕ) → is_lexeme_byte b ≡ true → nat_eq b 33 ≡ false
-no_mark b e = ?
+-- where no comment begins
+with_byte : (b : ℕ) (bs : List ℕ) → nat_eq b 35 ≡ false → pieces_of (b ∷ bs) ≡ onto_piece b (pieces_of bs)
+with_byte b bs e = rw e refl
 
+joined_lexeme : (b c : ℕ) → is_lexeme_byte b ≡ true → is_lexeme_byte c ≡ true → are_joined b c ≡ true
+joined_lexeme b c e f = rw e (rw f refl)
+
+apart_lexeme : (b c : ℕ) → is_lexeme_byte b ≡ true → is_lexeme_byte c ≡ false → are_joined b c ≡ false
+apart_lexeme b c e f = let m = lexeme_is b 33 e refl in rw e (rw f (rw m refl))
+
+-- a lexeme is one piece
 lexeme_piece : (b : ℕ) (bs : List ℕ) → is_lexeme_byte b ≡ true →
     onto_piece b (pieces_of bs) ≡ (b ∷ take (lexeme_len bs) bs) ∷ pieces_of (drop (lexeme_len bs) bs)
 lexeme_piece b [] e = refl
-lexeme_piece b (c ∷ cs) e = ?
+lexeme_piece b (c ∷ cs) e =
+    elim (is_lexeme_byte c) as (λ w. is_lexeme_byte c ≡ w →
+    onto_piece b (pieces_of (c ∷ cs)) ≡ (b ∷ take (if w then lexeme_len cs + 1 else 0) (c ∷ cs)) ∷ pieces_of (drop (if w then lexeme_len cs + 1 else 0) (c ∷ cs))) [
+      | true ↦ λ f. rw add-one (
+          ap (onto_piece b) (with_byte c cs (lexeme_is c 35 f refl) ∙ lexeme_piece c cs f)
+          ∙ together b c (take (lexeme_len cs) cs) (pieces_of (drop (lexeme_len cs) cs)) (joined_lexeme b c e f))
+      | false ↦ λ f. apart b c (pieces_of (c ∷ cs)) (line_begins c cs) (apart_lexeme b c e f)
+    ] refl
 
+equal_alone : (cs : List ℕ) → onto_piece 61 (pieces_of cs) ≡ (61 ∷ []) ∷ pieces_of cs
+equal_alone cs = alone 61 cs (λ d ds e. refl)
+
+-- a mark and `=` are one piece
+different_piece : (cs : List ℕ) → onto_piece 33 (pieces_of (61 ∷ cs)) ≡ (33 ∷ 61 ∷ []) ∷ pieces_of cs
+different_piece cs = ap (onto_piece 33) (equal_alone cs)
+
+other_apart : (b c : ℕ) → is_lexeme_byte b ≡ false → (nat_eq b 33 && nat_eq 61 c) ≡ false → are_joined b c ≡ false
+other_apart b c e f = rw e f
+
+other_piece : (b : ℕ) (bs : List ℕ) → is_lexeme_byte b ≡ false → (nat_eq b 33 && begins_with 61 bs) ≡ false → onto_piece b (pieces_of bs) ≡ (b ∷ []) ∷ pieces_of bs
+other_piece b [] e f = refl
+other_piece b (c ∷ cs) e f = apart b c (pieces_of (c ∷ cs)) (line_begins c cs) (other_apart b c e f)
+
+-- the byte behind a mark that begins `!=`
+different_by : (b : ℕ) (bs : List ℕ) → (nat_eq b 33 && begins_with 61 bs) ≡ true → onto_piece b (pieces_of bs) ≡ take 2 (b ∷ bs) ∷ pieces_of (drop 2 (b ∷ bs))
+different_by b [] e = absurd (let h = and_parts (nat_eq b 33) false e in cc h.1)
+different_by b (c ∷ cs) e =
+    let h = and_parts (nat_eq b 33) (nat_eq 61 c) e in
+    subst (λ (x : ℕ). onto_piece x (pieces_of (c ∷ cs)) ≡ take 2 (x ∷ c ∷ cs) ∷ pieces_of (drop 2 (x ∷ c ∷ cs))) (sym (eqb-true b 33 h.0))
+    (subst (λ (y : ℕ). onto_piece 33 (pieces_of (y ∷ cs)) ≡ (33 ∷ y ∷ []) ∷ pieces_of cs) (eqb-true 61 c h.1) (different_piece cs))
+
+by_byte : (b : ℕ) (bs : List ℕ) → onto_piece b (pieces_of bs) ≡ take (piece_len (b ∷ bs)) (b ∷ bs) ∷ pieces_of (drop (piece_len (b ∷ bs)) (b ∷ bs))
+by_byte b bs =
+    elim (is_lexeme_byte b) as (λ w. is_lexeme_byte b ≡ w → onto_piece b (pieces_of bs) ≡
+    take (if w then lexeme_len bs + 1 else if nat_eq b 33 && begins_with 61 bs then 2 else 1) (b ∷ bs) ∷ pieces_of (drop (if w then lexeme_len bs + 1 else if nat_eq b 33 && begins_with 61 bs then 2 else 1) (b ∷ bs))) [
+      | true ↦ λ e. rw add-one (lexeme_piece b bs e)
+      | false ↦ λ e. elim (nat_eq b 33 && begins_with 61 bs) as (λ w. (nat_eq b 33 && begins_with 61 bs) ≡ w → onto_piece b (pieces_of bs) ≡
+          take (if w then 2 else 1) (b ∷ bs) ∷ pieces_of (drop (if w then 2 else 1) (b ∷ bs))) [
+            | true ↦ λ f. different_by b bs f
+            | false ↦ λ f. other_piece b bs e f
+          ] refl
+    ] refl
+
+-- the first piece of a line that no comment begins, and those behind it
 pub first_piece : (bs : List ℕ) (d : ℕ) → 0 < length bs → nat_eq (get_or bs 0 d) 35 ≡ false →
     pieces_of bs ≡ take (piece_len bs) bs ∷ pieces_of (drop (piece_len bs) bs)
 first_piece [] d h e = absurd (omega arith)
-first_piece (b ∷ bs) d h e = ?
+first_piece (b ∷ bs) d h e = with_byte b bs e ∙ by_byte b bs

@@ -11,15 +11,16 @@ use Rattle.snap_expected.specs.declared.sorts.Header.{Header}
 use Rattle.snap_expected.specs.declared.sorts.Header.TheVariants as header
 use Rattle.snap_expected.specs.After.{Step, Takes, Passes, Refuses, after, may_pass}
 
+-- what is wanted behind a token that makes this step, with these wanted behind; where it passes on, that is said already
+abbrev pub stepped : List Wanted → Option (List Wanted) → Step → Option (List Wanted)
+stepped ws passed (Takes next) = Some (next ++ ws)
+stepped ws passed Passes = passed
+stepped ws passed Refuses = None
+
 -- What is wanted behind a token, where these are wanted in a row; none where the line does not go on with it.
 abbrev pub step : Token → List Wanted → Option (List Wanted)
 step t [] = None
-step t (w ∷ ws) = behind (after w t)
-  where
-    behind : Step → Option (List Wanted)
-    behind (Takes next) = Some (next ++ ws)
-    behind Passes = step t ws
-    behind Refuses = None
+step t (w ∷ ws) = stepped ws (step t ws) (after w t)
 
 -- whether a line may end where these are wanted
 abbrev pub may_end : List Wanted → Bool
@@ -35,14 +36,15 @@ abbrev pub one_later : Option Place → Option Place
 one_later None = None
 one_later (Some p) = Some (record { before = p.before + 1; wanted = p.wanted })
 
+-- a token with which a line does not go on is lost, where these are wanted; else a place behind it may be
+abbrev pub lost_behind : List Wanted → (List Wanted → Option Place) → Option (List Wanted) → Option Place
+lost_behind ws later None = Some (record { before = 0; wanted = ws })
+lost_behind ws later (Some next) = one_later (later next)
+
 -- where tokens are lost: at the first one with which the line does not go on, or at the end of the line; none where they are all that is wanted
 abbrev pub lost : List Wanted → List Token → Option Place
 lost ws [] = if may_end ws then None else Some (record { before = 0; wanted = ws })
-lost ws (t ∷ ts) = behind (step t ws)
-  where
-    behind : Option (List Wanted) → Option Place
-    behind None = Some (record { before = 0; wanted = ws })
-    behind (Some next) = one_later (lost next ts)
+lost ws (t ∷ ts) = lost_behind ws (λ next. lost next ts) (step t ws)
 
 -- what each header line is
 abbrev pub wanted_of_header : Header → List Wanted

@@ -1,8 +1,8 @@
 //! Where a line is lost.
-ghost use Rattle.std.specs.Prelude.{◌≡◌, IfOk, map, option_map};
+ghost use Rattle.std.specs.Prelude.{◌≡◌, IfOk, option_map, vec_items};
 ghost use Rattle.snap_text.specs.Tokens.{view_token};
 ghost use Rattle.snap_expected.specs.Lost.{step, may_end, lost, wanted_of_header, wanted_of, lost_in};
-ghost use Rattle.snap_expected.specs.Steps.{next_items, placed_tokens, view_lost};
+ghost use Rattle.snap_expected.specs.Steps.{placed_tokens, view_lost};
 
 use crate::after::{Step, after, may_pass};
 use crate::pieces::PlacedToken;
@@ -26,7 +26,7 @@ fn step(
     token: &Token<'_>,
     wanted: &[Wanted],
 ) -> Result<Option<Vec<Wanted>>, AllocError>
-    ensures { IfOk result (λ next. option_map next_items next
+    ensures { IfOk result (λ next. option_map vec_items next
         ≡ step (view_token token.now) wanted.now) }
 {
     let mut rest = wanted;

@@ -49,15 +49,16 @@ is_bad (Identifier w) = is_bad_name w
 is_bad (Number k) = false
 is_bad (Sign m) = false
 
+-- a token that is one of these; else what is found behind it, where its word is known too
+abbrev pub again_at : List (List ℕ) → (List (List ℕ) → Option PlacedToken) → PlacedToken → Token → Option PlacedToken
+again_at known later t (Identifier w) = if is_among w known then Some t else later (known ++ (w ∷ []))
+again_at known later t (Number k) = later known
+again_at known later t (Sign m) = later known
+
 -- the first name that one of these or a name before it is
 abbrev pub first_again : List (List ℕ) → List PlacedToken → Option PlacedToken
 first_again known [] = None
-first_again known (t ∷ ts) = again t.token
-  where
-    again : Token → Option PlacedToken
-    again (Identifier w) = if is_among w known then Some t else first_again (known ++ (w ∷ [])) ts
-    again (Number k) = first_again known ts
-    again (Sign m) = first_again known ts
+first_again known (t ∷ ts) = again_at known (λ more. first_again more ts) t t.token
 
 -- one letter away: put in, left out, or another one
 abbrev pub is_near : List ℕ → List ℕ → Bool

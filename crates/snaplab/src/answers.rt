@@ -1,13 +1,14 @@
 //! What the program does about its command line, over any devices.
-ghost use Rattle.std.specs.Prelude.{◌≡◌, ◌++◌, false, codes, IfOk};
+ghost use Rattle.std.specs.Prelude.{◌≡◌, ◌++◌, false, codes, IfOk, OnOk, OnErr};
 ghost use Rattle.snap_command_line.specs.Limits.{HasLimits};
 ghost use Rattle.snap_program.specs.FaultText.{fault_text};
 ghost use Rattle.snap_tasks.specs.Request.{HasLimit};
-ghost use Rattle.snaplab.specs.Answer.{AnswersLine, CarriesOut, Says, SaysFault, exit_status};
+ghost use Rattle.snaplab.specs.Answer.{AnswersAsked, AnswersLine, CarriesOut, Says, SaysFault, explained, exit_status};
 
-use snap_command_line::CommandLine;
+use snap_command_line::{Asked, CommandLine};
+use snap_explanation::{explanation, layout_of};
 use snap_program::{
-    ByteSink, ByteSource, ConductFault, NoGate, conduct, conduct_live, fault_line, fault_status,
+    ByteSink, ByteSource, ConductFault, NoGate, conduct_keeping, conduct_live_keeping, fault_line, fault_status,
     write_all,
 };
 use snap_tasks::Request;
@@ -55,26 +56,102 @@ fn finish<E: ByteSink>(alloc: Global, done: &Result<(), ConductFault>, errors: &
     }
 }
 
-/// Does what is asked for: reads a source, and writes what comes of it to a sink.
+/// What is said behind the line of a fault, where refusals are explained and there is memory for it.
+fn push_explained(
+    alloc: Global,
+    asked: &Asked,
+    input: &[u8],
+    fault: &ConductFault,
+    line: &mut Vec<u8>,
+) -> Result<(), AllocError>
+    ensures ok { OnOk result (line.new.items
+        ≡ line.old.items ++ explained asked.now.explains asked.now.request input.now fault.now) }
+    ensures unchanged { OnErr result (line.new ≡ line.old) }
+{
+    match fault {
+        ConductFault::Refused(refusal) if asked.explains => {
+            let layout = layout_of(&asked.request);
+            let text = explanation(alloc, layout, input, refusal)?;
+            line.extend_from_slice(text.as_slice())
+        }
+        _ => Ok(()),
+    }
+}
+
+/// Says why nothing, or not all, was written, and explains it where that is asked for. There may be
+/// no memory for that either.
+fn explain<E: ByteSink>(
+    alloc: Global,
+    asked: &Asked,
+    input: &[u8],
+    fault: &ConductFault,
+    errors: &mut E,
+)
+    requires { E.has_failed errors.old ≡ false }
+    ensures { Says (fault_text fault.now ++ codes "\n"
+        ++ explained asked.now.explains asked.now.request input.now fault.now)
+        (E.taken errors.old) (E.taken errors.new) }
+{
+    match fault_line(alloc, fault) {
+        Ok(mut line) => {
+            let _explained = push_explained(alloc, asked, input, fault, &mut line);
+            say(line.as_slice(), errors);
+        }
+        Err(_) => complain(alloc, fault, errors),
+    }
+}
+
+/// Does what is asked for: reads a source, and writes what comes of it to a sink. The input is
+/// kept.
 fn carry_out<R: ByteSource, W: ByteSink>(
     rt: &(impl Threads + Wait + Sync),
     alloc: Global,
     asked: &Request,
     source: &mut R,
     sink: &mut W,
+    kept: &mut Vec<u8>,
 ) -> Result<(), ConductFault>
     requires limit { HasLimit asked.now }
     requires source { R.has_failed source.old ≡ false }
     requires sink { W.has_failed sink.old ≡ false }
     requires goes_on { W.is_stalled sink.old ≡ false }
-    ensures { CarriesOut asked.now result (R.left source.old) (R.left source.new) (W.taken sink.old)
-        (W.taken sink.new) (R.has_failed source.new) (W.has_failed sink.new)
+    ensures { CarriesOut asked.now kept.new.items result (R.left source.old) (R.left source.new)
+        (W.taken sink.old) (W.taken sink.new) (R.has_failed source.new) (W.has_failed sink.new)
         (W.is_stalled sink.new) }
 {
     match *asked {
-        Request::Do(task) => conduct(rt, alloc, &task, source, sink),
+        Request::Do(task) => conduct_keeping(rt, alloc, &task, source, sink, kept),
         Request::Live(subject, limit) => {
-            conduct_live(rt, alloc, subject, limit, &NoGate, source, sink)
+            conduct_live_keeping(rt, alloc, subject, limit, &NoGate, source, sink, kept)
+        }
+    }
+}
+
+/// Does what is asked for, says why where it is not done, and answers the status of it.
+fn do_asked<R: ByteSource, W: ByteSink, E: ByteSink>(
+    rt: &(impl Threads + Wait + Sync),
+    alloc: Global,
+    asked: &Asked,
+    source: &mut R,
+    sink: &mut W,
+    errors: &mut E,
+) -> u8
+    requires limit { HasLimit asked.now.request }
+    requires source { R.has_failed source.old ≡ false }
+    requires sink { W.has_failed sink.old ≡ false }
+    requires goes_on { W.is_stalled sink.old ≡ false }
+    requires errors { E.has_failed errors.old ≡ false }
+    ensures { AnswersAsked asked.now result (R.left source.old) (R.left source.new)
+        (W.taken sink.old) (W.taken sink.new)
+        (E.taken errors.old) (E.taken errors.new) (R.has_failed source.new) (W.has_failed sink.new)
+        (W.is_stalled sink.new) }
+{
+    let mut input = Vec::new(alloc);
+    match carry_out(rt, alloc, &asked.request, source, sink, &mut input) {
+        Ok(()) => 0,
+        Err(fault) => {
+            explain(alloc, asked, input.as_slice(), &fault, errors);
+            fault_status(&fault)
         }
     }
 }
@@ -101,8 +178,7 @@ pub fn answer<R: ByteSource, W: ByteSink, E: ByteSink>(
 {
     match line {
         Ok(CommandLine::Asks(asked)) => {
-            let done = carry_out(rt, alloc, asked, source, sink);
-            finish(alloc, &done, errors)
+            do_asked(rt, alloc, asked, source, sink, errors)
         }
         Ok(CommandLine::Help(text)) => {
             let done = write_all(sink, text.as_bytes());

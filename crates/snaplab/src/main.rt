@@ -10,7 +10,7 @@ use answers::answer;
 use snap_command_line::{CommandLine, read_arguments};
 use snap_program::Std;
 use std::alloc::AllocError;
-use std::io;
+use std::io::{self, IsTerminal};
 use std::process::ExitCode;
 
 /// What the arguments of the command line come to.
@@ -25,7 +25,8 @@ fn command_line(rt: &HostRuntime) -> Result<CommandLine, AllocError>
     let Ok(arguments) = arguments.collect::<Vec<String>>(rt.alloc()) else {
         return Err(AllocError);
     };
-    read_arguments(rt.alloc(), arguments.as_slice())
+    let line = read_arguments(rt.alloc(), arguments.as_slice())?;
+    Ok(line.explained_if(rt.stderr().is_terminal()))
 }
 
 fn main(rt: HostRuntime) -> ExitCode {

@@ -1,6 +1,6 @@
 use Rattle.snap_program.specs.WholeRun.{IsOutputOf, RefusesTask, of_fault}
 use Rattle.snap_program.proofs.Runs.{refused, sends, why_task}
-use Rattle.snap_program.proofs.whole_run.conduct.Goals as goal
+use Rattle.snap_program.proofs.whole_run.conduct_keeping.Goals as goal
 
 pub returns-in_err-text : goal.returns-in_err-text
 returns-in_err-text g c =

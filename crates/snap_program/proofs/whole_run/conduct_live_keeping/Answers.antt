@@ -1,7 +1,7 @@
 use Rattle.snap_live_output.specs.LiveOutput.{MayWrite}
 use Rattle.snap_program.specs.WholeRun.{RefusesLive, of_live_fault}
 use Rattle.snap_program.proofs.Runs.{refused, sends, why_live}
-use Rattle.snap_program.proofs.whole_run.conduct_live.Goals as goal
+use Rattle.snap_program.proofs.whole_run.conduct_live_keeping.Goals as goal
 
 pub returns-in_err-text : goal.returns-in_err-text
 returns-in_err-text g c =

@@ -1,14 +1,17 @@
 -- The pieces of a line, the first one first.
-use Rattle.std.proofs.Common.{◌≡◌, ℕ, ◌+◌, ◌-◌, ◌<◌, ◌≤◌, ◌×◌, List, [], ◌∷◌, ◌++◌, length, take, drop, get_or, Option, Some, None, refl, sym, ap, ◌∙◌, arith, true, false, Bool, ◌&&◌, ◌||◌, nat_eq, add-one, if◌then◌else◌, subst}
+use Rattle.std.proofs.Common.{◌≡◌, ℕ, ◌+◌, ◌-◌, ◌<◌, ◌≤◌, List, [], ◌∷◌, ◌++◌, length, take, drop, get_or, Option, Some, None, refl, sym, ap, ◌∙◌, arith, true, false, Bool, ◌&&◌, ◌||◌, nat_eq, add-one, if◌then◌else◌, subst, append-nil, append_assoc}
 use Rattle.std.proofs.lemmas.Bool.{eqb-true, and_parts}
 use Rattle.std.proofs.lemmas.Grind.{common_steps}
-use Rattle.snap_semantics.specs.Token.{begins_with, is_lexeme_byte}
+use Rattle.snap_semantics.specs.Token.{Token, begins_with, is_lexeme_byte, tokens_of}
 use Rattle.snap_text.specs.Tokens.{lexeme_len}
-use Rattle.snap_expected.specs.Pieces.{PlacedToken, PlacedTokens, begins_lexeme, is_joined, onto_piece, pieces_of, piece_len}
+use Rattle.snap_expected.specs.Pieces.{PlacedToken, PlacedTokens, begins_lexeme, is_joined, onto_piece, pieces_of, piece_len, first_placed, onto_placed, placed_from}
 
 -- tokens before others
 abbrev pub before_placed : List PlacedToken → PlacedTokens → PlacedTokens
 before_placed ts p = record { tokens = ts ++ p.tokens; stray = p.stray }
+
+abbrev with_stray : List PlacedToken → Option ℕ → PlacedTokens
+with_stray ts stray = record { tokens = ts; stray = stray }
 
 -- the first piece begins with this byte
 abbrev Begins : ℕ → List (List ℕ) → Type 0
@@ -104,3 +107,40 @@ pub first_piece : (bs : List ℕ) (d : ℕ) → 0 < length bs → nat_eq (get_or
     pieces_of bs ≡ take (piece_len bs) bs ∷ pieces_of (drop (piece_len bs) bs)
 first_piece [] d h e = absurd (omega arith)
 first_piece (b ∷ bs) d h e = with_byte b bs e ∙ by_byte b bs
+
+-- tokens, and then a byte that begins none
+abbrev stray_behind : List PlacedToken → ℕ → PlacedTokens
+stray_behind ts column = record { tokens = ts; stray = Some column }
+
+stray_first : (column : ℕ) (piece : List ℕ) (ps : List (List ℕ)) (out : List PlacedToken) → tokens_of piece ≡ None →
+    before_placed out (placed_from column (piece ∷ ps)) ≡ stray_behind out column
+stray_first column piece ps out e =
+    ap (λ (o : Option (List Token)). before_placed out (onto_placed column o (placed_from (column + length piece) ps))) e
+    ∙ ap (λ (ts : List PlacedToken). stray_behind ts column) (append-nil out)
+
+-- the first piece is no token
+pub ends_here : (rest piece : List ℕ) (n column d : ℕ) (out : List PlacedToken) (all : PlacedTokens) → 0 < length rest → nat_eq (get_or rest 0 d) 35 ≡ false →
+    n ≡ piece_len rest → piece ≡ take n rest → tokens_of piece ≡ None → before_placed out (placed_from column (pieces_of rest)) ≡ all → stray_behind out column ≡ all
+ends_here rest piece n column d out all some h len front e inv =
+    let same : piece ≡ take (piece_len rest) rest = front ∙ ap (λ (k : ℕ). take k rest) len in
+    let none : tokens_of (take (piece_len rest) rest) ≡ None = ap tokens_of (sym same) ∙ e in
+    sym (stray_first column (take (piece_len rest) rest) (pieces_of (drop (piece_len rest) rest)) out none)
+    ∙ ap (λ (ps : List (List ℕ)). before_placed out (placed_from column ps)) (sym (first_piece rest d some h)) ∙ inv
+
+goes_first : (column : ℕ) (piece : List ℕ) (ps : List (List ℕ)) (out : List PlacedToken) (ts : List Token) → tokens_of piece ≡ Some ts →
+    before_placed out (placed_from column (piece ∷ ps)) ≡ before_placed (out ++ first_placed column ts) (placed_from (column + length piece) ps)
+goes_first column piece ps out ts e =
+    ap (λ (o : Option (List Token)). before_placed out (onto_placed column o (placed_from (column + length piece) ps))) e
+    ∙ ap (λ (us : List PlacedToken). with_stray us (placed_from (column + length piece) ps).stray) (sym (append_assoc out (first_placed column ts) (placed_from (column + length piece) ps).tokens))
+
+-- the first piece is a token, or space
+pub goes_on : (rest piece after : List ℕ) (n column d : ℕ) (out longer : List PlacedToken) (ts : List Token) (all : PlacedTokens) → 0 < length rest → nat_eq (get_or rest 0 d) 35 ≡ false →
+    n ≡ piece_len rest → piece ≡ take n rest → after ≡ drop n rest → tokens_of piece ≡ Some ts → longer ≡ out ++ first_placed column ts →
+    before_placed out (placed_from column (pieces_of rest)) ≡ all → before_placed longer (placed_from (column + length piece) (pieces_of after)) ≡ all
+goes_on rest piece after n column d out longer ts all some h len front back e more inv =
+    let parted : pieces_of rest ≡ piece ∷ pieces_of after =
+        first_piece rest d some h ∙ ap (λ (k : ℕ). take k rest ∷ pieces_of (drop k rest)) (sym len)
+        ∙ ap (λ (x : List ℕ). x ∷ pieces_of (drop n rest)) (sym front) ∙ ap (λ (x : List ℕ). piece ∷ pieces_of x) (sym back) in
+    ap (λ (us : List PlacedToken). before_placed us (placed_from (column + length piece) (pieces_of after))) more
+    ∙ sym (goes_first column piece (pieces_of after) out ts e)
+    ∙ ap (λ (ps : List (List ℕ)). before_placed out (placed_from column ps)) (sym parted) ∙ inv

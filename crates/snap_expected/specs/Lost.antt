@@ -32,19 +32,16 @@ pub record Place : Type 0 where
   pub before : ℕ
   pub wanted : List Wanted
 
-abbrev pub one_later : Option Place → Option Place
-one_later None = None
-one_later (Some p) = Some (record { before = p.before + 1; wanted = p.wanted })
+-- a token with which a line does not go on is lost, where so many stand before it and these are wanted; else a place behind it may be
+abbrev pub lost_at : (before : ℕ) → List Wanted → (List Wanted → Option Place) → Option (List Wanted) → Option Place
+lost_at before ws later None = Some (record { before = before; wanted = ws })
+lost_at before ws later (Some next) = later next
 
--- a token with which a line does not go on is lost, where these are wanted; else a place behind it may be
-abbrev pub lost_behind : List Wanted → (List Wanted → Option Place) → Option (List Wanted) → Option Place
-lost_behind ws later None = Some (record { before = 0; wanted = ws })
-lost_behind ws later (Some next) = one_later (later next)
-
--- where tokens are lost: at the first one with which the line does not go on, or at the end of the line; none where they are all that is wanted
-abbrev pub lost : List Wanted → List Token → Option Place
-lost ws [] = if may_end ws then None else Some (record { before = 0; wanted = ws })
-lost ws (t ∷ ts) = lost_behind ws (λ next. lost next ts) (step t ws)
+-- where tokens are lost behind so many others: at the first one with which the line does not go on, or at the end of the line; none where
+-- they are all that is wanted
+abbrev pub lost : (before : ℕ) → List Wanted → List Token → Option Place
+lost before ws [] = if may_end ws then None else Some (record { before = before; wanted = ws })
+lost before ws (t ∷ ts) = lost_at before ws (λ next. lost (before + 1) next ts) (step t ws)
 
 -- what each header line is
 abbrev pub wanted_of_header : Header → List Wanted
@@ -67,4 +64,4 @@ wanted_of line.Command = wanted.Command ∷ []
 
 -- where a line of this sort is lost
 abbrev pub lost_in : LineSort → List Token → Option Place
-lost_in sort ts = lost (wanted_of sort) ts
+lost_in sort ts = lost 0 (wanted_of sort) ts

@@ -1,5 +1,5 @@
 -- The tokens of a line with their columns, from 1, which count bytes; and the first column at which no token begins.
-use Rattle.std.specs.Prelude.{ℕ, ◌+◌, Bool, false, ◌&&◌, ◌||◌, nat_eq, List, [], ◌∷◌, length, Option, Some, None, if◌then◌else◌}
+use Rattle.std.specs.Prelude.{ℕ, ◌+◌, Bool, false, ◌&&◌, ◌||◌, nat_eq, List, [], ◌∷◌, ◌++◌, length, Option, Some, None, if◌then◌else◌}
 use Rattle.snap_text.specs.Tokens.{lexeme_len}
 use Rattle.snap_semantics.specs.Token.{Token, begins_with, is_lexeme_byte, tokens_of}
 
@@ -36,11 +36,15 @@ pub record PlacedTokens : Type 0 where
   pub tokens : List PlacedToken
   pub stray : Option ℕ
 
--- the tokens of a piece before others; a piece that is no token ends them
+-- the first token of a piece, which has no more, in its column
+abbrev pub first_placed : (column : ℕ) → List Token → List PlacedToken
+first_placed column [] = []
+first_placed column (t ∷ ts) = record { column = column; token = t } ∷ []
+
+-- the token of a piece before others; a piece that is no token ends them
 abbrev pub onto_placed : (column : ℕ) → Option (List Token) → PlacedTokens → PlacedTokens
 onto_placed column None placed = record { tokens = []; stray = Some column }
-onto_placed column (Some []) placed = placed
-onto_placed column (Some (t ∷ ts)) placed = record { tokens = record { column = column; token = t } ∷ placed.tokens; stray = placed.stray }
+onto_placed column (Some ts) placed = record { tokens = first_placed column ts ++ placed.tokens; stray = placed.stray }
 
 -- the tokens of pieces, the first of which stands in this column
 abbrev pub placed_from : (column : ℕ) → List (List ℕ) → PlacedTokens

@@ -64,7 +64,7 @@ fn lost(
     tokens: &[PlacedToken<'_>],
 ) -> Result<Option<LostPlace>, AllocError>
     ensures { IfOk result (λ place. option_map view_lost place
-        ≡ lost wanted.items (placed_tokens tokens.now)) }
+        ≡ lost 0 wanted.items (placed_tokens tokens.now)) }
 {
     let mut wanted = wanted;
     let mut before = 0;

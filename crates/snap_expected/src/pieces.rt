@@ -1,9 +1,9 @@
 //! The tokens of a line with their columns.
-ghost use Rattle.std.specs.Prelude.{◌≡◌, ◌≤◌, ◌<◌, IfOk, length};
+ghost use Rattle.std.specs.Prelude.{◌≡◌, ◌≤◌, ◌<◌, ◌++◌, IfOk, OnOk, length, map};
 ghost use Rattle.snap_semantics.specs.Token.{begins_with, is_lexeme_byte};
-ghost use Rattle.snap_text.specs.Tokens.{lexeme_len};
-ghost use Rattle.snap_expected.specs.Pieces.{piece_len, placed_of};
-ghost use Rattle.snap_expected.specs.Steps.{view_placed};
+ghost use Rattle.snap_text.specs.Tokens.{lexeme_len, view_tokens};
+ghost use Rattle.snap_expected.specs.Pieces.{first_placed, piece_len, placed_of};
+ghost use Rattle.snap_expected.specs.Steps.{view_placed, view_placed_token};
 
 use snap_text::{Token, tokens};
 use std::alloc::{AllocError, Global};
@@ -72,32 +72,44 @@ pub fn piece_len(bytes: &[u8]) -> usize
     }
 }
 
+/// Adds the first token of a piece, which has no more, in its column.
+fn push_first<'a>(
+    out: &mut Vec<PlacedToken<'a>>,
+    column: usize,
+    found: &[Token<'a>],
+) -> Result<(), AllocError>
+    ensures { OnOk result (map view_placed_token out.new.items
+        ≡ map view_placed_token out.old.items ++ first_placed column (view_tokens found.now)) }
+{
+    match found {
+        [] => Ok(()),
+        [token, ..] => Ok(out.push(PlacedToken {
+            column,
+            token: *token,
+        })?),
+    }
+}
+
 /// The tokens of a line with their columns.
 pub fn placed_tokens(alloc: Global, line: &[u8]) -> Result<PlacedTokens<'_>, AllocError>
     ensures { IfOk result (λ placed. view_placed placed ≡ placed_of line.now) }
 {
     let mut out = Vec::new(alloc);
-    let mut at = 0;
-    while at < line.len() && line[at] != b'#' {
-        let rest = &line[at..];
-        let (piece, _) = rest.split_at(piece_len(rest));
+    let mut column = 1;
+    let mut rest = line;
+    while !rest.is_empty() && rest[0] != b'#' {
+        let (piece, after) = rest.split_at(piece_len(rest));
         match tokens(alloc, piece)? {
             None => {
                 return Ok(PlacedTokens {
                     tokens: out,
-                    stray: Some(at + 1),
+                    stray: Some(column),
                 });
             }
-            Some(found) => {
-                if let [token, ..] = found.as_slice() {
-                    out.push(PlacedToken {
-                        column: at + 1,
-                        token: *token,
-                    })?;
-                }
-            }
+            Some(found) => push_first(&mut out, column, found.as_slice())?,
         }
-        at += piece.len();
+        column += piece.len();
+        rest = after;
     }
     Ok(PlacedTokens {
         tokens: out,

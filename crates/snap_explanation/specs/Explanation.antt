@@ -1,5 +1,5 @@
 -- What is said of a refused input behind the line that refuses it.
-use Rattle.std.specs.Prelude.{ℕ, ◌+◌, List, [], ◌∷◌, ◌++◌, length, take, drop, Option, Some, None, nat_lt, codes, slice_get, map, if◌then◌else◌}
+use Rattle.std.specs.Prelude.{ℕ, ◌-◌, List, [], ◌∷◌, ◌++◌, length, take, drop, Option, Some, None, nat_lt, codes, slice_get, map, if◌then◌else◌}
 use Rattle.snap_semantics.specs.Report.{numbers_text}
 use Rattle.snap_input.specs.Parts.{parts_of}
 use Rattle.snap_semantics.specs.declared.refusal.CommandRefusal.{CommandRefusal}
@@ -27,7 +27,7 @@ use Rattle.snap_explanation.specs.declared.layout.Texts.{Texts}
 use Rattle.snap_explanation.specs.declared.layout.Texts.TheVariants as texts
 use Rattle.snap_explanation.specs.Advice.{advice, advice_line, stray_advice}
 use Rattle.snap_explanation.specs.Names.{words_before, header_count, is_unknown, first_such, is_bad, first_again, nearest, leading_line, first_led}
-use Rattle.snap_explanation.specs.Part.{Part, part_place}
+use Rattle.snap_explanation.specs.Part.{Part, part_place, lines_through}
 use Rattle.snap_explanation.specs.Spot.{nth_line, piece_at, column_of, shown, spot, line_spot}
 use Rattle.snap_explanation.specs.Texts.{expected_line}
 
@@ -44,14 +44,15 @@ abbrev pub stray_text : Part → ℕ → List ℕ → ℕ → List ℕ
 stray_text p k text column =
     spot p k text column ++ codes "`" ++ shown (piece_at column text) ++ codes "` is no token\n" ++ advice_line (stray_advice (piece_at column text))
 
+-- what stands at a token, which may be the end of the line
+abbrev pub piece_of : List ℕ → Option PlacedToken → List ℕ
+piece_of text None = []
+piece_of text (Some t) = piece_at t.column text
+
 -- a line that is lost at a place
 abbrev pub lost_text : Part → ℕ → List ℕ → List PlacedToken → Place → List ℕ
 lost_text p k text ts at =
     spot p k text (column_of text (slice_get ts at.before)) ++ expected_line at.wanted (piece_of text (slice_get ts at.before)) ++ token_advice at (slice_get ts at.before)
-  where
-    piece_of : List ℕ → Option PlacedToken → List ℕ
-    piece_of text None = []
-    piece_of text (Some t) = piece_at t.column text
 
 abbrev pub lost_or_line : Part → ℕ → List ℕ → List PlacedToken → Option Place → List ℕ
 lost_or_line p k text ts None = line_spot p k text
@@ -76,20 +77,20 @@ placed_line p k = tokens_in (placed_of (nth_line k (lines_of p.text)))
     tokens_in : PlacedTokens → List PlacedToken
     tokens_in x = x.tokens
 
--- which header line comes behind so many
-abbrev pub header_at : ℕ → Header
-header_at 0 = header.Kind
-header_at 1 = header.Scalars
-header_at 2 = header.Rows
-header_at 3 = header.Words
-header_at 4 = header.Views
-header_at 5 = header.Scan
-header_at _ = header.Update
+-- the header line behind this one; the last one stays
+abbrev pub next_header : Header → Header
+next_header header.Kind = header.Scalars
+next_header header.Scalars = header.Rows
+next_header header.Rows = header.Words
+next_header header.Words = header.Views
+next_header header.Views = header.Scan
+next_header header.Scan = header.Update
+next_header header.Update = header.Update
 
--- how many lines with tokens stand before line k
-abbrev pub count_before : (k : ℕ) → List TextLine → ℕ
-count_before k [] = 0
-count_before k (l ∷ ls) = if nat_lt l.number k then count_before k ls + 1 else 0
+-- which header line is expected at line k, where this one is expected first
+abbrev pub header_at : Header → (k : ℕ) → List TextLine → Header
+header_at h k [] = h
+header_at h k (l ∷ ls) = if nat_lt l.number k then header_at (next_header h) k ls else h
 
 -- the number of the first line with tokens; 1 where there is none
 abbrev pub first_number : List TextLine → ℕ
@@ -115,7 +116,7 @@ unknown_spot p k known t = token_spot p k t (unknown_text known t)
 
 abbrev pub listing_explained : Part → ListingRefusal → List ℕ
 listing_explained p listing.TooLong = codes "the text of a listing has at most 65536 bytes\n"
-listing_explained p (listing.BadHeader k) = form_text p (line.Header (header_at (count_before k (text_lines p.text)))) k
+listing_explained p (listing.BadHeader k) = form_text p (line.Header (header_at header.Kind k (text_lines p.text))) k
 listing_explained p (listing.BadLine k) = form_text p line.Numbered k
 listing_explained p (listing.NumberNotRising k) = token_spot p k (slice_get (placed_line p k) 0) (codes "the numbers of lines rise\n")
 listing_explained p (listing.UnknownName k) =
@@ -167,28 +168,33 @@ parts_words (layout.Parts (subject.Shipped g) texts.Schedules) = codes "1 to 409
 parts_words (layout.Parts (subject.Shipped g) texts.Scripts) = codes "1 part is taken: scripts; the listing is shipped"
 parts_words _ = codes "the whole input is taken"
 
--- the lines `%` of an input, behind so many lines
-abbrev pub separators : ℕ → List (List ℕ) → List ℕ
-separators before [] = []
-separators before (p ∷ []) = []
-separators before (p ∷ q ∷ ps) = (before + (length (lines_of p) + 1)) ∷ separators (before + (length (lines_of p) + 1)) (q ∷ ps)
+-- the lines behind parts, which are the lines `%` of an input but for the last one
+abbrev pub lines_behind : (before : ℕ) → List (List ℕ) → List ℕ
+lines_behind before [] = []
+lines_behind before (p ∷ ps) = lines_through before p ∷ lines_behind (lines_through before p) ps
+
+-- the lines `%` of an input
+abbrev pub separators : List (List ℕ) → List ℕ
+separators parts = take (length parts - 1) (lines_behind 0 parts)
 
 abbrev pub separator_words : List ℕ → List ℕ
 separator_words [] = codes "\nno line of the input is `%` alone\n"
 separator_words (k ∷ ks) = codes "\nthe lines `%` of the input, the first eight:" ++ numbers_text (take 8 (k ∷ ks)) ++ codes "\n"
 
 abbrev pub parts_explained : Layout → List ℕ → List ℕ
-parts_explained l input = parts_words l ++ separator_words (separators 0 (parts_of input))
+parts_explained l input = parts_words l ++ separator_words (separators (parts_of input))
+
+-- what is said of a refused part
+abbrev pub part_explained : Layout → Part → Refusal → List ℕ
+part_explained l p (refusal.Listing r) = listing_explained p r
+part_explained l p (refusal.Schedule r) = schedule_explained l p r
+part_explained l p (refusal.Words f) = shape_explained p (first_number (text_lines p.text))
+part_explained l p (refusal.Commands r) = commands_explained p r
+part_explained l p _ = []
 
 -- what is said behind the line of a refusal
 abbrev pub explanation : Layout → List ℕ → Refusal → List ℕ
 explanation l input refusal.InputTooLong = codes "an input has at most 16777216 bytes\n"
 explanation l input (refusal.WrongParts found) = parts_explained l input
-explanation l input (refusal.Listing r) = listing_explained (part_place l input (refusal.Listing r)) r
 explanation l input (refusal.Image r) = codes "an image is taken, as `snaplab assemble` writes it\n"
-explanation l input (refusal.Schedule r) = schedule_explained l (part_place l input (refusal.Schedule r)) r
-explanation l input (refusal.Words f) = shaped (part_place l input (refusal.Words f))
-  where
-    shaped : Part → List ℕ
-    shaped p = shape_explained p (first_number (text_lines p.text))
-explanation l input (refusal.Commands r) = commands_explained (part_place l input (refusal.Commands r)) r
+explanation l input r = part_explained l (part_place l input r) r

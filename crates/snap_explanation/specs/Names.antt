@@ -1,10 +1,11 @@
 -- Names of a listing's text, and the tokens of a line that a refusal is about.
-use Rattle.std.specs.Prelude.{ℕ, ◌+◌, ◌-◌, Bool, true, false, ◌&&◌, ◌||◌, not, List, [], ◌∷◌, ◌++◌, length, Option, Some, None, nat_eq, nat_le, nat_lt, bytes_eq, codes, if◌then◌else◌}
+use Rattle.std.specs.Prelude.{ℕ, ◌+◌, ◌-◌, Bool, true, false, ◌&&◌, ◌||◌, not, List, [], ◌∷◌, ◌++◌, length, drop, Option, Some, None, nat_eq, nat_le, nat_lt, bytes_eq, codes, if◌then◌else◌}
 use Rattle.std.specs.List.{list_any}
 use Rattle.snap_semantics.specs.Listing.{is_bad_name}
 use Rattle.snap_semantics.specs.ListingForms.{is_reserved}
 use Rattle.snap_semantics.specs.Token.{Token, Identifier, Number, Sign, TextLine}
 use Rattle.snap_expected.specs.Pieces.{PlacedToken}
+use Rattle.snap_semantics.specs.Rules.{or_else}
 use Rattle.snap_expected.specs.Tests.{is_word}
 
 -- the identifiers among tokens
@@ -60,11 +61,19 @@ abbrev pub first_again : List (List ℕ) → List PlacedToken → Option PlacedT
 first_again known [] = None
 first_again known (t ∷ ts) = again_at known (λ more. first_again more ts) t t.token
 
--- one letter away: put in, left out, or another one
+-- how many letters at the front of two words are the same
+abbrev pub common_len : List ℕ → List ℕ → ℕ
+common_len [] bs = 0
+common_len (a ∷ more) [] = 0
+common_len (a ∷ more) (b ∷ bs) = if nat_eq a b then common_len more bs + 1 else 0
+
+-- the same but for the first letter: put in, left out, or another one
+abbrev pub is_same_later : List ℕ → List ℕ → Bool
+is_same_later xs ys = bytes_eq (drop 1 xs) (drop 1 ys) || (bytes_eq (drop 1 xs) ys || bytes_eq xs (drop 1 ys))
+
+-- one letter away
 abbrev pub is_near : List ℕ → List ℕ → Bool
-is_near [] bs = nat_le (length bs) 1
-is_near (a ∷ more) [] = nat_le (length more) 0
-is_near (a ∷ more) (b ∷ bs) = if nat_eq a b then is_near more bs else (bytes_eq more bs || (bytes_eq more (b ∷ bs) || bytes_eq (a ∷ more) bs))
+is_near xs ys = is_same_later (drop (common_len xs ys) xs) (drop (common_len xs ys) ys)
 
 -- the first of these that is one letter away and no reserved word
 abbrev pub nearest : List ℕ → List (List ℕ) → Option (List ℕ)
@@ -80,17 +89,25 @@ is_number k (Identifier w) = false
 is_number k (Number l) = nat_eq k l
 is_number k (Sign m) = false
 
+-- the first token, where it is this number
+abbrev pub number_there : ℕ → List PlacedToken → Option PlacedToken
+number_there k [] = None
+number_there k (t ∷ ts) = if is_number k t.token then Some t else None
+
 -- the number of a line to which the word before it leads, where it is k
 abbrev pub first_led : ℕ → List PlacedToken → Option PlacedToken
 first_led k [] = None
-first_led k (t ∷ []) = None
-first_led k (t ∷ u ∷ ts) = if is_leading t.token && is_number k u.token then Some u else first_led k (u ∷ ts)
+first_led k (t ∷ ts) = or_else (if is_leading t.token then number_there k ts else None) (first_led k ts)
+
+-- whether the first token is this number
+abbrev pub begins_with_number : ℕ → List Token → Bool
+begins_with_number k [] = false
+begins_with_number k (t ∷ ts) = is_number k t
 
 -- whether tokens lead to line k
 abbrev pub leads_to : ℕ → List Token → Bool
 leads_to k [] = false
-leads_to k (t ∷ []) = false
-leads_to k (t ∷ u ∷ ts) = (is_leading t && is_number k u) || leads_to k (u ∷ ts)
+leads_to k (t ∷ ts) = (is_leading t && begins_with_number k ts) || leads_to k ts
 
 abbrev pub line_leads_to : ℕ → Option (List Token) → Bool
 line_leads_to k None = false

@@ -1,5 +1,5 @@
 -- The part of an input that is refused, and where it stands.
-use Rattle.std.specs.Prelude.{ℕ, ◌+◌, ◌-◌, zero, suc, Bool, true, false, List, [], ◌∷◌, length, Result, Ok, Err, nat_eq, if◌then◌else◌}
+use Rattle.std.specs.Prelude.{ℕ, ◌+◌, ◌-◌, ◌^◌, min, Bool, true, false, List, [], ◌∷◌, length, Result, Ok, Err, nat_eq, if◌then◌else◌}
 use Rattle.snap_semantics.specs.declared.refusal.Refusal.{Refusal}
 use Rattle.snap_semantics.specs.declared.refusal.Refusal.TheVariants as refusal
 use Rattle.snap_semantics.specs.declared.refusal.ScheduleRefusal.{ScheduleRefusal}
@@ -51,10 +51,10 @@ is_taken shapes (Err r) = false
 is_taken true (Ok s) = nat_eq s.shape.w s.shape.n
 is_taken false (Ok s) = true
 
--- the number of the first schedule that is refused, from 0
-abbrev pub refused_schedule : Bool → List (List ℕ) → ℕ
-refused_schedule shapes [] = 0
-refused_schedule shapes (t ∷ ts) = if is_taken shapes (schedule_of t) then refused_schedule shapes ts + 1 else 0
+-- the number of the first schedule that is refused, where the first of them is number k
+abbrev pub refused_schedule : Bool → (k : ℕ) → List (List ℕ) → ℕ
+refused_schedule shapes k [] = k
+refused_schedule shapes k (t ∷ ts) = if is_taken shapes (schedule_of t) then refused_schedule shapes (k + 1) ts else k
 
 -- whether schedules are refused for their shapes
 abbrev pub is_of_shapes : Refusal → Bool
@@ -63,7 +63,7 @@ is_of_shapes _ = false
 
 -- which of the texts behind the listing is refused, from 0
 abbrev pub text_index : Texts → Refusal → List (List ℕ) → ℕ
-text_index texts.Schedules r ts = refused_schedule (is_of_shapes r) ts
+text_index texts.Schedules r ts = refused_schedule (is_of_shapes r) 0 ts
 text_index _ (refusal.Commands c) ts = 1
 text_index _ _ ts = 0
 
@@ -82,15 +82,18 @@ abbrev pub part_name : Subject → Texts → Refusal → List (List ℕ) → Par
 part_name s t (refusal.Listing r) parts = name.Listing
 part_name s t r parts = text_name t r (text_index t r (texts_for s parts))
 
--- how many lines stand before part k: those of the parts before it, each with the line `%` behind it
-abbrev pub lines_before : (k : ℕ) → List (List ℕ) → ℕ
-lines_before zero parts = 0
-lines_before (suc k) [] = 0
-lines_before (suc k) (p ∷ parts) = length (lines_of p) + 1 + lines_before k parts
+-- the lines of a part and the line `%` behind it, behind so many lines; a number of lines has 64 bits
+abbrev pub lines_through : (before : ℕ) → List ℕ → ℕ
+lines_through before p = min (min (before + length (lines_of p)) (2 ^ 64 - 1) + 1) (2 ^ 64 - 1)
+
+-- how many lines stand before part k, where so many stand before the first one
+abbrev pub lines_before : (k before : ℕ) → List (List ℕ) → ℕ
+lines_before k before [] = before
+lines_before k before (p ∷ parts) = if nat_eq k 0 then before else lines_before (k - 1) (lines_through before p) parts
 
 abbrev pub part_place_in : Subject → Texts → Refusal → List (List ℕ) → Part
 part_place_in s t r parts =
-    record { name = part_name s t r parts; before = lines_before (part_index s t r parts) parts; text = part (part_index s t r parts) parts }
+    record { name = part_name s t r parts; before = lines_before (part_index s t r parts) 0 parts; text = part (part_index s t r parts) parts }
 
 -- the part that is refused
 abbrev pub part_place : Layout → List ℕ → Refusal → Part

@@ -227,6 +227,7 @@ pub fn stray_advice(piece: &[u8]) -> &'static [u8]
 }
 
 /// Adds a line of advice, where there is one.
+#[tactic(auto, using(snap_text::proofs::Texts::joined))]
 pub fn push_advice(out: &mut Vec<u8>, advice: &[u8]) -> Result<(), AllocError>
     ensures { OnOk result (out.new.items ≡ out.old.items ++ advice_line advice.now) }
 {

@@ -1,10 +1,13 @@
 //! What is said of a refused input behind the line that refuses it.
-ghost use Rattle.std.specs.Prelude.{◌≡◌, ◌++◌, ◌<◌, ◌≤◌, IfOk, OnOk, length, map, option_map};
+ghost use Rattle.std.specs.Prelude.{◌≡◌, ◌++◌, IfOk, OnOk, map, option_map, slice_get};
 ghost use Rattle.snap_semantics.specs.Token.{lines_of, text_lines};
 ghost use Rattle.snap_expected.specs.Pieces.{placed_of};
 ghost use Rattle.snap_expected.specs.Steps.{view_placed, view_placed_token, view_lost};
-ghost use Rattle.snap_explanation.specs.Explanation.{token_advice, stray_text, lost_text, lost_or_line, form_text_of, form_text, token_spot, placed_line, header_at, count_before, first_number, nearest_text, unknown_text, unknown_spot, listing_explained, item_sort, schedule_explained, shape_explained, commands_explained, parts_words, separators, separator_words, parts_explained, explanation};
-ghost use Rattle.snap_explanation.specs.Spot.{nth_line};
+ghost use Rattle.snap_explanation.specs.Explanation.{token_advice, piece_of, part_explained, stray_text, lost_text, lost_or_line, form_text_of, form_text, token_spot, placed_line, next_header, header_at, first_number, nearest_text, unknown_text, unknown_spot, listing_explained, item_sort, schedule_explained, shape_explained, commands_explained, parts_words, lines_behind, separators, separator_words, parts_explained, explanation};
+ghost use Rattle.snap_explanation.specs.Spot.{nth_line, piece_at};
+ghost use Rattle.snap_expected.specs.declared.sorts.Header.TheVariants.{Kind};
+ghost use Rattle.snap_input.specs.Parts.{parts_of};
+ghost use Rattle.snap_semantics.specs.declared.refusal.ListingRefusal.TheVariants.{UnknownName, NameTwice, NoSuchLine, BadName, BadHeader};
 ghost use Rattle.snap_explanation.specs.Views.{view_part};
 
 use crate::advice::{advice, push_advice, stray_advice};
@@ -12,7 +15,7 @@ use crate::layout::{Layout, Texts};
 use crate::names::{
     first_again, first_bad, first_led, first_unknown, leading_line, nearest, words_before,
 };
-use crate::part::{Part, part_place};
+use crate::part::{Part, lines_through, part_place};
 use crate::spot::{column_of, line_of, piece_at, push_line_spot, push_shown, push_spot};
 use crate::texts::push_expected_line;
 use snap_expected::{
@@ -21,13 +24,14 @@ use snap_expected::{
 use snap_input::split_parts;
 use snap_semantics::{CommandRefusal, ListingRefusal, Refusal, ScheduleRefusal};
 use snap_subject::Subject;
-use snap_text::{TextLines, Token, line_count, push_numbers, push_text};
+use snap_text::{TextLines, Token, push_numbers, push_text};
 use std::alloc::{AllocError, Global};
 
 /// The most lines `%` that are told.
 const SEPARATORS: usize = 8;
 
 /// Adds what is said of a byte that begins no token.
+#[tactic(auto, using(snap_text::proofs::Texts::joined))]
 fn push_stray(
     out: &mut Vec<u8>,
     part: &Part<'_>,
@@ -47,7 +51,9 @@ fn push_stray(
 }
 
 /// What stands at a token, which may be the end of the line.
-fn piece_of<'a>(text: &'a [u8], token: Option<&PlacedToken<'_>>) -> &'a [u8] {
+fn piece_of<'a>(text: &'a [u8], token: Option<&PlacedToken<'_>>) -> &'a [u8]
+    ensures { result.now ≡ piece_of text.now (option_map (λ t. view_placed_token t.now) token) }
+{
     match token {
         Some(token) => piece_at(token.column, text),
         None => &[],
@@ -55,6 +61,7 @@ fn piece_of<'a>(text: &'a [u8], token: Option<&PlacedToken<'_>>) -> &'a [u8] {
 }
 
 /// Adds what is advised at a token.
+#[tactic(auto, using(snap_text::proofs::Texts::joined))]
 fn push_token_advice(
     out: &mut Vec<u8>,
     place: &LostPlace,
@@ -70,6 +77,7 @@ fn push_token_advice(
 }
 
 /// Adds what is said of a line that is lost at a place.
+#[tactic(auto, using(snap_text::proofs::Texts::joined))]
 fn push_lost(
     out: &mut Vec<u8>,
     part: &Part<'_>,
@@ -89,6 +97,7 @@ fn push_lost(
 }
 
 /// Adds what is said of a line that has not the form of its sort.
+#[tactic(auto, using(snap_text::proofs::Texts::joined))]
 fn push_form(
     alloc: Global,
     out: &mut Vec<u8>,
@@ -112,6 +121,7 @@ fn push_form(
 }
 
 /// Adds a place at a token, where there is one, and what is said of it.
+#[tactic(auto, using(snap_text::proofs::Texts::joined))]
 fn push_token_spot(
     out: &mut Vec<u8>,
     part: &Part<'_>,
@@ -157,34 +167,34 @@ fn token_at<'a>(
     Ok(tokens.as_slice().get(index).copied())
 }
 
-/// Which header line comes behind so many.
-fn header_at(count: u64) -> Header
-    ensures { result ≡ header_at count }
+/// The header line behind this one; the last one stays.
+fn next_header(header: Header) -> Header
+    ensures { result ≡ next_header header }
 {
-    match count {
-        0 => Header::Kind,
-        1 => Header::Scalars,
-        2 => Header::Rows,
-        3 => Header::Words,
-        4 => Header::Views,
-        5 => Header::Scan,
-        _ => Header::Update,
+    match header {
+        Header::Kind => Header::Scalars,
+        Header::Scalars => Header::Rows,
+        Header::Rows => Header::Words,
+        Header::Words => Header::Views,
+        Header::Views => Header::Scan,
+        Header::Scan => Header::Update,
+        Header::Update => Header::Update,
     }
 }
 
-/// How many lines with tokens stand before this line.
-fn count_before(alloc: Global, line: u64, text: &[u8]) -> Result<u64, AllocError>
-    ensures { IfOk result (λ count. count ≡ count_before line (text_lines text.now)) }
+/// Which header line is expected at this line.
+fn header_at(alloc: Global, line: u64, text: &[u8]) -> Result<Header, AllocError>
+    ensures { IfOk result (λ header. header ≡ header_at Kind line (text_lines text.now)) }
 {
-    let mut count = 0;
+    let mut header = Header::Kind;
     let mut lines = TextLines::new(text);
     while let Some(found) = lines.next_line(alloc)? {
         if found.number >= line {
-            return Ok(count);
+            return Ok(header);
         }
-        count += 1;
+        header = next_header(header);
     }
-    Ok(count)
+    Ok(header)
 }
 
 /// The number of the first line with tokens; 1 where there is none.
@@ -198,6 +208,7 @@ fn first_number(alloc: Global, text: &[u8]) -> Result<u64, AllocError>
 }
 
 /// Adds what is said of a name that none of these is.
+#[tactic(auto, using(snap_text::proofs::Texts::joined))]
 fn push_unknown(
     out: &mut Vec<u8>,
     known: &[&[u8]],
@@ -229,12 +240,16 @@ fn push_unknown(
 }
 
 /// Adds what is said of a line with a name that is not declared.
+#[tactic(auto, using(snap_text::proofs::Texts::joined))]
 fn push_unknown_spot(
     alloc: Global,
     out: &mut Vec<u8>,
     part: &Part<'_>,
     line: u64,
-) -> Result<(), AllocError> {
+) -> Result<(), AllocError>
+    ensures { OnOk result (out.new.items ≡ out.old.items
+        ++ listing_explained (view_part part.now) (UnknownName line)) }
+{
     let known = words_before(alloc, line, part.text)?;
     let tokens = placed_line(alloc, part, line)?;
     let token = first_unknown(known.as_slice(), tokens.as_slice());
@@ -243,12 +258,16 @@ fn push_unknown_spot(
 }
 
 /// Adds what is said of a name that is declared before.
+#[tactic(auto, using(snap_text::proofs::Texts::joined))]
 fn push_again_spot(
     alloc: Global,
     out: &mut Vec<u8>,
     part: &Part<'_>,
     line: u64,
-) -> Result<(), AllocError> {
+) -> Result<(), AllocError>
+    ensures { OnOk result (out.new.items ≡ out.old.items
+        ++ listing_explained (view_part part.now) (NameTwice line)) }
+{
     let known = words_before(alloc, line, part.text)?;
     let tokens = placed_line(alloc, part, line)?;
     let token = first_again(known, tokens.as_slice())?;
@@ -256,12 +275,16 @@ fn push_again_spot(
 }
 
 /// Adds what is said of a target that is no line.
+#[tactic(auto, using(snap_text::proofs::Texts::joined))]
 fn push_leading_spot(
     alloc: Global,
     out: &mut Vec<u8>,
     part: &Part<'_>,
     number: u64,
-) -> Result<(), AllocError> {
+) -> Result<(), AllocError>
+    ensures { OnOk result (out.new.items ≡ out.old.items
+        ++ listing_explained (view_part part.now) (NoSuchLine number)) }
+{
     let line = leading_line(alloc, number, part.text)?;
     let tokens = placed_line(alloc, part, line)?;
     let token = first_led(number, tokens.as_slice());
@@ -269,12 +292,16 @@ fn push_leading_spot(
 }
 
 /// Adds what is said of a name that may not be declared.
+#[tactic(auto, using(snap_text::proofs::Texts::joined))]
 fn push_bad_spot(
     alloc: Global,
     out: &mut Vec<u8>,
     part: &Part<'_>,
     line: u64,
-) -> Result<(), AllocError> {
+) -> Result<(), AllocError>
+    ensures { OnOk result (out.new.items ≡ out.old.items
+        ++ listing_explained (view_part part.now) (BadName line)) }
+{
     let tokens = placed_line(alloc, part, line)?;
     let token = match tokens.as_slice() {
         [_, names @ ..] => first_bad(names),
@@ -291,29 +318,38 @@ const WRONG_KIND: &[u8] =
     b"a name of another sort stands here, or a register, a field or a tuple that this kind of registers has not\n";
 
 /// Adds what is said of a line that is refused at its first token.
+#[tactic(auto, using(snap_text::proofs::Texts::joined))]
 fn push_first_spot(
     alloc: Global,
     out: &mut Vec<u8>,
     part: &Part<'_>,
     line: u64,
     said: &[u8],
-) -> Result<(), AllocError> {
+) -> Result<(), AllocError>
+    ensures { OnOk result (out.new.items ≡ out.old.items
+        ++ token_spot (view_part part.now) line (slice_get (placed_line (view_part part.now) line) 0) said.now) }
+{
     let token = token_at(alloc, part, line, 0)?;
     push_token_spot(out, part, line, token, said)
 }
 
 /// Adds what is said of a header line that is not the one expected.
+#[tactic(auto, using(snap_text::proofs::Texts::joined))]
 fn push_header(
     alloc: Global,
     out: &mut Vec<u8>,
     part: &Part<'_>,
     line: u64,
-) -> Result<(), AllocError> {
-    let header = header_at(count_before(alloc, line, part.text)?);
+) -> Result<(), AllocError>
+    ensures { OnOk result (out.new.items ≡ out.old.items
+        ++ listing_explained (view_part part.now) (BadHeader line)) }
+{
+    let header = header_at(alloc, line, part.text)?;
     push_form(alloc, out, part, LineSort::Header(header), line)
 }
 
 /// Adds what is said of a refused listing.
+#[tactic(auto, using(snap_text::proofs::Texts::joined))]
 fn push_listing(
     alloc: Global,
     out: &mut Vec<u8>,
@@ -365,6 +401,7 @@ const NO_FIT: &[u8] =
     b"registers of kind seq and bit have one word for each process: `shape N N`\n";
 
 /// Adds what is said of a refused schedule.
+#[tactic(auto, using(snap_text::proofs::Texts::joined))]
 fn push_schedule(
     alloc: Global,
     out: &mut Vec<u8>,
@@ -396,13 +433,18 @@ fn push_schedule(
 }
 
 /// Adds what is said of a shape that does not fit the kind.
-fn push_shape(alloc: Global, out: &mut Vec<u8>, part: &Part<'_>) -> Result<(), AllocError> {
+#[tactic(auto, using(snap_text::proofs::Texts::joined))]
+fn push_shape(alloc: Global, out: &mut Vec<u8>, part: &Part<'_>) -> Result<(), AllocError>
+    ensures { OnOk result (out.new.items ≡ out.old.items
+        ++ shape_explained (view_part part.now) (first_number (text_lines part.now.text.now))) }
+{
     let line = first_number(alloc, part.text)?;
     let token = token_at(alloc, part, line, 2)?;
     push_token_spot(out, part, line, token, NO_FIT)
 }
 
 /// Adds what is said of refused commands.
+#[tactic(auto, using(snap_text::proofs::Texts::joined))]
 fn push_commands(
     alloc: Global,
     out: &mut Vec<u8>,
@@ -449,22 +491,34 @@ fn parts_words(layout: Layout) -> &'static [u8]
     }
 }
 
-/// The lines `%` between parts.
-fn separators(alloc: Global, parts: &[&[u8]]) -> Result<Vec<u64>, AllocError>
-    ensures { IfOk result (λ lines. lines.items ≡ separators 0 (map (λ p. p.now) parts.now)) }
+/// The lines behind parts.
+fn lines_behind(alloc: Global, parts: &[&[u8]]) -> Result<Vec<u64>, AllocError>
+    ensures { IfOk result (λ lines. lines.items ≡ lines_behind 0 (map (λ p. p.now) parts.now)) }
 {
     let mut lines = Vec::new(alloc);
     let mut before = 0;
-    let mut rest = parts;
-    while let [first, _, ..] = rest {
-        before += line_count(first) + 1;
+    for part in parts {
+        before = lines_through(before, part);
         lines.push(before)?;
-        rest = &rest[1..];
     }
     Ok(lines)
 }
 
+/// Adds the lines `%` of an input, the first ones of them.
+#[tactic(auto, using(snap_text::proofs::Texts::joined))]
+fn push_separators(out: &mut Vec<u8>, lines: &[u64]) -> Result<(), AllocError>
+    ensures { OnOk result (out.new.items ≡ out.old.items ++ separator_words lines.now) }
+{
+    if lines.is_empty() {
+        return push_text(out, b"\nno line of the input is `%` alone\n");
+    }
+    push_text(out, b"\nthe lines `%` of the input, the first eight:")?;
+    push_numbers(out, &lines[..SEPARATORS.min(lines.len())])?;
+    push_text(out, b"\n")
+}
+
 /// Adds how many parts are taken, and where the lines `%` are.
+#[tactic(auto, using(snap_text::proofs::Texts::joined))]
 fn push_parts(
     alloc: Global,
     out: &mut Vec<u8>,
@@ -475,24 +529,23 @@ fn push_parts(
 {
     push_text(out, parts_words(layout))?;
     let parts = split_parts(alloc, input)?;
-    let lines = separators(alloc, parts.as_slice())?;
+    let lines = lines_behind(alloc, parts.as_slice())?;
     let lines = lines.as_slice();
-    if lines.is_empty() {
-        return push_text(out, b"\nno line of the input is `%` alone\n");
-    }
-    push_text(out, b"\nthe lines `%` of the input, the first eight:")?;
-    push_numbers(out, &lines[..SEPARATORS.min(lines.len())])?;
-    push_text(out, b"\n")
+    push_separators(out, &lines[..lines.len().saturating_sub(1)])
 }
 
 /// Adds what is said of a refused part.
+#[tactic(auto, using(snap_text::proofs::Texts::joined))]
 fn push_part(
     alloc: Global,
     out: &mut Vec<u8>,
     layout: Layout,
     part: &Part<'_>,
     refusal: &Refusal,
-) -> Result<(), AllocError> {
+) -> Result<(), AllocError>
+    ensures { OnOk result (out.new.items ≡ out.old.items
+        ++ part_explained layout (view_part part.now) refusal.now) }
+{
     match refusal {
         Refusal::Listing(refusal) => push_listing(alloc, out, part, refusal),
         Refusal::Schedule(refusal) => push_schedule(alloc, out, layout, part, refusal),

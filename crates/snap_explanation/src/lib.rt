@@ -20,7 +20,8 @@ mod samples {
 
     #[test]
     fn an_index_is_no_sum(rt: HostRuntime) {
-        let text = b"kind seq\nscalar j\nrow a\nwords\nview s\nscan 1\nupdate 1\n1: let a[j+1] = 1\n";
+        let text =
+            b"kind seq\nscalar j\nrow a\nwords\nview s\nscan 1\nupdate 1\n1: let a[j+1] = 1\n";
         let refusal = Refusal::Listing(ListingRefusal::BadLine(8));
         let said = explanation(rt.alloc(), Layout::Listing, text, &refusal).unwrap();
         print!(rt; "{}", std::str::from_utf8(said.as_slice()).unwrap()).unwrap();

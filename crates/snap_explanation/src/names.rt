@@ -1,9 +1,9 @@
 //! Names of a listing's text, and the tokens of a line that a refusal is about.
-ghost use Rattle.std.specs.Prelude.{◌≡◌, ◌++◌, IfOk, OnOk, map, option_map};
+ghost use Rattle.std.specs.Prelude.{◌≡◌, ◌≤◌, ◌++◌, IfOk, OnOk, length, drop, map, option_map};
 ghost use Rattle.snap_semantics.specs.Token.{text_lines};
 ghost use Rattle.snap_text.specs.Tokens.{view_token, view_tokens};
 ghost use Rattle.snap_expected.specs.Steps.{view_placed_token};
-ghost use Rattle.snap_explanation.specs.Names.{words_of, words_before, is_among, is_unknown, first_such, is_bad, first_again, is_near, nearest, is_leading, is_number, first_led, leads_to, line_leads_to, leading_line};
+ghost use Rattle.snap_explanation.specs.Names.{words_of, words_before, is_among, is_unknown, first_such, is_bad, first_again, common_len, is_same_later, is_near, nearest, is_leading, is_number, number_there, first_led, begins_with_number, leads_to, line_leads_to, leading_line};
 
 use snap_expected::{PlacedToken, is_word};
 use snap_listing_core::is_reserved;
@@ -43,10 +43,12 @@ fn push_words<'a>(words: &mut Vec<&'a [u8]>, tokens: &[Token<'a>]) -> Result<(),
     ensures { OnOk result (map (λ w. w.now) words.new.items
         ≡ map (λ w. w.now) words.old.items ++ words_of (view_tokens tokens.now)) }
 {
-    for token in tokens {
-        if let Token::Identifier(word) = token {
+    let mut rest = tokens;
+    while let [first, behind @ ..] = rest {
+        if let Token::Identifier(word) = first {
             words.push(*word)?;
         }
+        rest = behind;
     }
     Ok(())
 }
@@ -137,20 +139,41 @@ pub fn first_again<'a>(
     Ok(None)
 }
 
-/// Whether two words are one letter away: put in, left out, or another one.
+/// How many letters at the front of two words are the same.
+fn common_len(one: &[u8], other: &[u8]) -> usize
+    ensures value { result ≡ common_len one.now other.now }
+    ensures within { (result ≤ length one.now) × (result ≤ length other.now) }
+{
+    let mut len = 0;
+    while len < one.len() && len < other.len() && one[len] == other[len] {
+        len += 1;
+    }
+    len
+}
+
+/// A word without its first letter.
+fn later(word: &[u8]) -> &[u8]
+    ensures { result.now ≡ drop 1 word.now }
+{
+    match word {
+        [] => word,
+        [_, rest @ ..] => rest,
+    }
+}
+
+/// Whether two words are the same but for the first letter: put in, left out, or another one.
+fn is_same_later(one: &[u8], other: &[u8]) -> bool
+    ensures { result ≡ is_same_later one.now other.now }
+{
+    later(one) == later(other) || later(one) == other || one == later(other)
+}
+
+/// Whether two words are one letter away.
 fn is_near(one: &[u8], other: &[u8]) -> bool
     ensures { result ≡ is_near one.now other.now }
 {
-    let mut left = one;
-    let mut right = other;
-    while let ([a, behind_a @ ..], [b, behind_b @ ..]) = (left, right) {
-        if *a != *b {
-            return behind_a == behind_b || behind_a == right || left == behind_b;
-        }
-        left = behind_a;
-        right = behind_b;
-    }
-    left.len() + right.len() <= 1
+    let len = common_len(one, other);
+    is_same_later(&one[len..], &other[len..])
 }
 
 /// The first of these words that is one letter away and not reserved.
@@ -187,19 +210,42 @@ fn is_number(number: u64, token: &Token<'_>) -> bool
     }
 }
 
+/// The first token, where it is this number.
+fn number_there<'a>(number: u64, tokens: &[PlacedToken<'a>]) -> Option<PlacedToken<'a>>
+    ensures { option_map view_placed_token result
+        ≡ number_there number (map view_placed_token tokens.now) }
+{
+    match tokens {
+        [first, ..] if is_number(number, &first.token) => Some(*first),
+        _ => None,
+    }
+}
+
 /// The number of a line to which the word before it leads, where it is this one.
 pub fn first_led<'a>(number: u64, tokens: &[PlacedToken<'a>]) -> Option<PlacedToken<'a>>
     ensures { option_map view_placed_token result
         ≡ first_led number (map view_placed_token tokens.now) }
 {
     let mut rest = tokens;
-    while let [first, second, ..] = rest {
-        if is_leading(&first.token) && is_number(number, &second.token) {
-            return Some(*second);
+    while let [first, behind @ ..] = rest {
+        if is_leading(&first.token) {
+            if let Some(found) = number_there(number, behind) {
+                return Some(found);
+            }
         }
-        rest = &rest[1..];
+        rest = behind;
     }
     None
+}
+
+/// Whether the first token is this number.
+fn begins_with_number(number: u64, tokens: &[Token<'_>]) -> bool
+    ensures { result ≡ begins_with_number number (view_tokens tokens.now) }
+{
+    match tokens {
+        [] => false,
+        [first, ..] => is_number(number, first),
+    }
 }
 
 /// Whether tokens lead to this line.
@@ -207,11 +253,11 @@ fn leads_to(number: u64, tokens: &[Token<'_>]) -> bool
     ensures { result ≡ leads_to number (view_tokens tokens.now) }
 {
     let mut rest = tokens;
-    while let [first, second, ..] = rest {
-        if is_leading(first) && is_number(number, second) {
+    while let [first, behind @ ..] = rest {
+        if is_leading(first) && begins_with_number(number, behind) {
             return true;
         }
-        rest = &rest[1..];
+        rest = behind;
     }
     false
 }

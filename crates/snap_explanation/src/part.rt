@@ -2,7 +2,7 @@
 ghost use Rattle.std.specs.Prelude.{◌≡◌, ◌≤◌, ◌<◌, ◌^◌, ◌+◌, IfOk, length, map};
 ghost use Rattle.snap_input.specs.Parts.{part};
 ghost use Rattle.snap_semantics.specs.Schedule.{schedule_of};
-ghost use Rattle.snap_explanation.specs.Part.{part_place, part_place_in, first_text, text_index, text_name, lines_before, refused_schedule, is_taken};
+ghost use Rattle.snap_explanation.specs.Part.{part_place, part_place_in, first_text, text_index, text_name, lines_through, lines_before, refused_schedule, is_taken};
 ghost use Rattle.snap_explanation.specs.Views.{view_part};
 
 use crate::layout::{Layout, Texts};
@@ -59,12 +59,12 @@ fn is_taken(alloc: Global, shapes: bool, text: &[u8]) -> Result<bool, AllocError
 
 /// The number of the first schedule that is refused, from 0.
 fn refused_schedule(alloc: Global, shapes: bool, texts: &[&[u8]]) -> Result<usize, AllocError>
-    ensures value { IfOk result (λ k. k ≡ refused_schedule shapes (map (λ t. t.now) texts.now)) }
+    ensures value { IfOk result (λ k. k ≡ refused_schedule shapes 0 (map (λ t. t.now) texts.now)) }
     ensures within { IfOk result (λ k. k ≤ length texts.now) }
 {
     let mut index = 0;
-    while index < texts.len() {
-        if !is_taken(alloc, shapes, texts[index])? {
+    for text in texts {
+        if !is_taken(alloc, shapes, text)? {
             return Ok(index);
         }
         index += 1;
@@ -103,15 +103,27 @@ fn text_name(texts: Texts, refusal: &Refusal, index: usize) -> PartName
     }
 }
 
+/// How many lines stand behind others, a part and the line `%` behind it.
+pub fn lines_through(before: u64, part: &[u8]) -> u64
+    ensures { result ≡ lines_through before part.now }
+{
+    before.saturating_add(line_count(part)).saturating_add(1)
+}
+
 /// How many lines stand before part `index`.
 fn lines_before(index: usize, parts: &[&[u8]]) -> u64
-    ensures { result ≡ lines_before index (map (λ p. p.now) parts.now) }
+    ensures { result ≡ lines_before index 0 (map (λ p. p.now) parts.now) }
 {
-    let mut lines = 0;
-    for part in parts.iter().take(index) {
-        lines += line_count(part) + 1;
+    let mut before = 0;
+    let mut left = index;
+    for part in parts {
+        if left == 0 {
+            return before;
+        }
+        before = lines_through(before, part);
+        left -= 1;
     }
-    lines
+    before
 }
 
 /// Part `index`, from 0; empty where there is none.

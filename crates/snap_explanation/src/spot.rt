@@ -77,6 +77,7 @@ fn shown_byte(byte: u8) -> u8
 }
 
 /// Adds bytes as they are shown.
+#[tactic(auto, using(snap_text::proofs::Texts::joined))]
 pub fn push_shown(out: &mut Vec<u8>, bytes: &[u8]) -> Result<(), AllocError>
     ensures { OnOk result (out.new.items ≡ out.old.items ++ shown bytes.now) }
 {
@@ -87,16 +88,20 @@ pub fn push_shown(out: &mut Vec<u8>, bytes: &[u8]) -> Result<(), AllocError>
 }
 
 /// Adds spaces.
+#[tactic(auto, using(snap_text::proofs::Texts::joined))]
 fn push_spaces(out: &mut Vec<u8>, count: usize) -> Result<(), AllocError>
     ensures { OnOk result (out.new.items ≡ out.old.items ++ replicate count 32) }
 {
-    for _ in 0..count {
+    let mut left = count;
+    while left > 0 {
         out.push(b' ')?;
+        left -= 1;
     }
     Ok(())
 }
 
 /// Adds what a part is.
+#[tactic(auto, using(snap_text::proofs::Texts::joined))]
 fn push_part_name(out: &mut Vec<u8>, name: PartName) -> Result<(), AllocError>
     ensures { OnOk result (out.new.items ≡ out.old.items ++ part_name_text name) }
 {
@@ -124,6 +129,7 @@ fn line_of_input(before: u64, line: u64) -> u64
 }
 
 /// Adds where a line of a part stands.
+#[tactic(auto, using(snap_text::proofs::Texts::joined))]
 fn push_line_place(out: &mut Vec<u8>, part: &Part<'_>, line: u64) -> Result<(), AllocError>
     ensures { OnOk result (out.new.items ≡ out.old.items ++ line_place (view_part part.now) line) }
 {
@@ -136,6 +142,7 @@ fn push_line_place(out: &mut Vec<u8>, part: &Part<'_>, line: u64) -> Result<(), 
 }
 
 /// Adds a line of text around a column.
+#[tactic(auto, using(snap_text::proofs::Texts::joined))]
 fn push_window(out: &mut Vec<u8>, line: &[u8], column: usize) -> Result<(), AllocError>
     ensures { OnOk result (out.new.items ≡ out.old.items ++ window line.now column) }
 {
@@ -148,6 +155,7 @@ fn push_window(out: &mut Vec<u8>, line: &[u8], column: usize) -> Result<(), Allo
 }
 
 /// Adds a mark under a column.
+#[tactic(auto, using(snap_text::proofs::Texts::joined))]
 fn push_mark(out: &mut Vec<u8>, column: usize) -> Result<(), AllocError>
     ensures { OnOk result (out.new.items ≡ out.old.items ++ mark column) }
 {
@@ -162,6 +170,7 @@ fn push_mark(out: &mut Vec<u8>, column: usize) -> Result<(), AllocError>
 }
 
 /// Adds a place: where it stands, its line, and a mark under its column.
+#[tactic(auto, using(snap_text::proofs::Texts::joined))]
 pub fn push_spot(
     out: &mut Vec<u8>,
     part: &Part<'_>,
@@ -181,6 +190,7 @@ pub fn push_spot(
 }
 
 /// Adds a line as a place, where no column of it is one.
+#[tactic(auto, using(snap_text::proofs::Texts::joined))]
 pub fn push_line_spot(
     out: &mut Vec<u8>,
     part: &Part<'_>,

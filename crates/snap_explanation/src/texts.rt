@@ -92,6 +92,7 @@ fn wanted_words(wanted: Wanted) -> &'static [u8]
 }
 
 /// Adds all that may stand next.
+#[tactic(auto, using(snap_text::proofs::Texts::joined))]
 fn push_expected(out: &mut Vec<u8>, wanted: &[Wanted]) -> Result<(), AllocError>
     ensures { OnOk result (out.new.items ≡ out.old.items ++ expected_words wanted.now) }
 {
@@ -108,6 +109,7 @@ fn push_expected(out: &mut Vec<u8>, wanted: &[Wanted]) -> Result<(), AllocError>
 }
 
 /// Adds what stands at a place.
+#[tactic(auto, using(snap_text::proofs::Texts::joined))]
 fn push_found(out: &mut Vec<u8>, piece: &[u8]) -> Result<(), AllocError>
     ensures { OnOk result (out.new.items ≡ out.old.items ++ found_words piece.now) }
 {
@@ -120,6 +122,7 @@ fn push_found(out: &mut Vec<u8>, piece: &[u8]) -> Result<(), AllocError>
 }
 
 /// Adds what was expected at a place, and what stands there.
+#[tactic(auto, using(snap_text::proofs::Texts::joined))]
 pub fn push_expected_line(
     out: &mut Vec<u8>,
     wanted: &[Wanted],

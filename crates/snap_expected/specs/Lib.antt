@@ -3,3 +3,4 @@ pub mod After
 pub mod Lost
 pub mod Pieces
 pub mod Steps
+pub mod Laws

@@ -2,6 +2,7 @@
 #![tactic(auto)]
 
 mod after;
+mod laws;
 mod lost;
 mod pieces;
 mod sorts;
@@ -9,6 +10,7 @@ mod tests;
 mod wanted;
 
 pub use after::may_pass;
+pub use laws::what_is_lost_stays_lost;
 pub use lost::{LostPlace, lost_in};
 pub use pieces::{PlacedToken, PlacedTokens, is_lexeme_byte, piece_len, placed_tokens};
 pub use sorts::{Header, LineSort};

@@ -139,8 +139,8 @@ pub goes_on : (rest piece after : List ℕ) (n column d : ℕ) (out longer : Lis
     before_placed out (placed_from column (pieces_of rest)) ≡ all → before_placed longer (placed_from (column + length piece) (pieces_of after)) ≡ all
 goes_on rest piece after n column d out longer ts all some h len front back e more inv =
     let parted : pieces_of rest ≡ piece ∷ pieces_of after =
-        first_piece rest d some h ∙ ap (λ (k : ℕ). take k rest ∷ pieces_of (drop k rest)) (sym len)
-        ∙ ap (λ (x : List ℕ). x ∷ pieces_of (drop n rest)) (sym front) ∙ ap (λ (x : List ℕ). piece ∷ pieces_of x) (sym back) in
+    first_piece rest d some h ∙ ap (λ (k : ℕ). take k rest ∷ pieces_of (drop k rest)) (sym len)
+    ∙ ap (λ (x : List ℕ). x ∷ pieces_of (drop n rest)) (sym front) ∙ ap (λ (x : List ℕ). piece ∷ pieces_of x) (sym back) in
     ap (λ (us : List PlacedToken). before_placed us (placed_from (column + length piece) (pieces_of after))) more
     ∙ sym (goes_first column piece (pieces_of after) out ts e)
     ∙ ap (λ (ps : List (List ℕ)). before_placed out (placed_from column ps)) (sym parted) ∙ inv

@@ -24,8 +24,9 @@ loop-rest-preserved c =
     let some : 0 < length rest = grind (arith, common_steps) in
     let plain : nat_eq (get_or rest 0 0) 35 ≡ false = ne_eqb (get_or rest 0 0) 35 c.if-rest-ne35.true in
     let found : tokens_of c.split_at.result.0.now ≡ Some (view_tokens c.as_slice.result.now) =
-        sym (rw c.in-Some.is at c.in_ok-tokens.ensures) ∙ ap (λ (x : List code.Token). let o : Option (List Token) = Some (view_tokens x) in o) (sym c.as_slice.ensures.value) in
-    (omega (arith, c.split_at.ensures.front_len, c.split_at.ensures.back_len, c.loop-rest.invariant.0),
-    goes_on rest c.split_at.result.0.now c.split_at.result.1.now c.piece_len.result c.loop-rest.column 0 (map view_placed_token c.loop-rest.out.items)
-    (map view_placed_token c.push_first.new.out.items) (view_tokens c.as_slice.result.now) (placed_of c.args.line.now) some plain c.piece_len.ensures.value
-    c.split_at.ensures.front c.split_at.ensures.back found c.in_ok-push_first-in-Some.ensures c.loop-rest.invariant.1)
+    sym (rw c.in-Some.is at c.in_ok-tokens.ensures) ∙ ap (λ (x : List code.Token). let o : Option (List Token) = Some (view_tokens x) in o) (sym c.as_slice.ensures.value) in (
+      omega (arith, c.split_at.ensures.front_len, c.split_at.ensures.back_len, c.loop-rest.invariant.0),
+      goes_on rest c.split_at.result.0.now c.split_at.result.1.now c.piece_len.result c.loop-rest.column 0 (map view_placed_token c.loop-rest.out.items)
+          (map view_placed_token c.push_first.new.out.items) (view_tokens c.as_slice.result.now) (placed_of c.args.line.now) some plain c.piece_len.ensures.value
+          c.split_at.ensures.front c.split_at.ensures.back found c.in_ok-push_first-in-Some.ensures c.loop-rest.invariant.1,
+    )

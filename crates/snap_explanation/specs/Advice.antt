@@ -37,11 +37,17 @@ value_advice t =
 abbrev pub name_advice : Token → List ℕ
 name_advice t = if is_identifier t then codes "this word is reserved, and no name" else []
 
+abbrev pub is_joining : Token → Bool
+is_joining t = is_word (codes "and") t || is_word (codes "or") t
+
+abbrev pub joined_advice : List ℕ
+joined_advice = codes "one to four comparisons are joined, all by `and` or all by `or`"
+
 -- what is advised where nothing more may stand
 abbrev pub end_advice : Token → List ℕ
 end_advice t =
     if is_symbol symbol.Plus t then codes "a sum has two terms: add the third one in a line of its own" else
-    if is_word (codes "and") t || is_word (codes "or") t then codes "one to four comparisons are joined, all by `and` or all by `or`" else []
+    if is_joining t then joined_advice else []
 
 abbrev pub act_advice : List ℕ
 act_advice = codes "a line of a schedule is `I`, `I*K` for K steps, `I scan`, `I update K X` or `I crash`, for one process I"
@@ -54,7 +60,8 @@ register_advice = codes "a register is `r K`, `q I J`, `p I J` or `v I`, and a p
 
 -- what is advised where a keyword has to stand
 abbrev pub keyword_advice : Keyword → Token → List ℕ
-keyword_advice keyword.Goto t = codes "a test goes to a line where it holds: `if a = b goto 7`"
+keyword_advice keyword.Goto t =
+    if is_joining t then joined_advice else codes "a test goes to a line where it holds: `if a = b goto 7`"
 keyword_advice keyword.R t = codes "words are read from `r[I]`"
 keyword_advice keyword.V t = codes "views are read from `v[I]`"
 keyword_advice keyword.Shape t = codes "a schedule begins with `shape N W`: N processes and W words"
@@ -88,6 +95,18 @@ firm_advice (Some w) t = wanted_advice w t
 abbrev pub advice : List Wanted → Token → List ℕ
 advice (wanted.Act ∷ ws) t = act_advice
 advice ws t = firm_advice (firm ws) t
+
+-- what is advised of the form of a command, by its first word
+abbrev pub command_form_advice : Token → List ℕ
+command_form_advice t =
+    if is_word (codes "step") t then codes "the form is `step K`: K items on" else
+    if is_word (codes "back") t then codes "the form is `back K`: K items back" else
+    if is_word (codes "goto") t then codes "the form is `goto T`: to position T" else
+    if is_word (codes "break") t then codes "the form is `break I L`: process I at line L" else
+    if is_word (codes "clear") t then codes "the form is `clear I L`: process I at line L" else
+    if is_word (codes "watch") t then codes "the form is `watch r 2`, and so for the other registers" else
+    if is_word (codes "unwatch") t then codes "the form is `unwatch r 2`, and so for the other registers" else
+    if is_word (codes "show") t then codes "the form is `show r 2`, and so for the other registers, or `show 1` for process 1" else []
 
 -- what is advised of letters and digits side by side that are no token
 abbrev pub lexeme_advice : List ℕ → List ℕ

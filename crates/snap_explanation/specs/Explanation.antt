@@ -25,7 +25,7 @@ use Rattle.snap_explanation.specs.declared.layout.Layout.{Layout}
 use Rattle.snap_explanation.specs.declared.layout.Layout.TheVariants as layout
 use Rattle.snap_explanation.specs.declared.layout.Texts.{Texts}
 use Rattle.snap_explanation.specs.declared.layout.Texts.TheVariants as texts
-use Rattle.snap_explanation.specs.Advice.{advice, advice_line, stray_advice}
+use Rattle.snap_explanation.specs.Advice.{advice, advice_line, command_form_advice, stray_advice}
 use Rattle.snap_explanation.specs.Names.{words_before, header_count, is_unknown, first_such, is_bad, first_again, nearest, leading_line, first_led}
 use Rattle.snap_explanation.specs.Part.{Part, part_place, lines_through}
 use Rattle.snap_explanation.specs.Spot.{nth_line, piece_at, column_of, shown, spot, line_spot}
@@ -54,13 +54,18 @@ abbrev pub lost_text : Part → ℕ → List ℕ → List PlacedToken → Place 
 lost_text p k text ts at =
     spot p k text (column_of text (slice_get ts at.before)) ++ expected_line at.wanted (piece_of text (slice_get ts at.before)) ++ token_advice at (slice_get ts at.before)
 
-abbrev pub lost_or_line : Part → ℕ → List ℕ → List PlacedToken → Option Place → List ℕ
-lost_or_line p k text ts None = line_spot p k text
-lost_or_line p k text ts (Some at) = lost_text p k text ts at
+-- what is advised of a line of a sort by its first token
+abbrev pub sort_advice : LineSort → List PlacedToken → List ℕ
+sort_advice line.Command (t ∷ ts) = advice_line (command_form_advice t.token)
+sort_advice _ _ = []
+
+abbrev pub lost_or_line : Part → LineSort → ℕ → List ℕ → List PlacedToken → Option Place → List ℕ
+lost_or_line p sort k text ts None = line_spot p k text
+lost_or_line p sort k text ts (Some at) = lost_text p k text ts at ++ sort_advice sort ts
 
 abbrev pub form_text_of : Part → LineSort → ℕ → List ℕ → PlacedTokens → List ℕ
 form_text_of p sort k text (record { tokens = ts; stray = Some column }) = stray_text p k text column
-form_text_of p sort k text (record { tokens = ts; stray = None }) = lost_or_line p k text ts (lost_in sort (tokens_of_placed ts))
+form_text_of p sort k text (record { tokens = ts; stray = None }) = lost_or_line p sort k text ts (lost_in sort (tokens_of_placed ts))
 
 -- a line that has not the form of its sort
 abbrev pub form_text : Part → LineSort → ℕ → List ℕ

@@ -3,7 +3,7 @@ ghost use Rattle.std.specs.Prelude.{◌≡◌, ◌++◌, OnOk, option_map};
 ghost use Rattle.std.specs.List.{list_all};
 ghost use Rattle.snap_semantics.specs.Token.{is_digit, is_lexeme_byte};
 ghost use Rattle.snap_text.specs.Tokens.{view_token};
-ghost use Rattle.snap_explanation.specs.Advice.{firm, symbol_advice, value_advice, name_advice, end_advice, keyword_advice, wanted_advice, firm_advice, advice, lexeme_advice, byte_advice, stray_advice, advice_line};
+ghost use Rattle.snap_explanation.specs.Advice.{firm, is_joining, command_form_advice, symbol_advice, value_advice, name_advice, end_advice, keyword_advice, wanted_advice, firm_advice, advice, lexeme_advice, byte_advice, stray_advice, advice_line};
 
 use snap_expected::{Keyword, Wanted, is_identifier, is_lexeme_byte, is_symbol, is_word, may_pass};
 use snap_semantics::Symbol;
@@ -25,6 +25,9 @@ const COMMANDS: &[u8] =
 /// What registers and processes are called in commands.
 const REGISTERS: &[u8] =
     b"a register is `r K`, `q I J`, `p I J` or `v I`, and a process its number";
+
+/// How comparisons are joined.
+const JOINED: &[u8] = b"one to four comparisons are joined, all by `and` or all by `or`";
 
 /// The first that has to stand there, where one has to.
 fn firm(wanted: &[Wanted]) -> Option<Wanted>
@@ -91,14 +94,21 @@ fn name_advice(token: &Token<'_>) -> &'static [u8]
     }
 }
 
+/// Whether a token joins comparisons.
+fn is_joining(token: &Token<'_>) -> bool
+    ensures { result ≡ is_joining (view_token token.now) }
+{
+    is_word(b"and", token) || is_word(b"or", token)
+}
+
 /// What is advised where nothing more may stand.
 fn end_advice(token: &Token<'_>) -> &'static [u8]
     ensures { result.now ≡ end_advice (view_token token.now) }
 {
     if is_symbol(Symbol::Plus, token) {
         b"a sum has two terms: add the third one in a line of its own"
-    } else if is_word(b"and", token) || is_word(b"or", token) {
-        b"one to four comparisons are joined, all by `and` or all by `or`"
+    } else if is_joining(token) {
+        JOINED
     } else {
         b""
     }
@@ -109,7 +119,13 @@ fn keyword_advice(keyword: Keyword, token: &Token<'_>) -> &'static [u8]
     ensures { result.now ≡ keyword_advice keyword (view_token token.now) }
 {
     match keyword {
-        Keyword::Goto => b"a test goes to a line where it holds: `if a = b goto 7`",
+        Keyword::Goto => {
+            if is_joining(token) {
+                JOINED
+            } else {
+                b"a test goes to a line where it holds: `if a = b goto 7`"
+            }
+        }
         Keyword::R => b"words are read from `r[I]`",
         Keyword::V => b"views are read from `v[I]`",
         Keyword::Shape => b"a schedule begins with `shape N W`: N processes and W words",
@@ -158,6 +174,31 @@ pub fn advice(wanted: &[Wanted], token: &Token<'_>) -> &'static [u8]
     match firm(wanted) {
         None => end_advice(token),
         Some(wanted) => wanted_advice(wanted, token),
+    }
+}
+
+/// What is advised of the form of a command, by its first word.
+pub fn command_form_advice(token: &Token<'_>) -> &'static [u8]
+    ensures { result.now ≡ command_form_advice (view_token token.now) }
+{
+    if is_word(b"step", token) {
+        b"the form is `step K`: K items on"
+    } else if is_word(b"back", token) {
+        b"the form is `back K`: K items back"
+    } else if is_word(b"goto", token) {
+        b"the form is `goto T`: to position T"
+    } else if is_word(b"break", token) {
+        b"the form is `break I L`: process I at line L"
+    } else if is_word(b"clear", token) {
+        b"the form is `clear I L`: process I at line L"
+    } else if is_word(b"watch", token) {
+        b"the form is `watch r 2`, and so for the other registers"
+    } else if is_word(b"unwatch", token) {
+        b"the form is `unwatch r 2`, and so for the other registers"
+    } else if is_word(b"show", token) {
+        b"the form is `show r 2`, and so for the other registers, or `show 1` for process 1"
+    } else {
+        b""
     }
 }
 

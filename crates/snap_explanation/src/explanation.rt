@@ -3,14 +3,14 @@ ghost use Rattle.std.specs.Prelude.{◌≡◌, ◌++◌, IfOk, OnOk, map, option
 ghost use Rattle.snap_semantics.specs.Token.{lines_of, text_lines};
 ghost use Rattle.snap_expected.specs.Pieces.{placed_of};
 ghost use Rattle.snap_expected.specs.Steps.{view_placed, view_placed_token, view_lost};
-ghost use Rattle.snap_explanation.specs.Explanation.{token_advice, piece_of, part_explained, stray_text, lost_text, lost_or_line, form_text_of, form_text, token_spot, placed_line, next_header, header_at, first_number, nearest_text, unknown_text, unknown_spot, listing_explained, item_sort, schedule_explained, shape_explained, commands_explained, parts_words, lines_behind, separators, separator_words, parts_explained, explanation};
+ghost use Rattle.snap_explanation.specs.Explanation.{token_advice, sort_advice, piece_of, part_explained, stray_text, lost_text, lost_or_line, form_text_of, form_text, token_spot, placed_line, next_header, header_at, first_number, nearest_text, unknown_text, unknown_spot, listing_explained, item_sort, schedule_explained, shape_explained, commands_explained, parts_words, lines_behind, separators, separator_words, parts_explained, explanation};
 ghost use Rattle.snap_explanation.specs.Spot.{nth_line, piece_at};
 ghost use Rattle.snap_expected.specs.declared.sorts.Header.TheVariants.{Kind};
 ghost use Rattle.snap_input.specs.Parts.{parts_of};
 ghost use Rattle.snap_semantics.specs.declared.refusal.ListingRefusal.TheVariants.{UnknownName, NameTwice, NoSuchLine, BadName, BadHeader};
 ghost use Rattle.snap_explanation.specs.Views.{view_part};
 
-use crate::advice::{advice, push_advice, stray_advice};
+use crate::advice::{advice, command_form_advice, push_advice, stray_advice};
 use crate::layout::{Layout, Texts};
 use crate::names::{
     first_again, first_bad, first_led, first_unknown, leading_line, nearest, words_before,
@@ -96,6 +96,21 @@ fn push_lost(
     push_token_advice(out, place, token)
 }
 
+/// Adds what is advised of a line of a sort by its first token.
+fn push_sort_advice(
+    out: &mut Vec<u8>,
+    sort: LineSort,
+    tokens: &[PlacedToken<'_>],
+) -> Result<(), AllocError>
+    ensures { OnOk result (out.new.items ≡ out.old.items
+        ++ sort_advice sort (map view_placed_token tokens.now)) }
+{
+    match (sort, tokens) {
+        (LineSort::Command, [first, ..]) => push_advice(out, command_form_advice(&first.token)),
+        _ => Ok(()),
+    }
+}
+
 /// Adds what is said of a line that has not the form of its sort.
 #[tactic(auto, using(snap_text::proofs::Texts::joined))]
 fn push_form(
@@ -115,7 +130,10 @@ fn push_form(
     }
     let tokens = placed.tokens.as_slice();
     match lost_in(alloc, sort, tokens)? {
-        Some(place) => push_lost(out, part, line, text, tokens, &place),
+        Some(place) => {
+            push_lost(out, part, line, text, tokens, &place)?;
+            push_sort_advice(out, sort, tokens)
+        }
         None => push_line_spot(out, part, line, text),
     }
 }

@@ -12,6 +12,3 @@ mod texts;
 
 pub use explanation::explanation;
 pub use layout::{Layout, Texts, layout_of};
-
-#[cfg(test)]
-mod samples;

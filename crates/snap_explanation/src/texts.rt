@@ -79,7 +79,7 @@ fn wanted_words(wanted: Wanted) -> &'static [u8]
         Wanted::Bit => b"`q` or `p`",
         Wanted::Tuple => b"`(`",
         Wanted::SecondPart => b"a value",
-        Wanted::BehindName => b"`,`",
+        Wanted::BehindName => b"`,`, `+` or `[`",
         Wanted::BehindThird => b"`,` or `)`",
         Wanted::ViewSource => b"`data` or `view`",
         Wanted::Test => b"a comparison or `all`",

@@ -22,9 +22,9 @@ nothing_said text (Some xs) = (0, sym (append-nil xs))
 
 front_len : (n : ℕ) (text : List ℕ) → take (min n (length text)) text ≡ take n text
 front_len n text = elim (cases_lt n (length text)) [
-    | inl h ↦ let e : min n (length text) ≡ n = omega arith in ap (λ (k : ℕ). take k text) e
-    | inr h ↦ take_all (min n (length text)) text (omega arith) ∙ sym (take_all n text h)
-  ]
+  | inl h ↦ let e : min n (length text) ≡ n = omega arith in ap (λ (k : ℕ). take k text) e
+  | inr h ↦ take_all (min n (length text)) text (omega arith) ∙ sym (take_all n text h)
+]
 
 -- what was taken of a text, or all of it and nothing of what stands behind
 pub said_front : (text more : List ℕ) (before after : Option (List ℕ)) → Says text before after → Says (text ++ more) before after

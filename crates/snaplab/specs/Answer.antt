@@ -38,7 +38,7 @@ explained _ asked input _ = []
 abbrev pub SaysWhy : (explains : Bool) → Request → (input : List ℕ) → Result (Unit {0}) ConductFault → (said said_after : Option (List ℕ)) → Type 0
 SaysWhy explains asked input (Ok done) said said_after = said ≡ said_after
 SaysWhy explains asked input (Err fault) said said_after =
-    Says (fault_text fault ++ codes "\n" ++ explained explains asked input fault) said said_after
+    Says ((fault_text fault ++ codes "\n") ++ explained explains asked input fault) said said_after
 
 -- A whole run of what was asked for, which keeps its input.
 abbrev pub CarriesOut : Request → (kept : List ℕ) → Result (Unit {0}) ConductFault → (left left_after taken taken_after : Option (List ℕ)) →
@@ -48,6 +48,15 @@ CarriesOut (Do task) kept done left left_after taken taken_after r w s =
 CarriesOut (Live subject limit) kept done left left_after taken taken_after r w s =
     ConductsKeeping (MayWrite (λ process turn answer. answer ≡ true) subject limit) (RefusesLive (λ process turn answer. answer ≡ true) subject limit) kept done
     left left_after taken taken_after r w s
+
+-- What is said where the input is read from a terminal.
+abbrev pub terminal_line : List ℕ
+terminal_line = codes "reading from the terminal; end with Ctrl-D\n"
+
+-- It is said where an input is asked for, and nothing else.
+abbrev pub SaysTerminal : {E : Type 0} → Result CommandLine E → (said said_after : Option (List ℕ)) → Type 0
+SaysTerminal (Ok (Asks asked)) said said_after = Says terminal_line said said_after
+SaysTerminal _ said said_after = said ≡ said_after
 
 -- What is said of arguments that are no text.
 abbrev pub no_text_line : List ℕ

@@ -3,13 +3,13 @@ ghost use Rattle.std.specs.Prelude.{◌≡◌, ◌++◌, false, codes, IfOk, OnO
 ghost use Rattle.snap_command_line.specs.Limits.{HasLimits};
 ghost use Rattle.snap_program.specs.FaultText.{fault_text};
 ghost use Rattle.snap_tasks.specs.Request.{HasLimit};
-ghost use Rattle.snaplab.specs.Answer.{AnswersAsked, AnswersLine, CarriesOut, Says, SaysFault, explained, exit_status};
+ghost use Rattle.snaplab.specs.Answer.{AnswersAsked, AnswersLine, CarriesOut, Says, SaysFault, SaysTerminal, explained, exit_status};
 
 use snap_command_line::{Asked, CommandLine};
 use snap_explanation::{explanation, layout_of};
 use snap_program::{
-    ByteSink, ByteSource, ConductFault, NoGate, conduct_keeping, conduct_live_keeping, fault_line, fault_status,
-    write_all,
+    ByteSink, ByteSource, ConductFault, NoGate, conduct_keeping, conduct_live_keeping, fault_line,
+    fault_status, write_all,
 };
 use snap_tasks::Request;
 use std::alloc::{AllocError, Global};
@@ -18,6 +18,9 @@ use std::thread::Threads;
 
 /// What is said of arguments that are no text.
 const NO_TEXT: &[u8] = b"error: the words of the command line are no text\n";
+
+/// What is said where the input is read from a terminal.
+const TERMINAL: &[u8] = b"reading from the terminal; end with Ctrl-D\n";
 
 /// Says a text. Where the device does not take it, nothing more is said.
 #[tactic(auto, using(crate::proofs::Said::said))]
@@ -88,7 +91,7 @@ fn explain<E: ByteSink>(
     errors: &mut E,
 )
     requires { E.has_failed errors.old ≡ false }
-    ensures { Says (fault_text fault.now ++ codes "\n"
+    ensures { Says ((fault_text fault.now ++ codes "\n")
         ++ explained asked.now.explains asked.now.request input.now fault.now)
         (E.taken errors.old) (E.taken errors.new) }
 {
@@ -156,6 +159,17 @@ fn do_asked<R: ByteSource, W: ByteSink, E: ByteSink>(
     }
 }
 
+/// Says that the input is read from a terminal, where one is asked for.
+pub fn say_terminal<E: ByteSink>(line: &Result<CommandLine, AllocError>, errors: &mut E)
+    requires { E.has_failed errors.old ≡ false }
+    ensures { SaysTerminal line.now (E.taken errors.old) (E.taken errors.new) }
+{
+    match line {
+        Ok(CommandLine::Asks(_)) => say(TERMINAL, errors),
+        _ => {}
+    }
+}
+
 /// Does what a command line asks for, and answers the status of it. `rt` is the leave to start
 /// threads and to wait for them.
 pub fn answer<R: ByteSource, W: ByteSink, E: ByteSink>(
@@ -177,9 +191,7 @@ pub fn answer<R: ByteSource, W: ByteSink, E: ByteSink>(
         (W.is_stalled sink.new) }
 {
     match line {
-        Ok(CommandLine::Asks(asked)) => {
-            do_asked(rt, alloc, asked, source, sink, errors)
-        }
+        Ok(CommandLine::Asks(asked)) => { do_asked(rt, alloc, asked, source, sink, errors) }
         Ok(CommandLine::Help(text)) => {
             let done = write_all(sink, text.as_bytes());
             finish(alloc, &done, errors)

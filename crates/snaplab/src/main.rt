@@ -6,7 +6,7 @@ ghost use Rattle.snap_command_line.specs.Limits.{HasLimits};
 
 mod answers;
 
-use answers::answer;
+use answers::{answer, say_terminal};
 use snap_command_line::{CommandLine, read_arguments};
 use snap_program::Std;
 use std::alloc::AllocError;
@@ -33,6 +33,9 @@ fn main(rt: HostRuntime) -> ExitCode {
     let line = command_line(&rt);
     let mut source = Std::new(rt.reader());
     let mut sink = Std::new(io::writer(&rt));
+    if rt.stdin().is_terminal() {
+        say_terminal(&line, &mut Std::new(rt.stderr()));
+    }
     let mut errors = Std::new(rt.stderr());
     ExitCode::from(answer(&rt, rt.alloc(), &line, &mut source, &mut sink, &mut errors))
 }

@@ -1,5 +1,5 @@
 -- What a run answers, by cases on its answer.
-use Rattle.std.proofs.Common.{◌≡◌, ℕ, ◌<◌, Bool, true, List, [], Option, Result, Ok, Err, Vec, length, take, ◌⊎◌, inl, refl, sym, subst}
+use Rattle.std.proofs.Common.{◌≡◌, ℕ, ◌<◌, Bool, true, List, [], Option, Result, Ok, Err, Vec, length, take, ◌⊎◌, inl, inr, refl, sym, subst}
 use Rattle.std.specs.Prelude.{⊤, IsErr, IsErrAnd}
 use Rattle.std.specs.Global.{Global}
 use Rattle.std.specs.Io.KnownBytes.{Appends}
@@ -13,7 +13,7 @@ use Rattle.snap_live_output.specs.declared.fault.LiveRunFault.{LiveRunFault}
 use Rattle.snap_live_output.specs.declared.fault.LiveRunFault.TheVariants as run
 use Rattle.snap_live_output.specs.LiveOutput.{AnswersLive}
 use Rattle.snap_subject.specs.declared.subject.Subject.{Subject}
-use Rattle.snap_program.specs.WholeRun.{of_fault, of_live_fault, IsWhole, RefusesLive, RefusesTask, Takes, Reads, Sends, ConductsOn}
+use Rattle.snap_program.specs.WholeRun.{of_fault, of_live_fault, IsWhole, RefusesLive, RefusesTask, Takes, Reads, Sends, ConductsOn, ConductsKeeping, IsKept}
 use Rattle.snap_program.specs.declared.fault.ConductFault.{ConductFault}
 use Rattle.snap_program.specs.declared.fault.ConductFault.TheVariants as fault
 use Rattle.snap_tasks.specs.declared.task.Task.{Task}
@@ -31,6 +31,15 @@ Why Refuses (fault.Refused f) = Refuses (fault.Refused f)
 Why Refuses (fault.Live f) = Refuses (fault.Live f)
 Why Refuses fault.Read = ⊥
 Why Refuses (fault.Write count) = ⊥
+
+-- what was read is kept
+pub is_kept : (answer : Result (Unit {0}) ConductFault) (input : List ℕ) → IsKept answer input input
+is_kept (Ok done) input = tt
+is_kept (Err fault.Memory) input = tt
+is_kept (Err (fault.Refused f)) input = refl
+is_kept (Err (fault.Live f)) input = tt
+is_kept (Err fault.Read) input = tt
+is_kept (Err (fault.Write count)) input = tt
 
 -- a task is refused as its output says
 pub why_task : (e : Fault Refusal) (task : Task) (input : List ℕ) → Answers {X = Vec ℕ Global} (λ v. v.items) (Err e) (output_of task input) → Why (RefusesTask task input) (of_fault e)
@@ -83,3 +92,19 @@ module _ (IsOutput : List ℕ → List ℕ → Type 0) (Refuses : List ℕ → C
       stopped e stop.0 input text before after taken taken_after r w s stop.1
       (subst (λ (x : List ℕ). stop.0 < length x) same_text stop.2) (subst (λ (x : List ℕ). Appends taken taken_after (take stop.0 x)) same_text stop.3) stop.4 takes whole
       (subst (λ (x : List ℕ). IsOutput x text) same h)
+
+  not_read_so : (e : ConductFault) (kept : List ℕ) (before after taken : Option (List ℕ)) (r w s : Bool)
+      → Reads (Err e) before after r → ConductsKeeping IsOutput Refuses kept (Err e) before after taken taken r w s
+  not_read_so e kept before after taken r w s h = elim h.2 [
+      | inl m ↦ subst (λ (x : ConductFault). ConductsKeeping IsOutput Refuses kept (Err x) before after taken taken r w s) (sym m)
+          (h.0, tt, [], h.1, tt, Appends-nil taken, refl)
+      | inr d ↦ subst (λ (x : ConductFault). ConductsKeeping IsOutput Refuses kept (Err x) before after taken taken r w s) (sym d.0)
+          (h.0, tt, [], h.1, tt, Appends-nil taken, (refl, d.1))
+    ]
+
+  -- reading failed
+  pub not_read : (answer : Result (Unit {0}) ConductFault) (e : ConductFault) (kept : List ℕ) (before after taken : Option (List ℕ)) (r w s : Bool)
+      → IsErr answer × IsErrAnd answer (λ f. f ≡ e) → Reads (Err e) before after r → ConductsKeeping IsOutput Refuses kept answer before after taken taken r w s
+  not_read (Ok done) e kept before after taken r w s from h = absurd from.1
+  not_read (Err f) e kept before after taken r w s from h =
+      subst (λ (x : ConductFault). ConductsKeeping IsOutput Refuses kept (Err x) before after taken taken r w s) (sym from.1) (not_read_so e kept before after taken r w s h)

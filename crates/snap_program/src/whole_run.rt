@@ -90,7 +90,8 @@ pub fn conduct_keeping<R: ByteSource, W: ByteSink>(
         (R.left source.old) (R.left source.new) (W.taken sink.old) (W.taken sink.new)
         (R.has_failed source.new) (W.has_failed sink.new) (W.is_stalled sink.new) }
 {
-    *kept = read_all(alloc, source)?;
+    let input = read_all(alloc, source)?;
+    *kept = input;
     let text = output(rt, alloc, task, kept.as_slice())?;
     write_all(sink, text.as_slice())
 }
@@ -138,7 +139,8 @@ pub fn conduct_live_keeping<G: Gate, R: ByteSource, W: ByteSink>(
         (R.left source.old) (R.left source.new) (W.taken sink.old) (W.taken sink.new)
         (R.has_failed source.new) (W.has_failed sink.new) (W.is_stalled sink.new) }
 {
-    *kept = read_all(alloc, source)?;
+    let input = read_all(alloc, source)?;
+    *kept = input;
     let text = live_output(rt, alloc, subject, limit, gate, kept.as_slice())?;
     write_all(sink, text.as_slice())
 }

@@ -1,0 +1,4 @@
+use Rattle.snap_program.proofs.whole_run.conduct_live.Goals as goal
+
+pub returns : goal.returns
+returns g c = let h = c.conduct_live_keeping.ensures in (h.0, h.2)

@@ -1,5 +1,5 @@
 -- What is said of a refused input behind the line that refuses it.
-use Rattle.std.specs.Prelude.{ℕ, ◌-◌, List, [], ◌∷◌, ◌++◌, length, take, drop, Option, Some, None, nat_lt, codes, slice_get, map, if◌then◌else◌}
+use Rattle.std.specs.Prelude.{ℕ, ◌-◌, List, [], ◌∷◌, ◌++◌, length, take, drop, Option, Some, None, nat_lt, codes, map, if◌then◌else◌}
 use Rattle.snap_semantics.specs.Report.{numbers_text}
 use Rattle.snap_input.specs.Parts.{parts_of}
 use Rattle.snap_semantics.specs.declared.refusal.CommandRefusal.{CommandRefusal}
@@ -26,7 +26,7 @@ use Rattle.snap_explanation.specs.declared.layout.Layout.TheVariants as layout
 use Rattle.snap_explanation.specs.declared.layout.Texts.{Texts}
 use Rattle.snap_explanation.specs.declared.layout.Texts.TheVariants as texts
 use Rattle.snap_explanation.specs.Advice.{advice, advice_line, command_form_advice, stray_advice}
-use Rattle.snap_explanation.specs.Names.{words_before, header_count, is_unknown, first_such, is_bad, first_again, nearest, leading_line, first_led}
+use Rattle.snap_explanation.specs.Names.{words_before, header_count, is_unknown, first_such, is_bad, first_again, nearest, leading_line, first_led, nth_token}
 use Rattle.snap_explanation.specs.Part.{Part, part_place, lines_through}
 use Rattle.snap_explanation.specs.Spot.{nth_line, piece_at, column_of, shown, spot, line_spot}
 use Rattle.snap_explanation.specs.Texts.{expected_line}
@@ -52,7 +52,7 @@ piece_of text (Some t) = piece_at t.column text
 -- a line that is lost at a place
 abbrev pub lost_text : Part → ℕ → List ℕ → List PlacedToken → Place → List ℕ
 lost_text p k text ts at =
-    spot p k text (column_of text (slice_get ts at.before)) ++ expected_line at.wanted (piece_of text (slice_get ts at.before)) ++ token_advice at (slice_get ts at.before)
+    spot p k text (column_of text (nth_token at.before ts)) ++ expected_line at.wanted (piece_of text (nth_token at.before ts)) ++ token_advice at (nth_token at.before ts)
 
 -- what is advised of a line of a sort by its first token
 abbrev pub sort_advice : LineSort → List PlacedToken → List ℕ
@@ -63,9 +63,13 @@ abbrev pub lost_or_line : Part → LineSort → ℕ → List ℕ → List Placed
 lost_or_line p sort k text ts None = line_spot p k text
 lost_or_line p sort k text ts (Some at) = lost_text p k text ts at ++ sort_advice sort ts
 
+-- a line with a byte that begins no token, or else one that is lost
+abbrev pub stray_or_lost : Part → LineSort → ℕ → List ℕ → List PlacedToken → Option ℕ → List ℕ
+stray_or_lost p sort k text ts (Some column) = stray_text p k text column
+stray_or_lost p sort k text ts None = lost_or_line p sort k text ts (lost_in sort (tokens_of_placed ts))
+
 abbrev pub form_text_of : Part → LineSort → ℕ → List ℕ → PlacedTokens → List ℕ
-form_text_of p sort k text (record { tokens = ts; stray = Some column }) = stray_text p k text column
-form_text_of p sort k text (record { tokens = ts; stray = None }) = lost_or_line p sort k text ts (lost_in sort (tokens_of_placed ts))
+form_text_of p sort k text placed = stray_or_lost p sort k text placed.tokens placed.stray
 
 -- a line that has not the form of its sort
 abbrev pub form_text : Part → LineSort → ℕ → List ℕ
@@ -123,7 +127,7 @@ abbrev pub listing_explained : Part → ListingRefusal → List ℕ
 listing_explained p listing.TooLong = codes "the text of a listing has at most 65536 bytes\n"
 listing_explained p (listing.BadHeader k) = form_text p (line.Header (header_at header.Kind k (text_lines p.text))) k
 listing_explained p (listing.BadLine k) = form_text p line.Numbered k
-listing_explained p (listing.NumberNotRising k) = token_spot p k (slice_get (placed_line p k) 0) (codes "the numbers of lines rise\n")
+listing_explained p (listing.NumberNotRising k) = token_spot p k (nth_token 0 (placed_line p k)) (codes "the numbers of lines rise\n")
 listing_explained p (listing.UnknownName k) =
     unknown_spot p k (words_before k header_count (text_lines p.text)) (first_such (is_unknown (words_before k header_count (text_lines p.text))) (placed_line p k))
 listing_explained p (listing.NameTwice k) =
@@ -147,14 +151,14 @@ abbrev pub schedule_explained : Layout → Part → ScheduleRefusal → List ℕ
 schedule_explained l p schedule.TooLong = codes "a schedule has at most 4194304 bytes\n"
 schedule_explained l p schedule.BadShape = form_text p line.Shape (first_number (text_lines p.text))
 schedule_explained l p (schedule.BadItem k) = form_text p (item_sort l) k
-schedule_explained l p (schedule.TooManyItems k) = token_spot p k (slice_get (placed_line p k) 0) (codes "a schedule has at most 1000000 items\n")
+schedule_explained l p (schedule.TooManyItems k) = token_spot p k (nth_token 0 (placed_line p k)) (codes "a schedule has at most 1000000 items\n")
 schedule_explained l p (schedule.NoSuchProcess k) =
-    token_spot p k (slice_get (placed_line p k) 0) (codes "the shape has no such process: `shape N W` has processes 1 to N\n")
+    token_spot p k (nth_token 0 (placed_line p k)) (codes "the shape has no such process: `shape N W` has processes 1 to N\n")
 
 -- a shape that does not fit the kind
 abbrev pub shape_explained : Part → ℕ → List ℕ
 shape_explained p k =
-    token_spot p k (slice_get (placed_line p k) 2) (codes "registers of kind seq and bit have one word for each process: `shape N N`\n")
+    token_spot p k (nth_token 2 (placed_line p k)) (codes "registers of kind seq and bit have one word for each process: `shape N N`\n")
 
 abbrev pub commands_explained : Part → CommandRefusal → List ℕ
 commands_explained p (command.BadCommand k) = form_text p line.Command k
@@ -180,7 +184,7 @@ lines_behind before (p ∷ ps) = lines_through before p ∷ lines_behind (lines_
 
 -- the lines `%` of an input
 abbrev pub separators : List (List ℕ) → List ℕ
-separators parts = take (length parts - 1) (lines_behind 0 parts)
+separators parts = take (length (lines_behind 0 parts) - 1) (lines_behind 0 parts)
 
 abbrev pub separator_words : List ℕ → List ℕ
 separator_words [] = codes "\nno line of the input is `%` alone\n"

@@ -39,6 +39,11 @@ is_unknown known (Identifier w) = not (is_reserved w) && not (is_among w known)
 is_unknown known (Number k) = false
 is_unknown known (Sign m) = false
 
+-- token k, from 0
+abbrev pub nth_token : (k : ℕ) → List PlacedToken → Option PlacedToken
+nth_token k [] = None
+nth_token k (t ∷ ts) = if nat_eq k 0 then Some t else nth_token (k - 1) ts
+
 -- the first token that passes a test
 abbrev pub first_such : (Token → Bool) → List PlacedToken → Option PlacedToken
 first_such test [] = None

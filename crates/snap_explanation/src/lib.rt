@@ -3,12 +3,12 @@
 #![tactic(auto)]
 
 mod advice;
-mod explanation;
+mod explain;
 mod layout;
 mod names;
 mod part;
 mod spot;
 mod texts;
 
-pub use explanation::explanation;
+pub use explain::explanation;
 pub use layout::{Layout, Texts, layout_of};

@@ -3,7 +3,7 @@ ghost use Rattle.std.specs.Prelude.{◌≡◌, ◌≤◌, ◌++◌, IfOk, OnOk, 
 ghost use Rattle.snap_semantics.specs.Token.{text_lines};
 ghost use Rattle.snap_text.specs.Tokens.{view_token, view_tokens};
 ghost use Rattle.snap_expected.specs.Steps.{view_placed_token};
-ghost use Rattle.snap_explanation.specs.Names.{words_of, words_before, is_among, is_unknown, first_such, is_bad, first_again, common_len, is_same_later, is_near, nearest, is_leading, is_number, number_there, first_led, begins_with_number, leads_to, line_leads_to, leading_line};
+ghost use Rattle.snap_explanation.specs.Names.{words_of, words_before, is_among, is_unknown, nth_token, first_such, is_bad, first_again, common_len, is_same_later, is_near, nearest, is_leading, is_number, number_there, first_led, begins_with_number, leads_to, line_leads_to, leading_line};
 
 use snap_expected::{PlacedToken, is_word};
 use snap_listing_core::is_reserved;
@@ -51,6 +51,23 @@ fn push_words<'a>(words: &mut Vec<&'a [u8]>, tokens: &[Token<'a>]) -> Result<(),
         rest = behind;
     }
     Ok(())
+}
+
+/// Token `index`, from 0.
+pub fn nth_token<'a>(index: usize, tokens: &[PlacedToken<'a>]) -> Option<PlacedToken<'a>>
+    ensures { option_map view_placed_token result
+        ≡ nth_token index (map view_placed_token tokens.now) }
+{
+    let mut left = index;
+    let mut rest = tokens;
+    while let [first, behind @ ..] = rest {
+        if left == 0 {
+            return Some(*first);
+        }
+        left -= 1;
+        rest = behind;
+    }
+    None
 }
 
 /// Whether a word is one of these.
@@ -123,7 +140,7 @@ pub fn first_again<'a>(
     tokens: &[PlacedToken<'a>],
 ) -> Result<Option<PlacedToken<'a>>, AllocError>
     ensures { IfOk result (λ found. option_map view_placed_token found
-        ≡ first_again (map (λ w. w.now) known.items) (map view_placed_token tokens.now)) }
+        ≡ first_again (map (λ w. w.now) known.entry.items) (map view_placed_token tokens.now)) }
 {
     let mut known = known;
     let mut rest = tokens;

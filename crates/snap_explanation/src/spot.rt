@@ -32,6 +32,7 @@ fn comment_start(line: &[u8]) -> usize
 }
 
 /// The front of some bytes, at most so many.
+#[tactic(auto, using(crate::proofs::Cuts::front_cut))]
 fn front(bytes: &[u8], most: usize) -> &[u8]
     ensures { result.now ≡ take most bytes.now }
 {
@@ -39,6 +40,7 @@ fn front(bytes: &[u8], most: usize) -> &[u8]
 }
 
 /// What stands behind so many bytes.
+#[tactic(auto, using(crate::proofs::Cuts::behind_cut))]
 fn behind(bytes: &[u8], count: usize) -> &[u8]
     ensures { result.now ≡ drop count bytes.now }
 {
@@ -54,8 +56,8 @@ pub fn piece_at(column: usize, line: &[u8]) -> &[u8]
 }
 
 /// The column of a token; behind the last one that of the end of the line.
-pub fn column_of(line: &[u8], token: Option<&PlacedToken<'_>>) -> usize
-    ensures { result ≡ column_of line.now (option_map (λ t. view_placed_token t.now) token) }
+pub fn column_of(line: &[u8], token: Option<PlacedToken<'_>>) -> usize
+    ensures { result ≡ column_of line.now (option_map view_placed_token token.entry) }
 {
     match token {
         Some(token) => token.column,

@@ -17,4 +17,7 @@ returns g c =
     c.as_slice.ensures.value c.as_slice-2.ensures.value read.0 read.1 c.in_ok-text.ensures.output c.write_all.ensures)
 
 pub returns-in_err-input : goal.returns-in_err-input
-returns-in_err-input g c = ?
+returns-in_err-input g c =
+    not_read (IsOutputOf c.args.task.now) (RefusesTask c.args.task.now) c.from_residual.result c.in_err-input.field-0.0 c.args.kept.now.items
+    (g.R.ByteSource.left c.args.source.now) (g.R.ByteSource.left c.read_all.new.source) (g.W.ByteSink.taken c.args.sink.now) _ _ _
+    c.from_residual.ensures c.in_err-input.ensures

@@ -1,19 +1,21 @@
 //! What is said of a refused input behind the line that refuses it.
-ghost use Rattle.std.specs.Prelude.{◌≡◌, ◌++◌, IfOk, OnOk, map, option_map, slice_get};
+ghost use Rattle.std.specs.Prelude.{◌≡◌, ◌++◌, IfOk, OnOk, map, option_map};
 ghost use Rattle.snap_semantics.specs.Token.{lines_of, text_lines};
 ghost use Rattle.snap_expected.specs.Pieces.{placed_of};
 ghost use Rattle.snap_expected.specs.Steps.{view_placed, view_placed_token, view_lost};
-ghost use Rattle.snap_explanation.specs.Explanation.{token_advice, sort_advice, piece_of, part_explained, stray_text, lost_text, lost_or_line, form_text_of, form_text, token_spot, placed_line, next_header, header_at, first_number, nearest_text, unknown_text, unknown_spot, listing_explained, item_sort, schedule_explained, shape_explained, commands_explained, parts_words, lines_behind, separators, separator_words, parts_explained, explanation};
+ghost use Rattle.snap_explanation.specs.Explanation.{token_advice, sort_advice, piece_of, part_explained, stray_text, lost_text, lost_or_line, stray_or_lost, form_text_of, form_text, token_spot, placed_line, next_header, header_at, first_number, nearest_text, unknown_text, unknown_spot, listing_explained, item_sort, schedule_explained, shape_explained, commands_explained, parts_words, lines_behind, separators, separator_words, parts_explained, explanation};
 ghost use Rattle.snap_explanation.specs.Spot.{nth_line, piece_at};
 ghost use Rattle.snap_expected.specs.declared.sorts.Header.TheVariants.{Kind};
 ghost use Rattle.snap_input.specs.Parts.{parts_of};
 ghost use Rattle.snap_semantics.specs.declared.refusal.ListingRefusal.TheVariants.{UnknownName, NameTwice, NoSuchLine, BadName, BadHeader};
+ghost use Rattle.snap_explanation.specs.Names.{nth_token};
 ghost use Rattle.snap_explanation.specs.Views.{view_part};
 
 use crate::advice::{advice, command_form_advice, push_advice, stray_advice};
 use crate::layout::{Layout, Texts};
 use crate::names::{
-    first_again, first_bad, first_led, first_unknown, leading_line, nearest, words_before,
+    first_again, first_bad, first_led, first_unknown, leading_line, nearest, nth_token,
+    words_before,
 };
 use crate::part::{Part, lines_through, part_place};
 use crate::spot::{column_of, line_of, piece_at, push_line_spot, push_shown, push_spot};
@@ -51,8 +53,8 @@ fn push_stray(
 }
 
 /// What stands at a token, which may be the end of the line.
-fn piece_of<'a>(text: &'a [u8], token: Option<&PlacedToken<'_>>) -> &'a [u8]
-    ensures { result.now ≡ piece_of text.now (option_map (λ t. view_placed_token t.now) token) }
+fn piece_of<'a>(text: &'a [u8], token: Option<PlacedToken<'_>>) -> &'a [u8]
+    ensures { result.now ≡ piece_of text.now (option_map view_placed_token token.entry) }
 {
     match token {
         Some(token) => piece_at(token.column, text),
@@ -65,10 +67,10 @@ fn piece_of<'a>(text: &'a [u8], token: Option<&PlacedToken<'_>>) -> &'a [u8]
 fn push_token_advice(
     out: &mut Vec<u8>,
     place: &LostPlace,
-    token: Option<&PlacedToken<'_>>,
+    token: Option<PlacedToken<'_>>,
 ) -> Result<(), AllocError>
     ensures { OnOk result (out.new.items ≡ out.old.items
-        ++ token_advice (view_lost place.now) (option_map (λ t. view_placed_token t.now) token)) }
+        ++ token_advice (view_lost place.now) (option_map view_placed_token token.entry)) }
 {
     match token {
         Some(token) => push_advice(out, advice(place.wanted.as_slice(), &token.token)),
@@ -90,7 +92,7 @@ fn push_lost(
         ++ lost_text (view_part part.now) line text.now (map view_placed_token tokens.now)
         (view_lost place.now)) }
 {
-    let token = tokens.get(place.before);
+    let token = nth_token(place.before, tokens);
     push_spot(out, part, line, text, column_of(text, token))?;
     push_expected_line(out, place.wanted.as_slice(), piece_of(text, token))?;
     push_token_advice(out, place, token)
@@ -148,7 +150,7 @@ fn push_token_spot(
     said: &[u8],
 ) -> Result<(), AllocError>
     ensures { OnOk result (out.new.items ≡ out.old.items
-        ++ token_spot (view_part part.now) line (option_map view_placed_token token) said.now) }
+        ++ token_spot (view_part part.now) line (option_map view_placed_token token.entry) said.now) }
 {
     let text = line_of(part.text, line);
     match token {
@@ -179,10 +181,10 @@ fn token_at<'a>(
     index: usize,
 ) -> Result<Option<PlacedToken<'a>>, AllocError>
     ensures { IfOk result (λ token. option_map view_placed_token token
-        ≡ slice_get (placed_line (view_part part.now) line) index) }
+        ≡ nth_token index (placed_line (view_part part.now) line)) }
 {
     let tokens = placed_line(alloc, part, line)?;
-    Ok(tokens.as_slice().get(index).copied())
+    Ok(nth_token(index, tokens.as_slice()))
 }
 
 /// The header line behind this one; the last one stays.
@@ -233,7 +235,7 @@ fn push_unknown(
     token: Option<PlacedToken<'_>>,
 ) -> Result<(), AllocError>
     ensures { OnOk result (out.new.items ≡ out.old.items
-        ++ unknown_text (map (λ w. w.now) known.now) (option_map view_placed_token token)) }
+        ++ unknown_text (map (λ w. w.now) known.now) (option_map view_placed_token token.entry)) }
 {
     let Some(
         PlacedToken {
@@ -345,7 +347,7 @@ fn push_first_spot(
     said: &[u8],
 ) -> Result<(), AllocError>
     ensures { OnOk result (out.new.items ≡ out.old.items
-        ++ token_spot (view_part part.now) line (slice_get (placed_line (view_part part.now) line) 0) said.now) }
+        ++ token_spot (view_part part.now) line (nth_token 0 (placed_line (view_part part.now) line)) said.now) }
 {
     let token = token_at(alloc, part, line, 0)?;
     push_token_spot(out, part, line, token, said)

@@ -2,7 +2,7 @@
 use Rattle.std.proofs.Common.{◌≡◌, ℕ, List, ◌++◌, length, take, min, sym, subst, append-nil, ap, ◌∙◌, inl, inr, arith}
 use Rattle.std.proofs.lemmas.List.{take_all, take-append-le}
 use Rattle.std.proofs.lemmas.Bool.{cases_lt}
-use Rattle.std.specs.Prelude.{Bool, Option, Some, None, Result, Ok, Err}
+use Rattle.std.specs.Prelude.{Bool, Option, Some, None, Result, Ok, Err, OnOk, OnErr}
 use Rattle.std.specs.Io.KnownBytes.{Appends}
 use Rattle.snap_program.specs.WholeRun.{Sends}
 use Rattle.snap_program.specs.declared.fault.ConductFault.{ConductFault}
@@ -31,3 +31,9 @@ pub said_front : (text more : List ℕ) (before after : Option (List ℕ)) → S
 said_front text more before after h =
     let e : take (min h.0 (length text)) (text ++ more) ≡ take h.0 text = take-append-le (min h.0 (length text)) text more (omega arith) ∙ front_len h.0 text in
     (min h.0 (length text), subst (λ xs. Appends before after xs) (sym e) h.1)
+
+-- a line, and what was put behind it where there was memory
+pub explained_said : {E : Type 0} (done : Result (Unit {0}) E) (line more now : List ℕ) (before after : Option (List ℕ)) →
+    OnOk done (now ≡ line ++ more) → OnErr done (now ≡ line) → Says now before after → Says (line ++ more) before after
+explained_said (Ok there) line more now before after ok err h = subst (λ (x : List ℕ). Says x before after) ok h
+explained_said (Err e) line more now before after ok err h = said_front line more before after (subst (λ (x : List ℕ). Says x before after) err h)

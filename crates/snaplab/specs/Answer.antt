@@ -1,11 +1,11 @@
 -- What the program does about its command line, and the status that it ends with.
-use Rattle.std.specs.Prelude.{◌≡◌, ℕ, Bool, true, List, [], ◌++◌, Option, Result, Ok, Err, codes, string_bytes, take}
+use Rattle.std.specs.Prelude.{◌≡◌, ℕ, Bool, true, List, [], ◌++◌, Option, Result, Ok, Err, if◌then◌else◌, codes, string_bytes, take}
 use Rattle.std.specs.Io.KnownBytes.{Appends}
 use Rattle.snap_command_line.specs.declared.command_line.Asked.{Asked}
 use Rattle.snap_command_line.specs.declared.command_line.CommandLine.{CommandLine}
 use Rattle.snap_command_line.specs.declared.command_line.CommandLine.TheVariants.{Asks, Help, Wrong, NoText}
 use Rattle.snap_tasks.specs.declared.request.Request.{Request}
-use Rattle.snap_tasks.specs.declared.request.Request.TheVariants.{Do, Live}
+use Rattle.snap_tasks.specs.declared.request.Request.TheVariants as request
 use Rattle.snap_program.specs.WholeRun.{ConductsKeeping, IsOutputOf, RefusesLive, RefusesTask, Sends}
 use Rattle.snap_live_output.specs.LiveOutput.{MayWrite}
 use Rattle.snap_explanation.specs.Explanation.{explanation}
@@ -13,7 +13,7 @@ use Rattle.snap_explanation.specs.Part.{layout_of}
 use Rattle.snap_program.specs.FaultText.{fault_text}
 use Rattle.snap_program.specs.ExitStatus.{fault_status}
 use Rattle.snap_program.specs.declared.fault.ConductFault.{ConductFault}
-use Rattle.snap_program.specs.declared.fault.ConductFault.TheVariants.{Memory, Refused}
+use Rattle.snap_program.specs.declared.fault.ConductFault.TheVariants.{Memory, Refused, Live, Read, Write}
 
 -- the status of a whole run: 0 where all of its output was written, and nowhere else
 abbrev pub exit_status : Result (Unit {0}) ConductFault → ℕ
@@ -30,9 +30,15 @@ SaysFault (Ok done) said said_after = said ≡ said_after
 SaysFault (Err fault) said said_after = Says (fault_text fault ++ codes "\n") said said_after
 
 -- what is said behind the line of a fault, where refusals are explained
+abbrev pub why : Request → (input : List ℕ) → ConductFault → List ℕ
+why asked input (Refused r) = explanation (layout_of asked) input r
+why asked input Memory = []
+why asked input (Live r) = []
+why asked input Read = []
+why asked input (Write count) = []
+
 abbrev pub explained : (explains : Bool) → Request → (input : List ℕ) → ConductFault → List ℕ
-explained true asked input (Refused r) = explanation (layout_of asked) input r
-explained _ asked input _ = []
+explained explains asked input fault = if explains then why asked input fault else []
 
 -- A fault is told in a line, and what explains it stands behind that line; where there is none, nothing is said.
 abbrev pub SaysWhy : (explains : Bool) → Request → (input : List ℕ) → Result (Unit {0}) ConductFault → (said said_after : Option (List ℕ)) → Type 0
@@ -43,9 +49,9 @@ SaysWhy explains asked input (Err fault) said said_after =
 -- A whole run of what was asked for, which keeps its input.
 abbrev pub CarriesOut : Request → (kept : List ℕ) → Result (Unit {0}) ConductFault → (left left_after taken taken_after : Option (List ℕ)) →
     (reader_failed writer_failed writer_stalled : Bool) → Type 0
-CarriesOut (Do task) kept done left left_after taken taken_after r w s =
+CarriesOut (request.Do task) kept done left left_after taken taken_after r w s =
     ConductsKeeping (IsOutputOf task) (RefusesTask task) kept done left left_after taken taken_after r w s
-CarriesOut (Live subject limit) kept done left left_after taken taken_after r w s =
+CarriesOut (request.Live subject limit) kept done left left_after taken taken_after r w s =
     ConductsKeeping (MayWrite (λ process turn answer. answer ≡ true) subject limit) (RefusesLive (λ process turn answer. answer ≡ true) subject limit) kept done
     left left_after taken taken_after r w s
 

@@ -59,7 +59,7 @@ fn finish<E: ByteSink>(alloc: Global, done: &Result<(), ConductFault>, errors: &
     }
 }
 
-/// What is said behind the line of a fault, where refusals are explained and there is memory for it.
+/// Adds what is said behind the line of a fault, where refusals are explained.
 fn push_explained(
     alloc: Global,
     asked: &Asked,
@@ -69,20 +69,27 @@ fn push_explained(
 ) -> Result<(), AllocError>
     ensures ok { OnOk result (line.new.items
         ≡ line.old.items ++ explained asked.now.explains asked.now.request input.now fault.now) }
-    ensures unchanged { OnErr result (line.new ≡ line.old) }
+    ensures unchanged { OnErr result (line.new.items ≡ line.old.items) }
 {
+    if !asked.explains {
+        return Ok(());
+    }
     match fault {
-        ConductFault::Refused(refusal) if asked.explains => {
+        ConductFault::Refused(refusal) => {
             let layout = layout_of(&asked.request);
             let text = explanation(alloc, layout, input, refusal)?;
             line.extend_from_slice(text.as_slice())
         }
-        _ => Ok(()),
+        ConductFault::Memory
+        | ConductFault::Live(_)
+        | ConductFault::Read
+        | ConductFault::Write(_) => Ok(()),
     }
 }
 
 /// Says why nothing, or not all, was written, and explains it where that is asked for. There may be
 /// no memory for that either.
+#[tactic(auto, using(crate::proofs::Said::explained_said, crate::proofs::Said::said_front))]
 fn explain<E: ByteSink>(
     alloc: Global,
     asked: &Asked,

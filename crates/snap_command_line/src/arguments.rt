@@ -5,7 +5,7 @@ ghost use Rattle.snap_tasks.specs.Request.{HasLimit, IsLimit};
 use clap::builder::ValueParser;
 use clap::error::ErrorKind;
 use clap::{Arg, ArgAction, ArgMatches, Command, Error};
-use crate::command_line::Asked;
+use crate::command_line::Invocation;
 use snap_tasks::{Subject, kind_of, request_of};
 use std::alloc::{AllocError, Global};
 
@@ -114,18 +114,18 @@ fn subject_of(arguments: &ArgMatches<'_>) -> Option<Subject> {
 }
 
 /// What the arguments of a subcommand ask for.
-fn request_by(matches: &ArgMatches<'_>) -> Option<Asked>
+fn request_by(matches: &ArgMatches<'_>) -> Option<Invocation>
     ensures { IfSome result (λ asked. HasLimit asked.request) }
 {
     let (name, arguments) = matches.subcommand()?;
     let subject = subject_of(arguments)?;
     let request = request_of(name, subject, limit_of(arguments))?;
     let explains = matches.get_flag("explain");
-    Some(Asked { request, explains })
+    Some(Invocation { request, explains })
 }
 
 /// What the arguments ask for, the program's own name first.
-pub fn request_of_arguments<'a>(alloc: Global, arguments: &'a [String]) -> Result<Asked, Error>
+pub fn request_of_arguments<'a>(alloc: Global, arguments: &'a [String]) -> Result<Invocation, Error>
     ensures { IfOk result (λ asked. HasLimit asked.request) }
 {
     let mut command = command(alloc)?;

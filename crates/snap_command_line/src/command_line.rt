@@ -10,7 +10,7 @@ use std::alloc::{AllocError, Global};
 
 /// What the arguments of a command line ask for, and whether a refusal is to be explained.
 #[derive(Clone, Copy, Debug, PartialEq, Eq)]
-pub struct Asked {
+pub struct Invocation {
     pub request: Request,
     pub explains: bool,
 }
@@ -19,7 +19,7 @@ pub struct Asked {
 #[derive(Debug, Drop)]
 pub enum CommandLine {
     /// They ask for this.
-    Asks(Asked),
+    Asks(Invocation),
     /// They ask for help, or for the version: its text.
     Help(String),
     /// They ask for nothing that the program does: why, as text.
@@ -35,7 +35,7 @@ impl CommandLine {
         ensures limits { HasLimits self → HasLimits result }
     {
         match self {
-            CommandLine::Asks(asked) => CommandLine::Asks(Asked {
+            CommandLine::Asks(asked) => CommandLine::Asks(Invocation {
                 request: asked.request,
                 explains: asked.explains || explains,
             }),

@@ -1,7 +1,7 @@
 -- What the program does about its command line, and the status that it ends with.
 use Rattle.std.specs.Prelude.{◌≡◌, ℕ, Bool, true, List, [], ◌++◌, Option, Result, Ok, Err, if◌then◌else◌, codes, string_bytes, take}
 use Rattle.std.specs.Io.KnownBytes.{Appends}
-use Rattle.snap_command_line.specs.declared.command_line.Asked.{Asked}
+use Rattle.snap_command_line.specs.declared.command_line.Invocation.{Invocation}
 use Rattle.snap_command_line.specs.declared.command_line.CommandLine.{CommandLine}
 use Rattle.snap_command_line.specs.declared.command_line.CommandLine.TheVariants.{Asks, Help, Wrong, NoText}
 use Rattle.snap_tasks.specs.declared.request.Request.{Request}
@@ -70,9 +70,9 @@ no_text_line = codes "error: the words of the command line are no text\n"
 
 -- What the program does about what was asked for: what it takes of its source, what it gives its sink and its device for messages,
 -- and its status. Where an input is refused, it is the one that is explained.
-abbrev pub AnswersAsked : Asked → (status : ℕ) → (left left_after taken taken_after said said_after : Option (List ℕ)) →
+abbrev pub AnswersInvocation : Invocation → (status : ℕ) → (left left_after taken taken_after said said_after : Option (List ℕ)) →
     (reader_failed writer_failed writer_stalled : Bool) → Type 0
-AnswersAsked asked status left left_after taken taken_after said said_after r w s =
+AnswersInvocation asked status left left_after taken taken_after said said_after r w s =
     (done : Result (Unit {0}) ConductFault) × (kept : List ℕ) × (status ≡ exit_status done)
     × CarriesOut asked.request kept done left left_after taken taken_after r w s × SaysWhy asked.explains asked.request kept done said said_after
 
@@ -81,7 +81,7 @@ AnswersAsked asked status left left_after taken taken_after said said_after r w 
 abbrev pub AnswersLine : {E : Type 0} → Result CommandLine E → (status : ℕ) → (left left_after taken taken_after said said_after : Option (List ℕ)) →
     (reader_failed writer_failed writer_stalled : Bool) → Type 0
 AnswersLine (Ok (Asks asked)) status left left_after taken taken_after said said_after r w s =
-    AnswersAsked asked status left left_after taken taken_after said said_after r w s
+    AnswersInvocation asked status left left_after taken taken_after said said_after r w s
 AnswersLine (Ok (Help text)) status left left_after taken taken_after said said_after r w s =
     (left ≡ left_after) × ((done : Result (Unit {0}) ConductFault) × (status ≡ exit_status done) × Sends done (string_bytes text) taken taken_after w s
     × SaysFault done said said_after)

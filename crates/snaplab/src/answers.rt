@@ -3,9 +3,9 @@ ghost use Rattle.std.specs.Prelude.{◌≡◌, ◌++◌, false, codes, IfOk, OnO
 ghost use Rattle.snap_command_line.specs.Limits.{HasLimits};
 ghost use Rattle.snap_program.specs.FaultText.{fault_text};
 ghost use Rattle.snap_tasks.specs.Request.{HasLimit};
-ghost use Rattle.snaplab.specs.Answer.{AnswersAsked, AnswersLine, CarriesOut, Says, SaysFault, SaysTerminal, explained, exit_status};
+ghost use Rattle.snaplab.specs.Answer.{AnswersInvocation, AnswersLine, CarriesOut, Says, SaysFault, SaysTerminal, explained, exit_status};
 
-use snap_command_line::{Asked, CommandLine};
+use snap_command_line::{CommandLine, Invocation};
 use snap_explanation::{explanation, layout_of};
 use snap_program::{
     ByteSink, ByteSource, ConductFault, NoGate, conduct_keeping, conduct_live_keeping, fault_line,
@@ -62,7 +62,7 @@ fn finish<E: ByteSink>(alloc: Global, done: &Result<(), ConductFault>, errors: &
 /// Adds what is said behind the line of a fault, where refusals are explained.
 fn push_explained(
     alloc: Global,
-    asked: &Asked,
+    asked: &Invocation,
     input: &[u8],
     fault: &ConductFault,
     line: &mut Vec<u8>,
@@ -92,7 +92,7 @@ fn push_explained(
 #[tactic(auto, using(crate::proofs::Said::explained_said, crate::proofs::Said::said_front))]
 fn explain<E: ByteSink>(
     alloc: Global,
-    asked: &Asked,
+    asked: &Invocation,
     input: &[u8],
     fault: &ConductFault,
     errors: &mut E,
@@ -141,7 +141,7 @@ fn carry_out<R: ByteSource, W: ByteSink>(
 fn do_asked<R: ByteSource, W: ByteSink, E: ByteSink>(
     rt: &(impl Threads + Wait + Sync),
     alloc: Global,
-    asked: &Asked,
+    asked: &Invocation,
     source: &mut R,
     sink: &mut W,
     errors: &mut E,
@@ -151,7 +151,7 @@ fn do_asked<R: ByteSource, W: ByteSink, E: ByteSink>(
     requires sink { W.has_failed sink.old ≡ false }
     requires goes_on { W.is_stalled sink.old ≡ false }
     requires errors { E.has_failed errors.old ≡ false }
-    ensures { AnswersAsked asked.now result (R.left source.old) (R.left source.new)
+    ensures { AnswersInvocation asked.now result (R.left source.old) (R.left source.new)
         (W.taken sink.old) (W.taken sink.new)
         (E.taken errors.old) (E.taken errors.new) (R.has_failed source.new) (W.has_failed sink.new)
         (W.is_stalled sink.new) }

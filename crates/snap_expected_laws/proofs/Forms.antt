@@ -51,7 +51,7 @@ shape_lost n w e f =
 pub shape_goes : (ts : List Token) → Holds (NotLost line.Shape ts) (shape_form ts)
 unfolding shape_form
 shape_goes ts =
-    let P = NotLost {Counts} line.Shape ts in
+    let P = NotLost {A = Counts} line.Shape ts in
     then_with (KeywordIs (codes "shape") ts) P (keyword_at (codes "shape") ts) _ (keyword_is (codes "shape") ts) (λ rest e.
     then_with (NumberIs rest) P (number_at rest) _ (number_is rest) (λ n f.
     then_with (NumberIs n.1) P (number_at n.1) _ (number_is n.1) (λ w g.
@@ -77,7 +77,7 @@ steps_lost i k e = passes 2 [] (wanted.Positive ∷ []) [] (step (Number k) []) 
 pub item_goes : (ts : List Token) → Holds (NotLost line.Item ts) (item_form ts)
 unfolding item_form step_form steps_form scan_form update_form crash_form
 item_goes ts =
-    let P = NotLost {ItemForm} line.Item ts in
+    let P = NotLost {A = ItemForm} line.Item ts in
     either P _ _
     (then_with (NumberIs ts) P (number_at ts) _ (number_is ts) (λ i e.
     then_with (EndIs i.1) P (end_at i.1) _ (end_is i.1) (λ z h. closes line.Item ts _ (on_cons (Number i.0) ts i.1 [] e h) refl)))
@@ -119,7 +119,7 @@ kind_lost w =
 pub kind_goes : (ts : List Token) → Holds (NotLost (line.Header header.Kind) ts) (kind_form ts)
 unfolding kind_form
 kind_goes ts =
-    let P = NotLost {KindTag} (line.Header header.Kind) ts in
+    let P = NotLost {A = KindTag} (line.Header header.Kind) ts in
     then_with (KeywordIs (codes "kind") ts) P (keyword_at (codes "kind") ts) _ (keyword_is (codes "kind") ts) (λ a e.
     then_with (WordIs a) P (identifier_at a) _ (word_is a) (λ w f.
     then_with _ P (kind_of_keyword w.0) _ (kind_lost w.0) (λ k g.
@@ -139,7 +139,7 @@ pub holds_more : {A : Type 0} (Q P : A → Type 0) (o : Option A) → Holds Q o 
 holds_more Q P None h f = tt
 holds_more Q P (Some x) h f = f x h
 
-same_keyword : (x : Keyword) → bytes_eq (keyword_text x) (keyword_text x) ≡ true
+pub same_keyword : (x : Keyword) → bytes_eq (keyword_text x) (keyword_text x) ≡ true
 same_keyword keyword.Kind = refl
 same_keyword keyword.Scalar = refl
 same_keyword keyword.Row = refl
@@ -183,7 +183,7 @@ found_holds : {A : Type 0} (P : A → Type 0) (o : Option A) → ((x : A) → o 
 found_holds P None h = tt
 found_holds P (Some x) h = h x refl
 
-call_goes : (ts : List Token) (f : ItemForm) → IsSpelling f ts → Holds (NotLost {ScriptForm} line.Script ts) (as_call f)
+call_goes : (ts : List Token) (f : ItemForm) → IsSpelling f ts → Holds (NotLost {A = ScriptForm} line.Script ts) (as_call f)
 call_goes ts (Steps i count) h = tt
 call_goes ts (Calls i op.Scan) h = closes line.Script ts (spelled_call i op.Scan) h refl
 call_goes ts (Calls i (op.Update word value)) h = closes line.Script ts (spelled_call i (op.Update word value)) h refl
@@ -192,10 +192,10 @@ call_goes ts (Crashes i) h = tt
 turn_lost : (i k : ℕ) → is_turn k ≡ true → lost_in line.Script (Number i ∷ Identifier (codes "crash") ∷ Number k ∷ []) ≡ None
 turn_lost i k e = passes 2 [] (wanted.Turn ∷ []) [] (step (Number k) []) (is_turn k) e
 
-pub script_goes : (ts : List Token) → Holds (NotLost {ScriptForm} line.Script ts) (script_form ts)
+pub script_goes : (ts : List Token) → Holds (NotLost {A = ScriptForm} line.Script ts) (script_form ts)
 unfolding script_form call_form crash_at_form
 script_goes ts =
-    let P = NotLost {ScriptForm} line.Script ts in
+    let P = NotLost {A = ScriptForm} line.Script ts in
     either P _ _
     (then_with (λ (f : ItemForm). IsSpelling f ts) P (item_form ts) _ (found_holds (λ (f : ItemForm). IsSpelling f ts) (item_form ts) (item_found ts)) (λ f h. call_goes ts f h))
     (then_with (NumberIs ts) P (number_at ts) _ (number_is ts) (λ i e.

@@ -40,7 +40,7 @@ token_advice p None = []
 token_advice p (Some t) = advice_line (advice p.wanted t.token)
 
 -- a byte that begins no token
-abbrev pub stray_text : Part → ℕ → List ℕ → ℕ → List ℕ
+unfoldable pub stray_text : Part → ℕ → List ℕ → ℕ → List ℕ
 stray_text p k text column =
     spot p k text column ++ codes "`" ++ shown (piece_at column text) ++ codes "` is no token\n" ++ advice_line (stray_advice (piece_at column text))
 
@@ -50,7 +50,7 @@ piece_of text None = []
 piece_of text (Some t) = piece_at t.column text
 
 -- a line that is lost at a place
-abbrev pub lost_text : Part → ℕ → List ℕ → List PlacedToken → Place → List ℕ
+unfoldable pub lost_text : Part → ℕ → List ℕ → List PlacedToken → Place → List ℕ
 lost_text p k text ts at =
     spot p k text (column_of text (nth_token at.before ts)) ++ expected_line at.wanted (piece_of text (nth_token at.before ts)) ++ token_advice at (nth_token at.before ts)
 
@@ -72,19 +72,20 @@ abbrev pub form_text_of : Part → LineSort → ℕ → List ℕ → PlacedToken
 form_text_of p sort k text placed = stray_or_lost p sort k text placed.tokens placed.stray
 
 -- a line that has not the form of its sort
-abbrev pub form_text : Part → LineSort → ℕ → List ℕ
+unfoldable pub form_text : Part → LineSort → ℕ → List ℕ
 form_text p sort k = form_text_of p sort k (nth_line k (lines_of p.text)) (placed_of (nth_line k (lines_of p.text)))
 
 -- a place at a token, where there is one, and what is said of it
-abbrev pub token_spot : Part → ℕ → Option PlacedToken → List ℕ → List ℕ
+unfoldable pub token_spot : Part → ℕ → Option PlacedToken → List ℕ → List ℕ
 token_spot p k None said = line_spot p k (nth_line k (lines_of p.text)) ++ said
 token_spot p k (Some t) said = spot p k (nth_line k (lines_of p.text)) t.column ++ said
 
-abbrev pub placed_line : Part → ℕ → List PlacedToken
+abbrev pub tokens_in : PlacedTokens → List PlacedToken
+tokens_in placed = placed.tokens
+
+-- the tokens of a line of a part
+unfoldable pub placed_line : Part → ℕ → List PlacedToken
 placed_line p k = tokens_in (placed_of (nth_line k (lines_of p.text)))
-  where
-    tokens_in : PlacedTokens → List PlacedToken
-    tokens_in x = x.tokens
 
 -- the header line behind this one; the last one stays
 abbrev pub next_header : Header → Header
@@ -110,20 +111,24 @@ abbrev pub nearest_text : Option (List ℕ) → List ℕ
 nearest_text None = codes " is not declared\n"
 nearest_text (Some x) = codes " is not declared; `" ++ x ++ codes "` is\n"
 
+abbrev pub unknown_token : List (List ℕ) → Token → List ℕ
+unknown_token known (Identifier w) = codes "`" ++ w ++ codes "`" ++ nearest_text (nearest w known)
+unknown_token known (Number k) = []
+unknown_token known (Sign m) = []
+
 abbrev pub unknown_text : List (List ℕ) → Option PlacedToken → List ℕ
 unknown_text known None = []
-unknown_text known (Some t) = of_token t.token
-  where
-    of_token : Token → List ℕ
-    of_token (Identifier w) = codes "`" ++ w ++ codes "`" ++ nearest_text (nearest w known)
-    of_token (Number k) = []
-    of_token (Sign m) = []
+unknown_text known (Some t) = unknown_token known t.token
 
 -- a name that none of these is
-abbrev pub unknown_spot : Part → ℕ → List (List ℕ) → Option PlacedToken → List ℕ
-unknown_spot p k known t = token_spot p k t (unknown_text known t)
+unfoldable pub unknown_spot : Part → ℕ → List (List ℕ) → Option PlacedToken → List ℕ
+unknown_spot p k known t = token_spot p k t [] ++ unknown_text known t
 
-abbrev pub listing_explained : Part → ListingRefusal → List ℕ
+-- line l leads to line k, which is none
+abbrev pub leading_spot : Part → (k l : ℕ) → List ℕ
+leading_spot p k l = token_spot p l (first_led k (placed_line p l)) (codes "no line has this number\n")
+
+unfoldable pub listing_explained : Part → ListingRefusal → List ℕ
 listing_explained p listing.TooLong = codes "the text of a listing has at most 65536 bytes\n"
 listing_explained p (listing.BadHeader k) = form_text p (line.Header (header_at header.Kind k (text_lines p.text))) k
 listing_explained p (listing.BadLine k) = form_text p line.Numbered k
@@ -134,10 +139,7 @@ listing_explained p (listing.NameTwice k) =
     token_spot p k (first_again (words_before k header_count (text_lines p.text)) (placed_line p k)) (codes "this name is declared before\n")
 listing_explained p (listing.WrongKind k) =
     token_spot p k None (codes "a name of another sort stands here, or a register, a field or a tuple that this kind of registers has not\n")
-listing_explained p (listing.NoSuchLine k) = leading_spot (leading_line k (text_lines p.text))
-  where
-    leading_spot : ℕ → List ℕ
-    leading_spot l = token_spot p l (first_led k (placed_line p l)) (codes "no line has this number\n")
+listing_explained p (listing.NoSuchLine k) = leading_spot p k (leading_line k (text_lines p.text))
 listing_explained p (listing.TooMany k) = token_spot p k None (codes "a listing has at most 32 names and 200 lines\n")
 listing_explained p (listing.BadName k) =
     token_spot p k (first_such is_bad (drop 1 (placed_line p k))) (codes "a name has at most eight letters, and is no reserved word\n")
@@ -147,7 +149,7 @@ abbrev pub item_sort : Layout → LineSort
 item_sort (layout.Parts s texts.Scripts) = line.Script
 item_sort _ = line.Item
 
-abbrev pub schedule_explained : Layout → Part → ScheduleRefusal → List ℕ
+unfoldable pub schedule_explained : Layout → Part → ScheduleRefusal → List ℕ
 schedule_explained l p schedule.TooLong = codes "a schedule has at most 4194304 bytes\n"
 schedule_explained l p schedule.BadShape = form_text p line.Shape (first_number (text_lines p.text))
 schedule_explained l p (schedule.BadItem k) = form_text p (item_sort l) k
@@ -156,11 +158,11 @@ schedule_explained l p (schedule.NoSuchProcess k) =
     token_spot p k (nth_token 0 (placed_line p k)) (codes "the shape has no such process: `shape N W` has processes 1 to N\n")
 
 -- a shape that does not fit the kind
-abbrev pub shape_explained : Part → ℕ → List ℕ
+unfoldable pub shape_explained : Part → ℕ → List ℕ
 shape_explained p k =
     token_spot p k (nth_token 2 (placed_line p k)) (codes "registers of kind seq and bit have one word for each process: `shape N N`\n")
 
-abbrev pub commands_explained : Part → CommandRefusal → List ℕ
+unfoldable pub commands_explained : Part → CommandRefusal → List ℕ
 commands_explained p (command.BadCommand k) = form_text p line.Command k
 commands_explained p command.TooLong = codes "there are at most 10000 commands, in 1048576 bytes\n"
 commands_explained p _ = []
@@ -186,15 +188,15 @@ lines_behind before (p ∷ ps) = lines_through before p ∷ lines_behind (lines_
 abbrev pub separators : List (List ℕ) → List ℕ
 separators parts = take (length (lines_behind 0 parts) - 1) (lines_behind 0 parts)
 
-abbrev pub separator_words : List ℕ → List ℕ
+unfoldable pub separator_words : List ℕ → List ℕ
 separator_words [] = codes "\nno line of the input is `%` alone\n"
 separator_words (k ∷ ks) = codes "\nthe lines `%` of the input, the first eight:" ++ numbers_text (take 8 (k ∷ ks)) ++ codes "\n"
 
-abbrev pub parts_explained : Layout → List ℕ → List ℕ
+unfoldable pub parts_explained : Layout → List ℕ → List ℕ
 parts_explained l input = parts_words l ++ separator_words (separators (parts_of input))
 
 -- what is said of a refused part
-abbrev pub part_explained : Layout → Part → Refusal → List ℕ
+unfoldable pub part_explained : Layout → Part → Refusal → List ℕ
 part_explained l p (refusal.Listing r) = listing_explained p r
 part_explained l p (refusal.Schedule r) = schedule_explained l p r
 part_explained l p (refusal.Words f) = shape_explained p (first_number (text_lines p.text))
@@ -202,7 +204,7 @@ part_explained l p (refusal.Commands r) = commands_explained p r
 part_explained l p _ = []
 
 -- what is said behind the line of a refusal
-abbrev pub explanation : Layout → List ℕ → Refusal → List ℕ
+unfoldable pub explanation : Layout → List ℕ → Refusal → List ℕ
 explanation l input refusal.InputTooLong = codes "an input has at most 16777216 bytes\n"
 explanation l input (refusal.WrongParts found) = parts_explained l input
 explanation l input (refusal.Image r) = codes "an image is taken, as `snaplab assemble` writes it\n"

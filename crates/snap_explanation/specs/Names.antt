@@ -23,7 +23,7 @@ words_of_line (Some ts) = words_of ts
 abbrev pub words_before : (line most : ℕ) → List TextLine → List (List ℕ)
 words_before line most [] = []
 words_before line most (l ∷ ls) =
-    if nat_lt l.number line && nat_lt 0 most then words_of_line l.tokens ++ words_before line (most - 1) ls else []
+    if nat_lt 0 most && nat_lt l.number line then words_of_line l.tokens ++ words_before line (most - 1) ls else []
 
 -- how many header lines there are
 abbrev pub header_count : ℕ

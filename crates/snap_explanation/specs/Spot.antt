@@ -46,24 +46,37 @@ part_name_text name.Commands = codes "the commands"
 abbrev pub line_of_input : (before line : ℕ) → ℕ
 line_of_input before line = if nat_le line (2 ^ 64 - 1 - before) then before + line else line
 
+-- the line of the input
+unfoldable pub input_words : Part → ℕ → List ℕ
+input_words p line = codes "line " ++ decimal (line_of_input p.before line)
+
+-- the line of a part
+unfoldable pub line_words : ℕ → List ℕ
+line_words line = codes " of the input, line " ++ decimal line ++ codes " of "
+
 -- where a line of a part stands
-abbrev pub line_place : Part → ℕ → List ℕ
-line_place p line =
-    codes "line " ++ decimal (line_of_input p.before line) ++ codes " of the input, line " ++ decimal line ++ codes " of " ++ part_name_text p.name
+unfoldable pub line_place : Part → ℕ → List ℕ
+line_place p line = input_words p line ++ line_words line ++ part_name_text p.name
 
 -- a line of text around a column
-abbrev pub window : List ℕ → ℕ → List ℕ
+unfoldable pub window : List ℕ → ℕ → List ℕ
 window line column = codes "    " ++ shown (take 72 (drop (left_out column) line)) ++ codes "\n"
 
 -- a mark under a column
-abbrev pub mark : ℕ → List ℕ
+unfoldable pub mark : ℕ → List ℕ
 mark column = codes "    " ++ replicate (column - 1 - left_out column) 32 ++ codes "^\n"
 
+unfoldable pub column_words : ℕ → List ℕ
+column_words column = codes ", column " ++ decimal column ++ codes ":\n"
+
+-- a line around a column, marked
+unfoldable pub marked : List ℕ → ℕ → List ℕ
+marked text column = window text column ++ mark column
+
 -- a place: where it stands, its line, and a mark under its column
-abbrev pub spot : Part → ℕ → List ℕ → ℕ → List ℕ
-spot p line text column =
-    line_place p line ++ codes ", column " ++ decimal column ++ codes ":\n" ++ window text column ++ mark column
+unfoldable pub spot : Part → ℕ → List ℕ → ℕ → List ℕ
+spot p line text column = line_place p line ++ column_words column ++ marked text column
 
 -- a line as a place, where no column of it is one
-abbrev pub line_spot : Part → ℕ → List ℕ → List ℕ
+unfoldable pub line_spot : Part → ℕ → List ℕ → List ℕ
 line_spot p line text = line_place p line ++ codes ":\n" ++ window text 1

@@ -87,5 +87,5 @@ abbrev pub found_words : List ℕ → List ℕ
 found_words [] = codes "the end of the line"
 found_words (b ∷ piece) = codes "`" ++ shown (b ∷ piece) ++ codes "`"
 
-abbrev pub expected_line : List Wanted → List ℕ → List ℕ
+unfoldable pub expected_line : List Wanted → List ℕ → List ℕ
 expected_line ws piece = codes "expected " ++ expected_words ws ++ codes "; found " ++ found_words piece ++ codes "\n"

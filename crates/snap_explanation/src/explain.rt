@@ -1,14 +1,14 @@
 //! What is said of a refused input behind the line that refuses it.
-ghost use Rattle.std.specs.Prelude.{◌≡◌, ◌++◌, IfOk, OnOk, map, option_map};
+ghost use Rattle.std.specs.Prelude.{◌≡◌, ◌++◌, IfOk, OnOk, drop, map, option_map, take};
 ghost use Rattle.snap_semantics.specs.Token.{lines_of, text_lines};
 ghost use Rattle.snap_expected.specs.Pieces.{placed_of};
 ghost use Rattle.snap_expected.specs.Steps.{view_placed, view_placed_token, view_lost};
-ghost use Rattle.snap_explanation.specs.Explanation.{token_advice, sort_advice, piece_of, part_explained, stray_text, lost_text, lost_or_line, stray_or_lost, form_text_of, form_text, token_spot, placed_line, next_header, header_at, first_number, nearest_text, unknown_text, unknown_spot, listing_explained, item_sort, schedule_explained, shape_explained, commands_explained, parts_words, lines_behind, separators, separator_words, parts_explained, explanation};
+ghost use Rattle.snap_explanation.specs.Explanation.{token_advice, sort_advice, piece_of, part_explained, stray_text, lost_text, lost_or_line, stray_or_lost, form_text_of,  form_text, token_spot, placed_line, next_header, header_at, first_number, nearest_text, unknown_text, unknown_spot, listing_explained, item_sort, schedule_explained, shape_explained, commands_explained, parts_words, lines_behind, separators, separator_words, parts_explained, explanation};
 ghost use Rattle.snap_explanation.specs.Spot.{nth_line, piece_at};
 ghost use Rattle.snap_expected.specs.declared.sorts.Header.TheVariants.{Kind};
 ghost use Rattle.snap_input.specs.Parts.{parts_of};
 ghost use Rattle.snap_semantics.specs.declared.refusal.ListingRefusal.TheVariants.{UnknownName, NameTwice, NoSuchLine, BadName, BadHeader};
-ghost use Rattle.snap_explanation.specs.Names.{nth_token};
+ghost use Rattle.snap_explanation.specs.Names.{first_such, is_bad, nth_token};
 ghost use Rattle.snap_explanation.specs.Views.{view_part};
 
 use crate::advice::{advice, command_form_advice, push_advice, stray_advice};
@@ -33,7 +33,7 @@ use std::alloc::{AllocError, Global};
 const SEPARATORS: usize = 8;
 
 /// Adds what is said of a byte that begins no token.
-#[tactic(auto, using(snap_text::proofs::Texts::joined))]
+#[tactic(auto, using(snap_text::proofs::Texts::joined), unfolding(crate::specs::Explanation::stray_text))]
 fn push_stray(
     out: &mut Vec<u8>,
     part: &Part<'_>,
@@ -79,7 +79,7 @@ fn push_token_advice(
 }
 
 /// Adds what is said of a line that is lost at a place.
-#[tactic(auto, using(snap_text::proofs::Texts::joined))]
+#[tactic(auto, using(snap_text::proofs::Texts::joined), unfolding(crate::specs::Explanation::lost_text))]
 fn push_lost(
     out: &mut Vec<u8>,
     part: &Part<'_>,
@@ -113,8 +113,56 @@ fn push_sort_advice(
     }
 }
 
-/// Adds what is said of a line that has not the form of its sort.
+/// Adds what is said of a line that is lost, or of one that has no place at which it is.
 #[tactic(auto, using(snap_text::proofs::Texts::joined))]
+fn push_lost_or_line(
+    out: &mut Vec<u8>,
+    part: &Part<'_>,
+    sort: LineSort,
+    line: u64,
+    text: &[u8],
+    tokens: &[PlacedToken<'_>],
+    place: &Option<LostPlace>,
+) -> Result<(), AllocError>
+    ensures { OnOk result (out.new.items ≡ out.old.items
+        ++ lost_or_line (view_part part.now) sort line text.now (map view_placed_token tokens.now)
+            (option_map view_lost place.now)) }
+{
+    match place {
+        Some(place) => {
+            push_lost(out, part, line, text, tokens, place)?;
+            push_sort_advice(out, sort, tokens)
+        }
+        None => push_line_spot(out, part, line, text),
+    }
+}
+
+/// Adds what is said of a line with a byte that begins no token, or else of one that is lost.
+#[tactic(auto, using(snap_text::proofs::Texts::joined, crate::proofs::Counts::same_tokens))]
+fn push_placed_form(
+    alloc: Global,
+    out: &mut Vec<u8>,
+    part: &Part<'_>,
+    sort: LineSort,
+    line: u64,
+    text: &[u8],
+    placed: &PlacedTokens<'_>,
+) -> Result<(), AllocError>
+    ensures { OnOk result (out.new.items ≡ out.old.items
+        ++ form_text_of (view_part part.now) sort line text.now (view_placed placed.now)) }
+{
+    match placed.stray {
+        Some(column) => push_stray(out, part, line, text, column),
+        None => {
+            let tokens = placed.tokens.as_slice();
+            let place = lost_in(alloc, sort, tokens)?;
+            push_lost_or_line(out, part, sort, line, text, tokens, &place)
+        }
+    }
+}
+
+/// Adds what is said of a line that has not the form of its sort.
+#[tactic(auto, using(snap_text::proofs::Texts::joined), unfolding(crate::specs::Explanation::form_text))]
 fn push_form(
     alloc: Global,
     out: &mut Vec<u8>,
@@ -127,21 +175,11 @@ fn push_form(
 {
     let text = line_of(part.text, line);
     let placed = placed_tokens(alloc, text)?;
-    if let Some(column) = placed.stray {
-        return push_stray(out, part, line, text, column);
-    }
-    let tokens = placed.tokens.as_slice();
-    match lost_in(alloc, sort, tokens)? {
-        Some(place) => {
-            push_lost(out, part, line, text, tokens, &place)?;
-            push_sort_advice(out, sort, tokens)
-        }
-        None => push_line_spot(out, part, line, text),
-    }
+    push_placed_form(alloc, out, part, sort, line, text, &placed)
 }
 
 /// Adds a place at a token, where there is one, and what is said of it.
-#[tactic(auto, using(snap_text::proofs::Texts::joined))]
+#[tactic(auto, using(snap_text::proofs::Texts::joined), unfolding(crate::specs::Explanation::token_spot))]
 fn push_token_spot(
     out: &mut Vec<u8>,
     part: &Part<'_>,
@@ -161,6 +199,7 @@ fn push_token_spot(
 }
 
 /// The tokens of a line of a part.
+#[tactic(auto, using(snap_text::proofs::Texts::joined), unfolding(crate::specs::Explanation::placed_line))]
 fn placed_line<'a>(
     alloc: Global,
     part: &Part<'a>,
@@ -227,6 +266,22 @@ fn first_number(alloc: Global, text: &[u8]) -> Result<u64, AllocError>
     }
 }
 
+/// Adds which name is the nearest, where one is near.
+#[tactic(auto, using(snap_text::proofs::Texts::joined))]
+fn push_nearest(out: &mut Vec<u8>, name: Option<&[u8]>) -> Result<(), AllocError>
+    ensures { OnOk result (out.new.items ≡ out.old.items
+        ++ nearest_text (option_map (λ w. w.now) name.entry)) }
+{
+    match name {
+        Some(name) => {
+            push_text(out, b" is not declared; `")?;
+            push_text(out, name)?;
+            push_text(out, b"` is\n")
+        }
+        None => push_text(out, b" is not declared\n"),
+    }
+}
+
 /// Adds what is said of a name that none of these is.
 #[tactic(auto, using(snap_text::proofs::Texts::joined))]
 fn push_unknown(
@@ -249,18 +304,11 @@ fn push_unknown(
     push_text(out, b"`")?;
     push_text(out, word)?;
     push_text(out, b"`")?;
-    match nearest(word, known) {
-        Some(name) => {
-            push_text(out, b" is not declared; `")?;
-            push_text(out, name)?;
-            push_text(out, b"` is\n")
-        }
-        None => push_text(out, b" is not declared\n"),
-    }
+    push_nearest(out, nearest(word, known))
 }
 
 /// Adds what is said of a line with a name that is not declared.
-#[tactic(auto, using(snap_text::proofs::Texts::joined))]
+#[tactic(auto, using(snap_text::proofs::Texts::joined), unfolding(crate::specs::Explanation::listing_explained, crate::specs::Explanation::unknown_spot))]
 fn push_unknown_spot(
     alloc: Global,
     out: &mut Vec<u8>,
@@ -278,7 +326,7 @@ fn push_unknown_spot(
 }
 
 /// Adds what is said of a name that is declared before.
-#[tactic(auto, using(snap_text::proofs::Texts::joined))]
+#[tactic(auto, using(snap_text::proofs::Texts::joined), unfolding(crate::specs::Explanation::listing_explained))]
 fn push_again_spot(
     alloc: Global,
     out: &mut Vec<u8>,
@@ -295,7 +343,7 @@ fn push_again_spot(
 }
 
 /// Adds what is said of a target that is no line.
-#[tactic(auto, using(snap_text::proofs::Texts::joined))]
+#[tactic(auto, using(snap_text::proofs::Texts::joined), unfolding(crate::specs::Explanation::listing_explained))]
 fn push_leading_spot(
     alloc: Global,
     out: &mut Vec<u8>,
@@ -311,8 +359,19 @@ fn push_leading_spot(
     push_token_spot(out, part, line, token, b"no line has this number\n")
 }
 
+/// The first token behind the first one that may not be declared as a name.
+fn first_bad_behind<'a>(tokens: &[PlacedToken<'a>]) -> Option<PlacedToken<'a>>
+    ensures { option_map view_placed_token result
+        ≡ first_such is_bad (drop 1 (map view_placed_token tokens.now)) }
+{
+    match tokens {
+        [] => None,
+        [_, names @ ..] => first_bad(names),
+    }
+}
+
 /// Adds what is said of a name that may not be declared.
-#[tactic(auto, using(snap_text::proofs::Texts::joined))]
+#[tactic(auto, using(snap_text::proofs::Texts::joined), unfolding(crate::specs::Explanation::listing_explained))]
 fn push_bad_spot(
     alloc: Global,
     out: &mut Vec<u8>,
@@ -323,10 +382,7 @@ fn push_bad_spot(
         ++ listing_explained (view_part part.now) (BadName line)) }
 {
     let tokens = placed_line(alloc, part, line)?;
-    let token = match tokens.as_slice() {
-        [_, names @ ..] => first_bad(names),
-        [] => None,
-    };
+    let token = first_bad_behind(tokens.as_slice());
     push_token_spot(out, part, line, token, BAD_NAME)
 }
 
@@ -338,7 +394,6 @@ const WRONG_KIND: &[u8] =
     b"a name of another sort stands here, or a register, a field or a tuple that this kind of registers has not\n";
 
 /// Adds what is said of a line that is refused at its first token.
-#[tactic(auto, using(snap_text::proofs::Texts::joined))]
 fn push_first_spot(
     alloc: Global,
     out: &mut Vec<u8>,
@@ -354,7 +409,7 @@ fn push_first_spot(
 }
 
 /// Adds what is said of a header line that is not the one expected.
-#[tactic(auto, using(snap_text::proofs::Texts::joined))]
+#[tactic(auto, using(snap_text::proofs::Texts::joined), unfolding(crate::specs::Explanation::listing_explained))]
 fn push_header(
     alloc: Global,
     out: &mut Vec<u8>,
@@ -369,7 +424,7 @@ fn push_header(
 }
 
 /// Adds what is said of a refused listing.
-#[tactic(auto, using(snap_text::proofs::Texts::joined))]
+#[tactic(auto, using(snap_text::proofs::Texts::joined), unfolding(crate::specs::Explanation::listing_explained))]
 fn push_listing(
     alloc: Global,
     out: &mut Vec<u8>,
@@ -421,7 +476,7 @@ const NO_FIT: &[u8] =
     b"registers of kind seq and bit have one word for each process: `shape N N`\n";
 
 /// Adds what is said of a refused schedule.
-#[tactic(auto, using(snap_text::proofs::Texts::joined))]
+#[tactic(auto, using(snap_text::proofs::Texts::joined), unfolding(crate::specs::Explanation::schedule_explained))]
 fn push_schedule(
     alloc: Global,
     out: &mut Vec<u8>,
@@ -453,7 +508,7 @@ fn push_schedule(
 }
 
 /// Adds what is said of a shape that does not fit the kind.
-#[tactic(auto, using(snap_text::proofs::Texts::joined))]
+#[tactic(auto, using(snap_text::proofs::Texts::joined), unfolding(crate::specs::Explanation::shape_explained))]
 fn push_shape(alloc: Global, out: &mut Vec<u8>, part: &Part<'_>) -> Result<(), AllocError>
     ensures { OnOk result (out.new.items ≡ out.old.items
         ++ shape_explained (view_part part.now) (first_number (text_lines part.now.text.now))) }
@@ -464,7 +519,7 @@ fn push_shape(alloc: Global, out: &mut Vec<u8>, part: &Part<'_>) -> Result<(), A
 }
 
 /// Adds what is said of refused commands.
-#[tactic(auto, using(snap_text::proofs::Texts::joined))]
+#[tactic(auto, using(snap_text::proofs::Texts::joined), unfolding(crate::specs::Explanation::commands_explained))]
 fn push_commands(
     alloc: Global,
     out: &mut Vec<u8>,
@@ -524,21 +579,31 @@ fn lines_behind(alloc: Global, parts: &[&[u8]]) -> Result<Vec<u64>, AllocError>
     Ok(lines)
 }
 
+/// The first ones of some lines.
+#[tactic(auto, using(crate::proofs::Cuts::front_cut))]
+fn first_lines(lines: &[u64]) -> &[u64]
+    ensures { result.now ≡ take 8 lines.now }
+{
+    &lines[..SEPARATORS.min(lines.len())]
+}
+
 /// Adds the lines `%` of an input, the first ones of them.
-#[tactic(auto, using(snap_text::proofs::Texts::joined))]
+#[tactic(auto, using(snap_text::proofs::Texts::joined), unfolding(crate::specs::Explanation::separator_words))]
 fn push_separators(out: &mut Vec<u8>, lines: &[u64]) -> Result<(), AllocError>
     ensures { OnOk result (out.new.items ≡ out.old.items ++ separator_words lines.now) }
 {
-    if lines.is_empty() {
-        return push_text(out, b"\nno line of the input is `%` alone\n");
+    match lines {
+        [] => push_text(out, b"\nno line of the input is `%` alone\n"),
+        [_, ..] => {
+            push_text(out, b"\nthe lines `%` of the input, the first eight:")?;
+            push_numbers(out, first_lines(lines))?;
+            push_text(out, b"\n")
+        }
     }
-    push_text(out, b"\nthe lines `%` of the input, the first eight:")?;
-    push_numbers(out, &lines[..SEPARATORS.min(lines.len())])?;
-    push_text(out, b"\n")
 }
 
 /// Adds how many parts are taken, and where the lines `%` are.
-#[tactic(auto, using(snap_text::proofs::Texts::joined))]
+#[tactic(auto, using(snap_text::proofs::Texts::joined), unfolding(crate::specs::Explanation::parts_explained))]
 fn push_parts(
     alloc: Global,
     out: &mut Vec<u8>,
@@ -555,7 +620,7 @@ fn push_parts(
 }
 
 /// Adds what is said of a refused part.
-#[tactic(auto, using(snap_text::proofs::Texts::joined))]
+#[tactic(auto, using(snap_text::proofs::Texts::joined), unfolding(crate::specs::Explanation::part_explained))]
 fn push_part(
     alloc: Global,
     out: &mut Vec<u8>,
@@ -576,6 +641,7 @@ fn push_part(
 }
 
 /// What is said of a refused input behind the line that refuses it.
+#[tactic(auto, using(snap_text::proofs::Texts::joined), unfolding(crate::specs::Explanation::explanation))]
 pub fn explanation(
     alloc: Global,
     layout: Layout,

@@ -17,6 +17,7 @@ const HEADER_LINES: usize = 7;
 const NAME_LETTERS: usize = 8;
 
 /// The identifiers of the header lines of a listing's text before this line.
+#[tactic(auto, using(crate::proofs::Counts::no_words))]
 pub fn words_before(alloc: Global, line: u64, text: &[u8]) -> Result<Vec<&[u8]>, AllocError>
     ensures { IfOk result (λ words. map (λ w. w.now) words.items
         ≡ words_before line 7 (text_lines text.now)) }
@@ -162,8 +163,20 @@ fn common_len(one: &[u8], other: &[u8]) -> usize
     ensures within { (result ≤ length one.now) × (result ≤ length other.now) }
 {
     let mut len = 0;
-    while len < one.len() && len < other.len() && one[len] == other[len] {
-        len += 1;
+    let mut left = one;
+    let mut right = other;
+    while let [first, behind @ ..] = left {
+        match right {
+            [] => return len,
+            [second, later @ ..] => {
+                if *first != *second {
+                    return len;
+                }
+                len += 1;
+                left = behind;
+                right = later;
+            }
+        }
     }
     len
 }

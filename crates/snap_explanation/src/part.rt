@@ -1,12 +1,13 @@
 //! The part of an input that is refused.
 ghost use Rattle.std.specs.Prelude.{◌≡◌, ◌≤◌, ◌<◌, ◌^◌, ◌+◌, IfOk, length, map};
+ghost use Rattle.snap_input.specs.Input.{texts_for};
 ghost use Rattle.snap_input.specs.Parts.{part};
 ghost use Rattle.snap_semantics.specs.Schedule.{schedule_of};
 ghost use Rattle.snap_explanation.specs.Part.{part_place, part_place_in, first_text, text_index, text_name, lines_through, lines_before, refused_schedule, is_taken};
 ghost use Rattle.snap_explanation.specs.Views.{view_part};
 
 use crate::layout::{Layout, Texts};
-use snap_input::{split_parts, texts_for};
+use snap_input::split_parts;
 use snap_sched::read;
 use snap_semantics::{Fault, Refusal};
 use snap_subject::Subject;
@@ -111,6 +112,7 @@ pub fn lines_through(before: u64, part: &[u8]) -> u64
 }
 
 /// How many lines stand before part `index`.
+#[tactic(auto, using(crate::proofs::Counts::none_before))]
 fn lines_before(index: usize, parts: &[&[u8]]) -> u64
     ensures { result ≡ lines_before index 0 (map (λ p. p.now) parts.now) }
 {
@@ -137,6 +139,16 @@ fn part_at<'a>(parts: &[&'a [u8]], index: usize) -> &'a [u8]
     }
 }
 
+/// The parts behind the listing.
+fn texts_behind<'a, 'b>(subject: Subject, parts: &'a [&'b [u8]]) -> &'a [&'b [u8]]
+    ensures { map (λ p. p.now) result.now ≡ texts_for subject (map (λ p. p.now) parts.now) }
+{
+    match (subject, parts) {
+        (Subject::FirstPart, [_, rest @ ..]) => rest,
+        _ => parts,
+    }
+}
+
 /// The part of an input with parts that is refused.
 fn part_place_in<'a>(
     alloc: Global,
@@ -145,7 +157,6 @@ fn part_place_in<'a>(
     refusal: &Refusal,
     parts: &[&'a [u8]],
 ) -> Result<Part<'a>, AllocError>
-    requires { 0 < length parts.now }
     ensures { IfOk result (λ p. view_part p
         ≡ part_place_in subject texts refusal.now (map (λ p. p.now) parts.now)) }
 {
@@ -156,7 +167,7 @@ fn part_place_in<'a>(
             text: part_at(parts, 0),
         });
     }
-    let index = text_index(alloc, texts, refusal, texts_for(subject, parts))?;
+    let index = text_index(alloc, texts, refusal, texts_behind(subject, parts))?;
     let place = first_text(subject) + index;
     Ok(Part {
         name: text_name(texts, refusal, index),

@@ -2,7 +2,7 @@
 ghost use Rattle.std.specs.Prelude.{◌≡◌, ◌≤◌, ◌<◌, ◌+◌, ◌-◌, ◌^◌, ◌++◌, ℕ, IfOk, OnOk, length, map, replicate, option_map, take, drop, ◌∷◌};
 ghost use Rattle.snap_semantics.specs.Token.{lines_of};
 ghost use Rattle.snap_expected.specs.Steps.{view_placed_token};
-ghost use Rattle.snap_explanation.specs.Spot.{nth_line, comment_start, piece_at, column_of, shown_byte, shown, left_out, part_name_text, line_of_input, line_place, window, mark, spot, line_spot};
+ghost use Rattle.snap_explanation.specs.Spot.{nth_line, comment_start, piece_at, column_of, shown_byte, shown, left_out, part_name_text, line_of_input, input_words, line_words, line_place, column_words, marked, window, mark, spot, line_spot};
 ghost use Rattle.snap_explanation.specs.Views.{view_part};
 
 use crate::part::{Part, PartName};
@@ -130,49 +130,76 @@ fn line_of_input(before: u64, line: u64) -> u64
     }
 }
 
+/// Adds the line of the input.
+#[tactic(auto, using(snap_text::proofs::Texts::joined), unfolding(crate::specs::Spot::input_words))]
+fn push_input_words(out: &mut Vec<u8>, part: &Part<'_>, line: u64) -> Result<(), AllocError>
+    ensures { OnOk result (out.new.items ≡ out.old.items ++ input_words (view_part part.now) line) }
+{
+    push_text(out, b"line ")?;
+    push_number(out, line_of_input(part.before, line))
+}
+
+/// Adds the line of a part.
+#[tactic(auto, using(snap_text::proofs::Texts::joined), unfolding(crate::specs::Spot::line_words))]
+fn push_line_words(out: &mut Vec<u8>, line: u64) -> Result<(), AllocError>
+    ensures { OnOk result (out.new.items ≡ out.old.items ++ line_words line) }
+{
+    push_text(out, b" of the input, line ")?;
+    push_number(out, line)?;
+    push_text(out, b" of ")
+}
+
 /// Adds where a line of a part stands.
-#[tactic(auto, using(snap_text::proofs::Texts::joined))]
+#[tactic(auto, using(snap_text::proofs::Texts::joined), unfolding(crate::specs::Spot::line_place))]
 fn push_line_place(out: &mut Vec<u8>, part: &Part<'_>, line: u64) -> Result<(), AllocError>
     ensures { OnOk result (out.new.items ≡ out.old.items ++ line_place (view_part part.now) line) }
 {
-    push_text(out, b"line ")?;
-    push_number(out, line_of_input(part.before, line))?;
-    push_text(out, b" of the input, line ")?;
-    push_number(out, line)?;
-    push_text(out, b" of ")?;
+    push_input_words(out, part, line)?;
+    push_line_words(out, line)?;
     push_part_name(out, part.name)
 }
 
 /// Adds a line of text around a column.
-#[tactic(auto, using(snap_text::proofs::Texts::joined))]
+#[tactic(auto, using(snap_text::proofs::Texts::joined), unfolding(crate::specs::Spot::window))]
 fn push_window(out: &mut Vec<u8>, line: &[u8], column: usize) -> Result<(), AllocError>
     ensures { OnOk result (out.new.items ≡ out.old.items ++ window line.now column) }
 {
     push_text(out, b"    ")?;
-    push_shown(
-        out,
-        front(behind(line, column.saturating_sub(BEFORE_MARK)), WINDOW),
-    )?;
+    push_shown(out, front(behind(line, column.saturating_sub(BEFORE_MARK)), WINDOW))?;
     push_text(out, b"\n")
 }
 
 /// Adds a mark under a column.
-#[tactic(auto, using(snap_text::proofs::Texts::joined))]
+#[tactic(auto, using(snap_text::proofs::Texts::joined), unfolding(crate::specs::Spot::mark))]
 fn push_mark(out: &mut Vec<u8>, column: usize) -> Result<(), AllocError>
     ensures { OnOk result (out.new.items ≡ out.old.items ++ mark column) }
 {
     push_text(out, b"    ")?;
-    push_spaces(
-        out,
-        column
-            .saturating_sub(1)
-            .saturating_sub(column.saturating_sub(BEFORE_MARK)),
-    )?;
+    push_spaces(out, column.saturating_sub(1).saturating_sub(column.saturating_sub(BEFORE_MARK)))?;
     push_text(out, b"^\n")
 }
 
+/// Adds a column.
+#[tactic(auto, using(snap_text::proofs::Texts::joined), unfolding(crate::specs::Spot::column_words))]
+fn push_column_words(out: &mut Vec<u8>, column: usize) -> Result<(), AllocError>
+    ensures { OnOk result (out.new.items ≡ out.old.items ++ column_words column) }
+{
+    push_text(out, b", column ")?;
+    push_number(out, column as u64)?;
+    push_text(out, b":\n")
+}
+
+/// Adds a line around a column, marked.
+#[tactic(auto, using(snap_text::proofs::Texts::joined), unfolding(crate::specs::Spot::marked))]
+fn push_marked(out: &mut Vec<u8>, text: &[u8], column: usize) -> Result<(), AllocError>
+    ensures { OnOk result (out.new.items ≡ out.old.items ++ marked text.now column) }
+{
+    push_window(out, text, column)?;
+    push_mark(out, column)
+}
+
 /// Adds a place: where it stands, its line, and a mark under its column.
-#[tactic(auto, using(snap_text::proofs::Texts::joined))]
+#[tactic(auto, using(snap_text::proofs::Texts::joined), unfolding(crate::specs::Spot::spot))]
 pub fn push_spot(
     out: &mut Vec<u8>,
     part: &Part<'_>,
@@ -184,15 +211,12 @@ pub fn push_spot(
         ++ spot (view_part part.now) line text.now column) }
 {
     push_line_place(out, part, line)?;
-    push_text(out, b", column ")?;
-    push_number(out, column as u64)?;
-    push_text(out, b":\n")?;
-    push_window(out, text, column)?;
-    push_mark(out, column)
+    push_column_words(out, column)?;
+    push_marked(out, text, column)
 }
 
 /// Adds a line as a place, where no column of it is one.
-#[tactic(auto, using(snap_text::proofs::Texts::joined))]
+#[tactic(auto, using(snap_text::proofs::Texts::joined), unfolding(crate::specs::Spot::line_spot))]
 pub fn push_line_spot(
     out: &mut Vec<u8>,
     part: &Part<'_>,

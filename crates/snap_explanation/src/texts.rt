@@ -122,7 +122,7 @@ fn push_found(out: &mut Vec<u8>, piece: &[u8]) -> Result<(), AllocError>
 }
 
 /// Adds what was expected at a place, and what stands there.
-#[tactic(auto, using(snap_text::proofs::Texts::joined))]
+#[tactic(auto, using(snap_text::proofs::Texts::joined), unfolding(crate::specs::Texts::expected_line))]
 pub fn push_expected_line(
     out: &mut Vec<u8>,
     wanted: &[Wanted],

@@ -1,9 +1,10 @@
-use Rattle.std.proofs.Common.{◌≡◌, ◌≤◌, ◌-◌, ◌+◌, drop, length}
+use Rattle.std.proofs.Common.{◌≡◌, ◌+◌, length}
 use Rattle.snap_explanation.specs.Names.{common_len}
 use Rattle.snap_explanation.proofs.names.common_len.Given as goal
 
-abbrev pub invariant-loop-len : goal.invariant-loop-len
-invariant-loop-len l = (l.len + common_len (drop l.len l.one) (drop l.len l.other) ≡ common_len l.one l.other) × ((l.len ≤ length l.one) × (l.len ≤ length l.other))
+abbrev pub invariant-loop-left : goal.invariant-loop-left
+invariant-loop-left l =
+    (l.len + common_len l.left l.right ≡ common_len l.one l.other) × ((l.len + length l.left ≡ length l.one) × (l.len + length l.right ≡ length l.other))
 
-abbrev pub decreases-loop-len : goal.decreases-loop-len
-decreases-loop-len l = length l.one - l.len
+abbrev pub decreases-loop-left : goal.decreases-loop-left
+decreases-loop-left l = length l.left

@@ -1,4 +1,3 @@
 pub mod Forms
 pub mod Commands
-pub mod Terms
 pub mod NotLost

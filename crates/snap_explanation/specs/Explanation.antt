@@ -1,5 +1,5 @@
 -- What is said of a refused input behind the line that refuses it.
-use Rattle.std.specs.Prelude.{ℕ, ◌-◌, List, [], ◌∷◌, ◌++◌, length, take, drop, Option, Some, None, nat_lt, codes, map, if◌then◌else◌}
+use Rattle.std.specs.Prelude.{ℕ, ◌-◌, List, [], ◌∷◌, ◌++◌, length, take, drop, Option, Some, None, nat_eq, nat_lt, codes, map, if◌then◌else◌}
 use Rattle.snap_semantics.specs.Report.{numbers_text}
 use Rattle.snap_input.specs.Parts.{parts_of}
 use Rattle.snap_semantics.specs.declared.refusal.CommandRefusal.{CommandRefusal}
@@ -39,10 +39,13 @@ abbrev pub token_advice : Place → Option PlacedToken → List ℕ
 token_advice p None = []
 token_advice p (Some t) = advice_line (advice p.wanted t.token)
 
+unfoldable pub stray_words : List ℕ → List ℕ
+stray_words piece = codes "`" ++ shown piece ++ codes "` is no token\n"
+
 -- a byte that begins no token
 unfoldable pub stray_text : Part → ℕ → List ℕ → ℕ → List ℕ
 stray_text p k text column =
-    spot p k text column ++ codes "`" ++ shown (piece_at column text) ++ codes "` is no token\n" ++ advice_line (stray_advice (piece_at column text))
+    spot p k text column ++ stray_words (piece_at column text) ++ advice_line (stray_advice (piece_at column text))
 
 -- what stands at a token, which may be the end of the line
 abbrev pub piece_of : List ℕ → Option PlacedToken → List ℕ
@@ -107,9 +110,12 @@ abbrev pub first_number : List TextLine → ℕ
 first_number [] = 1
 first_number (l ∷ ls) = l.number
 
+unfoldable pub near_text : List ℕ → List ℕ
+near_text x = codes " is not declared; `" ++ x ++ codes "` is\n"
+
 abbrev pub nearest_text : Option (List ℕ) → List ℕ
 nearest_text None = codes " is not declared\n"
-nearest_text (Some x) = codes " is not declared; `" ++ x ++ codes "` is\n"
+nearest_text (Some x) = near_text x
 
 abbrev pub unknown_token : List (List ℕ) → Token → List ℕ
 unknown_token known (Identifier w) = codes "`" ++ w ++ codes "`" ++ nearest_text (nearest w known)
@@ -188,9 +194,14 @@ lines_behind before (p ∷ ps) = lines_through before p ∷ lines_behind (lines_
 abbrev pub separators : List (List ℕ) → List ℕ
 separators parts = take (length (lines_behind 0 parts) - 1) (lines_behind 0 parts)
 
+unfoldable pub separators_front : List ℕ
+separators_front = codes "\nthe lines `%` of the input, the first eight:"
+
+unfoldable pub some_separators : List ℕ → List ℕ
+some_separators ks = separators_front ++ numbers_text (take 8 ks) ++ codes "\n"
+
 unfoldable pub separator_words : List ℕ → List ℕ
-separator_words [] = codes "\nno line of the input is `%` alone\n"
-separator_words (k ∷ ks) = codes "\nthe lines `%` of the input, the first eight:" ++ numbers_text (take 8 (k ∷ ks)) ++ codes "\n"
+separator_words ks = if nat_eq (length ks) 0 then codes "\nno line of the input is `%` alone\n" else some_separators ks
 
 unfoldable pub parts_explained : Layout → List ℕ → List ℕ
 parts_explained l input = parts_words l ++ separator_words (separators (parts_of input))

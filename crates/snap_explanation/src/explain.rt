@@ -3,7 +3,7 @@ ghost use Rattle.std.specs.Prelude.{◌≡◌, ◌++◌, IfOk, OnOk, drop, map, 
 ghost use Rattle.snap_semantics.specs.Token.{lines_of, text_lines};
 ghost use Rattle.snap_expected.specs.Pieces.{placed_of};
 ghost use Rattle.snap_expected.specs.Steps.{view_placed, view_placed_token, view_lost};
-ghost use Rattle.snap_explanation.specs.Explanation.{token_advice, sort_advice, piece_of, part_explained, stray_text, lost_text, lost_or_line, stray_or_lost, form_text_of,  form_text, token_spot, placed_line, next_header, header_at, first_number, nearest_text, unknown_text, unknown_spot, listing_explained, item_sort, schedule_explained, shape_explained, commands_explained, parts_words, lines_behind, separators, separator_words, parts_explained, explanation};
+ghost use Rattle.snap_explanation.specs.Explanation.{token_advice, sort_advice, piece_of, part_explained, stray_words, stray_text, lost_text, lost_or_line, stray_or_lost, form_text_of,  form_text, token_spot, placed_line, next_header, header_at, first_number, near_text, nearest_text, unknown_text, unknown_spot, listing_explained, item_sort, schedule_explained, shape_explained, commands_explained, parts_words, lines_behind, separators, separators_front, some_separators, separator_words, parts_explained, explanation};
 ghost use Rattle.snap_explanation.specs.Spot.{nth_line, piece_at};
 ghost use Rattle.snap_expected.specs.declared.sorts.Header.TheVariants.{Kind};
 ghost use Rattle.snap_input.specs.Parts.{parts_of};
@@ -32,6 +32,15 @@ use std::alloc::{AllocError, Global};
 /// The most lines `%` that are told.
 const SEPARATORS: usize = 8;
 
+/// Adds what is no token.
+fn push_stray_words(out: &mut Vec<u8>, piece: &[u8]) -> Result<(), AllocError>
+    ensures { OnOk result (out.new.items ≡ out.old.items ++ stray_words piece.now) }
+{
+    push_text(out, b"`")?;
+    push_shown(out, piece)?;
+    push_text(out, b"` is no token\n")
+}
+
 /// Adds what is said of a byte that begins no token.
 #[tactic(auto, using(snap_text::proofs::Texts::joined), unfolding(crate::specs::Explanation::stray_text))]
 fn push_stray(
@@ -46,9 +55,7 @@ fn push_stray(
 {
     let piece = piece_at(column, text);
     push_spot(out, part, line, text, column)?;
-    push_text(out, b"`")?;
-    push_shown(out, piece)?;
-    push_text(out, b"` is no token\n")?;
+    push_stray_words(out, piece)?;
     push_advice(out, stray_advice(piece))
 }
 
@@ -266,6 +273,15 @@ fn first_number(alloc: Global, text: &[u8]) -> Result<u64, AllocError>
     }
 }
 
+/// Adds which name is declared and near.
+fn push_near(out: &mut Vec<u8>, name: &[u8]) -> Result<(), AllocError>
+    ensures { OnOk result (out.new.items ≡ out.old.items ++ near_text name.now) }
+{
+    push_text(out, b" is not declared; `")?;
+    push_text(out, name)?;
+    push_text(out, b"` is\n")
+}
+
 /// Adds which name is the nearest, where one is near.
 #[tactic(auto, using(snap_text::proofs::Texts::joined))]
 fn push_nearest(out: &mut Vec<u8>, name: Option<&[u8]>) -> Result<(), AllocError>
@@ -273,11 +289,7 @@ fn push_nearest(out: &mut Vec<u8>, name: Option<&[u8]>) -> Result<(), AllocError
         ++ nearest_text (option_map (λ w. w.now) name.entry)) }
 {
     match name {
-        Some(name) => {
-            push_text(out, b" is not declared; `")?;
-            push_text(out, name)?;
-            push_text(out, b"` is\n")
-        }
+        Some(name) => push_near(out, name),
         None => push_text(out, b" is not declared\n"),
     }
 }
@@ -587,18 +599,33 @@ fn first_lines(lines: &[u64]) -> &[u64]
     &lines[..SEPARATORS.min(lines.len())]
 }
 
+/// Adds what stands before the lines `%`.
+#[tactic(auto, unfolding(crate::specs::Explanation::separators_front))]
+fn push_separators_front(out: &mut Vec<u8>) -> Result<(), AllocError>
+    ensures { OnOk result (out.new.items ≡ out.old.items ++ separators_front) }
+{
+    push_text(out, b"\nthe lines `%` of the input, the first eight:")
+}
+
 /// Adds the lines `%` of an input, the first ones of them.
+#[tactic(auto, using(snap_text::proofs::Texts::joined), unfolding(crate::specs::Explanation::some_separators))]
+fn push_some_separators(out: &mut Vec<u8>, lines: &[u64]) -> Result<(), AllocError>
+    ensures { OnOk result (out.new.items ≡ out.old.items ++ some_separators lines.now) }
+{
+    push_separators_front(out)?;
+    push_numbers(out, first_lines(lines))?;
+    push_text(out, b"\n")
+}
+
+/// Adds where the lines `%` of an input are.
 #[tactic(auto, using(snap_text::proofs::Texts::joined), unfolding(crate::specs::Explanation::separator_words))]
 fn push_separators(out: &mut Vec<u8>, lines: &[u64]) -> Result<(), AllocError>
     ensures { OnOk result (out.new.items ≡ out.old.items ++ separator_words lines.now) }
 {
-    match lines {
-        [] => push_text(out, b"\nno line of the input is `%` alone\n"),
-        [_, ..] => {
-            push_text(out, b"\nthe lines `%` of the input, the first eight:")?;
-            push_numbers(out, first_lines(lines))?;
-            push_text(out, b"\n")
-        }
+    if lines.len() == 0 {
+        push_text(out, b"\nno line of the input is `%` alone\n")
+    } else {
+        push_some_separators(out, lines)
     }
 }
 

@@ -17,7 +17,6 @@ const HEADER_LINES: usize = 7;
 const NAME_LETTERS: usize = 8;
 
 /// The identifiers of the header lines of a listing's text before this line.
-#[tactic(auto, using(crate::proofs::Counts::no_words))]
 pub fn words_before(alloc: Global, line: u64, text: &[u8]) -> Result<Vec<&[u8]>, AllocError>
     ensures { IfOk result (λ words. map (λ w. w.now) words.items
         ≡ words_before line 7 (text_lines text.now)) }

@@ -3,7 +3,7 @@ ghost use Rattle.std.specs.Prelude.{◌≡◌, ◌++◌, IfOk, OnOk, drop, map, 
 ghost use Rattle.snap_semantics.specs.Token.{lines_of, text_lines};
 ghost use Rattle.snap_expected.specs.Pieces.{placed_of};
 ghost use Rattle.snap_expected.specs.Steps.{view_placed, view_placed_token, view_lost};
-ghost use Rattle.snap_explanation.specs.Explanation.{token_advice, sort_advice, piece_of, part_explained, stray_words, stray_text, lost_text, lost_or_line, stray_or_lost, form_text_of,  form_text, token_spot, placed_line, next_header, header_at, first_number, near_text, nearest_text, unknown_text, unknown_spot, listing_explained, item_sort, schedule_explained, shape_explained, commands_explained, parts_words, lines_behind, separators, separators_front, some_separators, separator_words, parts_explained, explanation};
+ghost use Rattle.snap_explanation.specs.Explanation.{token_advice, sort_advice, piece_of, part_explained, stray_words, stray_text, lost_text, lost_or_line, stray_or_lost, form_text_of, form_text, token_spot, placed_line, next_header, header_at, first_number, near_text, nearest_text, unknown_text, unknown_spot, listing_explained, item_sort, schedule_explained, shape_explained, commands_explained, parts_words, lines_behind, separators, separators_front, some_separators, separator_words, parts_explained, explanation};
 ghost use Rattle.snap_explanation.specs.Spot.{nth_line, piece_at};
 ghost use Rattle.snap_expected.specs.declared.sorts.Header.TheVariants.{Kind};
 ghost use Rattle.snap_input.specs.Parts.{parts_of};
@@ -133,7 +133,7 @@ fn push_lost_or_line(
 ) -> Result<(), AllocError>
     ensures { OnOk result (out.new.items ≡ out.old.items
         ++ lost_or_line (view_part part.now) sort line text.now (map view_placed_token tokens.now)
-            (option_map view_lost place.now)) }
+        (option_map view_lost place.now)) }
 {
     match place {
         Some(place) => {

@@ -165,7 +165,10 @@ fn push_window(out: &mut Vec<u8>, line: &[u8], column: usize) -> Result<(), Allo
     ensures { OnOk result (out.new.items ≡ out.old.items ++ window line.now column) }
 {
     push_text(out, b"    ")?;
-    push_shown(out, front(behind(line, column.saturating_sub(BEFORE_MARK)), WINDOW))?;
+    push_shown(
+        out,
+        front(behind(line, column.saturating_sub(BEFORE_MARK)), WINDOW),
+    )?;
     push_text(out, b"\n")
 }
 
@@ -175,7 +178,12 @@ fn push_mark(out: &mut Vec<u8>, column: usize) -> Result<(), AllocError>
     ensures { OnOk result (out.new.items ≡ out.old.items ++ mark column) }
 {
     push_text(out, b"    ")?;
-    push_spaces(out, column.saturating_sub(1).saturating_sub(column.saturating_sub(BEFORE_MARK)))?;
+    push_spaces(
+        out,
+        column
+            .saturating_sub(1)
+            .saturating_sub(column.saturating_sub(BEFORE_MARK)),
+    )?;
     push_text(out, b"^\n")
 }
 

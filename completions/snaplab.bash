@@ -10,7 +10,7 @@ _snaplab() {
     elif [ "${COMP_WORDS[COMP_CWORD - 1]}" = --shipped ]; then
         mapfile -t COMPREPLY < <(compgen -W "seq bit multi" -- "$word")
     else
-        local options="-h --help"
+        local options="--explain -h --help"
         case ${COMP_WORDS[1]} in
             run | trace | debug | audit | certify | batch | survey) options="--shipped $options" ;;
             live) options="--shipped --limit $options" ;;

@@ -19,3 +19,4 @@ complete -c snaplab -n "not __fish_seen_subcommand_from $commands" -a live -d 'p
 complete -c snaplab -n "not __fish_seen_subcommand_from $commands" -a help -d 'print help'
 complete -c snaplab -n '__fish_seen_subcommand_from run trace debug audit certify batch survey live' -l shipped -x -a 'seq bit multi' -d 'take the shipped listing of this kind'
 complete -c snaplab -n '__fish_seen_subcommand_from live' -l limit -x -d 'the most turns of a process'
+complete -c snaplab -n "__fish_seen_subcommand_from $commands" -l explain -d 'explain where and why an input is refused'

@@ -4,8 +4,9 @@ ghost use Rattle.snap_tasks.specs.Request.{HasLimit, IsLimit};
 
 use clap::builder::ValueParser;
 use clap::error::ErrorKind;
-use clap::{Arg, ArgMatches, Command, Error};
-use snap_tasks::{Request, Subject, kind_of, request_of};
+use clap::{Arg, ArgAction, ArgMatches, Command, Error};
+use crate::command_line::Invocation;
+use snap_tasks::{Subject, kind_of, request_of};
 use std::alloc::{AllocError, Global};
 
 /// The version of the program.
@@ -46,12 +47,22 @@ fn live<'a>(alloc: Global) -> Result<Command<'a>, AllocError> {
     .arg(limit)
 }
 
+/// The option that has refusals explained.
+fn explain<'a>(alloc: Global) -> Arg<'a> {
+    Arg::new(alloc, "explain")
+        .long("explain")
+        .action(ArgAction::SetTrue)
+        .global(true)
+        .help("Explains on standard error where and why an input is refused")
+}
+
 /// The arguments that the program takes.
 fn command<'a>(alloc: Global) -> Result<Command<'a>, AllocError> {
     Command::new(alloc, "snaplab")
         .about("Runs listings over shared registers")
         .version(VERSION)
         .subcommand_required(true)
+        .arg(explain(alloc))?
         .subcommand(Command::new(alloc, "check").about("Says whether a text is a listing"))?
         .subcommand(Command::new(alloc, "lint").about(
             "Says what the runs of a listing may run into",
@@ -109,22 +120,24 @@ fn subject_of(arguments: &ArgMatches<'_>) -> Option<Subject> {
 }
 
 /// What the arguments of a subcommand ask for.
-fn request_by(matches: &ArgMatches<'_>) -> Option<Request>
-    ensures { IfSome result HasLimit }
+fn request_by(matches: &ArgMatches<'_>) -> Option<Invocation>
+    ensures { IfSome result (λ asked. HasLimit asked.request) }
 {
     let (name, arguments) = matches.subcommand()?;
     let subject = subject_of(arguments)?;
-    request_of(name, subject, limit_of(arguments))
+    let request = request_of(name, subject, limit_of(arguments))?;
+    let explains = matches.get_flag("explain");
+    Some(Invocation { request, explains })
 }
 
 /// What the arguments ask for, the program's own name first.
-pub fn request_of_arguments<'a>(alloc: Global, arguments: &'a [String]) -> Result<Request, Error>
-    ensures { IfOk result HasLimit }
+pub fn request_of_arguments<'a>(alloc: Global, arguments: &'a [String]) -> Result<Invocation, Error>
+    ensures { IfOk result (λ asked. HasLimit asked.request) }
 {
     let mut command = command(alloc)?;
     let matches = command.try_get_matches_from_mut(arguments)?;
     match request_by(&matches) {
-        Some(request) => Ok(request),
+        Some(asked) => Ok(asked),
         None => Err(command.error(ErrorKind::MissingSubcommand, "no subcommand")?),
     }
 }

@@ -1,6 +1,6 @@
 //! What a command line comes to.
-ghost use Rattle.std.specs.Prelude.{IfOk};
-ghost use Rattle.snap_command_line.specs.Limits.{HasLimits};
+ghost use Rattle.std.specs.Prelude.{◌≡◌, IfOk};
+ghost use Rattle.snap_command_line.specs.Limits.{HasLimits, explained_if};
 
 use crate::arguments::request_of_arguments;
 use clap::Error;
@@ -8,17 +8,40 @@ use clap::error::ErrorKind;
 use snap_tasks::Request;
 use std::alloc::{AllocError, Global};
 
+/// What the arguments of a command line ask for, and whether a refusal is to be explained.
+#[derive(Clone, Copy, Debug, PartialEq, Eq)]
+pub struct Invocation {
+    pub request: Request,
+    pub explains: bool,
+}
+
 /// What the arguments of a command line come to.
 #[derive(Debug, Drop)]
 pub enum CommandLine {
     /// They ask for this.
-    Asks(Request),
+    Asks(Invocation),
     /// They ask for help, or for the version: its text.
     Help(String),
     /// They ask for nothing that the program does: why, as text.
     Wrong(String),
     /// They are no text.
     NoText,
+}
+
+impl CommandLine {
+    /// The same, where a refusal is explained in any case if `explains`.
+    pub fn explained_if(self, explains: bool) -> CommandLine
+        ensures same { result ≡ explained_if explains self }
+        ensures limits { HasLimits self → HasLimits result }
+    {
+        match self {
+            CommandLine::Asks(asked) => CommandLine::Asks(Invocation {
+                request: asked.request,
+                explains: asked.explains || explains,
+            }),
+            other => other,
+        }
+    }
 }
 
 /// What is said where the arguments ask for no task.
@@ -43,7 +66,7 @@ pub fn read_arguments(alloc: Global, arguments: &[String]) -> Result<CommandLine
     ensures { IfOk result HasLimits }
 {
     match request_of_arguments(alloc, arguments) {
-        Ok(request) => Ok(CommandLine::Asks(request)),
+        Ok(asked) => Ok(CommandLine::Asks(asked)),
         Err(error) => explained(alloc, &error),
     }
 }

@@ -1,5 +1,5 @@
 -- What a run answers, by cases on its answer.
-use Rattle.std.proofs.Common.{◌≡◌, ℕ, ◌<◌, Bool, true, List, [], Option, Result, Ok, Err, Vec, length, take, ◌⊎◌, inl, refl, sym, subst}
+use Rattle.std.proofs.Common.{◌≡◌, ℕ, ◌<◌, Bool, true, List, [], Option, Result, Ok, Err, Vec, length, take, ◌⊎◌, inl, inr, refl, sym, subst}
 use Rattle.std.specs.Prelude.{⊤, IsErr, IsErrAnd}
 use Rattle.std.specs.Global.{Global}
 use Rattle.std.specs.Io.KnownBytes.{Appends}
@@ -13,7 +13,7 @@ use Rattle.snap_live_output.specs.declared.fault.LiveRunFault.{LiveRunFault}
 use Rattle.snap_live_output.specs.declared.fault.LiveRunFault.TheVariants as run
 use Rattle.snap_live_output.specs.LiveOutput.{AnswersLive}
 use Rattle.snap_subject.specs.declared.subject.Subject.{Subject}
-use Rattle.snap_program.specs.WholeRun.{of_fault, of_live_fault, IsWhole, RefusesLive, RefusesTask, Takes, Reads, Sends, ConductsBy}
+use Rattle.snap_program.specs.WholeRun.{of_fault, of_live_fault, IsWhole, RefusesLive, RefusesTask, Takes, Reads, Sends, ConductsOn, ConductsKeeping, IsKept}
 use Rattle.snap_program.specs.declared.fault.ConductFault.{ConductFault}
 use Rattle.snap_program.specs.declared.fault.ConductFault.TheVariants as fault
 use Rattle.snap_tasks.specs.declared.task.Task.{Task}
@@ -32,6 +32,15 @@ Why Refuses (fault.Live f) = Refuses (fault.Live f)
 Why Refuses fault.Read = ⊥
 Why Refuses (fault.Write count) = ⊥
 
+-- what was read is kept
+pub is_kept : (answer : Result (Unit {0}) ConductFault) (input : List ℕ) → IsKept answer input input
+is_kept (Ok done) input = tt
+is_kept (Err fault.Memory) input = tt
+is_kept (Err (fault.Refused f)) input = refl
+is_kept (Err (fault.Live f)) input = tt
+is_kept (Err fault.Read) input = tt
+is_kept (Err (fault.Write count)) input = tt
+
 -- a task is refused as its output says
 pub why_task : (e : Fault Refusal) (task : Task) (input : List ℕ) → Answers {X = Vec ℕ Global} (λ v. v.items) (Err e) (output_of task input) → Why (RefusesTask task input) (of_fault e)
 why_task inner.Memory task input h = tt
@@ -47,12 +56,12 @@ why_live (run.Live f) may subject limit input h = h
 module _ (IsOutput : List ℕ → List ℕ → Type 0) (Refuses : List ℕ → ConductFault → Type 0) where
   gave_up : (e : ConductFault) (input now : List ℕ) (before after taken : Option (List ℕ)) (r w s : Bool)
       → now ≡ input → Takes input before after → IsWhole input after → Why (Refuses now) e
-      → ConductsBy IsOutput Refuses (Err e) before after taken taken r w s
-  gave_up fault.Memory input now before after taken r w s same takes whole h = (input, [], takes, tt, Appends-nil taken, refl)
+      → ConductsOn IsOutput Refuses input (Err e) before after taken taken r w s
+  gave_up fault.Memory input now before after taken r w s same takes whole h = ([], takes, tt, Appends-nil taken, refl)
   gave_up (fault.Refused f) input now before after taken r w s same takes whole h =
-      (input, [], takes, whole, Appends-nil taken, (refl, subst (λ (x : List ℕ). Refuses x (fault.Refused f)) same h))
+      ([], takes, whole, Appends-nil taken, (refl, subst (λ (x : List ℕ). Refuses x (fault.Refused f)) same h))
   gave_up (fault.Live f) input now before after taken r w s same takes whole h =
-      (input, [], takes, whole, Appends-nil taken, (refl, subst (λ (x : List ℕ). Refuses x (fault.Live f)) same h))
+      ([], takes, whole, Appends-nil taken, (refl, subst (λ (x : List ℕ). Refuses x (fault.Live f)) same h))
   gave_up fault.Read input now before after taken r w s same takes whole h = absurd h
   gave_up (fault.Write count) input now before after taken r w s same takes whole h = absurd h
 
@@ -60,26 +69,42 @@ module _ (IsOutput : List ℕ → List ℕ → Type 0) (Refuses : List ℕ → C
   pub refused : (answer : Result (Unit {0}) ConductFault) (e : ConductFault) (input now : List ℕ) (before after taken : Option (List ℕ)) (r w s : Bool)
       → IsErr answer × IsErrAnd answer (λ f. f ≡ e)
       → now ≡ input → Takes input before after → IsWhole input after → Why (Refuses now) e
-      → ConductsBy IsOutput Refuses answer before after taken taken r w s
+      → ConductsOn IsOutput Refuses input answer before after taken taken r w s
   refused (Ok done) e input now before after taken r w s from same takes whole h = absurd from.1
   refused (Err f) e input now before after taken r w s from same takes whole h =
-      subst (λ (x : ConductFault). ConductsBy IsOutput Refuses (Err x) before after taken taken r w s) (sym from.1) (gave_up e input now before after taken r w s same takes whole h)
+      subst (λ (x : ConductFault). ConductsOn IsOutput Refuses input (Err x) before after taken taken r w s) (sym from.1) (gave_up e input now before after taken r w s same takes whole h)
 
   stopped : (e : ConductFault) (count : ℕ) (input text : List ℕ) (before after taken taken_after : Option (List ℕ)) (r w s : Bool)
       → e ≡ fault.Write count → count < length text → Appends taken taken_after (take count text) → (w ≡ true) ⊎ (s ≡ true)
       → Takes input before after → IsWhole input after → IsOutput input text
-      → ConductsBy IsOutput Refuses (Err e) before after taken taken_after r w s
+      → ConductsOn IsOutput Refuses input (Err e) before after taken taken_after r w s
   stopped e count input text before after taken taken_after r w s is within sent device takes whole h =
-      subst (λ (x : ConductFault). ConductsBy IsOutput Refuses (Err x) before after taken taken_after r w s) (sym is)
-      (input, take count text, takes, whole, sent, (text, h, within, refl, device))
+      subst (λ (x : ConductFault). ConductsOn IsOutput Refuses input (Err x) before after taken taken_after r w s) (sym is)
+      (take count text, takes, whole, sent, (text, h, within, refl, device))
 
   -- the text is there, and is sent as far as the writer takes it
   pub sends : (answer : Result (Unit {0}) ConductFault) (input now text sent : List ℕ) (before after taken taken_after : Option (List ℕ)) (r w s : Bool)
       → now ≡ input → sent ≡ text → Takes input before after → IsWhole input after → IsOutput now text
-      → Sends answer sent taken taken_after w s → ConductsBy IsOutput Refuses answer before after taken taken_after r w s
+      → Sends answer sent taken taken_after w s → ConductsOn IsOutput Refuses input answer before after taken taken_after r w s
   sends (Ok done) input now text sent before after taken taken_after r w s same same_text takes whole h done_so =
-      (input, text, takes, whole, subst (λ (x : List ℕ). Appends taken taken_after x) same_text done_so, subst (λ (x : List ℕ). IsOutput x text) same h)
+      (text, takes, whole, subst (λ (x : List ℕ). Appends taken taken_after x) same_text done_so, subst (λ (x : List ℕ). IsOutput x text) same h)
   sends (Err e) input now text sent before after taken taken_after r w s same same_text takes whole h stop =
       stopped e stop.0 input text before after taken taken_after r w s stop.1
       (subst (λ (x : List ℕ). stop.0 < length x) same_text stop.2) (subst (λ (x : List ℕ). Appends taken taken_after (take stop.0 x)) same_text stop.3) stop.4 takes whole
       (subst (λ (x : List ℕ). IsOutput x text) same h)
+
+  not_read_so : (e : ConductFault) (kept : List ℕ) (before after taken : Option (List ℕ)) (r w s : Bool)
+      → Reads (Err e) before after r → ConductsKeeping IsOutput Refuses kept (Err e) before after taken taken r w s
+  not_read_so e kept before after taken r w s h = elim h.2 [
+      | inl m ↦ subst (λ (x : ConductFault). ConductsKeeping IsOutput Refuses kept (Err x) before after taken taken r w s) (sym m)
+          (h.0, tt, ([], h.1, tt, Appends-nil taken, refl))
+      | inr d ↦ subst (λ (x : ConductFault). ConductsKeeping IsOutput Refuses kept (Err x) before after taken taken r w s) (sym d.0)
+          (h.0, tt, ([], h.1, tt, Appends-nil taken, (refl, d.1)))
+    ]
+
+  -- reading failed
+  pub not_read : (answer : Result (Unit {0}) ConductFault) (e : ConductFault) (kept : List ℕ) (before after taken : Option (List ℕ)) (r w s : Bool)
+      → IsErr answer × IsErrAnd answer (λ f. f ≡ e) → Reads (Err e) before after r → ConductsKeeping IsOutput Refuses kept answer before after taken taken r w s
+  not_read (Ok done) e kept before after taken r w s from h = absurd from.1
+  not_read (Err f) e kept before after taken r w s from h =
+      subst (λ (x : ConductFault). ConductsKeeping IsOutput Refuses kept (Err x) before after taken taken r w s) (sym from.1) (not_read_so e kept before after taken r w s h)

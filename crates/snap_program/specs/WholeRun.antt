@@ -61,12 +61,29 @@ IsWholeFor (Err (fault.Live f)) input after = IsWhole input after
 IsWholeFor (Err fault.Read) input after = ⊤
 IsWholeFor (Err (fault.Write count)) input after = IsWhole input after
 
--- A whole run: it takes an input, and has written what its answer says of the outputs that the input may have, and nothing else.
+-- A whole run on this input: it takes it, and has written what its answer says of the outputs that the input may have, and nothing else.
+abbrev pub ConductsOn : (IsOutput : (input text : List ℕ) → Type 0) (Refuses : (input : List ℕ) → ConductFault → Type 0) (input : List ℕ)
+    (answer : Result (Unit {0}) ConductFault) (left left_after taken taken_after : Option (List ℕ)) (reader_failed writer_failed writer_stalled : Bool) → Type 0
+ConductsOn IsOutput Refuses input answer left left_after taken taken_after r w s =
+    (text : List ℕ) × Takes input left left_after × IsWholeFor answer input left_after
+    × Appends taken taken_after text × Writes answer (IsOutput input) (Refuses input) text r w s
+
+-- A whole run of some input.
 abbrev pub ConductsBy : (IsOutput : (input text : List ℕ) → Type 0) (Refuses : (input : List ℕ) → ConductFault → Type 0)
     (answer : Result (Unit {0}) ConductFault) (left left_after taken taken_after : Option (List ℕ)) (reader_failed writer_failed writer_stalled : Bool) → Type 0
 ConductsBy IsOutput Refuses answer left left_after taken taken_after r w s =
-    (input : List ℕ) × (text : List ℕ) × Takes input left left_after × IsWholeFor answer input left_after
-    × Appends taken taken_after text × Writes answer (IsOutput input) (Refuses input) text r w s
+    (input : List ℕ) × ConductsOn IsOutput Refuses input answer left left_after taken taken_after r w s
+
+-- where the input is refused, it was kept
+abbrev pub IsKept : (answer : Result (Unit {0}) ConductFault) (kept input : List ℕ) → Type 0
+IsKept (Err (fault.Refused f)) kept input = kept ≡ input
+IsKept _ kept input = ⊤
+
+-- A whole run that keeps its input.
+abbrev pub ConductsKeeping : (IsOutput : (input text : List ℕ) → Type 0) (Refuses : (input : List ℕ) → ConductFault → Type 0) (kept : List ℕ)
+    (answer : Result (Unit {0}) ConductFault) (left left_after taken taken_after : Option (List ℕ)) (reader_failed writer_failed writer_stalled : Bool) → Type 0
+ConductsKeeping IsOutput Refuses kept answer left left_after taken taken_after r w s =
+    (input : List ℕ) × IsKept answer kept input × ConductsOn IsOutput Refuses input answer left left_after taken taken_after r w s
 
 -- the output of a task
 abbrev pub IsOutputOf : Task → (input text : List ℕ) → Type 0

@@ -3,7 +3,8 @@ ghost use Rattle.std.specs.Prelude.{◌≡◌, ◌≤◌, ◌<◌, ◌++◌, ◌
 ghost use Rattle.std.specs.Prelude.{take, IfOk, IfErr, OnOk, OnErr, MatchResult};
 ghost use Rattle.std.specs.Io.KnownBytes.{Consumes, Appends, IsAtEnd};
 ghost use Rattle.snap_output.specs.Output.{output_of};
-ghost use Rattle.snap_program.specs.WholeRun.{Reads, Sends, Conducts, ConductsLive};
+ghost use Rattle.snap_program.specs.WholeRun.{Reads, Sends, Conducts, ConductsKeeping, ConductsLive, IsOutputOf, RefusesLive, RefusesTask};
+ghost use Rattle.snap_live_output.specs.LiveOutput.{MayWrite};
 
 use crate::byte_sink::ByteSink;
 use crate::byte_source::ByteSource;
@@ -70,8 +71,29 @@ pub fn conduct<R: ByteSource, W: ByteSink>(
         (W.taken sink.new)
         (R.has_failed source.new) (W.has_failed sink.new) (W.is_stalled sink.new) }
 {
+    let mut kept = Vec::new(alloc);
+    conduct_keeping(rt, alloc, task, source, sink, &mut kept)
+}
+
+/// Does the same, and keeps the input: where it is refused, it was kept.
+pub fn conduct_keeping<R: ByteSource, W: ByteSink>(
+    rt: &(impl Threads + Sync),
+    alloc: Global,
+    task: &Task,
+    source: &mut R,
+    sink: &mut W,
+    kept: &mut Vec<u8>,
+) -> Result<(), ConductFault>
+    requires source { R.has_failed source.old ≡ false }
+    requires sink { W.has_failed sink.old ≡ false }
+    requires goes_on { W.is_stalled sink.old ≡ false }
+    ensures { ConductsKeeping (IsOutputOf task.now) (RefusesTask task.now) kept.new.items result
+        (R.left source.old) (R.left source.new) (W.taken sink.old) (W.taken sink.new)
+        (R.has_failed source.new) (W.has_failed sink.new) (W.is_stalled sink.new) }
+{
     let input = read_all(alloc, source)?;
-    let text = output(rt, alloc, task, input.as_slice())?;
+    *kept = input;
+    let text = output(rt, alloc, task, kept.as_slice())?;
     write_all(sink, text.as_slice())
 }
 
@@ -94,7 +116,32 @@ pub fn conduct_live<G: Gate, R: ByteSource, W: ByteSink>(
         (R.left source.new) (W.taken sink.old) (W.taken sink.new)
         (R.has_failed source.new) (W.has_failed sink.new) (W.is_stalled sink.new) }
 {
+    let mut kept = Vec::new(alloc);
+    conduct_live_keeping(rt, alloc, subject, limit, gate, source, sink, &mut kept)
+}
+
+/// Does the same, and keeps the input: where it is refused, it was kept.
+pub fn conduct_live_keeping<G: Gate, R: ByteSource, W: ByteSink>(
+    rt: &(impl Threads + Wait + Sync),
+    alloc: Global,
+    subject: Subject,
+    limit: u64,
+    gate: &G,
+    source: &mut R,
+    sink: &mut W,
+    kept: &mut Vec<u8>,
+) -> Result<(), ConductFault>
+    requires limit { (1 ≤ limit) × (limit ≤ 1000000) }
+    requires source { R.has_failed source.old ≡ false }
+    requires sink { W.has_failed sink.old ≡ false }
+    requires goes_on { W.is_stalled sink.old ≡ false }
+    ensures { ConductsKeeping (MayWrite (G.may_answer gate.now) subject limit)
+        (RefusesLive (G.may_answer gate.now) subject limit) kept.new.items result
+        (R.left source.old) (R.left source.new) (W.taken sink.old) (W.taken sink.new)
+        (R.has_failed source.new) (W.has_failed sink.new) (W.is_stalled sink.new) }
+{
     let input = read_all(alloc, source)?;
-    let text = live_output(rt, alloc, subject, limit, gate, input.as_slice())?;
+    *kept = input;
+    let text = live_output(rt, alloc, subject, limit, gate, kept.as_slice())?;
     write_all(sink, text.as_slice())
 }

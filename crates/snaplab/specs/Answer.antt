@@ -1,15 +1,19 @@
 -- What the program does about its command line, and the status that it ends with.
-use Rattle.std.specs.Prelude.{◌≡◌, ℕ, Bool, true, List, ◌++◌, Option, Result, Ok, Err, codes, string_bytes, take}
+use Rattle.std.specs.Prelude.{◌≡◌, ℕ, Bool, true, List, [], ◌++◌, Option, Result, Ok, Err, if◌then◌else◌, codes, string_bytes, take}
 use Rattle.std.specs.Io.KnownBytes.{Appends}
+use Rattle.snap_command_line.specs.declared.command_line.Invocation.{Invocation}
 use Rattle.snap_command_line.specs.declared.command_line.CommandLine.{CommandLine}
 use Rattle.snap_command_line.specs.declared.command_line.CommandLine.TheVariants.{Asks, Help, Wrong, NoText}
 use Rattle.snap_tasks.specs.declared.request.Request.{Request}
-use Rattle.snap_tasks.specs.declared.request.Request.TheVariants.{Do, Live}
-use Rattle.snap_program.specs.WholeRun.{Conducts, ConductsLive, Sends}
+use Rattle.snap_tasks.specs.declared.request.Request.TheVariants as request
+use Rattle.snap_program.specs.WholeRun.{ConductsKeeping, IsOutputOf, RefusesLive, RefusesTask, Sends}
+use Rattle.snap_live_output.specs.LiveOutput.{MayWrite}
+use Rattle.snap_explanation.specs.Explanation.{explanation}
+use Rattle.snap_explanation.specs.Part.{layout_of}
 use Rattle.snap_program.specs.FaultText.{fault_text}
 use Rattle.snap_program.specs.ExitStatus.{fault_status}
 use Rattle.snap_program.specs.declared.fault.ConductFault.{ConductFault}
-use Rattle.snap_program.specs.declared.fault.ConductFault.TheVariants.{Memory}
+use Rattle.snap_program.specs.declared.fault.ConductFault.TheVariants.{Memory, Refused, Live, Read, Write}
 
 -- the status of a whole run: 0 where all of its output was written, and nowhere else
 abbrev pub exit_status : Result (Unit {0}) ConductFault → ℕ
@@ -25,24 +29,59 @@ abbrev pub SaysFault : Result (Unit {0}) ConductFault → (said said_after : Opt
 SaysFault (Ok done) said said_after = said ≡ said_after
 SaysFault (Err fault) said said_after = Says (fault_text fault ++ codes "\n") said said_after
 
--- A whole run of what was asked for.
-abbrev pub CarriesOut : Request → Result (Unit {0}) ConductFault → (left left_after taken taken_after : Option (List ℕ)) →
+-- what is said behind the line of a fault, where refusals are explained
+abbrev pub why : Request → (input : List ℕ) → ConductFault → List ℕ
+why asked input (Refused r) = explanation (layout_of asked) input r
+why asked input Memory = []
+why asked input (Live r) = []
+why asked input Read = []
+why asked input (Write count) = []
+
+abbrev pub explained : (explains : Bool) → Request → (input : List ℕ) → ConductFault → List ℕ
+explained explains asked input fault = if explains then why asked input fault else []
+
+-- A fault is told in a line, and what explains it stands behind that line; where there is none, nothing is said.
+abbrev pub SaysWhy : (explains : Bool) → Request → (input : List ℕ) → Result (Unit {0}) ConductFault → (said said_after : Option (List ℕ)) → Type 0
+SaysWhy explains asked input (Ok done) said said_after = said ≡ said_after
+SaysWhy explains asked input (Err fault) said said_after =
+    Says ((fault_text fault ++ codes "\n") ++ explained explains asked input fault) said said_after
+
+-- A whole run of what was asked for, which keeps its input.
+abbrev pub CarriesOut : Request → (kept : List ℕ) → Result (Unit {0}) ConductFault → (left left_after taken taken_after : Option (List ℕ)) →
     (reader_failed writer_failed writer_stalled : Bool) → Type 0
-CarriesOut (Do task) done left left_after taken taken_after r w s = Conducts done task left left_after taken taken_after r w s
-CarriesOut (Live subject limit) done left left_after taken taken_after r w s =
-    ConductsLive (λ process turn answer. answer ≡ true) subject limit done left left_after taken taken_after r w s
+CarriesOut (request.Do task) kept done left left_after taken taken_after r w s =
+    ConductsKeeping (IsOutputOf task) (RefusesTask task) kept done left left_after taken taken_after r w s
+CarriesOut (request.Live subject limit) kept done left left_after taken taken_after r w s =
+    ConductsKeeping (MayWrite (λ process turn answer. answer ≡ true) subject limit) (RefusesLive (λ process turn answer. answer ≡ true) subject limit) kept done
+    left left_after taken taken_after r w s
+
+-- What is said where the input is read from a terminal.
+abbrev pub terminal_line : List ℕ
+terminal_line = codes "reading from the terminal; end with Ctrl-D\n"
+
+-- It is said where an input is asked for, and nothing else.
+abbrev pub SaysTerminal : {E : Type 0} → Result CommandLine E → (said said_after : Option (List ℕ)) → Type 0
+SaysTerminal (Ok (Asks asked)) said said_after = Says terminal_line said said_after
+SaysTerminal _ said said_after = said ≡ said_after
 
 -- What is said of arguments that are no text.
 abbrev pub no_text_line : List ℕ
 no_text_line = codes "error: the words of the command line are no text\n"
+
+-- What the program does about what was asked for: what it takes of its source, what it gives its sink and its device for messages,
+-- and its status. Where an input is refused, it is the one that is explained.
+abbrev pub AnswersInvocation : Invocation → (status : ℕ) → (left left_after taken taken_after said said_after : Option (List ℕ)) →
+    (reader_failed writer_failed writer_stalled : Bool) → Type 0
+AnswersInvocation asked status left left_after taken taken_after said said_after r w s =
+    (done : Result (Unit {0}) ConductFault) × (kept : List ℕ) × (status ≡ exit_status done)
+    × CarriesOut asked.request kept done left left_after taken taken_after r w s × SaysWhy asked.explains asked.request kept done said said_after
 
 -- What the program does about a command line, or where there was no memory to read it: what it takes of its source, what it
 -- gives its sink and its device for messages, and its status.
 abbrev pub AnswersLine : {E : Type 0} → Result CommandLine E → (status : ℕ) → (left left_after taken taken_after said said_after : Option (List ℕ)) →
     (reader_failed writer_failed writer_stalled : Bool) → Type 0
 AnswersLine (Ok (Asks asked)) status left left_after taken taken_after said said_after r w s =
-    (done : Result (Unit {0}) ConductFault) × (status ≡ exit_status done) × CarriesOut asked done left left_after taken taken_after r w s
-    × SaysFault done said said_after
+    AnswersInvocation asked status left left_after taken taken_after said said_after r w s
 AnswersLine (Ok (Help text)) status left left_after taken taken_after said said_after r w s =
     (left ≡ left_after) × ((done : Result (Unit {0}) ConductFault) × (status ≡ exit_status done) × Sends done (string_bytes text) taken taken_after w s
     × SaysFault done said said_after)

@@ -1,14 +1,15 @@
 //! What the program does about its command line, over any devices.
-ghost use Rattle.std.specs.Prelude.{◌≡◌, ◌++◌, false, codes, IfOk};
+ghost use Rattle.std.specs.Prelude.{◌≡◌, ◌++◌, false, codes, IfOk, OnOk, OnErr};
 ghost use Rattle.snap_command_line.specs.Limits.{HasLimits};
 ghost use Rattle.snap_program.specs.FaultText.{fault_text};
 ghost use Rattle.snap_tasks.specs.Request.{HasLimit};
-ghost use Rattle.snaplab.specs.Answer.{AnswersLine, CarriesOut, Says, SaysFault, exit_status};
+ghost use Rattle.snaplab.specs.Answer.{AnswersInvocation, AnswersLine, CarriesOut, Says, SaysFault, SaysTerminal, explained, exit_status};
 
-use snap_command_line::CommandLine;
+use snap_command_line::{CommandLine, Invocation};
+use snap_explanation::{explanation, layout_of};
 use snap_program::{
-    ByteSink, ByteSource, ConductFault, NoGate, conduct, conduct_live, fault_line, fault_status,
-    write_all,
+    ByteSink, ByteSource, ConductFault, NoGate, conduct_keeping, conduct_live_keeping, fault_line,
+    fault_status, write_all,
 };
 use snap_tasks::Request;
 use std::alloc::{AllocError, Global};
@@ -17,6 +18,9 @@ use std::thread::Threads;
 
 /// What is said of arguments that are no text.
 const NO_TEXT: &[u8] = b"error: the words of the command line are no text\n";
+
+/// What is said where the input is read from a terminal.
+const TERMINAL: &[u8] = b"reading from the terminal; end with Ctrl-D\n";
 
 /// Says a text. Where the device does not take it, nothing more is said.
 #[tactic(auto, using(crate::proofs::Said::said))]
@@ -55,27 +59,121 @@ fn finish<E: ByteSink>(alloc: Global, done: &Result<(), ConductFault>, errors: &
     }
 }
 
-/// Does what is asked for: reads a source, and writes what comes of it to a sink.
+/// Adds what is said behind the line of a fault, where refusals are explained.
+fn push_explained(
+    alloc: Global,
+    asked: &Invocation,
+    input: &[u8],
+    fault: &ConductFault,
+    line: &mut Vec<u8>,
+) -> Result<(), AllocError>
+    ensures ok { OnOk result (line.new.items
+        ≡ line.old.items ++ explained asked.now.explains asked.now.request input.now fault.now) }
+    ensures unchanged { OnErr result (line.new.items ≡ line.old.items) }
+{
+    if !asked.explains {
+        return Ok(());
+    }
+    match fault {
+        ConductFault::Refused(refusal) => {
+            let layout = layout_of(&asked.request);
+            let text = explanation(alloc, layout, input, refusal)?;
+            line.extend_from_slice(text.as_slice())
+        }
+        ConductFault::Memory
+        | ConductFault::Live(_)
+        | ConductFault::Read
+        | ConductFault::Write(_) => Ok(()),
+    }
+}
+
+/// Says why nothing, or not all, was written, and explains it where that is asked for. There may be
+/// no memory for that either.
+#[tactic(auto, using(crate::proofs::Said::explained_said, crate::proofs::Said::said_front))]
+fn explain<E: ByteSink>(
+    alloc: Global,
+    asked: &Invocation,
+    input: &[u8],
+    fault: &ConductFault,
+    errors: &mut E,
+)
+    requires { E.has_failed errors.old ≡ false }
+    ensures { Says ((fault_text fault.now ++ codes "\n")
+        ++ explained asked.now.explains asked.now.request input.now fault.now)
+        (E.taken errors.old) (E.taken errors.new) }
+{
+    match fault_line(alloc, fault) {
+        Ok(mut line) => {
+            let _explained = push_explained(alloc, asked, input, fault, &mut line);
+            say(line.as_slice(), errors);
+        }
+        Err(_) => complain(alloc, fault, errors),
+    }
+}
+
+/// Does what is asked for: reads a source, and writes what comes of it to a sink. The input is
+/// kept.
 fn carry_out<R: ByteSource, W: ByteSink>(
     rt: &(impl Threads + Wait + Sync),
     alloc: Global,
     asked: &Request,
     source: &mut R,
     sink: &mut W,
+    kept: &mut Vec<u8>,
 ) -> Result<(), ConductFault>
     requires limit { HasLimit asked.now }
     requires source { R.has_failed source.old ≡ false }
     requires sink { W.has_failed sink.old ≡ false }
     requires goes_on { W.is_stalled sink.old ≡ false }
-    ensures { CarriesOut asked.now result (R.left source.old) (R.left source.new) (W.taken sink.old)
-        (W.taken sink.new) (R.has_failed source.new) (W.has_failed sink.new)
+    ensures { CarriesOut asked.now kept.new.items result (R.left source.old) (R.left source.new)
+        (W.taken sink.old) (W.taken sink.new) (R.has_failed source.new) (W.has_failed sink.new)
         (W.is_stalled sink.new) }
 {
     match *asked {
-        Request::Do(task) => conduct(rt, alloc, &task, source, sink),
+        Request::Do(task) => conduct_keeping(rt, alloc, &task, source, sink, kept),
         Request::Live(subject, limit) => {
-            conduct_live(rt, alloc, subject, limit, &NoGate, source, sink)
+            conduct_live_keeping(rt, alloc, subject, limit, &NoGate, source, sink, kept)
         }
+    }
+}
+
+/// Does what is asked for, says why where it is not done, and answers the status of it.
+fn do_asked<R: ByteSource, W: ByteSink, E: ByteSink>(
+    rt: &(impl Threads + Wait + Sync),
+    alloc: Global,
+    asked: &Invocation,
+    source: &mut R,
+    sink: &mut W,
+    errors: &mut E,
+) -> u8
+    requires limit { HasLimit asked.now.request }
+    requires source { R.has_failed source.old ≡ false }
+    requires sink { W.has_failed sink.old ≡ false }
+    requires goes_on { W.is_stalled sink.old ≡ false }
+    requires errors { E.has_failed errors.old ≡ false }
+    ensures { AnswersInvocation asked.now result (R.left source.old) (R.left source.new)
+        (W.taken sink.old) (W.taken sink.new)
+        (E.taken errors.old) (E.taken errors.new) (R.has_failed source.new) (W.has_failed sink.new)
+        (W.is_stalled sink.new) }
+{
+    let mut input = Vec::new(alloc);
+    match carry_out(rt, alloc, &asked.request, source, sink, &mut input) {
+        Ok(()) => 0,
+        Err(fault) => {
+            explain(alloc, asked, input.as_slice(), &fault, errors);
+            fault_status(&fault)
+        }
+    }
+}
+
+/// Says that the input is read from a terminal, where one is asked for.
+pub fn say_terminal<E: ByteSink>(line: &Result<CommandLine, AllocError>, errors: &mut E)
+    requires { E.has_failed errors.old ≡ false }
+    ensures { SaysTerminal line.now (E.taken errors.old) (E.taken errors.new) }
+{
+    match line {
+        Ok(CommandLine::Asks(_)) => say(TERMINAL, errors),
+        _ => {}
     }
 }
 
@@ -100,10 +198,7 @@ pub fn answer<R: ByteSource, W: ByteSink, E: ByteSink>(
         (W.is_stalled sink.new) }
 {
     match line {
-        Ok(CommandLine::Asks(asked)) => {
-            let done = carry_out(rt, alloc, asked, source, sink);
-            finish(alloc, &done, errors)
-        }
+        Ok(CommandLine::Asks(asked)) => { do_asked(rt, alloc, asked, source, sink, errors) }
         Ok(CommandLine::Help(text)) => {
             let done = write_all(sink, text.as_bytes());
             finish(alloc, &done, errors)

@@ -6,11 +6,11 @@ ghost use Rattle.snap_command_line.specs.Limits.{HasLimits};
 
 mod answers;
 
-use answers::answer;
+use answers::{answer, say_terminal};
 use snap_command_line::{CommandLine, read_arguments};
 use snap_program::Std;
 use std::alloc::AllocError;
-use std::io;
+use std::io::{self, IsTerminal};
 use std::process::ExitCode;
 
 /// What the arguments of the command line come to.
@@ -25,13 +25,17 @@ fn command_line(rt: &HostRuntime) -> Result<CommandLine, AllocError>
     let Ok(arguments) = arguments.collect::<Vec<String>>(rt.alloc()) else {
         return Err(AllocError);
     };
-    read_arguments(rt.alloc(), arguments.as_slice())
+    let line = read_arguments(rt.alloc(), arguments.as_slice())?;
+    Ok(line.explained_if(rt.stderr().is_terminal()))
 }
 
 fn main(rt: HostRuntime) -> ExitCode {
     let line = command_line(&rt);
     let mut source = Std::new(rt.reader());
     let mut sink = Std::new(io::writer(&rt));
+    if rt.stdin().is_terminal() {
+        say_terminal(&line, &mut Std::new(rt.stderr()));
+    }
     let mut errors = Std::new(rt.stderr());
     ExitCode::from(answer(&rt, rt.alloc(), &line, &mut source, &mut sink, &mut errors))
 }

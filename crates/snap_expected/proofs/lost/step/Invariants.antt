@@ -1,0 +1,11 @@
+use Rattle.std.proofs.Common.{◌≡◌, length}
+use Rattle.snap_text.specs.Tokens.{view_token}
+use Rattle.snap_expected.specs.Lost.{step}
+use Rattle.snap_expected.proofs.lost.step.Given as goal
+
+-- what was passed over is nothing
+abbrev pub invariant-loop-rest : goal.invariant-loop-rest
+invariant-loop-rest l = step (view_token l.token) l.rest ≡ step (view_token l.token) l.wanted
+
+abbrev pub decreases-loop-rest : goal.decreases-loop-rest
+decreases-loop-rest l = length l.rest

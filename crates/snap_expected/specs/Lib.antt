@@ -1,0 +1,6 @@
+pub mod Tests
+pub mod After
+pub mod Lost
+pub mod Pieces
+pub mod Steps
+pub mod Laws

@@ -1,0 +1,18 @@
+//! What is expected where a line is lost.
+#![tactic(auto)]
+
+mod after;
+mod laws;
+mod lost;
+mod pieces;
+mod sorts;
+mod tests;
+mod wanted;
+
+pub use after::may_pass;
+pub use laws::what_is_lost_stays_lost;
+pub use lost::{LostPlace, lost_in};
+pub use pieces::{PlacedToken, PlacedTokens, is_lexeme_byte, piece_len, placed_tokens};
+pub use sorts::{Header, LineSort};
+pub use tests::{is_identifier, is_symbol, is_word};
+pub use wanted::{Keyword, Wanted};

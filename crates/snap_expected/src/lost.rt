@@ -1,0 +1,137 @@
+//! Where a line is lost.
+ghost use Rattle.std.specs.Prelude.{◌≡◌, IfOk, option_map, vec_items};
+ghost use Rattle.snap_text.specs.Tokens.{view_token};
+ghost use Rattle.snap_expected.specs.Lost.{step, may_end, lost, wanted_of_header, wanted_of, lost_in};
+ghost use Rattle.snap_expected.specs.Steps.{placed_tokens, view_lost};
+
+use crate::after::{Step, after, may_pass};
+use crate::pieces::PlacedToken;
+use crate::sorts::{Header, LineSort};
+use crate::wanted::{Keyword, Wanted};
+use snap_semantics::Symbol;
+use snap_text::Token;
+use std::alloc::{AllocError, Global};
+
+/// A place in a line: so many tokens stand before it, and these were wanted there.
+#[derive(Debug, Drop)]
+pub struct LostPlace {
+    pub before: usize,
+    pub wanted: Vec<Wanted>,
+}
+
+/// What is wanted behind a token, where these are wanted in a row; none where the line does not go
+/// on with it.
+fn step(
+    alloc: Global,
+    token: &Token<'_>,
+    wanted: &[Wanted],
+) -> Result<Option<Vec<Wanted>>, AllocError>
+    ensures { IfOk result (λ next. option_map vec_items next
+        ≡ step (view_token token.now) wanted.now) }
+{
+    let mut rest = wanted;
+    while let [first, behind @ ..] = rest {
+        match after(alloc, *first, token)? {
+            Step::Takes(mut next) => {
+                next.extend_from_slice(behind)?;
+                return Ok(Some(next));
+            }
+            Step::Passes => rest = behind,
+            Step::Refuses => return Ok(None),
+        }
+    }
+    Ok(None)
+}
+
+/// Whether a line may end where these are wanted.
+fn may_end(wanted: &[Wanted]) -> bool
+    ensures { result ≡ may_end wanted.now }
+{
+    let mut rest = wanted;
+    while let [first, behind @ ..] = rest {
+        if !may_pass(*first) {
+            return false;
+        }
+        rest = behind;
+    }
+    true
+}
+
+/// Where tokens are lost of which these are wanted in a row.
+fn lost(
+    alloc: Global,
+    wanted: Vec<Wanted>,
+    tokens: &[PlacedToken<'_>],
+) -> Result<Option<LostPlace>, AllocError>
+    ensures { IfOk result (λ place. option_map view_lost place
+        ≡ lost 0 wanted.items (placed_tokens tokens.now)) }
+{
+    let mut wanted = wanted;
+    let mut before = 0;
+    while before < tokens.len() {
+        match step(alloc, &tokens[before].token, wanted.as_slice())? {
+            Some(next) => wanted = next,
+            None => return Ok(Some(LostPlace { before, wanted })),
+        }
+        before += 1;
+    }
+    if may_end(wanted.as_slice()) {
+        Ok(None)
+    } else {
+        Ok(Some(LostPlace { before, wanted }))
+    }
+}
+
+/// What a header line is.
+fn wanted_of_header(alloc: Global, header: Header) -> Result<Vec<Wanted>, AllocError>
+    ensures { IfOk result (λ wanted. wanted.items ≡ wanted_of_header header) }
+{
+    let (keyword, rest) = match header {
+        Header::Kind => (Keyword::Kind, Wanted::KindName),
+        Header::Scalars => (Keyword::Scalar, Wanted::Names),
+        Header::Rows => (Keyword::Row, Wanted::Names),
+        Header::Words => (Keyword::Words, Wanted::Names),
+        Header::Views => (Keyword::View, Wanted::Names),
+        Header::Scan => (Keyword::Scan, Wanted::LineNumber),
+        Header::Update => (Keyword::Update, Wanted::LineNumber),
+    };
+    Vec::from_slice(alloc, &[Wanted::Keyword(keyword), rest])
+}
+
+/// What a line of this sort is.
+pub fn wanted_of(alloc: Global, sort: LineSort) -> Result<Vec<Wanted>, AllocError>
+    ensures { IfOk result (λ wanted. wanted.items ≡ wanted_of sort) }
+{
+    let wanted: &[Wanted] = match sort {
+        LineSort::Header(header) => return wanted_of_header(alloc, header),
+        LineSort::Numbered => {
+            &[
+                Wanted::LineNumber,
+                Wanted::Symbol(Symbol::Colon),
+                Wanted::Instruction,
+            ]
+        }
+        LineSort::Shape => &[
+            Wanted::Keyword(Keyword::Shape),
+            Wanted::Count,
+            Wanted::Count,
+        ],
+        LineSort::Item => &[Wanted::Number, Wanted::Act],
+        LineSort::Script => &[Wanted::Number, Wanted::ScriptAct],
+        LineSort::Command => &[Wanted::Command],
+    };
+    Vec::from_slice(alloc, wanted)
+}
+
+/// Where a line of this sort is lost: the first token with which no line of its sort goes on, or
+/// its end; none where it has the form of such a line.
+pub fn lost_in(
+    alloc: Global,
+    sort: LineSort,
+    tokens: &[PlacedToken<'_>],
+) -> Result<Option<LostPlace>, AllocError>
+    ensures { IfOk result (λ place. option_map view_lost place
+        ≡ lost_in sort (placed_tokens tokens.now)) }
+{
+    lost(alloc, wanted_of(alloc, sort)?, tokens)
+}

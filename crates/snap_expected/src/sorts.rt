@@ -1,0 +1,26 @@
+//! The sorts of lines of an input.
+
+/// A header line of a listing.
+#[derive(Clone, Copy, Debug, PartialEq, Eq)]
+pub enum Header {
+    Kind,
+    Scalars,
+    Rows,
+    Words,
+    Views,
+    Scan,
+    Update,
+}
+
+/// A line of a listing, of a schedule, of scripts or of commands.
+#[derive(Clone, Copy, Debug, PartialEq, Eq)]
+pub enum LineSort {
+    Header(Header),
+    /// A line with a number and an instruction.
+    Numbered,
+    /// The first line of a schedule or of scripts.
+    Shape,
+    Item,
+    Script,
+    Command,
+}

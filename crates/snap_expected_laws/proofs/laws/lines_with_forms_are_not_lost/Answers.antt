@@ -1,0 +1,5 @@
+use Rattle.snap_expected_laws.proofs.NotLost.{not_lost}
+use Rattle.snap_expected_laws.proofs.laws.lines_with_forms_are_not_lost.Goals as goal
+
+pub returns : goal.returns
+returns c = not_lost

@@ -1,0 +1,13 @@
+//! The laws of forms and of places at which lines are lost.
+ghost use Rattle.snap_expected_laws.specs.Laws.{NotLostWithForm, NoneGoesOn};
+
+/// A line that has a form of its sort is not lost: a header line, a shape, an item, a line of
+/// scripts or a command.
+pub fn lines_with_forms_are_not_lost()
+    ensures { NotLostWithForm }
+{}
+
+/// No line has a form of its sort that begins with the tokens up to one at which a line is lost.
+pub fn no_line_goes_on_where_one_is_lost()
+    ensures { NoneGoesOn }
+{}

@@ -1,0 +1,6 @@
+//! A line that has a form of its sort is not lost, and none has one that begins with the tokens up to a place where a line is lost.
+#![tactic(auto)]
+
+mod laws;
+
+pub use laws::{lines_with_forms_are_not_lost, no_line_goes_on_where_one_is_lost};

@@ -1,0 +1,3 @@
+pub mod Counts
+pub mod Cuts
+pub mod Joined

@@ -1,0 +1,6 @@
+use Rattle.std.proofs.Common.{◌≡◌, ◌++◌, drop}
+use Rattle.snap_explanation.specs.Spot.{shown}
+use Rattle.snap_explanation.proofs.spot.push_shown.Given as goal
+
+abbrev pub invariant-loop-byte : goal.invariant-loop-byte
+invariant-loop-byte l = l.out.items ++ shown (drop l.byte-index l.bytes) ≡ l.fn.out.items ++ shown l.bytes

@@ -1,0 +1,9 @@
+use Rattle.std.proofs.Common.{◌≡◌, ◌++◌, length}
+use Rattle.snap_explanation.specs.Texts.{expected_words}
+use Rattle.snap_explanation.proofs.texts.push_expected.Given as goal
+
+abbrev pub invariant-loop-rest : goal.invariant-loop-rest
+invariant-loop-rest l = l.out.items ++ expected_words l.rest ≡ l.fn.out.items ++ expected_words l.wanted
+
+abbrev pub decreases-loop-rest : goal.decreases-loop-rest
+decreases-loop-rest l = length l.rest

@@ -1,0 +1,124 @@
+-- Names of a listing's text, and the tokens of a line that a refusal is about.
+use Rattle.std.specs.Prelude.{ℕ, ◌+◌, ◌-◌, Bool, true, false, ◌&&◌, ◌||◌, not, List, [], ◌∷◌, ◌++◌, length, drop, Option, Some, None, nat_eq, nat_le, nat_lt, bytes_eq, codes, if◌then◌else◌}
+use Rattle.std.specs.List.{list_any}
+use Rattle.snap_semantics.specs.Listing.{is_bad_name}
+use Rattle.snap_semantics.specs.ListingForms.{is_reserved}
+use Rattle.snap_semantics.specs.Token.{Token, Identifier, Number, Sign, TextLine}
+use Rattle.snap_expected.specs.Pieces.{PlacedToken}
+use Rattle.snap_semantics.specs.Rules.{or_else}
+use Rattle.snap_expected.specs.Tests.{is_word}
+
+-- the identifiers among tokens
+abbrev pub words_of : List Token → List (List ℕ)
+words_of [] = []
+words_of (Identifier w ∷ ts) = w ∷ words_of ts
+words_of (Number k ∷ ts) = words_of ts
+words_of (Sign m ∷ ts) = words_of ts
+
+abbrev pub words_of_line : Option (List Token) → List (List ℕ)
+words_of_line None = []
+words_of_line (Some ts) = words_of ts
+
+-- the identifiers of the lines before this one, of so many lines at most
+abbrev pub words_before : (line most : ℕ) → List TextLine → List (List ℕ)
+words_before line most [] = []
+words_before line most (l ∷ ls) =
+    if nat_lt 0 most && nat_lt l.number line then words_of_line l.tokens ++ words_before line (most - 1) ls else []
+
+-- how many header lines there are
+abbrev pub header_count : ℕ
+header_count = 7
+
+-- whether a word is one of these
+abbrev pub is_among : List ℕ → List (List ℕ) → Bool
+is_among w ws = list_any (bytes_eq w) ws
+
+-- whether a token is a name that none of these is
+abbrev pub is_unknown : List (List ℕ) → Token → Bool
+is_unknown known (Identifier w) = not (is_reserved w) && not (is_among w known)
+is_unknown known (Number k) = false
+is_unknown known (Sign m) = false
+
+-- token k, from 0
+abbrev pub nth_token : (k : ℕ) → List PlacedToken → Option PlacedToken
+nth_token k [] = None
+nth_token k (t ∷ ts) = if nat_eq k 0 then Some t else nth_token (k - 1) ts
+
+-- the first token that passes a test
+abbrev pub first_such : (Token → Bool) → List PlacedToken → Option PlacedToken
+first_such test [] = None
+first_such test (t ∷ ts) = if test t.token then Some t else first_such test ts
+
+-- a token that may not be declared
+abbrev pub is_bad : Token → Bool
+is_bad (Identifier w) = is_bad_name w
+is_bad (Number k) = false
+is_bad (Sign m) = false
+
+-- a token that is one of these; else what is found behind it, where its word is known too
+abbrev pub again_at : List (List ℕ) → (List (List ℕ) → Option PlacedToken) → PlacedToken → Token → Option PlacedToken
+again_at known later t (Identifier w) = if is_among w known then Some t else later (known ++ (w ∷ []))
+again_at known later t (Number k) = later known
+again_at known later t (Sign m) = later known
+
+-- the first name that one of these or a name before it is
+abbrev pub first_again : List (List ℕ) → List PlacedToken → Option PlacedToken
+first_again known [] = None
+first_again known (t ∷ ts) = again_at known (λ more. first_again more ts) t t.token
+
+-- how many letters at the front of two words are the same
+abbrev pub common_len : List ℕ → List ℕ → ℕ
+common_len [] bs = 0
+common_len (a ∷ more) [] = 0
+common_len (a ∷ more) (b ∷ bs) = if nat_eq a b then common_len more bs + 1 else 0
+
+-- the same but for the first letter: put in, left out, or another one
+abbrev pub is_same_later : List ℕ → List ℕ → Bool
+is_same_later xs ys = bytes_eq (drop 1 xs) (drop 1 ys) || (bytes_eq (drop 1 xs) ys || bytes_eq xs (drop 1 ys))
+
+-- one letter away
+abbrev pub is_near : List ℕ → List ℕ → Bool
+is_near xs ys = is_same_later (drop (common_len xs ys) xs) (drop (common_len xs ys) ys)
+
+-- the first of these that is one letter away and no reserved word
+abbrev pub nearest : List ℕ → List (List ℕ) → Option (List ℕ)
+nearest w [] = None
+nearest w (x ∷ xs) = if is_near w x && not (is_reserved x) then Some x else nearest w xs
+
+-- whether a word leads to a line
+abbrev pub is_leading : Token → Bool
+is_leading t = is_word (codes "goto") t || (is_word (codes "call") t || (is_word (codes "scan") t || is_word (codes "update") t))
+
+abbrev pub is_number : ℕ → Token → Bool
+is_number k (Identifier w) = false
+is_number k (Number l) = nat_eq k l
+is_number k (Sign m) = false
+
+-- the first token, where it is this number
+abbrev pub number_there : ℕ → List PlacedToken → Option PlacedToken
+number_there k [] = None
+number_there k (t ∷ ts) = if is_number k t.token then Some t else None
+
+-- the number of a line to which the word before it leads, where it is k
+abbrev pub first_led : ℕ → List PlacedToken → Option PlacedToken
+first_led k [] = None
+first_led k (t ∷ ts) = or_else (if is_leading t.token then number_there k ts else None) (first_led k ts)
+
+-- whether the first token is this number
+abbrev pub begins_with_number : ℕ → List Token → Bool
+begins_with_number k [] = false
+begins_with_number k (t ∷ ts) = is_number k t
+
+-- whether tokens lead to line k
+abbrev pub leads_to : ℕ → List Token → Bool
+leads_to k [] = false
+leads_to k (t ∷ ts) = (is_leading t && begins_with_number k ts) || leads_to k ts
+
+abbrev pub line_leads_to : ℕ → Option (List Token) → Bool
+line_leads_to k None = false
+line_leads_to k (Some ts) = leads_to k ts
+
+-- the number of the first text line that leads to line k; 0 where there is none
+abbrev pub leading_line : ℕ → List TextLine → ℕ
+leading_line k [] = 0
+leading_line k (l ∷ ls) = if line_leads_to k l.tokens then l.number else leading_line k ls

@@ -1,0 +1,45 @@
+//! What an input consists of, for each thing that the program can be asked for.
+ghost use Rattle.std.specs.Prelude.{◌≡◌};
+ghost use Rattle.snap_explanation.specs.Part.{layout_of};
+
+use snap_subject::Subject;
+use snap_tasks::{Request, Task};
+
+/// The texts behind the listing.
+#[derive(Clone, Copy, Debug, PartialEq, Eq)]
+pub enum Texts {
+    Schedule,
+    ScheduleAndCommands,
+    /// One schedule or more.
+    Schedules,
+    Scripts,
+}
+
+/// What an input consists of.
+#[derive(Clone, Copy, Debug, PartialEq, Eq)]
+pub enum Layout {
+    /// The text of a listing.
+    Listing,
+    /// An image.
+    Image,
+    /// Parts between lines `%`: a listing, unless it is shipped, and texts behind it.
+    Parts(Subject, Texts),
+}
+
+/// What the input consists of where this is asked for.
+pub fn layout_of(request: &Request) -> Layout
+    ensures { result ≡ layout_of request.now }
+{
+    match *request {
+        Request::Do(Task::Check | Task::Lint | Task::Assemble) => Layout::Listing,
+        Request::Do(Task::List | Task::Upgrade) => Layout::Image,
+        Request::Do(Task::Run(subject) | Task::Audit(subject) | Task::Certify(subject)) => {
+            Layout::Parts(subject, Texts::Schedule)
+        }
+        Request::Do(Task::Debug(subject)) => Layout::Parts(subject, Texts::ScheduleAndCommands),
+        Request::Do(Task::Batch(subject) | Task::Survey(subject)) => {
+            Layout::Parts(subject, Texts::Schedules)
+        }
+        Request::Live(subject, _) => Layout::Parts(subject, Texts::Scripts),
+    }
+}

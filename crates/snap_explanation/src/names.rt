@@ -1,0 +1,307 @@
+//! Names of a listing's text, and the tokens of a line that a refusal is about.
+ghost use Rattle.std.specs.Prelude.{◌≡◌, ◌≤◌, ◌++◌, IfOk, OnOk, length, drop, map, option_map};
+ghost use Rattle.snap_semantics.specs.Token.{text_lines};
+ghost use Rattle.snap_text.specs.Tokens.{view_token, view_tokens};
+ghost use Rattle.snap_expected.specs.Steps.{view_placed_token};
+ghost use Rattle.snap_explanation.specs.Names.{words_of, words_before, is_among, is_unknown, nth_token, first_such, is_bad, first_again, common_len, is_same_later, is_near, nearest, is_leading, is_number, number_there, first_led, begins_with_number, leads_to, line_leads_to, leading_line};
+
+use snap_expected::{PlacedToken, is_word};
+use snap_listing_core::is_reserved;
+use snap_text::{TextLines, Token};
+use std::alloc::{AllocError, Global};
+
+/// How many header lines a listing has.
+const HEADER_LINES: usize = 7;
+
+/// The most letters of a name.
+const NAME_LETTERS: usize = 8;
+
+/// The identifiers of the header lines of a listing's text before this line.
+pub fn words_before(alloc: Global, line: u64, text: &[u8]) -> Result<Vec<&[u8]>, AllocError>
+    ensures { IfOk result (λ words. map (λ w. w.now) words.items
+        ≡ words_before line 7 (text_lines text.now)) }
+{
+    let mut words = Vec::new(alloc);
+    let mut lines = TextLines::new(text);
+    let mut left = HEADER_LINES;
+    while left > 0 {
+        match lines.next_line(alloc)? {
+            Some(found) if found.number < line => {
+                if let Some(tokens) = &found.tokens {
+                    push_words(&mut words, tokens.as_slice())?;
+                }
+            }
+            _ => return Ok(words),
+        }
+        left -= 1;
+    }
+    Ok(words)
+}
+
+/// Adds the identifiers among tokens.
+fn push_words<'a>(words: &mut Vec<&'a [u8]>, tokens: &[Token<'a>]) -> Result<(), AllocError>
+    ensures { OnOk result (map (λ w. w.now) words.new.items
+        ≡ map (λ w. w.now) words.old.items ++ words_of (view_tokens tokens.now)) }
+{
+    let mut rest = tokens;
+    while let [first, behind @ ..] = rest {
+        if let Token::Identifier(word) = first {
+            words.push(*word)?;
+        }
+        rest = behind;
+    }
+    Ok(())
+}
+
+/// Token `index`, from 0.
+pub fn nth_token<'a>(index: usize, tokens: &[PlacedToken<'a>]) -> Option<PlacedToken<'a>>
+    ensures { option_map view_placed_token result
+        ≡ nth_token index (map view_placed_token tokens.now) }
+{
+    let mut left = index;
+    let mut rest = tokens;
+    while let [first, behind @ ..] = rest {
+        if left == 0 {
+            return Some(*first);
+        }
+        left -= 1;
+        rest = behind;
+    }
+    None
+}
+
+/// Whether a word is one of these.
+fn is_among(word: &[u8], words: &[&[u8]]) -> bool
+    ensures { result ≡ is_among word.now (map (λ w. w.now) words.now) }
+{
+    let mut rest = words;
+    while let [first, behind @ ..] = rest {
+        if word == *first {
+            return true;
+        }
+        rest = behind;
+    }
+    false
+}
+
+/// Whether a token is a name that none of these is.
+fn is_unknown(known: &[&[u8]], token: &Token<'_>) -> bool
+    ensures { result ≡ is_unknown (map (λ w. w.now) known.now) (view_token token.now) }
+{
+    match token {
+        Token::Identifier(word) => !is_reserved(word) && !is_among(word, known),
+        _ => false,
+    }
+}
+
+/// Whether a token may not be declared as a name.
+fn is_bad(token: &Token<'_>) -> bool
+    ensures { result ≡ is_bad (view_token token.now) }
+{
+    match token {
+        Token::Identifier(word) => word.len() > NAME_LETTERS || is_reserved(word),
+        _ => false,
+    }
+}
+
+/// The first token that is a name and none of these.
+pub fn first_unknown<'a>(known: &[&[u8]], tokens: &[PlacedToken<'a>]) -> Option<PlacedToken<'a>>
+    ensures { option_map view_placed_token result
+        ≡ first_such (is_unknown (map (λ w. w.now) known.now)) (map view_placed_token tokens.now) }
+{
+    let mut rest = tokens;
+    while let [first, behind @ ..] = rest {
+        if is_unknown(known, &first.token) {
+            return Some(*first);
+        }
+        rest = behind;
+    }
+    None
+}
+
+/// The first token that may not be declared as a name.
+pub fn first_bad<'a>(tokens: &[PlacedToken<'a>]) -> Option<PlacedToken<'a>>
+    ensures { option_map view_placed_token result
+        ≡ first_such is_bad (map view_placed_token tokens.now) }
+{
+    let mut rest = tokens;
+    while let [first, behind @ ..] = rest {
+        if is_bad(&first.token) {
+            return Some(*first);
+        }
+        rest = behind;
+    }
+    None
+}
+
+/// The first name that is one of these, or stands before.
+pub fn first_again<'a>(
+    known: Vec<&'a [u8]>,
+    tokens: &[PlacedToken<'a>],
+) -> Result<Option<PlacedToken<'a>>, AllocError>
+    ensures { IfOk result (λ found. option_map view_placed_token found
+        ≡ first_again (map (λ w. w.now) known.entry.items) (map view_placed_token tokens.now)) }
+{
+    let mut known = known;
+    let mut rest = tokens;
+    while let [first, behind @ ..] = rest {
+        if let Token::Identifier(word) = first.token {
+            if is_among(word, known.as_slice()) {
+                return Ok(Some(*first));
+            }
+            known.push(word)?;
+        }
+        rest = behind;
+    }
+    Ok(None)
+}
+
+/// How many letters at the front of two words are the same.
+fn common_len(one: &[u8], other: &[u8]) -> usize
+    ensures value { result ≡ common_len one.now other.now }
+    ensures within { (result ≤ length one.now) × (result ≤ length other.now) }
+{
+    let mut len = 0;
+    let mut left = one;
+    let mut right = other;
+    while let [first, behind @ ..] = left {
+        match right {
+            [] => return len,
+            [second, later @ ..] => {
+                if *first != *second {
+                    return len;
+                }
+                len += 1;
+                left = behind;
+                right = later;
+            }
+        }
+    }
+    len
+}
+
+/// A word without its first letter.
+fn later(word: &[u8]) -> &[u8]
+    ensures { result.now ≡ drop 1 word.now }
+{
+    match word {
+        [] => word,
+        [_, rest @ ..] => rest,
+    }
+}
+
+/// Whether two words are the same but for the first letter: put in, left out, or another one.
+fn is_same_later(one: &[u8], other: &[u8]) -> bool
+    ensures { result ≡ is_same_later one.now other.now }
+{
+    later(one) == later(other) || later(one) == other || one == later(other)
+}
+
+/// Whether two words are one letter away.
+fn is_near(one: &[u8], other: &[u8]) -> bool
+    ensures { result ≡ is_near one.now other.now }
+{
+    let len = common_len(one, other);
+    is_same_later(&one[len..], &other[len..])
+}
+
+/// The first of these words that is one letter away and not reserved.
+pub fn nearest<'a>(word: &[u8], words: &[&'a [u8]]) -> Option<&'a [u8]>
+    ensures { option_map (λ w. w.now) result ≡ nearest word.now (map (λ w. w.now) words.now) }
+{
+    let mut rest = words;
+    while let [first, behind @ ..] = rest {
+        if is_near(word, first) && !is_reserved(first) {
+            return Some(*first);
+        }
+        rest = behind;
+    }
+    None
+}
+
+/// Whether a word leads to a line.
+fn is_leading(token: &Token<'_>) -> bool
+    ensures { result ≡ is_leading (view_token token.now) }
+{
+    is_word(b"goto", token)
+        || is_word(b"call", token)
+        || is_word(b"scan", token)
+        || is_word(b"update", token)
+}
+
+/// Whether a token is this number.
+fn is_number(number: u64, token: &Token<'_>) -> bool
+    ensures { result ≡ is_number number (view_token token.now) }
+{
+    match token {
+        Token::Number(found) => number == *found,
+        _ => false,
+    }
+}
+
+/// The first token, where it is this number.
+fn number_there<'a>(number: u64, tokens: &[PlacedToken<'a>]) -> Option<PlacedToken<'a>>
+    ensures { option_map view_placed_token result
+        ≡ number_there number (map view_placed_token tokens.now) }
+{
+    match tokens {
+        [first, ..] if is_number(number, &first.token) => Some(*first),
+        _ => None,
+    }
+}
+
+/// The number of a line to which the word before it leads, where it is this one.
+pub fn first_led<'a>(number: u64, tokens: &[PlacedToken<'a>]) -> Option<PlacedToken<'a>>
+    ensures { option_map view_placed_token result
+        ≡ first_led number (map view_placed_token tokens.now) }
+{
+    let mut rest = tokens;
+    while let [first, behind @ ..] = rest {
+        if is_leading(&first.token) {
+            if let Some(found) = number_there(number, behind) {
+                return Some(found);
+            }
+        }
+        rest = behind;
+    }
+    None
+}
+
+/// Whether the first token is this number.
+fn begins_with_number(number: u64, tokens: &[Token<'_>]) -> bool
+    ensures { result ≡ begins_with_number number (view_tokens tokens.now) }
+{
+    match tokens {
+        [] => false,
+        [first, ..] => is_number(number, first),
+    }
+}
+
+/// Whether tokens lead to this line.
+fn leads_to(number: u64, tokens: &[Token<'_>]) -> bool
+    ensures { result ≡ leads_to number (view_tokens tokens.now) }
+{
+    let mut rest = tokens;
+    while let [first, behind @ ..] = rest {
+        if is_leading(first) && begins_with_number(number, behind) {
+            return true;
+        }
+        rest = behind;
+    }
+    false
+}
+
+/// The number of the first text line that leads to this line; 0 where there is none.
+pub fn leading_line(alloc: Global, number: u64, text: &[u8]) -> Result<u64, AllocError>
+    ensures { IfOk result (λ line. line ≡ leading_line number (text_lines text.now)) }
+{
+    let mut lines = TextLines::new(text);
+    while let Some(line) = lines.next_line(alloc)? {
+        if let Some(tokens) = &line.tokens {
+            if leads_to(number, tokens.as_slice()) {
+                return Ok(line.number);
+            }
+        }
+    }
+    Ok(0)
+}

@@ -1,0 +1,279 @@
+//! What is drawn of a step.
+ghost use Rattle.std.specs.Prelude.{◌≡◌, ◌≤◌, ◌<◌, ◌+◌, ◌++◌, ◌∷◌, [], IfOk, IfSome, OnOk, drop, get_or, length, option_map};
+ghost use Rattle.snap_shapes.specs.Searches.{last_before};
+ghost use Rattle.snap_shapes.specs.declared.wanted.Wanted.TheVariants as wanted;
+ghost use Rattle.snap_svg.specs.declared.shape.Shape.TheVariants as shape;
+ghost use Rattle.snap_shapes.specs.Shapes.{
+  bar_of,
+  embedded_of,
+  end_by,
+  end_of,
+  item_or,
+  loan_from,
+  loan_of,
+  mark_of,
+  scan_before,
+  shapes_at,
+  shapes_to,
+  source_of,
+  step_at,
+  stretch_of,
+  write_before,
+  written_at,
+};
+
+use crate::wanted::{Wanted, first_from, last_before};
+use snap_semantics::Op;
+use snap_svg::{Bar, End, Loan, Mark, Read, Shape, Span, Stretch, Write, Written};
+use snap_trace::{Act, Step};
+use snap_words::View;
+use std::alloc::{AllocError, Global};
+
+fn mark_of(step: &Step) -> Mark
+    ensures { result ≡ mark_of step.now }
+{
+    Mark {
+        process: step.process,
+        item: step.item,
+        line: step.line,
+    }
+}
+
+/// The item of a step, and the last item where there is none.
+fn item_or(last: u64, step: Option<&Step>) -> u64
+    ensures { result ≡ item_or last (option_map (λ s. s.now) step.entry) }
+{
+    match step {
+        Some(step) => step.item,
+        None => last,
+    }
+}
+
+/// How an operation ended.
+fn end_by(alloc: Global, act: &Act) -> Result<End, AllocError>
+    ensures { IfOk result (λ e. e ≡ end_by act.now) }
+{
+    match act {
+        Act::Answer(view) => Ok(End::Answer(view.copy(alloc)?)),
+        Act::Done => Ok(End::Done),
+        Act::Crash => Ok(End::Crash),
+        Act::Trap => Ok(End::Trap),
+        _ => Ok(End::Open),
+    }
+}
+
+fn end_of(alloc: Global, step: Option<&Step>) -> Result<End, AllocError>
+    ensures { IfOk result (λ e. e ≡ end_of (option_map (λ s. s.now) step.entry)) }
+{
+    match step {
+        Some(step) => end_by(alloc, &step.act),
+        None => Ok(End::Open),
+    }
+}
+
+/// The operation that the step before a place called.
+fn bar_of(
+    alloc: Global,
+    steps: &[Step],
+    from: usize,
+    step: &Step,
+    op: Op,
+) -> Result<Bar, AllocError>
+    ensures { IfOk result (λ b. b ≡ bar_of (length steps.now) step.now op (drop from steps.now)) }
+{
+    let found = first_from(steps, from, Wanted::End(step.process));
+    Ok(Bar {
+        process: step.process,
+        op,
+        from: step.item,
+        to: item_or(steps.len() as u64, found),
+        end: end_of(alloc, found)?,
+    })
+}
+
+/// The scan of an update that the step before a place began.
+fn embedded_of(steps: &[Step], from: usize, step: &Step) -> Span
+    ensures { result ≡ embedded_of (length steps.now) step.now (drop from steps.now) }
+{
+    let found = first_from(steps, from, Wanted::Leave(step.process));
+    Span {
+        process: step.process,
+        from: step.item,
+        to: item_or(steps.len() as u64, found),
+    }
+}
+
+/// The values from an item on, up to the next write from a place on.
+pub(crate) fn stretch_of(steps: &[Step], from: usize, item: u64, values: View) -> Shape
+    ensures { result ≡ stretch_of (length steps.now) item values (drop from steps.now) }
+{
+    let found = first_from(steps, from, Wanted::Write);
+    Shape::Values(Stretch {
+        from: item,
+        to: item_or(steps.len() as u64, found),
+        values,
+    })
+}
+
+/// Who wrote at a place, if it is one.
+fn written_at(steps: &[Step], place: Option<usize>) -> Option<Written>
+    requires { IfSome place (λ k. k < length steps.now) }
+    ensures { result ≡ written_at steps.now place }
+{
+    let step = &steps[place?];
+    Some(Written {
+        process: step.process,
+        item: step.item,
+    })
+}
+
+/// The last place before one at which a word was written.
+fn write_before(steps: &[Step], word: u64, place: Option<usize>) -> Option<usize>
+    requires { IfSome place (λ k. k < length steps.now) }
+    ensures place { result ≡ write_before steps.now word place }
+    ensures within { IfSome result (λ k. k < length steps.now) }
+{
+    last_before(steps, place?, Wanted::WriteOf(word))
+}
+
+/// The place at which a view was written that a step takes.
+fn source_of(steps: &[Step], k: usize, step: &Step) -> Option<usize>
+    requires { k ≤ length steps.now }
+    ensures place { result ≡ source_of steps.now k step.now }
+    ensures within { IfSome result (λ k. k < length steps.now) }
+{
+    match &step.act {
+        Act::Borrow(j) => {
+            let read = last_before(steps, k, Wanted::ReadOf(step.process, *j));
+            write_before(steps, *j, read)
+        }
+        Act::Look(j) => last_before(steps, k, Wanted::Published(*j)),
+        _ => None,
+    }
+}
+
+/// The place at which the scan ended whose view was written there.
+fn scan_before(steps: &[Step], place: Option<usize>) -> Option<usize>
+    requires { IfSome place (λ k. k < length steps.now) }
+    ensures place { result ≡ scan_before steps.now place }
+    ensures within { IfSome result (λ k. k < length steps.now) }
+{
+    let k = place?;
+    last_before(steps, k, Wanted::Leave(steps[k].process))
+}
+
+/// Adds an arrow from the lender's scan to the step that takes its view.
+fn push_loan(
+    shapes: &mut Vec<Shape>,
+    steps: &[Step],
+    step: &Step,
+    place: Option<usize>,
+) -> Result<(), AllocError>
+    requires { IfSome place (λ k. k < length steps.now) }
+    ensures { OnOk result (shapes.new.items ≡ shapes.old.items ++ loan_from steps.now step.now place) }
+{
+    let Some(k) = place else {
+        return Ok(());
+    };
+    shapes.push(Shape::Loan(Loan {
+        lender: steps[k].process,
+        ended: steps[k].item,
+        taken: mark_of(step),
+    }))?;
+    Ok(())
+}
+
+/// Adds an arrow to the step at a place, where it takes the view of a scan.
+fn push_loan_of(
+    shapes: &mut Vec<Shape>,
+    steps: &[Step],
+    k: usize,
+    step: &Step,
+) -> Result<(), AllocError>
+    requires { k ≤ length steps.now }
+    ensures { OnOk result (shapes.new.items ≡ shapes.old.items ++ loan_of steps.now k step.now) }
+{
+    let place = scan_before(steps, source_of(steps, k, step));
+    push_loan(shapes, steps, step, place)
+}
+
+/// Adds the write of a word, behind the values that it leaves.
+fn push_write(
+    alloc: Global,
+    shapes: &mut Vec<Shape>,
+    steps: &[Step],
+    from: usize,
+    step: &Step,
+    word: u64,
+    values: &View,
+) -> Result<(), AllocError>
+    ensures { OnOk result (shapes.new.items ≡ shapes.old.items
+        ++ stretch_of (length steps.now) step.now.item values.now (drop from steps.now)
+        ∷ shape.Write (record { mark = mark_of step.now; word = word; values = values.now }) ∷ []) }
+{
+    shapes.push(stretch_of(steps, from, step.item, values.copy(alloc)?))?;
+    shapes.push(Shape::Write(Write {
+        mark: mark_of(step),
+        word,
+        values: values.copy(alloc)?,
+    }))?;
+    Ok(())
+}
+
+/// The read of a word by the step at a place.
+fn read_of(steps: &[Step], k: usize, step: &Step, word: u64) -> Shape
+    requires { k ≤ length steps.now }
+    ensures { result ≡ shape.Read (record {
+      mark = mark_of step.now;
+      word = word;
+      written = written_at steps.now (last_before (wanted.WriteOf word) steps.now k);
+    }) }
+{
+    let place = last_before(steps, k, Wanted::WriteOf(word));
+    Shape::Read(Read {
+        mark: mark_of(step),
+        word,
+        written: written_at(steps, place),
+    })
+}
+
+/// Adds what is drawn of the step at a place.
+#[tactic(auto, unfolding(crate::specs::Shapes::shapes_at))]
+fn push_shapes_at(
+    alloc: Global,
+    shapes: &mut Vec<Shape>,
+    steps: &[Step],
+    k: usize,
+) -> Result<(), AllocError>
+    requires { k < length steps.now }
+    ensures { OnOk result (shapes.new.items ≡ shapes.old.items ++ shapes_at steps.now k) }
+{
+    let step = &steps[k];
+    match &step.act {
+        Act::Call(op) => shapes.push(Shape::Operation(bar_of(alloc, steps, k + 1, step, *op)?))?,
+        Act::Enter => shapes.push(Shape::Embedded(embedded_of(steps, k + 1, step)))?,
+        Act::Write(word, values) => push_write(alloc, shapes, steps, k + 1, step, *word, values)?,
+        Act::Read(word) => shapes.push(read_of(steps, k, step, *word))?,
+        Act::Test(passed) => shapes.push(Shape::Test(mark_of(step), *passed))?,
+        Act::Trap => shapes.push(Shape::Trap(mark_of(step)))?,
+        Act::Crash => shapes.push(Shape::Crash(mark_of(step)))?,
+        Act::Borrow(_) => push_loan_of(shapes, steps, k, step)?,
+        Act::Look(_) => push_loan_of(shapes, steps, k, step)?,
+        _ => {}
+    }
+    Ok(())
+}
+
+/// Adds what is drawn of all steps.
+pub(crate) fn push_steps(
+    alloc: Global,
+    shapes: &mut Vec<Shape>,
+    steps: &[Step],
+) -> Result<(), AllocError>
+    ensures { OnOk result (shapes.new.items ≡ shapes.old.items ++ shapes_to steps.now (length steps.now)) }
+{
+    for k in 0..steps.len() {
+        push_shapes_at(alloc, shapes, steps, k)?;
+    }
+    Ok(())
+}

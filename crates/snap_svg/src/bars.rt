@@ -1,0 +1,271 @@
+//! The texts of what lasts: values, operations, and scans with their points.
+ghost use Rattle.std.specs.Prelude.{◌≡◌, ◌++◌, ◌≤◌, OnOk};
+ghost use Rattle.snap_semantics.specs.Report.{op_text};
+ghost use Rattle.snap_svg.specs.ShapeText.{
+  bar_box,
+  bar_class,
+  bar_label,
+  bar_span,
+  bar_text,
+  bar_words,
+  embedded_text,
+  end_text,
+  none_box,
+  none_text,
+  point_text,
+  point_title,
+  point_words,
+  stretch_box,
+  stretch_text,
+  stretch_title,
+  values_words,
+};
+
+use crate::elements::{
+    BOX_BODY, box_head, edges_text, group_head, line_text, path_head, words_head,
+};
+use crate::marks::span_text;
+use crate::shape::{Bar, End, Point, Span, Stretch};
+use crate::window::{Window, width_of, y_of};
+use snap_semantics::Op;
+use snap_text::{push_number, push_numbers, push_text};
+use std::alloc::AllocError;
+
+/// An operation.
+#[tactic(auto, using(snap_text::proofs::Texts::joined))]
+pub fn op_text(out: &mut Vec<u8>, op: Op) -> Result<(), AllocError>
+    ensures { OnOk result (out.new.items ≡ out.old.items ++ op_text op) }
+{
+    match op {
+        Op::Scan => push_text(out, b"scan"),
+        Op::Update { word, value } => {
+            push_text(out, b"update ")?;
+            push_number(out, word)?;
+            push_text(out, b" ")?;
+            push_number(out, value)
+        }
+    }
+}
+
+/// The least width of a box that has words.
+const LEAST_WORDS: u64 = 22;
+
+/// What is said of values.
+#[tactic(auto, using(snap_text::proofs::Texts::joined), unfolding(crate::specs::ShapeText::stretch_title))]
+fn stretch_title(out: &mut Vec<u8>, stretch: &Stretch) -> Result<(), AllocError>
+    ensures { OnOk result (out.new.items ≡ out.old.items ++ stretch_title stretch.now) }
+{
+    push_text(out, b"values")?;
+    push_numbers(out, stretch.values.as_slice())?;
+    push_text(out, b" from item ")?;
+    push_number(out, stretch.from)?;
+    push_text(out, b" to item ")?;
+    push_number(out, stretch.to)
+}
+
+/// Values, where there is room for them.
+#[tactic(auto, using(snap_text::proofs::Texts::joined), unfolding(crate::specs::ShapeText::values_words))]
+fn values_words(out: &mut Vec<u8>, width: u64, values: &[u64]) -> Result<(), AllocError>
+    ensures { OnOk result (out.new.items ≡ out.old.items ++ values_words width values.now) }
+{
+    if width < LEAST_WORDS {
+        return Ok(());
+    }
+    words_head(out, b"state", 1, 22)?;
+    push_numbers(out, values)?;
+    push_text(out, b"</text>")
+}
+
+/// The values from an item on, in a box.
+#[tactic(auto, using(snap_text::proofs::Texts::joined), unfolding(crate::specs::ShapeText::stretch_box))]
+fn stretch_box(out: &mut Vec<u8>, stretch: &Stretch, x: u64, width: u64) -> Result<(), AllocError>
+    ensures { OnOk result (out.new.items ≡ out.old.items ++ stretch_box stretch.now x width) }
+{
+    box_head(out, b"values", x, 84, width, 34)?;
+    stretch_title(out, stretch)?;
+    push_text(out, BOX_BODY)?;
+    values_words(out, width, stretch.values.as_slice())?;
+    push_text(out, b"</svg>\n")
+}
+
+/// The values from an item on.
+#[tactic(auto, unfolding(crate::specs::ShapeText::stretch_text))]
+pub(crate) fn stretch_text(
+    out: &mut Vec<u8>,
+    window: &Window,
+    stretch: &Stretch,
+) -> Result<(), AllocError>
+    ensures { OnOk result (out.new.items ≡ out.old.items ++ stretch_text window.now stretch.now) }
+{
+    let x = window.x_of(stretch.from);
+    stretch_box(out, stretch, x, width_of(x, window.x_of(stretch.to)))
+}
+
+/// What came of an operation.
+#[tactic(auto, using(snap_text::proofs::Texts::joined), unfolding(crate::specs::ShapeText::end_text))]
+fn end_text(out: &mut Vec<u8>, end: &End) -> Result<(), AllocError>
+    ensures { OnOk result (out.new.items ≡ out.old.items ++ end_text end.now) }
+{
+    match end {
+        End::Answer(view) => {
+            push_text(out, b" &#8594;")?;
+            push_numbers(out, view.as_slice())
+        }
+        End::Done => Ok(()),
+        End::Crash => push_text(out, b" crashed"),
+        End::Trap => push_text(out, b" trapped"),
+        End::Open => push_text(out, b" .."),
+    }
+}
+
+/// An operation and what came of it.
+#[tactic(auto, using(snap_text::proofs::Texts::joined), unfolding(crate::specs::ShapeText::bar_words))]
+fn bar_words(out: &mut Vec<u8>, bar: &Bar) -> Result<(), AllocError>
+    ensures { OnOk result (out.new.items ≡ out.old.items ++ bar_words bar.now) }
+{
+    op_text(out, bar.op)?;
+    end_text(out, &bar.end)
+}
+
+/// An operation and what came of it, where there is room for it.
+#[tactic(auto, using(snap_text::proofs::Texts::joined), unfolding(crate::specs::ShapeText::bar_label))]
+fn bar_label(out: &mut Vec<u8>, width: u64, bar: &Bar) -> Result<(), AllocError>
+    ensures { OnOk result (out.new.items ≡ out.old.items ++ bar_label width bar.now) }
+{
+    if width < LEAST_WORDS {
+        return Ok(());
+    }
+    words_head(out, b"words", 5, 17)?;
+    bar_words(out, bar)?;
+    push_text(out, b"</text>")
+}
+
+/// The class of an operation.
+fn bar_class(op: Op) -> &'static [u8]
+    ensures { result.now ≡ bar_class op }
+{
+    match op {
+        Op::Scan => b"scan",
+        Op::Update { .. } => b"update",
+    }
+}
+
+/// An operation, in a box.
+#[tactic(auto, using(snap_text::proofs::Texts::joined), unfolding(crate::specs::ShapeText::bar_box))]
+fn bar_box(out: &mut Vec<u8>, bar: &Bar, x: u64, width: u64) -> Result<(), AllocError>
+    ensures { OnOk result (out.new.items ≡ out.old.items ++ bar_box bar.now x width) }
+{
+    let span = Span {
+        process: bar.process,
+        from: bar.from,
+        to: bar.to,
+    };
+    box_head(out, bar_class(bar.op), x, y_of(bar.process) + 6, width, 44)?;
+    span_text(out, span)?;
+    bar_words(out, bar)?;
+    push_text(out, BOX_BODY)?;
+    bar_label(out, width, bar)?;
+    push_text(out, b"</svg>\n")
+}
+
+/// An operation.
+#[tactic(auto, unfolding(crate::specs::ShapeText::bar_text))]
+pub(crate) fn bar_text(out: &mut Vec<u8>, window: &Window, bar: &Bar) -> Result<(), AllocError>
+    ensures { OnOk result (out.new.items ≡ out.old.items ++ bar_text window.now bar.now) }
+{
+    let x = window.x_before(bar.from);
+    bar_box(out, bar, x, width_of(x, window.x_of(bar.to)))
+}
+
+/// A scan within an update.
+#[tactic(auto, using(snap_text::proofs::Texts::joined), unfolding(crate::specs::ShapeText::embedded_text))]
+pub(crate) fn embedded_text(
+    out: &mut Vec<u8>,
+    window: &Window,
+    span: Span,
+) -> Result<(), AllocError>
+    ensures { OnOk result (out.new.items ≡ out.old.items ++ embedded_text window.now span) }
+{
+    let x = window.x_before(span.from);
+    let width = width_of(x, window.x_of(span.to));
+    box_head(out, b"inner", x, y_of(span.process) + 30, width, 18)?;
+    span_text(out, span)?;
+    push_text(out, b"the scan of an update")?;
+    push_text(out, BOX_BODY)?;
+    push_text(out, b"</svg>\n")
+}
+
+/// What is said of a point.
+#[tactic(auto, using(snap_text::proofs::Texts::joined), unfolding(crate::specs::ShapeText::point_title))]
+fn point_title(out: &mut Vec<u8>, point: &Point) -> Result<(), AllocError>
+    ensures { OnOk result (out.new.items ≡ out.old.items ++ point_title point.now) }
+{
+    span_text(out, point.scan)?;
+    push_text(out, b"a scan with its point after item ")?;
+    push_number(out, point.item)?;
+    push_text(out, b", values")?;
+    push_numbers(out, point.values.as_slice())?;
+    push_text(out, b", double collects ")?;
+    push_number(out, point.collects)?;
+    push_text(out, b"</title>")
+}
+
+/// The state of a point, where there is room for it.
+#[tactic(auto, using(snap_text::proofs::Texts::joined), unfolding(crate::specs::ShapeText::point_words))]
+fn point_words(out: &mut Vec<u8>, window: &Window, point: &Point) -> Result<(), AllocError>
+    ensures { OnOk result (out.new.items ≡ out.old.items ++ point_words window.now point.now) }
+{
+    if window.is_thin() {
+        return Ok(());
+    }
+    words_head(out, b"seen", window.x_of(point.item), 78)?;
+    push_numbers(out, point.values.as_slice())?;
+    push_text(out, b"</text>")
+}
+
+/// The point of a scan.
+#[tactic(auto, using(snap_text::proofs::Texts::joined), unfolding(crate::specs::ShapeText::point_text))]
+pub(crate) fn point_text(
+    out: &mut Vec<u8>,
+    window: &Window,
+    point: &Point,
+) -> Result<(), AllocError>
+    ensures { OnOk result (out.new.items ≡ out.old.items ++ point_text window.now point.now) }
+{
+    let x = window.x_of(point.item);
+    group_head(out, b"point")?;
+    point_title(out, point)?;
+    line_text(out, b"drop", x, 118, x, y_of(point.scan.process) + 6)?;
+    path_head(out, b"diamond", x, 106, b"l9 12-9 12-9-12z")?;
+    push_text(out, b"</title></path>")?;
+    point_words(out, window, point)?;
+    push_text(out, b"</g>\n")
+}
+
+/// A scan without a point, crossed out.
+#[tactic(auto, using(snap_text::proofs::Texts::joined), unfolding(crate::specs::ShapeText::none_box))]
+fn none_box(out: &mut Vec<u8>, span: Span, x: u64, y: u64, width: u64) -> Result<(), AllocError>
+    requires y { 4 ≤ y }
+    requires few { (y ≤ 1000000000000) × (x ≤ 1570) × (width ≤ 1570) }
+    ensures { OnOk result (out.new.items ≡ out.old.items ++ none_box span x y width) }
+{
+    group_head(out, b"none")?;
+    span_text(out, span)?;
+    push_text(out, b"a scan without a point</title><rect")?;
+    edges_text(out, x, y, width, 44)?;
+    push_text(out, b"/>")?;
+    line_text(out, b"bar", x, y, x + width, y + 44)?;
+    line_text(out, b"bar", x, y + 44, x + width, y)?;
+    words_head(out, b"no", x, y - 4)?;
+    push_text(out, b"point none</text></g>\n")
+}
+
+/// A scan without a point.
+#[tactic(auto, unfolding(crate::specs::ShapeText::none_text))]
+pub(crate) fn none_text(out: &mut Vec<u8>, window: &Window, span: Span) -> Result<(), AllocError>
+    ensures { OnOk result (out.new.items ≡ out.old.items ++ none_text window.now span) }
+{
+    let x = window.x_before(span.from);
+    let width = width_of(x, window.x_of(span.to));
+    none_box(out, span, x, y_of(span.process) + 6, width)
+}

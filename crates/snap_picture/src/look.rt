@@ -9,7 +9,7 @@ text{font:15px system-ui,\"DejaVu Sans\",sans-serif;fill:var(--ink)}\n\
 .title{font-size:20px;font-weight:bold}\n\
 .counts,.number{fill:var(--soft)}\n\
 .number,.seen,.no{text-anchor:middle}\n\
-.no{text-anchor:start;font-weight:bold;fill:var(--red)}\n\
+.no{text-anchor:start;transform:translate(6px,0);font-weight:bold;fill:var(--red);stroke:var(--paper);stroke-width:5;paint-order:stroke}\n\
 .seen{font-weight:bold;fill:var(--mark)}\n\
 .words,.state{fill:#000}\n\
 .paper{fill:var(--paper)}\n\
@@ -29,7 +29,7 @@ text{font:15px system-ui,\"DejaVu Sans\",sans-serif;fill:var(--ink)}\n\
 .tip{fill:#cc79a7}\n\
 .drop{stroke:var(--mark);stroke-width:2;stroke-dasharray:5 4;fill:none}\n\
 .diamond{fill:var(--mark);stroke:var(--paper);stroke-width:1.5}\n\
-.none rect{fill:url(#hatch);stroke:var(--red);stroke-width:3}\n\
+.none rect{fill:url(#hatch);fill-opacity:.4;stroke:var(--red);stroke-width:4}\n\
 .bar{stroke:var(--red);stroke-width:4;fill:none}\n\
 .low{stop-color:var(--pale-scan)}\n\
 .lower{stop-color:var(--pale-update)}\n\
@@ -50,7 +50,7 @@ pub const LEGEND: &[u8] = b"\
 <svg class=\"update\" x=\"240\" width=\"60\" height=\"26\"><rect width=\"100%\" height=\"100%\"/></svg><text x=\"310\" y=\"19\">update of a word to a value</text>\n\
 <svg class=\"inner\" x=\"530\" width=\"60\" height=\"26\"><rect width=\"100%\" height=\"100%\"/></svg><text x=\"600\" y=\"19\">scan of an update</text>\n\
 <svg class=\"values\" x=\"760\" width=\"60\" height=\"26\"><rect width=\"100%\" height=\"100%\"/></svg><text x=\"830\" y=\"19\">values of the words</text>\n\
-<path class=\"drop\" d=\"M1010 24V40\"/><path class=\"diamond\" d=\"M1010 2l9 12-9 12-9-12z\"/><text x=\"1028\" y=\"19\">point of a scan, with the state that it answers</text>\n\
+<path class=\"diamond\" d=\"M1010 2l9 12-9 12-9-12z\"/><text x=\"1028\" y=\"19\">point of a scan, with the state that it answers</text>\n\
 <path class=\"read\" d=\"M5 46v10m6-10v10m6-10v10\"/><text x=\"30\" y=\"57\">reads: a collect</text>\n\
 <path class=\"pass\" d=\"M185 52m-5 0l4 5 7-11\"/><text x=\"200\" y=\"57\">test passes</text>\n\
 <path class=\"fail\" d=\"M310 52m-4-4l8 8m0-8l-8 8\"/><text x=\"325\" y=\"57\">test fails</text>\n\

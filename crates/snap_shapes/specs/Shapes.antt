@@ -75,13 +75,13 @@ write_before ss j (Some k) = last_before (wanted.WriteOf j) ss k
 
 -- The place at which a view was written that step k takes: beside the word that its process had read last from register j, or
 -- into register v[j].
+abbrev pub source_by : List Step → ℕ → Step → Act → Option ℕ
+source_by ss k s (act.Borrow j) = write_before ss j (last_before (wanted.ReadOf s.process j) ss k)
+source_by ss k s (act.Look j) = last_before (wanted.Published j) ss k
+source_by ss k s _ = None
+
 abbrev pub source_of : List Step → ℕ → Step → Option ℕ
-source_of ss k s = by_act s.act
-  where
-    by_act : Act → Option ℕ
-    by_act (act.Borrow j) = write_before ss j (last_before (wanted.ReadOf s.process j) ss k)
-    by_act (act.Look j) = last_before (wanted.Published j) ss k
-    by_act _ = None
+source_of ss k s = source_by ss k s s.act
 
 -- the place at which the scan ended whose view was written there
 abbrev pub scan_before : List Step → Option ℕ → Option ℕ

@@ -1,5 +1,5 @@
 -- The text around what is drawn: title, lanes, numbers of items, legend.
-use Rattle.std.specs.Prelude.{ℕ, zero, suc, ◌+◌, ◌-◌, ◌*◌, ◌/◌, List, [], ◌∷◌, ◌++◌, Option, Some, None, codes, decimal, nat_le, if◌then◌else◌}
+use Rattle.std.specs.Prelude.{ℕ, zero, suc, ◌+◌, ◌-◌, ◌%◌, List, [], ◌∷◌, ◌++◌, Option, Some, None, codes, decimal, nat_le, if◌then◌else◌}
 use Rattle.snap_words.specs.declared.kind.KindTag.{KindTag}
 use Rattle.snap_words.specs.declared.kind.KindTag.TheVariants as kind
 use Rattle.snap_svg.specs.Elements.{line_text, words_head, edges_text}
@@ -73,13 +73,14 @@ tick_text p t =
     line_text (codes "tick") (x_of p t) (y_end p) (x_of p t) (y_end p + 6) ++ words_head (codes "number") (x_of p t) (y_end p + 22) ++ decimal t
     ++ codes "</text>\n"
 
--- the first of the multiples of a step behind an item
-abbrev pub ticks_text : Part → ℕ → ℕ → List ℕ
-ticks_text p step zero = []
-ticks_text p step (suc k) = ticks_text p step k ++ tick_text p ((p.from / step + suc k) * step)
+-- so many numbers at most, a step apart, the first of which is this
+abbrev pub ticks_text : Part → (step t count : ℕ) → List ℕ
+ticks_text p step t zero = []
+ticks_text p step t (suc k) = if nat_le t p.to then tick_text p t ++ ticks_text p step (t + step) k else []
 
+-- the multiples of a step behind the first item
 abbrev pub all_ticks : Part → ℕ → List ℕ
-all_ticks p step = ticks_text p step (p.to / step - p.from / step)
+all_ticks p step = ticks_text p step (p.from - p.from % step + step) 24
 
 -- what stands before the shapes; the style and the definitions of arrow and hatch are given
 unfoldable pub head_text : Part → Counts → List ℕ → List ℕ

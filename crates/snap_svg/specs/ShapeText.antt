@@ -1,5 +1,5 @@
 -- The text of what is drawn.
-use Rattle.std.specs.Prelude.{ℕ, ◌+◌, ◌-◌, Bool, true, false, not, ◌&&◌, List, [], ◌∷◌, ◌++◌, Option, Some, None, codes, decimal, nat_le, if◌then◌else◌}
+use Rattle.std.specs.Prelude.{ℕ, ◌+◌, Bool, true, false, not, ◌&&◌, List, [], ◌∷◌, ◌++◌, Option, Some, None, codes, decimal, nat_le, if◌then◌else◌}
 use Rattle.snap_semantics.specs.Report.{numbers_text, op_text}
 use Rattle.snap_semantics.specs.declared.process.Op.{Op}
 use Rattle.snap_semantics.specs.declared.process.Op.TheVariants as op
@@ -37,7 +37,7 @@ stretch_title s = codes "values" ++ numbers_text s.values ++ codes " from item "
 
 -- values, where there is room for them
 unfoldable pub values_words : ℕ → List ℕ → List ℕ
-values_words width values = if nat_le least_words width then words_head (codes "state") 1 22 ++ numbers_text values ++ codes "</text>" else []
+values_words width values = if nat_le least_words width then words_head (codes "state") 5 22 ++ numbers_text values ++ codes "</text>" else []
 
 -- the values from an item on
 unfoldable pub stretch_box : Stretch → (x width : ℕ) → List ℕ
@@ -154,14 +154,13 @@ point_text p q =
     ++ path_head (codes "diamond") (x_of p q.item) 106 (codes "l9 12-9 12-9-12z") ++ codes "</title></path>" ++ point_words p q ++ codes "</g>\n"
 
 -- a scan without a point is crossed out
-unfoldable pub none_box : Span → (x y width : ℕ) → List ℕ
-none_box s x y width =
+unfoldable pub none_box : Span → (x right y width : ℕ) → List ℕ
+none_box s x right y width =
     group_head (codes "none") ++ span_text s ++ codes "a scan without a point</title><rect" ++ edges_text x y width 44 ++ codes "/>"
-    ++ line_text (codes "bar") x y (x + width) (y + 44) ++ line_text (codes "bar") x (y + 44) (x + width) y
-    ++ words_head (codes "no") x (y - 4) ++ codes "point none</text></g>\n"
+    ++ line_text (codes "bar") x y right (y + 44) ++ line_text (codes "bar") x (y + 44) right y ++ words_head (codes "no") x (y + 40) ++ codes "point none</text></g>\n"
 
 unfoldable pub none_text : Part → Span → List ℕ
-none_text p s = none_box s (x_before p s.from) (y_of s.process + 6) (width_of (x_before p s.from) (x_of p s.to))
+none_text p s = none_box s (x_before p s.from) (x_of p s.to) (y_of s.process + 6) (width_of (x_before p s.from) (x_of p s.to))
 
 abbrev pub shape_text : Part → Shape → List ℕ
 shape_text p (shape.Values s) = stretch_text p s

@@ -1,6 +1,5 @@
 //! The texts of what lasts: values, operations, and scans with their points.
 ghost use Rattle.std.specs.Prelude.{◌≡◌, ◌++◌, ◌≤◌, OnOk};
-ghost use Rattle.snap_semantics.specs.Report.{op_text};
 ghost use Rattle.snap_svg.specs.ShapeText.{
   bar_box,
   bar_class,
@@ -27,25 +26,10 @@ use crate::elements::{
 use crate::marks::span_text;
 use crate::shape::{Bar, End, Point, Span, Stretch};
 use crate::window::{Window, width_of, y_of};
+use snap_report::op_text;
 use snap_semantics::Op;
 use snap_text::{push_number, push_numbers, push_text};
 use std::alloc::AllocError;
-
-/// An operation.
-#[tactic(auto, using(snap_text::proofs::Texts::joined))]
-pub fn op_text(out: &mut Vec<u8>, op: Op) -> Result<(), AllocError>
-    ensures { OnOk result (out.new.items ≡ out.old.items ++ op_text op) }
-{
-    match op {
-        Op::Scan => push_text(out, b"scan"),
-        Op::Update { word, value } => {
-            push_text(out, b"update ")?;
-            push_number(out, word)?;
-            push_text(out, b" ")?;
-            push_number(out, value)
-        }
-    }
-}
 
 /// The least width of a box that has words.
 const LEAST_WORDS: u64 = 22;
@@ -71,7 +55,7 @@ fn values_words(out: &mut Vec<u8>, width: u64, values: &[u64]) -> Result<(), All
     if width < LEAST_WORDS {
         return Ok(());
     }
-    words_head(out, b"state", 1, 22)?;
+    words_head(out, b"state", 5, 22)?;
     push_numbers(out, values)?;
     push_text(out, b"</text>")
 }
@@ -244,19 +228,25 @@ pub(crate) fn point_text(
 
 /// A scan without a point, crossed out.
 #[tactic(auto, using(snap_text::proofs::Texts::joined), unfolding(crate::specs::ShapeText::none_box))]
-fn none_box(out: &mut Vec<u8>, span: Span, x: u64, y: u64, width: u64) -> Result<(), AllocError>
-    requires y { 4 ≤ y }
-    requires few { (y ≤ 1000000000000) × (x ≤ 1570) × (width ≤ 1570) }
-    ensures { OnOk result (out.new.items ≡ out.old.items ++ none_box span x y width) }
+fn none_box(
+    out: &mut Vec<u8>,
+    span: Span,
+    x: u64,
+    right: u64,
+    y: u64,
+    width: u64,
+) -> Result<(), AllocError>
+    requires { y ≤ 1000000000000 }
+    ensures { OnOk result (out.new.items ≡ out.old.items ++ none_box span x right y width) }
 {
     group_head(out, b"none")?;
     span_text(out, span)?;
     push_text(out, b"a scan without a point</title><rect")?;
     edges_text(out, x, y, width, 44)?;
     push_text(out, b"/>")?;
-    line_text(out, b"bar", x, y, x + width, y + 44)?;
-    line_text(out, b"bar", x, y + 44, x + width, y)?;
-    words_head(out, b"no", x, y - 4)?;
+    line_text(out, b"bar", x, y, right, y + 44)?;
+    line_text(out, b"bar", x, y + 44, right, y)?;
+    words_head(out, b"no", x, y + 40)?;
     push_text(out, b"point none</text></g>\n")
 }
 
@@ -266,6 +256,13 @@ pub(crate) fn none_text(out: &mut Vec<u8>, window: &Window, span: Span) -> Resul
     ensures { OnOk result (out.new.items ≡ out.old.items ++ none_text window.now span) }
 {
     let x = window.x_before(span.from);
-    let width = width_of(x, window.x_of(span.to));
-    none_box(out, span, x, y_of(span.process) + 6, width)
+    let right = window.x_of(span.to);
+    none_box(
+        out,
+        span,
+        x,
+        right,
+        y_of(span.process) + 6,
+        width_of(x, right),
+    )
 }

@@ -1,5 +1,5 @@
 //! The text around what is drawn: title, lanes, numbers of items, legend.
-ghost use Rattle.std.specs.Prelude.{◌≡◌, ◌++◌, ◌+◌, ◌*◌, ◌<◌, ◌≤◌, OnOk, option_map};
+ghost use Rattle.std.specs.Prelude.{◌≡◌, ◌++◌, ◌×◌, ◌+◌, ◌<◌, ◌≤◌, OnOk, option_map};
 ghost use Rattle.snap_svg.specs.FrameText.{
   all_ticks,
   counts_words,
@@ -188,7 +188,7 @@ fn lanes_text(out: &mut Vec<u8>, count: u64) -> Result<(), AllocError>
 /// How far apart the numbers of items stand, for so many items.
 fn step_of(count: u64) -> u64
     ensures step { result ≡ step_of count }
-    ensures some { 0 < result }
+    ensures some { (0 < result) × (result ≤ 2000) }
 {
     match count {
         0..=24 => 2,
@@ -219,13 +219,19 @@ fn tick_text(out: &mut Vec<u8>, window: &Window, item: u64) -> Result<(), AllocE
 
 /// The numbers of items.
 fn all_ticks(out: &mut Vec<u8>, window: &Window, step: u64) -> Result<(), AllocError>
-    requires { 0 < step }
+    requires { (0 < step) × (step ≤ 2000) }
     ensures { OnOk result (out.new.items ≡ out.old.items ++ all_ticks window.now step) }
 {
-    let before = window.from() / step;
-    let count = window.to() / step - before;
-    for k in 0..count {
-        tick_text(out, window, (before + (k + 1)) * step)?;
+    let from = window.from();
+    let mut item = from - from % step + step;
+    let mut left = 24;
+    while left > 0 {
+        if item > window.to() {
+            return Ok(());
+        }
+        tick_text(out, window, item)?;
+        item += step;
+        left -= 1;
     }
     Ok(())
 }

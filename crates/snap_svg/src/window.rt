@@ -62,7 +62,7 @@ impl Window {
             Some(Window {
                 from,
                 to,
-                processes: shape.n(),
+                processes: u64::from(shape.process_count()),
                 reads,
             })
         } else {
@@ -117,8 +117,7 @@ impl Window {
 
     /// Where the state after an item stands.
     pub(crate) fn x_of(&self, item: u64) -> u64
-        ensures place { result ≡ x_of self.now item }
-        ensures within { result ≤ 1570 }
+        ensures { result ≡ x_of self.now item }
     {
         110 + (item.max(self.from).min(self.to) - self.from) * 1460 / (self.to - self.from)
     }
@@ -169,8 +168,7 @@ impl Window {
 
 /// The upper edge of the lane of a process.
 pub(crate) fn y_of(process: u32) -> u64
-    ensures place { result ≡ y_of process }
-    ensures few { 92 ≤ result }
+    ensures { result ≡ y_of process }
 {
     92 + 62 * u64::from(process)
 }

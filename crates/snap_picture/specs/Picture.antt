@@ -1,5 +1,5 @@
 -- The picture of a listing under a schedule.
-use Rattle.std.specs.Prelude.{ℕ, suc, ◌+◌, ◌-◌, Bool, true, false, ◌||◌, List, [], ◌∷◌, ◌++◌, length, Option, Some, None, Result, Ok, Err, nat_eq, nat_lt, if◌then◌else◌}
+use Rattle.std.specs.Prelude.{ℕ, suc, ◌-◌, Bool, true, false, ◌||◌, List, [], ◌∷◌, ◌++◌, length, Option, Some, None, Result, Ok, Err, nat_eq, nat_lt, if◌then◌else◌}
 use Rattle.snap_words.specs.Shape.{Counts}
 use Rattle.snap_semantics.specs.Answers.{◌>>=◌, refused_as}
 use Rattle.snap_semantics.specs.Schedule.{Schedule}
@@ -27,7 +27,8 @@ is_update (op.Update word value) = true
 
 -- whether a shape is what is counted
 abbrev pub counts_as : Sought → Shape → Bool
-counts_as sought.Point (shape.Point q) = true
+counts_as sought.Scan (shape.Point q) = true
+counts_as sought.Scan (shape.NoPoint s) = true
 counts_as sought.NoPoint (shape.NoPoint s) = true
 counts_as sought.Update (shape.Operation b) = is_update b.op
 counts_as _ _ = false
@@ -59,7 +60,7 @@ counts_of r ss = record {
   kind = r.source.kind;
   words = r.shape.w;
   items = length r.items;
-  scans = counted sought.Point ss + counted sought.NoPoint ss;
+  scans = counted sought.Scan ss;
   without_point = counted sought.NoPoint ss;
   updates = counted sought.Update ss;
 }

@@ -27,7 +27,7 @@ text{font:15px system-ui,\"DejaVu Sans\",sans-serif;fill:var(--ink)}\n\
 .crash{stroke:var(--ink);stroke-width:6;fill:none}\n\
 .arrow{stroke:#cc79a7;stroke-width:3.5;fill:none;marker-end:url(#tip);marker-start:url(#root)}\n\
 .tip{fill:#cc79a7}\n\
-.drop{stroke:var(--mark);stroke-width:2;stroke-dasharray:5 4;fill:none}\n\
+.drop{stroke:var(--mark);stroke-width:4;stroke-dasharray:6 5;fill:none;marker-end:url(#foot)}\n\
 .diamond{fill:var(--mark);stroke:var(--paper);stroke-width:1.5}\n\
 .none rect{fill:url(#hatch);fill-opacity:.4;stroke:var(--red);stroke-width:4}\n\
 .bar{stroke:var(--red);stroke-width:4;fill:none}\n\
@@ -39,6 +39,7 @@ text{font:15px system-ui,\"DejaVu Sans\",sans-serif;fill:var(--ink)}\n\
 <linearGradient id=\"update\" x2=\"0\" y2=\"1\"><stop offset=\".52\" stop-color=\"#e69f00\"/><stop offset=\".52\" class=\"lower\"/></linearGradient>\n\
 <marker id=\"tip\" class=\"tip\" viewBox=\"0 0 10 10\" refX=\"9\" refY=\"5\" markerWidth=\"4.5\" markerHeight=\"4.5\" orient=\"auto\"><path d=\"M0 0l10 5-10 5z\"/></marker>\n\
 <marker id=\"root\" class=\"tip\" viewBox=\"0 0 10 10\" refX=\"5\" refY=\"5\" markerWidth=\"3\" markerHeight=\"3\"><path d=\"M0 0h10v10h-10z\"/></marker>\n\
+<marker id=\"foot\" class=\"diamond\" viewBox=\"0 0 10 10\" refX=\"5\" refY=\"5\" markerWidth=\"14\" markerHeight=\"14\" markerUnits=\"userSpaceOnUse\"><path d=\"M5 0l5 5-5 5-5-5z\"/></marker>\n\
 <pattern id=\"hatch\" width=\"9\" height=\"9\" patternUnits=\"userSpaceOnUse\" patternTransform=\"rotate(45)\"><path d=\"M0 0v9\" stroke=\"#d55e00\" stroke-width=\"3\"/></pattern>\n\
 </defs>\n\
 <rect class=\"paper\" width=\"100%\" height=\"100%\"/>\n\

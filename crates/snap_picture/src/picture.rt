@@ -77,17 +77,15 @@ fn window_for(
 /// What a title says of a run.
 #[tactic(auto, unfolding(crate::specs::Picture::counts_of))]
 fn counts_of<K: Kind>(record: &Record<K>, shapes: &[Shape]) -> Counts
-    requires { length shapes.now ≤ 9000000000000000000 }
     ensures { result ≡ counts_of record.now shapes.now }
 {
     let machine = record.machine();
-    let without_point = count(Sought::NoPoint, shapes);
     Counts {
         kind: machine.program().kind(),
         words: machine.shape().w(),
         items: record.items().len() as u64,
-        scans: count(Sought::Point, shapes) + without_point,
-        without_point,
+        scans: count(Sought::Scan, shapes),
+        without_point: count(Sought::NoPoint, shapes),
         updates: count(Sought::Update, shapes),
     }
 }

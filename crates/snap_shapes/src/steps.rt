@@ -1,5 +1,5 @@
 //! What is drawn of a step.
-ghost use Rattle.std.specs.Prelude.{◌≡◌, ◌≤◌, ◌<◌, ◌+◌, ◌++◌, ◌∷◌, [], IfOk, IfSome, OnOk, drop, get_or, length, option_map};
+ghost use Rattle.std.specs.Prelude.{◌≡◌, ◌≤◌, ◌<◌, ◌+◌, ◌++◌, ◌∷◌, [], IfOk, IfSome, OnOk, drop, length, option_map};
 ghost use Rattle.snap_shapes.specs.Searches.{last_before};
 ghost use Rattle.snap_shapes.specs.declared.wanted.Wanted.TheVariants as wanted;
 ghost use Rattle.snap_svg.specs.declared.shape.Shape.TheVariants as shape;
@@ -14,9 +14,9 @@ ghost use Rattle.snap_shapes.specs.Shapes.{
   mark_of,
   scan_before,
   shapes_at,
+  shapes_of,
   shapes_to,
   source_of,
-  step_at,
   stretch_of,
   write_before,
   written_at,
@@ -82,12 +82,13 @@ fn bar_of(
     ensures { IfOk result (λ b. b ≡ bar_of (length steps.now) step.now op (drop from steps.now)) }
 {
     let found = first_from(steps, from, Wanted::End(step.process));
+    let end = end_of(alloc, found)?;
     Ok(Bar {
         process: step.process,
         op,
         from: step.item,
         to: item_or(steps.len() as u64, found),
-        end: end_of(alloc, found)?,
+        end,
     })
 }
 
@@ -237,6 +238,56 @@ fn read_of(steps: &[Step], k: usize, step: &Step, word: u64) -> Shape
     })
 }
 
+/// Adds a shape.
+fn push(shapes: &mut Vec<Shape>, shape: Shape) -> Result<(), AllocError>
+    ensures { OnOk result (shapes.new.items ≡ shapes.old.items ++ shape ∷ []) }
+{
+    shapes.push(shape)?;
+    Ok(())
+}
+
+/// Adds the operation that the step before a place called.
+fn push_bar(
+    alloc: Global,
+    shapes: &mut Vec<Shape>,
+    steps: &[Step],
+    from: usize,
+    step: &Step,
+    op: Op,
+) -> Result<(), AllocError>
+    ensures { OnOk result (shapes.new.items ≡ shapes.old.items
+        ++ shape.Operation (bar_of (length steps.now) step.now op (drop from steps.now)) ∷ []) }
+{
+    let bar = bar_of(alloc, steps, from, step, op)?;
+    push(shapes, Shape::Operation(bar))
+}
+
+/// Adds what is drawn of a step, which is at this place.
+fn push_shapes_of(
+    alloc: Global,
+    shapes: &mut Vec<Shape>,
+    steps: &[Step],
+    k: usize,
+    step: &Step,
+) -> Result<(), AllocError>
+    requires { k < length steps.now }
+    ensures { OnOk result (shapes.new.items ≡ shapes.old.items
+        ++ shapes_of steps.now k step.now step.now.act) }
+{
+    match &step.act {
+        Act::Call(op) => push_bar(alloc, shapes, steps, k + 1, step, *op),
+        Act::Enter => push(shapes, Shape::Embedded(embedded_of(steps, k + 1, step))),
+        Act::Write(word, values) => push_write(alloc, shapes, steps, k + 1, step, *word, values),
+        Act::Read(word) => push(shapes, read_of(steps, k, step, *word)),
+        Act::Test(passed) => push(shapes, Shape::Test(mark_of(step), *passed)),
+        Act::Trap => push(shapes, Shape::Trap(mark_of(step))),
+        Act::Crash => push(shapes, Shape::Crash(mark_of(step))),
+        Act::Borrow(_) => push_loan_of(shapes, steps, k, step),
+        Act::Look(_) => push_loan_of(shapes, steps, k, step),
+        _ => Ok(()),
+    }
+}
+
 /// Adds what is drawn of the step at a place.
 #[tactic(auto, unfolding(crate::specs::Shapes::shapes_at))]
 fn push_shapes_at(
@@ -248,20 +299,7 @@ fn push_shapes_at(
     requires { k < length steps.now }
     ensures { OnOk result (shapes.new.items ≡ shapes.old.items ++ shapes_at steps.now k) }
 {
-    let step = &steps[k];
-    match &step.act {
-        Act::Call(op) => shapes.push(Shape::Operation(bar_of(alloc, steps, k + 1, step, *op)?))?,
-        Act::Enter => shapes.push(Shape::Embedded(embedded_of(steps, k + 1, step)))?,
-        Act::Write(word, values) => push_write(alloc, shapes, steps, k + 1, step, *word, values)?,
-        Act::Read(word) => shapes.push(read_of(steps, k, step, *word))?,
-        Act::Test(passed) => shapes.push(Shape::Test(mark_of(step), *passed))?,
-        Act::Trap => shapes.push(Shape::Trap(mark_of(step)))?,
-        Act::Crash => shapes.push(Shape::Crash(mark_of(step)))?,
-        Act::Borrow(_) => push_loan_of(shapes, steps, k, step)?,
-        Act::Look(_) => push_loan_of(shapes, steps, k, step)?,
-        _ => {}
-    }
-    Ok(())
+    push_shapes_of(alloc, shapes, steps, k, &steps[k])
 }
 
 /// Adds what is drawn of all steps.

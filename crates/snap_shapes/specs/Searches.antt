@@ -45,9 +45,9 @@ meets (wanted.ReadOf i k) s = nat_eq s.process i && reads_word k s.act
 meets (wanted.Published k) s = publishes k s.act
 
 -- the first of these steps that is what is wanted
-abbrev pub first_of : Wanted → List Step → Option Step
-first_of w [] = None
-first_of w (s ∷ ss) = if meets w s then Some s else first_of w ss
+abbrev pub first_meeting : Wanted → List Step → Option Step
+first_meeting w [] = None
+first_meeting w (s ∷ ss) = if meets w s then Some s else first_meeting w ss
 
 -- stands where there is no step
 abbrev pub no_step : Step

@@ -17,7 +17,7 @@ use Rattle.snap_svg.specs.declared.shape.Shape.{Shape}
 use Rattle.snap_svg.specs.declared.shape.Shape.TheVariants as shape
 use Rattle.snap_svg.specs.declared.shape.Span.{Span}
 use Rattle.snap_svg.specs.declared.shape.Written.{Written}
-use Rattle.snap_shapes.specs.Searches.{first_of, last_before, no_step}
+use Rattle.snap_shapes.specs.Searches.{first_meeting, last_before, no_step}
 use Rattle.snap_shapes.specs.declared.wanted.Wanted.TheVariants as wanted
 
 abbrev pub mark_of : Step → Mark
@@ -46,15 +46,15 @@ bar_to last s op found = record { process = s.process; op = op; from = s.item; t
 
 -- the operation that a step called, where these follow
 abbrev pub bar_of : ℕ → Step → Op → List Step → Bar
-bar_of last s op rest = bar_to last s op (first_of (wanted.End s.process) rest)
+bar_of last s op rest = bar_to last s op (first_meeting (wanted.End s.process) rest)
 
 -- the scan of an update that a step began, where these follow
 abbrev pub embedded_of : ℕ → Step → List Step → Span
-embedded_of last s rest = record { process = s.process; from = s.item; to = item_or last (first_of (wanted.Leave s.process) rest) }
+embedded_of last s rest = record { process = s.process; from = s.item; to = item_or last (first_meeting (wanted.Leave s.process) rest) }
 
 -- the values from an item on, up to the next write
 abbrev pub stretch_of : ℕ → ℕ → List ℕ → List Step → Shape
-stretch_of last t values rest = shape.Values (record { from = t; to = item_or last (first_of wanted.Write rest); values = values })
+stretch_of last t values rest = shape.Values (record { from = t; to = item_or last (first_meeting wanted.Write rest); values = values })
 
 -- the step at a place
 abbrev pub step_at : List Step → ℕ → Step

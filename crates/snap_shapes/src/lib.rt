@@ -2,9 +2,9 @@
 //! values, points and borrowed views.
 #![tactic(auto)]
 
-mod shapes;
+mod drawn;
 mod steps;
 mod verdicts;
 mod wanted;
 
-pub use shapes::shapes;
+pub use drawn::shapes;

@@ -22,12 +22,12 @@ fn scan_of(verdict: &Verdict) -> Span
 /// The values after an item, where they are there.
 pub(crate) fn values_at<K: Kind>(
     alloc: Global,
-    record: &Record<K>,
+    history: &Record<K>,
     item: u64,
 ) -> Result<View, AllocError>
-    ensures { IfOk result (λ v. v ≡ values_or_none (values_after record.now item)) }
+    ensures { IfOk result (λ v. v ≡ values_or_none (values_after history.now item)) }
 {
-    match record.values_after(item)? {
+    match history.values_after(item)? {
         Some(values) => Ok(values),
         None => Ok(View::of(Vec::new(alloc))),
     }
@@ -37,17 +37,17 @@ pub(crate) fn values_at<K: Kind>(
 #[tactic(auto, unfolding(crate::specs::Shapes::verdict_shape))]
 fn verdict_shape<K: Kind>(
     alloc: Global,
-    record: &Record<K>,
+    history: &Record<K>,
     verdict: &Verdict,
 ) -> Result<Shape, AllocError>
-    ensures { IfOk result (λ s. s ≡ verdict_shape record.now verdict.now) }
+    ensures { IfOk result (λ s. s ≡ verdict_shape history.now verdict.now) }
 {
     match verdict.point {
         Some(item) => Ok(Shape::Point(Point {
             scan: scan_of(verdict),
             item,
             collects: verdict.collects,
-            values: values_at(alloc, record, item)?,
+            values: values_at(alloc, history, item)?,
         })),
         None => Ok(Shape::NoPoint(scan_of(verdict))),
     }
@@ -57,14 +57,14 @@ fn verdict_shape<K: Kind>(
 pub(crate) fn push_verdicts<K: Kind>(
     alloc: Global,
     shapes: &mut Vec<Shape>,
-    record: &Record<K>,
+    history: &Record<K>,
     verdicts: &[Verdict],
 ) -> Result<(), AllocError>
     ensures { OnOk result (shapes.new.items ≡ shapes.old.items
-        ++ verdict_shapes record.now verdicts.now) }
+        ++ verdict_shapes history.now verdicts.now) }
 {
     for verdict in verdicts {
-        shapes.push(verdict_shape(alloc, record, verdict)?)?;
+        shapes.push(verdict_shape(alloc, history, verdict)?)?;
     }
     Ok(())
 }

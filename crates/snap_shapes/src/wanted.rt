@@ -1,7 +1,7 @@
 //! What is searched for among the items of a run.
 ghost use Rattle.std.specs.Prelude.{◌≡◌, ◌≤◌, ◌<◌, IfSome, drop, length, option_map};
 ghost use Rattle.snap_shapes.specs.Searches.{
-  first_of,
+  first_meeting,
   is_end,
   is_leave,
   is_write,
@@ -104,7 +104,7 @@ fn meets(wanted: Wanted, step: &Step) -> bool
 
 /// The first step from a place on that is what is wanted.
 pub(crate) fn first_from(steps: &[Step], from: usize, wanted: Wanted) -> Option<&Step>
-    ensures { option_map (λ s. s.now) result ≡ first_of wanted (drop from steps.now) }
+    ensures { option_map (λ s. s.now) result ≡ first_meeting wanted (drop from steps.now) }
 {
     let mut k = from;
     while k < steps.len() {

@@ -7,7 +7,7 @@ use Rattle.snap_semantics.specs.Source.{Source}
 use Rattle.snap_semantics.specs.State.{initial}
 use Rattle.snap_semantics.specs.Table.{done, who}
 use Rattle.snap_trace.specs.Trace.{step_of, steps_of}
-use Rattle.snap_trace.specs.declared.trace.Tracer.{Tracer}
+use Rattle.snap_trace.specs.declared.tracer.Tracer.{Tracer}
 
 -- of these items some are done, and the others are left
 pub record Going {K W : Type 0} (s : Source) (n : Counts) (all : List Item) (c : Tracer K W) (left : List Item) : Type 0 where

@@ -4,7 +4,7 @@
 
 mod act;
 mod plan;
-mod trace;
+mod tracer;
 
 pub use act::{Act, Step};
-pub use trace::trace;
+pub use tracer::trace;

@@ -4,4 +4,4 @@ use Rattle.snap_shapes.proofs.verdicts.push_verdicts.Given as goal
 
 abbrev pub invariant-loop-verdict : goal.invariant-loop-verdict
 invariant-loop-verdict g l =
-    l.shapes.items ++ verdict_shapes l.record (drop l.verdict-index l.verdicts) ≡ l.fn.shapes.items ++ verdict_shapes l.record l.verdicts
+    l.shapes.items ++ verdict_shapes l.history (drop l.verdict-index l.verdicts) ≡ l.fn.shapes.items ++ verdict_shapes l.history l.verdicts

@@ -15,27 +15,27 @@ use std::alloc::{AllocError, Global};
 #[tactic(auto, unfolding(crate::specs::Shapes::first_stretch))]
 fn first_stretch<K: Kind>(
     alloc: Global,
-    record: &Record<K>,
+    history: &Record<K>,
     steps: &[Step],
 ) -> Result<Shape, AllocError>
-    ensures { IfOk result (λ s. s ≡ first_stretch record.now steps.now) }
+    ensures { IfOk result (λ s. s ≡ first_stretch history.now steps.now) }
 {
-    Ok(stretch_of(steps, 0, 0, values_at(alloc, record, 0)?))
+    Ok(stretch_of(steps, 0, 0, values_at(alloc, history, 0)?))
 }
 
 /// What is drawn of a run whose items did this: a later shape lies above.
 #[tactic(auto, unfolding(crate::specs::Shapes::shapes_by))]
 pub fn shapes<K: Kind>(
     alloc: Global,
-    record: &Record<K>,
+    history: &Record<K>,
     steps: &[Step],
 ) -> Result<Vec<Shape>, AllocError>
-    ensures { IfOk result (λ v. v.items ≡ shapes_by record.now steps.now) }
+    ensures { IfOk result (λ v. v.items ≡ shapes_by history.now steps.now) }
 {
-    let verdicts = audit(alloc, record)?;
+    let verdicts = audit(alloc, history)?;
     let mut shapes = Vec::new(alloc);
-    shapes.push(first_stretch(alloc, record, steps)?)?;
+    shapes.push(first_stretch(alloc, history, steps)?)?;
     push_steps(alloc, &mut shapes, steps)?;
-    push_verdicts(alloc, &mut shapes, record, verdicts.as_slice())?;
+    push_verdicts(alloc, &mut shapes, history, verdicts.as_slice())?;
     Ok(shapes)
 }

@@ -76,14 +76,14 @@ fn window_for(
 
 /// What a title says of a run.
 #[tactic(auto, unfolding(crate::specs::Picture::counts_of))]
-fn counts_of<K: Kind>(record: &Record<K>, shapes: &[Shape]) -> Counts
-    ensures { result ≡ counts_of record.now shapes.now }
+fn counts_of<K: Kind>(history: &Record<K>, shapes: &[Shape]) -> Counts
+    ensures { result ≡ counts_of history.now shapes.now }
 {
-    let machine = record.machine();
+    let machine = history.machine();
     Counts {
         kind: machine.program().kind(),
         words: machine.shape().w(),
-        items: record.items().len() as u64,
+        items: history.items().len() as u64,
         scans: count(Sought::Scan, shapes),
         without_point: count(Sought::NoPoint, shapes),
         updates: count(Sought::Update, shapes),
@@ -94,18 +94,18 @@ fn counts_of<K: Kind>(record: &Record<K>, shapes: &[Shape]) -> Counts
 #[tactic(auto, using(snap_text::proofs::Texts::joined), unfolding(crate::specs::Picture::picture_by))]
 fn picture_by<K: Kind>(
     alloc: Global,
-    record: &Record<K>,
+    history: &Record<K>,
     shapes: &[Shape],
     window: &Window,
     listing: Option<&[u8]>,
     schedule: &[u8],
     look: &Look<'_>,
 ) -> Result<Vec<u8>, AllocError>
-    ensures { IfOk result (λ out. out.items ≡ picture_by record.now shapes.now window.now
+    ensures { IfOk result (λ out. out.items ≡ picture_by history.now shapes.now window.now
         (option_map (λ t. t.now) listing.entry) schedule.now look.now.style.now look.now.legend.now) }
 {
     let mut out = Vec::new(alloc);
-    push_head(&mut out, window, &counts_of(record, shapes), look.style)?;
+    push_head(&mut out, window, &counts_of(history, shapes), look.style)?;
     push_input(&mut out, listing, schedule)?;
     push_shapes(&mut out, window, shapes)?;
     push_foot(&mut out, window, look.legend)?;
@@ -126,12 +126,12 @@ fn picture_text<K: Kind>(
     ensures { IfOk result (λ out. out.items ≡ picture_text (run_over program.now items.now) window.now
         (option_map (λ t. t.now) listing.entry) schedule.now look.now.style.now look.now.legend.now) }
 {
-    let record = record_over::<K>(alloc, program, items)?;
+    let history = record_over::<K>(alloc, program, items)?;
     let steps = trace::<K>(alloc, program, items)?;
-    let shapes = shapes(alloc, &record, steps.as_slice())?;
+    let shapes = shapes(alloc, &history, steps.as_slice())?;
     picture_by(
         alloc,
-        &record,
+        &history,
         shapes.as_slice(),
         window,
         listing,

@@ -12,7 +12,7 @@ use Rattle.snap_trace.specs.declared.act.Step.{Step}
 use Rattle.snap_svg.specs.declared.shape.Bar.{Bar}
 use Rattle.snap_svg.specs.declared.shape.End.{End}
 use Rattle.snap_svg.specs.declared.shape.End.TheVariants as ended
-use Rattle.snap_svg.specs.declared.shape.Mark.{Mark}
+use Rattle.snap_svg.specs.declared.shape.Spot.{Spot}
 use Rattle.snap_svg.specs.declared.shape.Shape.{Shape}
 use Rattle.snap_svg.specs.declared.shape.Shape.TheVariants as shape
 use Rattle.snap_svg.specs.declared.shape.Span.{Span}
@@ -20,8 +20,8 @@ use Rattle.snap_svg.specs.declared.shape.Written.{Written}
 use Rattle.snap_shapes.specs.Searches.{first_meeting, last_before, no_step}
 use Rattle.snap_shapes.specs.declared.wanted.Wanted.TheVariants as wanted
 
-abbrev pub mark_of : Step → Mark
-mark_of s = record { process = s.process; item = s.item; line = s.line }
+abbrev pub spot_of : Step → Spot
+spot_of s = record { process = s.process; item = s.item; line = s.line }
 
 -- the item of a step, and the last item where there is none
 abbrev pub item_or : ℕ → Option Step → ℕ
@@ -53,8 +53,8 @@ abbrev pub embedded_of : ℕ → Step → List Step → Span
 embedded_of last s rest = record { process = s.process; from = s.item; to = item_or last (first_meeting (wanted.Leave s.process) rest) }
 
 -- the values from an item on, up to the next write
-abbrev pub stretch_of : ℕ → ℕ → List ℕ → List Step → Shape
-stretch_of last t values rest = shape.Values (record { from = t; to = item_or last (first_meeting wanted.Write rest); values = values })
+abbrev pub period_of : ℕ → ℕ → List ℕ → List Step → Shape
+period_of last t values rest = shape.Values (record { from = t; to = item_or last (first_meeting wanted.Write rest); values = values })
 
 -- the step at a place
 abbrev pub step_at : List Step → ℕ → Step
@@ -92,7 +92,7 @@ scan_before ss (Some k) = last_before (wanted.Leave (step_at ss k).process) ss k
 abbrev pub loan_from : List Step → Step → Option ℕ → List Shape
 loan_from ss s None = []
 loan_from ss s (Some k) =
-    shape.Loan (record { lender = (step_at ss k).process; ended = (step_at ss k).item; taken = mark_of s }) ∷ []
+    shape.Loan (record { lender = (step_at ss k).process; ended = (step_at ss k).item; taken = spot_of s }) ∷ []
 
 abbrev pub loan_of : List Step → ℕ → Step → List Shape
 loan_of ss k s = loan_from ss s (scan_before ss (source_of ss k s))
@@ -102,12 +102,12 @@ abbrev pub shapes_of : List Step → ℕ → Step → Act → List Shape
 shapes_of ss k s (act.Call op) = shape.Operation (bar_of (length ss) s op (drop (k + 1) ss)) ∷ []
 shapes_of ss k s act.Enter = shape.Embedded (embedded_of (length ss) s (drop (k + 1) ss)) ∷ []
 shapes_of ss k s (act.Write word values) =
-    stretch_of (length ss) s.item values (drop (k + 1) ss) ∷ shape.Write (record { mark = mark_of s; word = word; values = values }) ∷ []
+    period_of (length ss) s.item values (drop (k + 1) ss) ∷ shape.Write (record { spot = spot_of s; word = word; values = values }) ∷ []
 shapes_of ss k s (act.Read word) =
-    shape.Read (record { mark = mark_of s; word = word; written = written_at ss (last_before (wanted.WriteOf word) ss k) }) ∷ []
-shapes_of ss k s (act.Test passed) = shape.Test (mark_of s) passed ∷ []
-shapes_of ss k s act.Trap = shape.Trap (mark_of s) ∷ []
-shapes_of ss k s act.Crash = shape.Crash (mark_of s) ∷ []
+    shape.Read (record { spot = spot_of s; word = word; written = written_at ss (last_before (wanted.WriteOf word) ss k) }) ∷ []
+shapes_of ss k s (act.Test passed) = shape.Test (spot_of s) passed ∷ []
+shapes_of ss k s act.Trap = shape.Trap (spot_of s) ∷ []
+shapes_of ss k s act.Crash = shape.Crash (spot_of s) ∷ []
 shapes_of ss k s (act.Borrow j) = loan_of ss k s
 shapes_of ss k s (act.Look j) = loan_of ss k s
 shapes_of ss k s _ = []
@@ -141,12 +141,12 @@ verdict_shapes r [] = []
 verdict_shapes r (v ∷ vs) = verdict_shape r v ∷ verdict_shapes r vs
 
 -- the values before the first write
-unfoldable pub first_stretch : Run → List Step → Shape
-first_stretch r ss = stretch_of (length ss) 0 (values_or_none (values_after r 0)) ss
+unfoldable pub first_period : Run → List Step → Shape
+first_period r ss = period_of (length ss) 0 (values_or_none (values_after r 0)) ss
 
 -- what is drawn of a run whose items did this
 unfoldable pub shapes_by : Run → List Step → List Shape
-shapes_by r ss = first_stretch r ss ∷ (shapes_to ss (length ss) ++ verdict_shapes r (audit r))
+shapes_by r ss = first_period r ss ∷ (shapes_to ss (length ss) ++ verdict_shapes r (audit r))
 
 -- what is drawn of a run
 abbrev pub shapes : Run → List Shape

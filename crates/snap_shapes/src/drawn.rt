@@ -1,8 +1,8 @@
 //! What is drawn of a run.
 ghost use Rattle.std.specs.Prelude.{◌≡◌, IfOk};
-ghost use Rattle.snap_shapes.specs.Shapes.{first_stretch, shapes_by};
+ghost use Rattle.snap_shapes.specs.Shapes.{first_period, shapes_by};
 
-use crate::steps::{push_steps, stretch_of};
+use crate::steps::{period_of, push_steps};
 use crate::verdicts::{push_verdicts, values_at};
 use snap_audit::audit;
 use snap_record::Record;
@@ -12,15 +12,15 @@ use snap_words::Kind;
 use std::alloc::{AllocError, Global};
 
 /// The values before the first write.
-#[tactic(auto, unfolding(crate::specs::Shapes::first_stretch))]
-fn first_stretch<K: Kind>(
+#[tactic(auto, unfolding(crate::specs::Shapes::first_period))]
+fn first_period<K: Kind>(
     alloc: Global,
     history: &Record<K>,
     steps: &[Step],
 ) -> Result<Shape, AllocError>
-    ensures { IfOk result (λ s. s ≡ first_stretch history.now steps.now) }
+    ensures { IfOk result (λ s. s ≡ first_period history.now steps.now) }
 {
-    Ok(stretch_of(steps, 0, 0, values_at(alloc, history, 0)?))
+    Ok(period_of(steps, 0, 0, values_at(alloc, history, 0)?))
 }
 
 /// What is drawn of a run whose items did this: a later shape lies above.
@@ -34,7 +34,7 @@ pub fn shapes<K: Kind>(
 {
     let verdicts = audit(alloc, history)?;
     let mut shapes = Vec::new(alloc);
-    shapes.push(first_stretch(alloc, history, steps)?)?;
+    shapes.push(first_period(alloc, history, steps)?)?;
     push_steps(alloc, &mut shapes, steps)?;
     push_verdicts(alloc, &mut shapes, history, verdicts.as_slice())?;
     Ok(shapes)

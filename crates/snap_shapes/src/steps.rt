@@ -11,28 +11,28 @@ ghost use Rattle.snap_shapes.specs.Shapes.{
   item_or,
   loan_from,
   loan_of,
-  mark_of,
+  spot_of,
   scan_before,
   shapes_at,
   shapes_of,
   shapes_to,
   source_of,
-  stretch_of,
+  period_of,
   write_before,
   written_at,
 };
 
 use crate::wanted::{Wanted, first_from, last_before};
 use snap_semantics::Op;
-use snap_svg::{Bar, End, Loan, Mark, Read, Shape, Span, Stretch, Write, Written};
+use snap_svg::{Bar, End, Loan, Period, Read, Shape, Span, Spot, Write, Written};
 use snap_trace::{Act, Step};
 use snap_words::View;
 use std::alloc::{AllocError, Global};
 
-fn mark_of(step: &Step) -> Mark
-    ensures { result ≡ mark_of step.now }
+fn spot_of(step: &Step) -> Spot
+    ensures { result ≡ spot_of step.now }
 {
-    Mark {
+    Spot {
         process: step.process,
         item: step.item,
         line: step.line,
@@ -105,11 +105,11 @@ fn embedded_of(steps: &[Step], from: usize, step: &Step) -> Span
 }
 
 /// The values from an item on, up to the next write from a place on.
-pub(crate) fn stretch_of(steps: &[Step], from: usize, item: u64, values: View) -> Shape
-    ensures { result ≡ stretch_of (length steps.now) item values (drop from steps.now) }
+pub(crate) fn period_of(steps: &[Step], from: usize, item: u64, values: View) -> Shape
+    ensures { result ≡ period_of (length steps.now) item values (drop from steps.now) }
 {
     let found = first_from(steps, from, Wanted::Write);
-    Shape::Values(Stretch {
+    Shape::Values(Period {
         from: item,
         to: item_or(steps.len() as u64, found),
         values,
@@ -179,7 +179,7 @@ fn push_loan(
     shapes.push(Shape::Loan(Loan {
         lender: steps[k].process,
         ended: steps[k].item,
-        taken: mark_of(step),
+        taken: spot_of(step),
     }))?;
     Ok(())
 }
@@ -209,12 +209,12 @@ fn push_write(
     values: &View,
 ) -> Result<(), AllocError>
     ensures { OnOk result (shapes.new.items ≡ shapes.old.items
-        ++ stretch_of (length steps.now) step.now.item values.now (drop from steps.now)
-        ∷ shape.Write (record { mark = mark_of step.now; word = word; values = values.now }) ∷ []) }
+        ++ period_of (length steps.now) step.now.item values.now (drop from steps.now)
+        ∷ shape.Write (record { spot = spot_of step.now; word = word; values = values.now }) ∷ []) }
 {
-    shapes.push(stretch_of(steps, from, step.item, values.copy(alloc)?))?;
+    shapes.push(period_of(steps, from, step.item, values.copy(alloc)?))?;
     shapes.push(Shape::Write(Write {
-        mark: mark_of(step),
+        spot: spot_of(step),
         word,
         values: values.copy(alloc)?,
     }))?;
@@ -225,14 +225,14 @@ fn push_write(
 fn read_of(steps: &[Step], k: usize, step: &Step, word: u64) -> Shape
     requires { k ≤ length steps.now }
     ensures { result ≡ shape.Read (record {
-      mark = mark_of step.now;
+      spot = spot_of step.now;
       word = word;
       written = written_at steps.now (last_before (wanted.WriteOf word) steps.now k);
     }) }
 {
     let place = last_before(steps, k, Wanted::WriteOf(word));
     Shape::Read(Read {
-        mark: mark_of(step),
+        spot: spot_of(step),
         word,
         written: written_at(steps, place),
     })
@@ -279,9 +279,9 @@ fn push_shapes_of(
         Act::Enter => push(shapes, Shape::Embedded(embedded_of(steps, k + 1, step))),
         Act::Write(word, values) => push_write(alloc, shapes, steps, k + 1, step, *word, values),
         Act::Read(word) => push(shapes, read_of(steps, k, step, *word)),
-        Act::Test(passed) => push(shapes, Shape::Test(mark_of(step), *passed)),
-        Act::Trap => push(shapes, Shape::Trap(mark_of(step))),
-        Act::Crash => push(shapes, Shape::Crash(mark_of(step))),
+        Act::Test(passed) => push(shapes, Shape::Test(spot_of(step), *passed)),
+        Act::Trap => push(shapes, Shape::Trap(spot_of(step))),
+        Act::Crash => push(shapes, Shape::Crash(spot_of(step))),
         Act::Borrow(_) => push_loan_of(shapes, steps, k, step),
         Act::Look(_) => push_loan_of(shapes, steps, k, step),
         _ => Ok(()),

@@ -9,13 +9,13 @@ use Rattle.snap_svg.specs.declared.shape.Bar.{Bar}
 use Rattle.snap_svg.specs.declared.shape.End.{End}
 use Rattle.snap_svg.specs.declared.shape.End.TheVariants as ended
 use Rattle.snap_svg.specs.declared.shape.Loan.{Loan}
-use Rattle.snap_svg.specs.declared.shape.Mark.{Mark}
+use Rattle.snap_svg.specs.declared.shape.Spot.{Spot}
 use Rattle.snap_svg.specs.declared.shape.Point.{Point}
 use Rattle.snap_svg.specs.declared.shape.Read.{Read}
 use Rattle.snap_svg.specs.declared.shape.Shape.{Shape}
 use Rattle.snap_svg.specs.declared.shape.Shape.TheVariants as shape
 use Rattle.snap_svg.specs.declared.shape.Span.{Span}
-use Rattle.snap_svg.specs.declared.shape.Stretch.{Stretch}
+use Rattle.snap_svg.specs.declared.shape.Period.{Period}
 use Rattle.snap_svg.specs.declared.shape.Write.{Write}
 use Rattle.snap_svg.specs.declared.shape.Written.{Written}
 
@@ -28,24 +28,24 @@ unfoldable pub span_text : Span → List ℕ
 span_text s = codes "process " ++ decimal s.process ++ codes ", items " ++ decimal s.from ++ codes " to " ++ decimal s.to ++ codes ": "
 
 -- `item T, process I, line L: `
-unfoldable pub mark_text : Mark → List ℕ
-mark_text m = codes "item " ++ decimal m.item ++ codes ", process " ++ decimal m.process ++ codes ", line " ++ decimal m.line ++ codes ": "
+unfoldable pub spot_text : Spot → List ℕ
+spot_text m = codes "item " ++ decimal m.item ++ codes ", process " ++ decimal m.process ++ codes ", line " ++ decimal m.line ++ codes ": "
 
 -- what is said of values
-unfoldable pub stretch_title : Stretch → List ℕ
-stretch_title s = codes "values" ++ numbers_text s.values ++ codes " from item " ++ decimal s.from ++ codes " to item " ++ decimal s.to
+unfoldable pub period_title : Period → List ℕ
+period_title s = codes "values" ++ numbers_text s.values ++ codes " from item " ++ decimal s.from ++ codes " to item " ++ decimal s.to
 
 -- values, where there is room for them
 unfoldable pub values_words : ℕ → List ℕ → List ℕ
 values_words width values = if nat_le least_words width then words_head (codes "state") 5 22 ++ numbers_text values ++ codes "</text>" else []
 
 -- the values from an item on
-unfoldable pub stretch_box : Stretch → (x width : ℕ) → List ℕ
-stretch_box s x width =
-    box_head (codes "values") x 84 width 34 ++ stretch_title s ++ box_body ++ values_words width s.values ++ codes "</svg>\n"
+unfoldable pub period_box : Period → (x width : ℕ) → List ℕ
+period_box s x width =
+    box_head (codes "values") x 84 width 34 ++ period_title s ++ box_body ++ values_words width s.values ++ codes "</svg>\n"
 
-unfoldable pub stretch_text : Part → Stretch → List ℕ
-stretch_text p s = stretch_box s (x_of p s.from) (width_of (x_of p s.from) (x_of p s.to))
+unfoldable pub period_text : Part → Period → List ℕ
+period_text p s = period_box s (x_of p s.from) (width_of (x_of p s.from) (x_of p s.to))
 
 -- what came of an operation
 unfoldable pub end_text : End → List ℕ
@@ -86,25 +86,25 @@ embedded_text p s =
     ++ codes "the scan of an update" ++ box_body ++ codes "</svg>\n"
 
 -- from the last write of a word to its read
-unfoldable pub trail_text : Part → Mark → Option Written → List ℕ
+unfoldable pub trail_text : Part → Spot → Option Written → List ℕ
 trail_text p m None = []
 trail_text p m (Some w) =
     if p.reads then line_text (codes "trail") (x_of p w.item) (y_of w.process + 39) (x_of p m.item) (y_of m.process + 39) else []
 
 unfoldable pub read_text : Part → Read → List ℕ
 read_text p r =
-    path_head (codes "read") (x_of p r.mark.item) (y_of r.mark.process + 34) (codes "v10") ++ mark_text r.mark ++ codes "reads r[" ++ decimal r.word
-    ++ codes "]</title></path>" ++ trail_text p r.mark r.written ++ codes "\n"
+    path_head (codes "read") (x_of p r.spot.item) (y_of r.spot.process + 34) (codes "v10") ++ spot_text r.spot ++ codes "reads r[" ++ decimal r.word
+    ++ codes "]</title></path>" ++ trail_text p r.spot r.written ++ codes "\n"
 
 -- what is said of a write
 unfoldable pub write_title : Write → List ℕ
-write_title w = mark_text w.mark ++ codes "writes r[" ++ decimal w.word ++ codes "], values" ++ numbers_text w.values ++ codes "</title>"
+write_title w = spot_text w.spot ++ codes "writes r[" ++ decimal w.word ++ codes "], values" ++ numbers_text w.values ++ codes "</title>"
 
 unfoldable pub write_text : Part → Write → List ℕ
 write_text p w =
     group_head (codes "write") ++ write_title w
-    ++ line_text (codes "up") (x_of p w.mark.item) (y_of w.mark.process + 39) (x_of p w.mark.item) 118
-    ++ dot_text (x_of p w.mark.item) (y_of w.mark.process + 39) ++ codes "</g>\n"
+    ++ line_text (codes "up") (x_of p w.spot.item) (y_of w.spot.process + 39) (x_of p w.spot.item) 118
+    ++ dot_text (x_of p w.spot.item) (y_of w.spot.process + 39) ++ codes "</g>\n"
 
 -- a test that passed is a tick, and another one a cross
 unfoldable pub test_head : (x y : ℕ) → Bool → List ℕ
@@ -115,22 +115,22 @@ abbrev pub test_words : Bool → List ℕ
 test_words true = codes "a test that passes</title></path>\n"
 test_words false = codes "a test that fails</title></path>\n"
 
-unfoldable pub test_text : Part → Mark → Bool → List ℕ
-test_text p m passed = test_head (x_of p m.item) (y_of m.process + 39) passed ++ mark_text m ++ test_words passed
+unfoldable pub test_text : Part → Spot → Bool → List ℕ
+test_text p m passed = test_head (x_of p m.item) (y_of m.process + 39) passed ++ spot_text m ++ test_words passed
 
-unfoldable pub trap_text : Part → Mark → List ℕ
+unfoldable pub trap_text : Part → Spot → List ℕ
 trap_text p m =
-    path_head (codes "trap") (x_of p m.item) (y_of m.process + 8) (codes "l13 22h-26z") ++ mark_text m ++ codes "a trap</title></path>\n"
+    path_head (codes "trap") (x_of p m.item) (y_of m.process + 8) (codes "l13 22h-26z") ++ spot_text m ++ codes "a trap</title></path>\n"
 
-unfoldable pub crash_text : Part → Mark → List ℕ
+unfoldable pub crash_text : Part → Spot → List ℕ
 crash_text p m =
-    path_head (codes "crash") (x_of p m.item) (y_of m.process + 28) (codes "m-11-11l22 22m0-22l-22 22") ++ mark_text m
+    path_head (codes "crash") (x_of p m.item) (y_of m.process + 28) (codes "m-11-11l22 22m0-22l-22 22") ++ spot_text m
     ++ codes "a crash</title></path>\n"
 
 -- what is said of a loan
 unfoldable pub loan_title : Loan → List ℕ
 loan_title l =
-    codes "<g class=\"loan\"><title>" ++ mark_text l.taken ++ codes "borrows the view of the scan that process " ++ decimal l.lender
+    codes "<g class=\"loan\"><title>" ++ spot_text l.taken ++ codes "borrows the view of the scan that process " ++ decimal l.lender
     ++ codes " ended at item " ++ decimal l.ended ++ codes "</title>"
 
 -- the arrow goes from the lender to the borrower
@@ -163,7 +163,7 @@ unfoldable pub none_text : Part → Span → List ℕ
 none_text p s = none_box s (x_before p s.from) (x_of p s.to) (y_of s.process + 6) (width_of (x_before p s.from) (x_of p s.to))
 
 abbrev pub shape_text : Part → Shape → List ℕ
-shape_text p (shape.Values s) = stretch_text p s
+shape_text p (shape.Values s) = period_text p s
 shape_text p (shape.Operation b) = bar_text p b
 shape_text p (shape.Embedded s) = embedded_text p s
 shape_text p (shape.Read r) = read_text p r
@@ -180,8 +180,8 @@ abbrev pub is_drawn : Part → Shape → Bool
 is_drawn p (shape.Values s) = is_near p s.from s.to
 is_drawn p (shape.Operation b) = is_near p b.from b.to
 is_drawn p (shape.Embedded s) = not (is_thin p) && is_near p s.from s.to
-is_drawn p (shape.Read r) = not (is_thin p) && is_here p r.mark.item
-is_drawn p (shape.Write w) = is_here p w.mark.item
+is_drawn p (shape.Read r) = not (is_thin p) && is_here p r.spot.item
+is_drawn p (shape.Write w) = is_here p w.spot.item
 is_drawn p (shape.Test m passed) = not (is_thin p) && is_here p m.item
 is_drawn p (shape.Trap m) = is_here p m.item
 is_drawn p (shape.Crash m) = is_here p m.item

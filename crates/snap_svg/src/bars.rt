@@ -14,17 +14,17 @@ ghost use Rattle.snap_svg.specs.ShapeText.{
   point_text,
   point_title,
   point_words,
-  stretch_box,
-  stretch_text,
-  stretch_title,
+  period_box,
+  period_text,
+  period_title,
   values_words,
 };
 
 use crate::elements::{
     BOX_BODY, box_head, edges_text, group_head, line_text, path_head, words_head,
 };
-use crate::marks::span_text;
-use crate::shape::{Bar, End, Point, Span, Stretch};
+use crate::shape::{Bar, End, Period, Point, Span};
+use crate::spots::span_text;
 use crate::window::{Window, width_of, y_of};
 use snap_report::op_text;
 use snap_semantics::Op;
@@ -35,16 +35,16 @@ use std::alloc::AllocError;
 const LEAST_WORDS: u64 = 22;
 
 /// What is said of values.
-#[tactic(auto, using(snap_text::proofs::Texts::joined), unfolding(crate::specs::ShapeText::stretch_title))]
-fn stretch_title(out: &mut Vec<u8>, stretch: &Stretch) -> Result<(), AllocError>
-    ensures { OnOk result (out.new.items ≡ out.old.items ++ stretch_title stretch.now) }
+#[tactic(auto, using(snap_text::proofs::Texts::joined), unfolding(crate::specs::ShapeText::period_title))]
+fn period_title(out: &mut Vec<u8>, period: &Period) -> Result<(), AllocError>
+    ensures { OnOk result (out.new.items ≡ out.old.items ++ period_title period.now) }
 {
     push_text(out, b"values")?;
-    push_numbers(out, stretch.values.as_slice())?;
+    push_numbers(out, period.values.as_slice())?;
     push_text(out, b" from item ")?;
-    push_number(out, stretch.from)?;
+    push_number(out, period.from)?;
     push_text(out, b" to item ")?;
-    push_number(out, stretch.to)
+    push_number(out, period.to)
 }
 
 /// Values, where there is room for them.
@@ -61,28 +61,28 @@ fn values_words(out: &mut Vec<u8>, width: u64, values: &[u64]) -> Result<(), All
 }
 
 /// The values from an item on, in a box.
-#[tactic(auto, using(snap_text::proofs::Texts::joined), unfolding(crate::specs::ShapeText::stretch_box))]
-fn stretch_box(out: &mut Vec<u8>, stretch: &Stretch, x: u64, width: u64) -> Result<(), AllocError>
-    ensures { OnOk result (out.new.items ≡ out.old.items ++ stretch_box stretch.now x width) }
+#[tactic(auto, using(snap_text::proofs::Texts::joined), unfolding(crate::specs::ShapeText::period_box))]
+fn period_box(out: &mut Vec<u8>, period: &Period, x: u64, width: u64) -> Result<(), AllocError>
+    ensures { OnOk result (out.new.items ≡ out.old.items ++ period_box period.now x width) }
 {
     box_head(out, b"values", x, 84, width, 34)?;
-    stretch_title(out, stretch)?;
+    period_title(out, period)?;
     push_text(out, BOX_BODY)?;
-    values_words(out, width, stretch.values.as_slice())?;
+    values_words(out, width, period.values.as_slice())?;
     push_text(out, b"</svg>\n")
 }
 
 /// The values from an item on.
-#[tactic(auto, unfolding(crate::specs::ShapeText::stretch_text))]
-pub(crate) fn stretch_text(
+#[tactic(auto, unfolding(crate::specs::ShapeText::period_text))]
+pub(crate) fn period_text(
     out: &mut Vec<u8>,
     window: &Window,
-    stretch: &Stretch,
+    period: &Period,
 ) -> Result<(), AllocError>
-    ensures { OnOk result (out.new.items ≡ out.old.items ++ stretch_text window.now stretch.now) }
+    ensures { OnOk result (out.new.items ≡ out.old.items ++ period_text window.now period.now) }
 {
-    let x = window.x_of(stretch.from);
-    stretch_box(out, stretch, x, width_of(x, window.x_of(stretch.to)))
+    let x = window.x_of(period.from);
+    period_box(out, period, x, width_of(x, window.x_of(period.to)))
 }
 
 /// What came of an operation.

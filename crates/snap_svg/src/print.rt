@@ -2,9 +2,9 @@
 ghost use Rattle.std.specs.Prelude.{◌≡◌, ◌++◌, OnOk};
 ghost use Rattle.snap_svg.specs.ShapeText.{is_drawn, shape_text, shapes_text};
 
-use crate::bars::{bar_text, embedded_text, none_text, point_text, stretch_text};
-use crate::marks::{crash_text, loan_text, read_text, test_text, trap_text, write_text};
+use crate::bars::{bar_text, embedded_text, none_text, period_text, point_text};
 use crate::shape::Shape;
+use crate::spots::{crash_text, loan_text, read_text, test_text, trap_text, write_text};
 use crate::window::Window;
 use std::alloc::AllocError;
 
@@ -13,14 +13,14 @@ fn is_drawn(window: &Window, shape: &Shape) -> bool
     ensures { result ≡ is_drawn window.now shape.now }
 {
     match shape {
-        Shape::Values(stretch) => window.is_near(stretch.from, stretch.to),
+        Shape::Values(period) => window.is_near(period.from, period.to),
         Shape::Operation(bar) => window.is_near(bar.from, bar.to),
         Shape::Embedded(span) => !window.is_thin() && window.is_near(span.from, span.to),
-        Shape::Read(read) => !window.is_thin() && window.is_here(read.mark.item),
-        Shape::Write(write) => window.is_here(write.mark.item),
-        Shape::Test(mark, _) => !window.is_thin() && window.is_here(mark.item),
-        Shape::Trap(mark) => window.is_here(mark.item),
-        Shape::Crash(mark) => window.is_here(mark.item),
+        Shape::Read(read) => !window.is_thin() && window.is_here(read.spot.item),
+        Shape::Write(write) => window.is_here(write.spot.item),
+        Shape::Test(spot, _) => !window.is_thin() && window.is_here(spot.item),
+        Shape::Trap(spot) => window.is_here(spot.item),
+        Shape::Crash(spot) => window.is_here(spot.item),
         Shape::Loan(loan) => window.is_near(loan.ended, loan.taken.item),
         Shape::Point(point) => window.is_here(point.item),
         Shape::NoPoint(span) => window.is_near(span.from, span.to),
@@ -32,14 +32,14 @@ fn shape_text(out: &mut Vec<u8>, window: &Window, shape: &Shape) -> Result<(), A
     ensures { OnOk result (out.new.items ≡ out.old.items ++ shape_text window.now shape.now) }
 {
     match shape {
-        Shape::Values(stretch) => stretch_text(out, window, stretch),
+        Shape::Values(period) => period_text(out, window, period),
         Shape::Operation(bar) => bar_text(out, window, bar),
         Shape::Embedded(span) => embedded_text(out, window, *span),
         Shape::Read(read) => read_text(out, window, *read),
         Shape::Write(write) => write_text(out, window, write),
-        Shape::Test(mark, passed) => test_text(out, window, *mark, *passed),
-        Shape::Trap(mark) => trap_text(out, window, *mark),
-        Shape::Crash(mark) => crash_text(out, window, *mark),
+        Shape::Test(spot, passed) => test_text(out, window, *spot, *passed),
+        Shape::Trap(spot) => trap_text(out, window, *spot),
+        Shape::Crash(spot) => crash_text(out, window, *spot),
         Shape::Loan(loan) => loan_text(out, window, *loan),
         Shape::Point(point) => point_text(out, window, point),
         Shape::NoPoint(span) => none_text(out, window, *span),

@@ -4,7 +4,7 @@ use snap_words::View;
 
 /// The values from an item on, up to another one.
 #[derive(Debug, Drop)]
-pub struct Stretch {
+pub struct Period {
     pub from: u64,
     pub to: u64,
     pub values: View,
@@ -41,7 +41,7 @@ pub struct Span {
 
 /// An item of a process, at a line.
 #[derive(Clone, Copy, Debug)]
-pub struct Mark {
+pub struct Spot {
     pub process: u32,
     pub item: u64,
     pub line: u64,
@@ -57,7 +57,7 @@ pub struct Written {
 /// The read of a word, and who wrote it last.
 #[derive(Clone, Copy, Debug)]
 pub struct Read {
-    pub mark: Mark,
+    pub spot: Spot,
     pub word: u64,
     pub written: Option<Written>,
 }
@@ -65,7 +65,7 @@ pub struct Read {
 /// The write of a word, with the values after it.
 #[derive(Debug, Drop)]
 pub struct Write {
-    pub mark: Mark,
+    pub spot: Spot,
     pub word: u64,
     pub values: View,
 }
@@ -75,7 +75,7 @@ pub struct Write {
 pub struct Loan {
     pub lender: u32,
     pub ended: u64,
-    pub taken: Mark,
+    pub taken: Spot,
 }
 
 /// The point of a scan, the item after which the values are its answer, and how many double
@@ -91,16 +91,16 @@ pub struct Point {
 /// What is drawn.
 #[derive(Debug, Drop)]
 pub enum Shape {
-    Values(Stretch),
+    Values(Period),
     Operation(Bar),
     /// A scan within an update.
     Embedded(Span),
     Read(Read),
     Write(Write),
     /// A test that ends a double collect, and whether it passed.
-    Test(Mark, bool),
-    Trap(Mark),
-    Crash(Mark),
+    Test(Spot, bool),
+    Trap(Spot),
+    Crash(Spot),
     Loan(Loan),
     Point(Point),
     /// A finished scan without a point.

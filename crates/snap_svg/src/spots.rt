@@ -1,10 +1,10 @@
-//! The texts of marks: what one item of a process does.
+//! The texts of spots: what one item of a process does.
 ghost use Rattle.std.specs.Prelude.{◌≡◌, ◌++◌, OnOk};
 ghost use Rattle.snap_svg.specs.ShapeText.{
   crash_text,
   loan_text,
   loan_title,
-  mark_text,
+  spot_text,
   read_text,
   span_text,
   test_head,
@@ -17,7 +17,7 @@ ghost use Rattle.snap_svg.specs.ShapeText.{
 };
 
 use crate::elements::{dot_text, group_head, line_text, path_head};
-use crate::shape::{Loan, Mark, Read, Span, Write, Written};
+use crate::shape::{Loan, Read, Span, Spot, Write, Written};
 use crate::window::{Window, y_of};
 use snap_text::{push_number, push_numbers, push_text};
 use std::alloc::AllocError;
@@ -37,16 +37,16 @@ pub(crate) fn span_text(out: &mut Vec<u8>, span: Span) -> Result<(), AllocError>
 }
 
 /// `item T, process I, line L: `.
-#[tactic(auto, using(snap_text::proofs::Texts::joined), unfolding(crate::specs::ShapeText::mark_text))]
-fn mark_text(out: &mut Vec<u8>, mark: Mark) -> Result<(), AllocError>
-    ensures { OnOk result (out.new.items ≡ out.old.items ++ mark_text mark) }
+#[tactic(auto, using(snap_text::proofs::Texts::joined), unfolding(crate::specs::ShapeText::spot_text))]
+fn spot_text(out: &mut Vec<u8>, spot: Spot) -> Result<(), AllocError>
+    ensures { OnOk result (out.new.items ≡ out.old.items ++ spot_text spot) }
 {
     push_text(out, b"item ")?;
-    push_number(out, mark.item)?;
+    push_number(out, spot.item)?;
     push_text(out, b", process ")?;
-    push_number(out, u64::from(mark.process))?;
+    push_number(out, u64::from(spot.process))?;
     push_text(out, b", line ")?;
-    push_number(out, mark.line)?;
+    push_number(out, spot.line)?;
     push_text(out, b": ")
 }
 
@@ -55,10 +55,10 @@ fn mark_text(out: &mut Vec<u8>, mark: Mark) -> Result<(), AllocError>
 fn trail_text(
     out: &mut Vec<u8>,
     window: &Window,
-    mark: Mark,
+    spot: Spot,
     written: Option<Written>,
 ) -> Result<(), AllocError>
-    ensures { OnOk result (out.new.items ≡ out.old.items ++ trail_text window.now mark written) }
+    ensures { OnOk result (out.new.items ≡ out.old.items ++ trail_text window.now spot written) }
 {
     let Some(written) = written else {
         return Ok(());
@@ -71,8 +71,8 @@ fn trail_text(
         b"trail",
         window.x_of(written.item),
         y_of(written.process) + 39,
-        window.x_of(mark.item),
-        y_of(mark.process) + 39,
+        window.x_of(spot.item),
+        y_of(spot.process) + 39,
     )
 }
 
@@ -81,19 +81,19 @@ fn trail_text(
 pub(crate) fn read_text(out: &mut Vec<u8>, window: &Window, read: Read) -> Result<(), AllocError>
     ensures { OnOk result (out.new.items ≡ out.old.items ++ read_text window.now read) }
 {
-    let mark = read.mark;
+    let spot = read.spot;
     path_head(
         out,
         b"read",
-        window.x_of(mark.item),
-        y_of(mark.process) + 34,
+        window.x_of(spot.item),
+        y_of(spot.process) + 34,
         b"v10",
     )?;
-    mark_text(out, mark)?;
+    spot_text(out, spot)?;
     push_text(out, b"reads r[")?;
     push_number(out, read.word)?;
     push_text(out, b"]</title></path>")?;
-    trail_text(out, window, mark, read.written)?;
+    trail_text(out, window, spot, read.written)?;
     push_text(out, b"\n")
 }
 
@@ -102,7 +102,7 @@ pub(crate) fn read_text(out: &mut Vec<u8>, window: &Window, read: Read) -> Resul
 fn write_title(out: &mut Vec<u8>, write: &Write) -> Result<(), AllocError>
     ensures { OnOk result (out.new.items ≡ out.old.items ++ write_title write.now) }
 {
-    mark_text(out, write.mark)?;
+    spot_text(out, write.spot)?;
     push_text(out, b"writes r[")?;
     push_number(out, write.word)?;
     push_text(out, b"], values")?;
@@ -119,8 +119,8 @@ pub(crate) fn write_text(
 ) -> Result<(), AllocError>
     ensures { OnOk result (out.new.items ≡ out.old.items ++ write_text window.now write.now) }
 {
-    let x = window.x_of(write.mark.item);
-    let y = y_of(write.mark.process) + 39;
+    let x = window.x_of(write.spot.item);
+    let y = y_of(write.spot.process) + 39;
     group_head(out, b"write")?;
     write_title(out, write)?;
     line_text(out, b"up", x, y, x, 118)?;
@@ -156,45 +156,45 @@ fn test_words(out: &mut Vec<u8>, passed: bool) -> Result<(), AllocError>
 pub(crate) fn test_text(
     out: &mut Vec<u8>,
     window: &Window,
-    mark: Mark,
+    spot: Spot,
     passed: bool,
 ) -> Result<(), AllocError>
-    ensures { OnOk result (out.new.items ≡ out.old.items ++ test_text window.now mark passed) }
+    ensures { OnOk result (out.new.items ≡ out.old.items ++ test_text window.now spot passed) }
 {
-    test_head(out, window.x_of(mark.item), y_of(mark.process) + 39, passed)?;
-    mark_text(out, mark)?;
+    test_head(out, window.x_of(spot.item), y_of(spot.process) + 39, passed)?;
+    spot_text(out, spot)?;
     test_words(out, passed)
 }
 
 /// A trap.
 #[tactic(auto, using(snap_text::proofs::Texts::joined), unfolding(crate::specs::ShapeText::trap_text))]
-pub(crate) fn trap_text(out: &mut Vec<u8>, window: &Window, mark: Mark) -> Result<(), AllocError>
-    ensures { OnOk result (out.new.items ≡ out.old.items ++ trap_text window.now mark) }
+pub(crate) fn trap_text(out: &mut Vec<u8>, window: &Window, spot: Spot) -> Result<(), AllocError>
+    ensures { OnOk result (out.new.items ≡ out.old.items ++ trap_text window.now spot) }
 {
     path_head(
         out,
         b"trap",
-        window.x_of(mark.item),
-        y_of(mark.process) + 8,
+        window.x_of(spot.item),
+        y_of(spot.process) + 8,
         b"l13 22h-26z",
     )?;
-    mark_text(out, mark)?;
+    spot_text(out, spot)?;
     push_text(out, b"a trap</title></path>\n")
 }
 
 /// A crash.
 #[tactic(auto, using(snap_text::proofs::Texts::joined), unfolding(crate::specs::ShapeText::crash_text))]
-pub(crate) fn crash_text(out: &mut Vec<u8>, window: &Window, mark: Mark) -> Result<(), AllocError>
-    ensures { OnOk result (out.new.items ≡ out.old.items ++ crash_text window.now mark) }
+pub(crate) fn crash_text(out: &mut Vec<u8>, window: &Window, spot: Spot) -> Result<(), AllocError>
+    ensures { OnOk result (out.new.items ≡ out.old.items ++ crash_text window.now spot) }
 {
     path_head(
         out,
         b"crash",
-        window.x_of(mark.item),
-        y_of(mark.process) + 28,
+        window.x_of(spot.item),
+        y_of(spot.process) + 28,
         b"m-11-11l22 22m0-22l-22 22",
     )?;
-    mark_text(out, mark)?;
+    spot_text(out, spot)?;
     push_text(out, b"a crash</title></path>\n")
 }
 
@@ -204,7 +204,7 @@ fn loan_title(out: &mut Vec<u8>, loan: Loan) -> Result<(), AllocError>
     ensures { OnOk result (out.new.items ≡ out.old.items ++ loan_title loan) }
 {
     push_text(out, b"<g class=\"loan\"><title>")?;
-    mark_text(out, loan.taken)?;
+    spot_text(out, loan.taken)?;
     push_text(out, b"borrows the view of the scan that process ")?;
     push_number(out, u64::from(loan.lender))?;
     push_text(out, b" ended at item ")?;

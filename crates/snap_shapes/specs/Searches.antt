@@ -1,5 +1,5 @@
 -- What is searched for among the items of a run.
-use Rattle.std.specs.Prelude.{ℕ, zero, suc, Bool, true, false, ◌&&◌, List, [], ◌∷◌, Option, Some, None, nat_eq, if◌then◌else◌, get_or}
+use Rattle.std.specs.Prelude.{ℕ, zero, suc, Bool, true, false, ◌&&◌, ◌||◌, List, [], ◌∷◌, Option, Some, None, nat_eq, if◌then◌else◌, get_or}
 use Rattle.snap_trace.specs.declared.act.Act.{Act}
 use Rattle.snap_trace.specs.declared.act.Act.TheVariants as act
 use Rattle.snap_trace.specs.declared.act.Step.{Step}
@@ -39,6 +39,7 @@ publishes k _ = false
 abbrev pub meets : Wanted → Step → Bool
 meets (wanted.End i) s = nat_eq s.process i && is_end s.act
 meets (wanted.Leave i) s = nat_eq s.process i && is_leave s.act
+meets (wanted.Closing i) s = nat_eq s.process i && (is_leave s.act || is_end s.act)
 meets wanted.Write s = is_write s.act
 meets (wanted.WriteOf k) s = writes_word k s.act
 meets (wanted.ReadOf i k) s = nat_eq s.process i && reads_word k s.act

@@ -50,7 +50,7 @@ bar_of last s op rest = bar_to last s op (first_meeting (wanted.End s.process) r
 
 -- the scan of an update that a step began, where these follow
 abbrev pub embedded_of : ℕ → Step → List Step → Span
-embedded_of last s rest = record { process = s.process; from = s.item; to = item_or last (first_meeting (wanted.Leave s.process) rest) }
+embedded_of last s rest = record { process = s.process; from = s.item; to = item_or last (first_meeting (wanted.Closing s.process) rest) }
 
 -- the values from an item on, up to the next write
 abbrev pub period_of : ℕ → ℕ → List ℕ → List Step → Shape

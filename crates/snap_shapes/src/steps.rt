@@ -96,7 +96,7 @@ fn bar_of(
 fn embedded_of(steps: &[Step], from: usize, step: &Step) -> Span
     ensures { result ≡ embedded_of (length steps.now) step.now (drop from steps.now) }
 {
-    let found = first_from(steps, from, Wanted::Leave(step.process));
+    let found = first_from(steps, from, Wanted::Closing(step.process));
     Span {
         process: step.process,
         from: step.item,

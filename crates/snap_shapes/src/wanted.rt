@@ -21,6 +21,8 @@ pub(crate) enum Wanted {
     End(u32),
     /// The end of the scan of an update of a process.
     Leave(u32),
+    /// That, or the end of its operation.
+    Closing(u32),
     Write,
     WriteOf(u64),
     /// A process reads a word.
@@ -95,6 +97,7 @@ fn meets(wanted: Wanted, step: &Step) -> bool
     match wanted {
         Wanted::End(i) => step.process == i && is_end(&step.act),
         Wanted::Leave(i) => step.process == i && is_leave(&step.act),
+        Wanted::Closing(i) => step.process == i && (is_leave(&step.act) || is_end(&step.act)),
         Wanted::Write => is_write(&step.act),
         Wanted::WriteOf(k) => writes_word(k, &step.act),
         Wanted::ReadOf(i, k) => step.process == i && reads_word(k, &step.act),

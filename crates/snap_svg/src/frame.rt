@@ -1,5 +1,5 @@
 //! The text around what is drawn: title, lanes, numbers of items, legend.
-ghost use Rattle.std.specs.Prelude.{◌≡◌, ◌++◌, ◌×◌, ◌+◌, ◌<◌, ◌≤◌, OnOk, option_map};
+ghost use Rattle.std.specs.Prelude.{◌≡◌, ◌++◌, ◌+◌, ◌<◌, ◌≤◌, OnOk, option_map};
 ghost use Rattle.snap_svg.specs.FrameText.{
   all_ticks,
   counts_words,

@@ -116,6 +116,7 @@ impl Window {
     }
 
     /// Where the state after an item stands.
+    #[tactic(auto, using(crate::proofs::Places::quotient_le))]
     pub(crate) fn x_of(&self, item: u64) -> u64
         ensures { result ≡ x_of self.now item }
     {

@@ -37,7 +37,7 @@ fn word_of(op: Op) -> u64
 }
 
 /// The scalar of a process that has this name.
-#[tactic(auto, using(crate::proofs::Scalars::scalar_value))]
+#[tactic(auto, using(crate::proofs::Scalars::scalar_there, crate::proofs::Scalars::row_there, crate::proofs::Scalars::words_there, crate::proofs::Scalars::view_there, crate::proofs::Scalars::none_there))]
 fn scalar_of<K: Kind>(machine: &Machine<K>, i: u32, name: Name) -> u64
     requires { IsOneOf machine.now.shape.n i }
     ensures { result ≡ value_at name (process_at machine.now.state i).locals.scalars 0 }

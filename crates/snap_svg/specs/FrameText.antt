@@ -12,15 +12,21 @@ kind_name kind.Seq = codes "seq"
 kind_name kind.Bits = codes "bit"
 kind_name kind.Multi = codes "multi"
 
+unfoldable pub opening_of : ℕ → List ℕ
+opening_of height = codes "<svg xmlns=\"http://www.w3.org/2000/svg\" role=\"img\" viewBox=\"0 0 1600 " ++ decimal height ++ codes "\">\n"
+
 unfoldable pub opening : Part → List ℕ
-opening p =
-    codes "<svg xmlns=\"http://www.w3.org/2000/svg\" role=\"img\" viewBox=\"0 0 1600 " ++ decimal (height p) ++ codes "\">\n"
+opening p = opening_of (height p)
+
+-- a listing of this kind and shape, and which of its items
+unfoldable pub items_words : List ℕ → (processes words first last total : ℕ) → List ℕ
+items_words kind processes words first last total =
+    codes "A listing of kind " ++ kind ++ codes ", shape " ++ decimal processes ++ codes " " ++ decimal words ++ codes ": items " ++ decimal first
+    ++ codes " to " ++ decimal last ++ codes " of " ++ decimal total
 
 -- which listing, and which items of its run
 unfoldable pub title_words : Part → Counts → List ℕ
-title_words p c =
-    codes "A listing of kind " ++ kind_name c.kind ++ codes ", shape " ++ decimal p.processes ++ codes " " ++ decimal c.words ++ codes ": items "
-    ++ decimal (p.from + 1) ++ codes " to " ++ decimal p.to ++ codes " of " ++ decimal c.items
+title_words p c = items_words (kind_name c.kind) p.processes c.words (p.from + 1) p.to c.items
 
 -- what is left out
 abbrev pub thin_words : Part → List ℕ
@@ -49,11 +55,14 @@ listing_part (Some text) = escaped text ++ codes "\n%\n"
 unfoldable pub input_text : Option (List ℕ) → List ℕ → List ℕ
 input_text listing schedule = codes "<metadata>" ++ listing_part listing ++ escaped schedule ++ codes "</metadata>\n"
 
--- the lane of a process
+-- the lane of a process, with its name at a height
+unfoldable pub lane_box : (i y name_y : ℕ) → List ℕ
+lane_box i y name_y =
+    codes "<rect class=\"lane\"" ++ edges_text 110 y 1460 56 ++ codes "/>" ++ words_head (codes "who") 12 name_y ++ codes "process " ++ decimal i
+    ++ codes "</text>\n"
+
 unfoldable pub lane_text : ℕ → List ℕ
-lane_text i =
-    codes "<rect class=\"lane\"" ++ edges_text 110 (y_of i) 1460 56 ++ codes "/>" ++ words_head (codes "who") 12 (y_of i + 34) ++ codes "process "
-    ++ decimal i ++ codes "</text>\n"
+lane_text i = lane_box i (y_of i) (y_of i + 34)
 
 -- the lanes of so many processes
 abbrev pub lanes_text : ℕ → List ℕ
@@ -82,11 +91,14 @@ ticks_text p step t (suc k) = if nat_le t p.to then tick_text p t ++ ticks_text 
 abbrev pub all_ticks : Part → ℕ → List ℕ
 all_ticks p step = ticks_text p step (p.from - p.from % step + step) 24
 
+-- the lanes, and the numbers of items below them
+unfoldable pub all_lanes : Part → List ℕ
+all_lanes p = lanes_text p.processes ++ all_ticks p (step_of (p.to - p.from))
+
 -- what stands before the shapes; the style and the definitions of arrow and hatch are given
 unfoldable pub head_text : Part → Counts → List ℕ → List ℕ
 head_text p c style =
-    opening p ++ name_text p c ++ style ++ titles p c ++ words_head (codes "who") 12 106 ++ codes "values</text>\n" ++ lanes_text p.processes
-    ++ all_ticks p (step_of (p.to - p.from))
+    opening p ++ name_text p c ++ style ++ titles p c ++ words_head (codes "who") 12 106 ++ codes "values</text>\n" ++ all_lanes p
 
 -- what stands behind them; the legend is given
 unfoldable pub foot_text : Part → List ℕ → List ℕ

@@ -80,10 +80,12 @@ unfoldable pub bar_text : Part → Bar → List ℕ
 bar_text p b = bar_box b (x_before p b.from) (width_of (x_before p b.from) (x_of p b.to))
 
 -- a scan within an update
+unfoldable pub embedded_box : Span → (x y width : ℕ) → List ℕ
+embedded_box s x y width =
+    box_head (codes "inner") x y width 18 ++ span_text s ++ codes "the scan of an update" ++ box_body ++ codes "</svg>\n"
+
 unfoldable pub embedded_text : Part → Span → List ℕ
-embedded_text p s =
-    box_head (codes "inner") (x_before p s.from) (y_of s.process + 30) (width_of (x_before p s.from) (x_of p s.to)) 18 ++ span_text s
-    ++ codes "the scan of an update" ++ box_body ++ codes "</svg>\n"
+embedded_text p s = embedded_box s (x_before p s.from) (y_of s.process + 30) (width_of (x_before p s.from) (x_of p s.to))
 
 -- from the last write of a word to its read
 unfoldable pub trail_text : Part → Spot → Option Written → List ℕ
@@ -91,10 +93,13 @@ trail_text p m None = []
 trail_text p m (Some w) =
     if p.reads then line_text (codes "trail") (x_of p w.item) (y_of w.process + 39) (x_of p m.item) (y_of m.process + 39) else []
 
+unfoldable pub read_path : Spot → (word x y : ℕ) → List ℕ
+read_path m word x y =
+    path_head (codes "read") x y (codes "v10") ++ spot_text m ++ codes "reads r[" ++ decimal word ++ codes "]</title></path>"
+
 unfoldable pub read_text : Part → Read → List ℕ
 read_text p r =
-    path_head (codes "read") (x_of p r.spot.item) (y_of r.spot.process + 34) (codes "v10") ++ spot_text r.spot ++ codes "reads r[" ++ decimal r.word
-    ++ codes "]</title></path>" ++ trail_text p r.spot r.written ++ codes "\n"
+    read_path r.spot r.word (x_of p r.spot.item) (y_of r.spot.process + 34) ++ trail_text p r.spot r.written ++ codes "\n"
 
 -- what is said of a write
 unfoldable pub write_title : Write → List ℕ
@@ -118,20 +123,26 @@ test_words false = codes "a test that fails</title></path>\n"
 unfoldable pub test_text : Part → Spot → Bool → List ℕ
 test_text p m passed = test_head (x_of p m.item) (y_of m.process + 39) passed ++ spot_text m ++ test_words passed
 
+unfoldable pub trap_path : Spot → (x y : ℕ) → List ℕ
+trap_path m x y = path_head (codes "trap") x y (codes "l13 22h-26z") ++ spot_text m ++ codes "a trap</title></path>\n"
+
 unfoldable pub trap_text : Part → Spot → List ℕ
-trap_text p m =
-    path_head (codes "trap") (x_of p m.item) (y_of m.process + 8) (codes "l13 22h-26z") ++ spot_text m ++ codes "a trap</title></path>\n"
+trap_text p m = trap_path m (x_of p m.item) (y_of m.process + 8)
+
+unfoldable pub crash_path : Spot → (x y : ℕ) → List ℕ
+crash_path m x y = path_head (codes "crash") x y (codes "m-11-11l22 22m0-22l-22 22") ++ spot_text m ++ codes "a crash</title></path>\n"
 
 unfoldable pub crash_text : Part → Spot → List ℕ
-crash_text p m =
-    path_head (codes "crash") (x_of p m.item) (y_of m.process + 28) (codes "m-11-11l22 22m0-22l-22 22") ++ spot_text m
-    ++ codes "a crash</title></path>\n"
+crash_text p m = crash_path m (x_of p m.item) (y_of m.process + 28)
 
 -- what is said of a loan
+unfoldable pub loan_words : Spot → (lender ended : ℕ) → List ℕ
+loan_words m lender ended =
+    codes "<g class=\"loan\"><title>" ++ spot_text m ++ codes "borrows the view of the scan that process " ++ decimal lender
+    ++ codes " ended at item " ++ decimal ended ++ codes "</title>"
+
 unfoldable pub loan_title : Loan → List ℕ
-loan_title l =
-    codes "<g class=\"loan\"><title>" ++ spot_text l.taken ++ codes "borrows the view of the scan that process " ++ decimal l.lender
-    ++ codes " ended at item " ++ decimal l.ended ++ codes "</title>"
+loan_title l = loan_words l.taken l.lender l.ended
 
 -- the arrow goes from the lender to the borrower
 unfoldable pub loan_text : Part → Loan → List ℕ
@@ -139,19 +150,25 @@ loan_text p l =
     loan_title l ++ line_text (codes "arrow") (x_of p l.ended) (y_of l.lender + 39) (x_of p l.taken.item) (y_of l.taken.process + 39) ++ codes "</g>\n"
 
 -- what is said of a point
+unfoldable pub found_words : Span → ℕ → List ℕ → ℕ → List ℕ
+found_words s item values collects =
+    span_text s ++ codes "a scan with its point after item " ++ decimal item ++ codes ", values" ++ numbers_text values
+    ++ codes ", double collects " ++ decimal collects ++ codes "</title>"
+
 unfoldable pub point_title : Point → List ℕ
-point_title q =
-    span_text q.scan ++ codes "a scan with its point after item " ++ decimal q.item ++ codes ", values" ++ numbers_text q.values
-    ++ codes ", double collects " ++ decimal q.collects ++ codes "</title>"
+point_title q = found_words q.scan q.item q.values q.collects
 
 -- the state of a point, where there is room for it
 unfoldable pub point_words : Part → Point → List ℕ
 point_words p q = if is_thin p then [] else words_head (codes "seen") (x_of p q.item) 78 ++ numbers_text q.values ++ codes "</text>"
 
+unfoldable pub point_path : Part → Point → (x y : ℕ) → List ℕ
+point_path p q x y =
+    group_head (codes "point") ++ point_title q ++ line_text (codes "drop") x 118 x y ++ path_head (codes "diamond") x 106 (codes "l9 12-9 12-9-12z")
+    ++ codes "</title></path>" ++ point_words p q ++ codes "</g>\n"
+
 unfoldable pub point_text : Part → Point → List ℕ
-point_text p q =
-    group_head (codes "point") ++ point_title q ++ line_text (codes "drop") (x_of p q.item) 118 (x_of p q.item) (y_of q.scan.process + 6)
-    ++ path_head (codes "diamond") (x_of p q.item) 106 (codes "l9 12-9 12-9-12z") ++ codes "</title></path>" ++ point_words p q ++ codes "</g>\n"
+point_text p q = point_path p q (x_of p q.item) (y_of q.scan.process + 6)
 
 -- a scan without a point is crossed out
 unfoldable pub none_box : Span → (x right y width : ℕ) → List ℕ

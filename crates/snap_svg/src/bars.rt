@@ -7,16 +7,19 @@ ghost use Rattle.snap_svg.specs.ShapeText.{
   bar_span,
   bar_text,
   bar_words,
+  embedded_box,
   embedded_text,
   end_text,
+  found_words,
   none_box,
   none_text,
-  point_text,
-  point_title,
-  point_words,
   period_box,
   period_text,
   period_title,
+  point_path,
+  point_text,
+  point_title,
+  point_words,
   values_words,
 };
 
@@ -161,8 +164,20 @@ pub(crate) fn bar_text(out: &mut Vec<u8>, window: &Window, bar: &Bar) -> Result<
     bar_box(out, bar, x, width_of(x, window.x_of(bar.to)))
 }
 
+/// A scan within an update, in a box.
+#[tactic(auto, using(snap_text::proofs::Texts::joined), unfolding(crate::specs::ShapeText::embedded_box))]
+fn embedded_box(out: &mut Vec<u8>, span: Span, x: u64, y: u64, width: u64) -> Result<(), AllocError>
+    ensures { OnOk result (out.new.items ≡ out.old.items ++ embedded_box span x y width) }
+{
+    box_head(out, b"inner", x, y, width, 18)?;
+    span_text(out, span)?;
+    push_text(out, b"the scan of an update")?;
+    push_text(out, BOX_BODY)?;
+    push_text(out, b"</svg>\n")
+}
+
 /// A scan within an update.
-#[tactic(auto, using(snap_text::proofs::Texts::joined), unfolding(crate::specs::ShapeText::embedded_text))]
+#[tactic(auto, unfolding(crate::specs::ShapeText::embedded_text))]
 pub(crate) fn embedded_text(
     out: &mut Vec<u8>,
     window: &Window,
@@ -172,26 +187,42 @@ pub(crate) fn embedded_text(
 {
     let x = window.x_before(span.from);
     let width = width_of(x, window.x_of(span.to));
-    box_head(out, b"inner", x, y_of(span.process) + 30, width, 18)?;
-    span_text(out, span)?;
-    push_text(out, b"the scan of an update")?;
-    push_text(out, BOX_BODY)?;
-    push_text(out, b"</svg>\n")
+    embedded_box(out, span, x, y_of(span.process) + 30, width)
 }
 
 /// What is said of a point.
-#[tactic(auto, using(snap_text::proofs::Texts::joined), unfolding(crate::specs::ShapeText::point_title))]
+#[tactic(auto, using(snap_text::proofs::Texts::joined), unfolding(crate::specs::ShapeText::found_words))]
+fn found_words(
+    out: &mut Vec<u8>,
+    scan: Span,
+    item: u64,
+    values: &[u64],
+    collects: u64,
+) -> Result<(), AllocError>
+    ensures { OnOk result (out.new.items ≡ out.old.items ++ found_words scan item values.now collects) }
+{
+    span_text(out, scan)?;
+    push_text(out, b"a scan with its point after item ")?;
+    push_number(out, item)?;
+    push_text(out, b", values")?;
+    push_numbers(out, values)?;
+    push_text(out, b", double collects ")?;
+    push_number(out, collects)?;
+    push_text(out, b"</title>")
+}
+
+/// What is said of a point.
+#[tactic(auto, unfolding(crate::specs::ShapeText::point_title))]
 fn point_title(out: &mut Vec<u8>, point: &Point) -> Result<(), AllocError>
     ensures { OnOk result (out.new.items ≡ out.old.items ++ point_title point.now) }
 {
-    span_text(out, point.scan)?;
-    push_text(out, b"a scan with its point after item ")?;
-    push_number(out, point.item)?;
-    push_text(out, b", values")?;
-    push_numbers(out, point.values.as_slice())?;
-    push_text(out, b", double collects ")?;
-    push_number(out, point.collects)?;
-    push_text(out, b"</title>")
+    found_words(
+        out,
+        point.scan,
+        point.item,
+        point.values.as_slice(),
+        point.collects,
+    )
 }
 
 /// The state of a point, where there is room for it.
@@ -207,8 +238,28 @@ fn point_words(out: &mut Vec<u8>, window: &Window, point: &Point) -> Result<(), 
     push_text(out, b"</text>")
 }
 
+/// The point of a scan, with a line down to the scan.
+#[tactic(auto, using(snap_text::proofs::Texts::joined), unfolding(crate::specs::ShapeText::point_path))]
+fn point_path(
+    out: &mut Vec<u8>,
+    window: &Window,
+    point: &Point,
+    x: u64,
+    y: u64,
+) -> Result<(), AllocError>
+    ensures { OnOk result (out.new.items ≡ out.old.items ++ point_path window.now point.now x y) }
+{
+    group_head(out, b"point")?;
+    point_title(out, point)?;
+    line_text(out, b"drop", x, 118, x, y)?;
+    path_head(out, b"diamond", x, 106, b"l9 12-9 12-9-12z")?;
+    push_text(out, b"</title></path>")?;
+    point_words(out, window, point)?;
+    push_text(out, b"</g>\n")
+}
+
 /// The point of a scan.
-#[tactic(auto, using(snap_text::proofs::Texts::joined), unfolding(crate::specs::ShapeText::point_text))]
+#[tactic(auto, unfolding(crate::specs::ShapeText::point_text))]
 pub(crate) fn point_text(
     out: &mut Vec<u8>,
     window: &Window,
@@ -216,14 +267,8 @@ pub(crate) fn point_text(
 ) -> Result<(), AllocError>
     ensures { OnOk result (out.new.items ≡ out.old.items ++ point_text window.now point.now) }
 {
-    let x = window.x_of(point.item);
-    group_head(out, b"point")?;
-    point_title(out, point)?;
-    line_text(out, b"drop", x, 118, x, y_of(point.scan.process) + 6)?;
-    path_head(out, b"diamond", x, 106, b"l9 12-9 12-9-12z")?;
-    push_text(out, b"</title></path>")?;
-    point_words(out, window, point)?;
-    push_text(out, b"</g>\n")
+    let y = y_of(point.scan.process) + 6;
+    point_path(out, window, point, window.x_of(point.item), y)
 }
 
 /// A scan without a point, crossed out.

@@ -1,17 +1,21 @@
 //! The text around what is drawn: title, lanes, numbers of items, legend.
 ghost use Rattle.std.specs.Prelude.{◌≡◌, ◌++◌, ◌+◌, ◌<◌, ◌≤◌, OnOk, option_map};
 ghost use Rattle.snap_svg.specs.FrameText.{
+  all_lanes,
   all_ticks,
   counts_words,
   foot_text,
   head_text,
   input_text,
+  items_words,
   kind_name,
+  lane_box,
   lane_text,
   lanes_text,
   listing_part,
   name_text,
   opening,
+  opening_of,
   step_of,
   thin_words,
   tick_text,
@@ -51,35 +55,67 @@ fn kind_name(kind: KindTag) -> &'static [u8]
     }
 }
 
-#[tactic(auto, using(snap_text::proofs::Texts::joined), unfolding(crate::specs::FrameText::opening))]
-fn opening(out: &mut Vec<u8>, window: &Window) -> Result<(), AllocError>
-    ensures { OnOk result (out.new.items ≡ out.old.items ++ opening window.now) }
+/// The opening of a picture of this height.
+#[tactic(auto, using(snap_text::proofs::Texts::joined), unfolding(crate::specs::FrameText::opening_of))]
+fn opening_of(out: &mut Vec<u8>, height: u64) -> Result<(), AllocError>
+    ensures { OnOk result (out.new.items ≡ out.old.items ++ opening_of height) }
 {
     push_text(
         out,
         b"<svg xmlns=\"http://www.w3.org/2000/svg\" role=\"img\" viewBox=\"0 0 1600 ",
     )?;
-    push_number(out, window.height())?;
+    push_number(out, height)?;
     push_text(out, b"\">\n")
 }
 
+#[tactic(auto, unfolding(crate::specs::FrameText::opening))]
+fn opening(out: &mut Vec<u8>, window: &Window) -> Result<(), AllocError>
+    ensures { OnOk result (out.new.items ≡ out.old.items ++ opening window.now) }
+{
+    opening_of(out, window.height())
+}
+
+/// A listing of this kind and shape, and which of its items.
+#[tactic(auto, using(snap_text::proofs::Texts::joined), unfolding(crate::specs::FrameText::items_words))]
+fn items_words(
+    out: &mut Vec<u8>,
+    kind: &[u8],
+    processes: u64,
+    words: u64,
+    first: u64,
+    last: u64,
+    total: u64,
+) -> Result<(), AllocError>
+    ensures { OnOk result (out.new.items ≡ out.old.items ++ items_words kind.now processes words first last total) }
+{
+    push_text(out, b"A listing of kind ")?;
+    push_text(out, kind)?;
+    push_text(out, b", shape ")?;
+    push_number(out, processes)?;
+    push_text(out, b" ")?;
+    push_number(out, words)?;
+    push_text(out, b": items ")?;
+    push_number(out, first)?;
+    push_text(out, b" to ")?;
+    push_number(out, last)?;
+    push_text(out, b" of ")?;
+    push_number(out, total)
+}
+
 /// Which listing, and which items of its run.
-#[tactic(auto, using(snap_text::proofs::Texts::joined), unfolding(crate::specs::FrameText::title_words))]
+#[tactic(auto, unfolding(crate::specs::FrameText::title_words))]
 fn title_words(out: &mut Vec<u8>, window: &Window, counts: &Counts) -> Result<(), AllocError>
     ensures { OnOk result (out.new.items ≡ out.old.items ++ title_words window.now counts.now) }
 {
-    push_text(out, b"A listing of kind ")?;
-    push_text(out, kind_name(counts.kind))?;
-    push_text(out, b", shape ")?;
-    push_number(out, window.processes())?;
-    push_text(out, b" ")?;
-    push_number(out, counts.words)?;
-    push_text(out, b": items ")?;
-    push_number(out, window.first())?;
-    push_text(out, b" to ")?;
-    push_number(out, window.to())?;
-    push_text(out, b" of ")?;
-    push_number(out, counts.items)
+    items_words(
+        out,
+        kind_name(counts.kind),
+        window.processes(),
+        counts.words,
+        window.first(),
+        window.to(),
+        counts.items,
+    )
 }
 
 /// What is left out.
@@ -160,18 +196,27 @@ pub fn push_input(
     push_text(out, b"</metadata>\n")
 }
 
+/// The lane of a process, with its name at a height.
+#[tactic(auto, using(snap_text::proofs::Texts::joined), unfolding(crate::specs::FrameText::lane_box))]
+fn lane_box(out: &mut Vec<u8>, process: u64, y: u64, name_y: u64) -> Result<(), AllocError>
+    ensures { OnOk result (out.new.items ≡ out.old.items ++ lane_box process y name_y) }
+{
+    push_text(out, b"<rect class=\"lane\"")?;
+    edges_text(out, 110, y, 1460, 56)?;
+    push_text(out, b"/>")?;
+    words_head(out, b"who", 12, name_y)?;
+    push_text(out, b"process ")?;
+    push_number(out, process)?;
+    push_text(out, b"</text>\n")
+}
+
 /// The lane of a process.
-#[tactic(auto, using(snap_text::proofs::Texts::joined), unfolding(crate::specs::FrameText::lane_text))]
+#[tactic(auto, unfolding(crate::specs::FrameText::lane_text))]
 fn lane_text(out: &mut Vec<u8>, process: u32) -> Result<(), AllocError>
     ensures { OnOk result (out.new.items ≡ out.old.items ++ lane_text process) }
 {
-    push_text(out, b"<rect class=\"lane\"")?;
-    edges_text(out, 110, y_of(process), 1460, 56)?;
-    push_text(out, b"/>")?;
-    words_head(out, b"who", 12, y_of(process) + 34)?;
-    push_text(out, b"process ")?;
-    push_number(out, u64::from(process))?;
-    push_text(out, b"</text>\n")
+    let y = y_of(process);
+    lane_box(out, u64::from(process), y, y + 34)
 }
 
 /// The lanes of so many processes.
@@ -224,7 +269,7 @@ fn all_ticks(out: &mut Vec<u8>, window: &Window, step: u64) -> Result<(), AllocE
 {
     let from = window.from();
     let mut item = from - from % step + step;
-    let mut left = 24;
+    let mut left: u64 = 24;
     while left > 0 {
         if item > window.to() {
             return Ok(());
@@ -234,6 +279,15 @@ fn all_ticks(out: &mut Vec<u8>, window: &Window, step: u64) -> Result<(), AllocE
         left -= 1;
     }
     Ok(())
+}
+
+/// The lanes, and the numbers of items below them.
+#[tactic(auto, using(snap_text::proofs::Texts::joined), unfolding(crate::specs::FrameText::all_lanes))]
+fn all_lanes(out: &mut Vec<u8>, window: &Window) -> Result<(), AllocError>
+    ensures { OnOk result (out.new.items ≡ out.old.items ++ all_lanes window.now) }
+{
+    lanes_text(out, window.processes())?;
+    all_ticks(out, window, step_of(window.count()))
 }
 
 /// Adds what stands before the shapes.
@@ -252,8 +306,7 @@ pub fn push_head(
     titles(out, window, counts)?;
     words_head(out, b"who", 12, 106)?;
     push_text(out, b"values</text>\n")?;
-    lanes_text(out, window.processes())?;
-    all_ticks(out, window, step_of(window.count()))
+    all_lanes(out, window)
 }
 
 /// Adds what stands behind the shapes.

@@ -1,16 +1,20 @@
 //! The texts of spots: what one item of a process does.
 ghost use Rattle.std.specs.Prelude.{◌≡◌, ◌++◌, OnOk};
 ghost use Rattle.snap_svg.specs.ShapeText.{
+  crash_path,
   crash_text,
   loan_text,
   loan_title,
-  spot_text,
+  loan_words,
+  read_path,
   read_text,
   span_text,
+  spot_text,
   test_head,
   test_text,
   test_words,
   trail_text,
+  trap_path,
   trap_text,
   write_text,
   write_title,
@@ -76,23 +80,31 @@ fn trail_text(
     )
 }
 
+/// A read, in a path.
+#[tactic(auto, using(snap_text::proofs::Texts::joined), unfolding(crate::specs::ShapeText::read_path))]
+fn read_path(out: &mut Vec<u8>, spot: Spot, word: u64, x: u64, y: u64) -> Result<(), AllocError>
+    ensures { OnOk result (out.new.items ≡ out.old.items ++ read_path spot word x y) }
+{
+    path_head(out, b"read", x, y, b"v10")?;
+    spot_text(out, spot)?;
+    push_text(out, b"reads r[")?;
+    push_number(out, word)?;
+    push_text(out, b"]</title></path>")
+}
+
 /// A read.
 #[tactic(auto, using(snap_text::proofs::Texts::joined), unfolding(crate::specs::ShapeText::read_text))]
 pub(crate) fn read_text(out: &mut Vec<u8>, window: &Window, read: Read) -> Result<(), AllocError>
     ensures { OnOk result (out.new.items ≡ out.old.items ++ read_text window.now read) }
 {
     let spot = read.spot;
-    path_head(
+    read_path(
         out,
-        b"read",
+        spot,
+        read.word,
         window.x_of(spot.item),
         y_of(spot.process) + 34,
-        b"v10",
     )?;
-    spot_text(out, spot)?;
-    push_text(out, b"reads r[")?;
-    push_number(out, read.word)?;
-    push_text(out, b"]</title></path>")?;
     trail_text(out, window, spot, read.written)?;
     push_text(out, b"\n")
 }
@@ -166,50 +178,62 @@ pub(crate) fn test_text(
     test_words(out, passed)
 }
 
-/// A trap.
-#[tactic(auto, using(snap_text::proofs::Texts::joined), unfolding(crate::specs::ShapeText::trap_text))]
-pub(crate) fn trap_text(out: &mut Vec<u8>, window: &Window, spot: Spot) -> Result<(), AllocError>
-    ensures { OnOk result (out.new.items ≡ out.old.items ++ trap_text window.now spot) }
+/// A trap, in a path.
+#[tactic(auto, using(snap_text::proofs::Texts::joined), unfolding(crate::specs::ShapeText::trap_path))]
+fn trap_path(out: &mut Vec<u8>, spot: Spot, x: u64, y: u64) -> Result<(), AllocError>
+    ensures { OnOk result (out.new.items ≡ out.old.items ++ trap_path spot x y) }
 {
-    path_head(
-        out,
-        b"trap",
-        window.x_of(spot.item),
-        y_of(spot.process) + 8,
-        b"l13 22h-26z",
-    )?;
+    path_head(out, b"trap", x, y, b"l13 22h-26z")?;
     spot_text(out, spot)?;
     push_text(out, b"a trap</title></path>\n")
 }
 
-/// A crash.
-#[tactic(auto, using(snap_text::proofs::Texts::joined), unfolding(crate::specs::ShapeText::crash_text))]
-pub(crate) fn crash_text(out: &mut Vec<u8>, window: &Window, spot: Spot) -> Result<(), AllocError>
-    ensures { OnOk result (out.new.items ≡ out.old.items ++ crash_text window.now spot) }
+/// A trap.
+#[tactic(auto, unfolding(crate::specs::ShapeText::trap_text))]
+pub(crate) fn trap_text(out: &mut Vec<u8>, window: &Window, spot: Spot) -> Result<(), AllocError>
+    ensures { OnOk result (out.new.items ≡ out.old.items ++ trap_text window.now spot) }
 {
-    path_head(
-        out,
-        b"crash",
-        window.x_of(spot.item),
-        y_of(spot.process) + 28,
-        b"m-11-11l22 22m0-22l-22 22",
-    )?;
+    trap_path(out, spot, window.x_of(spot.item), y_of(spot.process) + 8)
+}
+
+/// A crash, in a path.
+#[tactic(auto, using(snap_text::proofs::Texts::joined), unfolding(crate::specs::ShapeText::crash_path))]
+fn crash_path(out: &mut Vec<u8>, spot: Spot, x: u64, y: u64) -> Result<(), AllocError>
+    ensures { OnOk result (out.new.items ≡ out.old.items ++ crash_path spot x y) }
+{
+    path_head(out, b"crash", x, y, b"m-11-11l22 22m0-22l-22 22")?;
     spot_text(out, spot)?;
     push_text(out, b"a crash</title></path>\n")
 }
 
+/// A crash.
+#[tactic(auto, unfolding(crate::specs::ShapeText::crash_text))]
+pub(crate) fn crash_text(out: &mut Vec<u8>, window: &Window, spot: Spot) -> Result<(), AllocError>
+    ensures { OnOk result (out.new.items ≡ out.old.items ++ crash_text window.now spot) }
+{
+    crash_path(out, spot, window.x_of(spot.item), y_of(spot.process) + 28)
+}
+
 /// What is said of a loan.
-#[tactic(auto, using(snap_text::proofs::Texts::joined), unfolding(crate::specs::ShapeText::loan_title))]
+#[tactic(auto, using(snap_text::proofs::Texts::joined), unfolding(crate::specs::ShapeText::loan_words))]
+fn loan_words(out: &mut Vec<u8>, taken: Spot, lender: u64, ended: u64) -> Result<(), AllocError>
+    ensures { OnOk result (out.new.items ≡ out.old.items ++ loan_words taken lender ended) }
+{
+    push_text(out, b"<g class=\"loan\"><title>")?;
+    spot_text(out, taken)?;
+    push_text(out, b"borrows the view of the scan that process ")?;
+    push_number(out, lender)?;
+    push_text(out, b" ended at item ")?;
+    push_number(out, ended)?;
+    push_text(out, b"</title>")
+}
+
+/// What is said of a loan.
+#[tactic(auto, unfolding(crate::specs::ShapeText::loan_title))]
 fn loan_title(out: &mut Vec<u8>, loan: Loan) -> Result<(), AllocError>
     ensures { OnOk result (out.new.items ≡ out.old.items ++ loan_title loan) }
 {
-    push_text(out, b"<g class=\"loan\"><title>")?;
-    spot_text(out, loan.taken)?;
-    push_text(out, b"borrows the view of the scan that process ")?;
-    push_number(out, u64::from(loan.lender))?;
-    push_text(out, b" ended at item ")?;
-    push_number(out, loan.ended)?;
-    push_text(out, b"</title>")
+    loan_words(out, loan.taken, u64::from(loan.lender), loan.ended)
 }
 
 /// A loan: an arrow from the lender to the borrower.

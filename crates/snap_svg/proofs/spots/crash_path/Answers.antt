@@ -1,0 +1,14 @@
+-- The pieces, one after another.
+use Rattle.std.proofs.Common.{◌≡◌, ◌++◌, codes, decimal}
+use Rattle.std.proofs.lemmas.Result.{on_ok_weaker}
+use Rattle.snap_text.proofs.Texts.{joined}
+use Rattle.snap_svg.specs.ShapeText.{crash_path}
+use Rattle.snap_svg.proofs.spots.crash_path.Goals as goal
+
+pub returns : goal.returns
+unfolding crash_path
+returns c =
+    on_ok_weaker {P = c.push_text.new.out.items ≡ c.spot_text.new.out.items ++ codes "a crash</title></path>\n"}
+    {Q = c.push_text.new.out.items ≡ c.args.out.now.items ++ crash_path c.args.spot c.args.x c.args.y} c.push_text.result
+    (λ e. joined _ _ _ _ _ c.in_ok-path_head.ensures (joined _ _ _ _ _ c.in_ok-spot_text.ensures e))
+    c.push_text.ensures

@@ -22,8 +22,8 @@ unfolding reference
 reference_no_tag b = by_plane (is_markup b)
   where
     by_plane : (t : Bool) → AllByRecursion (λ x. x ≢ 60) (codes "&#x" ++ (if t then codes "00" else codes "E0") ++ hex_digit (b / 16) ∷ hex_digit (b % 16) ∷ 59 ∷ [])
-    by_plane true = ((λ e. absurd cc), ((λ e. absurd cc), ((λ e. absurd cc), ((λ e. absurd cc), ((λ e. absurd cc), (digit_not_less (b / 16), (digit_not_less (b % 16), ((λ e. absurd cc), tt))))))))
-    by_plane false = ((λ e. absurd cc), ((λ e. absurd cc), ((λ e. absurd cc), ((λ e. absurd cc), ((λ e. absurd cc), (digit_not_less (b / 16), (digit_not_less (b % 16), ((λ e. absurd cc), tt))))))))
+    by_plane true = ((λ e. omega (arith, e)), ((λ e. omega (arith, e)), ((λ e. omega (arith, e)), ((λ e. omega (arith, e)), ((λ e. omega (arith, e)), (digit_not_less (b / 16), (digit_not_less (b % 16), ((λ e. omega (arith, e)), tt))))))))
+    by_plane false = ((λ e. omega (arith, e)), ((λ e. omega (arith, e)), ((λ e. omega (arith, e)), ((λ e. omega (arith, e)), ((λ e. omega (arith, e)), (digit_not_less (b / 16), (digit_not_less (b % 16), ((λ e. omega (arith, e)), tt))))))))
 
 no_tag_byte : (b : ℕ) → AllByRecursion (λ x. x ≢ 60) (escaped_byte b)
 unfolding escaped_byte

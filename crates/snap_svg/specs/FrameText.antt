@@ -1,5 +1,5 @@
 -- The text around what is drawn: title, lanes, numbers of items, legend.
-use Rattle.std.specs.Prelude.{ℕ, zero, suc, ◌+◌, ◌-◌, ◌%◌, List, [], ◌∷◌, ◌++◌, Option, Some, None, codes, decimal, nat_le, if◌then◌else◌}
+use Rattle.std.specs.Prelude.{ℕ, zero, suc, ◌+◌, ◌-◌, ◌*◌, ◌/◌, ◌%◌, List, [], ◌∷◌, ◌++◌, Option, Some, None, codes, decimal, nat_le, if◌then◌else◌}
 use Rattle.snap_words.specs.declared.kind.KindTag.{KindTag}
 use Rattle.snap_words.specs.declared.kind.KindTag.TheVariants as kind
 use Rattle.snap_svg.specs.Elements.{line_text, words_head, edges_text}
@@ -82,14 +82,18 @@ tick_text p t =
     line_text (codes "tick") (x_of p t) (y_end p) (x_of p t) (y_end p + 6) ++ words_head (codes "number") (x_of p t) (y_end p + 22) ++ decimal t
     ++ codes "</text>\n"
 
--- so many numbers at most, a step apart, the first of which is this
-abbrev pub ticks_text : Part → (step t count : ℕ) → List ℕ
-ticks_text p step t zero = []
-ticks_text p step t (suc k) = if nat_le t p.to then tick_text p t ++ ticks_text p step (t + step) k else []
+-- the number of an item that is drawn
+abbrev pub tick_or_none : Part → ℕ → List ℕ
+tick_or_none p t = if nat_le t p.to then tick_text p t else []
+
+-- so many numbers, a step apart, from the first one on
+abbrev pub ticks_text : Part → (step first count : ℕ) → List ℕ
+ticks_text p step first zero = []
+ticks_text p step first (suc k) = ticks_text p step first k ++ tick_or_none p (first + k * step)
 
 -- the multiples of a step behind the first item
 abbrev pub all_ticks : Part → ℕ → List ℕ
-all_ticks p step = ticks_text p step (p.from - p.from % step + step) 24
+all_ticks p step = ticks_text p step (p.from - p.from % step + step) ((p.to - p.from) / step + 1)
 
 -- the lanes, and the numbers of items below them
 unfoldable pub all_lanes : Part → List ℕ

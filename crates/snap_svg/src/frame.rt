@@ -18,7 +18,9 @@ ghost use Rattle.snap_svg.specs.FrameText.{
   opening_of,
   step_of,
   thin_words,
+  tick_or_none,
   tick_text,
+  ticks_text,
   title_words,
   titles,
 };
@@ -262,23 +264,46 @@ fn tick_text(out: &mut Vec<u8>, window: &Window, item: u64) -> Result<(), AllocE
     push_text(out, b"</text>\n")
 }
 
+/// The number of an item that is drawn.
+fn tick_or_none(out: &mut Vec<u8>, window: &Window, item: u64) -> Result<(), AllocError>
+    ensures { OnOk result (out.new.items ≡ out.old.items ++ tick_or_none window.now item) }
+{
+    if item <= window.to() {
+        tick_text(out, window, item)
+    } else {
+        Ok(())
+    }
+}
+
+/// So many numbers, a step apart, from the first one on.
+fn ticks_text(
+    out: &mut Vec<u8>,
+    window: &Window,
+    step: u64,
+    first: u64,
+    count: u64,
+) -> Result<(), AllocError>
+    requires { (step ≤ 2000) × ((first ≤ 1002000) × (count ≤ 20001)) }
+    ensures { OnOk result (out.new.items ≡ out.old.items
+        ++ ticks_text window.now step first count) }
+{
+    let mut item = first;
+    for _k in 0..count {
+        tick_or_none(out, window, item)?;
+        item += step;
+    }
+    Ok(())
+}
+
 /// The numbers of items.
+#[tactic(auto, using(crate::proofs::Places::quotient_le))]
 fn all_ticks(out: &mut Vec<u8>, window: &Window, step: u64) -> Result<(), AllocError>
     requires { (0 < step) × (step ≤ 2000) }
     ensures { OnOk result (out.new.items ≡ out.old.items ++ all_ticks window.now step) }
 {
     let from = window.from();
-    let mut item = from - from % step + step;
-    let mut left: u64 = 24;
-    while left > 0 {
-        if item > window.to() {
-            return Ok(());
-        }
-        tick_text(out, window, item)?;
-        item += step;
-        left -= 1;
-    }
-    Ok(())
+    let first = from - from % step + step;
+    ticks_text(out, window, step, first, window.count() / step + 1)
 }
 
 /// The lanes, and the numbers of items below them.

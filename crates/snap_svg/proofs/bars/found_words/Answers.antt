@@ -1,7 +1,6 @@
 -- The pieces, one after another.
-use Rattle.std.proofs.Common.{◌≡◌, ◌++◌, codes, decimal}
+use Rattle.std.proofs.Common.{◌≡◌, ◌++◌, append_assoc, codes, decimal}
 use Rattle.std.proofs.lemmas.Result.{on_ok_weaker}
-use Rattle.snap_text.proofs.Texts.{joined}
 use Rattle.snap_svg.specs.ShapeText.{found_words}
 use Rattle.snap_svg.proofs.bars.found_words.Goals as goal
 
@@ -10,5 +9,5 @@ unfolding found_words
 returns c =
     on_ok_weaker {P = c.push_text-4.new.out.items ≡ c.push_number-2.new.out.items ++ codes "</title>"}
     {Q = c.push_text-4.new.out.items ≡ c.args.out.now.items ++ found_words c.args.scan c.args.item c.args.values.now c.args.collects} c.push_text-4.result
-    (λ e. joined _ _ _ _ _ c.in_ok-span_text.ensures (joined _ _ _ _ _ c.in_ok-push_text.ensures (joined _ _ _ _ _ c.in_ok-push_number.ensures (joined _ _ _ _ _ c.in_ok-push_text-2.ensures (joined _ _ _ _ _ c.in_ok-push_numbers.ensures (joined _ _ _ _ _ c.in_ok-push_text-3.ensures (joined _ _ _ _ _ c.in_ok-push_number-2.ensures e)))))))
+    (λ e. rw (e, c.in_ok-push_number-2.ensures, c.in_ok-push_text-3.ensures, c.in_ok-push_numbers.ensures, c.in_ok-push_text-2.ensures, c.in_ok-push_number.ensures, c.in_ok-push_text.ensures, c.in_ok-span_text.ensures) (simp append_assoc))
     c.push_text-4.ensures

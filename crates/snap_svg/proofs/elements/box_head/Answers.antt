@@ -1,7 +1,6 @@
 -- The pieces, one after another.
-use Rattle.std.proofs.Common.{◌≡◌, ◌++◌, codes, decimal}
+use Rattle.std.proofs.Common.{◌≡◌, ◌++◌, append_assoc, codes, decimal}
 use Rattle.std.proofs.lemmas.Result.{on_ok_weaker}
-use Rattle.snap_text.proofs.Texts.{joined}
 use Rattle.snap_svg.specs.Elements.{box_head}
 use Rattle.snap_svg.proofs.elements.box_head.Goals as goal
 
@@ -10,5 +9,5 @@ unfolding box_head
 returns c =
     on_ok_weaker {P = c.push_text-4.new.out.items ≡ c.edges_text.new.out.items ++ codes "><title>"}
     {Q = c.push_text-4.new.out.items ≡ c.args.out.now.items ++ box_head c.args.class.now c.args.x c.args.y c.args.width c.args.height} c.push_text-4.result
-    (λ e. joined _ _ _ _ _ c.in_ok-push_text.ensures (joined _ _ _ _ _ c.in_ok-push_text-2.ensures (joined _ _ _ _ _ c.in_ok-push_text-3.ensures (joined _ _ _ _ _ c.in_ok-edges_text.ensures e))))
+    (λ e. rw (e, c.in_ok-edges_text.ensures, c.in_ok-push_text-3.ensures, c.in_ok-push_text-2.ensures, c.in_ok-push_text.ensures) (simp append_assoc))
     c.push_text-4.ensures

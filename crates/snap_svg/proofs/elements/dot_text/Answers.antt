@@ -1,7 +1,6 @@
 -- The pieces, one after another.
-use Rattle.std.proofs.Common.{◌≡◌, ◌++◌, codes, decimal}
+use Rattle.std.proofs.Common.{◌≡◌, ◌++◌, append_assoc, codes, decimal}
 use Rattle.std.proofs.lemmas.Result.{on_ok_weaker}
-use Rattle.snap_text.proofs.Texts.{joined}
 use Rattle.snap_svg.specs.Elements.{dot_text}
 use Rattle.snap_svg.proofs.elements.dot_text.Goals as goal
 
@@ -10,5 +9,5 @@ unfolding dot_text
 returns c =
     on_ok_weaker {P = c.push_text-2.new.out.items ≡ c.attribute-2.new.out.items ++ codes "/>"}
     {Q = c.push_text-2.new.out.items ≡ c.args.out.now.items ++ dot_text c.args.x c.args.y} c.push_text-2.result
-    (λ e. joined _ _ _ _ _ c.in_ok-push_text.ensures (joined _ _ _ _ _ c.in_ok-attribute.ensures (joined _ _ _ _ _ c.in_ok-attribute-2.ensures e)))
+    (λ e. rw (e, c.in_ok-attribute-2.ensures, c.in_ok-attribute.ensures, c.in_ok-push_text.ensures) (simp append_assoc))
     c.push_text-2.ensures

@@ -1,7 +1,6 @@
 -- The pieces, one after another.
-use Rattle.std.proofs.Common.{◌≡◌, ◌++◌, codes, decimal}
+use Rattle.std.proofs.Common.{◌≡◌, ◌++◌, append_assoc, codes, decimal}
 use Rattle.std.proofs.lemmas.Result.{on_ok_weaker}
-use Rattle.snap_text.proofs.Texts.{joined}
 use Rattle.snap_svg.specs.ShapeText.{crash_path}
 use Rattle.snap_svg.proofs.spots.crash_path.Goals as goal
 
@@ -10,5 +9,5 @@ unfolding crash_path
 returns c =
     on_ok_weaker {P = c.push_text.new.out.items ≡ c.spot_text.new.out.items ++ codes "a crash</title></path>\n"}
     {Q = c.push_text.new.out.items ≡ c.args.out.now.items ++ crash_path c.args.spot c.args.x c.args.y} c.push_text.result
-    (λ e. joined _ _ _ _ _ c.in_ok-path_head.ensures (joined _ _ _ _ _ c.in_ok-spot_text.ensures e))
+    (λ e. rw (e, c.in_ok-spot_text.ensures, c.in_ok-path_head.ensures) (simp append_assoc))
     c.push_text.ensures

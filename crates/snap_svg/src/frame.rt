@@ -288,9 +288,11 @@ fn ticks_text(
         ++ ticks_text window.now step first count) }
 {
     let mut item = first;
-    for _k in 0..count {
+    let mut k = 0;
+    while k < count {
         tick_or_none(out, window, item)?;
         item += step;
+        k += 1;
     }
     Ok(())
 }

@@ -9,13 +9,13 @@ ghost use Rattle.snap_picture.specs.declared.refusal.PictureRefusal.TheVariants 
 use crate::options::{Look, Options};
 use crate::refusal::PictureRefusal;
 use crate::sought::{Sought, count};
+use snap_acts::trace;
 use snap_asm_program::Program;
 use snap_record::{Record, record_over};
 use snap_sched::Schedule;
 use snap_semantics::Fault;
 use snap_shapes::shapes;
 use snap_svg::{Counts, Shape, Window, push_foot, push_head, push_input, push_shapes};
-use snap_trace::trace;
 use snap_words::{Bits, Kind, KindTag, Multi, Seq};
 use std::alloc::{AllocError, Global};
 

@@ -1,8 +1,8 @@
 -- What is searched for among the items of a run.
 use Rattle.std.specs.Prelude.{ℕ, zero, suc, Bool, true, false, ◌&&◌, ◌||◌, List, [], ◌∷◌, Option, Some, None, nat_eq, if◌then◌else◌, get_or}
-use Rattle.snap_trace.specs.declared.act.Act.{Act}
-use Rattle.snap_trace.specs.declared.act.Act.TheVariants as act
-use Rattle.snap_trace.specs.declared.act.Step.{Step}
+use Rattle.snap_acts.specs.declared.act.Act.{Act}
+use Rattle.snap_acts.specs.declared.act.Act.TheVariants as act
+use Rattle.snap_acts.specs.declared.act.Step.{Step}
 use Rattle.snap_shapes.specs.declared.wanted.Wanted.{Wanted}
 use Rattle.snap_shapes.specs.declared.wanted.Wanted.TheVariants as wanted
 

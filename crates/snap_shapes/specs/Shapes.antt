@@ -5,10 +5,10 @@ use Rattle.snap_runs.specs.Run.{Run}
 use Rattle.snap_runs.specs.declared.verdict.Verdict.{Verdict}
 use Rattle.snap_record.specs.Record.{values_after}
 use Rattle.snap_semantics.specs.declared.process.Op.{Op}
-use Rattle.snap_trace.specs.Trace.{trace_of}
-use Rattle.snap_trace.specs.declared.act.Act.{Act}
-use Rattle.snap_trace.specs.declared.act.Act.TheVariants as act
-use Rattle.snap_trace.specs.declared.act.Step.{Step}
+use Rattle.snap_acts.specs.Trace.{trace_of}
+use Rattle.snap_acts.specs.declared.act.Act.{Act}
+use Rattle.snap_acts.specs.declared.act.Act.TheVariants as act
+use Rattle.snap_acts.specs.declared.act.Step.{Step}
 use Rattle.snap_svg.specs.declared.shape.Bar.{Bar}
 use Rattle.snap_svg.specs.declared.shape.End.{End}
 use Rattle.snap_svg.specs.declared.shape.End.TheVariants as ended

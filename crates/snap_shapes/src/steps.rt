@@ -23,9 +23,9 @@ ghost use Rattle.snap_shapes.specs.Shapes.{
 };
 
 use crate::wanted::{Wanted, first_from, last_before};
+use snap_acts::{Act, Step};
 use snap_semantics::Op;
 use snap_svg::{Bar, End, Loan, Period, Read, Shape, Span, Spot, Write, Written};
-use snap_trace::{Act, Step};
 use snap_words::View;
 use std::alloc::{AllocError, Global};
 

@@ -12,7 +12,7 @@ ghost use Rattle.snap_shapes.specs.Searches.{
   writes_word,
 };
 
-use snap_trace::{Act, Step};
+use snap_acts::{Act, Step};
 
 /// A step that is searched for.
 #[derive(Clone, Copy, Debug)]

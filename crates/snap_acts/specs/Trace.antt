@@ -16,11 +16,11 @@ use Rattle.snap_semantics.specs.declared.process.Outcome.TheVariants as outcome
 use Rattle.snap_semantics.specs.declared.process.Status.{Status}
 use Rattle.snap_semantics.specs.declared.process.Status.TheVariants.{Idle, Busy, Trapped, Crashed}
 use Rattle.snap_runs.specs.Run.{Run}
-use Rattle.snap_trace.specs.declared.act.Act.{Act}
-use Rattle.snap_trace.specs.declared.act.Act.TheVariants as act
-use Rattle.snap_trace.specs.declared.act.Step.{Step}
-use Rattle.snap_trace.specs.declared.plan.Plan.{Plan}
-use Rattle.snap_trace.specs.declared.plan.Plan.TheVariants as plan
+use Rattle.snap_acts.specs.declared.act.Act.{Act}
+use Rattle.snap_acts.specs.declared.act.Act.TheVariants as act
+use Rattle.snap_acts.specs.declared.act.Step.{Step}
+use Rattle.snap_acts.specs.declared.plan.Plan.{Plan}
+use Rattle.snap_acts.specs.declared.plan.Plan.TheVariants as plan
 
 -- who takes the values of a line
 abbrev pub context_of : Counts → ℕ → Process → Op → Context

@@ -1,5 +1,5 @@
-use Rattle.snap_trace.proofs.Traces.{Going}
-use Rattle.snap_trace.proofs.tracer.trace.Given as goal
+use Rattle.snap_acts.proofs.Traces.{Going}
+use Rattle.snap_acts.proofs.tracer.trace.Given as goal
 
 -- the first items are done, and the others are left
 abbrev pub invariant-loop-item : goal.invariant-loop-item

@@ -5,7 +5,7 @@ ghost use Rattle.snap_semantics.specs.Readers.{line_of};
 ghost use Rattle.snap_semantics.specs.State.{process_at};
 ghost use Rattle.snap_semantics.specs.Table.{done, who};
 ghost use Rattle.snap_runs.specs.Run.{run_over};
-ghost use Rattle.snap_trace.specs.Trace.{act_of, call_act, line_number, stands_at, step_of, stepped, trace_of};
+ghost use Rattle.snap_acts.specs.Trace.{act_of, call_act, line_number, stands_at, step_of, stepped, trace_of};
 
 use crate::act::{Act, Step};
 use crate::plan::{Plan, plan_of};

@@ -6,8 +6,8 @@ use Rattle.snap_semantics.specs.declared.process.Item.{Item}
 use Rattle.snap_semantics.specs.Source.{Source}
 use Rattle.snap_semantics.specs.State.{initial}
 use Rattle.snap_semantics.specs.Table.{done, who}
-use Rattle.snap_trace.specs.Trace.{step_of, steps_of}
-use Rattle.snap_trace.specs.declared.tracer.Tracer.{Tracer}
+use Rattle.snap_acts.specs.Trace.{step_of, steps_of}
+use Rattle.snap_acts.specs.declared.tracer.Tracer.{Tracer}
 
 -- of these items some are done, and the others are left
 pub record Going {K W : Type 0} (s : Source) (n : Counts) (all : List Item) (c : Tracer K W) (left : List Item) : Type 0 where

@@ -5,7 +5,7 @@ ghost use Rattle.snap_semantics.specs.Source.{instr_at};
 ghost use Rattle.snap_semantics.specs.State.{process_at, value_at};
 ghost use Rattle.snap_semantics.specs.Table.{who};
 ghost use Rattle.snap_semantics.specs.Value.{index_value, word_of};
-ghost use Rattle.snap_trace.specs.Trace.{context_of, plan_of, plan_of_instr, plan_of_line};
+ghost use Rattle.snap_acts.specs.Trace.{context_of, plan_of, plan_of_instr, plan_of_line};
 
 use snap_machine::{Local, Machine};
 use snap_semantics::{Activity, Index, Instr, Item, Name, Op, Status};

@@ -32,6 +32,7 @@ fn given_or(other: u64, given: Option<u64>) -> u64
 }
 
 /// The items from one to another, where a run has so many.
+#[tactic(auto, using(crate::proofs::Parts::is_part))]
 fn window_between(
     total: u64,
     first: u64,
@@ -49,6 +50,8 @@ fn window_between(
     if last - before > MOST_ITEMS {
         return Err(PictureRefusal::TooManyItems(last - before));
     }
+    // There is at least one process, and there are few.
+    let _processes = shape.process_count();
     match Window::new(before, last, shape, reads) {
         Some(window) => Ok(window),
         None => unreachable!(),

@@ -37,9 +37,9 @@ def inline(text):
 
 
 def paragraphs(text):
-    """The paragraphs of a piece of a document, without its blocks of commands."""
+    """The paragraphs of a piece of a document, without its blocks of commands and its pictures."""
     text = re.sub(r"(?ms)^```.*?^```$", "", text)
-    return [part.strip() for part in re.split(r"\n\s*\n", text) if part.strip()]
+    return [part.strip() for part in re.split(r"\n\s*\n", text) if part.strip() and not part.startswith("![")]
 
 
 def sections():

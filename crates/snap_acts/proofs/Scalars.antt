@@ -1,0 +1,58 @@
+-- The scalars of a process, by name.
+use Rattle.std.proofs.Common.{◌≡◌, ℕ, Bool, true, false, List, [], ◌∷◌, Option, Some, None, refl, sym, ap, ◌∙◌, option_map, bytes_eq, if◌then◌else◌}
+use Rattle.snap_words.specs.Word.{Word}
+use Rattle.snap_semantics.specs.Rules.{or_else}
+use Rattle.snap_semantics.specs.Readers.{LocalValue, NumberValue, RowValue, WordsValue, ViewValue, find_name, local_value}
+use Rattle.snap_semantics.specs.Source.{Name}
+use Rattle.snap_semantics.specs.State.{Locals, NameMap, value_at}
+
+-- a number, and 0 where there is none
+abbrev pub number_in : Option LocalValue → ℕ
+number_in (Some (NumberValue n)) = n
+number_in _ = 0
+
+abbrev or_zero : Option ℕ → ℕ
+or_zero None = 0
+or_zero (Some n) = n
+
+found : (x : Name) (named : NameMap ℕ) → value_at x named 0 ≡ or_zero (find_name x named)
+found x [] = refl
+found x (e ∷ es) = by_name (bytes_eq x e.0) (found x es)
+  where
+    by_name : (b : Bool) → value_at x es 0 ≡ or_zero (find_name x es) →
+        (if b then e.1 else value_at x es 0) ≡ or_zero (if b then Some e.1 else find_name x es)
+    by_name true rest = refl
+    by_name false rest = rest
+
+among : (a : Option ℕ) (b : Option (List ℕ)) (c : Option (List Word)) (d : Option (List ℕ)) →
+    or_zero a ≡ number_in (or_else (option_map (λ x. NumberValue x) a) (or_else (option_map (λ x. RowValue x) b)
+    (or_else (option_map (λ x. WordsValue x) c) (option_map (λ x. ViewValue x) d))))
+among (Some x) b c d = refl
+among None (Some x) c d = refl
+among None None (Some x) d = refl
+among None None None (Some x) = refl
+among None None None None = refl
+
+-- the value of a scalar is the number that is found by its name
+scalar_value : (l : Locals) (x : Name) → value_at x l.scalars 0 ≡ number_in (local_value l x)
+scalar_value l x = found x l.scalars ∙ among (find_name x l.scalars) (find_name x l.rows) (find_name x l.words) (find_name x l.views)
+
+-- a scalar has the name
+pub scalar_there : (l : Locals) (x : Name) (n : ℕ) → Some (NumberValue n) ≡ local_value l x → value_at x l.scalars 0 ≡ n
+scalar_there l x n h = scalar_value l x ∙ sym (ap number_in h)
+
+-- a row has it
+pub row_there : (l : Locals) (x : Name) (row : List ℕ) → Some (RowValue row) ≡ local_value l x → value_at x l.scalars 0 ≡ 0
+row_there l x row h = scalar_value l x ∙ sym (ap number_in h)
+
+-- words have it
+pub words_there : (l : Locals) (x : Name) (words : List Word) → Some (WordsValue words) ≡ local_value l x → value_at x l.scalars 0 ≡ 0
+words_there l x words h = scalar_value l x ∙ sym (ap number_in h)
+
+-- a view has it
+pub view_there : (l : Locals) (x : Name) (view : List ℕ) → Some (ViewValue view) ≡ local_value l x → value_at x l.scalars 0 ≡ 0
+view_there l x view h = scalar_value l x ∙ sym (ap number_in h)
+
+-- no local has it
+pub none_there : (l : Locals) (x : Name) → None ≡ local_value l x → value_at x l.scalars 0 ≡ 0
+none_there l x h = scalar_value l x ∙ sym (ap number_in h)

@@ -1,0 +1,108 @@
+-- What each item of a run did, as far as a picture shows it.
+use Rattle.std.specs.Prelude.{ℕ, ◌+◌, Bool, false, List, [], ◌∷◌, Option, Some, None, nat_eq}
+use Rattle.snap_words.specs.Shape.{Counts}
+use Rattle.snap_semantics.specs.Readers.{line_of}
+use Rattle.snap_semantics.specs.Source.{Source, instr_at}
+use Rattle.snap_semantics.specs.State.{Process, State, initial, process_at, values}
+use Rattle.snap_semantics.specs.Table.{done, who}
+use Rattle.snap_semantics.specs.Value.{Context, index_value}
+use Rattle.snap_semantics.specs.declared.instr.Instr.{Instr}
+use Rattle.snap_semantics.specs.declared.instr.Instr.TheVariants as instr
+use Rattle.snap_semantics.specs.declared.process.Item.{Item}
+use Rattle.snap_semantics.specs.declared.process.Item.TheVariants as item
+use Rattle.snap_semantics.specs.declared.process.Op.{Op}
+use Rattle.snap_semantics.specs.declared.process.Outcome.{Outcome}
+use Rattle.snap_semantics.specs.declared.process.Outcome.TheVariants as outcome
+use Rattle.snap_semantics.specs.declared.process.Status.{Status}
+use Rattle.snap_semantics.specs.declared.process.Status.TheVariants.{Idle, Busy, Trapped, Crashed}
+use Rattle.snap_runs.specs.Run.{Run}
+use Rattle.snap_acts.specs.declared.act.Act.{Act}
+use Rattle.snap_acts.specs.declared.act.Act.TheVariants as act
+use Rattle.snap_acts.specs.declared.act.Step.{Step}
+use Rattle.snap_acts.specs.declared.plan.Plan.{Plan}
+use Rattle.snap_acts.specs.declared.plan.Plan.TheVariants as plan
+
+-- who takes the values of a line
+abbrev pub context_of : Counts → ℕ → Process → Op → Context
+context_of shape i p op = record { shape = shape; me = i; op = op; locals = p.locals; place = 0 }
+
+-- what a line is about to do
+abbrev pub plan_of_line : Context → Instr → Plan
+plan_of_line c (instr.Put i t) = plan.Write (index_value c i)
+plan_of_line c (instr.PutView i x) = plan.Publish (index_value c i)
+plan_of_line c (instr.Get x i j) = plan.Read (index_value c j)
+plan_of_line c (instr.Look x i) = plan.Look (index_value c i)
+plan_of_line c (instr.ViewOf x y i) = plan.Borrow (index_value c i)
+plan_of_line c (instr.IfAll g k target) = plan.Test target
+plan_of_line c (instr.Call target) = plan.Enter
+plan_of_line c (instr.Return x) = plan.Leave
+plan_of_line c _ = plan.Other
+
+abbrev pub plan_of_instr : Context → Option Instr → Plan
+plan_of_instr c None = plan.Other
+plan_of_instr c (Some i) = plan_of_line c i
+
+-- what a step of a process that stands so is about to do
+abbrev pub plan_in : Source → Counts → ℕ → Process → Status → Plan
+plan_in s shape i p (Busy a) = plan_of_instr (context_of shape i p a.op) (instr_at s.lines a.line)
+plan_in s shape i p _ = plan.Other
+
+-- what an item is about to do
+abbrev pub plan_of : Source → Counts → State → Item → Plan
+plan_of s shape S (item.Step i) = plan_in s shape i (process_at S i) (process_at S i).status
+plan_of s shape S (item.Call i op) = plan.Other
+plan_of s shape S (item.Crash i) = plan.Other
+
+-- whether a process stands at this line
+abbrev pub stands_at : Option ℕ → ℕ → Bool
+stands_at None target = false
+stands_at (Some line) target = nat_eq line target
+
+-- what a step did that was about to do this, where process i goes on in this state
+abbrev pub stepped : Plan → State → ℕ → Act
+stepped (plan.Write word) S i = act.Write word (values S)
+stepped (plan.Publish k) S i = act.Publish k
+stepped (plan.Read word) S i = act.Read word
+stepped (plan.Look k) S i = act.Look k
+stepped (plan.Borrow k) S i = act.Borrow k
+stepped (plan.Test target) S i = act.Test (stands_at (line_of (process_at S i).status) target)
+stepped plan.Enter S i = act.Enter
+stepped plan.Leave S i = act.Leave
+stepped plan.Other S i = act.Other
+
+abbrev pub call_act : Item → Act
+call_act (item.Call i op) = act.Call op
+call_act _ = act.Other
+
+-- what an item of process i did that was about to do this and came to that
+abbrev pub act_of : Plan → State → ℕ → Item → Outcome → Act
+act_of p S i x outcome.Called = call_act x
+act_of p S i x outcome.Stepped = stepped p S i
+act_of p S i x (outcome.Answered view) = act.Answer view
+act_of p S i x outcome.Finished = act.Done
+act_of p S i x (outcome.Trapped cause) = act.Trap
+act_of p S i x outcome.Crashed = act.Crash
+act_of p S i x (outcome.Skipped reason) = act.Skip
+
+-- a line, and 0 where there is none
+abbrev pub line_number : Option ℕ → ℕ
+line_number None = 0
+line_number (Some line) = line
+
+-- item t, before which there is this state
+unfoldable pub step_of : Source → Counts → State → ℕ → Item → Step
+step_of s shape S t x = record {
+  process = who x;
+  item = t;
+  line = line_number (line_of (process_at S (who x)).status);
+  act = act_of (plan_of s shape S x) (done s shape S x).0 (who x) x (done s shape S x).1;
+}
+
+-- the items from item t on
+abbrev pub steps_of : Source → Counts → State → ℕ → List Item → List Step
+steps_of s shape S t [] = []
+steps_of s shape S t (x ∷ xs) = step_of s shape S t x ∷ steps_of s shape (done s shape S x).0 (t + 1) xs
+
+-- the items of a run
+abbrev pub trace_of : Run → List Step
+trace_of r = steps_of r.source r.shape (initial r.source r.shape) 1 r.items

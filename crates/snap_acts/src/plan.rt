@@ -1,0 +1,117 @@
+//! What an item is about to do.
+ghost use Rattle.std.specs.Prelude.{◌≡◌};
+ghost use Rattle.snap_words.specs.Shape.{IsOneOf};
+ghost use Rattle.snap_semantics.specs.Source.{instr_at};
+ghost use Rattle.snap_semantics.specs.State.{process_at, value_at};
+ghost use Rattle.snap_semantics.specs.Table.{who};
+ghost use Rattle.snap_semantics.specs.Value.{index_value, word_of};
+ghost use Rattle.snap_acts.specs.Trace.{context_of, plan_of, plan_of_instr, plan_of_line};
+
+use snap_machine::{Local, Machine};
+use snap_semantics::{Activity, Index, Instr, Item, Name, Op, Status};
+use snap_words::Kind;
+
+/// What a line is about to do, with its indices taken.
+#[derive(Clone, Copy, Debug)]
+pub(crate) enum Plan {
+    Write(u64),
+    Publish(u64),
+    Read(u64),
+    Look(u64),
+    Borrow(u64),
+    /// A test that leads to this line if it passes.
+    Test(u64),
+    Enter,
+    Leave,
+    Other,
+}
+
+/// The word of an update, and 0 in a scan.
+fn word_of(op: Op) -> u64
+    ensures { result ≡ word_of op }
+{
+    match op {
+        Op::Scan => 0,
+        Op::Update { word, .. } => word,
+    }
+}
+
+/// The scalar of a process that has this name.
+#[tactic(auto, using(crate::proofs::Scalars::scalar_there, crate::proofs::Scalars::row_there, crate::proofs::Scalars::words_there, crate::proofs::Scalars::view_there, crate::proofs::Scalars::none_there))]
+fn scalar_of<K: Kind>(machine: &Machine<K>, i: u32, name: Name) -> u64
+    requires { IsOneOf machine.now.shape.n i }
+    ensures { result ≡ value_at name (process_at machine.now.state i).locals.scalars 0 }
+{
+    match machine.local(i, name) {
+        Some(Local::Number(number)) => number,
+        Some(Local::Row(_)) => 0,
+        Some(Local::Words(_)) => 0,
+        Some(Local::View(_)) => 0,
+        None => 0,
+    }
+}
+
+/// The place that an index stands for.
+fn index_value<K: Kind>(machine: &Machine<K>, i: u32, op: Op, index: Index) -> u64
+    requires { IsOneOf machine.now.shape.n i }
+    ensures { result ≡ index_value (context_of machine.now.shape i (process_at machine.now.state i) op)
+        index }
+{
+    match index {
+        Index::Number(k) => k,
+        Index::Processes => machine.shape().n(),
+        Index::Words => machine.shape().w(),
+        Index::Me => u64::from(i),
+        Index::Word => word_of(op),
+        Index::Place => 0,
+        Index::Scalar(name) => scalar_of(machine, i, name),
+    }
+}
+
+/// What a line is about to do.
+fn plan_of_line<K: Kind>(machine: &Machine<K>, i: u32, op: Op, instr: &Instr) -> Plan
+    requires { IsOneOf machine.now.shape.n i }
+    ensures { result ≡ plan_of_line (context_of machine.now.shape i (process_at machine.now.state i) op)
+        instr.now }
+{
+    match instr {
+        Instr::Put(k, _) => Plan::Write(index_value(machine, i, op, *k)),
+        Instr::PutView(k, _) => Plan::Publish(index_value(machine, i, op, *k)),
+        Instr::Get(_, _, k) => Plan::Read(index_value(machine, i, op, *k)),
+        Instr::Look(_, k) => Plan::Look(index_value(machine, i, op, *k)),
+        Instr::ViewOf(_, _, k) => Plan::Borrow(index_value(machine, i, op, *k)),
+        Instr::IfAll(_, _, target) => Plan::Test(*target),
+        Instr::Call(_) => Plan::Enter,
+        Instr::Return(_) => Plan::Leave,
+        _ => Plan::Other,
+    }
+}
+
+/// What the line is about to do at which a process stands.
+fn plan_at<K: Kind>(machine: &Machine<K>, i: u32, activity: Activity) -> Plan
+    requires { IsOneOf machine.now.shape.n i }
+    ensures { result ≡ plan_of_instr
+        (context_of machine.now.shape i (process_at machine.now.state i) activity.op)
+        (instr_at machine.now.source.lines activity.line) }
+{
+    match machine.program().listing().instr(activity.line) {
+        Some(instr) => plan_of_line(machine, i, activity.op, instr),
+        None => Plan::Other,
+    }
+}
+
+/// What an item is about to do.
+pub(crate) fn plan_of<K: Kind>(machine: &Machine<K>, item: Item) -> Plan
+    requires { IsOneOf machine.now.shape.n (who item) }
+    ensures { result ≡ plan_of machine.now.source machine.now.shape machine.now.state item }
+{
+    let Item::Step(i) = item else {
+        return Plan::Other;
+    };
+    match machine.status(i) {
+        Status::Busy(activity) => plan_at(machine, i, activity),
+        Status::Idle => Plan::Other,
+        Status::Trapped(_, _) => Plan::Other,
+        Status::Crashed(_) => Plan::Other,
+    }
+}

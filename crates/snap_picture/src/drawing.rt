@@ -1,0 +1,209 @@
+//! The picture of a listing under a schedule.
+ghost use Rattle.std.specs.Prelude.{◌≡◌, ◌≤◌, IfOk, length, option_map};
+ghost use Rattle.snap_runs.specs.Run.{run_over};
+ghost use Rattle.snap_semantics.specs.Answers.{Answers, Gives, refused_as};
+ghost use Rattle.snap_perform.specs.Perform.{schedule_for};
+ghost use Rattle.snap_picture.specs.Picture.{counts_of, given_or, part_between, part_of, picture_by, picture_of, picture_text};
+ghost use Rattle.snap_picture.specs.declared.refusal.PictureRefusal.TheVariants as refusal;
+
+use crate::options::{Look, Options};
+use crate::refusal::PictureRefusal;
+use crate::sought::{Sought, count};
+use snap_acts::trace;
+use snap_asm_program::Program;
+use snap_record::{Record, record_over};
+use snap_sched::Schedule;
+use snap_semantics::Fault;
+use snap_shapes::shapes;
+use snap_svg::{Counts, Shape, Window, push_foot, push_head, push_input, push_shapes};
+use snap_words::{Bits, Kind, KindTag, Multi, Seq};
+use std::alloc::{AllocError, Global};
+
+/// The most items that a picture has.
+const MOST_ITEMS: u64 = 20_000;
+
+fn given_or(other: u64, given: Option<u64>) -> u64
+    ensures { result ≡ given_or other given }
+{
+    match given {
+        Some(number) => number,
+        None => other,
+    }
+}
+
+/// The items from one to another, where a run has so many.
+#[tactic(auto, using(crate::proofs::Parts::is_part))]
+fn window_between(
+    total: u64,
+    first: u64,
+    last: u64,
+    shape: snap_words::Shape,
+    reads: bool,
+) -> Result<Window, PictureRefusal>
+    requires { total ≤ 1000000 }
+    ensures { Gives (λ w. w) result (part_between total first last shape reads) }
+{
+    if first == 0 || last < first || total < last {
+        return Err(PictureRefusal::NoSuchItems(total));
+    }
+    let before = first - 1;
+    if last - before > MOST_ITEMS {
+        return Err(PictureRefusal::TooManyItems(last - before));
+    }
+    // There is at least one process, and there are few.
+    let _processes = shape.process_count();
+    match Window::new(before, last, shape, reads) {
+        Some(window) => Ok(window),
+        None => unreachable!(),
+    }
+}
+
+/// The items that are asked for.
+#[tactic(auto, unfolding(crate::specs::Picture::part_of))]
+fn window_for(
+    total: u64,
+    shape: snap_words::Shape,
+    options: &Options,
+) -> Result<Window, PictureRefusal>
+    requires { total ≤ 1000000 }
+    ensures { Gives (λ w. w) result (part_of total shape options.now) }
+{
+    window_between(
+        total,
+        given_or(1, options.from),
+        given_or(total, options.to),
+        shape,
+        options.reads,
+    )
+}
+
+/// What a title says of a run.
+#[tactic(auto, unfolding(crate::specs::Picture::counts_of))]
+fn counts_of<K: Kind>(history: &Record<K>, shapes: &[Shape]) -> Counts
+    ensures { result ≡ counts_of history.now shapes.now }
+{
+    let machine = history.machine();
+    Counts {
+        kind: machine.program().kind(),
+        words: machine.shape().w(),
+        items: history.items().len() as u64,
+        scans: count(Sought::Scan, shapes),
+        without_point: count(Sought::NoPoint, shapes),
+        updates: count(Sought::Update, shapes),
+    }
+}
+
+/// The picture of a run of which these shapes are drawn.
+#[tactic(auto, using(snap_text::proofs::Texts::joined), unfolding(crate::specs::Picture::picture_by))]
+fn picture_by<K: Kind>(
+    alloc: Global,
+    history: &Record<K>,
+    shapes: &[Shape],
+    window: &Window,
+    listing: Option<&[u8]>,
+    schedule: &[u8],
+    look: &Look<'_>,
+) -> Result<Vec<u8>, AllocError>
+    ensures { IfOk result (λ out. out.items ≡ picture_by history.now shapes.now window.now
+        (option_map (λ t. t.now) listing.entry) schedule.now look.now.style.now look.now.legend.now) }
+{
+    let mut out = Vec::new(alloc);
+    push_head(&mut out, window, &counts_of(history, shapes), look.style)?;
+    push_input(&mut out, listing, schedule)?;
+    push_shapes(&mut out, window, shapes)?;
+    push_foot(&mut out, window, look.legend)?;
+    Ok(out)
+}
+
+/// The picture of a program's run over a schedule.
+fn picture_text<K: Kind>(
+    alloc: Global,
+    program: &Program,
+    items: &Schedule,
+    window: &Window,
+    listing: Option<&[u8]>,
+    schedule: &[u8],
+    look: &Look<'_>,
+) -> Result<Vec<u8>, AllocError>
+    requires { program.now.kind ≡ K.TAG }
+    ensures { IfOk result (λ out. out.items ≡ picture_text (run_over program.now items.now) window.now
+        (option_map (λ t. t.now) listing.entry) schedule.now look.now.style.now look.now.legend.now) }
+{
+    let history = record_over::<K>(alloc, program, items)?;
+    let steps = trace::<K>(alloc, program, items)?;
+    let shapes = shapes(alloc, &history, steps.as_slice())?;
+    picture_by(
+        alloc,
+        &history,
+        shapes.as_slice(),
+        window,
+        listing,
+        schedule,
+        look,
+    )
+}
+
+/// Reads a schedule whose shape fits the kind of a program.
+fn schedule_of<K: Kind>(
+    alloc: Global,
+    program: &Program,
+    text: &[u8],
+) -> Result<Schedule, Fault<PictureRefusal>>
+    requires { program.now.kind ≡ K.TAG }
+    ensures { Answers (λ s. s) result (refused_as refusal.Input (schedule_for program.now text.now)) }
+{
+    match snap_perform::schedule_for::<K>(alloc, program, text) {
+        Ok(schedule) => Ok(schedule),
+        Err(Fault::Memory) => Err(Fault::Memory),
+        Err(Fault::Refused(refusal)) => Err(Fault::Refused(PictureRefusal::Input(refusal))),
+    }
+}
+
+/// The picture of a program of a kind under a schedule.
+#[tactic(auto, unfolding(crate::specs::Picture::picture_of))]
+fn picture_of_kind<K: Kind>(
+    alloc: Global,
+    program: &Program,
+    listing: Option<&[u8]>,
+    schedule: &[u8],
+    options: &Options,
+    look: &Look<'_>,
+) -> Result<Vec<u8>, Fault<PictureRefusal>>
+    requires { program.now.kind ≡ K.TAG }
+    ensures { Answers (λ out. out.items) result (picture_of program.now
+        (option_map (λ t. t.now) listing.entry) schedule.now options.now look.now.style.now
+        look.now.legend.now) }
+{
+    let items = schedule_of::<K>(alloc, program, schedule)?;
+    match window_for(items.items().len(), items.shape(), options) {
+        Ok(window) => Ok(picture_text::<K>(
+            alloc, program, &items, &window, listing, schedule, look,
+        )?),
+        Err(refusal) => Err(Fault::Refused(refusal)),
+    }
+}
+
+/// The picture of a program under a schedule, as SVG. The text of its listing, where one is given,
+/// and that of the schedule are in it.
+pub fn picture(
+    alloc: Global,
+    program: &Program,
+    listing: Option<&[u8]>,
+    schedule: &[u8],
+    options: &Options,
+    look: &Look<'_>,
+) -> Result<Vec<u8>, Fault<PictureRefusal>>
+    ensures { Answers (λ out. out.items) result (picture_of program.now
+        (option_map (λ t. t.now) listing.entry) schedule.now options.now look.now.style.now
+        look.now.legend.now) }
+{
+    match program.kind() {
+        KindTag::Seq => { picture_of_kind::<Seq>(alloc, program, listing, schedule, options, look) }
+        KindTag::Bits => {
+            picture_of_kind::<Bits>(alloc, program, listing, schedule, options, look)
+        }
+        KindTag::Multi => {
+            picture_of_kind::<Multi>(alloc, program, listing, schedule, options, look)
+        }
+    }
+}

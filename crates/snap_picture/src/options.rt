@@ -1,0 +1,16 @@
+//! What is asked for.
+
+/// Which items are drawn, where not all are, and whether reads lead to what they read.
+#[derive(Clone, Copy, Debug)]
+pub struct Options {
+    pub from: Option<u64>,
+    pub to: Option<u64>,
+    pub reads: bool,
+}
+
+/// How a picture looks: its style with the definitions of arrow and hatch, and its legend, as SVG.
+#[derive(Clone, Copy, Debug)]
+pub struct Look<'a> {
+    pub style: &'a [u8],
+    pub legend: &'a [u8],
+}

@@ -1,0 +1,16 @@
+//! Why there is no picture.
+use snap_semantics::Refusal;
+use thiserror::Error;
+
+/// Why nothing is drawn.
+#[derive(Clone, Copy, Debug, PartialEq, Eq, Error)]
+pub enum PictureRefusal {
+    #[error("{0}")]
+    Input(Refusal),
+    /// There are no such items in a run of so many.
+    #[error("D1 NoSuchItems {0}")]
+    NoSuchItems(u64),
+    /// More than 20,000 items: a picture takes fewer of them, by --from and --to.
+    #[error("D2 TooManyItems {0}")]
+    TooManyItems(u64),
+}

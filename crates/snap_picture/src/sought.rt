@@ -1,0 +1,51 @@
+//! What a title counts.
+ghost use Rattle.std.specs.Prelude.{◌≡◌};
+ghost use Rattle.snap_picture.specs.Picture.{counted, counts_as, is_update};
+
+use snap_semantics::Op;
+use snap_svg::Shape;
+
+/// What is counted among shapes.
+#[derive(Clone, Copy, Debug)]
+pub(crate) enum Sought {
+    /// A scan that has been answered.
+    Scan,
+    /// One of them that has no point.
+    NoPoint,
+    Update,
+}
+
+fn is_update(op: Op) -> bool
+    ensures { result ≡ is_update op }
+{
+    match op {
+        Op::Scan => false,
+        Op::Update { .. } => true,
+    }
+}
+
+/// Whether a shape is what is counted.
+fn counts_as(sought: Sought, shape: &Shape) -> bool
+    ensures { result ≡ counts_as sought shape.now }
+{
+    match (sought, shape) {
+        (Sought::Scan, Shape::Point(_)) => true,
+        (Sought::Scan, Shape::NoPoint(_)) => true,
+        (Sought::NoPoint, Shape::NoPoint(_)) => true,
+        (Sought::Update, Shape::Operation(bar)) => is_update(bar.op),
+        _ => false,
+    }
+}
+
+/// How many shapes are what is counted.
+pub(crate) fn count(sought: Sought, shapes: &[Shape]) -> u64
+    ensures { result ≡ counted sought shapes.now }
+{
+    let mut found = 0;
+    for shape in shapes {
+        if counts_as(sought, shape) {
+            found += 1;
+        }
+    }
+    found
+}

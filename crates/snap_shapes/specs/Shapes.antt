@@ -1,0 +1,153 @@
+-- What is drawn of a run: a list of shapes, a later one above the earlier ones.
+use Rattle.std.specs.Prelude.{ℕ, zero, suc, ◌+◌, Bool, List, [], ◌∷◌, ◌++◌, length, drop, Option, Some, None, get_or}
+use Rattle.snap_runs.specs.Audit.{audit}
+use Rattle.snap_runs.specs.Run.{Run}
+use Rattle.snap_runs.specs.declared.verdict.Verdict.{Verdict}
+use Rattle.snap_record.specs.Record.{values_after}
+use Rattle.snap_semantics.specs.declared.process.Op.{Op}
+use Rattle.snap_acts.specs.Trace.{trace_of}
+use Rattle.snap_acts.specs.declared.act.Act.{Act}
+use Rattle.snap_acts.specs.declared.act.Act.TheVariants as act
+use Rattle.snap_acts.specs.declared.act.Step.{Step}
+use Rattle.snap_svg.specs.declared.shape.Bar.{Bar}
+use Rattle.snap_svg.specs.declared.shape.End.{End}
+use Rattle.snap_svg.specs.declared.shape.End.TheVariants as ended
+use Rattle.snap_svg.specs.declared.shape.Spot.{Spot}
+use Rattle.snap_svg.specs.declared.shape.Shape.{Shape}
+use Rattle.snap_svg.specs.declared.shape.Shape.TheVariants as shape
+use Rattle.snap_svg.specs.declared.shape.Span.{Span}
+use Rattle.snap_svg.specs.declared.shape.Written.{Written}
+use Rattle.snap_shapes.specs.Searches.{first_meeting, last_before, no_step}
+use Rattle.snap_shapes.specs.declared.wanted.Wanted.TheVariants as wanted
+
+abbrev pub spot_of : Step → Spot
+spot_of s = record { process = s.process; item = s.item; line = s.line }
+
+-- the item of a step, and the last item where there is none
+abbrev pub item_or : ℕ → Option Step → ℕ
+item_or last None = last
+item_or last (Some s) = s.item
+
+-- how an operation ended
+abbrev pub end_by : Act → End
+end_by (act.Answer view) = ended.Answer view
+end_by act.Done = ended.Done
+end_by act.Crash = ended.Crash
+end_by act.Trap = ended.Trap
+end_by _ = ended.Open
+
+abbrev pub end_of : Option Step → End
+end_of None = ended.Open
+end_of (Some s) = end_by s.act
+
+-- the operation that a step called, where this one ended it
+abbrev pub bar_to : ℕ → Step → Op → Option Step → Bar
+bar_to last s op found = record { process = s.process; op = op; from = s.item; to = item_or last found; end = end_of found }
+
+-- the operation that a step called, where these follow
+abbrev pub bar_of : ℕ → Step → Op → List Step → Bar
+bar_of last s op rest = bar_to last s op (first_meeting (wanted.End s.process) rest)
+
+-- the scan of an update that a step began, where these follow
+abbrev pub embedded_of : ℕ → Step → List Step → Span
+embedded_of last s rest = record { process = s.process; from = s.item; to = item_or last (first_meeting (wanted.Closing s.process) rest) }
+
+-- the values from an item on, up to the next write
+abbrev pub period_of : ℕ → ℕ → List ℕ → List Step → Shape
+period_of last t values rest = shape.Values (record { from = t; to = item_or last (first_meeting wanted.Write rest); values = values })
+
+-- the step at a place
+abbrev pub step_at : List Step → ℕ → Step
+step_at ss k = get_or ss k no_step
+
+abbrev pub written_by : Step → Written
+written_by s = record { process = s.process; item = s.item }
+
+-- who wrote at a place, if it is one
+abbrev pub written_at : List Step → Option ℕ → Option Written
+written_at ss None = None
+written_at ss (Some k) = Some (written_by (step_at ss k))
+
+-- the last place before one at which word j was written
+abbrev pub write_before : List Step → ℕ → Option ℕ → Option ℕ
+write_before ss j None = None
+write_before ss j (Some k) = last_before (wanted.WriteOf j) ss k
+
+-- The place at which a view was written that step k takes: beside the word that its process had read last from register j, or
+-- into register v[j].
+abbrev pub source_by : List Step → ℕ → Step → Act → Option ℕ
+source_by ss k s (act.Borrow j) = write_before ss j (last_before (wanted.ReadOf s.process j) ss k)
+source_by ss k s (act.Look j) = last_before (wanted.Published j) ss k
+source_by ss k s _ = None
+
+abbrev pub source_of : List Step → ℕ → Step → Option ℕ
+source_of ss k s = source_by ss k s s.act
+
+-- the place at which the scan ended whose view was written there
+abbrev pub scan_before : List Step → Option ℕ → Option ℕ
+scan_before ss None = None
+scan_before ss (Some k) = last_before (wanted.Leave (step_at ss k).process) ss k
+
+-- an arrow from the lender's scan to the step that takes its view
+abbrev pub loan_from : List Step → Step → Option ℕ → List Shape
+loan_from ss s None = []
+loan_from ss s (Some k) =
+    shape.Loan (record { lender = (step_at ss k).process; ended = (step_at ss k).item; taken = spot_of s }) ∷ []
+
+abbrev pub loan_of : List Step → ℕ → Step → List Shape
+loan_of ss k s = loan_from ss s (scan_before ss (source_of ss k s))
+
+-- what is drawn of the step at a place
+abbrev pub shapes_of : List Step → ℕ → Step → Act → List Shape
+shapes_of ss k s (act.Call op) = shape.Operation (bar_of (length ss) s op (drop (k + 1) ss)) ∷ []
+shapes_of ss k s act.Enter = shape.Embedded (embedded_of (length ss) s (drop (k + 1) ss)) ∷ []
+shapes_of ss k s (act.Write word values) =
+    period_of (length ss) s.item values (drop (k + 1) ss) ∷ shape.Write (record { spot = spot_of s; word = word; values = values }) ∷ []
+shapes_of ss k s (act.Read word) =
+    shape.Read (record { spot = spot_of s; word = word; written = written_at ss (last_before (wanted.WriteOf word) ss k) }) ∷ []
+shapes_of ss k s (act.Test passed) = shape.Test (spot_of s) passed ∷ []
+shapes_of ss k s act.Trap = shape.Trap (spot_of s) ∷ []
+shapes_of ss k s act.Crash = shape.Crash (spot_of s) ∷ []
+shapes_of ss k s (act.Borrow j) = loan_of ss k s
+shapes_of ss k s (act.Look j) = loan_of ss k s
+shapes_of ss k s _ = []
+
+unfoldable pub shapes_at : List Step → ℕ → List Shape
+shapes_at ss k = shapes_of ss k (step_at ss k) (step_at ss k).act
+
+-- what is drawn of the first k steps
+abbrev pub shapes_to : List Step → ℕ → List Shape
+shapes_to ss zero = []
+shapes_to ss (suc k) = shapes_to ss k ++ shapes_at ss k
+
+-- the values, where they are there
+abbrev pub values_or_none : Option (List ℕ) → List ℕ
+values_or_none None = []
+values_or_none (Some values) = values
+
+abbrev pub scan_of : Verdict → Span
+scan_of v = record { process = v.process; from = v.call; to = v.answer }
+
+-- a point with the state that it stands for, or that there is none
+abbrev pub point_of : Run → Verdict → Option ℕ → Shape
+point_of r v None = shape.NoPoint (scan_of v)
+point_of r v (Some t) = shape.Point (record { scan = scan_of v; item = t; collects = v.collects; values = values_or_none (values_after r t) })
+
+unfoldable pub verdict_shape : Run → Verdict → Shape
+verdict_shape r v = point_of r v v.point
+
+abbrev pub verdict_shapes : Run → List Verdict → List Shape
+verdict_shapes r [] = []
+verdict_shapes r (v ∷ vs) = verdict_shape r v ∷ verdict_shapes r vs
+
+-- the values before the first write
+unfoldable pub first_period : Run → List Step → Shape
+first_period r ss = period_of (length ss) 0 (values_or_none (values_after r 0)) ss
+
+-- what is drawn of a run whose items did this
+unfoldable pub shapes_by : Run → List Step → List Shape
+shapes_by r ss = first_period r ss ∷ (shapes_to ss (length ss) ++ verdict_shapes r (audit r))
+
+-- what is drawn of a run
+abbrev pub shapes : Run → List Shape
+shapes r = shapes_by r (trace_of r)

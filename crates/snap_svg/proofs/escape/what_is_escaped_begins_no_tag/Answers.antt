@@ -1,0 +1,5 @@
+use Rattle.snap_svg.proofs.Escapes.{begins_no_tag}
+use Rattle.snap_svg.proofs.escape.what_is_escaped_begins_no_tag.Goals as goal
+
+pub returns : goal.returns
+returns c = begins_no_tag

@@ -1,0 +1,5 @@
+use Rattle.snap_svg.proofs.Escapes.{comes_back}
+use Rattle.snap_svg.proofs.escape.what_is_escaped_comes_back.Goals as goal
+
+pub returns : goal.returns
+returns c = comes_back

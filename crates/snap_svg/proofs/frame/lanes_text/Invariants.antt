@@ -1,0 +1,6 @@
+use Rattle.std.proofs.Common.{◌≡◌, ◌++◌}
+use Rattle.snap_svg.specs.FrameText.{lanes_text}
+use Rattle.snap_svg.proofs.frame.lanes_text.Given as goal
+
+abbrev pub invariant-loop-k : goal.invariant-loop-k
+invariant-loop-k l = l.out.items ≡ l.fn.out.items ++ lanes_text l.k

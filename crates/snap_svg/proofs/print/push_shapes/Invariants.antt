@@ -1,0 +1,6 @@
+use Rattle.std.proofs.Common.{◌≡◌, ◌++◌, drop}
+use Rattle.snap_svg.specs.ShapeText.{shapes_text}
+use Rattle.snap_svg.proofs.print.push_shapes.Given as goal
+
+abbrev pub invariant-loop-shape : goal.invariant-loop-shape
+invariant-loop-shape l = l.out.items ++ shapes_text l.window (drop l.shape-index l.shapes) ≡ l.fn.out.items ++ shapes_text l.window l.shapes

@@ -1,0 +1,5 @@
+pub mod Escape
+pub mod Window
+pub mod Elements
+pub mod ShapeText
+pub mod FrameText

@@ -1,0 +1,88 @@
+//! Text of others inside of an element.
+ghost use Rattle.std.specs.Prelude.{◌≡◌, ◌++◌, ◌<◌, OnOk};
+ghost use Rattle.snap_svg.specs.Escape.{
+  BeginsNoTag,
+  ComesBack,
+  escaped,
+  escaped_byte,
+  hex_digit,
+  is_markup,
+  is_printed,
+  plane,
+  reference,
+};
+
+use snap_text::push_text;
+use std::alloc::AllocError;
+
+/// Whether a byte is a part of markup.
+fn is_markup(byte: u8) -> bool
+    ensures { result ≡ is_markup byte }
+{
+    byte == b'&' || byte == b'<' || byte == b'>' || byte == b'"' || byte == b'\''
+}
+
+/// Whether a byte is a tab, a line feed, or a printed character of ASCII.
+fn is_printed(byte: u8) -> bool
+    ensures { result ≡ is_printed byte }
+{
+    byte == b'\t' || byte == b'\n' || (32 <= byte && byte <= 126)
+}
+
+/// A digit to base 16.
+fn hex_digit(digit: u8) -> u8
+    requires { digit < 16 }
+    ensures { result ≡ hex_digit digit }
+{
+    if digit < 10 { 48 + digit } else { 55 + digit }
+}
+
+/// The first two of the four digits of a reference.
+fn plane(byte: u8) -> &'static [u8]
+    ensures { result.now ≡ plane byte }
+{
+    if is_markup(byte) { b"00" } else { b"E0" }
+}
+
+/// Adds the reference that stands for a byte.
+#[tactic(auto, using(snap_text::proofs::Texts::joined), unfolding(crate::specs::Escape::reference))]
+fn push_reference(out: &mut Vec<u8>, byte: u8) -> Result<(), AllocError>
+    ensures { OnOk result (out.new.items ≡ out.old.items ++ reference byte) }
+{
+    push_text(out, b"&#x")?;
+    push_text(out, plane(byte))?;
+    let digits = [hex_digit(byte / 16), hex_digit(byte % 16), b';'];
+    push_text(out, &digits)
+}
+
+/// Adds what stands for a byte.
+#[tactic(auto, unfolding(crate::specs::Escape::escaped_byte))]
+fn push_byte(out: &mut Vec<u8>, byte: u8) -> Result<(), AllocError>
+    ensures { OnOk result (out.new.items ≡ out.old.items ++ escaped_byte byte) }
+{
+    if is_printed(byte) && !is_markup(byte) {
+        push_text(out, &[byte])
+    } else {
+        push_reference(out, byte)
+    }
+}
+
+/// Adds what stands for a text.
+pub fn push_escaped(out: &mut Vec<u8>, text: &[u8]) -> Result<(), AllocError>
+    ensures { OnOk result (out.new.items ≡ out.old.items ++ escaped text.now) }
+{
+    for byte in text {
+        push_byte(out, *byte)?;
+    }
+    Ok(())
+}
+
+/// What is escaped begins no tag.
+pub fn what_is_escaped_begins_no_tag()
+    ensures { BeginsNoTag }
+{}
+
+/// What is escaped comes back.
+pub fn what_is_escaped_comes_back()
+    ensures { ComesBack }
+{}

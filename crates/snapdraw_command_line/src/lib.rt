@@ -1,0 +1,10 @@
+//! The command line of the program that draws runs.
+#![tactic(auto)]
+
+mod arguments;
+mod command_line;
+mod files;
+
+pub use arguments::Drawing;
+pub use command_line::{CommandLine, read_arguments};
+pub use files::{Drawn, drawn_of};

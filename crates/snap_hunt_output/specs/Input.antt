@@ -1,0 +1,38 @@
+-- The input that is printed of a run that fails.
+use Rattle.std.specs.Prelude.{ℕ, List, [], ◌∷◌, ◌++◌, Option, Some, None, codes, decimal, length, nat_eq, if◌then◌else◌}
+use Rattle.snap_semantics.specs.declared.process.Outcome.TheVariants as outcome
+use Rattle.snap_semantics.specs.Layout.{line_text}
+use Rattle.snap_semantics.specs.Schedule.{Schedule}
+use Rattle.snap_semantics.specs.ScheduleText.{schedule_text}
+use Rattle.snap_report.specs.OutcomeText.{outcome_text}
+use Rattle.snap_audit.specs.VerdictText.{verdict_line}
+use Rattle.snap_debug_commands.specs.CommandForms.{spelled_command}
+use Rattle.snap_debug_commands.specs.declared.command.Command.TheVariants.{Goto}
+use Rattle.snap_failure.specs.declared.failure.Failure.{Failure}
+use Rattle.snap_failure.specs.declared.failure.Failure.TheVariants as failure
+
+-- whether a text ends its last line
+abbrev pub line_feed_for : List ℕ → List ℕ
+line_feed_for [] = codes "\n"
+line_feed_for (b ∷ []) = if nat_eq b 10 then [] else codes "\n"
+line_feed_for (b ∷ c ∷ bs) = line_feed_for (c ∷ bs)
+
+-- a listing, with a line feed behind its last line
+abbrev pub listing_part : List ℕ → List ℕ
+listing_part listing = listing ++ line_feed_for listing
+
+-- what fails, in the words of the audit or as a trap
+abbrev pub failure_line : Failure → List ℕ
+failure_line (failure.NoPoint v) = verdict_line v
+failure_line (failure.ManyCollects v) = verdict_line v
+failure_line (failure.Trapped i line cause) =
+    codes "process " ++ decimal i ++ codes " " ++ outcome_text (outcome.Trapped cause) ++ codes " at " ++ decimal line ++ codes "\n"
+
+-- `# run K of seed S: FAILURE`
+abbrev pub run_note : (seed k : ℕ) → Failure → List ℕ
+run_note seed k f = codes "# run " ++ decimal k ++ codes " of seed " ++ decimal seed ++ codes ": " ++ failure_line f
+
+-- a listing, a schedule whose run fails so, and a command that goes to its last item
+abbrev pub input_text : List ℕ → (seed k : ℕ) → Failure → Schedule → List ℕ
+input_text listing seed k f s =
+    listing_part listing ++ codes "%\n" ++ run_note seed k f ++ schedule_text s ++ codes "%\n" ++ line_text (spelled_command (Goto (length s.items)))

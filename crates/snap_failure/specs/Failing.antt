@@ -7,9 +7,9 @@ use Rattle.snap_semantics.specs.State.{State, process_at}
 use Rattle.snap_runs.specs.Audit.{audit}
 use Rattle.snap_runs.specs.Run.{Run, state}
 use Rattle.snap_runs.specs.declared.verdict.Verdict.{Verdict}
-use Rattle.snap_failure.specs.declared.failure.Failure.{Failure}
-use Rattle.snap_failure.specs.declared.failure.Failure.TheVariants as failure
-use Rattle.snap_failure.specs.declared.failure.Wanted.{Wanted}
+use Rattle.snap_failure.specs.declared.failures.Failure.{Failure}
+use Rattle.snap_failure.specs.declared.failures.Failure.TheVariants as failure
+use Rattle.snap_failure.specs.declared.failures.Wanted.{Wanted}
 
 -- the first scan that has no point
 abbrev pub no_point : List Verdict → Option Failure

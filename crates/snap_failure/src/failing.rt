@@ -12,7 +12,7 @@ ghost use Rattle.snap_failure.specs.Failing.{
   trap_of,
 };
 
-use crate::failure::{Failure, Wanted};
+use crate::failures::{Failure, Wanted};
 use snap_audit::audit;
 use snap_machine::Machine;
 use snap_record::Record;
@@ -60,14 +60,14 @@ fn trap_of(process: u32, status: Status) -> Option<Failure>
 }
 
 /// The least process that has trapped.
+#[tactic(auto, using(crate::proofs::Traps::trap_here, crate::proofs::Traps::trap_passed, crate::proofs::Traps::no_trap))]
 fn first_trap<K: Kind>(machine: &Machine<K>) -> Option<Failure>
     ensures { result ≡ first_trap machine.now.state 1 machine.now.shape.n }
 {
     for k in 0..machine.shape().n() {
         let process = k as u32 + 1;
-        let found = trap_of(process, machine.status(process));
-        if found.is_some() {
-            return found;
+        if let Some(found) = trap_of(process, machine.status(process)) {
+            return Some(found);
         }
     }
     None
@@ -116,13 +116,11 @@ pub fn failure<K: Kind>(
     ensures { IfOk result (λ f. f ≡ failure_of wanted.now record.now) }
 {
     let verdicts = audit(alloc, record)?;
-    let found = of_points(wanted, verdicts.as_slice());
-    if found.is_some() {
-        return Ok(found);
+    if let Some(found) = of_points(wanted, verdicts.as_slice()) {
+        return Ok(Some(found));
     }
-    let found = of_traps(wanted, record.machine());
-    if found.is_some() {
-        return Ok(found);
+    if let Some(found) = of_traps(wanted, record.machine()) {
+        return Ok(Some(found));
     }
     Ok(of_collects(wanted, verdicts.as_slice()))
 }

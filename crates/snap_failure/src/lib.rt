@@ -2,9 +2,9 @@
 #![tactic(auto)]
 
 mod failing;
-mod failure;
+mod failures;
 mod over;
 
 pub use failing::failure;
-pub use failure::{Failure, Wanted};
+pub use failures::{Failure, Wanted};
 pub use over::failure_over;

@@ -4,7 +4,7 @@ ghost use Rattle.snap_runs.specs.Run.{run_over};
 ghost use Rattle.snap_failure.specs.Failing.{failure_of};
 
 use crate::failing::failure;
-use crate::failure::{Failure, Wanted};
+use crate::failures::{Failure, Wanted};
 use snap_asm_program::Program;
 use snap_record::record_over;
 use snap_sched::Schedule;

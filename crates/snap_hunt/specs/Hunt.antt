@@ -5,7 +5,7 @@ use Rattle.snap_runs.specs.Run.{Run, run_over}
 use Rattle.snap_chance.specs.Chance.{schedule_of}
 use Rattle.snap_chance.specs.declared.plan.Plan.{Plan}
 use Rattle.snap_failure.specs.Failing.{failure_of}
-use Rattle.snap_failure.specs.declared.failure.Wanted.{Wanted}
+use Rattle.snap_failure.specs.declared.failures.Wanted.{Wanted}
 
 -- run k of a listing, by a plan
 abbrev pub run_of : Source → Plan → (seed k : ℕ) → Run

@@ -30,9 +30,9 @@ use Rattle.snap_chance.specs.Turns.{turn_items}
 use Rattle.snap_chance.specs.declared.plan.Plan.{Plan}
 use Rattle.snap_chance.proofs.Turning.{are_turn}
 use Rattle.snap_failure.specs.Failing.{failure_of, first_trap, no_point, many_of, of_collects, of_points, of_traps, trap_of}
-use Rattle.snap_failure.specs.declared.failure.Failure.{Failure}
-use Rattle.snap_failure.specs.declared.failure.Failure.TheVariants as failure
-use Rattle.snap_failure.specs.declared.failure.Wanted.{Wanted}
+use Rattle.snap_failure.specs.declared.failures.Failure.{Failure}
+use Rattle.snap_failure.specs.declared.failures.Failure.TheVariants as failure
+use Rattle.snap_failure.specs.declared.failures.Wanted.{Wanted}
 use Rattle.snap_hunt.specs.Hunt.{fails}
 use Rattle.snap_hunt_laws.specs.Shipped.{FindsNothing}
 

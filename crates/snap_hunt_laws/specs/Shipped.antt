@@ -6,7 +6,7 @@ use Rattle.snap_words.specs.declared.kind.KindTag.{KindTag}
 use Rattle.snap_shipped.specs.Shipped.{shipped}
 use Rattle.snap_chance.specs.Plan.{IsPlan}
 use Rattle.snap_chance.specs.declared.plan.Plan.{Plan}
-use Rattle.snap_failure.specs.declared.failure.Wanted.{Wanted}
+use Rattle.snap_failure.specs.declared.failures.Wanted.{Wanted}
 use Rattle.snap_hunt.specs.Hunt.{fails}
 
 -- Where nothing is said of double collects, no run of the listing that is shipped for this kind fails.

@@ -11,8 +11,8 @@ use Rattle.snap_input.specs.Parts.{part, parts_of}
 use Rattle.snap_perform.specs.Perform.{schedule_for}
 use Rattle.snap_subject.specs.declared.subject.Subject.TheVariants.{FirstPart}
 use Rattle.snap_failure.specs.Failing.{failure_of}
-use Rattle.snap_failure.specs.declared.failure.Failure.{Failure}
-use Rattle.snap_failure.specs.declared.failure.Wanted.{Wanted}
+use Rattle.snap_failure.specs.declared.failures.Failure.{Failure}
+use Rattle.snap_failure.specs.declared.failures.Wanted.{Wanted}
 
 -- what fails in the run of a listing over the schedule that a text is, where another text has commands
 unfoldable pub failure_under : Wanted → Source → List ℕ → List ℕ → Result (Option Failure) Refusal

@@ -6,7 +6,7 @@ use Rattle.snap_semantics.specs.Source.{Source}
 use Rattle.snap_semantics.specs.declared.fault.Fault.{Fault}
 use Rattle.snap_semantics.specs.declared.fault.Fault.TheVariants as fault
 use Rattle.snap_semantics.specs.declared.refusal.Refusal.{Refusal}
-use Rattle.snap_failure.specs.declared.failure.Failure.{Failure}
+use Rattle.snap_failure.specs.declared.failures.Failure.{Failure}
 use Rattle.snap_hunt.specs.Hunt.{fails}
 use Rattle.snap_hunt_output.specs.Asked.{owned}
 use Rattle.snap_hunt_output.specs.Check.{failure_in_input}

@@ -8,8 +8,8 @@ use Rattle.snap_report.specs.OutcomeText.{outcome_text}
 use Rattle.snap_audit.specs.VerdictText.{verdict_line}
 use Rattle.snap_debug_commands.specs.CommandForms.{spelled_command}
 use Rattle.snap_debug_commands.specs.declared.command.Command.TheVariants.{Goto}
-use Rattle.snap_failure.specs.declared.failure.Failure.{Failure}
-use Rattle.snap_failure.specs.declared.failure.Failure.TheVariants as failure
+use Rattle.snap_failure.specs.declared.failures.Failure.{Failure}
+use Rattle.snap_failure.specs.declared.failures.Failure.TheVariants as failure
 
 -- whether a text ends its last line
 abbrev pub line_feed_for : List ℕ → List ℕ

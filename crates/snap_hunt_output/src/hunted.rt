@@ -1,6 +1,8 @@
 //! A whole hunt.
-ghost use Rattle.std.specs.Prelude.{◌≡◌, ◌<◌, ◌^◌, IfOk};
+ghost use Rattle.std.specs.Prelude.{◌≡◌, ◌<◌, ◌^◌, IfOk, Ok, Some, true};
 ghost use Rattle.snap_chance.specs.Plan.{IsPlan};
+ghost use Rattle.snap_hunt.specs.Hunt.{fails};
+ghost use Rattle.snap_hunt_output.specs.Check.{failure_in_input};
 ghost use Rattle.snap_hunt_output.specs.Hunted.{IsHunted, hunt_fault};
 ghost use Rattle.snap_hunt_output.specs.declared.hunted.HuntFault.TheVariants.{Memory};
 
@@ -67,8 +69,12 @@ fn small_input(
     plan: &Plan,
     asked: &Asked,
     run: u64,
-) -> Result<Vec<u8>, HuntFault> {
+) -> Result<Vec<u8>, HuntFault>
+    requires plan { IsPlan plan.now }
+    requires fails { fails program.now plan.now asked.now.wanted asked.now.seed run ≡ true }
+{
     let schedule = schedule_of(alloc, asked.seed, run, plan)?;
+    let _shape = schedule.shape();
     let small = shrunk(alloc, program, &asked.wanted, &schedule)?;
     match failure_over(alloc, program, &small, &asked.wanted)? {
         Some(failure) => Ok(input_text(alloc, listing, asked.seed, run, &failure, &small)?),
@@ -77,7 +83,9 @@ fn small_input(
 }
 
 /// What fails in an input that is printed, which is read once more.
-fn checked(alloc: Global, input: &[u8], wanted: &Wanted) -> Result<Failure, HuntFault> {
+fn checked(alloc: Global, input: &[u8], wanted: &Wanted) -> Result<Failure, HuntFault>
+    ensures { IfOk result (λ f. failure_in_input wanted.now input.now ≡ Ok (Some f)) }
+{
     if input.len() > MAX_INPUT {
         return Err(HuntFault::Unsaid);
     }

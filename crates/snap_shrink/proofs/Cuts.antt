@@ -7,7 +7,7 @@ use Rattle.snap_semantics.specs.declared.process.Item.{Item}
 use Rattle.snap_semantics.specs.ScheduleText.{FitsItem, IsSchedule}
 use Rattle.snap_semantics.specs.Table.{who}
 use Rattle.snap_semantics.specs.Source.{Source}
-use Rattle.snap_failure.specs.declared.failure.Wanted.{Wanted}
+use Rattle.snap_failure.specs.declared.failures.Wanted.{Wanted}
 use Rattle.snap_shrink.specs.Shrinking.{Fails, Shrinks, fails_with, without}
 
 all_taken : (P : Item → Type 0) (n : ℕ) (xs : List Item) → AllByRecursion P xs → AllByRecursion P (take n xs)
@@ -53,11 +53,11 @@ still_schedule shape at count xs le h =
       fits = all_without FitsItem at count xs h.fits;
     }
 
--- what is left of items that fail is a schedule
-pub left_schedule : (l : Source) (w : Wanted) (shape : Counts) (at count : ℕ) (xs ys : List Item) → Fails l w shape xs → at ≤ length xs → ys ≡ without at count xs
+-- what is left of the items of a schedule is one
+pub left_schedule : (shape : Counts) (at count : ℕ) (xs ys : List Item) → IsSchedule (record { shape = shape; items = xs }) → at ≤ length xs → ys ≡ without at count xs
     → IsSchedule (record { shape = shape; items = ys })
-left_schedule l w shape at count xs ys h le is =
-    subst (λ (zs : List Item). IsSchedule (record { shape = shape; items = zs })) (sym is) (still_schedule shape at count xs le h.schedule)
+left_schedule shape at count xs ys h le is =
+    subst (λ (zs : List Item). IsSchedule (record { shape = shape; items = zs })) (sym is) (still_schedule shape at count xs le h)
 
 -- what is left, where it still fails
 pub left_fails : (l : Source) (w : Wanted) (shape : Counts) (at count : ℕ) (all xs ys : List Item) → Shrinks l w shape all xs → at ≤ length xs
@@ -66,7 +66,7 @@ left_fails l w shape at count all xs ys h le is fails =
     let shorter = h.shorter in
     let left : length ys ≡ at + (length xs - (at + count)) = ap length is ∙ length_without at count xs le in
     record {
-      still = record { schedule = left_schedule l w shape at count xs ys h.still le is; fails = fails };
+      still = record { schedule = left_schedule shape at count xs ys h.still.schedule le is; fails = fails };
       shorter = omega (arith, shorter, left, le);
     }
 

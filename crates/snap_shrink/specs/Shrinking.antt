@@ -7,7 +7,7 @@ use Rattle.snap_semantics.specs.ScheduleText.{IsSchedule}
 use Rattle.snap_semantics.specs.Source.{Source}
 use Rattle.snap_runs.specs.Run.{run_of_items}
 use Rattle.snap_failure.specs.Failing.{failure_of}
-use Rattle.snap_failure.specs.declared.failure.Wanted.{Wanted}
+use Rattle.snap_failure.specs.declared.failures.Wanted.{Wanted}
 
 -- items without so many of them at a place, which counts from 0
 abbrev pub without : (at count : ℕ) → List Item → List Item

@@ -12,6 +12,7 @@ use snap_words::Shape;
 use std::alloc::{AllocError, Global};
 
 /// Leaves out stretches, long ones first.
+#[tactic(auto, using(crate::proofs::Cuts::itself, crate::proofs::Cuts::onward))]
 fn drop_all_stretches(
     alloc: Global,
     program: &Program,
@@ -32,6 +33,7 @@ fn drop_all_stretches(
 }
 
 /// Leaves out items one by one, until none can be left out.
+#[tactic(auto, using(crate::proofs::Cuts::itself, crate::proofs::Cuts::left_fails, crate::proofs::Cuts::left_shorter))]
 fn drop_items(
     alloc: Global,
     program: &Program,
@@ -52,6 +54,7 @@ fn drop_items(
 
 /// A schedule whose run fails too, of some of the items of this one in their order. Without any one
 /// of them the run does not fail.
+#[tactic(auto, using(crate::proofs::Cuts::onward))]
 pub fn shrunk(
     alloc: Global,
     program: &Program,

@@ -28,6 +28,7 @@ fn fails_with(
 
 /// Leaves out each stretch of so many items without which the run still fails, from the first to
 /// the last.
+#[tactic(auto, using(crate::proofs::Cuts::left_schedule, crate::proofs::Cuts::left_fails, crate::proofs::Cuts::left_shorter, crate::proofs::Cuts::itself))]
 pub(crate) fn drop_stretches(
     alloc: Global,
     program: &Program,
@@ -55,6 +56,7 @@ pub(crate) fn drop_stretches(
 }
 
 /// The first item without which the run still fails.
+#[tactic(auto, using(crate::proofs::Cuts::left_schedule))]
 pub(crate) fn removable(
     alloc: Global,
     program: &Program,

@@ -1,4 +1,4 @@
-use Rattle.std.proofs.Common.{◌-◌, vec_len}
+use Rattle.std.proofs.Common.{◌-◌, length}
 use Rattle.snap_shrink.specs.Shrinking.{Shrinks}
 use Rattle.snap_shrink.proofs.trials.drop_stretches.Given as goal
 
@@ -7,4 +7,4 @@ abbrev pub invariant-loop-at : goal.invariant-loop-at
 invariant-loop-at l = Shrinks l.program l.wanted l.shape l.fn.items.items l.kept.items
 
 abbrev pub decreases-loop-at : goal.decreases-loop-at
-decreases-loop-at l = vec_len l.kept - l.at
+decreases-loop-at l = length l.kept.items - l.at

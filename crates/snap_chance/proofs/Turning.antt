@@ -13,12 +13,11 @@ use Rattle.snap_semantics.specs.Table.{who}
 use Rattle.snap_sched.proofs.Lines.{all_more}
 use Rattle.snap_chance.specs.Chance.{turns_from}
 use Rattle.snap_chance.specs.Draws.{draws}
-use Rattle.snap_chance.specs.Plan.{IsPlan}
+use Rattle.snap_chance.specs.Plan.{IsPlan, Plan}
 use Rattle.snap_chance.specs.Turns.{asked_items, burst_of, burst_turn, call_items, coin_turn, interrupted_process, interrupted_turn, process_of, scanning_turn, turn_at, turn_items, turn_of, updating_turn, whole_update}
 use Rattle.snap_chance.specs.declared.draws.Draws.{Draws}
 use Rattle.snap_chance.specs.declared.plan.Pace.{Pace}
 use Rattle.snap_chance.specs.declared.plan.Pace.TheVariants.{Coins, Bursts, Interruptions, Mixed}
-use Rattle.snap_chance.specs.declared.plan.Plan.{Plan}
 use Rattle.snap_chance.specs.declared.turns.Turn.{Turn}
 
 -- a turn of a process that is there, of few steps

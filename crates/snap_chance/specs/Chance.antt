@@ -5,9 +5,9 @@ use Rattle.rand_core.specs.Steps.{stream_of}
 use Rattle.rand_xoshiro.specs.SplitMix64.{splitmix_steps}
 use Rattle.snap_semantics.specs.declared.process.Item.{Item}
 use Rattle.snap_semantics.specs.Schedule.{Schedule}
+use Rattle.snap_chance.specs.Plan.{Plan}
 use Rattle.snap_chance.specs.Draws.{draws}
 use Rattle.snap_chance.specs.Turns.{turn_items}
-use Rattle.snap_chance.specs.declared.plan.Plan.{Plan}
 
 -- where the generator of run k starts
 abbrev pub start_of : (seed k : ℕ) → ℕ

@@ -4,10 +4,10 @@ use Rattle.snap_semantics.specs.declared.process.Item.{Item}
 use Rattle.snap_semantics.specs.declared.process.Item.TheVariants.{Step, Call, Crash}
 use Rattle.snap_semantics.specs.declared.process.Op.{Op}
 use Rattle.snap_semantics.specs.declared.process.Op.TheVariants.{Scan, Update}
+use Rattle.snap_chance.specs.Plan.{Plan}
 use Rattle.snap_chance.specs.declared.draws.Draws.{Draws}
 use Rattle.snap_chance.specs.declared.plan.Pace.{Pace}
 use Rattle.snap_chance.specs.declared.plan.Pace.TheVariants.{Coins, Bursts, Interruptions, Mixed}
-use Rattle.snap_chance.specs.declared.plan.Plan.{Plan}
 use Rattle.snap_chance.specs.declared.turns.Turn.{Turn}
 
 -- the process that is drawn for a turn

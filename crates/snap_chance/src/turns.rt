@@ -3,7 +3,6 @@ ghost use Rattle.std.specs.Prelude.{◌≡◌, ◌<◌, ◌≤◌, ◌+◌, ◌^
 ghost use Rattle.std.specs.List.{AllByRecursion};
 ghost use Rattle.snap_words.specs.Shape.{IsOneOf};
 ghost use Rattle.snap_semantics.specs.ScheduleText.{FitsItem};
-ghost use Rattle.snap_chance.specs.Plan.{IsPlan};
 ghost use Rattle.snap_chance.specs.Turns.{
   asked_items,
   burst_of,
@@ -41,7 +40,7 @@ pub(crate) struct Turn {
 fn process_of(plan: &Plan, draws: &Draws) -> u32
     ensures { result ≡ process_of plan.now draws.now }
 {
-    (draws.process % u64::from(plan.shape.process_count())) as u32 + 1
+    (draws.process % u64::from(plan.shape().process_count())) as u32 + 1
 }
 
 /// How many steps a burst is.
@@ -53,13 +52,12 @@ fn burst_of(draws: &Draws) -> u64
 
 /// The word that an update of a process sets.
 fn word_of(plan: &Plan, process: u32, draws: &Draws) -> u64
-    requires { IsPlan plan.now }
     ensures { result ≡ word_of plan.now process draws.now }
 {
-    if plan.owns {
+    if plan.owns() {
         u64::from(process)
     } else {
-        draws.word % plan.shape.w() + 1
+        draws.word % plan.shape().w() + 1
     }
 }
 
@@ -67,8 +65,8 @@ fn word_of(plan: &Plan, process: u32, draws: &Draws) -> u64
 fn value_of(plan: &Plan, run: u64, turn: u64, draws: &Draws) -> u64
     ensures { result ≡ value_of plan.now run turn draws.now }
 {
-    if plan.repeated > 0 && run / 2 % 2 == 1 {
-        draws.value % (u64::from(plan.repeated) + 1)
+    if plan.repeated() > 0 && run / 2 % 2 == 1 {
+        draws.value % (u64::from(plan.repeated()) + 1)
     } else {
         turn
     }
@@ -76,7 +74,6 @@ fn value_of(plan: &Plan, run: u64, turn: u64, draws: &Draws) -> u64
 
 /// The update of a turn.
 fn update_of(plan: &Plan, run: u64, turn: u64, process: u32, draws: &Draws) -> Op
-    requires { IsPlan plan.now }
     ensures { result ≡ update_of plan.now run turn process draws.now }
 {
     Op::Update {
@@ -87,7 +84,6 @@ fn update_of(plan: &Plan, run: u64, turn: u64, process: u32, draws: &Draws) -> O
 
 /// The operation of a turn.
 fn operation_of(plan: &Plan, run: u64, turn: u64, process: u32, draws: &Draws) -> Op
-    requires { IsPlan plan.now }
     ensures { result ≡ operation_of plan.now run turn process draws.now }
 {
     if draws.scan % 2 == 0 {
@@ -99,7 +95,6 @@ fn operation_of(plan: &Plan, run: u64, turn: u64, process: u32, draws: &Draws) -
 
 /// One step, before which one turn in eight calls an operation.
 fn coin_turn(plan: &Plan, run: u64, turn: u64, draws: &Draws) -> Turn
-    requires { IsPlan plan.now }
     ensures { result ≡ coin_turn plan.now run turn draws.now }
 {
     let process = process_of(plan, draws);
@@ -117,7 +112,6 @@ fn coin_turn(plan: &Plan, run: u64, turn: u64, draws: &Draws) -> Turn
 
 /// A burst of steps, before which one turn in two calls an operation.
 fn burst_turn(plan: &Plan, run: u64, turn: u64, draws: &Draws) -> Turn
-    requires { IsPlan plan.now }
     ensures { result ≡ burst_turn plan.now run turn draws.now }
 {
     let process = process_of(plan, draws);
@@ -137,7 +131,7 @@ fn burst_turn(plan: &Plan, run: u64, turn: u64, draws: &Draws) -> Turn
 fn interrupted_process(plan: &Plan, run: u64) -> u32
     ensures { result ≡ interrupted_process plan.now run }
 {
-    (run / 2 % u64::from(plan.shape.process_count())) as u32 + 1
+    (run / 2 % u64::from(plan.shape().process_count())) as u32 + 1
 }
 
 /// A few steps of the process that scans.
@@ -160,12 +154,11 @@ fn scanning_turn(plan: &Plan, run: u64, draws: &Draws) -> Turn
 fn whole_update(plan: &Plan) -> u64
     ensures { result ≡ whole_update plan.now }
 {
-    (24 * u64::from(plan.shape.process_count())).min(128)
+    (24 * u64::from(plan.shape().process_count())).min(128)
 }
 
 /// An update, whole or its first part.
 fn updating_turn(plan: &Plan, run: u64, turn: u64, draws: &Draws) -> Turn
-    requires { IsPlan plan.now }
     ensures { result ≡ updating_turn plan.now run turn draws.now }
 {
     let process = process_of(plan, draws);
@@ -184,7 +177,6 @@ fn updating_turn(plan: &Plan, run: u64, turn: u64, draws: &Draws) -> Turn
 
 /// A turn of the process that scans, or one that interrupts it.
 fn interrupted_turn(plan: &Plan, run: u64, turn: u64, draws: &Draws) -> Turn
-    requires { IsPlan plan.now }
     ensures { result ≡ interrupted_turn plan.now run turn draws.now }
 {
     if draws.scale % 2 == 0 {
@@ -196,10 +188,9 @@ fn interrupted_turn(plan: &Plan, run: u64, turn: u64, draws: &Draws) -> Turn
 
 /// A turn that is no crash.
 fn turn_of(plan: &Plan, run: u64, turn: u64, draws: &Draws) -> Turn
-    requires { IsPlan plan.now }
     ensures { result ≡ turn_of plan.now run turn draws.now }
 {
-    match plan.pace {
+    match plan.pace() {
         Pace::Coins => coin_turn(plan, run, turn, draws),
         Pace::Bursts => burst_turn(plan, run, turn, draws),
         Pace::Interruptions => interrupted_turn(plan, run, turn, draws),
@@ -235,14 +226,14 @@ pub(crate) fn push_turn(
     turn: u64,
     draws: &Draws,
 ) -> Result<(), AllocError>
-    requires plan { IsPlan plan.now }
-    requires few { length items.old + 129 < 2 ^ 32 }
+    requires { length items.old + 129 < 2 ^ 32 }
     ensures added { OnOk result (items.new ≡ items.old
         ++ turn_items plan.now run turn draws.now) }
     ensures fits { OnOk result (AllByRecursion FitsItem items.new) }
 {
-    if draws.crash % 1000 < plan.crashes {
+    if draws.crash % 1000 < plan.crashes() {
         return items.push_crash(process_of(plan, draws));
     }
+    let _shape = plan.shape();
     push_asked(items, &turn_of(plan, run, turn, draws))
 }

@@ -1,2 +1,3 @@
-pub mod Blocks
+pub mod Ranges
 pub mod Numbers
+pub mod Cutting

@@ -1,7 +1,7 @@
 -- Numbers, and the first of them for which the answer is yes.
 use Rattle.std.proofs.Common.{◌≡◌, ℕ, zero, suc, ◌+◌, ◌<◌, ◌≤◌, List, [], ◌∷◌, ◌++◌, Bool, Option, Some, None, true, false, cond, drop, get_or, length, map, ap, refl, sym, ◌∙◌, arith}
 use Rattle.std.specs.List.{find, range_with_len}
-use Rattle.snap_hunt.proofs.Blocks.{range_append}
+use Rattle.snap_hunt.proofs.Ranges.{range_append}
 
 -- one number more
 pub one_more : (from k : ℕ) (old new : List ℕ) → new ≡ old ++ (from + k) ∷ [] → old ≡ range_with_len from k → new ≡ range_with_len from (k + 1)

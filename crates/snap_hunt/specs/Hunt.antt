@@ -3,7 +3,7 @@ use Rattle.std.specs.Prelude.{ℕ, Bool, is_some}
 use Rattle.snap_semantics.specs.Source.{Source}
 use Rattle.snap_runs.specs.Run.{Run, run_over}
 use Rattle.snap_chance.specs.Chance.{schedule_of}
-use Rattle.snap_chance.specs.declared.plan.Plan.{Plan}
+use Rattle.snap_chance.specs.Plan.{Plan}
 use Rattle.snap_failure.specs.Failing.{failure_of}
 use Rattle.snap_failure.specs.declared.failures.Wanted.{Wanted}
 

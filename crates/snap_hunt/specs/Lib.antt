@@ -1,1 +1,2 @@
 pub mod Hunt
+pub mod Shrinking

@@ -1,7 +1,6 @@
 //! Runs side by side.
 ghost use Rattle.std.specs.Prelude.{◌≡◌, ◌+◌, ◌^◌, ◌<◌, ℕ, Bool, IfOk, map};
 ghost use Rattle.std.specs.List.{find, range_with_len};
-ghost use Rattle.snap_chance.specs.Plan.{IsPlan};
 ghost use Rattle.snap_hunt.specs.Hunt.{fails};
 
 use rayon::prelude::*;
@@ -24,7 +23,6 @@ fn fails(
     seed: u64,
     run: u64,
 ) -> Result<bool, AllocError>
-    requires { IsPlan plan.now }
     ensures { IfOk result (λ b. b ≡ fails program.now plan.now wanted.now seed run) }
 {
     let schedule = schedule_of(alloc, seed, run, plan)?;
@@ -53,7 +51,6 @@ pub(crate) fn fail_each(
     seed: u64,
     runs: &[u64],
 ) -> Result<Vec<bool>, AllocError>
-    requires { IsPlan plan.now }
     ensures { IfOk result (λ v. v.items
         ≡ map (fails program.now plan.now wanted.now seed) runs.now) }
 {

@@ -1,7 +1,6 @@
 //! The first run that fails.
 ghost use Rattle.std.specs.Prelude.{◌≡◌, ◌+◌, ◌-◌, ◌<◌, ◌≤◌, ◌^◌, IfOk};
 ghost use Rattle.std.specs.List.{find, range_with_len};
-ghost use Rattle.snap_chance.specs.Plan.{IsPlan};
 ghost use Rattle.snap_hunt.specs.Hunt.{fails};
 
 use crate::blocks::{fail_each, first_of, numbers};
@@ -31,8 +30,7 @@ fn in_block(
     from: u64,
     count: u64,
 ) -> Result<Option<u64>, AllocError>
-    requires plan { IsPlan plan.now }
-    requires room { from + count < 2 ^ 64 }
+    requires { from + count < 2 ^ 64 }
     ensures { IfOk result (λ r. r ≡ find (fails program.now plan.now wanted.now seed)
         (range_with_len from count)) }
 {
@@ -53,8 +51,7 @@ pub fn first_failing<W: Watcher>(
     runs: u64,
     watcher: &mut W,
 ) -> Result<Option<u64>, AllocError>
-    requires plan { IsPlan plan.now }
-    requires room { runs < 2 ^ 63 }
+    requires { runs < 2 ^ 63 }
     ensures { IfOk result (λ r. r ≡ find (fails program.now plan.now wanted.now seed)
         (range_with_len 0 runs)) }
 {

@@ -25,9 +25,8 @@ use Rattle.snap_shipped.specs.Shipped.{shipped}
 use Rattle.snap_promises.specs.Kept.{KeepsPromises, NumbersSuffice, RunsKeepPromises}
 use Rattle.snap_chance.specs.Chance.{schedule_of, start_of, turns_from}
 use Rattle.snap_chance.specs.Draws.{draws}
-use Rattle.snap_chance.specs.Plan.{IsPlan}
+use Rattle.snap_chance.specs.Plan.{IsPlan, Plan}
 use Rattle.snap_chance.specs.Turns.{turn_items}
-use Rattle.snap_chance.specs.declared.plan.Plan.{Plan}
 use Rattle.snap_chance.proofs.Turning.{are_turn}
 use Rattle.snap_failure.specs.Failing.{failure_of, first_trap, no_point, many_of, of_collects, of_points, of_traps, trap_of}
 use Rattle.snap_failure.specs.declared.failures.Failure.{Failure}

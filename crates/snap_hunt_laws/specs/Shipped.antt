@@ -4,8 +4,7 @@ use Rattle.std.specs.List.{find, range_with_len}
 use Rattle.snap_words.specs.Kind.{fits}
 use Rattle.snap_words.specs.declared.kind.KindTag.{KindTag}
 use Rattle.snap_shipped.specs.Shipped.{shipped}
-use Rattle.snap_chance.specs.Plan.{IsPlan}
-use Rattle.snap_chance.specs.declared.plan.Plan.{Plan}
+use Rattle.snap_chance.specs.Plan.{IsPlan, Plan}
 use Rattle.snap_failure.specs.declared.failures.Wanted.{Wanted}
 use Rattle.snap_hunt.specs.Hunt.{fails}
 

@@ -6,10 +6,10 @@ use Rattle.snap_semantics.specs.Schedule.{Schedule}
 use Rattle.snap_semantics.specs.ScheduleText.{IsSchedule}
 use Rattle.snap_semantics.specs.Source.{Source}
 use Rattle.snap_chance.specs.Chance.{schedule_of}
-use Rattle.snap_chance.specs.declared.plan.Plan.{Plan}
+use Rattle.snap_chance.specs.Plan.{Plan}
 use Rattle.snap_failure.specs.declared.failures.Wanted.{Wanted}
 use Rattle.snap_hunt.specs.Hunt.{fails}
-use Rattle.snap_shrink.specs.Shrinking.{Fails, fails_with}
+use Rattle.snap_hunt.specs.Shrinking.{Fails, fails_with}
 
 found_by : (q : ℕ → Bool) (x k : ℕ) (xs : List ℕ) (b : Bool) → q x ≡ b → (find q xs ≡ Some k → q k ≡ true) → cond b (Some x) (find q xs) ≡ Some k → q k ≡ true
 found_by q x k xs true is rest e = let same : x ≡ k = cc in ap q (sym same) ∙ is

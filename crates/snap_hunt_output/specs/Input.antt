@@ -1,5 +1,5 @@
 -- The input that is printed of a run that fails.
-use Rattle.std.specs.Prelude.{ℕ, List, [], ◌∷◌, ◌++◌, Option, Some, None, codes, decimal, length, nat_eq, if◌then◌else◌}
+use Rattle.std.specs.Prelude.{ℕ, ◌-◌, Bool, List, ◌++◌, codes, decimal, length, nat_eq, slice_index, if◌then◌else◌}
 use Rattle.snap_semantics.specs.declared.process.Outcome.TheVariants as outcome
 use Rattle.snap_semantics.specs.Layout.{line_text}
 use Rattle.snap_semantics.specs.Schedule.{Schedule}
@@ -11,15 +11,13 @@ use Rattle.snap_debug_commands.specs.declared.command.Command.TheVariants.{Goto}
 use Rattle.snap_failure.specs.declared.failures.Failure.{Failure}
 use Rattle.snap_failure.specs.declared.failures.Failure.TheVariants as failure
 
--- whether a text ends its last line
-abbrev pub line_feed_for : List ℕ → List ℕ
-line_feed_for [] = codes "\n"
-line_feed_for (b ∷ []) = if nat_eq b 10 then [] else codes "\n"
-line_feed_for (b ∷ c ∷ bs) = line_feed_for (c ∷ bs)
+-- whether the last line of a text has its line feed
+abbrev pub ends_line : List ℕ → Bool
+ends_line text = nat_eq (slice_index text (length text - 1)) 10
 
 -- a listing, with a line feed behind its last line
 abbrev pub listing_part : List ℕ → List ℕ
-listing_part listing = listing ++ line_feed_for listing
+listing_part listing = if ends_line listing then listing else listing ++ codes "\n"
 
 -- what fails, in the words of the audit or as a trap
 abbrev pub failure_line : Failure → List ℕ

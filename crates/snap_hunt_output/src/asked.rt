@@ -36,12 +36,5 @@ pub(crate) fn fits_kind(kind: KindTag, shape: Shape) -> bool
 pub(crate) fn owned(kind: KindTag, plan: &Plan) -> Plan
     ensures { result ≡ owned kind plan.now }
 {
-    Plan {
-        shape: plan.shape,
-        owns: owns_words(kind),
-        pace: plan.pace,
-        turns: plan.turns,
-        crashes: plan.crashes,
-        repeated: plan.repeated,
-    }
+    plan.with_owned(owns_words(kind))
 }

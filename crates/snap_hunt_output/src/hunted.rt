@@ -1,6 +1,5 @@
 //! A whole hunt.
 ghost use Rattle.std.specs.Prelude.{◌≡◌, ◌<◌, ◌^◌, IfOk, Ok, Some, true};
-ghost use Rattle.snap_chance.specs.Plan.{IsPlan};
 ghost use Rattle.snap_hunt.specs.Hunt.{fails};
 ghost use Rattle.snap_hunt_output.specs.Check.{failure_in_input};
 ghost use Rattle.snap_hunt_output.specs.Hunted.{IsHunted, hunt_fault};
@@ -12,10 +11,9 @@ use crate::input::input_text;
 use snap_asm_program::Program;
 use snap_chance::{Plan, schedule_of};
 use snap_failure::{Failure, Wanted, failure_over};
-use snap_hunt::{Watcher, first_failing};
+use snap_hunt::{Watcher, first_failing, shrunk};
 use snap_input::{MAX_INPUT, program_of};
 use snap_semantics::{Fault, Refusal};
-use snap_shrink::shrunk;
 use snap_words::WordFault;
 use std::alloc::{AllocError, Global};
 use std::thread::Threads;
@@ -70,8 +68,7 @@ fn small_input(
     asked: &Asked,
     run: u64,
 ) -> Result<Vec<u8>, HuntFault>
-    requires plan { IsPlan plan.now }
-    requires fails { fails program.now plan.now asked.now.wanted asked.now.seed run ≡ true }
+    requires { fails program.now plan.now asked.now.wanted asked.now.seed run ≡ true }
 {
     let schedule = schedule_of(alloc, asked.seed, run, plan)?;
     let _shape = schedule.shape();
@@ -104,12 +101,11 @@ pub fn hunt_listing<W: Watcher>(
     asked: &Asked,
     watcher: &mut W,
 ) -> Result<Hunted, HuntFault>
-    requires plan { IsPlan asked.now.plan }
-    requires room { asked.now.runs < 2 ^ 63 }
+    requires { asked.now.runs < 2 ^ 63 }
     ensures { IfOk result (IsHunted listing.now asked.now) }
 {
     let program = program_of(alloc, listing)?;
-    if !fits_kind(program.kind(), asked.plan.shape) {
+    if !fits_kind(program.kind(), asked.plan.shape()) {
         return Err(HuntFault::Refused(Refusal::Words(WordFault::BadShape)));
     }
     let plan = owned(program.kind(), &asked.plan);

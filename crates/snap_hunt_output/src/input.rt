@@ -1,6 +1,6 @@
 //! The input of a run that fails.
 ghost use Rattle.std.specs.Prelude.{◌≡◌, ◌++◌, IfOk, OnOk};
-ghost use Rattle.snap_hunt_output.specs.Input.{failure_line, input_text, listing_part, run_note};
+ghost use Rattle.snap_hunt_output.specs.Input.{ends_line, failure_line, input_text, listing_part, run_note};
 
 use snap_audit::verdict_line;
 use snap_debug_commands::{Command, push_command};
@@ -11,15 +11,22 @@ use snap_semantics::Outcome;
 use snap_text::{push_number, push_text};
 use std::alloc::{AllocError, Global};
 
+/// Whether the last line of a text has its line feed.
+fn ends_line(text: &[u8]) -> bool
+    ensures { result ≡ ends_line text.now }
+{
+    !text.is_empty() && text[text.len() - 1] == b'\n'
+}
+
 /// The text of a listing, with a line feed behind its last line.
 fn push_listing(out: &mut Vec<u8>, listing: &[u8]) -> Result<(), AllocError>
     ensures { OnOk result (out.new.items ≡ out.old.items ++ listing_part listing.now) }
 {
     push_text(out, listing)?;
-    match listing.last() {
-        Some(b'\n') => Ok(()),
-        _ => push_text(out, b"\n"),
+    if ends_line(listing) {
+        return Ok(());
     }
+    push_text(out, b"\n")
 }
 
 /// What fails: a verdict as an audit has it, or the trap of a process.
@@ -28,7 +35,8 @@ pub(crate) fn failure_line(out: &mut Vec<u8>, failure: &Failure) -> Result<(), A
     ensures { OnOk result (out.new.items ≡ out.old.items ++ failure_line failure.now) }
 {
     match failure {
-        Failure::NoPoint(verdict) | Failure::ManyCollects(verdict) => verdict_line(out, verdict),
+        Failure::NoPoint(verdict) => verdict_line(out, verdict),
+        Failure::ManyCollects(verdict) => verdict_line(out, verdict),
         Failure::Trapped {
             process,
             line,

@@ -198,14 +198,9 @@ fn plan_of(arguments: &ArgMatches<'_>) -> Option<Plan> {
     if turns > MAX_TURNS {
         return None;
     }
-    Some(Plan {
-        shape,
-        owns: false,
-        pace,
-        turns,
-        crashes: number_of(arguments, "crash")?,
-        repeated: number_of(arguments, "repeat")? as u32,
-    })
+    let crashes = number_of(arguments, "crash")?;
+    let repeated = number_of(arguments, "repeat")? as u32;
+    Some(Plan::new(shape, pace, turns, crashes, repeated))
 }
 
 /// What arguments ask for.

@@ -1,6 +1,6 @@
 use Rattle.std.proofs.Common.{◌+◌, ◌≤◌, sym, ◌∙◌, arith}
 use Rattle.snap_hunt.specs.Hunt.{fails}
-use Rattle.snap_hunt.proofs.Blocks.{found_here, none_here}
+use Rattle.snap_hunt.proofs.Ranges.{found_here, none_here}
 use Rattle.snap_hunt.proofs.hunt.first_failing.Goals as goal
 
 pub returns-then-is_some : goal.returns-then-is_some

@@ -1,7 +1,7 @@
 //! Items, and what is left of them.
 ghost use Rattle.std.specs.Prelude.{◌≡◌, ◌+◌, ◌<◌, ◌≤◌, ◌^◌, [], ◌∷◌, ◌++◌, length, IfOk, OnOk};
 ghost use Rattle.snap_semantics.specs.ScheduleText.{IsSchedule};
-ghost use Rattle.snap_shrink.specs.Shrinking.{without};
+ghost use Rattle.snap_hunt.specs.Shrinking.{without};
 
 use snap_sched::{Items, Schedule};
 use snap_semantics::Item;

@@ -1,6 +1,6 @@
 use Rattle.std.proofs.Common.{◌≡◌, ℕ, ◌<◌, false}
-use Rattle.snap_shrink.specs.Shrinking.{fails_with, without}
-use Rattle.snap_shrink.proofs.trials.removable.Given as goal
+use Rattle.snap_hunt.specs.Shrinking.{fails_with, without}
+use Rattle.snap_hunt.proofs.trials.removable.Given as goal
 
 -- without any of the first items the run does not fail
 abbrev pub invariant-loop-k : goal.invariant-loop-k

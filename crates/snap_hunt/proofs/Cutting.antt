@@ -8,7 +8,7 @@ use Rattle.snap_semantics.specs.ScheduleText.{FitsItem, IsSchedule}
 use Rattle.snap_semantics.specs.Table.{who}
 use Rattle.snap_semantics.specs.Source.{Source}
 use Rattle.snap_failure.specs.declared.failures.Wanted.{Wanted}
-use Rattle.snap_shrink.specs.Shrinking.{Fails, Shrinks, fails_with, without}
+use Rattle.snap_hunt.specs.Shrinking.{Fails, Shrinks, fails_with, without}
 
 all_taken : (P : Item → Type 0) (n : ℕ) (xs : List Item) → AllByRecursion P xs → AllByRecursion P (take n xs)
 all_taken P zero xs h = tt

@@ -1,6 +1,6 @@
 use Rattle.std.proofs.Common.{◌-◌, length}
-use Rattle.snap_shrink.specs.Shrinking.{Shrinks}
-use Rattle.snap_shrink.proofs.trials.drop_stretches.Given as goal
+use Rattle.snap_hunt.specs.Shrinking.{Shrinks}
+use Rattle.snap_hunt.proofs.trials.drop_chunks.Given as goal
 
 -- what is kept still fails
 abbrev pub invariant-loop-at : goal.invariant-loop-at

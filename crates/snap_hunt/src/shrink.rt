@@ -1,9 +1,9 @@
 //! A schedule whose run fails, made small.
 ghost use Rattle.std.specs.Prelude.{◌≡◌, IfOk};
-ghost use Rattle.snap_shrink.specs.Shrinking.{Fails, IsShrunk, Shrinks, IsSmall};
+ghost use Rattle.snap_hunt.specs.Shrinking.{Fails, IsShrunk, Shrinks, IsSmall};
 
 use crate::cuts::{items_of, schedule_with, without};
-use crate::trials::{drop_stretches, removable};
+use crate::trials::{drop_chunks, removable};
 use snap_asm_program::Program;
 use snap_failure::Wanted;
 use snap_sched::Schedule;
@@ -11,9 +11,9 @@ use snap_semantics::Item;
 use snap_words::Shape;
 use std::alloc::{AllocError, Global};
 
-/// Leaves out stretches, long ones first.
-#[tactic(auto, using(crate::proofs::Cuts::itself, crate::proofs::Cuts::onward))]
-fn drop_all_stretches(
+/// Leaves out chunks, long ones first.
+#[tactic(auto, using(crate::proofs::Cutting::itself, crate::proofs::Cutting::onward))]
+fn drop_all_chunks(
     alloc: Global,
     program: &Program,
     wanted: &Wanted,
@@ -26,14 +26,14 @@ fn drop_all_stretches(
     let mut size = items.len() / 2;
     let mut kept = items;
     while size > 0 {
-        kept = drop_stretches(alloc, program, wanted, shape, kept, size)?;
+        kept = drop_chunks(alloc, program, wanted, shape, kept, size)?;
         size /= 2;
     }
     Ok(kept)
 }
 
 /// Leaves out items one by one, until none can be left out.
-#[tactic(auto, using(crate::proofs::Cuts::itself, crate::proofs::Cuts::left_fails, crate::proofs::Cuts::left_shorter))]
+#[tactic(auto, using(crate::proofs::Cutting::itself, crate::proofs::Cutting::left_fails, crate::proofs::Cutting::left_shorter))]
 fn drop_items(
     alloc: Global,
     program: &Program,
@@ -54,7 +54,7 @@ fn drop_items(
 
 /// A schedule whose run fails too, of some of the items of this one in their order. Without any one
 /// of them the run does not fail.
-#[tactic(auto, using(crate::proofs::Cuts::onward))]
+#[tactic(auto, using(crate::proofs::Cutting::onward))]
 pub fn shrunk(
     alloc: Global,
     program: &Program,
@@ -66,7 +66,7 @@ pub fn shrunk(
 {
     let shape = schedule.shape();
     let items = items_of(alloc, schedule)?;
-    let fewer = drop_all_stretches(alloc, program, wanted, shape, items)?;
+    let fewer = drop_all_chunks(alloc, program, wanted, shape, items)?;
     let least = drop_items(alloc, program, wanted, shape, fewer)?;
     schedule_with(alloc, shape, least.as_slice())
 }

@@ -1,6 +1,6 @@
 use Rattle.std.proofs.Common.{◌≤◌}
-use Rattle.snap_shrink.specs.Shrinking.{Shrinks}
-use Rattle.snap_shrink.proofs.shrink.drop_all_stretches.Given as goal
+use Rattle.snap_hunt.specs.Shrinking.{Shrinks}
+use Rattle.snap_hunt.proofs.shrink.drop_all_chunks.Given as goal
 
 -- what is kept still fails
 abbrev pub invariant-loop-size : goal.invariant-loop-size

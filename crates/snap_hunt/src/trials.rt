@@ -1,7 +1,7 @@
 //! Whether what is left still fails.
 ghost use Rattle.std.specs.Prelude.{◌≡◌, ◌<◌, ◌≤◌, ◌+◌, ℕ, length, true, false, IfOk, MatchOption, is_some};
 ghost use Rattle.snap_semantics.specs.ScheduleText.{IsSchedule};
-ghost use Rattle.snap_shrink.specs.Shrinking.{Fails, Shrinks, fails_with, without};
+ghost use Rattle.snap_hunt.specs.Shrinking.{Fails, Shrinks, fails_with, without};
 
 use crate::cuts::{schedule_with, without};
 use snap_asm_program::Program;
@@ -26,10 +26,10 @@ fn fails_with(
     Ok(failure_over(alloc, program, &schedule, wanted)?.is_some())
 }
 
-/// Leaves out each stretch of so many items without which the run still fails, from the first to
+/// Leaves out each chunk of so many items without which the run still fails, from the first to
 /// the last.
-#[tactic(auto, using(crate::proofs::Cuts::left_schedule, crate::proofs::Cuts::left_fails, crate::proofs::Cuts::left_shorter, crate::proofs::Cuts::itself))]
-pub(crate) fn drop_stretches(
+#[tactic(auto, using(crate::proofs::Cutting::left_schedule, crate::proofs::Cutting::left_fails, crate::proofs::Cutting::left_shorter, crate::proofs::Cutting::itself))]
+pub(crate) fn drop_chunks(
     alloc: Global,
     program: &Program,
     wanted: &Wanted,
@@ -56,7 +56,7 @@ pub(crate) fn drop_stretches(
 }
 
 /// The first item without which the run still fails.
-#[tactic(auto, using(crate::proofs::Cuts::left_schedule))]
+#[tactic(auto, using(crate::proofs::Cutting::left_schedule))]
 pub(crate) fn removable(
     alloc: Global,
     program: &Program,

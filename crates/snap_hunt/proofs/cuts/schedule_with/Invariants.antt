@@ -1,5 +1,5 @@
 use Rattle.std.proofs.Common.{◌≡◌, length, take}
-use Rattle.snap_shrink.proofs.cuts.schedule_with.Given as goal
+use Rattle.snap_hunt.proofs.cuts.schedule_with.Given as goal
 
 -- the first of the items
 abbrev pub invariant-loop-item : goal.invariant-loop-item

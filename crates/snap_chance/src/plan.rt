@@ -57,6 +57,15 @@ impl Model for Plan {
       crashes = p.crashes;
       repeated = p.repeated;
     }) };
+
+    ghost inverse = { λ p. record {
+      shape = p.shape;
+      owns = p.owns;
+      pace = p.pace;
+      turns = p.turns;
+      crashes = p.crashes;
+      repeated = p.repeated;
+    } };
 }
 
 impl Plan {

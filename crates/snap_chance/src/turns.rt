@@ -152,7 +152,8 @@ fn scanning_turn(plan: &Plan, run: u64, draws: &Draws) -> Turn
 
 /// How many steps make an update whole, where nothing comes between them and the processes are few.
 fn whole_update(plan: &Plan) -> u64
-    ensures { result ≡ whole_update plan.now }
+    ensures value { result ≡ whole_update plan.now }
+    ensures some { 0 < result }
 {
     (24 * u64::from(plan.shape().process_count())).min(128)
 }

@@ -34,6 +34,15 @@ taken_few (suc n) (x ∷ xs) =
     let rest = taken_few n xs in
     omega (arith, rest)
 
+-- nothing is behind the end
+pub past_end : (n : ℕ) (xs : List Item) → length xs ≤ n → drop n xs ≡ []
+past_end zero [] le = refl
+past_end (suc n) [] le = refl
+past_end zero (x ∷ xs) le = absurd (omega arith)
+past_end (suc n) (x ∷ xs) le =
+    let rest : length xs ≤ n = omega arith in
+    past_end n xs rest
+
 -- how many are left
 pub length_without : (at count : ℕ) (xs : List Item) → at ≤ length xs → length (without at count xs) ≡ at + (length xs - (at + count))
 length_without at count xs le =

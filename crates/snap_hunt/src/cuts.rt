@@ -1,5 +1,5 @@
 //! Items, and what is left of them.
-ghost use Rattle.std.specs.Prelude.{◌≡◌, ◌+◌, ◌<◌, ◌≤◌, ◌^◌, [], ◌∷◌, ◌++◌, length, IfOk, OnOk};
+ghost use Rattle.std.specs.Prelude.{◌≡◌, ◌+◌, ◌<◌, ◌≤◌, ◌^◌, [], ◌∷◌, ◌++◌, drop, length, IfOk, OnOk};
 ghost use Rattle.snap_semantics.specs.ScheduleText.{IsSchedule};
 ghost use Rattle.snap_hunt.specs.Shrinking.{without};
 
@@ -43,6 +43,19 @@ pub(crate) fn schedule_with(
     Ok(Schedule::new(shape, all))
 }
 
+/// The items behind so many of them at a place.
+#[tactic(auto, using(crate::proofs::Cutting::past_end))]
+fn behind(items: &[Item], at: usize, count: usize) -> &[Item]
+    requires { at ≤ length items.now }
+    ensures { result.now ≡ drop (at + count) items.now }
+{
+    if count < items.len() - at {
+        &items[at + count..]
+    } else {
+        &items[items.len()..]
+    }
+}
+
 /// What is left of items without so many of them at a place.
 pub(crate) fn without(
     alloc: Global,
@@ -53,8 +66,7 @@ pub(crate) fn without(
     requires { at ≤ length items.now }
     ensures { IfOk result (λ v. v.items ≡ without at count items.now) }
 {
-    let (front, rest) = items.split_at(at);
-    let mut left = Vec::from_slice(alloc, front)?;
-    left.extend_from_slice(&rest[count.min(rest.len())..])?;
+    let mut left = Vec::from_slice(alloc, &items[..at])?;
+    left.extend_from_slice(behind(items, at, count))?;
     Ok(left)
 }

@@ -199,7 +199,9 @@ fn plan_of(arguments: &ArgMatches<'_>) -> Option<Plan> {
         return None;
     }
     let crashes = number_of(arguments, "crash")?;
-    let repeated = number_of(arguments, "repeat")? as u32;
+    let Ok(repeated) = u32::try_from(number_of(arguments, "repeat")?) else {
+        return None;
+    };
     Some(Plan::new(shape, pace, turns, crashes, repeated))
 }
 

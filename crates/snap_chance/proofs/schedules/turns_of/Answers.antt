@@ -8,8 +8,8 @@ loop-turn-preserved g c =
     let p = c.args.plan.now in
     let t = c.loop-turn.turn in
     let xs = turn_items p c.args.run (t + 1) c.draw-draws.result in
-    let turn = are_turn p c.args.run (t + 1) c.draw-draws.result c.turns.ensures.plan.shape.0.0 in
-    let below : t < p.turns = omega (arith, c.turns.ensures.turns) in
+    let turn = are_turn p c.args.run (t + 1) c.draw-draws.result c.turns-turn-end.ensures.plan.shape.0.0 in
+    let below : t < p.turns = omega (arith, c.turns-turn-end.ensures.turns) in
     let added = c.in_ok-push_turn.ensures.added in
     let few : length c.push_turn.new.items ≤ t * 129 + 129 = longer p.shape.n (t * 129) xs c.loop-turn.items c.push_turn.new.items turn added c.loop-turn.invariant.few in
     record {

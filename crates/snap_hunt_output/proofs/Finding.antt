@@ -2,6 +2,11 @@
 use Rattle.std.proofs.Common.{◌≡◌, ℕ, List, [], ◌∷◌, Bool, true, false, cond, Option, Some, None, Result, Ok, Err, refl, sym, ap, subst, ◌∙◌}
 use Rattle.std.specs.List.{find}
 use Rattle.snap_semantics.specs.Answers.{refused_as}
+use Rattle.snap_semantics.specs.Listing.{listing_of}
+use Rattle.snap_semantics.specs.declared.refusal.Refusal.TheVariants as refusal
+use Rattle.snap_hunt_output.specs.Hunted.{IsHunted, IsHuntedOf}
+use Rattle.snap_hunt_output.specs.declared.asked.Asked.{Asked}
+use Rattle.snap_hunt_output.specs.declared.hunted.Hunted.{Hunted}
 use Rattle.snap_semantics.specs.Schedule.{Schedule}
 use Rattle.snap_semantics.specs.ScheduleText.{IsSchedule}
 use Rattle.snap_semantics.specs.Source.{Source}
@@ -33,3 +38,7 @@ fails_over l p w seed k s is h e = record {
 pub not_refused : {A E F : Type 0} (f : E → F) (r : Result A E) (x : A) → refused_as f r ≡ Ok x → r ≡ Ok x
 not_refused f (Ok y) x e = let same : y ≡ x = cc in ap Ok same
 not_refused f (Err r) x e = absurd cc
+
+-- what a hunt of a program comes to is what one of its listing does
+pub hunted_by : (text : List ℕ) (a : Asked) (l : Source) (h : Hunted) → refused_as refusal.Listing (listing_of text) ≡ Ok l → IsHuntedOf l a h → IsHunted text a h
+hunted_by text a l h is hunted = record { listing = l; is = not_refused refusal.Listing (listing_of text) l is; hunted = hunted }

@@ -2,7 +2,7 @@
 ghost use Rattle.std.specs.Prelude.{◌≡◌, ◌<◌, ◌^◌, IfOk, Ok, Some, true};
 ghost use Rattle.snap_hunt.specs.Hunt.{fails};
 ghost use Rattle.snap_hunt_output.specs.Check.{failure_in_input};
-ghost use Rattle.snap_hunt_output.specs.Hunted.{IsHunted, hunt_fault};
+ghost use Rattle.snap_hunt_output.specs.Hunted.{IsHunted, IsHuntedOf, hunt_fault};
 ghost use Rattle.snap_hunt_output.specs.declared.hunted.HuntFault.TheVariants.{Memory};
 
 use crate::asked::{Asked, fits_kind, owned};
@@ -92,8 +92,45 @@ fn checked(alloc: Global, input: &[u8], wanted: &Wanted) -> Result<Failure, Hunt
     }
 }
 
+/// The first of the runs of a program that fails, as an input of a small run that fails too; or that
+/// none of them does.
+fn hunt_program<W: Watcher>(
+    rt: &(impl Threads + Sync),
+    alloc: Global,
+    listing: &[u8],
+    program: &Program,
+    asked: &Asked,
+    watcher: &mut W,
+) -> Result<Hunted, HuntFault>
+    requires { asked.now.runs < 2 ^ 63 }
+    ensures { IfOk result (IsHuntedOf program.now asked.now) }
+{
+    let plan = owned(program.kind(), &asked.plan);
+    let found = first_failing(
+        rt,
+        alloc,
+        program,
+        &plan,
+        &asked.wanted,
+        asked.seed,
+        asked.runs,
+        watcher,
+    )?;
+    let Some(run) = found else {
+        return Ok(Hunted::NoneFails);
+    };
+    let input = small_input(alloc, listing, program, &plan, asked, run)?;
+    let failure = checked(alloc, input.as_slice(), &asked.wanted)?;
+    Ok(Hunted::Fails {
+        run,
+        failure,
+        input,
+    })
+}
+
 /// The first of the runs of a listing that fails, as an input of a small run that fails too; or
 /// that none of them does.
+#[tactic(auto, using(crate::proofs::Finding::hunted_by))]
 pub fn hunt_listing<W: Watcher>(
     rt: &(impl Threads + Sync),
     alloc: Global,
@@ -108,27 +145,5 @@ pub fn hunt_listing<W: Watcher>(
     if !fits_kind(program.kind(), asked.plan.shape()) {
         return Err(HuntFault::Refused(Refusal::Words(WordFault::BadShape)));
     }
-    let plan = owned(program.kind(), &asked.plan);
-    let found = first_failing(
-        rt,
-        alloc,
-        &program,
-        &plan,
-        &asked.wanted,
-        asked.seed,
-        asked.runs,
-        watcher,
-    )?;
-    match found {
-        Some(run) => {
-            let input = small_input(alloc, listing, &program, &plan, asked, run)?;
-            let failure = checked(alloc, input.as_slice(), &asked.wanted)?;
-            Ok(Hunted::Fails {
-                run,
-                failure,
-                input,
-            })
-        }
-        None => Ok(Hunted::NoneFails),
-    }
+    hunt_program(rt, alloc, listing, &program, asked, watcher)
 }

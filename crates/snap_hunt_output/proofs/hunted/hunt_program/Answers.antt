@@ -6,5 +6,5 @@ use Rattle.snap_hunt_output.proofs.hunted.hunt_program.Goals as goal
 
 pub small_input-requires : goal.small_input-requires
 small_input-requires g c =
-    found_passes (fails c.args.program.now c.owned-plan.result c.args.asked.now.wanted c.args.asked.now.seed) c.in-Some.run
+    found_passes (fails c.args.program.now c.owned-plan.result c.args.asked.now.wanted c.args.asked.now.seed) c.in-Some.run'
     (range_with_len 0 c.args.asked.now.runs) (sym c.in_ok-found.ensures ∙ c.in-Some.is)

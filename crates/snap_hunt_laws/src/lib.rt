@@ -5,7 +5,6 @@ ghost use Rattle.snap_words.specs.declared.kind.KindTag.{KindTag};
 ghost use Rattle.snap_hunt_laws.specs.Shipped.{FindsNothing};
 
 /// No run of U, B and M has a scan without a point or a trap. So a hunt for these finds none.
-#[tactic(auto, using(crate::proofs::Nothing::finds_nothing))]
 pub fn shipped_listings_have_no_failing_run()
     ensures { (g : KindTag) → FindsNothing g }
 {

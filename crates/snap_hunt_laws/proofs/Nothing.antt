@@ -37,7 +37,7 @@ use Rattle.snap_hunt_laws.specs.Shipped.{FindsNothing}
 
 -- each verdict has a point
 not_none : (o : Option ℕ) → IsSome o → is_none o ≡ false
-not_none None h = absurd h
+not_none None h = absurd cc
 not_none (Some t) h = refl
 
 pub points_found : (vs : List Verdict) → AllByRecursion HasFoundPoint vs → no_point vs ≡ None

@@ -78,7 +78,7 @@ turns_there : (p : Plan) (k t left : ℕ) (s : Stream) → 0 < p.shape.n → All
 turns_there p k t zero s some = tt
 turns_there p k t (suc left) s some =
     all_more (IsOneOf p.shape.n) (turn_items p k t (draws s).0) (turns_from p k (t + 1) left (draws s).1) (are_turn p k t (draws s).0 some).there
-      (turns_there p k (t + 1) left (draws s).1 some)
+    (turns_there p k (t + 1) left (draws s).1 some)
 
 turns_few : (p : Plan) (k t left : ℕ) (s : Stream) → 0 < p.shape.n → length (turns_from p k t left s) ≤ left * 129
 turns_few p k t zero s some = omega arith

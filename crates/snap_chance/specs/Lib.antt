@@ -1,0 +1,4 @@
+pub mod Draws
+pub mod Plan
+pub mod Turns
+pub mod Chance

@@ -1,0 +1,30 @@
+-- How schedules are made.
+use Rattle.std.specs.Prelude.{ℕ, ◌≤◌, Bool}
+use Rattle.snap_words.specs.Shape.{Counts, IsShape}
+use Rattle.snap_chance.specs.declared.plan.Pace.{Pace}
+
+-- A plan: whether each process updates the word of its own number, how processes take turns, how many turns there are, how many
+-- of a thousand are crashes, and the greatest of the values that half of the runs repeat.
+pub record Plan : Type 0 where
+  pub shape : Counts
+  pub owns : Bool
+  pub pace : Pace
+  pub turns : ℕ
+  pub crashes : ℕ
+  pub repeated : ℕ
+
+-- There are processes and words, and so few turns that a schedule has room for them.
+pub record IsPlan (p : Plan) : Type 0 where
+  pub shape : IsShape p.shape.n p.shape.w
+  pub few : p.turns ≤ 7500
+
+-- a plan in which each process updates its own word, where that is said
+abbrev pub with_owned : Bool → Plan → Plan
+with_owned owns p = record {
+  shape = p.shape;
+  owns = owns;
+  pace = p.pace;
+  turns = p.turns;
+  crashes = p.crashes;
+  repeated = p.repeated;
+}

@@ -1,0 +1,10 @@
+//! Schedules that chance makes: a seed and a number decide each of them.
+#![tactic(auto)]
+
+mod draws;
+mod plan;
+mod schedules;
+mod turns;
+
+pub use plan::{MAX_TURNS, Pace, Plan};
+pub use schedules::schedule_of;

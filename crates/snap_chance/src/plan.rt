@@ -1,0 +1,154 @@
+//! How schedules are made.
+ghost use Rattle.std.specs.Prelude.{◌≡◌, ◌≤◌, false};
+ghost use Rattle.snap_words.specs.Shape.{IsShape};
+ghost use Rattle.snap_chance.specs.Plan.{IsPlan, with_owned};
+
+use snap_words::Shape;
+use std::marker::Model;
+
+/// The most turns of a schedule. A turn is at most 129 items.
+pub const MAX_TURNS: u64 = 7_500;
+
+/// How processes take turns.
+#[derive(Clone, Copy, Debug, PartialEq, Eq)]
+pub enum Pace {
+    /// A step at a time, of a process that is drawn for each.
+    Coins,
+    /// Steps of one process side by side: 1 to 128, short bursts as often as long ones.
+    Bursts,
+    /// One process scans, a few steps at a time. Between them all processes make updates, most of
+    /// them whole.
+    Interruptions,
+    /// Bursts and interruptions, in one run after another.
+    Mixed,
+}
+
+/// How schedules are made. There are processes and words, and so few turns that a schedule has room
+/// for them.
+#[derive(Clone, Copy, Debug)]
+pub struct Plan {
+    shape: Shape,
+    owns: bool,
+    pace: Pace,
+    turns: u64,
+    crashes: u64,
+    repeated: u32,
+}
+
+impl Model for Plan {
+    ghost use Rattle.snap_chance.specs.Plan.{IsPlan, Plan};
+
+    ghost Value = { Plan };
+
+    ghost view = { λ p. record {
+      shape = p.shape;
+      owns = p.owns;
+      pace = p.pace;
+      turns = p.turns;
+      crashes = p.crashes;
+      repeated = p.repeated;
+    } };
+
+    ghost invariant = { λ p. IsPlan (record {
+      shape = p.shape;
+      owns = p.owns;
+      pace = p.pace;
+      turns = p.turns;
+      crashes = p.crashes;
+      repeated = p.repeated;
+    }) };
+
+    ghost inverse = { λ p. record {
+      shape = p.shape;
+      owns = p.owns;
+      pace = p.pace;
+      turns = p.turns;
+      crashes = p.crashes;
+      repeated = p.repeated;
+    } };
+}
+
+impl Plan {
+    /// A plan of so many turns, in which processes update any words. Of a thousand turns, so many
+    /// are crashes. In half of the schedules values are from 0 to the last number; in the others,
+    /// and in all where it is 0, no two updates have the same value.
+    pub fn new(shape: Shape, pace: Pace, turns: u64, crashes: u64, repeated: u32) -> Plan
+        requires shape { IsShape shape.n shape.w }
+        requires few { turns ≤ 7500 }
+        ensures { result ≡ record {
+          shape = shape;
+          owns = false;
+          pace = pace;
+          turns = turns;
+          crashes = crashes;
+          repeated = repeated;
+        } }
+    {
+        Plan {
+            shape,
+            owns: false,
+            pace,
+            turns,
+            crashes,
+            repeated,
+        }
+    }
+
+    /// The same plan, in which each process updates the word of its own number, where that is said.
+    pub fn with_owned(&self, owns: bool) -> Plan
+        ensures { result ≡ with_owned owns self.now }
+    {
+        Plan {
+            shape: self.shape,
+            owns,
+            pace: self.pace,
+            turns: self.turns,
+            crashes: self.crashes,
+            repeated: self.repeated,
+        }
+    }
+
+    /// The numbers of processes and of words.
+    pub fn shape(&self) -> Shape
+        ensures shape { result ≡ self.now.shape }
+        ensures plan { IsPlan self.now }
+    {
+        self.shape
+    }
+
+    /// Whether each process updates the word of its own number.
+    pub fn owns(&self) -> bool
+        ensures { result ≡ self.now.owns }
+    {
+        self.owns
+    }
+
+    /// How processes take turns.
+    pub fn pace(&self) -> Pace
+        ensures { result ≡ self.now.pace }
+    {
+        self.pace
+    }
+
+    /// How many turns a schedule has.
+    pub fn turns(&self) -> u64
+        ensures turns { result ≡ self.now.turns }
+        ensures plan { IsPlan self.now }
+    {
+        self.turns
+    }
+
+    /// Of a thousand turns, how many are crashes.
+    pub fn crashes(&self) -> u64
+        ensures { result ≡ self.now.crashes }
+    {
+        self.crashes
+    }
+
+    /// The greatest of the values that are repeated.
+    pub fn repeated(&self) -> u32
+        ensures { result ≡ self.now.repeated }
+    {
+        self.repeated
+    }
+}

@@ -1,0 +1,240 @@
+//! What a turn is.
+ghost use Rattle.std.specs.Prelude.{◌≡◌, ◌<◌, ◌≤◌, ◌+◌, ◌^◌, ◌++◌, length, OnOk};
+ghost use Rattle.std.specs.List.{AllByRecursion};
+ghost use Rattle.snap_words.specs.Shape.{IsOneOf};
+ghost use Rattle.snap_semantics.specs.ScheduleText.{FitsItem};
+ghost use Rattle.snap_chance.specs.Turns.{
+  asked_items,
+  burst_of,
+  burst_turn,
+  coin_turn,
+  interrupted_turn,
+  interrupted_process,
+  operation_of,
+  process_of,
+  scanning_turn,
+  turn_items,
+  turn_of,
+  update_of,
+  updating_turn,
+  value_of,
+  whole_update,
+  word_of,
+};
+
+use crate::draws::Draws;
+use crate::plan::{Pace, Plan};
+use snap_sched::Items;
+use snap_semantics::Op;
+use std::alloc::AllocError;
+
+/// A turn of a process: what it is asked for, if anything, and how many steps it takes then.
+#[derive(Clone, Copy, Debug)]
+pub(crate) struct Turn {
+    pub(crate) process: u32,
+    pub(crate) call: Option<Op>,
+    pub(crate) steps: u64,
+}
+
+/// The process that is drawn for a turn.
+fn process_of(plan: &Plan, draws: &Draws) -> u32
+    ensures { result ≡ process_of plan.now draws.now }
+{
+    (draws.process % u64::from(plan.shape().process_count())) as u32 + 1
+}
+
+/// How many steps a burst is.
+fn burst_of(draws: &Draws) -> u64
+    ensures { result ≡ burst_of draws.now }
+{
+    draws.length % (1 << (draws.scale % 8)) + 1
+}
+
+/// The word that an update of a process sets.
+fn word_of(plan: &Plan, process: u32, draws: &Draws) -> u64
+    ensures { result ≡ word_of plan.now process draws.now }
+{
+    if plan.owns() {
+        u64::from(process)
+    } else {
+        draws.word % plan.shape().w() + 1
+    }
+}
+
+/// The value that the update of a turn sets.
+fn value_of(plan: &Plan, run: u64, turn: u64, draws: &Draws) -> u64
+    ensures { result ≡ value_of plan.now run turn draws.now }
+{
+    if plan.repeated() > 0 && run / 2 % 2 == 1 {
+        draws.value % (u64::from(plan.repeated()) + 1)
+    } else {
+        turn
+    }
+}
+
+/// The update of a turn.
+fn update_of(plan: &Plan, run: u64, turn: u64, process: u32, draws: &Draws) -> Op
+    ensures { result ≡ update_of plan.now run turn process draws.now }
+{
+    Op::Update {
+        word: word_of(plan, process, draws),
+        value: value_of(plan, run, turn, draws),
+    }
+}
+
+/// The operation of a turn.
+fn operation_of(plan: &Plan, run: u64, turn: u64, process: u32, draws: &Draws) -> Op
+    ensures { result ≡ operation_of plan.now run turn process draws.now }
+{
+    if draws.scan % 2 == 0 {
+        Op::Scan
+    } else {
+        update_of(plan, run, turn, process, draws)
+    }
+}
+
+/// One step, before which one turn in eight calls an operation.
+fn coin_turn(plan: &Plan, run: u64, turn: u64, draws: &Draws) -> Turn
+    ensures { result ≡ coin_turn plan.now run turn draws.now }
+{
+    let process = process_of(plan, draws);
+    let call = if draws.call % 8 == 0 {
+        Some(operation_of(plan, run, turn, process, draws))
+    } else {
+        None
+    };
+    Turn {
+        process,
+        call,
+        steps: 1,
+    }
+}
+
+/// A burst of steps, before which one turn in two calls an operation.
+fn burst_turn(plan: &Plan, run: u64, turn: u64, draws: &Draws) -> Turn
+    ensures { result ≡ burst_turn plan.now run turn draws.now }
+{
+    let process = process_of(plan, draws);
+    let call = if draws.call % 2 == 0 {
+        Some(operation_of(plan, run, turn, process, draws))
+    } else {
+        None
+    };
+    Turn {
+        process,
+        call,
+        steps: burst_of(draws),
+    }
+}
+
+/// The process whose scans are interrupted in a run.
+fn interrupted_process(plan: &Plan, run: u64) -> u32
+    ensures { result ≡ interrupted_process plan.now run }
+{
+    (run / 2 % u64::from(plan.shape().process_count())) as u32 + 1
+}
+
+/// A few steps of the process that scans.
+fn scanning_turn(plan: &Plan, run: u64, draws: &Draws) -> Turn
+    ensures { result ≡ scanning_turn plan.now run draws.now }
+{
+    let call = if draws.call % 4 == 0 {
+        Some(Op::Scan)
+    } else {
+        None
+    };
+    Turn {
+        process: interrupted_process(plan, run),
+        call,
+        steps: draws.length % 8 + 1,
+    }
+}
+
+/// How many steps make an update whole, where nothing comes between them and the processes are few.
+fn whole_update(plan: &Plan) -> u64
+    ensures value { result ≡ whole_update plan.now }
+    ensures some { 0 < result }
+{
+    (24 * u64::from(plan.shape().process_count())).min(128)
+}
+
+/// An update, whole or its first part.
+fn updating_turn(plan: &Plan, run: u64, turn: u64, draws: &Draws) -> Turn
+    ensures { result ≡ updating_turn plan.now run turn draws.now }
+{
+    let process = process_of(plan, draws);
+    let whole = whole_update(plan);
+    let steps = if draws.call % 4 == 0 {
+        draws.length % whole + 1
+    } else {
+        whole
+    };
+    Turn {
+        process,
+        call: Some(update_of(plan, run, turn, process, draws)),
+        steps,
+    }
+}
+
+/// A turn of the process that scans, or one that interrupts it.
+fn interrupted_turn(plan: &Plan, run: u64, turn: u64, draws: &Draws) -> Turn
+    ensures { result ≡ interrupted_turn plan.now run turn draws.now }
+{
+    if draws.scale % 2 == 0 {
+        scanning_turn(plan, run, draws)
+    } else {
+        updating_turn(plan, run, turn, draws)
+    }
+}
+
+/// A turn that is no crash.
+fn turn_of(plan: &Plan, run: u64, turn: u64, draws: &Draws) -> Turn
+    ensures { result ≡ turn_of plan.now run turn draws.now }
+{
+    match plan.pace() {
+        Pace::Coins => coin_turn(plan, run, turn, draws),
+        Pace::Bursts => burst_turn(plan, run, turn, draws),
+        Pace::Interruptions => interrupted_turn(plan, run, turn, draws),
+        Pace::Mixed => {
+            if run % 2 == 0 {
+                burst_turn(plan, run, turn, draws)
+            } else {
+                interrupted_turn(plan, run, turn, draws)
+            }
+        }
+    }
+}
+
+/// Adds what a process is asked for, and its steps.
+fn push_asked(items: &mut Items, turn: &Turn) -> Result<(), AllocError>
+    requires few { length items.old + 129 < 2 ^ 32 }
+    requires short { turn.now.steps ≤ 128 }
+    ensures added { OnOk result (items.new ≡ items.old ++ asked_items turn.now) }
+    ensures fits { OnOk result (AllByRecursion FitsItem items.new) }
+{
+    if let Some(op) = turn.call {
+        items.push_call(turn.process, op)?;
+    }
+    items.push_steps(turn.process, turn.steps)
+}
+
+/// Adds a turn.
+#[tactic(auto, using(crate::proofs::Turning::turn_short))]
+pub(crate) fn push_turn(
+    items: &mut Items,
+    plan: &Plan,
+    run: u64,
+    turn: u64,
+    draws: &Draws,
+) -> Result<(), AllocError>
+    requires { length items.old + 129 < 2 ^ 32 }
+    ensures added { OnOk result (items.new ≡ items.old
+        ++ turn_items plan.now run turn draws.now) }
+    ensures fits { OnOk result (AllByRecursion FitsItem items.new) }
+{
+    if draws.crash % 1000 < plan.crashes() {
+        return items.push_crash(process_of(plan, draws));
+    }
+    let _shape = plan.shape();
+    push_asked(items, &turn_of(plan, run, turn, draws))
+}

@@ -1,0 +1,7 @@
+use Rattle.std.proofs.Common.{◌≡◌, ◌+◌, ◌-◌}
+use Rattle.snap_failure.specs.Failing.{first_trap}
+use Rattle.snap_failure.proofs.failing.first_trap.Given as goal
+
+-- what is left has the first
+abbrev pub invariant-loop-k : goal.invariant-loop-k
+invariant-loop-k g l = first_trap l.machine.state (l.k + 1) (l.machine.shape.n - l.k) ≡ first_trap l.machine.state 1 l.machine.shape.n

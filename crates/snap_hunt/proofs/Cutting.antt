@@ -1,0 +1,98 @@
+-- What is left of items without some of them.
+use Rattle.std.proofs.Common.{◌≡◌, ℕ, zero, suc, ◌+◌, ◌-◌, ◌<◌, ◌≤◌, List, [], ◌∷◌, ◌++◌, true, drop, length, take, refl, sym, ap, subst, ◌∙◌, arith}
+use Rattle.std.proofs.lemmas.List.{length-append, length-drop, length-take}
+use Rattle.std.specs.List.{AllByRecursion}
+use Rattle.snap_words.specs.Shape.{Counts, IsOneOf}
+use Rattle.snap_semantics.specs.declared.process.Item.{Item}
+use Rattle.snap_semantics.specs.ScheduleText.{FitsItem, IsSchedule}
+use Rattle.snap_semantics.specs.Table.{who}
+use Rattle.snap_semantics.specs.Source.{Source}
+use Rattle.snap_failure.specs.declared.failures.Wanted.{Wanted}
+use Rattle.snap_hunt.specs.Shrinking.{Fails, Shrinks, fails_with, without}
+
+all_taken : (P : Item → Type 0) (n : ℕ) (xs : List Item) → AllByRecursion P xs → AllByRecursion P (take n xs)
+all_taken P zero xs h = tt
+all_taken P (suc n) [] h = tt
+all_taken P (suc n) (x ∷ xs) h = (h.0, all_taken P n xs h.1)
+
+all_left : (P : Item → Type 0) (n : ℕ) (xs : List Item) → AllByRecursion P xs → AllByRecursion P (drop n xs)
+all_left P zero xs h = h
+all_left P (suc n) [] h = tt
+all_left P (suc n) (x ∷ xs) h = all_left P n xs h.1
+
+all_both : (P : Item → Type 0) (xs ys : List Item) → AllByRecursion P xs → AllByRecursion P ys → AllByRecursion P (xs ++ ys)
+all_both P [] ys h g = g
+all_both P (x ∷ xs) ys h g = (h.0, all_both P xs ys h.1 g)
+
+all_without : (P : Item → Type 0) (at count : ℕ) (xs : List Item) → AllByRecursion P xs → AllByRecursion P (without at count xs)
+all_without P at count xs h = all_both P (take at xs) (drop (at + count) xs) (all_taken P at xs h) (all_left P (at + count) xs h)
+
+taken_few : (n : ℕ) (xs : List Item) → length (take n xs) + length (drop n xs) ≡ length xs
+taken_few zero xs = omega arith
+taken_few (suc n) [] = refl
+taken_few (suc n) (x ∷ xs) =
+    let rest = taken_few n xs in
+    omega (arith, rest)
+
+-- nothing is behind the end
+pub past_end : (n : ℕ) (xs : List Item) → length xs ≤ n → drop n xs ≡ []
+past_end zero [] le = refl
+past_end (suc n) [] le = refl
+past_end zero (x ∷ xs) le = absurd (omega arith)
+past_end (suc n) (x ∷ xs) le =
+    let rest : length xs ≤ n = omega arith in
+    past_end n xs rest
+
+-- how many are left
+pub length_without : (at count : ℕ) (xs : List Item) → at ≤ length xs → length (without at count xs) ≡ at + (length xs - (at + count))
+length_without at count xs le =
+    let front = taken_few at xs in
+    omega (arith, length-append (take at xs) (drop (at + count) xs), length-drop (at + count) xs, length-drop at xs, front)
+
+-- what is left of a schedule is one
+pub still_schedule : (shape : Counts) (at count : ℕ) (xs : List Item) → at ≤ length xs → IsSchedule (record { shape = shape; items = xs })
+    → IsSchedule (record { shape = shape; items = without at count xs })
+still_schedule shape at count xs le h =
+    let few = h.few in
+    let left = length_without at count xs le in
+    record {
+      shape = h.shape;
+      processes = all_without (λ x. IsOneOf shape.n (who x)) at count xs h.processes;
+      few = omega (arith, few, left);
+      fits = all_without FitsItem at count xs h.fits;
+    }
+
+-- what is left of the items of a schedule is one
+pub left_schedule : (shape : Counts) (at count : ℕ) (xs ys : List Item) → IsSchedule (record { shape = shape; items = xs }) → at ≤ length xs → ys ≡ without at count xs
+    → IsSchedule (record { shape = shape; items = ys })
+left_schedule shape at count xs ys h le is =
+    subst (λ (zs : List Item). IsSchedule (record { shape = shape; items = zs })) (sym is) (still_schedule shape at count xs le h)
+
+-- what is left, where it still fails
+pub left_fails : (l : Source) (w : Wanted) (shape : Counts) (at count : ℕ) (all xs ys : List Item) → Shrinks l w shape all xs → at ≤ length xs
+    → ys ≡ without at count xs → fails_with l w shape ys ≡ true → Shrinks l w shape all ys
+left_fails l w shape at count all xs ys h le is fails =
+    let shorter = h.shorter in
+    let left : length ys ≡ at + (length xs - (at + count)) = ap length is ∙ length_without at count xs le in
+    record {
+      still = record { schedule = left_schedule shape at count xs ys h.still.schedule le is; fails = fails };
+      shorter = omega (arith, shorter, left, le);
+    }
+
+-- and it is shorter
+pub left_shorter : (at count : ℕ) (xs ys : List Item) → at < length xs → 0 < count → ys ≡ without at count xs → length ys < length xs
+left_shorter at count xs ys lt some is =
+    let le : at ≤ length xs = omega arith in
+    let left : length ys ≡ at + (length xs - (at + count)) = ap length is ∙ length_without at count xs le in
+    omega (arith, left)
+
+-- from items that fail to themselves
+pub itself : (l : Source) (w : Wanted) (shape : Counts) (xs : List Item) → Fails l w shape xs → Shrinks l w shape xs xs
+itself l w shape xs h = record { still = h; shorter = omega arith }
+
+-- one after another
+pub onward : (l : Source) (w : Wanted) (shape : Counts) (xs ys zs : List Item) → Shrinks l w shape xs ys → Shrinks l w shape ys zs → Shrinks l w shape xs zs
+onward l w shape xs ys zs h k =
+    let a = h.shorter in
+    let b = k.shorter in
+    record { still = k.still; shorter = omega (arith, a, b) }

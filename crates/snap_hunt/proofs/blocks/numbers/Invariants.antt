@@ -1,0 +1,7 @@
+use Rattle.std.proofs.Common.{◌≡◌, ◌≤◌}
+use Rattle.std.specs.List.{range_with_len}
+use Rattle.snap_hunt.proofs.blocks.numbers.Given as goal
+
+-- so many of them
+abbrev pub invariant-loop-k : goal.invariant-loop-k
+invariant-loop-k l = l.numbers.items ≡ range_with_len l.from l.k

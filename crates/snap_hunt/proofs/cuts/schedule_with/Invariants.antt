@@ -1,0 +1,9 @@
+use Rattle.std.proofs.Common.{◌≡◌, length, take}
+use Rattle.snap_hunt.proofs.cuts.schedule_with.Given as goal
+
+-- the first of the items
+abbrev pub invariant-loop-item : goal.invariant-loop-item
+invariant-loop-item l = record {
+  all : l.all ≡ take l.item-index l.items;
+  count : length l.all ≡ l.item-index;
+}

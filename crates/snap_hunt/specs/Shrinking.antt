@@ -1,0 +1,38 @@
+-- Schedules whose runs fail, made small.
+use Rattle.std.specs.Prelude.{◌≡◌, ℕ, ◌+◌, ◌<◌, ◌≤◌, Bool, true, false, List, ◌++◌, drop, length, take, is_some}
+use Rattle.snap_words.specs.Shape.{Counts}
+use Rattle.snap_semantics.specs.declared.process.Item.{Item}
+use Rattle.snap_semantics.specs.Schedule.{Schedule}
+use Rattle.snap_semantics.specs.ScheduleText.{IsSchedule}
+use Rattle.snap_semantics.specs.Source.{Source}
+use Rattle.snap_runs.specs.Run.{run_of_items}
+use Rattle.snap_failure.specs.Failing.{failure_of}
+use Rattle.snap_failure.specs.declared.failures.Wanted.{Wanted}
+
+-- items without so many of them at a place, which counts from 0
+abbrev pub without : (at count : ℕ) → List Item → List Item
+without at count xs = take at xs ++ drop (at + count) xs
+
+-- whether the run over these items fails
+unfoldable pub fails_with : Source → Wanted → Counts → List Item → Bool
+fails_with l w shape xs = is_some (failure_of w (run_of_items l shape xs))
+
+-- items of a schedule whose run fails
+pub record Fails (l : Source) (w : Wanted) (shape : Counts) (xs : List Item) : Type 0 where
+  pub schedule : IsSchedule (record { shape = shape; items = xs })
+  pub fails : fails_with l w shape xs ≡ true
+
+-- from items whose run fails to no more of them whose run fails
+pub record Shrinks (l : Source) (w : Wanted) (shape : Counts) (xs ys : List Item) : Type 0 where
+  pub still : Fails l w shape ys
+  pub shorter : length ys ≤ length xs
+
+-- no item can be left out
+abbrev pub IsSmall : Source → Wanted → Counts → List Item → Type 0
+IsSmall l w shape xs = (k : ℕ) → k < length xs → fails_with l w shape (without k 1 xs) ≡ false
+
+-- a schedule whose run fails, and a small one of no more items, of the same shape
+pub record IsShrunk (l : Source) (w : Wanted) (s t : Schedule) : Type 0 where
+  pub shape : t.shape ≡ s.shape
+  pub shrinks : Shrinks l w s.shape s.items t.items
+  pub small : IsSmall l w s.shape t.items

@@ -1,0 +1,72 @@
+//! Items, and what is left of them.
+ghost use Rattle.std.specs.Prelude.{◌≡◌, ◌+◌, ◌<◌, ◌≤◌, ◌^◌, [], ◌∷◌, ◌++◌, drop, length, IfOk, OnOk};
+ghost use Rattle.snap_semantics.specs.ScheduleText.{IsSchedule};
+ghost use Rattle.snap_hunt.specs.Shrinking.{without};
+
+use snap_sched::{Items, Schedule};
+use snap_semantics::Item;
+use snap_words::Shape;
+use std::alloc::{AllocError, Global};
+
+/// The items of a schedule.
+pub(crate) fn items_of(alloc: Global, schedule: &Schedule) -> Result<Vec<Item>, AllocError>
+    ensures { IfOk result (λ v. v.items ≡ schedule.now.items) }
+{
+    schedule.items().iter().collect(alloc)
+}
+
+/// Adds an item.
+fn push_item(items: &mut Items, item: Item) -> Result<(), AllocError>
+    requires { length items.old + 1 < 2 ^ 32 }
+    ensures { OnOk result (items.new ≡ items.old ++ item ∷ []) }
+{
+    match item {
+        Item::Step(process) => items.push_steps(process, 1),
+        Item::Call(process, op) => items.push_call(process, op),
+        Item::Crash(process) => items.push_crash(process),
+    }
+}
+
+/// The schedule of these items.
+pub(crate) fn schedule_with(
+    alloc: Global,
+    shape: Shape,
+    items: &[Item],
+) -> Result<Schedule, AllocError>
+    requires { IsSchedule (record { shape = shape; items = items.now }) }
+    ensures { IfOk result (λ s. s ≡ record { shape = shape; items = items.now }) }
+{
+    let mut all = Items::new(alloc);
+    for item in items {
+        push_item(&mut all, *item)?;
+    }
+    Ok(Schedule::new(shape, all))
+}
+
+/// The items behind so many of them at a place.
+#[tactic(auto, using(crate::proofs::Cutting::past_end))]
+fn behind(items: &[Item], at: usize, count: usize) -> &[Item]
+    requires { at ≤ length items.now }
+    ensures { result.now ≡ drop (at + count) items.now }
+{
+    if count < items.len() - at {
+        &items[at + count..]
+    } else {
+        &items[items.len()..]
+    }
+}
+
+/// What is left of items without so many of them at a place.
+pub(crate) fn without(
+    alloc: Global,
+    items: &[Item],
+    at: usize,
+    count: usize,
+) -> Result<Vec<Item>, AllocError>
+    requires { at ≤ length items.now }
+    ensures { IfOk result (λ v. v.items ≡ without at count items.now) }
+{
+    let mut left = Vec::from_slice(alloc, &items[..at])?;
+    left.extend_from_slice(behind(items, at, count))?;
+    Ok(left)
+}

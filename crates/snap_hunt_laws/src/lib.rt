@@ -1,0 +1,12 @@
+//! A hunt finds nothing in the runs of the listings that come with the program.
+#![tactic(auto)]
+
+ghost use Rattle.snap_words.specs.declared.kind.KindTag.{KindTag};
+ghost use Rattle.snap_hunt_laws.specs.Shipped.{FindsNothing};
+
+/// No run of U, B and M has a scan without a point or a trap. So a hunt for these finds none.
+pub fn shipped_listings_have_no_failing_run()
+    ensures { (g : KindTag) → FindsNothing g }
+{
+    snap_promises::shipped_runs_keep_promises();
+}

@@ -1,0 +1,41 @@
+-- What a hunt comes to.
+use Rattle.std.specs.Prelude.{◌≡◌, ℕ, ◌<◌, List, Option, Some, None, Result, Ok}
+use Rattle.std.specs.List.{find, range_with_len}
+use Rattle.snap_semantics.specs.Listing.{listing_of}
+use Rattle.snap_semantics.specs.Source.{Source}
+use Rattle.snap_semantics.specs.declared.fault.Fault.{Fault}
+use Rattle.snap_semantics.specs.declared.fault.Fault.TheVariants as fault
+use Rattle.snap_semantics.specs.declared.refusal.Refusal.{Refusal}
+use Rattle.snap_failure.specs.declared.failures.Failure.{Failure}
+use Rattle.snap_hunt.specs.Hunt.{fails}
+use Rattle.snap_hunt_output.specs.Asked.{owned}
+use Rattle.snap_hunt_output.specs.Check.{failure_in_input}
+use Rattle.snap_hunt_output.specs.declared.asked.Asked.{Asked}
+use Rattle.snap_hunt_output.specs.declared.hunted.Hunted.{Hunted}
+use Rattle.snap_hunt_output.specs.declared.hunted.Hunted.TheVariants as hunted
+use Rattle.snap_hunt_output.specs.declared.hunted.HuntFault.{HuntFault}
+use Rattle.snap_hunt_output.specs.declared.hunted.HuntFault.TheVariants.{Memory, Refused}
+
+-- the first of the runs that fails
+abbrev pub first_of : Source → Asked → Option ℕ
+first_of l a = find (fails l (owned l.kind a.plan) a.wanted a.seed) (range_with_len 0 a.runs)
+
+-- This is the first run that fails, and the input, read as the debugger reads it, has a run that fails so.
+pub record IsFound (l : Source) (a : Asked) (k : ℕ) (f : Failure) (input : List ℕ) : Type 0 where
+  pub first : first_of l a ≡ Some k
+  pub says : failure_in_input a.wanted input ≡ Ok (Some f)
+
+abbrev pub IsHuntedOf : Source → Asked → Hunted → Type 0
+IsHuntedOf l a hunted.NoneFails = first_of l a ≡ None
+IsHuntedOf l a (hunted.Fails k f input) = IsFound l a k f input.items
+
+-- what a hunt comes to, for the listing that a text is
+pub record IsHunted (text : List ℕ) (a : Asked) (h : Hunted) : Type 0 where
+  pub listing : Source
+  pub is : listing_of text ≡ Ok listing
+  pub hunted : IsHuntedOf listing a h
+
+-- a fault as one of a hunt
+abbrev pub hunt_fault : Fault Refusal → HuntFault
+hunt_fault fault.Memory = Memory
+hunt_fault (fault.Refused r) = Refused r

@@ -1,0 +1,4 @@
+pub mod Asked
+pub mod Check
+pub mod Input
+pub mod Hunted

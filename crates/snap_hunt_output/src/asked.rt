@@ -1,0 +1,40 @@
+//! What a hunt is asked for.
+ghost use Rattle.std.specs.Prelude.{◌≡◌};
+ghost use Rattle.snap_hunt_output.specs.Asked.{fits_kind, owned, owns_words};
+
+use snap_chance::Plan;
+use snap_failure::Wanted;
+use snap_words::{KindTag, Shape};
+
+/// What a hunt is asked for.
+#[derive(Clone, Copy, Debug)]
+pub struct Asked {
+    pub plan: Plan,
+    pub wanted: Wanted,
+    pub seed: u64,
+    pub runs: u64,
+}
+
+/// Whether a kind has a word for each process.
+fn owns_words(kind: KindTag) -> bool
+    ensures { result ≡ owns_words kind }
+{
+    match kind {
+        KindTag::Seq | KindTag::Bits => true,
+        KindTag::Multi => false,
+    }
+}
+
+/// Whether a shape fits a kind.
+pub(crate) fn fits_kind(kind: KindTag, shape: Shape) -> bool
+    ensures { result ≡ fits_kind kind shape }
+{
+    !owns_words(kind) || shape.n() == shape.w()
+}
+
+/// The plan for the listings of a kind.
+pub(crate) fn owned(kind: KindTag, plan: &Plan) -> Plan
+    ensures { result ≡ owned kind plan.now }
+{
+    plan.with_owned(owns_words(kind))
+}

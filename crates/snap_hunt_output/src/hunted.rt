@@ -1,0 +1,149 @@
+//! A whole hunt.
+ghost use Rattle.std.specs.Prelude.{◌≡◌, ◌<◌, ◌^◌, IfOk, Ok, Some, true};
+ghost use Rattle.snap_hunt.specs.Hunt.{fails};
+ghost use Rattle.snap_hunt_output.specs.Check.{failure_in_input};
+ghost use Rattle.snap_hunt_output.specs.Hunted.{IsHunted, IsHuntedOf, hunt_fault};
+ghost use Rattle.snap_hunt_output.specs.declared.hunted.HuntFault.TheVariants.{Memory};
+
+use crate::asked::{Asked, fits_kind, owned};
+use crate::check::failure_in_input;
+use crate::input::input_text;
+use snap_asm_program::Program;
+use snap_chance::{Plan, schedule_of};
+use snap_failure::{Failure, Wanted, failure_over};
+use snap_hunt::{Watcher, first_failing, shrunk};
+use snap_input::{MAX_INPUT, program_of};
+use snap_semantics::{Fault, Refusal};
+use snap_words::WordFault;
+use std::alloc::{AllocError, Global};
+use std::thread::Threads;
+
+/// What a hunt comes to.
+#[derive(Debug, Drop)]
+pub enum Hunted {
+    /// None of the runs fails.
+    NoneFails,
+    /// This run is the first that fails. The input has a small run that fails so.
+    Fails {
+        run: u64,
+        failure: Failure,
+        input: Vec<u8>,
+    },
+}
+
+/// Why a hunt comes to nothing.
+#[derive(Clone, Copy, Debug, PartialEq, Eq)]
+pub enum HuntFault {
+    Memory,
+    Refused(Refusal),
+    /// What was to be printed does not fail as it says.
+    Unsaid,
+}
+
+impl From<AllocError> for HuntFault {
+    ghost from_gives = { λ _ fault. fault ≡ Memory };
+
+    fn from(_error: AllocError) -> HuntFault {
+        HuntFault::Memory
+    }
+}
+
+impl From<Fault<Refusal>> for HuntFault {
+    ghost from_gives = { λ found fault. fault ≡ hunt_fault found };
+
+    fn from(fault: Fault<Refusal>) -> HuntFault {
+        match fault {
+            Fault::Memory => HuntFault::Memory,
+            Fault::Refused(refusal) => HuntFault::Refused(refusal),
+        }
+    }
+}
+
+/// The input of a small run that fails, where the run of this number does.
+fn small_input(
+    alloc: Global,
+    listing: &[u8],
+    program: &Program,
+    plan: &Plan,
+    asked: &Asked,
+    run: u64,
+) -> Result<Vec<u8>, HuntFault>
+    requires { fails program.now plan.now asked.now.wanted asked.now.seed run ≡ true }
+{
+    let schedule = schedule_of(alloc, asked.seed, run, plan)?;
+    let _shape = schedule.shape();
+    let small = shrunk(alloc, program, &asked.wanted, &schedule)?;
+    match failure_over(alloc, program, &small, &asked.wanted)? {
+        Some(failure) => Ok(input_text(alloc, listing, asked.seed, run, &failure, &small)?),
+        None => Err(HuntFault::Unsaid),
+    }
+}
+
+/// What fails in an input that is printed, which is read once more.
+fn checked(alloc: Global, input: &[u8], wanted: &Wanted) -> Result<Failure, HuntFault>
+    ensures { IfOk result (λ f. failure_in_input wanted.now input.now ≡ Ok (Some f)) }
+{
+    if input.len() > MAX_INPUT {
+        return Err(HuntFault::Unsaid);
+    }
+    match failure_in_input(alloc, input, wanted)? {
+        Some(failure) => Ok(failure),
+        None => Err(HuntFault::Unsaid),
+    }
+}
+
+/// The first of the runs of a program that fails, as an input of a small run that fails too; or that
+/// none of them does.
+fn hunt_program<W: Watcher>(
+    rt: &(impl Threads + Sync),
+    alloc: Global,
+    listing: &[u8],
+    program: &Program,
+    asked: &Asked,
+    watcher: &mut W,
+) -> Result<Hunted, HuntFault>
+    requires { asked.now.runs < 2 ^ 63 }
+    ensures { IfOk result (IsHuntedOf program.now asked.now) }
+{
+    let plan = owned(program.kind(), &asked.plan);
+    let found = first_failing(
+        rt,
+        alloc,
+        program,
+        &plan,
+        &asked.wanted,
+        asked.seed,
+        asked.runs,
+        watcher,
+    )?;
+    let Some(run) = found else {
+        return Ok(Hunted::NoneFails);
+    };
+    let input = small_input(alloc, listing, program, &plan, asked, run)?;
+    let failure = checked(alloc, input.as_slice(), &asked.wanted)?;
+    Ok(Hunted::Fails {
+        run,
+        failure,
+        input,
+    })
+}
+
+/// The first of the runs of a listing that fails, as an input of a small run that fails too; or
+/// that none of them does.
+#[tactic(auto, using(crate::proofs::Finding::hunted_by))]
+pub fn hunt_listing<W: Watcher>(
+    rt: &(impl Threads + Sync),
+    alloc: Global,
+    listing: &[u8],
+    asked: &Asked,
+    watcher: &mut W,
+) -> Result<Hunted, HuntFault>
+    requires { asked.now.runs < 2 ^ 63 }
+    ensures { IfOk result (IsHunted listing.now asked.now) }
+{
+    let program = program_of(alloc, listing)?;
+    if !fits_kind(program.kind(), asked.plan.shape()) {
+        return Err(HuntFault::Refused(Refusal::Words(WordFault::BadShape)));
+    }
+    hunt_program(rt, alloc, listing, &program, asked, watcher)
+}

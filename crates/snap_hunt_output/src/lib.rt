@@ -1,0 +1,11 @@
+//! What a hunt writes: an input of a run that fails, or that none does.
+#![tactic(auto)]
+
+mod asked;
+mod check;
+mod hunted;
+mod input;
+
+pub use asked::Asked;
+pub use check::failure_in_input;
+pub use hunted::{HuntFault, Hunted, hunt_listing};

@@ -1,0 +1,246 @@
+//! The arguments that a hunt takes, and what they ask for.
+ghost use Rattle.std.specs.Prelude.{IfOk, IfSome};
+ghost use Rattle.snaphunt_command_line.specs.Search.{IsSearch};
+
+use clap::builder::ValueParser;
+use clap::error::ErrorKind;
+use clap::{Arg, ArgMatches, Command, Error};
+use snap_chance::{MAX_TURNS, Pace, Plan};
+use snap_failure::Wanted;
+use snap_hunt_output::Asked;
+use snap_tasks::kind_of;
+use snap_words::{KindTag, MAX_COUNT, Shape};
+use std::alloc::{AllocError, Global};
+
+/// The version of the program.
+const VERSION: &str = "0.1.0";
+
+/// The kinds that `--shipped` takes.
+const KINDS: &[&str] = &["seq", "bit", "multi"];
+
+/// The paces that `--pace` takes.
+const PACES: &[&str] = &["mixed", "bursts", "interruptions", "coins"];
+
+/// The failures that `--fails` takes.
+const FAILURES: &[&str] = &["point", "trap"];
+
+/// The most runs of a hunt.
+const MAX_RUNS: u64 = 1_000_000_000_000;
+
+/// What a command line asks for: where the listing is, and what is hunted in its runs.
+#[derive(Clone, Copy, Debug)]
+pub struct Search<'a> {
+    /// The file of the listing.
+    pub file: Option<&'a str>,
+    /// The kind whose shipped listing it is.
+    pub shipped: Option<KindTag>,
+    pub asked: Asked,
+}
+
+/// An option that takes a number, with the number that it has where it is not given.
+fn number<'a>(
+    alloc: Global,
+    name: &'a str,
+    least: u64,
+    most: u64,
+    usual: &'a str,
+    help: &'a str,
+) -> Result<Arg<'a>, AllocError> {
+    Ok(
+        Arg::new(alloc, name)
+            .long(name)
+            .value_name("N")
+            .value_parser(ValueParser::unsigned(least, most))
+            .default_value(usual)
+            .help(help),
+    )
+}
+
+/// The arguments that say how schedules are made.
+fn with_plan<'a>(alloc: Global, command: Command<'a>) -> Result<Command<'a>, AllocError> {
+    let pace = Arg::new(alloc, "pace")
+        .long("pace")
+        .value_name("PACE")
+        .value_parser(PACES)
+        .default_value("mixed")
+        .help("How processes take turns");
+    command
+        .arg(number(
+            alloc,
+            "processes",
+            1,
+            MAX_COUNT,
+            "3",
+            "How many processes there are",
+        )?)?
+        .arg(number(
+            alloc,
+            "words",
+            0,
+            MAX_COUNT,
+            "0",
+            "How many words there are; 0: one for each process",
+        )?)?
+        .arg(pace)?
+        .arg(number(
+            alloc,
+            "turns",
+            1,
+            MAX_TURNS,
+            "120",
+            "How many turns a schedule has",
+        )?)?
+        .arg(number(
+            alloc,
+            "crash",
+            0,
+            1_000,
+            "0",
+            "How many of a thousand turns are crashes",
+        )?)?
+        .arg(number(
+            alloc,
+            "repeat",
+            0,
+            4_294_967_295,
+            "1",
+            "In half of the runs values are from 0 to this; 0: in none",
+        )?)
+}
+
+/// The arguments that a hunt takes.
+fn command<'a>(alloc: Global) -> Result<Command<'a>, AllocError> {
+    let listing = Arg::new(alloc, "LISTING").help("The file of the listing");
+    let shipped = Arg::new(alloc, "shipped")
+        .long("shipped")
+        .value_name("KIND")
+        .value_parser(KINDS)
+        .help("Takes the shipped listing of this kind of registers");
+    let fails = Arg::new(alloc, "fails")
+        .long("fails")
+        .value_name("WHAT")
+        .value_parser(FAILURES)
+        .value_delimiter(',')
+        .help("What is hunted; both, where nothing is said");
+    let command = Command::new(alloc, "snaphunt")
+        .about("Looks for a run of a listing that fails")
+        .version(VERSION)
+        .arg(listing)?
+        .arg(shipped)?
+        .arg(fails)?
+        .arg(number(
+            alloc,
+            "collects",
+            0,
+            1_000_000,
+            "0",
+            "Hunts a scan of more double collects than this; 0: none",
+        )?)?
+        .arg(number(
+            alloc,
+            "runs",
+            1,
+            MAX_RUNS,
+            "100000",
+            "How many runs are made",
+        )?)?
+        .arg(number(
+            alloc,
+            "seed",
+            0,
+            u64::MAX,
+            "1",
+            "What decides all schedules",
+        )?)?;
+    with_plan(alloc, command)
+}
+
+/// The number that an option gives.
+fn number_of(arguments: &ArgMatches<'_>, name: &str) -> Option<u64> {
+    arguments.get_one::<u64>(name)
+}
+
+/// The failures that are asked for.
+fn wanted_of(arguments: &ArgMatches<'_>) -> Option<Wanted> {
+    let collects = number_of(arguments, "collects")?;
+    let words = arguments.get_raw("fails");
+    let mut wanted = Wanted {
+        point: words.is_none(),
+        trap: words.is_none(),
+        collects: if collects == 0 { None } else { Some(collects) },
+    };
+    if let Some(words) = words {
+        for word in words {
+            match *word {
+                "point" => wanted.point = true,
+                _ => wanted.trap = true,
+            }
+        }
+    }
+    Some(wanted)
+}
+
+/// How schedules are to be made.
+fn plan_of(arguments: &ArgMatches<'_>) -> Option<Plan> {
+    let processes = number_of(arguments, "processes")?;
+    let words = number_of(arguments, "words")?;
+    let words = if words == 0 { processes } else { words };
+    let Ok(shape) = Shape::new(processes, words) else {
+        return None;
+    };
+    let pace = match arguments.get_str("pace")? {
+        "bursts" => Pace::Bursts,
+        "interruptions" => Pace::Interruptions,
+        "coins" => Pace::Coins,
+        _ => Pace::Mixed,
+    };
+    let turns = number_of(arguments, "turns")?;
+    if turns > MAX_TURNS {
+        return None;
+    }
+    let crashes = number_of(arguments, "crash")?;
+    let Ok(repeated) = u32::try_from(number_of(arguments, "repeat")?) else {
+        return None;
+    };
+    Some(Plan::new(shape, pace, turns, crashes, repeated))
+}
+
+/// What arguments ask for.
+fn search_of<'a>(arguments: &ArgMatches<'a>) -> Option<Search<'a>>
+    ensures { IfSome result IsSearch }
+{
+    let shipped = match arguments.get_str("shipped") {
+        Some(kind) => Some(kind_of(kind)?),
+        None => None,
+    };
+    let runs = number_of(arguments, "runs")?;
+    if runs > MAX_RUNS {
+        return None;
+    }
+    Some(Search {
+        file: arguments.get_str("LISTING"),
+        shipped,
+        asked: Asked {
+            plan: plan_of(arguments)?,
+            wanted: wanted_of(arguments)?,
+            seed: number_of(arguments, "seed")?,
+            runs,
+        },
+    })
+}
+
+/// What the arguments ask for, the program's own name first. They name a file or a shipped listing,
+/// and not both.
+pub fn search_of_arguments<'a>(alloc: Global, arguments: &'a [String]) -> Result<Search<'a>, Error>
+    ensures { IfOk result IsSearch }
+{
+    let mut command = command(alloc)?;
+    let matches = command.try_get_matches_from_mut(arguments)?;
+    match search_of(&matches) {
+        Some(search) if search.file.is_some() != search.shipped.is_some() => Ok(search),
+        _ => Err(command.error(
+            ErrorKind::MissingRequiredArgument,
+            "a listing is wanted: a file, or a kind behind --shipped",
+        )?),
+    }
+}

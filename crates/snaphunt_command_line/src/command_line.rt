@@ -1,0 +1,49 @@
+//! What a command line comes to.
+ghost use Rattle.std.specs.Prelude.{IfOk};
+ghost use Rattle.snaphunt_command_line.specs.Search.{IsLine};
+
+use crate::arguments::{Search, search_of_arguments};
+use clap::Error;
+use clap::error::ErrorKind;
+use std::alloc::{AllocError, Global};
+
+/// What the arguments of a command line come to.
+#[derive(Debug, Drop)]
+pub enum CommandLine<'a> {
+    /// They ask for this.
+    Asks(Search<'a>),
+    /// They ask for help, or for the version: its text.
+    Help(String),
+    /// They ask for nothing that the program does: why, as text.
+    Wrong(String),
+}
+
+/// What is said where the arguments ask for no hunt.
+fn explained<'a>(alloc: Global, error: &Error) -> Result<CommandLine<'a>, AllocError>
+    ensures { IfOk result IsLine }
+{
+    if error.kind() == ErrorKind::OutOfMemory {
+        return Err(AllocError);
+    }
+    let Ok(text) = format!(in alloc; "{error}") else {
+        return Err(AllocError);
+    };
+    if error.use_stderr() {
+        Ok(CommandLine::Wrong(text))
+    } else {
+        Ok(CommandLine::Help(text))
+    }
+}
+
+/// What arguments come to, the program's own name first.
+pub fn read_arguments<'a>(
+    alloc: Global,
+    arguments: &'a [String],
+) -> Result<CommandLine<'a>, AllocError>
+    ensures { IfOk result IsLine }
+{
+    match search_of_arguments(alloc, arguments) {
+        Ok(search) => Ok(CommandLine::Asks(search)),
+        Err(error) => explained(alloc, &error),
+    }
+}

@@ -27,6 +27,7 @@ layout_of (Do task.Assemble) = layout.Listing
 layout_of (Do task.List) = layout.Image
 layout_of (Do task.Upgrade) = layout.Image
 layout_of (Do (task.Run s)) = layout.Parts s texts.Schedule
+layout_of (Do (task.Trace s)) = layout.Parts s texts.Schedule
 layout_of (Do (task.Debug s)) = layout.Parts s texts.ScheduleAndCommands
 layout_of (Do (task.Audit s)) = layout.Parts s texts.Schedule
 layout_of (Do (task.Certify s)) = layout.Parts s texts.Schedule

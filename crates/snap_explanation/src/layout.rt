@@ -34,7 +34,10 @@ pub fn layout_of(request: &Request) -> Layout
         Request::Do(Task::Check | Task::Lint | Task::Assemble) => Layout::Listing,
         Request::Do(Task::List | Task::Upgrade) => Layout::Image,
         Request::Do(
-            Task::Run(subject) | Task::Trace(subject) | Task::Audit(subject) | Task::Certify(subject),
+            Task::Run(subject)
+            | Task::Trace(subject)
+            | Task::Audit(subject)
+            | Task::Certify(subject),
         ) => Layout::Parts(subject, Texts::Schedule),
         Request::Do(Task::Debug(subject)) => Layout::Parts(subject, Texts::ScheduleAndCommands),
         Request::Do(Task::Batch(subject) | Task::Survey(subject)) => {

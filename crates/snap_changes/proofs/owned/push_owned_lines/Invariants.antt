@@ -1,0 +1,11 @@
+use Rattle.std.proofs.Common.{◌≡◌, ◌++◌, [], length}
+use Rattle.snap_semantics.specs.Token.{lines_of}
+use Rattle.snap_changes.specs.Owned.{owned_text}
+use Rattle.snap_changes.proofs.owned.push_owned_lines.Given as goal
+
+-- the text so far, and that of the lines that are left
+abbrev pub invariant-loop-rest : goal.invariant-loop-rest
+invariant-loop-rest l = l.out.items ++ owned_text l.owner (lines_of l.rest) ≡ l.fn.out.items ++ owned_text [] (lines_of l.text)
+
+abbrev pub decreases-loop-rest : goal.decreases-loop-rest
+decreases-loop-rest l = length l.rest

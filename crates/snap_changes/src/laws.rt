@@ -1,0 +1,8 @@
+//! Laws of the definitions, which hold of all texts.
+ghost use Rattle.snap_changes.specs.ChangeLaws.{AreReal, MakeTheNew};
+
+/// Put into the old lines, the changes make the new ones; and each of them says what stood there, and what stands there now.
+pub fn changes_make_the_new_text()
+    ensures make { MakeTheNew }
+    ensures real { AreReal }
+{}

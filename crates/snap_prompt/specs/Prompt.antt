@@ -26,7 +26,7 @@ abbrev pub opened_prompt : Run → Bool → Prompt
 opened_prompt r shows = record { session = opened r; last = None; lines = 0; shows = shows }
 
 -- `9/64> `
-abbrev pub prompt_text : Prompt → List ℕ
+unfoldable pub prompt_text : Prompt → List ℕ
 prompt_text p = if p.shows then decimal p.session.position ++ codes "/" ++ decimal (total p.session) ++ codes "> " else []
 
 -- with one line more; they are counted up to 2^64 - 1
@@ -56,11 +56,11 @@ moves command.Where = false
 
 -- The report of a session's position behind its first line, of which each line says of whom it speaks: the values, the
 -- registers, the processes with their locals, and the events.
-abbrev pub state_text : Session → List ℕ
+unfoldable pub state_text : Session → List ℕ
 state_text s = owned_text [] (behind_first (lines_of (session_report s)))
 
 -- a session's answer to a command that moves, and what changed
-abbrev pub move_text : Session → Command → List ℕ
+unfoldable pub move_text : Session → Command → List ℕ
 move_text s c = (answer s c).1 ++ text_between (lines_of (state_text s)) (lines_of (state_text (answer s c).0))
 
 abbrev pub with_session : Session → Prompt → Prompt
@@ -83,7 +83,7 @@ unfoldable pub help_text : List ℕ
 help_text = codes "step back goto run rrun break clear watch unwatch show values events where all quit\n"
 
 -- what comes of what a line asks for
-abbrev pub asked : Prompt → Result Ask CommandRefusal → Answer Prompt
+unfoldable pub asked : Prompt → Result Ask CommandRefusal → Answer Prompt
 asked p (Ok ask.Nothing) = says p []
 asked p (Ok ask.Again) = did_again p p.last
 asked p (Ok ask.Quit) = record { state = p; text = []; goes_on = false }
@@ -93,5 +93,5 @@ asked p (Ok (ask.Do c)) = did p c
 asked p (Err r) = says p (refusal_line r)
 
 -- what is answered to a line
-abbrev pub answer_line : Prompt → List ℕ → Answer Prompt
+unfoldable pub answer_line : Prompt → List ℕ → Answer Prompt
 answer_line p line = asked (counted p) (ask_of (counted p).lines line)

@@ -109,6 +109,7 @@ impl<K: Kind> Prompt<K> {
     }
 
     /// The state at the position, of which each line says of whom it speaks.
+    #[tactic(auto, unfolding(crate::specs::Prompt::state_text))]
     fn state_text(&self) -> Result<Vec<u8>, AllocError>
         ensures { IfOk result (λ text. text.items ≡ state_text self.now.session) }
     {
@@ -119,7 +120,7 @@ impl<K: Kind> Prompt<K> {
     }
 
     /// Does a command that moves, and adds what the session answers, and what changed.
-    #[tactic(auto, using(snap_text::proofs::Texts::joined))]
+    #[tactic(auto, using(snap_text::proofs::Texts::joined), unfolding(crate::specs::Prompt::move_text))]
     fn push_move(&mut self, out: &mut Vec<u8>, command: &Command) -> Result<(), AllocError>
         ensures text { OnOk result (out.new.items ≡ out.old.items ++ move_text self.old.session command.now) }
         ensures state { OnOk result (self.new ≡ with_session (answer self.old.session command.now).0 self.old) }
@@ -154,6 +155,7 @@ impl<K: Kind> Prompt<K> {
     }
 
     /// Does what a line asks for, and adds what it is answered.
+    #[tactic(auto, unfolding(crate::specs::Prompt::asked))]
     fn push_asked(
         &mut self,
         out: &mut Vec<u8>,
@@ -187,7 +189,7 @@ impl<K: Kind> Prompt<K> {
     }
 
     /// Adds what stands before a line.
-    #[tactic(auto, using(snap_text::proofs::Texts::joined))]
+    #[tactic(auto, using(snap_text::proofs::Texts::joined), unfolding(crate::specs::Prompt::prompt_text))]
     fn push_position(&self, out: &mut Vec<u8>) -> Result<(), AllocError>
         ensures { OnOk result (out.new.items ≡ out.old.items ++ prompt_text self.now) }
     {
@@ -201,6 +203,7 @@ impl<K: Kind> Prompt<K> {
     }
 
     /// Adds what is answered to a line, and tells whether the dialog goes on.
+    #[tactic(auto, unfolding(crate::specs::Prompt::answer_line))]
     fn push_answered(&mut self, out: &mut Vec<u8>, line: &[u8]) -> Result<bool, AllocError>
         ensures text { OnOk result (out.new.items ≡ out.old.items ++ (answer_line self.old line.now).text) }
         ensures state { OnOk result (self.new ≡ (answer_line self.old line.now).state) }

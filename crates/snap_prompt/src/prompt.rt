@@ -52,7 +52,6 @@ fn moves(command: &Command) -> bool
 }
 
 /// A session that is talked to, line by line.
-#[derive(Drop)]
 pub struct Prompt<K: Kind> {
     alloc: Global,
     session: Session<K>,
@@ -71,6 +70,19 @@ impl<K: Kind> Model for Prompt<K> {
     ghost view = { λ p. record { session = p.session; last = p.last; lines = p.lines; shows = p.shows } };
 
     ghost invariant = { λ p. p.total ≡ length p.session.run.items };
+}
+
+impl<K: Kind> Drop for Prompt<K> {
+    fn drop(self) {
+        let Prompt {
+            alloc: _,
+            session: _,
+            total: _,
+            last: _,
+            lines: _,
+            shows: _,
+        } = self;
+    }
 }
 
 impl<K: Kind> Prompt<K> {

@@ -1,0 +1,4 @@
+pub mod Event
+pub mod TypedLines
+pub mod Dialog
+pub mod Talks

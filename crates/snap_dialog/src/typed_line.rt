@@ -1,0 +1,51 @@
+//! Lines, as they are typed.
+ghost use Rattle.std.specs.Prelude.{◌≡◌, ◌<◌, IfOk, IfSome, OnOk, length};
+ghost use Rattle.std.specs.Io.BufRead.{take_through, DropsThrough};
+ghost use Rattle.snap_dialog.specs.TypedLines.{GivesNext, kept, with_byte};
+
+use crate::fault::DialogFault;
+use std::alloc::{AllocError, Global};
+use std::io::Read;
+
+/// The most bytes that a line may have.
+const MAX_LINE: usize = 1_048_576;
+
+/// The next byte, where there is one.
+fn next_byte<R: Read>(reader: &mut R) -> Result<Option<u8>, DialogFault>
+    ensures { IfOk result (λ next. GivesNext next (R.remaining reader.old) (R.remaining reader.new)) }
+{
+    let mut byte = [0u8; 1];
+    match reader.read(&mut byte) {
+        Ok(0) => Ok(None),
+        Ok(_) => Ok(Some(byte[0])),
+        Err(_) => Err(DialogFault::Read),
+    }
+}
+
+/// Keeps one byte more of a line, unless it is too long already.
+fn keep_byte(line: &mut Vec<u8>, byte: u8) -> Result<(), AllocError>
+    ensures { OnOk result (line.new.items ≡ with_byte line.old.items byte) }
+{
+    if line.len() <= MAX_LINE {
+        line.push(byte)?;
+    }
+    Ok(())
+}
+
+/// Reads a line with its line feed, and no byte behind it. Of a line that is too long it keeps one byte more than a line may have.
+pub fn read_line<R: Read>(alloc: Global, reader: &mut R) -> Result<Vec<u8>, DialogFault>
+    ensures line { IfOk result (λ line. IfSome (R.remaining reader.old) (λ xs. line.items ≡ kept (take_through 10 xs))) }
+    ensures rest { OnOk result (DropsThrough (R.remaining reader.old) (R.remaining reader.new) 10) }
+{
+    let mut line = Vec::new(alloc);
+    for _count in 0..u64::MAX {
+        let Some(byte) = next_byte(reader)? else {
+            return Ok(line);
+        };
+        keep_byte(&mut line, byte)?;
+        if byte == b'\n' {
+            return Ok(line);
+        }
+    }
+    Err(DialogFault::Endless)
+}

@@ -1,0 +1,46 @@
+//! A dialog with a session, for each kind of registers.
+ghost use Rattle.std.specs.Prelude.{◌≡◌, ℕ, List, IfSome, OnOk};
+ghost use Rattle.std.specs.Io.KnownBytes.{Appends};
+ghost use Rattle.snap_dialog.specs.Dialog.{IsDialog, dialog, transcript};
+ghost use Rattle.snap_dialog.specs.Event.{PassesAll};
+ghost use Rattle.snap_dialog.specs.TypedLines.{typed_lines};
+ghost use Rattle.snap_runs.specs.Run.{run_over};
+ghost use Rattle.snap_prompt.specs.Prompt.{answer_line, opened_prompt, prompt_text};
+
+use crate::prompt::Prompt;
+use snap_asm_program::Program;
+use snap_dialog::{Console, DialogFault, talk};
+use snap_sched::Schedule;
+use snap_words::{Bits, KindTag, Multi, Seq};
+use std::alloc::Global;
+
+/// Talks at a console about a program under a schedule, from the position before its first item, to `quit` or the end of the
+/// input: each line is answered before the next prompt, and what is shown is the transcript of the lines.
+pub fn converse<C: Console>(
+    alloc: Global,
+    program: &Program,
+    schedule: Schedule,
+    shows: bool,
+    console: &mut C,
+) -> Result<(), DialogFault>
+    ensures passes { OnOk result ((lines : List (List ℕ)) × IsDialog answer_line (opened_prompt (run_over program.now schedule) shows) lines
+        × PassesAll (C.passed console.old) (C.passed console.new)
+        (dialog prompt_text answer_line (opened_prompt (run_over program.now schedule) shows) lines)) }
+    ensures shown { OnOk result (IfSome (C.left console.old) (λ input. Appends (C.shown console.old) (C.shown console.new)
+        (transcript prompt_text answer_line (opened_prompt (run_over program.now schedule) shows) (typed_lines input)))) }
+{
+    match program.kind() {
+        KindTag::Seq => {
+            let mut prompt = Prompt::<Seq>::over(alloc, program, schedule, shows)?;
+            talk(alloc, console, &mut prompt)
+        }
+        KindTag::Bits => {
+            let mut prompt = Prompt::<Bits>::over(alloc, program, schedule, shows)?;
+            talk(alloc, console, &mut prompt)
+        }
+        KindTag::Multi => {
+            let mut prompt = Prompt::<Multi>::over(alloc, program, schedule, shows)?;
+            talk(alloc, console, &mut prompt)
+        }
+    }
+}

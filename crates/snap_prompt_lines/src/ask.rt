@@ -1,0 +1,134 @@
+//! What lines ask for.
+ghost use Rattle.std.specs.Prelude.{◌≡◌, IfOk};
+ghost use Rattle.std.specs.Io.BufRead.{strip_last};
+ghost use Rattle.snap_semantics.specs.Answers.{Answers};
+ghost use Rattle.snap_semantics.specs.Token.{tokens_of};
+ghost use Rattle.snap_text.specs.Tokens.{view_tokens};
+ghost use Rattle.snap_prompt_lines.specs.Ask.{ask_of, at_line, command_asked, first_command, is_word, word_ask, word_ask_in};
+ghost use Rattle.snap_debug_commands.specs.Commands.{commands_of};
+
+use crate::short::spelled_out;
+use snap_debug_commands::{Command, read_commands};
+use snap_semantics::{CommandRefusal, Fault};
+use snap_text::{Token, end_at, keyword_at, tokens};
+use std::alloc::{AllocError, Global};
+
+/// The most bytes that a line may have.
+const MAX_LINE: usize = 1_048_576;
+
+/// What a line asks for.
+#[derive(Clone, Copy, Debug, PartialEq, Eq)]
+pub enum Ask {
+    /// Nothing: it has no more than a comment.
+    Nothing,
+    /// The last command again.
+    Again,
+    /// The end of the dialog.
+    Quit,
+    /// What can be asked for.
+    Help,
+    /// The report of the position.
+    All,
+    Do(Command),
+}
+
+/// The line without the line feed at its end.
+fn body(line: &[u8]) -> &[u8]
+    ensures { result.now ≡ strip_last 10 line.now }
+{
+    match line {
+        [front @ .., b'\n'] => front,
+        _ => line,
+    }
+}
+
+/// Whether tokens are this word alone.
+fn is_word(word: &[u8], tokens: &[Token<'_>]) -> bool
+    ensures { result ≡ is_word word.now (view_tokens tokens.now) }
+{
+    match keyword_at(word, tokens) {
+        Some(rest) => end_at(rest).is_some(),
+        None => false,
+    }
+}
+
+/// What a word alone asks for, where it is one of the prompt's own.
+fn word_ask(tokens: &[Token<'_>]) -> Option<Ask>
+    ensures { result ≡ word_ask (view_tokens tokens.now) }
+{
+    if is_word(b"quit", tokens) {
+        return Some(Ask::Quit);
+    }
+    if is_word(b"help", tokens) {
+        return Some(Ask::Help);
+    }
+    if is_word(b"all", tokens) {
+        return Some(Ask::All);
+    }
+    if is_word(b"s", tokens) {
+        return Some(Ask::Do(Command::Step(1)));
+    }
+    if is_word(b"b", tokens) {
+        return Some(Ask::Do(Command::Back(1)));
+    }
+    None
+}
+
+/// What a line asks for that is such a word.
+fn word_ask_in(alloc: Global, line: &[u8]) -> Result<Option<Ask>, AllocError>
+    ensures { IfOk result (λ found. found ≡ word_ask_in (tokens_of line.now)) }
+{
+    match tokens(alloc, line)? {
+        Some(tokens) => Ok(word_ask(tokens.as_slice())),
+        None => Ok(None),
+    }
+}
+
+/// The refusal of a line with this number.
+fn at_line(number: u64, refusal: CommandRefusal) -> CommandRefusal
+    ensures { result ≡ at_line number refusal }
+{
+    match refusal {
+        CommandRefusal::BadCommand(_) => CommandRefusal::BadCommand(number),
+        _ => refusal,
+    }
+}
+
+/// The command of a line, where it has one.
+fn first_command(commands: &[Command]) -> Ask
+    ensures { result ≡ first_command commands.now }
+{
+    match commands {
+        [] => Ask::Nothing,
+        [command, ..] => Ask::Do(*command),
+    }
+}
+
+/// The command that line `number` is.
+fn command_asked(alloc: Global, number: u64, line: &[u8]) -> Result<Ask, Fault<CommandRefusal>>
+    ensures { Answers (λ ask. ask) result (command_asked number (commands_of line.now)) }
+{
+    match read_commands(alloc, line) {
+        Ok(commands) => Ok(first_command(commands.as_slice())),
+        Err(Fault::Memory) => Err(Fault::Memory),
+        Err(Fault::Refused(refusal)) => Err(Fault::Refused(at_line(number, refusal))),
+    }
+}
+
+/// What line `number` asks for.
+pub fn ask_of(alloc: Global, number: u64, line: &[u8]) -> Result<Ask, Fault<CommandRefusal>>
+    ensures { Answers (λ ask. ask) result (ask_of number line.now) }
+{
+    if line.len() > MAX_LINE {
+        return Err(Fault::Refused(CommandRefusal::TooLong));
+    }
+    let body = body(line);
+    if body.is_empty() {
+        return Ok(Ask::Again);
+    }
+    if let Some(ask) = word_ask_in(alloc, body)? {
+        return Ok(ask);
+    }
+    let line = spelled_out(alloc, line)?;
+    command_asked(alloc, number, line.as_slice())
+}

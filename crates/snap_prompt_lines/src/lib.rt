@@ -1,0 +1,7 @@
+//! What lines at a prompt ask for.
+#![tactic(auto)]
+
+mod ask;
+mod short;
+
+pub use ask::{Ask, ask_of};

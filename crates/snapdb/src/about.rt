@@ -1,0 +1,51 @@
+//! A dialog about a listing under a schedule.
+ghost use Rattle.std.specs.Prelude.{◌≡◌, Err, IfSome, OnOk, Ok};
+ghost use Rattle.std.specs.Io.KnownBytes.{Appends};
+ghost use Rattle.snap_dialog.specs.Dialog.{transcript};
+ghost use Rattle.snap_dialog.specs.TypedLines.{typed_lines};
+ghost use Rattle.snap_perform.specs.Perform.{schedule_for};
+ghost use Rattle.snap_prompt.specs.Prompt.{answer_line, opened_prompt, prompt_text};
+ghost use Rattle.snap_runs.specs.Run.{run_over};
+ghost use Rattle.snap_semantics.specs.Answers.{Answers};
+ghost use Rattle.snap_semantics.specs.Schedule.{Schedule};
+ghost use Rattle.snap_semantics.specs.declared.refusal.Refusal.{Refusal};
+ghost use Rattle.snapdb.specs.declared.fault.StartFault.TheVariants.{Refused};
+
+use crate::fault::StartFault;
+use snap_asm_program::Program;
+use snap_dialog::Console;
+use snap_prompt::converse;
+use snap_sched::Schedule;
+use snap_semantics::{Fault, Refusal};
+use snap_words::{Bits, KindTag, Multi, Seq};
+use std::alloc::Global;
+
+/// Reads a schedule whose shape fits a program.
+fn schedule_for(alloc: Global, program: &Program, text: &[u8]) -> Result<Schedule, Fault<Refusal>>
+    ensures { Answers (λ s. s) result (schedule_for program.now text.now) }
+{
+    match program.kind() {
+        KindTag::Seq => snap_perform::schedule_for::<Seq>(alloc, program, text),
+        KindTag::Bits => snap_perform::schedule_for::<Bits>(alloc, program, text),
+        KindTag::Multi => snap_perform::schedule_for::<Multi>(alloc, program, text),
+    }
+}
+
+/// Talks at a console about a program under a schedule. What is shown is the transcript of what is typed; where the schedule is
+/// refused, nothing is.
+pub fn talk_about<C: Console>(
+    alloc: Global,
+    program: &Program,
+    schedule: &[u8],
+    shows: bool,
+    console: &mut C,
+) -> Result<(), StartFault>
+    ensures shown { OnOk result ((s : Schedule) × (schedule_for program.now schedule.now ≡ Ok s) × IfSome (C.left console.old) (λ input.
+        Appends (C.shown console.old) (C.shown console.new)
+        (transcript prompt_text answer_line (opened_prompt (run_over program.now s) shows) (typed_lines input)))) }
+    ensures refused { (r : Refusal) → result ≡ Err (Refused r) → (schedule_for program.now schedule.now ≡ Err r) × (console.new ≡ console.old) }
+{
+    let schedule = schedule_for(alloc, program, schedule)?;
+    converse(alloc, program, schedule, shows, console)?;
+    Ok(())
+}

@@ -34,6 +34,10 @@ pub record Session : Type 0 where
 abbrev pub opened : Run → Session
 opened r = record { run = r; marks = no_marks; position = 0 }
 
+-- another run at its beginning, with the marks of a session
+abbrev pub reopened : Run → Session → Session
+reopened r s = record { run = r; marks = s.marks; position = 0 }
+
 -- how many items there are
 abbrev pub total : Session → ℕ
 total s = length s.run.items

@@ -150,7 +150,7 @@ impl Marks {
     }
 
     /// Equal marks.
-    fn copy(&self, alloc: Global) -> Result<Marks, AllocError>
+    pub fn copy(&self, alloc: Global) -> Result<Marks, AllocError>
         ensures { IfOk result (λ m. m ≡ self.now) }
     {
         Ok(Marks {

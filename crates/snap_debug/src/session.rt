@@ -14,6 +14,7 @@ ghost use Rattle.snap_debug.specs.Session.{
   has_process,
   opened,
   position_text,
+  reopened,
 };
 ghost use Rattle.snap_debug_commands.specs.declared.command.Command.TheVariants as command;
 
@@ -90,6 +91,15 @@ impl<K: Kind> Session<K> {
         })
     }
 
+    /// The program over another schedule, which it takes, before its first item, with the marks of this session.
+    pub fn over_again(&self, schedule: Schedule) -> Result<Session<K>, AllocError>
+        ensures { IfOk result (λ s. s ≡ reopened (run_over self.now.run.source schedule) self.now) }
+    {
+        let mut session = Session::<K>::over(self.alloc, self.program(), schedule)?;
+        session.marks = self.marks.copy(self.alloc)?;
+        Ok(session)
+    }
+
     /// How many items lie before.
     pub fn position(&self) -> u64
         ensures position { result ≡ self.now.position }
@@ -99,14 +109,14 @@ impl<K: Kind> Session<K> {
     }
 
     /// How many items there are.
-    fn total(&self) -> u64
+    pub fn total(&self) -> u64
         ensures { result ≡ length self.now.run.items }
     {
         self.recording.total()
     }
 
     /// The program that runs.
-    fn program(&self) -> &Program
+    pub fn program(&self) -> &Program
         ensures value { result.now ≡ self.now.run.source }
         ensures kind { self.now.run.source.kind ≡ K.TAG }
     {
@@ -114,7 +124,7 @@ impl<K: Kind> Session<K> {
     }
 
     /// The machine at the position.
-    fn machine(&self) -> &Machine<K>
+    pub fn machine(&self) -> &Machine<K>
         ensures { result.now ≡ machine_of self.now }
     {
         &self.here.current.machine
@@ -324,7 +334,7 @@ impl<K: Kind> Session<K> {
     }
 
     /// The last item's process, and what came of it, where there is one.
-    fn last(&self) -> Result<Option<(u32, Outcome)>, AllocError>
+    pub fn last(&self) -> Result<Option<(u32, Outcome)>, AllocError>
         ensures { IfOk result (λ last. last ≡ last_of self.now.run self.now.position) }
     {
         let position = self.position();

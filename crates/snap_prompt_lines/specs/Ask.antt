@@ -56,15 +56,13 @@ steps_ask word ts = do
   at ← numbers_form word ts
   if nat_lt 0 at.1 then Some (ask.Add (addition.Steps at.0 at.1)) else None
 
--- what adds items: steps, a call, a crash, and steps to a line or to the end of an operation
+-- what adds items: steps, a call or a crash
 unfoldable pub adding_ask : List Token → Option Ask
 adding_ask ts =
     or_else (steps_ask (codes "step") ts)
     (or_else (steps_ask (codes "s") ts)
     (or_else (call_ask ts)
-    (or_else (number_form (codes "crash") ts >>= λ i. Some (ask.Add (addition.Crash i)))
-    (or_else (numbers_form (codes "until") ts >>= λ at. Some (ask.Until at.0 at.1))
-    (number_form (codes "end") ts >>= λ i. Some (ask.End i))))))
+    (number_form (codes "crash") ts >>= λ i. Some (ask.Add (addition.Crash i)))))
 
 -- `b I N` is a breakpoint
 unfoldable pub break_ask : List Token → Option Ask

@@ -39,10 +39,6 @@ pub enum Ask {
     /// And those around the one at which this process stands.
     List(u64),
     Add(Addition),
-    /// Steps of a process to a line.
-    Until(u64, u64),
-    /// Steps of a process to the end of its operation.
-    End(u64),
     Do(Command),
 }
 

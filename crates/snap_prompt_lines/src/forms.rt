@@ -137,14 +137,8 @@ fn adding_ask(tokens: &[Token<'_>]) -> Option<Ask>
     if let Some(ask) = call_ask(tokens) {
         return Some(ask);
     }
-    if let Some(process) = number_form(b"crash", tokens) {
-        return Some(Ask::Add(Addition::Crash { process }));
-    }
-    if let Some((process, line)) = numbers_form(b"until", tokens) {
-        return Some(Ask::Until(process, line));
-    }
-    let process = number_form(b"end", tokens)?;
-    Some(Ask::End(process))
+    let process = number_form(b"crash", tokens)?;
+    Some(Ask::Add(Addition::Crash { process }))
 }
 
 /// `b I N` is a breakpoint.

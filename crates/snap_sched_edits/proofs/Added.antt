@@ -3,7 +3,7 @@ use Rattle.std.proofs.Common.{◌≡◌, ◌≤◌, ◌<◌, ◌+◌, ◌-◌, �
 use Rattle.std.proofs.lemmas.List.{length-append}
 use Rattle.std.proofs.lemmas.Grind.{common_steps}
 use Rattle.std.specs.List.{AllByRecursion}
-use Rattle.snap_words.specs.Shape.{IsOneOf, IsShape, max_count}
+use Rattle.snap_words.specs.Shape.{Counts, IsOneOf, IsShape, max_count}
 use Rattle.snap_semantics.specs.declared.process.Item.{Item}
 use Rattle.snap_semantics.specs.Schedule.{Schedule, admitted, form_count, form_items, form_process}
 use Rattle.snap_semantics.specs.ScheduleForms.{ItemForm}
@@ -15,10 +15,10 @@ use Rattle.snap_sched_edits.proofs.Fronts.{first_all}
 length_first : (t : ℕ) (xs : List Item) → length (take t xs) ≤ t
 length_first t xs = grind (arith, common_steps)
 
-pub is_schedule : (s : Schedule) (t line : ℕ) (form f : ItemForm) (items : List Item) → IsSchedule s → t ≤ length s.items →
+with_items : (s : Schedule) (t line : ℕ) (form f : ItemForm) (items : List Item) → IsSchedule s → t ≤ length s.items →
     admitted s.shape.n (1000000 - t) line form ≡ Ok f → items ≡ take t s.items ++ form_items f → AllByRecursion FitsItem items →
     IsSchedule (record { shape = s.shape; items = items })
-is_schedule s t line form f items known within found made fits =
+with_items s t line form f items known within found made fits =
     let admits = is_admitted s.shape.n (1000000 - t) line form f found in
     let count : length items ≡ length (take t s.items) + form_count f =
       ap length made ∙ length-append (take t s.items) (form_items f) ∙ ap (λ (k : ℕ). length (take t s.items) + k) (length_items f) in
@@ -36,3 +36,11 @@ is_schedule s t line form f items known within found made fits =
       few = omega (arith, count, short, room, most, within);
       fits = fits;
     }
+
+pub is_schedule : (s : Schedule) (shape : Counts) (n t line : ℕ) (form f : ItemForm) (items : List Item) → shape ≡ s.shape → n ≡ shape.n → IsSchedule s → t ≤ length s.items →
+    admitted n (1000000 - t) line form ≡ Ok f → items ≡ take t s.items ++ form_items f → AllByRecursion FitsItem items →
+    IsSchedule (record { shape = shape; items = items })
+is_schedule s shape n t line form f items same count known within found made fits =
+    let here : n ≡ s.shape.n = count ∙ ap (λ (c : Counts). c.n) same in
+    let there : admitted s.shape.n (1000000 - t) line form ≡ Ok f = subst (λ (k : ℕ). admitted k (1000000 - t) line form ≡ Ok f) here found in
+    subst (λ (c : Counts). IsSchedule (record { shape = c; items = items })) (sym same) (with_items s t line form f items known within there made fits)

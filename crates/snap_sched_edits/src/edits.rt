@@ -62,7 +62,8 @@ fn push_item(items: &mut Items, item: Item) -> Result<(), AllocError>
 
 /// The first of these items, so many of them.
 fn first_items(alloc: Global, items: &Items, count: u64) -> Result<Items, AllocError>
-    requires { count ≤ length items.now }
+    requires within { count ≤ length items.now }
+    requires few { length items.now ≤ 1000000 }
     ensures { IfOk result (λ first. first ≡ take count items.now) }
 {
     let mut first = Items::new(alloc);
@@ -77,6 +78,7 @@ fn first_items(alloc: Global, items: &Items, count: u64) -> Result<Items, AllocE
 }
 
 /// The first items of a schedule, so many of them, and what is added behind these. A refusal names the line.
+#[tactic(auto, unfolding(crate::specs::Edits::edited))]
 pub fn edited(
     alloc: Global,
     schedule: &Schedule,

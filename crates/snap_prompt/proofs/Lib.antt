@@ -1,0 +1,2 @@
+pub mod KeepsRun
+pub mod LastItem

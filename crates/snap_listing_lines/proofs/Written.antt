@@ -1,18 +1,18 @@
 -- What stands for the lines of a listing in its canonical text.
-use Rattle.std.proofs.Common.{◌≡◌, ℕ, zero, suc, List, [], ◌∷◌, length, map, drop, Option, Some, None, refl, sym, ap, ◌∙◌, subst}
+use Rattle.std.proofs.Common.{◌≡◌, ℕ, zero, suc, List, [], ◌∷◌, map, drop, Some, refl, sym, ap, ◌∙◌, subst}
 use Rattle.std.specs.List.{AllByRecursion}
 use Rattle.std.proofs.lemmas.List.{length-map}
 use Rattle.snap_semantics.specs.declared.instr.Line.{Line}
 use Rattle.snap_semantics.specs.CanonicalText.{canonical_text}
-use Rattle.snap_semantics.specs.Comments.{Comment, Commented, IsComment, IsCommented, no_comment, uncommented}
+use Rattle.snap_semantics.specs.Comments.{Comment, IsComment, IsCommented, no_comment, uncommented}
 use Rattle.snap_semantics.specs.IsListing.{IsListing}
 use Rattle.snap_semantics.specs.Layout.{line_to}
 use Rattle.snap_semantics.specs.Source.{Source}
 use Rattle.snap_semantics.specs.Spelling.{spelled_line}
-use Rattle.snap_semantics.specs.Token.{TextLine, Token, text_lines}
+use Rattle.snap_semantics.specs.Token.{TextLine, text_lines}
 use Rattle.snap_text.specs.Lines.{found_lines, line_tokens}
 use Rattle.snap_listing_grammar.proofs.Printed.{printed_spells}
-use Rattle.snap_listing_lines.specs.LineTexts.{NumberedText, behind, first_tokens, texts_from, tokens_in, written}
+use Rattle.snap_listing_lines.specs.LineTexts.{NumberedText, behind, texts_from, tokens_in, written}
 
 no_comments_good : (lines : List Line) → AllByRecursion IsComment (map no_comment lines)
 no_comments_good [] = tt

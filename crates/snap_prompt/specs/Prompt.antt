@@ -163,7 +163,7 @@ asked p (Ok a) = done_meant p (meant p.last a)
 
 -- the answer to a question
 abbrev pub decided : Prompt → Addition → Bool → Answer Prompt
-decided p a yes = if yes then added (with_question None p) a else says (with_question None p) (codes "nothing is cut\n")
+decided p a agreed = if agreed then added (with_question None p) a else says (with_question None p) (codes "nothing is cut\n")
 
 abbrev pub answered_to : Prompt → Option Addition → List ℕ → Answer Prompt
 answered_to p None line = asked p (ask_of p.lines line)

@@ -311,13 +311,13 @@ impl<K: Kind> Prompt<K> {
         &mut self,
         out: &mut Vec<u8>,
         addition: Addition,
-        yes: bool,
+        agreed: bool,
     ) -> Result<(), AllocError>
-        ensures text { OnOk result (out.new.items ≡ out.old.items ++ (decided self.old addition yes).text) }
-        ensures state { OnOk result (self.new ≡ (decided self.old addition yes).state) }
+        ensures text { OnOk result (out.new.items ≡ out.old.items ++ (decided self.old addition agreed).text) }
+        ensures state { OnOk result (self.new ≡ (decided self.old addition agreed).state) }
     {
         self.question = None;
-        if yes {
+        if agreed {
             self.push_added(out, addition)
         } else {
             push_text(out, b"nothing is cut\n")
@@ -347,8 +347,8 @@ impl<K: Kind> Prompt<K> {
     {
         self.lines = self.lines.saturating_add(1);
         if let Some(addition) = self.question {
-            let yes = is_yes(self.alloc, line)?;
-            self.push_decided(out, addition, yes)?;
+            let agreed = is_yes(self.alloc, line)?;
+            self.push_decided(out, addition, agreed)?;
             return Ok(true);
         }
         match ask_of(self.alloc, self.lines, line) {

@@ -2,12 +2,13 @@
 ghost use Rattle.std.specs.Prelude.{◌≡◌, ◌++◌, IfOk, OnOk, Ok};
 ghost use Rattle.snap_runs.specs.Run.{run_over};
 ghost use Rattle.snap_debug.specs.Replies.{last_of};
-ghost use Rattle.snap_debug.specs.Session.{answer, commanded, session_report, state_of};
+ghost use Rattle.snap_debug.specs.Session.{answer, commanded, session_report, state_of, total};
 ghost use Rattle.snap_changes.specs.Changes.{text_between};
+ghost use Rattle.snap_semantics.specs.Report.{position_line};
 ghost use Rattle.snap_semantics.specs.ScheduleText.{schedule_text};
 ghost use Rattle.snap_semantics.specs.Token.{lines_of};
 ghost use Rattle.snap_prompt.specs.Listed.{list_text, process_of};
-ghost use Rattle.snap_prompt.specs.Prompt.{added, added_to, answer_line, asked, at_end_of, decided, did_text, done, move_or_refusal, opened_prompt, prompt_text, question_text, reply_or_refusal, schedule_of_run, wanted, with_session};
+ghost use Rattle.snap_prompt.specs.Prompt.{added, answer_line, asked, at_end_of, decided, did_text, done, move_or_refusal, opened_prompt, prompt_text, question_text, reply_or_refusal, schedule_of_run, wanted, with_session};
 ghost use Rattle.snap_prompt.specs.Changed.{item_text, state_text};
 
 use crate::changed::state_text;
@@ -31,7 +32,6 @@ use std::alloc::{AllocError, Global};
 use std::marker::Model;
 
 /// A session that is talked to, line by line.
-#[derive(Drop)]
 pub struct Prompt<K: Kind> {
     alloc: Global,
     session: Session<K>,
@@ -55,6 +55,21 @@ impl<K: Kind> Model for Prompt<K> {
     ghost view = { λ p. record { session = p.session; last = p.last; question = p.question; lines = p.lines; shows = p.shows } };
 
     ghost invariant = { λ p. (p.schedule ≡ schedule_of_run p.session.run) × (p.texts ≡ map written p.session.run.source.lines) };
+}
+
+impl<K: Kind> Drop for Prompt<K> {
+    fn drop(self) {
+        let Prompt {
+            alloc: _,
+            session: _,
+            schedule: _,
+            texts: _,
+            last: _,
+            question: _,
+            lines: _,
+            shows: _,
+        } = self;
+    }
 }
 
 impl<K: Kind> Prompt<K> {
@@ -139,39 +154,50 @@ impl<K: Kind> Prompt<K> {
         }
     }
 
+    /// The session over another schedule at its end.
+    fn reopened(&self, schedule: &Schedule) -> Result<Session<K>, AllocError>
+        ensures { IfOk result (λ s. s ≡ at_end_of schedule.now self.now.session) }
+    {
+        let mut session = self.session.over_again(schedule.copy(self.alloc)?)?;
+        go_to(&mut session, schedule.items().len())?;
+        Ok(session)
+    }
+
     /// Goes on with another schedule, at its end.
     fn extend(&mut self, schedule: Schedule) -> Result<(), AllocError>
         ensures { OnOk result (self.new ≡ with_session (at_end_of schedule self.old.session) self.old) }
     {
-        let mut session = self.session.over_again(schedule.copy(self.alloc)?)?;
-        go_to(&mut session, schedule.items().len())?;
-        self.session = session;
+        self.session = self.reopened(&schedule)?;
         self.schedule = schedule;
         Ok(())
     }
 
-    /// Goes on with another schedule, at its end, and adds what is said of that.
-    #[tactic(auto, using(snap_text::proofs::Texts::joined), unfolding(crate::specs::Changed::moved_text, crate::specs::Changed::changed))]
-    fn push_extended(&mut self, out: &mut Vec<u8>, schedule: Schedule) -> Result<(), AllocError>
-        ensures text { OnOk result (out.new.items ≡ out.old.items ++ (added_to self.old (Ok schedule)).text) }
-        ensures state { OnOk result (self.new ≡ (added_to self.old (Ok schedule)).state) }
+    /// Adds what is said of the end of the schedule, where the state before had this report.
+    #[tactic(auto, using(snap_text::proofs::Texts::joined))]
+    fn push_end(&mut self, out: &mut Vec<u8>, before: &[u8]) -> Result<(), AllocError>
+        ensures text { let s = self.old.session in OnOk result (out.new.items ≡ out.old.items
+            ++ position_line (total s) (total s) ++ item_text s.run s.position
+            ++ text_between (lines_of before.now) (lines_of (state_text s.run.source.kind (state_of s)))) }
+        ensures same { OnOk result (self.new ≡ self.old) }
     {
-        let before = state_text(self.alloc, self.session.machine())?;
-        let total = schedule.items().len();
-        self.extend(schedule)?;
+        let total = self.session.total();
         position_line(out, total, total)?;
-        self.push_moved(out, before.as_slice())
+        self.push_moved(out, before)
     }
 
     /// Adds items behind the position, where the schedule is cut, and adds what is said of that.
-    #[tactic(auto, unfolding(crate::specs::Prompt::added))]
+    #[tactic(auto, unfolding(crate::specs::Prompt::added, crate::specs::Changed::moved_text, crate::specs::Changed::changed))]
     fn push_added(&mut self, out: &mut Vec<u8>, addition: Addition) -> Result<(), AllocError>
         ensures text { OnOk result (out.new.items ≡ out.old.items ++ (added self.old addition).text) }
         ensures state { OnOk result (self.new ≡ (added self.old addition).state) }
     {
         let position = self.session.position();
+        let before = state_text(self.alloc, self.session.machine())?;
         match edited(self.alloc, &self.schedule, position, self.lines, addition) {
-            Ok(schedule) => self.push_extended(out, schedule),
+            Ok(schedule) => {
+                self.extend(schedule)?;
+                self.push_end(out, before.as_slice())
+            }
             Err(Fault::Refused(refusal)) => push_refused_addition(out, &self.session, refusal),
             Err(Fault::Memory) => Err(AllocError),
         }

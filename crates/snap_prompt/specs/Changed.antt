@@ -47,11 +47,14 @@ abbrev pub run_text : List NumberedText → Option ℕ → List ℕ
 run_text texts None = []
 run_text texts (Some line) = at_text (text_with texts line)
 
+-- `item T I `
+abbrev pub item_head : ℕ → ℕ → List ℕ
+item_head t i = codes "item " ++ decimal t ++ codes " " ++ decimal i ++ codes " "
+
 -- `item T I OUTCOME`, and the line that it ran
 abbrev pub item_line : List NumberedText → ℕ → Option (ℕ × Outcome) → Option ℕ → List ℕ
 item_line texts t None line = []
-item_line texts t (Some o) line =
-    codes "item " ++ decimal t ++ codes " " ++ decimal o.0 ++ codes " " ++ outcome_text o.1 ++ run_text texts line ++ codes "\n"
+item_line texts t (Some o) line = item_head t o.0 ++ outcome_text o.1 ++ run_text texts line ++ codes "\n"
 
 -- the last of the first t items, where there is one
 unfoldable pub item_text : Run → ℕ → List ℕ

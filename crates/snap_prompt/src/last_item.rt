@@ -8,7 +8,7 @@ ghost use Rattle.snap_semantics.specs.Table.{who};
 ghost use Rattle.snap_runs.specs.Run.{state};
 ghost use Rattle.snap_listing_lines.specs.LineTexts.{written};
 ghost use Rattle.snap_debug.specs.Session.{Obeys, at_position};
-ghost use Rattle.snap_prompt.specs.Changed.{item_line, item_text, line_run, ran, run_text};
+ghost use Rattle.snap_prompt.specs.Changed.{item_head, item_line, item_text, line_run, ran, run_text};
 
 use snap_debug::{Command, Reply, Session};
 use snap_listing_lines::LineTexts;
@@ -100,6 +100,18 @@ fn push_run(out: &mut Vec<u8>, texts: &LineTexts, line: Option<u64>) -> Result<(
     }
 }
 
+/// Adds `item T I `.
+#[tactic(auto, using(snap_text::proofs::Texts::joined))]
+fn push_item_head(out: &mut Vec<u8>, number: u64, process: u32) -> Result<(), AllocError>
+    ensures { OnOk result (out.new.items ≡ out.old.items ++ item_head number process) }
+{
+    push_text(out, b"item ")?;
+    push_number(out, number)?;
+    push_text(out, b" ")?;
+    push_number(out, u64::from(process))?;
+    push_text(out, b" ")
+}
+
 /// Adds `item T I OUTCOME`, and the line that it ran.
 #[tactic(auto, using(snap_text::proofs::Texts::joined))]
 fn push_item_line(
@@ -113,11 +125,7 @@ fn push_item_line(
     ensures { OnOk result (out.new.items ≡ out.old.items
         ++ item_line texts.now number (Some (process, outcome.now)) line) }
 {
-    push_text(out, b"item ")?;
-    push_number(out, number)?;
-    push_text(out, b" ")?;
-    push_number(out, u64::from(process))?;
-    push_text(out, b" ")?;
+    push_item_head(out, number, process)?;
     outcome_text(out, outcome)?;
     push_run(out, texts, line)?;
     push_text(out, b"\n")

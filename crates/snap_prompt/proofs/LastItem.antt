@@ -16,7 +16,7 @@ each P [] t all within = absurd (omega (arith, within))
 each P (x ∷ xs) zero all within = all.0
 each P (x ∷ xs) (suc t) all within = let less : t < length xs = omega (arith, within) in each P xs t all.1 less
 
-first_of : Option (ℕ × Outcome) → ℕ
+abbrev first_of : Option (ℕ × Outcome) → ℕ
 first_of None = 0
 first_of (Some o) = o.0
 

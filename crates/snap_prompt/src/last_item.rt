@@ -32,9 +32,10 @@ pub(crate) fn do_command<K: Kind>(
 /// Goes to a position.
 pub(crate) fn go_to<K: Kind>(session: &mut Session<K>, position: u64) -> Result<(), AllocError>
     requires { position ≤ length session.old.run.items }
-    ensures { OnOk result (session.new ≡ at_position position session.old) }
+    ensures moved { OnOk result (session.new ≡ at_position position session.old) }
+    ensures run { session.new.run ≡ session.old.run }
 {
-    match session.command(&Command::Goto(position)) {
+    match do_command(session, &Command::Goto(position)) {
         Ok(_) => Ok(()),
         Err(_) => Err(AllocError),
     }
@@ -47,6 +48,7 @@ fn line_before<K: Kind>(session: &mut Session<K>, process: u32) -> Result<Option
     ensures line { IfOk result (λ line. line
         ≡ line_of (process_at (state session.old.run (session.old.position - 1)) process).status) }
     ensures same { OnOk result (session.new ≡ session.old) }
+    ensures run { session.new.run ≡ session.old.run }
 {
     let position = session.position();
     go_to(session, position - 1)?;
@@ -76,6 +78,7 @@ fn line_run<K: Kind>(
     ensures line { IfOk result (λ line. line
         ≡ line_run session.old.run session.old.position (Some (process, outcome.now))) }
     ensures same { OnOk result (session.new ≡ session.old) }
+    ensures run { session.new.run ≡ session.old.run }
 {
     if ran(outcome) {
         line_before(session, process)
@@ -143,6 +146,7 @@ pub(crate) fn push_item<K: Kind>(
     ensures text { OnOk result (out.new.items ≡ out.old.items
         ++ item_text session.old.run session.old.position) }
     ensures same { OnOk result (session.new ≡ session.old) }
+    ensures run { session.new.run ≡ session.old.run }
 {
     let position = session.position();
     let Some((process, outcome)) = session.last()? else {

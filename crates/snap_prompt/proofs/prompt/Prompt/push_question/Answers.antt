@@ -1,0 +1,20 @@
+use Rattle.std.proofs.Common.{◌≡◌, ◌++◌, OnOk, codes, ℕ, ◌-◌, List, ◌∙◌, append_assoc, ap, subst}
+use Rattle.std.specs.Prelude.{decimal}
+use Rattle.snap_debug.specs.Session.{total}
+use Rattle.snap_prompt.proofs.prompt.Prompt.push_question.Goals as goal
+
+-- three pieces, one after another
+three : (o a b d x y : List ℕ) → x ≡ o ++ a → y ≡ x ++ b → y ++ d ≡ o ++ (a ++ (b ++ d))
+three o a b d x y e f = rw (f, e) (append_assoc (o ++ a) b d ∙ append_assoc o a (b ++ d))
+
+pub returns : goal.returns
+returns g c =
+    let s = c.args.self.now.session in
+    let n = c.total.result - c.position.result in
+    let left : n ≡ total s - s.position = cc (c.self.view_is, c.total.ensures, c.position.ensures.position) in
+    let before = c.push_text.new.out.items in
+    let number : c.push_number.new.out.items ≡ before ++ decimal (total s - s.position) =
+    c.in_ok-push_number.ensures ∙ ap (λ (k : ℕ). before ++ decimal k) left in
+    subst (λ (t : List ℕ). OnOk c.push_text-2.result (c.push_text-2.new.out.items ≡ t))
+      (three c.args.out.now.items (codes "cut here? ") (decimal (total s - s.position)) (codes " items go (y)\n") before c.push_number.new.out.items c.in_ok-push_text.ensures number)
+      c.push_text-2.ensures

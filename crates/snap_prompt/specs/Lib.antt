@@ -1,1 +1,4 @@
+pub mod Changed
+pub mod Hints
+pub mod Listed
 pub mod Prompt

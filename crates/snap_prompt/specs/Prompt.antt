@@ -1,29 +1,38 @@
 -- A prompt over a debugger's session: what is shown before a line, and what is answered to it.
-use Rattle.std.specs.Prelude.{ℕ, ◌+◌, ◌-◌, ◌^◌, List, [], ◌++◌, length, min, Bool, true, false, Option, Some, None, Result, Ok, Err, codes, decimal, if◌then◌else◌}
+use Rattle.std.specs.Prelude.{ℕ, ◌+◌, ◌-◌, ◌^◌, List, [], ◌++◌, length, min, Bool, true, false, Option, Some, None, Result, Ok, Err, codes, decimal, nat_eq, if◌then◌else◌}
 use Rattle.snap_dialog.specs.Dialog.{Answer}
+use Rattle.snap_semantics.specs.Report.{position_line}
+use Rattle.snap_semantics.specs.Schedule.{Schedule}
+use Rattle.snap_semantics.specs.ScheduleText.{schedule_text}
 use Rattle.snap_semantics.specs.declared.refusal.CommandRefusal.{CommandRefusal}
-use Rattle.snap_runs.specs.Run.{Run}
-use Rattle.snap_semantics.specs.Token.{lines_of}
-use Rattle.snap_debug.specs.Session.{Session, answer, opened, session_report, total}
-use Rattle.snap_debug_commands.specs.FaultText.{refusal_line}
+use Rattle.snap_semantics.specs.declared.refusal.ScheduleRefusal.{ScheduleRefusal}
+use Rattle.snap_runs.specs.Run.{Run, run_over}
+use Rattle.snap_report.specs.OutcomeText.{head_lines}
+use Rattle.snap_debug.specs.Replies.{last_of}
+use Rattle.snap_debug.specs.Session.{Session, answer, at_position, commanded, opened, position_text, reopened, reply_text, session_report, state_of, total}
 use Rattle.snap_debug_commands.specs.declared.command.Command.{Command}
 use Rattle.snap_debug_commands.specs.declared.command.Command.TheVariants as command
-use Rattle.snap_prompt_lines.specs.Ask.{ask_of}
+use Rattle.snap_sched_edits.specs.Edits.{edited, form_of}
+use Rattle.snap_sched_edits.specs.declared.addition.Addition.{Addition}
+use Rattle.snap_prompt_lines.specs.Ask.{ask_of, is_yes}
 use Rattle.snap_prompt_lines.specs.declared.ask.Ask.{Ask}
 use Rattle.snap_prompt_lines.specs.declared.ask.Ask.TheVariants as ask
-use Rattle.snap_changes.specs.Changes.{behind_first, text_between}
-use Rattle.snap_changes.specs.Owned.{owned_text}
+use Rattle.snap_prompt.specs.Changed.{moved_text}
+use Rattle.snap_prompt.specs.Hints.{refused_addition, refused_line}
+use Rattle.snap_prompt.specs.Listed.{list_text, process_of}
 
--- a session, the last command that it was given, how many lines were read, and whether the position stands before each line
+-- A session, what was asked for last, what is to be added where the next line says yes, how many lines were read, and whether the
+-- position stands before each line.
 pub record Prompt : Type 0 where
   pub session : Session
-  pub last : Option Command
+  pub last : Option Ask
+  pub question : Option Addition
   pub lines : ℕ
   pub shows : Bool
 
 -- a run at its beginning, with no marks and no line read
 abbrev pub opened_prompt : Run → Bool → Prompt
-opened_prompt r shows = record { session = opened r; last = None; lines = 0; shows = shows }
+opened_prompt r shows = record { session = opened r; last = None; question = None; lines = 0; shows = shows }
 
 -- `9/64> `
 unfoldable pub prompt_text : Prompt → List ℕ
@@ -31,7 +40,16 @@ prompt_text p = if p.shows then decimal p.session.position ++ codes "/" ++ decim
 
 -- with one line more; they are counted up to 2^64 - 1
 abbrev pub counted : Prompt → Prompt
-counted p = record { session = p.session; last = p.last; lines = min (p.lines + 1) (2 ^ 64 - 1); shows = p.shows }
+counted p = record { session = p.session; last = p.last; question = p.question; lines = min (p.lines + 1) (2 ^ 64 - 1); shows = p.shows }
+
+abbrev pub with_session : Session → Prompt → Prompt
+with_session s p = record { session = s; last = p.last; question = p.question; lines = p.lines; shows = p.shows }
+
+abbrev pub with_question : Option Addition → Prompt → Prompt
+with_question q p = record { session = p.session; last = p.last; question = q; lines = p.lines; shows = p.shows }
+
+abbrev pub with_last : Ask → Prompt → Prompt
+with_last a p = record { session = p.session; last = Some a; question = p.question; lines = p.lines; shows = p.shows }
 
 -- nothing changes, and this is said
 abbrev pub says : Prompt → List ℕ → Answer Prompt
@@ -54,44 +72,103 @@ moves command.Values = false
 moves command.Events = false
 moves command.Where = false
 
--- The report of a session's position behind its first line, of which each line says of whom it speaks: the values, the
--- registers, the processes with their locals, and the events.
-unfoldable pub state_text : Session → List ℕ
-state_text s = owned_text [] (behind_first (lines_of (session_report s)))
+-- what is said of a command that does not move: the session's reply, or why it is refused
+abbrev pub reply_or_refusal : Session → Command → Result Session CommandRefusal → List ℕ
+reply_or_refusal s c (Err r) = refused_line s r
+reply_or_refusal s c (Ok s') = reply_text s' c
 
--- a session's answer to a command that moves, and what changed
-unfoldable pub move_text : Session → Command → List ℕ
-move_text s c = (answer s c).1 ++ text_between (lines_of (state_text s)) (lines_of (state_text (answer s c).0))
+-- and of one that does: also the item, and what changed
+abbrev pub move_or_refusal : Session → Command → Result Session CommandRefusal → List ℕ
+move_or_refusal s c (Err r) = refused_line s r
+move_or_refusal s c (Ok s') = reply_text s' c ++ moved_text s s'
 
-abbrev pub with_session : Session → Prompt → Prompt
-with_session s p = record { session = s; last = p.last; lines = p.lines; shows = p.shows }
+unfoldable pub did_text : Session → Command → List ℕ
+did_text s c = if moves c then move_or_refusal s c (commanded s c) else reply_or_refusal s c (commanded s c)
 
--- what is answered to a command, which is the last one from there on
 abbrev pub did : Prompt → Command → Answer Prompt
-did p c = record {
-  state = record { session = (answer p.session c).0; last = Some c; lines = p.lines; shows = p.shows };
-  text = if moves c then move_text p.session c else (answer p.session c).1;
+did p c = record { state = with_session (answer p.session c).0 p; text = did_text p.session c; goes_on = true }
+
+-- the schedule that a run goes over
+abbrev pub schedule_of_run : Run → Schedule
+schedule_of_run r = record { shape = r.shape; items = r.items }
+
+-- a session over another schedule at its end, with the same marks
+abbrev pub at_end_of : Schedule → Session → Session
+at_end_of d s = at_position (length d.items) (reopened (run_over s.run.source d) s)
+
+-- what comes of an addition
+abbrev pub added_to : Prompt → Result Schedule ScheduleRefusal → Answer Prompt
+added_to p (Err r) = says p (refused_addition p.session r)
+added_to p (Ok d) = record {
+  state = with_session (at_end_of d p.session) p;
+  text = position_line (length d.items) (length d.items) ++ moved_text p.session (at_end_of d p.session);
   goes_on = true;
 }
 
-abbrev pub did_again : Prompt → Option Command → Answer Prompt
-did_again p None = says p []
-did_again p (Some c) = did p c
+-- Items are added behind the position, where the schedule is cut.
+unfoldable pub added : Prompt → Addition → Answer Prompt
+added p a = added_to p (edited p.lines p.session.position (form_of a) (schedule_of_run p.session.run))
+
+-- what is asked before items go
+abbrev pub question_text : Session → List ℕ
+question_text s = codes "cut here? " ++ decimal (total s - s.position) ++ codes " items go (y)\n"
+
+-- at the end of the schedule items are added at once, and before it the next line has to say yes
+unfoldable pub wanted : Prompt → Addition → Answer Prompt
+wanted p a =
+    if nat_eq p.session.position (total p.session) then added p a
+    else record { state = with_question (Some a) p; text = question_text p.session; goes_on = true }
 
 -- what lines can ask for
 unfoldable pub help_text : List ℕ
-help_text = codes "step back goto run rrun break clear watch unwatch show values events where all quit\n"
+help_text = codes "step K, back K, goto T, run, rrun\nbreak I N, clear I N, watch A, unwatch A\nshow I, show A, values, events, where\nall, list, list I, report, save, help, quit\nto add items: step I K, call I scan, call I update K X, crash I\nA is a register: r K, q I J, p I J or v I\ns, b: step 1, back 1; s, b, r, g, p before numbers: step, back, run, goto, show; b I N: break I N\nan empty line: the last line again\n"
 
--- what comes of what a line asks for
+-- what is done, where that is no last thing again
+unfoldable pub done : Prompt → Ask → Answer Prompt
+done p ask.Nothing = says p []
+done p ask.Again = says p []
+done p ask.Quit = record { state = p; text = []; goes_on = false }
+done p ask.Help = says p help_text
+done p ask.All = says p (head_lines 1 (state_of p.session).processes)
+done p ask.Report = says p (session_report p.session)
+done p ask.Save = says p (schedule_text (schedule_of_run p.session.run))
+done p ask.ListLast = says p (list_text p.session (process_of (last_of p.session.run p.session.position)))
+done p (ask.List i) = says p (list_text p.session i)
+done p (ask.Add a) = wanted p a
+done p (ask.Do c) = did p c
+
+-- what is meant by what a line asks for: the last thing again, or the thing itself
+abbrev pub meant : Option Ask → Ask → Option Ask
+meant last ask.Nothing = None
+meant last ask.Again = last
+meant last ask.Quit = Some ask.Quit
+meant last ask.Help = Some ask.Help
+meant last ask.All = Some ask.All
+meant last ask.Report = Some ask.Report
+meant last ask.Save = Some ask.Save
+meant last ask.ListLast = Some ask.ListLast
+meant last (ask.List i) = Some (ask.List i)
+meant last (ask.Add a) = Some (ask.Add a)
+meant last (ask.Do c) = Some (ask.Do c)
+
+-- what is meant is the last thing from there on
+abbrev pub done_meant : Prompt → Option Ask → Answer Prompt
+done_meant p None = says p []
+done_meant p (Some a) = done (with_last a p) a
+
+-- what comes of what a line asks for, or why it is refused
 unfoldable pub asked : Prompt → Result Ask CommandRefusal → Answer Prompt
-asked p (Ok ask.Nothing) = says p []
-asked p (Ok ask.Again) = did_again p p.last
-asked p (Ok ask.Quit) = record { state = p; text = []; goes_on = false }
-asked p (Ok ask.Help) = says p help_text
-asked p (Ok ask.All) = says p (session_report p.session)
-asked p (Ok (ask.Do c)) = did p c
-asked p (Err r) = says p (refusal_line r)
+asked p (Err r) = says p (refused_line p.session r)
+asked p (Ok a) = done_meant p (meant p.last a)
+
+-- the answer to a question
+abbrev pub decided : Prompt → Addition → Bool → Answer Prompt
+decided p a agreed = if agreed then added (with_question None p) a else says (with_question None p) (codes "nothing is cut\n")
+
+abbrev pub answered_to : Prompt → Option Addition → List ℕ → Answer Prompt
+answered_to p None line = asked p (ask_of p.lines line)
+answered_to p (Some a) line = decided p a (is_yes line)
 
 -- what is answered to a line
 unfoldable pub answer_line : Prompt → List ℕ → Answer Prompt
-answer_line p line = asked (counted p) (ask_of (counted p).lines line)
+answer_line p line = answered_to (counted p) p.question line

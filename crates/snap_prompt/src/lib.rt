@@ -1,7 +1,12 @@
 //! A prompt over a debugger's session: what is answered to lines, as they are typed.
 #![tactic(auto)]
 
+mod changed;
 mod conversation;
+mod hints;
+mod last_item;
+mod listed;
+mod meant;
 mod prompt;
 
 pub use conversation::converse;

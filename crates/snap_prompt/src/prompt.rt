@@ -1,75 +1,75 @@
 //! A prompt over a session.
-ghost use Rattle.std.specs.Prelude.{◌≡◌, ◌++◌, IfOk, OnOk, length};
-ghost use Rattle.snap_dialog.specs.Dialog.{Answer};
+ghost use Rattle.std.specs.Prelude.{◌≡◌, ◌++◌, IfOk, OnOk, Ok};
 ghost use Rattle.snap_runs.specs.Run.{run_over};
-ghost use Rattle.snap_debug.specs.Session.{answer, session_report};
-ghost use Rattle.snap_prompt.specs.Prompt.{Prompt, answer_line, asked, counted, did, help_text, move_text, moves, opened_prompt, prompt_text, state_text, with_session};
+ghost use Rattle.snap_debug.specs.Replies.{last_of};
+ghost use Rattle.snap_debug.specs.Session.{answer, commanded, session_report, state_of, total};
+ghost use Rattle.snap_changes.specs.Changes.{text_between};
+ghost use Rattle.snap_semantics.specs.Report.{position_line};
+ghost use Rattle.snap_semantics.specs.ScheduleText.{schedule_text};
+ghost use Rattle.snap_semantics.specs.Token.{lines_of};
+ghost use Rattle.snap_prompt.specs.Listed.{list_text, process_of};
+ghost use Rattle.snap_prompt.specs.Prompt.{added, answer_line, asked, at_end_of, decided, did_text, done, move_or_refusal, opened_prompt, prompt_text, question_text, reply_or_refusal, schedule_of_run, wanted, with_session};
+ghost use Rattle.snap_prompt.specs.Changed.{item_text, state_text};
 
+use crate::changed::state_text;
+use crate::hints::{push_refused_addition, push_refused_line};
+use crate::last_item::{do_command, go_to, push_item};
+use crate::listed::push_list;
+use crate::meant::{meant, moves, push_help};
 use snap_asm_program::Program;
-use snap_changes::{behind_first_line, push_changes, push_owned_lines};
-use snap_debug::{Command, Session, push_refusal_line};
+use snap_changes::push_changes;
+use snap_debug::{Command, Session};
 use snap_dialog::Respondent;
-use snap_prompt_lines::{Ask, ask_of};
-use snap_sched::Schedule;
+use snap_listing_lines::LineTexts;
+use snap_prompt_lines::{Ask, ask_of, is_yes};
+use snap_report::{head_lines, position_line};
+use snap_sched::{Schedule, print};
+use snap_sched_edits::{Addition, edited};
 use snap_semantics::{CommandRefusal, Fault};
 use snap_text::{push_number, push_text};
 use snap_words::{Bits, Kind, Multi, Seq};
 use std::alloc::{AllocError, Global};
 use std::marker::Model;
 
-/// What lines can ask for.
-const HELP: &[u8] =
-    b"step back goto run rrun break clear watch unwatch show values events where all quit\n";
-
-/// Adds what lines can ask for.
-#[tactic(auto, unfolding(crate::specs::Prompt::help_text))]
-fn push_help(out: &mut Vec<u8>) -> Result<(), AllocError>
-    ensures { OnOk result (out.new.items ≡ out.old.items ++ help_text) }
-{
-    push_text(out, HELP)
-}
-
-/// Whether a command moves.
-fn moves(command: &Command) -> bool
-    ensures { result ≡ moves command.now }
-{
-    match command {
-        Command::Step(_)
-        | Command::Back(_)
-        | Command::Goto(_)
-        | Command::Run
-        | Command::ReverseRun => true,
-        Command::Break(_)
-        | Command::Clear(_)
-        | Command::Watch(_)
-        | Command::Unwatch(_)
-        | Command::ShowRegister(_)
-        | Command::ShowProcess(_)
-        | Command::Values
-        | Command::Events
-        | Command::Where => false,
-    }
-}
-
 /// A session that is talked to, line by line.
 pub struct Prompt<K: Kind> {
     alloc: Global,
     session: Session<K>,
-    total: u64,
-    last: Option<Command>,
+    /// The schedule of the session.
+    schedule: Schedule,
+    /// The lines of its listing.
+    texts: LineTexts,
+    last: Option<Ask>,
+    question: Option<Addition>,
     lines: u64,
     shows: bool,
 }
 
 impl<K: Kind> Model for Prompt<K> {
-    ghost use Rattle.std.specs.Prelude.{◌≡◌, length};
-    ghost use Rattle.snap_prompt.specs.Prompt.{Prompt};
+    ghost use Rattle.std.specs.Prelude.{◌≡◌, map};
+    ghost use Rattle.snap_listing_lines.specs.LineTexts.{written};
+    ghost use Rattle.snap_prompt.specs.Prompt.{Prompt, schedule_of_run};
 
     ghost Value = { Prompt };
 
-    ghost view = { λ p. record { session = p.session; last = p.last; lines = p.lines; shows = p.shows } };
+    ghost view = { λ p. record { session = p.session; last = p.last; question = p.question; lines = p.lines; shows = p.shows } };
 
-    ghost invariant = { λ p. p.total ≡ length p.session.run.items };
+    ghost invariant = { λ p. (p.schedule ≡ schedule_of_run p.session.run) × (p.texts ≡ map written p.session.run.source.lines) };
+}
+
+impl<K: Kind> Drop for Prompt<K> {
+    fn drop(self) {
+        let Prompt {
+            alloc: _,
+            session: _,
+            schedule: _,
+            texts: _,
+            last: _,
+            question: _,
+            lines: _,
+            shows: _,
+        } = self;
+    }
 }
 
 impl<K: Kind> Drop for Prompt<K> {
@@ -96,66 +96,148 @@ impl<K: Kind> Prompt<K> {
         requires { program.now.kind ≡ K.TAG }
         ensures { IfOk result (λ p. p ≡ opened_prompt (run_over program.now schedule) shows) }
     {
-        let total = schedule.items().len();
-        let session = Session::<K>::over(alloc, program, schedule)?;
+        let texts = LineTexts::of(alloc, program.listing())?;
+        let session = Session::<K>::open(alloc, program, &schedule)?;
         Ok(Prompt {
             alloc,
             session,
-            total,
+            schedule,
+            texts,
             last: None,
+            question: None,
             lines: 0,
             shows,
         })
     }
 
-    /// Does a command, and adds what the session answers.
+    /// Adds the item at which the session stands, and what changed from a state with this report.
+    #[tactic(auto, using(snap_text::proofs::Texts::joined))]
+    fn push_moved(&mut self, out: &mut Vec<u8>, before: &[u8]) -> Result<(), AllocError>
+        ensures text { let s = self.old.session in OnOk result (out.new.items ≡ out.old.items
+            ++ item_text s.run s.position ++ text_between (lines_of before.now) (lines_of (state_text s.run.source.kind (state_of s)))) }
+        ensures same { OnOk result (self.new ≡ self.old) }
+    {
+        let _shape = self.schedule.shape();
+        push_item(out, &self.texts, &mut self.session)?;
+        let after = state_text(self.alloc, self.session.machine())?;
+        push_changes(out, before, after.as_slice())
+    }
+
+    /// Does a command, and adds what is replied.
     fn push_reply(&mut self, out: &mut Vec<u8>, command: &Command) -> Result<(), AllocError>
-        ensures text { OnOk result (out.new.items ≡ out.old.items ++ (answer self.old.session command.now).1) }
+        ensures text { let s = self.old.session in OnOk result (out.new.items ≡ out.old.items
+            ++ reply_or_refusal s command.now (commanded s command.now)) }
         ensures state { OnOk result (self.new ≡ with_session (answer self.old.session command.now).0 self.old) }
     {
-        match self.session.command(command) {
+        match do_command(&mut self.session, command) {
             Ok(reply) => push_text(out, reply.as_slice()),
-            Err(Fault::Refused(refusal)) => push_refusal_line(out, &refusal),
+            Err(Fault::Refused(refusal)) => push_refused_line(out, &self.session, &refusal),
             Err(Fault::Memory) => Err(AllocError),
         }
     }
 
-    /// The state at the position, of which each line says of whom it speaks.
-    #[tactic(auto, unfolding(crate::specs::Prompt::state_text))]
-    fn state_text(&self) -> Result<Vec<u8>, AllocError>
-        ensures { IfOk result (λ text. text.items ≡ state_text self.now.session) }
-    {
-        let report = self.session.report()?;
-        let mut text = Vec::new(self.alloc);
-        push_owned_lines(&mut text, behind_first_line(report.as_slice()))?;
-        Ok(text)
-    }
-
-    /// Does a command that moves, and adds what the session answers, and what changed.
-    #[tactic(auto, using(snap_text::proofs::Texts::joined), unfolding(crate::specs::Prompt::move_text))]
+    /// Does a command that moves, and adds what is replied, the item and what changed.
+    #[tactic(auto, using(snap_text::proofs::Texts::joined), unfolding(crate::specs::Changed::moved_text, crate::specs::Changed::changed))]
     fn push_move(&mut self, out: &mut Vec<u8>, command: &Command) -> Result<(), AllocError>
-        ensures text { OnOk result (out.new.items ≡ out.old.items ++ move_text self.old.session command.now) }
+        ensures text { let s = self.old.session in OnOk result (out.new.items ≡ out.old.items
+            ++ move_or_refusal s command.now (commanded s command.now)) }
         ensures state { OnOk result (self.new ≡ with_session (answer self.old.session command.now).0 self.old) }
     {
-        let before = self.state_text()?;
-        self.push_reply(out, command)?;
-        let after = self.state_text()?;
-        push_changes(out, before.as_slice(), after.as_slice())
+        let before = state_text(self.alloc, self.session.machine())?;
+        match do_command(&mut self.session, command) {
+            Ok(reply) => {
+                push_text(out, reply.as_slice())?;
+                self.push_moved(out, before.as_slice())
+            }
+            Err(Fault::Refused(refusal)) => push_refused_line(out, &self.session, &refusal),
+            Err(Fault::Memory) => Err(AllocError),
+        }
     }
 
-    /// Does a command, which is the last one from there on, and adds what it is answered.
-    fn push_done(&mut self, out: &mut Vec<u8>, command: Command) -> Result<bool, AllocError>
-        ensures text { OnOk result (out.new.items ≡ out.old.items ++ (did self.old command).text) }
-        ensures state { OnOk result (self.new ≡ (did self.old command).state) }
-        ensures goes_on { IfOk result (λ more. more ≡ (did self.old command).goes_on) }
+    /// Does a command, and adds what is said of it.
+    #[tactic(auto, unfolding(crate::specs::Prompt::did_text))]
+    fn push_done(&mut self, out: &mut Vec<u8>, command: &Command) -> Result<(), AllocError>
+        ensures text { OnOk result (out.new.items ≡ out.old.items ++ did_text self.old.session command.now) }
+        ensures state { OnOk result (self.new ≡ with_session (answer self.old.session command.now).0 self.old) }
     {
-        if moves(&command) {
-            self.push_move(out, &command)?;
+        if moves(command) {
+            self.push_move(out, command)
         } else {
-            self.push_reply(out, &command)?;
+            self.push_reply(out, command)
         }
-        self.last = Some(command);
-        Ok(true)
+    }
+
+    /// The session over another schedule at its end.
+    fn reopened(&self, schedule: &Schedule) -> Result<Session<K>, AllocError>
+        ensures { IfOk result (λ s. s ≡ at_end_of schedule.now self.now.session) }
+    {
+        let mut session = self.session.over_again(schedule.copy(self.alloc)?)?;
+        go_to(&mut session, schedule.items().len())?;
+        Ok(session)
+    }
+
+    /// Goes on with another schedule, at its end.
+    fn extend(&mut self, schedule: Schedule) -> Result<(), AllocError>
+        ensures { OnOk result (self.new ≡ with_session (at_end_of schedule self.old.session) self.old) }
+    {
+        self.session = self.reopened(&schedule)?;
+        self.schedule = schedule;
+        Ok(())
+    }
+
+    /// Adds what is said of the end of the schedule, where the state before had this report.
+    #[tactic(auto, using(snap_text::proofs::Texts::joined))]
+    fn push_end(&mut self, out: &mut Vec<u8>, before: &[u8]) -> Result<(), AllocError>
+        ensures text { let s = self.old.session in OnOk result (out.new.items ≡ out.old.items
+            ++ position_line (total s) (total s) ++ item_text s.run s.position
+            ++ text_between (lines_of before.now) (lines_of (state_text s.run.source.kind (state_of s)))) }
+        ensures same { OnOk result (self.new ≡ self.old) }
+    {
+        let total = self.session.total();
+        position_line(out, total, total)?;
+        self.push_moved(out, before)
+    }
+
+    /// Adds items behind the position, where the schedule is cut, and adds what is said of that.
+    #[tactic(auto, unfolding(crate::specs::Prompt::added, crate::specs::Changed::moved_text, crate::specs::Changed::changed))]
+    fn push_added(&mut self, out: &mut Vec<u8>, addition: Addition) -> Result<(), AllocError>
+        ensures text { OnOk result (out.new.items ≡ out.old.items ++ (added self.old addition).text) }
+        ensures state { OnOk result (self.new ≡ (added self.old addition).state) }
+    {
+        let position = self.session.position();
+        let before = state_text(self.alloc, self.session.machine())?;
+        match edited(self.alloc, &self.schedule, position, self.lines, addition) {
+            Ok(schedule) => {
+                self.extend(schedule)?;
+                self.push_end(out, before.as_slice())
+            }
+            Err(Fault::Refused(refusal)) => push_refused_addition(out, &self.session, refusal),
+            Err(Fault::Memory) => Err(AllocError),
+        }
+    }
+
+    /// Adds what is asked before items go.
+    #[tactic(auto, using(snap_text::proofs::Texts::joined))]
+    fn push_question(&self, out: &mut Vec<u8>) -> Result<(), AllocError>
+        ensures { OnOk result (out.new.items ≡ out.old.items ++ question_text self.now.session) }
+    {
+        push_text(out, b"cut here? ")?;
+        push_number(out, self.session.total() - self.session.position())?;
+        push_text(out, b" items go (y)\n")
+    }
+
+    /// Adds items at the end of the schedule, or asks.
+    #[tactic(auto, unfolding(crate::specs::Prompt::wanted))]
+    fn push_wanted(&mut self, out: &mut Vec<u8>, addition: Addition) -> Result<(), AllocError>
+        ensures text { OnOk result (out.new.items ≡ out.old.items ++ (wanted self.old addition).text) }
+        ensures state { OnOk result (self.new ≡ (wanted self.old addition).state) }
+    {
+        if self.session.position() == self.session.total() {
+            return self.push_added(out, addition);
+        }
+        self.push_question(out)?;
+        self.question = Some(addition);
+        Ok(())
     }
 
     /// Adds the report of the position.
@@ -166,7 +248,78 @@ impl<K: Kind> Prompt<K> {
         push_text(out, report.as_slice())
     }
 
-    /// Does what a line asks for, and adds what it is answered.
+    /// Adds the schedule.
+    fn push_schedule(&self, out: &mut Vec<u8>) -> Result<(), AllocError>
+        ensures { OnOk result (out.new.items ≡ out.old.items ++ schedule_text (schedule_of_run self.now.session.run)) }
+    {
+        let text = print(self.alloc, &self.schedule)?;
+        push_text(out, text.as_slice())
+    }
+
+    /// The process of the last item, and 1 where there is none.
+    fn last_process(&self) -> Result<u64, AllocError>
+        ensures { IfOk result (λ i. i ≡ process_of (last_of self.now.session.run self.now.session.position)) }
+    {
+        match self.session.last()? {
+            Some((process, _)) => Ok(u64::from(process)),
+            None => Ok(1),
+        }
+    }
+
+    /// Adds the lines around the one at which a process stands.
+    fn push_list_of(&self, out: &mut Vec<u8>, process: u64) -> Result<(), AllocError>
+        ensures { OnOk result (out.new.items ≡ out.old.items ++ list_text self.now.session process) }
+    {
+        push_list(out, &self.texts, &self.session, process)
+    }
+
+    /// Does what is meant by a line, and adds what is answered.
+    #[tactic(auto, unfolding(crate::specs::Prompt::done))]
+    fn push_meant(&mut self, out: &mut Vec<u8>, ask: Ask) -> Result<bool, AllocError>
+        ensures text { OnOk result (out.new.items ≡ out.old.items ++ (done self.old ask).text) }
+        ensures state { OnOk result (self.new ≡ (done self.old ask).state) }
+        ensures goes_on { IfOk result (λ more. more ≡ (done self.old ask).goes_on) }
+    {
+        match ask {
+            Ask::Nothing | Ask::Again => Ok(true),
+            Ask::Quit => Ok(false),
+            Ask::Help => {
+                push_help(out)?;
+                Ok(true)
+            }
+            Ask::All => {
+                head_lines(out, self.session.machine())?;
+                Ok(true)
+            }
+            Ask::Report => {
+                self.push_report(out)?;
+                Ok(true)
+            }
+            Ask::Save => {
+                self.push_schedule(out)?;
+                Ok(true)
+            }
+            Ask::ListLast => {
+                let process = self.last_process()?;
+                self.push_list_of(out, process)?;
+                Ok(true)
+            }
+            Ask::List(process) => {
+                self.push_list_of(out, process)?;
+                Ok(true)
+            }
+            Ask::Add(addition) => {
+                self.push_wanted(out, addition)?;
+                Ok(true)
+            }
+            Ask::Do(command) => {
+                self.push_done(out, &command)?;
+                Ok(true)
+            }
+        }
+    }
+
+    /// Does what a line asks for, and adds what is answered.
     #[tactic(auto, unfolding(crate::specs::Prompt::asked))]
     fn push_asked(
         &mut self,
@@ -178,25 +331,35 @@ impl<K: Kind> Prompt<K> {
         ensures goes_on { IfOk result (λ more. more ≡ (asked self.old ask).goes_on) }
     {
         match ask {
-            Ok(Ask::Nothing) => Ok(true),
-            Ok(Ask::Quit) => Ok(false),
-            Ok(Ask::Help) => {
-                push_help(out)?;
-                Ok(true)
-            }
-            Ok(Ask::All) => {
-                self.push_report(out)?;
-                Ok(true)
-            }
-            Ok(Ask::Do(command)) => self.push_done(out, command),
-            Ok(Ask::Again) => match self.last {
-                Some(command) => self.push_done(out, command),
+            Ok(ask) => match meant(self.last, ask) {
+                Some(ask) => {
+                    self.last = Some(ask);
+                    self.push_meant(out, ask)
+                }
                 None => Ok(true),
             },
             Err(refusal) => {
-                push_refusal_line(out, &refusal)?;
+                push_refused_line(out, &self.session, &refusal)?;
                 Ok(true)
             }
+        }
+    }
+
+    /// Does what a line says to a question, and adds what is answered.
+    fn push_decided(
+        &mut self,
+        out: &mut Vec<u8>,
+        addition: Addition,
+        agreed: bool,
+    ) -> Result<(), AllocError>
+        ensures text { OnOk result (out.new.items ≡ out.old.items ++ (decided self.old addition agreed).text) }
+        ensures state { OnOk result (self.new ≡ (decided self.old addition agreed).state) }
+    {
+        self.question = None;
+        if agreed {
+            self.push_added(out, addition)
+        } else {
+            push_text(out, b"nothing is cut\n")
         }
     }
 
@@ -210,7 +373,7 @@ impl<K: Kind> Prompt<K> {
         }
         push_number(out, self.session.position())?;
         push_text(out, b"/")?;
-        push_number(out, self.total)?;
+        push_number(out, self.session.total())?;
         push_text(out, b"> ")
     }
 
@@ -222,6 +385,11 @@ impl<K: Kind> Prompt<K> {
         ensures goes_on { IfOk result (λ more. more ≡ (answer_line self.old line.now).goes_on) }
     {
         self.lines = self.lines.saturating_add(1);
+        if let Some(addition) = self.question {
+            let agreed = is_yes(self.alloc, line)?;
+            self.push_decided(out, addition, agreed)?;
+            return Ok(true);
+        }
         match ask_of(self.alloc, self.lines, line) {
             Ok(ask) => self.push_asked(out, Ok(ask)),
             Err(Fault::Refused(refusal)) => self.push_asked(out, Err(refusal)),
@@ -229,7 +397,6 @@ impl<K: Kind> Prompt<K> {
         }
     }
 }
-
 // One for each kind: what a session sends to threads is known of each of them.
 impl Respondent for Prompt<Seq> {
     ghost prompt_of = { prompt_text };

@@ -1,36 +1,80 @@
 -- What a line at a prompt asks for.
 use Rattle.std.specs.Prelude.{ℕ, List, [], ◌∷◌, ◌++◌, Bool, true, false, not, Option, Some, None, Result, Ok, Err, codes, length, nat_eq, nat_lt, is_some, if◌then◌else◌, ◌==◌}
 use Rattle.std.specs.Io.BufRead.{strip_last}
-use Rattle.snap_semantics.specs.Rules.{keyword_at, end_at}
+use Rattle.snap_semantics.specs.Rules.{◌>>=◌, or_else, keyword_at, number_at, end_at}
 use Rattle.snap_semantics.specs.Token.{Token, is_lexeme_byte, tokens_of}
+use Rattle.snap_semantics.specs.declared.process.Op.{Op}
+use Rattle.snap_semantics.specs.declared.process.Op.TheVariants as op
 use Rattle.snap_semantics.specs.declared.refusal.CommandRefusal.{CommandRefusal}
 use Rattle.snap_semantics.specs.declared.refusal.CommandRefusal.TheVariants as refusal
+use Rattle.snap_debug_commands.specs.CommandForms.{keyword_form, number_form, numbers_form}
 use Rattle.snap_debug_commands.specs.Commands.{commands_of}
 use Rattle.snap_debug_commands.specs.declared.command.Command.{Command}
 use Rattle.snap_debug_commands.specs.declared.command.Command.TheVariants as command
+use Rattle.snap_sched_edits.specs.declared.addition.Addition.TheVariants as addition
 use Rattle.snap_prompt_lines.specs.declared.ask.Ask.{Ask}
 use Rattle.snap_prompt_lines.specs.declared.ask.Ask.TheVariants as ask
 
-abbrev pub ends_there : Option (List Token) → Bool
-ends_there None = false
-ends_there (Some rest) = is_some (end_at rest)
+-- a word alone, which asks for this
+unfoldable pub alone : List ℕ → Ask → List Token → Option Ask
+alone word a ts = do
+  end ← keyword_form word ts
+  Some a
 
--- whether these tokens are this word alone
-abbrev pub is_word : List ℕ → List Token → Bool
-is_word word ts = ends_there (keyword_at word ts)
-
--- what a word alone asks for, where it is one of the prompt's own: `s` is a step on, and `b` one back
-abbrev pub word_ask : List Token → Option Ask
+-- the prompt's own words; `s` is a step on, and `b` one back
+unfoldable pub word_ask : List Token → Option Ask
 word_ask ts =
-    if is_word (codes "quit") ts then Some ask.Quit else
-    if is_word (codes "help") ts then Some ask.Help else
-    if is_word (codes "all") ts then Some ask.All else
-    if is_word (codes "s") ts then Some (ask.Do (command.Step 1)) else
-    if is_word (codes "b") ts then Some (ask.Do (command.Back 1)) else None
+    or_else (alone (codes "quit") ask.Quit ts)
+    (or_else (alone (codes "help") ask.Help ts)
+    (or_else (alone (codes "all") ask.All ts)
+    (or_else (alone (codes "report") ask.Report ts)
+    (or_else (alone (codes "save") ask.Save ts)
+    (or_else (alone (codes "s") (ask.Do (command.Step 1)) ts)
+    (alone (codes "b") (ask.Do (command.Back 1)) ts))))))
 
-abbrev pub word_ask_in : Option (List Token) → Option Ask
-word_ask_in None = None
-word_ask_in (Some ts) = word_ask ts
+-- `list`, or `list I`
+unfoldable pub list_ask : List Token → Option Ask
+list_ask ts = or_else (alone (codes "list") (ask.ListLast) ts) (number_form (codes "list") ts >>= λ i. Some (ask.List i))
+
+-- a scan, or an update
+unfoldable pub op_form : List Token → Option Op
+op_form ts =
+    or_else (keyword_form (codes "scan") ts >>= λ end. Some op.Scan)
+    (numbers_form (codes "update") ts >>= λ at. Some (op.Update at.0 at.1))
+
+-- `call I scan`, or `call I update K X`
+unfoldable pub call_ask : List Token → Option Ask
+call_ask ts = do
+  rest ← keyword_at (codes "call") ts
+  i ← number_at rest
+  o ← op_form i.1
+  Some (ask.Add (addition.Call i.0 o))
+
+-- `step I K`, for steps at all
+unfoldable pub steps_ask : List ℕ → List Token → Option Ask
+steps_ask word ts = do
+  at ← numbers_form word ts
+  if nat_lt 0 at.1 then Some (ask.Add (addition.Steps at.0 at.1)) else None
+
+-- what adds items: steps, a call or a crash
+unfoldable pub adding_ask : List Token → Option Ask
+adding_ask ts =
+    or_else (steps_ask (codes "step") ts)
+    (or_else (steps_ask (codes "s") ts)
+    (or_else (call_ask ts)
+    (number_form (codes "crash") ts >>= λ i. Some (ask.Add (addition.Crash i)))))
+
+-- `b I N` is a breakpoint
+unfoldable pub break_ask : List Token → Option Ask
+break_ask ts = numbers_form (codes "b") ts >>= λ at. Some (ask.Do (command.Break (record { process = at.0; line = at.1 })))
+
+-- what tokens ask for, where that is the prompt's own
+unfoldable pub prompt_ask : List Token → Option Ask
+prompt_ask ts = or_else (word_ask ts) (or_else (list_ask ts) (or_else (break_ask ts) (adding_ask ts)))
+
+abbrev pub prompt_ask_in : Option (List Token) → Option Ask
+prompt_ask_in None = None
+prompt_ask_in (Some ts) = prompt_ask ts
 
 -- whether a byte before these is a letter or a digit alone
 abbrev pub stands_alone : List ℕ → Bool
@@ -74,10 +118,22 @@ abbrev pub ask_or : Option Ask → Result Ask CommandRefusal → Result Ask Comm
 ask_or None other = other
 ask_or (Some a) other = Ok a
 
--- What line `number` asks for: an empty one for the last command again, a word of the prompt for what it says, and another
+-- What line `number` asks for: an empty one for the last thing again, a line of the prompt's own for what it says, and another
 -- line for the command that it is.
 abbrev pub ask_of : ℕ → List ℕ → Result Ask CommandRefusal
 ask_of number line =
     if nat_lt 1048576 (length line) then Err refusal.TooLong else
     if length (strip_last 10 line) == 0 then Ok ask.Again else
-    ask_or (word_ask_in (tokens_of (strip_last 10 line))) (command_asked number (commands_of (spelled_out line)))
+    ask_or (prompt_ask_in (tokens_of (strip_last 10 line))) (command_asked number (commands_of (spelled_out line)))
+
+-- whether tokens say yes
+unfoldable pub yes_form : List Token → Option (Unit {0})
+yes_form ts = or_else (keyword_form (codes "y") ts) (keyword_form (codes "yes") ts)
+
+abbrev pub is_yes_in : Option (List Token) → Bool
+is_yes_in None = false
+is_yes_in (Some ts) = is_some (yes_form ts)
+
+-- whether a line says yes
+abbrev pub is_yes : List ℕ → Bool
+is_yes line = is_yes_in (tokens_of (strip_last 10 line))

@@ -3,14 +3,15 @@ ghost use Rattle.std.specs.Prelude.{◌≡◌, IfOk};
 ghost use Rattle.std.specs.Io.BufRead.{strip_last};
 ghost use Rattle.snap_semantics.specs.Answers.{Answers};
 ghost use Rattle.snap_semantics.specs.Token.{tokens_of};
-ghost use Rattle.snap_text.specs.Tokens.{view_tokens};
-ghost use Rattle.snap_prompt_lines.specs.Ask.{ask_of, at_line, command_asked, first_command, is_word, word_ask, word_ask_in};
+ghost use Rattle.snap_prompt_lines.specs.Ask.{ask_of, at_line, command_asked, first_command, is_yes, prompt_ask_in};
 ghost use Rattle.snap_debug_commands.specs.Commands.{commands_of};
 
+use crate::forms::{prompt_ask, yes_form};
 use crate::short::spelled_out;
 use snap_debug_commands::{Command, read_commands};
+use snap_sched_edits::Addition;
 use snap_semantics::{CommandRefusal, Fault};
-use snap_text::{Token, end_at, keyword_at, tokens};
+use snap_text::tokens;
 use std::alloc::{AllocError, Global};
 
 /// The most bytes that a line may have.
@@ -21,14 +22,23 @@ const MAX_LINE: usize = 1_048_576;
 pub enum Ask {
     /// Nothing: it has no more than a comment.
     Nothing,
-    /// The last command again.
+    /// The last thing again.
     Again,
     /// The end of the dialog.
     Quit,
     /// What can be asked for.
     Help,
-    /// The report of the position.
+    /// Where each process stands.
     All,
+    /// The report of the position.
+    Report,
+    /// The schedule.
+    Save,
+    /// The lines around the one at which the process of the last item stands.
+    ListLast,
+    /// And those around the one at which this process stands.
+    List(u64),
+    Add(Addition),
     Do(Command),
 }
 
@@ -42,44 +52,12 @@ fn body(line: &[u8]) -> &[u8]
     }
 }
 
-/// Whether tokens are this word alone.
-fn is_word(word: &[u8], tokens: &[Token<'_>]) -> bool
-    ensures { result ≡ is_word word.now (view_tokens tokens.now) }
-{
-    match keyword_at(word, tokens) {
-        Some(rest) => end_at(rest).is_some(),
-        None => false,
-    }
-}
-
-/// What a word alone asks for, where it is one of the prompt's own.
-fn word_ask(tokens: &[Token<'_>]) -> Option<Ask>
-    ensures { result ≡ word_ask (view_tokens tokens.now) }
-{
-    if is_word(b"quit", tokens) {
-        return Some(Ask::Quit);
-    }
-    if is_word(b"help", tokens) {
-        return Some(Ask::Help);
-    }
-    if is_word(b"all", tokens) {
-        return Some(Ask::All);
-    }
-    if is_word(b"s", tokens) {
-        return Some(Ask::Do(Command::Step(1)));
-    }
-    if is_word(b"b", tokens) {
-        return Some(Ask::Do(Command::Back(1)));
-    }
-    None
-}
-
-/// What a line asks for that is such a word.
-fn word_ask_in(alloc: Global, line: &[u8]) -> Result<Option<Ask>, AllocError>
-    ensures { IfOk result (λ found. found ≡ word_ask_in (tokens_of line.now)) }
+/// What a line asks for, where that is the prompt's own.
+fn prompt_ask_in(alloc: Global, line: &[u8]) -> Result<Option<Ask>, AllocError>
+    ensures { IfOk result (λ found. found ≡ prompt_ask_in (tokens_of line.now)) }
 {
     match tokens(alloc, line)? {
-        Some(tokens) => Ok(word_ask(tokens.as_slice())),
+        Some(tokens) => Ok(prompt_ask(tokens.as_slice())),
         None => Ok(None),
     }
 }
@@ -126,9 +104,19 @@ pub fn ask_of(alloc: Global, number: u64, line: &[u8]) -> Result<Ask, Fault<Comm
     if body.is_empty() {
         return Ok(Ask::Again);
     }
-    if let Some(ask) = word_ask_in(alloc, body)? {
+    if let Some(ask) = prompt_ask_in(alloc, body)? {
         return Ok(ask);
     }
     let line = spelled_out(alloc, line)?;
     command_asked(alloc, number, line.as_slice())
+}
+
+/// Whether a line says yes.
+pub fn is_yes(alloc: Global, line: &[u8]) -> Result<bool, AllocError>
+    ensures { IfOk result (λ yes. yes ≡ is_yes line.now) }
+{
+    match tokens(alloc, body(line))? {
+        Some(tokens) => Ok(yes_form(tokens.as_slice()).is_some()),
+        None => Ok(false),
+    }
 }

@@ -2,6 +2,7 @@
 #![tactic(auto)]
 
 mod ask;
+mod forms;
 mod short;
 
-pub use ask::{Ask, ask_of};
+pub use ask::{Ask, ask_of, is_yes};

@@ -1,0 +1,45 @@
+-- The dialog goes on where items are added.
+use Rattle.std.proofs.Common.{◌≡◌, ℕ, Bool, true, false, if◌then◌else◌, List, Option, Some, None, Result, Ok, Err, refl}
+use Rattle.std.specs.Prelude.{nat_eq}
+use Rattle.snap_dialog.specs.Dialog.{Answer}
+use Rattle.snap_semantics.specs.Schedule.{Schedule}
+use Rattle.snap_semantics.specs.declared.refusal.ScheduleRefusal.{ScheduleRefusal}
+use Rattle.snap_debug.specs.Session.{total}
+use Rattle.snap_sched_edits.specs.Edits.{edited, form_of}
+use Rattle.snap_sched_edits.specs.declared.addition.Addition.{Addition}
+use Rattle.snap_prompt_lines.specs.Ask.{is_yes}
+use Rattle.snap_prompt_lines.specs.declared.ask.Ask.{Ask}
+use Rattle.snap_prompt_lines.specs.declared.ask.Ask.TheVariants as ask
+use Rattle.snap_prompt.specs.Prompt.{Prompt, added, added_to, answer_line, counted, decided, done, schedule_of_run, wanted, with_question}
+
+-- whether they fit or are refused
+added_to_goes_on : (p : Prompt) (r : Result Schedule ScheduleRefusal) → true ≡ (added_to p r).goes_on
+added_to_goes_on p (Ok d) = refl
+added_to_goes_on p (Err r) = refl
+
+added_goes_on : (p : Prompt) (a : Addition) → true ≡ (added p a).goes_on
+unfolding added
+added_goes_on p a = added_to_goes_on p (edited p.lines p.session.position (form_of a) (schedule_of_run p.session.run))
+
+-- one of two answers with which it goes on
+either : (b : Bool) (x y : Answer Prompt) → true ≡ x.goes_on → true ≡ y.goes_on →
+    true ≡ (let a : Answer Prompt = if b then x else y in a).goes_on
+either true x y e f = e
+either false x y e f = f
+
+wanted_goes_on : (p : Prompt) (a : Addition) → true ≡ (wanted p a).goes_on
+unfolding wanted
+wanted_goes_on p a = either (nat_eq p.session.position (total p.session)) (added p a) _ (added_goes_on p a) refl
+
+decided_goes_on : (p : Prompt) (a : Addition) (agreed : Bool) → true ≡ (decided p a agreed).goes_on
+decided_goes_on p a agreed = either agreed (added (with_question None p) a) _ (added_goes_on (with_question None p) a) refl
+
+-- where a line asks for them
+pub adding_goes_on : (p : Prompt) (x : Ask) (a : Addition) → x ≡ ask.Add a → true ≡ (done p x).goes_on
+unfolding done
+adding_goes_on p x a e = rw e (wanted_goes_on p a)
+
+-- where a line says whether the schedule is cut
+pub deciding_goes_on : (p : Prompt) (line : List ℕ) (a : Addition) → p.question ≡ Some a → true ≡ (answer_line p line).goes_on
+unfolding answer_line
+deciding_goes_on p line a e = rw e (decided_goes_on (counted p) a (is_yes line))

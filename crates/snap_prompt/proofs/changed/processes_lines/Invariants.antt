@@ -1,0 +1,8 @@
+use Rattle.std.proofs.Common.{◌≡◌, ◌++◌, ◌+◌, drop}
+use Rattle.snap_semantics.specs.Report.{processes_lines}
+use Rattle.snap_prompt.proofs.changed.processes_lines.Given as goal
+
+abbrev pub invariant-loop-k : goal.invariant-loop-k
+invariant-loop-k g l =
+    l.out.items ++ processes_lines l.machine.source.kind (l.k + 1) (drop l.k l.machine.state.processes)
+    ≡ l.fn.out.items ++ processes_lines l.machine.source.kind 1 l.machine.state.processes

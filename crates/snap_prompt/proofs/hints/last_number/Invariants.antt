@@ -1,0 +1,6 @@
+use Rattle.std.proofs.Common.{◌≡◌, drop}
+use Rattle.snap_prompt.specs.Hints.{last_number}
+use Rattle.snap_prompt.proofs.hints.last_number.Given as goal
+
+abbrev pub invariant-loop-line : goal.invariant-loop-line
+invariant-loop-line l = last_number l.number (drop l.line-index l.lines) ≡ last_number 0 l.lines

@@ -1,0 +1,65 @@
+-- What a move says: the item at which it stands, and what changed.
+use Rattle.std.specs.Prelude.{ℕ, ◌-◌, Bool, true, false, List, [], ◌++◌, Option, Some, None, codes, decimal, map, if◌then◌else◌}
+use Rattle.snap_words.specs.declared.kind.KindTag.{KindTag}
+use Rattle.snap_semantics.specs.Readers.{line_of}
+use Rattle.snap_semantics.specs.Report.{processes_lines, register_lines}
+use Rattle.snap_semantics.specs.State.{State, process_at}
+use Rattle.snap_semantics.specs.Token.{lines_of}
+use Rattle.snap_semantics.specs.declared.process.Outcome.{Outcome}
+use Rattle.snap_semantics.specs.declared.process.Outcome.TheVariants as outcome
+use Rattle.snap_runs.specs.Run.{Run, state}
+use Rattle.snap_report.specs.OutcomeText.{outcome_text}
+use Rattle.snap_changes.specs.Changes.{text_between}
+use Rattle.snap_changes.specs.Owned.{owned_text}
+use Rattle.snap_listing_lines.specs.LineTexts.{NumberedText, text_with, written}
+use Rattle.snap_debug.specs.Replies.{last_of}
+use Rattle.snap_debug.specs.Session.{Session, state_of}
+
+-- The report of a state: its registers, and its processes with their locals. Each line says of whom it speaks.
+unfoldable pub state_text : KindTag → State → List ℕ
+state_text kind s = owned_text [] (lines_of (register_lines kind s.memory ++ processes_lines kind 1 s.processes))
+
+-- What changed from one state to another: of the lines of their reports those that differ, old and new, in the report's order.
+unfoldable pub changed : KindTag → State → State → List ℕ
+changed kind old new = text_between (lines_of (state_text kind old)) (lines_of (state_text kind new))
+
+-- whether an item that came out so ran a line
+abbrev pub ran : Outcome → Bool
+ran outcome.Called = false
+ran outcome.Stepped = true
+ran (outcome.Answered view) = true
+ran outcome.Finished = true
+ran (outcome.Trapped cause) = true
+ran outcome.Crashed = false
+ran (outcome.Skipped reason) = false
+
+-- the line that the last item ran, which is the one at which its process was before it
+abbrev pub line_run : Run → ℕ → Option (ℕ × Outcome) → Option ℕ
+line_run r t None = None
+line_run r t (Some o) = if ran o.1 then line_of (process_at (state r (t - 1)) o.0).status else None
+
+abbrev pub at_text : Option (List ℕ) → List ℕ
+at_text None = []
+at_text (Some text) = codes " at " ++ text
+
+-- the text of the line that was run, among these
+abbrev pub run_text : List NumberedText → Option ℕ → List ℕ
+run_text texts None = []
+run_text texts (Some line) = at_text (text_with texts line)
+
+-- `item T I `
+abbrev pub item_head : ℕ → ℕ → List ℕ
+item_head t i = codes "item " ++ decimal t ++ codes " " ++ decimal i ++ codes " "
+
+-- `item T I OUTCOME`, and the line that it ran
+abbrev pub item_line : List NumberedText → ℕ → Option (ℕ × Outcome) → Option ℕ → List ℕ
+item_line texts t None line = []
+item_line texts t (Some o) line = item_head t o.0 ++ outcome_text o.1 ++ run_text texts line ++ codes "\n"
+
+-- the last of the first t items, where there is one
+unfoldable pub item_text : Run → ℕ → List ℕ
+item_text r t = item_line (map written r.source.lines) t (last_of r t) (line_run r t (last_of r t))
+
+-- what is said of a move from one session to another
+unfoldable pub moved_text : Session → Session → List ℕ
+moved_text old new = item_text new.run new.position ++ changed new.run.source.kind (state_of old) (state_of new)

@@ -1,0 +1,38 @@
+//! What changed from one state to another.
+ghost use Rattle.std.specs.Prelude.{◌≡◌, ◌++◌, IfOk, OnOk};
+ghost use Rattle.snap_semantics.specs.Report.{processes_lines};
+ghost use Rattle.snap_prompt.specs.Changed.{state_text};
+
+use snap_changes::push_owned_lines;
+use snap_machine::Machine;
+use snap_report::{process_lines, register_lines};
+use snap_words::Kind;
+use std::alloc::{AllocError, Global};
+
+/// The lines of the processes, from process 1 on.
+fn processes_lines<K: Kind>(out: &mut Vec<u8>, machine: &Machine<K>) -> Result<(), AllocError>
+    ensures { OnOk result (out.new.items ≡ out.old.items
+        ++ processes_lines machine.now.source.kind 1 machine.now.state.processes) }
+{
+    let shape = machine.shape();
+    for k in 0..shape.n() {
+        process_lines(out, machine, k as u32 + 1)?;
+    }
+    Ok(())
+}
+
+/// The report of a machine's state: its registers, and its processes with their locals. Each line says of whom it speaks.
+#[tactic(auto, using(snap_text::proofs::Texts::joined), unfolding(crate::specs::Changed::state_text))]
+pub(crate) fn state_text<K: Kind>(
+    alloc: Global,
+    machine: &Machine<K>,
+) -> Result<Vec<u8>, AllocError>
+    ensures { IfOk result (λ text. text.items ≡ state_text machine.now.source.kind machine.now.state) }
+{
+    let mut lines = Vec::new(alloc);
+    register_lines(&mut lines, machine)?;
+    processes_lines(&mut lines, machine)?;
+    let mut text = Vec::new(alloc);
+    push_owned_lines(&mut text, lines.as_slice())?;
+    Ok(text)
+}

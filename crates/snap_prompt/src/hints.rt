@@ -1,0 +1,154 @@
+//! What is said where a line is refused.
+ghost use Rattle.std.specs.Prelude.{◌≡◌, ◌++◌, OnOk, codes};
+ghost use Rattle.snap_prompt.specs.Hints.{added_hint, first_number, hint_text, last_number, range_text, refused_addition, refused_line, registers_text};
+
+use snap_debug::{Session, push_refusal};
+use snap_refusals::push_refused;
+use snap_semantics::{CommandRefusal, Line, Refusal, ScheduleRefusal};
+use snap_text::{push_number, push_text};
+use snap_words::{Kind, KindTag, Shape};
+use std::alloc::AllocError;
+
+/// The number of the first of some lines, and 0 where there is none.
+fn first_number(lines: &[Line]) -> u64
+    ensures { result ≡ first_number lines.now }
+{
+    match lines {
+        [first, ..] => first.number,
+        [] => 0,
+    }
+}
+
+/// The number of the last of some lines, and 0 where there is none.
+fn last_number(lines: &[Line]) -> u64
+    ensures { result ≡ last_number 0 lines.now }
+{
+    let mut number = 0;
+    for line in lines {
+        number = line.number;
+    }
+    number
+}
+
+/// Adds a range of numbers.
+#[tactic(auto, using(snap_text::proofs::Texts::joined))]
+fn push_range(out: &mut Vec<u8>, what: &[u8], from: u64, to: u64) -> Result<(), AllocError>
+    ensures { OnOk result (out.new.items ≡ out.old.items ++ range_text what.now from to) }
+{
+    push_text(out, b": ")?;
+    push_text(out, what)?;
+    push_text(out, b" ")?;
+    push_number(out, from)?;
+    push_text(out, b" to ")?;
+    push_number(out, to)
+}
+
+/// Adds which registers there are.
+fn push_registers(out: &mut Vec<u8>, kind: KindTag, shape: Shape) -> Result<(), AllocError>
+    ensures { OnOk result (out.new.items ≡ out.old.items ++ registers_text kind shape) }
+{
+    match kind {
+        KindTag::Seq => push_range(out, b"the registers are r", 1, shape.w()),
+        KindTag::Bits => push_range(
+            out,
+            b"the registers are q I J with I and J to the number of processes, and r",
+            1,
+            shape.w(),
+        ),
+        KindTag::Multi => push_range(
+            out,
+            b"the registers are q I J, p I J and v I with I and J to the number of processes, and r",
+            1,
+            shape.w(),
+        ),
+    }
+}
+
+/// Adds what would have been right.
+#[tactic(auto, unfolding(crate::specs::Hints::hint_text))]
+fn push_hint<K: Kind>(
+    out: &mut Vec<u8>,
+    session: &Session<K>,
+    refusal: &CommandRefusal,
+) -> Result<(), AllocError>
+    ensures { OnOk result (out.new.items ≡ out.old.items ++ hint_text session.now refusal.now) }
+{
+    match refusal {
+        CommandRefusal::BadCommand(_) => push_text(out, b": `help` says what can be typed"),
+        CommandRefusal::NoSuchLine => {
+            let lines = session.program().listing().lines();
+            push_range(
+                out,
+                b"the lines are",
+                first_number(lines),
+                last_number(lines),
+            )
+        }
+        CommandRefusal::NoSuchProcess => {
+            push_range(out, b"the processes are", 1, session.machine().shape().n())
+        }
+        CommandRefusal::NoSuchRegister => {
+            push_registers(out, session.program().kind(), session.machine().shape())
+        }
+        CommandRefusal::NoSuchPosition => {
+            push_range(out, b"the positions are", 0, session.total())
+        }
+        CommandRefusal::TooManyMarks => {
+            push_text(
+                out,
+                b": 64 are set, and `clear` and `unwatch` take them away",
+            )
+        }
+        CommandRefusal::TooLong => push_text(out, b": a line has at most 1048576 bytes"),
+    }
+}
+
+/// Adds the line of a refused command.
+#[tactic(auto, using(snap_text::proofs::Texts::joined), unfolding(crate::specs::Hints::refused_line))]
+pub(crate) fn push_refused_line<K: Kind>(
+    out: &mut Vec<u8>,
+    session: &Session<K>,
+    refusal: &CommandRefusal,
+) -> Result<(), AllocError>
+    ensures { OnOk result (out.new.items ≡ out.old.items ++ refused_line session.now refusal.now) }
+{
+    push_text(out, b"refused: ")?;
+    push_refusal(out, refusal)?;
+    push_hint(out, session, refusal)?;
+    push_text(out, b"\n")
+}
+
+/// Adds what would have been right to add.
+fn push_added_hint<K: Kind>(
+    out: &mut Vec<u8>,
+    session: &Session<K>,
+    refusal: &ScheduleRefusal,
+) -> Result<(), AllocError>
+    ensures { OnOk result (out.new.items ≡ out.old.items ++ added_hint session.now refusal.now) }
+{
+    match refusal {
+        ScheduleRefusal::NoSuchProcess(_) => {
+            push_range(out, b"the processes are", 1, session.machine().shape().n())
+        }
+        ScheduleRefusal::TooLong
+        | ScheduleRefusal::BadShape
+        | ScheduleRefusal::BadItem(_)
+        | ScheduleRefusal::TooManyItems(_) => {
+            push_text(out, b": a schedule has at most 1000000 items")
+        }
+    }
+}
+
+/// Adds the line of an addition that is refused.
+#[tactic(auto, using(snap_text::proofs::Texts::joined), unfolding(crate::specs::Hints::refused_addition))]
+pub(crate) fn push_refused_addition<K: Kind>(
+    out: &mut Vec<u8>,
+    session: &Session<K>,
+    refusal: ScheduleRefusal,
+) -> Result<(), AllocError>
+    ensures { OnOk result (out.new.items ≡ out.old.items ++ refused_addition session.now refusal) }
+{
+    push_refused(out, &Refusal::Schedule(refusal))?;
+    push_added_hint(out, session, &refusal)?;
+    push_text(out, b"\n")
+}

@@ -1,0 +1,124 @@
+//! The lines of the listing around the one at which a process stands.
+ghost use Rattle.std.specs.Prelude.{◌≡◌, ◌++◌, OnOk, map};
+ghost use Rattle.snap_words.specs.Shape.{IsOneOf};
+ghost use Rattle.snap_listing_lines.specs.LineTexts.{text_with, written};
+ghost use Rattle.snap_prompt.specs.Listed.{is_near, list_text, mark_text, marked_line, near_line, near_lines, stand_text, text_or_none};
+
+use crate::hints::push_refused_line;
+use snap_debug::Session;
+use snap_listing_lines::LineTexts;
+use snap_report::head_line;
+use snap_semantics::{CommandRefusal, Line};
+use snap_text::push_text;
+use snap_words::Kind;
+use std::alloc::AllocError;
+
+/// Whether a number is at most eight from another.
+fn is_near(line: u64, number: u64) -> bool
+    ensures { result ≡ is_near line number }
+{
+    line.saturating_sub(8) <= number && number.saturating_sub(8) <= line
+}
+
+/// Adds the mark of the line at which a process stands, or the space of another one.
+fn push_mark(out: &mut Vec<u8>, line: u64, number: u64) -> Result<(), AllocError>
+    ensures { OnOk result (out.new.items ≡ out.old.items ++ mark_text line number) }
+{
+    if line == number {
+        push_text(out, b"> ")
+    } else {
+        push_text(out, b"  ")
+    }
+}
+
+/// Adds the text of a line.
+fn push_line_text(out: &mut Vec<u8>, texts: &LineTexts, number: u64) -> Result<(), AllocError>
+    ensures { OnOk result (out.new.items ≡ out.old.items ++ text_or_none (text_with texts.now number)) }
+{
+    match texts.with_number(number) {
+        Some(text) => push_text(out, text),
+        None => Ok(()),
+    }
+}
+
+/// Adds a line, marked where a process stands at it.
+#[tactic(auto, using(snap_text::proofs::Texts::joined))]
+fn push_marked_line(
+    out: &mut Vec<u8>,
+    texts: &LineTexts,
+    line: u64,
+    number: u64,
+) -> Result<(), AllocError>
+    ensures { OnOk result (out.new.items ≡ out.old.items ++ marked_line texts.now line number) }
+{
+    push_mark(out, line, number)?;
+    push_line_text(out, texts, number)?;
+    push_text(out, b"\n")
+}
+
+/// Adds a line where it is near.
+fn push_near_line(
+    out: &mut Vec<u8>,
+    texts: &LineTexts,
+    line: u64,
+    number: u64,
+) -> Result<(), AllocError>
+    ensures { OnOk result (out.new.items ≡ out.old.items ++ near_line texts.now line number) }
+{
+    if is_near(line, number) {
+        push_marked_line(out, texts, line, number)
+    } else {
+        Ok(())
+    }
+}
+
+/// Adds those of some lines that are near.
+fn push_near_lines(
+    out: &mut Vec<u8>,
+    texts: &LineTexts,
+    line: u64,
+    lines: &[Line],
+) -> Result<(), AllocError>
+    ensures { OnOk result (out.new.items ≡ out.old.items ++ near_lines texts.now line lines.now) }
+{
+    for l in lines {
+        push_near_line(out, texts, line, l.number)?;
+    }
+    Ok(())
+}
+
+/// Adds where a process stands, and the lines around.
+#[tactic(auto, using(snap_text::proofs::Texts::joined), unfolding(crate::specs::Listed::stand_text))]
+fn push_stand<K: Kind>(
+    out: &mut Vec<u8>,
+    texts: &LineTexts,
+    session: &Session<K>,
+    process: u32,
+) -> Result<(), AllocError>
+    requires texts { texts.now ≡ map written session.now.run.source.lines }
+    requires process { IsOneOf session.now.run.shape.n process }
+    ensures { OnOk result (out.new.items ≡ out.old.items ++ stand_text session.now process) }
+{
+    head_line(out, session.machine(), process)?;
+    match session.machine().line(process) {
+        Some(line) => push_near_lines(out, texts, line, session.program().listing().lines()),
+        None => Ok(()),
+    }
+}
+
+/// Adds where process `i` stands, and the lines around; or that there is no such process.
+#[tactic(auto, unfolding(crate::specs::Listed::list_text))]
+pub(crate) fn push_list<K: Kind>(
+    out: &mut Vec<u8>,
+    texts: &LineTexts,
+    session: &Session<K>,
+    i: u64,
+) -> Result<(), AllocError>
+    requires { texts.now ≡ map written session.now.run.source.lines }
+    ensures { OnOk result (out.new.items ≡ out.old.items ++ list_text session.now i) }
+{
+    if i == 0 || session.machine().shape().n() < i {
+        return push_refused_line(out, session, &CommandRefusal::NoSuchProcess);
+    }
+    push_stand(out, texts, session, i as u32)
+}

@@ -1,0 +1,10 @@
+//! What can be added to a schedule.
+use snap_semantics::Op;
+
+/// What is added to a schedule, whether or not its process is there.
+#[derive(Clone, Copy, Debug, PartialEq, Eq)]
+pub enum Addition {
+    Steps { process: u64, count: u64 },
+    Call { process: u64, op: Op },
+    Crash { process: u64 },
+}

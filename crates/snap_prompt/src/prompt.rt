@@ -72,19 +72,6 @@ impl<K: Kind> Drop for Prompt<K> {
     }
 }
 
-impl<K: Kind> Drop for Prompt<K> {
-    fn drop(self) {
-        let Prompt {
-            alloc: _,
-            session: _,
-            total: _,
-            last: _,
-            lines: _,
-            shows: _,
-        } = self;
-    }
-}
-
 impl<K: Kind> Prompt<K> {
     /// Before the first item of a schedule, which it takes. `shows` says whether the position stands before each line.
     pub fn over(

@@ -21,13 +21,13 @@ with_items : (s : Schedule) (t line : ℕ) (form f : ItemForm) (items : List Ite
 with_items s t line form f items known within found made fits =
     let admits = is_admitted s.shape.n (1000000 - t) line form f found in
     let count : length items ≡ length (take t s.items) + form_count f =
-      ap length made ∙ length-append (take t s.items) (form_items f) ∙ ap (λ (k : ℕ). length (take t s.items) + k) (length_items f) in
+    ap length made ∙ length-append (take t s.items) (form_items f) ∙ ap (λ (k : ℕ). length (take t s.items) + k) (length_items f) in
     let short : length (take t s.items) ≤ t = length_first t s.items in
     let room : form_count f ≤ 1000000 - t = admits.1 in
     let most : length s.items ≤ 1000000 = known.few in
     let P : ℕ → Type 0 = λ (i : ℕ). IsOneOf s.shape.n i in
     let olds : AllByRecursion (λ (x : Item). IsOneOf s.shape.n (who x)) (take t s.items) =
-      first_all (λ (x : Item). IsOneOf s.shape.n (who x)) t s.items known.processes in
+    first_all (λ (x : Item). IsOneOf s.shape.n (who x)) t s.items known.processes in
     let news : AllByRecursion (λ (x : Item). IsOneOf s.shape.n (who x)) (form_items f) = all_form P f admits.0 in
     let both : AllByRecursion (λ (x : Item). IsOneOf s.shape.n (who x)) (take t s.items ++ form_items f) = all_more P (take t s.items) (form_items f) olds news in
     record {

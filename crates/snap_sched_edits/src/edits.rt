@@ -12,12 +12,7 @@ use snap_semantics::{Fault, Item, ScheduleRefusal};
 use std::alloc::{AllocError, Global};
 
 /// What is added, where its process is one of `n` and no more than `left` items come of it.
-fn admitted(
-    n: u64,
-    left: u64,
-    line: u64,
-    addition: Addition,
-) -> Result<Addition, ScheduleRefusal>
+fn admitted(n: u64, left: u64, line: u64, addition: Addition) -> Result<Addition, ScheduleRefusal>
     ensures { Gives form_of result (admitted n left line (form_of addition)) }
 {
     let (process, count) = match addition {

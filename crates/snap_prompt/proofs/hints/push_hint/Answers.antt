@@ -16,5 +16,5 @@ pub returns-in-NoSuchLine : goal.returns-in-NoSuchLine
 returns-in-NoSuchLine g c =
     let lines : c.lines-lines.result.now ≡ c.args.session.now.run.source.lines = cc (c.lines-lines.ensures.lines, c.listing.ensures, c.program.ensures.value) in
     subst (λ (t : List ℕ). OnOk c.push_range.result (c.push_range.new.out.items ≡ c.args.out.now.items ++ t))
-      (hinted c.args.session.now c.args.refusal.now c.lines-lines.result.now c.first_number.result c.last_number.result c.in-NoSuchLine.is lines c.first_number.ensures c.last_number.ensures)
-      c.push_range.ensures
+    (hinted c.args.session.now c.args.refusal.now c.lines-lines.result.now c.first_number.result c.last_number.result c.in-NoSuchLine.is lines c.first_number.ensures c.last_number.ensures)
+    c.push_range.ensures

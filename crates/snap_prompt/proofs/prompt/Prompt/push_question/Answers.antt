@@ -22,5 +22,5 @@ returns g c =
     let number : c.push_number.new.out.items ≡ before ++ decimal (total s - s.position) =
     c.in_ok-push_number.ensures ∙ ap (λ (k : ℕ). before ++ decimal k) left in
     subst (λ (t : List ℕ). OnOk c.push_text-2.result (c.push_text-2.new.out.items ≡ t))
-      (three c.args.out.now.items (codes "cut here? ") (decimal (total s - s.position)) (codes " items go (y)\n") before c.push_number.new.out.items c.in_ok-push_text.ensures number)
-      c.push_text-2.ensures
+    (three c.args.out.now.items (codes "cut here? ") (decimal (total s - s.position)) (codes " items go (y)\n") before c.push_number.new.out.items c.in_ok-push_text.ensures number)
+    c.push_text-2.ensures

@@ -1,3 +1,3 @@
 pub mod GoesOn
 pub mod KeepsRun
-pub mod LastItem
+pub mod LastItems

@@ -19,12 +19,12 @@ abbrev pub text_or_none : Option (List ℕ) → List ℕ
 text_or_none None = []
 text_or_none (Some text) = text
 
-abbrev pub mark_text : ℕ → ℕ → List ℕ
-mark_text line number = if nat_eq line number then codes "> " else codes "  "
+abbrev pub pointer_text : ℕ → ℕ → List ℕ
+pointer_text line number = if nat_eq line number then codes "> " else codes "  "
 
 -- a line, marked where a process stands at it
 abbrev pub marked_line : List NumberedText → ℕ → ℕ → List ℕ
-marked_line texts line number = mark_text line number ++ text_or_none (text_with texts number) ++ codes "\n"
+marked_line texts line number = pointer_text line number ++ text_or_none (text_with texts number) ++ codes "\n"
 
 -- a line where it is near
 abbrev pub near_line : List NumberedText → ℕ → ℕ → List ℕ

@@ -135,7 +135,7 @@ fn push_item_line(
 }
 
 /// Adds what is said of the last item, where there is one.
-#[tactic(auto, using(crate::proofs::LastItem::is_one), unfolding(crate::specs::Changed::item_text))]
+#[tactic(auto, using(crate::proofs::LastItems::is_one), unfolding(crate::specs::Changed::item_text))]
 pub(crate) fn push_item<K: Kind>(
     out: &mut Vec<u8>,
     texts: &LineTexts,

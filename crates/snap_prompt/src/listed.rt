@@ -2,7 +2,7 @@
 ghost use Rattle.std.specs.Prelude.{◌≡◌, ◌++◌, OnOk, map};
 ghost use Rattle.snap_words.specs.Shape.{IsOneOf};
 ghost use Rattle.snap_listing_lines.specs.LineTexts.{text_with, written};
-ghost use Rattle.snap_prompt.specs.Listed.{is_near, list_text, mark_text, marked_line, near_line, near_lines, stand_text, text_or_none};
+ghost use Rattle.snap_prompt.specs.Listed.{is_near, list_text, pointer_text, marked_line, near_line, near_lines, stand_text, text_or_none};
 
 use crate::hints::push_refused_line;
 use snap_debug::Session;
@@ -22,7 +22,7 @@ fn is_near(line: u64, number: u64) -> bool
 
 /// Adds the mark of the line at which a process stands, or the space of another one.
 fn push_mark(out: &mut Vec<u8>, line: u64, number: u64) -> Result<(), AllocError>
-    ensures { OnOk result (out.new.items ≡ out.old.items ++ mark_text line number) }
+    ensures { OnOk result (out.new.items ≡ out.old.items ++ pointer_text line number) }
 {
     if line == number {
         push_text(out, b"> ")

@@ -2,10 +2,10 @@
 ghost use Rattle.std.specs.Prelude.{IfOk, IfSome};
 ghost use Rattle.snap_tasks.specs.Request.{HasLimit, IsLimit};
 
+use crate::command_line::Invocation;
 use clap::builder::ValueParser;
 use clap::error::ErrorKind;
 use clap::{Arg, ArgAction, ArgMatches, Command, Error};
-use crate::command_line::Invocation;
 use snap_tasks::{Subject, kind_of, request_of};
 use std::alloc::{AllocError, Global};
 

@@ -4,4 +4,4 @@
 mod arguments;
 mod command_line;
 
-pub use command_line::{Invocation, CommandLine, read_arguments};
+pub use command_line::{CommandLine, Invocation, read_arguments};

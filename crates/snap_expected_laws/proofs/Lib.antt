@@ -1,3 +1,4 @@
 pub mod Forms
 pub mod Commands
+pub mod Terms
 pub mod NotLost

@@ -96,11 +96,11 @@ module _ (IsOutput : List ℕ → List ℕ → Type 0) (Refuses : List ℕ → C
   not_read_so : (e : ConductFault) (kept : List ℕ) (before after taken : Option (List ℕ)) (r w s : Bool)
       → Reads (Err e) before after r → ConductsKeeping IsOutput Refuses kept (Err e) before after taken taken r w s
   not_read_so e kept before after taken r w s h = elim h.2 [
-      | inl m ↦ subst (λ (x : ConductFault). ConductsKeeping IsOutput Refuses kept (Err x) before after taken taken r w s) (sym m)
-          (h.0, tt, ([], h.1, tt, Appends-nil taken, refl))
-      | inr d ↦ subst (λ (x : ConductFault). ConductsKeeping IsOutput Refuses kept (Err x) before after taken taken r w s) (sym d.0)
-          (h.0, tt, ([], h.1, tt, Appends-nil taken, (refl, d.1)))
-    ]
+    | inl m ↦ subst (λ (x : ConductFault). ConductsKeeping IsOutput Refuses kept (Err x) before after taken taken r w s) (sym m)
+        (h.0, tt, ([], h.1, tt, Appends-nil taken, refl))
+    | inr d ↦ subst (λ (x : ConductFault). ConductsKeeping IsOutput Refuses kept (Err x) before after taken taken r w s) (sym d.0)
+        (h.0, tt, ([], h.1, tt, Appends-nil taken, (refl, d.1)))
+  ]
 
   -- reading failed
   pub not_read : (answer : Result (Unit {0}) ConductFault) (e : ConductFault) (kept : List ℕ) (before after taken : Option (List ℕ)) (r w s : Bool)

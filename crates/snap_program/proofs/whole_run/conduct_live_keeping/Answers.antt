@@ -5,17 +5,23 @@ use Rattle.snap_program.proofs.whole_run.conduct_live_keeping.Goals as goal
 
 pub returns-in_err-text : goal.returns-in_err-text
 returns-in_err-text g c =
-    let read = c.in_ok-input.ensures in let may = g.G.Gate.may_answer c.args.gate.now in
-    (c.in_ok-input.input.items, is_kept c.from_residual-in_err-text.result c.in_ok-input.input.items, refused (MayWrite may c.args.subject c.args.limit) (RefusesLive may c.args.subject c.args.limit) c.from_residual-in_err-text.result (of_live_fault c.in_err-text.field-0.0) c.in_ok-input.input.items c.as_slice.result.now
-    (g.R.ByteSource.left c.args.source.now) (g.R.ByteSource.left c.read_all.new.source) (g.W.ByteSink.taken c.args.sink.now) _ _ _
-    c.from_residual-in_err-text.ensures c.as_slice.ensures.value read.0 read.1 (why_live c.in_err-text.field-0.0 may c.args.subject c.args.limit c.as_slice.result.now c.in_err-text.ensures))
+    let read = c.in_ok-input.ensures in let may = g.G.Gate.may_answer c.args.gate.now in (
+      c.in_ok-input.input.items,
+      is_kept c.from_residual-in_err-text.result c.in_ok-input.input.items,
+      refused (MayWrite may c.args.subject c.args.limit) (RefusesLive may c.args.subject c.args.limit) c.from_residual-in_err-text.result (of_live_fault c.in_err-text.field-0.0) c.in_ok-input.input.items c.as_slice.result.now
+          (g.R.ByteSource.left c.args.source.now) (g.R.ByteSource.left c.read_all.new.source) (g.W.ByteSink.taken c.args.sink.now) _ _ _
+          c.from_residual-in_err-text.ensures c.as_slice.ensures.value read.0 read.1 (why_live c.in_err-text.field-0.0 may c.args.subject c.args.limit c.as_slice.result.now c.in_err-text.ensures),
+    )
 
 pub returns : goal.returns
 returns g c =
-    let read = c.in_ok-input.ensures in let may = g.G.Gate.may_answer c.args.gate.now in
-    (c.in_ok-input.input.items, is_kept c.write_all.result c.in_ok-input.input.items, sends (MayWrite may c.args.subject c.args.limit) (RefusesLive may c.args.subject c.args.limit) c.write_all.result c.in_ok-input.input.items c.as_slice.result.now c.in_ok-text.text.items _
-    (g.R.ByteSource.left c.args.source.now) (g.R.ByteSource.left c.read_all.new.source) (g.W.ByteSink.taken c.args.sink.now) (g.W.ByteSink.taken c.write_all.new.sink) _ _ _
-    c.as_slice.ensures.value c.as_slice-2.ensures.value read.0 read.1 c.in_ok-text.ensures c.write_all.ensures)
+    let read = c.in_ok-input.ensures in let may = g.G.Gate.may_answer c.args.gate.now in (
+      c.in_ok-input.input.items,
+      is_kept c.write_all.result c.in_ok-input.input.items,
+      sends (MayWrite may c.args.subject c.args.limit) (RefusesLive may c.args.subject c.args.limit) c.write_all.result c.in_ok-input.input.items c.as_slice.result.now c.in_ok-text.text.items _
+          (g.R.ByteSource.left c.args.source.now) (g.R.ByteSource.left c.read_all.new.source) (g.W.ByteSink.taken c.args.sink.now) (g.W.ByteSink.taken c.write_all.new.sink) _ _ _
+          c.as_slice.ensures.value c.as_slice-2.ensures.value read.0 read.1 c.in_ok-text.ensures c.write_all.ensures,
+    )
 
 pub returns-in_err-input : goal.returns-in_err-input
 returns-in_err-input g c =

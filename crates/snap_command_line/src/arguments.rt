@@ -4,7 +4,7 @@ ghost use Rattle.snap_tasks.specs.Request.{HasLimit, IsLimit};
 
 use clap::builder::ValueParser;
 use clap::error::ErrorKind;
-use clap::{Arg, ArgMatches, Command, Error};
+use clap::{Arg, ArgAction, ArgMatches, Command, Error};
 use snap_tasks::{Request, Subject, kind_of, request_of};
 use std::alloc::{AllocError, Global};
 
@@ -46,6 +46,20 @@ fn live<'a>(alloc: Global) -> Result<Command<'a>, AllocError> {
     .arg(limit)
 }
 
+/// The subcommand that surveys runs.
+fn survey<'a>(alloc: Global) -> Result<Command<'a>, AllocError> {
+    let strict = Arg::new(alloc, "strict")
+        .long("strict")
+        .action(ArgAction::SetTrue)
+        .help("Ends with status 4 where a run has a scan without a point or a trap");
+    running(
+        alloc,
+        "survey",
+        "Says what the run of each of many schedules came to",
+    )?
+    .arg(strict)
+}
+
 /// The arguments that the program takes.
 fn command<'a>(alloc: Global) -> Result<Command<'a>, AllocError> {
     Command::new(alloc, "snaplab")
@@ -81,11 +95,7 @@ fn command<'a>(alloc: Global) -> Result<Command<'a>, AllocError> {
             "Says where each operation took place, if each has a linearization point",
         )?)?
         .subcommand(running(alloc, "batch", "Runs a listing under many schedules")?)?
-        .subcommand(running(
-            alloc,
-            "survey",
-            "Says what the run of each of many schedules came to",
-        )?)?
+        .subcommand(survey(alloc)?)?
         .subcommand(live(alloc)?)
 }
 
@@ -113,6 +123,9 @@ fn request_by(matches: &ArgMatches<'_>) -> Option<Request>
 {
     let (name, arguments) = matches.subcommand()?;
     let subject = subject_of(arguments)?;
+    if name == "survey" && arguments.get_flag("strict") {
+        return Some(Request::Strict(subject));
+    }
     request_of(name, subject, limit_of(arguments))
 }
 

@@ -7,7 +7,7 @@ ghost use Rattle.snap_input.specs.Input.{checked_parts, parted, texts_for};
 ghost use Rattle.snap_input.specs.Parts.{parts_of};
 ghost use Rattle.snap_output.specs.AtOnce.{found_at_once};
 ghost use Rattle.snap_certify_output.specs.Output.{certificates_text};
-ghost use Rattle.snap_output.specs.Output.{batched, checked_schedules, debug_text, surveyed};
+ghost use Rattle.snap_output.specs.Output.{batched, checked_schedules, debug_text, strict_of, strictly_surveyed, surveyed};
 ghost use Rattle.snap_output.specs.Output.{of_task, output_of, run_text, verdicts_text};
 ghost use Rattle.snap_output.specs.Prepared.{batch_reports, prepared_text};
 ghost use Rattle.snap_trace_output.specs.Traces.{traces_text};
@@ -24,7 +24,7 @@ use snap_input::{
 use snap_lint_text::lint_of;
 use snap_perform::{perform_program, run_program};
 use snap_semantics::{Fault, Refusal};
-use snap_survey_output::survey_program;
+use snap_survey_output::{StrictSurvey, strict_program, survey_program};
 use snap_tasks::{Subject, Task};
 use snap_trace_output::trace_program;
 use std::alloc::Global;
@@ -200,6 +200,41 @@ fn survey(alloc: Global, subject: Subject, input: &[u8]) -> Result<Vec<u8>, Faul
     let program = program_for(alloc, subject, parts.as_slice())?;
     let texts = texts_for(subject, parts.as_slice());
     survey_program(alloc, &program, texts)
+}
+
+/// What the runs of a listing under many schedules came to, and whether any of them is flawed.
+#[tactic(auto, unfolding(crate::specs::Output::strictly_surveyed))]
+fn strictly_survey(
+    alloc: Global,
+    subject: Subject,
+    input: &[u8],
+) -> Result<StrictSurvey, Fault<Refusal>>
+    requires { length input.now ≤ 16777216 }
+    ensures { Answers (λ found. (found.text.items, found.flawed)) result
+        (strictly_surveyed subject (parts_of input.now)) }
+{
+    check_schedules(subject, input)?;
+    let parts = split_parts(alloc, input)?;
+    let program = program_for(alloc, subject, parts.as_slice())?;
+    let texts = texts_for(subject, parts.as_slice());
+    strict_program(alloc, &program, texts)
+}
+
+/// What a strict survey writes for an input, and whether any run has a scan without a point or a
+/// trap; or why there is none.
+#[tactic(auto, unfolding(crate::specs::Output::strict_of))]
+pub fn strict_survey(
+    alloc: Global,
+    subject: Subject,
+    input: &[u8],
+) -> Result<StrictSurvey, Fault<Refusal>>
+    ensures { Answers (λ found. (found.text.items, found.flawed)) result
+        (strict_of subject input.now) }
+{
+    if input.len() > MAX_INPUT {
+        return Err(Fault::Refused(Refusal::InputTooLong));
+    }
+    strictly_survey(alloc, subject, input)
 }
 
 /// What is found of an input in one thread.

@@ -8,7 +8,7 @@ use Rattle.snap_semantics.specs.declared.refusal.Refusal.TheVariants as refusal
 use Rattle.snap_refusals.specs.RefusalText.{refusal_line}
 use Rattle.snap_tasks.specs.Request.{kind_of, request_of}
 use Rattle.snap_tasks.specs.declared.request.Request.{Request}
-use Rattle.snap_tasks.specs.declared.request.Request.TheVariants.{Do, Live}
+use Rattle.snap_tasks.specs.declared.request.Request.TheVariants.{Do, Live, Strict}
 use Rattle.snap_subject.specs.declared.subject.Subject.{Subject}
 use Rattle.snap_subject.specs.declared.subject.Subject.TheVariants.{FirstPart, Shipped}
 use Rattle.snap_tasks.specs.declared.task.Task.{Task}
@@ -22,6 +22,7 @@ subject_of (b ∷ bytes) = option_map Shipped (kind_of (b ∷ bytes))
 abbrev pub task_in : Option Request → Option Task
 task_in (Some (Do t)) = Some t
 task_in (Some (Live s limit)) = None
+task_in (Some (Strict s)) = None
 task_in None = None
 
 -- the task of a subcommand

@@ -37,7 +37,7 @@ fn task_for(subcommand: &[u8], subject: Subject) -> Option<Task>
     let name = text_of(subcommand)?;
     match request_of(name, subject, 1)? {
         Request::Do(task) => Some(task),
-        Request::Live(_, _) => None,
+        Request::Live(_, _) | Request::Strict(_) => None,
     }
 }
 

@@ -2,7 +2,7 @@
 use Rattle.std.specs.Prelude.{◌≡◌, ℕ, ◌<◌, ◌≤◌, Vec, Bool, true, List, [], false, take, Option, Result, Ok, Err, length, ⊤, ◌⊎◌}
 use Rattle.std.specs.Global.{Global}
 use Rattle.std.specs.Io.KnownBytes.{Consumes, Appends, IsAtEnd}
-use Rattle.snap_output.specs.Output.{output_of}
+use Rattle.snap_output.specs.Output.{output_of, strict_of}
 use Rattle.snap_semantics.specs.declared.refusal.Refusal.{Refusal}
 use Rattle.snap_tasks.specs.declared.task.Task.{Task}
 use Rattle.snap_semantics.specs.declared.fault.Fault.{Fault}
@@ -91,3 +91,19 @@ RefusesLive may subject limit input _ = ⊥
 abbrev pub ConductsLive : (may : ℕ → ℕ → Bool → Type 0) (subject : Subject) (limit : ℕ) (answer : Result (Unit {0}) ConductFault) (left left_after taken taken_after : Option (List ℕ)) (reader_failed writer_failed writer_stalled : Bool) → Type 0
 ConductsLive may subject limit answer left left_after taken taken_after r w s =
     ConductsBy (MayWrite may subject limit) (RefusesLive may subject limit) answer left left_after taken taken_after r w s
+
+-- the output of a strict survey, with whether any of the runs is flawed
+abbrev pub IsStrictOutputOf : (flawed : Bool) → Subject → (input text : List ℕ) → Type 0
+IsStrictOutputOf flawed subject input text = strict_of subject input ≡ Ok (text, flawed)
+
+-- why there is none
+abbrev pub RefusesStrict : Subject → (input : List ℕ) → ConductFault → Type 0
+RefusesStrict subject input (fault.Refused f) = strict_of subject input ≡ Err f
+RefusesStrict subject input _ = ⊥
+
+-- A whole run of a strict survey: where all is written, it answers whether any of the runs is flawed.
+abbrev pub ConductsStrict : (answer : Result Bool ConductFault) (subject : Subject) (left left_after taken taken_after : Option (List ℕ)) (reader_failed writer_failed writer_stalled : Bool) → Type 0
+ConductsStrict (Ok flawed) subject left left_after taken taken_after r w s =
+    ConductsBy (IsStrictOutputOf flawed subject) (RefusesStrict subject) (Ok tt) left left_after taken taken_after r w s
+ConductsStrict (Err e) subject left left_after taken taken_after r w s =
+    (flawed : Bool) × ConductsBy (IsStrictOutputOf flawed subject) (RefusesStrict subject) (Err e) left left_after taken taken_after r w s

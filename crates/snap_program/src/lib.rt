@@ -17,7 +17,7 @@ pub use snap_live::{Gate, NoGate};
 pub use snap_output::perform;
 pub use snap_tasks::{Request, Subject, Task, kind_of, request_of};
 pub use standard::Std;
-pub use whole_run::{conduct, conduct_live, write_all};
+pub use whole_run::{conduct, conduct_live, conduct_strict, write_all};
 
 /// The device failed.
 #[derive(Clone, Copy, Debug)]

@@ -2,7 +2,7 @@
 ghost use Rattle.std.specs.Prelude.{◌≡◌, ◌≤◌, ◌<◌, ◌++◌, ◌⊎◌, ℕ, List, [], true, false, length, take, IfOk, IfErr, OnOk, OnErr, MatchResult};
 ghost use Rattle.std.specs.Io.KnownBytes.{Consumes, Appends, IsAtEnd};
 ghost use Rattle.snap_output.specs.Output.{output_of};
-ghost use Rattle.snap_program.specs.WholeRun.{Reads, Sends, Conducts, ConductsLive};
+ghost use Rattle.snap_program.specs.WholeRun.{Reads, Sends, Conducts, ConductsLive, ConductsStrict};
 
 use crate::byte_sink::ByteSink;
 use crate::byte_source::ByteSource;
@@ -10,7 +10,7 @@ use crate::fault::ConductFault;
 use snap_input::MAX_INPUT;
 use snap_live::Gate;
 use snap_live_output::live_output;
-use snap_output::output;
+use snap_output::{output, strict_survey};
 use snap_tasks::{Subject, Task};
 use std::alloc::Global;
 use std::sync::Wait;
@@ -96,4 +96,25 @@ pub fn conduct_live<G: Gate, R: ByteSource, W: ByteSink>(
     let input = read_all(alloc, source)?;
     let text = live_output(rt, alloc, subject, limit, gate, input.as_slice())?;
     write_all(sink, text.as_slice())
+}
+
+/// Reads the input, and then writes the text of its strict survey and nothing else. Where all is
+/// written, it answers whether a run has a scan without a point or a trap.
+pub fn conduct_strict<R: ByteSource, W: ByteSink>(
+    alloc: Global,
+    subject: Subject,
+    source: &mut R,
+    sink: &mut W,
+) -> Result<bool, ConductFault>
+    requires source { R.has_failed source.old ≡ false }
+    requires sink { W.has_failed sink.old ≡ false }
+    requires goes_on { W.is_stalled sink.old ≡ false }
+    ensures { ConductsStrict result subject (R.left source.old) (R.left source.new)
+        (W.taken sink.old) (W.taken sink.new)
+        (R.has_failed source.new) (W.has_failed sink.new) (W.is_stalled sink.new) }
+{
+    let input = read_all(alloc, source)?;
+    let found = strict_survey(alloc, subject, input.as_slice())?;
+    write_all(sink, found.text.as_slice())?;
+    Ok(found.flawed)
 }

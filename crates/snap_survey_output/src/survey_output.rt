@@ -13,7 +13,7 @@ use snap_words::{Bits, Kind, KindTag, Multi, Seq};
 use std::alloc::{AllocError, Global};
 
 /// What the run over each of these schedules came to, in the order of the schedules.
-fn surveys<K: Kind>(
+pub(crate) fn surveys<K: Kind>(
     alloc: Global,
     program: &Program,
     schedules: &[Schedule],
@@ -40,7 +40,7 @@ fn push_survey_lines(out: &mut Vec<u8>, surveys: &[Survey]) -> Result<(), AllocE
 }
 
 /// A line for each survey, and one for all of them.
-fn surveys_text(alloc: Global, surveys: &[Survey]) -> Result<Vec<u8>, AllocError>
+pub(crate) fn surveys_text(alloc: Global, surveys: &[Survey]) -> Result<Vec<u8>, AllocError>
     ensures { IfOk result (λ out. out.items ≡ surveys_text surveys.now) }
 {
     let mut out = Vec::new(alloc);

@@ -5,7 +5,7 @@ use Rattle.snap_words.specs.declared.kind.KindTag.TheVariants as kind
 use Rattle.snap_subject.specs.declared.subject.Subject.{Subject}
 use Rattle.snap_tasks.specs.declared.task.Task.TheVariants as task
 use Rattle.snap_tasks.specs.declared.request.Request.{Request}
-use Rattle.snap_tasks.specs.declared.request.Request.TheVariants.{Do, Live}
+use Rattle.snap_tasks.specs.declared.request.Request.TheVariants.{Do, Live, Strict}
 
 -- the kind of this name
 abbrev pub kind_of : List ℕ → Option KindTag
@@ -38,4 +38,5 @@ IsLimit limit = (1 ≤ limit) × (limit ≤ 1000000)
 -- what is asked for has such a limit, where it has one
 abbrev pub HasLimit : Request → Type 0
 HasLimit (Do t) = ⊤
+HasLimit (Strict s) = ⊤
 HasLimit (Live s limit) = IsLimit limit

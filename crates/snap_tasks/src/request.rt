@@ -10,6 +10,8 @@ use snap_words::KindTag;
 #[derive(Clone, Copy, Debug, PartialEq, Eq)]
 pub enum Request {
     Do(Task),
+    /// A survey that looks for scans without a point and for traps.
+    Strict(Subject),
     /// A live run, in which each process makes at most so many turns.
     Live(Subject, u64),
 }

@@ -3,11 +3,11 @@ ghost use Rattle.std.specs.Prelude.{◌≡◌, ◌++◌, false, codes, IfOk};
 ghost use Rattle.snap_command_line.specs.Limits.{HasLimits};
 ghost use Rattle.snap_program.specs.FaultText.{fault_text};
 ghost use Rattle.snap_tasks.specs.Request.{HasLimit};
-ghost use Rattle.snaplab.specs.Answer.{AnswersLine, CarriesOut, Says, SaysFault, exit_status};
+ghost use Rattle.snaplab.specs.Answer.{AnswersLine, CarriesOut, Says, SaysFault, exit_status, strict_status, without_finding};
 
 use snap_command_line::CommandLine;
 use snap_program::{
-    ByteSink, ByteSource, ConductFault, NoGate, conduct, conduct_live, fault_line, fault_status,
+    ByteSink, ByteSource, ConductFault, NoGate, conduct, conduct_live, conduct_strict, fault_line, fault_status,
     write_all,
 };
 use snap_tasks::Request;
@@ -55,26 +55,59 @@ fn finish<E: ByteSink>(alloc: Global, done: &Result<(), ConductFault>, errors: &
     }
 }
 
-/// Does what is asked for: reads a source, and writes what comes of it to a sink.
-fn carry_out<R: ByteSource, W: ByteSink>(
+/// The status of a strict survey, whose fault it tells.
+fn finish_strict<E: ByteSink>(
+    alloc: Global,
+    done: &Result<bool, ConductFault>,
+    errors: &mut E,
+) -> u8
+    requires { E.has_failed errors.old ≡ false }
+    ensures status { result ≡ strict_status done.now }
+    ensures says { SaysFault (without_finding done.now) (E.taken errors.old)
+        (E.taken errors.new) }
+{
+    match done {
+        Ok(true) => 4,
+        Ok(false) => 0,
+        Err(fault) => {
+            complain(alloc, fault, errors);
+            fault_status(fault)
+        }
+    }
+}
+
+/// Does what is asked for: reads a source, writes what comes of it to a sink, and answers
+/// the status of it.
+fn carry_out<R: ByteSource, W: ByteSink, E: ByteSink>(
     rt: &(impl Threads + Wait + Sync),
     alloc: Global,
     asked: &Request,
     source: &mut R,
     sink: &mut W,
-) -> Result<(), ConductFault>
+    errors: &mut E,
+) -> u8
     requires limit { HasLimit asked.now }
     requires source { R.has_failed source.old ≡ false }
     requires sink { W.has_failed sink.old ≡ false }
     requires goes_on { W.is_stalled sink.old ≡ false }
+    requires errors { E.has_failed errors.old ≡ false }
     ensures { CarriesOut asked.now result (R.left source.old) (R.left source.new) (W.taken sink.old)
-        (W.taken sink.new) (R.has_failed source.new) (W.has_failed sink.new)
+        (W.taken sink.new)
+        (E.taken errors.old) (E.taken errors.new) (R.has_failed source.new) (W.has_failed sink.new)
         (W.is_stalled sink.new) }
 {
     match *asked {
-        Request::Do(task) => conduct(rt, alloc, &task, source, sink),
+        Request::Do(task) => {
+            let done = conduct(rt, alloc, &task, source, sink);
+            finish(alloc, &done, errors)
+        }
+        Request::Strict(subject) => {
+            let done = conduct_strict(alloc, subject, source, sink);
+            finish_strict(alloc, &done, errors)
+        }
         Request::Live(subject, limit) => {
-            conduct_live(rt, alloc, subject, limit, &NoGate, source, sink)
+            let done = conduct_live(rt, alloc, subject, limit, &NoGate, source, sink);
+            finish(alloc, &done, errors)
         }
     }
 }
@@ -100,10 +133,7 @@ pub fn answer<R: ByteSource, W: ByteSink, E: ByteSink>(
         (W.is_stalled sink.new) }
 {
     match line {
-        Ok(CommandLine::Asks(asked)) => {
-            let done = carry_out(rt, alloc, asked, source, sink);
-            finish(alloc, &done, errors)
-        }
+        Ok(CommandLine::Asks(asked)) => carry_out(rt, alloc, asked, source, sink, errors),
         Ok(CommandLine::Help(text)) => {
             let done = write_all(sink, text.as_bytes());
             finish(alloc, &done, errors)

@@ -1,24 +1,29 @@
 //! A machine over a whole schedule.
-ghost use Rattle.std.specs.Prelude.{◌≡◌, ◌<◌, ◌+◌, ◌++◌, ◌^◌, IfOk, OnOk, option_to_list};
+ghost use Rattle.std.specs.Prelude.{◌≡◌, ◌<◌, ◌+◌, [], ◌∷◌, ◌++◌, ◌^◌, true, IfOk, OnOk, length, option_to_list, replicate};
+ghost use Rattle.std.specs.List.{AllByRecursion};
 ghost use Rattle.snap_words.specs.Shape.{IsOneOf};
 ghost use Rattle.snap_semantics.specs.Run.{event_of};
 ghost use Rattle.snap_semantics.specs.Schedule.{Schedule};
 ghost use Rattle.snap_semantics.specs.Source.{Source};
-ghost use Rattle.snap_semantics.specs.Table.{done, who};
+ghost use Rattle.snap_semantics.specs.Table.{who};
+ghost use Rattle.snap_semantics.specs.declared.process.Item.TheVariants.{Step};
+ghost use Rattle.snap_sched.specs.Segments.{segment_items};
+ghost use Rattle.snap_runner.specs.Courses.{DoesNothing, Takes};
 ghost use Rattle.snap_runner.specs.End.{IsEnd, end_report};
 
+use crate::own_code::OwnCode;
 use snap_asm_program::Program;
 use snap_machine::Machine;
 use snap_report::report;
-use snap_sched::Schedule;
-use snap_semantics::{Event, Happening, Item, Outcome, who};
+use snap_sched::{Schedule, Segment};
+use snap_semantics::{Event, Happening, Item, Outcome, Status, who};
 use snap_words::Kind;
 use std::alloc::{AllocError, Global};
 
 /// A machine, and what callers saw of the items that it has done.
 #[derive(Drop)]
 pub struct Course<K: Kind> {
-    pub machine: Machine<K>,
+    pub machine: Machine<OwnCode<K>>,
     pub events: Vec<Event>,
     /// How many items it has done.
     pub done: u64,
@@ -42,21 +47,42 @@ fn event_of(number: u64, item: Item, outcome: Outcome) -> Option<Event>
     })
 }
 
+/// An item, and how often a segment has it.
+fn repeated(segment: Segment) -> (Item, u64)
+    ensures { replicate result.1 result.0 ≡ segment_items segment }
+{
+    match segment {
+        Segment::Steps { process, count } => (Item::Step(process), count),
+        Segment::Call { process, op } => (Item::Call(process, op), 1),
+        Segment::Crash { process } => (Item::Crash(process), 1),
+    }
+}
+
+/// Whether an item is a step of a process that is not busy: it does nothing, however often it
+/// comes.
+fn is_idle_step<K: Kind>(machine: &Machine<K>, item: Item) -> bool
+    requires { IsOneOf machine.now.shape.n (who item) }
+    ensures { result ≡ true →
+        DoesNothing machine.now.source machine.now.shape machine.now.state item }
+{
+    let Item::Step(process) = item else {
+        return false;
+    };
+    match machine.status(process) {
+        Status::Busy(_) => false,
+        Status::Idle => true,
+        Status::Trapped(_, _) => true,
+        Status::Crashed(_) => true,
+    }
+}
+
 impl<K: Kind> Course<K> {
     /// Does one item more.
     #[inline(always)]
     fn take(&mut self, item: Item) -> Result<(), AllocError>
         requires process { IsOneOf self.old.machine.shape.n (who item) }
         requires few { self.old.done < 2 ^ 63 }
-        ensures state { OnOk result (self.new.machine.state
-            ≡ (done self.old.machine.source self.old.machine.shape self.old.machine.state item).0) }
-        ensures events { OnOk result (self.new.events.items ≡ self.old.events.items
-            ++ event_of (self.old.done + 1) item
-            (done self.old.machine.source self.old.machine.shape self.old.machine.state
-            item).1) }
-        ensures source { self.new.machine.source ≡ self.old.machine.source }
-        ensures shape { self.new.machine.shape ≡ self.old.machine.shape }
-        ensures number { OnOk result (self.new.done ≡ self.old.done + 1) }
+        ensures { OnOk result (Takes self.old (item ∷ []) self.new) }
     {
         let outcome = self.machine.apply(item)?;
         self.done += 1;
@@ -75,6 +101,24 @@ impl<K: Kind> Course<K> {
     {
         if let Some(event) = event_of(self.done, item, outcome) {
             self.events.push(event)?;
+        }
+        Ok(())
+    }
+
+    /// Does an item more, so many times.
+    #[inline(always)]
+    fn take_times(&mut self, item: Item, count: u64) -> Result<(), AllocError>
+        requires process { 0 < count → IsOneOf self.old.machine.shape.n (who item) }
+        requires few { self.old.done + count < 2 ^ 63 }
+        ensures { OnOk result (Takes self.old (replicate count item) self.new) }
+    {
+        let end = self.done + count;
+        while self.done < end {
+            if is_idle_step(&self.machine, item) {
+                self.done = end;
+            } else {
+                self.take(item)?;
+            }
         }
         Ok(())
     }
@@ -110,9 +154,10 @@ pub fn run_to_end<K: Kind>(
         events: Vec::new(alloc),
         done: 0,
     };
-    let mut left = schedule.items().iter();
-    while let Some(item) = left.next() {
-        course.take(item)?;
+    let mut left = schedule.items().segments();
+    while let Some(segment) = left.next() {
+        let (item, count) = repeated(segment);
+        course.take_times(item, count)?;
     }
     Ok(course)
 }

@@ -2,5 +2,7 @@
 #![tactic(auto)]
 
 mod course;
+mod own_code;
 
 pub use course::{Course, run_to_end};
+pub use own_code::OwnCode;

@@ -1,8 +1,10 @@
+use Rattle.std.specs.List.{flat_map}
+use Rattle.snap_sched.specs.Segments.{segment_items}
 use Rattle.snap_runner.proofs.Courses.{Going}
 use Rattle.snap_runner.proofs.course.run_to_end.Given as goal
 
--- the first items are done, and the others are left
-abbrev pub invariant-loop-item : goal.invariant-loop-item
-invariant-loop-item g l =
-    Going l.program l.schedule.shape l.schedule.items l.course l.left
-    × (goal.iterator-loop-item g).can_next l.left × (goal.iterator-loop-item g).is_finite l.left
+-- the first items are done, and those of the segments that are left are left
+abbrev pub invariant-loop-segment : goal.invariant-loop-segment
+invariant-loop-segment g l =
+    Going l.program l.schedule.shape l.schedule.items l.course (flat_map segment_items l.left)
+    × (goal.iterator-loop-segment g).can_next l.left × (goal.iterator-loop-segment g).is_finite l.left

@@ -26,6 +26,27 @@ pub struct ReversibleMachine<K: Kind> {
     pub done: Vec<DoneItem<K>>,
 }
 
+/// Over how many items at most a machine that comes to a position from a checkpoint can go back.
+const WAY_BACK: u64 = 256;
+
+/// Takes a machine on to a position. What its items overwrite is not kept.
+fn advance_to<K: Kind>(
+    recording: &Recording<K>,
+    current: &mut Checkpoint<K>,
+    position: u64,
+) -> Result<(), AllocError>
+    requires stands { IsCheckpoint recording.now.run current.old }
+    requires before { current.old.position ≤ position }
+    requires reached { position ≤ recording.now.reached }
+    ensures stands { OnOk result (IsCheckpoint recording.now.run current.new) }
+    ensures position { OnOk result (current.new.position ≡ position) }
+{
+    while current.position < position {
+        recording.advance(current)?;
+    }
+    Ok(())
+}
+
 /// An equal outcome.
 fn copy_outcome(alloc: Global, outcome: &Outcome) -> Result<Outcome, AllocError>
     ensures { IfOk result (λ o. o ≡ outcome.now) }
@@ -125,7 +146,8 @@ impl<K: Kind> ReversibleMachine<K> {
         Ok(())
     }
 
-    /// From the last checkpoint before a position to that position.
+    /// From the last checkpoint before a position to that position, with a way back over the last
+    /// items alone.
     pub fn to(
         alloc: Global,
         recording: &Recording<K>,
@@ -137,7 +159,10 @@ impl<K: Kind> ReversibleMachine<K> {
         ensures last { IfOk result (λ p. 0 < position → start p < position) }
     {
         let checkpoint = recording.checkpoint(position.saturating_sub(1));
-        let mut reversible = ReversibleMachine::new(alloc, checkpoint.copy()?);
+        let from = checkpoint.position.max(position.saturating_sub(WAY_BACK));
+        let mut current = checkpoint.copy()?;
+        advance_to(recording, &mut current, from)?;
+        let mut reversible = ReversibleMachine::new(alloc, current);
         reversible.go_on(recording, position)?;
         Ok(reversible)
     }

@@ -1,4 +1,4 @@
-use Rattle.std.proofs.Common.{◌≡◌, ◌≤◌, ◌-◌}
+use Rattle.std.proofs.Common.{◌≤◌, ◌-◌}
 use Rattle.snap_debug_checkpoints.specs.Recording.{IsCheckpoint}
 use Rattle.snap_debug_checkpoints.proofs.reversible_machine.advance_to.Given as goal
 

@@ -1,4 +1,4 @@
-use Rattle.std.proofs.Common.{◌≡◌, sym, ◌∙◌}
+use Rattle.std.proofs.Common.{sym, ◌∙◌}
 use Rattle.snap_runner.proofs.Courses.{idle_does_nothing, trapped_does_nothing, crashed_does_nothing}
 use Rattle.snap_runner.proofs.course.is_idle_step.Goals as goal
 

@@ -1,4 +1,4 @@
-use Rattle.std.proofs.Common.{◌≡◌, ◌-◌, ◌≤◌, replicate}
+use Rattle.std.proofs.Common.{◌-◌, ◌≤◌, replicate}
 use Rattle.snap_runner.specs.Courses.{Takes}
 use Rattle.snap_runner.proofs.course.Course.take_times.Given as goal
 

@@ -1,3 +1,4 @@
 pub mod Shipping
 pub mod Schedules
 pub mod AtOnce
+pub mod Batches

@@ -2,36 +2,16 @@
 ghost use Rattle.std.specs.Prelude.{◌≡◌, ◌++◌, ◌<◌, ◌^◌, IfOk, OnOk, length, map};
 ghost use Rattle.snap_semantics.specs.Answers.{Answers};
 ghost use Rattle.snap_batch.specs.Reports.{numbered_report, reports_text};
-ghost use Rattle.snap_survey_output.specs.Surveys.{schedules_for};
 ghost use Rattle.snap_output.specs.Output.{batch_text};
 ghost use Rattle.snap_output.specs.Prepared.{batch_reports};
 
 use snap_asm_program::Program;
 use snap_batch::{batch, batch_alone};
 use snap_report::Report;
-use snap_sched::Schedule;
 use snap_semantics::{Fault, Refusal};
-use snap_survey_output::schedules_for;
 use snap_text::{push_number, push_text};
-use snap_words::{Bits, KindTag, Multi, Seq};
 use std::alloc::{AllocError, Global};
 use std::thread::Threads;
-
-/// Reads schedules whose shapes fit a program.
-fn schedules_of(
-    alloc: Global,
-    program: &Program,
-    texts: &[&[u8]],
-) -> Result<Vec<Schedule>, Fault<Refusal>>
-    ensures { Answers (λ ss. ss.items) result
-        (schedules_for program.now (map (λ text. text.now) texts.now)) }
-{
-    match program.kind() {
-        KindTag::Seq => schedules_for::<Seq>(alloc, program, texts),
-        KindTag::Bits => schedules_for::<Bits>(alloc, program, texts),
-        KindTag::Multi => schedules_for::<Multi>(alloc, program, texts),
-    }
-}
 
 /// Adds a report behind the line of its number.
 #[tactic(auto, using(snap_text::proofs::Texts::joined))]
@@ -65,38 +45,41 @@ fn reports_text(alloc: Global, reports: &[Report]) -> Result<Vec<u8>, AllocError
     Ok(out)
 }
 
-/// A batch that has yet to run: a program and its schedules.
+/// A batch that has yet to be read and run: a program, and the texts of its schedules.
 #[derive(Drop)]
-pub struct Batch {
+pub struct Batch<'a> {
     program: Program,
-    schedules: Vec<Schedule>,
+    texts: Vec<&'a [u8]>,
 }
 
-impl Batch {
+impl<'a> Batch<'a> {
     /// The batch of a program and the schedules that texts are.
-    #[tactic(auto, unfolding(crate::specs::Output::batch_text))]
-    pub fn of(alloc: Global, program: Program, texts: &[&[u8]]) -> Result<Batch, Fault<Refusal>>
-        ensures { Answers batch_reports result
-            (batch_text program (map (λ text. text.now) texts.now)) }
+    pub fn of(alloc: Global, program: Program, texts: &[&'a [u8]]) -> Result<Batch<'a>, AllocError>
+        ensures { IfOk result (λ batch. batch_reports batch
+            ≡ batch_text program (map (λ text. text.now) texts.now)) }
     {
-        let schedules = schedules_of(alloc, &program, texts)?;
-        Ok(Batch { program, schedules })
+        let texts = Vec::from_slice(alloc, texts)?;
+        Ok(Batch { program, texts })
     }
 
     /// The report of the end of each schedule, each behind the line of its number. The schedules
-    /// run side by side.
-    pub fn reports(&self, rt: &(impl Threads + Sync), alloc: Global) -> Result<Vec<u8>, AllocError>
-        ensures { IfOk result (λ out. out.items ≡ batch_reports self.now) }
+    /// are read and run side by side.
+    pub fn reports(
+        &self,
+        rt: &(impl Threads + Sync),
+        alloc: Global,
+    ) -> Result<Vec<u8>, Fault<Refusal>>
+        ensures { Answers (λ out. out.items) result (batch_reports self.now) }
     {
-        let reports = batch(rt, alloc, &self.program, self.schedules.as_slice())?;
-        reports_text(alloc, reports.as_slice())
+        let reports = batch(rt, alloc, &self.program, self.texts.as_slice())?;
+        Ok(reports_text(alloc, reports.as_slice())?)
     }
 
     /// The same in one thread.
-    pub fn reports_alone(&self, alloc: Global) -> Result<Vec<u8>, AllocError>
-        ensures { IfOk result (λ out. out.items ≡ batch_reports self.now) }
+    pub fn reports_alone(&self, alloc: Global) -> Result<Vec<u8>, Fault<Refusal>>
+        ensures { Answers (λ out. out.items) result (batch_reports self.now) }
     {
-        let reports = batch_alone(alloc, &self.program, self.schedules.as_slice())?;
-        reports_text(alloc, reports.as_slice())
+        let reports = batch_alone(alloc, &self.program, self.texts.as_slice())?;
+        Ok(reports_text(alloc, reports.as_slice())?)
     }
 }

@@ -9,7 +9,7 @@ ghost use Rattle.snap_output.specs.AtOnce.{found_at_once};
 ghost use Rattle.snap_certify_output.specs.Output.{certificates_text};
 ghost use Rattle.snap_output.specs.Output.{batched, checked_schedules, debug_text, surveyed};
 ghost use Rattle.snap_output.specs.Output.{of_task, output_of, run_text, verdicts_text};
-ghost use Rattle.snap_output.specs.Prepared.{batch_reports, prepared_text};
+ghost use Rattle.snap_output.specs.Prepared.{Prepares, batch_reports, prepared_text};
 
 use crate::audit_output::audit_program;
 use crate::batch_output::Batch;
@@ -148,9 +148,9 @@ fn certify(alloc: Global, subject: Subject, input: &[u8]) -> Result<Vec<u8>, Fau
 
 /// A listing and many schedules. Another number of parts is found before they are collected.
 #[tactic(auto, unfolding(crate::specs::Output::batched))]
-fn batch(alloc: Global, subject: Subject, input: &[u8]) -> Result<Batch, Fault<Refusal>>
+fn batch(alloc: Global, subject: Subject, input: &[u8]) -> Result<Batch<'_>, Fault<Refusal>>
     requires { length input.now ≤ 16777216 }
-    ensures output { Answers batch_reports result (batched subject (parts_of input.now)) }
+    ensures output { Prepares batch_reports result (batched subject (parts_of input.now)) }
     ensures counted { (r : Refusal) → checked_schedules subject (parts_of input.now) ≡ Err r →
         result ≡ Err (Refused r) }
 {
@@ -158,7 +158,7 @@ fn batch(alloc: Global, subject: Subject, input: &[u8]) -> Result<Batch, Fault<R
     let parts = split_parts(alloc, input)?;
     let program = program_for(alloc, subject, parts.as_slice())?;
     let texts = texts_for(subject, parts.as_slice());
-    Batch::of(alloc, program, texts)
+    Ok(Batch::of(alloc, program, texts)?)
 }
 
 /// What the runs of a listing under many schedules came to.
@@ -178,17 +178,21 @@ fn survey(alloc: Global, subject: Subject, input: &[u8]) -> Result<Vec<u8>, Faul
 
 /// What is found of an input in one thread.
 #[derive(Drop)]
-enum Prepared {
+enum Prepared<'a> {
     /// The whole output.
     Text(Vec<u8>),
-    /// A batch whose reports are the output.
-    Batch(Batch),
+    /// A batch whose reports are the output, or whose first refusal is.
+    Batch(Batch<'a>),
 }
 
 /// What is found of an input in one thread, or why there is no output.
 #[tactic(auto, using(crate::proofs::AtOnce::of_text, crate::proofs::AtOnce::of_why), unfolding(crate::specs::Output::output_of))]
-fn prepare(alloc: Global, task: &Task, input: &[u8]) -> Result<Prepared, Fault<Refusal>>
-    ensures output { Answers prepared_text result (output_of task.now input.now) }
+fn prepare<'a>(
+    alloc: Global,
+    task: &Task,
+    input: &'a [u8],
+) -> Result<Prepared<'a>, Fault<Refusal>>
+    ensures output { Prepares prepared_text result (output_of task.now input.now) }
     ensures at_once { (r : Refusal) → found_at_once task.now input.now ≡ Some r →
         result ≡ Err (Refused r) }
 {
@@ -210,7 +214,8 @@ fn prepare(alloc: Global, task: &Task, input: &[u8]) -> Result<Prepared, Fault<R
     }
 }
 
-/// The whole output for an input, or why there is none. The schedules of a batch run side by side.
+/// The whole output for an input, or why there is none. The schedules of a batch are read and
+/// run side by side.
 pub fn output(
     rt: &(impl Threads + Sync),
     alloc: Global,
@@ -223,7 +228,7 @@ pub fn output(
 {
     match prepare(alloc, task, input)? {
         Prepared::Text(text) => Ok(text),
-        Prepared::Batch(batch) => Ok(batch.reports(rt, alloc)?),
+        Prepared::Batch(batch) => batch.reports(rt, alloc),
     }
 }
 
@@ -235,6 +240,6 @@ pub fn output_alone(alloc: Global, task: &Task, input: &[u8]) -> Result<Vec<u8>,
 {
     match prepare(alloc, task, input)? {
         Prepared::Text(text) => Ok(text),
-        Prepared::Batch(batch) => Ok(batch.reports_alone(alloc)?),
+        Prepared::Batch(batch) => batch.reports_alone(alloc),
     }
 }

@@ -3,27 +3,15 @@ use crate::inputs::{SCAN, UPDATE, single};
 use crate::trials::{tell, tried};
 use crate::trouble::Trouble;
 use snap_batch::batch;
-use snap_sched::{Schedule, read};
-use std::alloc::Global;
 use std::thread::Threads;
 
 /// A scan, an update, and a scan again.
-fn schedules(alloc: Global) -> Result<Vec<Schedule>, Trouble> {
-    let mut schedules = Vec::with_capacity(alloc, 3)?;
-    for text in [SCAN, UPDATE, SCAN] {
-        schedules.push(read(alloc, text)?)?;
-    }
-    Ok(schedules)
-}
+const SCHEDULES: &[&[u8]] = &[SCAN, UPDATE, SCAN];
 
-/// Three schedules are run side by side.
+/// Three schedules are read and run side by side.
 pub fn play(rt: &HostRuntime, threads: &(impl Threads + Sync)) -> Result<(), Trouble> {
     let program = single(rt.alloc())?;
-    let schedules = schedules(rt.alloc())?;
-    let reports = tried!(
-        rt,
-        batch(threads, rt.alloc(), &program, schedules.as_slice())
-    );
+    let reports = tried!(rt, batch(threads, rt.alloc(), &program, SCHEDULES));
     for report in &reports {
         tell(rt, report.as_slice())?;
     }

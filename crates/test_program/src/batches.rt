@@ -4,7 +4,6 @@ use crate::runs::LISTING;
 use snap_batch::batch;
 use snap_program::{ConductFault, Subject, Task, shipped};
 use snap_record::Report;
-use snap_sched::{Schedule, ScheduleFault, read};
 use snap_semantics::{Refusal, ScheduleRefusal};
 use snap_words::{KindTag, WordFault};
 use std::alloc::{AllocError, Global};
@@ -27,17 +26,16 @@ const UPDATED: &[u8; 183] =
     b"report at 14 of 14\nvalues 7\nr 1 = 7 seq 1 view 0\nprocess 1 idle\n  j = 1\n  c = 1\n  moved = 0\n  a 1 = 0 seq 0 view 0\n  b 1 = 0 seq 0 view 0\n  s = 0\nevent 1 1 update 1 7\nevent 14 1 done\n";
 
 /// So many schedules, scans and updates by turns.
-fn by_turns(alloc: Global, count: usize) -> Result<Vec<Schedule>, ScheduleFault> {
-    let mut schedules = Vec::new(alloc);
+fn by_turns(alloc: Global, count: usize) -> Result<Vec<&'static [u8]>, AllocError> {
+    let mut texts = Vec::new(alloc);
     for place in 0..count {
-        let text = if place % 2 == 0 {
+        texts.push(if place % 2 == 0 {
             SCAN.as_slice()
         } else {
             UPDATE
-        };
-        schedules.push(read(alloc, text)?)?;
+        })?;
     }
-    Ok(schedules)
+    Ok(texts)
 }
 
 /// Whether the reports are those of scans and updates by turns.
@@ -68,8 +66,8 @@ fn repeated(alloc: Global, text: &[u8], times: usize) -> Result<Vec<u8>, AllocEr
 fn each_report_is_its_schedules(rt: HostRuntime) -> Result<(), Fail> {
     let program = shipped(rt.alloc(), KindTag::Seq)?;
     for count in [0, 1, 2100] {
-        let schedules = by_turns(rt.alloc(), count)?;
-        let reports = batch(&rt, rt.alloc(), &program, schedules.as_slice())?;
+        let texts = by_turns(rt.alloc(), count)?;
+        let reports = batch(&rt, rt.alloc(), &program, texts.as_slice())?;
         assert_eq!(rt; reports.len(), count);
         assert!(rt; are_by_turns(reports.as_slice()), "{count}");
     }

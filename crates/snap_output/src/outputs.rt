@@ -187,11 +187,7 @@ enum Prepared<'a> {
 
 /// What is found of an input in one thread, or why there is no output.
 #[tactic(auto, using(crate::proofs::AtOnce::of_text, crate::proofs::AtOnce::of_why), unfolding(crate::specs::Output::output_of))]
-fn prepare<'a>(
-    alloc: Global,
-    task: &Task,
-    input: &'a [u8],
-) -> Result<Prepared<'a>, Fault<Refusal>>
+fn prepare<'a>(alloc: Global, task: &Task, input: &'a [u8]) -> Result<Prepared<'a>, Fault<Refusal>>
     ensures output { Prepares prepared_text result (output_of task.now input.now) }
     ensures at_once { (r : Refusal) → found_at_once task.now input.now ≡ Some r →
         result ≡ Err (Refused r) }

@@ -1,8 +1,7 @@
-// The time line: a lane for each process, with its operations as bars, the verdicts of its scans, and the position. The
-// bars are drawn with the next frame, so that the state behind a step is shown first.
+// The time line: a lane for each process, with its operations as bars, the verdicts of its scans, and the position.
 
 const LABEL = 30, RIGHT = 8, dark = matchMedia('(prefers-color-scheme: dark)');
-const line = {from: 0, to: 1, whole: true, key: '', frame: 0};
+const line = {from: 0, to: 1, whole: true, key: ''};
 let pen = null, colours = {};
 
 function showTimeline() {
@@ -15,10 +14,7 @@ function showTimeline() {
     const key = [line.from, line.to, wide, n, dark.matches, devicePixelRatio].join();
     if (line.key !== key || line.operations !== operations || line.verdicts !== verdicts || line.items !== items) {
         Object.assign(line, {key, operations, verdicts, items, wide, high, n});
-        line.frame ||= requestAnimationFrame(() => {
-            line.frame = 0;
-            draw(box.firstChild);
-        });
+        draw(box.firstChild);
     }
     $('cursor').style.left = `${placeOf(at) - 1}px`;
     const told = {valuemax: total, valuenow: at, valuetext: `item ${at} of ${total}: ${outcome()}`};

@@ -1,6 +1,6 @@
 // The time line: a lane for each process, with its operations as bars, the verdicts of its scans, and the position.
 
-const LABEL = 30, RIGHT = 8, dark = matchMedia('(prefers-color-scheme: dark)');
+const LABEL = 30, RIGHT = 8, MANY_BARS = 20000, dark = matchMedia('(prefers-color-scheme: dark)');
 const line = {from: 0, to: 1, whole: true, key: ''};
 let pen = null, colours = {};
 
@@ -31,7 +31,7 @@ function paint(name, ...box) {
 }
 
 function draw(canvas) {
-    const {wide, high, n, operations: {who: callers, to: ends}} = line, next = Array(n + 1).fill(0);
+    const {wide, high, n, operations: {to: ends}} = line;
     line.grain = (line.to - line.from) / wide * .7;
     Object.assign(canvas, {width: wide * devicePixelRatio, height: n * high * devicePixelRatio});
     canvas.style.height = `${n * high}px`;
@@ -46,6 +46,14 @@ function draw(canvas) {
         pen.fillText(String(who), 6, (who - .5) * high);
     }
     drawItems();
+    clearTimeout(line.bars);
+    if (ends.length > MANY_BARS) line.bars = setTimeout(drawBars);
+    else drawBars();
+}
+
+// The operations; many are drawn in a task of their own, so that the page is not held up.
+function drawBars() {
+    const {n, operations: {who: callers, to: ends}} = line, next = Array(n + 1).fill(0);
     for (let k = 0; k < ends.length; k++) if (!ends[k] || ends[k] >= next[callers[k]]) drawOperation(k, next);
     drawNone();
     line.verdicts.near.forEach(drawLender);

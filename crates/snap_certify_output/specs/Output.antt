@@ -5,7 +5,7 @@ use Rattle.snap_semantics.specs.Source.{Source}
 use Rattle.snap_semantics.specs.declared.refusal.Refusal.{Refusal}
 use Rattle.snap_runs.specs.Run.{run_over}
 use Rattle.snap_input.specs.Parts.{part}
-use Rattle.snap_perform.specs.Perform.{schedule_for}
+use Rattle.snap_input.specs.Schedules.{schedule_for}
 use Rattle.snap_certify_output.specs.CertificationText.{certificate_text}
 
 -- a schedule: what its run is certified by, or what is missing

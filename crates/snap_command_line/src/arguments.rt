@@ -7,6 +7,7 @@ use clap::builder::ValueParser;
 use clap::error::ErrorKind;
 use clap::{Arg, ArgAction, ArgMatches, Command, Error};
 use snap_tasks::{Subject, kind_of, request_of};
+use snap_words::MAX_ITEMS;
 use std::alloc::{AllocError, Global};
 
 /// The version of the program.
@@ -14,9 +15,6 @@ const VERSION: &str = "0.1.0";
 
 /// The kinds that `--shipped` takes.
 const KINDS: &[&str] = &["seq", "bit", "multi"];
-
-/// The most turns that a process of a live run may have.
-const MAX_LIMIT: u64 = 1_000_000;
 
 /// The most that it has where no limit is given.
 const USUAL_LIMIT: u64 = 100_000;
@@ -36,7 +34,7 @@ fn live<'a>(alloc: Global) -> Result<Command<'a>, AllocError> {
     let limit = Arg::new(alloc, "limit")
         .long("limit")
         .value_name("N")
-        .value_parser(ValueParser::unsigned(1, MAX_LIMIT))
+        .value_parser(ValueParser::unsigned(1, MAX_ITEMS))
         .default_value("100000")
         .help("The most turns of a process");
     running(
@@ -106,7 +104,7 @@ fn limit_of(arguments: &ArgMatches<'_>) -> u64
     ensures { IsLimit result }
 {
     match arguments.get_one::<u64>("limit") {
-        Some(limit) if 1 <= limit && limit <= MAX_LIMIT => limit,
+        Some(limit) if 1 <= limit && limit <= MAX_ITEMS => limit,
         _ => USUAL_LIMIT,
     }
 }

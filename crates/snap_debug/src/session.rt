@@ -37,12 +37,23 @@ use std::marker::Model;
 
 /// A schedule with marks, followed as far as it was asked for, and the machine at a position, which
 /// has the last item at hand.
-#[derive(Drop)]
 pub struct Session<K: Kind> {
     alloc: Global,
     marks: Marks,
     recording: Recording<K>,
     here: ReversibleMachine<K>,
+}
+
+impl<K: Kind> Drop for Session<K> {
+    // Written out, so that it is proved here and not once more wherever one is dropped.
+    fn drop(self) {
+        let Session {
+            alloc: _,
+            marks: _,
+            recording: _,
+            here: _,
+        } = self;
+    }
 }
 
 impl<K: Kind> Model for Session<K> {

@@ -1,5 +1,6 @@
 -- How far a run was followed, and machines at its positions.
 use Rattle.std.specs.Prelude.{◌≡◌, ◌≤◌, ℕ, ◌+◌, ◌-◌, List, [], ◌∷◌, ◌++◌, drop, length, ⊤}
+use Rattle.snap_words.specs.Shape.{max_items}
 use Rattle.snap_semantics.specs.declared.process.Item.{Item}
 use Rattle.snap_machine.specs.Configuration.{Configuration}
 use Rattle.snap_runs.specs.Run.{Run, IsValidRun, state, outcome}
@@ -25,7 +26,7 @@ pub record IsCheckpoint {K W : Type 0} (r : Run) (s : Checkpoint K W) : Type 0 w
 -- the items that are recorded and those to come make up a run
 pub record ContinuesWith (r recorded : Run) (xs : List Item) : Type 0 where
   pub fits : IsValidRun r
-  pub few : length r.items ≤ 1000000
+  pub few : length r.items ≤ max_items
   pub source : recorded.source ≡ r.source
   pub shape : recorded.shape ≡ r.shape
   pub items : r.items ≡ recorded.items ++ xs

@@ -2,7 +2,7 @@
 //! passed.
 ghost use Rattle.std.specs.Prelude.{◌≡◌, ◌<◌, ◌≤◌, ◌+◌, ◌∷◌, List, drop, length, IfOk, OnErr, OnOk};
 ghost use Rattle.std.specs.List.{AllByRecursion};
-ghost use Rattle.snap_words.specs.Shape.{IsOneOf};
+ghost use Rattle.snap_words.specs.Shape.{IsOneOf, max_items};
 ghost use Rattle.snap_semantics.specs.Table.{who};
 ghost use Rattle.snap_semantics.specs.declared.process.Item.{Item};
 ghost use Rattle.snap_runs.specs.Run.{Run, item, outcome, events_of, run_over};
@@ -24,12 +24,23 @@ const FAR: u64 = 256;
 
 /// The record of a schedule's first items, as many as were asked for yet, with checkpoints: copies
 /// of the machine at the beginning and at even distances from it. No item is recorded twice.
-#[derive(Drop)]
 pub struct Recording<K: Kind> {
     schedule: Schedule,
     history: Record<K>,
     first: Checkpoint<K>,
     later: Vec<Checkpoint<K>>,
+}
+
+impl<K: Kind> Drop for Recording<K> {
+    // Written out, so that it is proved here and not once more wherever one is dropped.
+    fn drop(self) {
+        let Recording {
+            schedule: _,
+            history: _,
+            first: _,
+            later: _,
+        } = self;
+    }
 }
 
 impl<K: Kind> Model for Recording<K> {
@@ -136,7 +147,7 @@ fn record_more<K: Kind>(
 fn further(reached: u64, position: u64, total: u64) -> u64
     requires position { position ≤ total }
     requires reached { reached ≤ total }
-    requires few { total ≤ 1000000 }
+    requires few { total ≤ max_items }
     ensures least { position ≤ result }
     ensures most { result ≤ total }
 {
@@ -235,7 +246,7 @@ impl<K: Kind> Recording<K> {
         ensures item { result ≡ item self.now.run (t + 1) }
         ensures process { IsOneOf self.now.run.shape.n (who result) }
         ensures within { t < length self.now.run.items }
-        ensures few { t < 1000000 }
+        ensures few { t < max_items }
     {
         let items = self.history.items();
         match items.item(t + 1) {

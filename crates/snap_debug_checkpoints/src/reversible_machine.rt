@@ -20,10 +20,19 @@ pub struct DoneItem<K: Kind> {
 
 /// A machine at a position, and the items by which it came there from an earlier one, the first of
 /// them first.
-#[derive(Drop)]
 pub struct ReversibleMachine<K: Kind> {
     pub current: Checkpoint<K>,
     pub done: Vec<DoneItem<K>>,
+}
+
+impl<K: Kind> Drop for ReversibleMachine<K> {
+    // Written out, so that it is proved here and not once more wherever one is dropped.
+    fn drop(self) {
+        let ReversibleMachine {
+            current: _,
+            done: _,
+        } = self;
+    }
 }
 
 /// An equal outcome.

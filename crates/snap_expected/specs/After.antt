@@ -5,7 +5,7 @@ use Rattle.snap_semantics.specs.declared.instr.Join.TheVariants.{And, Or}
 use Rattle.snap_semantics.specs.declared.text.Symbol.TheVariants as symbol
 use Rattle.snap_semantics.specs.ListingForms.{join_keyword}
 use Rattle.snap_semantics.specs.Token.{Token}
-use Rattle.snap_words.specs.Shape.{max_count}
+use Rattle.snap_words.specs.Shape.{max_count, max_items}
 use Rattle.snap_expected.specs.declared.wanted.Keyword.{Keyword}
 use Rattle.snap_expected.specs.declared.wanted.Keyword.TheVariants as keyword
 use Rattle.snap_expected.specs.declared.wanted.Wanted.{Wanted}
@@ -202,7 +202,7 @@ after wanted.Number t = one (is_number t)
 after wanted.LineNumber t = one (is_line t)
 after wanted.Count t = one (is_within 1 max_count t)
 after wanted.Positive t = one (is_positive t)
-after wanted.Turn t = one (is_within 1 1000000 t)
+after wanted.Turn t = one (is_within 1 max_items t)
 after wanted.Name t = one (is_name t)
 after (wanted.Index q) t = one (is_index q t)
 after wanted.Range t = one (is_range t)

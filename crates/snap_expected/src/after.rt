@@ -12,7 +12,7 @@ use crate::wanted::{Keyword, Wanted};
 use snap_listing_core::join_keyword;
 use snap_semantics::{Join, Symbol};
 use snap_text::Token;
-use snap_words::MAX_COUNT;
+use snap_words::{MAX_COUNT, MAX_ITEMS};
 use std::alloc::{AllocError, Global};
 
 const OPEN_BRACKET: Wanted = Wanted::Symbol(Symbol::OpenBracket);
@@ -30,9 +30,6 @@ const EQUAL: Wanted = Wanted::Symbol(Symbol::Equal);
 const COLON: Wanted = Wanted::Symbol(Symbol::Colon);
 
 const GOTO: Wanted = Wanted::Keyword(Keyword::Goto);
-
-/// The most turns that a script may let a process make before a crash.
-const MAX_TURN: u64 = 1_000_000;
 
 /// What a token is where something is wanted.
 #[derive(Debug, Drop)]
@@ -597,7 +594,7 @@ pub fn after(alloc: Global, wanted: Wanted, token: &Token<'_>) -> Result<Step, A
         Wanted::LineNumber => one(alloc, is_line(token)),
         Wanted::Count => one(alloc, is_within(1, MAX_COUNT, token)),
         Wanted::Positive => one(alloc, is_positive(token)),
-        Wanted::Turn => one(alloc, is_within(1, MAX_TURN, token)),
+        Wanted::Turn => one(alloc, is_within(1, MAX_ITEMS, token)),
         Wanted::Name => one(alloc, is_name(token)),
         Wanted::Index(q) => one(alloc, is_index(q, token)),
         Wanted::Range => one(alloc, is_range(token)),

@@ -1,5 +1,6 @@
 //! Whether what is left still fails.
 ghost use Rattle.std.specs.Prelude.{◌≡◌, ◌<◌, ◌≤◌, ◌+◌, ℕ, length, true, false, IfOk, MatchOption, is_some};
+ghost use Rattle.snap_words.specs.Shape.{max_items};
 ghost use Rattle.snap_semantics.specs.ScheduleText.{IsSchedule};
 ghost use Rattle.snap_hunt.specs.Shrinking.{Fails, Shrinks, fails_with, without};
 
@@ -39,7 +40,7 @@ pub(crate) fn drop_chunks(
 ) -> Result<Vec<Item>, AllocError>
     requires fails { Fails program.now wanted.now shape items.items }
     requires some { 0 < size }
-    requires few { size ≤ 1000000 }
+    requires few { size ≤ max_items }
     ensures { IfOk result (λ v. Shrinks program.now wanted.now shape items.items v.items) }
 {
     let mut kept = items;

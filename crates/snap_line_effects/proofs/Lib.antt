@@ -1,2 +1,2 @@
-pub mod Sizes
+pub use Rattle.snap_values.proofs.Sizes
 pub mod Tuples

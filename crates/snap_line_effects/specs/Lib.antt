@@ -1,4 +1,4 @@
 pub mod TupleValues
 pub mod Lines
 pub mod Rows
-pub mod Sizes
+pub use Rattle.snap_values.specs.Sizes

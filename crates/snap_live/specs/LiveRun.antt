@@ -1,6 +1,6 @@
 -- What a run of workers gives, and why it gives nothing. What its gate may answer to a process at a turn is `may`.
 use Rattle.std.specs.Prelude.{◌≡◌, ℕ, ◌+◌, ◌-◌, ◌*◌, ◌<◌, ◌≤◌, ◌⊎◌, List, [], ◌∷◌, length, map, slice_index_or, Bool, Option, Some, None}
-use Rattle.snap_words.specs.Shape.{IsOneOf}
+use Rattle.snap_words.specs.Shape.{IsOneOf, max_items}
 use Rattle.snap_semantics.specs.declared.process.Item.{Item}
 use Rattle.snap_semantics.specs.declared.fault.Fault.{Fault}
 use Rattle.snap_semantics.specs.declared.fault.Fault.TheVariants as fault
@@ -46,7 +46,7 @@ pub record IsPart (may : ℕ → ℕ → Bool → Type 0) (base : Setting) (item
 -- least that did not come to the end of its script: its part is begun, and those of the processes below it are whole.
 pub record GivesUp (may : ℕ → ℕ → Bool → Type 0) (base : Setting) (scripts : List Script) (limit process : ℕ) (items : List Item) : Type 0 where
   pub fits : IsValidRun (run_of base items)
-  pub short : length items ≤ 1000000
+  pub short : length items ≤ max_items
   pub parts : (k : ℕ) → k < base.shape.n → IsPart may base items (k + 1) (script_at scripts k) limit
   pub one : IsOneOf base.shape.n process
   pub begun : IsBegun (script_at scripts (process - 1)) (turns_of base process items)
@@ -57,9 +57,9 @@ pub record IsFull (may : ℕ → ℕ → Bool → Type 0) (base : Setting) (scri
   pub items : List Item
   pub process : ℕ
   pub given_up : GivesUp may base scripts limit process items
-  pub full : length items ≡ 1000000
+  pub full : length items ≡ max_items
   pub goes_on : MayGoOn may process (length (turns_of base process items)) limit
-  pub many : 1000000 < base.shape.n * limit
+  pub many : max_items < base.shape.n * limit
 
 -- V2: a run was given up at this process, which may not have gone on
 pub record IsLimited (may : ℕ → ℕ → Bool → Type 0) (base : Setting) (scripts : List Script) (limit process : ℕ) : Type 0 where
@@ -70,7 +70,7 @@ pub record IsLimited (may : ℕ → ℕ → Bool → Type 0) (base : Setting) (s
 -- when each refusal may come
 abbrev pub MayFault : (may : ℕ → ℕ → Bool → Type 0) → Setting → List Script → ℕ → Fault LiveRefusal → Type 0
 MayFault may base scripts limit fault.Memory = Unit {0}
-MayFault may base scripts limit (fault.Refused (Full n)) = (n ≡ 1000000) × IsFull may base scripts limit
+MayFault may base scripts limit (fault.Refused (Full n)) = (n ≡ max_items) × IsFull may base scripts limit
 MayFault may base scripts limit (fault.Refused (TurnLimit i)) = IsLimited may base scripts limit i
 MayFault may base scripts limit (fault.Refused (SeatMissing i)) = ⊥
 
@@ -86,7 +86,7 @@ first_stop (w ∷ ws) = or_first w.seat.process w.stop (first_stop ws)
 -- the fault of the whole run
 abbrev pub fault_of : ℕ → Stop → Fault LiveRefusal
 fault_of p stop.Memory = fault.Memory
-fault_of p stop.Full = fault.Refused (Full 1000000)
+fault_of p stop.Full = fault.Refused (Full max_items)
 fault_of p stop.TurnLimit = fault.Refused (TurnLimit p)
 
 -- the first that was found, or this one

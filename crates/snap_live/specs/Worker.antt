@@ -1,7 +1,7 @@
 -- What a worker keeps, and where it stops. What its gate may answer to a process at a turn is `may`.
 use Rattle.std.specs.Prelude.{◌≡◌, ℕ, ◌+◌, ◌<◌, ◌≤◌, ◌⊎◌, List, [], ◌∷◌, ◌++◌, length, map, Bool, true, false, Option, Some, None, Vec, vec_capacity}
 use Rattle.std.specs.Global.{Global}
-use Rattle.snap_words.specs.Shape.{IsOneOf}
+use Rattle.snap_words.specs.Shape.{IsOneOf, max_items}
 use Rattle.snap_semantics.specs.declared.process.Item.{Item}
 use Rattle.snap_semantics.specs.declared.process.Op.{Op}
 use Rattle.snap_semantics.specs.declared.process.Outcome.{Outcome}
@@ -47,7 +47,7 @@ pub record Kept (may : ℕ → ℕ → Bool → Type 0) (desk : DeskView) (proce
   pub at_desk : seat.desk ≡ desk
   pub of_process : seat.process ≡ process
   pub few : length seat.own ≤ limit
-  pub short : length seat.seen ≤ 1000000
+  pub short : length seat.seen ≤ max_items
   pub let_on : IsLetOn may process (length seat.own)
   pub found : seat.own ≡ turns_of desk.base process seat.seen
   pub told : turns ≡ map shown seat.own
@@ -63,8 +63,8 @@ pub record Made (before after : SeatView) (item : Item) (sequel : Sequel) : Type
 -- why the worker made no further turn; memory runs out only where its seat has not seen a full history
 abbrev pub NoFurther : (may : ℕ → ℕ → Bool → Type 0) → ℕ → SeatView → Stop → Type 0
 NoFurther may limit seat TurnLimit = MayNotGoOn may seat.process (length seat.own) limit
-NoFurther may limit seat Full = (length seat.seen ≡ 1000000) × MayGoOn may seat.process (length seat.own) limit
-NoFurther may limit seat Memory = (length seat.seen < 1000000) × MayGoOn may seat.process (length seat.own) limit
+NoFurther may limit seat Full = (length seat.seen ≡ max_items) × MayGoOn may seat.process (length seat.own) limit
+NoFurther may limit seat Memory = (length seat.seen < max_items) × MayGoOn may seat.process (length seat.own) limit
 
 -- the worker stopped before the end of its script: a turn was due, and this is why it was not made
 pub record Stopped (may : ℕ → ℕ → Bool → Type 0) (script : Script) (limit : ℕ) (seat : SeatView) (stop : Stop) : Type 0 where

@@ -1,6 +1,6 @@
 //! Workers in threads, each with one seat.
 ghost use Rattle.std.specs.Prelude.{◌≡◌, ℕ, ◌+◌, ◌-◌, ◌*◌, ◌^◌, ◌<◌, ◌≤◌, [], ◌∷◌, length, vec_len, vec_items, vec_capacity, All, map, slice_index_or, IfOk, IfErr, Some, None};
-ghost use Rattle.snap_words.specs.Shape.{IsOneOf};
+ghost use Rattle.snap_words.specs.Shape.{IsOneOf, max_items};
 ghost use Rattle.snap_live_desk.specs.declared.seat_state.Setting.{Setting};
 ghost use Rattle.snap_live.specs.Script.{script_at};
 ghost use Rattle.snap_live_desk.specs.Shown.{seat_of, seats_of};
@@ -87,7 +87,7 @@ fn start<'s, E, K: Kind, G: Gate, R: Threads + Wait + Sync>(
     limit: u64,
     gate: &'s G,
 ) -> Result<PromisedHandle<Worked<K>, WorkerPromise<K, G>>, AllocError>
-    requires { (seat ≡ seat_of desk.now seat.process) × (limit ≤ 1000000) }
+    requires { (seat ≡ seat_of desk.now seat.process) × (limit ≤ max_items) }
     ensures seat { IfOk result (λ h. h.promise.seat.value ≡ seat) }
     ensures script { IfOk result (λ h. h.promise.script.value ≡ script.now) }
     ensures gate { IfOk result (λ h. h.promise.gate.value ≡ gate.now) }
@@ -102,7 +102,7 @@ fn start<'s, E, K: Kind, G: Gate, R: Threads + Wait + Sync>(
     let child = scope.spawn_with(
         promise,
         move || -> Worked<K>
-            requires { (seat ≡ seat_of desk.now seat.process) × (limit ≤ 1000000) }
+            requires { (seat ≡ seat_of desk.now seat.process) × (limit ≤ max_items) }
             ensures { IsWorked (G.may_answer gate.entry.now) desk.entry.now seat.process
                 script.entry.now limit result }
         { work(rt, alloc, desk, seat, script, limit, gate) },
@@ -130,7 +130,7 @@ fn start_all<'s, E, K: Kind, G: Gate, R: Threads + Wait + Sync>(
     gate: &'s G,
 ) -> Result<Vec<PromisedHandle<Worked<K>, WorkerPromise<K, G>>>, AllocError>
     requires { All (λ s. (s ≡ seat_of desk.now s.process) ×
-        IsOneOf (length scripts.now.scripts) s.process) seats.items × (limit ≤ 1000000) }
+        IsOneOf (length scripts.now.scripts) s.process) seats.items × (limit ≤ max_items) }
     ensures seats { IfOk result (λ hs. map (λ h. h.promise.seat.value) hs.items ≡ seats.items) }
     ensures scripts { IfOk result (λ hs. map (λ h. h.promise.script.value) hs.items
         ≡ map (λ s. script_at scripts.now.scripts (s.process - 1)) seats.items) }
@@ -158,7 +158,7 @@ fn run_all<K: Kind, G: Gate, R: Threads + Wait + Sync>(
     gate: &G,
 ) -> Result<Vec<Worked<K>>, AllocError>
     requires seats { seats.items ≡ seats_of desk.now (length scripts.now.scripts) }
-    requires limit { limit ≤ 1000000 }
+    requires limit { limit ≤ max_items }
     requires worked { HasRoom (length scripts.now.scripts) worked }
     ensures { IfOk result (λ ws.
         AllWorked (G.may_answer gate.now) desk.now scripts.now.scripts limit ws.items) }
@@ -168,7 +168,7 @@ fn run_all<K: Kind, G: Gate, R: Threads + Wait + Sync>(
         rt,
         move |scope| -> Result<Vec<Worked<K>>, AllocError>
             requires seats { seats.items ≡ seats_of desk.now (length scripts.now.scripts) }
-            requires limit { limit ≤ 1000000 }
+            requires limit { limit ≤ max_items }
             requires worked { HasRoom (length scripts.now.scripts) worked }
             ensures { IfOk result (λ ws. AllWorked (G.may_answer gate.entry.now)
                 desk.entry.now scripts.entry.now.scripts limit ws.items) }
@@ -289,7 +289,7 @@ pub fn run_live<K: Kind, G: Gate, R: Threads + Wait + Sync>(
     gate: &G,
 ) -> Result<LiveRun<K>, LiveFault>
     requires kind { program.now.kind ≡ K.TAG }
-    requires limit { (1 ≤ limit) × (limit ≤ 1000000) }
+    requires limit { (1 ≤ limit) × (limit ≤ max_items) }
     ensures ok { let base : Setting = record { source = program.now; shape = scripts.now.shape } in
         IfOk result (λ l. IsLive (G.may_answer gate.now)
         base scripts.now.scripts limit l.kept l.turns.items) }

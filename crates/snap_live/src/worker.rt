@@ -1,5 +1,6 @@
 //! How a worker plays its script at a desk.
 ghost use Rattle.std.specs.Prelude.{◌≡◌, ◌+◌, ◌^◌, ◌<◌, ◌≤◌, [], true, length, drop, IfOk, IfErr};
+ghost use Rattle.snap_words.specs.Shape.{max_items};
 ghost use Rattle.snap_semantics.specs.Table.{who};
 ghost use Rattle.snap_live_desk.specs.Shown.{seat_of};
 ghost use Rattle.snap_live.specs.Script.{crashes_behind};
@@ -90,7 +91,7 @@ fn play_turn<K: Kind, G: Gate, R: Wait>(
         desk.now seat.old.process limit seat.old turns.old.items }
     requires mine { who item ≡ seat.old.process }
     requires room { (seat.old.asked ≡ length seat.old.own) × (seat.old.asked < limit) ×
-        (limit ≤ 1000000) }
+        (limit ≤ max_items) }
     ensures kept { Kept (G.may_answer gate.now)
         desk.now seat.old.process limit seat.new turns.new.items }
     ensures made { IfOk result (λ m. Made seat.old seat.new item m) }
@@ -135,7 +136,7 @@ fn play_crash<K: Kind, G: Gate, R: Wait>(
     requires plays { IsBegun script.now seat.old.own ×
         (crashes_behind script.now.crash seat.old.asked ≡ true) }
     requires room { (seat.old.asked ≡ length seat.old.own) × (seat.old.asked < limit) ×
-        (limit ≤ 1000000) }
+        (limit ≤ max_items) }
     ensures kept { Kept (G.may_answer gate.now)
         desk.now seat.old.process limit seat.new turns.new.items }
     ensures played { IfOk result (λ _. (seat.new.asked ≡ length seat.new.own) ×
@@ -162,7 +163,7 @@ fn play_steps<K: Kind, G: Gate, R: Wait>(
     requires kept { Kept (G.may_answer gate.now)
         desk.now seat.old.process limit seat.old turns.old.items }
     requires plays { Leaves script.now seat.old.own (busy (drop (at + 1) script.now.operations)) }
-    requires room { (seat.old.asked ≡ length seat.old.own) × (limit ≤ 1000000) }
+    requires room { (seat.old.asked ≡ length seat.old.own) × (limit ≤ max_items) }
     ensures kept { Kept (G.may_answer gate.now)
         desk.now seat.old.process limit seat.new turns.new.items }
     ensures played { IfOk result (λ t. (seat.new.asked ≡ length seat.new.own) ×
@@ -201,7 +202,7 @@ fn play_operation<K: Kind, G: Gate, R: Wait>(
         desk.now seat.old.process limit seat.old turns.old.items }
     requires plays { (at < length script.now.operations) ×
         Leaves script.now seat.old.own (rest (drop at script.now.operations)) }
-    requires room { (seat.old.asked ≡ length seat.old.own) × (limit ≤ 1000000) }
+    requires room { (seat.old.asked ≡ length seat.old.own) × (limit ≤ max_items) }
     ensures kept { Kept (G.may_answer gate.now)
         desk.now seat.old.process limit seat.new turns.new.items }
     ensures played { IfOk result (λ t. (seat.new.asked ≡ length seat.new.own) ×
@@ -235,7 +236,7 @@ fn play<K: Kind, G: Gate, R: Wait>(
 ) -> Result<(), Stop>
     requires kept { Kept (G.may_answer gate.now)
         desk.now seat.old.process limit seat.old turns.old.items }
-    requires fresh { (seat.old.own ≡ []) × (seat.old.asked ≡ 0) × (limit ≤ 1000000) }
+    requires fresh { (seat.old.own ≡ []) × (seat.old.asked ≡ 0) × (limit ≤ max_items) }
     ensures kept { Kept (G.may_answer gate.now)
         desk.now seat.old.process limit seat.new turns.new.items }
     ensures played { IfOk result (λ _. IsPlay script.now seat.new.own) }
@@ -260,7 +261,7 @@ pub(crate) fn work<K: Kind, G: Gate, R: Wait>(
     limit: u64,
     gate: &G,
 ) -> Worked<K>
-    requires { (seat ≡ seat_of desk.now seat.process) × (limit ≤ 1000000) }
+    requires { (seat ≡ seat_of desk.now seat.process) × (limit ≤ max_items) }
     ensures { IsWorked (G.may_answer gate.now) desk.now seat.process script.now limit result }
 {
     let mut turns = Vec::new(alloc);

@@ -1,5 +1,6 @@
 -- A desk and its seats, as contracts see them.
 use Rattle.std.specs.Prelude.{◌≡◌, ℕ, zero, suc, ◌≤◌, ◌++◌, List, [], ◌∷◌, length}
+use Rattle.snap_words.specs.Shape.{max_items}
 use mathlib.Core.List.{IsPrefix}
 use Rattle.atomic_table.specs.Seated.{TableId}
 use Rattle.snap_semantics.specs.declared.process.Item.{Item}
@@ -30,7 +31,7 @@ pub record IsTurn (before after : SeatView) (item : Item) (number : ℕ) (outcom
   pub more : IsPrefix before.seen after.seen
   pub last : (h : List Item) × (after.seen ≡ h ++ item ∷ [])
   pub numbered : number ≡ length after.seen
-  pub few : number ≤ 1000000
+  pub few : number ≤ max_items
   pub answered : outcome ≡ last_outcome before.desk.base after.seen
   pub own : after.own ≡ before.own ++ own_turn number item outcome ∷ []
   pub turns : after.own ≡ turns_of before.desk.base before.process after.seen

@@ -1,5 +1,6 @@
 -- What a turn does to a seat.
 use Rattle.std.specs.Prelude.{◌≡◌, ℕ, ◌<◌, ◌≤◌, ◌++◌, List, [], ◌∷◌, length}
+use Rattle.snap_words.specs.Shape.{max_items}
 use mathlib.Core.List.{IsPrefix}
 use Rattle.snap_semantics.specs.declared.process.Item.{Item}
 use Rattle.snap_semantics.specs.declared.process.Outcome.{Outcome}
@@ -14,12 +15,12 @@ pub record Turned (m : Mine) (item : Item) (number : ℕ) (outcome : Outcome) (n
   pub found : List Item
   pub more : IsPrefix m.0.seen found
   pub numbered : number ≡ length (found ++ item ∷ [])
-  pub few : number ≤ 1000000
+  pub few : number ≤ max_items
   pub answered : outcome ≡ last_outcome m.0.base (found ++ item ∷ [])
   pub seat : n ≡ (after_turn m.0 found item outcome, [])
   pub turns : OwnTurns m.0.base n.0.seen n.0.owns
 
 -- nothing was added: the seat has seen the full history; or it has seen nothing more, and no full history
 abbrev pub RefusedAs : RecordFault → Mine → Mine → Type 0
-RefusedAs Full m n = (found : List Item) × IsPrefix m.0.seen found × (length found ≡ 1000000) × (n ≡ (after_full m.0 found, [])) × OwnTurns m.0.base n.0.seen n.0.owns
-RefusedAs Memory m n = (n ≡ (after_refusal m.0, [])) × (length n.0.seen < 1000000)
+RefusedAs Full m n = (found : List Item) × IsPrefix m.0.seen found × (length found ≡ max_items) × (n ≡ (after_full m.0 found, [])) × OwnTurns m.0.base n.0.seen n.0.owns
+RefusedAs Memory m n = (n ≡ (after_refusal m.0, [])) × (length n.0.seen < max_items)

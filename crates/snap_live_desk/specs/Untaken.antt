@@ -1,5 +1,6 @@
 -- A turn that was refused.
 use Rattle.std.specs.Prelude.{◌≡◌, ◌<◌, length}
+use Rattle.snap_words.specs.Shape.{max_items}
 use mathlib.Core.List.{IsPrefix}
 use Rattle.snap_semantics.specs.declared.fault.Fault.{Fault}
 use Rattle.snap_semantics.specs.declared.fault.Fault.TheVariants.{Memory, Refused}
@@ -11,11 +12,11 @@ use Rattle.snap_live_desk.specs.Shown.{SeatView}
 -- the seat has seen the whole history, which is full, and has no turn more in it
 pub record SeesAll (before after : SeatView) : Type 0 where
   pub more : IsPrefix before.seen after.seen
-  pub full : length after.seen ≡ 1000000
+  pub full : length after.seen ≡ max_items
   pub own : after.own ≡ before.own
   pub turns : after.own ≡ turns_of before.desk.base before.process after.seen
 
 -- nothing was added: memory ran out, and the seat has seen no more, and no full history; or the history is full
 abbrev pub NoTurn : Fault LiveRefusal → SeatView → SeatView → Type 0
-NoTurn Memory before after = (after.seen ≡ before.seen) × (after.own ≡ before.own) × (length after.seen < 1000000)
-NoTurn (Refused refusal) before after = (refusal ≡ Full 1000000) × SeesAll before after
+NoTurn Memory before after = (after.seen ≡ before.seen) × (after.own ≡ before.own) × (length after.seen < max_items)
+NoTurn (Refused refusal) before after = (refusal ≡ Full max_items) × SeesAll before after

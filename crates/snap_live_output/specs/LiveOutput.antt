@@ -2,6 +2,7 @@
 -- and each of them is the history of one list of items.
 use Rattle.std.specs.Prelude.{◌≡◌, ℕ, ◌+◌, ◌<◌, ◌≤◌, List, ◌++◌, length, nat_lt, Bool, Vec, Result, Ok, Err, ⊤, if◌then◌else◌}
 use Rattle.std.specs.Global.{Global}
+use Rattle.snap_words.specs.Shape.{max_items}
 use Rattle.snap_words.specs.Kind.{fits}
 use Rattle.snap_words.specs.declared.shape.WordFault.TheVariants.{BadShape}
 use Rattle.snap_semantics.specs.declared.fault.Fault.{Fault}
@@ -72,7 +73,7 @@ pub record IsLiveText (g : Setup) (limit : ℕ) (text : List ℕ) : Type 0 where
   pub items : List Item
   pub there : AreScripts g.scripts
   pub fits : IsValidRun (run_of (setting g) items)
-  pub short : length items ≤ 1000000
+  pub short : length items ≤ max_items
   pub plays : (k : ℕ) → k < g.scripts.shape.n → IsPlay (script_at g.scripts.scripts k) (turns_of (setting g) (k + 1) items)
   pub few : (k : ℕ) → k < g.scripts.shape.n → length (turns_of (setting g) (k + 1) items) ≤ limit
   pub written : text ≡ history_text (run_of (setting g) items)

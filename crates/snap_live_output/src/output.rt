@@ -1,5 +1,6 @@
 //! What a live run writes for an input.
 ghost use Rattle.std.specs.Prelude.{◌≡◌, ◌≤◌};
+ghost use Rattle.snap_words.specs.Shape.{max_items};
 ghost use Rattle.snap_live_output.specs.LiveOutput.{AnswersLive};
 
 use crate::fault::LiveRunFault;
@@ -22,7 +23,7 @@ pub fn live_output<G: Gate, R: Threads + Wait + Sync>(
     gate: &G,
     input: &[u8],
 ) -> Result<Vec<u8>, LiveRunFault>
-    requires { (1 ≤ limit) × (limit ≤ 1000000) }
+    requires { (1 ≤ limit) × (limit ≤ max_items) }
     ensures { AnswersLive (G.may_answer gate.now) subject limit input.now result }
 {
     let setup = setup_of(alloc, subject, input)?;

@@ -1,5 +1,6 @@
 //! A live run, as the text of its history.
 ghost use Rattle.std.specs.Prelude.{◌≡◌, ◌≤◌, IfErr, IfOk};
+ghost use Rattle.snap_words.specs.Shape.{max_items};
 ghost use Rattle.snap_live.specs.LiveRun.{MayFault};
 ghost use Rattle.snap_live_output.specs.LiveOutput.{IsGatedText, setting};
 
@@ -20,7 +21,7 @@ fn play_kind<K: Kind, G: Gate, R: Threads + Wait + Sync>(
     gate: &G,
 ) -> Result<Vec<u8>, LiveFault>
     requires kind { setup.now.source.kind ≡ K.TAG }
-    requires limit { (1 ≤ limit) × (limit ≤ 1000000) }
+    requires limit { (1 ≤ limit) × (limit ≤ max_items) }
     ensures text { IfOk result (λ out.
         IsGatedText (G.may_answer gate.now) setup.now limit out.items) }
     ensures fault { IfErr result (λ f. MayFault (G.may_answer gate.now) (setting setup.now)
@@ -39,7 +40,7 @@ pub fn play<G: Gate, R: Threads + Wait + Sync>(
     limit: u64,
     gate: &G,
 ) -> Result<Vec<u8>, LiveFault>
-    requires { (1 ≤ limit) × (limit ≤ 1000000) }
+    requires { (1 ≤ limit) × (limit ≤ max_items) }
     ensures text { IfOk result (λ out.
         IsGatedText (G.may_answer gate.now) setup.now limit out.items) }
     ensures fault { IfErr result (λ f. MayFault (G.may_answer gate.now) (setting setup.now)

@@ -1,12 +1,14 @@
 //! A record as text: its items as a schedule, and the report of its end.
 ghost use Rattle.std.specs.Prelude.{◌≡◌, ◌+◌, ◌<◌, ◌≤◌, ◌^◌, ◌++◌, [], ◌∷◌, IfOk, OnOk, length};
 ghost use Rattle.std.specs.Prelude.{take};
+ghost use Rattle.snap_words.specs.Shape.{max_items};
+ghost use Rattle.snap_report.specs.RunReport.{report_at};
 ghost use Rattle.snap_live_output.specs.LiveOutput.{history_text};
 
 use snap_record::{History, Record};
+use snap_report::report;
 use snap_sched::{Items, Schedule, print};
 use snap_semantics::Item;
-use snap_text::push_text;
 use snap_words::Kind;
 use std::alloc::{AllocError, Global};
 
@@ -25,7 +27,7 @@ fn push_item(items: &mut Items, item: Item) -> Result<(), AllocError>
 /// Adds the item of a history behind its first `t`.
 fn push_next(items: &mut Items, history: &History, t: usize) -> Result<(), AllocError>
     requires there { t < length history.now.items }
-    requires few { length history.now.items ≤ 1000000 }
+    requires few { length history.now.items ≤ max_items }
     requires first { items.old ≡ take t history.now.items }
     ensures { OnOk result (items.new ≡ take (t + 1) history.now.items) }
 {
@@ -38,7 +40,7 @@ fn push_next(items: &mut Items, history: &History, t: usize) -> Result<(), Alloc
 
 /// The items of a history, as a schedule keeps them.
 fn items_of(alloc: Global, history: &History) -> Result<Items, AllocError>
-    requires { length history.now.items ≤ 1000000 }
+    requires { length history.now.items ≤ max_items }
     ensures { IfOk result (λ items. items ≡ history.now.items) }
 {
     let mut items = Items::new(alloc);
@@ -60,13 +62,21 @@ fn schedule_of<K: Kind>(alloc: Global, record: &Record<K>) -> Result<Schedule, A
     Ok(Schedule::new(shape, items))
 }
 
+/// The report of the position after all items of a record.
+fn push_report<K: Kind>(out: &mut Vec<u8>, record: &Record<K>) -> Result<(), AllocError>
+    ensures { OnOk result (out.new.items ≡ out.old.items
+        ++ report_at record.now (length record.now.items)) }
+{
+    let position = record.items().len() as u64;
+    report(out, record.machine(), record.events(), position, position)
+}
+
 /// A record as the text of a schedule, and the report of its end.
 pub fn history_text<K: Kind>(alloc: Global, record: &Record<K>) -> Result<Vec<u8>, AllocError>
     ensures { IfOk result (λ out. out.items ≡ history_text record.now) }
 {
     let schedule = schedule_of(alloc, record)?;
     let mut out = print(alloc, &schedule)?;
-    let report = record.report()?;
-    push_text(&mut out, report.as_slice())?;
+    push_report(&mut out, record)?;
     Ok(out)
 }

@@ -8,7 +8,8 @@ use Rattle.snap_runs.specs.Run.{run_over}
 use Rattle.snap_input.specs.Input.{checked_parts, listing_for, parted, texts_for}
 use Rattle.snap_input.specs.Parts.{part, parts_of}
 use Rattle.snap_perform.proofs.ToTheEnd.{to_the_end}
-use Rattle.snap_perform.specs.Perform.{end_text, run_listing, schedule_for}
+use Rattle.snap_input.specs.Schedules.{schedule_for}
+use Rattle.snap_perform.specs.Perform.{end_text, run_listing}
 use Rattle.snap_run_trace.specs.Trace.{trace_text}
 use Rattle.snap_trace_output.specs.Traces.{trace_listing, traces_text}
 use Rattle.snap_output.specs.Output.{output_of, run_text}

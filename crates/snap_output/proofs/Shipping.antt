@@ -35,7 +35,8 @@ use Rattle.snap_output.specs.Output.{audit_listing, batch_text, batched, checked
 use Rattle.snap_survey_output.specs.Surveys.{schedules_for}
 use Rattle.snap_input.specs.Parts.{part, parts_of, max_input}
 use Rattle.snap_perform.proofs.ToTheEnd.{is_run}
-use Rattle.snap_perform.specs.Perform.{fitting, perform_listing, perform_of, schedule_for}
+use Rattle.snap_input.specs.Schedules.{fitting, schedule_for}
+use Rattle.snap_perform.specs.Perform.{perform_listing, perform_of}
 use Rattle.snap_subject.specs.declared.subject.Subject.{Subject}
 use Rattle.snap_tasks.specs.declared.task.Task.{Task}
 use Rattle.snap_tasks.specs.declared.task.Task.TheVariants as task

@@ -17,7 +17,8 @@ use Rattle.snap_survey_output.specs.Surveys.{schedules_for, survey_text}
 use Rattle.snap_trace_output.specs.Traces.{traces_text}
 use Rattle.snap_input.specs.Input.{listing_for, parted, texts_for}
 use Rattle.snap_input.specs.Parts.{part, parts_of, max_input}
-use Rattle.snap_perform.specs.Perform.{perform_listing, schedule_for}
+use Rattle.snap_input.specs.Schedules.{schedule_for}
+use Rattle.snap_perform.specs.Perform.{perform_listing}
 use Rattle.snap_subject.specs.declared.subject.Subject.{Subject}
 use Rattle.snap_tasks.specs.declared.task.Task.{Task}
 use Rattle.snap_tasks.specs.declared.task.Task.TheVariants as task

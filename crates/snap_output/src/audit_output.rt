@@ -7,7 +7,7 @@ ghost use Rattle.snap_output.specs.Output.{audit_listing};
 
 use snap_asm_program::Program;
 use snap_audit::audit_text;
-use snap_perform::schedule_for;
+use snap_input::schedule_for;
 use snap_record::record_over;
 use snap_sched::Schedule;
 use snap_semantics::{Fault, Refusal};

@@ -14,7 +14,8 @@ use Rattle.snap_debug_commands.specs.Commands.{commands_of}
 use Rattle.snap_debug.specs.Marks.{no_marks, next_stop}
 use Rattle.snap_debug.specs.Session.{performance}
 use Rattle.snap_debug_commands.specs.declared.command.Command.TheVariants as command
-use Rattle.snap_perform.specs.Perform.{end_text, perform_listing, run_listing, schedule_for}
+use Rattle.snap_input.specs.Schedules.{schedule_for}
+use Rattle.snap_perform.specs.Perform.{end_text, perform_listing, run_listing}
 
 -- the one command
 pub is_run : commands_of (codes "run\n") ≡ Ok (command.Run ∷ [])

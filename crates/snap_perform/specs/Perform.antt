@@ -1,28 +1,17 @@
 -- What is performed: a listing under a schedule, with debugger commands.
-use Rattle.std.specs.Prelude.{ℕ, List, ◌++◌, length, Result, Ok, Err, codes, if◌then◌else◌}
-use Rattle.snap_words.specs.Kind.{fits}
-use Rattle.snap_words.specs.declared.shape.WordFault.TheVariants.{BadShape}
+use Rattle.std.specs.Prelude.{ℕ, List, ◌++◌, length, Result, Ok, codes}
 use Rattle.snap_semantics.specs.declared.refusal.Refusal.{Refusal}
 use Rattle.snap_semantics.specs.declared.refusal.Refusal.TheVariants as refusal
 use Rattle.snap_semantics.specs.Answers.{◌>>=◌, refused_as}
 use Rattle.snap_semantics.specs.Listing.{listing_of}
 use Rattle.snap_semantics.specs.Report.{position_line}
-use Rattle.snap_semantics.specs.Schedule.{Schedule, schedule_of}
+use Rattle.snap_semantics.specs.Schedule.{Schedule}
 use Rattle.snap_semantics.specs.Source.{Source}
 use Rattle.snap_runs.specs.Run.{run_over}
+use Rattle.snap_input.specs.Schedules.{schedule_for}
 use Rattle.snap_runner.specs.End.{end_report}
 use Rattle.snap_debug_commands.specs.Commands.{commands_of}
 use Rattle.snap_debug.specs.Session.{performance}
-
--- a schedule whose shape fits the kind of the listing
-abbrev pub fitting : Source → Schedule → Result Schedule Refusal
-fitting l s = if fits l.kind s.shape then Ok s else Err (refusal.Words BadShape)
-
--- the schedule that a text is, for this listing
-unfoldable pub schedule_for : Source → List ℕ → Result Schedule Refusal
-schedule_for l schedule = do
-  s ← refused_as refusal.Schedule (schedule_of schedule)
-  fitting l s
 
 -- what is written for a listing and two texts, or the first reason why nothing is
 unfoldable pub perform_listing : Source → List ℕ → List ℕ → Result (List ℕ) Refusal

@@ -2,28 +2,20 @@
 ghost use Rattle.std.specs.Prelude.{◌≡◌, ◌++◌, IfOk, OnOk};
 ghost use Rattle.snap_runs.specs.Run.{run_over};
 ghost use Rattle.snap_semantics.specs.Answers.{Answers, refused_as};
-ghost use Rattle.snap_semantics.specs.Schedule.{schedule_of};
 ghost use Rattle.snap_semantics.specs.declared.refusal.Refusal.TheVariants as refusal;
 ghost use Rattle.snap_debug_commands.specs.Commands.{commands_of};
 ghost use Rattle.snap_debug.specs.Session.{after_commands, answer, performance, replies_text, session_report};
-ghost use Rattle.snap_perform.specs.Perform.{perform_listing, perform_of, schedule_for};
+ghost use Rattle.snap_perform.specs.Perform.{perform_listing, perform_of};
 ghost use Rattle.snap_perform.specs.Replies.{command_reply};
 
 use snap_asm_program::Program;
 use snap_debug::{Command, Session, push_command, push_refusal_line};
-use snap_input::program_of;
+use snap_input::{program_of, schedule_for};
 use snap_sched::Schedule;
 use snap_semantics::{Fault, Refusal};
 use snap_text::push_text;
-use snap_words::{Bits, Kind, KindTag, Multi, Seq, WordFault};
+use snap_words::{Bits, Kind, KindTag, Multi, Seq};
 use std::alloc::{AllocError, Global};
-
-/// Reads a schedule.
-fn read_schedule(alloc: Global, text: &[u8]) -> Result<Schedule, Fault<Refusal>>
-    ensures { Answers (λ s. s) result (refused_as refusal.Schedule (schedule_of text.now)) }
-{
-    Ok(snap_sched::read(alloc, text)?)
-}
 
 /// Reads commands.
 fn read_commands(alloc: Global, text: &[u8]) -> Result<Vec<Command>, Fault<Refusal>>
@@ -31,23 +23,6 @@ fn read_commands(alloc: Global, text: &[u8]) -> Result<Vec<Command>, Fault<Refus
         (refused_as refusal.Commands (commands_of text.now)) }
 {
     Ok(snap_debug::read_commands(alloc, text)?)
-}
-
-/// Reads a schedule whose shape fits the kind of a program.
-#[tactic(auto, unfolding(crate::specs::Perform::schedule_for))]
-pub fn schedule_for<K: Kind>(
-    alloc: Global,
-    program: &Program,
-    text: &[u8],
-) -> Result<Schedule, Fault<Refusal>>
-    requires { program.now.kind ≡ K.TAG }
-    ensures { Answers (λ s. s) result (schedule_for program.now text.now) }
-{
-    let schedule = read_schedule(alloc, text)?;
-    if !K::fits(schedule.shape()) {
-        return Err(Fault::Refused(Refusal::Words(WordFault::BadShape)));
-    }
-    Ok(schedule)
 }
 
 /// A command behind `> `, and what a session answers to it.

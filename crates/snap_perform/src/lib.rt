@@ -4,5 +4,5 @@
 mod debug_output;
 mod run_output;
 
-pub use debug_output::{perform, perform_program, schedule_for};
+pub use debug_output::{perform, perform_program};
 pub use run_output::run_program;

@@ -4,9 +4,9 @@ ghost use Rattle.snap_semantics.specs.Answers.{Answers};
 ghost use Rattle.snap_runner.specs.End.{IsEnd};
 ghost use Rattle.snap_perform.specs.Perform.{end_text, perform_listing, run_listing};
 
-use crate::debug_output::schedule_for;
 use snap_asm_program::Program;
-use snap_record::position_line;
+use snap_input::schedule_for;
+use snap_report::position_line;
 use snap_runner::{Course, run_to_end};
 use snap_sched::Schedule;
 use snap_semantics::{Fault, Refusal};

@@ -7,7 +7,7 @@ use Rattle.snap_semantics.specs.Source.{Source}
 use Rattle.snap_semantics.specs.declared.process.Op.{Op}
 use Rattle.snap_semantics.specs.declared.process.Op.TheVariants as op
 use Rattle.snap_runs.specs.Run.{Run, run_over}
-use Rattle.snap_perform.specs.Perform.{schedule_for}
+use Rattle.snap_input.specs.Schedules.{schedule_for}
 use Rattle.snap_svg.specs.FrameText.{foot_text, head_text, input_text}
 use Rattle.snap_svg.specs.ShapeText.{shapes_text}
 use Rattle.snap_svg.specs.Window.{Part, most_items}

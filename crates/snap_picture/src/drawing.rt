@@ -1,8 +1,9 @@
 //! The picture of a listing under a schedule.
 ghost use Rattle.std.specs.Prelude.{◌≡◌, ◌≤◌, IfOk, length, option_map};
+ghost use Rattle.snap_words.specs.Shape.{max_items};
 ghost use Rattle.snap_runs.specs.Run.{run_over};
 ghost use Rattle.snap_semantics.specs.Answers.{Answers, Gives, refused_as};
-ghost use Rattle.snap_perform.specs.Perform.{schedule_for};
+ghost use Rattle.snap_input.specs.Schedules.{schedule_for};
 ghost use Rattle.snap_picture.specs.Picture.{counts_of, given_or, part_between, part_of, picture_by, picture_of, picture_text};
 ghost use Rattle.snap_picture.specs.declared.refusal.PictureRefusal.TheVariants as refusal;
 
@@ -40,7 +41,7 @@ fn window_between(
     shape: snap_words::Shape,
     reads: bool,
 ) -> Result<Window, PictureRefusal>
-    requires { total ≤ 1000000 }
+    requires { total ≤ max_items }
     ensures { Gives (λ w. w) result (part_between total first last shape reads) }
 {
     if first == 0 || last < first || total < last {
@@ -65,7 +66,7 @@ fn window_for(
     shape: snap_words::Shape,
     options: &Options,
 ) -> Result<Window, PictureRefusal>
-    requires { total ≤ 1000000 }
+    requires { total ≤ max_items }
     ensures { Gives (λ w. w) result (part_of total shape options.now) }
 {
     window_between(
@@ -152,7 +153,7 @@ fn schedule_of<K: Kind>(
     requires { program.now.kind ≡ K.TAG }
     ensures { Answers (λ s. s) result (refused_as refusal.Input (schedule_for program.now text.now)) }
 {
-    match snap_perform::schedule_for::<K>(alloc, program, text) {
+    match snap_input::schedule_for::<K>(alloc, program, text) {
         Ok(schedule) => Ok(schedule),
         Err(Fault::Memory) => Err(Fault::Memory),
         Err(Fault::Refused(refusal)) => Err(Fault::Refused(PictureRefusal::Input(refusal))),

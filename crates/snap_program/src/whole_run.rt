@@ -2,6 +2,7 @@
 ghost use Rattle.std.specs.Prelude.{◌≡◌, ◌≤◌, ◌<◌, ◌++◌, ◌⊎◌, ℕ, List, [], true, false, length};
 ghost use Rattle.std.specs.Prelude.{take, IfOk, IfErr, OnOk, OnErr, MatchResult};
 ghost use Rattle.std.specs.Io.KnownBytes.{Consumes, Appends, IsAtEnd};
+ghost use Rattle.snap_words.specs.Shape.{max_items};
 ghost use Rattle.snap_output.specs.Output.{output_of};
 ghost use Rattle.snap_program.specs.WholeRun.{Reads, Sends, Conducts, ConductsKeeping, ConductsLive, IsOutputOf, RefusesLive, RefusesTask};
 ghost use Rattle.snap_live_output.specs.LiveOutput.{MayWrite};
@@ -108,7 +109,7 @@ pub fn conduct_live<G: Gate, R: ByteSource, W: ByteSink>(
     source: &mut R,
     sink: &mut W,
 ) -> Result<(), ConductFault>
-    requires limit { (1 ≤ limit) × (limit ≤ 1000000) }
+    requires limit { (1 ≤ limit) × (limit ≤ max_items) }
     requires source { R.has_failed source.old ≡ false }
     requires sink { W.has_failed sink.old ≡ false }
     requires goes_on { W.is_stalled sink.old ≡ false }
@@ -131,7 +132,7 @@ pub fn conduct_live_keeping<G: Gate, R: ByteSource, W: ByteSink>(
     sink: &mut W,
     kept: &mut Vec<u8>,
 ) -> Result<(), ConductFault>
-    requires limit { (1 ≤ limit) × (limit ≤ 1000000) }
+    requires limit { (1 ≤ limit) × (limit ≤ max_items) }
     requires source { R.has_failed source.old ≡ false }
     requires sink { W.has_failed sink.old ≡ false }
     requires goes_on { W.is_stalled sink.old ≡ false }

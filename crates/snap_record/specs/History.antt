@@ -1,7 +1,7 @@
 -- What is kept of a run besides its items, and what it tells.
 use Rattle.std.specs.Prelude.{◌≡◌, ℕ, suc, ◌+◌, ◌-◌, ◌≤◌, ◌&&◌, List, [], ◌∷◌, ◌++◌, length, map, replicate, nat_eq, nat_le, if◌then◌else◌, slice_index, slice_set}
 use Rattle.std.specs.List.{AllByRecursion}
-use Rattle.snap_words.specs.Shape.{IsOneOf}
+use Rattle.snap_words.specs.Shape.{IsOneOf, max_items}
 use Rattle.snap_semantics.specs.declared.event.Event.{Event}
 use Rattle.snap_semantics.specs.State.{State, values}
 use Rattle.snap_words.specs.declared.kind.KindTag.{KindTag}
@@ -54,7 +54,7 @@ pub record IsRecord (r : Run) (k : KindTag) (S : State) (now : List ℕ) (change
   pub kind : r.source.kind ≡ k
   pub state_is : S ≡ state r (length r.items)
   pub fits : IsValidRun r
-  pub few : length r.items ≤ 1000000
+  pub few : length r.items ≤ max_items
   pub tells : Tells r now changes events collects at_events
 
 -- each event is of one of so many processes, and of one of so many items

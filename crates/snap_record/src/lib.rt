@@ -1,5 +1,5 @@
 //! A machine with its history: the items that it has done, what callers saw of them, and how the
-//! values changed; and the printed texts of both.
+//! values changed.
 #![tactic(auto)]
 
 mod fault;
@@ -19,8 +19,4 @@ pub use items::History;
 pub use over::record_over;
 pub use record::{MAX_ITEMS, Record};
 pub use row::Row;
-pub use snap_report::{
-    Report, event_line, event_lines, head_line, head_lines, op_text, outcome_text, position_line,
-    process_lines, register_line, report, values_line,
-};
 pub use walk::advance;

@@ -1,14 +1,13 @@
 //! A machine with its history.
 ghost use Rattle.std.specs.Prelude.{◌≡◌, ◌↔◌, ◌<◌, ◌≤◌, ◌+◌, ℕ, [], drop, get_or, length, map, replicate, take, Err, IfOk, OnOk, OnErr};
 ghost use Rattle.std.specs.List.{AllByRecursion};
-ghost use Rattle.snap_words.specs.Shape.{IsOneOf};
+ghost use Rattle.snap_words.specs.Shape.{IsOneOf, max_items};
 ghost use Rattle.snap_semantics.specs.State.{initial};
 ghost use Rattle.snap_semantics.specs.Table.{who};
 ghost use Rattle.snap_semantics.specs.declared.process.Item.TheVariants.{Step};
 ghost use Rattle.snap_runs.specs.StepRoles.{Nothing, step_role_of};
 ghost use Rattle.snap_runs.specs.Run.{outcome, state, IsValidRun, events_of};
 ghost use Rattle.snap_record.specs.Record.{collects_of, with_item, with_items, values_after};
-ghost use Rattle.snap_report.specs.RunReport.{report_at};
 ghost use Rattle.snap_record.specs.Searches.{scan_collects};
 ghost use Rattle.snap_semantics.specs.declared.event.Event.{Event};
 ghost use Rattle.snap_record.specs.History.{LeadsAlong, collects_at};
@@ -24,7 +23,6 @@ use crate::step_role::{StepRole, is_plain_step, step_role_of};
 use crate::walk::advance;
 use snap_asm_program::Program;
 use snap_machine::Machine;
-use snap_report::{Report, report};
 use snap_sched::Items;
 use snap_semantics::{Event, Item, Outcome, who};
 use snap_words::{Kind, Shape, View};
@@ -32,10 +30,9 @@ use std::alloc::{AllocError, Global};
 use std::marker::Model;
 
 /// The most items that a record keeps.
-pub const MAX_ITEMS: usize = 1_000_000;
+pub const MAX_ITEMS: usize = snap_words::MAX_ITEMS as usize;
 
 /// A machine with the items that it has done, seen as their run.
-#[derive(Drop)]
 pub struct Record<K: Kind> {
     alloc: Global,
     machine: Machine<K>,
@@ -50,6 +47,23 @@ pub struct Record<K: Kind> {
     at_events: Vec<u64>,
     /// What the lines are, by their numbers.
     roles: Vec<LineRole>,
+}
+
+impl<K: Kind> Drop for Record<K> {
+    // Written out, so that it is proved here and not once more wherever one is dropped.
+    fn drop(self) {
+        let Record {
+            alloc: _,
+            machine: _,
+            items: _,
+            values: _,
+            changes: _,
+            events: _,
+            collects: _,
+            at_events: _,
+            roles: _,
+        } = self;
+    }
 }
 
 impl<K: Kind> Model for Record<K> {
@@ -100,7 +114,7 @@ impl<K: Kind> Record<K> {
     #[inline(always)]
     fn add_plain(&mut self, i: u32) -> Result<Outcome, AllocError>
         requires process { IsOneOf self.old.shape.n i }
-        requires few { length self.old.items < 1000000 }
+        requires few { length self.old.items < max_items }
         requires plain { step_role_of self.old.source (state self.old (length self.old.items))
             (Step i) ≡ Nothing }
         ensures done { IfOk result (λ o. (self.new ≡ with_item self.old (Step i)) ×
@@ -128,7 +142,7 @@ impl<K: Kind> Record<K> {
     /// Does one item, and notes all that it does.
     fn add_noted(&mut self, item: Item) -> Result<Outcome, AllocError>
         requires process { IsOneOf self.old.shape.n (who item) }
-        requires few { length self.old.items < 1000000 }
+        requires few { length self.old.items < max_items }
         ensures done { IfOk result (λ o. (self.new ≡ with_item self.old item) ×
             (o ≡ outcome self.new (length self.new.items))) }
         ensures unchanged { OnErr result (self.new ≡ self.old) }
@@ -165,7 +179,7 @@ impl<K: Kind> Record<K> {
     #[inline(always)]
     fn add(&mut self, item: Item) -> Result<Outcome, AllocError>
         requires process { IsOneOf self.old.shape.n (who item) }
-        requires few { length self.old.items < 1000000 }
+        requires few { length self.old.items < max_items }
         ensures done { IfOk result (λ o. (self.new ≡ with_item self.old item) ×
             (o ≡ outcome self.new (length self.new.items))) }
         ensures unchanged { OnErr result (self.new ≡ self.old) }
@@ -183,7 +197,7 @@ impl<K: Kind> Record<K> {
         requires { IsOneOf self.old.shape.n (who item) }
         ensures done { IfOk result (λ o. (self.new ≡ with_item self.old item) ×
             (o ≡ outcome self.new (length self.new.items))) }
-        ensures full { (length self.old.items ≡ 1000000) ↔ (result ≡ Err Full) }
+        ensures full { (length self.old.items ≡ max_items) ↔ (result ≡ Err Full) }
         ensures unchanged { OnErr result (self.new ≡ self.old) }
     {
         if self.items.len() == MAX_ITEMS {
@@ -196,7 +210,7 @@ impl<K: Kind> Record<K> {
     /// before it stay done.
     pub fn apply_first(&mut self, items: &Items, count: u64) -> Result<(), AllocError>
         requires processes { AllByRecursion (λ x. IsOneOf self.old.shape.n (who x)) items.now }
-        requires few { length self.old.items + count ≤ 1000000 }
+        requires few { length self.old.items + count ≤ max_items }
         ensures done { OnOk result (self.new ≡ with_items self.old (take count items.now)) }
         ensures begun { OnErr result ((m : ℕ) × (m ≤ count) ×
             (self.new ≡ with_items self.old (take m items.now))) }
@@ -217,7 +231,7 @@ impl<K: Kind> Record<K> {
     pub fn items(&self) -> &History
         ensures items { result.now.items ≡ self.now.items }
         ensures fits { IsValidRun self.now }
-        ensures few { length self.now.items ≤ 1000000 }
+        ensures few { length self.now.items ≤ max_items }
     {
         &self.items
     }
@@ -266,22 +280,6 @@ impl<K: Kind> Record<K> {
         let mut values = Row::zeros(self.alloc, self.machine.shape().w())?;
         let _next = advance(&mut values, self.changes.as_slice(), 0, t);
         Ok(Some(values.into_view()))
-    }
-
-    /// The report of the position after all items.
-    pub fn report(&self) -> Result<Report, AllocError>
-        ensures { IfOk result (λ t. t ≡ report_at self.now (length self.now.items)) }
-    {
-        let mut text = Vec::new(self.alloc);
-        let position = self.items.len() as u64;
-        report(
-            &mut text,
-            &self.machine,
-            self.events.as_slice(),
-            position,
-            position,
-        )?;
-        Ok(Report::of(text))
     }
 
     /// How many double collects the scan takes that the event at a place calls, where it calls one.

@@ -6,7 +6,8 @@ use Rattle.snap_semantics.specs.Schedule.{Schedule, schedule_of}
 use Rattle.snap_semantics.specs.Source.{Source}
 use Rattle.snap_semantics.specs.declared.process.Item.{Item}
 use Rattle.snap_runner.specs.End.{end_report}
-use Rattle.snap_perform.specs.Perform.{end_text, perform_listing, run_listing, schedule_for}
+use Rattle.snap_input.specs.Schedules.{schedule_for}
+use Rattle.snap_perform.specs.Perform.{end_text, perform_listing, run_listing}
 use Rattle.snap_perform.proofs.ToTheEnd.{to_the_end}
 use Rattle.snap_input.specs.Parts.{parts_of}
 use Rattle.snap_live_output.specs.LiveOutput.{Setup}

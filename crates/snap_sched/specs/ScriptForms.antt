@@ -1,5 +1,6 @@
 -- The forms of the lines of scripts.
 use Rattle.std.specs.Prelude.{ℕ, Bool, ◌&&◌, List, [], ◌∷◌, Option, Some, None, nat_eq, nat_le, codes, if◌then◌else◌}
+use Rattle.snap_words.specs.Shape.{max_items}
 use Rattle.snap_semantics.specs.declared.process.Op.{Op}
 use Rattle.snap_semantics.specs.Rules.{◌>>=◌, or_else, number_at, keyword_at, end_at}
 use Rattle.snap_semantics.specs.ScheduleForms.{ItemForm, Steps, Calls, Crashes, item_form}
@@ -21,7 +22,7 @@ call_form ts = do
 
 -- whether a process may crash at this turn
 abbrev pub is_turn : ℕ → Bool
-is_turn k = nat_le 1 k && nat_le k 1000000
+is_turn k = nat_le 1 k && nat_le k max_items
 
 -- `I crash K`
 unfoldable pub crash_at_form : List Token → Option ScriptForm

@@ -1,7 +1,7 @@
 //! Schedules read from texts.
 ghost use Rattle.std.specs.Prelude.{◌≡◌, ◌≤◌, ◌<◌, ◌+◌, ◌^◌, ◌++◌, length, option_map, Some, Err, IfOk, OnOk};
 ghost use Rattle.std.specs.List.{AllByRecursion};
-ghost use Rattle.snap_words.specs.Shape.{IsOneOf, max_count};
+ghost use Rattle.snap_words.specs.Shape.{IsOneOf, max_count, max_items};
 ghost use Rattle.snap_semantics.specs.Answers.{Answers, Gives};
 ghost use Rattle.snap_semantics.specs.Schedule.{admitted, items_of, schedule_of, form_process, form_count, form_items};
 ghost use Rattle.snap_semantics.specs.ScheduleText.{FitsItem};
@@ -17,10 +17,10 @@ ghost use Rattle.snap_sched.specs.ReaderSteps.{view_form, line_form, next_form, 
 use crate::fault::ScheduleFault;
 use crate::forms::{ItemForm, item_form, shape_form};
 use crate::items::Items;
-use crate::schedule::{MAX_BYTES, MAX_ITEMS, Schedule};
+use crate::schedule::{MAX_BYTES, Schedule};
 use snap_semantics::ScheduleRefusal;
 use snap_text::{NumberLine, TextLines, TokenLine};
-use snap_words::Shape;
+use snap_words::{MAX_ITEMS, Shape};
 use std::alloc::{AllocError, Global};
 
 /// The form, where its process is one of `n` and no more than `left` items come of it.
@@ -130,9 +130,9 @@ fn next_form(
 /// The items of the lines.
 fn items_of(alloc: Global, n: u64, lines: &mut TextLines<'_>) -> Result<Items, ScheduleFault>
     requires { n ≤ max_count }
-    ensures items { Answers (λ items. items) result (items_of n 1000000 lines.old) }
+    ensures items { Answers (λ items. items) result (items_of n max_items lines.old) }
     ensures processes { IfOk result (λ items. AllByRecursion (λ x. IsOneOf n (who x)) items) }
-    ensures few { IfOk result (λ items. length items ≤ 1000000) }
+    ensures few { IfOk result (λ items. length items ≤ max_items) }
     ensures fits { IfOk result (λ items. AllByRecursion FitsItem items) }
 {
     let mut items = Items::new(alloc);

@@ -7,9 +7,6 @@ use snap_words::Shape;
 use std::alloc::{AllocError, Global};
 use std::marker::Model;
 
-/// The most items of a schedule.
-pub const MAX_ITEMS: u64 = 1_000_000;
-
 /// The most bytes of the text of a schedule.
 pub const MAX_BYTES: usize = 4_194_304;
 

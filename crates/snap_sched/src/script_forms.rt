@@ -6,10 +6,8 @@ ghost use Rattle.snap_sched.specs.ScriptForms.{call_form, crash_at_form, script_
 use crate::forms::{ItemForm, item_form};
 use snap_semantics::Op;
 use snap_text::{Token, end_at, keyword_at, number_at};
+use snap_words::MAX_ITEMS;
 use std::alloc::{AllocError, Global};
-
-/// The last turn at which a process may crash.
-const LAST_TURN: u64 = 1_000_000;
 
 /// What a line of scripts says, whether or not its process is there.
 #[derive(Clone, Copy, Debug)]
@@ -39,7 +37,7 @@ fn crash_at_form(tokens: &[Token<'_>]) -> Option<ScriptForm>
     let rest = keyword_at(b"crash", rest)?;
     let (turn, rest) = number_at(rest)?;
     end_at(rest)?;
-    if turn < 1 || LAST_TURN < turn {
+    if turn < 1 || MAX_ITEMS < turn {
         return None;
     }
     Some(ScriptForm::Crash { process, turn })

@@ -1,5 +1,6 @@
 -- Schedules that are cut, and to which items are added.
 use Rattle.std.specs.Prelude.{ℕ, ◌-◌, ◌++◌, length, take, Result, Ok, Err}
+use Rattle.snap_words.specs.Shape.{max_items}
 use Rattle.snap_semantics.specs.Answers.{◌>>=◌}
 use Rattle.snap_semantics.specs.Schedule.{Schedule, admitted, form_items}
 use Rattle.snap_semantics.specs.ScheduleForms.{ItemForm, Steps, Calls, Crashes}
@@ -24,4 +25,4 @@ with_form form s = record { shape = s.shape; items = s.items ++ form_items form 
 -- The first t items of a schedule, and behind them those of a form: one of its processes, and no more than 1,000,000 items in
 -- all. A refusal names this line.
 unfoldable pub edited : (line t : ℕ) → ItemForm → Schedule → Result Schedule ScheduleRefusal
-edited line t form s = admitted s.shape.n (1000000 - t) line form >>= λ f. Ok (with_form f (cut_at t s))
+edited line t form s = admitted s.shape.n (max_items - t) line form >>= λ f. Ok (with_form f (cut_at t s))

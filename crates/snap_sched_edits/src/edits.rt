@@ -1,6 +1,7 @@
 //! Schedules, edited.
 ghost use Rattle.std.specs.Prelude.{◌≡◌, ◌≤◌, ◌<◌, ◌+◌, ◌^◌, ◌++◌, ◌∷◌, [], IfOk, OnOk, length, take};
 ghost use Rattle.std.specs.List.{AllByRecursion};
+ghost use Rattle.snap_words.specs.Shape.{max_items};
 ghost use Rattle.snap_semantics.specs.Answers.{Answers, Gives};
 ghost use Rattle.snap_semantics.specs.Schedule.{admitted, form_count, form_items, form_process};
 ghost use Rattle.snap_semantics.specs.ScheduleText.{FitsItem};
@@ -58,7 +59,7 @@ fn push_item(items: &mut Items, item: Item) -> Result<(), AllocError>
 /// The first of these items, so many of them.
 fn first_items(alloc: Global, items: &Items, count: u64) -> Result<Items, AllocError>
     requires within { count ≤ length items.now }
-    requires few { length items.now ≤ 1000000 }
+    requires few { length items.now ≤ max_items }
     ensures { IfOk result (λ first. first ≡ take count items.now) }
 {
     let mut first = Items::new(alloc);

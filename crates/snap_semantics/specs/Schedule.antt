@@ -1,6 +1,6 @@
 -- The grammar of schedules: a shape, and then items, one form a line; and why a text is refused, the first reason first.
 use Rattle.std.specs.Prelude.{ℕ, ◌-◌, ◌&&◌, not, List, [], ◌∷◌, ◌++◌, length, replicate, Result, Ok, Err, nat_lt, nat_le, if◌then◌else◌}
-use Rattle.snap_words.specs.Shape.{Counts}
+use Rattle.snap_words.specs.Shape.{Counts, max_items}
 use Rattle.snap_semantics.specs.declared.process.Item.{Item}
 use Rattle.snap_semantics.specs.declared.process.Item.TheVariants as item
 use Rattle.snap_semantics.specs.declared.refusal.ScheduleRefusal.{ScheduleRefusal}
@@ -48,7 +48,7 @@ items_of n left (line ∷ lines) =
 abbrev pub schedule_of_lines : List TextLine → Result Schedule ScheduleRefusal
 schedule_of_lines [] = Err refusal.BadShape
 schedule_of_lines (line ∷ lines) =
-    form_or refusal.BadShape shape_form line.tokens >>= λ shape. items_of shape.n 1000000 lines >>= λ items.
+    form_or refusal.BadShape shape_form line.tokens >>= λ shape. items_of shape.n max_items lines >>= λ items.
     Ok (record { shape = shape; items = items })
 
 -- the schedule that a text is, or the first reason why it is none

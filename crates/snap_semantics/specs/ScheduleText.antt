@@ -2,7 +2,7 @@
 -- a line.
 use Rattle.std.specs.Prelude.{ℕ, suc, ◌≤◌, ◌<◌, ◌^◌, ⊤, List, [], ◌∷◌, ◌++◌, length, map, nat_eq, if◌then◌else◌}
 use Rattle.std.specs.List.{AllByRecursion}
-use Rattle.snap_words.specs.Shape.{IsOneOf, IsShape}
+use Rattle.snap_words.specs.Shape.{IsOneOf, IsShape, max_items}
 use Rattle.snap_semantics.specs.declared.process.Item.{Item}
 use Rattle.snap_semantics.specs.declared.process.Item.TheVariants as item
 use Rattle.snap_semantics.specs.declared.process.Op.{Op}
@@ -52,5 +52,5 @@ FitsItem (item.Crash i) = ⊤
 pub record IsSchedule (s : Schedule) : Type 0 where
   pub shape : IsShape s.shape.n s.shape.w
   pub processes : AllByRecursion (λ x. IsOneOf s.shape.n (who x)) s.items
-  pub few : length s.items ≤ 1000000
+  pub few : length s.items ≤ max_items
   pub fits : AllByRecursion FitsItem s.items

@@ -1,6 +1,6 @@
 //! A record, and what its items came to.
 ghost use Rattle.std.specs.Prelude.{◌≡◌, ◌<◌, [], IfOk, OnOk, length};
-ghost use Rattle.snap_words.specs.Shape.{IsOneOf};
+ghost use Rattle.snap_words.specs.Shape.{IsOneOf, max_items};
 ghost use Rattle.snap_semantics.specs.Table.{who};
 ghost use Rattle.snap_runs.specs.Run.{run_over};
 ghost use Rattle.snap_runs.specs.Scan.{count};
@@ -43,7 +43,7 @@ impl<K: Kind> TalliedRecord<K> {
     /// Does one item more, and notes what it came to.
     fn take(&mut self, item: Item) -> Result<(), AllocError>
         requires process { IsOneOf self.old.record.shape.n (who item) }
-        requires few { length self.old.record.items < 1000000 }
+        requires few { length self.old.record.items < max_items }
         requires tally { self.old.tally ≡ tally_of self.old.record (length self.old.record.items) }
         ensures record { OnOk result (self.new.record ≡ with_item self.old.record item) }
         ensures tally { OnOk result (self.new.tally

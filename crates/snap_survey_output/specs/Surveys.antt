@@ -5,7 +5,7 @@ use Rattle.snap_semantics.specs.Answers.{◌>>=◌}
 use Rattle.snap_semantics.specs.Schedule.{Schedule}
 use Rattle.snap_semantics.specs.Source.{Source}
 use Rattle.snap_runs.specs.Run.{run_over}
-use Rattle.snap_perform.specs.Perform.{schedule_for}
+use Rattle.snap_input.specs.Schedules.{schedule_for}
 use Rattle.snap_survey.specs.Survey.{survey_of}
 use Rattle.snap_survey.specs.SurveyText.{surveys_text}
 use Rattle.snap_survey.specs.declared.findings.Survey.{Survey}

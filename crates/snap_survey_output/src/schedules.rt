@@ -4,7 +4,7 @@ ghost use Rattle.snap_semantics.specs.Answers.{Answers};
 ghost use Rattle.snap_survey_output.specs.Surveys.{schedules_for};
 
 use snap_asm_program::Program;
-use snap_perform::schedule_for;
+use snap_input::schedule_for;
 use snap_sched::Schedule;
 use snap_semantics::{Fault, Refusal};
 use snap_words::Kind;

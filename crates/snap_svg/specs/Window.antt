@@ -1,6 +1,6 @@
 -- Which items are drawn, and where: in units of a picture that is 1,600 wide.
 use Rattle.std.specs.Prelude.{ℕ, ◌+◌, ◌-◌, ◌*◌, ◌/◌, ◌<◌, ◌≤◌, Bool, ◌&&◌, nat_le, nat_lt, min, max}
-use Rattle.snap_words.specs.Shape.{IsOneOf, max_count}
+use Rattle.snap_words.specs.Shape.{IsOneOf, max_count, max_items}
 
 -- the items after `from` and up to `to`, of so many processes; whether reads lead to what they read
 pub record Part : Type 0 where
@@ -17,7 +17,7 @@ most_items = 20000
 pub record IsPart (p : Part) : Type 0 where
   pub some : p.from < p.to
   pub few : p.to ≤ p.from + most_items
-  pub counted : p.to ≤ 1000000
+  pub counted : p.to ≤ max_items
   pub processes_are : IsOneOf max_count p.processes
 
 -- where the state after an item stands: that of an item outside is at the edge

@@ -15,14 +15,11 @@ ghost use Rattle.snap_svg.specs.Window.{
   y_of,
 };
 
-use snap_words::Shape;
+use snap_words::{MAX_ITEMS, Shape};
 use std::marker::Model;
 
 /// The most items that a picture has.
 const MOST_ITEMS: u64 = 20_000;
-
-/// The most items of a run.
-const MAX_ITEMS: u64 = 1_000_000;
 
 /// The items that are drawn, in the lanes of so many processes.
 #[derive(Clone, Copy, Debug)]

@@ -1,5 +1,6 @@
 -- What the arguments of a command line ask for.
 use Rattle.std.specs.Prelude.{ℕ, ◌≤◌, List, Option, Some, None, ⊤, bytes_eq, codes, if◌then◌else◌}
+use Rattle.snap_words.specs.Shape.{max_items}
 use Rattle.snap_words.specs.declared.kind.KindTag.{KindTag}
 use Rattle.snap_words.specs.declared.kind.KindTag.TheVariants as kind
 use Rattle.snap_subject.specs.declared.subject.Subject.{Subject}
@@ -33,7 +34,7 @@ request_of name s limit =
 
 -- a limit that processes may have
 abbrev pub IsLimit : ℕ → Type 0
-IsLimit limit = (1 ≤ limit) × (limit ≤ 1000000)
+IsLimit limit = (1 ≤ limit) × (limit ≤ max_items)
 
 -- what is asked for has such a limit, where it has one
 abbrev pub HasLimit : Request → Type 0

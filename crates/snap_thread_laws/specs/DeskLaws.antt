@@ -3,7 +3,7 @@
 use Rattle.std.specs.Prelude.{◌≡◌, ℕ, ◌<◌, ◌≤◌, List, [], ◌∷◌, length, nat_eq, slice_index_or, Some, if◌then◌else◌}
 use Rattle.std.specs.List.{All, Contains}
 use mathlib.Core.List.{IsPrefix}
-use Rattle.snap_words.specs.Shape.{IsOneOf}
+use Rattle.snap_words.specs.Shape.{IsOneOf, max_items}
 use Rattle.snap_semantics.specs.declared.process.Item.{Item}
 use Rattle.snap_semantics.specs.declared.process.Item.TheVariants.{Call}
 use Rattle.snap_semantics.specs.declared.process.Op.{Op}
@@ -25,7 +25,7 @@ pub record IsClosed (base : Setting) (seats : List SeatView) (kept : Run) : Type
   pub keeps : All (Keeps base kept.items) seats
   pub whole : (p : ℕ) → IsOneOf base.shape.n p → HasSeat p seats
   pub fits : IsValidRun kept
-  pub short : length kept.items ≤ 1000000
+  pub short : length kept.items ≤ max_items
 
 -- what was told to the seats: to each process the turns of its seat
 abbrev pub told_at : List SeatView → Told

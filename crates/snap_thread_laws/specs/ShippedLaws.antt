@@ -1,7 +1,7 @@
 -- What threads are told of runs of U, B and M, at a desk that was closed and by a live run, is linearizable.
 use Rattle.std.specs.Prelude.{◌≡◌, ℕ, ◌+◌, ◌<◌, ◌≤◌, Bool, List, length, map, true}
 use Rattle.snap_words.specs.Kind.{fits}
-use Rattle.snap_words.specs.Shape.{Counts, IsShape}
+use Rattle.snap_words.specs.Shape.{Counts, IsShape, max_items}
 use Rattle.snap_words.specs.declared.kind.KindTag.{KindTag}
 use Rattle.snap_sched.specs.ScriptText.{Script}
 use Rattle.snap_runs.specs.Run.{IsValidRun, Run}
@@ -39,5 +39,5 @@ pub record IsToldLive (base : Setting) (scripts : List Script) (turns : List (Li
 abbrev pub LiveRunsAreLinearizable : (may : ℕ → ℕ → Bool → Type 0) → Type 0
 LiveRunsAreLinearizable may = (g : KindTag) (shape : Counts) (scripts : List Script) (limit : ℕ) (kept : Run)
     (turns : List (List Turn)) → IsShapeFor g shape →
-    IsLive may (shipped_over g shape) scripts limit kept turns → IsValidRun kept → length kept.items ≤ 1000000 →
+    IsLive may (shipped_over g shape) scripts limit kept turns → IsValidRun kept → length kept.items ≤ max_items →
     (told : Told) × IsToldLive (shipped_over g shape) scripts turns told × IsLinearizableAsTold shape.w told

@@ -4,7 +4,7 @@ ghost use Rattle.snap_semantics.specs.Answers.{Answers};
 ghost use Rattle.snap_trace_output.specs.Traces.{trace_listing};
 
 use snap_asm_program::Program;
-use snap_perform::schedule_for;
+use snap_input::schedule_for;
 use snap_run_trace::trace;
 use snap_semantics::{Fault, Refusal};
 use snap_words::{Bits, Kind, KindTag, Multi, Seq};

@@ -1,2 +1,3 @@
 pub mod PlacesLeft
 pub mod Slots
+pub mod Sizes

@@ -1,2 +1,4 @@
 pub mod Quantifiers
 pub mod Seen
+pub mod Sizes
+pub mod Current

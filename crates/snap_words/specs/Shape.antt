@@ -14,6 +14,10 @@ IsOneOf count i = (0 < i) × (i ≤ count)
 abbrev pub max_count : ℕ
 max_count = 64
 
+-- the most items of a schedule, and of a run
+abbrev pub max_items : ℕ
+max_items = 1000000
+
 -- both are 1 to that many
 abbrev pub IsShape : ℕ → ℕ → Type 0
 IsShape n w = IsOneOf max_count n × IsOneOf max_count w

@@ -19,5 +19,5 @@ pub use copies::{copy_views, copy_words};
 pub use kind::{Field, KindTag};
 pub use kinds::{Bits, BitsWord, Kind, Multi, MultiWord, Seq, SeqWord};
 pub use place::place_in;
-pub use shape::{MAX_COUNT, Shape, WordFault};
+pub use shape::{MAX_COUNT, MAX_ITEMS, Shape, WordFault};
 pub use view::View;

@@ -9,6 +9,9 @@ use thiserror::Error;
 /// The most processes, and the most words.
 pub const MAX_COUNT: u64 = 64;
 
+/// The most items of a schedule, and of a run; so also the most turns of a process in one.
+pub const MAX_ITEMS: u64 = 1_000_000;
+
 /// Why a shape or a word is refused.
 #[derive(Clone, Copy, Debug, PartialEq, Eq, Error)]
 pub enum WordFault {

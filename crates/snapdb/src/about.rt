@@ -3,7 +3,7 @@ ghost use Rattle.std.specs.Prelude.{◌≡◌, Err, IfSome, OnOk, Ok};
 ghost use Rattle.std.specs.Io.KnownBytes.{Appends};
 ghost use Rattle.snap_dialog.specs.Dialog.{transcript};
 ghost use Rattle.snap_dialog.specs.TypedLines.{typed_lines};
-ghost use Rattle.snap_perform.specs.Perform.{schedule_for};
+ghost use Rattle.snap_input.specs.Schedules.{schedule_for};
 ghost use Rattle.snap_prompt.specs.Prompt.{answer_line, opened_prompt, prompt_text};
 ghost use Rattle.snap_runs.specs.Run.{run_over};
 ghost use Rattle.snap_semantics.specs.Answers.{Answers};
@@ -25,9 +25,9 @@ fn schedule_for(alloc: Global, program: &Program, text: &[u8]) -> Result<Schedul
     ensures { Answers (λ s. s) result (schedule_for program.now text.now) }
 {
     match program.kind() {
-        KindTag::Seq => snap_perform::schedule_for::<Seq>(alloc, program, text),
-        KindTag::Bits => snap_perform::schedule_for::<Bits>(alloc, program, text),
-        KindTag::Multi => snap_perform::schedule_for::<Multi>(alloc, program, text),
+        KindTag::Seq => snap_input::schedule_for::<Seq>(alloc, program, text),
+        KindTag::Bits => snap_input::schedule_for::<Bits>(alloc, program, text),
+        KindTag::Multi => snap_input::schedule_for::<Multi>(alloc, program, text),
     }
 }
 

@@ -4,6 +4,7 @@ use clap::builder::ValueParser;
 use clap::error::ErrorKind;
 use clap::{Arg, ArgAction, ArgMatches, Command, Error};
 use snap_tasks::kind_of;
+use snap_words::MAX_ITEMS;
 use std::alloc::{AllocError, Global};
 
 /// The version of the program.
@@ -11,9 +12,6 @@ const VERSION: &str = "0.1.0";
 
 /// The kinds that `--shipped` takes.
 const KINDS: &[&str] = &["seq", "bit", "multi"];
-
-/// The most items of a run.
-const MAX_ITEMS: u64 = 1_000_000;
 
 /// A picture that is asked for.
 #[derive(Clone, Copy, Debug)]

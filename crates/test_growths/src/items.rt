@@ -9,7 +9,7 @@ use crate::trials::{tell, tried};
 use crate::trouble::Trouble;
 use snap_asm_program::Program;
 use snap_machine::Machine;
-use snap_record::report;
+use snap_report::report;
 use snap_sched::{Schedule, read};
 use snap_semantics::{Item, Outcome, who};
 use snap_words::{Bits, KindTag};

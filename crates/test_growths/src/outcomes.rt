@@ -1,9 +1,11 @@
 //! What comes of items.
 use crate::trials::{tell, tried};
 use crate::trouble::Trouble;
-use snap_record::outcome_text;
+use snap_record::Record;
+use snap_report::{outcome_text, report};
 use snap_semantics::Outcome;
 use snap_text::push_text;
+use snap_words::Kind;
 use std::alloc::{AllocError, Global};
 
 /// The line of an outcome.
@@ -18,4 +20,18 @@ fn outcome_line(alloc: Global, outcome: &Outcome) -> Result<Vec<u8>, AllocError>
 pub fn tell_outcome(rt: &HostRuntime, outcome: &Outcome) -> Result<(), Trouble> {
     let line = tried!(rt, outcome_line(rt.alloc(), outcome));
     tell(rt, line.as_slice())
+}
+
+/// The report of all items of a record.
+pub fn record_report<K: Kind>(alloc: Global, record: &Record<K>) -> Result<Vec<u8>, AllocError> {
+    let mut text = Vec::new(alloc);
+    let position = record.items().len() as u64;
+    report(
+        &mut text,
+        record.machine(),
+        record.events(),
+        position,
+        position,
+    )?;
+    Ok(text)
 }

@@ -1,5 +1,6 @@
 //! Scripts that are played live.
 use crate::inputs::{SCRIPTS, single};
+use crate::outcomes::record_report;
 use crate::trials::{tell, tried};
 use crate::trouble::Trouble;
 use snap_live::{LiveRun, NoGate, run_live};
@@ -17,6 +18,6 @@ pub fn play(rt: &HostRuntime, threads: &(impl Threads + Wait + Sync)) -> Result<
         rt,
         run_live(threads, alloc, &program, &scripts, 1000, &NoGate)
     );
-    let report = tried!(rt, live.kept.report());
+    let report = tried!(rt, record_report(alloc, &live.kept));
     tell(rt, report.as_slice())
 }

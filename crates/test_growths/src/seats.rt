@@ -3,7 +3,7 @@ ghost use Rattle.std.specs.Prelude.{◌≡◌, All};
 ghost use Rattle.snap_words.specs.declared.kind.KindTag.TheVariants as kind;
 
 use crate::inputs::single;
-use crate::outcomes::tell_outcome;
+use crate::outcomes::{record_report, tell_outcome};
 use crate::trials::{tell, tried};
 use crate::trouble::Trouble;
 use snap_asm_program::Program;
@@ -79,7 +79,7 @@ fn end(rt: &HostRuntime, bench: Bench) -> Result<(), Trouble> {
     let Ok(record) = close(desk, seats) else {
         return Err(Trouble::Changed);
     };
-    let report = tried!(rt, record.report());
+    let report = tried!(rt, record_report(rt.alloc(), &record));
     tell(rt, report.as_slice())
 }
 

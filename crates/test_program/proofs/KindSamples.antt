@@ -8,7 +8,8 @@ use Rattle.snap_semantics.specs.ScheduleForms as schedules
 use Rattle.snap_debug_commands.specs.CommandForms as commands
 use Rattle.snap_input.specs.Input.{parted}
 use Rattle.snap_output.specs.Output.{output_of}
-use Rattle.snap_perform.specs.Perform.{perform_listing, schedule_for}
+use Rattle.snap_input.specs.Schedules.{schedule_for}
+use Rattle.snap_perform.specs.Perform.{perform_listing}
 use Rattle.snap_subject.specs.declared.subject.Subject.TheVariants as subject
 use Rattle.snap_tasks.specs.declared.task.Task.TheVariants as task
 

@@ -3,7 +3,7 @@ use crate::images::written;
 use crate::runs::LISTING;
 use snap_batch::batch;
 use snap_program::{ConductFault, Subject, Task, shipped};
-use snap_record::Report;
+use snap_report::Report;
 use snap_sched::{Schedule, ScheduleFault, read};
 use snap_semantics::{Refusal, ScheduleRefusal};
 use snap_words::{KindTag, WordFault};

@@ -1,6 +1,6 @@
 use Rattle.std.proofs.Common.{◌-◌, ◌<◌, arith, length, slice_index_or, sym, subst}
 use Rattle.std.proofs.lemmas.List.{get_or_default}
-use Rattle.snap_line_effects.specs.Sizes.{AreSized}
+use Rattle.snap_values.specs.Sizes.{AreSized}
 use Rattle.snap_undo.specs.Seen.{seen_place}
 use Rattle.snap_undo.specs.Undo.{CanPut, Overwritten}
 use Rattle.snap_undo.proofs.Fitting.{sized_back}

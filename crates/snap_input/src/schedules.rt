@@ -1,0 +1,36 @@
+//! Schedules for a program.
+ghost use Rattle.std.specs.Prelude.{◌≡◌};
+ghost use Rattle.snap_semantics.specs.Answers.{Answers, refused_as};
+ghost use Rattle.snap_semantics.specs.Schedule.{schedule_of};
+ghost use Rattle.snap_semantics.specs.declared.refusal.Refusal.TheVariants as refusal;
+ghost use Rattle.snap_input.specs.Schedules.{schedule_for};
+
+use snap_asm_program::Program;
+use snap_sched::Schedule;
+use snap_semantics::{Fault, Refusal};
+use snap_words::{Kind, WordFault};
+use std::alloc::Global;
+
+/// Reads a schedule.
+fn read_schedule(alloc: Global, text: &[u8]) -> Result<Schedule, Fault<Refusal>>
+    ensures { Answers (λ s. s) result (refused_as refusal.Schedule (schedule_of text.now)) }
+{
+    Ok(snap_sched::read(alloc, text)?)
+}
+
+/// Reads a schedule whose shape fits the kind of a program.
+#[tactic(auto, unfolding(crate::specs::Schedules::schedule_for))]
+pub fn schedule_for<K: Kind>(
+    alloc: Global,
+    program: &Program,
+    text: &[u8],
+) -> Result<Schedule, Fault<Refusal>>
+    requires { program.now.kind ≡ K.TAG }
+    ensures { Answers (λ s. s) result (schedule_for program.now text.now) }
+{
+    let schedule = read_schedule(alloc, text)?;
+    if !K::fits(schedule.shape()) {
+        return Err(Fault::Refused(Refusal::Words(WordFault::BadShape)));
+    }
+    Ok(schedule)
+}

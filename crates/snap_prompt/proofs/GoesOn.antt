@@ -8,7 +8,7 @@ use Rattle.snap_debug.specs.Session.{total}
 use Rattle.snap_sched_edits.specs.Edits.{edited, form_of}
 use Rattle.snap_sched_edits.specs.declared.addition.Addition.{Addition}
 use Rattle.snap_sched_edits.specs.declared.addition.Addition.TheVariants as addition
-use Rattle.snap_reach.specs.Steps.{steps_to}
+use Rattle.snap_reach.specs.Reach.{steps_to}
 use Rattle.snap_reach.specs.declared.goal.Goal.{Goal}
 use Rattle.snap_reach.specs.declared.goal.Goal.TheVariants as goal
 use Rattle.snap_reach.specs.declared.goal.NoSteps.{NoSteps}

@@ -6,7 +6,7 @@ use Rattle.snap_semantics.specs.State.{State, process_at}
 use Rattle.snap_semantics.specs.Table.{done}
 use Rattle.snap_semantics.specs.declared.process.Item.TheVariants.{Step}
 use Rattle.snap_semantics.specs.declared.process.Outcome.{Outcome}
-use Rattle.snap_reach.specs.Steps.{has_reached, steps_from, stepped}
+use Rattle.snap_reach.specs.Reach.{has_reached, steps_from, stepped}
 use Rattle.snap_reach.specs.declared.goal.Goal.{Goal}
 
 abbrev goes_to : Source → Counts → ℕ → Goal → ℕ → ℕ → State → Option ℕ

@@ -1,7 +1,7 @@
 //! Steps, counted.
 ghost use Rattle.std.specs.Prelude.{◌≡◌, IfOk};
 ghost use Rattle.snap_words.specs.Shape.{IsOneOf};
-ghost use Rattle.snap_reach.specs.Steps.{checked, checked_goal, checked_status, has_reached, is_at, steps_from, steps_to};
+ghost use Rattle.snap_reach.specs.Reach.{IsRightOf, checked, checked_goal, checked_status, has_reached, is_at, steps_from, steps_to};
 
 use crate::goal::{Goal, NoSteps};
 use snap_asm_program::Program;
@@ -101,13 +101,14 @@ fn check<K: Kind>(session: &Session<K>, process: u64, goal: Goal) -> Result<(), 
 }
 
 /// How many steps a process takes to a goal from where a session stands, or why it takes none.
-#[tactic(auto, unfolding(crate::specs::Steps::steps_to))]
+#[tactic(auto, using(crate::proofs::Fewest::right), unfolding(crate::specs::Reach::steps_to))]
 pub fn steps_to<K: Kind>(
     session: &Session<K>,
     process: u64,
     goal: Goal,
 ) -> Result<Result<u64, NoSteps>, AllocError>
-    ensures { IfOk result (λ steps. steps ≡ steps_to session.now process goal) }
+    ensures steps { IfOk result (λ steps. steps ≡ steps_to session.now process goal) }
+    ensures right { IfOk result (λ steps. IsRightOf session.now process goal steps) }
 {
     if let Err(why) = check(session, process, goal) {
         return Ok(Err(why));

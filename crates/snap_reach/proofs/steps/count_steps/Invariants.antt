@@ -1,5 +1,5 @@
 use Rattle.std.proofs.Common.{◌≡◌, ◌-◌}
-use Rattle.snap_reach.specs.Steps.{steps_from}
+use Rattle.snap_reach.specs.Reach.{steps_from}
 use Rattle.snap_reach.proofs.steps.count_steps.Given as goal
 
 -- the steps that are left lead to the goal as all of them do

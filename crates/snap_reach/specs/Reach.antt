@@ -1,7 +1,8 @@
 -- How many steps a process takes to a line, or to the end of its operation.
-use Rattle.std.specs.Prelude.{ℕ, zero, suc, ◌+◌, ◌-◌, Bool, true, false, not, List, Option, Some, None, Result, Ok, Err, nat_eq, if◌then◌else◌}
+use Rattle.std.specs.Prelude.{◌≡◌, ℕ, zero, suc, ◌+◌, ◌-◌, ◌<◌, ◌≤◌, Bool, true, false, not, List, Option, Some, None, Result, Ok, Err, ⊤, nat_eq, if◌then◌else◌, replicate}
 use Rattle.snap_words.specs.Shape.{Counts, max_items}
 use Rattle.snap_semantics.specs.Listing.{has_line}
+use Rattle.snap_semantics.specs.Run.{after}
 use Rattle.snap_semantics.specs.Source.{Source}
 use Rattle.snap_semantics.specs.State.{State, process_at}
 use Rattle.snap_semantics.specs.Table.{done}
@@ -75,3 +76,28 @@ steps_if (Err why) steps = Err why
 -- behind the position.
 unfoldable pub steps_to : Session → ℕ → Goal → Result ℕ NoSteps
 steps_to s i g = steps_if (checked s i g) (steps_from s.run.source s.run.shape i g 0 (max_items - s.position) (state_of s))
+
+-- whether process i has reached a goal after k steps of its own
+abbrev pub reached_after : Source → Counts → ℕ → Goal → State → ℕ → Bool
+reached_after l shape i g s k = has_reached g (process_at (after l shape s (replicate k (Step i))) i).status
+
+-- k steps lead process i to a goal: at least one, and fewer don't
+pub record IsFewest (l : Source) (shape : Counts) (i : ℕ) (g : Goal) (s : State) (k : ℕ) : Type 0 where
+  pub some : 0 < k
+  pub there : reached_after l shape i g s k ≡ true
+  pub fewest : (j : ℕ) → 0 < j → j < k → reached_after l shape i g s j ≡ false
+
+-- no steps lead process i to a goal, at most so many
+abbrev pub LeadsNowhere : Source → Counts → ℕ → Goal → State → ℕ → Type 0
+LeadsNowhere l shape i g s most = (j : ℕ) → 0 < j → j ≤ most → reached_after l shape i g s j ≡ false
+
+-- What an answer about a goal says of the steps of process i behind the position: these are the fewest, and there is room for them; or
+-- there is no room for as many as would lead there.
+abbrev pub IsRightOf : Session → ℕ → Goal → Result ℕ NoSteps → Type 0
+IsRightOf s i g (Ok k) = IsFewest s.run.source s.run.shape i g (state_of s) k × (k ≤ max_items - s.position)
+IsRightOf s i g (Err none.Full) = LeadsNowhere s.run.source s.run.shape i g (state_of s) (max_items - s.position)
+IsRightOf s i g (Err none.NoSuchProcess) = ⊤
+IsRightOf s i g (Err none.NoSuchLine) = ⊤
+IsRightOf s i g (Err none.Idle) = ⊤
+IsRightOf s i g (Err none.Trapped) = ⊤
+IsRightOf s i g (Err none.Crashed) = ⊤

@@ -190,7 +190,7 @@ fn batch(alloc: Global, subject: Subject, input: &[u8]) -> Result<Batch, Fault<R
 }
 
 /// What the runs of a listing under many schedules came to, and whether each of them is clean.
-#[tactic(auto, unfolding(crate::specs::Output::surveyed), unfolding(crate::specs::Output::clean_runs))]
+#[tactic(auto, unfolding(crate::specs::Output::surveyed, crate::specs::Output::clean_runs))]
 fn survey(alloc: Global, subject: Subject, input: &[u8]) -> Result<SurveyOutput, Fault<Refusal>>
     requires { length input.now ≤ max_input }
     ensures output { Answers (λ out. out.text.items) result
@@ -208,7 +208,7 @@ fn survey(alloc: Global, subject: Subject, input: &[u8]) -> Result<SurveyOutput,
 
 /// What is written for an input that is surveyed, and whether each of its runs is clean; or why
 /// there is no output.
-#[tactic(auto, using(crate::proofs::AtOnce::of_why), unfolding(crate::specs::Output::output_of), unfolding(crate::specs::Output::clean_of))]
+#[tactic(auto, using(crate::proofs::AtOnce::of_why), unfolding(crate::specs::Output::output_of, crate::specs::Output::clean_of))]
 pub fn survey_output(
     alloc: Global,
     subject: Subject,

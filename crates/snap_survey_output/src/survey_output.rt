@@ -72,7 +72,7 @@ pub struct SurveyOutput {
 }
 
 /// What a program of a kind came to under many schedules.
-#[tactic(auto, unfolding(crate::specs::Surveys::survey_text), unfolding(crate::specs::Surveys::are_clean))]
+#[tactic(auto, unfolding(crate::specs::Surveys::survey_text, crate::specs::Surveys::are_clean))]
 fn survey_kind<K: Kind>(
     alloc: Global,
     program: &Program,

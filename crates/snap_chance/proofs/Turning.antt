@@ -14,10 +14,10 @@ use Rattle.snap_sched.proofs.Lines.{all_more}
 use Rattle.snap_chance.specs.Chance.{turns_from}
 use Rattle.snap_chance.specs.Draws.{draws}
 use Rattle.snap_chance.specs.Plan.{IsPlan, Plan}
-use Rattle.snap_chance.specs.Turns.{asked_items, burst_of, burst_turn, call_items, coin_turn, interrupted_process, interrupted_turn, process_of, scanning_turn, turn_at, turn_items, turn_of, updating_turn, whole_update}
+use Rattle.snap_chance.specs.Turns.{asked_items, burst_of, burst_turn, call_items, coin_turn, interrupted_process, interrupted_turn, process_of, round_process, round_scan, round_turn, round_update, scanned_turn, scanning_turn, turn_at, turn_items, turn_of, updating_turn, whole_update}
 use Rattle.snap_chance.specs.declared.draws.Draws.{Draws}
 use Rattle.snap_chance.specs.declared.plan.Pace.{Pace}
-use Rattle.snap_chance.specs.declared.plan.Pace.TheVariants.{Coins, Bursts, Interruptions, Mixed}
+use Rattle.snap_chance.specs.declared.plan.Pace.TheVariants.{Coins, Bursts, Interruptions, Rounds, Mixed}
 use Rattle.snap_chance.specs.declared.turns.Turn.{Turn}
 
 -- a turn of a process that is there, of few steps
@@ -70,12 +70,27 @@ interrupted_is_turn : (p : Plan) (k t : ℕ) (d : Draws) → 0 < p.shape.n → I
 interrupted_is_turn p k t d some =
     either (IsTurn p.shape.n) (nat_eq (d.scale % 2) 0) (scanning_turn p k d) (updating_turn p k t d) (scanning_is_turn p k d some) (updating_is_turn p k t d some)
 
+round_scan_is_turn : (p : Plan) (k : ℕ) (d : Draws) → 0 < p.shape.n → IsTurn p.shape.n (round_scan p k d)
+round_scan_is_turn p k d some = record { there = process_there (k / 8 + 0) p.shape.n some; short = omega arith }
+
+round_update_is_turn : (p : Plan) (k t : ℕ) (d : Draws) → 0 < p.shape.n → IsTurn p.shape.n (round_update p k t d)
+round_update_is_turn p k t d some = record { there = process_there (k / 8 + (d.process % 2 + 1)) p.shape.n some; short = whole_short p }
+
+round_is_turn : (p : Plan) (k t : ℕ) (d : Draws) → 0 < p.shape.n → IsTurn p.shape.n (round_turn p k t d)
+round_is_turn p k t d some =
+    either (IsTurn p.shape.n) (nat_eq (t % 3) 0) (round_scan p k d) (round_update p k t d) (round_scan_is_turn p k d some) (round_update_is_turn p k t d some)
+
+scanned_is_turn : (p : Plan) (k t : ℕ) (d : Draws) → 0 < p.shape.n → IsTurn p.shape.n (scanned_turn p k t d)
+scanned_is_turn p k t d some =
+    either (IsTurn p.shape.n) (nat_eq (k / 4 % 2) 0) (interrupted_turn p k t d) (round_turn p k t d) (interrupted_is_turn p k t d some) (round_is_turn p k t d some)
+
 is_turn_at : (g : Pace) (p : Plan) (k t : ℕ) (d : Draws) → 0 < p.shape.n → IsTurn p.shape.n (turn_at g p k t d)
 is_turn_at Coins p k t d some = coin_is_turn p k t d some
 is_turn_at Bursts p k t d some = burst_is_turn p k t d some
 is_turn_at Interruptions p k t d some = interrupted_is_turn p k t d some
+is_turn_at Rounds p k t d some = round_is_turn p k t d some
 is_turn_at Mixed p k t d some =
-    either (IsTurn p.shape.n) (nat_eq (k % 2) 0) (burst_turn p k t d) (interrupted_turn p k t d) (burst_is_turn p k t d some) (interrupted_is_turn p k t d some)
+    either (IsTurn p.shape.n) (nat_eq (k % 2) 0) (burst_turn p k t d) (scanned_turn p k t d) (burst_is_turn p k t d some) (scanned_is_turn p k t d some)
 
 pub is_turn : (p : Plan) (k t : ℕ) (d : Draws) → 0 < p.shape.n → IsTurn p.shape.n (turn_of p k t d)
 is_turn p k t d some = is_turn_at p.pace p k t d some

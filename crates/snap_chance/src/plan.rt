@@ -19,7 +19,10 @@ pub enum Pace {
     /// One process scans, a few steps at a time. Between them all processes make updates, most of
     /// them whole.
     Interruptions,
-    /// Bursts and interruptions, in one run after another.
+    /// One process scans, one to four steps at a time. Between them two others make two updates,
+    /// whole.
+    Rounds,
+    /// Bursts in one run, and interruptions or rounds in the next.
     Mixed,
 }
 

@@ -12,6 +12,13 @@ ghost use Rattle.snap_chance.specs.Turns.{
   interrupted_process,
   operation_of,
   process_of,
+  repeats,
+  round_process,
+  round_scan,
+  round_turn,
+  round_update,
+  round_value,
+  scanned_turn,
   scanning_turn,
   turn_items,
   turn_of,
@@ -61,11 +68,18 @@ fn word_of(plan: &Plan, process: u32, draws: &Draws) -> u64
     }
 }
 
+/// Whether the values of a run repeat.
+fn repeats(plan: &Plan, run: u64) -> bool
+    ensures { result ≡ repeats plan.now run }
+{
+    plan.repeated() > 0 && run / 2 % 2 == 1
+}
+
 /// The value that the update of a turn sets.
 fn value_of(plan: &Plan, run: u64, turn: u64, draws: &Draws) -> u64
     ensures { result ≡ value_of plan.now run turn draws.now }
 {
-    if plan.repeated() > 0 && run / 2 % 2 == 1 {
+    if repeats(plan, run) {
         draws.value % (u64::from(plan.repeated()) + 1)
     } else {
         turn
@@ -187,6 +201,73 @@ fn interrupted_turn(plan: &Plan, run: u64, turn: u64, draws: &Draws) -> Turn
     }
 }
 
+/// A process of the rounds of a run: number 0 scans, 1 and 2 update.
+fn round_process(plan: &Plan, run: u64, number: u64) -> u32
+    requires { number ≤ 2 }
+    ensures { result ≡ round_process plan.now run number }
+{
+    ((run / 8 + number) % u64::from(plan.shape().process_count())) as u32 + 1
+}
+
+/// The value that an update of a round sets.
+fn round_value(plan: &Plan, run: u64, turn: u64) -> u64
+    ensures { result ≡ round_value plan.now run turn }
+{
+    if repeats(plan, run) {
+        turn / 3 % (u64::from(plan.repeated()) + 1)
+    } else {
+        turn
+    }
+}
+
+/// A scan, where none is going on, and a few of its steps.
+fn round_scan(plan: &Plan, run: u64, draws: &Draws) -> Turn
+    ensures { result ≡ round_scan plan.now run draws.now }
+{
+    Turn {
+        process: round_process(plan, run, 0),
+        call: Some(Op::Scan),
+        steps: draws.length % 4 + 1,
+    }
+}
+
+/// A whole update of one of two processes.
+fn round_update(plan: &Plan, run: u64, turn: u64, draws: &Draws) -> Turn
+    ensures { result ≡ round_update plan.now run turn draws.now }
+{
+    let process = round_process(plan, run, draws.process % 2 + 1);
+    Turn {
+        process,
+        call: Some(Op::Update {
+            word: word_of(plan, process, draws),
+            value: round_value(plan, run, turn),
+        }),
+        steps: whole_update(plan),
+    }
+}
+
+/// A turn of a round.
+fn round_turn(plan: &Plan, run: u64, turn: u64, draws: &Draws) -> Turn
+    ensures { result ≡ round_turn plan.now run turn draws.now }
+{
+    if turn % 3 == 0 {
+        round_scan(plan, run, draws)
+    } else {
+        round_update(plan, run, turn, draws)
+    }
+}
+
+/// A turn of a run whose scans are interrupted, by chance or in rounds.
+fn scanned_turn(plan: &Plan, run: u64, turn: u64, draws: &Draws) -> Turn
+    ensures { result ≡ scanned_turn plan.now run turn draws.now }
+{
+    if run / 4 % 2 == 0 {
+        interrupted_turn(plan, run, turn, draws)
+    } else {
+        round_turn(plan, run, turn, draws)
+    }
+}
+
 /// A turn that is no crash.
 fn turn_of(plan: &Plan, run: u64, turn: u64, draws: &Draws) -> Turn
     ensures { result ≡ turn_of plan.now run turn draws.now }
@@ -195,11 +276,12 @@ fn turn_of(plan: &Plan, run: u64, turn: u64, draws: &Draws) -> Turn
         Pace::Coins => coin_turn(plan, run, turn, draws),
         Pace::Bursts => burst_turn(plan, run, turn, draws),
         Pace::Interruptions => interrupted_turn(plan, run, turn, draws),
+        Pace::Rounds => round_turn(plan, run, turn, draws),
         Pace::Mixed => {
             if run % 2 == 0 {
                 burst_turn(plan, run, turn, draws)
             } else {
-                interrupted_turn(plan, run, turn, draws)
+                scanned_turn(plan, run, turn, draws)
             }
         }
     }

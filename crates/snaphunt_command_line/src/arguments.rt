@@ -19,7 +19,7 @@ const VERSION: &str = "0.1.0";
 const KINDS: &[&str] = &["seq", "bit", "multi"];
 
 /// The paces that `--pace` takes.
-const PACES: &[&str] = &["mixed", "bursts", "interruptions", "coins"];
+const PACES: &[&str] = &["mixed", "bursts", "interruptions", "rounds", "coins"];
 
 /// The failures that `--fails` takes.
 const FAILURES: &[&str] = &["point", "trap"];
@@ -191,6 +191,7 @@ fn plan_of(arguments: &ArgMatches<'_>) -> Option<Plan> {
     let pace = match arguments.get_str("pace")? {
         "bursts" => Pace::Bursts,
         "interruptions" => Pace::Interruptions,
+        "rounds" => Pace::Rounds,
         "coins" => Pace::Coins,
         _ => Pace::Mixed,
     };

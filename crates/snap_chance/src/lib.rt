@@ -2,7 +2,9 @@
 #![tactic(auto)]
 
 mod draws;
+mod moves;
 mod plan;
+mod priorities;
 mod schedules;
 mod turns;
 

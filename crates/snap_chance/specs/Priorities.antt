@@ -1,9 +1,10 @@
 -- Turns by priorities (probabilistic concurrency testing). The processes are put in an order by chance, the highest priority first,
 -- and all have as many turns. The first in the order moves, turn after turn, until its turns are used up. At a few turns, which are
 -- drawn beforehand, it goes to the end of the order before it would have moved.
-use Rattle.std.specs.Prelude.{ℕ, zero, suc, ◌+◌, ◌-◌, ◌/◌, ◌%◌, List, [], ◌∷◌, ◌++◌, Some, drop, insert, max, nat_eq, nat_lt, take, if◌then◌else◌}
+use Rattle.std.specs.Prelude.{◌≡◌, ℕ, zero, suc, ◌+◌, ◌-◌, ◌/◌, ◌%◌, List, [], ◌∷◌, ◌++◌, Some, drop, insert, max, nat_eq, nat_lt, take, if◌then◌else◌}
 use Rattle.std.specs.List.{list_any}
 use Rattle.rand_core.specs.Stream.{Stream, next_u64}
+use Rattle.snap_words.specs.Shape.{IsOneOf}
 use Rattle.snap_semantics.specs.declared.process.Item.{Item}
 use Rattle.snap_semantics.specs.declared.process.Item.TheVariants.{Crash}
 use Rattle.snap_semantics.specs.declared.process.Op.{Op}
@@ -29,13 +30,22 @@ order_of p (suc i) s =
     let drawn = next_u64 before.1 in
     (insert before.0 (drawn.0 % (i + 1)) (record { process = i + 1; left = share p }), drawn.1)
 
+-- how many times process i stands in an order
+abbrev pub times_in : (i : ℕ) → List Mover → ℕ
+times_in i [] = 0
+times_in i (m ∷ order) = if nat_eq m.process i then suc (times_in i order) else times_in i order
+
+-- So no two processes have the same priority: each stands in the order once.
+abbrev pub HasDistinctPriorities : Plan → Stream → Type 0
+HasDistinctPriorities p s = (i : ℕ) → IsOneOf p.shape.n i → times_in i (order_of p p.shape.n s).0 ≡ 1
+
 -- so many turns at which the process that moves is lowered
 abbrev pub changes_of : Plan → ℕ → Stream → List ℕ × Stream
 changes_of p zero s = ([], s)
 changes_of p (suc count) s =
     let before = changes_of p count s in
     let drawn = next_u64 before.1 in
-    (before.0 ++ drawn.0 % max p.turns 1 + 1 ∷ [], drawn.1)
+    (before.0 ++ (drawn.0 % max p.turns 1 + 1) ∷ [], drawn.1)
 
 -- the order at turn t, for which the first goes to its end where t is one of these turns
 abbrev pub lowered_at : (t : ℕ) → (changes : List ℕ) → List Mover → List Mover

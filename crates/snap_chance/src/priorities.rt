@@ -61,7 +61,7 @@ pub(crate) fn changes_of<R: Rng>(
 {
     let turns = plan.turns().max(1);
     let mut changes = Vec::new(alloc);
-    for _change in 0..count {
+    for k in 0..count {
         changes.push(rng.next_u64() % turns + 1)?;
     }
     Ok(changes)

@@ -1,5 +1,5 @@
 -- Turns by priorities: they are of processes that are there, and short.
-use Rattle.std.proofs.Common.{◌≡◌, ℕ, zero, suc, ◌+◌, ◌-◌, ◌*◌, ◌%◌, ◌<◌, ◌≤◌, Bool, true, false, List, [], ◌∷◌, ◌++◌, Option, Some, None, drop, length, take, nat_eq, nat_lt, if◌then◌else◌, refl, sym, ap, subst, ◌∙◌, append_assoc, arith}
+use Rattle.std.proofs.Common.{◌≡◌, ℕ, zero, suc, ◌+◌, ◌-◌, ◌*◌, ◌%◌, ◌<◌, ◌≤◌, List, [], ◌∷◌, ◌++◌, Option, Some, None, drop, length, take, nat_eq, nat_lt, refl, sym, ap, subst, ◌∙◌, append_assoc, arith}
 use Rattle.std.specs.Prelude.{insert}
 use Rattle.std.specs.List.{AllByRecursion, list_any}
 use Rattle.std.proofs.lemmas.List.{length-append}
@@ -13,8 +13,8 @@ use Rattle.snap_sched.proofs.Lines.{all_more}
 use Rattle.snap_chance.specs.Chance.{items_by, turns_from}
 use Rattle.snap_chance.specs.Draws.{draws}
 use Rattle.snap_chance.specs.Plan.{IsPlan, Plan}
-use Rattle.snap_chance.specs.Priorities.{asked_turn, burst_move, changes_of, lowered_at, move_at, move_items, moves_from, order_of, passed, prioritized, role_move, share}
-use Rattle.snap_chance.specs.Turns.{asked_items, interrupted_process, operation_of, scanning_turn, turn_items, update_of, updating_turn}
+use Rattle.snap_chance.specs.Priorities.{asked_turn, burst_move, changes_of, lowered_at, move_at, move_items, moves_from, order_of, passed, role_move, share}
+use Rattle.snap_chance.specs.Turns.{asked_items, interrupted_process, scanning_turn, turn_items, update_of, updating_turn}
 use Rattle.snap_chance.specs.declared.draws.Draws.{Draws}
 use Rattle.snap_chance.specs.declared.plan.Pace.{Pace}
 use Rattle.snap_chance.specs.declared.plan.Pace.TheVariants.{Coins, Bursts, Interruptions, Mixed}

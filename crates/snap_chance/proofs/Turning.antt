@@ -1,5 +1,5 @@
 -- Turns: they are of processes that are there, and short.
-use Rattle.std.proofs.Common.{◌≡◌, ℕ, zero, suc, ◌+◌, ◌-◌, ◌*◌, ◌/◌, ◌%◌, ◌^◌, ◌<◌, ◌≤◌, Bool, true, false, List, [], ◌∷◌, ◌++◌, Option, Some, None, length, replicate, nat_eq, nat_lt, if◌then◌else◌, refl, sym, ap, subst, ◌∙◌, append_assoc, arith}
+use Rattle.std.proofs.Common.{◌≡◌, ℕ, zero, suc, ◌+◌, ◌-◌, ◌/◌, ◌%◌, ◌^◌, ◌<◌, ◌≤◌, Bool, true, false, List, [], ◌∷◌, ◌++◌, Option, Some, None, length, replicate, nat_eq, nat_lt, if◌then◌else◌, refl, sym, ap, subst, ◌∙◌, append_assoc, arith}
 use Rattle.std.proofs.Math.Pow.{pow_mono}
 use Rattle.std.proofs.lemmas.List.{length-append, length-replicate}
 use Rattle.std.proofs.lemmas.Nat.{pow_pos}
@@ -7,14 +7,14 @@ use Rattle.std.specs.List.{AllByRecursion}
 use Rattle.rand_core.specs.Stream.{Stream}
 use Rattle.snap_words.specs.Shape.{IsOneOf}
 use Rattle.snap_semantics.specs.declared.process.Item.{Item}
-use Rattle.snap_semantics.specs.declared.process.Item.TheVariants.{Step, Call, Crash}
+use Rattle.snap_semantics.specs.declared.process.Item.TheVariants.{Step, Crash}
 use Rattle.snap_semantics.specs.declared.process.Op.{Op}
 use Rattle.snap_semantics.specs.Table.{who}
 use Rattle.snap_sched.proofs.Lines.{all_more}
 use Rattle.snap_chance.specs.Chance.{turns_from}
 use Rattle.snap_chance.specs.Draws.{draws}
 use Rattle.snap_chance.specs.Plan.{IsPlan, Plan}
-use Rattle.snap_chance.specs.Turns.{asked_items, burst_of, burst_turn, call_items, coin_turn, interrupted_process, interrupted_turn, process_of, scanning_turn, turn_at, turn_items, turn_of, updating_turn, whole_update}
+use Rattle.snap_chance.specs.Turns.{asked_items, burst_of, burst_turn, call_items, coin_turn, interrupted_turn, process_of, scanning_turn, turn_at, turn_items, turn_of, updating_turn, whole_update}
 use Rattle.snap_chance.specs.declared.draws.Draws.{Draws}
 use Rattle.snap_chance.specs.declared.plan.Pace.{Pace}
 use Rattle.snap_chance.specs.declared.plan.Pace.TheVariants.{Coins, Bursts, Interruptions, Mixed}

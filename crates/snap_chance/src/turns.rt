@@ -51,7 +51,7 @@ fn process_of(plan: &Plan, draws: &Draws) -> u32
 }
 
 /// How many steps a burst is.
-fn burst_of(draws: &Draws) -> u64
+pub(crate) fn burst_of(draws: &Draws) -> u64
     ensures { result ≡ burst_of draws.now }
 {
     draws.length % (1 << (draws.scale % 8)) + 1
@@ -87,7 +87,7 @@ fn value_of(plan: &Plan, run: u64, turn: u64, draws: &Draws) -> u64
 }
 
 /// The update of a turn.
-fn update_of(plan: &Plan, run: u64, turn: u64, process: u32, draws: &Draws) -> Op
+pub(crate) fn update_of(plan: &Plan, run: u64, turn: u64, process: u32, draws: &Draws) -> Op
     ensures { result ≡ update_of plan.now run turn process draws.now }
 {
     Op::Update {
@@ -97,7 +97,7 @@ fn update_of(plan: &Plan, run: u64, turn: u64, process: u32, draws: &Draws) -> O
 }
 
 /// The operation of a turn.
-fn operation_of(plan: &Plan, run: u64, turn: u64, process: u32, draws: &Draws) -> Op
+pub(crate) fn operation_of(plan: &Plan, run: u64, turn: u64, process: u32, draws: &Draws) -> Op
     ensures { result ≡ operation_of plan.now run turn process draws.now }
 {
     if draws.scan % 2 == 0 {
@@ -142,14 +142,14 @@ fn burst_turn(plan: &Plan, run: u64, turn: u64, draws: &Draws) -> Turn
 }
 
 /// The process whose scans are interrupted in a run.
-fn interrupted_process(plan: &Plan, run: u64) -> u32
+pub(crate) fn interrupted_process(plan: &Plan, run: u64) -> u32
     ensures { result ≡ interrupted_process plan.now run }
 {
     (run / 2 % u64::from(plan.shape().process_count())) as u32 + 1
 }
 
 /// A few steps of the process that scans.
-fn scanning_turn(plan: &Plan, run: u64, draws: &Draws) -> Turn
+pub(crate) fn scanning_turn(plan: &Plan, run: u64, draws: &Draws) -> Turn
     ensures { result ≡ scanning_turn plan.now run draws.now }
 {
     let call = if draws.call % 4 == 0 {
@@ -173,7 +173,7 @@ fn whole_update(plan: &Plan) -> u64
 }
 
 /// An update, whole or its first part.
-fn updating_turn(plan: &Plan, run: u64, turn: u64, draws: &Draws) -> Turn
+pub(crate) fn updating_turn(plan: &Plan, run: u64, turn: u64, draws: &Draws) -> Turn
     ensures { result ≡ updating_turn plan.now run turn draws.now }
 {
     let process = process_of(plan, draws);
@@ -288,7 +288,7 @@ fn turn_of(plan: &Plan, run: u64, turn: u64, draws: &Draws) -> Turn
 }
 
 /// Adds what a process is asked for, and its steps.
-fn push_asked(items: &mut Items, turn: &Turn) -> Result<(), AllocError>
+pub(crate) fn push_asked(items: &mut Items, turn: &Turn) -> Result<(), AllocError>
     requires few { length items.old + 129 < 2 ^ 32 }
     requires short { turn.now.steps ≤ 128 }
     ensures added { OnOk result (items.new ≡ items.old ++ asked_items turn.now) }

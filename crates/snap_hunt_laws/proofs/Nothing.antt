@@ -1,9 +1,7 @@
 -- Runs that keep the promises of a snapshot do not fail.
-use Rattle.std.proofs.Common.{◌≡◌, ℕ, zero, suc, ◌+◌, ◌*◌, ◌<◌, ◌≤◌, ◌^◌, Bool, true, false, cond, List, [], ◌∷◌, ◌++◌, Option, Some, None, is_none, is_some, length, refl, sym, ap, subst, ◌∙◌, arith}
+use Rattle.std.proofs.Common.{◌≡◌, ℕ, zero, suc, ◌+◌, ◌<◌, ◌≤◌, ◌^◌, Bool, true, false, cond, List, [], ◌∷◌, Option, Some, None, is_none, is_some, length, refl, sym, ap, subst, ◌∙◌, arith}
 use Rattle.std.specs.Prelude.{IsSome, if◌then◌else◌}
 use Rattle.std.specs.List.{AllByRecursion, find, range_with_len}
-use Rattle.std.proofs.lemmas.List.{length-append}
-use Rattle.rand_core.specs.Stream.{Stream}
 use Rattle.rand_core.specs.Steps.{stream_of}
 use Rattle.rand_xoshiro.specs.SplitMix64.{splitmix_steps}
 use Rattle.snap_words.specs.Kind.{fits}
@@ -15,19 +13,15 @@ use Rattle.snap_semantics.specs.declared.process.Status.{Status}
 use Rattle.snap_semantics.specs.declared.process.Status.TheVariants.{Idle, Busy, Trapped, Crashed}
 use Rattle.snap_semantics.specs.Rules.{or_else}
 use Rattle.snap_semantics.specs.State.{State, process_at}
-use Rattle.snap_semantics.specs.Table.{who}
-use Rattle.snap_sched.proofs.Lines.{all_more}
 use Rattle.snap_runs.specs.Audit.{HasFoundPoint, audit}
 use Rattle.snap_runs.specs.Promises.{HasTrapped}
 use Rattle.snap_runs.specs.Run.{IsValidRun, Run, run_of_items, state}
 use Rattle.snap_runs.specs.declared.verdict.Verdict.{Verdict}
 use Rattle.snap_shipped.specs.Shipped.{shipped}
 use Rattle.snap_promises.specs.Kept.{KeepsPromises, NumbersSuffice, RunsKeepPromises}
-use Rattle.snap_chance.specs.Chance.{schedule_of, start_of, turns_from}
-use Rattle.snap_chance.specs.Draws.{draws}
+use Rattle.snap_chance.specs.Chance.{items_by, schedule_of, start_of}
 use Rattle.snap_chance.specs.Plan.{IsPlan, Plan}
-use Rattle.snap_chance.specs.Turns.{turn_items}
-use Rattle.snap_chance.proofs.Turning.{are_turn}
+use Rattle.snap_chance.proofs.Moving.{are_items}
 use Rattle.snap_failure.specs.Failing.{failure_of, first_trap, no_point, many_of, of_collects, of_points, of_traps, trap_of}
 use Rattle.snap_failure.specs.declared.failures.Failure.{Failure}
 use Rattle.snap_failure.specs.declared.failures.Failure.TheVariants as failure
@@ -73,20 +67,6 @@ does_not_fail w r valid points traps collects =
     ∙ ap (λ (o : Option Failure). or_else o (of_collects w (audit r))) (where_asked w.trap (first_trap S 1 r.shape.n) none)
     ∙ ap (many_of (audit r)) collects
 
--- the schedules that a seed gives
-turns_there : (p : Plan) (k t left : ℕ) (s : Stream) → 0 < p.shape.n → AllByRecursion (λ x. IsOneOf p.shape.n (who x)) (turns_from p k t left s)
-turns_there p k t zero s some = tt
-turns_there p k t (suc left) s some =
-    all_more (IsOneOf p.shape.n) (turn_items p k t (draws s).0) (turns_from p k (t + 1) left (draws s).1) (are_turn p k t (draws s).0 some).there
-    (turns_there p k (t + 1) left (draws s).1 some)
-
-turns_few : (p : Plan) (k t left : ℕ) (s : Stream) → 0 < p.shape.n → length (turns_from p k t left s) ≤ left * 129
-turns_few p k t zero s some = omega arith
-turns_few p k t (suc left) s some =
-    let here = (are_turn p k t (draws s).0 some).few in
-    let rest = turns_few p k (t + 1) left (draws s).1 some in
-    omega (arith, length-append (turn_items p k t (draws s).0) (turns_from p k (t + 1) left (draws s).1), here, rest)
-
 suffice : (g : KindTag) (items : List Item) → length items < 2 ^ 64 → NumbersSuffice g items
 suffice kind.Seq items h = h
 suffice kind.Bits items h = tt
@@ -98,12 +78,13 @@ unfolding fails schedule_of
 run_does_not_fail g p w seed k keeps plan fit collects =
     let some : 0 < p.shape.n = plan.shape.0.0 in
     let s = stream_of splitmix_steps (start_of seed k) in
-    let items = turns_from p k 1 p.turns s in
+    let items = items_by p.depth p k s in
+    let these = are_items p.depth p k s some in
     let r = run_of_items (shipped g) p.shape items in
     let turns = plan.few in
-    let few = turns_few p k 1 p.turns s some in
+    let few = these.few in
     let short : length items < 2 ^ 64 = omega (arith, turns, few) in
-    let valid : IsValidRun r = record { all = turns_there p k 1 p.turns s some } in
+    let valid : IsValidRun r = record { all = these.there } in
     let kept = keeps p.shape items plan.shape fit (suffice g items short) in
     ap is_some (does_not_fail w r valid (kept.snapshot.verdicts_have_points valid) (kept.snapshot.never_traps valid) collects)
 

@@ -19,13 +19,16 @@ const VERSION: &str = "0.1.0";
 const KINDS: &[&str] = &["seq", "bit", "multi"];
 
 /// The paces that `--pace` takes.
-const PACES: &[&str] = &["mixed", "bursts", "interruptions", "coins"];
+const PACES: &[&str] = &["mixed", "bursts", "interruptions", "rounds", "coins"];
 
 /// The failures that `--fails` takes.
 const FAILURES: &[&str] = &["point", "trap"];
 
 /// The most runs of a hunt.
 const MAX_RUNS: u64 = 1_000_000_000_000;
+
+/// The greatest depth.
+const MAX_DEPTH: u64 = 100;
 
 /// What a command line asks for: where the listing is, and what is hunted in its runs.
 #[derive(Clone, Copy, Debug)]
@@ -56,6 +59,17 @@ fn number<'a>(
     )
 }
 
+/// The argument that says that priorities decide who moves.
+fn depth<'a>(alloc: Global) -> Result<Arg<'a>, AllocError> {
+    Ok(
+        Arg::new(alloc, "depth")
+            .long("depth")
+            .value_name("D")
+            .value_parser(ValueParser::unsigned(1, MAX_DEPTH))
+            .help("Priorities, lowered at D - 1 turns, decide which process moves"),
+    )
+}
+
 /// The arguments that say how schedules are made.
 fn with_plan<'a>(alloc: Global, command: Command<'a>) -> Result<Command<'a>, AllocError> {
     let pace = Arg::new(alloc, "pace")
@@ -82,6 +96,7 @@ fn with_plan<'a>(alloc: Global, command: Command<'a>) -> Result<Command<'a>, All
             "How many words there are; 0: one for each process",
         )?)?
         .arg(pace)?
+        .arg(depth(alloc)?)?
         .arg(number(
             alloc,
             "turns",
@@ -191,6 +206,7 @@ fn plan_of(arguments: &ArgMatches<'_>) -> Option<Plan> {
     let pace = match arguments.get_str("pace")? {
         "bursts" => Pace::Bursts,
         "interruptions" => Pace::Interruptions,
+        "rounds" => Pace::Rounds,
         "coins" => Pace::Coins,
         _ => Pace::Mixed,
     };
@@ -202,7 +218,8 @@ fn plan_of(arguments: &ArgMatches<'_>) -> Option<Plan> {
     let Ok(repeated) = u32::try_from(number_of(arguments, "repeat")?) else {
         return None;
     };
-    Some(Plan::new(shape, pace, turns, crashes, repeated))
+    let plan = Plan::new(shape, pace, turns, crashes, repeated);
+    Some(plan.with_depth(number_of(arguments, "depth")))
 }
 
 /// What arguments ask for.

@@ -3,7 +3,14 @@
 
 mod blocks;
 mod cuts;
+mod draft;
+mod follow;
 mod hunt;
+mod narrow;
+mod orders;
+mod parts;
+mod passes;
+mod places;
 mod shrink;
 mod trials;
 

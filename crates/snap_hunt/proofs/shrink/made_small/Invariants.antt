@@ -2,8 +2,8 @@ use Rattle.snap_hunt.specs.Shrinking.{IsShrunk, drawn}
 use Rattle.snap_hunt.proofs.shrink.made_small.Given as goal
 
 -- what is kept still fails
-abbrev pub invariant-loop-kept : goal.invariant-loop-kept
-invariant-loop-kept l = IsShrunk l.program l.wanted (drawn l.fn.draft) (drawn l.kept)
+abbrev pub invariant-loop-before : goal.invariant-loop-before
+invariant-loop-before l = IsShrunk l.program l.wanted (drawn l.fn.draft) (drawn l.kept)
 
-abbrev pub decreases-loop-kept : goal.decreases-loop-kept
-decreases-loop-kept l = l.before
+abbrev pub decreases-loop-before : goal.decreases-loop-before
+decreases-loop-before l = l.before

@@ -13,6 +13,7 @@ mod passes;
 mod places;
 mod shrink;
 mod trials;
+mod values;
 
 pub use hunt::{Watcher, first_failing};
 pub use shrink::shrunk;

@@ -1,5 +1,5 @@
 //! Drafts of fewer processes and words.
-ghost use Rattle.std.specs.Prelude.{◌≡◌, ◌<◌, ◌+◌, IfOk, IfSome, IsTrue};
+ghost use Rattle.std.specs.Prelude.{◌<◌, ◌+◌, IfOk, IfSome, IsTrue};
 ghost use Rattle.snap_hunt.specs.Shrinking.{IsWithin, Narrows, drawn};
 
 use crate::draft::{Draft, is_within};

@@ -1,5 +1,5 @@
 //! Items in another order, that of each process the same.
-ghost use Rattle.std.specs.Prelude.{◌≡◌, ◌≤◌, length, IfSome};
+ghost use Rattle.std.specs.Prelude.{◌≤◌, length, IfSome};
 
 use snap_semantics::{Item, who};
 use std::alloc::{AllocError, Global};

@@ -1,5 +1,5 @@
 //! Ways to make a draft smaller. Each keeps that its run fails.
-ghost use Rattle.std.specs.Prelude.{◌≡◌, ◌<◌, ◌+◌, IfOk};
+ghost use Rattle.std.specs.Prelude.{◌<◌, IfOk};
 ghost use Rattle.snap_hunt.specs.Shrinking.{Fails, IsSmall, Shrinks, drawn};
 
 use crate::cuts::{Cut, left_by, without};
@@ -7,6 +7,7 @@ use crate::draft::Draft;
 use crate::orders::{switches, with_next_sooner, with_turn_later};
 use crate::parts::{operations, processes, stretches, turns};
 use crate::trials::{better, removable};
+use crate::values::with_plain_values;
 use snap_asm_program::Program;
 use snap_failure::Wanted;
 use snap_semantics::Item;
@@ -192,4 +193,19 @@ pub(crate) fn join_turns(
         now = switches(kept.items.as_slice());
     }
     Ok(kept)
+}
+
+/// Gives updates plain values, where the run still fails.
+pub(crate) fn make_plain(
+    alloc: Global,
+    program: &Program,
+    wanted: &Wanted,
+    draft: Draft,
+) -> Result<Draft, AllocError>
+    requires { Fails program.now wanted.now draft.shape draft.items.items }
+    ensures { IfOk result (λ d. Shrinks program.now wanted.now (drawn draft) (drawn d)) }
+{
+    let shape = draft.shape;
+    let items = with_plain_values(alloc, draft.items.as_slice())?;
+    better(alloc, program, wanted, draft, Draft { shape, items })
 }

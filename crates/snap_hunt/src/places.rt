@@ -1,5 +1,5 @@
 //! What a shape may do without.
-ghost use Rattle.std.specs.Prelude.{◌≤◌, IfSome};
+ghost use Rattle.std.specs.Prelude.{◌≤◌};
 
 use snap_semantics::{Item, Op};
 use snap_words::Shape;

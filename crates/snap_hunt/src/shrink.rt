@@ -1,11 +1,11 @@
 //! A schedule whose run fails, made small.
-ghost use Rattle.std.specs.Prelude.{◌≡◌, IfOk};
+ghost use Rattle.std.specs.Prelude.{IfOk};
 ghost use Rattle.snap_hunt.specs.Shrinking.{Fails, IsShrunk, drawn};
 
 use crate::cuts::schedule_with;
 use crate::draft::{Draft, draft_of};
 use crate::narrow::narrower;
-use crate::passes::{drop_items, drop_operations, drop_stretches, join_turns};
+use crate::passes::{drop_items, drop_operations, drop_stretches, join_turns, make_plain};
 use snap_asm_program::Program;
 use snap_failure::Wanted;
 use snap_sched::Schedule;
@@ -26,7 +26,8 @@ fn made_smaller(
     let shorter = drop_stretches(alloc, program, wanted, fewer)?;
     let least = drop_items(alloc, program, wanted, shorter)?;
     let joined = join_turns(alloc, program, wanted, least)?;
-    drop_items(alloc, program, wanted, joined)
+    let plain = make_plain(alloc, program, wanted, joined)?;
+    drop_items(alloc, program, wanted, plain)
 }
 
 /// Each way, until they lead to no fewer items.

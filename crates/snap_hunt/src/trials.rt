@@ -1,5 +1,5 @@
 //! Whether what is left still fails.
-ghost use Rattle.std.specs.Prelude.{◌≡◌, ◌<◌, ◌+◌, ℕ, length, true, false, IfOk, IfSome, IsTrue, MatchOption, is_some};
+ghost use Rattle.std.specs.Prelude.{◌≡◌, ◌<◌, ℕ, length, true, false, IfOk, IsTrue, MatchOption, is_some};
 ghost use Rattle.snap_semantics.specs.ScheduleText.{IsSchedule};
 ghost use Rattle.snap_hunt.specs.Shrinking.{Fails, Shrinks, drawn, fails_with, without};
 

@@ -72,7 +72,7 @@ fn small_input(
 {
     let schedule = schedule_of(alloc, asked.seed, run, plan)?;
     let _shape = schedule.shape();
-    let small = shrunk(alloc, program, &asked.wanted, &schedule)?;
+    let small = shrunk(alloc, program, &asked.wanted, &schedule, plan.owns())?;
     match failure_over(alloc, program, &small, &asked.wanted)? {
         Some(failure) => Ok(input_text(alloc, listing, asked.seed, run, &failure, &small)?),
         None => Err(HuntFault::Unsaid),

@@ -85,24 +85,29 @@ fn drop_stretches_of(
 {
     let all = stretches(alloc, draft.items.as_slice(), size)?;
     let fewer = drop_cuts(alloc, program, wanted, draft, all.as_slice())?;
+    if size == 1 {
+        return Ok(fewer);
+    }
     let own = turns(alloc, fewer.shape, fewer.items.as_slice(), size)?;
     drop_cuts(alloc, program, wanted, fewer, own.as_slice())
 }
 
-/// Leaves out stretches, long ones first.
+/// Leaves out stretches of at least so many items, long ones first.
 #[tactic(auto, using(crate::proofs::Cutting::itself, crate::proofs::Cutting::onward))]
 pub(crate) fn drop_stretches(
     alloc: Global,
     program: &Program,
     wanted: &Wanted,
     draft: Draft,
+    least: usize,
 ) -> Result<Draft, AllocError>
-    requires { Fails program.now wanted.now draft.shape draft.items.items }
+    requires fails { Fails program.now wanted.now draft.shape draft.items.items }
+    requires some { 0 < least }
     ensures { IfOk result (λ d. Shrinks program.now wanted.now (drawn draft) (drawn d)) }
 {
     let mut size = draft.items.len() / 2;
     let mut kept = draft;
-    while size > 0 {
+    while size >= least {
         kept = drop_stretches_of(alloc, program, wanted, kept, size)?;
         size /= 2;
     }

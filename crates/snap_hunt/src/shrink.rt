@@ -11,6 +11,9 @@ use snap_failure::Wanted;
 use snap_sched::Schedule;
 use std::alloc::{AllocError, Global};
 
+/// Stretches of at least so many items are left out first: a long schedule gets short soon.
+const LONG: usize = 256;
+
 /// Each way once, single items last.
 #[tactic(auto, using(crate::proofs::Cutting::onward, crate::proofs::Cutting::onward_small))]
 fn made_smaller(
@@ -22,8 +25,9 @@ fn made_smaller(
     requires { Fails program.now wanted.now draft.shape draft.items.items }
     ensures { IfOk result (λ d. IsShrunk program.now wanted.now (drawn draft) (drawn d)) }
 {
-    let fewer = drop_operations(alloc, program, wanted, draft)?;
-    let shorter = drop_stretches(alloc, program, wanted, fewer)?;
+    let short = drop_stretches(alloc, program, wanted, draft, LONG)?;
+    let fewer = drop_operations(alloc, program, wanted, short)?;
+    let shorter = drop_stretches(alloc, program, wanted, fewer, 1)?;
     let least = drop_items(alloc, program, wanted, shorter)?;
     let joined = join_turns(alloc, program, wanted, least)?;
     let plain = make_plain(alloc, program, wanted, joined)?;

@@ -105,6 +105,10 @@ end_is : (o : Op) (out : Outcome) → EndsWith o out → IsEnd out
 end_is op.Scan out h = let e = ends_answer out h in subst IsEnd (sym e.1) tt
 end_is (op.Update word value) out h = subst IsEnd (sym (ends_done word value out h)) tt
 
+neither : (b : Bool) (x y : ℕ) → (if b && false then x else y) ≡ y
+neither true x y = refl
+neither false x y = refl
+
 module _ (r : Run) where
   -- a call is not behind the last one
   call_before : (i c t : ℕ) → 0 < c → c ≤ t → who (item r c) ≡ i → outcome r c ≡ outcomes.Called → c ≤ last_call r i t
@@ -129,13 +133,15 @@ module _ (r : Run) where
   last_is_call : (i t : ℕ) → 0 < last_call r i t → IsCall i (last_call r i t)
   unfolding IsCall
   last_is_call i zero pos = absurd (omega (arith, pos))
-  last_is_call i (suc t) pos = by_case (nat_eq (who (item r (suc t))) i && is_called (outcome r (suc t))) refl pos where
-    by_case : (b : Bool) → (nat_eq (who (item r (suc t))) i && is_called (outcome r (suc t))) ≡ b → 0 < (if b then suc t else last_call r i t) →
+  last_is_call i (suc t) pos = by_case (nat_eq (who (item r (suc t))) i && is_called (outcome r (suc t))) refl (last_is_call i t) pos where
+    by_case : (b : Bool) → (nat_eq (who (item r (suc t))) i && is_called (outcome r (suc t))) ≡ b →
+        (0 < last_call r i t → (who (item r (last_call r i t)) ≡ i) × (outcome r (last_call r i t) ≡ outcomes.Called)) →
+        0 < (if b then suc t else last_call r i t) →
         (who (item r (if b then suc t else last_call r i t)) ≡ i) × (outcome r (if b then suc t else last_call r i t) ≡ outcomes.Called)
-    by_case true is h =
+    by_case true is past h =
         let parts = both (nat_eq (who (item r (suc t))) i) (is_called (outcome r (suc t))) is in
         (same_from (who (item r (suc t))) i parts.0, called_is (outcome r (suc t)) parts.1)
-    by_case false is h = last_is_call i t h
+    by_case false is past h = past h
 
 module _ (r : Run) (valid : IsValidRun r) where
   -- a step is no call
@@ -174,10 +180,7 @@ module _ (r : Run) (valid : IsValidRun r) where
     by_case true called = absurd (step_not_called i t lt one is (called_is (outcome r (suc t)) called))
     by_case false called =
         ap (λ b. if nat_eq (who (item r (suc t))) i && b then suc t else last_call r i t) called
-        ∙ neither (nat_eq (who (item r (suc t))) i)
-    neither : (b : Bool) → (if b && false then suc t else last_call r i t) ≡ last_call r i t
-    neither true = refl
-    neither false = refl
+        ∙ neither (nat_eq (who (item r (suc t))) i) (suc t) (last_call r i t)
 
   -- an operation under a call is under way, and its call is the last one
   under_way : (i t : ℕ) (o : Op) → IsOneOf r.shape.n i → t < length r.items → (u : UnderCall r valid i o t) → IsUnderWay r i u.call (suc t) (asks_update (item r u.call))

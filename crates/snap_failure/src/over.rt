@@ -3,9 +3,9 @@ ghost use Rattle.std.specs.Prelude.{◌≡◌, IfOk, None, Some};
 ghost use Rattle.snap_runs.specs.Run.{run_over};
 ghost use Rattle.snap_failure.specs.Failing.{failure_of};
 
-use crate::step_bounds::most_steps;
 use crate::failing::failure;
 use crate::failures::{Failure, StepBound, Wanted};
+use crate::step_bounds::most_steps;
 use crate::watched::watched_over;
 use snap_asm_program::Program;
 use snap_record::record_over;

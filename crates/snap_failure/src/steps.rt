@@ -60,13 +60,7 @@ impl OwnSteps {
 
     /// That the operation has taken more than so many steps by the item of this number, which is
     /// one of them.
-    fn overrun(
-        &self,
-        most: u64,
-        number: u64,
-        item: Item,
-        outcome: &Outcome,
-    ) -> Option<Failure>
+    fn overrun(&self, most: u64, number: u64, item: Item, outcome: &Outcome) -> Option<Failure>
         ensures { result ≡ overrun_by most number item outcome.now self.now }
     {
         if is_taken(item, outcome) && most < self.count {

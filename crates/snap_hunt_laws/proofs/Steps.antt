@@ -76,22 +76,25 @@ enough_steps : (g : KindTag) (s : Counts) (b : StepBound) → StepsSuffice g s (
 enough_steps g s bound.Shipped h = omega arith
 enough_steps g s (bound.Given most) h = h
 
+-- the bound of a listing that is shipped is enough
+enough_there : (g : KindTag) (b : StepBound) (r : Run) → r.source ≡ shipped g → StepsSuffice g r.shape (Some b) →
+    update_turns g r.shape ≤ most_steps r.source.kind r.shape b
+enough_there g b r source h =
+    let same : most_steps g r.shape b ≡ most_steps r.source.kind r.shape b =
+    ap (λ k. most_steps k r.shape b) (sym (ap (λ (s : Source). s.kind) source ∙ same_kind g)) in
+    subst (λ k. update_turns g r.shape ≤ k) same (enough_steps g r.shape b h)
+
+none_found : StepsAreOfOperations → (g : KindTag) (r : Run) → IsValidRun r → KeepsPromises g r → (most : ℕ) → update_turns g r.shape ≤ most →
+    (o : Option Failure) → many_steps most r ≡ o → many_steps most r ≡ None
+none_found laws g r valid kept most enough None is = is
+none_found laws g r valid kept most enough (Some f) is =
+    let found = (laws r most valid).0 f is in
+    absurd (none_takes_more g r valid kept most found.process found.own.call found.item found.own.update enough found.takes)
+
 -- so none is found that takes more than enough
 pub no_overrun : StepsAreOfOperations → (g : KindTag) (b : Option StepBound) (r : Run) → r.source ≡ shipped g → IsValidRun r → KeepsPromises g r →
     StepsSuffice g r.shape b → long_of r b ≡ None
 no_overrun laws g None r source valid kept h = refl
-no_overrun laws g (Some b) r source valid kept h = by_found (many_steps most r) refl where
-  most : ℕ
-  most = most_steps r.source.kind r.shape b
-  enough : update_turns g r.shape ≤ most
-  unfolding most
-  enough =
-      let same : most_steps g r.shape b ≡ most_steps r.source.kind r.shape b =
-      ap (λ k. most_steps k r.shape b) (sym (ap (λ (s : Source). s.kind) source ∙ same_kind g)) in
-      subst (λ k. update_turns g r.shape ≤ k) same (enough_steps g r.shape b h)
-  by_found : (o : Option Failure) → many_steps most r ≡ o → long_of r (Some b) ≡ None
-  unfolding most
-  by_found None is = is
-  by_found (Some f) is =
-      let found = (laws r most valid).0 f is in
-      absurd (none_takes_more g r valid kept most found.process found.own.call found.item found.own.update enough found.takes)
+no_overrun laws g (Some b) r source valid kept h =
+    let most = most_steps r.source.kind r.shape b in
+    none_found laws g r valid kept most (enough_there g b r source h) (many_steps most r) refl

@@ -31,12 +31,7 @@ fn push_listing(out: &mut Vec<u8>, listing: &[u8]) -> Result<(), AllocError>
 
 /// `scan I call C step N item T`, or `update` where it is one.
 #[tactic(auto, using(snap_text::proofs::Texts::joined))]
-fn steps_line(
-    out: &mut Vec<u8>,
-    process: u32,
-    item: u64,
-    own: &OwnSteps,
-) -> Result<(), AllocError>
+fn steps_line(out: &mut Vec<u8>, process: u32, item: u64, own: &OwnSteps) -> Result<(), AllocError>
     ensures { OnOk result (out.new.items ≡ out.old.items ++ steps_line process item own.now) }
 {
     let what: &[u8] = if own.update { b"update " } else { b"scan " };

@@ -1,0 +1,57 @@
+-- The trace of a run has a step for each item, and each is of one of the processes.
+use Rattle.std.proofs.Common.{◌≡◌, ◌+◌, ◌<◌, ◌≤◌, ℕ, zero, suc, List, [], ◌∷◌, length, Option, Some, None, refl, sym, ap, ◌∙◌, subst, get_or, arith}
+use Rattle.std.specs.List.{AllByRecursion}
+use Rattle.snap_words.specs.Shape.{Counts, IsOneOf}
+use Rattle.snap_semantics.specs.declared.process.Item.{Item}
+use Rattle.snap_semantics.specs.Source.{Source}
+use Rattle.snap_semantics.specs.State.{State, initial}
+use Rattle.snap_semantics.specs.Table.{done, who}
+use Rattle.snap_runs.specs.Run.{Run}
+use Rattle.snap_acts.specs.Trace.{step_of, steps_of, trace_of}
+use Rattle.snap_acts.specs.declared.act.Act.{Act}
+use Rattle.snap_acts.specs.declared.act.Act.TheVariants as act
+use Rattle.snap_acts.specs.declared.act.Step.{Step}
+use Rattle.snap_loans.specs.Loans.{step_at}
+use Rattle.snap_loans.specs.Searches.{no_step}
+use Rattle.snap_why.specs.Why.{trapped_at, trapped_by}
+
+many : (s : Source) (n : Counts) (S : State) (t : ℕ) (xs : List Item) → length (steps_of s n S t xs) ≡ length xs
+many s n S t [] = refl
+many s n S t (x ∷ xs) = ap suc (many s n (done s n S x).0 (t + 1) xs)
+
+-- as many steps as items
+pub as_many : (r : Run) → length (trace_of r) ≡ length r.items
+as_many r = many r.source r.shape (initial r.source r.shape) 1 r.items
+
+-- the process of a step that is there is one
+each : (s : Source) (n : Counts) (S : State) (t : ℕ) (xs : List Item) (k : ℕ) → AllByRecursion (λ x. IsOneOf n.n (who x)) xs → k < length xs →
+    IsOneOf n.n (step_at (steps_of s n S t xs) k).process
+each s n S t [] k all less = absurd (omega (arith, less))
+unfolding step_of
+each s n S t (x ∷ xs) zero all less = all.0
+each s n S t (x ∷ xs) (suc k) all less = let fewer : k < length xs = omega (arith, less) in each s n (done s n S x).0 (t + 1) xs k all.1 fewer
+
+by_act : (i j : ℕ) (a : Act) → trapped_by i a ≡ Some j → i ≡ j
+by_act i j act.Trap e = cc
+by_act i j (act.Call op) e = absurd cc
+by_act i j (act.Answer view) e = absurd cc
+by_act i j act.Done e = absurd cc
+by_act i j act.Crash e = absurd cc
+by_act i j act.Skip e = absurd cc
+by_act i j (act.Write word values) e = absurd cc
+by_act i j (act.Publish k) e = absurd cc
+by_act i j (act.Read word) e = absurd cc
+by_act i j (act.Look k) e = absurd cc
+by_act i j (act.Borrow k) e = absurd cc
+by_act i j (act.Test passed) e = absurd cc
+by_act i j act.Enter e = absurd cc
+by_act i j act.Leave e = absurd cc
+by_act i j act.Other e = absurd cc
+
+-- a process that traps at an item is one
+pub one_of : (r : Run) (t i : ℕ) → AllByRecursion (λ x. IsOneOf r.shape.n (who x)) r.items → t ≤ length r.items →
+    trapped_at (trace_of r) t ≡ Some i → IsOneOf r.shape.n i
+one_of r zero i all within e = absurd cc
+one_of r (suc k) i all within e =
+    let less : k < length r.items = omega (arith, within) in
+    subst (λ (j : ℕ). IsOneOf r.shape.n j) (by_act _ i _ e) (each r.source r.shape (initial r.source r.shape) 1 r.items k all less)

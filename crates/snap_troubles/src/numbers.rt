@@ -74,13 +74,7 @@ fn row_number<K: Kind>(machine: &Machine<K>, i: u32, name: Name, place: u64) -> 
 }
 
 /// A field of what a `words` local of a process has at a place.
-fn field_number<K: Kind>(
-    machine: &Machine<K>,
-    i: u32,
-    of: Field,
-    name: Name,
-    place: u64,
-) -> u64
+fn field_number<K: Kind>(machine: &Machine<K>, i: u32, of: Field, name: Name, place: u64) -> u64
     requires { IsOneOf machine.now.shape.n i }
     ensures { result ≡ field_of of (word_of (process_at machine.now.state i).locals name place) }
 {

@@ -93,12 +93,7 @@ fn sum_trouble(left: u64, right: u64) -> Option<Trouble>
 }
 
 /// A sum that traps.
-fn sum_of<K: Kind>(
-    machine: &Machine<K>,
-    taker: Taker,
-    left: &Term,
-    right: &Term,
-) -> Option<Trouble>
+fn sum_of<K: Kind>(machine: &Machine<K>, taker: Taker, left: &Term, right: &Term) -> Option<Trouble>
     requires { IsOneOf machine.now.shape.n taker.process }
     ensures { let c = context_of machine.now.shape machine.now.state taker in result
         ≡ or_else (term_trouble c left.now) (or_else (term_trouble c right.now)

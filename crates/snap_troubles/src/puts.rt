@@ -158,7 +158,10 @@ pub(crate) fn put_bit_trouble<K: Kind>(
     let owner = owner_trouble(machine, taker, bank.bank(), i, j);
     let value = first_of(expr_trouble(machine, taker, expr), first_of(bit, owner));
     let place = place_trouble(machine, taker, second, count);
-    first_of(place_trouble(machine, taker, first, count), first_of(place, value))
+    first_of(
+        place_trouble(machine, taker, first, count),
+        first_of(place, value),
+    )
 }
 
 /// A view that is put, and its register.

@@ -50,12 +50,7 @@ fn push_second(out: &mut Vec<u8>, j: u64) -> Result<(), AllocError>
 
 /// Adds an index that is no place.
 #[tactic(auto, using(snap_text::proofs::Texts::joined), unfolding(crate::specs::TroubleText::trouble_text))]
-fn push_no_place(
-    out: &mut Vec<u8>,
-    index: Index,
-    value: u64,
-    count: u64,
-) -> Result<(), AllocError>
+fn push_no_place(out: &mut Vec<u8>, index: Index, value: u64, count: u64) -> Result<(), AllocError>
     ensures { OnOk result (out.new.items ≡ out.old.items ++ trouble_text (NoPlace index value count)) }
 {
     push_text(out, b"the index ")?;

@@ -1,7 +1,7 @@
 -- Why a process trapped: at which line, and by which operand, or why its operation cannot go on there.
 use Rattle.std.specs.Prelude.{ℕ, List, [], ◌++◌, Option, Some, None, codes, decimal, map}
 use Rattle.snap_words.specs.Shape.{Counts}
-use Rattle.snap_semantics.specs.Report.{cause_text}
+use Rattle.snap_report.specs.OutcomeText.{outcome_text}
 use Rattle.snap_semantics.specs.Source.{Source, instr_at}
 use Rattle.snap_semantics.specs.State.{State}
 use Rattle.snap_semantics.specs.declared.instr.Instr.{Instr}
@@ -10,6 +10,7 @@ use Rattle.snap_semantics.specs.declared.process.Cause.{Cause}
 use Rattle.snap_semantics.specs.declared.process.Cause.TheVariants as cause
 use Rattle.snap_semantics.specs.declared.process.Op.{Op}
 use Rattle.snap_semantics.specs.declared.process.Op.TheVariants as op
+use Rattle.snap_semantics.specs.declared.process.Outcome.TheVariants as outcome
 use Rattle.snap_semantics.specs.declared.process.Status.{Status}
 use Rattle.snap_semantics.specs.declared.process.Status.TheVariants.{Trapped}
 use Rattle.snap_listing_lines.specs.LineTexts.{NumberedText, text_with, written}
@@ -26,7 +27,7 @@ text_or_number number (Some text) = text
 
 -- `process I trapped CAUSE at LINE`
 abbrev pub trap_line : List NumberedText → ℕ → Cause → Activity → List ℕ
-trap_line texts i e a = process_text i ++ codes " trapped " ++ cause_text e ++ codes " at " ++ text_or_number a.line (text_with texts a.line) ++ codes "\n"
+trap_line texts i e a = process_text i ++ codes " " ++ outcome_text (outcome.Trapped e) ++ codes " at " ++ text_or_number a.line (text_with texts a.line) ++ codes "\n"
 
 -- the operand of a line, where one is wrong
 abbrev pub operand_line : Option Trouble → List ℕ

@@ -129,11 +129,7 @@ fn lender_of(view: Option<Borrowed>) -> Option<ScanPlaces>
 }
 
 /// Adds the views that a scan, its lender's scan, and so on took.
-fn push_chain(
-    out: &mut Vec<u8>,
-    steps: &[Step],
-    scan: ScanPlaces,
-) -> Result<(), AllocError>
+fn push_chain(out: &mut Vec<u8>, steps: &[Step], scan: ScanPlaces) -> Result<(), AllocError>
     requires { scan.to ≤ length steps.now }
     ensures { OnOk result (out.new.items ≡ out.old.items
         ++ chain_lines steps.now (Some scan) (length steps.now)) }

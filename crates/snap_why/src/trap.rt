@@ -9,8 +9,8 @@ ghost use Rattle.snap_why.specs.Trap.{cause_line, end_line, nested_line, operand
 use crate::answer::push_process;
 use snap_listing_lines::LineTexts;
 use snap_machine::Machine;
-use snap_report::cause_text;
-use snap_semantics::{Activity, Cause, Op, Status};
+use snap_report::outcome_text;
+use snap_semantics::{Activity, Cause, Op, Outcome, Status};
 use snap_text::{push_number, push_text};
 use snap_troubles::{Taker, Trouble, line_trouble, push_trouble};
 use snap_words::Kind;
@@ -39,8 +39,8 @@ fn push_trap_line(
     ensures { OnOk result (out.new.items ≡ out.old.items ++ trap_line texts.now process cause activity) }
 {
     push_process(out, process)?;
-    push_text(out, b" trapped ")?;
-    cause_text(out, cause)?;
+    push_text(out, b" ")?;
+    outcome_text(out, &Outcome::Trapped(cause))?;
     push_text(out, b" at ")?;
     push_line(out, texts, activity.line)?;
     push_text(out, b"\n")

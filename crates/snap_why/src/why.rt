@@ -159,9 +159,7 @@ pub fn push_why<K: Kind>(
         return push_answer(out, steps.as_slice(), &verdict, item);
     }
     match trapped_at(steps.as_slice(), item) {
-        Some(process) => {
-            push_trap_at::<K>(alloc, out, program, schedule, texts, item, process)
-        }
+        Some(process) => { push_trap_at::<K>(alloc, out, program, schedule, texts, item, process) }
         None => push_nothing_at(out, steps.as_slice(), item),
     }
 }

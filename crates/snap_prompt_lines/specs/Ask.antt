@@ -64,13 +64,19 @@ adding_ask ts =
     (or_else (call_ask ts)
     (number_form (codes "crash") ts >>= λ i. Some (ask.Add (addition.Crash i)))))
 
+-- `until I N`, or `end I`
+unfoldable pub leading_ask : List Token → Option Ask
+leading_ask ts =
+    or_else (numbers_form (codes "until") ts >>= λ at. Some (ask.Until at.0 at.1))
+    (number_form (codes "end") ts >>= λ i. Some (ask.End i))
+
 -- `b I N` is a breakpoint
 unfoldable pub break_ask : List Token → Option Ask
 break_ask ts = numbers_form (codes "b") ts >>= λ at. Some (ask.Do (command.Break (record { process = at.0; line = at.1 })))
 
 -- what tokens ask for, where that is the prompt's own
 unfoldable pub prompt_ask : List Token → Option Ask
-prompt_ask ts = or_else (word_ask ts) (or_else (list_ask ts) (or_else (break_ask ts) (adding_ask ts)))
+prompt_ask ts = or_else (word_ask ts) (or_else (list_ask ts) (or_else (break_ask ts) (or_else (leading_ask ts) (adding_ask ts))))
 
 abbrev pub prompt_ask_in : Option (List Token) → Option Ask
 prompt_ask_in None = None

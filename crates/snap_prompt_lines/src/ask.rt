@@ -39,6 +39,10 @@ pub enum Ask {
     /// And those around the one at which this process stands.
     List(u64),
     Add(Addition),
+    /// As many steps as lead a process to a line, or to the end of its operation.
+    Until { process: u64, line: u64 },
+    /// As many steps as lead a process to the end of its operation.
+    End { process: u64 },
     Do(Command),
 }
 

@@ -56,11 +56,11 @@ abbrev pub taken_in : List Step → ScanPlaces → Option ℕ
 taken_in ss s = not_before s.from (last_before (wanted.Taking s.process) ss s.to)
 
 -- the view that was taken at a place: where it was written, and which scan saw it
-abbrev pub borrowed_at : List Step → Option ℕ → Option Borrowed
-borrowed_at ss None = None
-borrowed_at ss (Some k) =
+abbrev pub view_taken_at : List Step → Option ℕ → Option Borrowed
+view_taken_at ss None = None
+view_taken_at ss (Some k) =
     Some (record { taken = k; written = source_of ss k (step_at ss k); lender = scan_written ss (source_of ss k (step_at ss k)) })
 
 -- the view that a scan took last
-unfoldable pub borrowed : List Step → ScanPlaces → Option Borrowed
-borrowed ss s = borrowed_at ss (taken_in ss s)
+unfoldable pub view_taken : List Step → ScanPlaces → Option Borrowed
+view_taken ss s = view_taken_at ss (taken_in ss s)

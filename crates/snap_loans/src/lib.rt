@@ -5,5 +5,5 @@
 mod loans;
 mod wanted;
 
-pub use loans::{Borrowed, ScanPlaces, borrowed, scan_before, source_of};
+pub use loans::{Borrowed, ScanPlaces, scan_before, source_of, view_taken};
 pub use wanted::{Wanted, first_from, last_before};

@@ -1,6 +1,6 @@
 //! Which view a step takes, and whose scan saw it.
 ghost use Rattle.std.specs.Prelude.{◌≡◌, ◌≤◌, ◌<◌, IfSome, length};
-ghost use Rattle.snap_loans.specs.Loans.{borrowed, borrowed_at, not_before, scan_before, scan_ended, scan_from, scan_written, source_of, taken_in, write_before};
+ghost use Rattle.snap_loans.specs.Loans.{view_taken, view_taken_at, not_before, scan_before, scan_ended, scan_from, scan_written, source_of, taken_in, write_before};
 
 use crate::wanted::{Wanted, last_before};
 use snap_acts::{Act, Step};
@@ -84,10 +84,10 @@ fn taken_in(steps: &[Step], scan: ScanPlaces) -> Option<usize>
 }
 
 /// The view that a scan took last.
-#[tactic(auto, unfolding(crate::specs::Loans::borrowed))]
-pub fn borrowed(steps: &[Step], scan: ScanPlaces) -> Option<Borrowed>
+#[tactic(auto, unfolding(crate::specs::Loans::view_taken))]
+pub fn view_taken(steps: &[Step], scan: ScanPlaces) -> Option<Borrowed>
     requires { scan.to ≤ length steps.now }
-    ensures view { result ≡ borrowed steps.now scan }
+    ensures view { result ≡ view_taken steps.now scan }
     ensures within { IfSome result (λ b. IfSome b.lender (λ s. s.to ≤ length steps.now)) }
 {
     let taken = taken_in(steps, scan)?;

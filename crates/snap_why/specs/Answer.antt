@@ -4,7 +4,7 @@ use Rattle.std.specs.Prelude.{ℕ, zero, suc, ◌-◌, List, [], ◌∷◌, ◌+
 use Rattle.snap_runs.specs.declared.verdict.Verdict.{Verdict}
 use Rattle.snap_audit.specs.VerdictText.{verdict_line}
 use Rattle.snap_acts.specs.declared.act.Step.{Step}
-use Rattle.snap_loans.specs.Loans.{borrowed, step_at}
+use Rattle.snap_loans.specs.Loans.{view_taken, step_at}
 use Rattle.snap_loans.specs.declared.loans.Borrowed.{Borrowed}
 use Rattle.snap_loans.specs.declared.loans.ScanPlaces.{ScanPlaces}
 
@@ -39,7 +39,7 @@ view_lines ss i None = process_text i ++ codes " took no view: it read these val
 view_lines ss i (Some b) =
     process_text i ++ codes " took a view" ++ goto_text (step_at ss b.taken).item ++ written_lines ss b.written b.lender
 
--- the lender's scan, where a view was borrowed
+-- the lender's scan, where a view was taken
 abbrev pub lender_of : Option Borrowed → Option ScanPlaces
 lender_of None = None
 lender_of (Some b) = b.lender
@@ -48,7 +48,7 @@ lender_of (Some b) = b.lender
 abbrev pub chain_lines : List Step → Option ScanPlaces → ℕ → List ℕ
 chain_lines ss s zero = []
 chain_lines ss None (suc more) = []
-chain_lines ss (Some s) (suc more) = view_lines ss s.process (borrowed ss s) ++ chain_lines ss (lender_of (borrowed ss s)) more
+chain_lines ss (Some s) (suc more) = view_lines ss s.process (view_taken ss s) ++ chain_lines ss (lender_of (view_taken ss s)) more
 
 -- the places of the scan of a verdict that item t answers
 abbrev pub scan_places : Verdict → ℕ → ScanPlaces

@@ -5,7 +5,7 @@ ghost use Rattle.snap_why.specs.Answer.{answer_lines, chain_lines, goto_text, le
 
 use snap_acts::Step;
 use snap_audit::{Verdict, verdict_line};
-use snap_loans::{Borrowed, ScanPlaces, borrowed};
+use snap_loans::{Borrowed, ScanPlaces, view_taken};
 use snap_text::{push_number, push_text};
 use std::alloc::AllocError;
 
@@ -121,7 +121,7 @@ fn push_view(
     push_written(out, steps, view.written, view.lender)
 }
 
-/// The lender's scan, where a view was borrowed.
+/// The lender's scan, where a view was taken.
 fn lender_of(view: Option<Borrowed>) -> Option<ScanPlaces>
     ensures { result ≡ lender_of view }
 {
@@ -140,7 +140,7 @@ fn push_chain(out: &mut Vec<u8>, steps: &[Step], scan: ScanPlaces) -> Result<(),
         let Some(scan) = next else {
             return Ok(());
         };
-        let view = borrowed(steps, scan);
+        let view = view_taken(steps, scan);
         push_view(out, steps, scan.process, view)?;
         next = lender_of(view);
         left -= 1;

@@ -27,10 +27,18 @@ bank_text bank.V = codes "v"
 abbrev pub second_text : ℕ → List ℕ
 second_text j = if nat_eq j 0 then codes "" else codes " " ++ decimal j
 
-unfoldable pub trouble_text : Trouble → List ℕ
+-- an index with its value
+abbrev pub valued_index : Index → ℕ → List ℕ
+valued_index i value = codes "the index " ++ index_text i ++ codes " is " ++ decimal value
+
+-- a register
+abbrev pub register_text : Bank → ℕ → ℕ → List ℕ
+register_text b i j = codes "the register " ++ bank_text b ++ codes " " ++ decimal i ++ second_text j
+
+abbrev pub trouble_text : Trouble → List ℕ
 trouble_text (NoPlace i value count) =
-    codes "the index " ++ index_text i ++ codes " is " ++ decimal value ++ codes ", and its places are 1 to " ++ decimal count ++ codes "\n"
+    valued_index i value ++ codes ", and its places are 1 to " ++ decimal count ++ codes "\n"
 trouble_text (LargeSum x y) = codes "the sum " ++ decimal x ++ codes " + " ++ decimal y ++ codes " is above 18446744073709551615\n"
 trouble_text (NoBit x) = codes "the value to be written is " ++ decimal x ++ codes ", which is no bit\n"
 trouble_text (NotOwn b i j) =
-    codes "the register " ++ bank_text b ++ codes " " ++ decimal i ++ second_text j ++ codes " is written by process " ++ decimal i ++ codes " alone\n"
+    register_text b i j ++ codes " is written by process " ++ decimal i ++ codes " alone\n"

@@ -14,13 +14,14 @@ use snap_semantics::{Index, Name, Op, Term};
 use snap_words::{Field, Kind, field_of, handshake_of};
 
 /// The value of an index.
-pub(crate) fn index_number<K: Kind>(machine: &Machine<K>, taker: Taker, index: Index) -> u64
+pub(crate) fn index_number<K: Kind>(machine: &Machine<K>, taker: Taker, index: &Index) -> u64
     requires { IsOneOf machine.now.shape.n taker.process }
-    ensures { result ≡ index_value (context_of machine.now.shape machine.now.state taker) index }
+    ensures { result ≡ index_value (context_of machine.now.shape machine.now.state taker)
+        index.now }
 {
     match index {
         Index::Place => taker.place,
-        _ => index_value(machine, taker.process, taker.op, index),
+        _ => index_value(machine, taker.process, taker.op, *index),
     }
 }
 
@@ -114,19 +115,19 @@ pub(crate) fn term_number<K: Kind>(machine: &Machine<K>, taker: Taker, term: &Te
     ensures { result ≡ term_number (context_of machine.now.shape machine.now.state taker) term.now }
 {
     match term {
-        Term::Index(index) => index_number(machine, taker, *index),
+        Term::Index(index) => index_number(machine, taker, index),
         Term::Arg => arg_of(taker.op),
         Term::Row(name, index) => {
-            let place = index_number(machine, taker, *index);
+            let place = index_number(machine, taker, index);
             row_number(machine, taker.process, *name, place)
         }
         Term::Field(field, name, index) => {
-            let place = index_number(machine, taker, *index);
+            let place = index_number(machine, taker, index);
             field_number(machine, taker.process, *field, *name, place)
         }
         Term::Handshake(name, index, handshake) => {
-            let place = index_number(machine, taker, *index);
-            let bit = index_number(machine, taker, *handshake);
+            let place = index_number(machine, taker, index);
+            let bit = index_number(machine, taker, handshake);
             handshake_number(machine, taker.process, *name, place, bit)
         }
     }

@@ -35,18 +35,18 @@ fn range_end(shape: Shape, range: Range) -> u64
 pub(crate) fn place_trouble<K: Kind>(
     machine: &Machine<K>,
     taker: Taker,
-    index: Index,
+    index: &Index,
     count: u64,
 ) -> Option<Trouble>
     requires { IsOneOf machine.now.shape.n taker.process }
-    ensures { result ≡ place_trouble (context_of machine.now.shape machine.now.state taker) index
+    ensures { result ≡ place_trouble (context_of machine.now.shape machine.now.state taker) index.now
         count }
 {
     let value = index_number(machine, taker, index);
     if 0 < value && value <= count {
         None
     } else {
-        Some(Trouble::NoPlace(index, value, count))
+        Some(Trouble::NoPlace(*index, value, count))
     }
 }
 
@@ -73,11 +73,11 @@ pub(crate) fn term_trouble<K: Kind>(
     match term {
         Term::Index(_) => None,
         Term::Arg => None,
-        Term::Row(_, index) => place_trouble(machine, taker, *index, places(shape)),
-        Term::Field(_, _, index) => place_trouble(machine, taker, *index, places(shape)),
+        Term::Row(_, index) => place_trouble(machine, taker, index, places(shape)),
+        Term::Field(_, _, index) => place_trouble(machine, taker, index, places(shape)),
         Term::Handshake(_, index, handshake) => {
-            let word = place_trouble(machine, taker, *index, places(shape));
-            first_of(word, place_trouble(machine, taker, *handshake, shape.n()))
+            let word = place_trouble(machine, taker, index, places(shape));
+            first_of(word, place_trouble(machine, taker, handshake, shape.n()))
         }
     }
 }
@@ -132,22 +132,22 @@ pub fn line_trouble<K: Kind>(machine: &Machine<K>, taker: Taker, instr: &Instr) 
     match instr {
         Instr::Let(_, expr) => expr_trouble(machine, taker, expr),
         Instr::LetPlace(_, index, expr) => {
-            let place = place_trouble(machine, taker, *index, places(shape));
+            let place = place_trouble(machine, taker, index, places(shape));
             first_of(place, expr_trouble(machine, taker, expr))
         }
         Instr::Get(_, index, word) => {
-            let place = place_trouble(machine, taker, *index, places(shape));
-            first_of(place, place_trouble(machine, taker, *word, shape.w()))
+            let place = place_trouble(machine, taker, index, places(shape));
+            first_of(place, place_trouble(machine, taker, word, shape.w()))
         }
         Instr::Bit(_, _, i, j) => {
-            let first = place_trouble(machine, taker, *i, shape.n());
-            first_of(first, place_trouble(machine, taker, *j, shape.n()))
+            let first = place_trouble(machine, taker, i, shape.n());
+            first_of(first, place_trouble(machine, taker, j, shape.n()))
         }
-        Instr::Look(_, index) => place_trouble(machine, taker, *index, shape.n()),
-        Instr::Put(index, tuple) => put_trouble(machine, taker, *index, tuple),
-        Instr::PutBit(bank, i, j, expr) => put_bit_trouble(machine, taker, *bank, *i, *j, expr),
-        Instr::PutView(index, _) => put_view_trouble(machine, taker, *index),
-        Instr::ViewOf(_, _, index) => place_trouble(machine, taker, *index, places(shape)),
+        Instr::Look(_, index) => place_trouble(machine, taker, index, shape.n()),
+        Instr::Put(index, tuple) => put_trouble(machine, taker, index, tuple),
+        Instr::PutBit(bank, i, j, expr) => put_bit_trouble(machine, taker, *bank, i, j, expr),
+        Instr::PutView(index, _) => put_view_trouble(machine, taker, index),
+        Instr::ViewOf(_, _, index) => place_trouble(machine, taker, index, places(shape)),
         Instr::Each(range, _, expr, condition) => {
             values_trouble(machine, taker, expr, condition, range_end(shape, *range))
         }

@@ -123,13 +123,13 @@ fn owner_trouble<K: Kind>(
 pub(crate) fn put_trouble<K: Kind>(
     machine: &Machine<K>,
     taker: Taker,
-    index: Index,
+    index: &Index,
     tuple: &Tuple,
 ) -> Option<Trouble>
     requires { IsOneOf machine.now.shape.n taker.process }
     ensures { let c = context_of machine.now.shape machine.now.state taker in result
-        ≡ or_else (place_trouble c index machine.now.shape.w) (or_else (tuple_trouble c tuple.now)
-        (owner_trouble machine.now.source.kind c bank.R (index_value c index) 0)) }
+        ≡ or_else (place_trouble c index.now machine.now.shape.w) (or_else (tuple_trouble c tuple.now)
+        (owner_trouble machine.now.source.kind c bank.R (index_value c index.now) 0)) }
 {
     let place = place_trouble(machine, taker, index, machine.shape().w());
     let parts = tuple_trouble(machine, taker, tuple);
@@ -143,13 +143,13 @@ pub(crate) fn put_bit_trouble<K: Kind>(
     machine: &Machine<K>,
     taker: Taker,
     bank: BitBank,
-    first: Index,
-    second: Index,
+    first: &Index,
+    second: &Index,
     expr: &Expr,
 ) -> Option<Trouble>
     requires { IsOneOf machine.now.shape.n taker.process }
     ensures { result ≡ put_bit_trouble machine.now.source.kind (context_of machine.now.shape
-        machine.now.state taker) bank first second expr.now }
+        machine.now.state taker) bank first.now second.now expr.now }
 {
     let count = machine.shape().n();
     let i = index_number(machine, taker, first);
@@ -168,12 +168,12 @@ pub(crate) fn put_bit_trouble<K: Kind>(
 pub(crate) fn put_view_trouble<K: Kind>(
     machine: &Machine<K>,
     taker: Taker,
-    index: Index,
+    index: &Index,
 ) -> Option<Trouble>
     requires { IsOneOf machine.now.shape.n taker.process }
     ensures { let c = context_of machine.now.shape machine.now.state taker in result
-        ≡ or_else (place_trouble c index machine.now.shape.n)
-        (owner_trouble machine.now.source.kind c bank.V (index_value c index) 0) }
+        ≡ or_else (place_trouble c index.now machine.now.shape.n)
+        (owner_trouble machine.now.source.kind c bank.V (index_value c index.now) 0) }
 {
     let place = place_trouble(machine, taker, index, machine.shape().n());
     let i = index_number(machine, taker, index);

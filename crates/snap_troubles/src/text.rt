@@ -1,7 +1,7 @@
 //! What is said of an operand at which a line traps.
 ghost use Rattle.std.specs.Prelude.{◌≡◌, ◌++◌, OnOk};
 ghost use Rattle.snap_troubles.specs.declared.trouble.Trouble.TheVariants.{LargeSum, NoBit, NoPlace, NotOwn};
-ghost use Rattle.snap_troubles.specs.TroubleText.{bank_text, index_text, second_text, trouble_text};
+ghost use Rattle.snap_troubles.specs.TroubleText.{bank_text, index_text, register_text, second_text, trouble_text, valued_index};
 
 use crate::trouble::Trouble;
 use snap_semantics::Index;
@@ -48,8 +48,31 @@ fn push_second(out: &mut Vec<u8>, j: u64) -> Result<(), AllocError>
     push_number(out, j)
 }
 
+/// Adds an index with its value.
+#[tactic(auto, using(snap_text::proofs::Texts::joined))]
+fn push_valued_index(out: &mut Vec<u8>, index: &Index, value: u64) -> Result<(), AllocError>
+    ensures { OnOk result (out.new.items ≡ out.old.items ++ valued_index index.now value) }
+{
+    push_text(out, b"the index ")?;
+    push_index(out, index)?;
+    push_text(out, b" is ")?;
+    push_number(out, value)
+}
+
+/// Adds a register.
+#[tactic(auto, using(snap_text::proofs::Texts::joined))]
+fn push_register(out: &mut Vec<u8>, bank: Bank, i: u64, j: u64) -> Result<(), AllocError>
+    ensures { OnOk result (out.new.items ≡ out.old.items ++ register_text bank i j) }
+{
+    push_text(out, b"the register ")?;
+    push_bank(out, bank)?;
+    push_text(out, b" ")?;
+    push_number(out, i)?;
+    push_second(out, j)
+}
+
 /// Adds an index that is no place.
-#[tactic(auto, using(snap_text::proofs::Texts::joined), unfolding(crate::specs::TroubleText::trouble_text))]
+#[tactic(auto, using(snap_text::proofs::Texts::joined))]
 fn push_no_place(out: &mut Vec<u8>, index: Index, value: u64, count: u64) -> Result<(), AllocError>
     ensures { OnOk result (out.new.items ≡ out.old.items ++ trouble_text (NoPlace index value count)) }
 {
@@ -63,7 +86,7 @@ fn push_no_place(out: &mut Vec<u8>, index: Index, value: u64, count: u64) -> Res
 }
 
 /// Adds a sum that is none of 64 bits.
-#[tactic(auto, using(snap_text::proofs::Texts::joined), unfolding(crate::specs::TroubleText::trouble_text))]
+#[tactic(auto, using(snap_text::proofs::Texts::joined))]
 fn push_large_sum(out: &mut Vec<u8>, left: u64, right: u64) -> Result<(), AllocError>
     ensures { OnOk result (out.new.items ≡ out.old.items ++ trouble_text (LargeSum left right)) }
 {
@@ -75,7 +98,7 @@ fn push_large_sum(out: &mut Vec<u8>, left: u64, right: u64) -> Result<(), AllocE
 }
 
 /// Adds a value that is no bit.
-#[tactic(auto, using(snap_text::proofs::Texts::joined), unfolding(crate::specs::TroubleText::trouble_text))]
+#[tactic(auto, using(snap_text::proofs::Texts::joined))]
 fn push_no_bit(out: &mut Vec<u8>, value: u64) -> Result<(), AllocError>
     ensures { OnOk result (out.new.items ≡ out.old.items ++ trouble_text (NoBit value)) }
 {
@@ -85,15 +108,11 @@ fn push_no_bit(out: &mut Vec<u8>, value: u64) -> Result<(), AllocError>
 }
 
 /// Adds a register of another process.
-#[tactic(auto, using(snap_text::proofs::Texts::joined), unfolding(crate::specs::TroubleText::trouble_text))]
+#[tactic(auto, using(snap_text::proofs::Texts::joined))]
 fn push_not_own(out: &mut Vec<u8>, bank: Bank, i: u64, j: u64) -> Result<(), AllocError>
     ensures { OnOk result (out.new.items ≡ out.old.items ++ trouble_text (NotOwn bank i j)) }
 {
-    push_text(out, b"the register ")?;
-    push_bank(out, bank)?;
-    push_text(out, b" ")?;
-    push_number(out, i)?;
-    push_second(out, j)?;
+    push_register(out, bank, i, j)?;
     push_text(out, b" is written by process ")?;
     push_number(out, i)?;
     push_text(out, b" alone\n")
@@ -104,7 +123,7 @@ pub fn push_trouble(out: &mut Vec<u8>, trouble: &Trouble) -> Result<(), AllocErr
     ensures { OnOk result (out.new.items ≡ out.old.items ++ trouble_text trouble.now) }
 {
     match trouble {
-        Trouble::NoPlace(index, value, count) => push_no_place(out, *index, *value, *count),
+        Trouble::NoPlace(index, value, count) => push_no_place(out, index, *value, *count),
         Trouble::LargeSum(left, right) => push_large_sum(out, *left, *right),
         Trouble::NoBit(value) => push_no_bit(out, *value),
         Trouble::NotOwn(bank, i, j) => push_not_own(out, *bank, *i, *j),

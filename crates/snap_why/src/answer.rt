@@ -129,12 +129,12 @@ fn lender_of(view: Option<Borrowed>) -> Option<ScanPlaces>
 }
 
 /// Adds the views that a scan, its lender's scan, and so on took.
-fn push_chain(out: &mut Vec<u8>, steps: &[Step], scan: ScanPlaces) -> Result<(), AllocError>
-    requires { scan.to ≤ length steps.now }
+fn push_chain(out: &mut Vec<u8>, steps: &[Step], first: ScanPlaces) -> Result<(), AllocError>
+    requires { first.to ≤ length steps.now }
     ensures { OnOk result (out.new.items ≡ out.old.items
-        ++ chain_lines steps.now (Some scan) (length steps.now)) }
+        ++ chain_lines steps.now (Some first) (length steps.now)) }
 {
-    let mut next = Some(scan);
+    let mut next = Some(first);
     let mut left = steps.len();
     while left > 0 {
         let Some(scan) = next else {

@@ -73,13 +73,11 @@ fn push_register(out: &mut Vec<u8>, bank: Bank, i: u64, j: u64) -> Result<(), Al
 
 /// Adds an index that is no place.
 #[tactic(auto, using(snap_text::proofs::Texts::joined))]
-fn push_no_place(out: &mut Vec<u8>, index: Index, value: u64, count: u64) -> Result<(), AllocError>
-    ensures { OnOk result (out.new.items ≡ out.old.items ++ trouble_text (NoPlace index value count)) }
+fn push_no_place(out: &mut Vec<u8>, index: &Index, value: u64, count: u64) -> Result<(), AllocError>
+    ensures { OnOk result (out.new.items ≡ out.old.items
+        ++ trouble_text (NoPlace index.now value count)) }
 {
-    push_text(out, b"the index ")?;
-    push_index(out, &index)?;
-    push_text(out, b" is ")?;
-    push_number(out, value)?;
+    push_valued_index(out, index, value)?;
     push_text(out, b", and its places are 1 to ")?;
     push_number(out, count)?;
     push_text(out, b"\n")

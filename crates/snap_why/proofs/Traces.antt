@@ -1,12 +1,16 @@
 -- The trace of a run has a step for each item, and each is of one of the processes.
-use Rattle.std.proofs.Common.{◌≡◌, ◌+◌, ◌<◌, ◌≤◌, ℕ, zero, suc, List, [], ◌∷◌, length, Option, Some, None, refl, sym, ap, ◌∙◌, subst, get_or, arith}
+use Rattle.std.proofs.Common.{◌≡◌, ◌+◌, ◌<◌, ◌≤◌, ℕ, zero, suc, List, [], ◌∷◌, length, Option, Some, None, refl, sym, ap, ◌∙◌, subst, get_or, take, arith}
 use Rattle.std.specs.List.{AllByRecursion}
 use Rattle.snap_words.specs.Shape.{Counts, IsOneOf}
 use Rattle.snap_semantics.specs.declared.process.Item.{Item}
 use Rattle.snap_semantics.specs.Source.{Source}
 use Rattle.snap_semantics.specs.State.{State, initial}
 use Rattle.snap_semantics.specs.Table.{done, who}
-use Rattle.snap_runs.specs.Run.{Run}
+use Rattle.std.proofs.Math.Seq.{take-length}
+use Rattle.snap_semantics.specs.Run.{after}
+use Rattle.snap_semantics.specs.Schedule.{Schedule}
+use Rattle.snap_runs.specs.Run.{Run, run_over, state}
+use Rattle.snap_record.specs.Record.{with_items}
 use Rattle.snap_acts.specs.Trace.{step_of, steps_of, trace_of}
 use Rattle.snap_acts.specs.declared.act.Act.{Act}
 use Rattle.snap_acts.specs.declared.act.Act.TheVariants as act
@@ -56,3 +60,8 @@ one_of r zero i all within e = absurd cc
 one_of r (suc k) i all within e =
     let less : k < length r.items = omega (arith, within) in
     subst (λ (j : ℕ). IsOneOf r.shape.n j) (by_act _ i _ e) (each r.source r.shape (initial r.source r.shape) 1 r.items k all less)
+
+-- the run of the first items ends as that of all is after them
+pub first_items : (r : Run) (s : Source) (d : Schedule) (c : ℕ) → r ≡ with_items (record { source = s; shape = d.shape; items = [] }) (take c d.items) →
+    state r (length r.items) ≡ state (run_over s d) c
+first_items r s d c e = rw e (ap (λ (xs : List Item). after s d.shape (initial s d.shape) xs) (take-length (take c d.items)))

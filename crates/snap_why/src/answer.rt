@@ -13,9 +13,10 @@ use std::alloc::AllocError;
 fn item_at(steps: &[Step], place: usize) -> u64
     ensures { result ≡ (step_at steps.now place).item }
 {
-    match steps.get(place) {
-        Some(step) => step.item,
-        None => 0,
+    if place < steps.len() {
+        steps[place].item
+    } else {
+        0
     }
 }
 
@@ -23,9 +24,10 @@ fn item_at(steps: &[Step], place: usize) -> u64
 fn process_at(steps: &[Step], place: usize) -> u32
     ensures { result ≡ (step_at steps.now place).process }
 {
-    match steps.get(place) {
-        Some(step) => step.process,
-        None => 0,
+    if place < steps.len() {
+        steps[place].process
+    } else {
+        0
     }
 }
 

@@ -1,5 +1,5 @@
 //! What is said of an item of a run.
-ghost use Rattle.std.specs.Prelude.{◌≡◌, ◌≤◌, ◌++◌, IfOk, IfSome, OnOk, length, map, option_map};
+ghost use Rattle.std.specs.Prelude.{◌≡◌, ◌≤◌, ◌<◌, ◌++◌, IfOk, IfSome, OnOk, length, map, option_map};
 ghost use Rattle.snap_words.specs.Shape.{IsOneOf};
 ghost use Rattle.snap_semantics.specs.State.{process_at};
 ghost use Rattle.snap_runs.specs.Audit.{audit};
@@ -69,16 +69,16 @@ fn push_nothing(
     ensures { OnOk result (out.new.items ≡ out.old.items
         ++ nothing_line steps.now (option_map (λ s. s.now) next.entry) last) }
 {
-    match (next, last) {
-        (Some(step), _) => {
-            push_text(out, b"nothing to explain here; the next answer or trap")?;
-            push_goto(out, step.item)
-        }
-        (None, Some(place)) => {
+    if let Some(step) = next {
+        push_text(out, b"nothing to explain here; the next answer or trap")?;
+        return push_goto(out, step.item);
+    }
+    match last {
+        Some(place) => {
             push_text(out, b"nothing to explain here; the last answer or trap")?;
             push_goto(out, steps[place].item)
         }
-        (None, None) => push_text(
+        None => push_text(
             out,
             b"nothing to explain here, nor at another item: no scan is answered, and no process traps\n",
         ),
@@ -96,6 +96,7 @@ fn push_nothing_at(out: &mut Vec<u8>, steps: &[Step], item: u64) -> Result<(), A
 }
 
 /// The record of the first items of a schedule.
+#[tactic(auto, using(crate::proofs::Traces::first_items))]
 fn record_of_first<K: Kind>(
     alloc: Global,
     program: &Program,

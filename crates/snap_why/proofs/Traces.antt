@@ -9,6 +9,7 @@ use Rattle.snap_semantics.specs.Table.{done, who}
 use Rattle.std.proofs.Math.Seq.{take-length}
 use Rattle.snap_semantics.specs.Run.{after}
 use Rattle.snap_semantics.specs.Schedule.{Schedule}
+use Rattle.snap_semantics.specs.ScheduleText.{IsSchedule}
 use Rattle.snap_runs.specs.Run.{Run, run_over, state}
 use Rattle.snap_record.specs.Record.{with_items}
 use Rattle.snap_acts.specs.Trace.{step_of, steps_of, trace_of}
@@ -24,11 +25,11 @@ many s n S t [] = refl
 many s n S t (x ∷ xs) = ap suc (many s n (done s n S x).0 (t + 1) xs)
 
 -- as many steps as items
-pub as_many : (r : Run) → length (trace_of r) ≡ length r.items
-as_many r = many r.source r.shape (initial r.source r.shape) 1 r.items
+pub as_many : (s : Source) (d : Schedule) → length (trace_of (run_over s d)) ≡ length d.items
+as_many s d = many s d.shape (initial s d.shape) 1 d.items
 
 -- the process of a step that is there is one
-each : (s : Source) (n : Counts) (S : State) (t : ℕ) (xs : List Item) (k : ℕ) → AllByRecursion (λ x. IsOneOf n.n (who x)) xs → k < length xs →
+each : (s : Source) (n : Counts) (S : State) (t : ℕ) (xs : List Item) (k : ℕ) → AllByRecursion (λ (x : Item). IsOneOf n.n (who x)) xs → k < length xs →
     IsOneOf n.n (step_at (steps_of s n S t xs) k).process
 each s n S t [] k all less = absurd (omega (arith, less))
 
@@ -54,12 +55,12 @@ by_act i j act.Leave e = absurd cc
 by_act i j act.Other e = absurd cc
 
 -- a process that traps at an item is one
-pub one_of : (r : Run) (t i : ℕ) → AllByRecursion (λ x. IsOneOf r.shape.n (who x)) r.items → t ≤ length r.items →
-    trapped_at (trace_of r) t ≡ Some i → IsOneOf r.shape.n i
-one_of r zero i all within e = absurd cc
-one_of r (suc k) i all within e =
-    let less : k < length r.items = omega (arith, within) in
-    subst (λ (j : ℕ). IsOneOf r.shape.n j) (by_act _ i _ e) (each r.source r.shape (initial r.source r.shape) 1 r.items k all less)
+pub one_of : (s : Source) (d : Schedule) (t i : ℕ) → IsSchedule d → t ≤ length d.items →
+    trapped_at (trace_of (run_over s d)) t ≡ Some i → IsOneOf d.shape.n i
+one_of s d zero i right within e = absurd cc
+one_of s d (suc k) i right within e =
+    let less : k < length d.items = omega (arith, within) in
+    subst (λ (j : ℕ). IsOneOf d.shape.n j) (by_act _ i _ e) (each s d.shape (initial s d.shape) 1 d.items k right.processes less)
 
 -- the run of the first items ends as that of all is after them
 pub first_items : (r : Run) (s : Source) (d : Schedule) (c : ℕ) → r ≡ with_items (record { source = s; shape = d.shape; items = [] }) (take c d.items) →

@@ -154,6 +154,7 @@ pub fn push_why<K: Kind>(
     ensures { OnOk result (out.new.items ≡ out.old.items
         ++ why_text (run_over program.now schedule.now) item) }
 {
+    let _shape = schedule.shape();
     let verdicts = verdicts_over::<K>(alloc, program, schedule)?;
     let steps = trace::<K>(alloc, program, schedule)?;
     if let Some(verdict) = verdict_with(verdicts.as_slice(), item) {

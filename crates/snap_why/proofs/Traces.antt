@@ -31,9 +31,8 @@ as_many s d = many s d.shape (initial s d.shape) 1 d.items
 -- the process of a step that is there is one
 each : (s : Source) (n : Counts) (S : State) (t : ℕ) (xs : List Item) (k : ℕ) → AllByRecursion (λ (x : Item). IsOneOf n.n (who x)) xs → k < length xs →
     IsOneOf n.n (step_at (steps_of s n S t xs) k).process
-each s n S t [] k all less = absurd (omega (arith, less))
-
 unfolding step_of
+each s n S t [] k all less = absurd (omega (arith, less))
 each s n S t (x ∷ xs) zero all less = all.0
 each s n S t (x ∷ xs) (suc k) all less = let fewer : k < length xs = omega (arith, less) in each s n (done s n S x).0 (t + 1) xs k all.1 fewer
 

@@ -28,11 +28,11 @@ abbrev pub second_text : ℕ → List ℕ
 second_text j = if nat_eq j 0 then codes "" else codes " " ++ decimal j
 
 -- an index with its value
-abbrev pub valued_index : Index → ℕ → List ℕ
+unfoldable pub valued_index : Index → ℕ → List ℕ
 valued_index i value = codes "the index " ++ index_text i ++ codes " is " ++ decimal value
 
 -- a register
-abbrev pub register_text : Bank → ℕ → ℕ → List ℕ
+unfoldable pub register_text : Bank → ℕ → ℕ → List ℕ
 register_text b i j = codes "the register " ++ bank_text b ++ codes " " ++ decimal i ++ second_text j
 
 abbrev pub trouble_text : Trouble → List ℕ

@@ -9,11 +9,11 @@ use Rattle.snap_loans.specs.declared.loans.Borrowed.{Borrowed}
 use Rattle.snap_loans.specs.declared.loans.ScanPlaces.{ScanPlaces}
 
 -- `: goto T`
-abbrev pub goto_text : ℕ → List ℕ
+unfoldable pub goto_text : ℕ → List ℕ
 goto_text t = codes ": goto " ++ decimal t ++ codes "\n"
 
 -- `process I`
-abbrev pub process_text : ℕ → List ℕ
+unfoldable pub process_text : ℕ → List ℕ
 process_text i = codes "process " ++ decimal i
 
 -- the point that the audit finds
@@ -54,10 +54,14 @@ chain_lines ss (Some s) (suc more) = view_lines ss s.process (view_taken ss s) +
 abbrev pub scan_places : Verdict → ℕ → ScanPlaces
 scan_places v t = record { process = v.process; from = v.call - 1; to = t - 1 }
 
+-- the verdict, and the call
+unfoldable pub call_lines : Verdict → List ℕ
+call_lines v = verdict_line v ++ codes "call" ++ goto_text v.call
+
 -- why the scan of a verdict answered so, where these are the steps of its run, so many
 unfoldable pub answer_lines : List Step → ℕ → Verdict → ℕ → List ℕ
 answer_lines ss count v t =
-    verdict_line v ++ codes "call" ++ goto_text v.call ++ point_line v.point ++ chain_lines ss (Some (scan_places v t)) count
+    call_lines v ++ point_line v.point ++ chain_lines ss (Some (scan_places v t)) count
 
 -- the first of these verdicts of a scan that item t answers
 abbrev pub verdict_with : List Verdict → ℕ → Option Verdict

@@ -1,7 +1,7 @@
 //! Why a scan answered what it answered.
 ghost use Rattle.std.specs.Prelude.{◌≡◌, ◌≤◌, ◌<◌, ◌++◌, ◌-◌, IfSome, OnOk, Some, get_or, length};
 ghost use Rattle.snap_loans.specs.Loans.{step_at};
-ghost use Rattle.snap_why.specs.Answer.{answer_lines, chain_lines, goto_text, lender_lines, lender_of, point_line, process_text, scan_places, verdict_with, view_lines, written_lines};
+ghost use Rattle.snap_why.specs.Answer.{answer_lines, call_lines, chain_lines, goto_text, lender_lines, lender_of, point_line, process_text, scan_places, verdict_with, view_lines, written_lines};
 
 use snap_acts::Step;
 use snap_audit::{Verdict, verdict_line};
@@ -32,7 +32,7 @@ fn process_at(steps: &[Step], place: usize) -> u32
 }
 
 /// Adds the command that goes to an item.
-#[tactic(auto, using(snap_text::proofs::Texts::joined))]
+#[tactic(auto, using(snap_text::proofs::Texts::joined), unfolding(crate::specs::Answer::goto_text))]
 pub(crate) fn push_goto(out: &mut Vec<u8>, item: u64) -> Result<(), AllocError>
     ensures { OnOk result (out.new.items ≡ out.old.items ++ goto_text item) }
 {
@@ -42,7 +42,7 @@ pub(crate) fn push_goto(out: &mut Vec<u8>, item: u64) -> Result<(), AllocError>
 }
 
 /// Adds `process I`.
-#[tactic(auto, using(snap_text::proofs::Texts::joined))]
+#[tactic(auto, using(snap_text::proofs::Texts::joined), unfolding(crate::specs::Answer::process_text))]
 pub(crate) fn push_process(out: &mut Vec<u8>, process: u32) -> Result<(), AllocError>
     ensures { OnOk result (out.new.items ≡ out.old.items ++ process_text process) }
 {
@@ -150,6 +150,16 @@ fn push_chain(out: &mut Vec<u8>, steps: &[Step], first: ScanPlaces) -> Result<()
     Ok(())
 }
 
+/// Adds a verdict, and the call.
+#[tactic(auto, using(snap_text::proofs::Texts::joined), unfolding(crate::specs::Answer::call_lines))]
+fn push_call(out: &mut Vec<u8>, verdict: &Verdict) -> Result<(), AllocError>
+    ensures { OnOk result (out.new.items ≡ out.old.items ++ call_lines verdict.now) }
+{
+    verdict_line(out, verdict)?;
+    push_text(out, b"call")?;
+    push_goto(out, verdict.call)
+}
+
 /// Adds why the scan of a verdict answered so, which an item answers.
 #[tactic(auto, using(snap_text::proofs::Texts::joined), unfolding(crate::specs::Answer::answer_lines))]
 pub(crate) fn push_answer(
@@ -162,9 +172,7 @@ pub(crate) fn push_answer(
     ensures { OnOk result (out.new.items ≡ out.old.items
         ++ answer_lines steps.now (length steps.now) verdict.now item) }
 {
-    verdict_line(out, verdict)?;
-    push_text(out, b"call")?;
-    push_goto(out, verdict.call)?;
+    push_call(out, verdict)?;
     push_point(out, verdict.point)?;
     let scan = ScanPlaces {
         process: verdict.process,

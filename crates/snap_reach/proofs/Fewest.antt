@@ -1,5 +1,5 @@
 -- The steps to a goal are the fewest.
-use Rattle.std.proofs.Common.{◌≡◌, ◌<◌, ◌≤◌, ◌+◌, ◌-◌, ℕ, zero, suc, Bool, true, false, not, if◌then◌else◌, List, Option, Some, None, Result, Ok, Err, refl, sym, subst, arith}
+use Rattle.std.proofs.Common.{◌≡◌, ◌<◌, ◌≤◌, ◌+◌, ◌-◌, ℕ, zero, suc, Bool, true, false, not, if◌then◌else◌, List, Option, Some, None, Ok, Err, refl, sym, subst, arith}
 use Rattle.snap_words.specs.Shape.{Counts, max_items}
 use Rattle.snap_semantics.specs.Listing.{has_line}
 use Rattle.snap_semantics.specs.Source.{Source}
@@ -68,7 +68,7 @@ nowhere_by : (l : Source) (shape : Counts) (i : ℕ) (g : Goal) (taken left : �
     (if b then Some (taken + 1) else steps_from l shape i g (taken + 1) left (stepped l shape i s)) ≡ None →
     (steps_from l shape i g (taken + 1) left (stepped l shape i s) ≡ None → LeadsNowhere l shape i g (stepped l shape i s) left) →
     LeadsNowhere l shape i g s (suc left)
-nowhere_by l shape i g taken left s true there e later = absurd cc
+nowhere_by l shape i g taken left s true there e later j some less = absurd cc
 nowhere_by l shape i g taken left s false not_yet e later zero some less = absurd (omega (arith, some))
 nowhere_by l shape i g taken left s false not_yet e later (suc zero) some less = not_yet
 nowhere_by l shape i g taken left s false not_yet e later (suc (suc j)) some less = later e (suc j) (omega arith) (omega (arith, less))

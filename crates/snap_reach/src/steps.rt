@@ -1,5 +1,5 @@
 //! Steps, counted.
-ghost use Rattle.std.specs.Prelude.{◌≡◌, IfOk};
+ghost use Rattle.std.specs.Prelude.{◌≡◌, ◌<◌, ◌^◌, IfOk, OnOk};
 ghost use Rattle.snap_words.specs.Shape.{IsOneOf};
 ghost use Rattle.snap_reach.specs.Reach.{IsRightOf, checked, checked_goal, checked_status, has_reached, is_at, steps_from, steps_to};
 
@@ -91,7 +91,8 @@ fn check_status(status: Status) -> Result<(), NoSteps>
 
 /// One of the processes, which is busy, and a goal that is there.
 fn check<K: Kind>(session: &Session<K>, process: u64, goal: Goal) -> Result<(), NoSteps>
-    ensures { result ≡ checked session.now process goal }
+    ensures checked { result ≡ checked session.now process goal }
+    ensures fits { OnOk result (process < 2 ^ 32) }
 {
     if process == 0 || session.machine().shape().n() < process {
         return Err(NoSteps::NoSuchProcess);

@@ -1,6 +1,6 @@
 use Rattle.std.proofs.Common.{◌≡◌, ◌-◌, drop, length}
-use Rattle.snap_shapes.specs.Searches.{first_meeting}
-use Rattle.snap_shapes.proofs.wanted.first_from.Given as goal
+use Rattle.snap_loans.specs.Searches.{first_meeting}
+use Rattle.snap_loans.proofs.wanted.first_from.Given as goal
 
 abbrev pub invariant-loop-k : goal.invariant-loop-k
 invariant-loop-k l = first_meeting l.wanted (drop l.k l.steps) ≡ first_meeting l.wanted (drop l.from l.steps)

@@ -3,8 +3,8 @@ use Rattle.std.specs.Prelude.{ℕ, zero, suc, Bool, true, false, ◌&&◌, ◌||
 use Rattle.snap_acts.specs.declared.act.Act.{Act}
 use Rattle.snap_acts.specs.declared.act.Act.TheVariants as act
 use Rattle.snap_acts.specs.declared.act.Step.{Step}
-use Rattle.snap_shapes.specs.declared.wanted.Wanted.{Wanted}
-use Rattle.snap_shapes.specs.declared.wanted.Wanted.TheVariants as wanted
+use Rattle.snap_loans.specs.declared.wanted.Wanted.{Wanted}
+use Rattle.snap_loans.specs.declared.wanted.Wanted.TheVariants as wanted
 
 -- an operation ends
 abbrev pub is_end : Act → Bool
@@ -35,6 +35,23 @@ abbrev pub publishes : ℕ → Act → Bool
 publishes k (act.Publish j) = nat_eq j k
 publishes k _ = false
 
+-- the scan of an update begins
+abbrev pub is_enter : Act → Bool
+is_enter act.Enter = true
+is_enter _ = false
+
+-- a view is taken that another scan left
+abbrev pub takes_view : Act → Bool
+takes_view (act.Borrow word) = true
+takes_view (act.Look k) = true
+takes_view _ = false
+
+-- a scan is answered, or a process traps
+abbrev pub is_answer_or_trap : Act → Bool
+is_answer_or_trap (act.Answer view) = true
+is_answer_or_trap act.Trap = true
+is_answer_or_trap _ = false
+
 -- whether a step is what is wanted
 abbrev pub meets : Wanted → Step → Bool
 meets (wanted.End i) s = nat_eq s.process i && is_end s.act
@@ -44,6 +61,9 @@ meets wanted.Write s = is_write s.act
 meets (wanted.WriteOf k) s = writes_word k s.act
 meets (wanted.ReadOf i k) s = nat_eq s.process i && reads_word k s.act
 meets (wanted.Published k) s = publishes k s.act
+meets (wanted.Enter i) s = nat_eq s.process i && is_enter s.act
+meets (wanted.Taking i) s = nat_eq s.process i && takes_view s.act
+meets wanted.AnswerOrTrap s = is_answer_or_trap s.act
 
 -- the first of these steps that is what is wanted
 abbrev pub first_meeting : Wanted → List Step → Option Step

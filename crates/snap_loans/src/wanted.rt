@@ -1,14 +1,17 @@
 //! What is searched for among the items of a run.
 ghost use Rattle.std.specs.Prelude.{◌≡◌, ◌≤◌, ◌<◌, IfSome, drop, length, option_map};
-ghost use Rattle.snap_shapes.specs.Searches.{
+ghost use Rattle.snap_loans.specs.Searches.{
   first_meeting,
+  is_answer_or_trap,
   is_end,
+  is_enter,
   is_leave,
   is_write,
   last_before,
   meets,
   publishes,
   reads_word,
+  takes_view,
   writes_word,
 };
 
@@ -16,7 +19,7 @@ use snap_acts::{Act, Step};
 
 /// A step that is searched for.
 #[derive(Clone, Copy, Debug)]
-pub(crate) enum Wanted {
+pub enum Wanted {
     /// The end of an operation of a process.
     End(u32),
     /// The end of the scan of an update of a process.
@@ -29,6 +32,12 @@ pub(crate) enum Wanted {
     ReadOf(u32, u64),
     /// The view of a process is written.
     Published(u64),
+    /// The scan of an update of a process begins.
+    Enter(u32),
+    /// A process takes a view.
+    Taking(u32),
+    /// A scan is answered, or a process traps.
+    AnswerOrTrap,
 }
 
 /// Whether an operation ends.
@@ -90,6 +99,38 @@ fn publishes(k: u64, act: &Act) -> bool
     }
 }
 
+/// Whether the scan of an update begins.
+fn is_enter(act: &Act) -> bool
+    ensures { result ≡ is_enter act.now }
+{
+    match act {
+        Act::Enter => true,
+        _ => false,
+    }
+}
+
+/// Whether a view is taken.
+fn takes_view(act: &Act) -> bool
+    ensures { result ≡ takes_view act.now }
+{
+    match act {
+        Act::Borrow(_) => true,
+        Act::Look(_) => true,
+        _ => false,
+    }
+}
+
+/// Whether a scan is answered, or a process traps.
+fn is_answer_or_trap(act: &Act) -> bool
+    ensures { result ≡ is_answer_or_trap act.now }
+{
+    match act {
+        Act::Answer(_) => true,
+        Act::Trap => true,
+        _ => false,
+    }
+}
+
 /// Whether a step is what is wanted.
 fn meets(wanted: Wanted, step: &Step) -> bool
     ensures { result ≡ meets wanted step.now }
@@ -102,11 +143,14 @@ fn meets(wanted: Wanted, step: &Step) -> bool
         Wanted::WriteOf(k) => writes_word(k, &step.act),
         Wanted::ReadOf(i, k) => step.process == i && reads_word(k, &step.act),
         Wanted::Published(k) => publishes(k, &step.act),
+        Wanted::Enter(i) => step.process == i && is_enter(&step.act),
+        Wanted::Taking(i) => step.process == i && takes_view(&step.act),
+        Wanted::AnswerOrTrap => is_answer_or_trap(&step.act),
     }
 }
 
 /// The first step from a place on that is what is wanted.
-pub(crate) fn first_from(steps: &[Step], from: usize, wanted: Wanted) -> Option<&Step>
+pub fn first_from(steps: &[Step], from: usize, wanted: Wanted) -> Option<&Step>
     ensures { option_map (λ s. s.now) result ≡ first_meeting wanted (drop from steps.now) }
 {
     let mut k = from;
@@ -120,7 +164,7 @@ pub(crate) fn first_from(steps: &[Step], from: usize, wanted: Wanted) -> Option<
 }
 
 /// The last of the first places at which there is what is wanted.
-pub(crate) fn last_before(steps: &[Step], count: usize, wanted: Wanted) -> Option<usize>
+pub fn last_before(steps: &[Step], count: usize, wanted: Wanted) -> Option<usize>
     requires { count ≤ length steps.now }
     ensures place { result ≡ last_before wanted steps.now count }
     ensures within { IfSome result (λ k. k < count) }

@@ -1,6 +1,6 @@
 use Rattle.std.proofs.Common.{◌≡◌, ◌≤◌}
-use Rattle.snap_shapes.specs.Searches.{last_before}
-use Rattle.snap_shapes.proofs.wanted.last_before.Given as goal
+use Rattle.snap_loans.specs.Searches.{last_before}
+use Rattle.snap_loans.proofs.wanted.last_before.Given as goal
 
 abbrev pub invariant-loop-k : goal.invariant-loop-k
 invariant-loop-k l = (last_before l.wanted l.steps l.k ≡ last_before l.wanted l.steps l.count) × (l.k ≤ l.count)

@@ -1,11 +1,11 @@
 // The page's side of the worker: one question at a time, and of several of one kind the newest alone.
 
-const SLOW = 100;
+const SLOW = 100, DOING = {audit: 'auditing', draw: 'drawing'};
 const asker = {worker: null, ready: false, busy: null, waiting: new Map(), failed: '', pace: 0};
 
 function startWorker() {
-    const code = new Blob([$('worker').textContent], {type: 'text/javascript'}), address = URL.createObjectURL(code);
-    asker.worker = new Worker(address);
+    const code = new Blob([$('worker').textContent], {type: 'text/javascript'});
+    asker.worker = new Worker(URL.createObjectURL(code));
     asker.ready = false;
     asker.worker.onmessage = ({data}) => {
         if (data.ready) asker.ready = true;
@@ -33,11 +33,10 @@ function ask(kind, request, key = kind) {
 
 function askNext() {
     if (asker.busy || !asker.ready || !asker.waiting.size) return;
-    const key = asker.waiting.has('look') ? 'look' : asker.waiting.keys().next().value;
-    const {kind, request} = asker.waiting.get(key);
-    asker.busy = {...asker.waiting.get(key), begun: performance.now(), timer: setInterval(showProgress, SLOW)};
+    const key = asker.waiting.has('look') ? 'look' : asker.waiting.keys().next().value, next = asker.waiting.get(key);
+    asker.busy = {...next, begun: performance.now(), timer: setInterval(showProgress, SLOW)};
     asker.waiting.delete(key);
-    asker.worker.postMessage({kind, request});
+    asker.worker.postMessage({kind: next.kind, request: next.request});
 }
 
 function endQuestion(answer) {
@@ -55,7 +54,7 @@ function showProgress() {
     const expected = asker.pace * (state.items?.total ?? 0);
     if (expected > spent) bar.value = spent / expected;
     else bar.removeAttribute('value');
-    words.textContent = `${asker.busy.kind === 'audit' ? 'auditing' : 'running'}, ${(spent / 1000).toFixed(1)} s`;
+    words.textContent = `${DOING[asker.busy.kind] ?? 'running'}, ${(spent / 1000).toFixed(1)} s`;
     $('progress').hidden = false;
 }
 

@@ -5,7 +5,6 @@ const $ = id => document.getElementById(id);
 const data = JSON.parse($('data').textContent);
 const within = (number, least, most) => Math.min(Math.max(number, least), most);
 const say = text => { $('note').textContent = text; };
-const announce = what => document.dispatchEvent(new Event(what));
 
 // An element with attributes, 'on..' functions and children.
 function make(tag, attributes = {}, ...children) {

@@ -14,33 +14,32 @@ function makeMenu() {
 
 function choose(k) {
     const {listing, schedule, goal = null} = choices[k];
-    state.breaks.clear();
-    state.watches.clear();
+    state.marks.clear();
     return change({listing, schedule, goal, at: 0, idea: k});
 }
 
 // The idea's text, its change and its way back, and the goal of an exercise.
 function showIdea() {
     const {goal, listing, schedule, verdicts, refusal} = state;
-    const idea = goal ? null : choices[state.idea], other = idea?.change;
+    const idea = goal ? {title: 'Exercise'} : choices[state.idea] ?? {}, other = idea.change;
     const made = other && listing === other.listing && schedule === other.schedule;
     $('menu').value = state.idea ?? '';
-    $('idea').hidden = !idea?.text && !goal;
-    $('idea-title').textContent = goal ? 'Exercise' : idea?.title ?? '';
+    $('idea').hidden = !idea.text && !goal;
+    $('idea-title').textContent = idea.title ?? '';
     fill($('idea-text'), `${state.idea} ${goal?.task}`, () => {
         const text = make('div');
         if (goal) text.append(make('p', {}, goal.task));
-        else text.innerHTML = (idea?.text ?? '') + (other?.text ?? '');
+        else text.innerHTML = (idea.text ?? '') + (other?.text ?? '');
         return [text];
     });
     $('change').hidden = !other;
     $('change').textContent = made ? 'Back to how it was' : 'Make the change';
     const {listing: text, schedule: items} = (made ? idea : other) ?? state;
     $('change').onclick = () => change({listing: text, schedule: items, at: 0});
-    const met = goal && !refusal && verdicts.near.find(meets), words = goal && `Goal: ${goalWords(goal)}. Not met yet.`;
+    const met = goal && !refusal && verdicts.near.find(meets);
     $('goal').classList.toggle('met', Boolean(met));
-    const done = met && `Met: the scan of process ${met.who}, items ${met.call} to ${met.answer}.`;
-    $('goal').textContent = done || words || '';
+    $('goal').textContent = met ? `Met: the scan of process ${met.who}, items ${met.call} to ${met.answer}.` :
+        goal ? `Goal: ${goalWords(goal)}. Not met yet.` : '';
 }
 
 function meets(verdict) {
@@ -70,7 +69,7 @@ function showVerdicts() {
         return make('button', {class: point ? '' : 'none', onclick: () => goTo(point || answer)}, badge(who), words);
     };
     const all = () => [...told, ...near.map(row)].map(each => make('li', {}, each));
-    fill($('verdicts'), JSON.stringify([near, left]), all);
+    fill($('verdicts'), state.verdicts, all);
 }
 
 function outcome() {
@@ -90,13 +89,13 @@ function showWhere() {
 }
 
 function makeExercise() {
-    const {elements} = $('form').querySelector('form');
-    const chosen = name => elements[name].value.trim().replace(/\s+/g, ' ');
-    for (const name of GOAL) elements[name].value = state.goal?.[name] ?? '';
-    $('form').returnValue = '';
-    $('form').showModal();
-    $('form').onclose = () => {
-        const goal = Object.fromEntries(GOAL.map(name => [name, chosen(name)])), pressed = $('form').returnValue;
+    const dialog = $('form'), [form] = dialog.getElementsByTagName('form');
+    for (const name of GOAL) form.elements[name].value = state.goal?.[name] ?? '';
+    dialog.returnValue = '';
+    dialog.showModal();
+    dialog.onclose = () => {
+        const goal = Object.fromEntries(new FormData(form)), pressed = dialog.returnValue;
+        for (const name of GOAL) goal[name] = goal[name].trim().replace(/\s+/g, ' ');
         goal.task ||= `Make it so that ${goalWords(goal)}.`;
         if (pressed === 'make') change({goal, idea: null});
         if (pressed === 'clear') change({goal: null});

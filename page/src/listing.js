@@ -4,6 +4,7 @@ const MOST_BADGES = 3;
 const listingEditor = new Editor($('listing'), 'Listing', listing => change({listing}));
 const scheduleEditor = new Editor($('schedule'), 'Schedule', schedule => change({schedule}));
 const numbered = {listing: null, lines: new Map(), numbers: new Map()};
+listingEditor.onmark = toggleBreak;
 
 // The numbered lines of the listing, which are found anew where it has changed.
 function linesOf(listing) {
@@ -28,17 +29,19 @@ function positionLine() {
     return items.line[lineOf(items, at)] ?? Math.max(items.shapeLine, 0);
 }
 
+// The process of the last item.
+const lastProcess = (report = state.report) => report.processes[state.last.split(' ')[0] - 1];
+
 // The line that the last item has executed, where the position before is known.
 function executedLine() {
-    const {before, report, last} = state, [who, what] = last.split(' ');
+    const {before, report, last} = state, what = last.split(' ')[1];
     const stepped = before?.at === report.at - 1 && !['called', 'skipped', 'crashed'].includes(what);
-    return stepped ? before.processes[who - 1]?.at : 0;
+    return stepped ? lastProcess(before)?.at : 0;
 }
 
 function showMargins() {
-    const {lines, numbers} = linesOf(state.listing), places = new Map(), bad = badLines(), here = positionLine();
-    const add = (number, who, link) => number && places.set(number, [...places.get(number) ?? [], [who, link]]);
-    for (const {who, at, link} of state.report.processes) add(at, who, '') + add(link, who, 'link');
+    const {lines, numbers} = linesOf(state.listing), bad = badLines(), here = positionLine();
+    const places = state.report.processes.flatMap(({who, at, link}) => [[at, who, ''], [link, who, 'link']]);
     const executed = lines.get(executedLine())?.place;
     const red = part => bad[part].map(line => [line, 'bad']);
     listingEditor.mark(place => listingRow(numbers.get(place), places), [[executed ?? -1, 'now'], ...red('listing')]);
@@ -47,7 +50,7 @@ function showMargins() {
         return {key: text, children: () => [text], label: text && `item ${state.at} is here`};
     }, [[here, 'now'], ...red('schedule')]);
     scheduleEditor.reveal(here);
-    listingEditor.reveal(lines.get(state.report.processes[state.last.split(' ')[0] - 1]?.at)?.place ?? executed ?? -1);
+    listingEditor.reveal(lines.get(lastProcess()?.at)?.place ?? executed ?? -1);
 }
 
 // How many of a line's items are behind the position.
@@ -57,16 +60,17 @@ function countOf({items, at}) {
     return count > 1 ? `\u25B6${at - items.from[k]}/${count}` : '\u25B6';
 }
 
+// A numbered line, with the processes that are here, and those that return here.
 function listingRow(number, places) {
     if (number === undefined) return {key: '', children: () => [], label: ''};
-    const here = places.get(number) ?? [], stop = state.breaks.has(number), more = here.length - MOST_BADGES;
-    const who = here.map(([process, link]) => `process ${process} ${link ? 'returns here' : 'is here'}`);
-    const {text} = linesOf(state.listing).lines.get(number), badges = here.slice(0, MOST_BADGES);
+    const here = places.filter(([at]) => at === number), stop = state.marks.has(`line ${number}`);
+    const who = here.map(([, process, link]) => `process ${process} ${link ? 'returns here' : 'is here'}`);
+    const {text} = linesOf(state.listing).lines.get(number), more = here.length - MOST_BADGES;
     return {
         key: `${stop}${here.join(';')}`, numbered: true,
         label: [`line ${number}: ${text}`, ...who, ...stop ? ['breakpoint'] : []].join('; '),
         children: () => [...stop ? [make('span', {class: 'stop', title: 'breakpoint'})] : [],
-            ...badges.map(([process, link]) => badge(process, link)), ...more > 0 ? [`+${more}`] : []],
+            ...here.slice(0, MOST_BADGES).map(([, ...place]) => badge(...place)), ...more > 0 ? [`+${more}`] : []],
     };
 }
 
@@ -83,21 +87,18 @@ function badLines() {
 
 // A refusal, and what the manual says of it.
 function showRefusal(part) {
-    const box = $(`${part}-refusal`), {refusal} = state, here = refusal?.part === part;
-    box.hidden = !here;
-    fill(box, here && refusal.text, () => {
+    const box = $(`${part}-refusal`), refusal = state.refusal?.part === part ? state.refusal : null;
+    box.hidden = !refusal;
+    fill(box, refusal?.text, () => {
         const remedy = make('span');
-        remedy.innerHTML = here && data.remedies[refusal.name] || '';
-        return here ? [make('b', {}, refusal.text), ' ', remedy] : [];
+        remedy.innerHTML = data.remedies[refusal?.name] ?? '';
+        return [make('b', {}, refusal?.text ?? ''), ' ', remedy];
     });
-    if (refusal?.part === 'page') say(refusal.text);
+    if (state.refusal?.part === 'page') say(state.refusal.text);
 }
 
 function toggleBreak(line) {
     const number = linesOf(state.listing).numbers.get(line);
     if (number === undefined) return say('A breakpoint stands on a numbered line.');
-    say(`Breakpoint ${state.breaks.has(number) ? 'taken from' : 'set at'} line ${number}, for every process.`);
-    return toggle(state.breaks, number);
+    return toggle(`line ${number}`);
 }
-
-listingEditor.onmark = toggleBreak;

@@ -2,10 +2,9 @@
 
 const BIG = 300000, MOST_UNDONE = 200, QUIET = 120, MOST_MARKS = 64;
 const state = {
-    listing: '', schedule: '', at: 0, breaks: new Set(), watches: new Set(), idea: null, goal: null,
-    items: readItems(''), report: null, before: null, last: 'none',
-    operations: readOperations([]),
-    verdicts: {numbers: readVerdicts(''), near: []}, refusal: null,
+    listing: '', schedule: '', at: 0, marks: new Set(), idea: null, goal: null,
+    items: readItems(''), report: null, before: null, last: 'none', operations: readOperations([]),
+    verdicts: {numbers: readVerdicts(''), near: [], none: new Set()}, refusal: null,
     serial: 0, timer: 0, past: [], future: [], audited: null, appended: false,
 };
 
@@ -19,7 +18,7 @@ function change(to, {appended = false, undone = false} = {}) {
     }
     Object.assign(state, to, {appended: state.appended && appended});
     if (state.schedule !== schedule) state.items = state.schedule.length < BIG ? readItems(state.schedule) : null;
-    if (!appended) announce('texts');
+    if (!appended) [showTexts, showIdea].forEach(show => show());
     return refresh();
 }
 
@@ -30,10 +29,22 @@ function undo(from, to) {
     return change(state[from].pop(), {undone: true});
 }
 
+// A mark is a line, as 'line 23', or a register, as 'r 1'. That of a line is a command for each process.
+const markOf = ([verb, ...rest]) => /^(break|clear)$/.test(verb) ? `line ${Number(rest[1])}` : rest.join(' ');
+
 function markCommands() {
     const processes = Array.from({length: within(state.items?.processes ?? 0, 0, 64)}, (_, k) => k + 1);
-    const breaks = [...state.breaks].flatMap(line => processes.map(who => `break ${who} ${line}`));
-    return [...breaks.slice(0, MOST_MARKS + 1), ...[...state.watches].map(register => `watch ${register}`)];
+    const commands = [...state.marks].flatMap(mark => mark.startsWith('line ') ?
+        processes.map(who => `break ${who} ${mark.slice(5)}`) : `watch ${mark}`);
+    return commands.slice(0, MOST_MARKS + 1);
+}
+
+function toggle(mark) {
+    const on = !state.marks.delete(mark);
+    if (on) state.marks.add(mark);
+    const where = mark.startsWith('line ') ? `at ${mark}, for every process` : `where ${mark} has changed`;
+    say(`A run ${on ? 'stops' : 'no longer stops'} ${where}.`);
+    return refresh();
 }
 
 // Asks for the state at the position, or for that to which a run leads.
@@ -44,7 +55,7 @@ async function refresh(go = '') {
     if (answer.items?.from && schedule === state.schedule) state.items = answer.items;
     if (answer.code === OUTPUT) take(answer, serial === state.serial);
     else if (serial === state.serial) state.refusal = readRefusal(answer);
-    announce('state');
+    showState();
     askAudit();
 }
 
@@ -56,9 +67,7 @@ function take({report, last, operations, refused}, newest) {
     Object.assign(state, {report, last, refusal: null, operations: operations ?? state.operations});
     if (newest) state.at = report.at;
     for (const [command, refusal] of refused) {
-        const [verb, ...rest] = command.split(' ');
-        if (verb === 'break') state.breaks.delete(Number(rest[1]));
-        else state.watches.delete(rest.join(' '));
+        state.marks.delete(markOf(command.split(' ')));
         say(`The mark is taken away: ${refusal}`);
     }
 }
@@ -75,7 +84,7 @@ function askAudit() {
         const answer = await ask('audit', {listing, schedule});
         if (answer?.code !== OUTPUT) return;
         Object.assign(state, {verdicts: answer.verdicts, audited: {listing, schedule, answers}, appended: true});
-        announce('state');
+        showState();
     }, QUIET);
 }
 
@@ -108,8 +117,8 @@ function press(who, what = '') {
 
 function withItem(schedule, items, at, item) {
     if (at < items.total) return parted(schedule, items, at).join(`${item}\n`);
-    const text = !schedule || schedule.endsWith('\n') ? schedule : schedule + '\n';
-    const cut = text.lastIndexOf('\n', text.length - 2) + 1, step = /^(\d+)(?:\*(\d+))?$/.exec(text.slice(cut, -1));
+    const text = ended(schedule), cut = text.lastIndexOf('\n', text.length - 2) + 1;
+    const step = /^(\d+)(?:\*(\d+))?$/.exec(text.slice(cut, -1));
     return step?.[1] === item ? `${text.slice(0, cut)}${item}*${Number(step[2] ?? 1) + 1}\n` : `${text}${item}\n`;
 }
 
@@ -124,9 +133,4 @@ function parted(schedule, items, at) {
         after.unshift(times(end - at));
     }
     return [before.join('\n') + '\n', after.join('\n')];
-}
-
-function toggle(set, mark) {
-    if (!set.delete(mark)) set.add(mark);
-    return refresh();
 }

@@ -7,6 +7,10 @@ const ITEM = /^[ \t\r]*(\d+)[ \t\r]*(?:\*[ \t\r]*(\d+)|(scan|crash|update)\b[^#]
 const SHAPE = /^[ \t\r]*shape[ \t\r]+(\d+)[ \t\r]+(\d+)/;
 const EMPTY = /^[ \t\r]*(?:#.*)?$/;
 
+// A text whose last line is ended, and the input that has these parts.
+const ended = text => text && !text.endsWith('\n') ? text + '\n' : text;
+const inputOf = (...parts) => parts.map(ended).join('%\n');
+
 // A schedule's lines with items: the process, kind and text line of each, and how many items stand before it. Whether
 // the text is a schedule says the module alone.
 function readItems(text) {

@@ -420,11 +420,12 @@ def try_trap(page, count):
                 if (length >= want) new Uint8Array(memory.buffer, Number(room), want).fill(65);
             }};
             glue.taken = glue.instance.page_room(16n); glue.room = 0n; glue.roomLength = 0n; };
-        const first = glue.answer('run', '', new Uint8Array()), dropped = glue.instance === null;
+        const ask = () => glue.answer('page_output', ['run', '', '']);
+        const first = ask(), dropped = glue.instance === null;
         mode = 'small';
-        const second = glue.answer('run', '', new Uint8Array()), third = glue.answer('run', '', new Uint8Array());
+        const second = ask(), third = ask();
         mode = 'none'; glue.instance = null;
-        const fourth = glue.answer('run', '', new Uint8Array());
+        const fourth = ask();
         return [first.code === codes.TRAPPED && dropped, made, second.code, second.bytes.length, third.bytes[99999],
             asked.join(), fourth.code === codes.MEMORY];
     })()"""
@@ -432,7 +433,7 @@ def try_trap(page, count):
     count.check("after a trap the instance is given up, and a new one made", told[:2] == [True, 3], told)
     count.check("room that is too small is made larger once", told[2:6] == [0, 100000, 65, "65536,65536,100000,100000"], told)
     count.check("want of memory is told", told[6], told)
-    page.run("take, state.refusal = readRefusal({code: 5, text: 'RuntimeError: unreachable'}), document.dispatchEvent(new Event('state'))")
+    page.run("take, state.refusal = readRefusal({code: 5, text: 'RuntimeError: unreachable'}), showState()")
     count.check("and the page says so", "was started anew" in page.text("#note"), page.text("#note"))
     lives_on(page, count, "a trap")
 

@@ -5,12 +5,12 @@ const MOST_LINES = 1500, SHOWN_LINES = 40, EDGE = 8, MOST_LETTERS = 300000, SHOW
 class Editor {
     constructor(root, label, onInput) {
         this.root = root;
-        this.area = make('textarea', {'aria-label': label, spellcheck: 'false', autocapitalize: 'off', wrap: 'off'});
-        this.gutter = make('div', {class: 'gutter', tabindex: '0', role: 'listbox', 'aria-label': `Margin: ${label}`});
-        this.back = make('div', {'aria-hidden': 'true'});
+        this.area = make('textarea', {ariaLabel: label, spellcheck: false, autocapitalize: 'off', wrap: 'off'});
+        this.gutter = make('div', {className: 'gutter', tabIndex: 0, role: 'listbox', ariaLabel: `Margin: ${label}`});
+        this.back = make('div', {ariaHidden: 'true'});
         this.first = this.active = 0;
-        root.append(this.gutter, make('div', {class: 'code'}, this.back, this.area));
         this.area.oninput = () => onInput(this.area.value);
+        root.append(this.gutter, make('div', {className: 'code'}, this.back, this.area));
         this.gutter.onclick = event => {
             this.activate([...this.gutter.children].indexOf(event.target.closest('[role=option]')));
             this.onmark?.(this.active + this.first);
@@ -54,16 +54,17 @@ class Editor {
 
     // What stands in the margin, for each text line its children, their key and what is read out; and coloured lines.
     mark(told, colours) {
-        [...this.gutter.children].forEach((row, k) => {
+        const rows = [...this.gutter.children];
+        rows.forEach((row, k) => {
             const {key, children, label, numbered = false} = told(k + this.first);
             fill(row, key, children);
             row.classList.toggle('numbered', numbered);
             row.classList.toggle('active', k === this.active);
             if (row.ariaLabel !== label) row.ariaLabel = label;
         });
-        const shown = colours.filter(([line]) => line >= this.first && line < this.first + this.gutter.children.length);
-        fill(this.back, JSON.stringify([shown, this.first]), () => shown.map(([line, name]) =>
-            make('i', {class: name, style: `top: calc(${line - this.first} * var(--line-height))`})));
+        const shown = colours.map(([line, name]) => [line - this.first, name]).filter(([row]) => row >= 0 && row < rows.length);
+        fill(this.back, shown.join(), () => shown.map(([row, className]) =>
+            make('i', {className, style: `top: calc(${row} * var(--line-height))`})));
     }
 
     // Scrolls a line into view, but not under the hands of one who types.

@@ -1,19 +1,9 @@
 // Listings, the gallery's ideas and exercises; verdicts, and whether a goal is met.
 
 const GOAL = ['task', 'who', 'view', 'collects', 'point', 'items'];
-const GROUPS = {Listings: data.listings, Gallery: data.ideas, Exercises: data.exercises};
-const choices = Object.values(GROUPS).flat();
-
-function makeMenu() {
-    for (const [label, all] of Object.entries(GROUPS)) {
-        const options = all.map(each => make('option', {value: choices.indexOf(each)}, each.title));
-        $('menu').append(make('optgroup', {label}, ...options));
-    }
-    $('menu').onchange = () => choose(Number($('menu').value));
-}
 
 function choose(k) {
-    const {listing, schedule, goal = null} = choices[k];
+    const {listing, schedule, goal = null} = data.choices[k];
     state.marks.clear();
     return change({listing, schedule, goal, at: 0, idea: k});
 }
@@ -21,17 +11,13 @@ function choose(k) {
 // The idea's text, its change and its way back, and the goal of an exercise.
 function showIdea() {
     const {goal, listing, schedule, verdicts, refusal} = state;
-    const idea = goal ? {title: 'Exercise'} : choices[state.idea] ?? {}, other = idea.change;
+    const idea = goal ? {title: 'Exercise'} : data.choices[state.idea] ?? {}, other = idea.change;
     const made = other && listing === other.listing && schedule === other.schedule;
     $('menu').value = state.idea ?? '';
     $('idea').hidden = !idea.text && !goal;
     $('idea-title').textContent = idea.title ?? '';
-    fill($('idea-text'), `${state.idea} ${goal?.task}`, () => {
-        const text = make('div');
-        if (goal) text.append(make('p', {}, goal.task));
-        else text.innerHTML = (idea.text ?? '') + (other?.text ?? '');
-        return [text];
-    });
+    const told = () => goal ? make('p', {}, goal.task) : make('div', {innerHTML: (idea.text ?? '') + (other?.text ?? '')});
+    fill($('idea-text'), `${state.idea} ${goal?.task}`, () => [told()]);
     $('change').hidden = !other;
     $('change').textContent = made ? 'Back to how it was' : 'Make the change';
     const {listing: text, schedule: items} = (made ? idea : other) ?? state;
@@ -66,7 +52,7 @@ function showVerdicts() {
     const told = left ? [`${left} other ones are not listed.`] : near.length ? [] : ['No scan has ended.'];
     const row = ({who, call, answer, point, view, ...more}) => {
         const words = ` scan, items ${call} to ${answer}, answers ${view}: ${verdictWords({point, ...more})}`;
-        return make('button', {class: point ? '' : 'none', onclick: () => goTo(point || answer)}, badge(who), words);
+        return make('button', {className: point ? '' : 'none', onclick: () => goTo(point || answer)}, badge(who), words);
     };
     const all = () => [...told, ...near.map(row)].map(each => make('li', {}, each));
     fill($('verdicts'), state.verdicts, all);
@@ -83,8 +69,8 @@ function showWhere() {
     const {report: {at, total, values}, verdicts: {near}, timer} = state;
     const verdict = timer ? null : near.find(each => each.answer === at);
     const told = `: ${outcome()}; values ${values}`, words = verdict ? `; ${verdictWords({...verdict, from: ''})}` : '';
-    fill($('where'), at + total + told + words, () => [make('span', {class: 'at'}, `Item ${at} of ${total}`), told,
-        make('span', {class: verdict?.point === 0 ? 'none' : ''}, words)]);
+    fill($('where'), at + total + told + words, () => [make('span', {className: 'at'}, `Item ${at} of ${total}`), told,
+        make('span', {className: verdict?.point === 0 ? 'none' : ''}, words)]);
     if (document.activeElement !== $('at')) $('at').value = at;
 }
 

@@ -69,7 +69,7 @@ function listingRow(number, places) {
     return {
         key: `${stop}${here.join(';')}`, numbered: true,
         label: [`line ${number}: ${text}`, ...who, ...stop ? ['breakpoint'] : []].join('; '),
-        children: () => [...stop ? [make('span', {class: 'stop', title: 'breakpoint'})] : [],
+        children: () => [...stop ? [make('span', {className: 'stop', title: 'breakpoint'})] : [],
             ...here.slice(0, MOST_BADGES).map(([, ...place]) => badge(...place)), ...more > 0 ? [`+${more}`] : []],
     };
 }
@@ -89,11 +89,8 @@ function badLines() {
 function showRefusal(part) {
     const box = $(`${part}-refusal`), refusal = state.refusal?.part === part ? state.refusal : null;
     box.hidden = !refusal;
-    fill(box, refusal?.text, () => {
-        const remedy = make('span');
-        remedy.innerHTML = data.remedies[refusal?.name] ?? '';
-        return [make('b', {}, refusal?.text ?? ''), ' ', remedy];
-    });
+    fill(box, refusal?.text, () => [make('b', {}, refusal?.text ?? ''), ' ',
+        make('span', {innerHTML: data.remedies[refusal?.name] ?? ''})]);
     if (state.refusal?.part === 'page') say(state.refusal.text);
 }
 

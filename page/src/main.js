@@ -29,9 +29,8 @@ function breakLine() {
 }
 
 function watchFocused() {
-    const register = document.activeElement.dataset.register;
-    if (register) toggle(register);
-    else say('Choose a register with the Tab key first; m leads to the memory.');
+    const {register} = document.activeElement.dataset;
+    return register ? toggle(register) : say('Choose a register with the Tab key first; m leads to the memory.');
 }
 
 function pressKey(event) {
@@ -54,11 +53,11 @@ const answer = (sub, shipped, input) => ask('answer', {name: 'page_output', text
 window.snaplab = {state, settled: isSettled, answer};
 for (const [id, pressed] of Object.entries(BUTTONS)) $(id).onclick = pressed;
 for (const button of document.querySelectorAll('[data-key]')) KEYS[button.dataset.key] = () => button.click();
+$('menu').onchange = () => choose(Number($('menu').value));
 $('file').onchange = () => openFile($('file').files[0]).then(() => { $('file').value = ''; });
 $('at').onchange = () => /^\d+$/.test($('at').value.trim()) ? goTo(Number($('at').value)) : say('An item is a number.');
 document.addEventListener('keydown', pressKey);
 addEventListener('hashchange', takeHash);
-makeMenu();
 watchTimeline();
 startWorker();
-takeHash().then(taken => taken || choose(GROUPS.Listings.length));
+takeHash().then(taken => taken || $('menu').onchange());

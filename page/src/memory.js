@@ -12,7 +12,7 @@ function showMemory() {
             return {name, text, was: before?.registers[k].split(' = ')[1]};
         });
         const banks = Object.entries(Object.groupBy(registers, ({name}) => name[0]));
-        return [make('div', {class: 'values'}, 'values ', ...compared(before?.values, report.values)),
+        return [make('div', {className: 'values'}, 'values ', ...compared(before?.values, report.values)),
             ...banks.map(([bank, all]) => 'qp'.includes(bank) ? bits(bank, all) : fields(bank, all))];
     });
 }
@@ -24,11 +24,11 @@ function columns(text, bank) {
 }
 
 function table(corner, head, rows) {
-    const cells = ['', ...head].map((name, k) => make('th', {scope: 'col'}, k ? name : corner));
+    const cells = [corner, ...head].map(name => make('th', {scope: 'col'}, name));
     const body = rows.map(([name, ...row]) =>
         make('tr', {}, make('th', {scope: 'row'}, name), ...row.map(cell => make('td', {}, ...cell))));
     const all = make('table', {}, make('thead', {}, make('tr', {}, ...cells)), make('tbody', {}, ...body));
-    return make('div', {class: 'bank'}, all);
+    return make('div', {className: 'bank'}, all);
 }
 
 function fields(bank, all) {
@@ -51,17 +51,18 @@ function bits(bank, all) {
     return table(bank, count > MATRIX ? [`1 to ${count}`] : places.map(j => String(j + 1)), rows);
 }
 
-function watchButton(name, children = [name]) {
-    const words = children.map(child => child.textContent ?? child).join('');
-    const label = words === name ? name : `${name}: ${words}`;
-    return make('button', {'aria-pressed': String(state.marks.has(name)), 'data-register': name, 'aria-label': label,
-        title: `Watch ${name}, or no longer (w)`, onclick: () => toggle(name)}, ...children);
+function watchButton(name, content) {
+    const button = make('button', {ariaPressed: state.marks.has(name), title: `Watch ${name}, or no longer (w)`,
+        onclick: () => toggle(name)}, ...content ?? [name]);
+    button.dataset.register = name;
+    if (content) button.ariaLabel = `${name}: ${button.textContent}`;
+    return button;
 }
 
 // All marks, each a button that takes it away.
 function showMarks() {
-    const button = mark => make('button', {class: 'mark', onclick: () => toggle(mark),
-        'aria-label': `Take away the mark ${mark}`}, `${mark} \u00d7`);
+    const button = mark => make('button', {className: 'mark', onclick: () => toggle(mark),
+        ariaLabel: `Take away the mark ${mark}`}, `${mark} \u00d7`);
     const all = [...state.marks];
     fill($('marks'), all.join(), () => all.length ? ['Runs stop at ', ...all.map(button)] : []);
 }

@@ -3,16 +3,18 @@
 const cards = [], MOST_CHANGES = 4, MANY = 16;
 
 function makeCard(who) {
-    const [what, next, changes, locals] = ['what', 'next', 'changes', 'locals'].map(name => make('div', {class: name}));
-    const button = (name, what, call = () => name) => make('button', {class: name, title: `Process ${who} ${what}`,
-        'aria-label': `${name}, process ${who}`, onclick: () => press(who, call())}, name);
+    const [what, next, changes, locals] = ['what', 'next', 'changes', 'locals'].map(name => make('div', {className: name}));
+    const button = (name, what, call = () => name) => make('button', {className: name, title: `Process ${who} ${what}`,
+        ariaLabel: `${name}, process ${who}`, onclick: () => press(who, call())}, name);
     const details = make('details', {ontoggle: () => showLocals(cards[who - 1], who)},
         make('summary', {}, 'locals\u2003', changes), locals);
-    const head = make('div', {class: 'head'}, badge(who), what, button('step', `takes a step (${who})`, () => ''),
+    const head = make('div', {className: 'head'}, badge(who), what, button('step', `takes a step (${who})`, () => ''),
         button('scan', 'is called for a scan'), button('update', 'is called for an update', () => updateOf(who)),
         button('crash', 'crashes: it stops for good'));
-    const group = {class: 'process', role: 'group', 'aria-label': `Process ${who}`, style: `--p: var(--p${who % 8})`};
-    return {what, next, changes, locals, details, box: make('div', group, head, next, details)};
+    const group = {className: 'process', role: 'group', ariaLabel: `Process ${who}`, style: `--p: var(--p${who % 8})`};
+    const box = make('div', group, head, next, details);
+    $('processes').append(box);
+    return {what, next, changes, locals, details, box};
 }
 
 // An update of the word that is chosen; the next one has another value.
@@ -25,10 +27,7 @@ function updateOf(who) {
 function showProcesses() {
     const {report, listing, last, refusal} = state, {lines} = linesOf(listing), moved = Number(last.split(' ')[0]);
     while (cards.length > report.processes.length) cards.pop().box.remove();
-    while (cards.length < report.processes.length) {
-        cards.push(makeCard(cards.length + 1));
-        $('processes').append(cards.at(-1).box);
-    }
+    while (cards.length < report.processes.length) cards.push(makeCard(cards.length + 1));
     report.processes.forEach((process, k) => showCard(cards[k], process, lines, moved));
     const own = !/^\s*kind\s+multi\b/m.test(listing), words = report.values.split(' ').map((_, k) => String(k + 1));
     fill($('word'), `${words} ${own}`, () => [...own ? ['own'] : [], ...words].map(word => make('option', {}, word)));
@@ -41,7 +40,7 @@ function showProcesses() {
 function showCard(card, {who, what, at, link}, lines, moved) {
     const trouble = /^(trapped|crashed)/.test(what);
     const told = what + (at ? ` at ${at}` : '') + (link ? `, then back to ${link}` : '');
-    fill(card.what, told, () => [make('span', {class: trouble ? 'none' : ''}, told)]);
+    fill(card.what, told, () => [make('span', {className: trouble ? 'none' : ''}, told)]);
     const next = at && !trouble ? `next ${at}: ${lines.get(at)?.text ?? ''}` : '';
     fill(card.next, next, () => [next]);
     card.box.classList.toggle('last', moved === who);

@@ -3,7 +3,7 @@
 const BIG = 300000, MOST_UNDONE = 200, QUIET = 120, MOST_MARKS = 64;
 const state = {
     listing: '', schedule: '', at: 0, marks: new Set(), idea: null, goal: null,
-    items: readItems(''), report: null, before: null, last: 'none', operations: readOperations([]),
+    items: readItems(''), report: null, before: null, last: 'none', operations: readOperations(''),
     verdicts: {numbers: readVerdicts(''), near: [], none: new Set()}, refusal: null,
     serial: 0, timer: 0, past: [], future: [], audited: null, appended: false,
 };

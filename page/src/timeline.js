@@ -3,7 +3,8 @@
 const LABEL = 30, RIGHT = 8, dark = matchMedia('(prefers-color-scheme: dark)');
 const DIAMOND = [[0, -7], [6, 0], [0, 7], [-6, 0]], INKS = {bad: 'on-bad', bar: 'ink'};
 const line = {from: 0, to: 1, width: Infinity, wide: 0, drawn: []};
-let pen = null, colours = {};
+const pen = $('timeline').firstChild.getContext('2d');
+let colours = {};
 
 function showTimeline() {
     const {items, report, at, operations, verdicts} = state, {wide} = line, box = $('timeline');
@@ -14,7 +15,7 @@ function showTimeline() {
     const drawn = [line.from, line.to, wide, n, dark.matches, devicePixelRatio, operations, verdicts, items];
     if (wide && drawn.some((each, k) => each !== line.drawn[k])) {
         Object.assign(line, {drawn, operations, verdicts, items, high, n});
-        draw(box.firstChild);
+        draw();
     }
     $('cursor').style.left = `${placeOf(at) - 1}px`;
     Object.assign(box, {ariaValueMax: total, ariaValueNow: at, ariaValueText: `item ${at} of ${total}: ${outcome()}`});
@@ -30,13 +31,13 @@ function paint(name, ...box) {
 }
 
 // The lanes cover the canvas, which is made anew where its size is another one, and there alone.
-function draw(canvas) {
-    const {wide, high, n} = line, size = [wide, n * high].map(length => Math.round(length * devicePixelRatio));
-    if (size.join() !== [canvas.width, canvas.height].join()) [canvas.width, canvas.height] = size;
+function draw() {
+    const {wide, high, n} = line, {canvas} = pen, pixels = length => Math.round(length * devicePixelRatio);
+    const size = [pixels(wide), pixels(n * high)];
+    if (canvas.width !== size[0] || canvas.height !== size[1]) [canvas.width, canvas.height] = size;
     canvas.style.height = `${n * high}px`;
     line.grain = (line.to - line.from) / wide * .7;
     colours = {};
-    pen = canvas.getContext('2d');
     pen.setTransform(devicePixelRatio, 0, 0, devicePixelRatio, 0, 0);
     Object.assign(pen, {textBaseline: 'middle', font: `bold ${Math.min(high - 2, 15)}px system-ui, sans-serif`});
     for (let who = 1; who <= n; who++) {
@@ -145,19 +146,16 @@ function zoom(factor) {
 }
 
 function watchTimeline() {
-    const box = $('timeline'), again = () => state.report && showTimeline();
-    const here = event => {
-        const share = (event.clientX - box.getBoundingClientRect().left - LABEL) / (line.wide - LABEL - RIGHT);
+    const box = $('timeline'), again = () => {
+        line.wide = box.clientWidth;
+        if (state.report) showTimeline();
+    };
+    box.onpointerdown = box.onpointermove = ({pointerId, buttons, clientX}) => {
+        if (!buttons) return;
+        box.setPointerCapture(pointerId);
+        const share = (clientX - box.getBoundingClientRect().left - LABEL) / (line.wide - LABEL - RIGHT);
         goTo(line.from + Math.round(within(share, 0, 1) * (line.to - line.from)));
     };
-    box.onpointerdown = event => {
-        box.setPointerCapture(event.pointerId);
-        here(event);
-    };
-    box.onpointermove = event => event.buttons && here(event);
-    new ResizeObserver(() => {
-        line.wide = box.clientWidth;
-        again();
-    }).observe(box);
-    dark.addEventListener('change', again);
+    new ResizeObserver(again).observe(box);
+    dark.onchange = again;
 }

@@ -24,11 +24,11 @@ function look({listing, schedule, total, marks, at, go, commands}) {
     const answer = askOf('debug', listing, schedule, asked);
     if (answer.code !== OUTPUT) return {...answer, items};
     const {replies, report: {events, ...report}} = readSession(answer.text);
-    const called = end ? events : replies.find(reply => reply.command === 'events')?.lines.slice(1);
-    const same = known || called.join('\n') === operations?.text;
+    const called = end ? events : replies.find(reply => reply.command === 'events')?.lines.slice(1) ?? [];
+    const text = called.join('\n'), same = known || text === operations?.text;
     const last = replies.at(-1)?.lines.find(line => line.startsWith('last '))?.slice(5) ?? 'none';
     const refused = replies.filter(reply => reply.lines[0]?.startsWith('refused: ')).map(r => [r.command, r.lines[0]]);
-    if (!same) operations = readOperations(called);
+    if (!same) operations = readOperations(text);
     if (!commands) told = texts;
     return {code: OUTPUT, report, last, refused, items, operations: same ? null : operations};
 }

@@ -71,7 +71,7 @@ class Page:
 
 def try_gallery(page, count):
     data = json.loads(page.run("document.getElementById('data').textContent"))
-    for k, idea in enumerate(data["ideas"]):
+    for k, idea in enumerate(one for one in data["choices"] if "change" in one):
         page.choose(FIRST_IDEA + k)
         for which, shows in (("as it is", idea["shows"]), ("changed", idea["change"]["shows"])):
             none = shows.endswith(" none")
@@ -259,7 +259,7 @@ def open_file(page, path):
 
 def try_exercise(page, count, running):
     data = json.loads(page.run("document.getElementById('data').textContent"))
-    page.choose(FIRST_IDEA + len(data["ideas"]))
+    page.choose([bool(one.get("goal")) for one in data["choices"]].index(True))
     count.check("an exercise says that it is not met", "Not met yet" in page.text("#goal"), page.text("#goal"))
     page.write("schedule", "shape 2 2\n1 scan\n1*6\n2 update 2 7\n2*17\n1*50\n")
     count.check("and when it is", page.text("#goal").startswith("Met: the scan of process 1, items 1 to"), page.text("#goal"))

@@ -19,30 +19,26 @@ class Editor {
             const way = {ArrowUp: -1, ArrowDown: 1}[event.key];
             if (!way) return;
             event.preventDefault();
-            event.stopPropagation();
             this.activate(this.active + way);
         };
     }
 
-    // Shows a text, of a long one the lines around this one, and says whether it is long. The lines that are shown stay
-    // until this one comes near to an end of them.
+    // Shows a text, of a long one the lines around this one. They stay until this one comes near to an end of them.
     show(text, around = 0) {
         if (this.text !== text) this.lines = text.split('\n');
         const long = this.lines.length > MOST_LINES || text.length > MOST_LETTERS;
         const last = Math.max(this.lines.length - SHOWN_LINES, 0), most = this.first + SHOWN_LINES - EDGE;
         const kept = this.first <= last && around >= this.first + EDGE && around < most;
         const first = !long ? 0 : kept ? this.first : within(around - SHOWN_LINES / 2, 0, last);
-        if (this.text === text && this.first === first) return long;
+        if (this.text === text && this.first === first) return;
         Object.assign(this, {text, first});
         const cut = line => line.slice(0, SHOWN_LETTERS);
         const part = long ? this.lines.slice(first, first + SHOWN_LINES).map(cut) : this.lines, shown = part.join('\n');
         this.area.readOnly = long;
         if (this.area.value !== shown) this.area.value = shown;
         const longest = Math.max(...part.map(line => line.length));
-        this.area.style.height = `calc(${part.length} * var(--line-height) + 8px)`;
-        this.area.style.minWidth = `calc(${longest + 1}ch + 14px)`;
+        this.area.style = `--lines: ${part.length}; --letters: ${longest + 1}`;
         this.setRows(part.length);
-        return long;
     }
 
     // The margin has as many rows as there are lines shown.
@@ -56,13 +52,12 @@ class Editor {
     mark(told, colours) {
         const rows = [...this.gutter.children];
         rows.forEach((row, k) => {
-            const {key, children, label, numbered = false} = told(k + this.first);
+            const {key, children, label, numbered} = told(k + this.first);
             fill(row, key, children);
-            row.classList.toggle('numbered', numbered);
-            row.classList.toggle('active', k === this.active);
+            row.className = `${numbered ? 'numbered' : ''} ${k === this.active ? 'active' : ''}`;
             if (row.ariaLabel !== label) row.ariaLabel = label;
         });
-        const shown = colours.map(([line, name]) => [line - this.first, name]).filter(([row]) => row >= 0 && row < rows.length);
+        const shown = colours.map(([line, name]) => [line - this.first, name]).filter(([row]) => rows[row]);
         fill(this.back, shown.join(), () => shown.map(([row, className]) =>
             make('i', {className, style: `top: calc(${row} * var(--line-height))`})));
     }

@@ -24,8 +24,8 @@ function compared(older, newer) {
     const before = older.split(' '), after = newer.split(' ');
     if (before.length !== after.length) return [changed(older, newer)];
     const news = after.filter((word, k) => word !== before[k]).length;
-    const all = {className: 'changed', title: `was ${older}`};
-    if (after.length > LONG_TEXT && news > MOST_MARKED) return [make('span', all, newer)];
+    if (after.length > LONG_TEXT && news > MOST_MARKED)
+        return [make('span', {className: 'changed', title: `was ${older}`}, newer)];
     return after.flatMap((word, k) => [k ? ' ' : '', word === before[k] ? word : changed(before[k], word)]);
 }
 

@@ -7,7 +7,6 @@ class Glue {
 
     start() {
         this.instance = new WebAssembly.Instance(this.module, {}).exports;
-        this.taken = this.instance.page_room(16n);
         this.room = this.roomLength = 0n;
     }
 
@@ -39,16 +38,16 @@ class Glue {
     }
 
     ask(name, texts, numbers) {
-        const {instance} = this, places = texts.map(text => this.put(text));
+        const {instance} = this, [taken, ...places] = [new Uint8Array(16), ...texts].map(text => this.put(text));
         const nothing = {code: MEMORY, bytes: new Uint8Array()};
-        if (!this.taken || !places.every(Boolean) || !(this.room || this.enlarge(65536n))) return nothing;
+        if (!taken || !places.every(Boolean) || !(this.room || this.enlarge(65536n))) return nothing;
         const words = [...places.flatMap((place, k) => [place, BigInt(texts[k].length)]), ...numbers];
         for (;;) {
-            instance[name](this.taken, ...words, this.room, this.roomLength);
-            const told = new DataView(instance.memory.buffer), code = told.getUint8(Number(this.taken));
-            const length = told.getBigUint64(Number(this.taken) + 8, true);
+            instance[name](taken, ...words, this.room, this.roomLength);
+            const told = new DataView(instance.memory.buffer), code = told.getUint8(Number(taken));
+            const length = told.getBigUint64(Number(taken) + 8, true);
             if (code === SMALL && this.enlarge(length)) continue;
-            places.forEach(place => instance.page_free(place));
+            [taken, ...places].forEach(place => instance.page_free(place));
             if (code > REFUSED) return {...nothing, code: code === SMALL ? MEMORY : code};
             return {code, bytes: new Uint8Array(instance.memory.buffer, Number(this.room), Number(length)).slice()};
         }

@@ -1,7 +1,5 @@
 // Listings, the gallery's ideas and exercises; verdicts, and whether a goal is met.
 
-const GOAL = ['task', 'who', 'view', 'collects', 'point', 'items'];
-
 function choose(k) {
     const {listing, schedule, goal = null} = data.choices[k];
     state.marks.clear();
@@ -16,8 +14,8 @@ function showIdea() {
     $('menu').value = state.idea ?? '';
     $('idea').hidden = !idea.text && !goal;
     $('idea-title').textContent = idea.title ?? '';
-    const told = () => goal ? make('p', {}, goal.task) : make('div', {innerHTML: (idea.text ?? '') + (other?.text ?? '')});
-    fill($('idea-text'), `${state.idea} ${goal?.task}`, () => [told()]);
+    const told = {innerHTML: (idea.text ?? '') + (other?.text ?? '')};
+    fill($('idea-text'), `${state.idea} ${goal?.task}`, () => [goal ? make('p', {}, goal.task) : make('div', told)]);
     $('change').hidden = !other;
     $('change').textContent = made ? 'Back to how it was' : 'Make the change';
     const {listing: text, schedule: items} = (made ? idea : other) ?? state;
@@ -52,10 +50,10 @@ function showVerdicts() {
     const told = left ? [`${left} other ones are not listed.`] : near.length ? [] : ['No scan has ended.'];
     const row = ({who, call, answer, point, view, ...more}) => {
         const words = ` scan, items ${call} to ${answer}, answers ${view}: ${verdictWords({point, ...more})}`;
-        return make('button', {className: point ? '' : 'none', onclick: () => goTo(point || answer)}, badge(who), words);
+        const button = {className: point ? '' : 'none', onclick: () => goTo(point || answer)};
+        return make('button', button, badge(who), words);
     };
-    const all = () => [...told, ...near.map(row)].map(each => make('li', {}, each));
-    fill($('verdicts'), state.verdicts, all);
+    fill($('verdicts'), state.verdicts, () => [...told, ...near.map(row)].map(each => make('li', {}, each)));
 }
 
 function outcome() {
@@ -76,15 +74,16 @@ function showWhere() {
 
 function makeExercise() {
     const dialog = $('form'), [form] = dialog.getElementsByTagName('form');
-    for (const name of GOAL) form.elements[name].value = state.goal?.[name] ?? '';
+    for (const field of form.querySelectorAll('[name]')) field.value = state.goal?.[field.name] ?? '';
     dialog.returnValue = '';
     dialog.showModal();
     dialog.onclose = () => {
-        const goal = Object.fromEntries(new FormData(form)), pressed = dialog.returnValue;
-        for (const name of GOAL) goal[name] = goal[name].trim().replace(/\s+/g, ' ');
+        const fields = [...new FormData(form)], goal = Object.fromEntries(fields.map(([name, text]) =>
+            [name, text.trim().replace(/\s+/g, ' ')]));
         goal.task ||= `Make it so that ${goalWords(goal)}.`;
-        if (pressed === 'make') change({goal, idea: null});
-        if (pressed === 'clear') change({goal: null});
-        if (pressed === 'make') say('The goal is set. Link copies the exercise.');
+        if (dialog.returnValue === 'clear') change({goal: null});
+        if (dialog.returnValue !== 'make') return;
+        change({goal, idea: null});
+        say('The goal is set. Link copies the exercise.');
     };
 }

@@ -3,21 +3,11 @@
 const MOST_BADGES = 3;
 const listingEditor = new Editor($('listing'), 'Listing', listing => change({listing}));
 const scheduleEditor = new Editor($('schedule'), 'Schedule', schedule => change({schedule}));
-const numbered = {listing: null, lines: new Map(), numbers: new Map()};
 listingEditor.onmark = toggleBreak;
-
-// The numbered lines of the listing, which are found anew where it has changed.
-function linesOf(listing) {
-    if (numbered.listing === listing) return numbered;
-    const lines = readLines(listing);
-    const numbers = new Map([...lines].map(([number, line]) => [line.place, number]));
-    return Object.assign(numbered, {listing, lines, numbers});
-}
 
 function showTexts() {
     listingEditor.show(state.listing);
-    const long = scheduleEditor.show(state.schedule, positionLine());
-    $('window').textContent = long ? 'long: the lines around the position, not to be typed into' : '';
+    scheduleEditor.show(state.schedule, positionLine());
     if (state.report) showMargins();
     for (const part of ['listing', 'schedule']) showRefusal(part);
 }
@@ -32,25 +22,20 @@ function positionLine() {
 // The process of the last item.
 const lastProcess = (report = state.report) => report.processes[state.last.split(' ')[0] - 1];
 
-// The line that the last item has executed, where the position before is known.
-function executedLine() {
-    const {before, report, last} = state, what = last.split(' ')[1];
-    const stepped = before?.at === report.at - 1 && !['called', 'skipped', 'crashed'].includes(what);
-    return stepped ? lastProcess(before)?.at : 0;
-}
-
 function showMargins() {
-    const {lines, numbers} = linesOf(state.listing), bad = badLines(), here = positionLine();
-    const places = state.report.processes.flatMap(({who, at, link}) => [[at, who, ''], [link, who, 'link']]);
-    const executed = lines.get(executedLine())?.place;
+    const {lines, report, before, last} = state, bad = badLines(), here = positionLine();
+    const rows = new Map(lines.values().map(line => [line.place, line])), lineAt = at => lines.get(at)?.place ?? -1;
+    const places = report.processes.flatMap(({who, at, link}) => [[at, who, ''], [link, who, 'link']]);
+    const stepped = before?.at === report.at - 1 && !/ (called|skipped|crashed)/.test(last);
+    const executed = stepped ? lineAt(lastProcess(before)?.at) : -1, now = lineAt(lastProcess()?.at);
     const red = part => bad[part].map(line => [line, 'bad']);
-    listingEditor.mark(place => listingRow(numbers.get(place), places), [[executed ?? -1, 'now'], ...red('listing')]);
+    listingEditor.mark(place => listingRow(rows.get(place), places), [[executed, 'now'], ...red('listing')]);
     scheduleEditor.mark(line => {
         const text = line !== here ? '' : countOf(state);
         return {key: text, children: () => [text], label: text && `item ${state.at} is here`};
     }, [[here, 'now'], ...red('schedule')]);
     scheduleEditor.reveal(here);
-    listingEditor.reveal(lines.get(lastProcess()?.at)?.place ?? executed ?? -1);
+    listingEditor.reveal(now < 0 ? executed : now);
 }
 
 // How many of a line's items are behind the position.
@@ -61,11 +46,12 @@ function countOf({items, at}) {
 }
 
 // A numbered line, with the processes that are here, and those that return here.
-function listingRow(number, places) {
-    if (number === undefined) return {key: '', children: () => [], label: ''};
-    const here = places.filter(([at]) => at === number), stop = state.marks.has(`line ${number}`);
+function listingRow(line, places) {
+    if (!line) return {key: '', children: () => [], label: ''};
+    const {number, text} = line, stop = state.marks.has(`line ${number}`);
+    const here = places.filter(([at]) => at === number);
     const who = here.map(([, process, link]) => `process ${process} ${link ? 'returns here' : 'is here'}`);
-    const {text} = linesOf(state.listing).lines.get(number), more = here.length - MOST_BADGES;
+    const more = here.length - MOST_BADGES;
     return {
         key: `${stop}${here.join(';')}`, numbered: true,
         label: [`line ${number}: ${text}`, ...who, ...stop ? ['breakpoint'] : []].join('; '),
@@ -94,8 +80,7 @@ function showRefusal(part) {
     if (state.refusal?.part === 'page') say(state.refusal.text);
 }
 
-function toggleBreak(line) {
-    const number = linesOf(state.listing).numbers.get(line);
-    if (number === undefined) return say('A breakpoint stands on a numbered line.');
-    return toggle(`line ${number}`);
+function toggleBreak(place) {
+    const line = state.lines.values().find(one => one.place === place);
+    return line ? toggle(`line ${line.number}`) : say('A breakpoint stands on a numbered line.');
 }

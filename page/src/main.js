@@ -25,7 +25,7 @@ function cutHere() {
 // The text line of the margin, or that at which the process of the last item stands.
 function breakLine() {
     if (document.activeElement === listingEditor.gutter) return listingEditor.active + listingEditor.first;
-    return linesOf(state.listing).lines.get(lastProcess()?.at)?.place;
+    return state.lines.get(lastProcess()?.at)?.place;
 }
 
 function watchFocused() {
@@ -42,9 +42,9 @@ function pressKey(event) {
 }
 
 // What follows the state; the texts come last, since their scrolling lays out what the others have written.
-const SHOWN = [showProcesses, showMemory, showMarks, showVerdicts, showIdea, showWhere, showTimeline];
 function showState() {
-    if (state.report) SHOWN.forEach(show => show());
+    const shown = [showProcesses, showMemory, showMarks, showVerdicts, showIdea, showWhere, showTimeline];
+    if (state.report) shown.forEach(show => show());
     showTexts();
     window.snaplab.shownAt ??= performance.now();
 }

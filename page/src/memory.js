@@ -19,8 +19,8 @@ function showMemory() {
 
 // 'd seq s view v1 .. vw' as columns: data, seq and view.
 function columns(text, bank) {
-    const words = `${bank === 'v' ? 'view' : 'data'} ${text}`.matchAll(/([a-z]+) ([^a-z]*[^a-z ])/g);
-    return [...words].map(([, name, numbers]) => [name, numbers]);
+    const words = `${bank === 'v' ? 'view' : 'data'} ${text}`;
+    return Array.from(words.matchAll(/([a-z]+) ([^a-z]*[^a-z ])/g), ([, name, numbers]) => [name, numbers]);
 }
 
 function table(corner, head, rows) {

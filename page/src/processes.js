@@ -1,9 +1,9 @@
 // A card for each process: where it is, its buttons and its locals.
 
-const cards = [], MOST_CHANGES = 4, MANY = 16;
+const cards = [], MOST_CHANGES = 4, MANY = 16, PARTS = ['what', 'next', 'changes', 'locals'];
 
 function makeCard(who) {
-    const [what, next, changes, locals] = ['what', 'next', 'changes', 'locals'].map(name => make('div', {className: name}));
+    const part = className => make('div', {className}), [what, next, changes, locals] = PARTS.map(part);
     const button = (name, what, call = () => name) => make('button', {className: name, title: `Process ${who} ${what}`,
         ariaLabel: `${name}, process ${who}`, onclick: () => press(who, call())}, name);
     const details = make('details', {ontoggle: () => showLocals(cards[who - 1], who)},
@@ -25,16 +25,14 @@ function updateOf(who) {
 }
 
 function showProcesses() {
-    const {report, listing, last, refusal} = state, {lines} = linesOf(listing), moved = Number(last.split(' ')[0]);
+    const {report, listing, lines, last, refusal} = state, moved = Number(last.split(' ')[0]);
     while (cards.length > report.processes.length) cards.pop().box.remove();
     while (cards.length < report.processes.length) cards.push(makeCard(cards.length + 1));
     report.processes.forEach((process, k) => showCard(cards[k], process, lines, moved));
     const own = !/^\s*kind\s+multi\b/m.test(listing), words = report.values.split(' ').map((_, k) => String(k + 1));
     fill($('word'), `${words} ${own}`, () => [...own ? ['own'] : [], ...words].map(word => make('option', {}, word)));
-    for (const part of ['processes', 'memory']) {
-        $(part).classList.toggle('stale', Boolean(refusal));
-        $(part).classList.toggle('many', cards.length > MANY);
-    }
+    document.body.classList.toggle('stale', Boolean(refusal));
+    document.body.classList.toggle('many', cards.length > MANY);
 }
 
 function showCard(card, {who, what, at, link}, lines, moved) {

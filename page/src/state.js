@@ -2,7 +2,7 @@
 
 const BIG = 300000, MOST_UNDONE = 200, QUIET = 120, MOST_MARKS = 64;
 const state = {
-    listing: '', schedule: '', at: 0, marks: new Set(), idea: null, goal: null,
+    listing: '', schedule: '', lines: new Map(), at: 0, marks: new Set(), idea: null, goal: null,
     items: readItems(''), report: null, before: null, last: 'none', operations: readOperations(''),
     verdicts: {numbers: readVerdicts(''), near: [], none: new Set()}, refusal: null,
     serial: 0, timer: 0, past: [], future: [], audited: null, appended: false,
@@ -17,6 +17,7 @@ function change(to, {appended = false, undone = false} = {}) {
         state.future = [];
     }
     Object.assign(state, to, {appended: state.appended && appended});
+    if (state.listing !== listing) state.lines = readLines(state.listing);
     if (state.schedule !== schedule) state.items = state.schedule.length < BIG ? readItems(state.schedule) : null;
     if (!appended) [showTexts, showIdea].forEach(show => show());
     return refresh();
@@ -60,8 +61,8 @@ async function refresh(go = '') {
 }
 
 function take({report, last, operations, refused}, newest) {
-    const older = state.report, alike = older?.registers.length === report.registers.length &&
-        older.processes.length === report.processes.length;
+    const older = state.report;
+    const alike = ['registers', 'processes'].every(part => older?.[part].length === report[part].length);
     if (!alike) state.before = null;
     else if (older.at !== report.at || older.registers.join() !== report.registers.join()) state.before = older;
     Object.assign(state, {report, last, refusal: null, operations: operations ?? state.operations});
@@ -125,12 +126,11 @@ function withItem(schedule, items, at, item) {
 // A schedule, parted behind an item.
 function parted(schedule, items, at) {
     const lines = schedule.split('\n'), k = at ? lineOf(items, at) : -1, place = items.line[k] ?? items.shapeLine;
-    const before = lines.slice(0, place + 1), after = lines.slice(place + 1), end = items.from[k + 1] ?? items.total;
+    const after = lines.splice(place + 1), end = items.from[k + 1] ?? items.total;
     if (k >= 0 && at < end) {
-        const comment = /\s*#.*$/.exec(lines[place])?.[0] ?? '';
         const times = count => items.who[k] + (count > 1 ? `*${count}` : '');
-        before[place] = times(at - items.from[k]) + comment;
+        lines[place] = times(at - items.from[k]) + (/\s*#.*$/.exec(lines[place]) ?? '');
         after.unshift(times(end - at));
     }
-    return [before.join('\n') + '\n', after.join('\n')];
+    return [lines.join('\n') + '\n', after.join('\n')];
 }

@@ -132,12 +132,12 @@ function verdictOf(numbers, item) {
     return numbers[5 * place + 2] === item ? place : -1;
 }
 
-// The numbered lines of a listing: the place of each number among the text lines, and its text.
+// The numbered lines of a listing by their numbers: the place of each among the text lines, and its text.
 function readLines(listing) {
     const found = new Map();
     listing.split('\n').forEach((text, place) => {
         const line = /^[ \t\r]*(\d+)[ \t\r]*:[ \t\r]*([^#]*)/.exec(text);
-        if (line) found.set(Number(line[1]), {place, text: line[2].trim()});
+        if (line) found.set(Number(line[1]), {number: Number(line[1]), place, text: line[2].trim()});
     });
     return found;
 }

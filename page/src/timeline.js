@@ -47,7 +47,8 @@ function draw() {
         pen.fillText(String(who), 6, (who - .5) * high);
     }
     drawItems();
-    drawOperations();
+    const next = Array(n + 1).fill(0);
+    line.operations.to.forEach((_, k) => drawOperation(k, next));
     line.verdicts.near.forEach(drawLender);
 }
 
@@ -67,19 +68,12 @@ function drawItems() {
     }
 }
 
-// Of the operations that end on one pixel of a lane the first alone is drawn, and each without a point.
-function drawOperations() {
-    const {n, operations: {who, to: ends}, verdicts: {none}} = line, next = Array(n + 1).fill(0);
-    ends.forEach((end, k) => {
-        if (!end || end >= next[who[k]] || none.has(end)) drawOperation(k, next);
-    });
-}
-
-// An operation as a bar, and a scan's point as a diamond at the lower edge.
+// An operation as a bar, and a scan's point as a diamond at the lower edge. Of those that end on one pixel of a lane
+// the first alone is drawn, and each without a point.
 function drawOperation(k, next) {
     const {high, operations, verdicts: {numbers, none}} = line;
     const who = operations.who[k], from = operations.from[k], to = operations.to[k];
-    if (from > line.to || to && to < line.from) return;
+    if (from > line.to || to && (to < line.from || to < next[who] && !none.has(to))) return;
     next[who] = (to || line.to) + line.grain;
     const scans = operations.text[operations.called[k]] === 's', place = scans ? verdictOf(numbers, to) : -1;
     const edge = none.has(to) ? 'bad' : `p${who % 8}`, inside = scans ? edge : 'bar';

@@ -2,9 +2,7 @@
 
 const NEAR = 60;        // so many scans, the last ones, are told of in words, and as many without a point
 const BORROWED = /^(?:view [a-z]+ ?= ?view ?\( ?([a-z]+) ?\[ ?(\w+) ?\] ?\)|look [a-z]+ ?= ?(v) ?\[ ?(\w+) ?\])/;
-let glue = null;
-let told = '';          // the texts whose operations the page has been told
-let operations = null;  // and these
+let glue = null, told = '', operations = null;     // the texts whose operations the page has been told, and these
 
 const asText = ({code, bytes}) => ({code, text: new TextDecoder().decode(bytes)});
 
@@ -64,16 +62,18 @@ function setLender(verdict, lines, [first, ...locals]) {
     verdict.from = verdict.lender ? `${found[1] ?? found[3]}[${verdict.lender}]` : '';
 }
 
-const TASKS = {look, audit, draw, answer: ({name, texts, numbers}) => glue.answer(name, texts, numbers)};
+async function start(letters) {
+    const bytes = Uint8Array.from(atob(letters), letter => letter.charCodeAt(0));
+    glue = new Glue(await WebAssembly.compile(bytes));
+    return {code: OUTPUT};
+}
 
-onmessage = async ({data}) => {
+const TASKS = {start, look, audit, draw, answer: ({name, texts, numbers}) => glue.answer(name, texts, numbers)};
+
+onmessage = async ({data: {kind, request}}) => {
     try {
-        if (data.module) {
-            const bytes = Uint8Array.from(atob(data.module), letter => letter.charCodeAt(0));
-            glue = new Glue(await WebAssembly.compile(bytes));
-            postMessage({ready: true});
-        } else postMessage({answer: TASKS[data.kind](data.request)});
+        postMessage(await TASKS[kind](request));
     } catch (error) {
-        postMessage({failed: String(error)});
+        postMessage({code: TRAPPED, text: String(error)});
     }
 };

@@ -49,7 +49,7 @@ function showState() {
     window.snaplab.shownAt ??= performance.now();
 }
 
-const answer = (sub, shipped, input) => ask('answer', {name: 'page_output', texts: [sub, shipped, input]}, Symbol(sub));
+const answer = (name, texts, numbers) => ask('answer', {name, texts, numbers}, Symbol(name));
 window.snaplab = {state, settled: isSettled, answer};
 for (const [id, pressed] of Object.entries(BUTTONS)) $(id).onclick = pressed;
 for (const button of document.querySelectorAll('[data-key]')) KEYS[button.dataset.key] = () => button.click();

@@ -233,12 +233,7 @@ def try_files(page, count, running):
     with tempfile.TemporaryDirectory() as folder:
         page.tab.ask("Browser.setDownloadBehavior", behavior="allow", downloadPath=folder)
         page.click("#save")
-        page.tab.until("true")
-        path = os.path.join(folder, "snaplab-input.txt")
-        for _ in range(100):
-            if os.path.exists(path) and os.path.getsize(path):
-                break
-            page.run("new Promise(done => setTimeout(done, 50))")
+        path = saved(page, folder, "snaplab-input.txt")
         count.check("save", os.path.exists(path) and open(path, encoding="utf-8").read() == text)
         page.choose(0)
         open_file(page, path)
@@ -247,6 +242,48 @@ def try_files(page, count, running):
             open_file(page, os.path.join(TOP, "examples", name, "stdin"))
             out = re.findall(r"(?m)^report at (\d+) of", read("examples", name, "stdout"))[-1]
             count.check(f"open examples/{name}", page.at().split()[1] == out, page.at())
+
+
+def try_picture(page, count):
+    page.choose(FIRST_IDEA + 2)
+    page.click("#picture")
+    shown = page.run("document.getElementById('drawn').shadowRoot?.querySelector('title')?.textContent ?? ''")
+    count.check("a picture of the run", page.shown("#picture-shown") and "items 1 to 64 of 64" in shown, shown + page.text("#note"))
+    count.check("and of which items it is", page.text("#drawn-items") == "items 1 to 64 of 64", page.text("#drawn-items"))
+    with tempfile.TemporaryDirectory() as folder:
+        page.tab.ask("Browser.setDownloadBehavior", behavior="allow", downloadPath=folder)
+        page.click("#keep")
+        path = saved(page, folder, "snaplab-run.svg")
+        wanted = read("docs", "pictures", "borrowed-view.svg")
+        count.check("it is saved, as bin/snapdraw draws it", os.path.exists(path) and open(path, encoding="utf-8").read() == wanted)
+    page.tab.key("Escape")
+    count.check("Escape closes it", not page.shown("#picture-shown"))
+    page.write("schedule", "shape 2 2\n1 scan\n1*499\n2 update 2 5\n2*499\n")
+    for steps, wanted in (((), "items 351 to 650 of 1000, around the position"), (("+", "+", "+"), "items 439 to 563 of 1000")):
+        page.run("goTo(500)")
+        page.leave()
+        page.key(*steps)
+        page.click("#picture")
+        count.check(f"a part: {wanted}", page.text("#drawn-items") == wanted, page.text("#drawn-items"))
+        page.tab.key("Escape")
+    page.leave()
+    page.key("0")
+    page.write("schedule", "shape 2 2\n")
+    page.click("#picture")
+    count.check("a run of no items has none", "no picture" in page.text("#note"), page.text("#note"))
+    page.write("schedule", "shape 2 2\nhello\n")
+    page.click("#picture")
+    count.check("nor has what is refused", "Mend" in page.text("#note") and not page.shown("#picture-shown"), page.text("#note"))
+
+
+def saved(page, folder, name):
+    """The path of a file that is saved, once it is there."""
+    path = os.path.join(folder, name)
+    for _ in range(100):
+        if os.path.exists(path) and os.path.getsize(path):
+            break
+        page.run("new Promise(done => setTimeout(done, 50))")
+    return path
 
 
 def open_file(page, path):
@@ -456,7 +493,7 @@ def try_readers(page, count):
         page.tab.key("Tab")
         reached.add(page.run("document.activeElement.id || document.activeElement.className || document.activeElement.dataset.register || "
                              "document.activeElement.parentElement?.parentElement?.id || document.activeElement.tagName"))
-    wanted = {"menu", "undo", "open", "save", "copy", "link", "make", "keys", "gutter", "word", "value", "step", "scan", "update", "crash",
+    wanted = {"menu", "undo", "open", "save", "copy", "link", "picture", "make", "keys", "gutter", "word", "value", "step", "scan", "update", "crash",
               "cut", "run", "rrun", "home", "end", "at", "timeline"}
     count.check("the Tab key reaches every control", wanted <= reached, wanted - reached)
     page.leave()
@@ -493,7 +530,8 @@ def main():
     count = browser.Count()
     with browser.Browser() as running:
         page = Page(running.tab())
-        for trial in (try_alone, try_gallery, try_buttons, try_walk, try_marks, try_readers, try_refusals, try_sizes, try_stop, try_trap):
+        for trial in (try_alone, try_gallery, try_buttons, try_walk, try_marks, try_picture, try_readers, try_refusals, try_sizes,
+                      try_stop, try_trap):
             attempt(trial, count, page)
         attempt(try_files, count, page, running)
         attempt(try_exercise, count, page, running)

@@ -209,9 +209,6 @@ module _ (s : Source) (n : Counts) (all left left' : List Item) (r : Run) (x : I
       let shape : r.shape ≡ n = ap (λ (q : Run). q.shape) going.run in
       subst (λ (m : Counts). IsOneOf m.n (who x)) shape (next_fits s n all left left' r x going next)
 
-  pub is_watched : IsOneOf (length owns) (who x)
-  is_watched = subst (λ k. IsOneOf k (who x)) (sym h.count) of_process
-
   pub has_room : (d : OwnSteps) → (get_or owns (who x - 1) d).count + 1 < 2 ^ 64
   has_room d =
       let few = next_few s n all left left' r x going next in

@@ -107,8 +107,8 @@ fn of_collects(wanted: &Wanted, verdicts: &[Verdict]) -> Option<Failure>
     }
 }
 
-/// What fails in a record, the first that is asked for: a scan without a point, a trap, an operation
-/// of too many steps, of which this is the first, a scan of too many double collects.
+/// What fails in a record, the first that is asked for: a scan without a point, a trap, the first
+/// operation of too many steps, which is this one, a scan of too many double collects.
 fn first_failure<K: Kind>(
     alloc: Global,
     record: &Record<K>,

@@ -28,7 +28,7 @@ pub enum Failure {
     },
     /// A finished scan made too many double collects.
     ManyCollects(Verdict),
-    /// By this item an operation has taken too many steps of its own, of which the item is the last.
+    /// With this item, which is one of them, an operation has taken too many steps of its own.
     ManySteps {
         process: u32,
         item: u64,
@@ -48,8 +48,8 @@ pub enum FailureKind {
 /// The most steps of its own that an operation may take.
 #[derive(Clone, Copy, Debug, PartialEq, Eq)]
 pub enum StepBound {
-    /// Those within which each operation is over of the listing that is shipped for the kind, in the
-    /// shape at hand.
+    /// Those within which each operation of the listing that is shipped for the kind is over, in
+    /// the shape at hand.
     Shipped,
     Given(u64),
 }

@@ -42,7 +42,8 @@ returns g c =
       c.in_ok-input.input.items,
       is_kept (Ok tt) c.in_ok-input.input.items,
       sends (IsSurveyOf (Ok found.clean) c.args.subject) (RefusesTask (Survey c.args.subject)) (Ok tt) c.in_ok-input.input.items c.as_slice.result.now found.text.items c.as_slice-2.result.now
-          (g.R.ByteSource.left c.args.source.now) (g.R.ByteSource.left c.read_all.new.source) (g.W.ByteSink.taken c.args.sink.now) (g.W.ByteSink.taken c.write_all.new.sink) _ _ _
+          (g.R.ByteSource.left c.args.source.now) (g.R.ByteSource.left c.read_all.new.source) (g.W.ByteSink.taken c.args.sink.now) (g.W.ByteSink.taken c.write_all.new.sink)
+          (g.R.ByteSource.has_failed c.read_all.new.source) (g.W.ByteSink.has_failed c.write_all.new.sink) (g.W.ByteSink.is_stalled c.write_all.new.sink)
           c.as_slice.ensures.value c.as_slice-2.ensures.value read.0 read.1
           (c.in_ok-found.ensures.output, c.in_ok-found.ensures.clean) c.in_ok-write_all.ensures,
     )

@@ -82,7 +82,7 @@ round_is_turn p k t d some =
 
 scanned_is_turn : (p : Plan) (k t : ℕ) (d : Draws) → 0 < p.shape.n → IsTurn p.shape.n (scanned_turn p k t d)
 scanned_is_turn p k t d some =
-    either (IsTurn p.shape.n) (nat_eq (k / 4 % 2) 0) (interrupted_turn p k t d) (round_turn p k t d) (interrupted_is_turn p k t d some) (round_is_turn p k t d some)
+    either (IsTurn p.shape.n) (nat_eq (k % 8) 7) (round_turn p k t d) (interrupted_turn p k t d) (round_is_turn p k t d some) (interrupted_is_turn p k t d some)
 
 is_turn_at : (g : Pace) (p : Plan) (k t : ℕ) (d : Draws) → 0 < p.shape.n → IsTurn p.shape.n (turn_at g p k t d)
 is_turn_at Coins p k t d some = coin_is_turn p k t d some

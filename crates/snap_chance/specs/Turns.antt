@@ -103,9 +103,9 @@ round_update p k t d =
 abbrev pub round_turn : Plan → (k t : ℕ) → Draws → Turn
 round_turn p k t d = if nat_eq (t % 3) 0 then round_scan p k d else round_update p k t d
 
--- a turn of a run whose scans are interrupted, by chance or in rounds
+-- a turn of a run whose scans are interrupted, by chance or, in one run of eight, in rounds
 abbrev pub scanned_turn : Plan → (k t : ℕ) → Draws → Turn
-scanned_turn p k t d = if nat_eq (k / 4 % 2) 0 then interrupted_turn p k t d else round_turn p k t d
+scanned_turn p k t d = if nat_eq (k % 8) 7 then round_turn p k t d else interrupted_turn p k t d
 
 -- a turn of this pace
 abbrev pub turn_at : Pace → Plan → (k t : ℕ) → Draws → Turn

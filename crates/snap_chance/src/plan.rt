@@ -22,7 +22,7 @@ pub enum Pace {
     /// One process scans, one to four steps at a time. Between them two others make two updates,
     /// whole.
     Rounds,
-    /// Bursts in one run, and interruptions or rounds in the next.
+    /// Bursts in every second run, rounds in one of eight, and interruptions in the others.
     Mixed,
 }
 

@@ -257,14 +257,14 @@ fn round_turn(plan: &Plan, run: u64, turn: u64, draws: &Draws) -> Turn
     }
 }
 
-/// A turn of a run whose scans are interrupted, by chance or in rounds.
+/// A turn of a run whose scans are interrupted, by chance or, in one run of eight, in rounds.
 fn scanned_turn(plan: &Plan, run: u64, turn: u64, draws: &Draws) -> Turn
     ensures { result ≡ scanned_turn plan.now run turn draws.now }
 {
-    if run / 4 % 2 == 0 {
-        interrupted_turn(plan, run, turn, draws)
-    } else {
+    if run % 8 == 7 {
         round_turn(plan, run, turn, draws)
+    } else {
+        interrupted_turn(plan, run, turn, draws)
     }
 }
 

@@ -285,8 +285,8 @@ fn then_first(found: Option<(u32, Stop)>, process: u32, stop: Option<Stop>) -> O
 }
 
 /// Plays all scripts at once at a new desk, a worker in a thread for each process, and each with at
-/// most so many turns, for each of which it asks the gate. All workers have ended before there is
-/// an answer.
+/// most so many turns, for each of which it asks the gate. Workers begin together, unless some come
+/// late. All have ended before there is an answer.
 pub fn run_live<K: Kind, G: Gate, R: Threads + Wait + Sync>(
     rt: &R,
     alloc: Global,

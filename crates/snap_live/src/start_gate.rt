@@ -9,8 +9,8 @@ use std::thread::yield_now;
 /// How often a worker looks for the others before it begins without them.
 const MOST_LOOKS: u32 = 10_000;
 
-/// Before each of its first turns, so many, a worker lets the others on its processor. There may be
-/// fewer processors than workers, and most scripts are done before their worker loses its own.
+/// Up to this turn a worker lets others on its processor before each turn. There may be fewer
+/// processors than workers, and a short script is done before its worker loses its own.
 const FIRST_TURNS: u64 = 8;
 
 /// Lets workers on as another gate does, and to their first turn once all of them are there.

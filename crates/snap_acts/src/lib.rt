@@ -7,4 +7,5 @@ mod plan;
 mod tracer;
 
 pub use act::{Act, Step};
+pub use plan::index_value;
 pub use tracer::trace;

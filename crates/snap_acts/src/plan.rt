@@ -51,8 +51,8 @@ fn scalar_of<K: Kind>(machine: &Machine<K>, i: u32, name: Name) -> u64
     }
 }
 
-/// The place that an index stands for.
-fn index_value<K: Kind>(machine: &Machine<K>, i: u32, op: Op, index: Index) -> u64
+/// The place that an index stands for, and 0 for the place of a quantifier.
+pub fn index_value<K: Kind>(machine: &Machine<K>, i: u32, op: Op, index: Index) -> u64
     requires { IsOneOf machine.now.shape.n i }
     ensures { result ≡ index_value (context_of machine.now.shape i (process_at machine.now.state i) op)
         index }

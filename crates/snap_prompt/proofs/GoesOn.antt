@@ -7,10 +7,15 @@ use Rattle.snap_semantics.specs.declared.refusal.ScheduleRefusal.{ScheduleRefusa
 use Rattle.snap_debug.specs.Session.{total}
 use Rattle.snap_sched_edits.specs.Edits.{edited, form_of}
 use Rattle.snap_sched_edits.specs.declared.addition.Addition.{Addition}
+use Rattle.snap_sched_edits.specs.declared.addition.Addition.TheVariants as addition
+use Rattle.snap_reach.specs.Reach.{steps_to}
+use Rattle.snap_reach.specs.declared.goal.Goal.{Goal}
+use Rattle.snap_reach.specs.declared.goal.Goal.TheVariants as goal
+use Rattle.snap_reach.specs.declared.goal.NoSteps.{NoSteps}
 use Rattle.snap_prompt_lines.specs.Ask.{is_yes}
 use Rattle.snap_prompt_lines.specs.declared.ask.Ask.{Ask}
 use Rattle.snap_prompt_lines.specs.declared.ask.Ask.TheVariants as ask
-use Rattle.snap_prompt.specs.Prompt.{Prompt, added, added_to, answer_line, counted, decided, done, schedule_of_run, wanted, with_question}
+use Rattle.snap_prompt.specs.Prompt.{Prompt, added, added_to, answer_line, counted, decided, done, led, led_by, schedule_of_run, wanted, with_question}
 
 -- whether they fit or are refused
 added_to_goes_on : (p : Prompt) (r : Result Schedule ScheduleRefusal) → true ≡ (added_to p r).goes_on
@@ -38,6 +43,23 @@ decided_goes_on p a agreed = either agreed (added (with_question None p) a) _ (a
 pub adding_goes_on : (p : Prompt) (x : Ask) (a : Addition) → x ≡ ask.Add a → true ≡ (done p x).goes_on
 unfolding done
 adding_goes_on p x a e = rw e (wanted_goes_on p a)
+
+led_goes_on_by : (p : Prompt) (i : ℕ) (r : Result ℕ NoSteps) → true ≡ (led_by p i r).goes_on
+led_goes_on_by p i (Ok count) = wanted_goes_on p (addition.Steps i count)
+led_goes_on_by p i (Err why) = refl
+
+led_goes_on : (p : Prompt) (i : ℕ) (g : Goal) → true ≡ (led p i g).goes_on
+unfolding led
+led_goes_on p i g = led_goes_on_by p i (steps_to p.session i g)
+
+-- where as many are added as lead to a goal
+pub until_goes_on : (p : Prompt) (x : Ask) (i line : ℕ) → x ≡ ask.Until i line → true ≡ (done p x).goes_on
+unfolding done
+until_goes_on p x i line e = rw e (led_goes_on p i (goal.Line line))
+
+pub end_goes_on : (p : Prompt) (x : Ask) (i : ℕ) → x ≡ ask.End i → true ≡ (done p x).goes_on
+unfolding done
+end_goes_on p x i e = rw e (led_goes_on p i goal.End)
 
 -- where a line says whether the schedule is cut
 pub deciding_goes_on : (p : Prompt) (line : List ℕ) (a : Addition) → p.question ≡ Some a → true ≡ (answer_line p line).goes_on

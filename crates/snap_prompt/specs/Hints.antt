@@ -12,6 +12,8 @@ use Rattle.snap_semantics.specs.declared.refusal.ScheduleRefusal.TheVariants as 
 use Rattle.snap_refusals.specs.RefusalText.{refused_text}
 use Rattle.snap_debug_commands.specs.FaultText.{refusal_text}
 use Rattle.snap_debug.specs.Session.{Session, total}
+use Rattle.snap_reach.specs.declared.goal.NoSteps.{NoSteps}
+use Rattle.snap_reach.specs.declared.goal.NoSteps.TheVariants as none
 
 -- the numbers of the first and of the last of some lines, and 0 where there is none
 abbrev pub first_number : List Line → ℕ
@@ -53,3 +55,16 @@ added_hint s _ = codes ": a schedule has at most 1000000 items"
 -- the line of an addition that is refused
 unfoldable pub refused_addition : Session → ScheduleRefusal → List ℕ
 refused_addition s r = refused_text (input.Schedule r) ++ added_hint s r ++ codes "\n"
+
+-- the line of a process that takes no steps, for the way it stands
+abbrev pub standing_line : ℕ → List ℕ → List ℕ
+standing_line i how = codes "refused: process " ++ decimal i ++ codes " " ++ how ++ codes "\n"
+
+-- what is said at line `number` of a process that takes no steps to a goal
+unfoldable pub refused_steps : Session → (number i : ℕ) → NoSteps → List ℕ
+refused_steps s number i none.NoSuchProcess = refused_line s refusal.NoSuchProcess
+refused_steps s number i none.NoSuchLine = refused_line s refusal.NoSuchLine
+refused_steps s number i none.Idle = standing_line i (codes "is idle: `call` gives it an operation")
+refused_steps s number i none.Trapped = standing_line i (codes "has trapped: it takes no more steps")
+refused_steps s number i none.Crashed = standing_line i (codes "has crashed: it takes no more steps")
+refused_steps s number i none.Full = refused_addition s (schedule.TooManyItems number)

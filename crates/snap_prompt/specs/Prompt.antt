@@ -14,11 +14,17 @@ use Rattle.snap_debug_commands.specs.declared.command.Command.{Command}
 use Rattle.snap_debug_commands.specs.declared.command.Command.TheVariants as command
 use Rattle.snap_sched_edits.specs.Edits.{edited, form_of}
 use Rattle.snap_sched_edits.specs.declared.addition.Addition.{Addition}
+use Rattle.snap_sched_edits.specs.declared.addition.Addition.TheVariants as addition
+use Rattle.snap_reach.specs.Reach.{steps_to}
+use Rattle.snap_reach.specs.declared.goal.Goal.{Goal}
+use Rattle.snap_reach.specs.declared.goal.Goal.TheVariants as goal
+use Rattle.snap_reach.specs.declared.goal.NoSteps.{NoSteps}
 use Rattle.snap_prompt_lines.specs.Ask.{ask_of, is_yes}
 use Rattle.snap_prompt_lines.specs.declared.ask.Ask.{Ask}
 use Rattle.snap_prompt_lines.specs.declared.ask.Ask.TheVariants as ask
 use Rattle.snap_prompt.specs.Changed.{moved_text}
-use Rattle.snap_prompt.specs.Hints.{refused_addition, refused_line}
+use Rattle.snap_prompt.specs.Explained.{explained_text, item_or_position}
+use Rattle.snap_prompt.specs.Hints.{refused_addition, refused_line, refused_steps}
 use Rattle.snap_prompt.specs.Listed.{list_text, process_of}
 
 -- A session, what was asked for last, what is to be added where the next line says yes, how many lines were read, and whether the
@@ -119,9 +125,18 @@ wanted p a =
     if nat_eq p.session.position (total p.session) then added p a
     else record { state = with_question (Some a) p; text = question_text p.session; goes_on = true }
 
+-- what comes of the steps that lead a process to a goal, or why there are none
+abbrev pub led_by : Prompt → ℕ → Result ℕ NoSteps → Answer Prompt
+led_by p i (Err why) = says p (refused_steps p.session p.lines i why)
+led_by p i (Ok count) = wanted p (addition.Steps i count)
+
+-- As many steps of process i are added as lead it from the position to a goal. That they don't is said at once, and nothing is asked.
+unfoldable pub led : Prompt → ℕ → Goal → Answer Prompt
+led p i g = led_by p i (steps_to p.session i g)
+
 -- what lines can ask for
 unfoldable pub help_text : List ℕ
-help_text = codes "step K, back K, goto T, run, rrun\nbreak I N, clear I N, watch A, unwatch A\nshow I, show A, values, events, where\nall, list, list I, report, save, help, quit\nto add items: step I K, call I scan, call I update K X, crash I\nA is a register: r K, q I J, p I J or v I\ns, b: step 1, back 1; s, b, r, g, p before numbers: step, back, run, goto, show; b I N: break I N\nan empty line: the last line again\n"
+help_text = codes "step K, back K, goto T, run, rrun\nbreak I N, clear I N, watch A, unwatch A\nshow I, show A, values, events, where\nall, list, list I, why, why T, report, save, help, quit\nto add items: step I K, until I N, end I, call I scan, call I update K X, crash I\nA is a register: r K, q I J, p I J or v I\ns, b: step 1, back 1; s, b, r, g, p before numbers: step, back, run, goto, show; b I N: break I N\nan empty line: the last line again\n"
 
 -- what is done, where that is no last thing again
 unfoldable pub done : Prompt → Ask → Answer Prompt
@@ -134,7 +149,10 @@ done p ask.Report = says p (session_report p.session)
 done p ask.Save = says p (schedule_text (schedule_of_run p.session.run))
 done p ask.ListLast = says p (list_text p.session (process_of (last_of p.session.run p.session.position)))
 done p (ask.List i) = says p (list_text p.session i)
+done p (ask.Why item) = says p (explained_text p.session (item_or_position p.session item))
 done p (ask.Add a) = wanted p a
+done p (ask.Until i line) = led p i (goal.Line line)
+done p (ask.End i) = led p i goal.End
 done p (ask.Do c) = did p c
 
 -- what is meant by what a line asks for: the last thing again, or the thing itself
@@ -148,7 +166,10 @@ meant last ask.Report = Some ask.Report
 meant last ask.Save = Some ask.Save
 meant last ask.ListLast = Some ask.ListLast
 meant last (ask.List i) = Some (ask.List i)
+meant last (ask.Why item) = Some (ask.Why item)
 meant last (ask.Add a) = Some (ask.Add a)
+meant last (ask.Until i line) = Some (ask.Until i line)
+meant last (ask.End i) = Some (ask.End i)
 meant last (ask.Do c) = Some (ask.Do c)
 
 -- what is meant is the last thing from there on

@@ -1,8 +1,9 @@
 //! What is said where a line is refused.
 ghost use Rattle.std.specs.Prelude.{◌≡◌, ◌++◌, OnOk, codes};
-ghost use Rattle.snap_prompt.specs.Hints.{added_hint, first_number, hint_text, last_number, range_text, refused_addition, refused_line, registers_text};
+ghost use Rattle.snap_prompt.specs.Hints.{added_hint, first_number, hint_text, last_number, range_text, refused_addition, refused_line, refused_steps, registers_text, standing_line};
 
 use snap_debug::{Session, push_refusal};
+use snap_reach::NoSteps;
 use snap_refusals::push_refused;
 use snap_semantics::{CommandRefusal, Line, Refusal, ScheduleRefusal};
 use snap_text::{push_number, push_text};
@@ -151,4 +152,41 @@ pub(crate) fn push_refused_addition<K: Kind>(
     push_refused(out, &Refusal::Schedule(refusal))?;
     push_added_hint(out, session, &refusal)?;
     push_text(out, b"\n")
+}
+
+/// Adds the line of a process that takes no steps, for the way it stands.
+#[tactic(auto, using(snap_text::proofs::Texts::joined))]
+fn push_standing(out: &mut Vec<u8>, process: u64, how: &[u8]) -> Result<(), AllocError>
+    ensures { OnOk result (out.new.items ≡ out.old.items ++ standing_line process how.now) }
+{
+    push_text(out, b"refused: process ")?;
+    push_number(out, process)?;
+    push_text(out, b" ")?;
+    push_text(out, how)?;
+    push_text(out, b"\n")
+}
+
+/// Adds why a process takes no steps to a goal. A refusal of the schedule names the line.
+#[tactic(auto, unfolding(crate::specs::Hints::refused_steps))]
+pub(crate) fn push_refused_steps<K: Kind>(
+    out: &mut Vec<u8>,
+    session: &Session<K>,
+    line: u64,
+    process: u64,
+    why: NoSteps,
+) -> Result<(), AllocError>
+    ensures { OnOk result (out.new.items ≡ out.old.items ++ refused_steps session.now line process why) }
+{
+    match why {
+        NoSteps::NoSuchProcess => {
+            push_refused_line(out, session, &CommandRefusal::NoSuchProcess)
+        }
+        NoSteps::NoSuchLine => push_refused_line(out, session, &CommandRefusal::NoSuchLine),
+        NoSteps::Idle => push_standing(out, process, b"is idle: `call` gives it an operation"),
+        NoSteps::Trapped => push_standing(out, process, b"has trapped: it takes no more steps"),
+        NoSteps::Crashed => push_standing(out, process, b"has crashed: it takes no more steps"),
+        NoSteps::Full => {
+            push_refused_addition(out, session, ScheduleRefusal::TooManyItems(line))
+        }
+    }
 }

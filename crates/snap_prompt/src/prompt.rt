@@ -7,12 +7,14 @@ ghost use Rattle.snap_changes.specs.Changes.{text_between};
 ghost use Rattle.snap_semantics.specs.Report.{position_line};
 ghost use Rattle.snap_semantics.specs.ScheduleText.{schedule_text};
 ghost use Rattle.snap_semantics.specs.Token.{lines_of};
+ghost use Rattle.snap_prompt.specs.Explained.{explained_text, item_or_position};
 ghost use Rattle.snap_prompt.specs.Listed.{list_text, process_of};
-ghost use Rattle.snap_prompt.specs.Prompt.{added, answer_line, asked, at_end_of, decided, did_text, done, move_or_refusal, opened_prompt, prompt_text, question_text, reply_or_refusal, schedule_of_run, wanted, with_session};
+ghost use Rattle.snap_prompt.specs.Prompt.{added, answer_line, asked, at_end_of, decided, did_text, done, led, move_or_refusal, opened_prompt, prompt_text, question_text, reply_or_refusal, schedule_of_run, wanted, with_session};
 ghost use Rattle.snap_prompt.specs.Changed.{item_text, state_text};
 
 use crate::changed::state_text;
-use crate::hints::{push_refused_addition, push_refused_line};
+use crate::explained::push_explained;
+use crate::hints::{push_refused_addition, push_refused_line, push_refused_steps};
 use crate::last_item::{do_command, go_to, push_item};
 use crate::listed::push_list;
 use crate::meant::{meant, moves, push_help};
@@ -22,6 +24,7 @@ use snap_debug::{Command, Session};
 use snap_dialog::Respondent;
 use snap_listing_lines::LineTexts;
 use snap_prompt_lines::{Ask, ask_of, is_yes};
+use snap_reach::{Goal, steps_to};
 use snap_report::{head_lines, position_line};
 use snap_sched::{Schedule, print};
 use snap_sched_edits::{Addition, edited};
@@ -227,6 +230,18 @@ impl<K: Kind> Prompt<K> {
         Ok(())
     }
 
+    /// Adds as many steps of a process as lead it to a goal, or adds why there are none.
+    #[tactic(auto, unfolding(crate::specs::Prompt::led))]
+    fn push_led(&mut self, out: &mut Vec<u8>, process: u64, goal: Goal) -> Result<(), AllocError>
+        ensures text { OnOk result (out.new.items ≡ out.old.items ++ (led self.old process goal).text) }
+        ensures state { OnOk result (self.new ≡ (led self.old process goal).state) }
+    {
+        match steps_to(&self.session, process, goal)? {
+            Ok(count) => self.push_wanted(out, Addition::Steps { process, count }),
+            Err(why) => push_refused_steps(out, &self.session, self.lines, process, why),
+        }
+    }
+
     /// Adds the report of the position.
     fn push_report(&self, out: &mut Vec<u8>) -> Result<(), AllocError>
         ensures { OnOk result (out.new.items ≡ out.old.items ++ session_report self.now.session) }
@@ -260,6 +275,25 @@ impl<K: Kind> Prompt<K> {
         push_list(out, &self.texts, &self.session, process)
     }
 
+    /// Adds why an item came out as it did, that of the position where none is named.
+    fn push_why_of(&self, out: &mut Vec<u8>, item: Option<u64>) -> Result<(), AllocError>
+        ensures { let s = self.now.session in OnOk result (out.new.items ≡ out.old.items
+            ++ explained_text s (item_or_position s item)) }
+    {
+        let item = match item {
+            Some(item) => item,
+            None => self.session.position(),
+        };
+        push_explained(
+            self.alloc,
+            out,
+            &self.session,
+            &self.schedule,
+            &self.texts,
+            item,
+        )
+    }
+
     /// Does what is meant by a line, and adds what is answered.
     #[tactic(auto, unfolding(crate::specs::Prompt::done))]
     fn push_meant(&mut self, out: &mut Vec<u8>, ask: Ask) -> Result<bool, AllocError>
@@ -268,42 +302,24 @@ impl<K: Kind> Prompt<K> {
         ensures goes_on { IfOk result (λ more. more ≡ (done self.old ask).goes_on) }
     {
         match ask {
-            Ask::Nothing | Ask::Again => Ok(true),
-            Ask::Quit => Ok(false),
-            Ask::Help => {
-                push_help(out)?;
-                Ok(true)
-            }
-            Ask::All => {
-                head_lines(out, self.session.machine())?;
-                Ok(true)
-            }
-            Ask::Report => {
-                self.push_report(out)?;
-                Ok(true)
-            }
-            Ask::Save => {
-                self.push_schedule(out)?;
-                Ok(true)
-            }
+            Ask::Nothing | Ask::Again => {}
+            Ask::Quit => return Ok(false),
+            Ask::Help => push_help(out)?,
+            Ask::All => head_lines(out, self.session.machine())?,
+            Ask::Report => self.push_report(out)?,
+            Ask::Save => self.push_schedule(out)?,
             Ask::ListLast => {
                 let process = self.last_process()?;
                 self.push_list_of(out, process)?;
-                Ok(true)
             }
-            Ask::List(process) => {
-                self.push_list_of(out, process)?;
-                Ok(true)
-            }
-            Ask::Add(addition) => {
-                self.push_wanted(out, addition)?;
-                Ok(true)
-            }
-            Ask::Do(command) => {
-                self.push_done(out, &command)?;
-                Ok(true)
-            }
+            Ask::List(process) => self.push_list_of(out, process)?,
+            Ask::Why(item) => self.push_why_of(out, item)?,
+            Ask::Add(addition) => self.push_wanted(out, addition)?,
+            Ask::Until { process, line } => self.push_led(out, process, Goal::Line(line))?,
+            Ask::End { process } => self.push_led(out, process, Goal::End)?,
+            Ask::Do(command) => self.push_done(out, &command)?,
         }
+        Ok(true)
     }
 
     /// Does what a line asks for, and adds what is answered.

@@ -1,5 +1,5 @@
 -- What is drawn of a run: a list of shapes, a later one above the earlier ones.
-use Rattle.std.specs.Prelude.{ℕ, zero, suc, ◌+◌, Bool, List, [], ◌∷◌, ◌++◌, length, drop, Option, Some, None, get_or}
+use Rattle.std.specs.Prelude.{ℕ, zero, suc, ◌+◌, Bool, List, [], ◌∷◌, ◌++◌, length, drop, Option, Some, None}
 use Rattle.snap_runs.specs.Audit.{audit}
 use Rattle.snap_runs.specs.Run.{Run}
 use Rattle.snap_runs.specs.declared.verdict.Verdict.{Verdict}
@@ -17,8 +17,9 @@ use Rattle.snap_svg.specs.declared.shape.Shape.{Shape}
 use Rattle.snap_svg.specs.declared.shape.Shape.TheVariants as shape
 use Rattle.snap_svg.specs.declared.shape.Span.{Span}
 use Rattle.snap_svg.specs.declared.shape.Written.{Written}
-use Rattle.snap_shapes.specs.Searches.{first_meeting, last_before, no_step}
-use Rattle.snap_shapes.specs.declared.wanted.Wanted.TheVariants as wanted
+use Rattle.snap_loans.specs.Loans.{scan_before, source_of, step_at}
+use Rattle.snap_loans.specs.Searches.{first_meeting, last_before}
+use Rattle.snap_loans.specs.declared.wanted.Wanted.TheVariants as wanted
 
 abbrev pub spot_of : Step → Spot
 spot_of s = record { process = s.process; item = s.item; line = s.line }
@@ -56,10 +57,6 @@ embedded_of last s rest = record { process = s.process; from = s.item; to = item
 abbrev pub period_of : ℕ → ℕ → List ℕ → List Step → Shape
 period_of last t values rest = shape.Values (record { from = t; to = item_or last (first_meeting wanted.Write rest); values = values })
 
--- the step at a place
-abbrev pub step_at : List Step → ℕ → Step
-step_at ss k = get_or ss k no_step
-
 abbrev pub written_by : Step → Written
 written_by s = record { process = s.process; item = s.item }
 
@@ -67,26 +64,6 @@ written_by s = record { process = s.process; item = s.item }
 abbrev pub written_at : List Step → Option ℕ → Option Written
 written_at ss None = None
 written_at ss (Some k) = Some (written_by (step_at ss k))
-
--- the last place before one at which word j was written
-abbrev pub write_before : List Step → ℕ → Option ℕ → Option ℕ
-write_before ss j None = None
-write_before ss j (Some k) = last_before (wanted.WriteOf j) ss k
-
--- The place at which a view was written that step k takes: beside the word that its process had read last from register j, or
--- into register v[j].
-abbrev pub source_by : List Step → ℕ → Step → Act → Option ℕ
-source_by ss k s (act.Borrow j) = write_before ss j (last_before (wanted.ReadOf s.process j) ss k)
-source_by ss k s (act.Look j) = last_before (wanted.Published j) ss k
-source_by ss k s _ = None
-
-abbrev pub source_of : List Step → ℕ → Step → Option ℕ
-source_of ss k s = source_by ss k s s.act
-
--- the place at which the scan ended whose view was written there
-abbrev pub scan_before : List Step → Option ℕ → Option ℕ
-scan_before ss None = None
-scan_before ss (Some k) = last_before (wanted.Leave (step_at ss k).process) ss k
 
 -- an arrow from the lender's scan to the step that takes its view
 abbrev pub loan_from : List Step → Step → Option ℕ → List Shape

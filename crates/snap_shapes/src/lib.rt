@@ -5,6 +5,5 @@
 mod drawn;
 mod steps;
 mod verdicts;
-mod wanted;
 
 pub use drawn::shapes;

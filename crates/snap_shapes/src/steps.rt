@@ -1,7 +1,7 @@
 //! What is drawn of a step.
 ghost use Rattle.std.specs.Prelude.{◌≡◌, ◌≤◌, ◌<◌, ◌+◌, ◌++◌, ◌∷◌, [], IfOk, IfSome, OnOk, drop, length, option_map};
-ghost use Rattle.snap_shapes.specs.Searches.{last_before};
-ghost use Rattle.snap_shapes.specs.declared.wanted.Wanted.TheVariants as wanted;
+ghost use Rattle.snap_loans.specs.Searches.{last_before};
+ghost use Rattle.snap_loans.specs.declared.wanted.Wanted.TheVariants as wanted;
 ghost use Rattle.snap_svg.specs.declared.shape.Shape.TheVariants as shape;
 ghost use Rattle.snap_shapes.specs.Shapes.{
   bar_of,
@@ -12,18 +12,15 @@ ghost use Rattle.snap_shapes.specs.Shapes.{
   loan_from,
   loan_of,
   spot_of,
-  scan_before,
   shapes_at,
   shapes_of,
   shapes_to,
-  source_of,
   period_of,
-  write_before,
   written_at,
 };
 
-use crate::wanted::{Wanted, first_from, last_before};
 use snap_acts::{Act, Step};
+use snap_loans::{Wanted, first_from, last_before, scan_before, source_of};
 use snap_semantics::Op;
 use snap_svg::{Bar, End, Loan, Period, Read, Shape, Span, Spot, Write, Written};
 use snap_words::View;
@@ -126,41 +123,6 @@ fn written_at(steps: &[Step], place: Option<usize>) -> Option<Written>
         process: step.process,
         item: step.item,
     })
-}
-
-/// The last place before one at which a word was written.
-fn write_before(steps: &[Step], word: u64, place: Option<usize>) -> Option<usize>
-    requires { IfSome place (λ k. k < length steps.now) }
-    ensures place { result ≡ write_before steps.now word place }
-    ensures within { IfSome result (λ k. k < length steps.now) }
-{
-    last_before(steps, place?, Wanted::WriteOf(word))
-}
-
-/// The place at which a view was written that a step takes.
-fn source_of(steps: &[Step], k: usize, step: &Step) -> Option<usize>
-    requires { k ≤ length steps.now }
-    ensures place { result ≡ source_of steps.now k step.now }
-    ensures within { IfSome result (λ k. k < length steps.now) }
-{
-    match &step.act {
-        Act::Borrow(j) => {
-            let read = last_before(steps, k, Wanted::ReadOf(step.process, *j));
-            write_before(steps, *j, read)
-        }
-        Act::Look(j) => last_before(steps, k, Wanted::Published(*j)),
-        _ => None,
-    }
-}
-
-/// The place at which the scan ended whose view was written there.
-fn scan_before(steps: &[Step], place: Option<usize>) -> Option<usize>
-    requires { IfSome place (λ k. k < length steps.now) }
-    ensures place { result ≡ scan_before steps.now place }
-    ensures within { IfSome result (λ k. k < length steps.now) }
-{
-    let k = place?;
-    last_before(steps, k, Wanted::Leave(steps[k].process))
 }
 
 /// Adds an arrow from the lender's scan to the step that takes its view.

@@ -1,0 +1,9 @@
+use Rattle.std.proofs.Common.{◌≡◌, ◌-◌, drop, length}
+use Rattle.snap_loans.specs.Searches.{first_meeting}
+use Rattle.snap_loans.proofs.wanted.first_from.Given as goal
+
+abbrev pub invariant-loop-k : goal.invariant-loop-k
+invariant-loop-k l = first_meeting l.wanted (drop l.k l.steps) ≡ first_meeting l.wanted (drop l.from l.steps)
+
+abbrev pub decreases-loop-k : goal.decreases-loop-k
+decreases-loop-k l = length l.steps - l.k

@@ -1,0 +1,22 @@
+//! To where a process steps, and why it does not.
+
+/// To where a process steps. It stops earlier where it is no longer busy.
+#[derive(Clone, Copy, Debug, PartialEq, Eq)]
+pub enum Goal {
+    /// To the line of this number.
+    Line(u64),
+    /// To the end of its operation.
+    End,
+}
+
+/// Why a process takes no steps to a goal.
+#[derive(Clone, Copy, Debug, PartialEq, Eq)]
+pub enum NoSteps {
+    NoSuchProcess,
+    NoSuchLine,
+    Idle,
+    Trapped,
+    Crashed,
+    /// The schedule is full before the process is there.
+    Full,
+}

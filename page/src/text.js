@@ -25,7 +25,7 @@ function readItems(text) {
         const [, who, times = 1, call] = ITEM.exec(raw) ?? [];
         if (!who || items.total > MOST_ITEMS) break;
         items.from.push(items.total);
-        items.who.push(who);
+        items.who.push(Number(who));
         items.kind.push(KINDS.indexOf(call));
         items.line.push(line);
         items.total += Number(times);

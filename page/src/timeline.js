@@ -1,6 +1,6 @@
 // The time line: a lane for each process, with its operations as bars, the verdicts of its scans, and the position.
 
-const LABEL = 30, RIGHT = 8, dark = matchMedia('(prefers-color-scheme: dark)');
+const LABEL = 30, RIGHT = 8, GRAIN = 1.5, dark = matchMedia('(prefers-color-scheme: dark)');
 const DIAMOND = [[0, -7], [6, 0], [0, 7], [-6, 0]], INKS = {bad: 'on-bad', bar: 'ink'};
 const line = {from: 0, to: 1, width: Infinity, wide: 0, drawn: []};
 const pen = $('timeline').firstChild.getContext('2d');
@@ -36,7 +36,7 @@ function draw() {
     const size = [pixels(wide), pixels(n * high)];
     if (canvas.width !== size[0] || canvas.height !== size[1]) [canvas.width, canvas.height] = size;
     canvas.style.height = `${n * high}px`;
-    line.grain = (line.to - line.from) / wide * .7;
+    line.grain = (line.to - line.from) / wide * GRAIN;
     colours = {};
     pen.setTransform(devicePixelRatio, 0, 0, devicePixelRatio, 0, 0);
     Object.assign(pen, {textBaseline: 'middle', font: `bold ${Math.min(high - 2, 15)}px system-ui, sans-serif`});
@@ -62,7 +62,7 @@ function drawItems() {
         next[who] = end + grain;
         const left = placeOf(Math.max(items.from[k], from)), right = placeOf(Math.min(end, to));
         const bottom = who * high - 5;
-        const tick = gap ? step : Math.max(right - left, .7), name = crash ? 'bad' : 'dim';
+        const tick = gap ? step : Math.max(right - left, GRAIN), name = crash ? 'bad' : 'dim';
         for (let x = left; x === left || x < right - 1; x += tick) paint(name, x + gap / 2, bottom, tick - gap, 3);
         if (crash) pen.fillText('\u2715', left, bottom - high / 2 + 4);
     }
@@ -78,7 +78,7 @@ function drawOperation(k, next) {
     const scans = operations.text[operations.called[k]] === 's', place = scans ? verdictOf(numbers, to) : -1;
     const edge = none.has(to) ? 'bad' : `p${who % 8}`, inside = scans ? edge : 'bar';
     const left = placeOf(Math.max(from - 1, line.from)), right = placeOf(Math.min(to || line.to, line.to));
-    const top = (who - 1) * high + 1, wide = Math.max(right - left, 1.5), point = numbers[5 * place + 3];
+    const top = (who - 1) * high + 1, wide = Math.max(right - left, GRAIN), point = numbers[5 * place + 3];
     paint(inside, left, top, wide, high - 7);
     Object.assign(pen, {strokeStyle: colour(edge), lineWidth: 2});
     if (wide > 3) pen.strokeRect(left + 1, top + 1, wide - 2, high - 9);

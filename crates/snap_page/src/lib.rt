@@ -10,11 +10,11 @@ ghost use Rattle.snap_semantics.specs.declared.refusal.Refusal.{Refusal};
 ghost use Rattle.snap_tasks.specs.declared.task.Task.{Task};
 
 mod asked;
-mod drawn;
+mod drawing;
 mod handed;
 
 use asked::task_of;
-use drawn::{drawn, handed_picture};
+use drawing::{drawn, handed_picture};
 use handed::{Handed, handed_answer};
 use snap_output::output_alone;
 use snap_picture::{LEGEND, Look, STYLE};

@@ -1,5 +1,4 @@
 pub mod Changed
-pub mod Explained
 pub mod Hints
 pub mod Listed
 pub mod Prompt

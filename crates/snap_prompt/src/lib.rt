@@ -3,7 +3,6 @@
 
 mod changed;
 mod conversation;
-mod explained;
 mod hints;
 mod last_item;
 mod listed;

@@ -1,2 +1,0 @@
-pub mod Troubles
-pub mod TroubleText

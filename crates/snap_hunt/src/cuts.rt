@@ -12,7 +12,7 @@ use std::alloc::{AllocError, Global};
 #[derive(Clone, Copy, Debug)]
 pub(crate) enum Cut {
     /// So many items, from a place on.
-    Stretch {
+    Segment {
         at: usize,
         count: usize,
     },
@@ -110,7 +110,7 @@ fn without_turns(
 /// What a cut leaves of items.
 pub(crate) fn left_by(alloc: Global, items: &[Item], cut: Cut) -> Result<Vec<Item>, AllocError> {
     match cut {
-        Cut::Stretch { at, count } => without(alloc, items, at.min(items.len()), count),
+        Cut::Segment { at, count } => without(alloc, items, at.min(items.len()), count),
         Cut::Turns {
             process,
             from,

@@ -51,7 +51,7 @@ fn gap_behind(items: &[Item], at: usize) -> Option<Gap>
     Some(Gap { from, to })
 }
 
-/// Items of which two neighbouring stretches are exchanged: up to a place, and from it on.
+/// Items of which two neighbouring segments are exchanged: up to a place, and from it on.
 fn exchanged(
     alloc: Global,
     items: &[Item],

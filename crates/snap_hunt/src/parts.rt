@@ -62,20 +62,20 @@ pub(crate) fn operations(alloc: Global, items: &[Item]) -> Result<Vec<Cut>, Allo
     Ok(cuts)
 }
 
-/// The stretches of so many items, one behind another.
-pub(crate) fn stretches(alloc: Global, items: &[Item], size: usize) -> Result<Vec<Cut>, AllocError>
+/// The segments of so many items, one behind another.
+pub(crate) fn segments(alloc: Global, items: &[Item], size: usize) -> Result<Vec<Cut>, AllocError>
     requires { 0 < size }
 {
     let mut cuts = Vec::new(alloc);
     let mut at: usize = 0;
     while at < items.len() {
-        cuts.push(Cut::Stretch { at, count: size })?;
+        cuts.push(Cut::Segment { at, count: size })?;
         at = at.saturating_add(size);
     }
     Ok(cuts)
 }
 
-/// Adds the stretches of so many items of a process, which has so many.
+/// Adds the segments of so many items of a process, which has so many.
 fn push_turns(
     cuts: &mut Vec<Cut>,
     process: u32,
@@ -96,7 +96,7 @@ fn push_turns(
     Ok(())
 }
 
-/// The stretches of so many items of each process, whatever stands between them.
+/// The segments of so many items of each process, whatever stands between them.
 pub(crate) fn turns(
     alloc: Global,
     shape: Shape,

@@ -5,7 +5,7 @@ ghost use Rattle.snap_hunt.specs.Shrinking.{Fails, IsSmall, Shrinks, drawn};
 use crate::cuts::{Cut, left_by, without};
 use crate::draft::Draft;
 use crate::orders::{switches, with_next_sooner, with_turn_later};
-use crate::parts::{operations, processes, stretches, turns};
+use crate::parts::{operations, processes, segments, turns};
 use crate::trials::{better, removable};
 use crate::values::with_plain_values;
 use snap_asm_program::Program;
@@ -70,9 +70,9 @@ pub(crate) fn drop_operations(
     drop_cuts(alloc, program, wanted, fewer, called.as_slice())
 }
 
-/// Leaves out stretches of so many items, of all and of each process.
+/// Leaves out segments of so many items, of all and of each process.
 #[tactic(auto, using(crate::proofs::Cutting::itself, crate::proofs::Cutting::onward))]
-fn drop_stretches_of(
+fn drop_segments_of(
     alloc: Global,
     program: &Program,
     wanted: &Wanted,
@@ -83,7 +83,7 @@ fn drop_stretches_of(
     requires some { 0 < size }
     ensures { IfOk result (λ d. Shrinks program.now wanted.now (drawn draft) (drawn d)) }
 {
-    let all = stretches(alloc, draft.items.as_slice(), size)?;
+    let all = segments(alloc, draft.items.as_slice(), size)?;
     let fewer = drop_cuts(alloc, program, wanted, draft, all.as_slice())?;
     if size == 1 {
         return Ok(fewer);
@@ -92,9 +92,9 @@ fn drop_stretches_of(
     drop_cuts(alloc, program, wanted, fewer, own.as_slice())
 }
 
-/// Leaves out stretches of at least so many items, long ones first.
+/// Leaves out segments of at least so many items, long ones first.
 #[tactic(auto, using(crate::proofs::Cutting::itself, crate::proofs::Cutting::onward))]
-pub(crate) fn drop_stretches(
+pub(crate) fn drop_segments(
     alloc: Global,
     program: &Program,
     wanted: &Wanted,
@@ -108,7 +108,7 @@ pub(crate) fn drop_stretches(
     let mut size = draft.items.len() / 2;
     let mut kept = draft;
     while size >= least {
-        kept = drop_stretches_of(alloc, program, wanted, kept, size)?;
+        kept = drop_segments_of(alloc, program, wanted, kept, size)?;
         size /= 2;
     }
     Ok(kept)

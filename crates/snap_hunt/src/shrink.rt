@@ -5,13 +5,13 @@ ghost use Rattle.snap_hunt.specs.Shrinking.{Fails, IsShrunk, drawn};
 use crate::cuts::schedule_with;
 use crate::draft::{Draft, draft_of};
 use crate::narrow::narrower;
-use crate::passes::{drop_items, drop_operations, drop_stretches, join_turns, make_plain};
+use crate::passes::{drop_items, drop_operations, drop_segments, join_turns, make_plain};
 use snap_asm_program::Program;
 use snap_failure::Wanted;
 use snap_sched::Schedule;
 use std::alloc::{AllocError, Global};
 
-/// Stretches of at least so many items are left out first: a long schedule gets short soon.
+/// Segments of at least so many items are left out first: a long schedule gets short soon.
 const LONG: usize = 256;
 
 /// Each way once, single items last.
@@ -25,9 +25,9 @@ fn made_smaller(
     requires { Fails program.now wanted.now draft.shape draft.items.items }
     ensures { IfOk result (λ d. IsShrunk program.now wanted.now (drawn draft) (drawn d)) }
 {
-    let short = drop_stretches(alloc, program, wanted, draft, LONG)?;
+    let short = drop_segments(alloc, program, wanted, draft, LONG)?;
     let fewer = drop_operations(alloc, program, wanted, short)?;
-    let shorter = drop_stretches(alloc, program, wanted, fewer, 1)?;
+    let shorter = drop_segments(alloc, program, wanted, fewer, 1)?;
     let least = drop_items(alloc, program, wanted, shorter)?;
     let joined = join_turns(alloc, program, wanted, least)?;
     let plain = make_plain(alloc, program, wanted, joined)?;

@@ -1,5 +1,5 @@
 use Rattle.snap_hunt.specs.Shrinking.{Shrinks, drawn}
-use Rattle.snap_hunt.proofs.passes.drop_stretches.Given as goal
+use Rattle.snap_hunt.proofs.passes.drop_segments.Given as goal
 
 -- what is kept still fails
 abbrev pub invariant-loop-size : goal.invariant-loop-size

@@ -23,6 +23,7 @@ use Rattle.snap_prompt_lines.specs.Ask.{ask_of, is_yes}
 use Rattle.snap_prompt_lines.specs.declared.ask.Ask.{Ask}
 use Rattle.snap_prompt_lines.specs.declared.ask.Ask.TheVariants as ask
 use Rattle.snap_prompt.specs.Changed.{moved_text}
+use Rattle.snap_prompt.specs.Explained.{explained_text, item_or_position}
 use Rattle.snap_prompt.specs.Hints.{refused_addition, refused_line, refused_steps}
 use Rattle.snap_prompt.specs.Listed.{list_text, process_of}
 
@@ -135,7 +136,7 @@ led p i g = led_by p i (steps_to p.session i g)
 
 -- what lines can ask for
 unfoldable pub help_text : List ℕ
-help_text = codes "step K, back K, goto T, run, rrun\nbreak I N, clear I N, watch A, unwatch A\nshow I, show A, values, events, where\nall, list, list I, report, save, help, quit\nto add items: step I K, until I N, end I, call I scan, call I update K X, crash I\nA is a register: r K, q I J, p I J or v I\ns, b: step 1, back 1; s, b, r, g, p before numbers: step, back, run, goto, show; b I N: break I N\nan empty line: the last line again\n"
+help_text = codes "step K, back K, goto T, run, rrun\nbreak I N, clear I N, watch A, unwatch A\nshow I, show A, values, events, where\nall, list, list I, why, why T, report, save, help, quit\nto add items: step I K, until I N, end I, call I scan, call I update K X, crash I\nA is a register: r K, q I J, p I J or v I\ns, b: step 1, back 1; s, b, r, g, p before numbers: step, back, run, goto, show; b I N: break I N\nan empty line: the last line again\n"
 
 -- what is done, where that is no last thing again
 unfoldable pub done : Prompt → Ask → Answer Prompt
@@ -148,6 +149,7 @@ done p ask.Report = says p (session_report p.session)
 done p ask.Save = says p (schedule_text (schedule_of_run p.session.run))
 done p ask.ListLast = says p (list_text p.session (process_of (last_of p.session.run p.session.position)))
 done p (ask.List i) = says p (list_text p.session i)
+done p (ask.Why item) = says p (explained_text p.session (item_or_position p.session item))
 done p (ask.Add a) = wanted p a
 done p (ask.Until i line) = led p i (goal.Line line)
 done p (ask.End i) = led p i goal.End
@@ -164,6 +166,7 @@ meant last ask.Report = Some ask.Report
 meant last ask.Save = Some ask.Save
 meant last ask.ListLast = Some ask.ListLast
 meant last (ask.List i) = Some (ask.List i)
+meant last (ask.Why item) = Some (ask.Why item)
 meant last (ask.Add a) = Some (ask.Add a)
 meant last (ask.Until i line) = Some (ask.Until i line)
 meant last (ask.End i) = Some (ask.End i)

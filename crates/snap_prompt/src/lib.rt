@@ -3,6 +3,7 @@
 
 mod changed;
 mod conversation;
+mod explained;
 mod hints;
 mod last_item;
 mod listed;

@@ -9,7 +9,7 @@ use std::alloc::AllocError;
 
 /// What lines can ask for.
 const HELP: &[u8] =
-    b"step K, back K, goto T, run, rrun\nbreak I N, clear I N, watch A, unwatch A\nshow I, show A, values, events, where\nall, list, list I, report, save, help, quit\nto add items: step I K, until I N, end I, call I scan, call I update K X, crash I\nA is a register: r K, q I J, p I J or v I\ns, b: step 1, back 1; s, b, r, g, p before numbers: step, back, run, goto, show; b I N: break I N\nan empty line: the last line again\n";
+    b"step K, back K, goto T, run, rrun\nbreak I N, clear I N, watch A, unwatch A\nshow I, show A, values, events, where\nall, list, list I, why, why T, report, save, help, quit\nto add items: step I K, until I N, end I, call I scan, call I update K X, crash I\nA is a register: r K, q I J, p I J or v I\ns, b: step 1, back 1; s, b, r, g, p before numbers: step, back, run, goto, show; b I N: break I N\nan empty line: the last line again\n";
 
 /// Adds what lines can ask for.
 #[tactic(auto, unfolding(crate::specs::Prompt::help_text))]
@@ -55,6 +55,7 @@ pub(crate) fn meant(last: Option<Ask>, ask: Ask) -> Option<Ask>
         | Ask::Save
         | Ask::ListLast
         | Ask::List(_)
+        | Ask::Why(_)
         | Ask::Add(_)
         | Ask::Until { .. }
         | Ask::End { .. }

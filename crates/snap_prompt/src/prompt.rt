@@ -7,11 +7,13 @@ ghost use Rattle.snap_changes.specs.Changes.{text_between};
 ghost use Rattle.snap_semantics.specs.Report.{position_line};
 ghost use Rattle.snap_semantics.specs.ScheduleText.{schedule_text};
 ghost use Rattle.snap_semantics.specs.Token.{lines_of};
+ghost use Rattle.snap_prompt.specs.Explained.{explained_text, item_or_position};
 ghost use Rattle.snap_prompt.specs.Listed.{list_text, process_of};
 ghost use Rattle.snap_prompt.specs.Prompt.{added, answer_line, asked, at_end_of, decided, did_text, done, led, move_or_refusal, opened_prompt, prompt_text, question_text, reply_or_refusal, schedule_of_run, wanted, with_session};
 ghost use Rattle.snap_prompt.specs.Changed.{item_text, state_text};
 
 use crate::changed::state_text;
+use crate::explained::push_explained;
 use crate::hints::{push_refused_addition, push_refused_line, push_refused_steps};
 use crate::last_item::{do_command, go_to, push_item};
 use crate::listed::push_list;
@@ -273,6 +275,25 @@ impl<K: Kind> Prompt<K> {
         push_list(out, &self.texts, &self.session, process)
     }
 
+    /// Adds why an item came out as it did, that of the position where none is named.
+    fn push_why_of(&self, out: &mut Vec<u8>, item: Option<u64>) -> Result<(), AllocError>
+        ensures { let s = self.now.session in OnOk result (out.new.items ≡ out.old.items
+            ++ explained_text s (item_or_position s item)) }
+    {
+        let item = match item {
+            Some(item) => item,
+            None => self.session.position(),
+        };
+        push_explained(
+            self.alloc,
+            out,
+            &self.session,
+            &self.schedule,
+            &self.texts,
+            item,
+        )
+    }
+
     /// Does what is meant by a line, and adds what is answered.
     #[tactic(auto, unfolding(crate::specs::Prompt::done))]
     fn push_meant(&mut self, out: &mut Vec<u8>, ask: Ask) -> Result<bool, AllocError>
@@ -292,6 +313,7 @@ impl<K: Kind> Prompt<K> {
                 self.push_list_of(out, process)?;
             }
             Ask::List(process) => self.push_list_of(out, process)?,
+            Ask::Why(item) => self.push_why_of(out, item)?,
             Ask::Add(addition) => self.push_wanted(out, addition)?,
             Ask::Until { process, line } => self.push_led(out, process, Goal::Line(line))?,
             Ask::End { process } => self.push_led(out, process, Goal::End)?,

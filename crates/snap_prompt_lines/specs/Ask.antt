@@ -36,6 +36,10 @@ word_ask ts =
 unfoldable pub list_ask : List Token → Option Ask
 list_ask ts = or_else (alone (codes "list") (ask.ListLast) ts) (number_form (codes "list") ts >>= λ i. Some (ask.List i))
 
+-- `why`, or `why T`
+unfoldable pub why_ask : List Token → Option Ask
+why_ask ts = or_else (alone (codes "why") (ask.Why None) ts) (number_form (codes "why") ts >>= λ t. Some (ask.Why (Some t)))
+
 -- a scan, or an update
 unfoldable pub op_form : List Token → Option Op
 op_form ts =
@@ -76,7 +80,8 @@ break_ask ts = numbers_form (codes "b") ts >>= λ at. Some (ask.Do (command.Brea
 
 -- what tokens ask for, where that is the prompt's own
 unfoldable pub prompt_ask : List Token → Option Ask
-prompt_ask ts = or_else (word_ask ts) (or_else (list_ask ts) (or_else (break_ask ts) (or_else (leading_ask ts) (adding_ask ts))))
+prompt_ask ts =
+    or_else (word_ask ts) (or_else (list_ask ts) (or_else (why_ask ts) (or_else (break_ask ts) (or_else (leading_ask ts) (adding_ask ts)))))
 
 abbrev pub prompt_ask_in : Option (List Token) → Option Ask
 prompt_ask_in None = None

@@ -38,6 +38,8 @@ pub enum Ask {
     ListLast,
     /// And those around the one at which this process stands.
     List(u64),
+    /// Why the scan that an item answered had its answer, or why its process trapped; that of the position where none is named.
+    Why(Option<u64>),
     Add(Addition),
     /// As many steps as lead a process to a line, or to the end of its operation.
     Until { process: u64, line: u64 },

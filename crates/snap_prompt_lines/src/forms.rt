@@ -1,7 +1,7 @@
 //! The forms of the prompt's own lines.
 ghost use Rattle.snap_text.specs.Tokens.{Finds, view_tokens};
 ghost use Rattle.snap_debug_commands.specs.CommandForms.{keyword_form, number_form, numbers_form};
-ghost use Rattle.snap_prompt_lines.specs.Ask.{adding_ask, alone, break_ask, call_ask, leading_ask, list_ask, op_form, prompt_ask, steps_ask, word_ask, yes_form};
+ghost use Rattle.snap_prompt_lines.specs.Ask.{adding_ask, alone, break_ask, call_ask, leading_ask, list_ask, op_form, prompt_ask, steps_ask, why_ask, word_ask, yes_form};
 
 use crate::ask::Ask;
 use snap_debug_commands::{Breakpoint, Command};
@@ -88,6 +88,18 @@ fn list_ask(tokens: &[Token<'_>]) -> Option<Ask>
     Some(Ask::List(process))
 }
 
+/// `why`, or `why T`.
+#[tactic(auto, unfolding(crate::specs::Ask::why_ask))]
+fn why_ask(tokens: &[Token<'_>]) -> Option<Ask>
+    ensures { Finds (λ a. a) result (why_ask (view_tokens tokens.now)) }
+{
+    if let Some(ask) = alone(b"why", Ask::Why(None), tokens) {
+        return Some(ask);
+    }
+    let item = number_form(b"why", tokens)?;
+    Some(Ask::Why(Some(item)))
+}
+
 /// A scan, or an update.
 #[tactic(auto, unfolding(crate::specs::Ask::op_form))]
 fn op_form(tokens: &[Token<'_>]) -> Option<Op>
@@ -171,6 +183,9 @@ pub(crate) fn prompt_ask(tokens: &[Token<'_>]) -> Option<Ask>
         return Some(ask);
     }
     if let Some(ask) = list_ask(tokens) {
+        return Some(ask);
+    }
+    if let Some(ask) = why_ask(tokens) {
         return Some(ask);
     }
     if let Some(ask) = break_ask(tokens) {

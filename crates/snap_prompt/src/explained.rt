@@ -1,0 +1,34 @@
+//! Why an item came out as it did.
+ghost use Rattle.std.specs.Prelude.{◌≡◌, ◌++◌, OnOk, map};
+ghost use Rattle.snap_listing_lines.specs.LineTexts.{written};
+ghost use Rattle.snap_prompt.specs.Explained.{explained_text};
+ghost use Rattle.snap_prompt.specs.Prompt.{schedule_of_run};
+
+use crate::hints::push_refused_line;
+use snap_debug::Session;
+use snap_listing_lines::LineTexts;
+use snap_sched::Schedule;
+use snap_semantics::CommandRefusal;
+use snap_why::push_why;
+use snap_words::Kind;
+use std::alloc::{AllocError, Global};
+
+/// Adds why an item of a session's run came out as it did; or that there are not so many items.
+#[tactic(auto, unfolding(crate::specs::Explained::explained_text))]
+pub(crate) fn push_explained<K: Kind>(
+    alloc: Global,
+    out: &mut Vec<u8>,
+    session: &Session<K>,
+    schedule: &Schedule,
+    texts: &LineTexts,
+    item: u64,
+) -> Result<(), AllocError>
+    requires schedule { schedule.now ≡ schedule_of_run session.now.run }
+    requires texts { texts.now ≡ map written session.now.run.source.lines }
+    ensures { OnOk result (out.new.items ≡ out.old.items ++ explained_text session.now item) }
+{
+    if session.total() < item {
+        return push_refused_line(out, session, &CommandRefusal::NoSuchPosition);
+    }
+    push_why::<K>(alloc, out, session.program(), schedule, texts, item)
+}

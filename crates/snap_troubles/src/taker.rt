@@ -1,0 +1,26 @@
+//! Who takes the values of a line.
+ghost use Rattle.std.specs.Prelude.{◌≡◌};
+ghost use Rattle.snap_troubles.specs.Troubles.{taker_at};
+
+use snap_semantics::Op;
+
+/// A process, its operation, and the place of a quantifier.
+#[derive(Clone, Copy, Debug)]
+pub struct Taker {
+    pub process: u32,
+    pub op: Op,
+    pub place: u64,
+}
+
+impl Taker {
+    /// The same at another place of a quantifier.
+    pub(crate) fn at(self, place: u64) -> Taker
+        ensures { result ≡ taker_at self place }
+    {
+        Taker {
+            process: self.process,
+            op: self.op,
+            place,
+        }
+    }
+}

@@ -1,0 +1,16 @@
+//! What a line can run into.
+use snap_semantics::Index;
+use snap_words::Bank;
+
+/// An operand at which a line traps.
+#[derive(Clone, Copy, Debug)]
+pub enum Trouble {
+    /// An index with this value, where places count from 1 to so many.
+    NoPlace(Index, u64, u64),
+    /// Two numbers whose sum is above 2^64 - 1.
+    LargeSum(u64, u64),
+    /// A value to be written that is no bit.
+    NoBit(u64),
+    /// A register of another process: its bank and indices, the second 0 where there is one alone.
+    NotOwn(Bank, u64, u64),
+}

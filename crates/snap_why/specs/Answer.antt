@@ -1,0 +1,69 @@
+-- Why a scan answered what it answered: its point, how many double collects it took, and, where it took the view of another
+-- process, who wrote that view, and which scan saw it. Each is followed by the command that goes there.
+use Rattle.std.specs.Prelude.{ℕ, zero, suc, ◌-◌, List, [], ◌∷◌, ◌++◌, Option, Some, None, codes, decimal, nat_eq, if◌then◌else◌}
+use Rattle.snap_runs.specs.declared.verdict.Verdict.{Verdict}
+use Rattle.snap_audit.specs.VerdictText.{verdict_line}
+use Rattle.snap_acts.specs.declared.act.Step.{Step}
+use Rattle.snap_loans.specs.Loans.{view_taken, step_at}
+use Rattle.snap_loans.specs.declared.loans.Borrowed.{Borrowed}
+use Rattle.snap_loans.specs.declared.loans.ScanPlaces.{ScanPlaces}
+
+-- `: goto T`
+unfoldable pub goto_text : ℕ → List ℕ
+goto_text t = codes ": goto " ++ decimal t ++ codes "\n"
+
+-- `process I`
+unfoldable pub process_text : ℕ → List ℕ
+process_text i = codes "process " ++ decimal i
+
+-- the point that the audit finds
+abbrev pub point_line : Option ℕ → List ℕ
+point_line None = codes "point: none, memory never held this from the call to the answer\n"
+point_line (Some t) = codes "point" ++ goto_text t
+
+-- the scan that saw a view, where one is there
+abbrev pub lender_lines : List Step → Option ScanPlaces → List ℕ
+lender_lines ss None = codes "it is of no scan of an update\n"
+lender_lines ss (Some s) =
+    codes "its scan began" ++ goto_text (step_at ss s.from).item ++ codes "its scan ended" ++ goto_text (step_at ss s.to).item
+
+-- who wrote a view, where it was written, and the scan that saw it
+abbrev pub written_lines : List Step → Option ℕ → Option ScanPlaces → List ℕ
+written_lines ss None lender = codes "no process had written it\n"
+written_lines ss (Some k) lender =
+    process_text (step_at ss k).process ++ codes " wrote it" ++ goto_text (step_at ss k).item ++ lender_lines ss lender
+
+-- the view that process i took, where its scan took one
+abbrev pub view_lines : List Step → ℕ → Option Borrowed → List ℕ
+view_lines ss i None = process_text i ++ codes " took no view: it read these values itself\n"
+view_lines ss i (Some b) =
+    process_text i ++ codes " took a view" ++ goto_text (step_at ss b.taken).item ++ written_lines ss b.written b.lender
+
+-- the lender's scan, where a view was taken
+abbrev pub lender_of : Option Borrowed → Option ScanPlaces
+lender_of None = None
+lender_of (Some b) = b.lender
+
+-- the views that a scan, its lender's scan, and so on took, so many at most
+abbrev pub chain_lines : List Step → Option ScanPlaces → ℕ → List ℕ
+chain_lines ss s zero = []
+chain_lines ss None (suc more) = []
+chain_lines ss (Some s) (suc more) = view_lines ss s.process (view_taken ss s) ++ chain_lines ss (lender_of (view_taken ss s)) more
+
+-- the places of the scan of a verdict that item t answers
+abbrev pub scan_places : Verdict → ℕ → ScanPlaces
+scan_places v t = record { process = v.process; from = v.call - 1; to = t - 1 }
+
+-- the verdict, and the call
+unfoldable pub call_lines : Verdict → List ℕ
+call_lines v = verdict_line v ++ codes "call" ++ goto_text v.call
+
+-- why the scan of a verdict answered so, where these are the steps of its run, so many
+unfoldable pub answer_lines : List Step → ℕ → Verdict → ℕ → List ℕ
+answer_lines ss count v t =
+    call_lines v ++ point_line v.point ++ chain_lines ss (Some (scan_places v t)) count
+
+-- the first of these verdicts of a scan that item t answers
+abbrev pub verdict_with : List Verdict → ℕ → Option Verdict
+verdict_with [] t = None
+verdict_with (v ∷ vs) t = if nat_eq v.answer t then Some v else verdict_with vs t

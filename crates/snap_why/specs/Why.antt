@@ -1,0 +1,48 @@
+-- What is said to `why` of an item of a run: why a scan answered what it answered, or why a process trapped; and where there is
+-- neither, which answer or trap is next.
+use Rattle.std.specs.Prelude.{ℕ, zero, suc, List, ◌++◌, length, drop, Option, Some, None, codes}
+use Rattle.snap_semantics.specs.State.{process_at}
+use Rattle.snap_runs.specs.Audit.{audit}
+use Rattle.snap_runs.specs.Run.{Run, state}
+use Rattle.snap_runs.specs.declared.verdict.Verdict.{Verdict}
+use Rattle.snap_acts.specs.Trace.{trace_of}
+use Rattle.snap_acts.specs.declared.act.Act.{Act}
+use Rattle.snap_acts.specs.declared.act.Act.TheVariants as act
+use Rattle.snap_acts.specs.declared.act.Step.{Step}
+use Rattle.snap_loans.specs.Loans.{step_at}
+use Rattle.snap_loans.specs.Searches.{first_meeting, last_before}
+use Rattle.snap_loans.specs.declared.wanted.Wanted.TheVariants as wanted
+use Rattle.snap_why.specs.Answer.{answer_lines, goto_text, verdict_with}
+use Rattle.snap_why.specs.Trap.{trap_lines}
+
+-- the process that a step leaves trapped
+abbrev pub trapped_by : ℕ → Act → Option ℕ
+trapped_by i act.Trap = Some i
+trapped_by i _ = None
+
+-- the process that traps at item t
+abbrev pub trapped_at : List Step → ℕ → Option ℕ
+trapped_at ss zero = None
+trapped_at ss (suc k) = trapped_by (step_at ss k).process (step_at ss k).act
+
+-- where neither a scan is answered nor a process traps: the next item at which one is or does, or else the last one before
+abbrev pub nothing_line : List Step → Option Step → Option ℕ → List ℕ
+nothing_line ss (Some s) last = codes "nothing to explain here; the next answer or trap" ++ goto_text s.item
+nothing_line ss None (Some k) = codes "nothing to explain here; the last answer or trap" ++ goto_text (step_at ss k).item
+nothing_line ss None None = codes "nothing to explain here, nor at another item: no scan is answered, and no process traps\n"
+
+-- of item t
+abbrev pub nothing_lines : List Step → ℕ → List ℕ
+nothing_lines ss t = nothing_line ss (first_meeting wanted.AnswerOrTrap (drop t ss)) (last_before wanted.AnswerOrTrap ss t)
+
+abbrev pub trap_or_nothing : Run → List Step → ℕ → Option ℕ → List ℕ
+trap_or_nothing r ss t (Some i) = trap_lines r.source r.shape (state r t) i (process_at (state r t) i).status
+trap_or_nothing r ss t None = nothing_lines ss t
+
+abbrev pub told_of : Run → List Step → ℕ → Option Verdict → List ℕ
+told_of r ss t (Some v) = answer_lines ss (length ss) v t
+told_of r ss t None = trap_or_nothing r ss t (trapped_at ss t)
+
+-- what is said of item t
+unfoldable pub why_text : Run → ℕ → List ℕ
+why_text r t = told_of r (trace_of r) t (verdict_with (audit r) t)

@@ -1,0 +1,195 @@
+//! Why a scan answered what it answered.
+ghost use Rattle.std.specs.Prelude.{◌≡◌, ◌≤◌, ◌<◌, ◌++◌, ◌-◌, IfSome, OnOk, Some, get_or, length};
+ghost use Rattle.snap_loans.specs.Loans.{step_at};
+ghost use Rattle.snap_why.specs.Answer.{answer_lines, call_lines, chain_lines, goto_text, lender_lines, lender_of, point_line, process_text, scan_places, verdict_with, view_lines, written_lines};
+
+use snap_acts::Step;
+use snap_audit::{Verdict, verdict_line};
+use snap_loans::{Borrowed, ScanPlaces, view_taken};
+use snap_text::{push_number, push_text};
+use std::alloc::AllocError;
+
+/// The item of the step at a place, and 0 where there is none.
+fn item_at(steps: &[Step], place: usize) -> u64
+    ensures { result ≡ (step_at steps.now place).item }
+{
+    if place < steps.len() {
+        steps[place].item
+    } else {
+        0
+    }
+}
+
+/// The process of the step at a place, and 0 where there is none.
+fn process_at(steps: &[Step], place: usize) -> u32
+    ensures { result ≡ (step_at steps.now place).process }
+{
+    if place < steps.len() {
+        steps[place].process
+    } else {
+        0
+    }
+}
+
+/// Adds the command that goes to an item.
+#[tactic(auto, using(snap_text::proofs::Texts::joined), unfolding(crate::specs::Answer::goto_text))]
+pub(crate) fn push_goto(out: &mut Vec<u8>, item: u64) -> Result<(), AllocError>
+    ensures { OnOk result (out.new.items ≡ out.old.items ++ goto_text item) }
+{
+    push_text(out, b": goto ")?;
+    push_number(out, item)?;
+    push_text(out, b"\n")
+}
+
+/// Adds `process I`.
+#[tactic(auto, using(snap_text::proofs::Texts::joined), unfolding(crate::specs::Answer::process_text))]
+pub(crate) fn push_process(out: &mut Vec<u8>, process: u32) -> Result<(), AllocError>
+    ensures { OnOk result (out.new.items ≡ out.old.items ++ process_text process) }
+{
+    push_text(out, b"process ")?;
+    push_number(out, u64::from(process))
+}
+
+/// Adds the point that the audit finds.
+#[tactic(auto, using(snap_text::proofs::Texts::joined))]
+fn push_point(out: &mut Vec<u8>, point: Option<u64>) -> Result<(), AllocError>
+    ensures { OnOk result (out.new.items ≡ out.old.items ++ point_line point) }
+{
+    match point {
+        Some(item) => {
+            push_text(out, b"point")?;
+            push_goto(out, item)
+        }
+        None => push_text(
+            out,
+            b"point: none, memory never held this from the call to the answer\n",
+        ),
+    }
+}
+
+/// Adds the scan that saw a view, where one is there.
+#[tactic(auto, using(snap_text::proofs::Texts::joined))]
+fn push_lender(
+    out: &mut Vec<u8>,
+    steps: &[Step],
+    scan: Option<ScanPlaces>,
+) -> Result<(), AllocError>
+    ensures { OnOk result (out.new.items ≡ out.old.items ++ lender_lines steps.now scan) }
+{
+    let Some(scan) = scan else {
+        return push_text(out, b"it is of no scan of an update\n");
+    };
+    push_text(out, b"its scan began")?;
+    push_goto(out, item_at(steps, scan.from))?;
+    push_text(out, b"its scan ended")?;
+    push_goto(out, item_at(steps, scan.to))
+}
+
+/// Adds who wrote a view, where it was written, and the scan that saw it.
+#[tactic(auto, using(snap_text::proofs::Texts::joined))]
+fn push_written(
+    out: &mut Vec<u8>,
+    steps: &[Step],
+    written: Option<usize>,
+    lender: Option<ScanPlaces>,
+) -> Result<(), AllocError>
+    ensures { OnOk result (out.new.items ≡ out.old.items ++ written_lines steps.now written lender) }
+{
+    let Some(place) = written else {
+        return push_text(out, b"no process had written it\n");
+    };
+    push_process(out, process_at(steps, place))?;
+    push_text(out, b" wrote it")?;
+    push_goto(out, item_at(steps, place))?;
+    push_lender(out, steps, lender)
+}
+
+/// Adds the view that a process took, where its scan took one.
+#[tactic(auto, using(snap_text::proofs::Texts::joined))]
+fn push_view(
+    out: &mut Vec<u8>,
+    steps: &[Step],
+    process: u32,
+    view: Option<Borrowed>,
+) -> Result<(), AllocError>
+    ensures { OnOk result (out.new.items ≡ out.old.items ++ view_lines steps.now process view) }
+{
+    push_process(out, process)?;
+    let Some(view) = view else {
+        return push_text(out, b" took no view: it read these values itself\n");
+    };
+    push_text(out, b" took a view")?;
+    push_goto(out, item_at(steps, view.taken))?;
+    push_written(out, steps, view.written, view.lender)
+}
+
+/// The lender's scan, where a view was taken.
+fn lender_of(view: Option<Borrowed>) -> Option<ScanPlaces>
+    ensures { result ≡ lender_of view }
+{
+    view?.lender
+}
+
+/// Adds the views that a scan, its lender's scan, and so on took.
+fn push_chain(out: &mut Vec<u8>, steps: &[Step], first: ScanPlaces) -> Result<(), AllocError>
+    requires { first.to ≤ length steps.now }
+    ensures { OnOk result (out.new.items ≡ out.old.items
+        ++ chain_lines steps.now (Some first) (length steps.now)) }
+{
+    let mut next = Some(first);
+    let mut left = steps.len();
+    while left > 0 {
+        let Some(scan) = next else {
+            return Ok(());
+        };
+        let view = view_taken(steps, scan);
+        push_view(out, steps, scan.process, view)?;
+        next = lender_of(view);
+        left -= 1;
+    }
+    Ok(())
+}
+
+/// Adds a verdict, and the call.
+#[tactic(auto, using(snap_text::proofs::Texts::joined), unfolding(crate::specs::Answer::call_lines))]
+fn push_call(out: &mut Vec<u8>, verdict: &Verdict) -> Result<(), AllocError>
+    ensures { OnOk result (out.new.items ≡ out.old.items ++ call_lines verdict.now) }
+{
+    verdict_line(out, verdict)?;
+    push_text(out, b"call")?;
+    push_goto(out, verdict.call)
+}
+
+/// Adds why the scan of a verdict answered so, which an item answers.
+#[tactic(auto, using(snap_text::proofs::Texts::joined), unfolding(crate::specs::Answer::answer_lines))]
+pub(crate) fn push_answer(
+    out: &mut Vec<u8>,
+    steps: &[Step],
+    verdict: &Verdict,
+    item: u64,
+) -> Result<(), AllocError>
+    requires { item ≤ length steps.now }
+    ensures { OnOk result (out.new.items ≡ out.old.items
+        ++ answer_lines steps.now (length steps.now) verdict.now item) }
+{
+    push_call(out, verdict)?;
+    push_point(out, verdict.point)?;
+    let scan = ScanPlaces {
+        process: verdict.process,
+        from: verdict.call.saturating_sub(1) as usize,
+        to: item.saturating_sub(1) as usize,
+    };
+    push_chain(out, steps, scan)
+}
+
+/// The verdict of the scan that an item answers.
+pub(crate) fn verdict_with(verdicts: &[Verdict], item: u64) -> Option<Verdict>
+    ensures { result ≡ verdict_with verdicts.now item }
+{
+    for verdict in verdicts {
+        if verdict.answer == item {
+            return Some(*verdict);
+        }
+    }
+    None
+}

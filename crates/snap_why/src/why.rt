@@ -1,0 +1,167 @@
+//! What is said of an item of a run.
+ghost use Rattle.std.specs.Prelude.{◌≡◌, ◌≤◌, ◌<◌, ◌++◌, IfOk, IfSome, OnOk, length, map, option_map};
+ghost use Rattle.snap_words.specs.Shape.{IsOneOf};
+ghost use Rattle.snap_semantics.specs.State.{process_at};
+ghost use Rattle.snap_runs.specs.Audit.{audit};
+ghost use Rattle.snap_runs.specs.Run.{run_over, state};
+ghost use Rattle.snap_listing_lines.specs.LineTexts.{written};
+ghost use Rattle.snap_acts.specs.Trace.{trace_of};
+ghost use Rattle.snap_why.specs.Trap.{trap_lines};
+ghost use Rattle.snap_why.specs.Why.{nothing_line, nothing_lines, trapped_at, trapped_by, why_text};
+
+use crate::answer::{push_answer, push_goto, verdict_with};
+use crate::trap::push_trap;
+use snap_acts::{Act, Step, trace};
+use snap_asm_program::Program;
+use snap_audit::{Verdict, audit};
+use snap_listing_lines::LineTexts;
+use snap_loans::{Wanted, first_from, last_before};
+use snap_record::{Record, record_over};
+use snap_sched::Schedule;
+use snap_text::push_text;
+use snap_words::Kind;
+use std::alloc::{AllocError, Global};
+
+/// The audit of a program over a schedule.
+fn verdicts_over<K: Kind>(
+    alloc: Global,
+    program: &Program,
+    schedule: &Schedule,
+) -> Result<Vec<Verdict>, AllocError>
+    requires { program.now.kind ≡ K.TAG }
+    ensures { IfOk result (λ v. v.items ≡ audit (run_over program.now schedule.now)) }
+{
+    let record = record_over::<K>(alloc, program, schedule)?;
+    audit(alloc, &record)
+}
+
+/// The process that a step leaves trapped.
+fn trapped_by(step: &Step) -> Option<u32>
+    ensures { result ≡ trapped_by step.now.process step.now.act }
+{
+    match &step.act {
+        Act::Trap => Some(step.process),
+        _ => None,
+    }
+}
+
+/// The process that traps at an item.
+fn trapped_at(steps: &[Step], item: u64) -> Option<u32>
+    requires { item ≤ length steps.now }
+    ensures { result ≡ trapped_at steps.now item }
+{
+    if item == 0 {
+        None
+    } else {
+        trapped_by(&steps[(item - 1) as usize])
+    }
+}
+
+/// Adds that there is nothing to explain, and where there is.
+#[tactic(auto, using(snap_text::proofs::Texts::joined))]
+fn push_nothing(
+    out: &mut Vec<u8>,
+    steps: &[Step],
+    next: Option<&Step>,
+    last: Option<usize>,
+) -> Result<(), AllocError>
+    requires { IfSome last (λ k. k < length steps.now) }
+    ensures { OnOk result (out.new.items ≡ out.old.items
+        ++ nothing_line steps.now (option_map (λ s. s.now) next.entry) last) }
+{
+    if let Some(step) = next {
+        push_text(out, b"nothing to explain here; the next answer or trap")?;
+        return push_goto(out, step.item);
+    }
+    match last {
+        Some(place) => {
+            push_text(out, b"nothing to explain here; the last answer or trap")?;
+            push_goto(out, steps[place].item)
+        }
+        None => push_text(
+            out,
+            b"nothing to explain here, nor at another item: no scan is answered, and no process traps\n",
+        ),
+    }
+}
+
+/// Adds that there is nothing to explain of an item, and where there is.
+fn push_nothing_at(out: &mut Vec<u8>, steps: &[Step], item: u64) -> Result<(), AllocError>
+    requires { item ≤ length steps.now }
+    ensures { OnOk result (out.new.items ≡ out.old.items ++ nothing_lines steps.now item) }
+{
+    let next = first_from(steps, item as usize, Wanted::AnswerOrTrap);
+    let last = last_before(steps, item as usize, Wanted::AnswerOrTrap);
+    push_nothing(out, steps, next, last)
+}
+
+/// The record of the first items of a schedule.
+#[tactic(auto, using(crate::proofs::Traces::first_items))]
+fn record_of_first<K: Kind>(
+    alloc: Global,
+    program: &Program,
+    schedule: &Schedule,
+    count: u64,
+) -> Result<Record<K>, AllocError>
+    requires kind { program.now.kind ≡ K.TAG }
+    requires few { count ≤ length schedule.now.items }
+    ensures source { IfOk result (λ r. r.source ≡ program.now) }
+    ensures shape { IfOk result (λ r. r.shape ≡ schedule.now.shape) }
+    ensures state { IfOk result (λ r. state r (length r.items)
+        ≡ state (run_over program.now schedule.now) count) }
+{
+    let mut record = Record::new(alloc, program, schedule.shape())?;
+    record.apply_first(schedule.items(), count)?;
+    Ok(record)
+}
+
+/// Adds why the process of an item trapped.
+fn push_trap_at<K: Kind>(
+    alloc: Global,
+    out: &mut Vec<u8>,
+    program: &Program,
+    schedule: &Schedule,
+    texts: &LineTexts,
+    item: u64,
+    process: u32,
+) -> Result<(), AllocError>
+    requires kind { program.now.kind ≡ K.TAG }
+    requires few { item ≤ length schedule.now.items }
+    requires texts { texts.now ≡ map written program.now.lines }
+    requires process { IsOneOf schedule.now.shape.n process }
+    ensures { let s = state (run_over program.now schedule.now) item in OnOk result
+        (out.new.items ≡ out.old.items ++ trap_lines program.now schedule.now.shape s process
+        (process_at s process).status) }
+{
+    let record = record_of_first::<K>(alloc, program, schedule, item)?;
+    push_trap(out, texts, record.machine(), process)
+}
+
+/// Adds why the scan that an item answered had this answer, or why the process of the item trapped; or that it did neither, and
+/// which item does.
+#[tactic(auto, using(crate::proofs::Traces::as_many, crate::proofs::Traces::one_of), unfolding(crate::specs::Why::why_text))]
+pub fn push_why<K: Kind>(
+    alloc: Global,
+    out: &mut Vec<u8>,
+    program: &Program,
+    schedule: &Schedule,
+    texts: &LineTexts,
+    item: u64,
+) -> Result<(), AllocError>
+    requires kind { program.now.kind ≡ K.TAG }
+    requires within { item ≤ length schedule.now.items }
+    requires texts { texts.now ≡ map written program.now.lines }
+    ensures { OnOk result (out.new.items ≡ out.old.items
+        ++ why_text (run_over program.now schedule.now) item) }
+{
+    let _shape = schedule.shape();
+    let verdicts = verdicts_over::<K>(alloc, program, schedule)?;
+    let steps = trace::<K>(alloc, program, schedule)?;
+    if let Some(verdict) = verdict_with(verdicts.as_slice(), item) {
+        return push_answer(out, steps.as_slice(), &verdict, item);
+    }
+    match trapped_at(steps.as_slice(), item) {
+        Some(process) => { push_trap_at::<K>(alloc, out, program, schedule, texts, item, process) }
+        None => push_nothing_at(out, steps.as_slice(), item),
+    }
+}

@@ -1,5 +1,5 @@
 -- The first place of a quantifier that traps: this one, or one of those behind it.
-use Rattle.std.proofs.Common.{◌≡◌, ◌<◌, ◌+◌, ◌-◌, ℕ, zero, suc, Option, Some, None, refl, arith}
+use Rattle.std.proofs.Common.{◌≡◌, ◌<◌, ◌+◌, ◌-◌, ◌∙◌, ℕ, zero, suc, Option, Some, None, refl, sym, subst, arith}
 use Rattle.snap_words.specs.Shape.{Counts}
 use Rattle.snap_semantics.specs.Rules.{or_else}
 use Rattle.snap_semantics.specs.State.{State}
@@ -31,3 +31,11 @@ pub value_later : (shape : Counts) (S : State) (t : Taker) (e : Expr) (k : Optio
     values_trouble shape S t e k p left ≡ values_trouble shape S t e k (p + 1) (left - 1)
 value_later shape S t e k p zero some is = absurd (omega (arith, some))
 value_later shape S t e k p (suc left) some is = let m : suc left - 1 ≡ left = omega arith in rw (is, m) refl
+
+-- found for this place
+pub value_found : (shape : Counts) (S : State) (t u : Taker) (e : Expr) (k : Option Condition) (p left : ℕ) (x : Trouble) (r : Option Trouble) → 0 < left →
+    u ≡ taker_at t p → r ≡ or_else (expr_trouble (context_of shape S u) e) (where_trouble (context_of shape S u) k) → r ≡ Some x →
+    Some x ≡ values_trouble shape S t e k p left
+value_found shape S t u e k p left x r some at found is =
+    sym (value_here shape S t e k p left x some
+    (subst (λ (v : Taker). or_else (expr_trouble (context_of shape S v) e) (where_trouble (context_of shape S v) k) ≡ Some x) at (sym found ∙ is)))

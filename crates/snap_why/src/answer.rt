@@ -10,7 +10,7 @@ use snap_text::{push_number, push_text};
 use std::alloc::AllocError;
 
 /// The item of the step at a place, and 0 where there is none.
-fn item_at(steps: &[Step], place: usize) -> u64
+pub(crate) fn item_at(steps: &[Step], place: usize) -> u64
     ensures { result ≡ (step_at steps.now place).item }
 {
     if place < steps.len() {

@@ -7,9 +7,9 @@ ghost use Rattle.snap_runs.specs.Run.{run_over, state};
 ghost use Rattle.snap_listing_lines.specs.LineTexts.{written};
 ghost use Rattle.snap_acts.specs.Trace.{trace_of};
 ghost use Rattle.snap_why.specs.Trap.{trap_lines};
-ghost use Rattle.snap_why.specs.Why.{nothing_line, nothing_lines, trapped_at, trapped_by, why_text};
+ghost use Rattle.snap_why.specs.Why.{item_of, item_there, nothing_line, nothing_lines, trapped_at, trapped_by, why_text};
 
-use crate::answer::{push_answer, push_goto, verdict_with};
+use crate::answer::{item_at, push_answer, push_goto, verdict_with};
 use crate::trap::push_trap;
 use snap_acts::{Act, Step, trace};
 use snap_asm_program::Program;
@@ -57,42 +57,54 @@ fn trapped_at(steps: &[Step], item: u64) -> Option<u32>
     }
 }
 
-/// Adds that there is nothing to explain, and where there is.
-#[tactic(auto, using(snap_text::proofs::Texts::joined))]
-fn push_nothing(
-    out: &mut Vec<u8>,
-    steps: &[Step],
-    next: Option<&Step>,
-    last: Option<usize>,
-) -> Result<(), AllocError>
-    requires { IfSome last (λ k. k < length steps.now) }
-    ensures { OnOk result (out.new.items ≡ out.old.items
-        ++ nothing_line steps.now (option_map (λ s. s.now) next.entry) last) }
+/// The item of a step.
+fn item_of(step: Option<&Step>) -> Option<u64>
+    ensures { result ≡ item_of (option_map (λ s. s.now) step.entry) }
 {
-    if let Some(step) = next {
-        push_text(out, b"nothing to explain here; the next answer or trap")?;
-        return push_goto(out, step.item);
-    }
-    match last {
-        Some(place) => {
-            push_text(out, b"nothing to explain here; the last answer or trap")?;
-            push_goto(out, steps[place].item)
-        }
-        None => push_text(
-            out,
-            b"nothing to explain here, nor at another item: no scan is answered, and no process traps\n",
-        ),
+    match step {
+        Some(step) => Some(step.item),
+        None => None,
     }
 }
 
+/// The item of the step at a place.
+fn item_there(steps: &[Step], place: Option<usize>) -> Option<u64>
+    ensures { result ≡ item_there steps.now place }
+{
+    match place {
+        Some(place) => Some(item_at(steps, place)),
+        None => None,
+    }
+}
+
+/// Adds that there is nothing to explain, and where there is.
+#[tactic(auto, using(snap_text::proofs::Texts::joined))]
+fn push_nothing(out: &mut Vec<u8>, next: Option<u64>, last: Option<u64>) -> Result<(), AllocError>
+    ensures { OnOk result (out.new.items ≡ out.old.items ++ nothing_line next last) }
+{
+    if let Some(item) = next {
+        push_text(out, b"nothing to explain here; the next answer or trap")?;
+        return push_goto(out, item);
+    }
+    if let Some(item) = last {
+        push_text(out, b"nothing to explain here; the last answer or trap")?;
+        return push_goto(out, item);
+    }
+    push_text(
+        out,
+        b"nothing to explain here, nor at another item: no scan is answered, and no process traps\n",
+    )
+}
+
 /// Adds that there is nothing to explain of an item, and where there is.
+#[tactic(auto, unfolding(crate::specs::Why::nothing_lines))]
 fn push_nothing_at(out: &mut Vec<u8>, steps: &[Step], item: u64) -> Result<(), AllocError>
     requires { item ≤ length steps.now }
     ensures { OnOk result (out.new.items ≡ out.old.items ++ nothing_lines steps.now item) }
 {
     let next = first_from(steps, item as usize, Wanted::AnswerOrTrap);
     let last = last_before(steps, item as usize, Wanted::AnswerOrTrap);
-    push_nothing(out, steps, next, last)
+    push_nothing(out, item_of(next), item_there(steps, last))
 }
 
 /// The record of the first items of a schedule.

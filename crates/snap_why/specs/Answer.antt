@@ -12,6 +12,10 @@ use Rattle.snap_loans.specs.declared.loans.ScanPlaces.{ScanPlaces}
 unfoldable pub goto_text : ℕ → List ℕ
 goto_text t = codes ": goto " ++ decimal t ++ codes "\n"
 
+-- what happened at an item
+unfoldable pub goto_line : List ℕ → ℕ → List ℕ
+goto_line what t = what ++ goto_text t
+
 -- `process I`
 unfoldable pub process_text : ℕ → List ℕ
 process_text i = codes "process " ++ decimal i
@@ -25,7 +29,7 @@ point_line (Some t) = codes "point" ++ goto_text t
 abbrev pub lender_lines : List Step → Option ScanPlaces → List ℕ
 lender_lines ss None = codes "it is of no scan of an update\n"
 lender_lines ss (Some s) =
-    codes "its scan began" ++ goto_text (step_at ss s.from).item ++ codes "its scan ended" ++ goto_text (step_at ss s.to).item
+    goto_line (codes "its scan began") (step_at ss s.from).item ++ goto_line (codes "its scan ended") (step_at ss s.to).item
 
 -- who wrote a view, where it was written, and the scan that saw it
 abbrev pub written_lines : List Step → Option ℕ → Option ScanPlaces → List ℕ

@@ -1,7 +1,7 @@
 //! Why a scan answered what it answered.
 ghost use Rattle.std.specs.Prelude.{◌≡◌, ◌≤◌, ◌<◌, ◌++◌, ◌-◌, IfSome, OnOk, Some, get_or, length};
 ghost use Rattle.snap_loans.specs.Loans.{step_at};
-ghost use Rattle.snap_why.specs.Answer.{answer_lines, call_lines, chain_lines, goto_text, lender_lines, lender_of, point_line, process_text, scan_places, verdict_with, view_lines, written_lines};
+ghost use Rattle.snap_why.specs.Answer.{answer_lines, call_lines, chain_lines, goto_line, goto_text, lender_lines, lender_of, point_line, process_text, scan_places, verdict_with, view_lines, written_lines};
 
 use snap_acts::Step;
 use snap_audit::{Verdict, verdict_line};
@@ -67,6 +67,15 @@ fn push_point(out: &mut Vec<u8>, point: Option<u64>) -> Result<(), AllocError>
     }
 }
 
+/// Adds what happened at an item, and the command that goes there.
+#[tactic(auto, using(snap_text::proofs::Texts::joined), unfolding(crate::specs::Answer::goto_line))]
+fn push_goto_line(out: &mut Vec<u8>, what: &[u8], item: u64) -> Result<(), AllocError>
+    ensures { OnOk result (out.new.items ≡ out.old.items ++ goto_line what.now item) }
+{
+    push_text(out, what)?;
+    push_goto(out, item)
+}
+
 /// Adds the scan that saw a view, where one is there.
 #[tactic(auto, using(snap_text::proofs::Texts::joined))]
 fn push_lender(
@@ -79,10 +88,8 @@ fn push_lender(
     let Some(scan) = scan else {
         return push_text(out, b"it is of no scan of an update\n");
     };
-    push_text(out, b"its scan began")?;
-    push_goto(out, item_at(steps, scan.from))?;
-    push_text(out, b"its scan ended")?;
-    push_goto(out, item_at(steps, scan.to))
+    push_goto_line(out, b"its scan began", item_at(steps, scan.from))?;
+    push_goto_line(out, b"its scan ended", item_at(steps, scan.to))
 }
 
 /// Adds who wrote a view, where it was written, and the scan that saw it.

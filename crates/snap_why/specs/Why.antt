@@ -12,7 +12,7 @@ use Rattle.snap_acts.specs.declared.act.Step.{Step}
 use Rattle.snap_loans.specs.Loans.{step_at}
 use Rattle.snap_loans.specs.Searches.{first_meeting, last_before}
 use Rattle.snap_loans.specs.declared.wanted.Wanted.TheVariants as wanted
-use Rattle.snap_why.specs.Answer.{answer_lines, goto_text, verdict_with}
+use Rattle.snap_why.specs.Answer.{answer_lines, goto_line, verdict_with}
 use Rattle.snap_why.specs.Trap.{trap_lines}
 
 -- the process that a step leaves trapped
@@ -36,8 +36,8 @@ item_there ss (Some k) = Some (step_at ss k).item
 
 -- where neither a scan is answered nor a process traps: the next item at which one is or does, or else the last one before
 abbrev pub nothing_line : (next last : Option ℕ) → List ℕ
-nothing_line (Some t) last = codes "nothing to explain here; the next answer or trap" ++ goto_text t
-nothing_line None (Some t) = codes "nothing to explain here; the last answer or trap" ++ goto_text t
+nothing_line (Some t) last = goto_line (codes "nothing to explain here; the next answer or trap") t
+nothing_line None (Some t) = goto_line (codes "nothing to explain here; the last answer or trap") t
 nothing_line None None = codes "nothing to explain here, nor at another item: no scan is answered, and no process traps\n"
 
 -- of item t

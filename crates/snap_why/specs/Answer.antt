@@ -40,7 +40,7 @@ writer_lines ss k lender =
     process_text (step_at ss k).process ++ goto_line (codes " wrote it") (step_at ss k).item ++ lender_lines ss lender
 
 -- that, where a process had written it
-abbrev pub written_lines : List Step → Option ℕ → Option ScanPlaces → List ℕ
+unfoldable pub written_lines : List Step → Option ℕ → Option ScanPlaces → List ℕ
 written_lines ss None lender = codes "no process had written it\n"
 written_lines ss (Some k) lender = writer_lines ss k lender
 

@@ -111,6 +111,7 @@ fn push_writer(
 }
 
 /// Adds that, where a process had written it.
+#[tactic(auto, unfolding(crate::specs::Answer::written_lines))]
 fn push_written(
     out: &mut Vec<u8>,
     steps: &[Step],

@@ -32,7 +32,7 @@ unfoldable pub valued_index : Index → ℕ → List ℕ
 valued_index i value = codes "the index " ++ index_text i ++ codes " is " ++ decimal value
 
 -- a register
-unfoldable pub register_text : Bank → ℕ → ℕ → List ℕ
+abbrev pub register_text : Bank → ℕ → ℕ → List ℕ
 register_text b i j = codes "the register " ++ bank_text b ++ codes " " ++ decimal i ++ second_text j
 
 abbrev pub trouble_text : Trouble → List ℕ

@@ -82,6 +82,7 @@ fn where_trouble<K: Kind>(
 }
 
 /// The first of so many places at which a condition traps.
+#[tactic(auto, using(crate::proofs::Places::condition_here, crate::proofs::Places::condition_later))]
 pub(crate) fn conditions_trouble<K: Kind>(
     machine: &Machine<K>,
     taker: Taker,
@@ -94,12 +95,14 @@ pub(crate) fn conditions_trouble<K: Kind>(
         count }
 {
     let mut place = 1;
-    while place <= count {
+    let mut left = count;
+    while left > 0 {
         let found = condition_trouble(machine, taker.at(place), condition);
-        if found.is_some() {
-            return found;
+        if let Some(trouble) = found {
+            return Some(trouble);
         }
         place += 1;
+        left -= 1;
     }
     None
 }
@@ -120,6 +123,7 @@ fn value_trouble<K: Kind>(
 }
 
 /// The first of so many places whose new value traps.
+#[tactic(auto, using(crate::proofs::Places::value_here, crate::proofs::Places::value_later))]
 pub(crate) fn values_trouble<K: Kind>(
     machine: &Machine<K>,
     taker: Taker,
@@ -133,12 +137,14 @@ pub(crate) fn values_trouble<K: Kind>(
         condition.now 1 count }
 {
     let mut place = 1;
-    while place <= count {
+    let mut left = count;
+    while left > 0 {
         let found = value_trouble(machine, taker.at(place), expr, condition);
-        if found.is_some() {
-            return found;
+        if let Some(trouble) = found {
+            return Some(trouble);
         }
         place += 1;
+        left -= 1;
     }
     None
 }

@@ -56,18 +56,18 @@ fn expr_bit_trouble<K: Kind>(machine: &Machine<K>, taker: Taker, expr: &Expr) ->
 }
 
 /// The toggle of a word, and its handshake bits in a row.
-fn hands_trouble<K: Kind>(
+fn handshakes_trouble<K: Kind>(
     machine: &Machine<K>,
     taker: Taker,
-    hands: Name,
+    handshakes: Name,
     toggle: &Expr,
 ) -> Option<Trouble>
     requires { IsOneOf machine.now.shape.n taker.process }
     ensures { let c = context_of machine.now.shape machine.now.state taker in result
         ≡ or_else (bit_trouble (expr_number c toggle.now))
-        (bits_trouble (take c.shape.n (row_in (local_value c.locals hands)))) }
+        (bits_trouble (take c.shape.n (row_in (local_value c.locals handshakes)))) }
 {
-    let row = row_of(machine, taker.process, hands);
+    let row = row_of(machine, taker.process, handshakes);
     let count = (machine.shape().n() as usize).min(row.len());
     let first = expr_bit_trouble(machine, taker, toggle);
     first_of(first, bits_trouble(&row[..count]))
@@ -84,10 +84,10 @@ fn tuple_trouble<K: Kind>(machine: &Machine<K>, taker: Taker, tuple: &Tuple) -> 
             let first = expr_trouble(machine, taker, datum);
             first_of(first, expr_trouble(machine, taker, seq))
         }
-        Tuple::Bits(datum, hands, toggle, _) => {
+        Tuple::Bits(datum, handshakes, toggle, _) => {
             let first = expr_trouble(machine, taker, datum);
             let second = expr_trouble(machine, taker, toggle);
-            let bits = hands_trouble(machine, taker, *hands, toggle);
+            let bits = handshakes_trouble(machine, taker, *handshakes, toggle);
             first_of(first, first_of(second, bits))
         }
         Tuple::Multi(datum, id, toggle) => {

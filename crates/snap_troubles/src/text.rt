@@ -60,7 +60,7 @@ fn push_valued_index(out: &mut Vec<u8>, index: &Index, value: u64) -> Result<(),
 }
 
 /// Adds a register.
-#[tactic(auto, using(snap_text::proofs::Texts::joined), unfolding(crate::specs::TroubleText::register_text))]
+#[tactic(auto, using(snap_text::proofs::Texts::joined))]
 fn push_register(out: &mut Vec<u8>, bank: Bank, i: u64, j: u64) -> Result<(), AllocError>
     ensures { OnOk result (out.new.items ≡ out.old.items ++ register_text bank i j) }
 {

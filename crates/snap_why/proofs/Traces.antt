@@ -1,5 +1,5 @@
 -- The trace of a run has a step for each item, and each is of one of the processes.
-use Rattle.std.proofs.Common.{◌≡◌, ◌+◌, ◌<◌, ◌≤◌, ℕ, zero, suc, List, [], ◌∷◌, length, Option, Some, None, refl, sym, ap, ◌∙◌, subst, get_or, take, arith}
+use Rattle.std.proofs.Common.{◌≡◌, ◌+◌, ◌<◌, ◌≤◌, ℕ, zero, suc, List, [], ◌∷◌, length, Option, Some, None, IfSome, refl, sym, ap, ◌∙◌, subst, get_or, take, arith}
 use Rattle.std.specs.List.{AllByRecursion}
 use Rattle.snap_words.specs.Shape.{Counts, IsOneOf}
 use Rattle.snap_semantics.specs.declared.process.Item.{Item}
@@ -60,6 +60,13 @@ one_of s d zero i right within e = absurd cc
 one_of s d (suc k) i right within e =
     let less : k < length d.items = omega (arith, within) in
     subst (λ (j : ℕ). IsOneOf d.shape.n j) (by_act _ i _ e) (each s d.shape (initial s d.shape) 1 d.items k right.processes less)
+
+-- so is one that is found in the trace
+pub all_of : (s : Source) (d : Schedule) (ss : List Step) (t : ℕ) (r : Option ℕ) → IsSchedule d → ss ≡ trace_of (run_over s d) → t ≤ length d.items →
+    r ≡ trapped_at ss t → IfSome r (λ (i : ℕ). IsOneOf d.shape.n i)
+all_of s d ss t None right is within e = tt
+all_of s d ss t (Some i) right is within e =
+    one_of s d t i right within (subst (λ (xs : List Step). trapped_at xs t ≡ Some i) is (sym e))
 
 -- the run of the first items ends as that of all is after them
 pub first_items : (r : Run) (s : Source) (d : Schedule) (c : ℕ) → r ≡ with_items (record { source = s; shape = d.shape; items = [] }) (take c d.items) →

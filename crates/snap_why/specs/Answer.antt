@@ -12,6 +12,10 @@ use Rattle.snap_loans.specs.declared.loans.ScanPlaces.{ScanPlaces}
 unfoldable pub goto_text : ℕ → List ℕ
 goto_text t = codes ": goto " ++ decimal t ++ codes "\n"
 
+-- what happened at an item
+unfoldable pub goto_line : List ℕ → ℕ → List ℕ
+goto_line what t = what ++ goto_text t
+
 -- `process I`
 unfoldable pub process_text : ℕ → List ℕ
 process_text i = codes "process " ++ decimal i
@@ -19,25 +23,38 @@ process_text i = codes "process " ++ decimal i
 -- the point that the audit finds
 abbrev pub point_line : Option ℕ → List ℕ
 point_line None = codes "point: none, memory never held this from the call to the answer\n"
-point_line (Some t) = codes "point" ++ goto_text t
+point_line (Some t) = goto_line (codes "point") t
+
+-- a scan of an update
+abbrev pub scan_lines : List Step → ScanPlaces → List ℕ
+scan_lines ss s = goto_line (codes "its scan began") (step_at ss s.from).item ++ goto_line (codes "its scan ended") (step_at ss s.to).item
 
 -- the scan that saw a view, where one is there
 abbrev pub lender_lines : List Step → Option ScanPlaces → List ℕ
 lender_lines ss None = codes "it is of no scan of an update\n"
-lender_lines ss (Some s) =
-    codes "its scan began" ++ goto_text (step_at ss s.from).item ++ codes "its scan ended" ++ goto_text (step_at ss s.to).item
+lender_lines ss (Some s) = scan_lines ss s
 
--- who wrote a view, where it was written, and the scan that saw it
-abbrev pub written_lines : List Step → Option ℕ → Option ScanPlaces → List ℕ
+-- who wrote a view at a place, and the scan that saw it
+abbrev pub writer_lines : List Step → ℕ → Option ScanPlaces → List ℕ
+writer_lines ss k lender =
+    process_text (step_at ss k).process ++ goto_line (codes " wrote it") (step_at ss k).item ++ lender_lines ss lender
+
+-- that, where a process had written it
+unfoldable pub written_lines : List Step → Option ℕ → Option ScanPlaces → List ℕ
 written_lines ss None lender = codes "no process had written it\n"
-written_lines ss (Some k) lender =
-    process_text (step_at ss k).process ++ codes " wrote it" ++ goto_text (step_at ss k).item ++ lender_lines ss lender
+written_lines ss (Some k) lender = writer_lines ss k lender
+
+-- a view that was taken
+abbrev pub taken_lines : List Step → Borrowed → List ℕ
+taken_lines ss b = goto_line (codes " took a view") (step_at ss b.taken).item ++ written_lines ss b.written b.lender
+
+abbrev pub taken_or_own : List Step → Option Borrowed → List ℕ
+taken_or_own ss None = codes " took no view: it read these values itself\n"
+taken_or_own ss (Some b) = taken_lines ss b
 
 -- the view that process i took, where its scan took one
-abbrev pub view_lines : List Step → ℕ → Option Borrowed → List ℕ
-view_lines ss i None = process_text i ++ codes " took no view: it read these values itself\n"
-view_lines ss i (Some b) =
-    process_text i ++ codes " took a view" ++ goto_text (step_at ss b.taken).item ++ written_lines ss b.written b.lender
+unfoldable pub view_lines : List Step → ℕ → Option Borrowed → List ℕ
+view_lines ss i view = process_text i ++ taken_or_own ss view
 
 -- the lender's scan, where a view was taken
 abbrev pub lender_of : Option Borrowed → Option ScanPlaces

@@ -12,7 +12,7 @@ use Rattle.snap_acts.specs.declared.act.Step.{Step}
 use Rattle.snap_loans.specs.Loans.{step_at}
 use Rattle.snap_loans.specs.Searches.{first_meeting, last_before}
 use Rattle.snap_loans.specs.declared.wanted.Wanted.TheVariants as wanted
-use Rattle.snap_why.specs.Answer.{answer_lines, goto_text, verdict_with}
+use Rattle.snap_why.specs.Answer.{answer_lines, goto_line, verdict_with}
 use Rattle.snap_why.specs.Trap.{trap_lines}
 
 -- the process that a step leaves trapped
@@ -25,15 +25,25 @@ abbrev pub trapped_at : List Step → ℕ → Option ℕ
 trapped_at ss zero = None
 trapped_at ss (suc k) = trapped_by (step_at ss k).process (step_at ss k).act
 
+abbrev pub item_of : Option Step → Option ℕ
+item_of None = None
+item_of (Some s) = Some s.item
+
+-- the item of the step at a place
+abbrev pub item_there : List Step → Option ℕ → Option ℕ
+item_there ss None = None
+item_there ss (Some k) = Some (step_at ss k).item
+
 -- where neither a scan is answered nor a process traps: the next item at which one is or does, or else the last one before
-abbrev pub nothing_line : List Step → Option Step → Option ℕ → List ℕ
-nothing_line ss (Some s) last = codes "nothing to explain here; the next answer or trap" ++ goto_text s.item
-nothing_line ss None (Some k) = codes "nothing to explain here; the last answer or trap" ++ goto_text (step_at ss k).item
-nothing_line ss None None = codes "nothing to explain here, nor at another item: no scan is answered, and no process traps\n"
+abbrev pub nothing_line : (next last : Option ℕ) → List ℕ
+nothing_line (Some t) last = goto_line (codes "nothing to explain here; the next answer or trap") t
+nothing_line None (Some t) = goto_line (codes "nothing to explain here; the last answer or trap") t
+nothing_line None None = codes "nothing to explain here, nor at another item: no scan is answered, and no process traps\n"
 
 -- of item t
-abbrev pub nothing_lines : List Step → ℕ → List ℕ
-nothing_lines ss t = nothing_line ss (first_meeting wanted.AnswerOrTrap (drop t ss)) (last_before wanted.AnswerOrTrap ss t)
+unfoldable pub nothing_lines : List Step → ℕ → List ℕ
+nothing_lines ss t =
+    nothing_line (item_of (first_meeting wanted.AnswerOrTrap (drop t ss))) (item_there ss (last_before wanted.AnswerOrTrap ss t))
 
 abbrev pub trap_or_nothing : Run → List Step → ℕ → Option ℕ → List ℕ
 trap_or_nothing r ss t (Some i) = trap_lines r.source r.shape (state r t) i (process_at (state r t) i).status

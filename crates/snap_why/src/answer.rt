@@ -1,7 +1,7 @@
 //! Why a scan answered what it answered.
 ghost use Rattle.std.specs.Prelude.{◌≡◌, ◌≤◌, ◌<◌, ◌++◌, ◌-◌, IfSome, OnOk, Some, get_or, length};
 ghost use Rattle.snap_loans.specs.Loans.{step_at};
-ghost use Rattle.snap_why.specs.Answer.{answer_lines, call_lines, chain_lines, goto_text, lender_lines, lender_of, point_line, process_text, scan_places, verdict_with, view_lines, written_lines};
+ghost use Rattle.snap_why.specs.Answer.{answer_lines, call_lines, chain_lines, goto_line, goto_text, lender_lines, lender_of, point_line, process_text, scan_lines, scan_places, taken_lines, taken_or_own, verdict_with, view_lines, writer_lines, written_lines};
 
 use snap_acts::Step;
 use snap_audit::{Verdict, verdict_line};
@@ -10,7 +10,7 @@ use snap_text::{push_number, push_text};
 use std::alloc::AllocError;
 
 /// The item of the step at a place, and 0 where there is none.
-fn item_at(steps: &[Step], place: usize) -> u64
+pub(crate) fn item_at(steps: &[Step], place: usize) -> u64
     ensures { result ≡ (step_at steps.now place).item }
 {
     if place < steps.len() {
@@ -50,16 +50,21 @@ pub(crate) fn push_process(out: &mut Vec<u8>, process: u32) -> Result<(), AllocE
     push_number(out, u64::from(process))
 }
 
+/// Adds what happened at an item, and the command that goes there.
+#[tactic(auto, using(snap_text::proofs::Texts::joined), unfolding(crate::specs::Answer::goto_line))]
+pub(crate) fn push_goto_line(out: &mut Vec<u8>, what: &[u8], item: u64) -> Result<(), AllocError>
+    ensures { OnOk result (out.new.items ≡ out.old.items ++ goto_line what.now item) }
+{
+    push_text(out, what)?;
+    push_goto(out, item)
+}
+
 /// Adds the point that the audit finds.
-#[tactic(auto, using(snap_text::proofs::Texts::joined))]
 fn push_point(out: &mut Vec<u8>, point: Option<u64>) -> Result<(), AllocError>
     ensures { OnOk result (out.new.items ≡ out.old.items ++ point_line point) }
 {
     match point {
-        Some(item) => {
-            push_text(out, b"point")?;
-            push_goto(out, item)
-        }
+        Some(item) => push_goto_line(out, b"point", item),
         None => push_text(
             out,
             b"point: none, memory never held this from the call to the answer\n",
@@ -67,8 +72,16 @@ fn push_point(out: &mut Vec<u8>, point: Option<u64>) -> Result<(), AllocError>
     }
 }
 
-/// Adds the scan that saw a view, where one is there.
+/// Adds a scan of an update.
 #[tactic(auto, using(snap_text::proofs::Texts::joined))]
+fn push_scan(out: &mut Vec<u8>, steps: &[Step], scan: ScanPlaces) -> Result<(), AllocError>
+    ensures { OnOk result (out.new.items ≡ out.old.items ++ scan_lines steps.now scan) }
+{
+    push_goto_line(out, b"its scan began", item_at(steps, scan.from))?;
+    push_goto_line(out, b"its scan ended", item_at(steps, scan.to))
+}
+
+/// Adds the scan that saw a view, where one is there.
 fn push_lender(
     out: &mut Vec<u8>,
     steps: &[Step],
@@ -76,17 +89,29 @@ fn push_lender(
 ) -> Result<(), AllocError>
     ensures { OnOk result (out.new.items ≡ out.old.items ++ lender_lines steps.now scan) }
 {
-    let Some(scan) = scan else {
-        return push_text(out, b"it is of no scan of an update\n");
-    };
-    push_text(out, b"its scan began")?;
-    push_goto(out, item_at(steps, scan.from))?;
-    push_text(out, b"its scan ended")?;
-    push_goto(out, item_at(steps, scan.to))
+    match scan {
+        Some(scan) => push_scan(out, steps, scan),
+        None => push_text(out, b"it is of no scan of an update\n"),
+    }
 }
 
-/// Adds who wrote a view, where it was written, and the scan that saw it.
+/// Adds who wrote a view at a place, and the scan that saw it.
 #[tactic(auto, using(snap_text::proofs::Texts::joined))]
+fn push_writer(
+    out: &mut Vec<u8>,
+    steps: &[Step],
+    place: usize,
+    lender: Option<ScanPlaces>,
+) -> Result<(), AllocError>
+    ensures { OnOk result (out.new.items ≡ out.old.items ++ writer_lines steps.now place lender) }
+{
+    push_process(out, process_at(steps, place))?;
+    push_goto_line(out, b" wrote it", item_at(steps, place))?;
+    push_lender(out, steps, lender)
+}
+
+/// Adds that, where a process had written it.
+#[tactic(auto, unfolding(crate::specs::Answer::written_lines))]
 fn push_written(
     out: &mut Vec<u8>,
     steps: &[Step],
@@ -95,17 +120,37 @@ fn push_written(
 ) -> Result<(), AllocError>
     ensures { OnOk result (out.new.items ≡ out.old.items ++ written_lines steps.now written lender) }
 {
-    let Some(place) = written else {
-        return push_text(out, b"no process had written it\n");
-    };
-    push_process(out, process_at(steps, place))?;
-    push_text(out, b" wrote it")?;
-    push_goto(out, item_at(steps, place))?;
-    push_lender(out, steps, lender)
+    match written {
+        Some(place) => push_writer(out, steps, place, lender),
+        None => push_text(out, b"no process had written it\n"),
+    }
+}
+
+/// Adds a view that was taken.
+#[tactic(auto, using(snap_text::proofs::Texts::joined))]
+fn push_taken(out: &mut Vec<u8>, steps: &[Step], view: Borrowed) -> Result<(), AllocError>
+    ensures { OnOk result (out.new.items ≡ out.old.items ++ taken_lines steps.now view) }
+{
+    push_goto_line(out, b" took a view", item_at(steps, view.taken))?;
+    push_written(out, steps, view.written, view.lender)
+}
+
+/// Adds that, where one was taken.
+fn push_taken_or_own(
+    out: &mut Vec<u8>,
+    steps: &[Step],
+    view: Option<Borrowed>,
+) -> Result<(), AllocError>
+    ensures { OnOk result (out.new.items ≡ out.old.items ++ taken_or_own steps.now view) }
+{
+    match view {
+        Some(view) => push_taken(out, steps, view),
+        None => push_text(out, b" took no view: it read these values itself\n"),
+    }
 }
 
 /// Adds the view that a process took, where its scan took one.
-#[tactic(auto, using(snap_text::proofs::Texts::joined))]
+#[tactic(auto, using(snap_text::proofs::Texts::joined), unfolding(crate::specs::Answer::view_lines))]
 fn push_view(
     out: &mut Vec<u8>,
     steps: &[Step],
@@ -115,12 +160,7 @@ fn push_view(
     ensures { OnOk result (out.new.items ≡ out.old.items ++ view_lines steps.now process view) }
 {
     push_process(out, process)?;
-    let Some(view) = view else {
-        return push_text(out, b" took no view: it read these values itself\n");
-    };
-    push_text(out, b" took a view")?;
-    push_goto(out, item_at(steps, view.taken))?;
-    push_written(out, steps, view.written, view.lender)
+    push_taken_or_own(out, steps, view)
 }
 
 /// The lender's scan, where a view was taken.

@@ -1,5 +1,5 @@
 //! What is said of an item of a run.
-ghost use Rattle.std.specs.Prelude.{◌≡◌, ◌≤◌, ◌<◌, ◌++◌, IfOk, IfSome, OnOk, length, map, option_map};
+ghost use Rattle.std.specs.Prelude.{◌≡◌, ◌≤◌, ◌<◌, ◌++◌, IfOk, IfSome, OnOk, None, length, map, option_map};
 ghost use Rattle.snap_words.specs.Shape.{IsOneOf};
 ghost use Rattle.snap_semantics.specs.State.{process_at};
 ghost use Rattle.snap_runs.specs.Audit.{audit};
@@ -7,9 +7,9 @@ ghost use Rattle.snap_runs.specs.Run.{run_over, state};
 ghost use Rattle.snap_listing_lines.specs.LineTexts.{written};
 ghost use Rattle.snap_acts.specs.Trace.{trace_of};
 ghost use Rattle.snap_why.specs.Trap.{trap_lines};
-ghost use Rattle.snap_why.specs.Why.{nothing_line, nothing_lines, trapped_at, trapped_by, why_text};
+ghost use Rattle.snap_why.specs.Why.{item_of, item_there, nothing_line, nothing_lines, trapped_at, trapped_by, why_text};
 
-use crate::answer::{push_answer, push_goto, verdict_with};
+use crate::answer::{item_at, push_answer, push_goto_line, verdict_with};
 use crate::trap::push_trap;
 use snap_acts::{Act, Step, trace};
 use snap_asm_program::Program;
@@ -57,27 +57,48 @@ fn trapped_at(steps: &[Step], item: u64) -> Option<u32>
     }
 }
 
-/// Adds that there is nothing to explain, and where there is.
-#[tactic(auto, using(snap_text::proofs::Texts::joined))]
-fn push_nothing(
-    out: &mut Vec<u8>,
-    steps: &[Step],
-    next: Option<&Step>,
-    last: Option<usize>,
-) -> Result<(), AllocError>
-    requires { IfSome last (λ k. k < length steps.now) }
-    ensures { OnOk result (out.new.items ≡ out.old.items
-        ++ nothing_line steps.now (option_map (λ s. s.now) next.entry) last) }
+/// The item of a step.
+fn item_of(step: Option<&Step>) -> Option<u64>
+    ensures { result ≡ item_of (option_map (λ s. s.now) step.entry) }
 {
-    if let Some(step) = next {
-        push_text(out, b"nothing to explain here; the next answer or trap")?;
-        return push_goto(out, step.item);
+    match step {
+        Some(step) => Some(step.item),
+        None => None,
     }
+}
+
+/// The item of the step at a place.
+fn item_there(steps: &[Step], place: Option<usize>) -> Option<u64>
+    ensures { result ≡ item_there steps.now place }
+{
+    match place {
+        Some(place) => Some(item_at(steps, place)),
+        None => None,
+    }
+}
+
+/// The process that traps at an item of a schedule, which is one.
+fn trapped_in(program: &Program, schedule: &Schedule, steps: &[Step], item: u64) -> Option<u32>
+    requires steps { steps.now ≡ trace_of (run_over program.now schedule.now) }
+    requires within { item ≤ length schedule.now.items }
+    requires as_many { item ≤ length steps.now }
+    ensures process { result ≡ trapped_at steps.now item }
+    ensures one { IfSome result (λ i. IsOneOf schedule.now.shape.n i) }
+{
+    let _shape = schedule.shape();
+    trapped_at(steps, item)
+}
+
+/// Adds that there is nothing to explain from here on, and where there was.
+fn push_last(out: &mut Vec<u8>, last: Option<u64>) -> Result<(), AllocError>
+    ensures { OnOk result (out.new.items ≡ out.old.items ++ nothing_line None last) }
+{
     match last {
-        Some(place) => {
-            push_text(out, b"nothing to explain here; the last answer or trap")?;
-            push_goto(out, steps[place].item)
-        }
+        Some(item) => push_goto_line(
+            out,
+            b"nothing to explain here; the last answer or trap",
+            item,
+        ),
         None => push_text(
             out,
             b"nothing to explain here, nor at another item: no scan is answered, and no process traps\n",
@@ -85,14 +106,29 @@ fn push_nothing(
     }
 }
 
+/// Adds that there is nothing to explain, and where there is.
+fn push_nothing(out: &mut Vec<u8>, next: Option<u64>, last: Option<u64>) -> Result<(), AllocError>
+    ensures { OnOk result (out.new.items ≡ out.old.items ++ nothing_line next last) }
+{
+    match next {
+        Some(item) => push_goto_line(
+            out,
+            b"nothing to explain here; the next answer or trap",
+            item,
+        ),
+        None => push_last(out, last),
+    }
+}
+
 /// Adds that there is nothing to explain of an item, and where there is.
+#[tactic(auto, unfolding(crate::specs::Why::nothing_lines))]
 fn push_nothing_at(out: &mut Vec<u8>, steps: &[Step], item: u64) -> Result<(), AllocError>
     requires { item ≤ length steps.now }
     ensures { OnOk result (out.new.items ≡ out.old.items ++ nothing_lines steps.now item) }
 {
     let next = first_from(steps, item as usize, Wanted::AnswerOrTrap);
     let last = last_before(steps, item as usize, Wanted::AnswerOrTrap);
-    push_nothing(out, steps, next, last)
+    push_nothing(out, item_of(next), item_there(steps, last))
 }
 
 /// The record of the first items of a schedule.
@@ -139,7 +175,7 @@ fn push_trap_at<K: Kind>(
 
 /// Adds why the scan that an item answered had this answer, or why the process of the item trapped; or that it did neither, and
 /// which item does.
-#[tactic(auto, using(crate::proofs::Traces::as_many, crate::proofs::Traces::one_of), unfolding(crate::specs::Why::why_text))]
+#[tactic(auto, using(crate::proofs::Traces::as_many), unfolding(crate::specs::Why::why_text))]
 pub fn push_why<K: Kind>(
     alloc: Global,
     out: &mut Vec<u8>,
@@ -154,13 +190,12 @@ pub fn push_why<K: Kind>(
     ensures { OnOk result (out.new.items ≡ out.old.items
         ++ why_text (run_over program.now schedule.now) item) }
 {
-    let _shape = schedule.shape();
     let verdicts = verdicts_over::<K>(alloc, program, schedule)?;
     let steps = trace::<K>(alloc, program, schedule)?;
     if let Some(verdict) = verdict_with(verdicts.as_slice(), item) {
         return push_answer(out, steps.as_slice(), &verdict, item);
     }
-    match trapped_at(steps.as_slice(), item) {
+    match trapped_in(program, schedule, steps.as_slice(), item) {
         Some(process) => { push_trap_at::<K>(alloc, out, program, schedule, texts, item, process) }
         None => push_nothing_at(out, steps.as_slice(), item),
     }

@@ -29,6 +29,7 @@ MORE = {
     "many": ["choose(0)", "change({schedule: 'shape 12 12\\n' + Array.from({length: 12}, (_, k) => `${k + 1} update ${k + 1} 5\\n`)"
              ".join('') + Array.from({length: 200}, (_, k) => `${k % 12 + 1}*${k % 7 + 5}\\n`).join('')})", "goTo(700)", "goTo(701)"],
     "help": [f"choose({FIRST_IDEA})", "(document.getElementById('help').showModal(), 0)"],
+    "picture": [f"choose({FIRST_IDEA + 2})", "(document.getElementById('picture').click(), 0)"],
     "proved": [f"choose({FIRST_IDEA})", "(document.getElementById('proved').open = true, 0)"],
 }
 

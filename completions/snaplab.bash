@@ -12,7 +12,8 @@ _snaplab() {
     else
         local options="--explain -h --help"
         case ${COMP_WORDS[1]} in
-            run | trace | debug | audit | certify | batch | survey) options="--shipped $options" ;;
+            run | trace | debug | audit | certify | batch) options="--shipped $options" ;;
+            survey) options="--shipped --strict $options" ;;
             live) options="--shipped --limit $options" ;;
         esac
         mapfile -t COMPREPLY < <(compgen -W "$options" -- "$word")

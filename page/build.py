@@ -101,15 +101,33 @@ def remedies():
     return found
 
 
-def data():
+def choices():
+    """What the menu leads to, in its groups."""
     gallery, told = json.loads(source("gallery.json")), sections()
     return {
-        "listings": [{"title": one["title"], "listing": read("examples", one["file"]), "schedule": one["schedule"]}
+        "Listings": [{"title": one["title"], "listing": read("examples", one["file"]), "schedule": one["schedule"]}
                      for one in gallery["listings"]],
-        "ideas": [an_idea(idea, told[idea["section"]]) for idea in gallery["ideas"]],
-        "exercises": [an_exercise(one) for one in gallery["exercises"]],
-        "remedies": remedies(),
+        "Gallery": [an_idea(idea, told[idea["section"]]) for idea in gallery["ideas"]],
+        "Exercises": [an_exercise(one) for one in gallery["exercises"]],
     }
+
+
+def menu():
+    """The options of the menu, numbered; the first idea is chosen."""
+    lines, number = [], 0
+    for label, group in choices().items():
+        lines.append(f'<optgroup label="{label}">')
+        for k, one in enumerate(group):
+            chosen = " selected" if label == "Gallery" and k == 0 else ""
+            lines.append(f'<option value="{number}"{chosen}>{html.escape(one["title"], quote=False)}</option>')
+            number += 1
+        lines.append("</optgroup>")
+    return "\n".join(lines)
+
+
+def data():
+    told = {"choices": sum(choices().values(), []), "remedies": remedies()}
+    return json.dumps(told, ensure_ascii=False, sort_keys=True, separators=(",", ":")).replace("<", "\\u003c")
 
 
 def built(module):
@@ -119,7 +137,9 @@ def built(module):
         if names == "module":
             return "\n".join(module[k:k + 120] for k in range(0, len(module), 120))
         if names == "data":
-            return json.dumps(data(), ensure_ascii=False, sort_keys=True, separators=(",", ":")).replace("<", "\\u003c")
+            return data()
+        if names == "menu":
+            return menu()
         if names.endswith(".txt"):
             return html.escape(source(names), quote=False)
         return "\n".join(source(name) for name in names.split())

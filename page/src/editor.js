@@ -1,68 +1,65 @@
 // A text with a margin: lines have marks, badges and colours. A long text is shown in part, and cannot be edited there.
 
-const MOST_LINES = 1500, SHOWN_LINES = 80, MOST_LETTERS = 300000, SHOWN_LETTERS = 2000;
+const MOST_LINES = 1500, SHOWN_LINES = 40, EDGE = 8, MOST_LETTERS = 300000, SHOWN_LETTERS = 2000;
 
 class Editor {
     constructor(root, label, onInput) {
         this.root = root;
-        this.area = make('textarea', {'aria-label': label, spellcheck: 'false', autocapitalize: 'off', wrap: 'off'});
-        this.gutter = make('div', {class: 'gutter', tabindex: '0', role: 'listbox', 'aria-label': `Margin: ${label}`});
-        this.back = make('div', {'aria-hidden': 'true'});
+        this.area = make('textarea', {ariaLabel: label, spellcheck: false, autocapitalize: 'off', wrap: 'off'});
+        this.gutter = make('div', {className: 'gutter', tabIndex: 0, role: 'listbox', ariaLabel: `Margin: ${label}`});
+        this.back = make('div', {ariaHidden: 'true'});
         this.first = this.active = 0;
-        root.append(this.gutter, make('div', {class: 'code'}, this.back, this.area));
         this.area.oninput = () => onInput(this.area.value);
+        root.append(this.gutter, make('div', {className: 'code'}, this.back, this.area));
+        this.gutter.onclick = event => {
+            this.activate([...this.gutter.children].indexOf(event.target.closest('[role=option]')));
+            this.onmark?.(this.active + this.first);
+        };
         this.gutter.onkeydown = event => {
             const way = {ArrowUp: -1, ArrowDown: 1}[event.key];
             if (!way) return;
             event.preventDefault();
-            event.stopPropagation();
             this.activate(this.active + way);
         };
     }
 
-    // Shows a text, of a long one the lines around this one, and says whether it is long.
+    // Shows a text, of a long one the lines around this one. They stay until this one comes near to an end of them.
     show(text, around = 0) {
         if (this.text !== text) this.lines = text.split('\n');
-        const long = this.lines.length > MOST_LINES || text.length > MOST_LETTERS, first = this.first;
-        this.first = long ? Math.max(Math.min(around - SHOWN_LINES / 2, this.lines.length - SHOWN_LINES), 0) : 0;
-        if (this.text === text && this.first === first) return long;
-        this.text = text;
-        const end = this.first + SHOWN_LINES, cut = line => line.slice(0, SHOWN_LETTERS);
-        const part = long ? this.lines.slice(this.first, end).map(cut) : this.lines;
+        const long = this.lines.length > MOST_LINES || text.length > MOST_LETTERS;
+        const last = Math.max(this.lines.length - SHOWN_LINES, 0), most = this.first + SHOWN_LINES - EDGE;
+        const kept = this.first <= last && around >= this.first + EDGE && around < most;
+        const first = !long ? 0 : kept ? this.first : within(around - SHOWN_LINES / 2, 0, last);
+        if (this.text === text && this.first === first) return;
+        Object.assign(this, {text, first});
+        const cut = line => line.slice(0, SHOWN_LETTERS);
+        const part = long ? this.lines.slice(first, first + SHOWN_LINES).map(cut) : this.lines, shown = part.join('\n');
         this.area.readOnly = long;
-        if (this.area.value !== part.join('\n')) this.area.value = part.join('\n');
-        const longest = part.reduce((most, line) => Math.max(most, line.length), 0);
-        this.area.style.height = `calc(${part.length} * var(--line-height) + 8px)`;
-        this.area.style.minWidth = `calc(${longest + 1}ch + 14px)`;
+        if (this.area.value !== shown) this.area.value = shown;
+        const longest = Math.max(...part.map(line => line.length));
+        this.area.style = `--lines: ${part.length}; --letters: ${longest + 1}`;
         this.setRows(part.length);
-        return long;
     }
 
     // The margin has as many rows as there are lines shown.
     setRows(count) {
-        while (this.gutter.children.length > count) this.gutter.lastChild.remove();
-        while (this.gutter.children.length < count) {
-            const place = this.gutter.children.length;
-            const row = make('div', {role: 'option', id: `${this.root.id}-${place}`});
-            row.onclick = () => {
-                this.activate(place);
-                this.onmark?.(place + this.first);
-            };
-            this.gutter.append(row);
-        }
+        const rows = this.gutter.children, id = () => `${this.root.id}-${rows.length}`;
+        while (rows.length > count) this.gutter.lastChild.remove();
+        while (rows.length < count) this.gutter.append(make('div', {role: 'option', id: id()}));
     }
 
     // What stands in the margin, for each text line its children, their key and what is read out; and coloured lines.
     mark(told, colours) {
-        [...this.gutter.children].forEach((row, k) => {
+        const rows = [...this.gutter.children];
+        rows.forEach((row, k) => {
             const {key, children, label, numbered} = told(k + this.first);
             fill(row, key, children);
             row.className = `${numbered ? 'numbered' : ''} ${k === this.active ? 'active' : ''}`;
             if (row.ariaLabel !== label) row.ariaLabel = label;
         });
-        const shown = colours.filter(([line]) => line >= this.first && line < this.first + this.gutter.children.length);
-        fill(this.back, JSON.stringify([shown, this.first]), () => shown.map(([line, name]) =>
-            make('i', {class: name, style: `top: calc(${line - this.first} * var(--line-height))`})));
+        const shown = colours.map(([line, name]) => [line - this.first, name]).filter(([row]) => rows[row]);
+        fill(this.back, shown.join(), () => shown.map(([row, className]) =>
+            make('i', {className, style: `top: calc(${row} * var(--line-height))`})));
     }
 
     // Scrolls a line into view, but not under the hands of one who types.

@@ -5,22 +5,17 @@ const $ = id => document.getElementById(id);
 const data = JSON.parse($('data').textContent);
 const within = (number, least, most) => Math.min(Math.max(number, least), most);
 const say = text => { $('note').textContent = text; };
-const announce = what => document.dispatchEvent(new Event(what));
 
-// An element with attributes, 'on..' functions and children.
-function make(tag, attributes = {}, ...children) {
-    const element = document.createElement(tag);
-    for (const [name, value] of Object.entries(attributes)) {
-        if (name.startsWith('on')) element[name] = value;
-        else element.setAttribute(name, value);
-    }
+// An element with properties and children.
+function make(tag, properties = {}, ...children) {
+    const element = Object.assign(document.createElement(tag), properties);
     element.append(...children);
     return element;
 }
 
 // A process's number in its colour; odd ones are round and even ones square.
 const badge = (who, more = '') =>
-    make('span', {class: `badge ${who % 2 ? '' : 'even'} ${more}`, style: `--p: var(--p${who % 8})`}, String(who));
+    make('span', {className: `badge ${who % 2 ? '' : 'even'} ${more}`, style: `--p: var(--p${who % 8})`}, String(who));
 
 // A printed text, old words beside new ones; all of it is marked where their count differs, and where many differ.
 // There may be no older text.
@@ -29,13 +24,13 @@ function compared(older, newer) {
     const before = older.split(' '), after = newer.split(' ');
     if (before.length !== after.length) return [changed(older, newer)];
     const news = after.filter((word, k) => word !== before[k]).length;
-    const all = {class: 'changed', title: `was ${older}`};
-    if (after.length > LONG_TEXT && news > MOST_MARKED) return [make('span', all, newer)];
+    if (after.length > LONG_TEXT && news > MOST_MARKED)
+        return [make('span', {className: 'changed', title: `was ${older}`}, newer)];
     return after.flatMap((word, k) => [k ? ' ' : '', word === before[k] ? word : changed(before[k], word)]);
 }
 
 const changed = (older, newer) =>
-    make('span', {class: 'changed'}, make('s', {}, older), '\u2192', make('b', {}, newer));
+    make('span', {className: 'changed'}, make('s', {}, older), '\u2192', make('b', {}, newer));
 
 // Puts children into an element, where they are not there already: 'key' says what they show.
 function fill(element, key, children) {

@@ -1,23 +1,17 @@
-// What stands here as an input of 'snaplab debug', and as a link.
+// What stands here as an input of 'snaplab debug', as a link, and as a picture.
 
-const MOST_LINK = 60000, MOST_INPUT = 16777216;
+const MOST_LINK = 60000, MOST_INPUT = 16777216, MOST_DRAWN = 300;
 
-function asInput() {
-    const part = text => text && !text.endsWith('\n') ? text + '\n' : text;
-    return `${part(state.listing)}%\n${part(state.schedule)}%\n${[...markCommands(), `goto ${state.at}`].join('\n')}\n`;
-}
+const asInput = () => inputOf(state.listing, state.schedule, [...markCommands(), `goto ${state.at}\n`].join('\n'));
 
 // Takes the parts of an input. Where its commands lead to is asked of the module; its marks are those that are left.
 async function takeInput(text, more = {idea: null, goal: null}) {
     const [listing, schedule = 'shape 2 2\n', commands = ''] = text.replace(/\r\n/g, '\n').split(/^%\n/m);
-    state.breaks.clear();
-    state.watches.clear();
+    state.marks.clear();
     for (const command of commands.split('\n')) {
-        const [verb, ...rest] = command.replace(/#.*/, '').trim().split(/\s+/), register = rest.join(' ');
-        if (verb === 'break') state.breaks.add(Number(rest[1]));
-        if (verb === 'clear') state.breaks.delete(Number(rest[1]));
-        if (verb === 'watch') state.watches.add(register);
-        if (verb === 'unwatch') state.watches.delete(register);
+        const words = command.replace(/#.*/, '').trim().split(/\s+/), [verb] = words;
+        if (verb === 'break' || verb === 'watch') state.marks.add(markOf(words));
+        if (verb === 'clear' || verb === 'unwatch') state.marks.delete(markOf(words));
     }
     const reached = commands.trim() ? await ask('look', {listing, schedule, commands}, 'opened') : null;
     await change({listing, schedule, at: reached?.report?.at ?? 0, ...more});
@@ -31,11 +25,11 @@ async function openFile(file) {
     await takeInput(await file.text());
 }
 
-function saveFile() {
-    const address = URL.createObjectURL(new Blob([asInput()], {type: 'text/plain'}));
-    make('a', {href: address, download: 'snaplab-input.txt'}).click();
-    setTimeout(() => URL.revokeObjectURL(address), 1000);
-    say('Saved: the input of snaplab debug.');
+function save(text, download, what) {
+    const href = URL.createObjectURL(new Blob([text]));
+    make('a', {href, download}).click();
+    setTimeout(() => URL.revokeObjectURL(href), 1000);
+    say(`Saved: ${what}.`);
 }
 
 async function copyText(text, what) {
@@ -47,14 +41,12 @@ async function copyText(text, what) {
     }
 }
 
-async function through(stream, bytes) {
-    return new Uint8Array(await new Response(new Blob([bytes]).stream().pipeThrough(stream)).arrayBuffer());
-}
+const through = (stream, bytes) => new Response(new Blob([bytes]).stream().pipeThrough(stream)).arrayBuffer();
 
 // The link: input, goal and idea, packed and in letters.
 async function asHash() {
     const text = JSON.stringify({input: asInput(), goal: state.goal, idea: state.idea});
-    const packed = await through(new CompressionStream('deflate-raw'), new TextEncoder().encode(text));
+    const packed = new Uint8Array(await through(new CompressionStream('deflate-raw'), text));
     const letters = Array.from(packed, byte => String.fromCharCode(byte)).join('');
     return '#' + btoa(letters).replace(/\+/g, '-').replace(/\//g, '_').replace(/=+$/, '');
 }
@@ -79,4 +71,20 @@ async function copyLink() {
     if (hash.length > MOST_LINK) return say('This is too long for a link: save it as a file.');
     history.replaceState(null, '', hash);
     return copyText(location.href, 'a link that has all of this');
+}
+
+// The items that the time line shows, or of many those around the position, as a picture.
+async function showPicture() {
+    const {listing, schedule, at, report, refusal} = state, total = report?.total;
+    if (refusal?.name) return say('Mend what is refused first.');
+    if (!total) return say('A run of no items has no picture.');
+    const many = line.to - line.from > MOST_DRAWN, start = within(at - MOST_DRAWN / 2, 0, total - MOST_DRAWN);
+    const [before, to] = many ? [start, start + MOST_DRAWN] : [line.from, line.to];
+    const answer = await ask('draw', {listing, schedule, from: before + 1, to});
+    if (answer?.code !== OUTPUT) return answer && say(readRefusal(answer).text);
+    const root = $('drawn').shadowRoot ?? $('drawn').attachShadow({mode: 'open'});
+    root.innerHTML = answer.text;
+    $('drawn-items').textContent = `items ${before + 1} to ${to} of ${total}${many ? ', around the position' : ''}`;
+    $('keep').onclick = () => save(answer.text, 'snaplab-run.svg', 'the picture');
+    $('picture-shown').showModal();
 }

@@ -1,46 +1,29 @@
 // Listings, the gallery's ideas and exercises; verdicts, and whether a goal is met.
 
-const GOAL = ['task', 'who', 'view', 'collects', 'point', 'items'];
-const GROUPS = {Listings: data.listings, Gallery: data.ideas, Exercises: data.exercises};
-const choices = Object.values(GROUPS).flat();
-
-function makeMenu() {
-    for (const [label, all] of Object.entries(GROUPS)) {
-        const options = all.map(each => make('option', {value: choices.indexOf(each)}, each.title));
-        $('menu').append(make('optgroup', {label}, ...options));
-    }
-    $('menu').onchange = () => choose(Number($('menu').value));
-}
-
 function choose(k) {
-    const {listing, schedule, goal = null} = choices[k];
-    state.breaks.clear();
-    state.watches.clear();
+    const {listing, schedule, goal = null} = data.choices[k];
+    state.marks.clear();
     return change({listing, schedule, goal, at: 0, idea: k});
 }
 
 // The idea's text, its change and its way back, and the goal of an exercise.
 function showIdea() {
     const {goal, listing, schedule, verdicts, refusal} = state;
-    const idea = goal ? null : choices[state.idea], other = idea?.change;
+    const idea = goal ? {title: 'Exercise'} : data.choices[state.idea] ?? {}, other = idea.change;
     const made = other && listing === other.listing && schedule === other.schedule;
     $('menu').value = state.idea ?? '';
-    $('idea').hidden = !idea?.text && !goal;
-    $('idea-title').textContent = goal ? 'Exercise' : idea?.title ?? '';
-    fill($('idea-text'), `${state.idea} ${goal?.task}`, () => {
-        const text = make('div');
-        if (goal) text.append(make('p', {}, goal.task));
-        else text.innerHTML = (idea?.text ?? '') + (other?.text ?? '');
-        return [text];
-    });
+    $('idea').hidden = !idea.text && !goal;
+    $('idea-title').textContent = idea.title ?? '';
+    const told = {innerHTML: (idea.text ?? '') + (other?.text ?? '')};
+    fill($('idea-text'), `${state.idea} ${goal?.task}`, () => [goal ? make('p', {}, goal.task) : make('div', told)]);
     $('change').hidden = !other;
     $('change').textContent = made ? 'Back to how it was' : 'Make the change';
     const {listing: text, schedule: items} = (made ? idea : other) ?? state;
     $('change').onclick = () => change({listing: text, schedule: items, at: 0});
-    const met = goal && !refusal && verdicts.near.find(meets), words = goal && `Goal: ${goalWords(goal)}. Not met yet.`;
+    const met = goal && !refusal && verdicts.near.find(meets);
     $('goal').classList.toggle('met', Boolean(met));
-    const done = met && `Met: the scan of process ${met.who}, items ${met.call} to ${met.answer}.`;
-    $('goal').textContent = done || words || '';
+    $('goal').textContent = met ? `Met: the scan of process ${met.who}, items ${met.call} to ${met.answer}.` :
+        goal ? `Goal: ${goalWords(goal)}. Not met yet.` : '';
 }
 
 function meets(verdict) {
@@ -67,10 +50,10 @@ function showVerdicts() {
     const told = left ? [`${left} other ones are not listed.`] : near.length ? [] : ['No scan has ended.'];
     const row = ({who, call, answer, point, view, ...more}) => {
         const words = ` scan, items ${call} to ${answer}, answers ${view}: ${verdictWords({point, ...more})}`;
-        return make('button', {class: point ? '' : 'none', onclick: () => goTo(point || answer)}, badge(who), words);
+        const button = {className: point ? '' : 'none', onclick: () => goTo(point || answer)};
+        return make('button', button, badge(who), words);
     };
-    const all = () => [...told, ...near.map(row)].map(each => make('li', {}, each));
-    fill($('verdicts'), JSON.stringify([near, left]), all);
+    fill($('verdicts'), state.verdicts, () => [...told, ...near.map(row)].map(each => make('li', {}, each)));
 }
 
 function outcome() {
@@ -84,22 +67,23 @@ function showWhere() {
     const {report: {at, total, values}, verdicts: {near}, timer} = state;
     const verdict = timer ? null : near.find(each => each.answer === at);
     const told = `: ${outcome()}; values ${values}`, words = verdict ? `; ${verdictWords({...verdict, from: ''})}` : '';
-    fill($('where'), at + total + told + words, () => [make('span', {class: 'at'}, `Item ${at} of ${total}`), told,
-        make('span', {class: verdict?.point === 0 ? 'none' : ''}, words)]);
+    fill($('where'), at + total + told + words, () => [make('span', {className: 'at'}, `Item ${at} of ${total}`), told,
+        make('span', {className: verdict?.point === 0 ? 'none' : ''}, words)]);
     if (document.activeElement !== $('at')) $('at').value = at;
 }
 
 function makeExercise() {
-    const {elements} = $('form').querySelector('form');
-    const chosen = name => elements[name].value.trim().replace(/\s+/g, ' ');
-    for (const name of GOAL) elements[name].value = state.goal?.[name] ?? '';
-    $('form').returnValue = '';
-    $('form').showModal();
-    $('form').onclose = () => {
-        const goal = Object.fromEntries(GOAL.map(name => [name, chosen(name)])), pressed = $('form').returnValue;
+    const dialog = $('form'), [form] = dialog.getElementsByTagName('form');
+    for (const field of form.querySelectorAll('[name]')) field.value = state.goal?.[field.name] ?? '';
+    dialog.returnValue = '';
+    dialog.showModal();
+    dialog.onclose = () => {
+        const fields = [...new FormData(form)], goal = Object.fromEntries(fields.map(([name, text]) =>
+            [name, text.trim().replace(/\s+/g, ' ')]));
         goal.task ||= `Make it so that ${goalWords(goal)}.`;
-        if (pressed === 'make') change({goal, idea: null});
-        if (pressed === 'clear') change({goal: null});
-        if (pressed === 'make') say('The goal is set. Link copies the exercise.');
+        if (dialog.returnValue === 'clear') change({goal: null});
+        if (dialog.returnValue !== 'make') return;
+        change({goal, idea: null});
+        say('The goal is set. Link copies the exercise.');
     };
 }

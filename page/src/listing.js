@@ -3,20 +3,11 @@
 const MOST_BADGES = 3;
 const listingEditor = new Editor($('listing'), 'Listing', listing => change({listing}));
 const scheduleEditor = new Editor($('schedule'), 'Schedule', schedule => change({schedule}));
-const numbered = {listing: null, lines: new Map(), numbers: new Map()};
-
-// The numbered lines of the listing, which are found anew where it has changed.
-function linesOf(listing) {
-    if (numbered.listing === listing) return numbered;
-    const lines = readLines(listing);
-    const numbers = new Map([...lines].map(([number, line]) => [line.place, number]));
-    return Object.assign(numbered, {listing, lines, numbers});
-}
+listingEditor.onmark = toggleBreak;
 
 function showTexts() {
     listingEditor.show(state.listing);
-    const long = scheduleEditor.show(state.schedule, positionLine());
-    $('window').textContent = long ? 'long: the lines around the position, not to be typed into' : '';
+    scheduleEditor.show(state.schedule, positionLine());
     if (state.report) showMargins();
     for (const part of ['listing', 'schedule']) showRefusal(part);
 }
@@ -28,26 +19,23 @@ function positionLine() {
     return items.line[lineOf(items, at)] ?? Math.max(items.shapeLine, 0);
 }
 
-// The line that the last item has executed, where the position before is known.
-function executedLine() {
-    const {before, report, last} = state, [who, what] = last.split(' ');
-    const stepped = before?.at === report.at - 1 && !['called', 'skipped', 'crashed'].includes(what);
-    return stepped ? before.processes[who - 1]?.at : 0;
-}
+// The process of the last item.
+const lastProcess = (report = state.report) => report.processes[state.last.split(' ')[0] - 1];
 
 function showMargins() {
-    const {lines, numbers} = linesOf(state.listing), places = new Map(), bad = badLines(), here = positionLine();
-    const add = (number, who, link) => number && places.set(number, [...places.get(number) ?? [], [who, link]]);
-    for (const {who, at, link} of state.report.processes) add(at, who, '') + add(link, who, 'link');
-    const executed = lines.get(executedLine())?.place;
+    const {lines, report, before, last} = state, bad = badLines(), here = positionLine();
+    const rows = new Map(lines.values().map(line => [line.place, line])), lineAt = at => lines.get(at)?.place ?? -1;
+    const places = report.processes.flatMap(({who, at, link}) => [[at, who, ''], [link, who, 'link']]);
+    const stepped = before?.at === report.at - 1 && !/ (called|skipped|crashed)/.test(last);
+    const executed = stepped ? lineAt(lastProcess(before)?.at) : -1, now = lineAt(lastProcess()?.at);
     const red = part => bad[part].map(line => [line, 'bad']);
-    listingEditor.mark(place => listingRow(numbers.get(place), places), [[executed ?? -1, 'now'], ...red('listing')]);
+    listingEditor.mark(place => listingRow(rows.get(place), places), [[executed, 'now'], ...red('listing')]);
     scheduleEditor.mark(line => {
         const text = line !== here ? '' : countOf(state);
         return {key: text, children: () => [text], label: text && `item ${state.at} is here`};
     }, [[here, 'now'], ...red('schedule')]);
     scheduleEditor.reveal(here);
-    listingEditor.reveal(lines.get(state.report.processes[state.last.split(' ')[0] - 1]?.at)?.place ?? executed ?? -1);
+    listingEditor.reveal(now < 0 ? executed : now);
 }
 
 // How many of a line's items are behind the position.
@@ -57,16 +45,18 @@ function countOf({items, at}) {
     return count > 1 ? `\u25B6${at - items.from[k]}/${count}` : '\u25B6';
 }
 
-function listingRow(number, places) {
-    if (number === undefined) return {key: '', children: () => [], label: ''};
-    const here = places.get(number) ?? [], stop = state.breaks.has(number), more = here.length - MOST_BADGES;
-    const who = here.map(([process, link]) => `process ${process} ${link ? 'returns here' : 'is here'}`);
-    const {text} = linesOf(state.listing).lines.get(number), badges = here.slice(0, MOST_BADGES);
+// A numbered line, with the processes that are here, and those that return here.
+function listingRow(line, places) {
+    if (!line) return {key: '', children: () => [], label: ''};
+    const {number, text} = line, stop = state.marks.has(`line ${number}`);
+    const here = places.filter(([at]) => at === number);
+    const who = here.map(([, process, link]) => `process ${process} ${link ? 'returns here' : 'is here'}`);
+    const more = here.length - MOST_BADGES;
     return {
         key: `${stop}${here.join(';')}`, numbered: true,
         label: [`line ${number}: ${text}`, ...who, ...stop ? ['breakpoint'] : []].join('; '),
-        children: () => [...stop ? [make('span', {class: 'stop', title: 'breakpoint'})] : [],
-            ...badges.map(([process, link]) => badge(process, link)), ...more > 0 ? [`+${more}`] : []],
+        children: () => [...stop ? [make('span', {className: 'stop', title: 'breakpoint'})] : [],
+            ...here.slice(0, MOST_BADGES).map(([, ...place]) => badge(...place)), ...more > 0 ? [`+${more}`] : []],
     };
 }
 
@@ -83,21 +73,14 @@ function badLines() {
 
 // A refusal, and what the manual says of it.
 function showRefusal(part) {
-    const box = $(`${part}-refusal`), {refusal} = state, here = refusal?.part === part;
-    box.hidden = !here;
-    fill(box, here && refusal.text, () => {
-        const remedy = make('span');
-        remedy.innerHTML = here && data.remedies[refusal.name] || '';
-        return here ? [make('b', {}, refusal.text), ' ', remedy] : [];
-    });
-    if (refusal?.part === 'page') say(refusal.text);
+    const box = $(`${part}-refusal`), refusal = state.refusal?.part === part ? state.refusal : null;
+    box.hidden = !refusal;
+    fill(box, refusal?.text, () => [make('b', {}, refusal?.text ?? ''), ' ',
+        make('span', {innerHTML: data.remedies[refusal?.name] ?? ''})]);
+    if (state.refusal?.part === 'page') say(state.refusal.text);
 }
 
-function toggleBreak(line) {
-    const number = linesOf(state.listing).numbers.get(line);
-    if (number === undefined) return say('A breakpoint stands on a numbered line.');
-    say(`Breakpoint ${state.breaks.has(number) ? 'taken from' : 'set at'} line ${number}, for every process.`);
-    return toggle(state.breaks, number);
+function toggleBreak(place) {
+    const line = state.lines.values().find(one => one.place === place);
+    return line ? toggle(`line ${line.number}`) : say('A breakpoint stands on a numbered line.');
 }
-
-listingEditor.onmark = toggleBreak;

@@ -3,37 +3,32 @@
 const MATRIX = 8;       // up to so many processes the bits are shown as a matrix
 
 function showMemory() {
-    const {report, before, watches} = state;
-    fill($('memory'), JSON.stringify([report.values, report.registers, before?.registers, [...watches]]), () => {
+    const {report, before, marks} = state;
+    fill($('memory'), JSON.stringify([report.values, report.registers, before?.registers, [...marks]]), () => {
         const focused = document.activeElement.dataset.register;
         queueMicrotask(() => focused && $('memory').querySelector(`[data-register="${focused}"]`)?.focus());
-        const values = make('div', {class: 'values'}, 'values ', ...compared(before?.values, report.values));
-        const banks = new Map();
-        report.registers.forEach((line, k) => {
-            const [name, text] = line.split(' = '), bank = banks.get(name[0]) ?? [];
-            bank.push({name, text, was: before?.registers[k].split(' = ')[1]});
-            banks.set(name[0], bank);
+        const registers = report.registers.map((line, k) => {
+            const [name, text] = line.split(' = ');
+            return {name, text, was: before?.registers[k].split(' = ')[1]};
         });
-        return [values, ...[...banks].map(([bank, all]) => 'qp'.includes(bank) ? bits(bank, all) : fields(bank, all))];
+        const banks = Object.entries(Object.groupBy(registers, ({name}) => name[0]));
+        return [make('div', {className: 'values'}, 'values ', ...compared(before?.values, report.values)),
+            ...banks.map(([bank, all]) => 'qp'.includes(bank) ? bits(bank, all) : fields(bank, all))];
     });
 }
 
 // 'd seq s view v1 .. vw' as columns: data, seq and view.
 function columns(text, bank) {
-    const found = [[bank === 'v' ? 'view' : 'data']];
-    for (const word of text.split(' ')) {
-        if (/^\d/.test(word)) found.at(-1).push(word);
-        else found.push([word]);
-    }
-    return found.map(([name, ...numbers]) => [name, numbers.join(' ')]);
+    const words = `${bank === 'v' ? 'view' : 'data'} ${text}`;
+    return Array.from(words.matchAll(/([a-z]+) ([^a-z]*[^a-z ])/g), ([, name, numbers]) => [name, numbers]);
 }
 
 function table(corner, head, rows) {
-    const cells = ['', ...head].map((name, k) => make('th', {scope: 'col'}, k ? name : corner));
+    const cells = [corner, ...head].map(name => make('th', {scope: 'col'}, name));
     const body = rows.map(([name, ...row]) =>
         make('tr', {}, make('th', {scope: 'row'}, name), ...row.map(cell => make('td', {}, ...cell))));
     const all = make('table', {}, make('thead', {}, make('tr', {}, ...cells)), make('tbody', {}, ...body));
-    return make('div', {class: 'bank'}, all);
+    return make('div', {className: 'bank'}, all);
 }
 
 function fields(bank, all) {
@@ -47,7 +42,7 @@ function fields(bank, all) {
 // Bits q[i,j] and p[i,j]: a row for each i. Many of them are written as lines.
 function bits(bank, all) {
     const count = Math.round(Math.sqrt(all.length)), places = Array.from({length: count}, (_, k) => k);
-    const joined = (cells, what) => cells[0][what] === undefined ? undefined : cells.map(cell => cell[what]).join(' ');
+    const joined = (cells, what) => cells[0][what] && cells.map(cell => cell[what]).join(' ');
     const rows = places.map(i => {
         const cells = all.slice(i * count, (i + 1) * count), name = `${bank} ${i + 1}`;
         if (count > MATRIX) return [name, compared(joined(cells, 'was'), joined(cells, 'text'))];
@@ -56,24 +51,18 @@ function bits(bank, all) {
     return table(bank, count > MATRIX ? [`1 to ${count}`] : places.map(j => String(j + 1)), rows);
 }
 
-function watchButton(name, children = [name]) {
-    const words = children.map(child => child.textContent ?? child).join('');
-    const label = words === name ? name : `${name}: ${words}`;
-    return make('button', {'aria-pressed': String(state.watches.has(name)), 'data-register': name, 'aria-label': label,
-        title: `Watch ${name}, or no longer (w)`, onclick: () => toggleWatch(name)}, ...children);
-}
-
-function toggleWatch(name) {
-    say(`${name} is ${state.watches.has(name) ? 'watched no more' : 'watched: a run stops where it has changed'}.`);
-    return toggle(state.watches, name);
+function watchButton(name, content) {
+    const button = make('button', {ariaPressed: state.marks.has(name), title: `Watch ${name}, or no longer (w)`,
+        onclick: () => toggle(name)}, ...content ?? [name]);
+    button.dataset.register = name;
+    if (content) button.ariaLabel = `${name}: ${button.textContent}`;
+    return button;
 }
 
 // All marks, each a button that takes it away.
 function showMarks() {
-    const marks = [...[...state.breaks].map(line => [`line ${line}`, () => toggle(state.breaks, line)]),
-        ...[...state.watches].map(register => [register, () => toggleWatch(register)])];
-    const button = ([name, onclick]) =>
-        make('button', {class: 'mark', onclick, 'aria-label': `Take away the mark ${name}`}, `${name} \u00d7`);
-    const all = () => marks.length ? ['Runs stop at ', ...marks.map(button)] : [];
-    fill($('marks'), marks.map(([name]) => name).join(), all);
+    const button = mark => make('button', {className: 'mark', onclick: () => toggle(mark),
+        ariaLabel: `Take away the mark ${mark}`}, `${mark} \u00d7`);
+    const all = [...state.marks];
+    fill($('marks'), all.join(), () => all.length ? ['Runs stop at ', ...all.map(button)] : []);
 }

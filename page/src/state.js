@@ -2,10 +2,9 @@
 
 const BIG = 300000, MOST_UNDONE = 200, QUIET = 120, MOST_MARKS = 64;
 const state = {
-    listing: '', schedule: '', at: 0, breaks: new Set(), watches: new Set(), idea: null, goal: null,
-    items: readItems(''), report: null, before: null, last: 'none',
-    operations: readOperations([]),
-    verdicts: {numbers: readVerdicts(''), near: []}, refusal: null,
+    listing: '', schedule: '', lines: new Map(), at: 0, marks: new Set(), idea: null, goal: null,
+    items: readItems(''), report: null, before: null, last: 'none', operations: readOperations(''),
+    verdicts: {numbers: readVerdicts(''), near: [], none: new Set()}, refusal: null,
     serial: 0, timer: 0, past: [], future: [], audited: null, appended: false,
 };
 
@@ -18,8 +17,9 @@ function change(to, {appended = false, undone = false} = {}) {
         state.future = [];
     }
     Object.assign(state, to, {appended: state.appended && appended});
+    if (state.listing !== listing) state.lines = readLines(state.listing);
     if (state.schedule !== schedule) state.items = state.schedule.length < BIG ? readItems(state.schedule) : null;
-    if (!appended) announce('texts');
+    if (!appended) [showTexts, showIdea].forEach(show => show());
     return refresh();
 }
 
@@ -30,10 +30,22 @@ function undo(from, to) {
     return change(state[from].pop(), {undone: true});
 }
 
+// A mark is a line, as 'line 23', or a register, as 'r 1'. That of a line is a command for each process.
+const markOf = ([verb, ...rest]) => /^(break|clear)$/.test(verb) ? `line ${Number(rest[1])}` : rest.join(' ');
+
 function markCommands() {
     const processes = Array.from({length: within(state.items?.processes ?? 0, 0, 64)}, (_, k) => k + 1);
-    const breaks = [...state.breaks].flatMap(line => processes.map(who => `break ${who} ${line}`));
-    return [...breaks.slice(0, MOST_MARKS + 1), ...[...state.watches].map(register => `watch ${register}`)];
+    const commands = [...state.marks].flatMap(mark => mark.startsWith('line ') ?
+        processes.map(who => `break ${who} ${mark.slice(5)}`) : `watch ${mark}`);
+    return commands.slice(0, MOST_MARKS + 1);
+}
+
+function toggle(mark) {
+    const on = !state.marks.delete(mark);
+    if (on) state.marks.add(mark);
+    const where = mark.startsWith('line ') ? `at ${mark}, for every process` : `where ${mark} has changed`;
+    say(`A run ${on ? 'stops' : 'no longer stops'} ${where}.`);
+    return refresh();
 }
 
 // Asks for the state at the position, or for that to which a run leads.
@@ -44,21 +56,19 @@ async function refresh(go = '') {
     if (answer.items?.from && schedule === state.schedule) state.items = answer.items;
     if (answer.code === OUTPUT) take(answer, serial === state.serial);
     else if (serial === state.serial) state.refusal = readRefusal(answer);
-    announce('state');
+    showState();
     askAudit();
 }
 
 function take({report, last, operations, refused}, newest) {
-    const older = state.report, alike = older?.registers.length === report.registers.length &&
-        older.processes.length === report.processes.length;
+    const older = state.report;
+    const alike = ['registers', 'processes'].every(part => older?.[part].length === report[part].length);
     if (!alike) state.before = null;
     else if (older.at !== report.at || older.registers.join() !== report.registers.join()) state.before = older;
     Object.assign(state, {report, last, refusal: null, operations: operations ?? state.operations});
     if (newest) state.at = report.at;
     for (const [command, refusal] of refused) {
-        const [verb, ...rest] = command.split(' ');
-        if (verb === 'break') state.breaks.delete(Number(rest[1]));
-        else state.watches.delete(rest.join(' '));
+        state.marks.delete(markOf(command.split(' ')));
         say(`The mark is taken away: ${refusal}`);
     }
 }
@@ -75,7 +85,7 @@ function askAudit() {
         const answer = await ask('audit', {listing, schedule});
         if (answer?.code !== OUTPUT) return;
         Object.assign(state, {verdicts: answer.verdicts, audited: {listing, schedule, answers}, appended: true});
-        announce('state');
+        showState();
     }, QUIET);
 }
 
@@ -108,25 +118,19 @@ function press(who, what = '') {
 
 function withItem(schedule, items, at, item) {
     if (at < items.total) return parted(schedule, items, at).join(`${item}\n`);
-    const text = !schedule || schedule.endsWith('\n') ? schedule : schedule + '\n';
-    const cut = text.lastIndexOf('\n', text.length - 2) + 1, step = /^(\d+)(?:\*(\d+))?$/.exec(text.slice(cut, -1));
+    const text = ended(schedule), cut = text.lastIndexOf('\n', text.length - 2) + 1;
+    const step = /^(\d+)(?:\*(\d+))?$/.exec(text.slice(cut, -1));
     return step?.[1] === item ? `${text.slice(0, cut)}${item}*${Number(step[2] ?? 1) + 1}\n` : `${text}${item}\n`;
 }
 
 // A schedule, parted behind an item.
 function parted(schedule, items, at) {
     const lines = schedule.split('\n'), k = at ? lineOf(items, at) : -1, place = items.line[k] ?? items.shapeLine;
-    const before = lines.slice(0, place + 1), after = lines.slice(place + 1), end = items.from[k + 1] ?? items.total;
+    const after = lines.splice(place + 1), end = items.from[k + 1] ?? items.total;
     if (k >= 0 && at < end) {
-        const comment = /\s*#.*$/.exec(lines[place])?.[0] ?? '';
         const times = count => items.who[k] + (count > 1 ? `*${count}` : '');
-        before[place] = times(at - items.from[k]) + comment;
+        lines[place] = times(at - items.from[k]) + (/\s*#.*$/.exec(lines[place]) ?? '');
         after.unshift(times(end - at));
     }
-    return [before.join('\n') + '\n', after.join('\n')];
-}
-
-function toggle(set, mark) {
-    if (!set.delete(mark)) set.add(mark);
-    return refresh();
+    return [lines.join('\n') + '\n', after.join('\n')];
 }

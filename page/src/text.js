@@ -2,34 +2,41 @@
 
 // The module's codes, and two of the page's own: after a trap, and where the user has stopped a run.
 const OUTPUT = 0, REFUSED = 1, MEMORY = 2, SMALL = 3, TRAPPED = 5, STOPPED = 6;
-const STEP = 0, CRASH = 3, MOST_ITEMS = 1000000;
+const KINDS = [undefined, 'scan', 'update', 'crash'], STEP = 0, CRASH = 3, MOST_ITEMS = 1000000;
 const ITEM = /^[ \t\r]*(\d+)[ \t\r]*(?:\*[ \t\r]*(\d+)|(scan|crash|update)\b[^#]*)?[ \t\r]*(?:#.*)?$/;
 const SHAPE = /^[ \t\r]*shape[ \t\r]+(\d+)[ \t\r]+(\d+)/;
 const EMPTY = /^[ \t\r]*(?:#.*)?$/;
+const EVENT = /^event (\d+) (\d+) (scan|update|answer|done)/gm;
+
+// A text whose last line is ended, and the input that has these parts.
+const ended = text => text && !text.endsWith('\n') ? text + '\n' : text;
+const inputOf = (...parts) => parts.map(ended).join('%\n');
 
 // A schedule's lines with items: the process, kind and text line of each, and how many items stand before it. Whether
 // the text is a schedule says the module alone.
 function readItems(text) {
     const items = {total: 0, processes: 0, shapeLine: -1, from: [], who: [], kind: [], line: []};
-    for (let at = 0, line = 0; at < text.length; line++) {
-        const feed = text.indexOf('\n', at), raw = text.slice(at, feed < 0 ? text.length : feed);
-        at += raw.length + 1;
+    for (const [line, raw] of text.split('\n').entries()) {
         if (EMPTY.test(raw)) continue;
         if (items.shapeLine < 0) {
-            items.shapeLine = line;
-            items.processes = Number(SHAPE.exec(raw)?.[1] ?? 0);
+            Object.assign(items, {shapeLine: line, processes: Number(SHAPE.exec(raw)?.[1] ?? 0)});
             continue;
         }
-        const found = ITEM.exec(raw);
-        if (!found || items.total > MOST_ITEMS) break;
+        const [, who, times = 1, call] = ITEM.exec(raw) ?? [];
+        if (!who || items.total > MOST_ITEMS) break;
         items.from.push(items.total);
-        items.who.push(Number(found[1]));
-        items.kind.push(['scan', 'update', 'crash'].indexOf(found[3]) + 1);
+        items.who.push(Number(who));
+        items.kind.push(KINDS.indexOf(call));
         items.line.push(line);
-        items.total += Number(found[2] ?? 1);
+        items.total += Number(times);
     }
-    for (const list of ['from', 'who', 'kind', 'line']) items[list] = Uint32Array.from(items[list]);
-    return items;
+    return packed(items, 'from', 'who', 'kind', 'line');
+}
+
+// Lists of numbers go fast from the worker to the page.
+function packed(found, ...lists) {
+    for (const list of lists) found[list] = Uint32Array.from(found[list]);
+    return found;
 }
 
 // The least place below a count at which something holds; it holds at all later ones.
@@ -84,30 +91,25 @@ function readHead(line) {
     return {who: Number(who), what, at: Number(at ?? 0), link: Number(link ?? 0), locals: []};
 }
 
-// The operations that events tell of, as lists: process, first item, last item or 0, and where in the text of events
-// the words of the call and of the answer are. Lists of numbers and one text go fast from the worker to the page.
-function readOperations(events) {
-    const found = {who: [], from: [], to: [], called: [], ended: [], answers: 0, text: events.join('\n')};
-    const open = new Map();
-    let offset = 0;
-    for (const event of events) {
-        const [name, item, process, what] = event.split(' ', 4), who = Number(process), k = open.get(who);
-        const words = offset + [name, item, process].join(' ').length + 1;
-        offset += event.length + 1;
-        if (what === 'scan' || what === 'update') {
+// The operations that a text of events tells of, as lists: process, first item, last item or 0, and where in the text
+// the words of the call and of the answer are.
+function readOperations(text) {
+    const found = {who: [], from: [], to: [], called: [], ended: [], answers: 0, text}, open = new Map();
+    for (const event of text.matchAll(EVENT)) {
+        const [all, item, who, what] = event, words = event.index + all.length - what.length;
+        if (what === 'answer' || what === 'done') {
+            found.to[open.get(who)] = item;
+            found.ended[open.get(who)] = words;
+            found.answers += what === 'answer' ? 1 : 0;
+        } else {
             open.set(who, found.who.push(who) - 1);
-            found.from.push(Number(item));
+            found.from.push(item);
             found.called.push(words);
             found.to.push(0);
             found.ended.push(0);
-        } else if (k !== undefined && what !== 'crash') {
-            found.to[k] = Number(item);
-            found.ended[k] = words;
-            found.answers += what === 'answer' ? 1 : 0;
         }
     }
-    for (const list of ['who', 'from', 'to', 'called', 'ended']) found[list] = Uint32Array.from(found[list]);
-    return found;
+    return packed(found, 'who', 'from', 'to', 'called', 'ended');
 }
 
 // The words at a place of the text of events: 'update 2 5', 'answer 0 5'.
@@ -130,12 +132,12 @@ function verdictOf(numbers, item) {
     return numbers[5 * place + 2] === item ? place : -1;
 }
 
-// The numbered lines of a listing: the place of each number among the text lines, and its text.
+// The numbered lines of a listing by their numbers: the place of each among the text lines, and its text.
 function readLines(listing) {
     const found = new Map();
     listing.split('\n').forEach((text, place) => {
         const line = /^[ \t\r]*(\d+)[ \t\r]*:[ \t\r]*([^#]*)/.exec(text);
-        if (line) found.set(Number(line[1]), {place, text: line[2].trim()});
+        if (line) found.set(Number(line[1]), {number: Number(line[1]), place, text: line[2].trim()});
     });
     return found;
 }

@@ -1,24 +1,24 @@
 // The time line: a lane for each process, with its operations as bars, the verdicts of its scans, and the position.
 
-const LABEL = 30, RIGHT = 8, MANY_BARS = 20000, dark = matchMedia('(prefers-color-scheme: dark)');
-const line = {from: 0, to: 1, whole: true, key: ''};
-let pen = null, colours = {};
+const LABEL = 30, RIGHT = 8, GRAIN = 1.5, dark = matchMedia('(prefers-color-scheme: dark)');
+const DIAMOND = [[0, -7], [6, 0], [0, 7], [-6, 0]], INKS = {bad: 'on-bad', bar: 'ink'};
+const line = {from: 0, to: 1, width: Infinity, wide: 0, drawn: []};
+const pen = $('timeline').firstChild.getContext('2d');
+let colours = {};
 
 function showTimeline() {
-    const {items, report, at, operations, verdicts} = state, box = $('timeline'), wide = box.clientWidth;
-    const total = Math.max(items?.total ?? report.total, 1);
-    const width = line.whole ? total : Math.min(line.to - line.from, total);
+    const {items, report, at, operations, verdicts} = state, {wide} = line, box = $('timeline');
+    const total = Math.max(items?.total ?? report.total, 1), width = Math.min(line.width, total);
     line.from = within(at < line.from || at > line.to ? at - (width >> 1) : line.from, 0, total - width);
     line.to = line.from + width;
     const n = report.processes.length, high = n <= 3 ? 32 : n <= 5 ? 26 : n <= 8 ? 18 : 12;
-    const key = [line.from, line.to, wide, n, dark.matches, devicePixelRatio].join();
-    if (line.key !== key || line.operations !== operations || line.verdicts !== verdicts || line.items !== items) {
-        Object.assign(line, {key, operations, verdicts, items, wide, high, n});
-        draw(box.firstChild);
+    const drawn = [line.from, line.to, wide, n, dark.matches, devicePixelRatio, operations, verdicts, items];
+    if (wide && drawn.some((each, k) => each !== line.drawn[k])) {
+        Object.assign(line, {drawn, operations, verdicts, items, high, n});
+        draw();
     }
     $('cursor').style.left = `${placeOf(at) - 1}px`;
-    const told = {valuemax: total, valuenow: at, valuetext: `item ${at} of ${total}: ${outcome()}`};
-    for (const [name, value] of Object.entries(told)) box.setAttribute(`aria-${name}`, value);
+    Object.assign(box, {ariaValueMax: total, ariaValueNow: at, ariaValueText: `item ${at} of ${total}: ${outcome()}`});
 }
 
 const placeOf = item => LABEL + (item - line.from) / (line.to - line.from) * (line.wide - LABEL - RIGHT);
@@ -30,32 +30,25 @@ function paint(name, ...box) {
     pen.fillRect(...box);
 }
 
-function draw(canvas) {
-    const {wide, high, n, operations: {to: ends}} = line;
-    line.grain = (line.to - line.from) / wide * .7;
-    Object.assign(canvas, {width: wide * devicePixelRatio, height: n * high * devicePixelRatio});
+// The lanes cover the canvas, which is made anew where its size is another one, and there alone.
+function draw() {
+    const {wide, high, n} = line, {canvas} = pen, pixels = length => Math.round(length * devicePixelRatio);
+    const size = [pixels(wide), pixels(n * high)];
+    if (canvas.width !== size[0] || canvas.height !== size[1]) [canvas.width, canvas.height] = size;
     canvas.style.height = `${n * high}px`;
-    pen = canvas.getContext('2d');
+    line.grain = (line.to - line.from) / wide * GRAIN;
     colours = {};
-    pen.scale(devicePixelRatio, devicePixelRatio);
+    pen.setTransform(devicePixelRatio, 0, 0, devicePixelRatio, 0, 0);
     Object.assign(pen, {textBaseline: 'middle', font: `bold ${Math.min(high - 2, 15)}px system-ui, sans-serif`});
     for (let who = 1; who <= n; who++) {
         paint(who % 2 ? 'panel' : 'paper', 0, (who - 1) * high, wide, high);
         paint(`p${who % 8}`, 0, (who - 1) * high, LABEL - 6, high - 1);
-        pen.fillStyle = '#000';
+        pen.fillStyle = colour('on-p');
         pen.fillText(String(who), 6, (who - .5) * high);
     }
     drawItems();
-    clearTimeout(line.bars);
-    if (ends.length > MANY_BARS) line.bars = setTimeout(drawBars);
-    else drawBars();
-}
-
-// The operations; many are drawn in a task of their own, so that the page is not held up.
-function drawBars() {
-    const {n, operations: {who: callers, to: ends}} = line, next = Array(n + 1).fill(0);
-    for (let k = 0; k < ends.length; k++) if (!ends[k] || ends[k] >= next[callers[k]]) drawOperation(k, next);
-    drawNone();
+    const next = Array(n + 1).fill(0);
+    line.operations.to.forEach((_, k) => drawOperation(k, next));
     line.verdicts.near.forEach(drawLender);
 }
 
@@ -69,53 +62,48 @@ function drawItems() {
         next[who] = end + grain;
         const left = placeOf(Math.max(items.from[k], from)), right = placeOf(Math.min(end, to));
         const bottom = who * high - 5;
-        const tick = gap ? step : Math.max(right - left, .7), name = crash ? 'bad' : 'dim';
+        const tick = gap ? step : Math.max(right - left, GRAIN), name = crash ? 'bad' : 'dim';
         for (let x = left; x === left || x < right - 1; x += tick) paint(name, x + gap / 2, bottom, tick - gap, 3);
         if (crash) pen.fillText('\u2715', left, bottom - high / 2 + 4);
     }
 }
 
-// An operation as a bar, and a scan's point as a diamond at the lower edge. Of operations that end on one pixel of a
-// lane the first alone is drawn.
+// An operation as a bar, and a scan's point as a diamond at the lower edge. Of those that end on one pixel of a lane
+// the first alone is drawn, and each without a point.
 function drawOperation(k, next) {
-    const {operations, verdicts: {numbers, near}} = line;
+    const {high, operations, verdicts: {numbers, none}} = line;
     const who = operations.who[k], from = operations.from[k], to = operations.to[k];
-    if (from > line.to || to && to < line.from) return;
+    if (from > line.to || to && (to < line.from || to < next[who] && !none.has(to))) return;
     next[who] = (to || line.to) + line.grain;
-    const scans = operations.text[operations.called[k]] === 's', place = scans && to ? verdictOf(numbers, to) : -1;
-    const told = near.find(verdict => verdict.answer === to) ?? (place < 0 ? null : verdictAt(numbers, place));
-    const answer = scans && to ? ` \u2192${wordsAt(operations, operations.ended[k]).slice('answer'.length)}` : '';
-    const words = wordsAt(operations, operations.called[k]) + answer + (told ? `   ${verdictWords(told)}` : '');
-    const inks = scans ? [`p${who % 8}`, `p${who % 8}`, '#000'] : ['bar', `p${who % 8}`, colour('ink')];
-    drawBar(who, from, to, words, told?.point === 0 ? ['bad', 'bad', colour('on-bad')] : inks);
-    const diamond = [[0, -7], [6, 0], [0, 7], [-6, 0]];
-    if (told?.point >= Math.max(line.from, 1)) shape(placeOf(told.point), who * line.high - 7, diamond, 'ink');
-}
-
-// Those without a point are red, however short they are.
-function drawNone() {
-    const {numbers} = line.verdicts;
-    for (let k = 0; k < numbers.length / 5; k++) {
-        if (numbers[5 * k + 3]) continue;
-        const {who, call, answer} = verdictAt(numbers, k), short = placeOf(answer) - placeOf(call) < 24;
-        if (short && answer >= line.from && call <= line.to) drawBar(who, call, answer, '', ['bad', 'bad', '']);
-    }
-}
-
-function drawBar(who, from, to, words, [inside, edge, ink]) {
+    const scans = operations.text[operations.called[k]] === 's', place = scans ? verdictOf(numbers, to) : -1;
+    const edge = none.has(to) ? 'bad' : `p${who % 8}`, inside = scans ? edge : 'bar';
     const left = placeOf(Math.max(from - 1, line.from)), right = placeOf(Math.min(to || line.to, line.to));
-    const {high} = line, top = (who - 1) * high + 1, wide = Math.max(right - left, 1.5);
+    const top = (who - 1) * high + 1, wide = Math.max(right - left, GRAIN), point = numbers[5 * place + 3];
     paint(inside, left, top, wide, high - 7);
     Object.assign(pen, {strokeStyle: colour(edge), lineWidth: 2});
     if (wide > 3) pen.strokeRect(left + 1, top + 1, wide - 2, high - 9);
-    if (wide < 24 || high < 17) return;
+    if (wide >= 24 && high >= 17) write(barWords(k, place), INKS[inside] ?? 'on-p', left, top, wide - 2);
+    if (point >= Math.max(line.from, 1)) shape(placeOf(point), who * high - 7, DIAMOND, 'ink');
+}
+
+// Writes into a bar, and not beyond it.
+function write(words, ink, left, top, wide) {
     pen.save();
     pen.beginPath();
-    pen.rect(left, top, wide - 2, high);
+    pen.rect(left, top, wide, line.high);
     pen.clip();
-    Object.assign(pen, {fillStyle: ink, font: '14px system-ui, "DejaVu Sans", sans-serif'});
-    pen.fillText(words, left + 6, top + (high - 6) / 2);
+    Object.assign(pen, {fillStyle: colour(ink), font: '14px system-ui, "DejaVu Sans", sans-serif'});
+    pen.fillText(words, left + 6, top + (line.high - 6) / 2);
     pen.restore();
+}
+
+// A call, and of a scan its answer and the verdict on it.
+function barWords(k, place) {
+    const {operations, verdicts: {numbers, near}} = line, to = operations.to[k];
+    const end = to ? wordsAt(operations, operations.ended[k]) : '';
+    const answer = end.startsWith('answer') ? ` \u2192${end.slice(6)}` : '';
+    const told = near.find(verdict => verdict.answer === to) ?? (place < 0 ? null : verdictAt(numbers, place));
+    return wordsAt(operations, operations.called[k]) + answer + (told ? `   ${verdictWords(told)}` : '');
 }
 
 function shape(x, y, corners, fill) {
@@ -145,25 +133,23 @@ function drawLender({who, lender, taken}) {
 
 // More or fewer items, around the position; all of them where the factor is 0.
 function zoom(factor) {
-    const total = Math.max(state.items?.total ?? 1, 1), wanted = (line.to - line.from) * (factor || Infinity);
-    const width = Math.round(within(wanted, Math.min(8, total), total));
-    line.whole = width === total;
-    line.from = within(state.at - (width >> 1), 0, total - width);
-    line.to = line.from + width;
+    const width = Math.max(Math.round((line.to - line.from) * factor), 8);
+    line.width = factor && width < (state.items?.total ?? 0) ? width : Infinity;
+    line.from = state.at - (width >> 1);
     showTimeline();
 }
 
-function dragTimeline() {
-    const box = $('timeline'), again = () => state.report && showTimeline();
-    const here = event => {
-        const share = (event.clientX - box.getBoundingClientRect().left - LABEL) / (line.wide - LABEL - RIGHT);
+function watchTimeline() {
+    const box = $('timeline'), again = () => {
+        line.wide = box.clientWidth;
+        if (state.report) showTimeline();
+    };
+    box.onpointerdown = box.onpointermove = ({pointerId, buttons, clientX}) => {
+        if (!buttons) return;
+        box.setPointerCapture(pointerId);
+        const share = (clientX - box.getBoundingClientRect().left - LABEL) / (line.wide - LABEL - RIGHT);
         goTo(line.from + Math.round(within(share, 0, 1) * (line.to - line.from)));
     };
-    box.onpointerdown = event => {
-        box.setPointerCapture(event.pointerId);
-        here(event);
-    };
-    box.onpointermove = event => event.buttons && here(event);
     new ResizeObserver(again).observe(box);
-    dark.addEventListener('change', again);
+    dark.onchange = again;
 }

@@ -9,6 +9,7 @@ The native program is crates/snaplab/out/snaplab, or what SNAPLAB names; without
 import base64
 import json
 import os
+import re
 import socketserver
 import subprocess
 import sys
@@ -123,6 +124,29 @@ def try_gallery(tab, count):
         server.server_close()
 
 
+def try_pictures(tab, count):
+    """The pictures of docs/pictures, which bin/snapdraw draws; those of shipped listings are passed over, since the page has a listing."""
+    for name in sorted(os.listdir(os.path.join(TOP, "docs", "pictures"))):
+        example = os.path.join(TOP, "examples", name.removesuffix(".svg"))
+        if "--shipped" in read(os.path.join(example, "args"), "r"):
+            continue
+        parts, wanted = re.split(rb"(?m)^%\n", read(os.path.join(example, "stdin"))), read(os.path.join(TOP, "docs", "pictures", name))
+        total = int(re.search(rb"items 1 to (\d+) of", wanted)[1])
+        count.check(f"docs/pictures/{name}", tab.ask_module("page_picture", parts[:2], (1, total)) == (0, wanted))
+        part = tab.ask_module("page_picture", parts[:2], (2, total - 1))
+        count.check(f"docs/pictures/{name}, a part", part[0] == 0 and b"items 2 to %d of %d<" % (total - 1, total) in part[1])
+    refused = {b"D1 NoSuchItems 2": (b"1*2", 1, 3), b"D1 NoSuchItems 0": (b"", 1, 1), b"D2 TooManyItems 20001": (b"1*20001", 1, 20001),
+               b"S3 BadItem 2": (b"hello", 1, 1), b"W1 BadShape": None}
+    listing = read(os.path.join(TOP, "examples", "u.txt"))
+    for line, asked in refused.items():
+        items, first, last = asked or (b"1", 1, 1)
+        shape = b"shape 2 2\n" if asked else b"shape 2 3\n"
+        told = tab.ask_module("page_picture", (listing, shape + items + b"\n"), (first, last))
+        count.check(f"a picture is refused: {line.decode()}", told == (1, b"refused: " + line + b"\n"), told[1][:80])
+    told = tab.ask_module("page_picture", (b"kind so\n", b"shape 2 2\n1\n"), (1, 1))
+    count.check("a picture of no listing is refused", told == (1, b"refused: L2 BadHeader 1\n"), told[1][:80])
+
+
 def try_pairs(tab, count, pairs, first):
     program = os.environ.get("SNAPLAB") or os.path.join(TOP, "crates", "snaplab", "out", "snaplab")
     if not os.access(program, os.X_OK):
@@ -154,6 +178,7 @@ def main():
         tab = running.tab()
         try_examples(tab, count)
         try_gallery(tab, count)
+        try_pictures(tab, count)
         try_pairs(tab, count, pairs, first)
         count.check("a subcommand that is none is told so", tab.answer("live", "", b"") == (4, b""))
     count.finish()

@@ -200,13 +200,18 @@ class Tab:
         with open(path, "wb") as file:
             file.write(base64.b64decode(got["data"]))
 
-    def answer(self, sub, shipped, given):
-        """What the module answers: its code and bytes."""
-        told = self.run(f"""snaplab.answer({json.dumps(sub)}, {json.dumps(shipped)},
-            Uint8Array.from(atob({json.dumps(base64.b64encode(given).decode())}), c => c.charCodeAt(0))).then(a => {{
+    def ask_module(self, name, texts, numbers=()):
+        """What a function of the module answers to these bytes and numbers: its code and bytes."""
+        letters = json.dumps([base64.b64encode(text).decode() for text in texts])
+        told = self.run(f"""snaplab.answer({json.dumps(name)}, {letters}.map(text =>
+            Uint8Array.from(atob(text), c => c.charCodeAt(0))), {json.dumps(list(numbers))}).then(a => {{
             let s = ''; const b = a.bytes; for (let k = 0; k < b.length; k += 32768)
             s += String.fromCharCode(...b.subarray(k, k + 32768)); return [a.code, btoa(s)]; }})""", 120)
         return told[0], base64.b64decode(told[1])
+
+    def answer(self, sub, shipped, given):
+        """What the module answers to a subcommand, the kind of a shipped listing and an input."""
+        return self.ask_module("page_output", (sub.encode(), shipped.encode(), given))
 
     def close(self):
         self.browser.ask("Target.closeTarget", targetId=self.target)

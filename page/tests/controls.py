@@ -71,7 +71,7 @@ class Page:
 
 def try_gallery(page, count):
     data = json.loads(page.run("document.getElementById('data').textContent"))
-    for k, idea in enumerate(data["ideas"]):
+    for k, idea in enumerate(one for one in data["choices"] if "change" in one):
         page.choose(FIRST_IDEA + k)
         for which, shows in (("as it is", idea["shows"]), ("changed", idea["change"]["shows"])):
             none = shows.endswith(" none")
@@ -233,12 +233,7 @@ def try_files(page, count, running):
     with tempfile.TemporaryDirectory() as folder:
         page.tab.ask("Browser.setDownloadBehavior", behavior="allow", downloadPath=folder)
         page.click("#save")
-        page.tab.until("true")
-        path = os.path.join(folder, "snaplab-input.txt")
-        for _ in range(100):
-            if os.path.exists(path) and os.path.getsize(path):
-                break
-            page.run("new Promise(done => setTimeout(done, 50))")
+        path = saved(page, folder, "snaplab-input.txt")
         count.check("save", os.path.exists(path) and open(path, encoding="utf-8").read() == text)
         page.choose(0)
         open_file(page, path)
@@ -247,6 +242,48 @@ def try_files(page, count, running):
             open_file(page, os.path.join(TOP, "examples", name, "stdin"))
             out = re.findall(r"(?m)^report at (\d+) of", read("examples", name, "stdout"))[-1]
             count.check(f"open examples/{name}", page.at().split()[1] == out, page.at())
+
+
+def try_picture(page, count):
+    page.choose(FIRST_IDEA + 2)
+    page.click("#picture")
+    shown = page.run("document.getElementById('drawn').shadowRoot?.querySelector('title')?.textContent ?? ''")
+    count.check("a picture of the run", page.shown("#picture-shown") and "items 1 to 64 of 64" in shown, shown + page.text("#note"))
+    count.check("and of which items it is", page.text("#drawn-items") == "items 1 to 64 of 64", page.text("#drawn-items"))
+    with tempfile.TemporaryDirectory() as folder:
+        page.tab.ask("Browser.setDownloadBehavior", behavior="allow", downloadPath=folder)
+        page.click("#keep")
+        path = saved(page, folder, "snaplab-run.svg")
+        wanted = read("docs", "pictures", "borrowed-view.svg")
+        count.check("it is saved, as bin/snapdraw draws it", os.path.exists(path) and open(path, encoding="utf-8").read() == wanted)
+    page.tab.key("Escape")
+    count.check("Escape closes it", not page.shown("#picture-shown"))
+    page.write("schedule", "shape 2 2\n1 scan\n1*499\n2 update 2 5\n2*499\n")
+    for steps, wanted in (((), "items 351 to 650 of 1000, around the position"), (("+", "+", "+"), "items 439 to 563 of 1000")):
+        page.run("goTo(500)")
+        page.leave()
+        page.key(*steps)
+        page.click("#picture")
+        count.check(f"a part: {wanted}", page.text("#drawn-items") == wanted, page.text("#drawn-items"))
+        page.tab.key("Escape")
+    page.leave()
+    page.key("0")
+    page.write("schedule", "shape 2 2\n")
+    page.click("#picture")
+    count.check("a run of no items has none", "no picture" in page.text("#note"), page.text("#note"))
+    page.write("schedule", "shape 2 2\nhello\n")
+    page.click("#picture")
+    count.check("nor has what is refused", "Mend" in page.text("#note") and not page.shown("#picture-shown"), page.text("#note"))
+
+
+def saved(page, folder, name):
+    """The path of a file that is saved, once it is there."""
+    path = os.path.join(folder, name)
+    for _ in range(100):
+        if os.path.exists(path) and os.path.getsize(path):
+            break
+        page.run("new Promise(done => setTimeout(done, 50))")
+    return path
 
 
 def open_file(page, path):
@@ -259,7 +296,7 @@ def open_file(page, path):
 
 def try_exercise(page, count, running):
     data = json.loads(page.run("document.getElementById('data').textContent"))
-    page.choose(FIRST_IDEA + len(data["ideas"]))
+    page.choose([bool(one.get("goal")) for one in data["choices"]].index(True))
     count.check("an exercise says that it is not met", "Not met yet" in page.text("#goal"), page.text("#goal"))
     page.write("schedule", "shape 2 2\n1 scan\n1*6\n2 update 2 7\n2*17\n1*50\n")
     count.check("and when it is", page.text("#goal").startswith("Met: the scan of process 1, items 1 to"), page.text("#goal"))
@@ -360,7 +397,7 @@ def try_sizes(page, count):
     count.check("988,000 items, a million bytes of text", page.at().endswith("of 988000"), page.at() + page.text("#schedule-refusal"))
     page.click("#end")
     count.check("the text is shown in part", page.run("document.querySelectorAll('#schedule .gutter > div').length") <= 301 and
-                "long" in page.text("#window"))
+                page.shown("#window"))
     page.click(".process .step")
     count.check("a step at the end of them", page.at() == "Item 988001 of 988001", page.at())
     page.choose(FIRST_IDEA)
@@ -420,11 +457,12 @@ def try_trap(page, count):
                 if (length >= want) new Uint8Array(memory.buffer, Number(room), want).fill(65);
             }};
             glue.taken = glue.instance.page_room(16n); glue.room = 0n; glue.roomLength = 0n; };
-        const first = glue.answer('run', '', new Uint8Array()), dropped = glue.instance === null;
+        const ask = () => glue.answer('page_output', ['run', '', '']);
+        const first = ask(), dropped = glue.instance === null;
         mode = 'small';
-        const second = glue.answer('run', '', new Uint8Array()), third = glue.answer('run', '', new Uint8Array());
+        const second = ask(), third = ask();
         mode = 'none'; glue.instance = null;
-        const fourth = glue.answer('run', '', new Uint8Array());
+        const fourth = ask();
         return [first.code === codes.TRAPPED && dropped, made, second.code, second.bytes.length, third.bytes[99999],
             asked.join(), fourth.code === codes.MEMORY];
     })()"""
@@ -432,7 +470,7 @@ def try_trap(page, count):
     count.check("after a trap the instance is given up, and a new one made", told[:2] == [True, 3], told)
     count.check("room that is too small is made larger once", told[2:6] == [0, 100000, 65, "65536,65536,100000,100000"], told)
     count.check("want of memory is told", told[6], told)
-    page.run("take, state.refusal = readRefusal({code: 5, text: 'RuntimeError: unreachable'}), document.dispatchEvent(new Event('state'))")
+    page.run("take, state.refusal = readRefusal({code: 5, text: 'RuntimeError: unreachable'}), showState()")
     count.check("and the page says so", "was started anew" in page.text("#note"), page.text("#note"))
     lives_on(page, count, "a trap")
 
@@ -455,7 +493,7 @@ def try_readers(page, count):
         page.tab.key("Tab")
         reached.add(page.run("document.activeElement.id || document.activeElement.className || document.activeElement.dataset.register || "
                              "document.activeElement.parentElement?.parentElement?.id || document.activeElement.tagName"))
-    wanted = {"menu", "undo", "open", "save", "copy", "link", "make", "keys", "gutter", "word", "value", "step", "scan", "update", "crash",
+    wanted = {"menu", "undo", "open", "save", "copy", "link", "picture", "make", "keys", "gutter", "word", "value", "step", "scan", "update", "crash",
               "cut", "run", "rrun", "home", "end", "at", "timeline"}
     count.check("the Tab key reaches every control", wanted <= reached, wanted - reached)
     page.leave()
@@ -492,7 +530,8 @@ def main():
     count = browser.Count()
     with browser.Browser() as running:
         page = Page(running.tab())
-        for trial in (try_alone, try_gallery, try_buttons, try_walk, try_marks, try_readers, try_refusals, try_sizes, try_stop, try_trap):
+        for trial in (try_alone, try_gallery, try_buttons, try_walk, try_marks, try_picture, try_readers, try_refusals, try_sizes,
+                      try_stop, try_trap):
             attempt(trial, count, page)
         attempt(try_files, count, page, running)
         attempt(try_exercise, count, page, running)

@@ -76,8 +76,8 @@ def main():
             tell(f"to the middle of {total}", *times_of(tab, f"goTo({total // 2} + Math.floor(Math.random() * 99))", repeats))
             asked = tab.run("new TextEncoder().encode(asInput()).length")
             print(f"{'asked text at ' + str(total):28} {asked} bytes")
-            tell(f"the module's run of {total}", *times_of(tab, """snaplab.answer('run', '',
-                new TextEncoder().encode(state.listing + '%\\n' + state.schedule))""", repeats))
+            tell(f"the module's run of {total}", *times_of(tab, """snaplab.answer('page_output',
+                ['run', '', state.listing + '%\\n' + state.schedule])""", repeats))
 
 
 if __name__ == "__main__":

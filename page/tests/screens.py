@@ -24,8 +24,8 @@ MORE = {
     "annotated": ["choose(0)", "press(1, 'scan')", *["press(1)"] * 6, "press(2, 'update 2 5')", *["press(2)"] * 5],
     "refused": [f"choose({FIRST_IDEA})", "change({listing: state.listing.replace('goto 14', 'got 14')})"],
     "bits": [f"choose({FIRST_IDEA + 5})", "goTo(199)", "goTo(200)"],
-    "multi": [f"choose({FIRST_IDEA + 6})", "toggle(state.watches, 'r 2')", "refresh('run')", "refresh('run')", "refresh('run')"],
-    "exercise": ["choose(GROUPS.Listings.length + GROUPS.Gallery.length)", "press(1, 'scan')"],
+    "multi": [f"choose({FIRST_IDEA + 6})", "toggle('r 2')", "refresh('run')", "refresh('run')", "refresh('run')"],
+    "exercise": ["choose(data.choices.findIndex(one => one.goal))", "press(1, 'scan')"],
     "many": ["choose(0)", "change({schedule: 'shape 12 12\\n' + Array.from({length: 12}, (_, k) => `${k + 1} update ${k + 1} 5\\n`)"
              ".join('') + Array.from({length: 200}, (_, k) => `${k % 12 + 1}*${k % 7 + 5}\\n`).join('')})", "goTo(700)", "goTo(701)"],
     "help": [f"choose({FIRST_IDEA})", "(document.getElementById('help').showModal(), 0)"],

@@ -1,5 +1,5 @@
 -- Turns: they are of processes that are there, and short.
-use Rattle.std.proofs.Common.{◌≡◌, ℕ, zero, suc, ◌+◌, ◌-◌, ◌*◌, ◌/◌, ◌%◌, ◌^◌, ◌<◌, ◌≤◌, Bool, true, false, List, [], ◌∷◌, ◌++◌, Option, Some, None, length, replicate, nat_eq, nat_lt, if◌then◌else◌, refl, sym, ap, subst, ◌∙◌, append_assoc, arith}
+use Rattle.std.proofs.Common.{◌≡◌, ℕ, zero, suc, ◌+◌, ◌-◌, ◌/◌, ◌%◌, ◌^◌, ◌<◌, ◌≤◌, Bool, true, false, List, [], ◌∷◌, ◌++◌, Option, Some, None, length, replicate, nat_eq, nat_lt, if◌then◌else◌, refl, sym, ap, subst, ◌∙◌, append_assoc, arith}
 use Rattle.std.proofs.Math.Pow.{pow_mono}
 use Rattle.std.proofs.lemmas.List.{length-append, length-replicate}
 use Rattle.std.proofs.lemmas.Nat.{pow_pos}
@@ -7,17 +7,17 @@ use Rattle.std.specs.List.{AllByRecursion}
 use Rattle.rand_core.specs.Stream.{Stream}
 use Rattle.snap_words.specs.Shape.{IsOneOf}
 use Rattle.snap_semantics.specs.declared.process.Item.{Item}
-use Rattle.snap_semantics.specs.declared.process.Item.TheVariants.{Step, Call, Crash}
+use Rattle.snap_semantics.specs.declared.process.Item.TheVariants.{Step, Crash}
 use Rattle.snap_semantics.specs.declared.process.Op.{Op}
 use Rattle.snap_semantics.specs.Table.{who}
 use Rattle.snap_sched.proofs.Lines.{all_more}
 use Rattle.snap_chance.specs.Chance.{turns_from}
 use Rattle.snap_chance.specs.Draws.{draws}
 use Rattle.snap_chance.specs.Plan.{IsPlan, Plan}
-use Rattle.snap_chance.specs.Turns.{asked_items, burst_of, burst_turn, call_items, coin_turn, interrupted_process, interrupted_turn, process_of, scanning_turn, turn_at, turn_items, turn_of, updating_turn, whole_update}
+use Rattle.snap_chance.specs.Turns.{asked_items, burst_of, burst_turn, call_items, coin_turn, interrupted_turn, process_of, round_process, round_scan, round_turn, round_update, scanned_turn, scanning_turn, turn_at, turn_items, turn_of, updating_turn, whole_update}
 use Rattle.snap_chance.specs.declared.draws.Draws.{Draws}
 use Rattle.snap_chance.specs.declared.plan.Pace.{Pace}
-use Rattle.snap_chance.specs.declared.plan.Pace.TheVariants.{Coins, Bursts, Interruptions, Mixed}
+use Rattle.snap_chance.specs.declared.plan.Pace.TheVariants.{Coins, Bursts, Interruptions, Rounds, Mixed}
 use Rattle.snap_chance.specs.declared.turns.Turn.{Turn}
 
 -- a turn of a process that is there, of few steps
@@ -28,7 +28,7 @@ pub record IsTurn (n : ℕ) (a : Turn) : Type 0 where
 process_there : (x n : ℕ) → 0 < n → IsOneOf n (x % n + 1)
 process_there x n some = (omega arith, omega arith)
 
-burst_short : (d : Draws) → burst_of d ≤ 128
+pub burst_short : (d : Draws) → burst_of d ≤ 128
 burst_short d =
     let below : d.scale % 8 ≤ 7 = omega arith in
     let scale : 2 ^ (d.scale % 8) ≤ 2 ^ 7 = pow_mono below in
@@ -36,7 +36,7 @@ burst_short d =
     let rest : d.length % 2 ^ (d.scale % 8) < 2 ^ (d.scale % 8) = omega arith in
     omega arith
 
-either : {A : Type 0} (P : A → Type 0) (b : Bool) (x y : A) → P x → P y → P (if b then x else y)
+pub either : {A : Type 0} (P : A → Type 0) (b : Bool) (x y : A) → P x → P y → P (if b then x else y)
 either P true x y h k = h
 either P false x y h k = k
 
@@ -55,10 +55,10 @@ burst_is_turn p k t d some = record { there = process_there d.process p.shape.n 
 coin_is_turn : (p : Plan) (k t : ℕ) (d : Draws) → 0 < p.shape.n → IsTurn p.shape.n (coin_turn p k t d)
 coin_is_turn p k t d some = record { there = process_there d.process p.shape.n some; short = omega arith }
 
-scanning_is_turn : (p : Plan) (k : ℕ) (d : Draws) → 0 < p.shape.n → IsTurn p.shape.n (scanning_turn p k d)
+pub scanning_is_turn : (p : Plan) (k : ℕ) (d : Draws) → 0 < p.shape.n → IsTurn p.shape.n (scanning_turn p k d)
 scanning_is_turn p k d some = record { there = process_there (k / 2) p.shape.n some; short = omega arith }
 
-updating_is_turn : (p : Plan) (k t : ℕ) (d : Draws) → 0 < p.shape.n → IsTurn p.shape.n (updating_turn p k t d)
+pub updating_is_turn : (p : Plan) (k t : ℕ) (d : Draws) → 0 < p.shape.n → IsTurn p.shape.n (updating_turn p k t d)
 updating_is_turn p k t d some =
     let whole = whole_update p in
     record {
@@ -70,12 +70,27 @@ interrupted_is_turn : (p : Plan) (k t : ℕ) (d : Draws) → 0 < p.shape.n → I
 interrupted_is_turn p k t d some =
     either (IsTurn p.shape.n) (nat_eq (d.scale % 2) 0) (scanning_turn p k d) (updating_turn p k t d) (scanning_is_turn p k d some) (updating_is_turn p k t d some)
 
+round_scan_is_turn : (p : Plan) (k : ℕ) (d : Draws) → 0 < p.shape.n → IsTurn p.shape.n (round_scan p k d)
+round_scan_is_turn p k d some = record { there = process_there (k / 8 + 0) p.shape.n some; short = omega arith }
+
+round_update_is_turn : (p : Plan) (k t : ℕ) (d : Draws) → 0 < p.shape.n → IsTurn p.shape.n (round_update p k t d)
+round_update_is_turn p k t d some = record { there = process_there (k / 8 + (d.process % 2 + 1)) p.shape.n some; short = whole_short p }
+
+round_is_turn : (p : Plan) (k t : ℕ) (d : Draws) → 0 < p.shape.n → IsTurn p.shape.n (round_turn p k t d)
+round_is_turn p k t d some =
+    either (IsTurn p.shape.n) (nat_eq (t % 3) 0) (round_scan p k d) (round_update p k t d) (round_scan_is_turn p k d some) (round_update_is_turn p k t d some)
+
+scanned_is_turn : (p : Plan) (k t : ℕ) (d : Draws) → 0 < p.shape.n → IsTurn p.shape.n (scanned_turn p k t d)
+scanned_is_turn p k t d some =
+    either (IsTurn p.shape.n) (nat_eq (k % 8) 7) (round_turn p k t d) (interrupted_turn p k t d) (round_is_turn p k t d some) (interrupted_is_turn p k t d some)
+
 is_turn_at : (g : Pace) (p : Plan) (k t : ℕ) (d : Draws) → 0 < p.shape.n → IsTurn p.shape.n (turn_at g p k t d)
 is_turn_at Coins p k t d some = coin_is_turn p k t d some
 is_turn_at Bursts p k t d some = burst_is_turn p k t d some
 is_turn_at Interruptions p k t d some = interrupted_is_turn p k t d some
+is_turn_at Rounds p k t d some = round_is_turn p k t d some
 is_turn_at Mixed p k t d some =
-    either (IsTurn p.shape.n) (nat_eq (k % 2) 0) (burst_turn p k t d) (interrupted_turn p k t d) (burst_is_turn p k t d some) (interrupted_is_turn p k t d some)
+    either (IsTurn p.shape.n) (nat_eq (k % 2) 0) (burst_turn p k t d) (scanned_turn p k t d) (burst_is_turn p k t d some) (scanned_is_turn p k t d some)
 
 pub is_turn : (p : Plan) (k t : ℕ) (d : Draws) → 0 < p.shape.n → IsTurn p.shape.n (turn_of p k t d)
 is_turn p k t d some = is_turn_at p.pace p k t d some
@@ -95,7 +110,7 @@ steps_there n (suc count) i h = (h, steps_there n count i h)
 steps_few : (count i : ℕ) → count ≤ 128 → length (replicate count (Step i)) ≤ 128
 steps_few count i few = omega (arith, length-replicate count (Step i))
 
-asked_are_turn : (n i count : ℕ) (call : Option Op) → IsOneOf n i → count ≤ 128 → AreTurn n (call_items i call ++ replicate count (Step i))
+pub asked_are_turn : (n i count : ℕ) (call : Option Op) → IsOneOf n i → count ≤ 128 → AreTurn n (call_items i call ++ replicate count (Step i))
 asked_are_turn n i count None h few =
     let fewer = steps_few count i few in
     record { there = steps_there n count i h; few = omega (arith, fewer) }

@@ -1,4 +1,5 @@
 pub mod Draws
 pub mod Plan
 pub mod Turns
+pub mod Priorities
 pub mod Chance

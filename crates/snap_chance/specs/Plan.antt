@@ -1,10 +1,11 @@
 -- How schedules are made.
-use Rattle.std.specs.Prelude.{ℕ, ◌≤◌, Bool}
+use Rattle.std.specs.Prelude.{ℕ, ◌≤◌, Bool, Option}
 use Rattle.snap_words.specs.Shape.{Counts, IsShape}
 use Rattle.snap_chance.specs.declared.plan.Pace.{Pace}
 
 -- A plan: whether each process updates the word of its own number, how processes take turns, how many turns there are, how many
--- of a thousand are crashes, and the greatest of the values that half of the runs repeat.
+-- of a thousand are crashes, the greatest of the values that half of the runs repeat, and to which depth priorities decide who
+-- moves, if they do.
 pub record Plan : Type 0 where
   pub shape : Counts
   pub owns : Bool
@@ -12,6 +13,7 @@ pub record Plan : Type 0 where
   pub turns : ℕ
   pub crashes : ℕ
   pub repeated : ℕ
+  pub depth : Option ℕ
 
 -- There are processes and words, and so few turns that a schedule has room for them.
 pub record IsPlan (p : Plan) : Type 0 where
@@ -27,4 +29,17 @@ with_owned owns p = record {
   turns = p.turns;
   crashes = p.crashes;
   repeated = p.repeated;
+  depth = p.depth;
+}
+
+-- a plan in which priorities decide who moves, to this depth, where one is said
+abbrev pub with_depth : Option ℕ → Plan → Plan
+with_depth depth p = record {
+  shape = p.shape;
+  owns = p.owns;
+  pace = p.pace;
+  turns = p.turns;
+  crashes = p.crashes;
+  repeated = p.repeated;
+  depth = depth;
 }

@@ -1,5 +1,5 @@
 -- What a turn is, by what is drawn for it: a crash; or a call, where one is made, and steps of one process.
-use Rattle.std.specs.Prelude.{ℕ, ◌+◌, ◌*◌, ◌/◌, ◌%◌, ◌^◌, ◌&&◌, List, [], ◌∷◌, ◌++◌, Option, Some, None, min, nat_eq, nat_lt, replicate, if◌then◌else◌}
+use Rattle.std.specs.Prelude.{ℕ, Bool, ◌+◌, ◌*◌, ◌/◌, ◌%◌, ◌^◌, ◌&&◌, List, [], ◌∷◌, ◌++◌, Option, Some, None, min, nat_eq, nat_lt, replicate, if◌then◌else◌}
 use Rattle.snap_semantics.specs.declared.process.Item.{Item}
 use Rattle.snap_semantics.specs.declared.process.Item.TheVariants.{Step, Call, Crash}
 use Rattle.snap_semantics.specs.declared.process.Op.{Op}
@@ -7,7 +7,7 @@ use Rattle.snap_semantics.specs.declared.process.Op.TheVariants.{Scan, Update}
 use Rattle.snap_chance.specs.Plan.{Plan}
 use Rattle.snap_chance.specs.declared.draws.Draws.{Draws}
 use Rattle.snap_chance.specs.declared.plan.Pace.{Pace}
-use Rattle.snap_chance.specs.declared.plan.Pace.TheVariants.{Coins, Bursts, Interruptions, Mixed}
+use Rattle.snap_chance.specs.declared.plan.Pace.TheVariants.{Coins, Bursts, Interruptions, Rounds, Mixed}
 use Rattle.snap_chance.specs.declared.turns.Turn.{Turn}
 
 -- the process that is drawn for a turn
@@ -22,9 +22,13 @@ burst_of d = d.length % 2 ^ (d.scale % 8) + 1
 abbrev pub word_of : Plan → ℕ → Draws → ℕ
 word_of p i d = if p.owns then i else d.word % p.shape.w + 1
 
--- the value that the update of turn t of run k sets: t, or in half of the runs, where the plan repeats values, one of a few
+-- whether the values of run k repeat: those of half of the runs, where the plan says so
+abbrev pub repeats : Plan → (k : ℕ) → Bool
+repeats p k = nat_lt 0 p.repeated && nat_eq (k / 2 % 2) 1
+
+-- the value that the update of turn t of run k sets: t, or, where values repeat, one of a few
 abbrev pub value_of : Plan → (k t : ℕ) → Draws → ℕ
-value_of p k t d = if nat_lt 0 p.repeated && nat_eq (k / 2 % 2) 1 then d.value % (p.repeated + 1) else t
+value_of p k t d = if repeats p k then d.value % (p.repeated + 1) else t
 
 abbrev pub update_of : Plan → (k t i : ℕ) → Draws → Op
 update_of p k t i d = Update (word_of p i d) (value_of p k t d)
@@ -77,12 +81,39 @@ updating_turn p k t d = record {
 abbrev pub interrupted_turn : Plan → (k t : ℕ) → Draws → Turn
 interrupted_turn p k t d = if nat_eq (d.scale % 2) 0 then scanning_turn p k d else updating_turn p k t d
 
+-- the processes of the rounds of run k: number 0 scans, 1 and 2 update
+abbrev pub round_process : Plan → (k number : ℕ) → ℕ
+round_process p k number = (k / 8 + number) % p.shape.n + 1
+
+-- the value that an update of a round sets: t, or, where values repeat, one that the updates of a round share; the next round has the next
+abbrev pub round_value : Plan → (k t : ℕ) → ℕ
+round_value p k t = if repeats p k then t / 3 % (p.repeated + 1) else t
+
+-- a scan, where none is going on, and a few of its steps
+abbrev pub round_scan : Plan → (k : ℕ) → Draws → Turn
+round_scan p k d = record { process = round_process p k 0; call = Some Scan; steps = d.length % 4 + 1 }
+
+-- a whole update of one of two processes
+abbrev pub round_update : Plan → (k t : ℕ) → Draws → Turn
+round_update p k t d =
+    let process = round_process p k (d.process % 2 + 1) in
+    record { process = process; call = Some (Update (word_of p process d) (round_value p k t)); steps = whole_update p }
+
+-- a turn of a round, which has three: the last is of the process that scans
+abbrev pub round_turn : Plan → (k t : ℕ) → Draws → Turn
+round_turn p k t d = if nat_eq (t % 3) 0 then round_scan p k d else round_update p k t d
+
+-- a turn of a run whose scans are interrupted, by chance or, in one run of eight, in rounds
+abbrev pub scanned_turn : Plan → (k t : ℕ) → Draws → Turn
+scanned_turn p k t d = if nat_eq (k % 8) 7 then round_turn p k t d else interrupted_turn p k t d
+
 -- a turn of this pace
 abbrev pub turn_at : Pace → Plan → (k t : ℕ) → Draws → Turn
 turn_at Coins p k t d = coin_turn p k t d
 turn_at Bursts p k t d = burst_turn p k t d
 turn_at Interruptions p k t d = interrupted_turn p k t d
-turn_at Mixed p k t d = if nat_eq (k % 2) 0 then burst_turn p k t d else interrupted_turn p k t d
+turn_at Rounds p k t d = round_turn p k t d
+turn_at Mixed p k t d = if nat_eq (k % 2) 0 then burst_turn p k t d else scanned_turn p k t d
 
 -- turn t of run k, where it is no crash
 abbrev pub turn_of : Plan → (k t : ℕ) → Draws → Turn

@@ -2,9 +2,13 @@
 #![tactic(auto)]
 
 mod draws;
+mod laws;
+mod moves;
 mod plan;
+mod priorities;
 mod schedules;
 mod turns;
 
+pub use laws::priorities_are_distinct;
 pub use plan::{MAX_TURNS, Pace, Plan};
 pub use schedules::schedule_of;

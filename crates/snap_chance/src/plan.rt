@@ -1,7 +1,7 @@
 //! How schedules are made.
-ghost use Rattle.std.specs.Prelude.{◌≡◌, ◌≤◌, false};
+ghost use Rattle.std.specs.Prelude.{◌≡◌, ◌≤◌, false, None};
 ghost use Rattle.snap_words.specs.Shape.{IsShape};
-ghost use Rattle.snap_chance.specs.Plan.{IsPlan, with_owned};
+ghost use Rattle.snap_chance.specs.Plan.{IsPlan, with_depth, with_owned};
 
 use snap_words::Shape;
 use std::marker::Model;
@@ -19,7 +19,10 @@ pub enum Pace {
     /// One process scans, a few steps at a time. Between them all processes make updates, most of
     /// them whole.
     Interruptions,
-    /// Bursts and interruptions, in one run after another.
+    /// One process scans, one to four steps at a time. Between them two others make two updates,
+    /// whole.
+    Rounds,
+    /// Bursts in every second run, rounds in one of eight, and interruptions in the others.
     Mixed,
 }
 
@@ -33,6 +36,7 @@ pub struct Plan {
     turns: u64,
     crashes: u64,
     repeated: u32,
+    depth: Option<u64>,
 }
 
 impl Model for Plan {
@@ -47,6 +51,7 @@ impl Model for Plan {
       turns = p.turns;
       crashes = p.crashes;
       repeated = p.repeated;
+      depth = p.depth;
     } };
 
     ghost invariant = { λ p. IsPlan (record {
@@ -56,6 +61,7 @@ impl Model for Plan {
       turns = p.turns;
       crashes = p.crashes;
       repeated = p.repeated;
+      depth = p.depth;
     }) };
 
     ghost inverse = { λ p. record {
@@ -65,6 +71,7 @@ impl Model for Plan {
       turns = p.turns;
       crashes = p.crashes;
       repeated = p.repeated;
+      depth = p.depth;
     } };
 }
 
@@ -82,6 +89,7 @@ impl Plan {
           turns = turns;
           crashes = crashes;
           repeated = repeated;
+          depth = None;
         } }
     {
         Plan {
@@ -91,6 +99,7 @@ impl Plan {
             turns,
             crashes,
             repeated,
+            depth: None,
         }
     }
 
@@ -105,6 +114,23 @@ impl Plan {
             turns: self.turns,
             crashes: self.crashes,
             repeated: self.repeated,
+            depth: self.depth,
+        }
+    }
+
+    /// The same plan, in which priorities decide who moves, to this depth, where one is said: the
+    /// process that moves is lowered at one turn fewer than that.
+    pub fn with_depth(&self, depth: Option<u64>) -> Plan
+        ensures { result ≡ with_depth depth self.now }
+    {
+        Plan {
+            shape: self.shape,
+            owns: self.owns,
+            pace: self.pace,
+            turns: self.turns,
+            crashes: self.crashes,
+            repeated: self.repeated,
+            depth,
         }
     }
 
@@ -150,5 +176,12 @@ impl Plan {
         ensures { result ≡ self.now.repeated }
     {
         self.repeated
+    }
+
+    /// To which depth priorities decide who moves, if they do.
+    pub fn depth(&self) -> Option<u64>
+        ensures { result ≡ self.now.depth }
+    {
+        self.depth
     }
 }

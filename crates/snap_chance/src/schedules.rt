@@ -1,9 +1,10 @@
 //! The schedule of a seed and a number.
 ghost use Rattle.std.specs.Prelude.{◌≡◌, IfOk};
 ghost use Rattle.snap_semantics.specs.ScheduleText.{IsSchedule};
-ghost use Rattle.snap_chance.specs.Chance.{schedule_of, start_of, turns_from};
+ghost use Rattle.snap_chance.specs.Chance.{items_by, schedule_of, start_of, turns_from};
 
 use crate::draws::draw;
+use crate::moves::prioritized;
 use crate::plan::Plan;
 use crate::turns::push_turn;
 use rand_core::{Rng, SeedableRng};
@@ -33,12 +34,25 @@ fn turns_of<R: Rng>(alloc: Global, rng: &mut R, plan: &Plan, run: u64) -> Result
     Ok(items)
 }
 
+/// The items of a run.
+fn items_of<R: Rng>(alloc: Global, rng: &mut R, plan: &Plan, run: u64) -> Result<Items, AllocError>
+    ensures items { IfOk result (λ items. items
+        ≡ items_by plan.now.depth plan.now run (R.stream rng.old)) }
+    ensures schedule { IfOk result (λ items. IsSchedule
+        (record { shape = plan.now.shape; items = items })) }
+{
+    match plan.depth() {
+        None => turns_of(alloc, rng, plan, run),
+        Some(depth) => prioritized(alloc, rng, plan, run, depth),
+    }
+}
+
 /// The schedule that a seed and the number of a run give by a plan. Each number has its own.
 #[tactic(auto, unfolding(crate::specs::Chance::schedule_of))]
 pub fn schedule_of(alloc: Global, seed: u64, run: u64, plan: &Plan) -> Result<Schedule, AllocError>
     ensures { IfOk result (λ s. s ≡ schedule_of seed run plan.now) }
 {
     let mut rng = SplitMix64::seed_from_u64(start_of(seed, run));
-    let items = turns_of(alloc, &mut rng, plan, run)?;
+    let items = items_of(alloc, &mut rng, plan, run)?;
     Ok(Schedule::new(plan.shape(), items))
 }

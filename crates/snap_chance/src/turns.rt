@@ -12,6 +12,13 @@ ghost use Rattle.snap_chance.specs.Turns.{
   interrupted_process,
   operation_of,
   process_of,
+  repeats,
+  round_process,
+  round_scan,
+  round_turn,
+  round_update,
+  round_value,
+  scanned_turn,
   scanning_turn,
   turn_items,
   turn_of,
@@ -44,7 +51,7 @@ fn process_of(plan: &Plan, draws: &Draws) -> u32
 }
 
 /// How many steps a burst is.
-fn burst_of(draws: &Draws) -> u64
+pub(crate) fn burst_of(draws: &Draws) -> u64
     ensures { result ≡ burst_of draws.now }
 {
     draws.length % (1 << (draws.scale % 8)) + 1
@@ -61,11 +68,18 @@ fn word_of(plan: &Plan, process: u32, draws: &Draws) -> u64
     }
 }
 
+/// Whether the values of a run repeat.
+fn repeats(plan: &Plan, run: u64) -> bool
+    ensures { result ≡ repeats plan.now run }
+{
+    plan.repeated() > 0 && run / 2 % 2 == 1
+}
+
 /// The value that the update of a turn sets.
 fn value_of(plan: &Plan, run: u64, turn: u64, draws: &Draws) -> u64
     ensures { result ≡ value_of plan.now run turn draws.now }
 {
-    if plan.repeated() > 0 && run / 2 % 2 == 1 {
+    if repeats(plan, run) {
         draws.value % (u64::from(plan.repeated()) + 1)
     } else {
         turn
@@ -73,7 +87,7 @@ fn value_of(plan: &Plan, run: u64, turn: u64, draws: &Draws) -> u64
 }
 
 /// The update of a turn.
-fn update_of(plan: &Plan, run: u64, turn: u64, process: u32, draws: &Draws) -> Op
+pub(crate) fn update_of(plan: &Plan, run: u64, turn: u64, process: u32, draws: &Draws) -> Op
     ensures { result ≡ update_of plan.now run turn process draws.now }
 {
     Op::Update {
@@ -83,7 +97,7 @@ fn update_of(plan: &Plan, run: u64, turn: u64, process: u32, draws: &Draws) -> O
 }
 
 /// The operation of a turn.
-fn operation_of(plan: &Plan, run: u64, turn: u64, process: u32, draws: &Draws) -> Op
+pub(crate) fn operation_of(plan: &Plan, run: u64, turn: u64, process: u32, draws: &Draws) -> Op
     ensures { result ≡ operation_of plan.now run turn process draws.now }
 {
     if draws.scan % 2 == 0 {
@@ -128,14 +142,14 @@ fn burst_turn(plan: &Plan, run: u64, turn: u64, draws: &Draws) -> Turn
 }
 
 /// The process whose scans are interrupted in a run.
-fn interrupted_process(plan: &Plan, run: u64) -> u32
+pub(crate) fn interrupted_process(plan: &Plan, run: u64) -> u32
     ensures { result ≡ interrupted_process plan.now run }
 {
     (run / 2 % u64::from(plan.shape().process_count())) as u32 + 1
 }
 
 /// A few steps of the process that scans.
-fn scanning_turn(plan: &Plan, run: u64, draws: &Draws) -> Turn
+pub(crate) fn scanning_turn(plan: &Plan, run: u64, draws: &Draws) -> Turn
     ensures { result ≡ scanning_turn plan.now run draws.now }
 {
     let call = if draws.call % 4 == 0 {
@@ -159,7 +173,7 @@ fn whole_update(plan: &Plan) -> u64
 }
 
 /// An update, whole or its first part.
-fn updating_turn(plan: &Plan, run: u64, turn: u64, draws: &Draws) -> Turn
+pub(crate) fn updating_turn(plan: &Plan, run: u64, turn: u64, draws: &Draws) -> Turn
     ensures { result ≡ updating_turn plan.now run turn draws.now }
 {
     let process = process_of(plan, draws);
@@ -187,6 +201,73 @@ fn interrupted_turn(plan: &Plan, run: u64, turn: u64, draws: &Draws) -> Turn
     }
 }
 
+/// A process of the rounds of a run: number 0 scans, 1 and 2 update.
+fn round_process(plan: &Plan, run: u64, number: u64) -> u32
+    requires { number ≤ 2 }
+    ensures { result ≡ round_process plan.now run number }
+{
+    ((run / 8 + number) % u64::from(plan.shape().process_count())) as u32 + 1
+}
+
+/// The value that an update of a round sets.
+fn round_value(plan: &Plan, run: u64, turn: u64) -> u64
+    ensures { result ≡ round_value plan.now run turn }
+{
+    if repeats(plan, run) {
+        turn / 3 % (u64::from(plan.repeated()) + 1)
+    } else {
+        turn
+    }
+}
+
+/// A scan, where none is going on, and a few of its steps.
+fn round_scan(plan: &Plan, run: u64, draws: &Draws) -> Turn
+    ensures { result ≡ round_scan plan.now run draws.now }
+{
+    Turn {
+        process: round_process(plan, run, 0),
+        call: Some(Op::Scan),
+        steps: draws.length % 4 + 1,
+    }
+}
+
+/// A whole update of one of two processes.
+fn round_update(plan: &Plan, run: u64, turn: u64, draws: &Draws) -> Turn
+    ensures { result ≡ round_update plan.now run turn draws.now }
+{
+    let process = round_process(plan, run, draws.process % 2 + 1);
+    Turn {
+        process,
+        call: Some(Op::Update {
+            word: word_of(plan, process, draws),
+            value: round_value(plan, run, turn),
+        }),
+        steps: whole_update(plan),
+    }
+}
+
+/// A turn of a round.
+fn round_turn(plan: &Plan, run: u64, turn: u64, draws: &Draws) -> Turn
+    ensures { result ≡ round_turn plan.now run turn draws.now }
+{
+    if turn % 3 == 0 {
+        round_scan(plan, run, draws)
+    } else {
+        round_update(plan, run, turn, draws)
+    }
+}
+
+/// A turn of a run whose scans are interrupted, by chance or, in one run of eight, in rounds.
+fn scanned_turn(plan: &Plan, run: u64, turn: u64, draws: &Draws) -> Turn
+    ensures { result ≡ scanned_turn plan.now run turn draws.now }
+{
+    if run % 8 == 7 {
+        round_turn(plan, run, turn, draws)
+    } else {
+        interrupted_turn(plan, run, turn, draws)
+    }
+}
+
 /// A turn that is no crash.
 fn turn_of(plan: &Plan, run: u64, turn: u64, draws: &Draws) -> Turn
     ensures { result ≡ turn_of plan.now run turn draws.now }
@@ -195,18 +276,19 @@ fn turn_of(plan: &Plan, run: u64, turn: u64, draws: &Draws) -> Turn
         Pace::Coins => coin_turn(plan, run, turn, draws),
         Pace::Bursts => burst_turn(plan, run, turn, draws),
         Pace::Interruptions => interrupted_turn(plan, run, turn, draws),
+        Pace::Rounds => round_turn(plan, run, turn, draws),
         Pace::Mixed => {
             if run % 2 == 0 {
                 burst_turn(plan, run, turn, draws)
             } else {
-                interrupted_turn(plan, run, turn, draws)
+                scanned_turn(plan, run, turn, draws)
             }
         }
     }
 }
 
 /// Adds what a process is asked for, and its steps.
-fn push_asked(items: &mut Items, turn: &Turn) -> Result<(), AllocError>
+pub(crate) fn push_asked(items: &mut Items, turn: &Turn) -> Result<(), AllocError>
     requires few { length items.old + 129 < 2 ^ 32 }
     requires short { turn.now.steps ≤ 128 }
     ensures added { OnOk result (items.new ≡ items.old ++ asked_items turn.now) }

@@ -13,7 +13,7 @@ HasLimits NoText = ⊤
 
 -- the same, where a refusal is explained in any case if `more`
 abbrev pub explained_if : Bool → CommandLine → CommandLine
-explained_if more (Asks a) = Asks (record { request = a.request; explains = a.explains || more })
+explained_if more (Asks a) = Asks (record { request = a.request; explains = a.explains || more; strict = a.strict })
 explained_if more (Help text) = Help text
 explained_if more (Wrong text) = Wrong text
 explained_if more NoText = NoText

@@ -45,6 +45,20 @@ fn live<'a>(alloc: Global) -> Result<Command<'a>, AllocError> {
     .arg(limit)
 }
 
+/// The subcommand that surveys runs.
+fn survey<'a>(alloc: Global) -> Result<Command<'a>, AllocError> {
+    let strict = Arg::new(alloc, "strict")
+        .long("strict")
+        .action(ArgAction::SetTrue)
+        .help("Ends with status 4 where a run has a scan without a point, or a trap");
+    running(
+        alloc,
+        "survey",
+        "Says what the run of each of many schedules came to",
+    )?
+    .arg(strict)
+}
+
 /// The option that has refusals explained.
 fn explain<'a>(alloc: Global) -> Arg<'a> {
     Arg::new(alloc, "explain")
@@ -90,11 +104,7 @@ fn command<'a>(alloc: Global) -> Result<Command<'a>, AllocError> {
             "Says where each operation took place, if each has a linearization point",
         )?)?
         .subcommand(running(alloc, "batch", "Runs a listing under many schedules")?)?
-        .subcommand(running(
-            alloc,
-            "survey",
-            "Says what the run of each of many schedules came to",
-        )?)?
+        .subcommand(survey(alloc)?)?
         .subcommand(live(alloc)?)
 }
 
@@ -125,7 +135,12 @@ fn request_by(matches: &ArgMatches<'_>) -> Option<Invocation>
     let subject = subject_of(arguments)?;
     let request = request_of(name, subject, limit_of(arguments))?;
     let explains = matches.get_flag("explain");
-    Some(Invocation { request, explains })
+    let strict = arguments.get_flag("strict");
+    Some(Invocation {
+        request,
+        explains,
+        strict,
+    })
 }
 
 /// What the arguments ask for, the program's own name first.

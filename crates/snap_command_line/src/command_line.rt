@@ -8,11 +8,13 @@ use clap::error::ErrorKind;
 use snap_tasks::Request;
 use std::alloc::{AllocError, Global};
 
-/// What the arguments of a command line ask for, and whether a refusal is to be explained.
+/// What the arguments of a command line ask for, whether a refusal is to be explained, and whether
+/// a survey is strict: ends with a status of its own where a run is not clean.
 #[derive(Clone, Copy, Debug, PartialEq, Eq)]
 pub struct Invocation {
     pub request: Request,
     pub explains: bool,
+    pub strict: bool,
 }
 
 /// What the arguments of a command line come to.
@@ -38,6 +40,7 @@ impl CommandLine {
             CommandLine::Asks(asked) => CommandLine::Asks(Invocation {
                 request: asked.request,
                 explains: asked.explains || explains,
+                strict: asked.strict,
             }),
             other => other,
         }

@@ -1,1 +1,4 @@
 pub mod Traps
+pub mod Products
+pub mod Watching
+pub mod Operations

@@ -1,1 +1,4 @@
+pub mod Kinds
 pub mod Failing
+pub mod Watching
+pub mod Operations

@@ -3,16 +3,18 @@ ghost use Rattle.std.specs.Prelude.{◌≡◌, IfOk, length};
 ghost use Rattle.snap_runs.specs.Run.{state};
 ghost use Rattle.snap_failure.specs.Failing.{
   failure_of,
+  first_failure,
   first_trap,
   many_collects,
   no_point,
   of_collects,
   of_points,
+  of_steps,
   of_traps,
   trap_of,
 };
 
-use crate::failures::{Failure, Wanted};
+use crate::failures::{Failure, Wanted, of_kind};
 use snap_audit::audit;
 use snap_machine::Machine;
 use snap_record::Record;
@@ -105,15 +107,16 @@ fn of_collects(wanted: &Wanted, verdicts: &[Verdict]) -> Option<Failure>
     }
 }
 
-/// What fails in a record, the first that is asked for: a scan without a point, a trap, a scan of
-/// too many double collects.
-#[tactic(auto, unfolding(crate::specs::Failing::failure_of))]
-pub fn failure<K: Kind>(
+/// What fails in a record, the first that is asked for: a scan without a point, a trap, the first
+/// operation of too many steps, which is this one, a scan of too many double collects.
+fn first_failure<K: Kind>(
     alloc: Global,
     record: &Record<K>,
+    overrun: Option<Failure>,
     wanted: &Wanted,
 ) -> Result<Option<Failure>, AllocError>
-    ensures { IfOk result (λ f. f ≡ failure_of wanted.now record.now) }
+    requires { overrun ≡ of_steps wanted.now record.now }
+    ensures { IfOk result (λ f. f ≡ first_failure wanted.now record.now) }
 {
     let verdicts = audit(alloc, record)?;
     if let Some(found) = of_points(wanted, verdicts.as_slice()) {
@@ -122,5 +125,23 @@ pub fn failure<K: Kind>(
     if let Some(found) = of_traps(wanted, record.machine()) {
         return Ok(Some(found));
     }
+    if let Some(found) = overrun {
+        return Ok(Some(found));
+    }
     Ok(of_collects(wanted, verdicts.as_slice()))
+}
+
+/// The same, where it is of the only kind that is wanted.
+#[tactic(auto, unfolding(crate::specs::Failing::failure_of))]
+pub(crate) fn failure<K: Kind>(
+    alloc: Global,
+    record: &Record<K>,
+    overrun: Option<Failure>,
+    wanted: &Wanted,
+) -> Result<Option<Failure>, AllocError>
+    requires { overrun ≡ of_steps wanted.now record.now }
+    ensures { IfOk result (λ f. f ≡ failure_of wanted.now record.now) }
+{
+    let found = first_failure(alloc, record, overrun, wanted)?;
+    Ok(of_kind(wanted.only, found))
 }

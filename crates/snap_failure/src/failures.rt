@@ -1,6 +1,19 @@
 //! What may fail in a run.
+ghost use Rattle.std.specs.Prelude.{◌≡◌, true};
+ghost use Rattle.snap_failure.specs.Kinds.{is_kind, kind_of, of_kind, with_only};
+
 use snap_runs::Verdict;
 use snap_semantics::Cause;
+
+/// The steps of its own that a process has taken since it called an operation.
+#[derive(Clone, Copy, Debug, PartialEq, Eq)]
+pub struct OwnSteps {
+    /// Whether the operation is an update. It is a scan where not.
+    pub update: bool,
+    /// The item that called it.
+    pub call: u64,
+    pub count: u64,
+}
 
 /// What fails in a run.
 #[derive(Clone, Copy, Debug, PartialEq, Eq)]
@@ -15,6 +28,30 @@ pub enum Failure {
     },
     /// A finished scan made too many double collects.
     ManyCollects(Verdict),
+    /// With this item, which is one of them, an operation has taken too many steps of its own.
+    ManySteps {
+        process: u32,
+        item: u64,
+        own: OwnSteps,
+    },
+}
+
+/// The kinds of failures.
+#[derive(Clone, Copy, Debug, PartialEq, Eq)]
+pub enum FailureKind {
+    Point,
+    Trap,
+    Steps,
+    Collects,
+}
+
+/// The most steps of its own that an operation may take.
+#[derive(Clone, Copy, Debug, PartialEq, Eq)]
+pub enum StepBound {
+    /// Those within which each operation of the listing that is shipped for the kind is over, in
+    /// the shape at hand.
+    Shipped,
+    Given(u64),
 }
 
 /// Which failures are asked for.
@@ -22,6 +59,66 @@ pub enum Failure {
 pub struct Wanted {
     pub point: bool,
     pub trap: bool,
+    /// The most steps of its own that an operation may take.
+    pub steps: Option<StepBound>,
     /// The most double collects that a scan may make.
     pub collects: Option<u64>,
+    /// The kind that the first of these failures has to be of, where only one is wanted.
+    pub only: Option<FailureKind>,
+}
+
+impl Wanted {
+    /// The same, where nothing but failures of this kind is wanted.
+    pub fn with_only(&self, kind: FailureKind) -> Wanted
+        ensures { result ≡ with_only kind self.now }
+    {
+        Wanted {
+            point: self.point,
+            trap: self.trap,
+            steps: self.steps,
+            collects: self.collects,
+            only: Some(kind),
+        }
+    }
+}
+
+impl Failure {
+    /// The kind of a failure.
+    pub fn kind(&self) -> FailureKind
+        ensures { result ≡ kind_of self.now }
+    {
+        match self {
+            Failure::NoPoint(_) => FailureKind::Point,
+            Failure::Trapped { .. } => FailureKind::Trap,
+            Failure::ManySteps { .. } => FailureKind::Steps,
+            Failure::ManyCollects(_) => FailureKind::Collects,
+        }
+    }
+
+    /// Whether a failure is of this kind.
+    pub fn is_kind(&self, kind: FailureKind) -> bool
+        ensures value { result ≡ is_kind kind self.now }
+        ensures kind { result ≡ true → kind_of self.now ≡ kind }
+    {
+        match (kind, self) {
+            (FailureKind::Point, Failure::NoPoint(_)) => true,
+            (FailureKind::Trap, Failure::Trapped { .. }) => true,
+            (FailureKind::Steps, Failure::ManySteps { .. }) => true,
+            (FailureKind::Collects, Failure::ManyCollects(_)) => true,
+            _ => false,
+        }
+    }
+}
+
+/// What fails, where it is of the only kind that is wanted.
+pub(crate) fn of_kind(only: Option<FailureKind>, found: Option<Failure>) -> Option<Failure>
+    ensures { result ≡ of_kind only found }
+{
+    let Some(kind) = only else {
+        return found;
+    };
+    match found {
+        Some(failure) if failure.is_kind(kind) => Some(failure),
+        _ => None,
+    }
 }

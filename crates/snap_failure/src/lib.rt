@@ -1,10 +1,21 @@
-//! What fails in a run: a scan without a point, a trap, a scan of too many double collects.
+//! What fails in a run: a scan without a point, a trap, an operation of too many steps of its own,
+//! a scan of too many double collects.
 #![tactic(auto)]
+
+ghost use Rattle.snap_failure.specs.Operations.{StepsAreOfOperations};
 
 mod failing;
 mod failures;
 mod over;
+mod step_bounds;
+mod steps;
+mod watched;
 
-pub use failing::failure;
-pub use failures::{Failure, Wanted};
+pub use failures::{Failure, FailureKind, OwnSteps, StepBound, Wanted};
 pub use over::failure_over;
+
+/// Too many steps are those of an operation of the run that had not ended before; and where an
+/// operation takes too many, whether it ends or not, that is found.
+pub fn steps_are_of_operations()
+    ensures { StepsAreOfOperations }
+{}

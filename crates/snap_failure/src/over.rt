@@ -1,15 +1,49 @@
 //! What fails in the run of a program over a schedule.
-ghost use Rattle.std.specs.Prelude.{◌≡◌, IfOk};
+ghost use Rattle.std.specs.Prelude.{◌≡◌, IfOk, None, Some};
 ghost use Rattle.snap_runs.specs.Run.{run_over};
 ghost use Rattle.snap_failure.specs.Failing.{failure_of};
 
 use crate::failing::failure;
-use crate::failures::{Failure, Wanted};
+use crate::failures::{Failure, StepBound, Wanted};
+use crate::step_bounds::most_steps;
+use crate::watched::watched_over;
 use snap_asm_program::Program;
 use snap_record::record_over;
 use snap_sched::Schedule;
 use snap_words::{Bits, Kind, KindTag, Multi, Seq};
 use std::alloc::{AllocError, Global};
+
+/// What fails in the run of a program of a kind, where steps may be as many as they like.
+fn failure_of_record<K: Kind>(
+    alloc: Global,
+    program: &Program,
+    schedule: &Schedule,
+    wanted: &Wanted,
+) -> Result<Option<Failure>, AllocError>
+    requires kind { program.now.kind ≡ K.TAG }
+    requires steps { wanted.now.steps ≡ None }
+    ensures { IfOk result (λ f. f ≡ failure_of wanted.now (run_over program.now schedule.now)) }
+{
+    let record = record_over::<K>(alloc, program, schedule)?;
+    failure(alloc, &record, None, wanted)
+}
+
+/// What fails in the run of a program of a kind, where steps are bounded so.
+fn failure_of_watched<K: Kind>(
+    alloc: Global,
+    program: &Program,
+    schedule: &Schedule,
+    wanted: &Wanted,
+    bound: StepBound,
+) -> Result<Option<Failure>, AllocError>
+    requires kind { program.now.kind ≡ K.TAG }
+    requires steps { wanted.now.steps ≡ Some bound }
+    ensures { IfOk result (λ f. f ≡ failure_of wanted.now (run_over program.now schedule.now)) }
+{
+    let most = most_steps(program.kind(), schedule.shape(), bound);
+    let watched = watched_over::<K>(alloc, program, schedule, most)?;
+    failure(alloc, &watched.record, watched.overrun, wanted)
+}
 
 /// What fails in the run of a program of a kind.
 fn failure_in<K: Kind>(
@@ -21,8 +55,10 @@ fn failure_in<K: Kind>(
     requires { program.now.kind ≡ K.TAG }
     ensures { IfOk result (λ f. f ≡ failure_of wanted.now (run_over program.now schedule.now)) }
 {
-    let record = record_over::<K>(alloc, program, schedule)?;
-    failure(alloc, &record, wanted)
+    match wanted.steps {
+        None => failure_of_record::<K>(alloc, program, schedule, wanted),
+        Some(bound) => failure_of_watched::<K>(alloc, program, schedule, wanted, bound),
+    }
 }
 
 /// What fails in the run of a program over a schedule.

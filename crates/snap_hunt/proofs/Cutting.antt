@@ -1,14 +1,15 @@
 -- What is left of items without some of them.
-use Rattle.std.proofs.Common.{◌≡◌, ℕ, zero, suc, ◌+◌, ◌-◌, ◌<◌, ◌≤◌, List, [], ◌∷◌, ◌++◌, true, drop, length, take, refl, sym, ap, subst, ◌∙◌, arith}
-use Rattle.std.proofs.lemmas.List.{length-append, length-drop, length-take}
+use Rattle.std.proofs.Common.{◌≡◌, ℕ, zero, suc, ◌+◌, ◌-◌, ◌<◌, ◌≤◌, List, [], ◌∷◌, ◌++◌, true, drop, get_or, length, take, refl, sym, ap, subst, ◌∙◌, arith}
+use Rattle.std.proofs.lemmas.List.{length-append, length-drop}
 use Rattle.std.specs.List.{AllByRecursion}
 use Rattle.snap_words.specs.Shape.{Counts, IsOneOf}
 use Rattle.snap_semantics.specs.declared.process.Item.{Item}
+use Rattle.snap_semantics.specs.Schedule.{Schedule}
 use Rattle.snap_semantics.specs.ScheduleText.{FitsItem, IsSchedule}
 use Rattle.snap_semantics.specs.Table.{who}
 use Rattle.snap_semantics.specs.Source.{Source}
 use Rattle.snap_failure.specs.declared.failures.Wanted.{Wanted}
-use Rattle.snap_hunt.specs.Shrinking.{Fails, Shrinks, fails_with, without}
+use Rattle.snap_hunt.specs.Shrinking.{Fails, IsShrunk, Shrinks, fails_with, without}
 
 all_taken : (P : Item → Type 0) (n : ℕ) (xs : List Item) → AllByRecursion P xs → AllByRecursion P (take n xs)
 all_taken P zero xs h = tt
@@ -69,14 +70,14 @@ left_schedule shape at count xs ys h le is =
     subst (λ (zs : List Item). IsSchedule (record { shape = shape; items = zs })) (sym is) (still_schedule shape at count xs le h)
 
 -- what is left, where it still fails
-pub left_fails : (l : Source) (w : Wanted) (shape : Counts) (at count : ℕ) (all xs ys : List Item) → Shrinks l w shape all xs → at ≤ length xs
-    → ys ≡ without at count xs → fails_with l w shape ys ≡ true → Shrinks l w shape all ys
-left_fails l w shape at count all xs ys h le is fails =
-    let shorter = h.shorter in
+pub left_fails : (l : Source) (w : Wanted) (s : Schedule) (shape : Counts) (at count : ℕ) (xs ys : List Item) → Shrinks l w s (record { shape = shape; items = xs })
+    → at ≤ length xs → ys ≡ without at count xs → fails_with l w shape ys ≡ true → Shrinks l w s (record { shape = shape; items = ys })
+left_fails l w s shape at count xs ys h le is fails =
+    let within = h.within.items in
     let left : length ys ≡ at + (length xs - (at + count)) = ap length is ∙ length_without at count xs le in
     record {
       still = record { schedule = left_schedule shape at count xs ys h.still.schedule le is; fails = fails };
-      shorter = omega (arith, shorter, left, le);
+      within = record { processes = h.within.processes; words = h.within.words; items = omega (arith, within, left, le) };
     }
 
 -- and it is shorter
@@ -86,13 +87,29 @@ left_shorter at count xs ys lt some is =
     let left : length ys ≡ at + (length xs - (at + count)) = ap length is ∙ length_without at count xs le in
     omega (arith, left)
 
--- from items that fail to themselves
-pub itself : (l : Source) (w : Wanted) (shape : Counts) (xs : List Item) → Fails l w shape xs → Shrinks l w shape xs xs
-itself l w shape xs h = record { still = h; shorter = omega arith }
+-- from a schedule whose run fails to itself
+pub itself : (l : Source) (w : Wanted) (s : Schedule) → Fails l w s.shape s.items → Shrinks l w s s
+itself l w s h = record { still = h; within = record { processes = omega arith; words = omega arith; items = omega arith } }
 
 -- one after another
-pub onward : (l : Source) (w : Wanted) (shape : Counts) (xs ys zs : List Item) → Shrinks l w shape xs ys → Shrinks l w shape ys zs → Shrinks l w shape xs zs
-onward l w shape xs ys zs h k =
-    let a = h.shorter in
-    let b = k.shorter in
-    record { still = k.still; shorter = omega (arith, a, b) }
+pub onward : (l : Source) (w : Wanted) (s t u : Schedule) → Shrinks l w s t → Shrinks l w t u → Shrinks l w s u
+onward l w s t u h k =
+    let a = h.within in
+    let b = k.within in
+    record {
+      still = k.still;
+      within = record { processes = omega (arith, a.processes, b.processes); words = omega (arith, a.words, b.words); items = omega (arith, a.items, b.items) };
+    }
+
+-- and to a small one in the end
+pub onward_small : (l : Source) (w : Wanted) (s t u : Schedule) → Shrinks l w s t → IsShrunk l w t u → IsShrunk l w s u
+onward_small l w s t u h k = record { shrinks = onward l w s t u h k.shrinks; small = k.small }
+
+-- each of the first items, and the next one
+pub all_more : (P : Item → Type 0) (xs : List Item) (k : ℕ) (d : Item) → k < length xs → AllByRecursion P (take k xs) → P (get_or xs k d)
+    → AllByRecursion P (take (suc k) xs)
+all_more P [] k d lt h p = absurd (omega arith)
+all_more P (x ∷ xs) zero d lt h p = (p, tt)
+all_more P (x ∷ xs) (suc k) d lt h p =
+    let below : k < length xs = omega arith in
+    (h.0, all_more P xs k d below h.1 p)

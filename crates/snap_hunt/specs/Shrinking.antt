@@ -8,6 +8,7 @@ use Rattle.snap_semantics.specs.Source.{Source}
 use Rattle.snap_runs.specs.Run.{run_of_items}
 use Rattle.snap_failure.specs.Failing.{failure_of}
 use Rattle.snap_failure.specs.declared.failures.Wanted.{Wanted}
+use Rattle.snap_hunt.specs.declared.draft.Draft.{Draft}
 
 -- items without so many of them at a place, which counts from 0
 abbrev pub without : (at count : ℕ) → List Item → List Item
@@ -22,17 +23,31 @@ pub record Fails (l : Source) (w : Wanted) (shape : Counts) (xs : List Item) : T
   pub schedule : IsSchedule (record { shape = shape; items = xs })
   pub fails : fails_with l w shape xs ≡ true
 
--- from items whose run fails to no more of them whose run fails
-pub record Shrinks (l : Source) (w : Wanted) (shape : Counts) (xs ys : List Item) : Type 0 where
-  pub still : Fails l w shape ys
-  pub shorter : length ys ≤ length xs
+-- no more processes, words and items
+pub record IsWithin (s t : Schedule) : Type 0 where
+  pub processes : s.shape.n ≤ t.shape.n
+  pub words : s.shape.w ≤ t.shape.w
+  pub items : length s.items ≤ length t.items
+
+-- from a schedule whose run fails to one that is no larger, whose run fails
+pub record Shrinks (l : Source) (w : Wanted) (s t : Schedule) : Type 0 where
+  pub still : Fails l w t.shape t.items
+  pub within : IsWithin t s
 
 -- no item can be left out
 abbrev pub IsSmall : Source → Wanted → Counts → List Item → Type 0
 IsSmall l w shape xs = (k : ℕ) → k < length xs → fails_with l w shape (without k 1 xs) ≡ false
 
--- a schedule whose run fails, and a small one of no more items, of the same shape
+-- a schedule whose run fails, and a small one that is no larger
 pub record IsShrunk (l : Source) (w : Wanted) (s t : Schedule) : Type 0 where
-  pub shape : t.shape ≡ s.shape
-  pub shrinks : Shrinks l w s.shape s.items t.items
-  pub small : IsSmall l w s.shape t.items
+  pub shrinks : Shrinks l w s t
+  pub small : IsSmall l w t.shape t.items
+
+-- a draft as a schedule
+abbrev pub drawn : Draft → Schedule
+drawn d = record { shape = d.shape; items = d.items.items }
+
+-- from a schedule to a draft that is no larger, of fewer processes or words, whose run fails
+pub record Narrows (l : Source) (w : Wanted) (s : Schedule) (d : Draft) : Type 0 where
+  pub shrinks : Shrinks l w s (drawn d)
+  pub fewer : d.shape.n + d.shape.w < s.shape.n + s.shape.w

@@ -4,9 +4,25 @@ ghost use Rattle.snap_semantics.specs.ScheduleText.{IsSchedule};
 ghost use Rattle.snap_hunt.specs.Shrinking.{without};
 
 use snap_sched::{Items, Schedule};
-use snap_semantics::Item;
+use snap_semantics::{Item, who};
 use snap_words::Shape;
 use std::alloc::{AllocError, Global};
+
+/// Some of the items of a draft.
+#[derive(Clone, Copy, Debug)]
+pub(crate) enum Cut {
+    /// So many items, from a place on.
+    Segment {
+        at: usize,
+        count: usize,
+    },
+    /// So many items of a process, behind so many of its own.
+    Turns {
+        process: u32,
+        from: usize,
+        count: usize,
+    },
+}
 
 /// The items of a schedule.
 pub(crate) fn items_of(alloc: Global, schedule: &Schedule) -> Result<Vec<Item>, AllocError>
@@ -69,4 +85,36 @@ pub(crate) fn without(
     let mut left = Vec::from_slice(alloc, &items[..at])?;
     left.extend_from_slice(behind(items, at, count))?;
     Ok(left)
+}
+
+/// What is left of items without so many items of a process, behind so many of its own.
+fn without_turns(
+    alloc: Global,
+    items: &[Item],
+    process: u32,
+    from: usize,
+    count: usize,
+) -> Result<Vec<Item>, AllocError> {
+    let mut left = Vec::new(alloc);
+    let mut own: usize = 0;
+    for item in items {
+        let is_own = who(*item) == process;
+        if !is_own || own < from || own - from >= count {
+            left.push(*item)?;
+        }
+        own = own.saturating_add(usize::from(is_own));
+    }
+    Ok(left)
+}
+
+/// What a cut leaves of items.
+pub(crate) fn left_by(alloc: Global, items: &[Item], cut: Cut) -> Result<Vec<Item>, AllocError> {
+    match cut {
+        Cut::Segment { at, count } => without(alloc, items, at.min(items.len()), count),
+        Cut::Turns {
+            process,
+            from,
+            count,
+        } => without_turns(alloc, items, process, from, count),
+    }
 }

@@ -3,9 +3,17 @@
 
 mod blocks;
 mod cuts;
+mod draft;
+mod follow;
 mod hunt;
+mod narrow;
+mod orders;
+mod parts;
+mod passes;
+mod places;
 mod shrink;
 mod trials;
+mod values;
 
 pub use hunt::{Watcher, first_failing};
 pub use shrink::shrunk;

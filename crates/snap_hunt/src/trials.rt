@@ -1,10 +1,10 @@
 //! Whether what is left still fails.
-ghost use Rattle.std.specs.Prelude.{◌≡◌, ◌<◌, ◌≤◌, ◌+◌, ℕ, length, true, false, IfOk, MatchOption, is_some};
-ghost use Rattle.snap_words.specs.Shape.{max_items};
+ghost use Rattle.std.specs.Prelude.{◌≡◌, ◌<◌, ℕ, length, true, false, IfOk, IsTrue, MatchOption, is_some};
 ghost use Rattle.snap_semantics.specs.ScheduleText.{IsSchedule};
-ghost use Rattle.snap_hunt.specs.Shrinking.{Fails, Shrinks, fails_with, without};
+ghost use Rattle.snap_hunt.specs.Shrinking.{Fails, Shrinks, drawn, fails_with, without};
 
 use crate::cuts::{schedule_with, without};
+use crate::draft::{Draft, is_schedule, is_within};
 use snap_asm_program::Program;
 use snap_failure::{Wanted, failure_over};
 use snap_semantics::Item;
@@ -27,33 +27,39 @@ fn fails_with(
     Ok(failure_over(alloc, program, &schedule, wanted)?.is_some())
 }
 
-/// Leaves out each chunk of so many items without which the run still fails, from the first to
-/// the last.
-#[tactic(auto, using(crate::proofs::Cutting::left_schedule, crate::proofs::Cutting::left_fails, crate::proofs::Cutting::left_shorter, crate::proofs::Cutting::itself))]
-pub(crate) fn drop_chunks(
+/// Whether a draft is a schedule whose run fails.
+pub(crate) fn still_fails(
     alloc: Global,
     program: &Program,
     wanted: &Wanted,
-    shape: Shape,
-    items: Vec<Item>,
-    size: usize,
-) -> Result<Vec<Item>, AllocError>
-    requires fails { Fails program.now wanted.now shape items.items }
-    requires some { 0 < size }
-    requires few { size ≤ max_items }
-    ensures { IfOk result (λ v. Shrinks program.now wanted.now shape items.items v.items) }
+    draft: &Draft,
+) -> Result<bool, AllocError>
+    ensures { IfOk result (λ b. IsTrue b
+        → Fails program.now wanted.now draft.now.shape draft.now.items.items) }
 {
-    let mut kept = items;
-    let mut at = 0;
-    while at < kept.len() {
-        let shorter = without(alloc, kept.as_slice(), at, size)?;
-        if fails_with(alloc, program, wanted, shape, shorter.as_slice())? {
-            kept = shorter;
-        } else {
-            at += size;
-        }
+    if !is_schedule(draft.shape, draft.items.as_slice()) {
+        return Ok(false);
     }
-    Ok(kept)
+    fails_with(alloc, program, wanted, draft.shape, draft.items.as_slice())
+}
+
+/// Another draft, where it is no larger than this one and its run fails; else this one.
+#[tactic(auto, using(crate::proofs::Cutting::itself))]
+pub(crate) fn better(
+    alloc: Global,
+    program: &Program,
+    wanted: &Wanted,
+    kept: Draft,
+    other: Draft,
+) -> Result<Draft, AllocError>
+    requires { Fails program.now wanted.now kept.shape kept.items.items }
+    ensures { IfOk result (λ d. Shrinks program.now wanted.now (drawn kept) (drawn d)) }
+{
+    if is_within(&other, &kept) && still_fails(alloc, program, wanted, &other)? {
+        Ok(other)
+    } else {
+        Ok(kept)
+    }
 }
 
 /// The first item without which the run still fails.

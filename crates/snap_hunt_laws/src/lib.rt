@@ -4,9 +4,11 @@
 ghost use Rattle.snap_words.specs.declared.kind.KindTag.{KindTag};
 ghost use Rattle.snap_hunt_laws.specs.Shipped.{FindsNothing};
 
-/// No run of U, B and M has a scan without a point or a trap. So a hunt for these finds none.
+/// No run of U, B and M has a scan without a point, a trap, or an operation of more steps than are
+/// promised. So a hunt for these finds none.
 pub fn shipped_listings_have_no_failing_run()
     ensures { (g : KindTag) → FindsNothing g }
 {
     snap_promises::shipped_runs_keep_promises();
+    snap_failure::steps_are_of_operations();
 }

@@ -1,10 +1,10 @@
 -- What is found, and what is made small.
-use Rattle.std.proofs.Common.{◌≡◌, ℕ, List, [], ◌∷◌, Bool, true, false, cond, Option, Some, None, Result, Ok, Err, refl, sym, ap, subst, ◌∙◌}
-use Rattle.std.specs.List.{find}
+use Rattle.std.proofs.Common.{◌≡◌, ℕ, List, Bool, true, false, Option, Some, None, is_some, if◌then◌else◌, Result, Ok, Err, refl, sym, ap, subst, ◌∙◌}
+use Rattle.std.specs.Prelude.{option_map}
 use Rattle.snap_semantics.specs.Answers.{refused_as}
 use Rattle.snap_semantics.specs.Listing.{listing_of}
 use Rattle.snap_semantics.specs.declared.refusal.Refusal.TheVariants as refusal
-use Rattle.snap_hunt_output.specs.Hunted.{IsHunted, IsHuntedOf}
+use Rattle.snap_hunt_output.specs.Hunted.{IsHunted, IsHuntedOf, run_kind}
 use Rattle.snap_hunt_output.specs.declared.asked.Asked.{Asked}
 use Rattle.snap_hunt_output.specs.declared.hunted.Hunted.{Hunted}
 use Rattle.snap_semantics.specs.Schedule.{Schedule}
@@ -12,18 +12,41 @@ use Rattle.snap_semantics.specs.ScheduleText.{IsSchedule}
 use Rattle.snap_semantics.specs.Source.{Source}
 use Rattle.snap_chance.specs.Chance.{schedule_of}
 use Rattle.snap_chance.specs.Plan.{Plan}
+use Rattle.snap_failure.specs.Failing.{failure_of, first_failure}
+use Rattle.snap_failure.specs.Kinds.{is_kind, kind_of, of_kind, with_only}
+use Rattle.snap_failure.specs.declared.failures.Failure.{Failure}
+use Rattle.snap_failure.specs.declared.failures.Failure.TheVariants as failure
+use Rattle.snap_failure.specs.declared.failures.FailureKind.{FailureKind}
 use Rattle.snap_failure.specs.declared.failures.Wanted.{Wanted}
-use Rattle.snap_hunt.specs.Hunt.{fails}
+use Rattle.snap_hunt.specs.Hunt.{fails, run_of}
 use Rattle.snap_hunt.specs.Shrinking.{Fails, fails_with}
 
-found_by : (q : ℕ → Bool) (x k : ℕ) (xs : List ℕ) (b : Bool) → q x ≡ b → (find q xs ≡ Some k → q k ≡ true) → cond b (Some x) (find q xs) ≡ Some k → q k ≡ true
-found_by q x k xs true is rest e = let same : x ≡ k = cc in ap q (sym same) ∙ is
-found_by q x k xs false is rest e = rest e
+-- a failure is of its own kind
+own_kind : (f : Failure) → is_kind (kind_of f) f ≡ true
+own_kind (failure.NoPoint v) = refl
+own_kind (failure.Trapped i line cause) = refl
+own_kind (failure.ManySteps i t own) = refl
+own_kind (failure.ManyCollects v) = refl
 
--- what is found passes
-pub found_passes : (q : ℕ → Bool) (k : ℕ) (xs : List ℕ) → find q xs ≡ Some k → q k ≡ true
-found_passes q k [] e = absurd cc
-found_passes q k (x ∷ xs) e = found_by q x k xs (q x) refl (found_passes q k xs) e
+its_kind : (f : Failure) (k : FailureKind) → Some (kind_of f) ≡ Some k → is_some (of_kind (Some k) (Some f)) ≡ true
+its_kind f k e =
+    let same : kind_of f ≡ k = cc in
+    ap (λ b. is_some (if b then Some f else None)) (ap (λ j. is_kind j f) (sym same) ∙ own_kind f)
+
+wanted_kind : (b : Bool) (f : Failure) (k : FailureKind) → option_map (λ g. kind_of g) (if b then Some f else None) ≡ Some k → Some (kind_of f) ≡ Some k
+wanted_kind true f k e = e
+wanted_kind false f k e = absurd cc
+
+alike_by : (only : Option FailureKind) (o : Option Failure) (k : FailureKind) → option_map (λ f. kind_of f) (of_kind only o) ≡ Some k → is_some (of_kind (Some k) o) ≡ true
+alike_by None None k e = absurd cc
+alike_by None (Some f) k e = its_kind f k e
+alike_by (Some j) None k e = absurd cc
+alike_by (Some j) (Some f) k e = its_kind f k (wanted_kind (is_kind j f) f k e)
+
+-- what fails in a run fails in it where nothing else of another kind is wanted
+pub fails_alike : (l : Source) (p : Plan) (w : Wanted) (seed n : ℕ) (k : FailureKind) → run_kind l p w seed n ≡ Some k → fails l p (with_only k w) seed n ≡ true
+unfolding fails failure_of
+fails_alike l p w seed n k e = alike_by w.only (first_failure w (run_of l p seed n)) k e
 
 -- the schedule of a run that fails
 pub fails_over : (l : Source) (p : Plan) (w : Wanted) (seed k : ℕ) (s : Schedule) → s ≡ schedule_of seed k p → IsSchedule s → fails l p w seed k ≡ true

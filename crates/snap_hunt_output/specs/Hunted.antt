@@ -1,13 +1,18 @@
 -- What a hunt comes to.
-use Rattle.std.specs.Prelude.{◌≡◌, ℕ, ◌<◌, List, Option, Some, None, Result, Ok}
+use Rattle.std.specs.Prelude.{◌≡◌, ℕ, ◌<◌, List, Option, Some, None, option_map, Result, Ok}
 use Rattle.std.specs.List.{find, range_with_len}
 use Rattle.snap_semantics.specs.Listing.{listing_of}
 use Rattle.snap_semantics.specs.Source.{Source}
 use Rattle.snap_semantics.specs.declared.fault.Fault.{Fault}
 use Rattle.snap_semantics.specs.declared.fault.Fault.TheVariants as fault
 use Rattle.snap_semantics.specs.declared.refusal.Refusal.{Refusal}
+use Rattle.snap_chance.specs.Plan.{Plan}
+use Rattle.snap_failure.specs.Failing.{failure_of}
+use Rattle.snap_failure.specs.Kinds.{kind_of}
 use Rattle.snap_failure.specs.declared.failures.Failure.{Failure}
-use Rattle.snap_hunt.specs.Hunt.{fails}
+use Rattle.snap_failure.specs.declared.failures.FailureKind.{FailureKind}
+use Rattle.snap_failure.specs.declared.failures.Wanted.{Wanted}
+use Rattle.snap_hunt.specs.Hunt.{fails, run_of}
 use Rattle.snap_hunt_output.specs.Asked.{owned}
 use Rattle.snap_hunt_output.specs.Check.{failure_in_input}
 use Rattle.snap_hunt_output.specs.declared.asked.Asked.{Asked}
@@ -20,10 +25,16 @@ use Rattle.snap_hunt_output.specs.declared.hunted.HuntFault.TheVariants.{Memory,
 abbrev pub first_of : Source → Asked → Option ℕ
 first_of l a = find (fails l (owned l.kind a.plan) a.wanted a.seed) (range_with_len 0 a.runs)
 
--- This is the first run that fails, and the input, read as the debugger reads it, has a run that fails so.
+-- the kind of what fails in run k, where anything does
+abbrev pub run_kind : Source → Plan → Wanted → (seed k : ℕ) → Option FailureKind
+run_kind l p w seed k = option_map (λ f. kind_of f) (failure_of w (run_of l p seed k))
+
+-- This is the first run that fails, and the input, read as the debugger reads it, has a run that fails so; and what fails in
+-- both is of one kind.
 pub record IsFound (l : Source) (a : Asked) (k : ℕ) (f : Failure) (input : List ℕ) : Type 0 where
   pub first : first_of l a ≡ Some k
   pub says : failure_in_input a.wanted input ≡ Ok (Some f)
+  pub alike : run_kind l (owned l.kind a.plan) a.wanted a.seed k ≡ Some (kind_of f)
 
 abbrev pub IsHuntedOf : Source → Asked → Hunted → Type 0
 IsHuntedOf l a hunted.NoneFails = first_of l a ≡ None

@@ -10,6 +10,7 @@ use Rattle.snap_debug_commands.specs.CommandForms.{spelled_command}
 use Rattle.snap_debug_commands.specs.declared.command.Command.TheVariants.{Goto}
 use Rattle.snap_failure.specs.declared.failures.Failure.{Failure}
 use Rattle.snap_failure.specs.declared.failures.Failure.TheVariants as failure
+use Rattle.snap_failure.specs.declared.failures.OwnSteps.{OwnSteps}
 
 -- whether the last line of a text has its line feed
 abbrev pub ends_line : List ℕ → Bool
@@ -19,10 +20,17 @@ ends_line text = nat_eq (slice_index text (length text - 1)) 10
 abbrev pub listing_part : List ℕ → List ℕ
 listing_part listing = if ends_line listing then listing else listing ++ codes "\n"
 
--- what fails, in the words of the audit or as a trap
+-- `scan I call C step N item T`, or `update` where it is one: by item T, the N-th step of its own, the operation has taken too many
+abbrev pub steps_line : (i t : ℕ) → OwnSteps → List ℕ
+steps_line i t own =
+    (if own.update then codes "update " else codes "scan ") ++ decimal i ++ codes " call " ++ decimal own.call ++ codes " step " ++ decimal own.count
+    ++ codes " item " ++ decimal t ++ codes "\n"
+
+-- what fails, in the words of the audit, as a trap, or as a step too many
 abbrev pub failure_line : Failure → List ℕ
 failure_line (failure.NoPoint v) = verdict_line v
 failure_line (failure.ManyCollects v) = verdict_line v
+failure_line (failure.ManySteps i t own) = steps_line i t own
 failure_line (failure.Trapped i line cause) =
     codes "process " ++ decimal i ++ codes " " ++ outcome_text (outcome.Trapped cause) ++ codes " at " ++ decimal line ++ codes "\n"
 

@@ -12,8 +12,7 @@ ghost use Rattle.snap_hunt_output.specs.Check.{failure_in_input, failure_in_text
 use snap_asm_program::Program;
 use snap_debug_commands::{Command, read_commands};
 use snap_failure::{Failure, Wanted, failure_over};
-use snap_input::{parts_for, program_for, texts_for};
-use snap_input::schedule_for;
+use snap_input::{parts_for, program_for, schedule_for, texts_for};
 use snap_sched::Schedule;
 use snap_semantics::{Fault, Refusal};
 use snap_subject::Subject;

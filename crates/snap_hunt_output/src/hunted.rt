@@ -1,8 +1,8 @@
 //! A whole hunt.
-ghost use Rattle.std.specs.Prelude.{◌≡◌, ◌<◌, ◌^◌, IfOk, Ok, Some, true};
-ghost use Rattle.snap_hunt.specs.Hunt.{fails};
+ghost use Rattle.std.specs.Prelude.{◌≡◌, ◌<◌, ◌^◌, IfOk, Ok, Some};
+ghost use Rattle.snap_failure.specs.Kinds.{kind_of};
 ghost use Rattle.snap_hunt_output.specs.Check.{failure_in_input};
-ghost use Rattle.snap_hunt_output.specs.Hunted.{IsHunted, IsHuntedOf, hunt_fault};
+ghost use Rattle.snap_hunt_output.specs.Hunted.{IsHunted, IsHuntedOf, hunt_fault, run_kind};
 ghost use Rattle.snap_hunt_output.specs.declared.hunted.HuntFault.TheVariants.{Memory};
 
 use crate::asked::{Asked, fits_kind, owned};
@@ -10,7 +10,7 @@ use crate::check::failure_in_input;
 use crate::input::input_text;
 use snap_asm_program::Program;
 use snap_chance::{Plan, schedule_of};
-use snap_failure::{Failure, Wanted, failure_over};
+use snap_failure::{Failure, FailureKind, Wanted, failure_over};
 use snap_hunt::{Watcher, first_failing, shrunk};
 use snap_input::{MAX_INPUT, program_of};
 use snap_semantics::{Fault, Refusal};
@@ -59,7 +59,25 @@ impl From<Fault<Refusal>> for HuntFault {
     }
 }
 
-/// The input of a small run that fails, where the run of this number does.
+/// The kind of what fails in the run of this number.
+fn run_kind(
+    alloc: Global,
+    program: &Program,
+    plan: &Plan,
+    asked: &Asked,
+    run: u64,
+) -> Result<FailureKind, HuntFault>
+    ensures { IfOk result (λ k.
+        run_kind program.now plan.now asked.now.wanted asked.now.seed run ≡ Some k) }
+{
+    let schedule = schedule_of(alloc, asked.seed, run, plan)?;
+    match failure_over(alloc, program, &schedule, &asked.wanted)? {
+        Some(failure) => Ok(failure.kind()),
+        None => Err(HuntFault::Unsaid),
+    }
+}
+
+/// The input of a small run that fails so, where the run of this number does.
 fn small_input(
     alloc: Global,
     listing: &[u8],
@@ -67,28 +85,36 @@ fn small_input(
     plan: &Plan,
     asked: &Asked,
     run: u64,
+    kind: FailureKind,
 ) -> Result<Vec<u8>, HuntFault>
-    requires { fails program.now plan.now asked.now.wanted asked.now.seed run ≡ true }
+    requires { run_kind program.now plan.now asked.now.wanted asked.now.seed run ≡ Some kind }
 {
     let schedule = schedule_of(alloc, asked.seed, run, plan)?;
     let _shape = schedule.shape();
-    let small = shrunk(alloc, program, &asked.wanted, &schedule)?;
-    match failure_over(alloc, program, &small, &asked.wanted)? {
+    let alike = asked.wanted.with_only(kind);
+    let small = shrunk(alloc, program, &alike, &schedule, plan.owns())?;
+    match failure_over(alloc, program, &small, &alike)? {
         Some(failure) => Ok(input_text(alloc, listing, asked.seed, run, &failure, &small)?),
         None => Err(HuntFault::Unsaid),
     }
 }
 
-/// What fails in an input that is printed, which is read once more.
-fn checked(alloc: Global, input: &[u8], wanted: &Wanted) -> Result<Failure, HuntFault>
-    ensures { IfOk result (λ f. failure_in_input wanted.now input.now ≡ Ok (Some f)) }
+/// What fails in an input that is printed, which is read once more, where it is of this kind.
+fn checked(
+    alloc: Global,
+    input: &[u8],
+    wanted: &Wanted,
+    kind: FailureKind,
+) -> Result<Failure, HuntFault>
+    ensures says { IfOk result (λ f. failure_in_input wanted.now input.now ≡ Ok (Some f)) }
+    ensures alike { IfOk result (λ f. kind_of f ≡ kind) }
 {
     if input.len() > MAX_INPUT {
         return Err(HuntFault::Unsaid);
     }
     match failure_in_input(alloc, input, wanted)? {
-        Some(failure) => Ok(failure),
-        None => Err(HuntFault::Unsaid),
+        Some(failure) if failure.is_kind(kind) => Ok(failure),
+        _ => Err(HuntFault::Unsaid),
     }
 }
 
@@ -119,8 +145,9 @@ fn hunt_program<W: Watcher>(
     let Some(run) = found else {
         return Ok(Hunted::NoneFails);
     };
-    let input = small_input(alloc, listing, program, &plan, asked, run)?;
-    let failure = checked(alloc, input.as_slice(), &asked.wanted)?;
+    let kind = run_kind(alloc, program, &plan, asked, run)?;
+    let input = small_input(alloc, listing, program, &plan, asked, run, kind)?;
+    let failure = checked(alloc, input.as_slice(), &asked.wanted, kind)?;
     Ok(Hunted::Fails {
         run,
         failure,

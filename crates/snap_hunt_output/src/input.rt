@@ -1,10 +1,10 @@
 //! The input of a run that fails.
 ghost use Rattle.std.specs.Prelude.{◌≡◌, ◌++◌, IfOk, OnOk};
-ghost use Rattle.snap_hunt_output.specs.Input.{ends_line, failure_line, input_text, listing_part, run_note};
+ghost use Rattle.snap_hunt_output.specs.Input.{ends_line, failure_line, input_text, listing_part, run_note, steps_line};
 
 use snap_audit::verdict_line;
 use snap_debug_commands::{Command, push_command};
-use snap_failure::Failure;
+use snap_failure::{Failure, OwnSteps};
 use snap_report::outcome_text;
 use snap_sched::{Schedule, print};
 use snap_semantics::Outcome;
@@ -29,7 +29,24 @@ fn push_listing(out: &mut Vec<u8>, listing: &[u8]) -> Result<(), AllocError>
     push_text(out, b"\n")
 }
 
-/// What fails: a verdict as an audit has it, or the trap of a process.
+/// `scan I call C step N item T`, or `update` where it is one.
+#[tactic(auto, using(snap_text::proofs::Texts::joined))]
+fn steps_line(out: &mut Vec<u8>, process: u32, item: u64, own: &OwnSteps) -> Result<(), AllocError>
+    ensures { OnOk result (out.new.items ≡ out.old.items ++ steps_line process item own.now) }
+{
+    let what: &[u8] = if own.update { b"update " } else { b"scan " };
+    push_text(out, what)?;
+    push_number(out, u64::from(process))?;
+    push_text(out, b" call ")?;
+    push_number(out, own.call)?;
+    push_text(out, b" step ")?;
+    push_number(out, own.count)?;
+    push_text(out, b" item ")?;
+    push_number(out, item)?;
+    push_text(out, b"\n")
+}
+
+/// What fails: a verdict as an audit has it, the trap of a process, or a step too many.
 #[tactic(auto, using(snap_text::proofs::Texts::joined))]
 pub(crate) fn failure_line(out: &mut Vec<u8>, failure: &Failure) -> Result<(), AllocError>
     ensures { OnOk result (out.new.items ≡ out.old.items ++ failure_line failure.now) }
@@ -37,6 +54,7 @@ pub(crate) fn failure_line(out: &mut Vec<u8>, failure: &Failure) -> Result<(), A
     match failure {
         Failure::NoPoint(verdict) => verdict_line(out, verdict),
         Failure::ManyCollects(verdict) => verdict_line(out, verdict),
+        Failure::ManySteps { process, item, own } => steps_line(out, *process, *item, own),
         Failure::Trapped {
             process,
             line,

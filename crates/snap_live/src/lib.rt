@@ -4,6 +4,7 @@
 
 mod gate;
 mod live_run;
+mod start_gate;
 mod worker;
 
 pub use gate::{Gate, NoGate};

@@ -8,6 +8,7 @@ ghost use Rattle.snap_live.specs.Worker.{HasRoom, IsWorked, WorkedView};
 ghost use Rattle.snap_live.specs.LiveRun.{AllWorked, IsLive, MayFault, first_stop, then_first, fault_of};
 
 use crate::gate::Gate;
+use crate::start_gate::StartGate;
 use crate::worker::{Stop, Worked, work};
 use snap_asm_program::Program;
 use snap_live_desk::{Desk, LiveFault, LiveRefusal, Seat, Turn, close, open};
@@ -163,6 +164,8 @@ fn run_all<K: Kind, G: Gate, R: Threads + Wait + Sync>(
     ensures { IfOk result (λ ws.
         AllWorked (G.may_answer gate.now) desk.now scripts.now.scripts limit ws.items) }
 {
+    let start_gate = StartGate::of(gate, scripts.scripts());
+    let start_gate = &start_gate;
     thread::scope(
         thread::scope_env(),
         rt,
@@ -170,10 +173,14 @@ fn run_all<K: Kind, G: Gate, R: Threads + Wait + Sync>(
             requires seats { seats.items ≡ seats_of desk.now (length scripts.now.scripts) }
             requires limit { limit ≤ max_items }
             requires worked { HasRoom (length scripts.now.scripts) worked }
-            ensures { IfOk result (λ ws. AllWorked (G.may_answer gate.entry.now)
+            ensures { IfOk result (λ ws. AllWorked (G.may_answer start_gate.entry.now.gate.now)
                 desk.entry.now scripts.entry.now.scripts limit ws.items) }
         {
-            let handles = start_all(scope, rt, alloc, desk, seats, scripts, limit, gate)?;
+            let started = start_all(scope, rt, alloc, desk, seats, scripts, limit, start_gate);
+            if started.is_err() {
+                start_gate.call_off();
+            }
+            let handles = started?;
             let all = joined(rt, handles, worked);
             Ok(all)
         },
@@ -278,8 +285,8 @@ fn then_first(found: Option<(u32, Stop)>, process: u32, stop: Option<Stop>) -> O
 }
 
 /// Plays all scripts at once at a new desk, a worker in a thread for each process, and each with at
-/// most so many turns, for each of which it asks the gate. All workers have ended before there is
-/// an answer.
+/// most so many turns, for each of which it asks the gate. Workers begin together, unless some come
+/// late. All have ended before there is an answer.
 pub fn run_live<K: Kind, G: Gate, R: Threads + Wait + Sync>(
     rt: &R,
     alloc: Global,

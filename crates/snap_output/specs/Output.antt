@@ -1,5 +1,5 @@
 -- What the program writes for what it reads, or why it refuses.
-use Rattle.std.specs.Prelude.{ℕ, ◌&&◌, nat_le, nat_lt, List, [], ◌∷◌, ◌++◌, length, map, Result, Ok, Err, codes, decimal, if◌then◌else◌}
+use Rattle.std.specs.Prelude.{ℕ, Bool, ◌&&◌, nat_le, nat_lt, List, [], ◌∷◌, ◌++◌, length, map, Result, Ok, Err, codes, decimal, if◌then◌else◌}
 use Rattle.snap_semantics.specs.declared.refusal.Refusal.{Refusal}
 use Rattle.snap_semantics.specs.declared.refusal.Refusal.TheVariants as refusal
 use Rattle.snap_semantics.specs.Answers.{◌>>=◌, refused_as}
@@ -13,7 +13,7 @@ use Rattle.snap_runner.specs.End.{end_report}
 use Rattle.snap_batch.specs.Reports.{reports_text}
 use Rattle.snap_certify_output.specs.Output.{certificates_text}
 use Rattle.snap_lint_text.specs.Lint.{lint_of}
-use Rattle.snap_survey_output.specs.Surveys.{schedules_for, survey_text}
+use Rattle.snap_survey_output.specs.Surveys.{are_clean, schedules_for, survey_text}
 use Rattle.snap_trace_output.specs.Traces.{traces_text}
 use Rattle.snap_input.specs.Input.{listing_for, parted, texts_for}
 use Rattle.snap_input.specs.Parts.{part, parts_of, max_input}
@@ -52,7 +52,7 @@ checked_schedules s parts =
     if nat_lt 0 (length (texts_for s parts)) && nat_le (length (texts_for s parts)) 4096 then Ok tt else Err (refusal.WrongParts (length parts))
 
 -- what is said of a listing and its 1 to 4,096 schedules
-abbrev pub over_schedules : Subject → List (List ℕ) → (Source → List (List ℕ) → Result (List ℕ) Refusal) → Result (List ℕ) Refusal
+abbrev pub over_schedules : {A : Type 0} → Subject → List (List ℕ) → (Source → List (List ℕ) → Result A Refusal) → Result A Refusal
 over_schedules s parts text =
     checked_schedules s parts >>= λ there. listing_for s parts >>= λ l. text l (texts_for s parts)
 
@@ -63,6 +63,10 @@ batched s parts = over_schedules s parts batch_text
 -- what the run of each schedule came to
 unfoldable pub surveyed : Subject → List (List ℕ) → Result (List ℕ) Refusal
 surveyed s parts = over_schedules s parts survey_text
+
+-- whether the run of each schedule is clean
+unfoldable pub clean_runs : Subject → List (List ℕ) → Result Bool Refusal
+clean_runs s parts = over_schedules s parts are_clean
 
 -- `ok: KIND, K lines`
 abbrev pub check_line : Source → List ℕ
@@ -91,3 +95,7 @@ of_task (task.Survey s) input = surveyed s (parts_of input)
 -- what a whole run of the program writes for an input, or its refusal
 unfoldable pub output_of : Task → List ℕ → Result (List ℕ) Refusal
 output_of task input = if nat_lt max_input (length input) then Err refusal.InputTooLong else of_task task input
+
+-- whether all runs that a survey of an input is of are clean, or its refusal
+unfoldable pub clean_of : Subject → List ℕ → Result Bool Refusal
+clean_of s input = if nat_lt max_input (length input) then Err refusal.InputTooLong else clean_runs s (parts_of input)

@@ -9,6 +9,7 @@ mod headlines;
 mod outputs;
 
 pub use headlines::{headline, traces_are_refused_as_runs};
-pub use outputs::{output, output_alone};
+pub use outputs::{output, output_alone, survey_output};
 pub use snap_perform::perform;
+pub use snap_survey_output::SurveyOutput;
 pub use snap_tasks::Task;

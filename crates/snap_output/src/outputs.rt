@@ -7,9 +7,11 @@ ghost use Rattle.snap_input.specs.Input.{checked_parts, parted, texts_for};
 ghost use Rattle.snap_input.specs.Parts.{max_input, parts_of};
 ghost use Rattle.snap_output.specs.AtOnce.{found_at_once};
 ghost use Rattle.snap_certify_output.specs.Output.{certificates_text};
-ghost use Rattle.snap_output.specs.Output.{batched, checked_schedules, debug_text, surveyed};
+ghost use Rattle.snap_output.specs.Output.{batched, checked_schedules, clean_of, clean_runs};
+ghost use Rattle.snap_output.specs.Output.{debug_text, surveyed};
 ghost use Rattle.snap_output.specs.Output.{of_task, output_of, run_text, verdicts_text};
 ghost use Rattle.snap_output.specs.Prepared.{batch_reports, prepared_text};
+ghost use Rattle.snap_tasks.specs.declared.task.Task.TheVariants.{Survey};
 ghost use Rattle.snap_trace_output.specs.Traces.{traces_text};
 
 use crate::audit_output::audit_program;
@@ -24,7 +26,7 @@ use snap_input::{
 use snap_lint_text::lint_of;
 use snap_perform::{perform_program, run_program};
 use snap_semantics::{Fault, Refusal};
-use snap_survey_output::survey_program;
+use snap_survey_output::{SurveyOutput, survey_runs};
 use snap_tasks::{Subject, Task};
 use snap_trace_output::trace_program;
 use std::alloc::Global;
@@ -187,11 +189,13 @@ fn batch(alloc: Global, subject: Subject, input: &[u8]) -> Result<Batch, Fault<R
     Batch::of(alloc, program, texts)
 }
 
-/// What the runs of a listing under many schedules came to.
-#[tactic(auto, unfolding(crate::specs::Output::surveyed))]
-fn survey(alloc: Global, subject: Subject, input: &[u8]) -> Result<Vec<u8>, Fault<Refusal>>
+/// What the runs of a listing under many schedules came to, and whether each of them is clean.
+#[tactic(auto, unfolding(crate::specs::Output::surveyed, crate::specs::Output::clean_runs))]
+fn survey(alloc: Global, subject: Subject, input: &[u8]) -> Result<SurveyOutput, Fault<Refusal>>
     requires { length input.now ≤ max_input }
-    ensures output { Answers (λ out. out.items) result (surveyed subject (parts_of input.now)) }
+    ensures output { Answers (λ out. out.text.items) result
+        (surveyed subject (parts_of input.now)) }
+    ensures clean { Answers (λ out. out.clean) result (clean_runs subject (parts_of input.now)) }
     ensures counted { (r : Refusal) → checked_schedules subject (parts_of input.now) ≡ Err r →
         result ≡ Err (Refused r) }
 {
@@ -199,7 +203,27 @@ fn survey(alloc: Global, subject: Subject, input: &[u8]) -> Result<Vec<u8>, Faul
     let parts = split_parts(alloc, input)?;
     let program = program_for(alloc, subject, parts.as_slice())?;
     let texts = texts_for(subject, parts.as_slice());
-    survey_program(alloc, &program, texts)
+    survey_runs(alloc, &program, texts)
+}
+
+/// What is written for an input that is surveyed, and whether each of its runs is clean; or why
+/// there is no output.
+#[tactic(auto, using(crate::proofs::AtOnce::of_why), unfolding(crate::specs::Output::output_of, crate::specs::Output::clean_of))]
+pub fn survey_output(
+    alloc: Global,
+    subject: Subject,
+    input: &[u8],
+) -> Result<SurveyOutput, Fault<Refusal>>
+    ensures output { Answers (λ out. out.text.items) result
+        (output_of (Survey subject) input.now) }
+    ensures clean { Answers (λ out. out.clean) result (clean_of subject input.now) }
+    ensures at_once { (r : Refusal) → found_at_once (Survey subject) input.now ≡ Some r →
+        result ≡ Err (Refused r) }
+{
+    if input.len() > MAX_INPUT {
+        return Err(Fault::Refused(Refusal::InputTooLong));
+    }
+    survey(alloc, subject, input)
 }
 
 /// What is found of an input in one thread.
@@ -233,7 +257,7 @@ fn prepare(alloc: Global, task: &Task, input: &[u8]) -> Result<Prepared, Fault<R
         Task::Audit(subject) => Ok(Prepared::Text(audit(alloc, subject, input)?)),
         Task::Certify(subject) => Ok(Prepared::Text(certify(alloc, subject, input)?)),
         Task::Batch(subject) => Ok(Prepared::Batch(batch(alloc, subject, input)?)),
-        Task::Survey(subject) => Ok(Prepared::Text(survey(alloc, subject, input)?)),
+        Task::Survey(subject) => Ok(Prepared::Text(survey(alloc, subject, input)?.text)),
     }
 }
 

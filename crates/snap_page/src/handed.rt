@@ -50,7 +50,7 @@ fn fitted(code: u8, len: usize, room: &[u8]) -> Handed
 }
 
 /// Hands a text under a code.
-fn handed_text(code: u8, text: &[u8], room: &mut [u8]) -> Handed
+pub(crate) fn handed_text(code: u8, text: &[u8], room: &mut [u8]) -> Handed
     requires { code < 2 }
     ensures code { result.code ≡ code ⊎ result.code ≡ 3 }
     ensures text { result.code ≡ code → take result.len room.new ≡ text.now }
@@ -62,7 +62,7 @@ fn handed_text(code: u8, text: &[u8], room: &mut [u8]) -> Handed
 }
 
 /// Hands the line of a refusal of a name and a number, without memory.
-fn handed_line(name: &[u8], number: &[u8], room: &mut [u8]) -> Handed
+pub(crate) fn handed_line(name: &[u8], number: &[u8], room: &mut [u8]) -> Handed
     requires { length name.now + length number.now < 2 ^ 32 }
     ensures code { result.code ≡ 1 ⊎ result.code ≡ 3 }
     ensures text { result.code ≡ 1 → take result.len room.new ≡ numbered_line name.now number.now }
@@ -93,7 +93,7 @@ fn handed_pushed(line: Result<Vec<u8>, AllocError>, room: &mut [u8]) -> Handed
 
 /// Hands the line of a refusal. One that is found before any memory is asked for is handed without
 /// memory.
-fn handed_refusal(alloc: Global, refusal: &Refusal, room: &mut [u8]) -> Handed
+pub(crate) fn handed_refusal(alloc: Global, refusal: &Refusal, room: &mut [u8]) -> Handed
     ensures code { result.code ≡ 1 ⊎ (result.code ≡ 2 ⊎ result.code ≡ 3) }
     ensures at_once { needs_no_memory refusal.now ≡ true → result.code ≢ 2 }
     ensures small { result.code ≡ 3 ↔ length room.old < result.len }

@@ -5,15 +5,19 @@ ghost use Rattle.std.specs.Prelude.{◌≡◌, ◌<◌, ◌⊎◌, ◌↔◌, No
 ghost use Rattle.snap_output.specs.AtOnce.{found_at_once};
 ghost use Rattle.snap_output.specs.Output.{output_of};
 ghost use Rattle.snap_page.specs.Page.{answer_code, answer_text, task_of};
+ghost use Rattle.snap_page.specs.Picture.{drawn, drawn_code, drawn_text};
 ghost use Rattle.snap_semantics.specs.declared.refusal.Refusal.{Refusal};
 ghost use Rattle.snap_tasks.specs.declared.task.Task.{Task};
 
 mod asked;
+mod drawing;
 mod handed;
 
 use asked::task_of;
+use drawing::{drawn, handed_picture};
 use handed::{Handed, handed_answer};
 use snap_output::output_alone;
+use snap_picture::{LEGEND, Look, STYLE};
 use std::alloc::Global;
 
 /// Hands a page what is written for an input, or the line that says why nothing is. The task is
@@ -45,4 +49,33 @@ pub extern "C" fn page_output(
     };
     let answer = output_alone(alloc, &task, input);
     handed_answer(alloc, answer, room)
+}
+
+/// Hands a page the picture of a listing's run under a schedule, from one item to another, as the
+/// program that draws gives it, or the line that says why there is none.
+#[unsafe(no_mangle)]
+pub extern "C" fn page_picture(
+    alloc: Global,
+    listing: &[u8],
+    schedule: &[u8],
+    from: u64,
+    to: u64,
+    room: &mut [u8],
+) -> Handed
+    ensures code { result.code < 4 }
+    ensures small { result.code ≡ 3 ↔ length room.old < result.len }
+    ensures answer { result.code < 2 →
+        (result.code ≡ drawn_code
+        (drawn listing.now schedule.now from to STYLE.now LEGEND.now))
+        × (take result.len room.new ≡ drawn_text
+        (drawn listing.now schedule.now from to STYLE.now LEGEND.now)) }
+    ensures needed { result.code ≡ 3 → result.len ≡ length (drawn_text
+        (drawn listing.now schedule.now from to STYLE.now LEGEND.now)) }
+{
+    let look = Look {
+        style: STYLE,
+        legend: LEGEND,
+    };
+    let answer = drawn(alloc, listing, schedule, from, to, &look);
+    handed_picture(alloc, answer, room)
 }

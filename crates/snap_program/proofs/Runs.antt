@@ -1,6 +1,6 @@
 -- What a run answers, by cases on its answer.
 use Rattle.std.proofs.Common.{◌≡◌, ℕ, ◌<◌, Bool, true, List, [], Option, Result, Ok, Err, Vec, length, take, ◌⊎◌, inl, inr, refl, sym, subst}
-use Rattle.std.specs.Prelude.{⊤, IsErr, IsErrAnd}
+use Rattle.std.specs.Prelude.{⊤, IfOk, IsErr, IsErrAnd}
 use Rattle.std.specs.Global.{Global}
 use Rattle.std.specs.Io.KnownBytes.{Appends}
 use Rattle.std.proofs.KnownBytes.{Appends-nil}
@@ -13,7 +13,7 @@ use Rattle.snap_live_output.specs.declared.fault.LiveRunFault.{LiveRunFault}
 use Rattle.snap_live_output.specs.declared.fault.LiveRunFault.TheVariants as run
 use Rattle.snap_live_output.specs.LiveOutput.{AnswersLive}
 use Rattle.snap_subject.specs.declared.subject.Subject.{Subject}
-use Rattle.snap_program.specs.WholeRun.{of_fault, of_live_fault, IsWhole, RefusesLive, RefusesTask, Takes, Reads, Sends, ConductsOn, ConductsKeeping, IsKept}
+use Rattle.snap_program.specs.WholeRun.{of_fault, of_live_fault, IsWhole, RefusesLive, RefusesTask, Takes, Reads, Sends, ConductsOn, ConductsKeeping, IsKept, done_of}
 use Rattle.snap_program.specs.declared.fault.ConductFault.{ConductFault}
 use Rattle.snap_program.specs.declared.fault.ConductFault.TheVariants as fault
 use Rattle.snap_tasks.specs.declared.task.Task.{Task}
@@ -52,6 +52,24 @@ pub why_live : (e : LiveRunFault) (may : ℕ → ℕ → Bool → Type 0) (subje
 why_live run.Memory may subject limit input h = tt
 why_live (run.Refused f) may subject limit input h = h
 why_live (run.Live f) may subject limit input h = h
+
+-- an answer that `?` has passed on says nothing of what was found
+pub nothing_found : {A : Type 0} (P : A → Type 0) (answer : Result A ConductFault) (e : ConductFault)
+    → IsErr answer × IsErrAnd answer (λ f. f ≡ e) → IfOk answer P
+nothing_found P (Ok found) e from = absurd from.1
+nothing_found P (Err f) e from = tt
+
+-- and is the same without that
+pub passed_on : {A : Type 0} (answer : Result A ConductFault) (e : ConductFault)
+    → IsErr answer × IsErrAnd answer (λ f. f ≡ e) → IsErr (done_of answer) × IsErrAnd (done_of answer) (λ f. f ≡ e)
+passed_on (Ok found) e from = absurd from.1
+passed_on (Err f) e from = from
+
+pub stops : {A : Type 0} (answer : Result A ConductFault) (e : ConductFault) (text : List ℕ) (taken taken_after : Option (List ℕ)) (w s : Bool)
+    → IsErr answer × IsErrAnd answer (λ f. f ≡ e) → Sends (Err e) text taken taken_after w s → Sends (done_of answer) text taken taken_after w s
+stops (Ok found) e text taken taken_after w s from h = absurd from.1
+stops (Err f) e text taken taken_after w s from h =
+    subst (λ (x : ConductFault). Sends (Err x) text taken taken_after w s) (sym from.1) h
 
 module _ (IsOutput : List ℕ → List ℕ → Type 0) (Refuses : List ℕ → ConductFault → Type 0) where
   gave_up : (e : ConductFault) (input now : List ℕ) (before after taken : Option (List ℕ)) (r w s : Bool)

@@ -1,10 +1,11 @@
 -- A whole run of the program, from a byte source to a byte sink.
-use Rattle.std.specs.Prelude.{◌≡◌, ℕ, ◌<◌, ◌≤◌, Vec, Bool, true, List, [], false, take, Option, Result, Ok, Err, length, ⊤, ◌⊎◌}
+use Rattle.std.specs.Prelude.{◌≡◌, ℕ, ◌<◌, ◌≤◌, Vec, Bool, true, List, [], false, take, Option, Result, Ok, Err, IfOk, length, ⊤, ◌⊎◌}
 use Rattle.std.specs.Global.{Global}
 use Rattle.std.specs.Io.KnownBytes.{Consumes, Appends, IsAtEnd}
-use Rattle.snap_output.specs.Output.{output_of}
+use Rattle.snap_output.specs.Output.{clean_of, output_of}
 use Rattle.snap_semantics.specs.declared.refusal.Refusal.{Refusal}
 use Rattle.snap_tasks.specs.declared.task.Task.{Task}
+use Rattle.snap_tasks.specs.declared.task.Task.TheVariants as task
 use Rattle.snap_semantics.specs.declared.fault.Fault.{Fault}
 use Rattle.snap_semantics.specs.declared.fault.Fault.TheVariants as inner
 use Rattle.snap_live_output.specs.declared.fault.LiveRunFault.{LiveRunFault}
@@ -108,3 +109,18 @@ RefusesLive may subject limit input _ = ⊥
 abbrev pub ConductsLive : (may : ℕ → ℕ → Bool → Type 0) (subject : Subject) (limit : ℕ) (answer : Result (Unit {0}) ConductFault) (left left_after taken taken_after : Option (List ℕ)) (reader_failed writer_failed writer_stalled : Bool) → Type 0
 ConductsLive may subject limit answer left left_after taken taken_after r w s =
     ConductsBy (MayWrite may subject limit) (RefusesLive may subject limit) answer left left_after taken taken_after r w s
+
+-- a whole run that also answers what it found, without that
+abbrev pub done_of : {A : Type 0} → Result A ConductFault → Result (Unit {0}) ConductFault
+done_of (Ok found) = Ok tt
+done_of (Err e) = Err e
+
+-- the output of a survey, and whether all of its runs are clean, where that is answered
+abbrev pub IsSurveyOf : Result Bool ConductFault → Subject → (input text : List ℕ) → Type 0
+IsSurveyOf answer subject input text =
+    IsOutputOf (task.Survey subject) input text × IfOk answer (λ clean. clean_of subject input ≡ Ok clean)
+
+-- A whole run of a survey, which keeps its input: what it writes and when it is refused are the task's.
+abbrev pub ConductsSurvey : (answer : Result Bool ConductFault) (subject : Subject) (kept : List ℕ) (left left_after taken taken_after : Option (List ℕ)) (reader_failed writer_failed writer_stalled : Bool) → Type 0
+ConductsSurvey answer subject kept left left_after taken taken_after r w s =
+    ConductsKeeping (IsSurveyOf answer subject) (RefusesTask (task.Survey subject)) kept (done_of answer) left left_after taken taken_after r w s

@@ -17,7 +17,9 @@ pub use snap_live::{Gate, NoGate};
 pub use snap_output::perform;
 pub use snap_tasks::{Request, Subject, Task, kind_of, request_of};
 pub use standard::Std;
-pub use whole_run::{conduct, conduct_keeping, conduct_live, conduct_live_keeping, write_all};
+pub use whole_run::{
+    conduct, conduct_keeping, conduct_live, conduct_live_keeping, conduct_survey, write_all,
+};
 
 /// The device failed.
 #[derive(Clone, Copy, Debug)]

@@ -4,7 +4,7 @@ ghost use Rattle.std.specs.Prelude.{take, IfOk, IfErr, OnOk, OnErr, MatchResult}
 ghost use Rattle.std.specs.Io.KnownBytes.{Consumes, Appends, IsAtEnd};
 ghost use Rattle.snap_words.specs.Shape.{max_items};
 ghost use Rattle.snap_output.specs.Output.{output_of};
-ghost use Rattle.snap_program.specs.WholeRun.{Reads, Sends, Conducts, ConductsKeeping, ConductsLive, IsOutputOf, RefusesLive, RefusesTask};
+ghost use Rattle.snap_program.specs.WholeRun.{Reads, Sends, Conducts, ConductsKeeping, ConductsLive, ConductsSurvey, IsOutputOf, RefusesLive, RefusesTask};
 ghost use Rattle.snap_live_output.specs.LiveOutput.{MayWrite};
 
 use crate::byte_sink::ByteSink;
@@ -13,7 +13,7 @@ use crate::fault::ConductFault;
 use snap_input::MAX_INPUT;
 use snap_live::Gate;
 use snap_live_output::live_output;
-use snap_output::output;
+use snap_output::{output, survey_output};
 use snap_tasks::{Subject, Task};
 use std::alloc::Global;
 use std::sync::Wait;
@@ -96,6 +96,29 @@ pub fn conduct_keeping<R: ByteSource, W: ByteSink>(
     *kept = input;
     let text = output(rt, alloc, task, kept.as_slice())?;
     write_all(sink, text.as_slice())
+}
+
+/// Reads the input, writes its survey and nothing else, and answers whether all of its runs are
+/// clean. The input is kept: where it is refused, it was kept.
+pub fn conduct_survey<R: ByteSource, W: ByteSink>(
+    alloc: Global,
+    subject: Subject,
+    source: &mut R,
+    sink: &mut W,
+    kept: &mut Vec<u8>,
+) -> Result<bool, ConductFault>
+    requires source { R.has_failed source.old ≡ false }
+    requires sink { W.has_failed sink.old ≡ false }
+    requires goes_on { W.is_stalled sink.old ≡ false }
+    ensures { ConductsSurvey result subject kept.new.items (R.left source.old) (R.left source.new)
+        (W.taken sink.old) (W.taken sink.new) (R.has_failed source.new) (W.has_failed sink.new)
+        (W.is_stalled sink.new) }
+{
+    let input = read_all(alloc, source)?;
+    *kept = input;
+    let found = survey_output(alloc, subject, kept.as_slice())?;
+    write_all(sink, found.text.as_slice())?;
+    Ok(found.clean)
 }
 
 /// Reads the input, plays its scripts live, each process with at most `limit` turns for each of

@@ -1,5 +1,6 @@
 -- What the runs of one listing over many schedules came to.
-use Rattle.std.specs.Prelude.{ℕ, List, [], ◌∷◌, map, Result, Ok, Err}
+use Rattle.std.specs.Prelude.{ℕ, Bool, ◌==◌, ◌&&◌, List, [], ◌∷◌, map, Result, Ok, Err}
+use Rattle.std.specs.List.{list_all}
 use Rattle.snap_semantics.specs.declared.refusal.Refusal.{Refusal}
 use Rattle.snap_semantics.specs.Answers.{◌>>=◌}
 use Rattle.snap_semantics.specs.Schedule.{Schedule}
@@ -24,3 +25,13 @@ unfoldable pub survey_text : Source → List (List ℕ) → Result (List ℕ) Re
 survey_text l texts = do
   ss ← schedules_for l texts
   Ok (surveys_text (map (survey_over l) ss))
+
+-- a clean run: each finished scan has a point, and no item trapped its process
+abbrev pub is_clean : Survey → Bool
+is_clean s = (s.scans_without_point == 0) && (s.traps == 0)
+
+-- schedules: whether the run over each is clean
+unfoldable pub are_clean : Source → List (List ℕ) → Result Bool Refusal
+are_clean l texts = do
+  ss ← schedules_for l texts
+  Ok (list_all is_clean (map (survey_over l) ss))

@@ -5,4 +5,4 @@ mod schedules;
 mod survey_output;
 
 pub use schedules::schedules_for;
-pub use survey_output::survey_program;
+pub use survey_output::{SurveyOutput, survey_program, survey_runs};

@@ -1,8 +1,9 @@
 //! What many runs came to, a line for each, and one for all of them.
 ghost use Rattle.std.specs.Prelude.{◌≡◌, ◌++◌, IfOk, OnOk, map};
+ghost use Rattle.std.specs.List.{list_all};
 ghost use Rattle.snap_semantics.specs.Answers.{Answers};
 ghost use Rattle.snap_survey.specs.SurveyText.{survey_lines, surveys_text};
-ghost use Rattle.snap_survey_output.specs.Surveys.{survey_over, survey_text};
+ghost use Rattle.snap_survey_output.specs.Surveys.{are_clean, is_clean, survey_over, survey_text};
 
 use crate::schedules::schedules_for;
 use snap_asm_program::Program;
@@ -49,20 +50,64 @@ fn surveys_text(alloc: Global, surveys: &[Survey]) -> Result<Vec<u8>, AllocError
     Ok(out)
 }
 
+/// Whether each finished scan of a run has a point, and no item trapped its process.
+fn is_clean(survey: &Survey) -> bool
+    ensures { result ≡ is_clean survey.now }
+{
+    survey.scans_without_point == 0 && survey.traps == 0
+}
+
+/// Whether each run is clean.
+fn are_clean(surveys: &[Survey]) -> bool
+    ensures { result ≡ list_all is_clean surveys.now }
+{
+    surveys.iter().all(|survey| is_clean(survey))
+}
+
+/// What is written of many runs, and whether each of them is clean.
+#[derive(Debug, Drop)]
+pub struct SurveyOutput {
+    pub text: Vec<u8>,
+    pub clean: bool,
+}
+
 /// What a program of a kind came to under many schedules.
-#[tactic(auto, unfolding(crate::specs::Surveys::survey_text))]
+#[tactic(auto, unfolding(crate::specs::Surveys::survey_text, crate::specs::Surveys::are_clean))]
 fn survey_kind<K: Kind>(
     alloc: Global,
     program: &Program,
     texts: &[&[u8]],
-) -> Result<Vec<u8>, Fault<Refusal>>
+) -> Result<SurveyOutput, Fault<Refusal>>
     requires { program.now.kind ≡ K.TAG }
-    ensures { Answers (λ out. out.items) result
+    ensures text { Answers (λ out. out.text.items) result
         (survey_text program.now (map (λ text. text.now) texts.now)) }
+    ensures clean { Answers (λ out. out.clean) result
+        (are_clean program.now (map (λ text. text.now) texts.now)) }
 {
     let schedules = schedules_for::<K>(alloc, program, texts)?;
     let surveys = surveys::<K>(alloc, program, schedules.as_slice())?;
-    Ok(surveys_text(alloc, surveys.as_slice())?)
+    let text = surveys_text(alloc, surveys.as_slice())?;
+    let clean = are_clean(surveys.as_slice());
+    Ok(SurveyOutput { text, clean })
+}
+
+/// What the run of a program over each of many schedules came to, a line for each, and one for all
+/// of them; and whether each of the runs is clean.
+pub fn survey_runs(
+    alloc: Global,
+    program: &Program,
+    texts: &[&[u8]],
+) -> Result<SurveyOutput, Fault<Refusal>>
+    ensures text { Answers (λ out. out.text.items) result
+        (survey_text program.now (map (λ text. text.now) texts.now)) }
+    ensures clean { Answers (λ out. out.clean) result
+        (are_clean program.now (map (λ text. text.now) texts.now)) }
+{
+    match program.kind() {
+        KindTag::Seq => survey_kind::<Seq>(alloc, program, texts),
+        KindTag::Bits => survey_kind::<Bits>(alloc, program, texts),
+        KindTag::Multi => survey_kind::<Multi>(alloc, program, texts),
+    }
 }
 
 /// What the run of a program over each of many schedules came to, a line for each, and one for all
@@ -75,9 +120,6 @@ pub fn survey_program(
     ensures { Answers (λ out. out.items) result
         (survey_text program.now (map (λ text. text.now) texts.now)) }
 {
-    match program.kind() {
-        KindTag::Seq => survey_kind::<Seq>(alloc, program, texts),
-        KindTag::Bits => survey_kind::<Bits>(alloc, program, texts),
-        KindTag::Multi => survey_kind::<Multi>(alloc, program, texts),
-    }
+    let found = survey_runs(alloc, program, texts)?;
+    Ok(found.text)
 }

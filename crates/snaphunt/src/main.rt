@@ -4,8 +4,10 @@
 ghost use Rattle.std.specs.Prelude.{◌≡◌, IfOk};
 ghost use Rattle.snaphunt_command_line.specs.Search.{IsSearch, IsLine};
 
+mod progress;
+
+use crate::progress::Progress;
 use snap_files::{FileFault, read_named, reason};
-use snap_hunt::Watcher;
 use snap_hunt_output::{HuntFault, Hunted, hunt_listing};
 use snap_semantics::Refusal;
 use snap_shipped::{text_b, text_m, text_u};
@@ -21,14 +23,6 @@ const TOO_MANY: u64 = 16_777_217;
 
 /// The status where a run that fails was printed.
 const FOUND: u8 = 4;
-
-/// Nobody is told how far a hunt has come.
-#[derive(Debug, Drop)]
-struct Nobody;
-
-impl Watcher for Nobody {
-    fn tried(&mut self, _runs: u64) {}
-}
 
 /// Says why there is nothing to print, and answers the status of that.
 fn complain(rt: &HostRuntime, fault: HuntFault) -> u8 {
@@ -82,8 +76,10 @@ fn hunt(
 ) -> u8
     requires { IsSearch search.now }
 {
-    let mut watcher = Nobody;
-    match hunt_listing(threads, rt.alloc(), listing, &search.asked, &mut watcher) {
+    let mut progress = Progress::before(rt, search.asked.runs);
+    let hunted = hunt_listing(threads, rt.alloc(), listing, &search.asked, &mut progress);
+    progress.end();
+    match hunted {
         Ok(hunted) => tell(rt, search, &hunted),
         Err(fault) => complain(rt, fault),
     }

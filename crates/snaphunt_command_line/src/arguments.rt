@@ -6,7 +6,7 @@ use clap::builder::ValueParser;
 use clap::error::ErrorKind;
 use clap::{Arg, ArgMatches, Command, Error};
 use snap_chance::{MAX_TURNS, Pace, Plan};
-use snap_failure::Wanted;
+use snap_failure::{StepBound, Wanted};
 use snap_hunt_output::Asked;
 use snap_tasks::kind_of;
 use snap_words::{KindTag, MAX_COUNT, Shape};
@@ -19,13 +19,16 @@ const VERSION: &str = "0.1.0";
 const KINDS: &[&str] = &["seq", "bit", "multi"];
 
 /// The paces that `--pace` takes.
-const PACES: &[&str] = &["mixed", "bursts", "interruptions", "coins"];
+const PACES: &[&str] = &["mixed", "bursts", "interruptions", "rounds", "coins"];
 
 /// The failures that `--fails` takes.
-const FAILURES: &[&str] = &["point", "trap"];
+const FAILURES: &[&str] = &["point", "trap", "steps"];
 
 /// The most runs of a hunt.
 const MAX_RUNS: u64 = 1_000_000_000_000;
+
+/// The greatest depth.
+const MAX_DEPTH: u64 = 100;
 
 /// What a command line asks for: where the listing is, and what is hunted in its runs.
 #[derive(Clone, Copy, Debug)]
@@ -56,6 +59,17 @@ fn number<'a>(
     )
 }
 
+/// The argument that says that priorities decide who moves.
+fn depth<'a>(alloc: Global) -> Result<Arg<'a>, AllocError> {
+    Ok(
+        Arg::new(alloc, "depth")
+            .long("depth")
+            .value_name("D")
+            .value_parser(ValueParser::unsigned(1, MAX_DEPTH))
+            .help("Priorities, lowered at D - 1 turns, decide which process moves"),
+    )
+}
+
 /// The arguments that say how schedules are made.
 fn with_plan<'a>(alloc: Global, command: Command<'a>) -> Result<Command<'a>, AllocError> {
     let pace = Arg::new(alloc, "pace")
@@ -82,6 +96,7 @@ fn with_plan<'a>(alloc: Global, command: Command<'a>) -> Result<Command<'a>, All
             "How many words there are; 0: one for each process",
         )?)?
         .arg(pace)?
+        .arg(depth(alloc)?)?
         .arg(number(
             alloc,
             "turns",
@@ -108,6 +123,34 @@ fn with_plan<'a>(alloc: Global, command: Command<'a>) -> Result<Command<'a>, All
         )?)
 }
 
+/// The arguments that say what is hunted.
+fn with_failures<'a>(alloc: Global, command: Command<'a>) -> Result<Command<'a>, AllocError> {
+    let fails = Arg::new(alloc, "fails")
+        .long("fails")
+        .value_name("WHAT")
+        .value_parser(FAILURES)
+        .value_delimiter(',')
+        .help("What is hunted; all three, where nothing is said");
+    command
+        .arg(fails)?
+        .arg(number(
+            alloc,
+            "steps",
+            0,
+            1_000_000,
+            "0",
+            "Hunts an operation of more own steps than this; 0: than the shipped listing takes",
+        )?)?
+        .arg(number(
+            alloc,
+            "collects",
+            0,
+            1_000_000,
+            "0",
+            "Hunts a scan of more double collects than this; 0: none",
+        )?)
+}
+
 /// The arguments that a hunt takes.
 fn command<'a>(alloc: Global) -> Result<Command<'a>, AllocError> {
     let listing = Arg::new(alloc, "LISTING").help("The file of the listing");
@@ -116,26 +159,12 @@ fn command<'a>(alloc: Global) -> Result<Command<'a>, AllocError> {
         .value_name("KIND")
         .value_parser(KINDS)
         .help("Takes the shipped listing of this kind of registers");
-    let fails = Arg::new(alloc, "fails")
-        .long("fails")
-        .value_name("WHAT")
-        .value_parser(FAILURES)
-        .value_delimiter(',')
-        .help("What is hunted; both, where nothing is said");
     let command = Command::new(alloc, "snaphunt")
         .about("Looks for a run of a listing that fails")
         .version(VERSION)
         .arg(listing)?
-        .arg(shipped)?
-        .arg(fails)?
-        .arg(number(
-            alloc,
-            "collects",
-            0,
-            1_000_000,
-            "0",
-            "Hunts a scan of more double collects than this; 0: none",
-        )?)?
+        .arg(shipped)?;
+    let command = with_failures(alloc, command)?
         .arg(number(
             alloc,
             "runs",
@@ -160,24 +189,37 @@ fn number_of(arguments: &ArgMatches<'_>, name: &str) -> Option<u64> {
     arguments.get_one::<u64>(name)
 }
 
+/// The most steps that an operation may take, where that is asked for: by a number, or by a word.
+fn step_bound(most: u64, asked: bool) -> Option<StepBound> {
+    if most > 0 {
+        Some(StepBound::Given(most))
+    } else if asked {
+        Some(StepBound::Shipped)
+    } else {
+        None
+    }
+}
+
+/// Whether a failure is among the words behind `--fails`, or there are none.
+fn is_asked(words: Option<&[&str]>, failure: &str) -> bool {
+    match words {
+        Some(words) => words.contains(&failure),
+        None => true,
+    }
+}
+
 /// The failures that are asked for.
 fn wanted_of(arguments: &ArgMatches<'_>) -> Option<Wanted> {
     let collects = number_of(arguments, "collects")?;
+    let steps = number_of(arguments, "steps")?;
     let words = arguments.get_raw("fails");
-    let mut wanted = Wanted {
-        point: words.is_none(),
-        trap: words.is_none(),
+    Some(Wanted {
+        point: is_asked(words, "point"),
+        trap: is_asked(words, "trap"),
+        steps: step_bound(steps, is_asked(words, "steps")),
         collects: if collects == 0 { None } else { Some(collects) },
-    };
-    if let Some(words) = words {
-        for word in words {
-            match *word {
-                "point" => wanted.point = true,
-                _ => wanted.trap = true,
-            }
-        }
-    }
-    Some(wanted)
+        only: None,
+    })
 }
 
 /// How schedules are to be made.
@@ -191,6 +233,7 @@ fn plan_of(arguments: &ArgMatches<'_>) -> Option<Plan> {
     let pace = match arguments.get_str("pace")? {
         "bursts" => Pace::Bursts,
         "interruptions" => Pace::Interruptions,
+        "rounds" => Pace::Rounds,
         "coins" => Pace::Coins,
         _ => Pace::Mixed,
     };
@@ -202,7 +245,8 @@ fn plan_of(arguments: &ArgMatches<'_>) -> Option<Plan> {
     let Ok(repeated) = u32::try_from(number_of(arguments, "repeat")?) else {
         return None;
     };
-    Some(Plan::new(shape, pace, turns, crashes, repeated))
+    let plan = Plan::new(shape, pace, turns, crashes, repeated);
+    Some(plan.with_depth(number_of(arguments, "depth")))
 }
 
 /// What arguments ask for.

@@ -1,12 +1,14 @@
 -- What the program does about its command line, and the status that it ends with.
-use Rattle.std.specs.Prelude.{◌≡◌, ℕ, Bool, true, List, [], ◌++◌, Option, Result, Ok, Err, if◌then◌else◌, codes, string_bytes, take}
+use Rattle.std.specs.Prelude.{◌≡◌, ℕ, Bool, true, List, [], ◌++◌, Option, Some, None, Result, Ok, Err, if◌then◌else◌, codes, string_bytes, take}
 use Rattle.std.specs.Io.KnownBytes.{Appends}
 use Rattle.snap_command_line.specs.declared.command_line.Invocation.{Invocation}
 use Rattle.snap_command_line.specs.declared.command_line.CommandLine.{CommandLine}
 use Rattle.snap_command_line.specs.declared.command_line.CommandLine.TheVariants.{Asks, Help, Wrong, NoText}
 use Rattle.snap_tasks.specs.declared.request.Request.{Request}
 use Rattle.snap_tasks.specs.declared.request.Request.TheVariants as request
-use Rattle.snap_program.specs.WholeRun.{ConductsKeeping, IsOutputOf, RefusesLive, RefusesTask, Sends}
+use Rattle.snap_tasks.specs.declared.task.Task.TheVariants as task
+use Rattle.snap_subject.specs.declared.subject.Subject.{Subject}
+use Rattle.snap_program.specs.WholeRun.{ConductsKeeping, ConductsSurvey, IsOutputOf, RefusesLive, RefusesTask, Sends, done_of}
 use Rattle.snap_live_output.specs.LiveOutput.{MayWrite}
 use Rattle.snap_explanation.specs.Explanation.{explanation}
 use Rattle.snap_explanation.specs.Part.{layout_of}
@@ -19,6 +21,16 @@ use Rattle.snap_program.specs.declared.fault.ConductFault.TheVariants.{Memory, R
 abbrev pub exit_status : Result (Unit {0}) ConductFault → ℕ
 exit_status (Ok done) = 0
 exit_status (Err fault) = fault_status fault
+
+-- the status of a strict survey: 4 where all of its output was written, and a run is not clean
+abbrev pub strict_status : Result Bool ConductFault → ℕ
+strict_status (Ok clean) = if clean then 0 else 4
+strict_status (Err fault) = fault_status fault
+
+-- the listing of a strict survey, where one is asked for
+abbrev pub strict_subject : (strict : Bool) → Request → Option Subject
+strict_subject true (request.Do (task.Survey subject)) = Some subject
+strict_subject _ _ = None
 
 -- The device for messages took a text, or as much of its front as it would.
 abbrev pub Says : List ℕ → (said said_after : Option (List ℕ)) → Type 0
@@ -76,12 +88,28 @@ AnswersInvocation asked status left left_after taken taken_after said said_after
     (done : Result (Unit {0}) ConductFault) × (kept : List ℕ) × (status ≡ exit_status done)
     × CarriesOut asked.request kept done left left_after taken taken_after r w s × SaysWhy asked.explains asked.request kept done said said_after
 
+-- What it does about a strict survey.
+abbrev pub AnswersStrictly : Subject → Invocation → (status : ℕ) → (left left_after taken taken_after said said_after : Option (List ℕ)) →
+    (reader_failed writer_failed writer_stalled : Bool) → Type 0
+AnswersStrictly subject asked status left left_after taken taken_after said said_after r w s =
+    (done : Result Bool ConductFault) × (kept : List ℕ) × (status ≡ strict_status done)
+    × ConductsSurvey done subject kept left left_after taken taken_after r w s
+    × SaysWhy asked.explains asked.request kept (done_of done) said said_after
+
+-- The one or the other, where a strict survey of this listing is asked for, or none.
+abbrev pub AnswersAsked : Option Subject → Invocation → (status : ℕ) → (left left_after taken taken_after said said_after : Option (List ℕ)) →
+    (reader_failed writer_failed writer_stalled : Bool) → Type 0
+AnswersAsked None asked status left left_after taken taken_after said said_after r w s =
+    AnswersInvocation asked status left left_after taken taken_after said said_after r w s
+AnswersAsked (Some subject) asked status left left_after taken taken_after said said_after r w s =
+    AnswersStrictly subject asked status left left_after taken taken_after said said_after r w s
+
 -- What the program does about a command line, or where there was no memory to read it: what it takes of its source, what it
 -- gives its sink and its device for messages, and its status.
 abbrev pub AnswersLine : {E : Type 0} → Result CommandLine E → (status : ℕ) → (left left_after taken taken_after said said_after : Option (List ℕ)) →
     (reader_failed writer_failed writer_stalled : Bool) → Type 0
 AnswersLine (Ok (Asks asked)) status left left_after taken taken_after said said_after r w s =
-    AnswersInvocation asked status left left_after taken taken_after said said_after r w s
+    AnswersAsked (strict_subject asked.strict asked.request) asked status left left_after taken taken_after said said_after r w s
 AnswersLine (Ok (Help text)) status left left_after taken taken_after said said_after r w s =
     (left ≡ left_after) × ((done : Result (Unit {0}) ConductFault) × (status ≡ exit_status done) × Sends done (string_bytes text) taken taken_after w s
     × SaysFault done said said_after)

@@ -3,21 +3,25 @@ ghost use Rattle.std.specs.Prelude.{◌≡◌, ◌++◌, false, codes, IfOk, OnO
 ghost use Rattle.snap_command_line.specs.Limits.{HasLimits};
 ghost use Rattle.snap_program.specs.FaultText.{fault_text};
 ghost use Rattle.snap_tasks.specs.Request.{HasLimit};
-ghost use Rattle.snaplab.specs.Answer.{AnswersInvocation, AnswersLine, CarriesOut, Says, SaysFault, SaysTerminal, explained, exit_status};
+ghost use Rattle.snaplab.specs.Answer.{AnswersInvocation, AnswersLine, AnswersStrictly, CarriesOut};
+ghost use Rattle.snaplab.specs.Answer.{Says, SaysFault, SaysTerminal, explained, exit_status, strict_subject};
 
 use snap_command_line::{CommandLine, Invocation};
 use snap_explanation::{explanation, layout_of};
 use snap_program::{
-    ByteSink, ByteSource, ConductFault, NoGate, conduct_keeping, conduct_live_keeping, fault_line,
-    fault_status, write_all,
+    ByteSink, ByteSource, ConductFault, NoGate, conduct_keeping, conduct_live_keeping,
+    conduct_survey, fault_line, fault_status, write_all,
 };
-use snap_tasks::Request;
+use snap_tasks::{Request, Subject, Task};
 use std::alloc::{AllocError, Global};
 use std::sync::Wait;
 use std::thread::Threads;
 
 /// What is said of arguments that are no text.
 const NO_TEXT: &[u8] = b"error: the words of the command line are no text\n";
+
+/// The status of a strict survey where a run is not clean.
+const NOT_CLEAN: u8 = 4;
 
 /// What is said where the input is read from a terminal.
 const TERMINAL: &[u8] = b"reading from the terminal; end with Ctrl-D\n";
@@ -166,6 +170,46 @@ fn do_asked<R: ByteSource, W: ByteSink, E: ByteSink>(
     }
 }
 
+/// The listing of a strict survey, where one is asked for.
+fn strict_subject(asked: &Invocation) -> Option<Subject>
+    ensures { result ≡ strict_subject asked.now.strict asked.now.request }
+{
+    match (asked.strict, asked.request) {
+        (true, Request::Do(Task::Survey(subject))) => Some(subject),
+        _ => None,
+    }
+}
+
+/// Surveys, says why where it is not done, and answers the status of it, which tells whether all
+/// runs are clean.
+fn survey_strictly<R: ByteSource, W: ByteSink, E: ByteSink>(
+    alloc: Global,
+    asked: &Invocation,
+    subject: Subject,
+    source: &mut R,
+    sink: &mut W,
+    errors: &mut E,
+) -> u8
+    requires source { R.has_failed source.old ≡ false }
+    requires sink { W.has_failed sink.old ≡ false }
+    requires goes_on { W.is_stalled sink.old ≡ false }
+    requires errors { E.has_failed errors.old ≡ false }
+    ensures { AnswersStrictly subject asked.now result (R.left source.old) (R.left source.new)
+        (W.taken sink.old) (W.taken sink.new)
+        (E.taken errors.old) (E.taken errors.new) (R.has_failed source.new) (W.has_failed sink.new)
+        (W.is_stalled sink.new) }
+{
+    let mut input = Vec::new(alloc);
+    match conduct_survey(alloc, subject, source, sink, &mut input) {
+        Ok(true) => 0,
+        Ok(false) => NOT_CLEAN,
+        Err(fault) => {
+            explain(alloc, asked, input.as_slice(), &fault, errors);
+            fault_status(&fault)
+        }
+    }
+}
+
 /// Says that the input is read from a terminal, where one is asked for.
 pub fn say_terminal<E: ByteSink>(line: &Result<CommandLine, AllocError>, errors: &mut E)
     requires { E.has_failed errors.old ≡ false }
@@ -198,7 +242,10 @@ pub fn answer<R: ByteSource, W: ByteSink, E: ByteSink>(
         (W.is_stalled sink.new) }
 {
     match line {
-        Ok(CommandLine::Asks(asked)) => { do_asked(rt, alloc, asked, source, sink, errors) }
+        Ok(CommandLine::Asks(asked)) => match strict_subject(asked) {
+            Some(subject) => survey_strictly(alloc, asked, subject, source, sink, errors),
+            None => do_asked(rt, alloc, asked, source, sink, errors),
+        },
         Ok(CommandLine::Help(text)) => {
             let done = write_all(sink, text.as_bytes());
             finish(alloc, &done, errors)

@@ -2,4 +2,4 @@ use Rattle.snap_hunt_laws.proofs.Nothing.{finds_nothing}
 use Rattle.snap_hunt_laws.proofs.shipped_listings_have_no_failing_run.Goals as goal
 
 pub returns : goal.returns
-returns c = λ g. finds_nothing g (c.shipped_runs_keep_promises.ensures g)
+returns c = λ g. finds_nothing c.steps_are_of_operations.ensures g (c.shipped_runs_keep_promises.ensures g)

@@ -1,5 +1,5 @@
 use Rattle.std.proofs.Common.{◌+◌, ◌*◌, ◌<◌, ◌≤◌, length, arith}
-use Rattle.snap_chance.proofs.Turning.{AreTurn, are_turn, longer, still_there, one_more}
+use Rattle.snap_chance.proofs.Turning.{are_turn, longer, still_there, one_more}
 use Rattle.snap_chance.specs.Turns.{turn_items}
 use Rattle.snap_chance.proofs.schedules.turns_of.Goals as goal
 

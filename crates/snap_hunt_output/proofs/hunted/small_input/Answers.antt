@@ -1,7 +1,10 @@
-use Rattle.snap_hunt_output.proofs.Finding.{fails_over}
+use Rattle.snap_hunt_output.proofs.Finding.{fails_alike, fails_over}
 use Rattle.snap_hunt_output.proofs.hunted.small_input.Goals as goal
 
 pub shrunk-requires : goal.shrunk-requires
 shrunk-requires c =
-    fails_over c.args.program.now c.args.plan.now c.args.asked.now.wanted c.args.asked.now.seed c.args.run c.in_ok-schedule.schedule c.in_ok-schedule.ensures
-    c.shape-shape.ensures.schedule c.requires
+    let program = c.args.program.now in
+    let asked = c.args.asked.now in
+    fails_over program c.args.plan.now c.with_only-alike.result asked.seed c.args.run c.in_ok-schedule.schedule c.in_ok-schedule.ensures
+    c.shape-shape.ensures.schedule
+    (rw c.with_only-alike.ensures (fails_alike program c.args.plan.now asked.wanted asked.seed c.args.run c.args.kind c.requires))

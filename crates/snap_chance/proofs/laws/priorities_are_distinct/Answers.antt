@@ -1,0 +1,5 @@
+use Rattle.snap_chance.proofs.Distinct.{distinct}
+use Rattle.snap_chance.proofs.laws.priorities_are_distinct.Goals as goal
+
+pub returns : goal.returns
+returns c = distinct

@@ -1,0 +1,5 @@
+use Rattle.snap_failure.proofs.Operations.{steps_are_of_operations}
+use Rattle.snap_failure.proofs.steps_are_of_operations.Goals as goal
+
+pub returns : goal.returns
+returns c = steps_are_of_operations

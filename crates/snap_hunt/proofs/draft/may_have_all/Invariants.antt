@@ -1,0 +1,13 @@
+use Rattle.std.proofs.Common.{take}
+use Rattle.std.specs.List.{AllByRecursion}
+use Rattle.snap_words.specs.Shape.{IsOneOf}
+use Rattle.snap_semantics.specs.ScheduleText.{FitsItem}
+use Rattle.snap_semantics.specs.Table.{who}
+use Rattle.snap_hunt.proofs.draft.may_have_all.Given as goal
+
+-- so far
+abbrev pub invariant-loop-item : goal.invariant-loop-item
+invariant-loop-item l = record {
+  processes : AllByRecursion (λ x. IsOneOf l.shape.n (who x)) (take l.item-index l.items);
+  fits : AllByRecursion FitsItem (take l.item-index l.items);
+}

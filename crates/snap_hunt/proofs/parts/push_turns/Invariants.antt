@@ -1,0 +1,5 @@
+use Rattle.std.proofs.Common.{◌-◌}
+use Rattle.snap_hunt.proofs.parts.push_turns.Given as goal
+
+abbrev pub decreases-loop-from : goal.decreases-loop-from
+decreases-loop-from l = l.turns - l.from

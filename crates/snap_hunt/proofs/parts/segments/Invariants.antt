@@ -1,0 +1,5 @@
+use Rattle.std.proofs.Common.{◌-◌, length}
+use Rattle.snap_hunt.proofs.parts.segments.Given as goal
+
+abbrev pub decreases-loop-at : goal.decreases-loop-at
+decreases-loop-at l = length l.items - l.at

@@ -1,0 +1,90 @@
+//! A schedule that is being made small.
+ghost use Rattle.std.specs.Prelude.{◌≡◌, IfOk, IsTrue};
+ghost use Rattle.std.specs.List.{AllByRecursion};
+ghost use Rattle.snap_words.specs.Shape.{IsOneOf};
+ghost use Rattle.snap_semantics.specs.ScheduleText.{FitsItem, FitsWords, IsSchedule};
+ghost use Rattle.snap_semantics.specs.Table.{who};
+ghost use Rattle.snap_hunt.specs.Shrinking.{IsWithin, drawn};
+
+use crate::cuts::items_of;
+use snap_sched::Schedule;
+use snap_semantics::{Item, Op, who};
+use snap_words::{MAX_ITEMS, Shape};
+use std::alloc::{AllocError, Global};
+
+/// A shape and items. Whether they are a schedule is seen when they are tried.
+#[derive(Debug, Drop)]
+pub(crate) struct Draft {
+    pub(crate) shape: Shape,
+    pub(crate) items: Vec<Item>,
+}
+
+/// The draft that a schedule is.
+pub(crate) fn draft_of(alloc: Global, schedule: &Schedule) -> Result<Draft, AllocError>
+    ensures { IfOk result (λ d. drawn d ≡ schedule.now) }
+{
+    Ok(Draft {
+        shape: schedule.shape(),
+        items: items_of(alloc, schedule)?,
+    })
+}
+
+/// Whether the numbers of an operation have 64 bits, as they do.
+fn fits_words(op: Op) -> bool
+    ensures { IsTrue result → FitsWords op }
+{
+    match op {
+        Op::Scan => true,
+        Op::Update { word, value } => word <= u64::MAX && value <= u64::MAX,
+    }
+}
+
+/// Whether the numbers of an item have 64 bits, as they do.
+fn fits_item(item: Item) -> bool
+    ensures { IsTrue result → FitsItem item }
+{
+    match item {
+        Item::Call(_, op) => fits_words(op),
+        Item::Step(_) | Item::Crash(_) => true,
+    }
+}
+
+/// Whether a shape has the process of an item.
+pub(crate) fn has_process(shape: Shape, item: Item) -> bool
+    ensures { IsTrue result → IsOneOf shape.n (who item) }
+{
+    let process = who(item);
+    1 <= process && u64::from(process) <= shape.n()
+}
+
+/// Whether a schedule of a shape may have each of these items.
+fn may_have_all(shape: Shape, items: &[Item]) -> bool
+    ensures processes { IsTrue result
+        → AllByRecursion (λ x. IsOneOf shape.n (who x)) items.now }
+    ensures fits { IsTrue result → AllByRecursion FitsItem items.now }
+{
+    for item in items {
+        if !(has_process(shape, *item) && fits_item(*item)) {
+            return false;
+        }
+    }
+    true
+}
+
+/// Whether these are the items of a schedule of a shape.
+pub(crate) fn is_schedule(shape: Shape, items: &[Item]) -> bool
+    ensures { IsTrue result → IsSchedule (record { shape = shape; items = items.now }) }
+{
+    items.len() as u64 <= MAX_ITEMS
+        && Shape::new(shape.n(), shape.w()).is_ok()
+        && may_have_all(shape, items)
+}
+
+/// Whether a draft has no more processes, words and items than another.
+pub(crate) fn is_within(draft: &Draft, other: &Draft) -> bool
+    ensures { IsTrue result → IsWithin (drawn draft.now) (drawn other.now) }
+{
+    draft.shape.n() <= other.shape.n()
+        && draft.shape.w() <= other.shape.w()
+        && draft.items.len() <= other.items.len()
+}

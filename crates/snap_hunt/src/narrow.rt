@@ -1,0 +1,63 @@
+//! Drafts of fewer processes and words.
+ghost use Rattle.std.specs.Prelude.{◌<◌, ◌+◌, IfOk, IfSome, IsTrue};
+ghost use Rattle.snap_hunt.specs.Shrinking.{IsWithin, Narrows, drawn};
+
+use crate::draft::{Draft, is_within};
+use crate::follow::followed;
+use crate::places::{Gone, all_gone, shape_left};
+use crate::trials::still_fails;
+use snap_asm_program::Program;
+use snap_failure::Wanted;
+use std::alloc::{AllocError, Global};
+
+/// Whether a draft has fewer processes or words than another, and no more of anything.
+fn is_narrower(draft: &Draft, other: &Draft) -> bool
+    ensures within { IsTrue result → IsWithin (drawn draft.now) (drawn other.now) }
+    ensures fewer { IsTrue result → draft.now.shape.n + draft.now.shape.w
+        < other.now.shape.n + other.now.shape.w }
+{
+    is_within(draft, other)
+        && (draft.shape.n() < other.shape.n() || draft.shape.w() < other.shape.w())
+}
+
+/// A draft without a process or a word, where its run fails.
+fn without_place(
+    alloc: Global,
+    program: &Program,
+    wanted: &Wanted,
+    kept: &Draft,
+    gone: Gone,
+) -> Result<Option<Draft>, AllocError>
+    ensures { IfOk result (λ found. IfSome found (Narrows program.now wanted.now (drawn kept.now))) }
+{
+    let Some(shape) = shape_left(kept.shape, gone) else {
+        return Ok(None);
+    };
+    let items = followed(alloc, program, kept, gone, shape)?;
+    let draft = Draft { shape, items };
+    if is_narrower(&draft, kept) && still_fails(alloc, program, wanted, &draft)? {
+        Ok(Some(draft))
+    } else {
+        Ok(None)
+    }
+}
+
+/// A draft of fewer processes or words whose run fails, where one is found.
+pub(crate) fn narrower(
+    alloc: Global,
+    program: &Program,
+    wanted: &Wanted,
+    kept: &Draft,
+    owns: bool,
+) -> Result<Option<Draft>, AllocError>
+    ensures { IfOk result (λ found. IfSome found (Narrows program.now wanted.now (drawn kept.now))) }
+{
+    let all = all_gone(alloc, kept.shape, owns)?;
+    for gone in all.as_slice() {
+        let found = without_place(alloc, program, wanted, kept, *gone)?;
+        if found.is_some() {
+            return Ok(found);
+        }
+    }
+    Ok(None)
+}

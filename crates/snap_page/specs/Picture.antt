@@ -1,0 +1,39 @@
+-- The picture that a page asks for, and what it is handed.
+use Rattle.std.specs.Prelude.{ℕ, false, List, ◌++◌, codes, Some, Result, Ok, Err}
+use Rattle.snap_semantics.specs.Answers.{◌>>=◌, refused_as}
+use Rattle.snap_semantics.specs.Listing.{listing_of}
+use Rattle.snap_semantics.specs.Source.{Source}
+use Rattle.snap_semantics.specs.declared.refusal.Refusal.TheVariants.{Listing}
+use Rattle.snap_refusals.specs.RefusalText.{numbered, refusal_text}
+use Rattle.snap_picture.specs.Picture.{picture_of}
+use Rattle.snap_picture.specs.declared.refusal.PictureRefusal.{PictureRefusal}
+use Rattle.snap_picture.specs.declared.refusal.PictureRefusal.TheVariants as refusal
+
+-- the listing that a text is, or why it has no picture
+abbrev pub drawn_listing : List ℕ → Result Source PictureRefusal
+drawn_listing text = refused_as refusal.Input (refused_as Listing (listing_of text))
+
+-- The picture of a listing's run under a schedule, from one item to another, or the first reason why there is none.
+abbrev pub drawn : (listing schedule : List ℕ) → (from to : ℕ) → (style legend : List ℕ) → Result (List ℕ) PictureRefusal
+drawn listing schedule from to style legend = do
+  l ← drawn_listing listing
+  picture_of l (Some listing) schedule (record { from = Some from; to = Some to; reads = false }) style legend
+
+abbrev pub picture_refusal_text : PictureRefusal → List ℕ
+picture_refusal_text (refusal.Input r) = refusal_text r
+picture_refusal_text (refusal.NoSuchItems total) = numbered (codes "D1 NoSuchItems") total
+picture_refusal_text (refusal.TooManyItems count) = numbered (codes "D2 TooManyItems") count
+
+-- the line of a picture that is refused
+abbrev pub picture_refusal_line : PictureRefusal → List ℕ
+picture_refusal_line r = (codes "refused: " ++ picture_refusal_text r) ++ codes "\n"
+
+-- 0 with a picture, 1 with a refusal
+abbrev pub drawn_code : Result (List ℕ) PictureRefusal → ℕ
+drawn_code (Ok text) = 0
+drawn_code (Err r) = 1
+
+-- the picture, or the line that says why there is none
+abbrev pub drawn_text : Result (List ℕ) PictureRefusal → List ℕ
+drawn_text (Ok text) = text
+drawn_text (Err r) = picture_refusal_line r

@@ -1,0 +1,86 @@
+//! The picture that a page asks for, and how it is handed.
+ghost use Rattle.std.specs.Prelude.{◌≡◌, ◌<◌, ◌⊎◌, ◌↔◌, ℕ, List, Result, length, take};
+ghost use Rattle.snap_semantics.specs.Answers.{Answers};
+ghost use Rattle.snap_picture.specs.declared.refusal.PictureRefusal.{PictureRefusal};
+ghost use Rattle.snap_page.specs.Picture.{drawn, drawn_code, drawn_listing, drawn_text};
+ghost use Rattle.snap_page.specs.Picture.{picture_refusal_line};
+
+use crate::handed::{Handed, handed_line, handed_refusal, handed_text};
+use itoa::Buffer;
+use snap_asm_program::Program;
+use snap_input::program_of;
+use snap_picture::{Look, Options, PictureRefusal, picture};
+use snap_semantics::Fault;
+use std::alloc::Global;
+
+/// The program of a listing's text.
+fn drawn_program(alloc: Global, listing: &[u8]) -> Result<Program, Fault<PictureRefusal>>
+    ensures { Answers (λ p. p) result (drawn_listing listing.now) }
+{
+    match program_of(alloc, listing) {
+        Ok(program) => Ok(program),
+        Err(Fault::Memory) => Err(Fault::Memory),
+        Err(Fault::Refused(refusal)) => Err(Fault::Refused(PictureRefusal::Input(refusal))),
+    }
+}
+
+/// The picture of a listing's run under a schedule, from one item to another.
+pub fn drawn(
+    alloc: Global,
+    listing: &[u8],
+    schedule: &[u8],
+    from: u64,
+    to: u64,
+    look: &Look<'_>,
+) -> Result<Vec<u8>, Fault<PictureRefusal>>
+    ensures { Answers (λ out. out.items) result (drawn listing.now schedule.now from to
+        look.now.style.now look.now.legend.now) }
+{
+    let program = drawn_program(alloc, listing)?;
+    let options = Options {
+        from: Some(from),
+        to: Some(to),
+        reads: false,
+    };
+    picture(alloc, &program, Some(listing), schedule, &options, look)
+}
+
+/// Hands the line of a picture that is refused.
+fn handed_why(alloc: Global, refusal: &PictureRefusal, room: &mut [u8]) -> Handed
+    ensures code { result.code ≡ 1 ⊎ (result.code ≡ 2 ⊎ result.code ≡ 3) }
+    ensures small { result.code ≡ 3 ↔ length room.old < result.len }
+    ensures text { result.code ≡ 1 → take result.len room.new ≡ picture_refusal_line refusal.now }
+    ensures length { result.code ≡ 3 → result.len ≡ length (picture_refusal_line refusal.now) }
+{
+    let mut digits = Buffer::new();
+    match refusal {
+        PictureRefusal::Input(refusal) => handed_refusal(alloc, refusal, room),
+        PictureRefusal::NoSuchItems(total) => {
+            handed_line(b"D1 NoSuchItems ", digits.format(*total).as_bytes(), room)
+        }
+        PictureRefusal::TooManyItems(count) => {
+            handed_line(b"D2 TooManyItems ", digits.format(*count).as_bytes(), room)
+        }
+    }
+}
+
+/// Hands a picture, or why there is none.
+pub fn handed_picture(
+    alloc: Global,
+    answer: Result<Vec<u8>, Fault<PictureRefusal>>,
+    room: &mut [u8],
+) -> Handed
+    ensures code { result.code < 4 }
+    ensures small { result.code ≡ 3 ↔ length room.old < result.len }
+    ensures answer { (d : Result (List ℕ) PictureRefusal) → Answers (λ out. out.items) answer d →
+        result.code < 2 →
+        (result.code ≡ drawn_code d) × (take result.len room.new ≡ drawn_text d) }
+    ensures needed { (d : Result (List ℕ) PictureRefusal) → Answers (λ out. out.items) answer d →
+        result.code ≡ 3 → result.len ≡ length (drawn_text d) }
+{
+    match answer {
+        Ok(text) => handed_text(0, text.as_slice(), room),
+        Err(Fault::Memory) => Handed { code: 2, len: 0 },
+        Err(Fault::Refused(refusal)) => handed_why(alloc, &refusal, room),
+    }
+}

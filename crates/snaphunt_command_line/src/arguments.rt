@@ -70,14 +70,8 @@ fn depth<'a>(alloc: Global) -> Result<Arg<'a>, AllocError> {
     )
 }
 
-/// The arguments that say how schedules are made.
-fn with_plan<'a>(alloc: Global, command: Command<'a>) -> Result<Command<'a>, AllocError> {
-    let pace = Arg::new(alloc, "pace")
-        .long("pace")
-        .value_name("PACE")
-        .value_parser(PACES)
-        .default_value("mixed")
-        .help("How processes take turns");
+/// The arguments that say how many processes and words there are.
+fn with_shape<'a>(alloc: Global, command: Command<'a>) -> Result<Command<'a>, AllocError> {
     command
         .arg(number(
             alloc,
@@ -94,7 +88,18 @@ fn with_plan<'a>(alloc: Global, command: Command<'a>) -> Result<Command<'a>, All
             MAX_COUNT,
             "0",
             "How many words there are; 0: one for each process",
-        )?)?
+        )?)
+}
+
+/// The arguments that say how schedules are made.
+fn with_plan<'a>(alloc: Global, command: Command<'a>) -> Result<Command<'a>, AllocError> {
+    let pace = Arg::new(alloc, "pace")
+        .long("pace")
+        .value_name("PACE")
+        .value_parser(PACES)
+        .default_value("mixed")
+        .help("How processes take turns");
+    with_shape(alloc, command)?
         .arg(pace)?
         .arg(depth(alloc)?)?
         .arg(number(

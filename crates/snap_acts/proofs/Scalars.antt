@@ -1,8 +1,10 @@
--- The scalars of a process, by name.
-use Rattle.std.proofs.Common.{◌≡◌, ℕ, Bool, true, false, List, [], ◌∷◌, Option, Some, None, refl, sym, ap, ◌∙◌, option_map, bytes_eq, if◌then◌else◌}
+-- A scalar of a process, looked up by its name (`local_value`), is the value of that name among the scalars.
+use Rattle.std.proofs.Common.{◌≡◌, ℕ, Bool, true, false, List, [], ◌∷◌, Option, Some, None, refl, sym, ap, ◌∙◌}
+use Rattle.std.proofs.Common.{option_map, bytes_eq, if◌then◌else◌}
 use Rattle.snap_words.specs.Word.{Word}
 use Rattle.snap_semantics.specs.Rules.{or_else}
-use Rattle.snap_semantics.specs.Readers.{LocalValue, NumberValue, RowValue, WordsValue, ViewValue, find_name, local_value}
+use Rattle.snap_semantics.specs.Readers.{LocalValue, NumberValue, RowValue, WordsValue}
+use Rattle.snap_semantics.specs.Readers.{ViewValue, find_name, local_value}
 use Rattle.snap_semantics.specs.Source.{Name}
 use Rattle.snap_semantics.specs.State.{Locals, NameMap, value_at}
 
@@ -35,22 +37,26 @@ among None None None None = refl
 
 -- the value of a scalar is the number that is found by its name
 scalar_value : (l : Locals) (x : Name) → value_at x l.scalars 0 ≡ number_in (local_value l x)
-scalar_value l x = found x l.scalars ∙ among (find_name x l.scalars) (find_name x l.rows) (find_name x l.words) (find_name x l.views)
+scalar_value l x =
+    found x l.scalars ∙ among (find_name x l.scalars) (find_name x l.rows) (find_name x l.words) (find_name x l.views)
 
 -- a scalar has the name
 pub scalar_there : (l : Locals) (x : Name) (n : ℕ) → Some (NumberValue n) ≡ local_value l x → value_at x l.scalars 0 ≡ n
 scalar_there l x n h = scalar_value l x ∙ sym (ap number_in h)
 
 -- a row has it
-pub row_there : (l : Locals) (x : Name) (row : List ℕ) → Some (RowValue row) ≡ local_value l x → value_at x l.scalars 0 ≡ 0
+pub row_there : (l : Locals) (x : Name) (row : List ℕ) →
+    Some (RowValue row) ≡ local_value l x → value_at x l.scalars 0 ≡ 0
 row_there l x row h = scalar_value l x ∙ sym (ap number_in h)
 
 -- words have it
-pub words_there : (l : Locals) (x : Name) (words : List Word) → Some (WordsValue words) ≡ local_value l x → value_at x l.scalars 0 ≡ 0
+pub words_there : (l : Locals) (x : Name) (words : List Word) →
+    Some (WordsValue words) ≡ local_value l x → value_at x l.scalars 0 ≡ 0
 words_there l x words h = scalar_value l x ∙ sym (ap number_in h)
 
 -- a view has it
-pub view_there : (l : Locals) (x : Name) (view : List ℕ) → Some (ViewValue view) ≡ local_value l x → value_at x l.scalars 0 ≡ 0
+pub view_there : (l : Locals) (x : Name) (view : List ℕ) →
+    Some (ViewValue view) ≡ local_value l x → value_at x l.scalars 0 ≡ 0
 view_there l x view h = scalar_value l x ∙ sym (ap number_in h)
 
 -- no local has it

@@ -1,1 +1,2 @@
+-- The definitions of snap_acts, by their modules.
 pub mod Trace

@@ -1,4 +1,5 @@
-//! What items do.
+//! `Act`: what an item of a run did, such as a call, a read, a write, a test or the borrowing of a
+//! view.
 use snap_semantics::Op;
 use snap_words::View;
 

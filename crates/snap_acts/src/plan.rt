@@ -1,4 +1,5 @@
-//! What an item is about to do.
+//! `Plan`: what the line that an item is about to run will do: write or read a word, write or take
+//! a view, or test.
 ghost use Rattle.std.specs.Prelude.{◌≡◌};
 ghost use Rattle.snap_words.specs.Shape.{IsOneOf};
 ghost use Rattle.snap_semantics.specs.Source.{instr_at};
@@ -54,8 +55,8 @@ fn scalar_of<K: Kind>(machine: &Machine<K>, i: u32, name: Name) -> u64
 /// The place that an index stands for, and 0 for the place of a quantifier.
 pub fn index_value<K: Kind>(machine: &Machine<K>, i: u32, op: Op, index: Index) -> u64
     requires { IsOneOf machine.now.shape.n i }
-    ensures { result ≡ index_value (context_of machine.now.shape i (process_at machine.now.state i) op)
-        index }
+    ensures { result ≡ index_value
+        (context_of machine.now.shape i (process_at machine.now.state i) op) index }
 {
     match index {
         Index::Number(k) => k,
@@ -71,8 +72,8 @@ pub fn index_value<K: Kind>(machine: &Machine<K>, i: u32, op: Op, index: Index) 
 /// What a line is about to do.
 fn plan_of_line<K: Kind>(machine: &Machine<K>, i: u32, op: Op, instr: &Instr) -> Plan
     requires { IsOneOf machine.now.shape.n i }
-    ensures { result ≡ plan_of_line (context_of machine.now.shape i (process_at machine.now.state i) op)
-        instr.now }
+    ensures { result ≡ plan_of_line
+        (context_of machine.now.shape i (process_at machine.now.state i) op) instr.now }
 {
     match instr {
         Instr::Put(k, _) => Plan::Write(index_value(machine, i, op, *k)),

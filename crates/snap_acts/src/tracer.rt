@@ -1,11 +1,12 @@
-//! The items of a run, one after another.
+//! `Tracer`: a machine that does the items of a run and notes of each what it did, as a `Step`.
 ghost use Rattle.std.specs.Prelude.{◌≡◌, ◌∷◌, ◌++◌, [], ◌+◌, ◌<◌, ◌^◌, IfOk, OnOk};
 ghost use Rattle.snap_words.specs.Shape.{IsOneOf};
 ghost use Rattle.snap_semantics.specs.Readers.{line_of};
 ghost use Rattle.snap_semantics.specs.State.{process_at};
 ghost use Rattle.snap_semantics.specs.Table.{done, who};
 ghost use Rattle.snap_runs.specs.Run.{run_over};
-ghost use Rattle.snap_acts.specs.Trace.{act_of, call_act, line_number, stands_at, step_of, stepped, trace_of};
+ghost use Rattle.snap_acts.specs.Trace.{act_of, call_act, line_number};
+ghost use Rattle.snap_acts.specs.Trace.{stands_at, step_of, stepped, trace_of};
 
 use crate::act::{Act, Step};
 use crate::plan::{Plan, plan_of};

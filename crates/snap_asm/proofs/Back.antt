@@ -1,4 +1,5 @@
--- What is assembled lists back: from the laws of texts and of images.
+-- An image that was assembled from a text is listed as that text's canonical form (`ListsBack`): from the laws of
+-- texts and of images.
 use Rattle.std.proofs.Common.{◌≡◌, ℕ, List, Ok, ap, subst}
 use Rattle.std.specs.Prelude.{Result}
 use Rattle.snap_image_format.specs.declared.image.ImageVersion.TheVariants as version

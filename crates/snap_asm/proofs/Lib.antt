@@ -1,1 +1,2 @@
+-- The proofs of snap_asm, by their modules.
 pub mod Back

@@ -1,4 +1,5 @@
--- What is listed, and what is loaded.
+-- `HaveOneListing` and `HasListing`: an image and a canonical text are of one listing, and an image is of a given
+-- listing.
 use Rattle.std.specs.Prelude.{◌≡◌, ℕ, List}
 use Rattle.snap_semantics.specs.CanonicalText.{canonical_text}
 use Rattle.snap_semantics.specs.Comments.{Commented, IsCommented}

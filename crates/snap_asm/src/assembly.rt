@@ -1,6 +1,7 @@
 //! From texts to images, from images to texts and to images of the version that is written, and
 //! from images to programs.
-ghost use Rattle.std.specs.Prelude.{◌≡◌, ◌≢◌, ◌<◌, ℕ, List, ◌∷◌, ◌++◌, IfOk, None, Ok, Err, length, take};
+ghost use Rattle.std.specs.Prelude.{◌≡◌, ◌≢◌, ◌<◌, ◌∷◌, ◌++◌};
+ghost use Rattle.std.specs.Prelude.{ℕ, List, IfOk, None, Ok, Err, length, take};
 ghost use Rattle.snap_semantics.specs.Answers.{Answers};
 ghost use Rattle.snap_image_format.specs.Assembly.{assembled, listed, upgraded};
 ghost use Rattle.snap_semantics.specs.CanonicalText.{canonical_text};
@@ -10,7 +11,8 @@ ghost use Rattle.snap_image_format.specs.ImageCodes.{of_code, versions};
 ghost use Rattle.snap_image_format.specs.ImageListing.{listing_of_image};
 ghost use Rattle.snap_semantics.specs.declared.fault.Fault.TheVariants.{Refused};
 ghost use Rattle.snap_image_format.specs.declared.image.ImageVersion.{ImageVersion};
-ghost use Rattle.snap_semantics.specs.declared.refusal.ImageRefusal.TheVariants.{NotAnImage, Version};
+ghost use Rattle.snap_semantics.specs.declared.refusal.ImageRefusal.TheVariants.{NotAnImage};
+ghost use Rattle.snap_semantics.specs.declared.refusal.ImageRefusal.TheVariants.{Version};
 ghost use Rattle.snap_semantics.specs.declared.refusal.ListingRefusal.TheVariants.{TooLong};
 ghost use Rattle.snap_asm.specs.Listed.{HasListing, HaveOneListing};
 

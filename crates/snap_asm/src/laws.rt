@@ -1,4 +1,5 @@
-//! The laws of assembling, listing, loading and upgrading.
+//! The laws of assembling texts to images, listing images as texts, loading images as programs and
+//! upgrading images.
 ghost use Rattle.snap_asm.specs.Laws.{KeepsCanonical, ListsBack, Upgrades};
 
 use snap_image::what_is_encoded_is_decoded;

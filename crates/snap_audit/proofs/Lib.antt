@@ -1,3 +1,4 @@
+-- The proofs of snap_audit, by their modules.
 pub mod Points
 pub mod Events
 pub mod Sweeping

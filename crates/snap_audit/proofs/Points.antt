@@ -1,4 +1,4 @@
--- The least point is found by the changes.
+-- The least point of a scan is found by an audit from the changes of the values (`least_by`).
 use Rattle.std.proofs.Common.{◌≡◌, ℕ, zero, suc, ◌+◌, ◌<◌, ◌≤◌, List, Some, if◌then◌else◌, refl, sym, ap, ◌∙◌, arith}
 use Rattle.std.specs.Prelude.{bytes_eq}
 use Rattle.snap_semantics.specs.State.{values}
@@ -10,9 +10,11 @@ use Rattle.snap_audit.specs.Sweep.{least_by}
 
 -- the least point is found by the changes
 pub least_is : (r : Run) (vs : List ℕ) (xs : List Change) (view : List ℕ) (t more : ℕ) →
-    ((u : ℕ) → t ≤ u → u < t + more → values (state r u) ≡ values_by vs xs u) → least_by vs xs view t more ≡ least_point r view t more
+    ((u : ℕ) → t ≤ u → u < t + more → values (state r u) ≡ values_by vs xs u) →
+    least_by vs xs view t more ≡ least_point r view t more
 least_is r vs xs view t zero h = refl
 least_is r vs xs view t (suc more) h =
     let here : values_by vs xs t ≡ values (state r t) = sym (h t (omega arith) (omega arith)) in
     ap (λ v. if bytes_eq v view then Some t else least_by vs xs view (suc t) more) here
-    ∙ ap (λ o. if bytes_eq (values (state r t)) view then Some t else o) (least_is r vs xs view (suc t) more (λ u low high. h u (omega (arith, low)) (omega (arith, high))))
+    ∙ ap (λ o. if bytes_eq (values (state r t)) view then Some t else o)
+    (least_is r vs xs view (suc t) more (λ u low high. h u (omega (arith, low)) (omega (arith, high))))

@@ -1,8 +1,12 @@
--- What an audit keeps, from event to event.
-use Rattle.std.proofs.Common.{◌≡◌, ℕ, suc, ◌+◌, ◌-◌, ◌<◌, ◌≤◌, Bool, true, false, List, [], ◌∷◌, ◌++◌, length, map, drop, get_or, nat_eq, replicate, slice_index, slice_set, refl, sym, ap, subst, ◌∙◌, append_assoc, append-nil, arith}
+-- The invariant of an audit that goes through the events of a run (`Sweeps`): what it keeps of each process, and the
+-- verdicts up to then.
+use Rattle.std.proofs.Common.{◌≡◌, ℕ, suc, ◌+◌, ◌-◌, ◌<◌, ◌≤◌, Bool, true, false, List, [], ◌∷◌, ◌++◌, length, map}
+use Rattle.std.proofs.Common.{drop, get_or, nat_eq, replicate, slice_index, slice_set, refl, sym, ap, subst, ◌∙◌}
+use Rattle.std.proofs.Common.{append_assoc, append-nil, arith}
 use Rattle.std.proofs.lemmas.Bool.{eqb-true, eqb-false}
 use Rattle.std.proofs.lemmas.Grind.{get_or-set_at}
-use Rattle.std.proofs.lemmas.List.{get_or-map, get_or-set_other, length-set, length-replicate, get_or-replicate, map-set}
+use Rattle.std.proofs.lemmas.List.{get_or-map, get_or-set_other, length-set}
+use Rattle.std.proofs.lemmas.List.{length-replicate, get_or-replicate, map-set}
 use Rattle.std.specs.List.{AllByRecursion}
 use Rattle.snap_words.specs.Shape.{IsOneOf}
 use Rattle.snap_semantics.specs.declared.event.Event.{Event}
@@ -33,8 +37,8 @@ all_past [] = tt
 all_past (e ∷ es) = (omega arith, all_past es)
 
 -- at the start all events are left
-pub started : (r : Run) (xs : List Change) (cs : List Caller) (es : List Event) → IsValidRun r → LeadsAlong r xs → cs ≡ replicate r.shape.n (fresh r.shape.w) →
-    es ≡ events_of r (length r.items) → Sweeps r xs cs [] es
+pub started : (r : Run) (xs : List Change) (cs : List Caller) (es : List Event) → IsValidRun r → LeadsAlong r xs →
+    cs ≡ replicate r.shape.n (fresh r.shape.w) → es ≡ events_of r (length r.items) → Sweeps r xs cs [] es
 started r xs cs es fits leads new all =
     subst (λ (l : List Caller). Sweeps r xs l [] es) (sym new)
     (let whole : Sweeps r xs (replicate r.shape.n (fresh r.shape.w)) [] es = record {
@@ -45,18 +49,24 @@ started r xs cs es fits leads new all =
       each = λ i one d.
           let low : 0 < i = one.0 in
           let high : i ≤ r.shape.n = one.1 in
-          let here : IsCaller r xs es i (fresh r.shape.w) = record { follows = λ u le top. leads u top; past = all_past es; collects_are = refl } in
-          subst (IsCaller r xs es i) (sym (get_or-replicate r.shape.n (i - 1) (fresh r.shape.w) d (omega (arith, low, high)))) here;
-      within = subst (λ (l : List Event). AllByRecursion (IsWithin r.shape.n (length r.items)) l) (sym (all ∙ all_events r)) (all_within_run r fits);
+          let here : IsCaller r xs es i (fresh r.shape.w) =
+          record { follows = λ u le top. leads u top; past = all_past es; collects_are = refl } in
+          subst (IsCaller r xs es i)
+          (sym (get_or-replicate r.shape.n (i - 1) (fresh r.shape.w) d (omega (arith, low, high)))) here;
+      within =
+          subst (λ (l : List Event). AllByRecursion (IsWithin r.shape.n (length r.items)) l)
+          (sym (all ∙ all_events r)) (all_within_run r fits);
       rises = subst (λ (l : List Event). IsRising l) (sym (all ∙ all_events r)) (rising_run r);
     } in whole)
 
 -- the double collects at it
-pub collects_left : (r : Run) (es : List Event) (ks : List ℕ) (k d : ℕ) (e : Event) → ks ≡ map (collects_at r) es → k < length es → e ≡ get_or es k e →
-    get_or ks k d ≡ collects_at r e
-collects_left r es ks k d e are lt is = ap (λ l. get_or l k d) are ∙ get_or-map (collects_at r) es k e d lt ∙ ap (collects_at r) (sym is)
+pub collects_left : (r : Run) (es : List Event) (ks : List ℕ) (k d : ℕ) (e : Event) → ks ≡ map (collects_at r) es →
+    k < length es → e ≡ get_or es k e → get_or ks k d ≡ collects_at r e
+collects_left r es ks k d e are lt is =
+    ap (λ l. get_or l k d) are ∙ get_or-map (collects_at r) es k e d lt ∙ ap (collects_at r) (sym is)
 
-module _ (r : Run) (xs : List Change) (cs : List Caller) (found : List Verdict) (e : Event) (left : List Event) (h : Sweeps r xs cs found (e ∷ left)) where
+module _ (r : Run) (xs : List Change) (cs : List Caller) (found : List Verdict) (e : Event) (left : List Event)
+    (h : Sweeps r xs cs found (e ∷ left)) where
   -- the process of the event
   pub its_process : IsOneOf (length cs) e.process
   its_process = subst (λ m. IsOneOf m e.process) (sym h.count) h.within.0.0
@@ -75,19 +85,22 @@ module _ (r : Run) (xs : List Change) (cs : List Caller) (found : List Verdict) 
 
   -- the double collects since
   since : (d : Caller) → double_collects r e.process 0 e.item
-      ≡ double_collects r e.process 0 (get_or cs (e.process - 1) d).call + double_collects r e.process (get_or cs (e.process - 1) d).call e.item
+      ≡ double_collects r e.process 0 (get_or cs (e.process - 1) d).call
+      + double_collects r e.process (get_or cs (e.process - 1) d).call e.item
   since d = count_split (ends_double_collect r e.process) (get_or cs (e.process - 1) d).call e.item (its_order d)
 
   -- no fewer double collects than at the last call
   pub its_collects : (k : ℕ) → k ≡ collects_at r e → (d : Caller) → (get_or cs (e.process - 1) d).collects ≤ k
-  its_collects k is d = (let all = since d in let before = (its_caller d).collects_are in omega (arith, all, before, is))
+  its_collects k is d =
+      (let all = since d in let before = (its_caller d).collects_are in omega (arith, all, before, is))
 
   -- what is kept of a process that the event leaves
   passed : (i : ℕ) (c : Caller) → IsCaller r xs (e ∷ left) i c → IsCaller r xs left i c
   passed i c k = record { follows = k.follows; past = k.past.1; collects_are = k.collects_are }
 
   -- what is found, with the event's own verdict
-  remaining : (w : Happening) → e.what ≡ w → found ++ (verdicts_at r e.process (slice_index (calls_of cs) (e.process - 1)) e.item w
+  remaining : (w : Happening) → e.what ≡ w →
+      found ++ (verdicts_at r e.process (slice_index (calls_of cs) (e.process - 1)) e.item w
       ++ by_events r (calls_after (calls_of cs) e.process e.item w) left) ≡ audit r
   remaining w is =
       ap (λ y. found ++ (verdicts_at r e.process (slice_index (calls_of cs) (e.process - 1)) e.item y
@@ -128,16 +141,26 @@ module _ (r : Run) (xs : List Change) (cs : List Caller) (found : List Verdict) 
       let mine = its_caller d in
       let order = its_order d in
       let last = its_item in
-      let point = least_is r c.values (drop c.next xs) view c.call (suc (e.item - c.call)) (λ u low high. mine.follows u low (omega (arith, high, order, last))) in
-      let collects : k - c.collects ≡ double_collects r e.process c.call e.item = (let all = since d in let before = mine.collects_are in omega (arith, all, before, counted)) in
+      let point = least_is r c.values (drop c.next xs) view c.call (suc (e.item - c.call))
+      (λ u low high. mine.follows u low (omega (arith, high, order, last))) in
+      let collects : k - c.collects ≡ double_collects r e.process c.call e.item =
+      (let all = since d in let before = mine.collects_are in omega (arith, all, before, counted)) in
       let same : v ≡ verdict_of r e.process c.call e.item view =
       given
-      ∙ ap (λ p. let w : Verdict = record { process = e.process; call = c.call; answer = e.item; point = p; collects = k - c.collects } in w) point
-      ∙ ap (λ m. let w : Verdict = record { process = e.process; call = c.call; answer = e.item; point = least_point r view c.call (suc (e.item - c.call)); collects = m } in w) collects in
+      ∙ ap (λ p. let w : Verdict =
+      record { process = e.process; call = c.call; answer = e.item; point = p; collects = k - c.collects } in w) point
+      ∙ ap (λ m. let w : Verdict = record {
+        process = e.process;
+        call = c.call;
+        answer = e.item;
+        point = least_point r view c.call (suc (e.item - c.call));
+        collects = m;
+      } in w) collects in
       record {
         goes_on =
             append_assoc found (v ∷ []) (by_events r (calls_of cs) left)
-            ∙ ap (λ w. found ++ (w ∷ by_events r (calls_of cs) left)) (same ∙ ap (λ t. verdict_of r e.process t e.item view) (sym (call_there d)))
+            ∙ ap (λ w. found ++ (w ∷ by_events r (calls_of cs) left))
+            (same ∙ ap (λ t. verdict_of r e.process t e.item view) (sym (call_there d)))
             ∙ remaining (Answer view) is;
         count = h.count;
         each = λ i one b. passed i (get_or cs (i - 1) b) (h.each i one b);
@@ -146,38 +169,44 @@ module _ (r : Run) (xs : List Change) (cs : List Caller) (found : List Verdict) 
       }
 
   -- once a process is called, what is kept of each
-  set_caller : (c : Caller) (i : ℕ) (b : Bool) (d : Caller) → nat_eq e.process i ≡ b → IsOneOf r.shape.n i → IsCaller r xs left e.process c →
-      IsCaller r xs left i (get_or (slice_set cs (e.process - 1) c) (i - 1) d)
+  set_caller : (c : Caller) (i : ℕ) (b : Bool) (d : Caller) → nat_eq e.process i ≡ b → IsOneOf r.shape.n i →
+      IsCaller r xs left e.process c → IsCaller r xs left i (get_or (slice_set cs (e.process - 1) c) (i - 1) d)
   set_caller c i true d same one now =
       let is : e.process ≡ i = eqb-true e.process i same in
       let there = its_process in
       let low : 0 < e.process = there.0 in
       let high : e.process ≤ length cs = there.1 in
-      subst (IsCaller r xs left i) (sym (get_or-set_at cs (e.process - 1) (i - 1) c d (ap (λ y. y - 1) (sym is)) (omega (arith, low, high))))
+      subst (IsCaller r xs left i)
+      (sym (get_or-set_at cs (e.process - 1) (i - 1) c d (ap (λ y. y - 1) (sym is)) (omega (arith, low, high))))
       (subst (λ j. IsCaller r xs left j c) is now)
   set_caller c i false d same one now =
       let differ : (e.process ≡ i) → ⊥ = eqb-false e.process i same in
       let there = its_process in
       let low : 0 < e.process = there.0 in
       let pos : 0 < i = one.0 in
-      subst (IsCaller r xs left i) (sym (get_or-set_other cs (e.process - 1) (i - 1) c d (λ y. differ (omega (arith, y, low, pos)))))
+      subst (IsCaller r xs left i)
+      (sym (get_or-set_other cs (e.process - 1) (i - 1) c d (λ y. differ (omega (arith, y, low, pos)))))
       (passed i (get_or cs (i - 1) d) (h.each i one d))
 
   -- a call
-  pub call_swept : (op : Op) (c : Caller) (k : ℕ) (d : Caller) → e.what ≡ Call op → k ≡ collects_at r e → c.call ≡ e.item → c.collects ≡ k →
-      ((u : ℕ) → e.item ≤ u → values_by c.values (drop c.next xs) u ≡ values_by (get_or cs (e.process - 1) d).values (drop (get_or cs (e.process - 1) d).next xs) u) →
+  pub call_swept : (op : Op) (c : Caller) (k : ℕ) (d : Caller) → e.what ≡ Call op → k ≡ collects_at r e →
+      c.call ≡ e.item → c.collects ≡ k → ((u : ℕ) → e.item ≤ u → values_by c.values (drop c.next xs) u
+      ≡ values_by (get_or cs (e.process - 1) d).values (drop (get_or cs (e.process - 1) d).next xs) u) →
       Sweeps r xs (slice_set cs (e.process - 1) c) found left
   call_swept op c k d is counted call collects later =
       let mine = its_caller d in
       let order = its_order d in
       let now : IsCaller r xs left e.process c = record {
-        follows = λ u low top. mine.follows u (omega (arith, low, call, order)) top ∙ sym (later u (omega (arith, low, call)));
+        follows =
+            λ u low top.
+            mine.follows u (omega (arith, low, call, order)) top ∙ sym (later u (omega (arith, low, call)));
         past = subst (λ t. AllByRecursion (λ (f : Event). t ≤ f.item) left) (sym call) h.rises.0;
         collects_are = collects ∙ counted ∙ ap (double_collects r e.process 0) (sym call);
       } in
       record {
         goes_on =
-            ap (λ calls. found ++ by_events r calls left) (map-set (λ (x : Caller). x.call) cs (e.process - 1) c ∙ ap (slice_set (calls_of cs) (e.process - 1)) call)
+            ap (λ calls. found ++ by_events r calls left) (map-set (λ (x : Caller). x.call) cs (e.process - 1) c
+            ∙ ap (slice_set (calls_of cs) (e.process - 1)) call)
             ∙ remaining (Call op) is;
         count = length-set cs (e.process - 1) c ∙ h.count;
         each = λ i one b. set_caller c i (nat_eq e.process i) b refl one now;
@@ -186,6 +215,7 @@ module _ (r : Run) (xs : List Change) (cs : List Caller) (found : List Verdict) 
       }
 
 -- at the end all verdicts are found
-pub swept : (r : Run) (xs : List Change) (cs : List Caller) (found : List Verdict) (left : List Event) → left ≡ [] → Sweeps r xs cs found left → found ≡ audit r
+pub swept : (r : Run) (xs : List Change) (cs : List Caller) (found : List Verdict) (left : List Event) → left ≡ [] →
+    Sweeps r xs cs found left → found ≡ audit r
 swept r xs cs found left none h =
     sym (append-nil found) ∙ ap (λ (l : List Event). found ++ by_events r (calls_of cs) l) (sym none) ∙ h.goes_on

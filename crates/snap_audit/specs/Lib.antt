@@ -1,2 +1,3 @@
+-- The definitions of snap_audit, by their modules.
 pub mod VerdictText
 pub mod Sweep

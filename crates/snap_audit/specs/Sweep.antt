@@ -1,5 +1,7 @@
--- The verdicts of a run by its events, from the first to the last.
-use Rattle.std.specs.Prelude.{◌≡◌, ℕ, zero, suc, ◌-◌, ◌≤◌, List, [], ◌∷◌, ◌++◌, length, map, drop, Option, Some, None, bytes_eq, get_or, replicate, if◌then◌else◌, slice_index, slice_set}
+-- An audit as a sweep over the events of a run (`by_events`): the verdict on a scan at its answer, from what is kept
+-- of each process.
+use Rattle.std.specs.Prelude.{◌≡◌, ℕ, zero, suc, ◌-◌, ◌≤◌, List, [], ◌∷◌, ◌++◌, length, map, drop, Option, Some, None}
+use Rattle.std.specs.Prelude.{bytes_eq, get_or, replicate, if◌then◌else◌, slice_index, slice_set}
 use Rattle.std.specs.List.{AllByRecursion}
 use Rattle.snap_words.specs.Shape.{IsOneOf}
 use Rattle.snap_semantics.specs.State.{values}
@@ -28,12 +30,15 @@ calls_after calls i t _ = calls
 abbrev pub by_events : Run → List ℕ → List Event → List Verdict
 by_events r calls [] = []
 by_events r calls (e ∷ es) =
-    verdicts_at r e.process (slice_index calls (e.process - 1)) e.item e.what ++ by_events r (calls_after calls e.process e.item e.what) es
+    verdicts_at r e.process (slice_index calls (e.process - 1)) e.item e.what
+    ++ by_events r (calls_after calls e.process e.item e.what) es
 
--- the least of so many items, the first of which is item t, after which the values are this view, by the changes to come
+-- the least of so many items, the first of which is item t, after which the values are
+-- this view, by the changes to come
 abbrev pub least_by : List ℕ → List Change → List ℕ → ℕ → ℕ → Option ℕ
 least_by vs xs view t zero = None
-least_by vs xs view t (suc more) = if bytes_eq (values_by vs xs t) view then Some t else least_by vs xs view (suc t) more
+least_by vs xs view t (suc more) =
+    if bytes_eq (values_by vs xs t) view then Some t else least_by vs xs view (suc t) more
 
 -- what is kept of a process before its first call
 abbrev pub fresh : ℕ → Caller
@@ -41,7 +46,8 @@ fresh words = record { values = replicate words 0; next = 0; call = 0; collects 
 
 -- from its last call on, what is kept of a process leads to the values
 abbrev pub LeadsToValues : Run → List Change → Caller → Type 0
-LeadsToValues r xs c = (u : ℕ) → c.call ≤ u → u ≤ length r.items → values (state r u) ≡ values_by c.values (drop c.next xs) u
+LeadsToValues r xs c =
+    (u : ℕ) → c.call ≤ u → u ≤ length r.items → values (state r u) ≡ values_by c.values (drop c.next xs) u
 
 -- what is kept of process i before these events
 pub record IsCaller (r : Run) (xs : List Change) (left : List Event) (i : ℕ) (c : Caller) : Type 0 where
@@ -50,7 +56,8 @@ pub record IsCaller (r : Run) (xs : List Change) (left : List Event) (i : ℕ) (
   pub collects_are : c.collects ≡ double_collects r i 0 c.call
 
 -- so far these verdicts were found, and these events are left
-pub record Sweeps (r : Run) (xs : List Change) (callers : List Caller) (found : List Verdict) (left : List Event) : Type 0 where
+pub record Sweeps (r : Run) (xs : List Change) (callers : List Caller) (found : List Verdict)
+    (left : List Event) : Type 0 where
   pub goes_on : found ++ by_events r (map (λ (c : Caller). c.call) callers) left ≡ audit r
   pub count : length callers ≡ r.shape.n
   pub each : (i : ℕ) → IsOneOf r.shape.n i → (d : Caller) → IsCaller r xs left i (get_or callers (i - 1) d)

@@ -1,4 +1,5 @@
-//! What an audit keeps of each process.
+//! `Caller`: what an audit keeps of each process: its last call, with the values and the double
+//! collects at it.
 ghost use Rattle.std.specs.Prelude.{◌≡◌, ◌≤◌, ◌<◌, ◌+◌, ◌-◌, ◌^◌, ℕ, IfOk, drop, suc, replicate};
 ghost use Rattle.snap_record.specs.History.{values_by};
 ghost use Rattle.snap_audit.specs.Sweep.{fresh, least_by};

@@ -1,5 +1,6 @@
-//! The audit of a record.
-ghost use Rattle.std.specs.Prelude.{◌≡◌, ◌≤◌, ◌<◌, ◌+◌, ◌-◌, ◌^◌, ◌∷◌, List, IfOk, OnOk, get_or, length, replicate};
+//! `audit`: the verdicts on the answered scans of a record, found in one sweep over its events.
+ghost use Rattle.std.specs.Prelude.{◌≡◌, ◌≤◌, ◌<◌, ◌+◌, ◌-◌, ◌^◌, ◌∷◌};
+ghost use Rattle.std.specs.Prelude.{List, IfOk, OnOk, get_or, length, replicate};
 ghost use Rattle.snap_words.specs.Shape.{IsOneOf};
 ghost use Rattle.snap_semantics.specs.declared.event.Event.{Event};
 ghost use Rattle.snap_runs.specs.Audit.{audit};

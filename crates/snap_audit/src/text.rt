@@ -1,4 +1,4 @@
-//! The printed texts of verdicts.
+//! The printed text of an audit: a line for the verdict on each answered scan.
 ghost use Rattle.std.specs.Prelude.{◌≡◌, ◌++◌, IfOk, OnOk};
 ghost use Rattle.snap_audit.specs.VerdictText.{audit_text, point_text, verdict_line, verdict_lines};
 

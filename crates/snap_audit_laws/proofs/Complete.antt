@@ -1,8 +1,10 @@
 -- An audit has the verdict of each finished scan, and the verdicts' answers rise.
-use Rattle.std.proofs.Common.{◌≡◌, ℕ, zero, suc, ◌-◌, ◌<◌, ◌≤◌, List, [], ◌∷◌, ◌++◌, length, None, refl, sym, ap, subst, ◌∙◌, inl, inr, arith}
+use Rattle.std.proofs.Common.{◌≡◌, ℕ, zero, suc, ◌-◌, ◌<◌, ◌≤◌, List, [], ◌∷◌, ◌++◌, length, None, refl, sym, ap}
+use Rattle.std.proofs.Common.{subst, ◌∙◌, inl, inr, arith}
 use Rattle.std.proofs.Math.Nat.{eq-or-lt_of_le}
 use Rattle.std.proofs.lemmas.List.{append-nil}
-use Rattle.std.proofs.lemmas.List.Elements.{All-from_recursion, All-nil, All-push, Contains-append_left, Contains-append_right}
+use Rattle.std.proofs.lemmas.List.Elements.{All-from_recursion, All-nil, All-push}
+use Rattle.std.proofs.lemmas.List.Elements.{Contains-append_left, Contains-append_right}
 use Rattle.std.proofs.lemmas.List.Quantifiers.{all_pairs_push}
 use Rattle.std.specs.List.{All, AllPairs, Contains}
 use Rattle.snap_semantics.specs.Table.{who}
@@ -22,12 +24,14 @@ still_found r v t zero le h = subst (λ k. Contains (verdicts r k) v) (let same 
 still_found r v t (suc u) le h = elim (eq-or-lt_of_le le) [
   | inl same ↦ subst (λ k. Contains (verdicts r k) v) same h
   | inr less ↦
-      Contains-append_left (verdicts r u) (verdict_at r (suc u) (outcome_at r (suc u))) v (still_found r v t u (omega (arith, less)) h)
+      Contains-append_left (verdicts r u) (verdict_at r (suc u) (outcome_at r (suc u))) v
+      (still_found r v t u (omega (arith, less)) h)
 ]
 
 -- an answer has its verdict
 found_there : (r : Run) (t : ℕ) (view : List ℕ) → outcome_at r (suc t) ≡ outcome.Answered view →
-    (let i = who (item r (suc t)) in Contains (verdicts r (suc t)) (verdict_of r i (last_call r i (suc t)) (suc t) view))
+    (let i = who (item r (suc t)) in
+    Contains (verdicts r (suc t)) (verdict_of r i (last_call r i (suc t)) (suc t) view))
 found_there r t view is =
     let i = who (item r (suc t)) in
     let v = verdict_of r i (last_call r i (suc t)) (suc t) view in
@@ -44,11 +48,14 @@ module _ (r : Run) (fits : IsValidRun r) (i c : ℕ) (view : List ℕ) where
       let d = last_call r j (suc t) in
       let v = verdict_of r j d (suc t) view in
       let last = f.scan.last in
-      let found : Contains (audit r) v = still_found r v (suc t) (length r.items) last (found_there r t view f.ends.1) in
-      let scan : IsOfScan r v = subst (IsOfScan r) found.2 (All-from_recursion (IsOfScan r) (audit r) (of_scans r fits) found.0 v found.1) in
+      let found : Contains (audit r) v =
+      still_found r v (suc t) (length r.items) last (found_there r t view f.ends.1) in
+      let scan : IsOfScan r v =
+      subst (IsOfScan r) found.2 (All-from_recursion (IsOfScan r) (audit r) (of_scans r fits) found.0 v found.1) in
       let same = same_scan r fits i j c d (suc t) view scan.view f scan.finished in
       subst (Contains (audit r))
-      (ap (λ k. verdict_of r k d (suc t) view) (sym same.0) ∙ ap (λ k. verdict_of r i k (suc t) view) (sym same.1)) found
+      (ap (λ k. verdict_of r k d (suc t) view) (sym same.0) ∙ ap (λ k. verdict_of r i k (suc t) view) (sym same.1))
+      found
 
   of_finished : (e : ℕ) → FinishedScan r i None c e view → Contains (audit r) (verdict_of r i c e view)
   of_finished zero f = (let lt : c < zero = f.order in absurd (omega (arith, lt)))
@@ -80,8 +87,12 @@ one_more r vs t (outcome.Answered view) h =
     let i = who (item r (suc t)) in
     let v = verdict_of r i (last_call r i (suc t)) (suc t) view in
     record {
-      pairs = all_pairs_push (λ (a b : Verdict). a.answer < b.answer) vs v h.pairs (λ k d lt. let le = h.within k d lt in omega (arith, le));
-      within = All-push (λ (a : Verdict). a.answer ≤ suc t) vs v (λ k d lt. let le = h.within k d lt in omega (arith, le)) (omega arith);
+      pairs =
+          all_pairs_push (λ (a b : Verdict). a.answer < b.answer) vs v h.pairs (λ k d lt.
+          let le = h.within k d lt in omega (arith, le));
+      within =
+          All-push (λ (a : Verdict). a.answer ≤ suc t) vs v
+          (λ k d lt. let le = h.within k d lt in omega (arith, le)) (omega arith);
     }
 one_more r vs t outcome.Finished h = further vs t h
 one_more r vs t (outcome.Trapped c) h = further vs t h
@@ -90,7 +101,10 @@ one_more r vs t (outcome.Skipped c) h = further vs t h
 
 -- any number of items
 rise : (r : Run) (t : ℕ) → Rise (verdicts r t) t
-rise r zero = record { pairs = λ i j d lt within. absurd (omega (arith, lt, within)); within = All-nil (λ (v : Verdict). v.answer ≤ 0) }
+rise r zero = record {
+  pairs = λ i j d lt within. absurd (omega (arith, lt, within));
+  within = All-nil (λ (v : Verdict). v.answer ≤ 0);
+}
 rise r (suc t) = one_more r (verdicts r t) t (outcome_at r (suc t)) (rise r t)
 
 -- the answers rise

@@ -1,1 +1,2 @@
+-- The proofs of snap_audit_laws, by their modules.
 pub mod Complete

@@ -8,7 +8,9 @@ use Rattle.snap_runs.specs.declared.verdict.Verdict.{Verdict}
 
 -- Each finished scan has its verdict.
 abbrev pub ScansHaveVerdicts : Run → Type 0
-ScansHaveVerdicts r = IsValidRun r → (i c e : ℕ) (view : List ℕ) → FinishedScan r i None c e view → Contains (audit r) (verdict_of r i c e view)
+ScansHaveVerdicts r =
+    IsValidRun r → (i c e : ℕ) (view : List ℕ) → FinishedScan r i None c e view →
+    Contains (audit r) (verdict_of r i c e view)
 
 -- Each verdict's answer is before those of the verdicts after it.
 abbrev pub AnswersRise : Run → Type 0

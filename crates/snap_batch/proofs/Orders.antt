@@ -1,4 +1,4 @@
--- Reports in the order of their schedules.
+-- The reports of a batch come in the order of its schedules: each is that of the schedule at its place.
 use Rattle.std.proofs.Common.{◌≡◌, List, [], ◌∷◌, map, Vec, Result, Ok, Err, Bor, refl, ◌∙◌, ap, subst}
 use Rattle.std.specs.Prelude.{IfOk, MatchResult}
 use Rattle.std.specs.List.{AllZip, Contains}
@@ -7,16 +7,20 @@ use Rattle.rayon.proofs.ToStd.{slice-AllZip}
 
 -- every answer is a report, and it is the report of the schedule at its place
 in_order : {S R : Type 0} (E : Type 0) (f : S → R) (schedules : List S) (reports : List R)
-    → AllZip {A = S} {B = Result R E} (λ s r. IfOk r (λ report. report ≡ f s)) schedules (map (λ v. Ok v) reports) → reports ≡ map f schedules
+    → AllZip {A = S} {B = Result R E} (λ s r. IfOk r (λ report. report ≡ f s)) schedules (map (λ v. Ok v) reports) →
+    reports ≡ map f schedules
 in_order E f [] [] h = refl
 in_order E f [] (r ∷ reports) h = absurd h
 in_order E f (s ∷ schedules) [] h = absurd h
-in_order E f (s ∷ schedules) (r ∷ reports) h = ap (λ x. x ∷ reports) h.0 ∙ ap (λ xs. f s ∷ xs) (in_order E f schedules reports h.1)
+in_order E f (s ∷ schedules) (r ∷ reports) h =
+    ap (λ x. x ∷ reports) h.0 ∙ ap (λ xs. f s ∷ xs) (in_order E f schedules reports h.1)
 
 -- what is collected from answers that are each as it should be
-pub gathered : {S R E : Type 0} (f : S → R) (schedules : List S) (answers : List (Result R E)) (result : Result (Vec R Global) E)
+pub gathered : {S R E : Type 0} (f : S → R) (schedules : List S) (answers : List (Result R E))
+    (result : Result (Vec R Global) E)
     → AllZip (λ s r. IfOk r (λ report. report ≡ f s)) schedules answers
-    → MatchResult result (λ v. (reports : List R) × (answers ≡ map (λ v. Ok v) reports) × (v.items ≡ reports)) (λ e. Contains answers (Err e))
+    → MatchResult result (λ v. (reports : List R) × (answers ≡ map (λ v. Ok v) reports) × (v.items ≡ reports))
+    (λ e. Contains answers (Err e))
     → IfOk result (λ v. v.items ≡ map f schedules)
 gathered {S = S} {R = R} {E = E} f schedules answers (Ok v) each all =
     let P : List (Result R E) → Type 0 = λ l. AllZip (λ s r. IfOk r (λ report. report ≡ f s)) schedules l in
@@ -28,8 +32,10 @@ pub side_by_side : {P S R E : Type 0} (f : P → S → R) (held program : P) →
     → (seen : List (Bor S)) (schedules : List S) → map (λ (z : Bor S). z.now) seen ≡ schedules
     → (answers : List (Result R E)) (result : Result (Vec R Global) E)
     → AllZip {A = Bor S} {B = Result R E} (λ z r. IfOk r (λ report. report ≡ f held z.now)) seen answers
-    → MatchResult result (λ v. (reports : List R) × (answers ≡ map (λ v. Ok v) reports) × (v.items ≡ reports)) (λ e. Contains answers (Err e))
+    → MatchResult result (λ v. (reports : List R) × (answers ≡ map (λ v. Ok v) reports) × (v.items ≡ reports))
+    (λ e. Contains answers (Err e))
     → IfOk result (λ v. v.items ≡ map (f program) schedules)
 side_by_side {S = S} {R = R} f held program same seen schedules shown answers result each all =
     let zipped = slice-AllZip seen schedules shown (λ s r. IfOk r (λ report. report ≡ f held s)) answers each in
-    subst (λ p. IfOk result (λ v. v.items ≡ map (f p) schedules)) same (gathered (f held) schedules answers result zipped all)
+    subst (λ p. IfOk result (λ v. v.items ≡ map (f p) schedules)) same
+    (gathered (f held) schedules answers result zipped all)

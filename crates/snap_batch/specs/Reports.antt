@@ -1,4 +1,4 @@
--- The reports of many schedules.
+-- `reports_text`: the reports of a batch of schedules, each after the line with its number.
 use Rattle.std.specs.Prelude.{ℕ, ◌+◌, List, [], ◌∷◌, ◌++◌, codes, decimal}
 
 -- a report behind the line of its number

@@ -1,4 +1,5 @@
-//! Many schedules of one program, run side by side or one after another.
+//! Runs many schedules of one program, side by side (`batch`) or one after another (`batch_alone`):
+//! the report of the end of each.
 #![tactic(auto)]
 
 ghost use Rattle.std.specs.Prelude.{◌≡◌, IfOk, map};

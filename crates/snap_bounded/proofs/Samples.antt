@@ -60,14 +60,17 @@ undisturbed_ends = ((refl, refl), (refl, refl))
 undisturbed_point : HasPoint (run_of 2 scan_undisturbed) 1 22 (0 ∷ 0 ∷ [])
 undisturbed_point = (1, omega arith, omega arith, refl)
 
--- Process 2 updates twice while process 1 scans, each time between the two collects: both double collects fail, and the scan
--- borrows the view that the second update has put beside its value.
+-- Process 2 updates twice while process 1 scans, each time between the two collects: both double collects fail, and
+-- the scan borrows the view that the second update has put beside its value.
 abbrev pub scan_borrows : List Item
 scan_borrows =
-    Call 1 Scan ∷ (times 14 1 ++ (Call 2 (Update 2 5) ∷ (times 32 2 ++ (times 8 1 ++ (times 12 1 ++ (Call 2 (Update 2 6) ∷ (times 32 2 ++ times 9 1)))))))
+    Call 1 Scan ∷ (times 14 1 ++ (Call 2 (Update 2 5)
+    ∷ (times 32 2 ++ (times 8 1 ++ (times 12 1 ++ (Call 2 (Update 2 6) ∷ (times 32 2 ++ times 9 1)))))))
 
-borrows_values : (values (state (run_of 2 scan_borrows) 46) ≡ 0 ∷ 0 ∷ []) × (values (state (run_of 2 scan_borrows) 47) ≡ 0 ∷ 5 ∷ [])
-    × (values (state (run_of 2 scan_borrows) 99) ≡ 0 ∷ 5 ∷ []) × (values (state (run_of 2 scan_borrows) 100) ≡ 0 ∷ 6 ∷ [])
+borrows_values : (values (state (run_of 2 scan_borrows) 46) ≡ 0 ∷ 0 ∷ [])
+    × (values (state (run_of 2 scan_borrows) 47) ≡ 0 ∷ 5 ∷ [])
+    × (values (state (run_of 2 scan_borrows) 99) ≡ 0 ∷ 5 ∷ [])
+    × (values (state (run_of 2 scan_borrows) 100) ≡ 0 ∷ 6 ∷ [])
 borrows_values = (refl, refl, refl, refl)
 
 borrows_ends : Starts (run_of 2 scan_borrows) 1 1 None × Ends (run_of 2 scan_borrows) 1 110 None (0 ∷ 5 ∷ [])
@@ -77,13 +80,15 @@ borrows_from_2 : (executes (run_of 2 scan_borrows) 1 27 109 ≡ true)
     × (value_at listing.j (process_at (before (run_of 2 scan_borrows) 109) 1).locals.scalars 0 ≡ 2)
 borrows_from_2 = (refl, refl)
 
-borrows_counts : (double_collects (run_of 2 scan_borrows) 1 1 110 ≡ 2) × (own_steps (run_of 2 scan_borrows) 1 1 110 ≡ 43)
+borrows_counts : (double_collects (run_of 2 scan_borrows) 1 1 110 ≡ 2)
+    × (own_steps (run_of 2 scan_borrows) 1 1 110 ≡ 43)
 borrows_counts = (refl, refl)
 
 borrows_point : HasPoint (run_of 2 scan_borrows) 1 110 (0 ∷ 5 ∷ [])
 borrows_point = (47, omega arith, omega arith, refl)
 
--- The second move that it sees, at item 107, is the write at item 100; one double collect ends between them, at item 106.
+-- The second move that it sees, at item 107, is the write at item 100; one double collect
+-- ends between them, at item 106.
 second_move : (executes (run_of 2 scan_borrows) 1 21 107 ≡ true)
     × (row_place (process_at (before (run_of 2 scan_borrows) 107) 1).locals listing.moved 2 ≡ 1)
     × (row_place (process_at (state (run_of 2 scan_borrows) 107) 1).locals listing.moved 2 ≡ 2)

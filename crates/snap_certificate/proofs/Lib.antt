@@ -1,1 +1,2 @@
+-- The proofs of snap_certificate, by their modules.
 pub mod Certifying

@@ -1,5 +1,5 @@
--- A certificate of a run: for each update the item at which it writes, and for each answered scan a point. It shows that the
--- run is linearizable.
+-- A certificate of a run: for each update the item at which it writes, and for each answered scan a point. It shows
+-- that the run is linearizable.
 use Rattle.std.specs.Prelude.{◌≡◌, ℕ, suc, ◌-◌, ◌<◌, ◌≤◌, ◌⊎◌, true, List, length, None, slice_set}
 use Rattle.std.specs.List.{All, AllPairs, Contains}
 use Rattle.snap_words.specs.Shape.{IsOneOf}
@@ -71,9 +71,11 @@ pub record IsCertificate (line : ℕ) (r : Run) (c : Certificate) : Type 0 where
   -- each item that executes the line is among the writes
   pub executions : (i t : ℕ) → t < length r.items → executes r i line (suc t) ≡ true → WritesAtItem c.writes (suc t)
   -- each item that changes the values is among the writes
-  pub changes : (t : ℕ) → t < length r.items → (values (state r (suc t)) ≡ values (state r t)) ⊎ WritesAtItem c.writes (suc t)
+  pub changes : (t : ℕ) → t < length r.items →
+      (values (state r (suc t)) ≡ values (state r t)) ⊎ WritesAtItem c.writes (suc t)
   -- each update that has ended has its write
-  pub updates_ended : (i word value c' e : ℕ) → PendingUpdate r i word value c' e → c' < e → IsDone r i e → HasWrite c.writes c'
+  pub updates_ended : (i word value c' e : ℕ) → PendingUpdate r i word value c' e → c' < e →
+      IsDone r i e → HasWrite c.writes c'
   -- each scan that has been answered has its point
   pub scans_answered : (i c' e : ℕ) (view : List ℕ) → FinishedScan r i None c' e view → HasItsPoint c.points c'
 

@@ -1,1 +1,2 @@
+-- The definitions of snap_certificate, by their modules.
 pub mod Certificate

@@ -2,7 +2,8 @@
 //! linearizable, whatever its listing.
 #![tactic(auto)]
 
-ghost use Rattle.snap_certificate.specs.Certificate.{CertifiedByPoints, CertifiedHasPlaces, CertifiedIsLinearizable};
+ghost use Rattle.snap_certificate.specs.Certificate.{CertifiedByPoints, CertifiedHasPlaces};
+ghost use Rattle.snap_certificate.specs.Certificate.{CertifiedIsLinearizable};
 
 /// A run that has a certificate is linearizable.
 pub fn certified_is_linearizable()

@@ -1,5 +1,7 @@
--- What a finding tells of an item.
-use Rattle.std.specs.Prelude.{◌≡◌, ℕ, ◌-◌, Bool, true, false, ◌&&◌, List, [], ◌∷◌, Option, Some, None, bytes_eq, nat_eq, nat_le, nat_lt, if◌then◌else◌, slice_set, refl}
+-- What a certification's `Finding` of an item says: a write is that of an update which executes the line for the
+-- first time, and sets its value.
+use Rattle.std.specs.Prelude.{◌≡◌, ℕ, ◌-◌, Bool, true, false, ◌&&◌, List, [], ◌∷◌, Option, Some, None, bytes_eq}
+use Rattle.std.specs.Prelude.{nat_eq, nat_le, nat_lt, if◌then◌else◌, slice_set, refl}
 use Rattle.std.proofs.Common.{◌∙◌, ap, subst}
 use Rattle.std.proofs.lemmas.Bool.{eqb-true}
 use Rattle.snap_words.specs.Shape.{Counts, IsOneOf}
@@ -18,7 +20,8 @@ use Rattle.snap_semantics.specs.declared.process.Reason.TheVariants.{NoSuchWord}
 use Rattle.snap_semantics.specs.declared.process.Status.{Status}
 use Rattle.snap_semantics.specs.declared.process.Status.TheVariants.{Idle, Busy, Trapped, Crashed}
 use Rattle.snap_runs.proofs.Computing.{both, le_from, lt_from, none_then, same_number}
-use Rattle.snap_certification.specs.Certification.{at_line, changes, ended, finding_or, found_at, lacks, stepped, stepping, unwritten, written}
+use Rattle.snap_certification.specs.Certification.{at_line, changes, ended, finding_or, found_at, lacks, stepped}
+use Rattle.snap_certification.specs.Certification.{stepping, unwritten, written}
 use Rattle.snap_certification.specs.declared.found.Finding.{Finding}
 use Rattle.snap_certification.specs.declared.found.Finding.TheVariants as finding
 use Rattle.snap_certification.specs.declared.found.Lack.TheVariants as lack
@@ -52,7 +55,8 @@ stepping_is (Call i o) s a h = absurd cc
 stepping_is (Crash i) s a h = absurd cc
 
 -- an update that is called is one of a word
-why_none : (s : Source) (S : State) (i : ℕ) (p : Process) (o : Op) (why : Option Reason) → (called s S i p o why).1 ≡ outcome.Called → why ≡ None
+why_none : (s : Source) (S : State) (i : ℕ) (p : Process) (o : Op) (why : Option Reason) →
+    (called s S i p o why).1 ≡ outcome.Called → why ≡ None
 why_none s S i p o None h = refl
 why_none s S i p o (Some why) h = absurd cc
 
@@ -63,7 +67,8 @@ word_called s shape S i word value p (Crashed was) h = absurd cc
 word_called s shape S i word value p (Busy a) h = absurd cc
 word_called s shape S i word value p Idle h =
     let none = why_none s S i p (Update word value) (call_skip s.kind shape i (Update word value)) h in
-    let there = both (nat_lt 0 word) (nat_le word shape.w) (none_then (nat_lt 0 word && nat_le word shape.w) (owner_skip s.kind i word) NoSuchWord none).0 in
+    let there = both (nat_lt 0 word) (nat_le word shape.w)
+    (none_then (nat_lt 0 word && nat_le word shape.w) (owner_skip s.kind i word) NoSuchWord none).0 in
     (lt_from 0 word there.0, le_from word shape.w there.1)
 
 module _ (line t : ℕ) (x : SeenItem) (p : Progress) where
@@ -80,8 +85,10 @@ module _ (line t : ℕ) (x : SeenItem) (p : Progress) where
   written_by a w Scan is h = absurd cc
   written_by a w (Update word value) is h = by_wrote p.wrote refl h
     where
-      by_value : (b : Bool) → p.wrote ≡ false → bytes_eq x.values_after (slice_set x.values_before (word - 1) value) ≡ b →
-          (let f : Finding = if b then finding.Write (record { process = x.process; word = word; value = value; call = p.call; item = t }) else lacks lack.OwnValue t x p in f)
+      by_value : (b : Bool) → p.wrote ≡ false →
+          bytes_eq x.values_after (slice_set x.values_before (word - 1) value) ≡ b → (let f : Finding =
+          if b then finding.Write (record { process = x.process; word = word; value = value; call = p.call; item = t })
+          else lacks lack.OwnValue t x p in f)
           ≡ finding.Write w →
           IsOwnWrite a w
       by_value true first now h =
@@ -90,17 +97,21 @@ module _ (line t : ℕ) (x : SeenItem) (p : Progress) where
       by_value false first now h = absurd cc
 
       by_wrote : (b : Bool) → p.wrote ≡ b →
-          (let f : Finding = if b then lacks lack.FirstWrite t x p else if bytes_eq x.values_after (slice_set x.values_before (word - 1) value)
-          then finding.Write (record { process = x.process; word = word; value = value; call = p.call; item = t }) else lacks lack.OwnValue t x p in f)
+          (let f : Finding = if b then lacks lack.FirstWrite t x p
+          else if bytes_eq x.values_after (slice_set x.values_before (word - 1) value)
+          then finding.Write (record { process = x.process; word = word; value = value; call = p.call; item = t })
+          else lacks lack.OwnValue t x p in f)
           ≡ finding.Write w →
           IsOwnWrite a w
       by_wrote true wrote h = absurd cc
-      by_wrote false wrote h = by_value (bytes_eq x.values_after (slice_set x.values_before (word - 1) value)) wrote refl h
+      by_wrote false wrote h =
+          by_value (bytes_eq x.values_after (slice_set x.values_before (word - 1) value)) wrote refl h
 
   unwritten_not : (w : UpdateWrite) → unwritten t x p ≡ finding.Write w → ⊥
   unwritten_not w h = by (changes x) h
     where
-      by : (b : Bool) → (let f : Finding = if b then lacks lack.Line t x p else finding.Nothing in f) ≡ finding.Write w → ⊥
+      by : (b : Bool) →
+          (let f : Finding = if b then lacks lack.Line t x p else finding.Nothing in f) ≡ finding.Write w → ⊥
       by true h = absurd cc
       by false h = absurd cc
 
@@ -111,11 +122,13 @@ module _ (line t : ℕ) (x : SeenItem) (p : Progress) where
     pub line_is : nat_eq activity.line line ≡ true
     pub own : IsOwnWrite activity w
 
-  stepped_write : (o : Option Activity) (w : UpdateWrite) → x.activity ≡ o → stepped line t x p o ≡ finding.Write w → IsWriting w
+  stepped_write : (o : Option Activity) (w : UpdateWrite) → x.activity ≡ o →
+      stepped line t x p o ≡ finding.Write w → IsWriting w
   stepped_write None w is h = absurd (unwritten_not w h)
   stepped_write (Some a) w is h = by (nat_eq a.line line) refl h
     where
-      by : (b : Bool) → nat_eq a.line line ≡ b → (let f : Finding = if b then written t x p a.op else unwritten t x p in f) ≡ finding.Write w → IsWriting w
+      by : (b : Bool) → nat_eq a.line line ≡ b →
+          (let f : Finding = if b then written t x p a.op else unwritten t x p in f) ≡ finding.Write w → IsWriting w
       by true there h = record { activity = a; there = is; line_is = there; own = written_by a w a.op refl h }
       by false there h = absurd (unwritten_not w h)
 
@@ -125,14 +138,16 @@ module _ (line t : ℕ) (x : SeenItem) (p : Progress) where
   ended_not (outcome.Answered view) w h = absurd cc
   ended_not outcome.Finished w h = by p.wrote h
     where
-      by : (b : Bool) → (let f : Finding = if b then finding.Nothing else lacks lack.Write t x p in f) ≡ finding.Write w → ⊥
+      by : (b : Bool) →
+          (let f : Finding = if b then finding.Nothing else lacks lack.Write t x p in f) ≡ finding.Write w → ⊥
       by true h = absurd cc
       by false h = absurd cc
   ended_not (outcome.Trapped cause) w h = absurd cc
   ended_not outcome.Crashed w h = absurd cc
   ended_not (outcome.Skipped why) w h = absurd cc
 
-  first_write : (f g : Finding) (w : UpdateWrite) → (g ≡ finding.Write w → ⊥) → finding_or f g ≡ finding.Write w → f ≡ finding.Write w
+  first_write : (f g : Finding) (w : UpdateWrite) → (g ≡ finding.Write w → ⊥) →
+      finding_or f g ≡ finding.Write w → f ≡ finding.Write w
   first_write finding.Nothing g w never h = absurd (never h)
   first_write (finding.Write v) g w never h = h
   first_write (finding.Lacks missing) g w never h = h
@@ -140,7 +155,8 @@ module _ (line t : ℕ) (x : SeenItem) (p : Progress) where
   -- a write that is found
   pub writing : (w : UpdateWrite) → found_at line t x p ≡ finding.Write w → IsWriting w
   writing w h =
-      stepped_write x.activity w refl (first_write (stepped line t x p x.activity) (ended t x p x.outcome) w (ended_not x.outcome w) h)
+      stepped_write x.activity w refl
+      (first_write (stepped line t x p x.activity) (ended t x p x.outcome) w (ended_not x.outcome w) h)
 
   both_nothing : (f g : Finding) → finding_or f g ≡ finding.Nothing → (f ≡ finding.Nothing) × (g ≡ finding.Nothing)
   both_nothing finding.Nothing g h = (refl, h)
@@ -155,10 +171,12 @@ module _ (line t : ℕ) (x : SeenItem) (p : Progress) where
 
   written_some : (o : Op) → written t x p o ≡ finding.Nothing → ⊥
   written_some Scan h = absurd cc
-  written_some (Update word value) h = by p.wrote (bytes_eq x.values_after (slice_set x.values_before (word - 1) value)) h
+  written_some (Update word value) h =
+      by p.wrote (bytes_eq x.values_after (slice_set x.values_before (word - 1) value)) h
     where
       by : (b c : Bool) → (let f : Finding = if b then lacks lack.FirstWrite t x p else if c
-          then finding.Write (record { process = x.process; word = word; value = value; call = p.call; item = t }) else lacks lack.OwnValue t x p in f)
+          then finding.Write (record { process = x.process; word = word; value = value; call = p.call; item = t })
+          else lacks lack.OwnValue t x p in f)
           ≡ finding.Nothing →
           ⊥
       by true c h = absurd cc
@@ -168,15 +186,18 @@ module _ (line t : ℕ) (x : SeenItem) (p : Progress) where
   unwritten_same : unwritten t x p ≡ finding.Nothing → changes x ≡ false
   unwritten_same h = by (changes x) refl h
     where
-      by : (b : Bool) → changes x ≡ b → (let f : Finding = if b then lacks lack.Line t x p else finding.Nothing in f) ≡ finding.Nothing → changes x ≡ false
+      by : (b : Bool) → changes x ≡ b → (let f : Finding = if b then lacks lack.Line t x p else finding.Nothing in f)
+          ≡ finding.Nothing → changes x ≡ false
       by true is h = absurd cc
       by false is h = is
 
-  stepped_quiet : (o : Option Activity) → stepped line t x p o ≡ finding.Nothing → (at_line line o ≡ false) × (changes x ≡ false)
+  stepped_quiet : (o : Option Activity) → stepped line t x p o ≡ finding.Nothing →
+      (at_line line o ≡ false) × (changes x ≡ false)
   stepped_quiet None h = (refl, unwritten_same h)
   stepped_quiet (Some a) h = by (nat_eq a.line line) refl h
     where
-      by : (b : Bool) → nat_eq a.line line ≡ b → (let f : Finding = if b then written t x p a.op else unwritten t x p in f) ≡ finding.Nothing →
+      by : (b : Bool) → nat_eq a.line line ≡ b →
+          (let f : Finding = if b then written t x p a.op else unwritten t x p in f) ≡ finding.Nothing →
           (nat_eq a.line line ≡ false) × (changes x ≡ false)
       by true there h = absurd (written_some a.op h)
       by false there h = (there, unwritten_same h)
@@ -187,7 +208,8 @@ module _ (line t : ℕ) (x : SeenItem) (p : Progress) where
   ended_quiet (outcome.Answered view) h is = absurd cc
   ended_quiet outcome.Finished h is = by p.wrote refl h
     where
-      by : (b : Bool) → p.wrote ≡ b → (let f : Finding = if b then finding.Nothing else lacks lack.Write t x p in f) ≡ finding.Nothing → p.wrote ≡ true
+      by : (b : Bool) → p.wrote ≡ b → (let f : Finding = if b then finding.Nothing else lacks lack.Write t x p in f)
+          ≡ finding.Nothing → p.wrote ≡ true
       by true wrote h = wrote
       by false wrote h = absurd cc
   ended_quiet (outcome.Trapped cause) h is = absurd cc

@@ -1,3 +1,4 @@
+-- The proofs of snap_certification, by their modules.
 pub mod Progressing
 pub mod Findings
 pub mod Sound

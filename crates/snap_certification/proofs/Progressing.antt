@@ -1,5 +1,7 @@
--- How far a process is with its last call: which call that is, and whether it has executed the line since.
-use Rattle.std.specs.Prelude.{◌≡◌, ℕ, zero, suc, ◌<◌, ◌≤◌, ◌⊎◌, Bool, true, false, ◌&&◌, ◌||◌, length, nat_eq, if◌then◌else◌, refl}
+-- `Progress` of a process, as a certification keeps it: which call was its last one, and whether it has executed the
+-- line of writes since.
+use Rattle.std.specs.Prelude.{◌≡◌, ℕ, zero, suc, ◌<◌, ◌≤◌, ◌⊎◌, Bool, true, false, ◌&&◌}
+use Rattle.std.specs.Prelude.{◌||◌, length, nat_eq, if◌then◌else◌, refl}
 use Rattle.std.proofs.Common.{sym, ◌∙◌, ap, subst, arith, inl, inr}
 use Rattle.std.proofs.lemmas.Bool.{cases_eq}
 use Rattle.std.proofs.Math.Nat.{eq-or-lt_of_le}
@@ -42,7 +44,8 @@ seen_executes line (Call i o) s = refl
 seen_executes line (Crash i) s = refl
 
 -- what is a call
-called_or_not : (o : Outcome) → ((o ≡ outcome.Called) × (is_called o ≡ true)) ⊎ ((o ≡ outcome.Called → ⊥) × (is_called o ≡ false))
+called_or_not : (o : Outcome) →
+    ((o ≡ outcome.Called) × (is_called o ≡ true)) ⊎ ((o ≡ outcome.Called → ⊥) × (is_called o ≡ false))
 called_or_not outcome.Called = inl (refl, refl)
 called_or_not outcome.Stepped = inr (λ is. absurd cc, refl)
 called_or_not (outcome.Answered view) = inr (λ is. absurd cc, refl)
@@ -70,7 +73,10 @@ module _ (r : Run) (line : ℕ) where
   next_progress : (P : Progress → Type 0) (i t : ℕ) →
       (who (item r (suc t)) ≡ i → outcome_at r (suc t) ≡ outcome.Called → P (record { call = suc t; wrote = false })) →
       (who (item r (suc t)) ≡ i → (outcome_at r (suc t) ≡ outcome.Called → ⊥) →
-      P (record { call = (progress r line i t).call; wrote = (progress r line i t).wrote || at_line line (seen_item r (suc t)).activity })) →
+      P (record {
+        call = (progress r line i t).call;
+        wrote = (progress r line i t).wrote || at_line line (seen_item r (suc t)).activity;
+      })) →
       ((who (item r (suc t)) ≡ i → ⊥) → P (progress r line i t)) → P (progress r line i (suc t))
   next_progress P i t call own other =
       let x = seen_item r (suc t) in
@@ -81,14 +87,22 @@ module _ (r : Run) (line : ℕ) where
             ap (λ b. if b then progress_after line (suc t) x p else p) (ap (λ k. nat_eq k i) his ∙ same_number i) in
             elim (called_or_not (outcome_at r (suc t))) [
               | inl is ↦
-                  subst P (sym (here ∙ ap (λ b. let q : Progress = if b then record { call = suc t; wrote = false } else record { call = p.call; wrote = p.wrote || at_line line x.activity } in q) is.1))
+                  subst P (sym (here ∙ ap (λ b. let q : Progress = if b then record {
+                    call = suc t;
+                    wrote = false;
+                  } else record { call = p.call; wrote = p.wrote || at_line line x.activity } in q) is.1))
                   (call his is.0)
               | inr not ↦
-                  subst P (sym (here ∙ ap (λ b. let q : Progress = if b then record { call = suc t; wrote = false } else record { call = p.call; wrote = p.wrote || at_line line x.activity } in q) not.1))
+                  subst P (sym (here ∙ ap (λ b. let q : Progress = if b then record {
+                    call = suc t;
+                    wrote = false;
+                  } else record { call = p.call; wrote = p.wrote || at_line line x.activity } in q) not.1))
                   (own his not.0)
             ]
         | inr beside ↦
-            subst P (sym (ap (λ b. if b then progress_after line (suc t) x p else p) (other_number (who (item r (suc t))) i beside))) (other beside)
+            subst P (sym
+            (ap (λ b. if b then progress_after line (suc t) x p else p) (other_number (who (item r (suc t))) i beside)))
+            (other beside)
       ]
 
   -- the last call is not after the item
@@ -96,7 +110,8 @@ module _ (r : Run) (line : ℕ) where
   call_past i zero = omega arith
   call_past i (suc t) =
       let past : (progress r line i t).call ≤ t = call_past i t in
-      next_progress (λ p. p.call ≤ suc t) i t (λ his is. omega arith) (λ his not. omega (arith, past)) (λ other. omega (arith, past))
+      next_progress (λ p. p.call ≤ suc t) i t (λ his is. omega arith) (λ his not. omega (arith, past))
+      (λ other. omega (arith, past))
 
   -- the item at which a process has executed the line since its last call
   abbrev pub Wrote : ℕ → ℕ → ℕ → Type 0
@@ -105,11 +120,16 @@ module _ (r : Run) (line : ℕ) where
   wrote_longer : (i c t : ℕ) → Wrote i c t → Wrote i c (suc t)
   wrote_longer i c t h = (h.0, h.1, (let le : h.0 ≤ t = h.2 in omega (arith, le)), h.3)
 
-  either_wrote : (i t : ℕ) → who (item r (suc t)) ≡ i → (b : Bool) → (progress r line i t).call ≤ t → (b ≡ true → Wrote i (progress r line i t).call t) →
+  either_wrote : (i t : ℕ) → who (item r (suc t)) ≡ i → (b : Bool) →
+      (progress r line i t).call ≤ t → (b ≡ true → Wrote i (progress r line i t).call t) →
       (b || at_line line (seen_item r (suc t)).activity) ≡ true → Wrote i (progress r line i t).call (suc t)
   either_wrote i t his true le past h = wrote_longer i (progress r line i t).call t (past refl)
-  either_wrote i t his false le past h =
-      (suc t, omega (arith, le), omega arith, subst (λ k. executes r k line (suc t) ≡ true) his (executes_seen (suc t) ∙ h))
+  either_wrote i t his false le past h = (
+    suc t,
+    omega (arith, le),
+    omega arith,
+    subst (λ k. executes r k line (suc t) ≡ true) his (executes_seen (suc t) ∙ h),
+  )
 
   -- who has executed the line since his last call did so at an item
   pub wrote_at : (i t : ℕ) → (progress r line i t).wrote ≡ true → Wrote i (progress r line i t).call t
@@ -124,7 +144,8 @@ module _ (r : Run) (line : ℕ) where
   kept_wrote false c h = absurd cc
 
   -- and who does so at an item has executed it since
-  pub has_written : (i t u : ℕ) → (progress r line i t).call < u → u ≤ t → executes r i line u ≡ true → (progress r line i t).wrote ≡ true
+  pub has_written : (i t u : ℕ) → (progress r line i t).call < u → u ≤ t → executes r i line u ≡ true →
+      (progress r line i t).wrote ≡ true
   has_written i zero u = λ lt le ex. absurd (omega (arith, lt, le))
   has_written i (suc t) u =
       next_progress (λ p. p.call < u → u ≤ suc t → executes r i line u ≡ true → p.wrote ≡ true) i t
@@ -132,17 +153,22 @@ module _ (r : Run) (line : ℕ) where
       (λ his not lt le ex. elim (eq-or-lt_of_le le) [
         | inl same ↦
             let now : at_line line (seen_item r (suc t)).activity ≡ true =
-            sym (executes_seen (suc t)) ∙ ap (λ k. executes r k line (suc t)) his ∙ subst (λ v. executes r i line v ≡ true) same ex in
+            sym (executes_seen (suc t)) ∙ ap (λ k. executes r k line (suc t)) his
+            ∙ subst (λ v. executes r i line v ≡ true) same ex in
             ap (λ b. (progress r line i t).wrote || b) now ∙ or_true (progress r line i t).wrote
-        | inr less ↦ kept_wrote (progress r line i t).wrote (at_line line (seen_item r (suc t)).activity) (has_written i t u lt (omega (arith, less)) ex)
+        | inr less ↦
+            kept_wrote (progress r line i t).wrote (at_line line (seen_item r (suc t)).activity)
+            (has_written i t u lt (omega (arith, less)) ex)
       ])
       (λ other lt le ex. elim (eq-or-lt_of_le le) [
-        | inl same ↦ absurd (other (sym (executes_who r i line (suc t) (subst (λ v. executes r i line v ≡ true) same ex))))
+        | inl same ↦
+            absurd (other (sym (executes_who r i line (suc t) (subst (λ v. executes r i line v ≡ true) same ex))))
         | inr less ↦ has_written i t u lt (omega (arith, less)) ex
       ])
 
   -- while an operation goes on, its call is the last one
-  pub call_is : (fits : IsValidRun r) (i : ℕ) (o : Op) (c t : ℕ) → IsOneOf r.shape.n i → 0 < c → c ≤ t → t ≤ length r.items → Calls r fits i o c →
+  pub call_is : (fits : IsValidRun r) (i : ℕ) (o : Op) (c t : ℕ) → IsOneOf r.shape.n i →
+      0 < c → c ≤ t → t ≤ length r.items → Calls r fits i o c →
       ((u : ℕ) → c < u → u ≤ t → EndsAt r fits i o u → ⊥) → (progress r line i t).call ≡ c
   call_is fits i o c zero one pos le short call still = absurd (omega (arith, pos, le))
   call_is fits i o c (suc t) one pos le short call still = elim (eq-or-lt_of_le le) [
@@ -151,7 +177,8 @@ module _ (r : Run) (line : ℕ) where
         (λ his not. absurd (not (subst (λ y. outcome_at r y ≡ outcome.Called) same call.1)))
         (λ other. absurd (other (ap who (subst (λ y. item r y ≡ Call i o) same call.0))))
     | inr less ↦
-        let open_still : (u : ℕ) → c < u → u ≤ t → EndsAt r fits i o u → ⊥ = λ u lt most. still u lt (omega (arith, most)) in
+        let open_still : (u : ℕ) → c < u → u ≤ t → EndsAt r fits i o u → ⊥ =
+        λ u lt most. still u lt (omega (arith, most)) in
         let past = call_is fits i o c t one pos (omega (arith, less)) (omega (arith, short)) call open_still in
         next_progress (λ p. p.call ≡ c) i t
         (λ his is.

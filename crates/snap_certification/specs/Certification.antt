@@ -1,5 +1,8 @@
--- The certification of a run: whether it has a certificate, found item by item, and otherwise the first thing that is missing.
-use Rattle.std.specs.Prelude.{◌≡◌, ◌↔◌, ℕ, zero, suc, ◌-◌, Bool, true, false, ◌||◌, not, List, [], ◌∷◌, ◌++◌, length, map, option_map, Option, Some, None, Result, Ok, Err, IsOk, bytes_eq, nat_eq, if◌then◌else◌, slice_set}
+-- The certification of a run: whether it has a certificate, found item by item, and otherwise the first thing that is
+-- missing.
+use Rattle.std.specs.Prelude.{◌≡◌, ◌↔◌, ℕ, zero, suc, ◌-◌, Bool, true, false, ◌||◌, not, List, [], ◌∷◌, ◌++◌, length}
+use Rattle.std.specs.Prelude.{map, option_map, Option, Some, None, Result, Ok, Err, IsOk, bytes_eq, nat_eq}
+use Rattle.std.specs.Prelude.{if◌then◌else◌, slice_set}
 use Rattle.snap_semantics.specs.Answers.{◌>>=◌}
 use Rattle.snap_semantics.specs.State.{process_at, values}
 use Rattle.snap_semantics.specs.Table.{who}
@@ -57,8 +60,8 @@ abbrev pub at_line : ℕ → Option Activity → Bool
 at_line line None = false
 at_line line (Some a) = nat_eq a.line line
 
--- The line at which updates write: that of the first item that changes the values. Where no item changes them, it is the
--- first line of the listing that writes a word, and 0 where no line does.
+-- The line at which updates write: that of the first item that changes the values. Where no item changes them, it is
+-- the first line of the listing that writes a word, and 0 where no line does.
 
 -- the line of the first item that changes the values, among so many items after item t
 abbrev pub changing_line : Run → ℕ → ℕ → Option ℕ
@@ -144,7 +147,8 @@ with_finding ws (finding.Lacks missing) = Err missing
 abbrev pub writes : Run → ℕ → ℕ → Result (List UpdateWrite) Missing
 writes r line zero = Ok []
 writes r line (suc t) =
-    writes r line t >>= λ ws. with_finding ws (found_at line (suc t) (seen_item r (suc t)) (progress r line (who (item r (suc t))) t))
+    writes r line t >>= λ ws.
+    with_finding ws (found_at line (suc t) (seen_item r (suc t)) (progress r line (who (item r (suc t))) t))
 
 -- a scan without a point lacks it at its answer
 abbrev pub point_of : Verdict → Option ℕ → Result (Unit {0}) Missing
@@ -162,8 +166,8 @@ pub record Evidence : Type 0 where
   pub writes : List UpdateWrite
   pub points : List Verdict
 
--- What a run is certified by, or the first thing that is missing: of the writes, in the order of the items, and then of the
--- points, in the order of the answers.
+-- What a run is certified by, or the first thing that is missing: of the writes, in the order of the items, and then
+-- of the points, in the order of the answers.
 abbrev pub certification_of : Run → Result Evidence Missing
 certification_of r =
     writes r (write_line r) (length r.items) >>= λ ws. points (audit r) >>= λ has.
@@ -171,7 +175,8 @@ certification_of r =
 
 -- what is answered
 abbrev pub seen_certification : Certification → Result Evidence Missing
-seen_certification (certification.Certified c) = Ok (record { line = c.line; writes = c.writes.items; points = c.points.items })
+seen_certification (certification.Certified c) =
+    Ok (record { line = c.line; writes = c.writes.items; points = c.points.items })
 seen_certification (certification.Missing missing) = Err missing
 
 -- The certificate that this is evidence of.
@@ -202,10 +207,12 @@ CertifiedHasCertificate = (r : Run) → IsValidRun r → (e : Evidence) → cert
 
 -- A run is certified exactly where it has a certificate in which updates write at this line.
 abbrev pub CertifiedExactly : Type 0
-CertifiedExactly = (r : Run) → IsValidRun r → IsOk (certification_of r) ↔ ((c : Certificate) × IsCertificate (write_line r) r c)
+CertifiedExactly =
+    (r : Run) → IsValidRun r → IsOk (certification_of r) ↔ ((c : Certificate) × IsCertificate (write_line r) r c)
 
--- A run whose operations have linearization points is certified, where its updates write at the first line of the listing
--- that writes a word: that is the line that is chosen.
+-- A run whose operations have linearization points is certified, where its updates write at the first line of the
+-- listing that writes a word: that is the line that is chosen.
 abbrev pub PointsCertify : Type 0
-PointsCertify = (line : ℕ) (r : Run) → IsValidRun r → putting_line r.source.lines ≡ line → HasLinearizationPoints line r →
+PointsCertify =
+    (line : ℕ) (r : Run) → IsValidRun r → putting_line r.source.lines ≡ line → HasLinearizationPoints line r →
     (write_line r ≡ line) × IsOk (certification_of r)

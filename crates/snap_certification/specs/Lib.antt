@@ -1,1 +1,2 @@
+-- The definitions of snap_certification, by their modules.
 pub mod Certification

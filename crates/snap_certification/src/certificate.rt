@@ -1,9 +1,9 @@
-//! What a certification answers.
+//! `Certification`: a run is `Certified` by a line, writes and points, or something is `Missing`.
 use crate::found::{Missing, UpdateWrite};
 use snap_runs::Verdict;
 
-/// What a run is certified by: the line at which updates write, the writes in the order of their items, and the verdicts of
-/// the answered scans, each with its point, in the order of the answers.
+/// What a run is certified by: the line at which updates write, the writes in the order of their
+/// items, and the verdicts of the answered scans, each with its point, in the order of the answers.
 #[derive(Debug, Drop)]
 pub struct Certified {
     pub line: u64,

@@ -1,4 +1,5 @@
-//! What is found of the items of a run.
+//! `Finding`: what a certification finds of an item of a run: the write of an update, nothing, or
+//! what a certificate lacks there.
 use snap_semantics::{Activity, Outcome};
 use snap_words::View;
 

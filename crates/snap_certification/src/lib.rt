@@ -1,7 +1,9 @@
-//! The certification of a run: the certificate that it has, or the first thing that is missing for one.
+//! The certification of a run: the certificate that it has,
+//! or the first thing that is missing for one.
 #![tactic(auto)]
 
-ghost use Rattle.snap_certification.specs.Certification.{CertifiedExactly, CertifiedHasCertificate, PointsCertify};
+ghost use Rattle.snap_certification.specs.Certification.{CertifiedExactly};
+ghost use Rattle.snap_certification.specs.Certification.{CertifiedHasCertificate, PointsCertify};
 
 mod certificate;
 mod found;
@@ -16,15 +18,16 @@ pub fn certified_has_certificate()
     snap_certificate::certified_is_linearizable();
 }
 
-/// A run is certified exactly where it has a certificate in which updates write at the line that is chosen.
+/// A run is certified exactly where it has a certificate in which updates write at
+/// the line that is chosen.
 pub fn certified_exactly()
     ensures { CertifiedExactly }
 {
     snap_certificate::certified_by_points();
 }
 
-/// A run whose operations have linearization points is certified, where its updates write at the first line that writes a
-/// word: that is the line that is chosen.
+/// A run whose operations have linearization points is certified, where its updates write at the
+/// first line that writes a word: that is the line that is chosen.
 #[tactic(auto, using(crate::proofs::Chosen::points_certify))]
 pub fn points_certify()
     ensures { PointsCertify }

@@ -1,1 +1,2 @@
+-- The proofs of snap_certify, by their modules.
 pub mod Replaying

@@ -1,1 +1,2 @@
+-- The definitions of snap_certify, by their modules.
 pub mod Replay

@@ -1,4 +1,5 @@
--- A machine that goes through a run again.
+-- A run done again by a machine, for its certification: the machine after t items, and what it sees of an item
+-- (`seen_by`).
 use Rattle.std.specs.Prelude.{◌≡◌, ℕ, suc, ◌-◌, false, List, length, get_or}
 use Rattle.snap_words.specs.Shape.{IsOneOf}
 use Rattle.snap_semantics.specs.State.{process_at, values}

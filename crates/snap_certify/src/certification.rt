@@ -1,4 +1,5 @@
-//! The certification of a record.
+//! `certify`: the certification of a record: what it is certified by, or the first thing that is
+//! missing.
 ghost use Rattle.std.specs.Prelude.{◌≡◌, IfOk, IsOk, Ok};
 ghost use Rattle.snap_runs.specs.Linearization.{IsLinearizable};
 ghost use Rattle.snap_certificate.specs.Certificate.{IsCertificate};
@@ -66,13 +67,15 @@ fn conclude<K: Kind>(alloc: Global, history: &Record<K>) -> Result<Certification
     }
 }
 
-/// What a record is certified by, or the first thing that is missing: of the writes, in the order of the items, and then of
-/// the points, in the order of the answers. A certified run has a certificate, and is linearizable.
+/// What a record is certified by, or the first thing that is missing: of the writes, in the order
+/// of the items, and then of the points, in the order of the answers. A certified run has a
+/// certificate, and is linearizable.
 pub fn certify<K: Kind>(alloc: Global, history: &Record<K>) -> Result<Certification, AllocError>
     ensures exact { IfOk result (λ c. seen_certification c ≡ certification_of history.now) }
     ensures certificate { IfOk result (λ c. (e : Evidence) → seen_certification c ≡ Ok e →
         IsCertificate (write_line history.now) history.now (certificate_of history.now e)) }
-    ensures linearizable { IfOk result (λ c. IsOk (seen_certification c) → IsLinearizable history.now) }
+    ensures linearizable { IfOk result (λ c.
+        IsOk (seen_certification c) → IsLinearizable history.now) }
 {
     certified_has_certificate();
     let _items = history.items();

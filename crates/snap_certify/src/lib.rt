@@ -1,4 +1,5 @@
-//! Certifications: what a record is certified by, or the first thing that is missing for a certificate.
+//! Certifications: what a record is certified by,
+//! or the first thing that is missing for a certificate.
 #![tactic(auto)]
 
 mod certification;

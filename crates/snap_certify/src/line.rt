@@ -1,4 +1,5 @@
-//! The line at which updates write.
+//! The line at which updates write, as the certification of a record chooses it: that of the first
+//! item which changes the values.
 ghost use Rattle.std.specs.Prelude.{◌≡◌, IfOk, length, option_map};
 ghost use Rattle.snap_certification.specs.Certification.{
   changes,
@@ -66,8 +67,8 @@ fn putting_line(lines: &[Line]) -> u64
     0
 }
 
-/// The line at which updates write: that of the first item that changes the values, and where none does, the first line that
-/// writes a word.
+/// The line at which updates write: that of the first item that changes the values, and where none
+/// does, the first line that writes a word.
 pub(crate) fn write_line<K: Kind>(alloc: Global, history: &Record<K>) -> Result<u64, AllocError>
     ensures { IfOk result (λ l. l ≡ write_line history.now) }
 {

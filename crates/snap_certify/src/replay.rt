@@ -1,4 +1,4 @@
-//! A run, gone through again item by item.
+//! A record's run, done again item by item, so that its certification sees each item (`SeenItem`).
 ghost use Rattle.std.specs.Prelude.{◌≡◌, ◌<◌, ◌+◌, IfOk, OnOk, length};
 ghost use Rattle.snap_words.specs.Shape.{IsOneOf};
 ghost use Rattle.snap_semantics.specs.State.{process_at};

@@ -1,5 +1,8 @@
-//! The writes of the updates.
-ghost use Rattle.std.specs.Prelude.{◌≡◌, ◌-◌, ◌<◌, Err, IfOk, IfSome, MatchResult, None, Ok, OnOk, bytes_eq, get_or, length, replicate, slice_set};
+//! The writes of a record's updates (`UpdateWrite`), found item by item for its certification; or
+//! what is missing.
+ghost use Rattle.std.specs.Prelude.{◌≡◌, ◌-◌, ◌<◌};
+ghost use Rattle.std.specs.Prelude.{Err, IfOk, IfSome, MatchResult, None, Ok, OnOk};
+ghost use Rattle.std.specs.Prelude.{bytes_eq, get_or, length, replicate, slice_set};
 ghost use Rattle.snap_words.specs.Shape.{IsOneOf};
 ghost use Rattle.snap_certification.specs.Certification.{
   at_line,
@@ -192,7 +195,8 @@ fn note_item(
     requires { IsOneOf (length progress.old.items) item.now.process }
     ensures found { IfOk result (λ f. (d : Progress) →
         f ≡ found_at line t item.now (get_or progress.old.items (item.now.process - 1) d)) }
-    ensures noted { OnOk result ((d : Progress) → progress.new.items ≡ slice_set progress.old.items (item.now.process - 1)
+    ensures noted { OnOk result ((d : Progress) →
+        progress.new.items ≡ slice_set progress.old.items (item.now.process - 1)
         (progress_after line t item.now (get_or progress.old.items (item.now.process - 1) d))) }
 {
     let place = (item.process - 1) as usize;
@@ -204,8 +208,10 @@ fn note_item(
 
 /// Adds a write that was found, and answers what is missing instead.
 fn add_finding(all: &mut Vec<UpdateWrite>, found: Finding) -> Result<Option<Missing>, AllocError>
-    ensures added { IfOk result (λ missing. missing ≡ None → with_finding all.old.items found ≡ Ok all.new.items) }
-    ensures lacks { IfOk result (λ missing. IfSome missing (λ m. with_finding all.old.items found ≡ Err m)) }
+    ensures added { IfOk result (λ missing.
+        missing ≡ None → with_finding all.old.items found ≡ Ok all.new.items) }
+    ensures lacks { IfOk result (λ missing.
+        IfSome missing (λ m. with_finding all.old.items found ≡ Err m)) }
 {
     match found {
         Finding::Nothing => Ok(None),

@@ -1,1 +1,2 @@
+-- The definitions of snap_certify_laws, by their modules.
 pub mod Shipped

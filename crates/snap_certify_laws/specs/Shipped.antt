@@ -9,8 +9,10 @@ use Rattle.snap_shipped.specs.Shipped.{shipped, shipped_bounds}
 use Rattle.snap_promises.specs.Kept.{NumbersSuffice}
 use Rattle.snap_certification.specs.Certification.{certification_of, write_line}
 
--- Every run of the listing that is shipped for this kind is certified, and its updates write at the line of the listing.
+-- Every run of the listing that is shipped for this kind is certified, and its updates
+-- write at the line of the listing.
 abbrev pub RunsAreCertified : KindTag → Type 0
-RunsAreCertified g = (s : Counts) (items : List Item) → IsShape s.n s.w → fits (shipped g).kind s ≡ true → NumbersSuffice g items →
+RunsAreCertified g =
+    (s : Counts) (items : List Item) → IsShape s.n s.w → fits (shipped g).kind s ≡ true → NumbersSuffice g items →
     (let r = run_of_items (shipped g) s items in
     IsValidRun r → (write_line r ≡ (shipped_bounds g s).writes) × IsOk (certification_of r))

@@ -1,4 +1,5 @@
--- What is written for a listing and a schedule whose run is to be certified, or why it is refused.
+-- `certify_listing`: what the task `certify` writes for a listing and a schedule, which is the certification of the
+-- run, or why it is refused.
 use Rattle.std.specs.Prelude.{ℕ, List, Result, Ok}
 use Rattle.snap_semantics.specs.Answers.{◌>>=◌}
 use Rattle.snap_semantics.specs.Source.{Source}

@@ -1,4 +1,5 @@
-//! What is printed of a certification.
+//! What the task `certify` writes: the certification of a listing's run under a schedule, printed
+//! in the order of linearization points; or what is missing for it.
 #![tactic(auto)]
 
 mod order;

@@ -1,4 +1,4 @@
-//! The certification of a listing under a schedule.
+//! `certify_program`: reads a schedule, runs a listing over it, and prints the run's certification.
 ghost use Rattle.std.specs.Prelude.{◌≡◌, IfOk};
 ghost use Rattle.snap_runs.specs.Run.{run_over};
 ghost use Rattle.snap_semantics.specs.Answers.{Answers};

@@ -1,4 +1,5 @@
-//! The printed text of a certification.
+//! `certification_text`: the printed certification of a run, a line for each operation in the order
+//! of linearization points, or the line of what is missing.
 ghost use Rattle.std.specs.Prelude.{◌≡◌, ◌++◌, IfOk, OnOk, drop};
 ghost use Rattle.snap_certification.specs.Certification.{seen_certification};
 ghost use Rattle.snap_certify_output.specs.CertificationText.{

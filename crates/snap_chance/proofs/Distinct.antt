@@ -1,5 +1,7 @@
--- Each process stands in the order once.
-use Rattle.std.proofs.Common.{◌≡◌, ℕ, zero, suc, ◌+◌, ◌%◌, ◌<◌, ◌≤◌, Bool, true, false, List, [], ◌∷◌, nat_eq, if◌then◌else◌, refl, ap, ◌∙◌, arith}
+-- In the order of priorities that chance draws for a schedule, each process is there exactly once
+-- (`HasDistinctPriorities`).
+use Rattle.std.proofs.Common.{◌≡◌, ℕ, zero, suc, ◌+◌, ◌%◌, ◌<◌, ◌≤◌, Bool, true, false, List, [], ◌∷◌, nat_eq}
+use Rattle.std.proofs.Common.{if◌then◌else◌, refl, ap, ◌∙◌, arith}
 use Rattle.std.specs.Prelude.{insert}
 use Rattle.std.proofs.lemmas.Bool.{eqb-false, eqb-true}
 use Rattle.rand_core.specs.Stream.{Stream, next_u64}
@@ -7,7 +9,8 @@ use Rattle.snap_chance.specs.Plan.{Plan}
 use Rattle.snap_chance.specs.Priorities.{HasDistinctPriorities, order_of, share, times_in}
 use Rattle.snap_chance.specs.declared.priorities.Mover.{Mover}
 
-either_first : (a b : Bool) (n : ℕ) → (if a then suc (if b then suc n else n) else (if b then suc n else n)) ≡ (if b then suc (if a then suc n else n) else (if a then suc n else n))
+either_first : (a b : Bool) (n : ℕ) → (if a then suc (if b then suc n else n) else (if b then suc n else n))
+    ≡ (if b then suc (if a then suc n else n) else (if a then suc n else n))
 either_first true true n = refl
 either_first true false n = refl
 either_first false true n = refl
@@ -18,11 +21,13 @@ times_with : (i k : ℕ) (m : Mover) (xs : List Mover) → times_in i (insert xs
 times_with i zero m xs = refl
 times_with i (suc k) m [] = refl
 times_with i (suc k) m (x ∷ xs) =
-    ap (λ (n : ℕ). if nat_eq x.process i then suc n else n) (times_with i k m xs) ∙ either_first (nat_eq x.process i) (nat_eq m.process i) (times_in i xs)
+    ap (λ (n : ℕ). if nat_eq x.process i then suc n else n) (times_with i k m xs)
+    ∙ either_first (nat_eq x.process i) (nat_eq m.process i) (times_in i xs)
 
 -- one process more
 one_more : (p : Plan) (i c : ℕ) (s : Stream)
-    → times_in i (order_of p (suc c) s).0 ≡ (if nat_eq (c + 1) i then suc (times_in i (order_of p c s).0) else times_in i (order_of p c s).0)
+    → times_in i (order_of p (suc c) s).0
+    ≡ (if nat_eq (c + 1) i then suc (times_in i (order_of p c s).0) else times_in i (order_of p c s).0)
 one_more p i c s =
     let before = order_of p c s in
     times_with i ((next_u64 before.1).0 % (c + 1)) (record { process = c + 1; left = share p }) before.0
@@ -38,9 +43,11 @@ not_yet : (p : Plan) (i c : ℕ) (s : Stream) → c < i → times_in i (order_of
 not_yet p i zero s lt = refl
 not_yet p i (suc c) s lt =
     let next : c + 1 < i = omega arith in
-    one_more p i c s ∙ apart (nat_eq (c + 1) i) c i (times_in i (order_of p c s).0) refl next ∙ not_yet p i c s (omega arith)
+    one_more p i c s ∙ apart (nat_eq (c + 1) i) c i (times_in i (order_of p c s).0) refl next
+    ∙ not_yet p i c s (omega arith)
 
-either_way : (b : Bool) (c i n : ℕ) → nat_eq (c + 1) i ≡ b → i ≤ suc c → (c < i → n ≡ 0) → (i ≤ c → n ≡ 1) → (if b then suc n else n) ≡ 1
+either_way : (b : Bool) (c i n : ℕ) → nat_eq (c + 1) i ≡ b → i ≤ suc c → (c < i → n ≡ 0) →
+    (i ≤ c → n ≡ 1) → (if b then suc n else n) ≡ 1
 either_way true c i n is le none one =
     let same : c + 1 ≡ i = eqb-true (c + 1) i is in
     ap suc (none (omega (arith, same)))

@@ -1,5 +1,7 @@
--- Turns by priorities: they are of processes that are there, and short.
-use Rattle.std.proofs.Common.{◌≡◌, ℕ, zero, suc, ◌+◌, ◌-◌, ◌*◌, ◌%◌, ◌<◌, ◌≤◌, List, [], ◌∷◌, ◌++◌, Option, Some, None, drop, length, take, nat_eq, nat_lt, refl, sym, ap, subst, ◌∙◌, append_assoc, arith}
+-- Turns by priorities, in schedules that chance makes: each is of a process that exists, and has at most 128 steps.
+use Rattle.std.proofs.Common.{◌≡◌, ℕ, zero, suc, ◌+◌, ◌-◌, ◌*◌, ◌%◌, ◌<◌, ◌≤◌, List, [], ◌∷◌, ◌++◌, Option, Some}
+use Rattle.std.proofs.Common.{None, drop, length, take, nat_eq, nat_lt, refl, sym}
+use Rattle.std.proofs.Common.{ap, subst, ◌∙◌, append_assoc, arith}
 use Rattle.std.specs.Prelude.{insert}
 use Rattle.std.specs.List.{AllByRecursion, list_any}
 use Rattle.std.proofs.lemmas.List.{length-append}
@@ -13,14 +15,17 @@ use Rattle.snap_sched.proofs.Lines.{all_more}
 use Rattle.snap_chance.specs.Chance.{items_by, turns_from}
 use Rattle.snap_chance.specs.Draws.{draws}
 use Rattle.snap_chance.specs.Plan.{IsPlan, Plan}
-use Rattle.snap_chance.specs.Priorities.{asked_turn, burst_move, changes_of, lowered_at, move_at, move_items, moves_from, order_of, passed, role_move, share}
-use Rattle.snap_chance.specs.Turns.{asked_items, interrupted_process, scanning_turn, turn_items, update_of, updating_turn}
+use Rattle.snap_chance.specs.Priorities.{asked_turn, burst_move, changes_of, lowered_at, move_at, move_items}
+use Rattle.snap_chance.specs.Priorities.{moves_from, order_of, passed, role_move, share}
+use Rattle.snap_chance.specs.Turns.{asked_items, interrupted_process, scanning_turn}
+use Rattle.snap_chance.specs.Turns.{turn_items, update_of, updating_turn}
 use Rattle.snap_chance.specs.declared.draws.Draws.{Draws}
 use Rattle.snap_chance.specs.declared.plan.Pace.{Pace}
 use Rattle.snap_chance.specs.declared.plan.Pace.TheVariants.{Coins, Bursts, Interruptions, Rounds, Mixed}
 use Rattle.snap_chance.specs.declared.priorities.Mover.{Mover}
 use Rattle.snap_chance.specs.declared.turns.Turn.{Turn}
-use Rattle.snap_chance.proofs.Turning.{AreTurn, are_turn, asked_are_turn, burst_short, either, scanning_is_turn, updating_is_turn}
+use Rattle.snap_chance.proofs.Turning.{AreTurn, are_turn, asked_are_turn, burst_short, either}
+use Rattle.snap_chance.proofs.Turning.{scanning_is_turn, updating_is_turn}
 
 -- a turn of process i, of few steps
 pub record IsMove (i : ℕ) (a : Turn) : Type 0 where
@@ -43,7 +48,8 @@ is_move Bursts p k t i d some = burst_is_move p k t i d
 is_move Interruptions p k t i d some = role_is_move p k t i d some
 is_move Rounds p k t i d some = role_is_move p k t i d some
 is_move Mixed p k t i d some =
-    either (IsMove i) (nat_eq (k % 2) 0) (burst_move p k t i d) (role_move p k t i d) (burst_is_move p k t i d) (role_is_move p k t i d some)
+    either (IsMove i) (nat_eq (k % 2) 0) (burst_move p k t i d) (role_move p k t i d)
+    (burst_is_move p k t i d) (role_is_move p k t i d some)
 
 pub move_short : (p : Plan) (k t i : ℕ) (d : Draws) → IsPlan p → (move_at p.pace p k t i d).steps ≤ 128
 move_short p k t i d plan = (is_move p.pace p k t i d plan.shape.0.0).short
@@ -67,10 +73,12 @@ there_both n [] ys h g = g
 there_both n (x ∷ xs) ys h g = (h.0, there_both n xs ys h.1 g)
 
 -- one process more in an order
-pub there_with : (n k : ℕ) (m : Mover) (xs : List Mover) → AreThere n xs → IsOneOf n m.process → AreThere n (insert xs k m)
+pub there_with : (n k : ℕ) (m : Mover) (xs : List Mover) → AreThere n xs →
+    IsOneOf n m.process → AreThere n (insert xs k m)
 there_with n k m xs h one = there_both n (take k xs) (m ∷ drop k xs) (there_taken n k xs h) (one, there_left n k xs h)
 
-there_lowered : (n t : ℕ) (changes : List ℕ) (order : List Mover) → AreThere n order → AreThere n (lowered_at t changes order)
+there_lowered : (n t : ℕ) (changes : List ℕ) (order : List Mover) → AreThere n order →
+    AreThere n (lowered_at t changes order)
 there_lowered n t changes order h =
     either (AreThere n) (list_any (λ c. nat_eq c t) changes) (drop 1 order ++ take 1 order) order
     (there_both n (drop 1 order) (take 1 order) (there_left n 1 order h) (there_taken n 1 order h)) h
@@ -81,14 +89,16 @@ there_passed n (m ∷ order) h =
     either (AreThere n) (nat_lt 1 m.left) (record { process = m.process; left = m.left - 1 } ∷ order) order h h.1
 
 -- the order after a turn
-pub there_after : (n t : ℕ) (changes : List ℕ) (order now after : List Mover) → now ≡ lowered_at t changes order → after ≡ passed now → AreThere n order
+pub there_after : (n t : ℕ) (changes : List ℕ) (order now after : List Mover) → now ≡ lowered_at t changes order →
+    after ≡ passed now → AreThere n order
     → AreThere n now × AreThere n after
 there_after n t changes order now after lowered is h =
     let here : AreThere n now = subst (AreThere n) (sym lowered) (there_lowered n t changes order h) in
     (here, subst (AreThere n) (sym is) (there_passed n now here))
 
 -- the items of a turn are few, and of processes that are there
-pub are_move : (p : Plan) (k t : ℕ) (order : List Mover) (d : Draws) → 0 < p.shape.n → AreThere p.shape.n order → AreTurn p.shape.n (move_items p k t order d)
+pub are_move : (p : Plan) (k t : ℕ) (order : List Mover) (d : Draws) → 0 < p.shape.n → AreThere p.shape.n order →
+    AreTurn p.shape.n (move_items p k t order d)
 are_move p k t [] d some h = record { there = tt; few = omega arith }
 are_move p k t (m ∷ order) d some h =
     let a = move_at p.pace p k t m.process d in
@@ -99,9 +109,12 @@ are_move p k t (m ∷ order) d some h =
     (asked_are_turn p.shape.n a.process a.steps a.call there move.short)
 
 -- one turn more
-pub one_more_move : (p : Plan) (k count t : ℕ) (s u : Stream) (d : Draws) (changes : List ℕ) (order now after : List Mover) (old new all : List Item) → t < count
-    → (d, u) ≡ draws s → now ≡ lowered_at (t + 1) changes order → after ≡ passed now → new ≡ old ++ move_items p k (t + 1) now d
-    → old ++ moves_from p k (t + 1) (count - t) changes order s ≡ all → new ++ moves_from p k (t + 1 + 1) (count - (t + 1)) changes after u ≡ all
+pub one_more_move : (p : Plan) (k count t : ℕ) (s u : Stream) (d : Draws) (changes : List ℕ)
+    (order now after : List Mover) (old new all : List Item) → t < count
+    → (d, u) ≡ draws s → now ≡ lowered_at (t + 1) changes order → after ≡ passed now →
+    new ≡ old ++ move_items p k (t + 1) now d
+    → old ++ moves_from p k (t + 1) (count - t) changes order s ≡ all →
+    new ++ moves_from p k (t + 1 + 1) (count - (t + 1)) changes after u ≡ all
 one_more_move p k count t s u d changes order now after old new all below step lowered is put so_far =
     let e : count - t ≡ suc (count - (t + 1)) = omega arith in
     let here = lowered_at (t + 1) changes order in
@@ -119,19 +132,23 @@ there_ordered : (p : Plan) (n count : ℕ) (s : Stream) → count ≤ n → AreT
 there_ordered p n zero s le = tt
 there_ordered p n (suc i) s le =
     let before = order_of p i s in
-    there_with n ((next_u64 before.1).0 % (i + 1)) (record { process = i + 1; left = share p }) before.0 (there_ordered p n i s (omega arith)) (omega arith, omega arith)
+    there_with n ((next_u64 before.1).0 % (i + 1)) (record { process = i + 1; left = share p }) before.0
+    (there_ordered p n i s (omega arith)) (omega arith, omega arith)
 
-moves_there : (p : Plan) (k t left : ℕ) (changes : List ℕ) (order : List Mover) (s : Stream) → 0 < p.shape.n → AreThere p.shape.n order
+moves_there : (p : Plan) (k t left : ℕ) (changes : List ℕ) (order : List Mover) (s : Stream) →
+    0 < p.shape.n → AreThere p.shape.n order
     → AllByRecursion (λ x. IsOneOf p.shape.n (who x)) (moves_from p k t left changes order s)
 moves_there p k t zero changes order s some h = tt
 moves_there p k t (suc left) changes order s some h =
     let now = lowered_at t changes order in
     let here = there_lowered p.shape.n t changes order h in
-    all_more (IsOneOf p.shape.n) (move_items p k t now (draws s).0) (moves_from p k (t + 1) left changes (passed now) (draws s).1)
+    all_more (IsOneOf p.shape.n) (move_items p k t now (draws s).0)
+    (moves_from p k (t + 1) left changes (passed now) (draws s).1)
     (are_move p k t now (draws s).0 some here).there
     (moves_there p k (t + 1) left changes (passed now) (draws s).1 some (there_passed p.shape.n now here))
 
-moves_few : (p : Plan) (k t left : ℕ) (changes : List ℕ) (order : List Mover) (s : Stream) → 0 < p.shape.n → AreThere p.shape.n order
+moves_few : (p : Plan) (k t left : ℕ) (changes : List ℕ) (order : List Mover) (s : Stream) →
+    0 < p.shape.n → AreThere p.shape.n order
     → length (moves_from p k t left changes order s) ≤ left * 129
 moves_few p k t zero changes order s some h = omega arith
 moves_few p k t (suc left) changes order s some h =
@@ -139,13 +156,20 @@ moves_few p k t (suc left) changes order s some h =
     let there = there_lowered p.shape.n t changes order h in
     let here = (are_move p k t now (draws s).0 some there).few in
     let rest = moves_few p k (t + 1) left changes (passed now) (draws s).1 some (there_passed p.shape.n now there) in
-    omega (arith, length-append (move_items p k t now (draws s).0) (moves_from p k (t + 1) left changes (passed now) (draws s).1), here, rest)
+    omega (
+      arith,
+      length-append (move_items p k t now (draws s).0) (moves_from p k (t + 1) left changes (passed now) (draws s).1),
+      here,
+      rest,
+    )
 
 -- the turns of drawn processes
-turns_there : (p : Plan) (k t left : ℕ) (s : Stream) → 0 < p.shape.n → AllByRecursion (λ x. IsOneOf p.shape.n (who x)) (turns_from p k t left s)
+turns_there : (p : Plan) (k t left : ℕ) (s : Stream) → 0 < p.shape.n →
+    AllByRecursion (λ x. IsOneOf p.shape.n (who x)) (turns_from p k t left s)
 turns_there p k t zero s some = tt
 turns_there p k t (suc left) s some =
-    all_more (IsOneOf p.shape.n) (turn_items p k t (draws s).0) (turns_from p k (t + 1) left (draws s).1) (are_turn p k t (draws s).0 some).there
+    all_more (IsOneOf p.shape.n) (turn_items p k t (draws s).0) (turns_from p k (t + 1) left (draws s).1)
+    (are_turn p k t (draws s).0 some).there
     (turns_there p k (t + 1) left (draws s).1 some)
 
 turns_few : (p : Plan) (k t left : ℕ) (s : Stream) → 0 < p.shape.n → length (turns_from p k t left s) ≤ left * 129
@@ -160,7 +184,8 @@ pub record AreItems (n turns : ℕ) (xs : List Item) : Type 0 where
   pub there : AllByRecursion (λ x. IsOneOf n (who x)) xs
   pub few : length xs ≤ turns * 129
 
-pub are_items : (o : Option ℕ) (p : Plan) (k : ℕ) (s : Stream) → 0 < p.shape.n → AreItems p.shape.n p.turns (items_by o p k s)
+pub are_items : (o : Option ℕ) (p : Plan) (k : ℕ) (s : Stream) → 0 < p.shape.n →
+    AreItems p.shape.n p.turns (items_by o p k s)
 are_items None p k s some = record { there = turns_there p k 1 p.turns s some; few = turns_few p k 1 p.turns s some }
 are_items (Some depth) p k s some =
     let order = order_of p p.shape.n s in

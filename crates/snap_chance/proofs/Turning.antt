@@ -1,5 +1,8 @@
--- Turns: they are of processes that are there, and short.
-use Rattle.std.proofs.Common.{◌≡◌, ℕ, zero, suc, ◌+◌, ◌-◌, ◌/◌, ◌%◌, ◌^◌, ◌<◌, ◌≤◌, Bool, true, false, List, [], ◌∷◌, ◌++◌, Option, Some, None, length, replicate, nat_eq, nat_lt, if◌then◌else◌, refl, sym, ap, subst, ◌∙◌, append_assoc, arith}
+-- Turns of processes that are drawn, in schedules that chance makes: each is of a process that exists, and has at
+-- most 128 steps (`IsTurn`).
+use Rattle.std.proofs.Common.{◌≡◌, ℕ, zero, suc, ◌+◌, ◌-◌, ◌/◌, ◌%◌, ◌^◌, ◌<◌, ◌≤◌, Bool, true, false, List, [], ◌∷◌}
+use Rattle.std.proofs.Common.{◌++◌, Option, Some, None, length, replicate, nat_eq, nat_lt, if◌then◌else◌, refl, sym}
+use Rattle.std.proofs.Common.{ap, subst, ◌∙◌, append_assoc, arith}
 use Rattle.std.proofs.Math.Pow.{pow_mono}
 use Rattle.std.proofs.lemmas.List.{length-append, length-replicate}
 use Rattle.std.proofs.lemmas.Nat.{pow_pos}
@@ -14,7 +17,9 @@ use Rattle.snap_sched.proofs.Lines.{all_more}
 use Rattle.snap_chance.specs.Chance.{turns_from}
 use Rattle.snap_chance.specs.Draws.{draws}
 use Rattle.snap_chance.specs.Plan.{IsPlan, Plan}
-use Rattle.snap_chance.specs.Turns.{asked_items, burst_of, burst_turn, call_items, coin_turn, interrupted_turn, process_of, round_process, round_scan, round_turn, round_update, scanned_turn, scanning_turn, turn_at, turn_items, turn_of, updating_turn, whole_update}
+use Rattle.snap_chance.specs.Turns.{asked_items, burst_of, burst_turn, call_items, coin_turn, interrupted_turn}
+use Rattle.snap_chance.specs.Turns.{process_of, round_process, round_scan, round_turn, round_update, scanned_turn}
+use Rattle.snap_chance.specs.Turns.{scanning_turn, turn_at, turn_items, turn_of, updating_turn, whole_update}
 use Rattle.snap_chance.specs.declared.draws.Draws.{Draws}
 use Rattle.snap_chance.specs.declared.plan.Pace.{Pace}
 use Rattle.snap_chance.specs.declared.plan.Pace.TheVariants.{Coins, Bursts, Interruptions, Rounds, Mixed}
@@ -63,26 +68,32 @@ updating_is_turn p k t d some =
     let whole = whole_update p in
     record {
       there = process_there d.process p.shape.n some;
-      short = either (λ x. x ≤ 128) (nat_eq (d.call % 4) 0) (d.length % whole + 1) whole (part_short d.length whole (whole_some p some) (whole_short p)) (whole_short p);
+      short =
+          either (λ x. x ≤ 128) (nat_eq (d.call % 4) 0) (d.length % whole + 1) whole
+          (part_short d.length whole (whole_some p some) (whole_short p)) (whole_short p);
     }
 
 interrupted_is_turn : (p : Plan) (k t : ℕ) (d : Draws) → 0 < p.shape.n → IsTurn p.shape.n (interrupted_turn p k t d)
 interrupted_is_turn p k t d some =
-    either (IsTurn p.shape.n) (nat_eq (d.scale % 2) 0) (scanning_turn p k d) (updating_turn p k t d) (scanning_is_turn p k d some) (updating_is_turn p k t d some)
+    either (IsTurn p.shape.n) (nat_eq (d.scale % 2) 0) (scanning_turn p k d) (updating_turn p k t d)
+    (scanning_is_turn p k d some) (updating_is_turn p k t d some)
 
 round_scan_is_turn : (p : Plan) (k : ℕ) (d : Draws) → 0 < p.shape.n → IsTurn p.shape.n (round_scan p k d)
 round_scan_is_turn p k d some = record { there = process_there (k / 8 + 0) p.shape.n some; short = omega arith }
 
 round_update_is_turn : (p : Plan) (k t : ℕ) (d : Draws) → 0 < p.shape.n → IsTurn p.shape.n (round_update p k t d)
-round_update_is_turn p k t d some = record { there = process_there (k / 8 + (d.process % 2 + 1)) p.shape.n some; short = whole_short p }
+round_update_is_turn p k t d some =
+    record { there = process_there (k / 8 + (d.process % 2 + 1)) p.shape.n some; short = whole_short p }
 
 round_is_turn : (p : Plan) (k t : ℕ) (d : Draws) → 0 < p.shape.n → IsTurn p.shape.n (round_turn p k t d)
 round_is_turn p k t d some =
-    either (IsTurn p.shape.n) (nat_eq (t % 3) 0) (round_scan p k d) (round_update p k t d) (round_scan_is_turn p k d some) (round_update_is_turn p k t d some)
+    either (IsTurn p.shape.n) (nat_eq (t % 3) 0) (round_scan p k d) (round_update p k t d)
+    (round_scan_is_turn p k d some) (round_update_is_turn p k t d some)
 
 scanned_is_turn : (p : Plan) (k t : ℕ) (d : Draws) → 0 < p.shape.n → IsTurn p.shape.n (scanned_turn p k t d)
 scanned_is_turn p k t d some =
-    either (IsTurn p.shape.n) (nat_eq (k % 8) 7) (round_turn p k t d) (interrupted_turn p k t d) (round_is_turn p k t d some) (interrupted_is_turn p k t d some)
+    either (IsTurn p.shape.n) (nat_eq (k % 8) 7) (round_turn p k t d) (interrupted_turn p k t d)
+    (round_is_turn p k t d some) (interrupted_is_turn p k t d some)
 
 is_turn_at : (g : Pace) (p : Plan) (k t : ℕ) (d : Draws) → 0 < p.shape.n → IsTurn p.shape.n (turn_at g p k t d)
 is_turn_at Coins p k t d some = coin_is_turn p k t d some
@@ -90,7 +101,8 @@ is_turn_at Bursts p k t d some = burst_is_turn p k t d some
 is_turn_at Interruptions p k t d some = interrupted_is_turn p k t d some
 is_turn_at Rounds p k t d some = round_is_turn p k t d some
 is_turn_at Mixed p k t d some =
-    either (IsTurn p.shape.n) (nat_eq (k % 2) 0) (burst_turn p k t d) (scanned_turn p k t d) (burst_is_turn p k t d some) (scanned_is_turn p k t d some)
+    either (IsTurn p.shape.n) (nat_eq (k % 2) 0) (burst_turn p k t d) (scanned_turn p k t d)
+    (burst_is_turn p k t d some) (scanned_is_turn p k t d some)
 
 pub is_turn : (p : Plan) (k t : ℕ) (d : Draws) → 0 < p.shape.n → IsTurn p.shape.n (turn_of p k t d)
 is_turn p k t d some = is_turn_at p.pace p k t d some
@@ -110,7 +122,8 @@ steps_there n (suc count) i h = (h, steps_there n count i h)
 steps_few : (count i : ℕ) → count ≤ 128 → length (replicate count (Step i)) ≤ 128
 steps_few count i few = omega (arith, length-replicate count (Step i))
 
-pub asked_are_turn : (n i count : ℕ) (call : Option Op) → IsOneOf n i → count ≤ 128 → AreTurn n (call_items i call ++ replicate count (Step i))
+pub asked_are_turn : (n i count : ℕ) (call : Option Op) → IsOneOf n i → count ≤ 128 →
+    AreTurn n (call_items i call ++ replicate count (Step i))
 asked_are_turn n i count None h few =
     let fewer = steps_few count i few in
     record { there = steps_there n count i h; few = omega (arith, fewer) }
@@ -134,9 +147,11 @@ longer n m xs old new turn is few =
     omega (arith, e, few, short)
 
 -- one turn more, of a process that is there
-pub still_there : (n : ℕ) (xs old new : List Item) → AreTurn n xs → new ≡ old ++ xs → AllByRecursion (λ x. IsOneOf n (who x)) old
+pub still_there : (n : ℕ) (xs old new : List Item) → AreTurn n xs → new ≡ old ++ xs →
+    AllByRecursion (λ x. IsOneOf n (who x)) old
     → AllByRecursion (λ x. IsOneOf n (who x)) new
-still_there n xs old new turn is h = subst (AllByRecursion (λ x. IsOneOf n (who x))) (sym is) (all_more (IsOneOf n) old xs h turn.there)
+still_there n xs old new turn is h =
+    subst (AllByRecursion (λ x. IsOneOf n (who x))) (sym is) (all_more (IsOneOf n) old xs h turn.there)
 
 -- the first of the turns that are left
 first_turn : (p : Plan) (k t left : ℕ) (s : Stream)
@@ -144,8 +159,10 @@ first_turn : (p : Plan) (k t left : ℕ) (s : Stream)
 first_turn p k t left s = refl
 
 -- the turns so far, with one more, and those that are left
-pub one_more : (p : Plan) (k count t : ℕ) (s u : Stream) (d : Draws) (old new all : List Item) → t < count → (d, u) ≡ draws s
-    → new ≡ old ++ turn_items p k (t + 1) d → old ++ turns_from p k (t + 1) (count - t) s ≡ all → new ++ turns_from p k (t + 1 + 1) (count - (t + 1)) u ≡ all
+pub one_more : (p : Plan) (k count t : ℕ) (s u : Stream) (d : Draws) (old new all : List Item) → t < count →
+    (d, u) ≡ draws s
+    → new ≡ old ++ turn_items p k (t + 1) d → old ++ turns_from p k (t + 1) (count - t) s ≡ all →
+    new ++ turns_from p k (t + 1 + 1) (count - (t + 1)) u ≡ all
 one_more p k count t s u d old new all below step put so_far =
     let e : count - t ≡ suc (count - (t + 1)) = omega arith in
     let rest = turns_from p k (t + 1 + 1) (count - (t + 1)) in

@@ -26,4 +26,5 @@ items_by (Some depth) p k s = prioritized p k depth s
 
 -- the schedule of run k by a plan
 unfoldable pub schedule_of : (seed k : ℕ) → Plan → Schedule
-schedule_of seed k p = record { shape = p.shape; items = items_by p.depth p k (stream_of splitmix_steps (start_of seed k)) }
+schedule_of seed k p =
+    record { shape = p.shape; items = items_by p.depth p k (stream_of splitmix_steps (start_of seed k)) }

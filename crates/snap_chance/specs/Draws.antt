@@ -1,4 +1,4 @@
--- What is drawn for a turn.
+-- `draws`: the random numbers for one turn of a schedule, one for each choice, and the stream that is left.
 use Rattle.rand_core.specs.Stream.{Stream, next_u64}
 use Rattle.snap_chance.specs.declared.draws.Draws.{Draws}
 

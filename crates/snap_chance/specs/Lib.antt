@@ -1,3 +1,4 @@
+-- The definitions of snap_chance, by their modules.
 pub mod Draws
 pub mod Plan
 pub mod Turns

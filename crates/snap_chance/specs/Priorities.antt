@@ -1,7 +1,8 @@
--- Turns by priorities (probabilistic concurrency testing). The processes are put in an order by chance, the highest priority first,
--- and all have as many turns. The first in the order moves, turn after turn, until its turns are used up. At a few turns, which are
--- drawn beforehand, it goes to the end of the order before it would have moved.
-use Rattle.std.specs.Prelude.{◌≡◌, ℕ, zero, suc, ◌+◌, ◌-◌, ◌/◌, ◌%◌, List, [], ◌∷◌, ◌++◌, Some, drop, insert, max, nat_eq, nat_lt, take, if◌then◌else◌}
+-- Turns by priorities (probabilistic concurrency testing). The processes are put in an order by chance, the highest
+-- priority first, and all have as many turns. The first in the order moves, turn after turn, until its turns are used
+-- up. At a few turns, which are drawn beforehand, it goes to the end of the order before it would have moved.
+use Rattle.std.specs.Prelude.{◌≡◌, ℕ, zero, suc, ◌+◌, ◌-◌, ◌/◌, ◌%◌, List, [], ◌∷◌, ◌++◌, Some, drop, insert, max}
+use Rattle.std.specs.Prelude.{nat_eq, nat_lt, take, if◌then◌else◌}
 use Rattle.std.specs.List.{list_any}
 use Rattle.rand_core.specs.Stream.{Stream, next_u64}
 use Rattle.snap_words.specs.Shape.{IsOneOf}
@@ -11,7 +12,8 @@ use Rattle.snap_semantics.specs.declared.process.Op.{Op}
 use Rattle.snap_semantics.specs.declared.process.Op.TheVariants.{Scan}
 use Rattle.snap_chance.specs.Draws.{draws}
 use Rattle.snap_chance.specs.Plan.{Plan}
-use Rattle.snap_chance.specs.Turns.{asked_items, burst_of, interrupted_process, operation_of, scanning_turn, update_of, updating_turn}
+use Rattle.snap_chance.specs.Turns.{asked_items, burst_of, interrupted_process, operation_of, scanning_turn}
+use Rattle.snap_chance.specs.Turns.{update_of, updating_turn}
 use Rattle.snap_chance.specs.declared.draws.Draws.{Draws}
 use Rattle.snap_chance.specs.declared.plan.Pace.{Pace}
 use Rattle.snap_chance.specs.declared.plan.Pace.TheVariants.{Coins, Bursts, Interruptions, Rounds, Mixed}
@@ -22,7 +24,8 @@ use Rattle.snap_chance.specs.declared.turns.Turn.{Turn}
 abbrev pub share : Plan → ℕ
 share p = (p.turns + (p.shape.n - 1)) / p.shape.n
 
--- the first so many processes in an order, each order as likely as any other: each is put in somewhere among those before it
+-- the first so many processes in an order, each order as likely as any other: each is put in
+-- somewhere among those before it
 abbrev pub order_of : Plan → ℕ → Stream → List Mover × Stream
 order_of p zero s = ([], s)
 order_of p (suc i) s =

@@ -1,5 +1,7 @@
--- What a turn is, by what is drawn for it: a crash; or a call, where one is made, and steps of one process.
-use Rattle.std.specs.Prelude.{ℕ, Bool, ◌+◌, ◌*◌, ◌/◌, ◌%◌, ◌^◌, ◌&&◌, List, [], ◌∷◌, ◌++◌, Option, Some, None, min, nat_eq, nat_lt, replicate, if◌then◌else◌}
+-- What one turn of a schedule made by chance is, by the numbers drawn for it: a crash; or steps of one process,
+-- before which it may call an operation.
+use Rattle.std.specs.Prelude.{ℕ, Bool, ◌+◌, ◌*◌, ◌/◌, ◌%◌, ◌^◌, ◌&&◌, List, [], ◌∷◌, ◌++◌, Option, Some, None, min}
+use Rattle.std.specs.Prelude.{nat_eq, nat_lt, replicate, if◌then◌else◌}
 use Rattle.snap_semantics.specs.declared.process.Item.{Item}
 use Rattle.snap_semantics.specs.declared.process.Item.TheVariants.{Step, Call, Crash}
 use Rattle.snap_semantics.specs.declared.process.Op.{Op}
@@ -85,7 +87,8 @@ interrupted_turn p k t d = if nat_eq (d.scale % 2) 0 then scanning_turn p k d el
 abbrev pub round_process : Plan → (k number : ℕ) → ℕ
 round_process p k number = (k / 8 + number) % p.shape.n + 1
 
--- the value that an update of a round sets: t, or, where values repeat, one that the updates of a round share; the next round has the next
+-- the value that an update of a round sets: t, or, where values repeat, one that the updates of a round share; the
+-- next round has the next
 abbrev pub round_value : Plan → (k t : ℕ) → ℕ
 round_value p k t = if repeats p k then t / 3 % (p.repeated + 1) else t
 
@@ -130,4 +133,5 @@ asked_items a = call_items a.process a.call ++ replicate a.steps (Step a.process
 
 -- the items of turn t of run k
 abbrev pub turn_items : Plan → (k t : ℕ) → Draws → List Item
-turn_items p k t d = if nat_lt (d.crash % 1000) p.crashes then Crash (process_of p d) ∷ [] else asked_items (turn_of p k t d)
+turn_items p k t d =
+    if nat_lt (d.crash % 1000) p.crashes then Crash (process_of p d) ∷ [] else asked_items (turn_of p k t d)

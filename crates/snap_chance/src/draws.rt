@@ -1,4 +1,4 @@
-//! What is drawn for a turn.
+//! `Draws`: the random numbers for one turn of a schedule, one for each choice.
 ghost use Rattle.std.specs.Prelude.{◌≡◌};
 ghost use Rattle.snap_chance.specs.Draws.{draws};
 

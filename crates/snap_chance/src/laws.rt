@@ -1,4 +1,5 @@
-//! A law of the orders that chance makes.
+//! A law of schedules made by chance: the order of priorities has each process once, whatever is
+//! drawn.
 ghost use Rattle.rand_core.specs.Stream.{Stream};
 ghost use Rattle.snap_chance.specs.Plan.{Plan};
 ghost use Rattle.snap_chance.specs.Priorities.{HasDistinctPriorities};

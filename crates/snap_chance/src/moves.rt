@@ -1,9 +1,11 @@
-//! Turns by priorities: what each of them is.
+//! Turns by priorities, in schedules made by chance: the operation and the steps of the process
+//! that moves.
 ghost use Rattle.std.specs.Prelude.{◌≡◌, ◌<◌, ◌+◌, ◌^◌, ◌++◌, length, IfOk, OnOk};
 ghost use Rattle.std.specs.List.{AllByRecursion};
 ghost use Rattle.snap_words.specs.Shape.{IsOneOf};
 ghost use Rattle.snap_semantics.specs.ScheduleText.{FitsItem, IsSchedule};
-ghost use Rattle.snap_chance.specs.Priorities.{asked_turn, burst_move, move_at, move_items, moves_from, prioritized, role_move};
+ghost use Rattle.snap_chance.specs.Priorities.{asked_turn, burst_move, move_at, move_items};
+ghost use Rattle.snap_chance.specs.Priorities.{moves_from, prioritized, role_move};
 
 use crate::draws::{Draws, draw};
 use crate::plan::{Pace, Plan};

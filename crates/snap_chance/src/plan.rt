@@ -1,4 +1,5 @@
-//! How schedules are made.
+//! `Plan` and `Pace`: how schedules are made by chance: how processes take turns, how many turns
+//! there are, and how many of them are crashes.
 ghost use Rattle.std.specs.Prelude.{◌≡◌, ◌≤◌, false, None};
 ghost use Rattle.snap_words.specs.Shape.{IsShape};
 ghost use Rattle.snap_chance.specs.Plan.{IsPlan, with_depth, with_owned};
@@ -107,15 +108,7 @@ impl Plan {
     pub fn with_owned(&self, owns: bool) -> Plan
         ensures { result ≡ with_owned owns self.now }
     {
-        Plan {
-            shape: self.shape,
-            owns,
-            pace: self.pace,
-            turns: self.turns,
-            crashes: self.crashes,
-            repeated: self.repeated,
-            depth: self.depth,
-        }
+        Plan { owns, ..*self }
     }
 
     /// The same plan, in which priorities decide who moves, to this depth, where one is said: the
@@ -123,15 +116,7 @@ impl Plan {
     pub fn with_depth(&self, depth: Option<u64>) -> Plan
         ensures { result ≡ with_depth depth self.now }
     {
-        Plan {
-            shape: self.shape,
-            owns: self.owns,
-            pace: self.pace,
-            turns: self.turns,
-            crashes: self.crashes,
-            repeated: self.repeated,
-            depth,
-        }
+        Plan { depth, ..*self }
     }
 
     /// The numbers of processes and of words.

@@ -1,4 +1,5 @@
-//! Turns by priorities: who moves at each of them.
+//! Turns by priorities, in schedules made by chance: which process moves at a turn, and when its
+//! priority is lowered.
 ghost use Rattle.std.specs.Prelude.{◌≡◌, IfOk};
 ghost use Rattle.std.specs.List.{AllByRecursion};
 ghost use Rattle.snap_words.specs.Shape.{IsOneOf};

@@ -1,4 +1,4 @@
-//! The schedule of a seed and a number.
+//! `schedule_of`: the schedule that a seed and the number of a run give by a `Plan`.
 ghost use Rattle.std.specs.Prelude.{◌≡◌, IfOk};
 ghost use Rattle.snap_semantics.specs.ScheduleText.{IsSchedule};
 ghost use Rattle.snap_chance.specs.Chance.{items_by, schedule_of, start_of, turns_from};

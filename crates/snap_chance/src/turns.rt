@@ -1,4 +1,5 @@
-//! What a turn is.
+//! `Turn`: one turn of a schedule made by chance: its process, the operation that it calls, if any,
+//! and how many steps it takes.
 ghost use Rattle.std.specs.Prelude.{◌≡◌, ◌<◌, ◌≤◌, ◌+◌, ◌^◌, ◌++◌, length, OnOk};
 ghost use Rattle.std.specs.List.{AllByRecursion};
 ghost use Rattle.snap_words.specs.Shape.{IsOneOf};

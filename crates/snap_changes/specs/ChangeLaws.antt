@@ -1,4 +1,5 @@
--- Laws of changes.
+-- The laws of the changes between two texts: put into the old
+-- lines they make the new ones, and each says what it replaced.
 use Rattle.std.specs.Prelude.{◌≡◌, ◌≢◌, ℕ, List, Some, None, slice_get}
 use Rattle.std.specs.List.{AllByRecursion}
 use Rattle.snap_changes.specs.Changes.{Change, Replaced, Added, Removed, changes_between, put_all}

@@ -26,7 +26,8 @@ behind_first (x ∷ xs) = xs
 abbrev pub changes_from : ℕ → List (List ℕ) → List (List ℕ) → List Change
 changes_from k [] ys = added_from k ys
 changes_from k (x ∷ xs) [] = removed_from k (x ∷ xs)
-changes_from k (x ∷ xs) (y ∷ ys) = if bytes_eq x y then changes_from (k + 1) xs ys else Replaced k x y ∷ changes_from (k + 1) xs ys
+changes_from k (x ∷ xs) (y ∷ ys) =
+    if bytes_eq x y then changes_from (k + 1) xs ys else Replaced k x y ∷ changes_from (k + 1) xs ys
 
 abbrev pub changes_between : List (List ℕ) → List (List ℕ) → List Change
 changes_between xs ys = changes_from 0 xs ys

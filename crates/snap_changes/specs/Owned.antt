@@ -1,4 +1,5 @@
--- Lines that say of whom they speak: an indented line speaks of the line above it that is not indented.
+-- `owned_text`, as a definition: the lines of a text, each indented one with
+-- its owner, the first two words of the line above that is not indented.
 use Rattle.std.specs.Prelude.{ℕ, ◌+◌, List, [], ◌∷◌, ◌++◌, take, drop, codes, if◌then◌else◌, ◌==◌}
 
 -- how many bytes stand before the first space

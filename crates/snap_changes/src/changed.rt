@@ -1,7 +1,9 @@
-//! What changed, printed.
+//! `push_changes`: prints what changed from one text to
+//! another, old lines after `- ` and new ones after `+ `.
 ghost use Rattle.std.specs.Prelude.{◌≡◌, ◌<◌, ◌+◌, ◌++◌, ◌∷◌, IfOk, OnOk, codes, length};
 ghost use Rattle.snap_semantics.specs.Token.{lines_of};
-ghost use Rattle.snap_changes.specs.Changes.{behind_first, changes_between, changes_text, line_with, replaced_text, text_between};
+ghost use Rattle.snap_changes.specs.Changes.{behind_first, changes_between, changes_text};
+ghost use Rattle.snap_changes.specs.Changes.{line_with, replaced_text, text_between};
 
 use snap_text::push_text;
 use std::alloc::AllocError;
@@ -62,9 +64,11 @@ fn push_first<'a>(
     after: &'a [u8],
 ) -> Result<(&'a [u8], &'a [u8]), AllocError>
     requires { 0 < length before.now + length after.now }
-    ensures text { IfOk result (λ rest. out.new.items ++ text_between (lines_of rest.0.now) (lines_of rest.1.now)
+    ensures text { IfOk result (λ rest.
+        out.new.items ++ text_between (lines_of rest.0.now) (lines_of rest.1.now)
         ≡ out.old.items ++ text_between (lines_of before.now) (lines_of after.now)) }
-    ensures shorter { IfOk result (λ rest. length rest.0.now + length rest.1.now < length before.now + length after.now) }
+    ensures shorter { IfOk result (λ rest.
+        length rest.0.now + length rest.1.now < length before.now + length after.now) }
 {
     if before.is_empty() {
         let (line, rest) = split_line(after);
@@ -82,9 +86,11 @@ fn push_first<'a>(
     Ok((rest_before, rest_after))
 }
 
-/// Adds what changed from one text to another: each line that went behind `- `, and each that came behind `+ `.
+/// Adds what changed from one text to another: each line that went behind `- `,
+/// and each that came behind `+ `.
 pub fn push_changes(out: &mut Vec<u8>, before: &[u8], after: &[u8]) -> Result<(), AllocError>
-    ensures { OnOk result (out.new.items ≡ out.old.items ++ changes_text (changes_between (lines_of before.now) (lines_of after.now))) }
+    ensures { OnOk result (out.new.items ≡ out.old.items
+        ++ changes_text (changes_between (lines_of before.now) (lines_of after.now))) }
 {
     let mut old = before;
     let mut new = after;

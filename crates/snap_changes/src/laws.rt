@@ -1,7 +1,9 @@
-//! Laws of the definitions, which hold of all texts.
+//! The law of the changes between two texts, proved: put into the old
+//! lines, they make the new ones, and each says what it replaced.
 ghost use Rattle.snap_changes.specs.ChangeLaws.{AreReal, MakeTheNew};
 
-/// Put into the old lines, the changes make the new ones; and each of them says what stood there, and what stands there now.
+/// Put into the old lines, the changes make the new ones; and each of them says what stood there,
+/// and what stands there now.
 pub fn changes_make_the_new_text()
     ensures make { MakeTheNew }
     ensures real { AreReal }

@@ -1,4 +1,5 @@
-//! Lines that say of whom they speak.
+//! `push_owned_lines`: the lines of a text, each indented one with its
+//! owner, the first two words of the line above that is not indented.
 ghost use Rattle.std.specs.Prelude.{◌≡◌, ◌≤◌, ◌++◌, [], OnOk, codes, length};
 ghost use Rattle.snap_semantics.specs.Token.{lines_of};
 ghost use Rattle.snap_changes.specs.Owned.{next_owner, owned_line, owned_text, two_words, word_len};
@@ -54,7 +55,8 @@ fn push_owned_line(out: &mut Vec<u8>, owner: &[u8], line: &[u8]) -> Result<(), A
     }
 }
 
-/// Adds the lines of a text, each indented one with its owner: the first two words of the line above that is not indented.
+/// Adds the lines of a text, each indented one with its owner: the first two words of the line
+/// above that is not indented.
 pub fn push_owned_lines(out: &mut Vec<u8>, text: &[u8]) -> Result<(), AllocError>
     ensures { OnOk result (out.new.items ≡ out.old.items ++ owned_text [] (lines_of text.now)) }
 {

@@ -1,1 +1,2 @@
+-- The definitions of snap_command_line, by their modules.
 pub mod Limits

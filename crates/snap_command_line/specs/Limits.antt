@@ -1,4 +1,5 @@
--- The limits that a command line may give.
+-- `HasLimits`: where a command line of snaplab asks for a live run, its limit on turns is one that processes may
+-- have.
 use Rattle.std.specs.Prelude.{⊤, Bool, ◌||◌}
 use Rattle.snap_tasks.specs.Request.{HasLimit}
 use Rattle.snap_command_line.specs.declared.command_line.CommandLine.{CommandLine}

@@ -1,4 +1,4 @@
-//! The arguments that the program takes, and what they ask for.
+//! `request_of_arguments`: the subcommands and options that snaplab takes, and what they ask for.
 ghost use Rattle.std.specs.Prelude.{IfOk, IfSome};
 ghost use Rattle.snap_tasks.specs.Request.{HasLimit, IsLimit};
 

@@ -1,4 +1,5 @@
-//! What a command line comes to.
+//! `CommandLine`: what the arguments of snaplab's command line come to, an `Invocation` or a text
+//! such as the help.
 ghost use Rattle.std.specs.Prelude.{◌≡◌, IfOk};
 ghost use Rattle.snap_command_line.specs.Limits.{HasLimits, explained_if};
 

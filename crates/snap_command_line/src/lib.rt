@@ -1,4 +1,5 @@
-//! The command line of the program.
+//! The command line of snaplab, the program that runs, debugs and audits listings: its arguments,
+//! and what they come to.
 #![tactic(auto)]
 
 mod arguments;

@@ -1,5 +1,6 @@
--- Stops lie within the run.
-use Rattle.std.proofs.Common.{◌≡◌, ◌≤◌, ℕ, zero, suc, Bool, true, false, if◌then◌else◌, length, Result, Ok, Err, arith, subst, sym}
+-- The last stop that the debugger finds before a position of a run, `last_stop`, is itself a position of the run.
+use Rattle.std.proofs.Common.{◌≡◌, ◌≤◌, ℕ, zero, suc, Bool, true, false, if◌then◌else◌}
+use Rattle.std.proofs.Common.{length, Result, Ok, Err, arith, subst, sym}
 use Rattle.std.specs.Prelude.{IfOk}
 use Rattle.snap_runs.specs.Run.{Run}
 use Rattle.snap_debug.specs.Marks.{Marks, is_stop, last_stop}

@@ -1,5 +1,7 @@
--- Walks along a run, and the stops that they find.
-use Rattle.std.proofs.Common.{◌≡◌, ℕ, zero, suc, ◌+◌, ◌-◌, ◌<◌, ◌≤◌, Bool, true, false, not, ◌||◌, List, [], ◌∷◌, length, Option, Some, if◌then◌else◌, refl, sym, ap, subst, ◌∙◌, arith}
+-- Machines that walk along a run find the debugger's stops: how `next_stop` and `last_stop` go on by one item, and
+-- that the test between two machines, `stops_between`, is `is_stop`.
+use Rattle.std.proofs.Common.{◌≡◌, ℕ, zero, suc, ◌+◌, ◌-◌, ◌<◌, ◌≤◌, Bool, true, false, not, ◌||◌, List, [], ◌∷◌}
+use Rattle.std.proofs.Common.{length, Option, Some, if◌then◌else◌, refl, sym, ap, subst, ◌∙◌, arith}
 use Rattle.std.specs.List.{list_any}
 use Rattle.snap_words.specs.declared.address.Address.{Address}
 use Rattle.snap_semantics.specs.Readers.{Contents}
@@ -7,7 +9,8 @@ use Rattle.snap_semantics.specs.State.{State, process_at}
 use Rattle.snap_semantics.specs.Table.{who}
 use Rattle.snap_machine.specs.Configuration.{Configuration}
 use Rattle.snap_runs.specs.Run.{Run, state, item}
-use Rattle.snap_debug.specs.Marks.{Marks, mark_count, reaches, changes, contents_at, is_stop, next_stop, last_stop, same_contents}
+use Rattle.snap_debug.specs.Marks.{Marks, mark_count, reaches, changes, contents_at}
+use Rattle.snap_debug.specs.Marks.{is_stop, next_stop, last_stop, same_contents}
 use Rattle.snap_debug.specs.Stops.{differs, or_before, stands_at, stops_between}
 use Rattle.snap_debug.proofs.Contents.{contents_are, contents_same}
 use Rattle.snap_debug_checkpoints.specs.Recording.{IsCheckpoint}
@@ -19,7 +22,8 @@ abbrev stands_any : ℕ → State → Marks → Bool
 stands_any i T m = list_any (stands_at i (process_at T i).status) m.breaks
 
 -- marks stop at the item that two machines stand before and after
-pub stop_is : (r : Run) (m : Marks) (t : ℕ) (S T : State) (i : ℕ) → S ≡ state r t → T ≡ state r (t + 1) → i ≡ who (item r (t + 1)) → stops_between S T i m ≡ is_stop r m (t + 1)
+pub stop_is : (r : Run) (m : Marks) (t : ℕ) (S T : State) (i : ℕ) → S ≡ state r t → T ≡ state r (t + 1) →
+    i ≡ who (item r (t + 1)) → stops_between S T i m ≡ is_stop r m (t + 1)
 stop_is r m t S T i before after process =
     let e : t + 1 ≡ suc t = omega arith in
     ap (λ (S : State). stops_between S T i m) before
@@ -28,11 +32,14 @@ stop_is r m t S T i before after process =
     ∙ ap (is_stop r m) (sym e)
 
 -- and so they do between a machine that was stepped and the one before it
-pub stop_between : {K W : Type 0} (r : Run) (m : Marks) (before after next : Checkpoint K W) (i : ℕ) → IsCheckpoint r before → IsCheckpoint r next → next.position ≡ after.position + 1 →
-    after.position ≡ before.position → i ≡ who (item r (after.position + 1)) → stops_between before.machine.state next.machine.state i m ≡ is_stop r m (before.position + 1)
+pub stop_between : {K W : Type 0} (r : Run) (m : Marks) (before after next : Checkpoint K W) (i : ℕ) →
+    IsCheckpoint r before → IsCheckpoint r next → next.position ≡ after.position + 1 →
+    after.position ≡ before.position → i ≡ who (item r (after.position + 1)) →
+    stops_between before.machine.state next.machine.state i m ≡ is_stop r m (before.position + 1)
 stop_between r m before after next i here there at same process =
     let e : after.position + 1 ≡ before.position + 1 = omega (arith, same) in
-    stop_is r m before.position before.machine.state next.machine.state i (ap (λ (s : Configuration). s.state) here.machine)
+    stop_is r m before.position before.machine.state next.machine.state i
+    (ap (λ (s : Configuration). s.state) here.machine)
     (ap (λ (s : Configuration). s.state) there.machine ∙ ap (state r) (at ∙ e)) (process ∙ ap (λ k. who (item r k)) e)
 
 -- no marks
@@ -45,7 +52,8 @@ none_set (b ∷ bs) ws h = absurd (omega (arith, h))
 no_stop : (r : Run) (m : Marks) (t : ℕ) → mark_count m ≡ 0 → is_stop r m t ≡ false
 no_stop r m t h =
     let none = none_set m.breaks m.watches h in
-    ap (λ bs. list_any (reaches r t) bs || list_any (changes r t) m.watches) none.0 ∙ ap (λ ws. list_any (changes r t) ws) none.1
+    ap (λ bs. list_any (reaches r t) bs || list_any (changes r t) m.watches) none.0
+    ∙ ap (λ ws. list_any (changes r t) ws) none.1
 
 -- without marks a run goes to its end
 pub no_next : (r : Run) (m : Marks) (t more : ℕ) → mark_count m ≡ 0 → next_stop r m t more ≡ t + more
@@ -71,12 +79,16 @@ next_by r m t e stop lt is =
     ∙ ap (λ b. if b then t + 1 else next_stop r m (t + 1) left) (sym is)
 
 -- it is a stop
-pub next_here : (r : Run) (m : Marks) (t e : ℕ) (stop : Bool) → t < e → stop ≡ is_stop r m (t + 1) → stop ≡ true → next_stop r m t (e - t) ≡ t + 1
-next_here r m t e stop lt is met = next_by r m t e stop lt is ∙ ap (λ b. if b then t + 1 else next_stop r m (t + 1) (e - (t + 1))) met
+pub next_here : (r : Run) (m : Marks) (t e : ℕ) (stop : Bool) → t < e → stop ≡ is_stop r m (t + 1) → stop ≡ true →
+    next_stop r m t (e - t) ≡ t + 1
+next_here r m t e stop lt is met =
+    next_by r m t e stop lt is ∙ ap (λ b. if b then t + 1 else next_stop r m (t + 1) (e - (t + 1))) met
 
 -- it is none
-pub next_later : (r : Run) (m : Marks) (t e : ℕ) (stop : Bool) → t < e → stop ≡ is_stop r m (t + 1) → stop ≡ false → next_stop r m t (e - t) ≡ next_stop r m (t + 1) (e - (t + 1))
-next_later r m t e stop lt is no_stop_here = next_by r m t e stop lt is ∙ ap (λ b. if b then t + 1 else next_stop r m (t + 1) (e - (t + 1))) no_stop_here
+pub next_later : (r : Run) (m : Marks) (t e : ℕ) (stop : Bool) → t < e → stop ≡ is_stop r m (t + 1) → stop ≡ false →
+    next_stop r m t (e - t) ≡ next_stop r m (t + 1) (e - (t + 1))
+next_later r m t e stop lt is no_stop_here =
+    next_by r m t e stop lt is ∙ ap (λ b. if b then t + 1 else next_stop r m (t + 1) (e - (t + 1))) no_stop_here
 
 -- there is no further item
 pub next_end : (r : Run) (m : Marks) (t e : ℕ) → e ≤ t → next_stop r m t (e - t) ≡ t
@@ -98,11 +110,13 @@ last_none r m (suc zero) le = last_first r m
 last_none r m (suc (suc t)) le = absurd (omega (arith, le))
 
 -- one item more is looked at
-pub last_more : (r : Run) (m : Marks) (u before : ℕ) (last found : Option ℕ) (stop : Bool) → last_stop r m u ≡ or_before last before → stop ≡ is_stop r m u →
+pub last_more : (r : Run) (m : Marks) (u before : ℕ) (last found : Option ℕ) (stop : Bool) →
+    last_stop r m u ≡ or_before last before → stop ≡ is_stop r m u →
     found ≡ (if stop then Some u else last) → last_stop r m (u + 1) ≡ or_before found before
 last_more r m u before last found stop so_far is now =
     let e : u + 1 ≡ suc u = omega arith in
-    ap (last_stop r m) e ∙ ap (λ b. if b then u else last_stop r m u) (sym is) ∙ by_stop stop ∙ ap (λ o. or_before o before) (sym now)
+    ap (last_stop r m) e ∙ ap (λ b. if b then u else last_stop r m u) (sym is) ∙ by_stop stop
+    ∙ ap (λ o. or_before o before) (sym now)
   where
     by_stop : (b : Bool) → (if b then u else last_stop r m u) ≡ or_before (if b then Some u else last) before
     by_stop true = refl
@@ -111,7 +125,8 @@ last_more r m u before last found stop so_far is now =
 -- a state has the contents of itself
 pub none_differs : (S : State) (ws : List Address) → list_any (differs S S) ws ≡ false
 none_differs S [] = refl
-none_differs S (a ∷ ws) = ap (λ b. not b || list_any (differs S S) ws) (contents_same (contents_at S a)) ∙ none_differs S ws
+none_differs S (a ∷ ws) =
+    ap (λ b. not b || list_any (differs S S) ws) (contents_same (contents_at S a)) ∙ none_differs S ws
 
 neither : (a b : Bool) → (a || b) ≡ false → (a ≡ false) × (b ≡ false)
 neither true b h = absurd cc
@@ -122,43 +137,57 @@ negated true h = refl
 negated false h = absurd cc
 
 -- where two states have the same contents, a third differs from both or from neither
-same_differs : (S T U : State) (ws : List Address) → list_any (differs S T) ws ≡ false → list_any (differs S U) ws ≡ list_any (differs T U) ws
+same_differs : (S T U : State) (ws : List Address) → list_any (differs S T) ws ≡ false →
+    list_any (differs S U) ws ≡ list_any (differs T U) ws
 same_differs S T U [] h = refl
 same_differs S T U (a ∷ ws) h =
     let each = neither (differs S T a) (list_any (differs S T) ws) h in
-    let one = contents_are (contents_at S a) (contents_at T a) (negated (same_contents (contents_at S a) (contents_at T a)) each.0) in
+    let one = contents_are (contents_at S a) (contents_at T a)
+    (negated (same_contents (contents_at S a) (contents_at T a)) each.0) in
     ap (λ (x : Option Contents). not (same_contents x (contents_at U a)) || list_any (differs S U) ws) one
     ∙ ap (λ b. differs T U a || b) (same_differs S T U ws each.1)
 
 -- marks stop at an item, by a machine since which the watched registers have not changed
-pub stop_since : {K W : Type 0} (r : Run) (m : Marks) (start before after : Checkpoint K W) (i : ℕ) → IsCheckpoint r before → IsCheckpoint r after → after.position ≡ before.position + 1 →
-    i ≡ who (item r (before.position + 1)) → list_any (differs start.machine.state before.machine.state) m.watches ≡ false →
+pub stop_since : {K W : Type 0} (r : Run) (m : Marks) (start before after : Checkpoint K W) (i : ℕ) →
+    IsCheckpoint r before → IsCheckpoint r after → after.position ≡ before.position + 1 →
+    i ≡ who (item r (before.position + 1)) →
+    list_any (differs start.machine.state before.machine.state) m.watches ≡ false →
     stops_between start.machine.state after.machine.state i m ≡ is_stop r m (before.position + 1)
 stop_since r m start before after i here there at process unchanged =
-    ap (λ b. stands_any i after.machine.state m || b) (same_differs start.machine.state before.machine.state after.machine.state m.watches unchanged)
+    ap (λ b. stands_any i after.machine.state m || b)
+    (same_differs start.machine.state before.machine.state after.machine.state m.watches unchanged)
     ∙ stop_between r m before before after i here there at refl process
 
 -- no stop is no change
-pub unchanged_still : (S T : State) (i : ℕ) (m : Marks) (stop : Bool) → stop ≡ stops_between S T i m → stop ≡ false → list_any (differs S T) m.watches ≡ false
+pub unchanged_still : (S T : State) (i : ℕ) (m : Marks) (stop : Bool) → stop ≡ stops_between S T i m → stop ≡ false →
+    list_any (differs S T) m.watches ≡ false
 unchanged_still S T i m stop is none = (neither (stands_any i T m) (list_any (differs S T) m.watches) (sym is ∙ none)).1
 
 -- what comes of an item that a machine did, since which the watched registers have not changed
-pub record Walked {K W : Type 0} (r : Run) (m : Marks) (start before after : Checkpoint K W) (stop : Bool) : Type 0 where
+pub record Walked {K W : Type 0} (r : Run) (m : Marks)
+    (start before after : Checkpoint K W) (stop : Bool) : Type 0 where
   pub stands : IsCheckpoint r after
   pub here : stop ≡ true → after.position ≡ next_stop r m before.position (length r.items - before.position)
-  pub later : stop ≡ false → next_stop r m after.position (length r.items - after.position) ≡ next_stop r m before.position (length r.items - before.position)
+  pub later : stop ≡ false → next_stop r m after.position (length r.items - after.position)
+      ≡ next_stop r m before.position (length r.items - before.position)
   pub unchanged : stop ≡ false → list_any (differs start.machine.state after.machine.state) m.watches ≡ false
 
-pub walked : {K W : Type 0} (r q : Run) (m : Marks) (start before after : Checkpoint K W) (i : ℕ) (stop : Bool) → q ≡ r → IsCheckpoint r before → before.position < length r.items →
-    list_any (differs start.machine.state before.machine.state) m.watches ≡ false → IsCheckpoint q after → after.position ≡ before.position + 1 →
-    i ≡ who (item q (before.position + 1)) → stop ≡ stops_between start.machine.state after.machine.state i m → Walked r m start before after stop
+pub walked : {K W : Type 0} (r q : Run) (m : Marks) (start before after : Checkpoint K W) (i : ℕ) (stop : Bool) →
+    q ≡ r → IsCheckpoint r before → before.position < length r.items →
+    list_any (differs start.machine.state before.machine.state) m.watches ≡ false → IsCheckpoint q after →
+    after.position ≡ before.position + 1 → i ≡ who (item q (before.position + 1)) →
+    stop ≡ stops_between start.machine.state after.machine.state i m → Walked r m start before after stop
 walked r q m start before after i stop same stands lt unchanged there at process is =
     let next : IsCheckpoint r after = subst (λ (x : Run). IsCheckpoint x after) same there in
-    let one : i ≡ who (item r (before.position + 1)) = process ∙ ap (λ (x : Run). who (item x (before.position + 1))) same in
-    let met : stop ≡ is_stop r m (before.position + 1) = is ∙ stop_since r m start before after i stands next at one unchanged in
+    let one : i ≡ who (item r (before.position + 1)) =
+    process ∙ ap (λ (x : Run). who (item x (before.position + 1))) same in
+    let met : stop ≡ is_stop r m (before.position + 1) =
+    is ∙ stop_since r m start before after i stands next at one unchanged in
     record {
       stands = next;
       here = λ h. at ∙ sym (next_here r m before.position (length r.items) stop lt met h);
-      later = λ h. ap (λ k. next_stop r m k (length r.items - k)) at ∙ sym (next_later r m before.position (length r.items) stop lt met h);
+      later =
+          λ h. ap (λ k. next_stop r m k (length r.items - k)) at
+          ∙ sym (next_later r m before.position (length r.items) stop lt met h);
       unchanged = λ h. unchanged_still start.machine.state after.machine.state i m stop is h;
     }

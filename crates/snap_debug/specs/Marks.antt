@@ -1,5 +1,7 @@
--- Marks, and where they stop a run.
-use Rattle.std.specs.Prelude.{ℕ, zero, suc, ◌+◌, Bool, true, false, not, ◌&&◌, ◌||◌, List, [], length, Option, Some, None, bytes_eq, nat_eq, if◌then◌else◌}
+-- `Marks`, the breakpoints and watched registers of a debugger session, and the positions at which they stop a run:
+-- `is_stop`, `next_stop`, `last_stop`.
+use Rattle.std.specs.Prelude.{ℕ, zero, suc, ◌+◌, Bool, true, false, not, ◌&&◌, ◌||◌, List, [], length, Option, Some}
+use Rattle.std.specs.Prelude.{None, bytes_eq, nat_eq, if◌then◌else◌}
 use Rattle.std.specs.List.{list_any}
 use Rattle.snap_words.specs.Word.{Word}
 use Rattle.snap_words.specs.declared.address.Address.{Address}

@@ -1,4 +1,5 @@
--- What a session is seen by, and parts of its replies.
+-- Parts of a debugger session's replies: the line of the last item and its outcome, and the machine at the session's
+-- position.
 use Rattle.std.specs.Prelude.{ℕ, zero, suc, List, ◌++◌, Option, Some, None, codes, decimal}
 use Rattle.snap_semantics.specs.declared.process.Outcome.{Outcome}
 use Rattle.snap_semantics.specs.Table.{who}

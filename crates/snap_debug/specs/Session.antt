@@ -1,5 +1,6 @@
 -- A debugger's session: the marks and the position to which commands lead, and what they are answered.
-use Rattle.std.specs.Prelude.{◌≡◌, ℕ, zero, suc, ◌+◌, ◌-◌, Bool, true, false, not, ◌&&◌, List, [], ◌∷◌, ◌++◌, length, min, Option, Some, None, Result, Ok, Err, codes, decimal, nat_le, nat_lt, if◌then◌else◌}
+use Rattle.std.specs.Prelude.{◌≡◌, ℕ, zero, suc, ◌+◌, ◌-◌, Bool, true, false, not, ◌&&◌, List, [], ◌∷◌, ◌++◌, length}
+use Rattle.std.specs.Prelude.{min, Option, Some, None, Result, Ok, Err, codes, decimal, nat_le, nat_lt, if◌then◌else◌}
 use Rattle.std.specs.List.{list_any, filter}
 use Rattle.snap_words.specs.declared.address.Address.{Address}
 use Rattle.snap_semantics.specs.declared.event.Event.{Event}
@@ -18,7 +19,8 @@ use Rattle.snap_report.specs.OutcomeText.{head_lines, outcome_text}
 use Rattle.snap_report.specs.ReportLines.{register_line}
 use Rattle.snap_report.specs.RunReport.{report_at}
 use Rattle.snap_debug_commands.specs.CommandForms.{spelled_command}
-use Rattle.snap_debug.specs.Marks.{Marks, no_marks, mark_count, same_breakpoint, same_address, contents_at, next_stop, last_stop}
+use Rattle.snap_debug.specs.Marks.{Marks, no_marks, mark_count, same_breakpoint}
+use Rattle.snap_debug.specs.Marks.{same_address, contents_at, next_stop, last_stop}
 use Rattle.snap_debug_commands.specs.FaultText.{refusal_line}
 use Rattle.snap_debug_commands.specs.declared.command.Breakpoint.{Breakpoint}
 use Rattle.snap_debug_commands.specs.declared.command.Command.{Command}
@@ -88,11 +90,13 @@ has_watch m a = list_any (same_address a) m.watches
 -- the marks with one more, where it is not set yet
 abbrev pub with_break : Marks → Breakpoint → Result Marks CommandRefusal
 with_break m b =
-    if has_break m b then Ok m else checked_room m >>= λ room. Ok (record { breaks = m.breaks ++ b ∷ []; watches = m.watches })
+    if has_break m b then Ok m
+    else checked_room m >>= λ room. Ok (record { breaks = m.breaks ++ b ∷ []; watches = m.watches })
 
 abbrev pub with_watch : Marks → Address → Result Marks CommandRefusal
 with_watch m a =
-    if has_watch m a then Ok m else checked_room m >>= λ room. Ok (record { breaks = m.breaks; watches = m.watches ++ a ∷ [] })
+    if has_watch m a then Ok m
+    else checked_room m >>= λ room. Ok (record { breaks = m.breaks; watches = m.watches ++ a ∷ [] })
 
 -- the marks without one
 abbrev pub without_break : Marks → Breakpoint → Marks
@@ -129,7 +133,8 @@ marks_line m = codes "marks " ++ decimal (mark_count m) ++ codes "\n"
 -- the last item and what came of it
 abbrev pub last_line : Run → ℕ → List ℕ
 last_line r zero = codes "last none\n"
-last_line r (suc t) = codes "last " ++ decimal (who (item r (suc t))) ++ codes " " ++ outcome_text (outcome r (suc t)) ++ codes "\n"
+last_line r (suc t) =
+    codes "last " ++ decimal (who (item r (suc t))) ++ codes " " ++ outcome_text (outcome r (suc t)) ++ codes "\n"
 
 -- `events M` and the lines of events
 abbrev pub events_text : List Event → List ℕ
@@ -168,7 +173,8 @@ after_commands s (c ∷ cs) = after_commands (answer s c).0 cs
 -- each command behind `> `, and its reply
 abbrev pub replies_text : Session → List Command → List ℕ
 replies_text s [] = []
-replies_text s (c ∷ cs) = codes "> " ++ line_text (spelled_command c) ++ (answer s c).1 ++ replies_text (answer s c).0 cs
+replies_text s (c ∷ cs) =
+    codes "> " ++ line_text (spelled_command c) ++ (answer s c).1 ++ replies_text (answer s c).0 cs
 
 -- the report of a session's position
 abbrev pub session_report : Session → List ℕ
@@ -178,7 +184,8 @@ session_report s = report_at s.run s.position
 abbrev pub performance : Run → List Command → List ℕ
 performance r cs = replies_text (opened r) cs ++ session_report (after_commands (opened r) cs)
 
--- What a session answered to a command, and what it left: by the definition, or nothing is left changed for want of memory.
+-- What a session answered to a command, and what it left: by the definition, or nothing is
+-- left changed for want of memory.
 abbrev pub Obeys : {X : Type 0} → (X → List ℕ) → Result X (Fault CommandRefusal) → Session → Command → Session → Type 0
 Obeys view (Ok reply) s c s' = (commanded s c ≡ Ok s') × (view reply ≡ reply_text s' c)
 Obeys view (Err fault.Memory) s c s' = s' ≡ s

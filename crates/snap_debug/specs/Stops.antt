@@ -1,4 +1,5 @@
--- How stops are searched for: by machines that walk along a run.
+-- The test by which machines that walk along a run look for the debugger's stops: `stops_between`, of the states
+-- before and after an item.
 use Rattle.std.specs.Prelude.{◌≡◌, ℕ, Bool, not, ◌&&◌, ◌||◌, Option, Some, None, nat_eq}
 use Rattle.std.specs.List.{list_any}
 use Rattle.snap_words.specs.declared.address.Address.{Address}

@@ -1,4 +1,4 @@
-//! What commands are answered.
+//! `Reply`: the text that a debugger session answers to a command, and a function for each reply.
 ghost use Rattle.std.specs.Prelude.{◌≡◌, ◌++◌, IfOk, OnOk, length, zero};
 ghost use Rattle.snap_words.specs.Shape.{IsOneOf};
 ghost use Rattle.snap_semantics.specs.Readers.{contents};

@@ -63,7 +63,11 @@ impl<K: Kind> Model for Session<K> {
 
     ghost Value = { Session };
 
-    ghost view = { λ s. record { run = s.recording.run; marks = s.marks; position = s.here.current.position } };
+    ghost view = { λ s. record {
+      run = s.recording.run;
+      marks = s.marks;
+      position = s.here.current.position;
+    } };
 
     ghost invariant = { λ s. IsReversible s.recording.run s.here
         × (s.here.current.position ≤ s.recording.reached)
@@ -102,7 +106,8 @@ impl<K: Kind> Session<K> {
         })
     }
 
-    /// The program over another schedule, which it takes, before its first item, with the marks of this session.
+    /// The program over another schedule, which it takes, before its first item,
+    /// with the marks of this session.
     pub fn over_again(&self, schedule: Schedule) -> Result<Session<K>, AllocError>
         ensures { IfOk result (λ s. s ≡ reopened (run_over self.now.run.source schedule) self.now) }
     {

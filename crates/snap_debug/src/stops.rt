@@ -1,5 +1,7 @@
-//! Where marks stop a run, found by machines that walk along it.
-ghost use Rattle.std.specs.Prelude.{◌≡◌, ◌<◌, ◌≤◌, ◌+◌, ◌-◌, IfOk, Some, bytes_eq, length, if◌then◌else◌};
+//! `next_stop` and `last_stop`: where breakpoints and watched registers stop a run, found by
+//! machines that walk along it.
+ghost use Rattle.std.specs.Prelude.{◌≡◌, ◌<◌, ◌≤◌, ◌+◌, ◌-◌, if◌then◌else◌};
+ghost use Rattle.std.specs.Prelude.{IfOk, Some, bytes_eq, length};
 ghost use Rattle.std.specs.List.{list_any};
 ghost use Rattle.snap_words.specs.Shape.{IsOneOf};
 ghost use Rattle.snap_semantics.specs.State.{process_at};

@@ -1,2 +1,3 @@
+-- The proofs of snap_debug_checkpoints, by their modules.
 pub mod Recordings
 pub mod ReversibleMachines

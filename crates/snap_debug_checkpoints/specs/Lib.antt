@@ -1,1 +1,2 @@
+-- The definitions of snap_debug_checkpoints, by their modules.
 pub mod Recording

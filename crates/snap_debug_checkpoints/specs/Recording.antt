@@ -1,4 +1,5 @@
--- How far a run was followed, and machines at its positions.
+-- `Recording`, the recorded first items of a debugger's run; `IsCheckpoint`, the machine at a position of it; and
+-- `IsReversible`, a machine that can go back to an earlier position.
 use Rattle.std.specs.Prelude.{◌≡◌, ◌≤◌, ℕ, ◌+◌, ◌-◌, List, [], ◌∷◌, ◌++◌, drop, length, ⊤}
 use Rattle.snap_words.specs.Shape.{max_items}
 use Rattle.snap_semantics.specs.declared.process.Item.{Item}

@@ -1,4 +1,5 @@
-//! A machine at a position.
+//! `Checkpoint`: a machine of the debugger, and its position in the run (how many items it has
+//! done).
 ghost use Rattle.std.specs.Prelude.{◌≡◌, IfOk};
 
 use snap_machine::Machine;

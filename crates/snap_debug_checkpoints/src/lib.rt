@@ -1,5 +1,5 @@
-//! A run that machines go back and forth in: copies of the machine along it, and what the items
-//! since the last one overwrote.
+//! How the debugger goes back and forth in a run: checkpoints, which are copies of the machine
+//! along it, and what the items since the last checkpoint overwrote.
 #![tactic(auto)]
 
 mod checkpoint;

@@ -1,5 +1,5 @@
-//! How far a run was followed: a record of its first items, and machines at some of the positions
-//! passed.
+//! `Recording`: the record of a schedule's first items, as far as the debugger has followed its
+//! run, with checkpoints of the machine at some of the positions.
 ghost use Rattle.std.specs.Prelude.{◌≡◌, ◌<◌, ◌≤◌, ◌+◌, ◌∷◌, List, drop, length, IfOk, OnErr, OnOk};
 ghost use Rattle.std.specs.List.{AllByRecursion};
 ghost use Rattle.snap_words.specs.Shape.{IsOneOf, max_items};
@@ -51,7 +51,10 @@ impl<K: Kind> Model for Recording<K> {
 
     ghost Value = { Recording };
 
-    ghost view = { λ t. record { run = run_over t.history.source t.schedule; reached = length t.history.items } };
+    ghost view = { λ t. record {
+      run = run_over t.history.source t.schedule;
+      reached = length t.history.items;
+    } };
 
     ghost invariant = { λ t. IsRecorded (run_over t.history.source t.schedule) t.history
         × IsCheckpoint (run_over t.history.source t.schedule) t.first

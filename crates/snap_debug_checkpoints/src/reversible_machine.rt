@@ -1,4 +1,5 @@
-//! A machine at a position, with the way back from there.
+//! `ReversibleMachine`: a machine at a position of a run, with what the items since an earlier
+//! position overwrote, so that the debugger can go back there.
 ghost use Rattle.std.specs.Prelude.{◌≡◌, ◌<◌, ◌≤◌, ◌+◌, [], IfOk, IsTrue, OnErr, OnOk, length};
 ghost use Rattle.snap_words.specs.Shape.{IsOneOf};
 ghost use Rattle.snap_runs.specs.Run.{Run, outcome};

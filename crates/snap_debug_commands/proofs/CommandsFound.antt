@@ -1,5 +1,7 @@
--- What is read as commands spells them.
-use Rattle.std.proofs.Common.{◌≡◌, ℕ, ◌+◌, ◌<◌, ◌≤◌, ◌^◌, Bool, true, false, List, [], ◌∷◌, length, map, Option, Some, None, Result, Ok, Err, nat_le, nat_lt, codes, option_map, if◌then◌else◌, refl, sym, ap, ◌∙◌, arith, subst}
+-- A text that is read as debugger commands spells them.
+use Rattle.std.proofs.Common.{◌≡◌, ℕ, ◌+◌, ◌<◌, ◌≤◌, ◌^◌, Bool, true, false, List, [], ◌∷◌, length, map, Option, Some}
+use Rattle.std.proofs.Common.{None, Result, Ok, Err, nat_le, nat_lt, codes, option_map}
+use Rattle.std.proofs.Common.{if◌then◌else◌, refl, sym, ap, ◌∙◌, arith, subst}
 use Rattle.std.proofs.lemmas.Bool.{leb-false, ltb-false}
 use Rattle.std.specs.List.{AllByRecursion}
 use Rattle.snap_words.specs.declared.address.Address.{Address}
@@ -13,7 +15,10 @@ use Rattle.snap_text.specs.Lines.{line_tokens, found_lines}
 use Rattle.snap_text.specs.Tokens.{IsSound}
 use Rattle.snap_text.proofs.Sound.{AreSound, lines_sound}
 use Rattle.snap_sched.proofs.Found.{bind_found, number_found, end_found, keyword_found}
-use Rattle.snap_debug_commands.specs.CommandForms.{keyword_form, number_form, numbers_form, place_form, bit_form, address_form, breakpoint_form, register_form, moving_form, marking_form, showing_form, command_form, spelled_address, spelled_breakpoint, spelled_command}
+use Rattle.snap_debug_commands.specs.CommandForms.{keyword_form, number_form, numbers_form, place_form, bit_form}
+use Rattle.snap_debug_commands.specs.CommandForms.{address_form, breakpoint_form, register_form, moving_form}
+use Rattle.snap_debug_commands.specs.CommandForms.{marking_form, showing_form, command_form, spelled_address}
+use Rattle.snap_debug_commands.specs.CommandForms.{spelled_breakpoint, spelled_command}
 use Rattle.snap_debug_commands.specs.CommandLaws.{FitsAddress, FitsBreakpoint, FitsCommand, Spells}
 use Rattle.snap_debug_commands.specs.Commands.{command_at, commands_of_lines, commands_of}
 use Rattle.snap_debug_commands.specs.declared.command.Breakpoint.{Breakpoint}
@@ -25,11 +30,13 @@ abbrev Sounds : List Token → Type 0
 Sounds ts = AllByRecursion IsSound ts
 
 -- what was found, and by which of two rules
-either : {A : Type 0} (o p : Option A) (y : A) (G : Type 0) → (o ≡ Some y → G) → (p ≡ Some y → G) → or_else o p ≡ Some y → G
+either : {A : Type 0} (o p : Option A) (y : A) (G : Type 0) → (o ≡ Some y → G) →
+    (p ≡ Some y → G) → or_else o p ≡ Some y → G
 either None p y G f g e = g e
 either (Some x) p y G f g e = f e
 
-mapped_found : {A B : Type 0} (f : A → B) (o : Option A) (y : B) → option_map f o ≡ Some y → (x : A) × (o ≡ Some x) × (f x ≡ y)
+mapped_found : {A B : Type 0} (f : A → B) (o : Option A) (y : B) → option_map f o ≡ Some y →
+    (x : A) × (o ≡ Some x) × (f x ≡ y)
 mapped_found f None y e = absurd cc
 mapped_found f (Some x) y e = (x, refl, cc)
 
@@ -42,7 +49,8 @@ keyword_form_found w ts z e =
     let a = bind_found (keyword_at w ts) _ z e in
     keyword_found w ts a.0 a.1 ∙ ap (λ (t : List Token). Identifier w ∷ t) (end_found a.0 z a.2)
 
-number_form_found : (w : List ℕ) (ts : List Token) (k : ℕ) → number_form w ts ≡ Some k → ts ≡ Identifier w ∷ Number k ∷ []
+number_form_found : (w : List ℕ) (ts : List Token) (k : ℕ) → number_form w ts ≡ Some k →
+    ts ≡ Identifier w ∷ Number k ∷ []
 unfolding number_form
 number_form_found w ts k e =
     let a = bind_found (keyword_at w ts) _ k e in
@@ -53,7 +61,8 @@ number_form_found w ts k e =
     ∙ ap (λ (t : List Token). Identifier w ∷ Number i.0.0 ∷ t) (end_found i.0.1 z.0 z.1)
     ∙ ap (λ (n : ℕ). Identifier w ∷ Number n ∷ []) (some_is i.0.0 k z.2)
 
-numbers_form_found : (w : List ℕ) (ts : List Token) (at : ℕ × ℕ) → numbers_form w ts ≡ Some at → ts ≡ Identifier w ∷ Number at.0 ∷ Number at.1 ∷ []
+numbers_form_found : (w : List ℕ) (ts : List Token) (at : ℕ × ℕ) → numbers_form w ts ≡ Some at →
+    ts ≡ Identifier w ∷ Number at.0 ∷ Number at.1 ∷ []
 unfolding numbers_form
 numbers_form_found w ts at e =
     let a = bind_found (keyword_at w ts) _ at e in
@@ -82,21 +91,24 @@ unfolding place_form
 word_place_found ts a e =
     let i = bind_found (number_form (codes "r") ts) _ a e in
     let t = number_form_found (codes "r") ts i.0 i.1 in
-    register_is ts (record { bank = R; i = i.0; j = 0 }) a (some_is (record { bank = R; i = i.0; j = 0 }) a i.2) (t, λ h. ((subst Sounds t h).1.0, refl))
+    register_is ts (record { bank = R; i = i.0; j = 0 }) a (some_is (record { bank = R; i = i.0; j = 0 }) a i.2)
+    (t, λ h. ((subst Sounds t h).1.0, refl))
 
 view_place_found : (ts : List Token) (a : Address) → place_form (codes "v") V ts ≡ Some a → IsRegister ts a
 unfolding place_form
 view_place_found ts a e =
     let i = bind_found (number_form (codes "v") ts) _ a e in
     let t = number_form_found (codes "v") ts i.0 i.1 in
-    register_is ts (record { bank = V; i = i.0; j = 0 }) a (some_is (record { bank = V; i = i.0; j = 0 }) a i.2) (t, λ h. ((subst Sounds t h).1.0, refl))
+    register_is ts (record { bank = V; i = i.0; j = 0 }) a (some_is (record { bank = V; i = i.0; j = 0 }) a i.2)
+    (t, λ h. ((subst Sounds t h).1.0, refl))
 
 scanner_bit_found : (ts : List Token) (a : Address) → bit_form (codes "q") Q ts ≡ Some a → IsRegister ts a
 unfolding bit_form
 scanner_bit_found ts a e =
     let at = bind_found (numbers_form (codes "q") ts) _ a e in
     let t = numbers_form_found (codes "q") ts at.0 at.1 in
-    register_is ts (record { bank = Q; i = at.0.0; j = at.0.1 }) a (some_is (record { bank = Q; i = at.0.0; j = at.0.1 }) a at.2)
+    register_is ts (record { bank = Q; i = at.0.0; j = at.0.1 }) a
+    (some_is (record { bank = Q; i = at.0.0; j = at.0.1 }) a at.2)
     (t, λ h. ((subst Sounds t h).1.0, (subst Sounds t h).1.1.0))
 
 updater_bit_found : (ts : List Token) (a : Address) → bit_form (codes "p") P ts ≡ Some a → IsRegister ts a
@@ -104,25 +116,34 @@ unfolding bit_form
 updater_bit_found ts a e =
     let at = bind_found (numbers_form (codes "p") ts) _ a e in
     let t = numbers_form_found (codes "p") ts at.0 at.1 in
-    register_is ts (record { bank = P; i = at.0.0; j = at.0.1 }) a (some_is (record { bank = P; i = at.0.0; j = at.0.1 }) a at.2)
+    register_is ts (record { bank = P; i = at.0.0; j = at.0.1 }) a
+    (some_is (record { bank = P; i = at.0.0; j = at.0.1 }) a at.2)
     (t, λ h. ((subst Sounds t h).1.0, (subst Sounds t h).1.1.0))
 
 address_found : (ts : List Token) (a : Address) → address_form ts ≡ Some a → IsRegister ts a
 unfolding address_form
 address_found ts a e =
-    either (place_form (codes "r") R ts) (or_else (bit_form (codes "q") Q ts) (or_else (bit_form (codes "p") P ts) (place_form (codes "v") V ts))) a (IsRegister ts a) (word_place_found ts a)
-    (either (bit_form (codes "q") Q ts) (or_else (bit_form (codes "p") P ts) (place_form (codes "v") V ts)) a (IsRegister ts a) (scanner_bit_found ts a)
-    (either (bit_form (codes "p") P ts) (place_form (codes "v") V ts) a (IsRegister ts a) (updater_bit_found ts a) (view_place_found ts a))) e
+    either (place_form (codes "r") R ts)
+    (or_else (bit_form (codes "q") Q ts) (or_else (bit_form (codes "p") P ts) (place_form (codes "v") V ts))) a
+    (IsRegister ts a) (word_place_found ts a)
+    (either (bit_form (codes "q") Q ts) (or_else (bit_form (codes "p") P ts) (place_form (codes "v") V ts)) a
+    (IsRegister ts a) (scanner_bit_found ts a)
+    (either (bit_form (codes "p") P ts) (place_form (codes "v") V ts) a (IsRegister ts a)
+    (updater_bit_found ts a) (view_place_found ts a)))
+    e
 
-breakpoint_found : (w : List ℕ) (ts : List Token) (b : Breakpoint) → breakpoint_form w ts ≡ Some b → (ts ≡ Identifier w ∷ spelled_breakpoint b) × (Sounds ts → FitsBreakpoint b)
+breakpoint_found : (w : List ℕ) (ts : List Token) (b : Breakpoint) → breakpoint_form w ts ≡ Some b →
+    (ts ≡ Identifier w ∷ spelled_breakpoint b) × (Sounds ts → FitsBreakpoint b)
 unfolding breakpoint_form
 breakpoint_found w ts b e =
     let at = bind_found (numbers_form w ts) _ b e in
     let t = numbers_form_found w ts at.0 at.1 in
     let same = some_is (record { process = at.0.0; line = at.0.1 }) b at.2 in
-    subst (λ (x : Breakpoint). (ts ≡ Identifier w ∷ spelled_breakpoint x) × (Sounds ts → FitsBreakpoint x)) same (t, λ h. ((subst Sounds t h).1.0, (subst Sounds t h).1.1.0))
+    subst (λ (x : Breakpoint). (ts ≡ Identifier w ∷ spelled_breakpoint x) × (Sounds ts → FitsBreakpoint x)) same
+    (t, λ h. ((subst Sounds t h).1.0, (subst Sounds t h).1.1.0))
 
-register_found : (w : List ℕ) (ts : List Token) (a : Address) → register_form w ts ≡ Some a → (ts ≡ Identifier w ∷ spelled_address a) × (Sounds ts → FitsAddress a)
+register_found : (w : List ℕ) (ts : List Token) (a : Address) → register_form w ts ≡ Some a →
+    (ts ≡ Identifier w ∷ spelled_address a) × (Sounds ts → FitsAddress a)
 unfolding register_form
 register_found w ts a e =
     let rest = bind_found (keyword_at w ts) _ a e in
@@ -135,27 +156,32 @@ abbrev IsCommand : List Token → Command → Type 0
 IsCommand ts c = (ts ≡ spelled_command c) × (Sounds ts → FitsCommand c)
 
 -- a form of a number, a keyword alone, a breakpoint and a register, as a command
-counted : (w : List ℕ) (f : ℕ → Command) (ts : List Token) (c : Command) → ((k : ℕ) → spelled_command (f k) ≡ Identifier w ∷ Number k ∷ []) → ((k : ℕ) → k < 2 ^ 64 → FitsCommand (f k)) →
+counted : (w : List ℕ) (f : ℕ → Command) (ts : List Token) (c : Command) →
+    ((k : ℕ) → spelled_command (f k) ≡ Identifier w ∷ Number k ∷ []) → ((k : ℕ) → k < 2 ^ 64 → FitsCommand (f k)) →
     option_map f (number_form w ts) ≡ Some c → IsCommand ts c
 counted w f ts c spelled fits e =
     let k = mapped_found f (number_form w ts) c e in
     let t = number_form_found w ts k.0 k.1 in
     subst (IsCommand ts) k.2 (t ∙ sym (spelled k.0), λ h. fits k.0 (subst Sounds t h).1.0)
 
-alone : (w : List ℕ) (x : Command) (ts : List Token) (c : Command) → spelled_command x ≡ Identifier w ∷ [] → FitsCommand x → option_map (λ (z : Unit {0}). x) (keyword_form w ts) ≡ Some c → IsCommand ts c
+alone : (w : List ℕ) (x : Command) (ts : List Token) (c : Command) → spelled_command x ≡ Identifier w ∷ [] →
+    FitsCommand x → option_map (λ (z : Unit {0}). x) (keyword_form w ts) ≡ Some c → IsCommand ts c
 alone w x ts c spelled fits e =
     let z = mapped_found (λ (z : Unit {0}). x) (keyword_form w ts) c e in
     subst (IsCommand ts) z.2 (keyword_form_found w ts z.0 z.1 ∙ sym spelled, λ h. fits)
 
-marked_line : (w : List ℕ) (f : Breakpoint → Command) (ts : List Token) (c : Command) → ((b : Breakpoint) → spelled_command (f b) ≡ Identifier w ∷ spelled_breakpoint b) → ((b : Breakpoint) → FitsBreakpoint b → FitsCommand (f b)) →
+marked_line : (w : List ℕ) (f : Breakpoint → Command) (ts : List Token) (c : Command) →
+    ((b : Breakpoint) → spelled_command (f b) ≡ Identifier w ∷ spelled_breakpoint b) →
+    ((b : Breakpoint) → FitsBreakpoint b → FitsCommand (f b)) →
     option_map f (breakpoint_form w ts) ≡ Some c → IsCommand ts c
 marked_line w f ts c spelled fits e =
     let b = mapped_found f (breakpoint_form w ts) c e in
     let t = breakpoint_found w ts b.0 b.1 in
     subst (IsCommand ts) b.2 (t.0 ∙ sym (spelled b.0), λ h. fits b.0 (t.1 h))
 
-with_register : (w : List ℕ) (f : Address → Command) (ts : List Token) (c : Command) → ((a : Address) → spelled_command (f a) ≡ Identifier w ∷ spelled_address a) → ((a : Address) → FitsAddress a → FitsCommand (f a)) →
-    option_map f (register_form w ts) ≡ Some c → IsCommand ts c
+with_register : (w : List ℕ) (f : Address → Command) (ts : List Token) (c : Command) →
+    ((a : Address) → spelled_command (f a) ≡ Identifier w ∷ spelled_address a) →
+    ((a : Address) → FitsAddress a → FitsCommand (f a)) → option_map f (register_form w ts) ≡ Some c → IsCommand ts c
 with_register w f ts c spelled fits e =
     let a = mapped_found f (register_form w ts) c e in
     let t = register_found w ts a.0 a.1 in
@@ -181,7 +207,8 @@ marking_found ts c e =
 showing_found : (ts : List Token) (c : Command) → showing_form ts ≡ Some c → IsCommand ts c
 unfolding showing_form
 showing_found ts c e =
-    either _ _ c (IsCommand ts c) (with_register (codes "show") (λ a. command.ShowRegister a) ts c (λ a. refl) (λ a h. h))
+    either _ _ c (IsCommand ts c)
+    (with_register (codes "show") (λ a. command.ShowRegister a) ts c (λ a. refl) (λ a h. h))
     (either _ _ c (IsCommand ts c) (counted (codes "show") (λ i. command.ShowProcess i) ts c (λ k. refl) (λ k h. h))
     (either _ _ c (IsCommand ts c) (alone (codes "values") command.Values ts c refl tt)
     (either _ _ c (IsCommand ts c) (alone (codes "events") command.Events ts c refl tt)
@@ -194,7 +221,8 @@ command_found ts c e =
     (either (marking_form ts) (showing_form ts) c (IsCommand ts c) (marking_found ts c) (showing_found ts c)) e
 
 -- what came first, and what came of it
-then_found : {A B : Type 0} (r : Result A CommandRefusal) (f : A → Result B CommandRefusal) (y : B) → (r >>= f) ≡ Ok y → (x : A) × (r ≡ Ok x) × (f x ≡ Ok y)
+then_found : {A B : Type 0} (r : Result A CommandRefusal) (f : A → Result B CommandRefusal) (y : B) →
+    (r >>= f) ≡ Ok y → (x : A) × (r ≡ Ok x) × (f x ≡ Ok y)
 then_found (Ok x) f y e = (x, refl, e)
 then_found (Err d) f y e = absurd cc
 
@@ -203,7 +231,8 @@ fitting e None c h = absurd cc
 fitting e (Some x) c h = cc
 
 -- a line that a command was read from
-line_found : (e : CommandRefusal) (line : Option (List Token)) (c : Command) → AreSound line → form_or e command_form line ≡ Ok c → (line ≡ Some (spelled_command c)) × FitsCommand c
+line_found : (e : CommandRefusal) (line : Option (List Token)) (c : Command) → AreSound line →
+    form_or e command_form line ≡ Ok c → (line ≡ Some (spelled_command c)) × FitsCommand c
 line_found e None c s h = absurd cc
 line_found e (Some ts) c s h =
     let is = command_found ts c (fitting e (command_form ts) c h) in
@@ -211,24 +240,32 @@ line_found e (Some ts) c s h =
 
 -- so many commands, spelled by these lines
 abbrev AreSpelled : ℕ → List TextLine → List Command → Type 0
-AreSpelled count lines cs = (count + length cs ≤ 10000) × AllByRecursion FitsCommand cs × (line_tokens lines ≡ found_lines (map spelled_command cs))
+AreSpelled count lines cs =
+    (count + length cs ≤ 10000) × AllByRecursion FitsCommand cs
+    × (line_tokens lines ≡ found_lines (map spelled_command cs))
 
 ok_is : (xs ys : List Command) → (let r : Result (List Command) CommandRefusal = Ok xs in r) ≡ Ok ys → xs ≡ ys
 ok_is xs ys e = cc
 
-room_by : (count : ℕ) (b : Bool) (r : Result (List Command) CommandRefusal) (cs : List Command) → nat_le 10000 count ≡ b → (if b then Err refusal.TooLong else r) ≡ Ok cs → (count < 10000) × (r ≡ Ok cs)
+room_by : (count : ℕ) (b : Bool) (r : Result (List Command) CommandRefusal) (cs : List Command) →
+    nat_le 10000 count ≡ b → (if b then Err refusal.TooLong else r) ≡ Ok cs → (count < 10000) × (r ≡ Ok cs)
 room_by count true r cs e h = absurd cc
 room_by count false r cs e h = (leb-false 10000 count e, h)
 
-one_more : (count : ℕ) (line : TextLine) (lines : List TextLine) (c : Command) (cs : List Command) → (line.tokens ≡ Some (spelled_command c)) × FitsCommand c → AreSpelled (count + 1) lines cs → AreSpelled count (line ∷ lines) (c ∷ cs)
+one_more : (count : ℕ) (line : TextLine) (lines : List TextLine) (c : Command) (cs : List Command) →
+    (line.tokens ≡ Some (spelled_command c)) × FitsCommand c → AreSpelled (count + 1) lines cs →
+    AreSpelled count (line ∷ lines) (c ∷ cs)
 one_more count line lines c cs h rest =
     let few = rest.0 in (
       omega (arith, few),
       (h.1, rest.1),
-      ap (λ (o : Option (List Token)). o ∷ line_tokens lines) h.0 ∙ ap (λ (os : List (Option (List Token))). Some (spelled_command c) ∷ os) rest.2,
+      ap (λ (o : Option (List Token)). o ∷ line_tokens lines) h.0
+          ∙ ap (λ (os : List (Option (List Token))). Some (spelled_command c) ∷ os) rest.2,
     )
 
-lines_found : (count : ℕ) (lines : List TextLine) (cs : List Command) → count ≤ 10000 → AllByRecursion (λ line. AreSound line.tokens) lines → commands_of_lines count lines ≡ Ok cs → AreSpelled count lines cs
+lines_found : (count : ℕ) (lines : List TextLine) (cs : List Command) →
+    count ≤ 10000 → AllByRecursion (λ line. AreSound line.tokens) lines →
+    commands_of_lines count lines ≡ Ok cs → AreSpelled count lines cs
 lines_found count [] cs room s e = subst (AreSpelled count []) (ok_is [] cs e) (omega (arith, room), tt, refl)
 lines_found count (line ∷ lines) cs room s e =
     let spare = room_by count (nat_le 10000 count) _ cs refl e in
@@ -239,7 +276,9 @@ lines_found count (line ∷ lines) cs room s e =
     (one_more count line lines c.0 more.0 (line_found (refusal.BadCommand line.number) line.tokens c.0 s.0 c.1)
     (lines_found (count + 1) lines more.0 (omega (arith, left)) s.1 more.1))
 
-short_by : (text : List ℕ) (b : Bool) (r : Result (List Command) CommandRefusal) (cs : List Command) → nat_lt 1048576 (length text) ≡ b → (if b then Err refusal.TooLong else r) ≡ Ok cs → (length text ≤ 1048576) × (r ≡ Ok cs)
+short_by : (text : List ℕ) (b : Bool) (r : Result (List Command) CommandRefusal) (cs : List Command) →
+    nat_lt 1048576 (length text) ≡ b → (if b then Err refusal.TooLong else r) ≡ Ok cs →
+    (length text ≤ 1048576) × (r ≡ Ok cs)
 short_by text true r cs e h = absurd cc
 short_by text false r cs e h = (ltb-false 1048576 (length text) e, h)
 

@@ -47,7 +47,8 @@ bit_form keyword bank ts = do
 -- a register
 unfoldable pub address_form : List Token → Option Address
 address_form ts =
-    or_else (place_form (codes "r") R ts) (or_else (bit_form (codes "q") Q ts) (or_else (bit_form (codes "p") P ts) (place_form (codes "v") V ts)))
+    or_else (place_form (codes "r") R ts)
+    (or_else (bit_form (codes "q") Q ts) (or_else (bit_form (codes "p") P ts) (place_form (codes "v") V ts)))
 
 -- a keyword and a process with one of its lines
 unfoldable pub breakpoint_form : List ℕ → List Token → Option Breakpoint

@@ -1,4 +1,4 @@
--- The laws of reading and writing commands: each command is spelled in one way.
+-- The laws of reading and writing debugger commands: each command is spelled in one way.
 use Rattle.std.specs.Prelude.{◌≡◌, ◌↔◌, ◌≤◌, ◌<◌, ◌^◌, ⊤, ℕ, List, length, map, Ok}
 use Rattle.std.specs.List.{AllByRecursion}
 use Rattle.snap_words.specs.declared.address.Address.{Address}
@@ -49,7 +49,8 @@ AreCommands cs = (length cs ≤ 10000) × AllByRecursion FitsCommand cs
 
 -- a text that spells these commands, one a line, and is not too long
 abbrev pub Spells : List ℕ → List Command → Type 0
-Spells text cs = (length text ≤ 1048576) × AreCommands cs × (line_tokens (text_lines text) ≡ found_lines (map spelled_command cs))
+Spells text cs =
+    (length text ≤ 1048576) × AreCommands cs × (line_tokens (text_lines text) ≡ found_lines (map spelled_command cs))
 
 -- a text is read as commands just where it spells them
 abbrev pub ReadsSpelled : Type 0
@@ -61,4 +62,5 @@ commands_text cs = lines_text (map spelled_command cs)
 
 -- what is written of commands is read as those commands
 abbrev pub ReadsWritten : Type 0
-ReadsWritten = (cs : List Command) → AreCommands cs → length (commands_text cs) ≤ 1048576 → commands_of (commands_text cs) ≡ Ok cs
+ReadsWritten =
+    (cs : List Command) → AreCommands cs → length (commands_text cs) ≤ 1048576 → commands_of (commands_text cs) ≡ Ok cs

@@ -1,4 +1,4 @@
--- Commands, read one after the other.
+-- `admitted_at`: a line of a text read as a debugger command, by the number of commands before it.
 use Rattle.std.specs.Prelude.{ℕ, Result, Err, nat_le, if◌then◌else◌}
 use Rattle.snap_semantics.specs.Token.{TextLine}
 use Rattle.snap_semantics.specs.declared.refusal.CommandRefusal.{CommandRefusal}

@@ -1,4 +1,5 @@
-//! What the debugger is asked.
+//! `Command`: what the debugger is asked, such as steps on or back, breakpoints, or what a register
+//! has.
 use snap_words::Address;
 
 /// A line at which a process is to stop. Both are as they were written: neither need be there.

@@ -22,7 +22,7 @@ use snap_words::{Address, Bank};
 
 /// A keyword alone.
 #[tactic(auto, unfolding(crate::specs::CommandForms::keyword_form))]
-fn keyword_form(keyword: &[u8], tokens: &[Token<'_>]) -> Option<()>
+pub fn keyword_form(keyword: &[u8], tokens: &[Token<'_>]) -> Option<()>
     ensures { Finds (λ end. end) result (keyword_form keyword.now (view_tokens tokens.now)) }
 {
     let rest = keyword_at(keyword, tokens)?;
@@ -31,7 +31,7 @@ fn keyword_form(keyword: &[u8], tokens: &[Token<'_>]) -> Option<()>
 
 /// A keyword and a number.
 #[tactic(auto, unfolding(crate::specs::CommandForms::number_form))]
-fn number_form(keyword: &[u8], tokens: &[Token<'_>]) -> Option<u64>
+pub fn number_form(keyword: &[u8], tokens: &[Token<'_>]) -> Option<u64>
     ensures { Finds (λ number. number) result (number_form keyword.now (view_tokens tokens.now)) }
 {
     let rest = keyword_at(keyword, tokens)?;
@@ -42,7 +42,7 @@ fn number_form(keyword: &[u8], tokens: &[Token<'_>]) -> Option<u64>
 
 /// A keyword and two numbers.
 #[tactic(auto, unfolding(crate::specs::CommandForms::numbers_form))]
-fn numbers_form(keyword: &[u8], tokens: &[Token<'_>]) -> Option<(u64, u64)>
+pub fn numbers_form(keyword: &[u8], tokens: &[Token<'_>]) -> Option<(u64, u64)>
     ensures { Finds (λ numbers. numbers) result
         (numbers_form keyword.now (view_tokens tokens.now)) }
 {

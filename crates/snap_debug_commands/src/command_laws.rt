@@ -1,4 +1,5 @@
-//! Laws of the definitions, which hold of every text and of all commands.
+//! Laws of reading and writing debugger commands: a text is read as commands if and only if it
+//! spells them, and what is written is read.
 ghost use Rattle.snap_debug_commands.specs.CommandLaws.{ReadsSpelled, ReadsWritten};
 
 /// A text is read as commands just where it spells them, one a line.

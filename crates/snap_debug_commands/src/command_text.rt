@@ -2,7 +2,8 @@
 ghost use Rattle.std.specs.Prelude.{◌≡◌, ◌∷◌, ◌++◌, OnOk};
 ghost use Rattle.snap_semantics.specs.Layout.{line_text};
 ghost use Rattle.snap_semantics.specs.Token.{Identifier};
-ghost use Rattle.snap_debug_commands.specs.CommandForms.{spelled_address, spelled_breakpoint, spelled_command};
+ghost use Rattle.snap_debug_commands.specs.CommandForms.{spelled_address};
+ghost use Rattle.snap_debug_commands.specs.CommandForms.{spelled_breakpoint, spelled_command};
 
 use crate::command::{Breakpoint, Command};
 use snap_text::{Token, push_laid_out};

@@ -1,4 +1,4 @@
-//! Texts of debugger commands, read.
+//! `read_commands`: reads a text of debugger commands, one a line, or says why it is refused.
 ghost use Rattle.std.specs.Prelude.{◌≡◌, ◌<◌, Err, length};
 ghost use Rattle.snap_semantics.specs.Answers.{Answers};
 ghost use Rattle.snap_semantics.specs.declared.fault.Fault.TheVariants.{Refused};

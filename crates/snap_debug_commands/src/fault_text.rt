@@ -1,4 +1,5 @@
-//! The texts of refused commands.
+//! The line printed for a refused debugger command: the code, name and number of its
+//! `CommandRefusal`.
 ghost use Rattle.std.specs.Prelude.{◌≡◌, ◌++◌, OnOk, IfOk};
 ghost use Rattle.snap_debug_commands.specs.FaultText.{refusal_text, refusal_line, fault_text};
 

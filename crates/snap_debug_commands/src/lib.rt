@@ -9,6 +9,7 @@ mod commands;
 mod fault_text;
 
 pub use command::{Breakpoint, Command};
+pub use command_forms::{keyword_form, number_form, numbers_form};
 pub use command_laws::{commands_are_spelled, written_commands_are_read};
 pub use command_text::push_command;
 pub use commands::read_commands;

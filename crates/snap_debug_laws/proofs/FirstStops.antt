@@ -1,5 +1,7 @@
--- The test for stops finds what a stop is, and what is searched for is the first stop, or the last.
-use Rattle.std.proofs.Common.{◌≡◌, ℕ, zero, suc, ◌+◌, ◌-◌, ◌<◌, ◌≤◌, ◌⊎◌, inl, inr, Bool, true, false, not, ◌&&◌, ◌||◌, List, length, nat_eq, if◌then◌else◌, refl, sym, ap, subst, ◌∙◌, arith}
+-- `is_stop` holds of the debugger's stops and of nothing else; so `run` goes to the first stop after a position, and
+-- `rrun` back to the last one before it.
+use Rattle.std.proofs.Common.{◌≡◌, ℕ, zero, suc, ◌+◌, ◌-◌, ◌<◌, ◌≤◌, ◌⊎◌, inl, inr, Bool, true, false, not, ◌&&◌}
+use Rattle.std.proofs.Common.{◌||◌, List, length, nat_eq, if◌then◌else◌, refl, sym, ap, subst, ◌∙◌, arith}
 use Rattle.std.proofs.Math.Nat.{eq-or-lt_of_le}
 use Rattle.std.proofs.lemmas.Bool.{eq-eqb, eqb-true}
 use Rattle.std.proofs.lemmas.List.Folds.{Any-from_list_any, list_any-from_Any}
@@ -12,7 +14,8 @@ use Rattle.snap_semantics.specs.Table.{who}
 use Rattle.snap_runs.specs.Run.{Run, state, before, item}
 use Rattle.snap_runs.specs.Update.{is_at}
 use Rattle.snap_debug_commands.specs.declared.command.Breakpoint.{Breakpoint}
-use Rattle.snap_debug_laws.specs.IsStop.{Changes, IsBusyAt, IsFirstStop, IsLastStop, IsStop, Reaches, ReverseRunGoesToTheLastStop, RunGoesToTheFirstStop}
+use Rattle.snap_debug_laws.specs.IsStop.{Changes, IsBusyAt, IsFirstStop, IsLastStop, IsStop, Reaches}
+use Rattle.snap_debug_laws.specs.IsStop.{ReverseRunGoesToTheLastStop, RunGoesToTheFirstStop}
 use Rattle.snap_debug.specs.Marks.{Marks, changes, contents_at, is_stop, last_stop, next_stop, reaches, same_contents}
 use Rattle.snap_debug.specs.Session.{total}
 use Rattle.snap_debug.proofs.Contents.{both, contents_are, contents_same}
@@ -41,11 +44,16 @@ is_busy line (Crashed was) h = absurd h
 module _ (r : Run) (t : ℕ) where
   reached : (b : Breakpoint) → reaches r t b ≡ true → Reaches r t b
   reached b h =
-      let parts = both (nat_eq (who (item r t)) b.process) (is_at b.line (process_at (state r t) (who (item r t))).status) h in
-      (eqb-true (who (item r t)) b.process parts.0, busy_is b.line (process_at (state r t) (who (item r t))).status parts.1)
+      let parts =
+      both (nat_eq (who (item r t)) b.process) (is_at b.line (process_at (state r t) (who (item r t))).status) h in (
+        eqb-true (who (item r t)) b.process parts.0,
+        busy_is b.line (process_at (state r t) (who (item r t))).status parts.1,
+      )
 
   is_reached : (b : Breakpoint) → Reaches r t b → reaches r t b ≡ true
-  is_reached b h = joined _ _ (eq-eqb (who (item r t)) b.process h.0) (is_busy b.line (process_at (state r t) (who (item r t))).status h.1)
+  is_reached b h =
+      joined _ _ (eq-eqb (who (item r t)) b.process h.0)
+      (is_busy b.line (process_at (state r t) (who (item r t))).status h.1)
 
   changed : (a : Address) → changes r t a ≡ true → Changes r t a
   changed a h same =
@@ -66,20 +74,25 @@ stop_found r m t h = by_breaks (list_any (reaches r t) m.breaks) refl
   where
     by_breaks : (b : Bool) → list_any (reaches r t) m.breaks ≡ b → IsStop r m t
     by_breaks true e =
-        inl (any_so (λ b. reaches r t b ≡ true) (Reaches r t) m.breaks (reached r t) (Any-from_list_any (reaches r t) m.breaks e))
+        inl (any_so (λ b. reaches r t b ≡ true) (Reaches r t) m.breaks (reached r t)
+        (Any-from_list_any (reaches r t) m.breaks e))
     by_breaks false e =
-        let rest : list_any (changes r t) m.watches ≡ true = ap (λ b. b || list_any (changes r t) m.watches) (sym e) ∙ h in
-        inr (any_so (λ a. changes r t a ≡ true) (Changes r t) m.watches (changed r t) (Any-from_list_any (changes r t) m.watches rest))
+        let rest : list_any (changes r t) m.watches ≡ true =
+        ap (λ b. b || list_any (changes r t) m.watches) (sym e) ∙ h in
+        inr (any_so (λ a. changes r t a ≡ true) (Changes r t) m.watches (changed r t)
+        (Any-from_list_any (changes r t) m.watches rest))
 
 -- and where there is one, the test finds it
 finds_stop : (r : Run) (m : Marks) (t : ℕ) → IsStop r m t → is_stop r m t ≡ true
 finds_stop r m t (inl h) =
     let met : list_any (reaches r t) m.breaks ≡ true =
-    list_any-from_Any (reaches r t) m.breaks (any_so (Reaches r t) (λ b. reaches r t b ≡ true) m.breaks (is_reached r t) h) in
+    list_any-from_Any (reaches r t) m.breaks
+    (any_so (Reaches r t) (λ b. reaches r t b ≡ true) m.breaks (is_reached r t) h) in
     ap (λ b. b || list_any (changes r t) m.watches) met
 finds_stop r m t (inr h) =
     let met : list_any (changes r t) m.watches ≡ true =
-    list_any-from_Any (changes r t) m.watches (any_so (Changes r t) (λ a. changes r t a ≡ true) m.watches (is_changed r t) h) in
+    list_any-from_Any (changes r t) m.watches
+    (any_so (Changes r t) (λ a. changes r t a ≡ true) m.watches (is_changed r t) h) in
     last_true (list_any (reaches r t) m.breaks) (list_any (changes r t) m.watches) met
   where
     last_true : (a b : Bool) → b ≡ true → (a || b) ≡ true
@@ -99,7 +112,8 @@ record IsFirstOf (r : Run) (m : Marks) (t e u : ℕ) : Type 0 where
   stops : u < e → IsStop r m u
 
 -- an item that is no stop before them
-one_before : (r : Run) (m : Marks) (t e u : ℕ) → is_stop r m (suc t) ≡ false → IsFirstOf r m (suc t) e u → IsFirstOf r m t e u
+one_before : (r : Run) (m : Marks) (t e u : ℕ) → is_stop r m (suc t) ≡ false →
+    IsFirstOf r m (suc t) e u → IsFirstOf r m t e u
 one_before r m t e u other h = record {
   after = λ lt. let le = h.order in omega (arith, le);
   order = (let le = h.order in omega (arith, le));
@@ -122,7 +136,8 @@ first_of r m t zero e is = record {
 }
 first_of r m t (suc more) e is = by_test (is_stop r m (suc t)) refl (first_of r m (suc t) more e (omega (arith, is)))
   where
-    by_test : (b : Bool) → is_stop r m (suc t) ≡ b → IsFirstOf r m (suc t) e (next_stop r m (suc t) more) → IsFirstOf r m t e (if b then suc t else next_stop r m (suc t) more)
+    by_test : (b : Bool) → is_stop r m (suc t) ≡ b → IsFirstOf r m (suc t) e (next_stop r m (suc t) more) →
+        IsFirstOf r m t e (if b then suc t else next_stop r m (suc t) more)
     by_test true met later = record {
       after = λ lt. omega arith;
       order = omega arith;
@@ -133,14 +148,16 @@ first_of r m t (suc more) e is = by_test (is_stop r m (suc t)) refl (first_of r 
     by_test false other later = one_before r m t e (next_stop r m (suc t) more) other later
 
 -- from a position of the run on
-first_stop : (r : Run) (m : Marks) (p : ℕ) → p ≤ length r.items → IsFirstStop r m p (next_stop r m p (length r.items - p))
+first_stop : (r : Run) (m : Marks) (p : ℕ) → p ≤ length r.items →
+    IsFirstStop r m p (next_stop r m p (length r.items - p))
 first_stop r m p le =
     let h = first_of r m p (length r.items - p) (length r.items) (omega (arith, le)) in
     record { order = h.order; within = h.within; goes_on = h.after; none_between = h.none; is_stop = h.stops }
 
 -- `run` goes there
 pub run_to_first : RunGoesToTheFirstStop
-run_to_first s le = (next_stop s.run s.marks s.position (total s - s.position), refl, first_stop s.run s.marks s.position le)
+run_to_first s le =
+    (next_stop s.run s.marks s.position (total s - s.position), refl, first_stop s.run s.marks s.position le)
 
 -- an item that is no stop behind those before a position
 one_behind : (r : Run) (m : Marks) (p t : ℕ) → is_stop r m p ≡ false → IsLastStop r m p t → IsLastStop r m (suc p) t
@@ -164,7 +181,8 @@ last_stop_is r m zero = record {
 }
 last_stop_is r m (suc p) = by_test (is_stop r m p) refl (last_stop_is r m p)
   where
-    by_test : (b : Bool) → is_stop r m p ≡ b → IsLastStop r m p (last_stop r m p) → IsLastStop r m (suc p) (if b then p else last_stop r m p)
+    by_test : (b : Bool) → is_stop r m p ≡ b → IsLastStop r m p (last_stop r m p) →
+        IsLastStop r m (suc p) (if b then p else last_stop r m p)
     by_test true met earlier = record {
       order = omega arith;
       goes_back = λ lt. omega arith;

@@ -1,1 +1,2 @@
+-- The proofs of snap_debug_laws, by their modules.
 pub mod FirstStops

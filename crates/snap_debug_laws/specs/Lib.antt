@@ -1,1 +1,2 @@
+-- The definitions of snap_debug_laws, by their modules.
 pub mod IsStop

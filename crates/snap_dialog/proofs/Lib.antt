@@ -1,2 +1,3 @@
+-- The proofs of snap_dialog, by their modules.
 pub mod Lines
 pub mod Dialogs

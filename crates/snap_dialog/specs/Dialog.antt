@@ -1,4 +1,4 @@
--- A dialog: before each line a prompt is shown, and behind it what is answered to it.
+-- `dialog`: before each line a prompt is shown, and after it the answer; `transcript` is what is shown in all.
 use Rattle.std.specs.Prelude.{◌≡◌, ℕ, List, [], ◌∷◌, ◌++◌, Bool, true, false, if◌then◌else◌}
 use Rattle.snap_dialog.specs.Event.{Event, said, typed}
 
@@ -15,7 +15,8 @@ answer_or_end answer s (b ∷ bs) = answer s (b ∷ bs)
 
 -- this is what comes of a line: the respondent from there on, and whether the dialog goes on
 abbrev pub IsAnswered : {S : Type 0} → (S → List ℕ → Answer S) → S → List ℕ → S → Bool → Type 0
-IsAnswered answer s line after more = (after ≡ (answer_or_end answer s line).state) × (more ≡ (answer_or_end answer s line).goes_on)
+IsAnswered answer s line after more =
+    (after ≡ (answer_or_end answer s line).state) × (more ≡ (answer_or_end answer s line).goes_on)
 
 -- what passes for one line: the prompt, the line, and its answer
 abbrev pub turn : {S : Type 0} → (S → List ℕ) → (S → List ℕ → Answer S) → S → List ℕ → List Event
@@ -28,7 +29,8 @@ turn_text prompt answer s line = prompt s ++ (answer_or_end answer s line).text
 -- what passes for these lines, one turn after the other
 abbrev pub dialog : {S : Type 0} → (S → List ℕ) → (S → List ℕ → Answer S) → S → List (List ℕ) → List Event
 dialog prompt answer s [] = []
-dialog prompt answer s (line ∷ lines) = turn prompt answer s line ++ dialog prompt answer (answer_or_end answer s line).state lines
+dialog prompt answer s (line ∷ lines) =
+    turn prompt answer s line ++ dialog prompt answer (answer_or_end answer s line).state lines
 
 -- the last line, and no line before it, ends the dialog
 abbrev pub IsDialog : {S : Type 0} → (S → List ℕ → Answer S) → S → List (List ℕ) → Type 0
@@ -37,10 +39,11 @@ IsDialog answer s (line ∷ []) = (answer_or_end answer s line).goes_on ≡ fals
 IsDialog answer s (line ∷ next ∷ lines) =
     ((answer_or_end answer s line).goes_on ≡ true) × IsDialog answer (answer_or_end answer s line).state (next ∷ lines)
 
--- What is shown for the lines of an input: to each the prompt and its answer, up to the one that ends the dialog; and where no
--- line does, one more prompt.
+-- What is shown for the lines of an input: to each the prompt and its answer, up to the one that ends the dialog; and
+-- where no line does, one more prompt.
 abbrev pub transcript : {S : Type 0} → (S → List ℕ) → (S → List ℕ → Answer S) → S → List (List ℕ) → List ℕ
 transcript prompt answer s [] = prompt s
 transcript prompt answer s (line ∷ lines) =
     prompt s ++ ((answer_or_end answer s line).text
-    ++ (if (answer_or_end answer s line).goes_on then transcript prompt answer (answer_or_end answer s line).state lines else []))
+    ++ (if (answer_or_end answer s line).goes_on
+    then transcript prompt answer (answer_or_end answer s line).state lines else []))

@@ -1,4 +1,4 @@
--- What passes at a console.
+-- `Event`: what passes at the console of a dialog, which is a text that is shown or a line that is typed.
 use Rattle.std.specs.Prelude.{◌≡◌, ℕ, List, [], ◌∷◌, ◌++◌, Option, None, Some, ⊤}
 
 -- a text that was shown, and a line that was typed

@@ -1,3 +1,4 @@
+-- The definitions of snap_dialog, by their modules.
 pub mod Event
 pub mod TypedLines
 pub mod Dialog

@@ -1,4 +1,4 @@
--- A dialog that goes on, between two turns.
+-- A dialog at a console between two of its turns: the lines so far (`GoesOn`), what has passed and what was shown.
 use Rattle.std.specs.Prelude.{◌≡◌, ℕ, List, [], ◌∷◌, ◌++◌, true, Option, Some, IfSome}
 use Rattle.std.specs.Io.BufRead.{take_through, drop_through}
 use Rattle.std.specs.Io.KnownBytes.{Appends}
@@ -13,12 +13,15 @@ GoesOn answer s (line ∷ lines) now =
     ((answer_or_end answer s line).goes_on ≡ true) × GoesOn answer (answer_or_end answer s line).state lines now
 
 -- What has passed are the turns of lines after which the respondent is so.
-abbrev pub HasPassed : {S : Type 0} → (S → List ℕ) → (S → List ℕ → Answer S) → S → S → Option (List Event) → Option (List Event) → Type 0
+abbrev pub HasPassed : {S : Type 0} → (S → List ℕ) → (S → List ℕ → Answer S) → S → S →
+    Option (List Event) → Option (List Event) → Type 0
 HasPassed prompt answer s now before after =
     (lines : List (List ℕ)) × GoesOn answer s lines now × PassesAll before after (dialog prompt answer s lines)
 
--- What was shown so far and what the rest of the input asks for are the whole transcript: of the input `first` there is `left`.
-abbrev pub HasShown : {S : Type 0} → (S → List ℕ) → (S → List ℕ → Answer S) → S → S → Option (List ℕ) → Option (List ℕ) → Option (List ℕ) → Option (List ℕ) → Type 0
+-- What was shown so far and what the rest of the input asks for are the whole transcript: of the
+-- input `first` there is `left`.
+abbrev pub HasShown : {S : Type 0} → (S → List ℕ) → (S → List ℕ → Answer S) → S → S → Option (List ℕ) →
+    Option (List ℕ) → Option (List ℕ) → Option (List ℕ) → Type 0
 HasShown prompt answer s now first left before after = IfSome first (λ all. (rest : List ℕ) × (left ≡ Some rest)
     × (text : List ℕ) × Appends before after text
     × (text ++ transcript prompt answer now (typed_lines rest) ≡ transcript prompt answer s (typed_lines all)))
@@ -26,4 +29,5 @@ HasShown prompt answer s now first left before after = IfSome first (λ all. (re
 -- What was kept of a line so far: of the input `first` there is `left`, and what follows in the line follows there.
 abbrev pub HasKept : Option (List ℕ) → Option (List ℕ) → List ℕ → Type 0
 HasKept first left line = IfSome first (λ all. (rest : List ℕ) × (left ≡ Some rest) × (seen : List ℕ)
-    × (take_through 10 all ≡ seen ++ take_through 10 rest) × (drop_through 10 all ≡ drop_through 10 rest) × (line ≡ kept seen))
+    × (take_through 10 all ≡ seen ++ take_through 10 rest)
+    × (drop_through 10 all ≡ drop_through 10 rest) × (line ≡ kept seen))

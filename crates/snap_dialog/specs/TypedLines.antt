@@ -1,5 +1,6 @@
--- The lines of an input, as they are read one by one.
-use Rattle.std.specs.Prelude.{◌≡◌, ℕ, List, [], ◌∷◌, ◌++◌, length, take, map, Option, None, Some, ◌==◌, nat_le, if◌then◌else◌, ⊤}
+-- `typed_lines`: the lines of an input at a console, as a dialog reads and keeps them one by one.
+use Rattle.std.specs.Prelude.{◌≡◌, ℕ, List, [], ◌∷◌, ◌++◌, length, take, map, Option}
+use Rattle.std.specs.Prelude.{None, Some, ◌==◌, nat_le, if◌then◌else◌, ⊤}
 
 -- a byte at the front of the first line
 abbrev pub onto_first : ℕ → List (List ℕ) → List (List ℕ)

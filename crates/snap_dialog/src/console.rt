@@ -25,10 +25,13 @@ pub trait Console {
         ensures shows { OnOk result (Appends (shown self.old) (shown self.new) text.now) }
         ensures left { left self.new ≡ left self.old };
 
-    /// Waits for a line, of which it keeps as much as a line may have and one byte more. Only at the end of the input it is empty.
+    /// Waits for a line, of which it keeps as much as a line may have and one byte more. Only at
+    /// the end of the input it is empty.
     fn line(&mut self, alloc: Global) -> Result<Vec<u8>, DialogFault>
-        ensures event { IfOk result (λ line. Passes (passed self.old) (passed self.new) (typed line.items)) }
-        ensures line { IfOk result (λ line. IfSome (left self.old) (λ xs. line.items ≡ kept (take_through 10 xs))) }
+        ensures event { IfOk result (λ line.
+            Passes (passed self.old) (passed self.new) (typed line.items)) }
+        ensures line { IfOk result (λ line.
+            IfSome (left self.old) (λ xs. line.items ≡ kept (take_through 10 xs))) }
         ensures left { OnOk result (DropsThrough (left self.old) (left self.new) 10) }
         ensures shows { shown self.new ≡ shown self.old };
 }

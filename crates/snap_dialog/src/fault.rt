@@ -1,4 +1,4 @@
-//! Why a dialog was broken off.
+//! `DialogFault`: why a dialog at a console was broken off.
 ghost use Rattle.std.specs.Prelude.{◌≡◌};
 ghost use Rattle.snap_dialog.specs.declared.fault.DialogFault.TheVariants.{Memory};
 

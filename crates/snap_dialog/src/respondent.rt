@@ -9,7 +9,8 @@ pub trait Respondent {
     /// What stands before a line.
     ghost prompt_of: { Self → List ℕ };
 
-    /// What is answered to a line, what the respondent is from there on, and whether the dialog goes on.
+    /// What is answered to a line, what the respondent is from there on,
+    /// and whether the dialog goes on.
     ghost answer_of: { Self → List ℕ → Answer Self };
 
     /// Adds what stands before a line.
@@ -18,7 +19,8 @@ pub trait Respondent {
 
     /// Adds what is answered to a line, and tells whether the dialog goes on.
     fn push_answer(&mut self, out: &mut Vec<u8>, line: &[u8]) -> Result<bool, AllocError>
-        ensures text { OnOk result (out.new.items ≡ out.old.items ++ (answer_of self.old line.now).text) }
+        ensures text { OnOk result (out.new.items ≡ out.old.items
+            ++ (answer_of self.old line.now).text) }
         ensures state { OnOk result (self.new ≡ (answer_of self.old line.now).state) }
         ensures goes_on { IfOk result (λ more. more ≡ (answer_of self.old line.now).goes_on) };
 }

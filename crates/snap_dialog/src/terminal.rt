@@ -1,4 +1,4 @@
-//! A console of a reader and a writer.
+//! `Terminal`: a console for dialogs, made of a reader and a writer.
 ghost use Rattle.std.specs.Prelude.{◌≡◌};
 
 use crate::console::Console;

@@ -1,8 +1,9 @@
-//! A dialog, from its first prompt to its end.
+//! `talk`: a dialog of a respondent at a console, turn by turn, from its first prompt to its end.
 ghost use Rattle.std.specs.Prelude.{◌≡◌, ◌++◌, ℕ, List, IfOk, IfSome, OnOk};
 ghost use Rattle.std.specs.Io.BufRead.{take_through, DropsThrough};
 ghost use Rattle.std.specs.Io.KnownBytes.{Appends};
-ghost use Rattle.snap_dialog.specs.Dialog.{IsAnswered, IsDialog, answer_or_end, dialog, transcript, turn, turn_text};
+ghost use Rattle.snap_dialog.specs.Dialog.{IsAnswered, IsDialog, answer_or_end};
+ghost use Rattle.snap_dialog.specs.Dialog.{dialog, transcript, turn, turn_text};
 ghost use Rattle.snap_dialog.specs.Event.{PassesAll};
 ghost use Rattle.snap_dialog.specs.TypedLines.{kept, typed_lines};
 
@@ -11,15 +12,19 @@ use crate::fault::DialogFault;
 use crate::respondent::Respondent;
 use std::alloc::{AllocError, Global};
 
-/// Adds what is answered to a line; nothing is answered to the end of the input, which ends the dialog.
+/// Adds what is answered to a line; nothing is answered to the end of the input,
+/// which ends the dialog.
 fn push_answer_or_end<P: Respondent>(
     partner: &mut P,
     out: &mut Vec<u8>,
     line: &[u8],
 ) -> Result<bool, AllocError>
-    ensures text { OnOk result (out.new.items ≡ out.old.items ++ (answer_or_end P.answer_of partner.old line.now).text) }
-    ensures state { OnOk result (partner.new ≡ (answer_or_end P.answer_of partner.old line.now).state) }
-    ensures goes_on { IfOk result (λ more. more ≡ (answer_or_end P.answer_of partner.old line.now).goes_on) }
+    ensures text { OnOk result (out.new.items ≡ out.old.items
+        ++ (answer_or_end P.answer_of partner.old line.now).text) }
+    ensures state { OnOk result
+        (partner.new ≡ (answer_or_end P.answer_of partner.old line.now).state) }
+    ensures goes_on { IfOk result (λ more.
+        more ≡ (answer_or_end P.answer_of partner.old line.now).goes_on) }
 {
     if line.is_empty() {
         return Ok(false);
@@ -27,14 +32,17 @@ fn push_answer_or_end<P: Respondent>(
     partner.push_answer(out, line)
 }
 
-/// One turn: the prompt, a line, and its answer, in that order. It tells whether another turn follows.
+/// One turn: the prompt, a line, and its answer, in that order.
+/// It tells whether another turn follows.
 fn take_turn<C: Console, P: Respondent>(
     alloc: Global,
     console: &mut C,
     partner: &mut P,
 ) -> Result<bool, DialogFault>
-    ensures passes { IfOk result (λ more. (line : List ℕ) × IsAnswered P.answer_of partner.old line partner.new more
-        × PassesAll (C.passed console.old) (C.passed console.new) (turn P.prompt_of P.answer_of partner.old line)) }
+    ensures passes { IfOk result (λ more. (line : List ℕ)
+        × IsAnswered P.answer_of partner.old line partner.new more
+        × PassesAll (C.passed console.old) (C.passed console.new)
+        (turn P.prompt_of P.answer_of partner.old line)) }
     ensures rest { OnOk result (DropsThrough (C.left console.old) (C.left console.new) 10) }
     ensures shown { IfOk result (λ more. IfSome (C.left console.old) (λ xs.
         IsAnswered P.answer_of partner.old (kept (take_through 10 xs)) partner.new more
@@ -51,16 +59,19 @@ fn take_turn<C: Console, P: Respondent>(
     Ok(goes_on)
 }
 
-/// Talks to the last line. What passes is a dialog, each answer before the next prompt; and what is shown is its transcript.
+/// Talks to the last line. What passes is a dialog, each answer before the next prompt; and what is
+/// shown is its transcript.
 pub fn talk<C: Console, P: Respondent>(
     alloc: Global,
     console: &mut C,
     partner: &mut P,
 ) -> Result<(), DialogFault>
     ensures passes { OnOk result ((lines : List (List ℕ)) × IsDialog P.answer_of partner.old lines
-        × PassesAll (C.passed console.old) (C.passed console.new) (dialog P.prompt_of P.answer_of partner.old lines)) }
+        × PassesAll (C.passed console.old) (C.passed console.new)
+        (dialog P.prompt_of P.answer_of partner.old lines)) }
     ensures shown { OnOk result (IfSome (C.left console.old) (λ input.
-        Appends (C.shown console.old) (C.shown console.new) (transcript P.prompt_of P.answer_of partner.old (typed_lines input)))) }
+        Appends (C.shown console.old) (C.shown console.new)
+        (transcript P.prompt_of P.answer_of partner.old (typed_lines input)))) }
 {
     for _count in 0..u64::MAX {
         if !take_turn(alloc, console, partner)? {

@@ -1,4 +1,5 @@
-//! Lines, as they are typed.
+//! `read_line`: reads a line that is typed at a console, byte by byte, and keeps no more of it than
+//! a line may have.
 ghost use Rattle.std.specs.Prelude.{◌≡◌, ◌<◌, IfOk, IfSome, OnOk, length};
 ghost use Rattle.std.specs.Io.BufRead.{take_through, DropsThrough};
 ghost use Rattle.snap_dialog.specs.TypedLines.{GivesNext, kept, with_byte};
@@ -12,7 +13,8 @@ const MAX_LINE: usize = 1_048_576;
 
 /// The next byte, where there is one.
 fn next_byte<R: Read>(reader: &mut R) -> Result<Option<u8>, DialogFault>
-    ensures { IfOk result (λ next. GivesNext next (R.remaining reader.old) (R.remaining reader.new)) }
+    ensures { IfOk result (λ next.
+        GivesNext next (R.remaining reader.old) (R.remaining reader.new)) }
 {
     let mut byte = [0u8; 1];
     match reader.read(&mut byte) {
@@ -32,9 +34,11 @@ fn keep_byte(line: &mut Vec<u8>, byte: u8) -> Result<(), AllocError>
     Ok(())
 }
 
-/// Reads a line with its line feed, and no byte behind it. Of a line that is too long it keeps one byte more than a line may have.
+/// Reads a line with its line feed, and no byte behind it. Of a line that is too long it keeps one
+/// byte more than a line may have.
 pub fn read_line<R: Read>(alloc: Global, reader: &mut R) -> Result<Vec<u8>, DialogFault>
-    ensures line { IfOk result (λ line. IfSome (R.remaining reader.old) (λ xs. line.items ≡ kept (take_through 10 xs))) }
+    ensures line { IfOk result (λ line.
+        IfSome (R.remaining reader.old) (λ xs. line.items ≡ kept (take_through 10 xs))) }
     ensures rest { OnOk result (DropsThrough (R.remaining reader.old) (R.remaining reader.new) 10) }
 {
     let mut line = Vec::new(alloc);

@@ -1,1 +1,2 @@
+-- The definitions of snap_event_laws, by their modules.
 pub mod EventLaws

@@ -1,4 +1,5 @@
-//! What the events of a run tell of its operations.
+//! A law of the runs of any listing: their events are the calls and the ends of operations, the
+//! calls of scans that have not ended, and crashes.
 #![tactic(auto)]
 
 ghost use Rattle.snap_event_laws.specs.EventLaws.{EventsTellOperations};

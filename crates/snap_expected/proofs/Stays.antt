@@ -1,5 +1,6 @@
--- What is lost at a token is lost there whatever stands behind it.
-use Rattle.std.proofs.Common.{◌≡◌, ℕ, ◌+◌, ◌≤◌, Bool, true, false, List, [], ◌∷◌, ◌++◌, length, Option, Some, None, if◌then◌else◌, refl, ap, arith}
+-- `stays`: a line that is lost at a token is lost there, whatever follows the token.
+use Rattle.std.proofs.Common.{◌≡◌, ℕ, ◌+◌, ◌≤◌, Bool, true, false, List, [], ◌∷◌, ◌++◌, length, Option, Some, None}
+use Rattle.std.proofs.Common.{if◌then◌else◌, refl, ap, arith}
 use Rattle.snap_semantics.specs.Token.{Token}
 use Rattle.snap_expected.specs.declared.wanted.Wanted.{Wanted}
 use Rattle.snap_expected.specs.Lost.{Place, lost, lost_at, step, may_end}
@@ -7,16 +8,19 @@ use Rattle.snap_expected.specs.Lost.{Place, lost, lost_at, step, may_end}
 abbrev place : ℕ → List Wanted → Place
 place k ws = record { before = k; wanted = ws }
 
-same_place : (k : ℕ) (ws : List Wanted) (p : Place) → (let o : Option Place = Some (place k ws) in o) ≡ Some p → k ≡ p.before
+same_place : (k : ℕ) (ws : List Wanted) (p : Place) →
+    (let o : Option Place = Some (place k ws) in o) ≡ Some p → k ≡ p.before
 same_place k ws p e = let q : place k ws ≡ p = cc in ap (λ (x : Place). x.before) q
 
 -- a place is not before the first token
-end_above : (b : Bool) (k : ℕ) (ws : List Wanted) (p : Place) → (if b then None else Some (place k ws)) ≡ Some p → k ≤ p.before
+end_above : (b : Bool) (k : ℕ) (ws : List Wanted) (p : Place) →
+    (if b then None else Some (place k ws)) ≡ Some p → k ≤ p.before
 end_above true k ws p e = absurd cc
 end_above false k ws p e = let h = same_place k ws p e in omega (arith, h)
 
 at_above : (k : ℕ) (ws : List Wanted) (ts : List Token) (p : Place) (o : Option (List Wanted)) →
-    ((next : List Wanted) → lost (k + 1) next ts ≡ Some p → k + 1 ≤ p.before) → lost_at k ws (λ next. lost (k + 1) next ts) o ≡ Some p → k ≤ p.before
+    ((next : List Wanted) → lost (k + 1) next ts ≡ Some p → k + 1 ≤ p.before) →
+    lost_at k ws (λ next. lost (k + 1) next ts) o ≡ Some p → k ≤ p.before
 at_above k ws ts p None later e = let h = same_place k ws p e in omega (arith, h)
 at_above k ws ts p (Some next) later e = let h = later next e in omega (arith, h)
 
@@ -29,9 +33,10 @@ here : (k : ℕ) (ws : List Wanted) (rest more : List Token) (p : Place) (o : Op
 here k ws rest more p None f e = e
 here k ws rest more p (Some next) f e = absurd (let h = lost_above rest (k + 1) next p e in omega (arith, h, f))
 
-later : (k n : ℕ) (ws : List Wanted) (rest more : List Token) (p : Place) (o : Option (List Wanted)) → p.before ≡ k + (n + 1) →
-    ((next : List Wanted) → lost (k + 1) next rest ≡ Some p → lost (k + 1) next more ≡ Some p) →
-    lost_at k ws (λ next. lost (k + 1) next rest) o ≡ Some p → lost_at k ws (λ next. lost (k + 1) next more) o ≡ Some p
+later : (k n : ℕ) (ws : List Wanted) (rest more : List Token) (p : Place) (o : Option (List Wanted)) → p.before
+    ≡ k + (n + 1) → ((next : List Wanted) → lost (k + 1) next rest ≡ Some p → lost (k + 1) next more ≡ Some p) →
+    lost_at k ws (λ next. lost (k + 1) next rest) o ≡ Some p →
+    lost_at k ws (λ next. lost (k + 1) next more) o ≡ Some p
 later k n ws rest more p None f ih e = absurd (let h = same_place k ws p e in omega (arith, h, f))
 later k n ws rest more p (Some next) f ih e = ih next e
 

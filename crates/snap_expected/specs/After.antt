@@ -1,4 +1,5 @@
--- What a line is to have next, behind a token: the forms of lines, token by token. The first token of a rule decides how it goes on.
+-- `after`: which tokens a line of an input may have next after a token: the grammar of lines, token by token. The
+-- first token of a rule decides how it goes on.
 use Rattle.std.specs.Prelude.{Bool, true, false, List, [], ◌∷◌, ◌++◌, codes, if◌then◌else◌}
 use Rattle.snap_semantics.specs.declared.instr.Join.{Join}
 use Rattle.snap_semantics.specs.declared.instr.Join.TheVariants.{And, Or}
@@ -10,9 +11,12 @@ use Rattle.snap_expected.specs.declared.wanted.Keyword.{Keyword}
 use Rattle.snap_expected.specs.declared.wanted.Keyword.TheVariants as keyword
 use Rattle.snap_expected.specs.declared.wanted.Wanted.{Wanted}
 use Rattle.snap_expected.specs.declared.wanted.Wanted.TheVariants as wanted
-use Rattle.snap_expected.specs.Tests.{is_word, is_symbol, is_identifier, is_name, is_number, is_line, is_within, is_positive, keyword_text, is_range, is_relation, is_fixed_index, is_index, is_field, is_kind, is_bit_bank}
+use Rattle.snap_expected.specs.Tests.{is_word, is_symbol, is_identifier, is_name, is_number, is_line, is_within}
+use Rattle.snap_expected.specs.Tests.{is_positive, keyword_text, is_range, is_relation, is_fixed_index, is_index}
+use Rattle.snap_expected.specs.Tests.{is_field, is_kind, is_bit_bank}
 
--- a token is the front of what is wanted, and the rest of that is wanted next; what is wanted may be nothing; or neither
+-- a token is the front of what is wanted, and the rest of that is wanted next; what is wanted may be nothing; or
+-- neither
 pub data Step : Type 0 where
   Takes : (next : List Wanted) → Step
   Passes : Step
@@ -63,13 +67,18 @@ after_term q t =
     if is_name t then Takes (wanted.PlaceOption q ∷ []) else
     if is_word (codes "arg") t then Takes [] else
     if is_fixed_index q t then Takes [] else
-    if is_field t then Takes (open_parenthesis ∷ wanted.Name ∷ open_bracket ∷ wanted.Index q ∷ close_bracket ∷ close_parenthesis ∷ []) else
-    if is_word (codes "hand") t then Takes (open_parenthesis ∷ wanted.Name ∷ open_bracket ∷ wanted.Index q ∷ close_bracket ∷ comma ∷ wanted.Index q ∷ close_parenthesis ∷ []) else
+    if is_field t
+    then Takes (open_parenthesis ∷ wanted.Name ∷ open_bracket ∷ wanted.Index q ∷ close_bracket
+    ∷ close_parenthesis ∷ []) else
+    if is_word (codes "hand") t
+    then Takes (open_parenthesis ∷ wanted.Name ∷ open_bracket ∷ wanted.Index q ∷ close_bracket ∷ comma ∷ wanted.Index q
+    ∷ close_parenthesis ∷ []) else
     Refuses
 
 -- `not` and a term, or one or two terms
 abbrev pub after_expr : Bool → Token → Step
-after_expr q t = if is_word (codes "not") t then Takes (wanted.Term q ∷ []) else and_then (wanted.SumOption q ∷ []) (after_term q t)
+after_expr q t =
+    if is_word (codes "not") t then Takes (wanted.Term q ∷ []) else and_then (wanted.SumOption q ∷ []) (after_term q t)
 
 -- one to four comparisons
 abbrev pub after_condition : Bool → Token → Step
@@ -77,11 +86,15 @@ after_condition q t = and_then (wanted.Relation ∷ wanted.Term q ∷ wanted.Fir
 
 abbrev pub after_first : Bool → Token → Step
 after_first q t =
-    if is_word (codes "and") t then Takes (wanted.Term q ∷ wanted.Relation ∷ wanted.Term q ∷ wanted.SecondJoin And q ∷ []) else
-    if is_word (codes "or") t then Takes (wanted.Term q ∷ wanted.Relation ∷ wanted.Term q ∷ wanted.SecondJoin Or q ∷ []) else Passes
+    if is_word (codes "and") t
+    then Takes (wanted.Term q ∷ wanted.Relation ∷ wanted.Term q ∷ wanted.SecondJoin And q ∷ []) else
+    if is_word (codes "or") t
+    then Takes (wanted.Term q ∷ wanted.Relation ∷ wanted.Term q ∷ wanted.SecondJoin Or q ∷ []) else Passes
 
 abbrev pub after_second : Join → Bool → Token → Step
-after_second j q t = maybe_begun (is_word (join_keyword j) t) (wanted.Term q ∷ wanted.Relation ∷ wanted.Term q ∷ wanted.ThirdJoin j q ∷ [])
+after_second j q t =
+    maybe_begun (is_word (join_keyword j) t)
+    (wanted.Term q ∷ wanted.Relation ∷ wanted.Term q ∷ wanted.ThirdJoin j q ∷ [])
 
 abbrev pub after_third : Join → Bool → Token → Step
 after_third j q t = maybe_begun (is_word (join_keyword j) t) (wanted.Term q ∷ wanted.Relation ∷ wanted.Term q ∷ [])
@@ -96,26 +109,52 @@ abbrev pub after_second_name : Token → Step
 after_second_name t =
     if is_symbol symbol.Comma t then Takes (wanted.Expr false ∷ wanted.BehindThird ∷ []) else
     if is_symbol symbol.OpenBracket t
-    then Takes (wanted.Index false ∷ close_bracket ∷ wanted.SumOption false ∷ comma ∷ wanted.Expr false ∷ close_parenthesis ∷ []) else
-    if is_symbol symbol.Plus t then Takes (wanted.Term false ∷ comma ∷ wanted.Expr false ∷ close_parenthesis ∷ []) else Refuses
+    then Takes (wanted.Index false ∷ close_bracket ∷ wanted.SumOption false ∷ comma ∷ wanted.Expr false
+    ∷ close_parenthesis ∷ []) else
+    if is_symbol symbol.Plus t
+    then Takes (wanted.Term false ∷ comma ∷ wanted.Expr false ∷ close_parenthesis ∷ []) else Refuses
 
 abbrev pub after_third_part : Token → Step
 after_third_part t =
     if is_symbol symbol.Comma t then Takes (wanted.Name ∷ close_parenthesis ∷ []) else
     if is_symbol symbol.CloseParenthesis t then Takes [] else Refuses
 
+-- `[I]` behind a name, or nothing
+abbrev pub after_place_option : Bool → Token → Step
+after_place_option q t = maybe_begun (is_symbol symbol.OpenBracket t) (wanted.Index q ∷ close_bracket ∷ [])
+
+-- `+` and a term, or nothing
+abbrev pub after_sum_option : Bool → Token → Step
+after_sum_option q t = maybe_begun (is_symbol symbol.Plus t) (wanted.Term q ∷ [])
+
+-- `where` and a condition, or nothing
+abbrev pub after_where_option : Token → Step
+after_where_option t = maybe_begun (is_word (codes "where") t) (wanted.Condition true ∷ [])
+
+-- `q` or `p`, and `[I,J]`
+abbrev pub after_bit : Token → Step
+after_bit t =
+    begun (is_bit_bank t) (open_bracket ∷ wanted.Index false ∷ comma ∷ wanted.Index false ∷ close_bracket ∷ [])
+
+-- a tuple
+abbrev pub after_tuple : Token → Step
+after_tuple t = begun (is_symbol symbol.OpenParenthesis t) (wanted.Expr false ∷ comma ∷ wanted.SecondPart ∷ [])
+
+-- the register that a `put` writes, and what it writes
 abbrev pub after_target : Token → Step
 after_target t =
-    if is_word (codes "r") t then Takes (open_bracket ∷ wanted.Index false ∷ close_bracket ∷ equal ∷ wanted.Tuple ∷ []) else
-    if is_bit_bank t
-    then Takes (open_bracket ∷ wanted.Index false ∷ comma ∷ wanted.Index false ∷ close_bracket ∷ equal ∷ wanted.Expr false ∷ []) else
-    if is_word (codes "v") t then Takes (open_bracket ∷ wanted.Index false ∷ close_bracket ∷ equal ∷ wanted.Name ∷ []) else Refuses
+    if is_word (codes "r") t
+    then Takes (open_bracket ∷ wanted.Index false ∷ close_bracket ∷ equal ∷ wanted.Tuple ∷ []) else
+    if is_word (codes "v") t
+    then Takes (open_bracket ∷ wanted.Index false ∷ close_bracket ∷ equal ∷ wanted.Name ∷ []) else
+    and_then (equal ∷ wanted.Expr false ∷ []) (after_bit t)
 
 abbrev pub after_view_source : Token → Step
 after_view_source t =
     if is_word (codes "data") t then Takes (open_parenthesis ∷ wanted.Name ∷ close_parenthesis ∷ []) else
     if is_word (codes "view") t
-    then Takes (open_parenthesis ∷ wanted.Name ∷ open_bracket ∷ wanted.Index false ∷ close_bracket ∷ close_parenthesis ∷ []) else Refuses
+    then Takes (open_parenthesis ∷ wanted.Name ∷ open_bracket ∷ wanted.Index false ∷ close_bracket
+    ∷ close_parenthesis ∷ []) else Refuses
 
 abbrev pub after_if : Token → Step
 after_if t =
@@ -123,31 +162,47 @@ after_if t =
     then Takes (wanted.Range ∷ colon ∷ wanted.Condition true ∷ wanted.Keyword keyword.Goto ∷ wanted.Number ∷ [])
     else and_then (wanted.Keyword keyword.Goto ∷ wanted.Number ∷ []) (after_condition false t)
 
--- the instructions that write neither a register nor a local alone, by their first word
-abbrev pub after_other_instruction : Token → Step
-after_other_instruction t =
-    if is_word (codes "each") t
-    then Takes (wanted.Range ∷ colon ∷ wanted.Name ∷ open_bracket ∷ wanted.Symbol symbol.At ∷ close_bracket ∷ equal ∷ wanted.Expr true ∷ wanted.WhereOption ∷ []) else
-    if is_word (codes "first") t
-    then Takes (wanted.Name ∷ wanted.Range ∷ colon ∷ wanted.Condition true ∷ wanted.Keyword keyword.Goto ∷ wanted.Number ∷ []) else
-    if is_word (codes "next") t then Takes (wanted.Name ∷ wanted.Range ∷ wanted.Keyword keyword.Goto ∷ wanted.Number ∷ []) else
+-- the instructions that lead elsewhere, or end an operation, by their first word
+abbrev pub after_control_instruction : Token → Step
+after_control_instruction t =
     if is_word (codes "if") t then Takes (wanted.Test ∷ []) else
     if is_word (codes "goto") t then Takes (wanted.Number ∷ []) else
     if is_word (codes "call") t then Takes (wanted.Number ∷ []) else
     if is_word (codes "return") t then Takes (wanted.Name ∷ []) else
     if is_word (codes "finish") t then Takes [] else Refuses
 
+-- those that go over `n` or `w` places, or one of the others
+abbrev pub after_range_instruction : Token → Step
+after_range_instruction t =
+    if is_word (codes "each") t
+    then Takes (wanted.Range ∷ colon ∷ wanted.Name ∷ open_bracket ∷ wanted.Symbol symbol.At ∷ close_bracket ∷ equal
+    ∷ wanted.Expr true ∷ wanted.WhereOption ∷ []) else
+    if is_word (codes "first") t
+    then Takes (wanted.Name ∷ wanted.Range ∷ colon ∷ wanted.Condition true ∷ wanted.Keyword keyword.Goto
+    ∷ wanted.Number ∷ []) else
+    if is_word (codes "next") t
+    then Takes (wanted.Name ∷ wanted.Range ∷ wanted.Keyword keyword.Goto ∷ wanted.Number ∷ []) else
+    after_control_instruction t
+
+-- those that read or write a register, or one of the others
+abbrev pub after_register_instruction : Token → Step
+after_register_instruction t =
+    if is_word (codes "get") t
+    then Takes (wanted.Name ∷ open_bracket ∷ wanted.Index false ∷ close_bracket ∷ equal ∷ wanted.Keyword keyword.R
+    ∷ open_bracket ∷ wanted.Index false ∷ close_bracket ∷ []) else
+    if is_word (codes "bit") t then Takes (wanted.Name ∷ equal ∷ wanted.Bit ∷ []) else
+    if is_word (codes "look") t
+    then Takes (wanted.Name ∷ equal ∷ wanted.Keyword keyword.V ∷ open_bracket ∷ wanted.Index false
+    ∷ close_bracket ∷ []) else
+    if is_word (codes "put") t then Takes (wanted.Target ∷ []) else after_range_instruction t
+
 -- the instructions, by their first word
 abbrev pub after_instruction : Token → Step
 after_instruction t =
-    if is_word (codes "let") t then Takes (wanted.Name ∷ wanted.PlaceOption false ∷ equal ∷ wanted.Expr false ∷ []) else
-    if is_word (codes "get") t
-    then Takes (wanted.Name ∷ open_bracket ∷ wanted.Index false ∷ close_bracket ∷ equal ∷ wanted.Keyword keyword.R ∷ open_bracket ∷ wanted.Index false ∷ close_bracket ∷ []) else
-    if is_word (codes "bit") t then Takes (wanted.Name ∷ equal ∷ wanted.Bit ∷ []) else
-    if is_word (codes "look") t
-    then Takes (wanted.Name ∷ equal ∷ wanted.Keyword keyword.V ∷ open_bracket ∷ wanted.Index false ∷ close_bracket ∷ []) else
-    if is_word (codes "put") t then Takes (wanted.Target ∷ []) else
-    if is_word (codes "view") t then Takes (wanted.Name ∷ equal ∷ wanted.ViewSource ∷ []) else after_other_instruction t
+    if is_word (codes "let") t
+    then Takes (wanted.Name ∷ wanted.PlaceOption false ∷ equal ∷ wanted.Expr false ∷ []) else
+    if is_word (codes "view") t then Takes (wanted.Name ∷ equal ∷ wanted.ViewSource ∷ []) else
+    after_register_instruction t
 
 abbrev pub after_act : Token → Step
 after_act t =
@@ -173,7 +228,8 @@ after_shown t = if is_number t then Takes [] else after_register t
 
 -- the commands that move, but for `run` and `rrun`
 abbrev pub is_move : Token → Bool
-is_move t = if is_word (codes "step") t then true else if is_word (codes "back") t then true else is_word (codes "goto") t
+is_move t =
+    if is_word (codes "step") t then true else if is_word (codes "back") t then true else is_word (codes "goto") t
 
 abbrev pub is_breakpoint : Token → Bool
 is_breakpoint t = if is_word (codes "break") t then true else is_word (codes "clear") t
@@ -194,34 +250,38 @@ after_command t =
     if is_watch t then Takes (wanted.Register ∷ []) else
     if is_word (codes "show") t then Takes (wanted.Shown ∷ []) else one (is_short t)
 
--- what is wanted behind a token, where this is wanted there
+-- whether a token is what is wanted, where that is one token
+abbrev pub is_single : Wanted → Token → Bool
+is_single (wanted.Symbol m) t = is_symbol m t
+is_single (wanted.Keyword k) t = is_word (keyword_text k) t
+is_single wanted.Number t = is_number t
+is_single wanted.LineNumber t = is_line t
+is_single wanted.Count t = is_within 1 max_count t
+is_single wanted.Positive t = is_positive t
+is_single wanted.Turn t = is_within 1 max_items t
+is_single wanted.Name t = is_name t
+is_single (wanted.Index q) t = is_index q t
+is_single wanted.Range t = is_range t
+is_single wanted.Relation t = is_relation t
+is_single wanted.KindName t = is_kind t
+is_single _ t = false
+
+-- what is wanted behind a token, where this is wanted there: nothing more, unless it is a rule
 abbrev pub after : Wanted → Token → Step
-after (wanted.Symbol m) t = one (is_symbol m t)
-after (wanted.Keyword k) t = one (is_word (keyword_text k) t)
-after wanted.Number t = one (is_number t)
-after wanted.LineNumber t = one (is_line t)
-after wanted.Count t = one (is_within 1 max_count t)
-after wanted.Positive t = one (is_positive t)
-after wanted.Turn t = one (is_within 1 max_items t)
-after wanted.Name t = one (is_name t)
-after (wanted.Index q) t = one (is_index q t)
-after wanted.Range t = one (is_range t)
-after wanted.Relation t = one (is_relation t)
-after wanted.KindName t = one (is_kind t)
 after wanted.Names t = maybe_begun (is_identifier t) (wanted.Names ∷ [])
 after wanted.Instruction t = after_instruction t
 after (wanted.Term q) t = after_term q t
-after (wanted.PlaceOption q) t = maybe_begun (is_symbol symbol.OpenBracket t) (wanted.Index q ∷ close_bracket ∷ [])
+after (wanted.PlaceOption q) t = after_place_option q t
 after (wanted.Expr q) t = after_expr q t
-after (wanted.SumOption q) t = maybe_begun (is_symbol symbol.Plus t) (wanted.Term q ∷ [])
+after (wanted.SumOption q) t = after_sum_option q t
 after (wanted.Condition q) t = after_condition q t
 after (wanted.FirstJoin q) t = after_first q t
 after (wanted.SecondJoin j q) t = after_second j q t
 after (wanted.ThirdJoin j q) t = after_third j q t
-after wanted.WhereOption t = maybe_begun (is_word (codes "where") t) (wanted.Condition true ∷ [])
+after wanted.WhereOption t = after_where_option t
 after wanted.Target t = after_target t
-after wanted.Bit t = begun (is_bit_bank t) (open_bracket ∷ wanted.Index false ∷ comma ∷ wanted.Index false ∷ close_bracket ∷ [])
-after wanted.Tuple t = begun (is_symbol symbol.OpenParenthesis t) (wanted.Expr false ∷ comma ∷ wanted.SecondPart ∷ [])
+after wanted.Bit t = after_bit t
+after wanted.Tuple t = after_tuple t
 after wanted.SecondPart t = after_second_part t
 after wanted.BehindName t = after_second_name t
 after wanted.BehindThird t = after_third_part t
@@ -232,6 +292,7 @@ after wanted.ScriptAct t = after_script_act t
 after wanted.Command t = after_command t
 after wanted.Register t = after_register t
 after wanted.Shown t = after_shown t
+after w t = one (is_single w t)
 
 -- whether nothing may stand for what is wanted
 abbrev pub may_pass : Wanted → Bool

@@ -1,4 +1,5 @@
--- The laws of places at which lines are lost.
+-- `StaysLost`: where a line of an input is lost at a token, so is each line that begins with the tokens up to that
+-- one.
 use Rattle.std.specs.Prelude.{◌≡◌, ℕ, List, ◌∷◌, ◌++◌, length, Some}
 use Rattle.snap_semantics.specs.Token.{Token}
 use Rattle.snap_expected.specs.declared.sorts.LineSort.{LineSort}

@@ -1,3 +1,4 @@
+-- The definitions of snap_expected, by their modules.
 pub mod Tests
 pub mod After
 pub mod Lost

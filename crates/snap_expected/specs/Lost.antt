@@ -1,4 +1,5 @@
--- Where a line is lost: the first token at which no line of its sort goes on.
+-- `lost_in`: where a line of an input is lost, the first token with which no line of its sort goes on; and what is
+-- wanted there.
 use Rattle.std.specs.Prelude.{ℕ, ◌+◌, Bool, true, false, ◌&&◌, List, [], ◌∷◌, ◌++◌, Option, Some, None, if◌then◌else◌}
 use Rattle.snap_semantics.specs.declared.text.Symbol.TheVariants as symbol
 use Rattle.snap_semantics.specs.Token.{Token}
@@ -11,7 +12,8 @@ use Rattle.snap_expected.specs.declared.sorts.Header.{Header}
 use Rattle.snap_expected.specs.declared.sorts.Header.TheVariants as header
 use Rattle.snap_expected.specs.After.{Step, Takes, Passes, Refuses, after, may_pass}
 
--- what is wanted behind a token that makes this step, with these wanted behind; where it passes on, that is said already
+-- what is wanted behind a token that makes this step, with these wanted behind; where it
+-- passes on, that is said already
 abbrev pub stepped : List Wanted → Option (List Wanted) → Step → Option (List Wanted)
 stepped ws passed (Takes next) = Some (next ++ ws)
 stepped ws passed Passes = passed
@@ -32,13 +34,14 @@ pub record Place : Type 0 where
   pub before : ℕ
   pub wanted : List Wanted
 
--- a token with which a line does not go on is lost, where so many stand before it and these are wanted; else a place behind it may be
+-- a token with which a line does not go on is lost, where so many stand before it and these are wanted; else a place
+-- behind it may be
 abbrev pub lost_at : (before : ℕ) → List Wanted → (List Wanted → Option Place) → Option (List Wanted) → Option Place
 lost_at before ws later None = Some (record { before = before; wanted = ws })
 lost_at before ws later (Some next) = later next
 
--- where tokens are lost behind so many others: at the first one with which the line does not go on, or at the end of the line; none where
--- they are all that is wanted
+-- where tokens are lost behind so many others: at the first one with which the line does not go on, or at the end of
+-- the line; none where they are all that is wanted
 abbrev pub lost : (before : ℕ) → List Wanted → List Token → Option Place
 lost before ws [] = if may_end ws then None else Some (record { before = before; wanted = ws })
 lost before ws (t ∷ ts) = lost_at before ws (λ next. lost (before + 1) next ts) (step t ws)

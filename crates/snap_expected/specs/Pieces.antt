@@ -1,5 +1,6 @@
 -- The tokens of a line with their columns, from 1, which count bytes; and the first column at which no token begins.
-use Rattle.std.specs.Prelude.{ℕ, ◌+◌, Bool, false, ◌&&◌, ◌||◌, nat_eq, List, [], ◌∷◌, ◌++◌, length, Option, Some, None, if◌then◌else◌}
+use Rattle.std.specs.Prelude.{ℕ, ◌+◌, Bool, false, ◌&&◌, ◌||◌, nat_eq, List, [], ◌∷◌, ◌++◌}
+use Rattle.std.specs.Prelude.{length, Option, Some, None, if◌then◌else◌}
 use Rattle.snap_text.specs.Tokens.{lexeme_len}
 use Rattle.snap_semantics.specs.Token.{Token, begins_with, is_lexeme_byte, tokens_of}
 

@@ -1,4 +1,4 @@
--- Steps, tokens and places of the code as those of the definitions.
+-- The steps, tokens and places of the code that finds where a line is lost, viewed as those of its definitions.
 use Rattle.std.specs.Prelude.{List, map}
 use Rattle.snap_semantics.specs.Token.{Token}
 use Rattle.snap_text.specs.Tokens.{view_token}

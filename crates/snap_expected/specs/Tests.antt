@@ -1,4 +1,5 @@
--- What a token is.
+-- Tests of a token, by which lines of an input are followed: whether it is a word, a name, a number in bounds, an
+-- index, a field, ..
 use Rattle.std.specs.Prelude.{ℕ, Bool, true, false, ◌&&◌, ◌||◌, not, List, nat_lt, nat_le, bytes_eq, codes}
 use Rattle.snap_words.specs.Shape.{max_count}
 use Rattle.snap_semantics.specs.declared.text.Symbol.{Symbol}
@@ -75,14 +76,16 @@ is_relation t = is_symbol symbol.Equal t || (is_symbol symbol.Different t || is_
 -- an index that is no name: a number, one of four words, or `@` where it may stand
 abbrev pub is_fixed_index : Bool → Token → Bool
 is_fixed_index q t =
-    is_number t || (is_word (codes "n") t || (is_word (codes "w") t || (is_word (codes "me") t || (is_word (codes "word") t || (q && is_symbol symbol.At t)))))
+    is_number t || (is_word (codes "n") t || (is_word (codes "w") t
+    || (is_word (codes "me") t || (is_word (codes "word") t || (q && is_symbol symbol.At t)))))
 
 abbrev pub is_index : Bool → Token → Bool
 is_index q t = is_name t || is_fixed_index q t
 
 -- the keyword of a field of one number
 abbrev pub is_field : Token → Bool
-is_field t = is_word (codes "seq") t || (is_word (codes "data") t || (is_word (codes "toggle") t || is_word (codes "id") t))
+is_field t =
+    is_word (codes "seq") t || (is_word (codes "data") t || (is_word (codes "toggle") t || is_word (codes "id") t))
 
 abbrev pub is_kind : Token → Bool
 is_kind t = is_word (codes "seq") t || (is_word (codes "bit") t || is_word (codes "multi") t)

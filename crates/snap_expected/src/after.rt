@@ -1,7 +1,19 @@
-//! What a line is to have next, behind a token.
+//! What a line of an input may have next after a token, `Step` by step: the grammar of listings,
+//! schedules, scripts and commands.
 ghost use Rattle.std.specs.Prelude.{◌≡◌, IfOk, OnOk, List, codes};
 ghost use Rattle.snap_text.specs.Tokens.{view_token};
-ghost use Rattle.snap_expected.specs.After.{and_then, one, begun, maybe_begun, after_term, after_expr, after_condition, after_first, after_second, after_third, after_second_part, after_second_name, after_third_part, after_target, after_view_source, after_if, after_other_instruction, after_instruction, after_act, after_script_act, after_register, after_shown, is_move, is_breakpoint, is_watch, is_short, after_command, after, may_pass, Takes, Passes, Refuses};
+ghost use Rattle.snap_expected.specs.After.{Takes, and_then, one, begun, maybe_begun};
+ghost use Rattle.snap_expected.specs.After.{after_term, after_expr, after_condition, after_first};
+ghost use Rattle.snap_expected.specs.After.{after_second, after_third, after_second_part};
+ghost use Rattle.snap_expected.specs.After.{after_second_name, after_third_part, after_bit};
+ghost use Rattle.snap_expected.specs.After.{after_place_option, after_sum_option, after_tuple};
+ghost use Rattle.snap_expected.specs.After.{after_where_option, after_target, after_view_source};
+ghost use Rattle.snap_expected.specs.After.{after_if, after_control_instruction};
+ghost use Rattle.snap_expected.specs.After.{after_range_instruction, after_register_instruction};
+ghost use Rattle.snap_expected.specs.After.{after_instruction, after_act, after_script_act};
+ghost use Rattle.snap_expected.specs.After.{after_register, after_shown, is_move, is_breakpoint};
+ghost use Rattle.snap_expected.specs.After.{is_watch, is_short, after_command, is_single, after};
+ghost use Rattle.snap_expected.specs.After.{may_pass, Passes, Refuses};
 ghost use Rattle.snap_expected.specs.Steps.{view_step};
 
 use crate::tests::{
@@ -93,7 +105,8 @@ fn maybe_begun(alloc: Global, passed: bool, next: &[Wanted]) -> Result<Step, All
 
 /// A term.
 fn after_term(alloc: Global, in_quantifier: bool, token: &Token<'_>) -> Result<Step, AllocError>
-    ensures { IfOk result (λ step. view_step step ≡ after_term in_quantifier (view_token token.now)) }
+    ensures { IfOk result (λ step. view_step step
+        ≡ after_term in_quantifier (view_token token.now)) }
 {
     if is_name(token) {
         takes(alloc, &[Wanted::PlaceOption(in_quantifier)])
@@ -134,7 +147,8 @@ fn after_term(alloc: Global, in_quantifier: bool, token: &Token<'_>) -> Result<S
 
 /// `not` and a term, or one or two terms.
 fn after_expr(alloc: Global, in_quantifier: bool, token: &Token<'_>) -> Result<Step, AllocError>
-    ensures { IfOk result (λ step. view_step step ≡ after_expr in_quantifier (view_token token.now)) }
+    ensures { IfOk result (λ step. view_step step
+        ≡ after_expr in_quantifier (view_token token.now)) }
 {
     if is_word(b"not", token) {
         return takes(alloc, &[Wanted::Term(in_quantifier)]);
@@ -149,7 +163,8 @@ fn after_condition(
     in_quantifier: bool,
     token: &Token<'_>,
 ) -> Result<Step, AllocError>
-    ensures { IfOk result (λ step. view_step step ≡ after_condition in_quantifier (view_token token.now)) }
+    ensures { IfOk result (λ step. view_step step
+        ≡ after_condition in_quantifier (view_token token.now)) }
 {
     let term = after_term(alloc, in_quantifier, token)?;
     and_then(
@@ -164,7 +179,8 @@ fn after_condition(
 
 /// What stands behind one comparison.
 fn after_first(alloc: Global, in_quantifier: bool, token: &Token<'_>) -> Result<Step, AllocError>
-    ensures { IfOk result (λ step. view_step step ≡ after_first in_quantifier (view_token token.now)) }
+    ensures { IfOk result (λ step. view_step step
+        ≡ after_first in_quantifier (view_token token.now)) }
 {
     if is_word(b"and", token) {
         takes(
@@ -198,7 +214,8 @@ fn after_second(
     in_quantifier: bool,
     token: &Token<'_>,
 ) -> Result<Step, AllocError>
-    ensures { IfOk result (λ step. view_step step ≡ after_second join in_quantifier (view_token token.now)) }
+    ensures { IfOk result (λ step. view_step step
+        ≡ after_second join in_quantifier (view_token token.now)) }
 {
     maybe_begun(
         alloc,
@@ -219,7 +236,8 @@ fn after_third(
     in_quantifier: bool,
     token: &Token<'_>,
 ) -> Result<Step, AllocError>
-    ensures { IfOk result (λ step. view_step step ≡ after_third join in_quantifier (view_token token.now)) }
+    ensures { IfOk result (λ step. view_step step
+        ≡ after_third join in_quantifier (view_token token.now)) }
 {
     maybe_begun(
         alloc,
@@ -289,6 +307,73 @@ fn after_third_part(alloc: Global, token: &Token<'_>) -> Result<Step, AllocError
     }
 }
 
+/// `[I]` behind a name, or nothing.
+fn after_place_option(
+    alloc: Global,
+    in_quantifier: bool,
+    token: &Token<'_>,
+) -> Result<Step, AllocError>
+    ensures { IfOk result (λ step. view_step step
+        ≡ after_place_option in_quantifier (view_token token.now)) }
+{
+    let begins = is_symbol(Symbol::OpenBracket, token);
+    maybe_begun(
+        alloc,
+        begins,
+        &[Wanted::Index(in_quantifier), CLOSE_BRACKET],
+    )
+}
+
+/// `+` and a term, or nothing.
+fn after_sum_option(
+    alloc: Global,
+    in_quantifier: bool,
+    token: &Token<'_>,
+) -> Result<Step, AllocError>
+    ensures { IfOk result (λ step. view_step step
+        ≡ after_sum_option in_quantifier (view_token token.now)) }
+{
+    let begins = is_symbol(Symbol::Plus, token);
+    maybe_begun(alloc, begins, &[Wanted::Term(in_quantifier)])
+}
+
+/// `where` and a condition, or nothing.
+fn after_where_option(alloc: Global, token: &Token<'_>) -> Result<Step, AllocError>
+    ensures { IfOk result (λ step. view_step step ≡ after_where_option (view_token token.now)) }
+{
+    let begins = is_word(b"where", token);
+    maybe_begun(alloc, begins, &[Wanted::Condition(true)])
+}
+
+/// `q` or `p`, and `[I,J]`.
+fn after_bit(alloc: Global, token: &Token<'_>) -> Result<Step, AllocError>
+    ensures { IfOk result (λ step. view_step step ≡ after_bit (view_token token.now)) }
+{
+    begun(
+        alloc,
+        is_bit_bank(token),
+        &[
+            OPEN_BRACKET,
+            Wanted::Index(false),
+            COMMA,
+            Wanted::Index(false),
+            CLOSE_BRACKET,
+        ],
+    )
+}
+
+/// A tuple.
+fn after_tuple(alloc: Global, token: &Token<'_>) -> Result<Step, AllocError>
+    ensures { IfOk result (λ step. view_step step ≡ after_tuple (view_token token.now)) }
+{
+    let begins = is_symbol(Symbol::OpenParenthesis, token);
+    begun(
+        alloc,
+        begins,
+        &[Wanted::Expr(false), COMMA, Wanted::SecondPart],
+    )
+}
+
 /// The register that a `put` writes, and what it writes.
 fn after_target(alloc: Global, token: &Token<'_>) -> Result<Step, AllocError>
     ensures { IfOk result (λ step. view_step step ≡ after_target (view_token token.now)) }
@@ -304,19 +389,6 @@ fn after_target(alloc: Global, token: &Token<'_>) -> Result<Step, AllocError>
                 Wanted::Tuple,
             ],
         )
-    } else if is_bit_bank(token) {
-        takes(
-            alloc,
-            &[
-                OPEN_BRACKET,
-                Wanted::Index(false),
-                COMMA,
-                Wanted::Index(false),
-                CLOSE_BRACKET,
-                EQUAL,
-                Wanted::Expr(false),
-            ],
-        )
     } else if is_word(b"v", token) {
         takes(
             alloc,
@@ -329,7 +401,8 @@ fn after_target(alloc: Global, token: &Token<'_>) -> Result<Step, AllocError>
             ],
         )
     } else {
-        Ok(Step::Refuses)
+        let bit = after_bit(alloc, token)?;
+        and_then(bit, &[EQUAL, Wanted::Expr(false)])
     }
 }
 
@@ -390,7 +463,20 @@ fn after_instruction(alloc: Global, token: &Token<'_>) -> Result<Step, AllocErro
                 Wanted::Expr(false),
             ],
         )
-    } else if is_word(b"get", token) {
+    } else if is_word(b"view", token) {
+        takes(alloc, &[Wanted::Name, EQUAL, Wanted::ViewSource])
+    } else {
+        after_register_instruction(alloc, token)
+    }
+}
+
+/// An instruction that reads or writes a register, or another one that sets no local from values
+/// alone.
+fn after_register_instruction(alloc: Global, token: &Token<'_>) -> Result<Step, AllocError>
+    ensures { IfOk result (λ step. view_step step
+        ≡ after_register_instruction (view_token token.now)) }
+{
+    if is_word(b"get", token) {
         takes(
             alloc,
             &[
@@ -421,16 +507,15 @@ fn after_instruction(alloc: Global, token: &Token<'_>) -> Result<Step, AllocErro
         )
     } else if is_word(b"put", token) {
         takes(alloc, &[Wanted::Target])
-    } else if is_word(b"view", token) {
-        takes(alloc, &[Wanted::Name, EQUAL, Wanted::ViewSource])
     } else {
-        after_other_instruction(alloc, token)
+        after_range_instruction(alloc, token)
     }
 }
 
-/// An instruction that writes neither a register nor one name.
-fn after_other_instruction(alloc: Global, token: &Token<'_>) -> Result<Step, AllocError>
-    ensures { IfOk result (λ step. view_step step ≡ after_other_instruction (view_token token.now)) }
+/// An instruction that goes over `n` or `w` places, or one of control.
+fn after_range_instruction(alloc: Global, token: &Token<'_>) -> Result<Step, AllocError>
+    ensures { IfOk result (λ step. view_step step
+        ≡ after_range_instruction (view_token token.now)) }
 {
     if is_word(b"each", token) {
         takes(
@@ -461,7 +546,17 @@ fn after_other_instruction(alloc: Global, token: &Token<'_>) -> Result<Step, All
         )
     } else if is_word(b"next", token) {
         takes(alloc, &[Wanted::Name, Wanted::Range, GOTO, Wanted::Number])
-    } else if is_word(b"if", token) {
+    } else {
+        after_control_instruction(alloc, token)
+    }
+}
+
+/// An instruction that leads elsewhere, or ends an operation.
+fn after_control_instruction(alloc: Global, token: &Token<'_>) -> Result<Step, AllocError>
+    ensures { IfOk result (λ step. view_step step
+        ≡ after_control_instruction (view_token token.now)) }
+{
+    if is_word(b"if", token) {
         takes(alloc, &[Wanted::Test])
     } else if is_word(b"goto", token) {
         takes(alloc, &[Wanted::Number])
@@ -583,63 +678,46 @@ fn after_command(alloc: Global, token: &Token<'_>) -> Result<Step, AllocError>
     }
 }
 
+/// Whether a token is what is wanted, where that is one token.
+fn is_single(wanted: Wanted, token: &Token<'_>) -> bool
+    ensures { result ≡ is_single wanted (view_token token.now) }
+{
+    match wanted {
+        Wanted::Symbol(symbol) => is_symbol(symbol, token),
+        Wanted::Keyword(keyword) => is_word(keyword_text(keyword), token),
+        Wanted::Number => is_number(token),
+        Wanted::LineNumber => is_line(token),
+        Wanted::Count => is_within(1, MAX_COUNT, token),
+        Wanted::Positive => is_positive(token),
+        Wanted::Turn => is_within(1, MAX_ITEMS, token),
+        Wanted::Name => is_name(token),
+        Wanted::Index(q) => is_index(q, token),
+        Wanted::Range => is_range(token),
+        Wanted::Relation => is_relation(token),
+        Wanted::KindName => is_kind(token),
+        _ => false,
+    }
+}
+
 /// What a token is where this is wanted.
 pub fn after(alloc: Global, wanted: Wanted, token: &Token<'_>) -> Result<Step, AllocError>
     ensures { IfOk result (λ step. view_step step ≡ after wanted (view_token token.now)) }
 {
     match wanted {
-        Wanted::Symbol(symbol) => one(alloc, is_symbol(symbol, token)),
-        Wanted::Keyword(keyword) => one(alloc, is_word(keyword_text(keyword), token)),
-        Wanted::Number => one(alloc, is_number(token)),
-        Wanted::LineNumber => one(alloc, is_line(token)),
-        Wanted::Count => one(alloc, is_within(1, MAX_COUNT, token)),
-        Wanted::Positive => one(alloc, is_positive(token)),
-        Wanted::Turn => one(alloc, is_within(1, MAX_ITEMS, token)),
-        Wanted::Name => one(alloc, is_name(token)),
-        Wanted::Index(q) => one(alloc, is_index(q, token)),
-        Wanted::Range => one(alloc, is_range(token)),
-        Wanted::Relation => one(alloc, is_relation(token)),
-        Wanted::KindName => one(alloc, is_kind(token)),
         Wanted::Names => maybe_begun(alloc, is_identifier(token), &[Wanted::Names]),
         Wanted::Instruction => after_instruction(alloc, token),
         Wanted::Term(q) => after_term(alloc, q, token),
-        Wanted::PlaceOption(q) => maybe_begun(
-            alloc,
-            is_symbol(Symbol::OpenBracket, token),
-            &[Wanted::Index(q), CLOSE_BRACKET],
-        ),
+        Wanted::PlaceOption(q) => after_place_option(alloc, q, token),
         Wanted::Expr(q) => after_expr(alloc, q, token),
-        Wanted::SumOption(q) => maybe_begun(
-            alloc,
-            is_symbol(Symbol::Plus, token),
-            &[Wanted::Term(q)],
-        ),
+        Wanted::SumOption(q) => after_sum_option(alloc, q, token),
         Wanted::Condition(q) => after_condition(alloc, q, token),
         Wanted::FirstJoin(q) => after_first(alloc, q, token),
         Wanted::SecondJoin(join, q) => after_second(alloc, join, q, token),
         Wanted::ThirdJoin(join, q) => after_third(alloc, join, q, token),
-        Wanted::WhereOption => maybe_begun(
-            alloc,
-            is_word(b"where", token),
-            &[Wanted::Condition(true)],
-        ),
+        Wanted::WhereOption => after_where_option(alloc, token),
         Wanted::Target => after_target(alloc, token),
-        Wanted::Bit => begun(
-            alloc,
-            is_bit_bank(token),
-            &[
-                OPEN_BRACKET,
-                Wanted::Index(false),
-                COMMA,
-                Wanted::Index(false),
-                CLOSE_BRACKET,
-            ],
-        ),
-        Wanted::Tuple => begun(
-            alloc,
-            is_symbol(Symbol::OpenParenthesis, token),
-            &[Wanted::Expr(false), COMMA, Wanted::SecondPart],
-        ),
+        Wanted::Bit => after_bit(alloc, token),
+        Wanted::Tuple => after_tuple(alloc, token),
         Wanted::SecondPart => after_second_part(alloc, token),
         Wanted::BehindName => after_second_name(alloc, token),
         Wanted::BehindThird => after_third_part(alloc, token),
@@ -650,6 +728,7 @@ pub fn after(alloc: Global, wanted: Wanted, token: &Token<'_>) -> Result<Step, A
         Wanted::Command => after_command(alloc, token),
         Wanted::Register => after_register(alloc, token),
         Wanted::Shown => after_shown(alloc, token),
+        single => one(alloc, is_single(single, token)),
     }
 }
 

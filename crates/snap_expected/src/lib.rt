@@ -1,4 +1,5 @@
-//! What is expected where a line is lost.
+//! Where a line of an input is lost, which is the first token with which no line of its sort goes
+//! on, and what is expected there.
 #![tactic(auto)]
 
 mod after;
@@ -14,5 +15,5 @@ pub use laws::what_is_lost_stays_lost;
 pub use lost::{LostPlace, lost_in};
 pub use pieces::{PlacedToken, PlacedTokens, is_lexeme_byte, piece_len, placed_tokens};
 pub use sorts::{Header, LineSort};
-pub use tests::{is_identifier, is_symbol, is_word};
+pub use tests::{is_bit_bank, is_identifier, is_line, is_name, is_symbol, is_word};
 pub use wanted::{Keyword, Wanted};

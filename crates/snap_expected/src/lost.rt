@@ -1,7 +1,9 @@
-//! Where a line is lost.
+//! `lost_in`: where a line of an input is lost, the first token with which no line of its sort goes
+//! on, and what is wanted there.
 ghost use Rattle.std.specs.Prelude.{◌≡◌, IfOk, option_map, vec_items};
 ghost use Rattle.snap_text.specs.Tokens.{view_token};
-ghost use Rattle.snap_expected.specs.Lost.{step, may_end, lost, wanted_of_header, wanted_of, lost_in};
+ghost use Rattle.snap_expected.specs.Lost.{step, may_end, lost, wanted_of_header, wanted_of};
+ghost use Rattle.snap_expected.specs.Lost.{lost_in};
 ghost use Rattle.snap_expected.specs.Steps.{placed_tokens, view_lost};
 
 use crate::after::{Step, after, may_pass};

@@ -1,4 +1,5 @@
-//! The tokens of a line with their columns.
+//! `placed_tokens`: the tokens of a line with their columns, up to the first byte that begins no
+//! token.
 ghost use Rattle.std.specs.Prelude.{◌≡◌, ◌≤◌, ◌<◌, ◌++◌, IfOk, OnOk, length, map};
 ghost use Rattle.snap_semantics.specs.Token.{begins_with, is_lexeme_byte};
 ghost use Rattle.snap_text.specs.Tokens.{lexeme_len, view_tokens};

@@ -1,4 +1,4 @@
-//! The sorts of lines of an input.
+//! `LineSort`: the sorts of lines of an input: of a listing, a schedule, scripts or commands.
 
 /// A header line of a listing.
 #[derive(Clone, Copy, Debug, PartialEq, Eq)]

@@ -1,7 +1,11 @@
-//! What a token is.
+//! Tests of a token, by which lines of an input are followed: `is_word`, `is_name`, `is_within`,
+//! `is_index` and others.
 ghost use Rattle.std.specs.Prelude.{◌≡◌};
 ghost use Rattle.snap_text.specs.Tokens.{view_token};
-ghost use Rattle.snap_expected.specs.Tests.{is_word, is_symbol, is_identifier, is_name, is_number, is_line, is_within, is_positive, keyword_text, is_range, is_relation, is_fixed_index, is_index, is_field, is_kind, is_bit_bank};
+ghost use Rattle.snap_expected.specs.Tests.{is_word, is_symbol, is_identifier, is_name, is_number};
+ghost use Rattle.snap_expected.specs.Tests.{is_line, is_within, is_positive, keyword_text};
+ghost use Rattle.snap_expected.specs.Tests.{is_range, is_relation, is_fixed_index, is_index};
+ghost use Rattle.snap_expected.specs.Tests.{is_field, is_kind, is_bit_bank};
 
 use crate::wanted::Keyword;
 use snap_listing_core::{is_line_number, is_reserved};

@@ -1,4 +1,4 @@
-//! What a line is to have next.
+//! `Wanted`: what a line of an input is to have next, a token or tokens in a row by their rule.
 use snap_semantics::{Join, Symbol};
 
 /// A word of a line that stands for itself.
@@ -19,8 +19,8 @@ pub enum Keyword {
     V,
 }
 
-/// A part of a line: a token, or tokens in a row by their rule. A rule with a `bool` is that of quantifiers, where `@`
-/// may be an index, if it is true.
+/// A part of a line: a token, or tokens in a row by their rule. A rule with a `bool` is that of
+/// quantifiers, where `@` may be an index, if it is true.
 #[derive(Clone, Copy, Debug, PartialEq, Eq)]
 pub enum Wanted {
     Symbol(Symbol),

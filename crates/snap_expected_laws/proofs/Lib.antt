@@ -1,3 +1,4 @@
+-- The proofs of snap_expected_laws, by their modules.
 pub mod Forms
 pub mod Commands
 pub mod NotLost

@@ -1,5 +1,7 @@
--- Lines with forms are not lost, and none goes on where one is lost.
-use Rattle.std.proofs.Common.{◌≡◌, ℕ, ◌+◌, Bool, true, false, List, ◌∷◌, ◌++◌, length, Option, Some, None, refl, sym, ◌∙◌, arith}
+-- `not_lost` and `none_goes_on`: a line that has a form of its sort is not lost, and no line with a form goes on
+-- where another is lost.
+use Rattle.std.proofs.Common.{◌≡◌, ℕ, ◌+◌, Bool, true, false, List, ◌∷◌, ◌++◌, length}
+use Rattle.std.proofs.Common.{Option, Some, None, refl, sym, ◌∙◌, arith}
 use Rattle.snap_semantics.specs.HeaderForms.{kind_form, names_form, entry_form}
 use Rattle.snap_semantics.specs.ScheduleForms.{shape_form, item_form}
 use Rattle.snap_semantics.specs.Token.{Token}
@@ -18,12 +20,18 @@ use Rattle.snap_expected_laws.proofs.Commands.{command_goes}
 
 pub not_lost : (sort : LineSort) (ts : List Token) → has_form sort ts ≡ true → lost_in sort ts ≡ None
 not_lost (line.Header header.Kind) ts h = told (line.Header header.Kind) ts (kind_form ts) (kind_goes ts) h
-not_lost (line.Header header.Scalars) ts h = told (line.Header header.Scalars) ts (names_form (keyword_text keyword.Scalar) ts) (names_by keyword.Scalar ts) h
-not_lost (line.Header header.Rows) ts h = told (line.Header header.Rows) ts (names_form (keyword_text keyword.Row) ts) (names_by keyword.Row ts) h
-not_lost (line.Header header.Words) ts h = told (line.Header header.Words) ts (names_form (keyword_text keyword.Words) ts) (names_by keyword.Words ts) h
-not_lost (line.Header header.Views) ts h = told (line.Header header.Views) ts (names_form (keyword_text keyword.View) ts) (names_by keyword.View ts) h
-not_lost (line.Header header.Scan) ts h = told (line.Header header.Scan) ts (entry_form (keyword_text keyword.Scan) ts) (entry_by keyword.Scan ts) h
-not_lost (line.Header header.Update) ts h = told (line.Header header.Update) ts (entry_form (keyword_text keyword.Update) ts) (entry_by keyword.Update ts) h
+not_lost (line.Header header.Scalars) ts h =
+    told (line.Header header.Scalars) ts (names_form (keyword_text keyword.Scalar) ts) (names_by keyword.Scalar ts) h
+not_lost (line.Header header.Rows) ts h =
+    told (line.Header header.Rows) ts (names_form (keyword_text keyword.Row) ts) (names_by keyword.Row ts) h
+not_lost (line.Header header.Words) ts h =
+    told (line.Header header.Words) ts (names_form (keyword_text keyword.Words) ts) (names_by keyword.Words ts) h
+not_lost (line.Header header.Views) ts h =
+    told (line.Header header.Views) ts (names_form (keyword_text keyword.View) ts) (names_by keyword.View ts) h
+not_lost (line.Header header.Scan) ts h =
+    told (line.Header header.Scan) ts (entry_form (keyword_text keyword.Scan) ts) (entry_by keyword.Scan ts) h
+not_lost (line.Header header.Update) ts h =
+    told (line.Header header.Update) ts (entry_form (keyword_text keyword.Update) ts) (entry_by keyword.Update ts) h
 not_lost line.Numbered ts h = absurd cc
 not_lost line.Shape ts h = told line.Shape ts (shape_form ts) (shape_goes ts) h
 not_lost line.Item ts h = told line.Item ts (item_form ts) (item_goes ts) h
@@ -35,7 +43,8 @@ pub none_goes_on : (sort : LineSort) (front : List Token) (t : Token) (rest more
 none_goes_on sort front t rest more p e f =
     elim (has_form sort (front ++ t ∷ more)) as (λ w. has_form sort (front ++ t ∷ more) ≡ w → w ≡ false) [
       | true ↦ λ h.
-          absurd (let there : lost_in sort (front ++ t ∷ more) ≡ Some p = stays front t rest more 0 (wanted_of sort) p e (omega (arith, f)) in
+          absurd (let there : lost_in sort (front ++ t ∷ more) ≡ Some p =
+          stays front t rest more 0 (wanted_of sort) p e (omega (arith, f)) in
           let none = not_lost sort (front ++ t ∷ more) h in cc)
       | false ↦ λ h. refl
     ] refl

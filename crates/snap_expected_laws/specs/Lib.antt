@@ -1,1 +1,2 @@
+-- The definitions of snap_expected_laws, by their modules.
 pub mod Laws

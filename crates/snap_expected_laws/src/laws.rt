@@ -1,4 +1,5 @@
-//! The laws of forms and of places at which lines are lost.
+//! The laws that a line with a form of its sort is not lost, and that no such line begins with the
+//! tokens up to where another is lost.
 ghost use Rattle.snap_expected_laws.specs.Laws.{NotLostWithForm, NoneGoesOn};
 
 /// A line that has a form of its sort is not lost: a header line, a shape, an item, a line of

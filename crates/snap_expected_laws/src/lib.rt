@@ -1,4 +1,5 @@
-//! A line that has a form of its sort is not lost, and none has one that begins with the tokens up to a place where a line is lost.
+//! A line that has a form of its sort is not lost, and none has one that begins with the tokens up
+//! to a place where a line is lost.
 #![tactic(auto)]
 
 mod laws;

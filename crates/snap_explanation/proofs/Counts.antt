@@ -1,11 +1,12 @@
--- What no lines and no parts come to.
-use Rattle.std.proofs.Common.{◌≡◌, ℕ, List, [], ◌∷◌, ◌++◌, map, refl, sym, ap, ◌∙◌, append-nil}
+-- Laws for the explanation of a refused input: how many lines precede a part, and which words precede a line, where
+-- there are none.
+use Rattle.std.proofs.Common.{◌≡◌, ℕ, List, [], ◌∷◌, ◌++◌, length, map, refl, sym, ap, ◌∙◌, append-nil}
+use Rattle.std.proofs.lemmas.List.{length-map}
 use Rattle.snap_semantics.specs.Token.{Token, TextLine}
 use Rattle.snap_expected.specs.Steps.{view_placed_token, placed_tokens}
 use Rattle.snap_expected.specs.declared.pieces.PlacedToken as token
 use Rattle.snap_text.specs.Tokens.{view_token}
-use Rattle.snap_explanation.specs.Explanation.{tokens_of_placed}
-use Rattle.snap_explanation.specs.Names.{words_before}
+use Rattle.snap_explanation.specs.Names.{words_before, tokens_of_placed}
 use Rattle.snap_explanation.specs.Part.{lines_before}
 
 pub none_before : (before : ℕ) (parts : List (List ℕ)) → lines_before 0 before parts ≡ before
@@ -17,11 +18,16 @@ no_words line [] = refl
 no_words line (l ∷ ls) = refl
 
 -- where no more lines are taken
-pub exhausted : (line k : ℕ) (ws all : List (List ℕ)) (ls : List TextLine) → k ≡ 0 → ws ++ words_before line k ls ≡ all → ws ≡ all
+pub exhausted : (line k : ℕ) (ws all : List (List ℕ)) (ls : List TextLine) → k ≡ 0 →
+    ws ++ words_before line k ls ≡ all → ws ≡ all
 exhausted line k ws all ls e h =
-    sym (append-nil ws) ∙ ap (λ (x : List (List ℕ)). ws ++ x) (sym (no_words line ls)) ∙ ap (λ (n : ℕ). ws ++ words_before line n ls) (sym e) ∙ h
+    sym (append-nil ws) ∙ ap (λ (x : List (List ℕ)). ws ++ x) (sym (no_words line ls))
+    ∙ ap (λ (n : ℕ). ws ++ words_before line n ls) (sym e) ∙ h
 
 -- tokens are the same with their columns and without
 pub same_tokens : (ts : List token.PlacedToken) → tokens_of_placed (map view_placed_token ts) ≡ placed_tokens ts
 same_tokens [] = refl
 same_tokens (t ∷ ts) = ap (λ (us : List Token). view_token t.token ∷ us) (same_tokens ts)
+
+pub placed_length : (ts : List token.PlacedToken) → length (placed_tokens ts) ≡ length ts
+placed_length ts = length-map ts (λ (t : token.PlacedToken). view_token t.token)

@@ -1,4 +1,4 @@
--- The fronts of lists, and what stands behind them.
+-- Laws of `take` and `drop` for the pieces of a line that an explanation shows: at most this many bytes, or all.
 use Rattle.std.proofs.Common.{◌≡◌, ℕ, List, length, take, drop, min, ap, sym, ◌∙◌, inl, inr, arith}
 use Rattle.std.proofs.lemmas.Bool.{cases_lt}
 use Rattle.std.proofs.lemmas.List.{take_all, drop_all}

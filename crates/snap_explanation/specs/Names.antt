@@ -1,5 +1,7 @@
--- Names of a listing's text, and the tokens of a line that a refusal is about.
-use Rattle.std.specs.Prelude.{ℕ, ◌+◌, ◌-◌, Bool, true, false, ◌&&◌, ◌||◌, not, List, [], ◌∷◌, ◌++◌, length, drop, Option, Some, None, nat_eq, nat_le, nat_lt, bytes_eq, codes, if◌then◌else◌}
+-- The token of a line that a refusal is about: a name that is unknown or declared twice, the nearest known name, or a
+-- target that is no line.
+use Rattle.std.specs.Prelude.{ℕ, ◌+◌, ◌-◌, Bool, false, ◌&&◌, ◌||◌, not, List, [], ◌∷◌, ◌++◌, drop, Option, Some}
+use Rattle.std.specs.Prelude.{None, nat_eq, nat_lt, bytes_eq, codes, map, if◌then◌else◌}
 use Rattle.std.specs.List.{list_any}
 use Rattle.snap_semantics.specs.Listing.{is_bad_name}
 use Rattle.snap_semantics.specs.ListingForms.{is_reserved}
@@ -7,6 +9,11 @@ use Rattle.snap_semantics.specs.Token.{Token, Identifier, Number, Sign, TextLine
 use Rattle.snap_expected.specs.Pieces.{PlacedToken}
 use Rattle.snap_semantics.specs.Rules.{or_else}
 use Rattle.snap_expected.specs.Tests.{is_word}
+use Rattle.snap_explanation.specs.declared.names.Numbered.{Numbered}
+
+-- tokens without their columns
+abbrev pub tokens_of_placed : List PlacedToken → List Token
+tokens_of_placed ts = map (λ (t : PlacedToken). t.token) ts
 
 -- the identifiers among tokens
 abbrev pub words_of : List Token → List (List ℕ)
@@ -32,12 +39,6 @@ header_count = 7
 -- whether a word is one of these
 abbrev pub is_among : List ℕ → List (List ℕ) → Bool
 is_among w ws = list_any (bytes_eq w) ws
-
--- whether a token is a name that none of these is
-abbrev pub is_unknown : List (List ℕ) → Token → Bool
-is_unknown known (Identifier w) = not (is_reserved w) && not (is_among w known)
-is_unknown known (Number k) = false
-is_unknown known (Sign m) = false
 
 -- token k, from 0
 abbrev pub nth_token : (k : ℕ) → List PlacedToken → Option PlacedToken
@@ -66,6 +67,37 @@ abbrev pub first_again : List (List ℕ) → List PlacedToken → Option PlacedT
 first_again known [] = None
 first_again known (t ∷ ts) = again_at known (λ more. first_again more ts) t t.token
 
+-- a line with a name, and the word that begins the line
+pub record Declared : Type 0 where
+  pub line : ℕ
+  pub keyword : List ℕ
+
+abbrev pub declared_in : (line : ℕ) → List ℕ → List (List ℕ) → Option Declared
+declared_in line x [] = None
+declared_in line x (w ∷ ws) = if is_among x ws then Some (record { line = line; keyword = w }) else None
+
+-- the first line that has a name behind another word
+abbrev pub declared_at : List ℕ → List TextLine → Option Declared
+declared_at x [] = None
+declared_at x (l ∷ ls) = or_else (declared_in l.number x (words_of_line l.tokens)) (declared_at x ls)
+
+abbrev pub number_of : Token → ℕ
+number_of (Identifier w) = 0
+number_of (Number k) = k
+number_of (Sign m) = 0
+
+abbrev pub front_number : Option (List Token) → ℕ
+front_number None = 0
+front_number (Some []) = 0
+front_number (Some (t ∷ ts)) = number_of t
+
+-- the last of these lines before a line, where this one stands before them
+abbrev pub last_before : (line : ℕ) → Numbered → List TextLine → Numbered
+last_before line last [] = last
+last_before line last (l ∷ ls) =
+    if nat_lt l.number line
+    then last_before line (record { line = l.number; number = front_number l.tokens }) ls else last
+
 -- how many letters at the front of two words are the same
 abbrev pub common_len : List ℕ → List ℕ → ℕ
 common_len [] bs = 0
@@ -87,7 +119,8 @@ nearest w (x ∷ xs) = if is_near w x && not (is_reserved x) then Some x else ne
 
 -- whether a word leads to a line
 abbrev pub is_leading : Token → Bool
-is_leading t = is_word (codes "goto") t || (is_word (codes "call") t || (is_word (codes "scan") t || is_word (codes "update") t))
+is_leading t =
+    is_word (codes "goto") t || (is_word (codes "call") t || (is_word (codes "scan") t || is_word (codes "update") t))
 
 abbrev pub is_number : ℕ → Token → Bool
 is_number k (Identifier w) = false

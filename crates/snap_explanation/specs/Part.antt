@@ -1,5 +1,7 @@
--- The part of an input that is refused, and where it stands.
-use Rattle.std.specs.Prelude.{ℕ, ◌+◌, ◌-◌, ◌^◌, min, Bool, true, false, List, [], ◌∷◌, length, Result, Ok, Err, nat_eq, if◌then◌else◌}
+-- `part_place`: the part of an input (its listing or one of its texts) that a refusal is about, and how many lines
+-- precede it.
+use Rattle.std.specs.Prelude.{ℕ, ◌+◌, ◌-◌, ◌^◌, min, Bool, true, false, List, [], ◌∷◌}
+use Rattle.std.specs.Prelude.{length, Result, Ok, Err, nat_eq, if◌then◌else◌}
 use Rattle.snap_semantics.specs.declared.refusal.Refusal.{Refusal}
 use Rattle.snap_semantics.specs.declared.refusal.Refusal.TheVariants as refusal
 use Rattle.snap_semantics.specs.declared.refusal.ScheduleRefusal.{ScheduleRefusal}
@@ -94,7 +96,11 @@ lines_before k before (p ∷ parts) = if nat_eq k 0 then before else lines_befor
 
 abbrev pub part_place_in : Subject → Texts → Refusal → List (List ℕ) → Part
 part_place_in s t r parts =
-    record { name = part_name s t r parts; before = lines_before (part_index s t r parts) 0 parts; text = part (part_index s t r parts) parts }
+    record {
+      name = part_name s t r parts;
+      before = lines_before (part_index s t r parts) 0 parts;
+      text = part (part_index s t r parts) parts;
+    }
 
 -- the part that is refused
 abbrev pub part_place : Layout → List ℕ → Refusal → Part

@@ -1,5 +1,6 @@
--- A place in a text line, shown.
-use Rattle.std.specs.Prelude.{ℕ, ◌+◌, ◌-◌, ◌^◌, ◌&&◌, ◌||◌, List, [], ◌∷◌, ◌++◌, length, map, take, drop, replicate, Option, Some, None, nat_eq, nat_lt, nat_le, codes, decimal, slice_get, if◌then◌else◌}
+-- `spot`: a place of a refused input as it is shown: where it is, its line, and a mark under its column.
+use Rattle.std.specs.Prelude.{ℕ, ◌+◌, ◌-◌, ◌^◌, ◌&&◌, List, [], ◌∷◌, ◌++◌, map, take, drop, replicate, Option, Some}
+use Rattle.std.specs.Prelude.{None, nat_eq, nat_le, codes, decimal, if◌then◌else◌}
 use Rattle.snap_expected.specs.Pieces.{PlacedToken, piece_len}
 use Rattle.snap_explanation.specs.declared.part.PartName.{PartName}
 use Rattle.snap_explanation.specs.declared.part.PartName.TheVariants as name

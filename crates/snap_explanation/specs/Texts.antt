@@ -1,4 +1,4 @@
--- What was expected at a place, in words.
+-- `expected_line`: what was expected at a place of a refused input, in words, and what was found there.
 use Rattle.std.specs.Prelude.{ℕ, List, [], ◌∷◌, ◌++◌, codes, if◌then◌else◌}
 use Rattle.snap_semantics.specs.declared.instr.Join.TheVariants.{And, Or}
 use Rattle.snap_semantics.specs.declared.text.Symbol.{Symbol}

@@ -1,36 +1,53 @@
-//! What is said of a refused input behind the line that refuses it.
-ghost use Rattle.std.specs.Prelude.{◌≡◌, ◌++◌, IfOk, OnOk, drop, map, option_map, take};
+//! `explanation`: what is said of a refused input after the line that refuses it, for each kind of
+//! refusal.
+ghost use Rattle.std.specs.Prelude.{◌≡◌, ◌++◌, IfOk, OnOk, drop, map, option_map};
 ghost use Rattle.snap_semantics.specs.Token.{lines_of, text_lines};
 ghost use Rattle.snap_expected.specs.Pieces.{placed_of};
 ghost use Rattle.snap_expected.specs.Steps.{view_placed, view_placed_token, view_lost};
-ghost use Rattle.snap_explanation.specs.Explanation.{token_advice, sort_advice, piece_of, part_explained, stray_words, stray_text, lost_text, lost_or_line, stray_or_lost, form_text_of, form_text, token_spot, placed_line, next_header, header_at, first_number, near_text, nearest_text, unknown_text, unknown_spot, listing_explained, item_sort, schedule_explained, shape_explained, commands_explained, parts_words, lines_behind, separators, separators_front, some_separators, separator_words, parts_explained, explanation};
+ghost use Rattle.snap_explanation.specs.Explanation.{token_advice, sort_advice, piece_of};
+ghost use Rattle.snap_explanation.specs.Explanation.{stray_words, stray_text, lost_text};
+ghost use Rattle.snap_explanation.specs.Explanation.{lost_or_line};
+ghost use Rattle.snap_explanation.specs.Explanation.{stray_or_lost, form_text_of, form_text};
+ghost use Rattle.snap_explanation.specs.Explanation.{token_spot, placed_line, next_header};
+ghost use Rattle.snap_explanation.specs.Explanation.{header_at};
+ghost use Rattle.snap_explanation.specs.Explanation.{first_number};
+ghost use Rattle.snap_explanation.specs.Explanation.{misuse_spot, names_spot, words_spot};
+ghost use Rattle.snap_explanation.specs.Explanation.{uses_spot, place_text, declared_text};
+ghost use Rattle.snap_explanation.specs.Explanation.{again_text};
+ghost use Rattle.snap_explanation.specs.Explanation.{again_spot, rising_text, number_at_token};
+ghost use Rattle.snap_explanation.specs.Explanation.{rising_spot};
+ghost use Rattle.snap_explanation.specs.Explanation.{listing_explained, item_sort};
+ghost use Rattle.snap_explanation.specs.Explanation.{schedule_explained, shape_explained};
+ghost use Rattle.snap_explanation.specs.Explanation.{commands_explained};
+ghost use Rattle.snap_explanation.specs.Explanation.{part_explained, explanation};
 ghost use Rattle.snap_explanation.specs.Spot.{nth_line, piece_at};
 ghost use Rattle.snap_expected.specs.declared.sorts.Header.TheVariants.{Kind};
-ghost use Rattle.snap_input.specs.Parts.{parts_of};
-ghost use Rattle.snap_semantics.specs.declared.refusal.ListingRefusal.TheVariants.{UnknownName, NameTwice, NoSuchLine, BadName, BadHeader};
+ghost use Rattle.snap_semantics.specs.declared.refusal.ListingRefusal.TheVariants.{NoSuchLine};
+ghost use Rattle.snap_semantics.specs.declared.refusal.ListingRefusal.TheVariants.{BadName};
+ghost use Rattle.snap_semantics.specs.declared.refusal.ListingRefusal.TheVariants.{BadHeader};
 ghost use Rattle.snap_explanation.specs.Names.{first_such, is_bad, nth_token};
-ghost use Rattle.snap_explanation.specs.Views.{view_part};
+ghost use Rattle.snap_explanation.specs.Sorts.{kind_in};
+ghost use Rattle.snap_explanation.specs.Views.{view_declared, view_misuse, view_names, view_part};
 
-use crate::advice::{advice, command_form_advice, push_advice, stray_advice};
+use crate::advice::{advice, form_advice, push_advice, stray_advice};
+use crate::inputs::{push_order_advice, push_parts};
 use crate::layout::{Layout, Texts};
+use crate::misuse::{Misuse, letters_of, push_misuse, wrong_in_line};
 use crate::names::{
-    first_again, first_bad, first_led, first_unknown, leading_line, nearest, nth_token,
-    words_before,
+    Declared, Numbered, declared_at, first_again, first_bad, first_led, last_before, leading_line,
+    nth_token, words_before,
 };
-use crate::part::{Part, lines_through, part_place};
+use crate::part::{Part, part_place};
+use crate::said::{push_said, push_said_number};
+use crate::sorts::{Names, kind_in, names_in};
 use crate::spot::{column_of, line_of, piece_at, push_line_spot, push_shown, push_spot};
 use crate::texts::push_expected_line;
 use snap_expected::{
     Header, LineSort, LostPlace, PlacedToken, PlacedTokens, lost_in, placed_tokens,
 };
-use snap_input::split_parts;
 use snap_semantics::{CommandRefusal, ListingRefusal, Refusal, ScheduleRefusal};
-use snap_subject::Subject;
-use snap_text::{TextLines, Token, push_numbers, push_text};
+use snap_text::{TextLines, Token, push_text};
 use std::alloc::{AllocError, Global};
-
-/// The most lines `%` that are told.
-const SEPARATORS: usize = 8;
 
 /// Adds what is no token.
 fn push_stray_words(out: &mut Vec<u8>, piece: &[u8]) -> Result<(), AllocError>
@@ -105,7 +122,7 @@ fn push_lost(
     push_token_advice(out, place, token)
 }
 
-/// Adds what is advised of a line of a sort by its first token.
+/// Adds what is advised of a line of a sort by its tokens.
 fn push_sort_advice(
     out: &mut Vec<u8>,
     sort: LineSort,
@@ -114,10 +131,7 @@ fn push_sort_advice(
     ensures { OnOk result (out.new.items ≡ out.old.items
         ++ sort_advice sort (map view_placed_token tokens.now)) }
 {
-    match (sort, tokens) {
-        (LineSort::Command, [first, ..]) => push_advice(out, command_form_advice(&first.token)),
-        _ => Ok(()),
-    }
+    push_advice(out, form_advice(sort, tokens))
 }
 
 /// Adds what is said of a line that is lost, or of one that has no place at which it is.
@@ -273,72 +287,131 @@ fn first_number(alloc: Global, text: &[u8]) -> Result<u64, AllocError>
     }
 }
 
-/// Adds which name is declared and near.
-fn push_near(out: &mut Vec<u8>, name: &[u8]) -> Result<(), AllocError>
-    ensures { OnOk result (out.new.items ≡ out.old.items ++ near_text name.now) }
-{
-    push_text(out, b" is not declared; `")?;
-    push_text(out, name)?;
-    push_text(out, b"` is\n")
-}
+/// What is said where no token of a refused line is found.
+const WRONG: &[u8] =
+    b"a name of another sort stands here, or one that is not declared, or a register, a field or a tuple that this kind of registers has not\n";
 
-/// Adds which name is the nearest, where one is near.
+/// Adds what is said of a token that is not right.
 #[tactic(auto, using(snap_text::proofs::Texts::joined))]
-fn push_nearest(out: &mut Vec<u8>, name: Option<&[u8]>) -> Result<(), AllocError>
+fn push_misuse_spot(
+    out: &mut Vec<u8>,
+    part: &Part<'_>,
+    line: u64,
+    names: &Names<'_>,
+    misuse: Option<Misuse<'_>>,
+) -> Result<(), AllocError>
     ensures { OnOk result (out.new.items ≡ out.old.items
-        ++ nearest_text (option_map (λ w. w.now) name.entry)) }
+        ++ misuse_spot (view_part part.now) line (view_names names.now)
+        (option_map view_misuse misuse.entry)) }
 {
-    match name {
-        Some(name) => push_near(out, name),
-        None => push_text(out, b" is not declared\n"),
+    match misuse {
+        Some(misuse) => {
+            push_token_spot(out, part, line, Some(misuse.token), b"")?;
+            push_misuse(out, names, &misuse)
+        }
+        None => push_token_spot(out, part, line, None, WRONG),
     }
 }
 
-/// Adds what is said of a name that none of these is.
-#[tactic(auto, using(snap_text::proofs::Texts::joined))]
-fn push_unknown(
+/// Adds what is said of a line that speaks of what is not right, where names are declared.
+#[tactic(auto, using(snap_text::proofs::Texts::joined), unfolding(crate::specs::Explanation::names_spot))]
+fn push_names_spot(
+    alloc: Global,
     out: &mut Vec<u8>,
-    known: &[&[u8]],
-    token: Option<PlacedToken<'_>>,
+    part: &Part<'_>,
+    line: u64,
+    names: &Names<'_>,
 ) -> Result<(), AllocError>
     ensures { OnOk result (out.new.items ≡ out.old.items
-        ++ unknown_text (map (λ w. w.now) known.now) (option_map view_placed_token token.entry)) }
+        ++ names_spot (view_part part.now) line (view_names names.now)) }
 {
-    let Some(
-        PlacedToken {
-            column: _,
-            token: Token::Identifier(word),
-        },
-    ) = token
-    else {
-        return Ok(());
-    };
-    push_text(out, b"`")?;
-    push_text(out, word)?;
-    push_text(out, b"`")?;
-    push_nearest(out, nearest(word, known))
+    let tokens = placed_line(alloc, part, line)?;
+    let misuse = wrong_in_line(alloc, names, tokens.as_slice())?;
+    push_misuse_spot(out, part, line, names, misuse)
 }
 
-/// Adds what is said of a line with a name that is not declared.
-#[tactic(auto, using(snap_text::proofs::Texts::joined), unfolding(crate::specs::Explanation::listing_explained, crate::specs::Explanation::unknown_spot))]
-fn push_unknown_spot(
+/// Adds what is said of a line that speaks of what is not right, behind these words of a header.
+fn push_words_spot(
+    alloc: Global,
+    out: &mut Vec<u8>,
+    part: &Part<'_>,
+    line: u64,
+    words: &[&[u8]],
+) -> Result<(), AllocError>
+    ensures { OnOk result (out.new.items ≡ out.old.items
+        ++ words_spot (view_part part.now) line (map (λ w. w.now) words.now)
+        (kind_in (map (λ w. w.now) words.now))) }
+{
+    match kind_in(words) {
+        Some(kind) => {
+            let names = names_in(alloc, kind, words)?;
+            push_names_spot(alloc, out, part, line, &names)
+        }
+        None => push_token_spot(out, part, line, None, WRONG),
+    }
+}
+
+/// Adds what is said of a line that speaks of what is not right.
+#[tactic(auto, unfolding(crate::specs::Explanation::uses_spot))]
+fn push_uses_spot(
     alloc: Global,
     out: &mut Vec<u8>,
     part: &Part<'_>,
     line: u64,
 ) -> Result<(), AllocError>
     ensures { OnOk result (out.new.items ≡ out.old.items
-        ++ listing_explained (view_part part.now) (UnknownName line)) }
+        ++ uses_spot (view_part part.now) line) }
 {
-    let known = words_before(alloc, line, part.text)?;
-    let tokens = placed_line(alloc, part, line)?;
-    let token = first_unknown(known.as_slice(), tokens.as_slice());
-    push_token_spot(out, part, line, token, b"")?;
-    push_unknown(out, known.as_slice(), token)
+    let words = words_before(alloc, line, part.text)?;
+    push_words_spot(alloc, out, part, line, words.as_slice())
+}
+
+/// Adds the place where a name is declared.
+#[tactic(auto, using(snap_text::proofs::Texts::joined), unfolding(crate::specs::Explanation::place_text))]
+fn push_place(out: &mut Vec<u8>, name: &[u8], found: Declared<'_>) -> Result<(), AllocError>
+    ensures { OnOk result (out.new.items ≡ out.old.items
+        ++ place_text name.now (view_declared found.entry)) }
+{
+    push_said(out, b"`", name, b"`")?;
+    push_said_number(out, b" is declared in line ", found.line)?;
+    push_said(out, b" of the listing, as `", found.keyword, b"`\n")
+}
+
+/// Adds where a name is declared.
+fn push_declared(
+    out: &mut Vec<u8>,
+    name: &[u8],
+    found: Option<Declared<'_>>,
+) -> Result<(), AllocError>
+    ensures { OnOk result (out.new.items ≡ out.old.items
+        ++ declared_text name.now (option_map view_declared found.entry)) }
+{
+    match found {
+        Some(found) => push_place(out, name, found),
+        None => push_text(out, b"this name is declared before\n"),
+    }
+}
+
+/// Adds where the name at a token is declared.
+fn push_again(
+    alloc: Global,
+    out: &mut Vec<u8>,
+    part: &Part<'_>,
+    token: Option<PlacedToken<'_>>,
+) -> Result<(), AllocError>
+    ensures { OnOk result (out.new.items ≡ out.old.items
+        ++ again_text (view_part part.now) (option_map view_placed_token token.entry)) }
+{
+    let Some(token) = token else {
+        return Ok(());
+    };
+    let name = letters_of(&token.token);
+    let found = declared_at(alloc, name, part.text)?;
+    push_declared(out, name, found)
 }
 
 /// Adds what is said of a name that is declared before.
-#[tactic(auto, using(snap_text::proofs::Texts::joined), unfolding(crate::specs::Explanation::listing_explained))]
+#[tactic(auto, using(snap_text::proofs::Texts::joined), unfolding(crate::specs::Explanation::again_spot))]
 fn push_again_spot(
     alloc: Global,
     out: &mut Vec<u8>,
@@ -346,12 +419,56 @@ fn push_again_spot(
     line: u64,
 ) -> Result<(), AllocError>
     ensures { OnOk result (out.new.items ≡ out.old.items
-        ++ listing_explained (view_part part.now) (NameTwice line)) }
+        ++ again_spot (view_part part.now) line) }
 {
     let known = words_before(alloc, line, part.text)?;
     let tokens = placed_line(alloc, part, line)?;
     let token = first_again(known, tokens.as_slice())?;
-    push_token_spot(out, part, line, token, b"this name is declared before\n")
+    push_token_spot(out, part, line, token, b"")?;
+    push_again(alloc, out, part, token)
+}
+
+/// Adds that a number is not above the one before.
+#[tactic(auto, using(snap_text::proofs::Texts::joined), unfolding(crate::specs::Explanation::rising_text))]
+fn push_rising(out: &mut Vec<u8>, number: u64, last: Numbered) -> Result<(), AllocError>
+    ensures { OnOk result (out.new.items ≡ out.old.items ++ rising_text number last) }
+{
+    push_said_number(out, b"the numbers of lines rise: number ", number)?;
+    push_said_number(out, b" comes after line ", last.line)?;
+    push_said_number(out, b" of the listing, which has number ", last.number)?;
+    push_text(out, b"\n")
+}
+
+/// The number at a token.
+fn number_at_token(token: Option<PlacedToken<'_>>) -> u64
+    ensures { result ≡ number_at_token (option_map view_placed_token token.entry) }
+{
+    match token {
+        Some(
+            PlacedToken {
+                column: _,
+                token: Token::Number(number),
+            },
+        ) => number,
+        _ => 0,
+    }
+}
+
+/// Adds what is said of a number that is not above the one before.
+#[tactic(auto, using(snap_text::proofs::Texts::joined), unfolding(crate::specs::Explanation::rising_spot))]
+fn push_rising_spot(
+    alloc: Global,
+    out: &mut Vec<u8>,
+    part: &Part<'_>,
+    line: u64,
+) -> Result<(), AllocError>
+    ensures { OnOk result (out.new.items ≡ out.old.items
+        ++ rising_spot (view_part part.now) line) }
+{
+    let token = token_at(alloc, part, line, 0)?;
+    let last = last_before(alloc, line, part.text)?;
+    push_token_spot(out, part, line, token, b"")?;
+    push_rising(out, number_at_token(token), last)
 }
 
 /// Adds what is said of a target that is no line.
@@ -401,10 +518,6 @@ fn push_bad_spot(
 /// What is said of a name that may not be declared.
 const BAD_NAME: &[u8] = b"a name has at most eight letters, and is no reserved word\n";
 
-/// What is said of a name or of something else of another kind.
-const WRONG_KIND: &[u8] =
-    b"a name of another sort stands here, or a register, a field or a tuple that this kind of registers has not\n";
-
 /// Adds what is said of a line that is refused at its first token.
 fn push_first_spot(
     alloc: Global,
@@ -452,12 +565,11 @@ fn push_listing(
         }
         ListingRefusal::BadHeader(line) => push_header(alloc, out, part, *line),
         ListingRefusal::BadLine(line) => push_form(alloc, out, part, LineSort::Numbered, *line),
-        ListingRefusal::NumberNotRising(line) => {
-            push_first_spot(alloc, out, part, *line, b"the numbers of lines rise\n")
+        ListingRefusal::NumberNotRising(line) => push_rising_spot(alloc, out, part, *line),
+        ListingRefusal::UnknownName(line) | ListingRefusal::WrongKind(line) => {
+            push_uses_spot(alloc, out, part, *line)
         }
-        ListingRefusal::UnknownName(line) => push_unknown_spot(alloc, out, part, *line),
         ListingRefusal::NameTwice(line) => push_again_spot(alloc, out, part, *line),
-        ListingRefusal::WrongKind(line) => push_token_spot(out, part, *line, None, WRONG_KIND),
         ListingRefusal::NoSuchLine(target) => push_leading_spot(alloc, out, part, *target),
         ListingRefusal::TooMany(line) => push_token_spot(
             out,
@@ -551,101 +663,6 @@ fn push_commands(
     }
 }
 
-/// The parts that an input has, in words.
-fn parts_words(layout: Layout) -> &'static [u8]
-    ensures { result.now ≡ parts_words layout }
-{
-    match layout {
-        Layout::Parts(Subject::FirstPart, texts) => match texts {
-            Texts::Schedule => b"2 parts are taken: a listing and a schedule",
-            Texts::ScheduleAndCommands => {
-                b"3 parts are taken: a listing, a schedule and commands"
-            }
-            Texts::Schedules => b"2 to 4097 parts are taken: a listing and schedules",
-            Texts::Scripts => b"2 parts are taken: a listing and scripts",
-        },
-        Layout::Parts(Subject::Shipped(_), texts) => match texts {
-            Texts::Schedule => b"1 part is taken: a schedule; the listing is shipped",
-            Texts::ScheduleAndCommands => {
-                b"2 parts are taken: a schedule and commands; the listing is shipped"
-            }
-            Texts::Schedules => {
-                b"1 to 4096 parts are taken, which are schedules; the listing is shipped"
-            }
-            Texts::Scripts => b"1 part is taken: scripts; the listing is shipped",
-        },
-        _ => b"the whole input is taken",
-    }
-}
-
-/// The lines behind parts.
-fn lines_behind(alloc: Global, parts: &[&[u8]]) -> Result<Vec<u64>, AllocError>
-    ensures { IfOk result (λ lines. lines.items ≡ lines_behind 0 (map (λ p. p.now) parts.now)) }
-{
-    let mut lines = Vec::new(alloc);
-    let mut before = 0;
-    for part in parts {
-        before = lines_through(before, part);
-        lines.push(before)?;
-    }
-    Ok(lines)
-}
-
-/// The first ones of some lines.
-#[tactic(auto, using(crate::proofs::Cuts::front_cut))]
-fn first_lines(lines: &[u64]) -> &[u64]
-    ensures { result.now ≡ take 8 lines.now }
-{
-    &lines[..SEPARATORS.min(lines.len())]
-}
-
-/// Adds what stands before the lines `%`.
-#[tactic(auto, unfolding(crate::specs::Explanation::separators_front))]
-fn push_separators_front(out: &mut Vec<u8>) -> Result<(), AllocError>
-    ensures { OnOk result (out.new.items ≡ out.old.items ++ separators_front) }
-{
-    push_text(out, b"\nthe lines `%` of the input, the first eight:")
-}
-
-/// Adds the lines `%` of an input, the first ones of them.
-#[tactic(auto, using(snap_text::proofs::Texts::joined), unfolding(crate::specs::Explanation::some_separators))]
-fn push_some_separators(out: &mut Vec<u8>, lines: &[u64]) -> Result<(), AllocError>
-    ensures { OnOk result (out.new.items ≡ out.old.items ++ some_separators lines.now) }
-{
-    push_separators_front(out)?;
-    push_numbers(out, first_lines(lines))?;
-    push_text(out, b"\n")
-}
-
-/// Adds where the lines `%` of an input are.
-#[tactic(auto, using(snap_text::proofs::Texts::joined), unfolding(crate::specs::Explanation::separator_words))]
-fn push_separators(out: &mut Vec<u8>, lines: &[u64]) -> Result<(), AllocError>
-    ensures { OnOk result (out.new.items ≡ out.old.items ++ separator_words lines.now) }
-{
-    if lines.len() == 0 {
-        push_text(out, b"\nno line of the input is `%` alone\n")
-    } else {
-        push_some_separators(out, lines)
-    }
-}
-
-/// Adds how many parts are taken, and where the lines `%` are.
-#[tactic(auto, using(snap_text::proofs::Texts::joined), unfolding(crate::specs::Explanation::parts_explained))]
-fn push_parts(
-    alloc: Global,
-    out: &mut Vec<u8>,
-    layout: Layout,
-    input: &[u8],
-) -> Result<(), AllocError>
-    ensures { OnOk result (out.new.items ≡ out.old.items ++ parts_explained layout input.now) }
-{
-    push_text(out, parts_words(layout))?;
-    let parts = split_parts(alloc, input)?;
-    let lines = lines_behind(alloc, parts.as_slice())?;
-    let lines = lines.as_slice();
-    push_separators(out, &lines[..lines.len().saturating_sub(1)])
-}
-
 /// Adds what is said of a refused part.
 #[tactic(auto, using(snap_text::proofs::Texts::joined), unfolding(crate::specs::Explanation::part_explained))]
 fn push_part(
@@ -680,7 +697,10 @@ pub fn explanation(
     let mut out = Vec::new(alloc);
     match refusal {
         Refusal::InputTooLong => push_text(&mut out, b"an input has at most 16777216 bytes\n")?,
-        Refusal::WrongParts(_) => push_parts(alloc, &mut out, layout, input)?,
+        Refusal::WrongParts(_) => {
+            push_parts(alloc, &mut out, layout, input)?;
+            push_order_advice(alloc, &mut out, layout, input, refusal)?;
+        }
         Refusal::Image(_) => push_text(
             &mut out,
             b"an image is taken, as `snaplab assemble` writes it\n",
@@ -688,6 +708,7 @@ pub fn explanation(
         _ => {
             let part = part_place(alloc, layout, input, refusal)?;
             push_part(alloc, &mut out, layout, &part, refusal)?;
+            push_order_advice(alloc, &mut out, layout, input, refusal)?;
         }
     }
     Ok(out)

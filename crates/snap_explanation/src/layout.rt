@@ -1,4 +1,5 @@
-//! What an input consists of, for each thing that the program can be asked for.
+//! `Layout`: what an input consists of, for each `Request`: a listing's text, an image, or parts
+//! between lines `%`.
 ghost use Rattle.std.specs.Prelude.{◌≡◌};
 ghost use Rattle.snap_explanation.specs.Part.{layout_of};
 

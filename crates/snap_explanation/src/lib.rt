@@ -1,14 +1,21 @@
-//! What is said of a refused input behind the line that refuses it: the place, what was expected
-//! there and what was found, and what is advised.
+//! Explains a refused input, after the line that refuses it: the place, what was expected there and
+//! what was found, and what is advised.
 #![tactic(auto)]
 
 mod advice;
 mod explain;
+mod inputs;
+mod laws;
 mod layout;
+mod misuse;
 mod names;
 mod part;
+mod said;
+mod sorts;
 mod spot;
 mod texts;
+mod token_uses;
 
 pub use explain::explanation;
+pub use laws::a_line_is_refused_for_the_token_found;
 pub use layout::{Layout, Texts, layout_of};

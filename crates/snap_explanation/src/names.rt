@@ -1,9 +1,17 @@
-//! Names of a listing's text, and the tokens of a line that a refusal is about.
+//! The token of a line that a refusal is about: a name that is unknown or declared twice, the
+//! nearest known name, or a target that is no line.
 ghost use Rattle.std.specs.Prelude.{◌≡◌, ◌≤◌, ◌++◌, IfOk, OnOk, length, drop, map, option_map};
 ghost use Rattle.snap_semantics.specs.Token.{text_lines};
 ghost use Rattle.snap_text.specs.Tokens.{view_token, view_tokens};
 ghost use Rattle.snap_expected.specs.Steps.{view_placed_token};
-ghost use Rattle.snap_explanation.specs.Names.{words_of, words_before, is_among, is_unknown, nth_token, first_such, is_bad, first_again, common_len, is_same_later, is_near, nearest, is_leading, is_number, number_there, first_led, begins_with_number, leads_to, line_leads_to, leading_line};
+ghost use Rattle.snap_explanation.specs.Names.{words_of, words_of_line, words_before, is_among};
+ghost use Rattle.snap_explanation.specs.Names.{nth_token, first_such, is_bad, first_again};
+ghost use Rattle.snap_explanation.specs.Names.{declared_in, declared_at, front_number, last_before};
+ghost use Rattle.snap_explanation.specs.Names.{common_len, is_same_later, is_near, nearest};
+ghost use Rattle.snap_explanation.specs.Names.{is_leading, is_number, number_there, first_led};
+ghost use Rattle.snap_explanation.specs.Names.{begins_with_number, leads_to, line_leads_to};
+ghost use Rattle.snap_explanation.specs.Names.{leading_line};
+ghost use Rattle.snap_explanation.specs.Views.{view_declared};
 
 use snap_expected::{PlacedToken, is_word};
 use snap_listing_core::is_reserved;
@@ -71,7 +79,7 @@ pub fn nth_token<'a>(index: usize, tokens: &[PlacedToken<'a>]) -> Option<PlacedT
 }
 
 /// Whether a word is one of these.
-fn is_among(word: &[u8], words: &[&[u8]]) -> bool
+pub fn is_among(word: &[u8], words: &[&[u8]]) -> bool
     ensures { result ≡ is_among word.now (map (λ w. w.now) words.now) }
 {
     let mut rest = words;
@@ -84,16 +92,6 @@ fn is_among(word: &[u8], words: &[&[u8]]) -> bool
     false
 }
 
-/// Whether a token is a name that none of these is.
-fn is_unknown(known: &[&[u8]], token: &Token<'_>) -> bool
-    ensures { result ≡ is_unknown (map (λ w. w.now) known.now) (view_token token.now) }
-{
-    match token {
-        Token::Identifier(word) => !is_reserved(word) && !is_among(word, known),
-        _ => false,
-    }
-}
-
 /// Whether a token may not be declared as a name.
 fn is_bad(token: &Token<'_>) -> bool
     ensures { result ≡ is_bad (view_token token.now) }
@@ -102,21 +100,6 @@ fn is_bad(token: &Token<'_>) -> bool
         Token::Identifier(word) => word.len() > NAME_LETTERS || is_reserved(word),
         _ => false,
     }
-}
-
-/// The first token that is a name and none of these.
-pub fn first_unknown<'a>(known: &[&[u8]], tokens: &[PlacedToken<'a>]) -> Option<PlacedToken<'a>>
-    ensures { option_map view_placed_token result
-        ≡ first_such (is_unknown (map (λ w. w.now) known.now)) (map view_placed_token tokens.now) }
-{
-    let mut rest = tokens;
-    while let [first, behind @ ..] = rest {
-        if is_unknown(known, &first.token) {
-            return Some(*first);
-        }
-        rest = behind;
-    }
-    None
 }
 
 /// The first token that may not be declared as a name.
@@ -154,6 +137,100 @@ pub fn first_again<'a>(
         rest = behind;
     }
     Ok(None)
+}
+
+/// A line with a name, and the word that begins the line.
+#[derive(Clone, Copy, Debug)]
+pub struct Declared<'a> {
+    pub line: u64,
+    pub keyword: &'a [u8],
+}
+
+/// A line of words, where it has this name behind the first one.
+fn declared_in<'a>(line: u64, name: &[u8], words: &[&'a [u8]]) -> Option<Declared<'a>>
+    ensures { option_map view_declared result
+        ≡ declared_in line name.now (map (λ w. w.now) words.now) }
+{
+    match words {
+        [keyword, names @ ..] if is_among(name, names) => Some(Declared {
+            line,
+            keyword: *keyword,
+        }),
+        _ => None,
+    }
+}
+
+/// The words of a line.
+fn words_of_line<'a>(
+    alloc: Global,
+    tokens: &Option<Vec<Token<'a>>>,
+) -> Result<Vec<&'a [u8]>, AllocError>
+    ensures { IfOk result (λ words. map (λ w. w.now) words.items
+        ≡ words_of_line (option_map (λ ts. view_tokens ts.items) tokens.now)) }
+{
+    let mut words = Vec::new(alloc);
+    if let Some(tokens) = tokens {
+        push_words(&mut words, tokens.as_slice())?;
+    }
+    Ok(words)
+}
+
+/// The first line of a text that has a name behind another word.
+pub fn declared_at<'a>(
+    alloc: Global,
+    name: &[u8],
+    text: &'a [u8],
+) -> Result<Option<Declared<'a>>, AllocError>
+    ensures { IfOk result (λ found. option_map view_declared found
+        ≡ declared_at name.now (text_lines text.now)) }
+{
+    let mut lines = TextLines::new(text);
+    while let Some(line) = lines.next_line(alloc)? {
+        let words = words_of_line(alloc, &line.tokens)?;
+        if let Some(found) = declared_in(line.number, name, words.as_slice()) {
+            return Ok(Some(found));
+        }
+    }
+    Ok(None)
+}
+
+/// A text line, and the number at its front.
+#[derive(Clone, Copy, Debug)]
+pub struct Numbered {
+    pub line: u64,
+    pub number: u64,
+}
+
+/// The number at the front of a line.
+fn front_number(tokens: &Option<Vec<Token<'_>>>) -> u64
+    ensures { result ≡ front_number (option_map (λ ts. view_tokens ts.items) tokens.now) }
+{
+    match tokens {
+        Some(tokens) => match tokens.as_slice() {
+            [Token::Number(number), ..] => *number,
+            _ => 0,
+        },
+        None => 0,
+    }
+}
+
+/// The last line of a text before this one, and the number at its front.
+pub fn last_before(alloc: Global, line: u64, text: &[u8]) -> Result<Numbered, AllocError>
+    ensures { IfOk result (λ last. last
+        ≡ last_before line (record { line = 0; number = 0 }) (text_lines text.now)) }
+{
+    let mut last = Numbered { line: 0, number: 0 };
+    let mut lines = TextLines::new(text);
+    while let Some(found) = lines.next_line(alloc)? {
+        if found.number >= line {
+            return Ok(last);
+        }
+        last = Numbered {
+            line: found.number,
+            number: front_number(&found.tokens),
+        };
+    }
+    Ok(last)
 }
 
 /// How many letters at the front of two words are the same.

@@ -1,9 +1,12 @@
-//! The part of an input that is refused.
+//! `part_place`: the `Part` of an input (its listing or one of its texts) that a refusal is about,
+//! and how many lines precede it.
 ghost use Rattle.std.specs.Prelude.{◌≡◌, ◌≤◌, ◌<◌, ◌^◌, ◌+◌, IfOk, length, map};
 ghost use Rattle.snap_input.specs.Input.{texts_for};
 ghost use Rattle.snap_input.specs.Parts.{part};
 ghost use Rattle.snap_semantics.specs.Schedule.{schedule_of};
-ghost use Rattle.snap_explanation.specs.Part.{part_place, part_place_in, first_text, text_index, text_name, lines_through, lines_before, refused_schedule, is_taken};
+ghost use Rattle.snap_explanation.specs.Part.{part_place, part_place_in, first_text, text_index};
+ghost use Rattle.snap_explanation.specs.Part.{text_name, lines_through, lines_before};
+ghost use Rattle.snap_explanation.specs.Part.{refused_schedule, is_taken};
 ghost use Rattle.snap_explanation.specs.Views.{view_part};
 
 use crate::layout::{Layout, Texts};
@@ -129,7 +132,7 @@ fn lines_before(index: usize, parts: &[&[u8]]) -> u64
 }
 
 /// Part `index`, from 0; empty where there is none.
-fn part_at<'a>(parts: &[&'a [u8]], index: usize) -> &'a [u8]
+pub fn part_at<'a>(parts: &[&'a [u8]], index: usize) -> &'a [u8]
     ensures { result.now ≡ part index (map (λ p. p.now) parts.now) }
 {
     if index < parts.len() {

@@ -1,8 +1,13 @@
-//! A place in a text line, shown.
-ghost use Rattle.std.specs.Prelude.{◌≡◌, ◌≤◌, ◌<◌, ◌+◌, ◌-◌, ◌^◌, ◌++◌, ℕ, IfOk, OnOk, length, map, replicate, option_map, take, drop, ◌∷◌};
+//! `push_spot`: shows a place of a refused input: where it is, its line, and a mark under its
+//! column.
+ghost use Rattle.std.specs.Prelude.{◌≡◌, ◌≤◌, ◌<◌, ◌+◌, ◌-◌, ◌^◌, ◌++◌, ℕ, IfOk, OnOk, length, map};
+ghost use Rattle.std.specs.Prelude.{replicate, option_map, take, drop, ◌∷◌};
 ghost use Rattle.snap_semantics.specs.Token.{lines_of};
 ghost use Rattle.snap_expected.specs.Steps.{view_placed_token};
-ghost use Rattle.snap_explanation.specs.Spot.{nth_line, comment_start, piece_at, column_of, shown_byte, shown, left_out, part_name_text, line_of_input, input_words, line_words, line_place, column_words, marked, window, mark, spot, line_spot};
+ghost use Rattle.snap_explanation.specs.Spot.{nth_line, comment_start, piece_at, column_of};
+ghost use Rattle.snap_explanation.specs.Spot.{shown_byte, shown, left_out, part_name_text};
+ghost use Rattle.snap_explanation.specs.Spot.{line_of_input, input_words, line_words, line_place};
+ghost use Rattle.snap_explanation.specs.Spot.{column_words, marked, window, mark, spot, line_spot};
 ghost use Rattle.snap_explanation.specs.Views.{view_part};
 
 use crate::part::{Part, PartName};
@@ -33,7 +38,7 @@ fn comment_start(line: &[u8]) -> usize
 
 /// The front of some bytes, at most so many.
 #[tactic(auto, using(crate::proofs::Cuts::front_cut))]
-fn front(bytes: &[u8], most: usize) -> &[u8]
+pub fn front(bytes: &[u8], most: usize) -> &[u8]
     ensures { result.now ≡ take most bytes.now }
 {
     &bytes[..most.min(bytes.len())]

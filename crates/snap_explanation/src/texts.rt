@@ -1,6 +1,7 @@
-//! What was expected at a place, in words.
+//! Says what was expected at a place of a refused input, in words, and what was found there.
 ghost use Rattle.std.specs.Prelude.{◌≡◌, ◌++◌, OnOk};
-ghost use Rattle.snap_explanation.specs.Texts.{symbol_words, keyword_words, wanted_words, expected_words, found_words, expected_line};
+ghost use Rattle.snap_explanation.specs.Texts.{symbol_words, keyword_words, wanted_words};
+ghost use Rattle.snap_explanation.specs.Texts.{expected_words, found_words, expected_line};
 
 use crate::spot::push_shown;
 use snap_expected::{Keyword, Wanted, may_pass};
@@ -57,28 +58,23 @@ fn wanted_words(wanted: Wanted) -> &'static [u8]
         Wanted::Count => b"a number, 1 to 64",
         Wanted::Positive => b"a number, at least 1",
         Wanted::Turn => b"a number of turns, 1 to 1000000",
-        Wanted::Name => b"a name",
+        Wanted::Name | Wanted::Names => b"a name",
         Wanted::Index(_) => b"an index: a number, a name, `n`, `w`, `me` or `word`",
         Wanted::Range => b"`n` or `w`",
         Wanted::Relation => b"`=`, `!=` or `<`",
         Wanted::KindName => b"`seq`, `bit` or `multi`",
-        Wanted::Names => b"a name",
         Wanted::Instruction => b"an instruction",
-        Wanted::Term(_) => b"a value",
+        Wanted::Term(_) | Wanted::Expr(_) | Wanted::SecondPart => b"a value",
         Wanted::PlaceOption(_) => b"`[`",
-        Wanted::Expr(_) => b"a value",
         Wanted::SumOption(_) => b"`+`",
         Wanted::Condition(_) => b"a comparison",
         Wanted::FirstJoin(_) => b"`and` or `or`",
-        Wanted::SecondJoin(Join::And, _) => b"`and`",
-        Wanted::SecondJoin(Join::Or, _) => b"`or`",
-        Wanted::ThirdJoin(Join::And, _) => b"`and`",
-        Wanted::ThirdJoin(Join::Or, _) => b"`or`",
+        Wanted::SecondJoin(Join::And, _) | Wanted::ThirdJoin(Join::And, _) => b"`and`",
+        Wanted::SecondJoin(Join::Or, _) | Wanted::ThirdJoin(Join::Or, _) => b"`or`",
         Wanted::WhereOption => b"`where`",
-        Wanted::Target => b"`r`, `q`, `p` or `v`",
+        Wanted::Target | Wanted::Register => b"`r`, `q`, `p` or `v`",
         Wanted::Bit => b"`q` or `p`",
         Wanted::Tuple => b"`(`",
-        Wanted::SecondPart => b"a value",
         Wanted::BehindName => b"`,`, `+` or `[`",
         Wanted::BehindThird => b"`,` or `)`",
         Wanted::ViewSource => b"`data` or `view`",
@@ -86,7 +82,6 @@ fn wanted_words(wanted: Wanted) -> &'static [u8]
         Wanted::Act => b"`*`, `scan`, `update` or `crash`",
         Wanted::ScriptAct => b"`scan`, `update` or `crash`",
         Wanted::Command => b"a command",
-        Wanted::Register => b"`r`, `q`, `p` or `v`",
         Wanted::Shown => b"`r`, `q`, `p`, `v` or a process",
     }
 }

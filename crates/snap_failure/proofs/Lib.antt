@@ -1,3 +1,4 @@
+-- The proofs of snap_failure, by their modules.
 pub mod Traps
 pub mod Products
 pub mod Watching

@@ -1,4 +1,4 @@
--- Products of counts.
+-- A product of two counts of at most 64 is at most 4,096, for the bounds on the steps of operations.
 use Rattle.std.specs.Prelude.{ℕ, ◌*◌, ◌≤◌}
 use Rattle.std.proofs.lemmas.Nat.{mul-le}
 

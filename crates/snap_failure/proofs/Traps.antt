@@ -1,4 +1,4 @@
--- The first process that has trapped, process by process.
+-- `first_trap`: the first process that has trapped in a state is found by going through the processes.
 use Rattle.std.proofs.Common.{◌≡◌, ℕ, zero, suc, ◌+◌, ◌-◌, ◌<◌, ◌≤◌, Option, Some, None, refl, sym, ap, ◌∙◌, arith}
 use Rattle.snap_semantics.specs.Rules.{or_else}
 use Rattle.snap_semantics.specs.State.{State, process_at}
@@ -7,11 +7,13 @@ use Rattle.snap_failure.specs.declared.failures.Failure.{Failure}
 
 -- process k + 1, and those behind it
 one_of : (S : State) (n k : ℕ) → k < n
-    → first_trap S (k + 1) (n - k) ≡ or_else (trap_of (k + 1) (process_at S (k + 1)).status) (first_trap S (k + 1 + 1) (n - (k + 1)))
+    → first_trap S (k + 1) (n - k)
+    ≡ or_else (trap_of (k + 1) (process_at S (k + 1)).status) (first_trap S (k + 1 + 1) (n - (k + 1)))
 one_of S n k lt =
     let e : n - k ≡ suc (n - (k + 1)) = omega arith in
     let f : suc (k + 1) ≡ k + 1 + 1 = omega arith in
-    ap (first_trap S (k + 1)) e ∙ ap (λ (i : ℕ). or_else (trap_of (k + 1) (process_at S (k + 1)).status) (first_trap S i (n - (k + 1)))) f
+    ap (first_trap S (k + 1)) e
+    ∙ ap (λ (i : ℕ). or_else (trap_of (k + 1) (process_at S (k + 1)).status) (first_trap S i (n - (k + 1)))) f
 
 pub trap_here : (S : State) (n k : ℕ) (f : Failure) → k < n → trap_of (k + 1) (process_at S (k + 1)).status ≡ Some f
     → first_trap S (k + 1) (n - k) ≡ first_trap S 1 n → Some f ≡ first_trap S 1 n

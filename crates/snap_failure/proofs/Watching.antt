@@ -1,10 +1,14 @@
--- The steps of each process since its last call, one item more.
-use Rattle.std.proofs.Common.{◌≡◌, ℕ, zero, suc, ◌+◌, ◌-◌, ◌^◌, ◌<◌, ◌≤◌, Bool, true, false, ◌&&◌, List, [], ◌∷◌, ◌++◌, length, take, get_or, Option, None, if◌then◌else◌, nat_eq, nat_lt, refl, sym, ap, subst, ◌∙◌, arith}
+-- `OwnSteps`: the steps that each process has taken since its last call, for failures of too many, after one item
+-- more.
+use Rattle.std.proofs.Common.{◌≡◌, ℕ, zero, suc, ◌+◌, ◌-◌, ◌^◌, ◌<◌, ◌≤◌, Bool, true, false, ◌&&◌, List, [], ◌∷◌}
+use Rattle.std.proofs.Common.{◌++◌, length, take, get_or, Option, None, if◌then◌else◌, nat_eq}
+use Rattle.std.proofs.Common.{nat_lt, refl, sym, ap, subst, ◌∙◌, arith}
 use Rattle.std.specs.Prelude.{replicate, slice_set}
 use Rattle.std.proofs.Math.Seq.{get_or-append_seam}
 use Rattle.std.proofs.lemmas.Bool.{eqb-true, eqb-false}
 use Rattle.std.proofs.lemmas.Grind.{get_or-set_at}
-use Rattle.std.proofs.lemmas.List.{get_or-replicate, get_or-set_other, length-append, length-replicate, length-set, take-append-le}
+use Rattle.std.proofs.lemmas.List.{get_or-replicate, get_or-set_other, length-append}
+use Rattle.std.proofs.lemmas.List.{length-replicate, length-set, take-append-le}
 use Rattle.snap_words.specs.Shape.{Counts, IsOneOf}
 use Rattle.snap_semantics.specs.Rules.{or_else}
 use Rattle.snap_semantics.specs.Run.{after}
@@ -56,18 +60,21 @@ module _ (r : Run) where
   -- the last call up to an item is not behind it
   pub last_call_few : (i t : ℕ) → last_call r i t ≤ t
   last_call_few i zero = omega arith
-  last_call_few i (suc t) = by_case (nat_eq (who (item r (suc t))) i && is_called (outcome r (suc t))) (last_call_few i t) where
-    by_case : (b : Bool) → last_call r i t ≤ t → (if b then suc t else last_call r i t) ≤ suc t
-    by_case true h = omega arith
-    by_case false h = omega (arith, h)
+  last_call_few i (suc t) =
+      by_case (nat_eq (who (item r (suc t))) i && is_called (outcome r (suc t))) (last_call_few i t) where
+        by_case : (b : Bool) → last_call r i t ≤ t → (if b then suc t else last_call r i t) ≤ suc t
+        by_case true h = omega arith
+        by_case false h = omega (arith, h)
 
   -- an item of another process
-  pub beside : (i t : ℕ) → nat_eq (who (item r (suc t))) i ≡ false → steps_since_call r i (suc t) ≡ steps_since_call r i t
+  pub beside : (i t : ℕ) → nat_eq (who (item r (suc t))) i ≡ false →
+      steps_since_call r i (suc t) ≡ steps_since_call r i t
   unfolding of_call
   beside i t other =
       let c = last_call r i t in
       let same : last_call r i (suc t) ≡ c = ap (λ b. if b && is_called (outcome r (suc t)) then suc t else c) other in
-      let none : takes_step r i (suc t) ≡ false = ap (λ b. b && is_not_skipped (outcome r (suc t))) (not_stepped i (item r (suc t)) other) in
+      let none : takes_step r i (suc t) ≡ false =
+      ap (λ b. b && is_not_skipped (outcome r (suc t))) (not_stepped i (item r (suc t)) other) in
       ap (λ k. of_call r k (own_steps r i k (suc t))) same
       ∙ ap (of_call r c) (count_not (takes_step r i) c t (last_call_few i t) none)
 
@@ -77,13 +84,16 @@ module _ (r : Run) where
   unfolding of_call
   at_call i t his called =
       let now : last_call r i (suc t) ≡ suc t =
-      ap (λ b. if b && is_called (outcome r (suc t)) then suc t else last_call r i t) his ∙ ap (λ b. if b then suc t else last_call r i t) called in
-      ap (λ k. of_call r k (own_steps r i k (suc t))) now ∙ ap (of_call r (suc t)) (count_none (takes_step r i) (suc t) (suc t) (omega arith))
+      ap (λ b. if b && is_called (outcome r (suc t)) then suc t else last_call r i t) his
+      ∙ ap (λ b. if b then suc t else last_call r i t) called in
+      ap (λ k. of_call r k (own_steps r i k (suc t))) now
+      ∙ ap (of_call r (suc t)) (count_none (takes_step r i) (suc t) (suc t) (omega arith))
 
   -- no call
   no_call : (i t : ℕ) → nat_eq (who (item r (suc t))) i ≡ true → is_called (outcome r (suc t)) ≡ false
       → steps_since_call r i (suc t)
-      ≡ of_call r (last_call r i t) (if is_taken (item r (suc t)) (outcome r (suc t)) then suc (steps_since_call r i t).count else (steps_since_call r i t).count)
+      ≡ of_call r (last_call r i t) (if is_taken (item r (suc t)) (outcome r (suc t))
+      then suc (steps_since_call r i t).count else (steps_since_call r i t).count)
   unfolding of_call
   no_call i t his quiet =
       let c = last_call r i t in
@@ -94,8 +104,9 @@ module _ (r : Run) where
       ∙ ap (of_call r c) (count_next (takes_step r i) c t (last_call_few i t))
       ∙ ap (λ b. of_call r c (if b then suc k else k)) (taken i (item r (suc t)) (outcome r (suc t)) his)
 
-  by_case : (i t : ℕ) (called step : Bool) → nat_eq (who (item r (suc t))) i ≡ true → is_called (outcome r (suc t)) ≡ called →
-      is_taken (item r (suc t)) (outcome r (suc t)) ≡ step → steps_since_call r i (suc t) ≡ noted_if called step (steps_since_call r i t) (suc t) (item r (suc t))
+  by_case : (i t : ℕ) (called step : Bool) → nat_eq (who (item r (suc t))) i ≡ true →
+      is_called (outcome r (suc t)) ≡ called → is_taken (item r (suc t)) (outcome r (suc t)) ≡ step →
+      steps_since_call r i (suc t) ≡ noted_if called step (steps_since_call r i t) (suc t) (item r (suc t))
   unfolding of_call
   by_case i t true step his is so = at_call i t his is
   by_case i t false true his is so =
@@ -108,19 +119,23 @@ module _ (r : Run) where
   -- an item of its own
   pub own : (i t : ℕ) → nat_eq (who (item r (suc t))) i ≡ true
       → steps_since_call r i (suc t) ≡ noted (steps_since_call r i t) (suc t) (item r (suc t)) (outcome r (suc t))
-  own i t his = by_case i t (is_called (outcome r (suc t))) (is_taken (item r (suc t)) (outcome r (suc t))) his refl refl
+  own i t his =
+      by_case i t (is_called (outcome r (suc t))) (is_taken (item r (suc t)) (outcome r (suc t))) his refl refl
 
   -- whether its operation has now taken too many steps
   pub over_own : (most t : ℕ) →
       overrun_at r most (suc t)
-      ≡ overrun_by most (suc t) (item r (suc t)) (outcome r (suc t)) (noted (steps_since_call r (who (item r (suc t))) t) (suc t) (item r (suc t)) (outcome r (suc t)))
+      ≡ overrun_by most (suc t) (item r (suc t)) (outcome r (suc t))
+      (noted (steps_since_call r (who (item r (suc t))) t) (suc t) (item r (suc t)) (outcome r (suc t)))
   over_own most t =
       let i = who (item r (suc t)) in
-      ap (λ b. overrun most i (suc t) b (steps_since_call r i (suc t))) (taken i (item r (suc t)) (outcome r (suc t)) (same_number i))
+      ap (λ b. overrun most i (suc t) b (steps_since_call r i (suc t)))
+      (taken i (item r (suc t)) (outcome r (suc t)) (same_number i))
       ∙ ap (overrun most i (suc t) (is_taken (item r (suc t)) (outcome r (suc t)))) (own i t (same_number i))
 
 -- one item more
-pub watches_next : (r : Run) (most t : ℕ) (owns owns' : List OwnSteps) (found later : Option Failure) → IsOneOf r.shape.n (who (item r (suc t))) →
+pub watches_next : (r : Run) (most t : ℕ) (owns owns' : List OwnSteps) (found later : Option Failure) →
+    IsOneOf r.shape.n (who (item r (suc t))) →
     ((d : OwnSteps) → owns' ≡ slice_set owns (who (item r (suc t)) - 1)
     (noted (get_or owns (who (item r (suc t)) - 1) d) (suc t) (item r (suc t)) (outcome r (suc t)))) →
     ((d : OwnSteps) → later ≡ overrun_by most (suc t) (item r (suc t)) (outcome r (suc t))
@@ -132,17 +147,21 @@ watches_next r most t owns owns' found later one set over h =
     let k = who x in
     let v = noted (steps_since_call r k t) (suc t) x o in
     let is : owns' ≡ slice_set owns (k - 1) v =
-    set none_taken ∙ ap (λ (own : OwnSteps). slice_set owns (k - 1) (noted own (suc t) x o)) (h.each k one none_taken) in
+    set none_taken
+    ∙ ap (λ (own : OwnSteps). slice_set owns (k - 1) (noted own (suc t) x o)) (h.each k one none_taken) in
     record {
       count = ap length is ∙ length-set owns (k - 1) v ∙ h.count;
       each = λ i his d. ap (λ xs. get_or xs (i - 1) d) is ∙ at_place i his d (nat_eq k i) refl;
       found_is =
-          ap (or_else found) (over none_taken ∙ ap (λ (own : OwnSteps). overrun_by most (suc t) x o (noted own (suc t) x o)) (h.each k one none_taken) ∙ sym (over_own r most t))
+          ap (or_else found) (over none_taken
+          ∙ ap (λ (own : OwnSteps). overrun_by most (suc t) x o (noted own (suc t) x o)) (h.each k one none_taken)
+          ∙ sym (over_own r most t))
           ∙ ap (λ f. or_else f (overrun_at r most (suc t))) h.found_is;
     }
   where
     at_place : (i : ℕ) → IsOneOf r.shape.n i → (d : OwnSteps) (b : Bool) → nat_eq (who (item r (suc t))) i ≡ b →
-        get_or (slice_set owns (who (item r (suc t)) - 1) (noted (steps_since_call r (who (item r (suc t))) t) (suc t) (item r (suc t)) (outcome r (suc t)))) (i - 1) d
+        get_or (slice_set owns (who (item r (suc t)) - 1)
+        (noted (steps_since_call r (who (item r (suc t))) t) (suc t) (item r (suc t)) (outcome r (suc t)))) (i - 1) d
         ≡ steps_since_call r i (suc t)
     at_place i his d true e =
         let k = who (item r (suc t)) in
@@ -163,7 +182,8 @@ watches_next r most t owns owns' found later one set over h =
         ∙ sym (beside r i t e)
 
 -- before the first item
-pub watches_none : (r : Run) (most : ℕ) (owns : List OwnSteps) → owns ≡ replicate r.shape.n none_taken → Watches r most 0 owns None
+pub watches_none : (r : Run) (most : ℕ) (owns : List OwnSteps) →
+    owns ≡ replicate r.shape.n none_taken → Watches r most 0 owns None
 watches_none r most owns is = record {
   count = ap length is ∙ length-replicate r.shape.n none_taken;
   each = λ i one d.
@@ -174,7 +194,8 @@ watches_none r most owns is = record {
 }
 
 -- what comes of the next of the items that are left
-module _ (s : Source) (n : Counts) (all left left' : List Item) (r : Run) (x : Item) (h : Going s n all r left) (next : left ≡ x ∷ left') where
+module _ (s : Source) (n : Counts) (all left left' : List Item) (r : Run) (x : Item) (h : Going s n all r left)
+    (next : left ≡ x ∷ left') where
   whole : run_of_items s n all ≡ with_items r (x ∷ left')
   whole = sym h.run ∙ ap (with_items r) next
 
@@ -183,9 +204,11 @@ module _ (s : Source) (n : Counts) (all left left' : List Item) (r : Run) (x : I
 
   same_state : state (with_items r (x ∷ left')) (length r.items) ≡ state r (length r.items)
   same_state =
-      ap (after r.source r.shape (initial r.source r.shape)) (take-append-le (length r.items) r.items (x ∷ left') (omega arith))
+      ap (after r.source r.shape (initial r.source r.shape))
+      (take-append-le (length r.items) r.items (x ∷ left') (omega arith))
 
-  pub next_outcome : outcome (run_of_items s n all) (suc (length r.items)) ≡ outcome (with_item r x) (suc (length r.items))
+  pub next_outcome : outcome (run_of_items s n all) (suc (length r.items))
+      ≡ outcome (with_item r x) (suc (length r.items))
   next_outcome =
       let t = length r.items in
       ap (λ (q : Run). outcome q (suc t)) whole
@@ -194,16 +217,20 @@ module _ (s : Source) (n : Counts) (all left left' : List Item) (r : Run) (x : I
       ∙ sym (outcome_last r x)
 
 -- a process has room to count one step more
-pub few_steps : (r : Run) (most t i : ℕ) (owns : List OwnSteps) (found : Option Failure) → Watches r most t owns found → IsOneOf r.shape.n i → t ≤ 1000000 →
+pub few_steps : (r : Run) (most t i : ℕ) (owns : List OwnSteps) (found : Option Failure) →
+    Watches r most t owns found → IsOneOf r.shape.n i → t ≤ 1000000 →
     (d : OwnSteps) → (get_or owns (i - 1) d).count + 1 < 2 ^ 64
 few_steps r most t i owns found h one few d =
-    let same : (get_or owns (i - 1) d).count ≡ own_steps r i (last_call r i t) t = ap (λ (own : OwnSteps). own.count) (h.each i one d) in
+    let same : (get_or owns (i - 1) d).count ≡ own_steps r i (last_call r i t) t =
+    ap (λ (own : OwnSteps). own.count) (h.each i one d) in
     let less : own_steps r i (last_call r i t) t ≤ t = count_few (takes_step r i) (last_call r i t) t in
     omega (arith, same, less, few)
 
 -- the next of the items that are left is of a process that is watched
-module _ (s : Source) (n : Counts) (all left left' : List Item) (r : Run) (x : Item) (most : ℕ) (owns : List OwnSteps) (found : Option Failure)
-    (going : Going s n all r left) (next : left ≡ x ∷ left') (h : Watches (run_of_items s n all) most (length r.items) owns found) where
+module _ (s : Source) (n : Counts) (all left left' : List Item) (r : Run) (x : Item) (most : ℕ)
+    (owns : List OwnSteps) (found : Option Failure)
+    (going : Going s n all r left) (next : left ≡ x ∷ left')
+    (h : Watches (run_of_items s n all) most (length r.items) owns found) where
   of_process : IsOneOf n.n (who x)
   of_process =
       let shape : r.shape ≡ n = ap (λ (q : Run). q.shape) going.run in
@@ -215,17 +242,21 @@ module _ (s : Source) (n : Counts) (all left left' : List Item) (r : Run) (x : I
       few_steps (run_of_items s n all) most (length r.items) (who x) owns found h of_process (omega (arith, few)) d
 
 -- the next of the items that are left is watched
-pub one_watched : (s : Source) (n : Counts) (all left left' : List Item) (r r' : Run) (x : Item) (most : ℕ) (owns owns' : List OwnSteps)
-    (found later found' : Option Failure) → Going s n all r left → left ≡ x ∷ left' → IsOneOf r.shape.n (who x) → r' ≡ with_item r x →
-    TakesOwn r' x owns owns' → TakesOver r' most x owns later → found' ≡ or_else found later →
-    Watches (run_of_items s n all) most (length r.items) owns found → Watches (run_of_items s n all) most (length r'.items) owns' found'
+pub one_watched : (s : Source) (n : Counts) (all left left' : List Item) (r r' : Run) (x : Item)
+    (most : ℕ) (owns owns' : List OwnSteps)
+    (found later found' : Option Failure) → Going s n all r left → left ≡ x ∷ left' → IsOneOf r.shape.n (who x) →
+    r' ≡ with_item r x → TakesOwn r' x owns owns' → TakesOver r' most x owns later → found' ≡ or_else found later →
+    Watches (run_of_items s n all) most (length r.items) owns found →
+    Watches (run_of_items s n all) most (length r'.items) owns' found'
 one_watched s n all left left' r r' x most owns owns' found later found' going next one is set over first h =
     let whole = run_of_items s n all in
     let t = length r.items in
-    let more : length r'.items ≡ suc t = (let e = length-append r.items (x ∷ []) in ap (λ (q : Run). length q.items) is ∙ omega (arith, e)) in
+    let more : length r'.items ≡ suc t =
+    (let e = length-append r.items (x ∷ []) in ap (λ (q : Run). length q.items) is ∙ omega (arith, e)) in
     let its_item : x ≡ item whole (suc t) = sym (next_item s n all left left' r x going next) in
     let its_outcome : outcome r' (length r'.items) ≡ outcome whole (suc t) =
-    ap (outcome r') more ∙ ap (λ (q : Run). outcome q (suc t)) is ∙ sym (next_outcome s n all left left' r x going next) in
+    ap (outcome r') more ∙ ap (λ (q : Run). outcome q (suc t)) is
+    ∙ sym (next_outcome s n all left left' r x going next) in
     let shape : r.shape ≡ n = ap (λ (q : Run). q.shape) going.run in
     let there : IsOneOf n.n (who (item whole (suc t))) =
     subst (λ y. IsOneOf n.n (who y)) its_item (subst (λ (m : Counts). IsOneOf m.n (who x)) shape one) in
@@ -235,9 +266,12 @@ one_watched s n all left left' r r' x most owns owns' found later found' going n
     λ k y c. (d : OwnSteps) → later ≡ overrun_by most k y c (noted (get_or owns (who y - 1) d) k y c) in
     let set' : sets (suc t) (item whole (suc t)) (outcome whole (suc t)) =
     subst (λ k. sets k (item whole (suc t)) (outcome whole (suc t))) more
-    (subst (λ y. sets (length r'.items) y (outcome whole (suc t))) its_item (subst (λ c. sets (length r'.items) x c) its_outcome set)) in
+    (subst (λ y. sets (length r'.items) y (outcome whole (suc t))) its_item
+    (subst (λ c. sets (length r'.items) x c) its_outcome set)) in
     let over' : overs (suc t) (item whole (suc t)) (outcome whole (suc t)) =
     subst (λ k. overs k (item whole (suc t)) (outcome whole (suc t))) more
-    (subst (λ y. overs (length r'.items) y (outcome whole (suc t))) its_item (subst (λ c. overs (length r'.items) x c) its_outcome over)) in
+    (subst (λ y. overs (length r'.items) y (outcome whole (suc t))) its_item
+    (subst (λ c. overs (length r'.items) x c) its_outcome over)) in
     subst (λ k. Watches whole most k owns' found') (sym more)
-    (subst (λ f. Watches whole most (suc t) owns' f) (sym first) (watches_next whole most t owns owns' found later there set' over' h))
+    (subst (λ f. Watches whole most (suc t) owns' f) (sym first)
+    (watches_next whole most t owns owns' found later there set' over' h))

@@ -1,5 +1,7 @@
--- What fails in a run.
-use Rattle.std.specs.Prelude.{ℕ, zero, suc, Bool, ◌&&◌, List, [], ◌∷◌, length, Option, Some, None, is_none, nat_lt, if◌then◌else◌}
+-- What fails in a run: a scan without a point or of too many double collects, a trap, or an operation of too many
+-- steps of its own.
+use Rattle.std.specs.Prelude.{ℕ, zero, suc, Bool, ◌&&◌, List, [], ◌∷◌, length, Option}
+use Rattle.std.specs.Prelude.{Some, None, is_none, nat_lt, if◌then◌else◌}
 use Rattle.snap_words.specs.Shape.{Counts}
 use Rattle.snap_words.specs.declared.kind.KindTag.{KindTag}
 use Rattle.snap_semantics.specs.declared.process.Status.{Status}
@@ -41,17 +43,22 @@ abbrev pub first_trap : State → (i : ℕ) → ℕ → Option Failure
 first_trap S i zero = None
 first_trap S i (suc more) = or_else (trap_of i (process_at S i).status) (first_trap S (suc i) more)
 
--- the operation that process i called last by item t, and how many steps of its own the process has taken in it: the step items
--- of the process after the call and up to item t that executed a line
+-- the operation that process i called last by item t, and how many steps of its own the process has taken in it: the
+-- step items of the process after the call and up to item t that executed a line
 abbrev pub steps_since_call : Run → (i t : ℕ) → OwnSteps
-steps_since_call r i t = record { update = asks_update (item r (last_call r i t)); call = last_call r i t; count = own_steps r i (last_call r i t) t }
+steps_since_call r i t = record {
+  update = asks_update (item r (last_call r i t));
+  call = last_call r i t;
+  count = own_steps r i (last_call r i t) t;
+}
 
 -- that an operation of process i has taken more than so many by item t, where the item is a step
 abbrev pub overrun : (most i t : ℕ) → Bool → OwnSteps → Option Failure
 overrun most i t step own = if step && nat_lt most own.count then Some (failure.ManySteps i t own) else None
 
 abbrev pub overrun_at : Run → (most t : ℕ) → Option Failure
-overrun_at r most t = overrun most (who (item r t)) t (takes_step r (who (item r t)) t) (steps_since_call r (who (item r t)) t)
+overrun_at r most t =
+    overrun most (who (item r t)) t (takes_step r (who (item r t)) t) (steps_since_call r (who (item r t)) t)
 
 -- the first operation that takes more than so many steps, whether it ends or not
 abbrev pub many_steps : ℕ → Run → Option Failure
@@ -85,7 +92,9 @@ of_collects w vs = many_of vs w.collects
 
 -- what fails in a run, the first that is asked for
 abbrev pub first_failure : Wanted → Run → Option Failure
-first_failure w r = or_else (of_points w (audit r)) (or_else (of_traps w (state r (length r.items)) r.shape.n) (or_else (of_steps w r) (of_collects w (audit r))))
+first_failure w r =
+    or_else (of_points w (audit r))
+    (or_else (of_traps w (state r (length r.items)) r.shape.n) (or_else (of_steps w r) (of_collects w (audit r))))
 
 -- the same, where it is of the only kind that is wanted
 unfoldable pub failure_of : Wanted → Run → Option Failure

@@ -1,4 +1,4 @@
--- The kinds of failures, and failures of one kind alone.
+-- `FailureKind`: the kinds of failures of a run, and the failures of one kind alone.
 use Rattle.std.specs.Prelude.{Bool, true, false, Option, Some, None, if◌then◌else◌}
 use Rattle.snap_failure.specs.declared.failures.Failure.{Failure}
 use Rattle.snap_failure.specs.declared.failures.Failure.TheVariants as failure

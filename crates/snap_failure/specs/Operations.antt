@@ -1,4 +1,5 @@
--- What too many steps are in terms of the operations of a run.
+-- `StepsAreOfOperations`: a failure of too many steps is that an operation of the run, not ended before, takes more
+-- than it may.
 use Rattle.std.specs.Prelude.{◌≡◌, ℕ, ◌<◌, Bool, true, false, Option, Some, None}
 use Rattle.snap_runs.specs.Run.{IsValidRun, Run}
 use Rattle.snap_runs.specs.Scan.{PendingScan, own_steps, takes_step}

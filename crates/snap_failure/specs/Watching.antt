@@ -1,5 +1,7 @@
--- The steps of each process since its last call, item by item.
-use Rattle.std.specs.Prelude.{◌≡◌, ℕ, suc, ◌-◌, Bool, true, false, ◌&&◌, List, length, Option, get_or, slice_set, if◌then◌else◌}
+-- `OwnSteps` item by item: the steps that each process has taken since its last call, and the failure that they are
+-- too many.
+use Rattle.std.specs.Prelude.{◌≡◌, ℕ, suc, ◌-◌, Bool, true, false, ◌&&◌, List, length}
+use Rattle.std.specs.Prelude.{Option, get_or, slice_set, if◌then◌else◌}
 use Rattle.snap_words.specs.Shape.{IsOneOf}
 use Rattle.snap_semantics.specs.declared.process.Item.{Item}
 use Rattle.snap_semantics.specs.declared.process.Item.TheVariants.{Step, Call, Crash}
@@ -39,12 +41,14 @@ overrun_by most t x o own = overrun most (who x) t (is_taken x o) own
 -- With its last item, which is this one, a run has these steps of its processes after those.
 abbrev pub TakesOwn : Run → Item → List OwnSteps → List OwnSteps → Type 0
 TakesOwn r x owns owns' = (d : OwnSteps) →
-    owns' ≡ slice_set owns (who x - 1) (noted (get_or owns (who x - 1) d) (length r.items) x (outcome r (length r.items)))
+    owns'
+    ≡ slice_set owns (who x - 1) (noted (get_or owns (who x - 1) d) (length r.items) x (outcome r (length r.items)))
 
 -- This is what its last item, which is this one, makes of them.
 abbrev pub TakesOver : Run → ℕ → Item → List OwnSteps → Option Failure → Type 0
 TakesOver r most x owns found = (d : OwnSteps) →
-    found ≡ overrun_by most (length r.items) x (outcome r (length r.items)) (noted (get_or owns (who x - 1) d) (length r.items) x (outcome r (length r.items)))
+    found ≡ overrun_by most (length r.items) x (outcome r (length r.items))
+    (noted (get_or owns (who x - 1) d) (length r.items) x (outcome r (length r.items)))
 
 -- by item t of a run these are the steps of its processes, and this is the first operation that takes more than so many
 pub record Watches (r : Run) (most t : ℕ) (owns : List OwnSteps) (found : Option Failure) : Type 0 where

@@ -1,4 +1,5 @@
-//! What fails in a record.
+//! What fails in a record: a scan without a point, a trap, an operation of too many steps, or a
+//! scan of too many double collects, as far as it is `Wanted`.
 ghost use Rattle.std.specs.Prelude.{◌≡◌, IfOk, length};
 ghost use Rattle.snap_runs.specs.Run.{state};
 ghost use Rattle.snap_failure.specs.Failing.{

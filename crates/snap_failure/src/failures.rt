@@ -1,4 +1,5 @@
-//! What may fail in a run.
+//! `Failure`, `FailureKind` and `Wanted`: what may fail in a run, and which failures are looked
+//! for.
 ghost use Rattle.std.specs.Prelude.{◌≡◌, true};
 ghost use Rattle.snap_failure.specs.Kinds.{is_kind, kind_of, of_kind, with_only};
 

@@ -1,4 +1,5 @@
-//! How many steps an operation may take.
+//! `most_steps`: how many steps of its own an operation may take before that is a failure: a given
+//! number, or the bound of the shipped listing.
 ghost use Rattle.std.specs.Prelude.{◌≡◌, ◌*◌, ◌≤◌};
 ghost use Rattle.snap_promises.specs.Kept.{update_turns};
 ghost use Rattle.snap_failure.specs.Failing.{most_steps};

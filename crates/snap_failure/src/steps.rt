@@ -1,5 +1,7 @@
-//! The steps of its own that each process has taken since its last call.
-ghost use Rattle.std.specs.Prelude.{◌≡◌, ◌<◌, ◌≤◌, ◌+◌, ◌-◌, ◌^◌, IfOk, get_or, length, replicate, slice_set};
+//! `OwnSteps`: the steps that each process has taken since its last call, and the failure that they
+//! are too many.
+ghost use Rattle.std.specs.Prelude.{◌≡◌, ◌<◌, ◌≤◌, ◌+◌, ◌-◌, ◌^◌};
+ghost use Rattle.std.specs.Prelude.{IfOk, get_or, length, replicate, slice_set};
 ghost use Rattle.snap_words.specs.Shape.{IsOneOf};
 ghost use Rattle.snap_semantics.specs.Rules.{or_else};
 ghost use Rattle.snap_semantics.specs.Table.{who};

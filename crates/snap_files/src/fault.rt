@@ -1,4 +1,4 @@
-//! Why a file was not read.
+//! `FileFault`: why a file that a command line names was not read.
 use std::io::ErrorKind;
 
 /// Why a file was not read.

@@ -1,4 +1,5 @@
-//! Files, read whole.
+//! `read_named`: the bytes of a file that a command line names, read whole, where they are not too
+//! many.
 ghost use Rattle.std.specs.Prelude.{◌≡◌, ◌≤◌, IfOk, IfSome, MatchOption, length};
 
 use crate::fault::FileFault;

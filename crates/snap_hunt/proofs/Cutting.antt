@@ -1,5 +1,7 @@
--- What is left of items without some of them.
-use Rattle.std.proofs.Common.{◌≡◌, ℕ, zero, suc, ◌+◌, ◌-◌, ◌<◌, ◌≤◌, List, [], ◌∷◌, ◌++◌, true, drop, get_or, length, take, refl, sym, ap, subst, ◌∙◌, arith}
+-- Leaving items out of a failing schedule (`without`) leaves a shorter schedule; and steps of `Shrinks` and
+-- `IsShrunk` follow one another.
+use Rattle.std.proofs.Common.{◌≡◌, ℕ, zero, suc, ◌+◌, ◌-◌, ◌<◌, ◌≤◌, List, [], ◌∷◌, ◌++◌, true, drop, get_or, length}
+use Rattle.std.proofs.Common.{take, refl, sym, ap, subst, ◌∙◌, arith}
 use Rattle.std.proofs.lemmas.List.{length-append, length-drop}
 use Rattle.std.specs.List.{AllByRecursion}
 use Rattle.snap_words.specs.Shape.{Counts, IsOneOf}
@@ -21,12 +23,15 @@ all_left P zero xs h = h
 all_left P (suc n) [] h = tt
 all_left P (suc n) (x ∷ xs) h = all_left P n xs h.1
 
-all_both : (P : Item → Type 0) (xs ys : List Item) → AllByRecursion P xs → AllByRecursion P ys → AllByRecursion P (xs ++ ys)
+all_both : (P : Item → Type 0) (xs ys : List Item) → AllByRecursion P xs →
+    AllByRecursion P ys → AllByRecursion P (xs ++ ys)
 all_both P [] ys h g = g
 all_both P (x ∷ xs) ys h g = (h.0, all_both P xs ys h.1 g)
 
-all_without : (P : Item → Type 0) (at count : ℕ) (xs : List Item) → AllByRecursion P xs → AllByRecursion P (without at count xs)
-all_without P at count xs h = all_both P (take at xs) (drop (at + count) xs) (all_taken P at xs h) (all_left P (at + count) xs h)
+all_without : (P : Item → Type 0) (at count : ℕ) (xs : List Item) → AllByRecursion P xs →
+    AllByRecursion P (without at count xs)
+all_without P at count xs h =
+    all_both P (take at xs) (drop (at + count) xs) (all_taken P at xs h) (all_left P (at + count) xs h)
 
 taken_few : (n : ℕ) (xs : List Item) → length (take n xs) + length (drop n xs) ≡ length xs
 taken_few zero xs = omega arith
@@ -45,13 +50,16 @@ past_end (suc n) (x ∷ xs) le =
     past_end n xs rest
 
 -- how many are left
-pub length_without : (at count : ℕ) (xs : List Item) → at ≤ length xs → length (without at count xs) ≡ at + (length xs - (at + count))
+pub length_without : (at count : ℕ) (xs : List Item) → at ≤ length xs →
+    length (without at count xs) ≡ at + (length xs - (at + count))
 length_without at count xs le =
     let front = taken_few at xs in
-    omega (arith, length-append (take at xs) (drop (at + count) xs), length-drop (at + count) xs, length-drop at xs, front)
+    omega
+    (arith, length-append (take at xs) (drop (at + count) xs), length-drop (at + count) xs, length-drop at xs, front)
 
 -- what is left of a schedule is one
-pub still_schedule : (shape : Counts) (at count : ℕ) (xs : List Item) → at ≤ length xs → IsSchedule (record { shape = shape; items = xs })
+pub still_schedule : (shape : Counts) (at count : ℕ) (xs : List Item) → at ≤ length xs →
+    IsSchedule (record { shape = shape; items = xs })
     → IsSchedule (record { shape = shape; items = without at count xs })
 still_schedule shape at count xs le h =
     let few = h.few in
@@ -64,24 +72,30 @@ still_schedule shape at count xs le h =
     }
 
 -- what is left of the items of a schedule is one
-pub left_schedule : (shape : Counts) (at count : ℕ) (xs ys : List Item) → IsSchedule (record { shape = shape; items = xs }) → at ≤ length xs → ys ≡ without at count xs
+pub left_schedule : (shape : Counts) (at count : ℕ) (xs ys : List Item) →
+    IsSchedule (record { shape = shape; items = xs }) → at ≤ length xs → ys ≡ without at count xs
     → IsSchedule (record { shape = shape; items = ys })
 left_schedule shape at count xs ys h le is =
-    subst (λ (zs : List Item). IsSchedule (record { shape = shape; items = zs })) (sym is) (still_schedule shape at count xs le h)
+    subst (λ (zs : List Item). IsSchedule (record { shape = shape; items = zs })) (sym is)
+    (still_schedule shape at count xs le h)
 
 -- what is left, where it still fails
-pub left_fails : (l : Source) (w : Wanted) (s : Schedule) (shape : Counts) (at count : ℕ) (xs ys : List Item) → Shrinks l w s (record { shape = shape; items = xs })
-    → at ≤ length xs → ys ≡ without at count xs → fails_with l w shape ys ≡ true → Shrinks l w s (record { shape = shape; items = ys })
+pub left_fails : (l : Source) (w : Wanted) (s : Schedule) (shape : Counts) (at count : ℕ) (xs ys : List Item) →
+    Shrinks l w s (record { shape = shape; items = xs })
+    → at ≤ length xs → ys ≡ without at count xs → fails_with l w shape ys ≡ true →
+    Shrinks l w s (record { shape = shape; items = ys })
 left_fails l w s shape at count xs ys h le is fails =
     let within = h.within.items in
     let left : length ys ≡ at + (length xs - (at + count)) = ap length is ∙ length_without at count xs le in
     record {
       still = record { schedule = left_schedule shape at count xs ys h.still.schedule le is; fails = fails };
-      within = record { processes = h.within.processes; words = h.within.words; items = omega (arith, within, left, le) };
+      within =
+          record { processes = h.within.processes; words = h.within.words; items = omega (arith, within, left, le) };
     }
 
 -- and it is shorter
-pub left_shorter : (at count : ℕ) (xs ys : List Item) → at < length xs → 0 < count → ys ≡ without at count xs → length ys < length xs
+pub left_shorter : (at count : ℕ) (xs ys : List Item) → at < length xs → 0 < count →
+    ys ≡ without at count xs → length ys < length xs
 left_shorter at count xs ys lt some is =
     let le : at ≤ length xs = omega arith in
     let left : length ys ≡ at + (length xs - (at + count)) = ap length is ∙ length_without at count xs le in
@@ -89,7 +103,8 @@ left_shorter at count xs ys lt some is =
 
 -- from a schedule whose run fails to itself
 pub itself : (l : Source) (w : Wanted) (s : Schedule) → Fails l w s.shape s.items → Shrinks l w s s
-itself l w s h = record { still = h; within = record { processes = omega arith; words = omega arith; items = omega arith } }
+itself l w s h =
+    record { still = h; within = record { processes = omega arith; words = omega arith; items = omega arith } }
 
 -- one after another
 pub onward : (l : Source) (w : Wanted) (s t u : Schedule) → Shrinks l w s t → Shrinks l w t u → Shrinks l w s u
@@ -98,7 +113,11 @@ onward l w s t u h k =
     let b = k.within in
     record {
       still = k.still;
-      within = record { processes = omega (arith, a.processes, b.processes); words = omega (arith, a.words, b.words); items = omega (arith, a.items, b.items) };
+      within = record {
+        processes = omega (arith, a.processes, b.processes);
+        words = omega (arith, a.words, b.words);
+        items = omega (arith, a.items, b.items);
+      };
     }
 
 -- and to a small one in the end
@@ -106,7 +125,8 @@ pub onward_small : (l : Source) (w : Wanted) (s t u : Schedule) → Shrinks l w 
 onward_small l w s t u h k = record { shrinks = onward l w s t u h k.shrinks; small = k.small }
 
 -- each of the first items, and the next one
-pub all_more : (P : Item → Type 0) (xs : List Item) (k : ℕ) (d : Item) → k < length xs → AllByRecursion P (take k xs) → P (get_or xs k d)
+pub all_more : (P : Item → Type 0) (xs : List Item) (k : ℕ) (d : Item) → k < length xs →
+    AllByRecursion P (take k xs) → P (get_or xs k d)
     → AllByRecursion P (take (suc k) xs)
 all_more P [] k d lt h p = absurd (omega arith)
 all_more P (x ∷ xs) zero d lt h p = (p, tt)

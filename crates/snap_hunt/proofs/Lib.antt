@@ -1,3 +1,4 @@
+-- The proofs of snap_hunt, by their modules.
 pub mod Ranges
 pub mod Numbers
 pub mod Cutting

@@ -1,4 +1,5 @@
--- Which runs fail, of those that a seed gives.
+-- `run_of` and `fails`: run k of those that a seed and a plan give for a listing, and whether it fails as a hunt
+-- asks.
 use Rattle.std.specs.Prelude.{ℕ, Bool, is_some}
 use Rattle.snap_semantics.specs.Source.{Source}
 use Rattle.snap_runs.specs.Run.{Run, run_over}

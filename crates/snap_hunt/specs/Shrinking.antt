@@ -1,4 +1,5 @@
--- Schedules whose runs fail, made small.
+-- What it means to shrink a schedule whose run fails: `Shrinks`, to one that is no larger and whose run fails;
+-- `IsShrunk`, to one of which also no item can be left out.
 use Rattle.std.specs.Prelude.{◌≡◌, ℕ, ◌+◌, ◌<◌, ◌≤◌, Bool, true, false, List, ◌++◌, drop, length, take, is_some}
 use Rattle.snap_words.specs.Shape.{Counts}
 use Rattle.snap_semantics.specs.declared.process.Item.{Item}

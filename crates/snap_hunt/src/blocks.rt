@@ -1,4 +1,4 @@
-//! Runs side by side.
+//! `fail_each`: which runs of a block of run numbers fail, made side by side in threads for a hunt.
 ghost use Rattle.std.specs.Prelude.{◌≡◌, ◌+◌, ◌^◌, ◌<◌, ℕ, Bool, IfOk, map};
 ghost use Rattle.std.specs.List.{find, range_with_len};
 ghost use Rattle.snap_hunt.specs.Hunt.{fails};

@@ -1,4 +1,4 @@
-//! A schedule that is being made small.
+//! `Draft`: a shape and items that may be a schedule, while a failing schedule is shrunk.
 ghost use Rattle.std.specs.Prelude.{◌≡◌, IfOk, IsTrue};
 ghost use Rattle.std.specs.List.{AllByRecursion};
 ghost use Rattle.snap_words.specs.Shape.{IsOneOf};

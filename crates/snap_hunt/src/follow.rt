@@ -1,4 +1,5 @@
-//! The run of a smaller shape that goes along with another run.
+//! `followed`: for a run and a process or word that is left out, the items of a run of the smaller
+//! shape that goes along with it, line by line.
 ghost use Rattle.std.specs.Prelude.{◌≡◌};
 
 use crate::draft::{Draft, has_process};

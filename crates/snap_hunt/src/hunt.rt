@@ -1,4 +1,5 @@
-//! The first run that fails.
+//! `first_failing`: the first run that fails, of those that a seed gives; and `Watcher`, which is
+//! told how far the hunt has come.
 ghost use Rattle.std.specs.Prelude.{◌≡◌, ◌+◌, ◌-◌, ◌<◌, ◌≤◌, ◌^◌, IfOk};
 ghost use Rattle.std.specs.List.{find, range_with_len};
 ghost use Rattle.snap_hunt.specs.Hunt.{fails};

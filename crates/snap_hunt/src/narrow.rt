@@ -1,14 +1,12 @@
-//! Drafts of fewer processes and words.
+//! `narrower`: a failing schedule's draft with fewer processes or words, whose run still fails.
 ghost use Rattle.std.specs.Prelude.{◌<◌, ◌+◌, IfOk, IfSome, IsTrue};
 ghost use Rattle.snap_hunt.specs.Shrinking.{IsWithin, Narrows, drawn};
 
 use crate::draft::{Draft, is_within};
 use crate::follow::followed;
 use crate::places::{Gone, all_gone, shape_left};
-use crate::trials::still_fails;
-use snap_asm_program::Program;
-use snap_failure::Wanted;
-use std::alloc::{AllocError, Global};
+use crate::trials::Shrinker;
+use std::alloc::AllocError;
 
 /// Whether a draft has fewer processes or words than another, and no more of anything.
 fn is_narrower(draft: &Draft, other: &Draft) -> bool
@@ -20,44 +18,36 @@ fn is_narrower(draft: &Draft, other: &Draft) -> bool
         && (draft.shape.n() < other.shape.n() || draft.shape.w() < other.shape.w())
 }
 
-/// A draft without a process or a word, where its run fails.
-fn without_place(
-    alloc: Global,
-    program: &Program,
-    wanted: &Wanted,
-    kept: &Draft,
-    gone: Gone,
-) -> Result<Option<Draft>, AllocError>
-    ensures { IfOk result (λ found. IfSome found (Narrows program.now wanted.now (drawn kept.now))) }
-{
-    let Some(shape) = shape_left(kept.shape, gone) else {
-        return Ok(None);
-    };
-    let items = followed(alloc, program, kept, gone, shape)?;
-    let draft = Draft { shape, items };
-    if is_narrower(&draft, kept) && still_fails(alloc, program, wanted, &draft)? {
-        Ok(Some(draft))
-    } else {
-        Ok(None)
-    }
-}
-
-/// A draft of fewer processes or words whose run fails, where one is found.
-pub(crate) fn narrower(
-    alloc: Global,
-    program: &Program,
-    wanted: &Wanted,
-    kept: &Draft,
-    owns: bool,
-) -> Result<Option<Draft>, AllocError>
-    ensures { IfOk result (λ found. IfSome found (Narrows program.now wanted.now (drawn kept.now))) }
-{
-    let all = all_gone(alloc, kept.shape, owns)?;
-    for gone in all.as_slice() {
-        let found = without_place(alloc, program, wanted, kept, *gone)?;
-        if found.is_some() {
-            return Ok(found);
+impl Shrinker<'_> {
+    /// A draft without a process or a word, where its run fails.
+    fn without_place(&self, kept: &Draft, gone: Gone) -> Result<Option<Draft>, AllocError>
+        ensures { IfOk result (λ found.
+            IfSome found (Narrows self.now.program.now self.now.wanted.now (drawn kept.now))) }
+    {
+        let Some(shape) = shape_left(kept.shape, gone) else {
+            return Ok(None);
+        };
+        let items = followed(self.alloc, self.program, kept, gone, shape)?;
+        let draft = Draft { shape, items };
+        if is_narrower(&draft, kept) && self.still_fails(&draft)? {
+            Ok(Some(draft))
+        } else {
+            Ok(None)
         }
     }
-    Ok(None)
+
+    /// A draft of fewer processes or words whose run fails, where one is found.
+    pub(crate) fn narrower(&self, kept: &Draft, owns: bool) -> Result<Option<Draft>, AllocError>
+        ensures { IfOk result (λ found.
+            IfSome found (Narrows self.now.program.now self.now.wanted.now (drawn kept.now))) }
+    {
+        let all = all_gone(self.alloc, kept.shape, owns)?;
+        for gone in all.as_slice() {
+            let found = self.without_place(kept, *gone)?;
+            if found.is_some() {
+                return Ok(found);
+            }
+        }
+        Ok(None)
+    }
 }

@@ -1,4 +1,5 @@
-//! Items in another order, that of each process the same.
+//! Puts the items of a failing schedule in another order, in which it changes less often from
+//! process to process; each process keeps the order of its own items.
 ghost use Rattle.std.specs.Prelude.{◌≤◌, length, IfSome};
 
 use snap_semantics::{Item, who};

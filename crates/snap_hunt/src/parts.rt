@@ -1,4 +1,5 @@
-//! The parts of items that may be left out whole.
+//! Which items of a failing schedule are tried to be left out together, as `Cut`s: those of a
+//! process, of an operation, or of a segment.
 ghost use Rattle.std.specs.Prelude.{◌<◌};
 
 use crate::cuts::Cut;

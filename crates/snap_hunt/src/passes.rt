@@ -1,4 +1,5 @@
-//! Ways to make a draft smaller. Each keeps that its run fails.
+//! The passes that shrink a failing schedule: they leave items out, bring those of a process
+//! together, and make values plain. After each the run still fails.
 ghost use Rattle.std.specs.Prelude.{◌<◌, IfOk};
 ghost use Rattle.snap_hunt.specs.Shrinking.{Fails, IsSmall, Shrinks, drawn};
 
@@ -6,211 +7,168 @@ use crate::cuts::{Cut, left_by, without};
 use crate::draft::Draft;
 use crate::orders::{switches, with_next_sooner, with_turn_later};
 use crate::parts::{operations, processes, segments, turns};
-use crate::trials::{better, removable};
+use crate::trials::Shrinker;
 use crate::values::with_plain_values;
-use snap_asm_program::Program;
-use snap_failure::Wanted;
 use snap_semantics::Item;
-use std::alloc::{AllocError, Global};
+use std::alloc::AllocError;
 
-/// These items, where they are fewer and their run fails.
-#[tactic(auto, using(crate::proofs::Cutting::itself))]
-fn fewer(
-    alloc: Global,
-    program: &Program,
-    wanted: &Wanted,
-    kept: Draft,
-    items: Vec<Item>,
-) -> Result<Draft, AllocError>
-    requires { Fails program.now wanted.now kept.shape kept.items.items }
-    ensures { IfOk result (λ d. Shrinks program.now wanted.now (drawn kept) (drawn d)) }
-{
-    let shape = kept.shape;
-    if items.len() < kept.items.len() {
-        better(alloc, program, wanted, kept, Draft { shape, items })
-    } else {
+impl Shrinker<'_> {
+    /// These items, where they are fewer and their run fails.
+    #[tactic(auto, using(crate::proofs::Cutting::itself))]
+    fn fewer(&self, kept: Draft, items: Vec<Item>) -> Result<Draft, AllocError>
+        requires { Fails self.now.program.now self.now.wanted.now kept.shape kept.items.items }
+        ensures { IfOk result (λ d.
+            Shrinks self.now.program.now self.now.wanted.now (drawn kept) (drawn d)) }
+    {
+        let shape = kept.shape;
+        if items.len() < kept.items.len() {
+            self.better(kept, Draft { shape, items })
+        } else {
+            Ok(kept)
+        }
+    }
+
+    /// Leaves out each of these parts without which the run still fails, from the last to the
+    /// first.
+    #[tactic(auto, using(crate::proofs::Cutting::itself, crate::proofs::Cutting::onward))]
+    fn drop_cuts(&self, draft: Draft, cuts: &[Cut]) -> Result<Draft, AllocError>
+        requires { Fails self.now.program.now self.now.wanted.now draft.shape draft.items.items }
+        ensures { IfOk result (λ d.
+            Shrinks self.now.program.now self.now.wanted.now (drawn draft) (drawn d)) }
+    {
+        let mut kept = draft;
+        for k in 0..cuts.len() {
+            let items = left_by(self.alloc, kept.items.as_slice(), cuts[cuts.len() - 1 - k])?;
+            kept = self.fewer(kept, items)?;
+        }
         Ok(kept)
     }
-}
 
-/// Leaves out each of these parts without which the run still fails, from the last to the first.
-#[tactic(auto, using(crate::proofs::Cutting::itself, crate::proofs::Cutting::onward))]
-fn drop_cuts(
-    alloc: Global,
-    program: &Program,
-    wanted: &Wanted,
-    draft: Draft,
-    cuts: &[Cut],
-) -> Result<Draft, AllocError>
-    requires { Fails program.now wanted.now draft.shape draft.items.items }
-    ensures { IfOk result (λ d. Shrinks program.now wanted.now (drawn draft) (drawn d)) }
-{
-    let mut kept = draft;
-    for k in 0..cuts.len() {
-        let items = left_by(alloc, kept.items.as_slice(), cuts[cuts.len() - 1 - k])?;
-        kept = fewer(alloc, program, wanted, kept, items)?;
+    /// Leaves out whole processes, and then whole operations.
+    #[tactic(auto, using(crate::proofs::Cutting::itself, crate::proofs::Cutting::onward))]
+    pub(crate) fn drop_operations(&self, draft: Draft) -> Result<Draft, AllocError>
+        requires { Fails self.now.program.now self.now.wanted.now draft.shape draft.items.items }
+        ensures { IfOk result (λ d.
+            Shrinks self.now.program.now self.now.wanted.now (drawn draft) (drawn d)) }
+    {
+        let all = processes(self.alloc, draft.shape)?;
+        let fewer = self.drop_cuts(draft, all.as_slice())?;
+        let called = operations(self.alloc, fewer.items.as_slice())?;
+        self.drop_cuts(fewer, called.as_slice())
     }
-    Ok(kept)
-}
 
-/// Leaves out whole processes, and then whole operations.
-#[tactic(auto, using(crate::proofs::Cutting::itself, crate::proofs::Cutting::onward))]
-pub(crate) fn drop_operations(
-    alloc: Global,
-    program: &Program,
-    wanted: &Wanted,
-    draft: Draft,
-) -> Result<Draft, AllocError>
-    requires { Fails program.now wanted.now draft.shape draft.items.items }
-    ensures { IfOk result (λ d. Shrinks program.now wanted.now (drawn draft) (drawn d)) }
-{
-    let all = processes(alloc, draft.shape)?;
-    let fewer = drop_cuts(alloc, program, wanted, draft, all.as_slice())?;
-    let called = operations(alloc, fewer.items.as_slice())?;
-    drop_cuts(alloc, program, wanted, fewer, called.as_slice())
-}
-
-/// Leaves out segments of so many items, of all and of each process.
-#[tactic(auto, using(crate::proofs::Cutting::itself, crate::proofs::Cutting::onward))]
-fn drop_segments_of(
-    alloc: Global,
-    program: &Program,
-    wanted: &Wanted,
-    draft: Draft,
-    size: usize,
-) -> Result<Draft, AllocError>
-    requires fails { Fails program.now wanted.now draft.shape draft.items.items }
-    requires some { 0 < size }
-    ensures { IfOk result (λ d. Shrinks program.now wanted.now (drawn draft) (drawn d)) }
-{
-    let all = segments(alloc, draft.items.as_slice(), size)?;
-    let fewer = drop_cuts(alloc, program, wanted, draft, all.as_slice())?;
-    if size == 1 {
-        return Ok(fewer);
-    }
-    let own = turns(alloc, fewer.shape, fewer.items.as_slice(), size)?;
-    drop_cuts(alloc, program, wanted, fewer, own.as_slice())
-}
-
-/// Leaves out segments of at least so many items, long ones first.
-#[tactic(auto, using(crate::proofs::Cutting::itself, crate::proofs::Cutting::onward))]
-pub(crate) fn drop_segments(
-    alloc: Global,
-    program: &Program,
-    wanted: &Wanted,
-    draft: Draft,
-    least: usize,
-) -> Result<Draft, AllocError>
-    requires fails { Fails program.now wanted.now draft.shape draft.items.items }
-    requires some { 0 < least }
-    ensures { IfOk result (λ d. Shrinks program.now wanted.now (drawn draft) (drawn d)) }
-{
-    let mut size = draft.items.len() / 2;
-    let mut kept = draft;
-    while size >= least {
-        kept = drop_segments_of(alloc, program, wanted, kept, size)?;
-        size /= 2;
-    }
-    Ok(kept)
-}
-
-/// Leaves out items one by one, until none can be left out.
-#[tactic(auto, using(crate::proofs::Cutting::itself, crate::proofs::Cutting::left_fails, crate::proofs::Cutting::left_shorter))]
-pub(crate) fn drop_items(
-    alloc: Global,
-    program: &Program,
-    wanted: &Wanted,
-    draft: Draft,
-) -> Result<Draft, AllocError>
-    requires { Fails program.now wanted.now draft.shape draft.items.items }
-    ensures shrinks { IfOk result (λ d. Shrinks program.now wanted.now (drawn draft) (drawn d)) }
-    ensures small { IfOk result (λ d. IsSmall program.now wanted.now d.shape d.items.items) }
-{
-    let shape = draft.shape;
-    let mut items = draft.items;
-    while let Some(k) = removable(alloc, program, wanted, shape, items.as_slice())? {
-        items = without(alloc, items.as_slice(), k, 1)?;
-    }
-    Ok(Draft { shape, items })
-}
-
-/// These items, where there are some, they change less often from process to process, and their run
-/// fails.
-#[tactic(auto, using(crate::proofs::Cutting::itself))]
-fn calmer(
-    alloc: Global,
-    program: &Program,
-    wanted: &Wanted,
-    kept: Draft,
-    items: Option<Vec<Item>>,
-) -> Result<Draft, AllocError>
-    requires { Fails program.now wanted.now kept.shape kept.items.items }
-    ensures { IfOk result (λ d. Shrinks program.now wanted.now (drawn kept) (drawn d)) }
-{
-    let shape = kept.shape;
-    match items {
-        Some(items) if switches(items.as_slice()) < switches(kept.items.as_slice()) => {
-            better(alloc, program, wanted, kept, Draft { shape, items })
+    /// Leaves out segments of so many items, of all and of each process.
+    #[tactic(auto, using(crate::proofs::Cutting::itself, crate::proofs::Cutting::onward))]
+    fn drop_segments_of(&self, draft: Draft, size: usize) -> Result<Draft, AllocError>
+        requires fails { Fails self.now.program.now self.now.wanted.now draft.shape draft.items.items }
+        requires some { 0 < size }
+        ensures { IfOk result (λ d.
+            Shrinks self.now.program.now self.now.wanted.now (drawn draft) (drawn d)) }
+    {
+        let all = segments(self.alloc, draft.items.as_slice(), size)?;
+        let fewer = self.drop_cuts(draft, all.as_slice())?;
+        if size == 1 {
+            return Ok(fewer);
         }
-        _ => Ok(kept),
+        let own = turns(self.alloc, fewer.shape, fewer.items.as_slice(), size)?;
+        self.drop_cuts(fewer, own.as_slice())
     }
-}
 
-/// Brings items of one process together with its next ones, from the first place to the last.
-#[tactic(auto, using(crate::proofs::Cutting::itself, crate::proofs::Cutting::onward))]
-fn join_once(
-    alloc: Global,
-    program: &Program,
-    wanted: &Wanted,
-    draft: Draft,
-) -> Result<Draft, AllocError>
-    requires { Fails program.now wanted.now draft.shape draft.items.items }
-    ensures { IfOk result (λ d. Shrinks program.now wanted.now (drawn draft) (drawn d)) }
-{
-    let count = draft.items.len();
-    let mut kept = draft;
-    for at in 0..count {
-        let sooner = with_next_sooner(alloc, kept.items.as_slice(), at)?;
-        kept = calmer(alloc, program, wanted, kept, sooner)?;
-        let later = with_turn_later(alloc, kept.items.as_slice(), at)?;
-        kept = calmer(alloc, program, wanted, kept, later)?;
+    /// Leaves out segments of at least so many items, long ones first.
+    #[tactic(auto, using(crate::proofs::Cutting::itself, crate::proofs::Cutting::onward))]
+    pub(crate) fn drop_segments(&self, draft: Draft, least: usize) -> Result<Draft, AllocError>
+        requires fails { Fails self.now.program.now self.now.wanted.now draft.shape draft.items.items }
+        requires some { 0 < least }
+        ensures { IfOk result (λ d.
+            Shrinks self.now.program.now self.now.wanted.now (drawn draft) (drawn d)) }
+    {
+        let mut size = draft.items.len() / 2;
+        let mut kept = draft;
+        while size >= least {
+            kept = self.drop_segments_of(kept, size)?;
+            size /= 2;
+        }
+        Ok(kept)
     }
-    Ok(kept)
-}
 
-/// Brings items of one process together, until that leads no further.
-#[tactic(auto, using(crate::proofs::Cutting::itself, crate::proofs::Cutting::onward))]
-pub(crate) fn join_turns(
-    alloc: Global,
-    program: &Program,
-    wanted: &Wanted,
-    draft: Draft,
-) -> Result<Draft, AllocError>
-    requires { Fails program.now wanted.now draft.shape draft.items.items }
-    ensures { IfOk result (λ d. Shrinks program.now wanted.now (drawn draft) (drawn d)) }
-{
-    let mut before = usize::MAX;
-    let mut kept = draft;
-    let mut now = switches(kept.items.as_slice());
-    while now < before {
-        kept = join_once(alloc, program, wanted, kept)?;
-        before = now;
-        now = switches(kept.items.as_slice());
+    /// Leaves out items one by one, until none can be left out.
+    #[tactic(auto, using(crate::proofs::Cutting::itself, crate::proofs::Cutting::left_fails, crate::proofs::Cutting::left_shorter))]
+    pub(crate) fn drop_items(&self, draft: Draft) -> Result<Draft, AllocError>
+        requires { Fails self.now.program.now self.now.wanted.now draft.shape draft.items.items }
+        ensures shrinks { IfOk result (λ d.
+            Shrinks self.now.program.now self.now.wanted.now (drawn draft) (drawn d)) }
+        ensures small { IfOk result (λ d.
+            IsSmall self.now.program.now self.now.wanted.now d.shape d.items.items) }
+    {
+        let shape = draft.shape;
+        let mut items = draft.items;
+        while let Some(k) = self.removable(shape, items.as_slice())? {
+            items = without(self.alloc, items.as_slice(), k, 1)?;
+        }
+        Ok(Draft { shape, items })
     }
-    Ok(kept)
-}
 
-/// Gives updates plain values, where the run still fails.
-pub(crate) fn make_plain(
-    alloc: Global,
-    program: &Program,
-    wanted: &Wanted,
-    draft: Draft,
-) -> Result<Draft, AllocError>
-    requires { Fails program.now wanted.now draft.shape draft.items.items }
-    ensures { IfOk result (λ d. Shrinks program.now wanted.now (drawn draft) (drawn d)) }
-{
-    let shape = draft.shape;
-    let items = with_plain_values(alloc, draft.items.as_slice())?;
-    better(alloc, program, wanted, draft, Draft { shape, items })
+    /// These items, where there are some, they change less often from process to process, and their
+    /// run fails.
+    #[tactic(auto, using(crate::proofs::Cutting::itself))]
+    fn calmer(&self, kept: Draft, items: Option<Vec<Item>>) -> Result<Draft, AllocError>
+        requires { Fails self.now.program.now self.now.wanted.now kept.shape kept.items.items }
+        ensures { IfOk result (λ d.
+            Shrinks self.now.program.now self.now.wanted.now (drawn kept) (drawn d)) }
+    {
+        let shape = kept.shape;
+        match items {
+            Some(items) if switches(items.as_slice()) < switches(kept.items.as_slice()) => {
+                self.better(kept, Draft { shape, items })
+            }
+            _ => Ok(kept),
+        }
+    }
+
+    /// Brings items of one process together with its next ones, from the first place to the last.
+    #[tactic(auto, using(crate::proofs::Cutting::itself, crate::proofs::Cutting::onward))]
+    fn join_once(&self, draft: Draft) -> Result<Draft, AllocError>
+        requires { Fails self.now.program.now self.now.wanted.now draft.shape draft.items.items }
+        ensures { IfOk result (λ d.
+            Shrinks self.now.program.now self.now.wanted.now (drawn draft) (drawn d)) }
+    {
+        let count = draft.items.len();
+        let mut kept = draft;
+        for at in 0..count {
+            let sooner = with_next_sooner(self.alloc, kept.items.as_slice(), at)?;
+            kept = self.calmer(kept, sooner)?;
+            let later = with_turn_later(self.alloc, kept.items.as_slice(), at)?;
+            kept = self.calmer(kept, later)?;
+        }
+        Ok(kept)
+    }
+
+    /// Brings items of one process together, until that leads no further.
+    #[tactic(auto, using(crate::proofs::Cutting::itself, crate::proofs::Cutting::onward))]
+    pub(crate) fn join_turns(&self, draft: Draft) -> Result<Draft, AllocError>
+        requires { Fails self.now.program.now self.now.wanted.now draft.shape draft.items.items }
+        ensures { IfOk result (λ d.
+            Shrinks self.now.program.now self.now.wanted.now (drawn draft) (drawn d)) }
+    {
+        let mut before = usize::MAX;
+        let mut kept = draft;
+        let mut now = switches(kept.items.as_slice());
+        while now < before {
+            kept = self.join_once(kept)?;
+            before = now;
+            now = switches(kept.items.as_slice());
+        }
+        Ok(kept)
+    }
+
+    /// Gives updates plain values, where the run still fails.
+    pub(crate) fn make_plain(&self, draft: Draft) -> Result<Draft, AllocError>
+        requires { Fails self.now.program.now self.now.wanted.now draft.shape draft.items.items }
+        ensures { IfOk result (λ d.
+            Shrinks self.now.program.now self.now.wanted.now (drawn draft) (drawn d)) }
+    {
+        let shape = draft.shape;
+        let items = with_plain_values(self.alloc, draft.items.as_slice())?;
+        self.better(draft, Draft { shape, items })
+    }
 }

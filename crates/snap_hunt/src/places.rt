@@ -1,4 +1,5 @@
-//! What a shape may do without.
+//! `Gone`: a process or a word that a failing schedule's shape may do without, and shapes and items
+//! without it.
 ghost use Rattle.std.specs.Prelude.{◌≤◌};
 
 use snap_semantics::{Item, Op};

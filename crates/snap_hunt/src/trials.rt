@@ -1,5 +1,7 @@
-//! Whether what is left still fails.
-ghost use Rattle.std.specs.Prelude.{◌≡◌, ◌<◌, ℕ, length, true, false, IfOk, IsTrue, MatchOption, is_some};
+//! Whether the run still fails once a failing schedule is made smaller: `still_fails` of a draft,
+//! the `better` of two, and an item that is `removable`.
+ghost use Rattle.std.specs.Prelude.{◌≡◌, ◌<◌, ℕ, length, true, false, IfOk, IsTrue, MatchOption};
+ghost use Rattle.std.specs.Prelude.{is_some};
 ghost use Rattle.snap_semantics.specs.ScheduleText.{IsSchedule};
 ghost use Rattle.snap_hunt.specs.Shrinking.{Fails, Shrinks, drawn, fails_with, without};
 
@@ -11,76 +13,74 @@ use snap_semantics::Item;
 use snap_words::Shape;
 use std::alloc::{AllocError, Global};
 
-/// Whether the run over these items fails.
-#[tactic(auto, unfolding(crate::specs::Shrinking::fails_with))]
-fn fails_with(
-    alloc: Global,
-    program: &Program,
-    wanted: &Wanted,
-    shape: Shape,
-    items: &[Item],
-) -> Result<bool, AllocError>
-    requires { IsSchedule (record { shape = shape; items = items.now }) }
-    ensures { IfOk result (λ b. b ≡ fails_with program.now wanted.now shape items.now) }
-{
-    let schedule = schedule_with(alloc, shape, items)?;
-    Ok(failure_over(alloc, program, &schedule, wanted)?.is_some())
+/// Makes schedules small whose runs of this program fail as is wanted.
+#[derive(Clone, Copy)]
+pub(crate) struct Shrinker<'a> {
+    pub(crate) alloc: Global,
+    pub(crate) program: &'a Program,
+    pub(crate) wanted: &'a Wanted,
 }
 
-/// Whether a draft is a schedule whose run fails.
-pub(crate) fn still_fails(
-    alloc: Global,
-    program: &Program,
-    wanted: &Wanted,
-    draft: &Draft,
-) -> Result<bool, AllocError>
-    ensures { IfOk result (λ b. IsTrue b
-        → Fails program.now wanted.now draft.now.shape draft.now.items.items) }
-{
-    if !is_schedule(draft.shape, draft.items.as_slice()) {
-        return Ok(false);
+impl Shrinker<'_> {
+    /// Whether the run over these items fails.
+    #[tactic(auto, unfolding(crate::specs::Shrinking::fails_with))]
+    fn fails_with(&self, shape: Shape, items: &[Item]) -> Result<bool, AllocError>
+        requires { IsSchedule (record { shape = shape; items = items.now }) }
+        ensures { IfOk result (λ b.
+            b ≡ fails_with self.now.program.now self.now.wanted.now shape items.now) }
+    {
+        let schedule = schedule_with(self.alloc, shape, items)?;
+        Ok(failure_over(self.alloc, self.program, &schedule, self.wanted)?.is_some())
     }
-    fails_with(alloc, program, wanted, draft.shape, draft.items.as_slice())
-}
 
-/// Another draft, where it is no larger than this one and its run fails; else this one.
-#[tactic(auto, using(crate::proofs::Cutting::itself))]
-pub(crate) fn better(
-    alloc: Global,
-    program: &Program,
-    wanted: &Wanted,
-    kept: Draft,
-    other: Draft,
-) -> Result<Draft, AllocError>
-    requires { Fails program.now wanted.now kept.shape kept.items.items }
-    ensures { IfOk result (λ d. Shrinks program.now wanted.now (drawn kept) (drawn d)) }
-{
-    if is_within(&other, &kept) && still_fails(alloc, program, wanted, &other)? {
-        Ok(other)
-    } else {
-        Ok(kept)
+    /// Whether a draft is a schedule whose run fails.
+    pub(crate) fn still_fails(&self, draft: &Draft) -> Result<bool, AllocError>
+        ensures { IfOk result (λ b. IsTrue b
+            → Fails self.now.program.now self.now.wanted.now draft.now.shape
+            draft.now.items.items) }
+    {
+        if !is_schedule(draft.shape, draft.items.as_slice()) {
+            return Ok(false);
+        }
+        self.fails_with(draft.shape, draft.items.as_slice())
     }
-}
 
-/// The first item without which the run still fails.
-#[tactic(auto, using(crate::proofs::Cutting::left_schedule))]
-pub(crate) fn removable(
-    alloc: Global,
-    program: &Program,
-    wanted: &Wanted,
-    shape: Shape,
-    items: &[Item],
-) -> Result<Option<usize>, AllocError>
-    requires { IsSchedule (record { shape = shape; items = items.now }) }
-    ensures { IfOk result (λ found. MatchOption found
-        ((k : ℕ) → k < length items.now → fails_with program.now wanted.now shape (without k 1 items.now) ≡ false)
-        (λ k. (k < length items.now) × (fails_with program.now wanted.now shape (without k 1 items.now) ≡ true))) }
-{
-    for k in 0..items.len() {
-        let shorter = without(alloc, items, k, 1)?;
-        if fails_with(alloc, program, wanted, shape, shorter.as_slice())? {
-            return Ok(Some(k));
+    /// Another draft, where it is no larger than this one and its run fails; else this one.
+    #[tactic(auto, using(crate::proofs::Cutting::itself))]
+    pub(crate) fn better(&self, kept: Draft, other: Draft) -> Result<Draft, AllocError>
+        requires { Fails self.now.program.now self.now.wanted.now kept.shape kept.items.items }
+        ensures { IfOk result (λ d.
+            Shrinks self.now.program.now self.now.wanted.now (drawn kept) (drawn d)) }
+    {
+        if is_within(&other, &kept) && self.still_fails(&other)? {
+            Ok(other)
+        } else {
+            Ok(kept)
         }
     }
-    Ok(None)
+
+    /// The first item without which the run still fails.
+    #[tactic(auto, using(crate::proofs::Cutting::left_schedule))]
+    pub(crate) fn removable(
+        &self,
+        shape: Shape,
+        items: &[Item],
+    ) -> Result<Option<usize>, AllocError>
+        requires { IsSchedule (record { shape = shape; items = items.now }) }
+        ensures { IfOk result (λ found. MatchOption found
+            ((k : ℕ) → k < length items.now
+            → fails_with self.now.program.now self.now.wanted.now shape (without k 1 items.now)
+            ≡ false)
+            (λ k. (k < length items.now)
+            × (fails_with self.now.program.now self.now.wanted.now shape (without k 1 items.now)
+            ≡ true))) }
+    {
+        for k in 0..items.len() {
+            let shorter = without(self.alloc, items, k, 1)?;
+            if self.fails_with(shape, shorter.as_slice())? {
+                return Ok(Some(k));
+            }
+        }
+        Ok(None)
+    }
 }

@@ -1,4 +1,5 @@
-//! Values made plain.
+//! `with_plain_values`: gives the updates of a failing schedule the values 1, 2 and so on, the same
+//! for the same.
 use snap_semantics::{Item, Op};
 use std::alloc::{AllocError, Global};
 

@@ -1,1 +1,2 @@
+-- The definitions of snap_hunt_laws, by their modules.
 pub mod Shipped

@@ -1,4 +1,5 @@
--- What a hunt finds in the runs of the listings that come with the program.
+-- `FindsNothing`: no run of a shipped listing fails, where a hunt asks for no bound on double collects, and for none
+-- on steps that is too low (`StepsSuffice`).
 use Rattle.std.specs.Prelude.{◌≡◌, ℕ, ◌≤◌, ⊤, true, Option, None, Some}
 use Rattle.std.specs.List.{find, range_with_len}
 use Rattle.snap_words.specs.Kind.{fits}
@@ -18,7 +19,9 @@ StepsSuffice g s None = ⊤
 StepsSuffice g s (Some bound.Shipped) = ⊤
 StepsSuffice g s (Some (bound.Given most)) = update_turns g s ≤ most
 
--- Where nothing is said of double collects, and steps suffice, no run of the listing that is shipped for this kind fails.
+-- Where nothing is said of double collects, and steps suffice, no run of the listing that
+-- is shipped for this kind fails.
 abbrev pub FindsNothing : KindTag → Type 0
-FindsNothing g = (p : Plan) (w : Wanted) (seed runs : ℕ) → IsPlan p → fits (shipped g).kind p.shape ≡ true → w.collects ≡ None →
+FindsNothing g =
+    (p : Plan) (w : Wanted) (seed runs : ℕ) → IsPlan p → fits (shipped g).kind p.shape ≡ true → w.collects ≡ None →
     StepsSuffice g p.shape w.steps → find (fails (shipped g) p w seed) (range_with_len 0 runs) ≡ None

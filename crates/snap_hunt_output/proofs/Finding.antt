@@ -1,5 +1,7 @@
--- What is found, and what is made small.
-use Rattle.std.proofs.Common.{◌≡◌, ℕ, List, Bool, true, false, Option, Some, None, is_some, if◌then◌else◌, Result, Ok, Err, refl, sym, ap, subst, ◌∙◌}
+-- How a hunt's output is right: a run that fails is found to fail alike when only its kind of failure is wanted, and
+-- a hunt of a text is one of its listing (`IsHunted`).
+use Rattle.std.proofs.Common.{◌≡◌, ℕ, List, Bool, true, false, Option, Some, None, is_some, if◌then◌else◌, Result, Ok}
+use Rattle.std.proofs.Common.{Err, refl, sym, ap, subst, ◌∙◌}
 use Rattle.std.specs.Prelude.{option_map}
 use Rattle.snap_semantics.specs.Answers.{refused_as}
 use Rattle.snap_semantics.specs.Listing.{listing_of}
@@ -33,23 +35,27 @@ its_kind f k e =
     let same : kind_of f ≡ k = cc in
     ap (λ b. is_some (if b then Some f else None)) (ap (λ j. is_kind j f) (sym same) ∙ own_kind f)
 
-wanted_kind : (b : Bool) (f : Failure) (k : FailureKind) → option_map (λ g. kind_of g) (if b then Some f else None) ≡ Some k → Some (kind_of f) ≡ Some k
+wanted_kind : (b : Bool) (f : Failure) (k : FailureKind) →
+    option_map (λ g. kind_of g) (if b then Some f else None) ≡ Some k → Some (kind_of f) ≡ Some k
 wanted_kind true f k e = e
 wanted_kind false f k e = absurd cc
 
-alike_by : (only : Option FailureKind) (o : Option Failure) (k : FailureKind) → option_map (λ f. kind_of f) (of_kind only o) ≡ Some k → is_some (of_kind (Some k) o) ≡ true
+alike_by : (only : Option FailureKind) (o : Option Failure) (k : FailureKind) →
+    option_map (λ f. kind_of f) (of_kind only o) ≡ Some k → is_some (of_kind (Some k) o) ≡ true
 alike_by None None k e = absurd cc
 alike_by None (Some f) k e = its_kind f k e
 alike_by (Some j) None k e = absurd cc
 alike_by (Some j) (Some f) k e = its_kind f k (wanted_kind (is_kind j f) f k e)
 
 -- what fails in a run fails in it where nothing else of another kind is wanted
-pub fails_alike : (l : Source) (p : Plan) (w : Wanted) (seed n : ℕ) (k : FailureKind) → run_kind l p w seed n ≡ Some k → fails l p (with_only k w) seed n ≡ true
+pub fails_alike : (l : Source) (p : Plan) (w : Wanted) (seed n : ℕ) (k : FailureKind) →
+    run_kind l p w seed n ≡ Some k → fails l p (with_only k w) seed n ≡ true
 unfolding fails failure_of
 fails_alike l p w seed n k e = alike_by w.only (first_failure w (run_of l p seed n)) k e
 
 -- the schedule of a run that fails
-pub fails_over : (l : Source) (p : Plan) (w : Wanted) (seed k : ℕ) (s : Schedule) → s ≡ schedule_of seed k p → IsSchedule s → fails l p w seed k ≡ true
+pub fails_over : (l : Source) (p : Plan) (w : Wanted) (seed k : ℕ) (s : Schedule) → s ≡ schedule_of seed k p →
+    IsSchedule s → fails l p w seed k ≡ true
     → Fails l w s.shape s.items
 unfolding fails fails_with
 fails_over l p w seed k s is h e = record {
@@ -63,5 +69,7 @@ not_refused f (Ok y) x e = let same : y ≡ x = cc in ap Ok same
 not_refused f (Err r) x e = absurd cc
 
 -- what a hunt of a program comes to is what one of its listing does
-pub hunted_by : (text : List ℕ) (a : Asked) (l : Source) (h : Hunted) → refused_as refusal.Listing (listing_of text) ≡ Ok l → IsHuntedOf l a h → IsHunted text a h
-hunted_by text a l h is hunted = record { listing = l; is = not_refused refusal.Listing (listing_of text) l is; hunted = hunted }
+pub hunted_by : (text : List ℕ) (a : Asked) (l : Source) (h : Hunted) →
+    refused_as refusal.Listing (listing_of text) ≡ Ok l → IsHuntedOf l a h → IsHunted text a h
+hunted_by text a l h is hunted =
+    record { listing = l; is = not_refused refusal.Listing (listing_of text) l is; hunted = hunted }

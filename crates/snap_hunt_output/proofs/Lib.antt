@@ -1,1 +1,2 @@
+-- The proofs of snap_hunt_output, by their modules.
 pub mod Finding

@@ -1,4 +1,5 @@
--- What a hunt is asked for, for the listings of a kind.
+-- What a hunt's plan is for the listings of a kind: shapes that fit it, and where each process owns a word, updates
+-- of that word alone (`owned`).
 use Rattle.std.specs.Prelude.{◌||◌, Bool, true, false, not, nat_eq}
 use Rattle.snap_words.specs.Shape.{Counts}
 use Rattle.snap_words.specs.declared.kind.KindTag.{KindTag}

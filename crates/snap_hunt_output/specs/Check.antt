@@ -1,4 +1,5 @@
--- What fails in the run of an input, which is read as the debugger reads it.
+-- `failure_in_input`: what fails in the run of an input of listing, schedule and commands, which is read as the
+-- debugger reads it.
 use Rattle.std.specs.Prelude.{ℕ, List, Option, Result, Ok, Err}
 use Rattle.snap_semantics.specs.declared.refusal.Refusal.{Refusal}
 use Rattle.snap_semantics.specs.declared.refusal.Refusal.TheVariants as refusal

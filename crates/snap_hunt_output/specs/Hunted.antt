@@ -1,4 +1,5 @@
--- What a hunt comes to.
+-- `IsHunted`: what a hunt comes to, that no run fails, or the first that does (`IsFound`) and an input of a run that
+-- fails as it does.
 use Rattle.std.specs.Prelude.{◌≡◌, ℕ, ◌<◌, List, Option, Some, None, option_map, Result, Ok}
 use Rattle.std.specs.List.{find, range_with_len}
 use Rattle.snap_semantics.specs.Listing.{listing_of}
@@ -29,8 +30,8 @@ first_of l a = find (fails l (owned l.kind a.plan) a.wanted a.seed) (range_with_
 abbrev pub run_kind : Source → Plan → Wanted → (seed k : ℕ) → Option FailureKind
 run_kind l p w seed k = option_map (λ f. kind_of f) (failure_of w (run_of l p seed k))
 
--- This is the first run that fails, and the input, read as the debugger reads it, has a run that fails so; and what fails in
--- both is of one kind.
+-- This is the first run that fails, and the input, read as the debugger reads it, has a run that fails so; and what
+-- fails in both is of one kind.
 pub record IsFound (l : Source) (a : Asked) (k : ℕ) (f : Failure) (input : List ℕ) : Type 0 where
   pub first : first_of l a ≡ Some k
   pub says : failure_in_input a.wanted input ≡ Ok (Some f)

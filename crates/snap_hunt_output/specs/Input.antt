@@ -1,4 +1,5 @@
--- The input that is printed of a run that fails.
+-- `input_text`: the input of a failing run that a hunt prints: the listing, a note of what fails, the schedule, and a
+-- debugger command that goes to its end.
 use Rattle.std.specs.Prelude.{ℕ, ◌-◌, Bool, List, ◌++◌, codes, decimal, length, nat_eq, slice_index, if◌then◌else◌}
 use Rattle.snap_semantics.specs.declared.process.Outcome.TheVariants as outcome
 use Rattle.snap_semantics.specs.Layout.{line_text}
@@ -20,10 +21,12 @@ ends_line text = nat_eq (slice_index text (length text - 1)) 10
 abbrev pub listing_part : List ℕ → List ℕ
 listing_part listing = if ends_line listing then listing else listing ++ codes "\n"
 
--- `scan I call C step N item T`, or `update` where it is one: by item T, the N-th step of its own, the operation has taken too many
+-- `scan I call C step N item T`, or `update` where it is one: by item T, the N-th step of its own,
+-- the operation has taken too many
 abbrev pub steps_line : (i t : ℕ) → OwnSteps → List ℕ
 steps_line i t own =
-    (if own.update then codes "update " else codes "scan ") ++ decimal i ++ codes " call " ++ decimal own.call ++ codes " step " ++ decimal own.count
+    (if own.update then codes "update " else codes "scan ") ++ decimal i ++ codes " call " ++ decimal own.call
+    ++ codes " step " ++ decimal own.count
     ++ codes " item " ++ decimal t ++ codes "\n"
 
 -- what fails, in the words of the audit, as a trap, or as a step too many
@@ -32,7 +35,8 @@ failure_line (failure.NoPoint v) = verdict_line v
 failure_line (failure.ManyCollects v) = verdict_line v
 failure_line (failure.ManySteps i t own) = steps_line i t own
 failure_line (failure.Trapped i line cause) =
-    codes "process " ++ decimal i ++ codes " " ++ outcome_text (outcome.Trapped cause) ++ codes " at " ++ decimal line ++ codes "\n"
+    codes "process " ++ decimal i ++ codes " " ++ outcome_text (outcome.Trapped cause)
+    ++ codes " at " ++ decimal line ++ codes "\n"
 
 -- `# run K of seed S: FAILURE`
 abbrev pub run_note : (seed k : ℕ) → Failure → List ℕ
@@ -41,4 +45,5 @@ run_note seed k f = codes "# run " ++ decimal k ++ codes " of seed " ++ decimal 
 -- a listing, a schedule whose run fails so, and a command that goes to its last item
 abbrev pub input_text : List ℕ → (seed k : ℕ) → Failure → Schedule → List ℕ
 input_text listing seed k f s =
-    listing_part listing ++ codes "%\n" ++ run_note seed k f ++ schedule_text s ++ codes "%\n" ++ line_text (spelled_command (Goto (length s.items)))
+    listing_part listing ++ codes "%\n" ++ run_note seed k f ++ schedule_text s ++ codes "%\n"
+    ++ line_text (spelled_command (Goto (length s.items)))

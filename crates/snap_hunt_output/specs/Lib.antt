@@ -1,3 +1,4 @@
+-- The definitions of snap_hunt_output, by their modules.
 pub mod Asked
 pub mod Check
 pub mod Input

@@ -1,4 +1,4 @@
-//! What a hunt is asked for.
+//! `Asked`: what a hunt is asked for; and its plan, suited to the kind of the listing.
 ghost use Rattle.std.specs.Prelude.{◌≡◌};
 ghost use Rattle.snap_hunt_output.specs.Asked.{fits_kind, owned, owns_words};
 

@@ -1,4 +1,5 @@
-//! An input, read as the debugger reads it, and what fails in its run.
+//! `failure_in_input`: what fails in the run of an input, which is read as the debugger reads it; a
+//! hunt checks with it what it prints.
 ghost use Rattle.std.specs.Prelude.{◌≡◌, ◌<◌, ◌≤◌, length, map};
 ghost use Rattle.snap_semantics.specs.Answers.{Answers, refused_as};
 ghost use Rattle.snap_semantics.specs.declared.refusal.Refusal.TheVariants as refusal;

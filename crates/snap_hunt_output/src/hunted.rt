@@ -1,4 +1,5 @@
-//! A whole hunt.
+//! `hunt_listing`: a whole hunt, which ends in `Hunted`: no run of a listing fails, or the first
+//! that does, with the input of a small run that fails too.
 ghost use Rattle.std.specs.Prelude.{◌≡◌, ◌<◌, ◌^◌, IfOk, Ok, Some};
 ghost use Rattle.snap_failure.specs.Kinds.{kind_of};
 ghost use Rattle.snap_hunt_output.specs.Check.{failure_in_input};
@@ -118,8 +119,8 @@ fn checked(
     }
 }
 
-/// The first of the runs of a program that fails, as an input of a small run that fails too; or that
-/// none of them does.
+/// The first of the runs of a program that fails, as an input of a small run that fails too;
+/// or that none of them does.
 fn hunt_program<W: Watcher>(
     rt: &(impl Threads + Sync),
     alloc: Global,

@@ -1,6 +1,8 @@
-//! The input of a run that fails.
+//! `input_text`: prints a failing run as an input of the debugger: listing, note of what fails,
+//! schedule, and a command that goes to its end.
 ghost use Rattle.std.specs.Prelude.{◌≡◌, ◌++◌, IfOk, OnOk};
-ghost use Rattle.snap_hunt_output.specs.Input.{ends_line, failure_line, input_text, listing_part, run_note, steps_line};
+ghost use Rattle.snap_hunt_output.specs.Input.{ends_line, failure_line, input_text};
+ghost use Rattle.snap_hunt_output.specs.Input.{listing_part, run_note, steps_line};
 
 use snap_audit::verdict_line;
 use snap_debug_commands::{Command, push_command};

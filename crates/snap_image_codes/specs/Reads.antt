@@ -1,4 +1,5 @@
--- Words of the decoder's contracts.
+-- `Reads` and `Passes`: what the cursor reads from an image,
+-- and what it leaves, is what a rule of the definitions gives.
 use Rattle.std.specs.Prelude.{◌≡◌, Result, Ok, Err}
 use Rattle.snap_semantics.specs.declared.refusal.ImageRefusal.{ImageRefusal}
 use Rattle.snap_image_format.specs.ImageForms.{Rest, Read}

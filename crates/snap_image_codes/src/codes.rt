@@ -1,6 +1,8 @@
-//! The codes of an image: each stands here once, and is read by looking for it.
+//! The trait `Coded` of the types whose values have codes in an
+//! image, with their codes; `with_code` looks up the value of a byte.
 ghost use Rattle.std.specs.Prelude.{◌≡◌};
-ghost use Rattle.snap_image_format.specs.ImageCodes.{Codes, coded, of_code, versions, kinds, terms, exprs, relations, joins, ranges, instr_tags};
+ghost use Rattle.snap_image_format.specs.ImageCodes.{Codes, coded, of_code, versions, kinds, terms};
+ghost use Rattle.snap_image_format.specs.ImageCodes.{exprs, relations, joins, ranges, instr_tags};
 
 use snap_image_format::{ExprTag, ImageVersion, InstrTag, TermTag};
 use snap_semantics::{Join, Range, Relation};

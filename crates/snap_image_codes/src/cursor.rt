@@ -1,6 +1,8 @@
-//! Goes through an image from front to back.
+//! `Cursor`: what is left of an image that is read from
+//! front to back; it takes bytes, numbers, codes and slots.
 ghost use Rattle.std.specs.Prelude.{◌≡◌, Bool, if◌then◌else◌};
-ghost use Rattle.snap_image_format.specs.ImageForms.{byte_in, bytes_in, short_in, long_in, code_in, slot_in, count_in, flag_in};
+ghost use Rattle.snap_image_format.specs.ImageForms.{byte_in, bytes_in, short_in, long_in};
+ghost use Rattle.snap_image_format.specs.ImageForms.{code_in, slot_in, count_in, flag_in};
 ghost use Rattle.snap_image_format.specs.ImageListing.{signature_in, ended};
 ghost use Rattle.snap_image_codes.specs.Reads.{Reads};
 

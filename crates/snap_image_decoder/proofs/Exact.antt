@@ -14,20 +14,25 @@ use Rattle.snap_semantics.specs.Source.{Source}
 use Rattle.snap_image_laws.proofs.AgainListing.{decodes_all}
 use Rattle.snap_image_laws.proofs.SaidListing.{decodes_only, are_bytes, decoded_is_listing}
 
-pub only_images : (bytes : List ℕ) → ((i : ℕ) → Fits w8 (slice_index_or bytes i 0)) → (answer : Result Commented (Fault ImageRefusal)) →
+pub only_images : (bytes : List ℕ) → ((i : ℕ) → Fits w8 (slice_index_or bytes i 0)) →
+    (answer : Result Commented (Fault ImageRefusal)) →
     Answers (λ (l : Commented). l) answer (commented_in bytes) → IfOk answer (λ (l : Commented). IsImageOf bytes l)
 only_images bytes fits (Ok l) h = (decodes_only bytes l (are_bytes bytes fits) h).1
 only_images bytes fits (Err fault) h = tt
 
-pub every_image : (bytes : List ℕ) (answer : Result Commented (Fault ImageRefusal)) → Answers (λ (l : Commented). l) answer (commented_in bytes) →
+pub every_image : (bytes : List ℕ) (answer : Result Commented (Fault ImageRefusal)) →
+    Answers (λ (l : Commented). l) answer (commented_in bytes) →
     (v : ImageVersion) (c : Commented) → IsCommented c → CanSay v c → bytes ≡ image_in v c →
     Answers (λ (l : Commented). l) answer (let r : Result Commented ImageRefusal = Ok c in r)
 every_image bytes answer h v c listing said e =
-    subst (λ (r : Result Commented ImageRefusal). Answers (λ (l : Commented). l) answer r) (ap commented_in e ∙ decodes_all v c listing said) h
+    subst (λ (r : Result Commented ImageRefusal). Answers (λ (l : Commented). l) answer r)
+    (ap commented_in e ∙ decodes_all v c listing said) h
 
 -- what was read keeps the rules of listings with comments, where the targets were looked for among its lines
-pub read_is_listing : (bytes : List ℕ) → ((i : ℕ) → Fits w8 (slice_index_or bytes i 0)) → (v : ImageVersion) (s : Source) (count : ℕ) (r after : Rest)
-    (lines seen : List Line) (comments : List Comment) → head_in bytes ≡ Ok ((v, s, count), r) → lines_in s v count 1 0 r ≡ Ok ((lines, comments), after) →
+pub read_is_listing : (bytes : List ℕ) → ((i : ℕ) → Fits w8 (slice_index_or bytes i 0)) →
+    (v : ImageVersion) (s : Source) (count : ℕ) (r after : Rest)
+    (lines seen : List Line) (comments : List Comment) → head_in bytes ≡ Ok ((v, s, count), r) →
+    lines_in s v count 1 0 r ≡ Ok ((lines, comments), after) →
     Ok tt ≡ ended after.bytes → seen ≡ lines → Ok tt ≡ checked_targets seen (s.scan ∷ s.update ∷ line_targets seen) →
     IsCommented (record { source = with_lines lines s; comments = comments })
 read_is_listing bytes fits v s count r after lines seen comments e f g same h =

@@ -1,4 +1,5 @@
--- Definitions of the decoder's contracts.
+-- The steps of the decoder of images, as definitions: the
+-- lines that were read with their comments, and one line more.
 use Rattle.std.specs.Prelude.{ℕ, List, [], ◌∷◌, ◌++◌, map, Result, Ok, Err}
 use Rattle.snap_image_format.specs.declared.image.ImageVersion.{ImageVersion}
 use Rattle.snap_semantics.specs.declared.instr.Line.{Line}
@@ -34,6 +35,7 @@ onto_lines before (Ok x) = Ok ((before.0 ++ x.0.0, before.1 ++ x.0.1), x.1)
 onto_lines before (Err e) = Err e
 
 -- the number of the next line, the lines with it, and what is left
-abbrev pub added_line : Source → ImageVersion → ℕ → ℕ → CommentedList → Rest → Result (ℕ × CommentedList × Rest) ImageRefusal
+abbrev pub added_line : Source → ImageVersion → ℕ → ℕ → CommentedList → Rest →
+    Result (ℕ × CommentedList × Rest) ImageRefusal
 added_line s v line last before r =
     line_in s v line last r >>= λ x. behind_line_in v x.1 >>= λ c. Ok (x.0.number, with_line before x.0 c.0, c.1)

@@ -1,4 +1,4 @@
--- How an image begins, and the names that it has declared.
+-- How an image begins (`opened`): with its signature and its version; and the names of the tables before one.
 use Rattle.std.specs.Prelude.{ℕ, List, ◌++◌}
 use Rattle.snap_image_format.specs.declared.image.ImageVersion.{ImageVersion}
 use Rattle.snap_semantics.specs.Answers.{◌>>=◌}

@@ -1,7 +1,9 @@
-//! Comments of an image.
+//! `behind_line`: reads the comment of a line from
+//! an image, where the image's version has comments.
 ghost use Rattle.std.specs.Prelude.{Some};
 ghost use Rattle.snap_semantics.specs.Answers.{Answers};
-ghost use Rattle.snap_image_format.specs.ImageListing.{comment_byte_in, comment_bytes_in, some_comment_in, comment_in, behind_line_in};
+ghost use Rattle.snap_image_format.specs.ImageListing.{comment_byte_in, comment_bytes_in};
+ghost use Rattle.snap_image_format.specs.ImageListing.{some_comment_in, comment_in, behind_line_in};
 ghost use Rattle.snap_listing_core.specs.Fields.{seen_comment};
 ghost use Rattle.snap_image_codes.specs.Reads.{Reads};
 

@@ -1,7 +1,10 @@
-//! What stands before the lines of an image.
+//! `head`: reads what comes before the lines of an image:
+//! its version, its kind, its names by sort, its entries.
 ghost use Rattle.std.specs.Prelude.{◌≡◌, ◌≤◌, [], ◌++◌, Err, IfOk};
 ghost use Rattle.snap_semantics.specs.Answers.{Answers};
-ghost use Rattle.snap_image_format.specs.ImageListing.{version_in, letter, letters_in, length_in, new_name, name_in, names_in, few_names, table_in, line_count_in, head_in};
+ghost use Rattle.snap_image_format.specs.ImageListing.{version_in, letter, letters_in, length_in};
+ghost use Rattle.snap_image_format.specs.ImageListing.{new_name, name_in, names_in, few_names};
+ghost use Rattle.snap_image_format.specs.ImageListing.{table_in, line_count_in, head_in};
 ghost use Rattle.snap_semantics.specs.Uses.{is_among};
 ghost use Rattle.snap_listing_core.specs.Fields.{header_source};
 ghost use Rattle.snap_semantics.specs.declared.fault.Fault.TheVariants.{Refused};

@@ -1,4 +1,4 @@
-//! The lines of an image, with their comments.
+//! `lines`: reads the lines of an image, each with its comment (`CommentedLines`).
 ghost use Rattle.std.specs.Prelude.{◌≡◌};
 ghost use Rattle.snap_semantics.specs.Answers.{Answers};
 ghost use Rattle.snap_image_format.specs.Image.{is_number_in};

@@ -1,1 +1,2 @@
+-- The proofs of snap_image_encoder, by their modules.
 pub mod Heads

@@ -1,2 +1,3 @@
+-- The proofs of snap_image_format, by their modules.
 pub mod ImageSamples
 pub mod CommentSamples

@@ -1,4 +1,5 @@
--- From texts to images, from images to texts, and from images to images of the version that is written.
+-- The definitions of `assembled`, a text's listing as an image, `listed`, an image's
+-- listing as its canonical text, and `upgraded`, an image in the version that is written.
 use Rattle.std.specs.Prelude.{ℕ, List, Result, Ok}
 use Rattle.snap_semantics.specs.declared.refusal.ImageRefusal.{ImageRefusal}
 use Rattle.snap_semantics.specs.declared.refusal.ListingRefusal.{ListingRefusal}
@@ -20,7 +21,8 @@ listed bytes = do
   l ← commented_in bytes
   Ok (canonical_text l)
 
--- the image, in the version that is written, of the listing whose image these bytes are, or the first reason why they are none
+-- the image, in the version that is written, of the listing whose image these bytes are, or the
+-- first reason why they are none
 unfoldable pub upgraded : List ℕ → Result (List ℕ) ImageRefusal
 upgraded bytes = do
   l ← commented_in bytes

@@ -1,7 +1,8 @@
--- The image of a listing: one string of bytes. Numbers have two or eight bytes, the highest first. A name is said by its slot,
--- its place among the names of its sort from 0; a target by its line number.
+-- The image of a listing: one string of bytes. Numbers have two or eight bytes, the highest first. A name is said by
+-- its slot, its place among the names of its sort from 0; a target by its line number.
 use Rattle.std.specs.Int.{w16, w64, to_be_bytes}
-use Rattle.std.specs.Prelude.{◌≡◌, ℕ, ◌+◌, Bool, true, ◌&&◌, List, [], ◌∷◌, ◌++◌, length, map, Option, Some, None, nat_le, bytes_eq, codes, if◌then◌else◌}
+use Rattle.std.specs.Prelude.{◌≡◌, ℕ, ◌+◌, Bool, true, ◌&&◌, List, [], ◌∷◌, ◌++◌, length, map, Option, Some, None}
+use Rattle.std.specs.Prelude.{nat_le, bytes_eq, codes, if◌then◌else◌}
 use Rattle.std.specs.List.{AllByRecursion}
 use Rattle.snap_words.specs.declared.kind.Field.{Field}
 use Rattle.snap_words.specs.declared.kind.Field.TheVariants as field
@@ -22,14 +23,17 @@ use Rattle.snap_semantics.specs.declared.instr.Expr.TheVariants as expr
 use Rattle.snap_semantics.specs.declared.instr.Index.{Index}
 use Rattle.snap_semantics.specs.declared.instr.Index.TheVariants as index
 use Rattle.snap_semantics.specs.declared.instr.Instr.{Instr}
-use Rattle.snap_semantics.specs.declared.instr.Instr.TheVariants.{Let, LetPlace, Get, Bit, Look, Put, PutBit, PutView, ViewData, ViewOf, Each, First, Next, If, IfAll, Goto, Call, Return, Finish}
+use Rattle.snap_semantics.specs.declared.instr.Instr.TheVariants.{Let, LetPlace, Get, Bit, Look, Put, PutBit, PutView}
+use Rattle.snap_semantics.specs.declared.instr.Instr.TheVariants.{ViewData, ViewOf, Each, First, Next, If, IfAll}
+use Rattle.snap_semantics.specs.declared.instr.Instr.TheVariants.{Goto, Call, Return, Finish}
 use Rattle.snap_semantics.specs.declared.instr.Line.{Line}
 use Rattle.snap_semantics.specs.declared.instr.Term.{Term}
 use Rattle.snap_semantics.specs.declared.instr.Term.TheVariants as term
 use Rattle.snap_semantics.specs.declared.instr.Tuple.{Tuple}
 use Rattle.snap_semantics.specs.declared.instr.Tuple.TheVariants as tuple
 use Rattle.snap_semantics.specs.Comments.{Comment, Commented, first_comment, other_comments, no_comment}
-use Rattle.snap_image_format.specs.ImageCodes.{version_code, kind_code, term_code, expr_code, relation_code, join_code, range_code, instr_code}
+use Rattle.snap_image_format.specs.ImageCodes.{version_code, kind_code, term_code, expr_code, relation_code}
+use Rattle.snap_image_format.specs.ImageCodes.{join_code, range_code, instr_code}
 use Rattle.snap_semantics.specs.ListingForms.{is_line_number}
 use Rattle.snap_semantics.specs.Source.{Name, Source}
 
@@ -72,7 +76,8 @@ comparison_image s k = relation_code k.relation ∷ (term_image s k.left ++ term
 abbrev pub condition_image : Source → Condition → List ℕ
 condition_image s (One k) = 1 ∷ 0 ∷ comparison_image s k
 condition_image s (Two j k l) = 2 ∷ join_code j ∷ (comparison_image s k ++ comparison_image s l)
-condition_image s (Three j k l m) = 3 ∷ join_code j ∷ (comparison_image s k ++ (comparison_image s l ++ comparison_image s m))
+condition_image s (Three j k l m) =
+    3 ∷ join_code j ∷ (comparison_image s k ++ (comparison_image s l ++ comparison_image s m))
 condition_image s (Four j k l m o) =
     4 ∷ join_code j ∷ (comparison_image s k ++ (comparison_image s l ++ (comparison_image s m ++ comparison_image s o)))
 
@@ -133,7 +138,8 @@ operands_image s (PutView i x) = index_image s i ++ slot s.views x ∷ []
 operands_image s (ViewData x y) = slot s.views x ∷ slot s.words y ∷ []
 operands_image s (ViewOf x y i) = slot s.views x ∷ slot s.words y ∷ index_image s i
 operands_image s (Each g x e k) = range_code g ∷ slot s.rows x ∷ (expr_image s e ++ where_image s k)
-operands_image s (First x g k target) = slot s.scalars x ∷ range_code g ∷ (condition_image s k ++ to_be_bytes w16 target)
+operands_image s (First x g k target) =
+    slot s.scalars x ∷ range_code g ∷ (condition_image s k ++ to_be_bytes w16 target)
 operands_image s (Next x g target) = slot s.scalars x ∷ range_code g ∷ to_be_bytes w16 target
 operands_image s (If k target) = condition_image s k ++ to_be_bytes w16 target
 operands_image s (IfAll g k target) = range_code g ∷ (condition_image s k ++ to_be_bytes w16 target)
@@ -157,7 +163,8 @@ behind_line version.Second c = comment_image c
 
 abbrev pub lines_image : ImageVersion → Source → List Line → List Comment → List ℕ
 lines_image v s [] cs = []
-lines_image v s (line ∷ lines) cs = line_image s line ++ (behind_line v (first_comment cs) ++ lines_image v s lines (other_comments cs))
+lines_image v s (line ∷ lines) cs =
+    line_image s line ++ (behind_line v (first_comment cs) ++ lines_image v s lines (other_comments cs))
 
 -- each name behind its length
 abbrev pub names_image : List Name → List ℕ
@@ -175,7 +182,8 @@ signature = codes "SNAP"
 -- the bytes before the first line
 abbrev pub head_image : ImageVersion → Source → List ℕ
 head_image v s =
-    signature ++ version_code v ∷ kind_code s.kind ∷ (table_image s.scalars ++ (table_image s.rows ++ (table_image s.words ++ (table_image s.views
+    signature ++ version_code v ∷ kind_code s.kind
+    ∷ (table_image s.scalars ++ (table_image s.rows ++ (table_image s.words ++ (table_image s.views
     ++ (to_be_bytes w16 s.scan ++ (to_be_bytes w16 s.update ++ to_be_bytes w16 (length s.lines)))))))
 
 -- the image of a version
@@ -197,7 +205,9 @@ is_number_in version.Second k = is_line_number k
 
 -- what a version can say: the first has no comments, and fewer line numbers
 abbrev pub CanSay : ImageVersion → Commented → Type 0
-CanSay version.First c = (c.comments ≡ map no_comment c.source.lines) × AllByRecursion (λ (line : Line). is_number_in version.First line.number ≡ true) c.source.lines
+CanSay version.First c =
+    (c.comments ≡ map no_comment c.source.lines)
+    × AllByRecursion (λ (line : Line). is_number_in version.First line.number ≡ true) c.source.lines
 CanSay version.Second c = Unit {0}
 
 -- the bytes are an image of this listing

@@ -1,4 +1,4 @@
--- The codes of an image: each stands here once, and is read by looking for it.
+-- The codes of an image, as definitions: a table (`Codes`) for each type, in which the value of a byte is looked up.
 use Rattle.std.specs.Prelude.{ℕ, List, [], ◌∷◌, Option, Some, None, nat_eq, if◌then◌else◌}
 use Rattle.snap_words.specs.declared.kind.KindTag.{KindTag}
 use Rattle.snap_words.specs.declared.kind.KindTag.TheVariants as kind
@@ -64,7 +64,9 @@ term_code term.Id = 13
 
 abbrev pub terms : Codes TermTag
 terms = record {
-  all = term.Number ∷ term.Processes ∷ term.Words ∷ term.Me ∷ term.Word ∷ term.Arg ∷ term.Place ∷ term.Scalar ∷ term.Row ∷ term.Seq
+  all =
+      term.Number ∷ term.Processes ∷ term.Words ∷ term.Me ∷ term.Word ∷ term.Arg ∷ term.Place
+      ∷ term.Scalar ∷ term.Row ∷ term.Seq
       ∷ term.Datum ∷ term.Handshake ∷ term.Toggle ∷ term.Id ∷ [];
   code = term_code;
 }
@@ -126,8 +128,11 @@ instr_code tag.Finish = 23
 
 abbrev pub instr_tags : Codes InstrTag
 instr_tags = record {
-  all = tag.Let ∷ tag.LetPlace ∷ tag.Get ∷ tag.BitQ ∷ tag.BitP ∷ tag.Look ∷ tag.PutSeq ∷ tag.PutBits ∷ tag.PutMulti ∷ tag.PutQ
-      ∷ tag.PutP ∷ tag.PutView ∷ tag.ViewData ∷ tag.ViewOf ∷ tag.Each ∷ tag.First ∷ tag.Next ∷ tag.If ∷ tag.IfAll ∷ tag.Goto
+  all =
+      tag.Let ∷ tag.LetPlace ∷ tag.Get ∷ tag.BitQ ∷ tag.BitP ∷ tag.Look ∷ tag.PutSeq
+      ∷ tag.PutBits ∷ tag.PutMulti ∷ tag.PutQ
+      ∷ tag.PutP ∷ tag.PutView ∷ tag.ViewData ∷ tag.ViewOf ∷ tag.Each ∷ tag.First ∷ tag.Next
+      ∷ tag.If ∷ tag.IfAll ∷ tag.Goto
       ∷ tag.Call ∷ tag.Return ∷ tag.Finish ∷ [];
   code = instr_code;
 }

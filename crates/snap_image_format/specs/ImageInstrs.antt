@@ -1,4 +1,5 @@
--- The instructions of an image, read by their forms.
+-- How an instruction is read from an image: what the form that
+-- its code names needs of the kind, and then its operands.
 use Rattle.std.specs.Prelude.{ℕ, false, true, List, [], ◌∷◌, Ok}
 use Rattle.snap_words.specs.declared.address.Bank.TheVariants as bank
 use Rattle.snap_words.specs.declared.kind.KindTag.TheVariants as kind
@@ -11,7 +12,8 @@ use Rattle.snap_semantics.specs.declared.instr.Instr.TheVariants as instr
 use Rattle.snap_semantics.specs.declared.instr.Tuple.TheVariants as tuple
 use Rattle.snap_semantics.specs.Answers.{◌>>=◌}
 use Rattle.snap_image_format.specs.ImageCodes.{instr_tags, ranges}
-use Rattle.snap_image_format.specs.ImageForms.{Rest, Read, short_in, code_in, slot_in, allowed, index_in, expr_in, condition_in, where_in}
+use Rattle.snap_image_format.specs.ImageForms.{Rest, Read, short_in, code_in, slot_in, allowed}
+use Rattle.snap_image_format.specs.ImageForms.{index_in, expr_in, condition_in, where_in}
 use Rattle.snap_semantics.specs.Source.{Source}
 use Rattle.snap_semantics.specs.Uses.{Use, BankUse, ViewUse, TupleUse}
 

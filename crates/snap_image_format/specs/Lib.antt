@@ -1,3 +1,4 @@
+-- The definitions of snap_image_format, by their modules.
 pub mod ImageCodes
 pub mod Image
 pub mod ImageForms

@@ -1,4 +1,5 @@
-//! What the codes of an image stand for.
+//! `ImageVersion`, and the tags of terms, expressions and instructions
+//! (`TermTag`, `ExprTag`, `InstrTag`): what codes of an image are codes of.
 
 /// The version of an image.
 #[derive(Clone, Copy, Debug, PartialEq, Eq)]

@@ -1,5 +1,7 @@
 -- What an image says is read from it again: names, lines and the whole listing.
-use Rattle.std.proofs.Common.{◌≡◌, ℕ, ◌+◌, ◌<◌, ◌≤◌, Bool, true, false, ◌&&◌, List, [], ◌∷◌, ◌++◌, length, map, Some, Result, Ok, Err, bytes_eq, nat_le, nat_lt, if◌then◌else◌, refl, sym, ap, ◌∙◌, append_assoc, subst, arith}
+use Rattle.std.proofs.Common.{◌≡◌, ℕ, ◌+◌, ◌<◌, ◌≤◌, Bool, true, false, ◌&&◌, List, [], ◌∷◌, ◌++◌, length, map, Some}
+use Rattle.std.proofs.Common.{Result, Ok, Err, bytes_eq, nat_le, nat_lt, if◌then◌else◌, refl, sym, ap, ◌∙◌}
+use Rattle.std.proofs.Common.{append_assoc, subst, arith}
 use Rattle.std.proofs.lemmas.Bool.{and_parts, or_parts, or_left, and_from, lt-leb, le-ltb}
 use Rattle.std.proofs.lemmas.List.{length-append, append-nil}
 use Rattle.std.specs.Int.{w16, to_be_bytes}
@@ -15,11 +17,14 @@ use Rattle.snap_semantics.specs.declared.refusal.ListingRefusal.{ListingRefusal}
 use Rattle.snap_semantics.specs.declared.refusal.ListingRefusal.TheVariants as refusal
 use Rattle.snap_semantics.specs.Answers.{◌>>=◌, refused_as}
 use Rattle.snap_semantics.specs.Comments.{Comment, Commented, IsComment, IsCommented, no_comment}
-use Rattle.snap_image_format.specs.Image.{line_image, behind_line, lines_image, names_image, table_image, signature, head_image, image_in, is_number_in, CanSay}
+use Rattle.snap_image_format.specs.Image.{line_image, behind_line, lines_image, names_image, table_image, signature}
+use Rattle.snap_image_format.specs.Image.{head_image, image_in, is_number_in, CanSay}
 use Rattle.snap_image_format.specs.ImageCodes.{of_code, kinds, kind_code}
 use Rattle.snap_image_format.specs.ImageForms.{Rest, Read, byte_in, short_in, code_in}
 use Rattle.snap_image_format.specs.ImageInstrs.{instr_in}
-use Rattle.snap_image_format.specs.ImageListing.{signature_in, version_in, letter, letters_in, length_in, new_name, name_in, names_in, few_names, table_in, line_count_in, head_in, new_number, behind_line_in, line_in, lines_in, ended, commented_in}
+use Rattle.snap_image_format.specs.ImageListing.{signature_in, version_in, letter, letters_in, length_in, new_name}
+use Rattle.snap_image_format.specs.ImageListing.{name_in, names_in, few_names, table_in, line_count_in, head_in}
+use Rattle.snap_image_format.specs.ImageListing.{new_number, behind_line_in, line_in, lines_in, ended, commented_in}
 use Rattle.snap_semantics.specs.IsListing.{IsName, AreDistinct, AreRising, IsLine, IsListing}
 use Rattle.snap_semantics.specs.Listing.{has_line, checked_targets, line_targets}
 use Rattle.snap_semantics.specs.ListingForms.{is_reserved}
@@ -31,7 +36,8 @@ use Rattle.snap_image_laws.specs.Laws.{DecodesAllImages, RefusesMore}
 use Rattle.snap_image_laws.proofs.AgainComments.{version_again, behind_again}
 use Rattle.snap_image_laws.proofs.AgainForms.{head, two}
 use Rattle.snap_image_laws.proofs.AgainInstrs.{instr_again}
-use Rattle.snap_image_laws.proofs.AgainParts.{Gives, then_gives, then_done, gives_if, byte_again, short_again, code_again}
+use Rattle.snap_image_laws.proofs.AgainParts.{Gives, then_gives, then_done, gives_if}
+use Rattle.snap_image_laws.proofs.AgainParts.{byte_again, short_again, code_again}
 use Rattle.snap_image_laws.proofs.SaidComments.{IsSayable}
 use Rattle.snap_image_laws.proofs.Shorts.{short_number, short_lines}
 use Rattle.snap_image_laws.proofs.Slots.{name_same, distinct_first, apart}
@@ -62,7 +68,8 @@ line_again g v place last x after r h number rising shorts e =
     then_gives x.number _ (short_in r) _ x after (short_again x.number (short_number x.number h.number) _ r e) (λ a p.
     then_done tt (new_number v place last x.number) _ x after
     (accepted (is_number_in v x.number) (nat_le x.number last) _ _ number (lt-leb x.number last rising))
-    (then_gives x.instr after (instr_in (head g) place a) _ x after (instr_again g place x.instr after a h.form h.uses shorts p)
+    (then_gives x.instr after (instr_in (head g) place a) _ x after
+    (instr_again g place x.instr after a h.form h.uses shorts p)
     (λ b q. (b, refl, q))))
 
 -- lines behind line number `last`, with their comments, that a version can say
@@ -75,8 +82,9 @@ record AreSayable (g : Source) (v : ImageVersion) (last : ℕ) (xs : List Line) 
   comments : AllByRecursion IsComment cs
   sayable : AllByRecursion (IsSayable v) cs
 
-lines_again : (g : Source) (v : ImageVersion) (place last : ℕ) (xs : List Line) (cs : List Comment) (after : List ℕ) (r : Rest) →
-    AreSayable g v last xs cs → r.bytes ≡ lines_image v g xs cs ++ after → Gives (lines_in (head g) v (length xs) place last r) (xs, cs) after
+lines_again : (g : Source) (v : ImageVersion) (place last : ℕ) (xs : List Line) (cs : List Comment)
+    (after : List ℕ) (r : Rest) → AreSayable g v last xs cs → r.bytes ≡ lines_image v g xs cs ++ after →
+    Gives (lines_in (head g) v (length xs) place last r) (xs, cs) after
 unfolding lines_in
 lines_again g v place last [] [] after r h e = (r, refl, e)
 lines_again g v place last [] (c ∷ cs) after r h e = let n = h.each_line in absurd cc
@@ -95,7 +103,8 @@ lines_again g v place last (x ∷ xs) (c ∷ cs) after r h e =
     } in
     let y : List Line × List Comment = (x ∷ xs, c ∷ cs) in
     then_gives x _ (line_in (head g) v place last r) _ y after
-    (line_again g v place last x _ r h.lines.0 h.numbers.0 h.rising.0 h.shorts.0.1 (two (line_image g x) (behind ++ others) after r.bytes e)) (λ a p.
+    (line_again g v place last x _ r h.lines.0 h.numbers.0 h.rising.0 h.shorts.0.1
+    (two (line_image g x) (behind ++ others) after r.bytes e)) (λ a p.
     then_gives c _ (behind_line_in v a) _ y after
     (behind_again v c _ a h.comments.0 h.sayable.0 (two behind others after a.bytes p)) (λ b q.
     then_gives (xs, cs) after (lines_in (head g) v (length xs) (place + 1) x.number b) _ y after
@@ -106,7 +115,8 @@ none_sayable : (lines : List Line) → AllByRecursion (IsSayable version.First) 
 none_sayable [] = tt
 none_sayable (x ∷ xs) = (refl, none_sayable xs)
 
-no_comments : (lines : List Line) (cs : List Comment) → cs ≡ map no_comment lines → AllByRecursion (IsSayable version.First) cs
+no_comments : (lines : List Line) (cs : List Comment) → cs ≡ map no_comment lines →
+    AllByRecursion (IsSayable version.First) cs
 no_comments lines cs e = subst (AllByRecursion (IsSayable version.First)) (sym e) (none_sayable lines)
 
 numbered_lines : (g : Source) (lines : List Line) → AllByRecursion (IsLine g) lines →
@@ -119,7 +129,8 @@ any_sayable [] = tt
 any_sayable (c ∷ cs) = (tt, any_sayable cs)
 
 -- the lines of a listing that a version can say
-lines_of : (v : ImageVersion) (c : Commented) → IsCommented c → CanSay v c → AreSayable c.source v 0 c.source.lines c.comments
+lines_of : (v : ImageVersion) (c : Commented) → IsCommented c → CanSay v c →
+    AreSayable c.source v 0 c.source.lines c.comments
 lines_of version.First c h say = record {
   lines = h.listing.lines;
   numbers = say.1;
@@ -150,9 +161,11 @@ letters_again (b ∷ x) after r h e =
     let letters = and_parts (is_letter b) (list_all is_letter x) h in
     then_gives b (x ++ after) (byte_in r) _ (b ∷ x) after (byte_again b (x ++ after) r e) (λ a p.
     then_done tt (letter b) _ (b ∷ x) after (letter_again b letters.0)
-    (then_gives x after (letters_in (length x) a) _ (b ∷ x) after (letters_again x after a letters.1 p) (λ c q. (c, refl, q))))
+    (then_gives x after (letters_in (length x) a) _ (b ∷ x) after
+    (letters_again x after a letters.1 p) (λ c q. (c, refl, q))))
 
-length_again : (n : ℕ) (after : List ℕ) (r : Rest) → (nat_le 1 n && nat_le n 8) ≡ true → r.bytes ≡ n ∷ after → Gives (length_in r) n after
+length_again : (n : ℕ) (after : List ℕ) (r : Rest) → (nat_le 1 n && nat_le n 8) ≡ true →
+    r.bytes ≡ n ∷ after → Gives (length_in r) n after
 unfolding length_in
 length_again n after r few e =
     then_gives n after (byte_in r) _ n after (byte_again n after r e)
@@ -171,7 +184,8 @@ name_again known x after r named new e =
     then_gives x after (letters_in (length x) a) _ x after (letters_again x after a named.0.1 p) (λ b q.
     then_done tt (new_name known x) _ x after (passes (is_reserved x) (is_among x known) _ _ good.1 new) (b, refl, q)))
 
-names_again : (known names : List Name) (after : List ℕ) (r : Rest) → AllByRecursion IsName names → AreDistinct (known ++ names) →
+names_again : (known names : List Name) (after : List ℕ) (r : Rest) →
+    AllByRecursion IsName names → AreDistinct (known ++ names) →
     r.bytes ≡ names_image names ++ after → Gives (names_in (length names) known r) names after
 unfolding names_in
 names_again known [] after r h d e = (r, refl, e)
@@ -181,19 +195,24 @@ names_again known (x ∷ xs) after r h d e =
     let bytes : r.bytes ≡ length x ∷ (x ++ (names_image xs ++ after)) =
     e ∙ ap (λ (z : List ℕ). length x ∷ z) (append_assoc x (names_image xs) after) in
     then_gives x _ (name_in known r) _ (x ∷ xs) after (name_again known x _ r h.0 new bytes) (λ a p.
-    then_gives xs after (names_in (length xs) (known ++ x ∷ []) a) _ (x ∷ xs) after (names_again (known ++ x ∷ []) xs after a h.1 later p)
+    then_gives xs after (names_in (length xs) (known ++ x ∷ []) a) _ (x ∷ xs) after
+    (names_again (known ++ x ∷ []) xs after a h.1 later p)
     (λ b q. (b, refl, q)))
 
 few_again : (known : List Name) (count : ℕ) → length known + count ≤ 32 → few_names known count ≡ Ok tt
 few_again known count few =
-    ap (λ (t : Bool). let m : Checked = if t then Err (Invalid (refusal.TooMany 0)) else Ok tt in m) (le-ltb 32 (length known + count) few)
+    ap (λ (t : Bool). let m : Checked = if t then Err (Invalid (refusal.TooMany 0)) else Ok tt in m)
+    (le-ltb 32 (length known + count) few)
 
-table_again : (known xs : List Name) (after : List ℕ) (r : Rest) → AllByRecursion IsName xs → AreDistinct (known ++ xs) →
+table_again : (known xs : List Name) (after : List ℕ) (r : Rest) →
+    AllByRecursion IsName xs → AreDistinct (known ++ xs) →
     length known + length xs ≤ 32 → r.bytes ≡ table_image xs ++ after → Gives (table_in known r) xs after
 unfolding table_in
 table_again known xs after r named d few e =
-    then_gives (length xs) (names_image xs ++ after) (byte_in r) _ xs after (byte_again (length xs) (names_image xs ++ after) r e) (λ a p.
-    then_done tt (few_names known (length xs)) _ xs after (few_again known (length xs) few) (names_again known xs after a named d p))
+    then_gives (length xs) (names_image xs ++ after) (byte_in r) _ xs after
+    (byte_again (length xs) (names_image xs ++ after) r e) (λ a p.
+    then_done tt (few_names known (length xs)) _ xs after (few_again known (length xs) few)
+    (names_again known xs after a named d p))
 
 kind_coded : (k : KindTag) → of_code kinds (kind_code k) ≡ Some k
 kind_coded kind.Seq = refl
@@ -207,11 +226,13 @@ Leaves m after = (r : Rest) × (m ≡ Ok r) × (r.bytes ≡ after)
 signature_again : (after bytes : List ℕ) → bytes ≡ signature ++ after → Leaves (signature_in bytes) after
 signature_again after bytes e = subst (λ (z : List ℕ). Leaves (signature_in z) after) (sym e) (_, refl, refl)
 
-count_again : (n : ℕ) (after : List ℕ) (r : Rest) → n ≤ 200 → r.bytes ≡ to_be_bytes w16 n ++ after → Gives (line_count_in r) n after
+count_again : (n : ℕ) (after : List ℕ) (r : Rest) → n ≤ 200 → r.bytes ≡ to_be_bytes w16 n ++ after →
+    Gives (line_count_in r) n after
 unfolding line_count_in
 count_again n after r few e =
     then_gives n after (short_in r) _ n after (short_again n (omega (arith, few)) after r e)
-    (λ a p. subst (λ (t : Bool). Gives (let m : Read ℕ = if t then Err (Invalid (refusal.TooMany 0)) else Ok (n, a) in m) n after)
+    (λ a p. subst (λ (t : Bool).
+    Gives (let m : Read ℕ = if t then Err (Invalid (refusal.TooMany 0)) else Ok (n, a) in m) n after)
     (sym (le-ltb 200 n few)) (a, refl, p))
 
 -- the names of each sort are read behind those before them: none stands twice, and they are few
@@ -265,15 +286,18 @@ head_again v g h after bytes e =
     then_gives g.kind _ (code_in kinds w) _ y after (code_again kinds g.kind (kind_coded g.kind) _ w ew) (λ r0 e0.
     then_gives a _ (table_in [] r0) _ y after (table_again [] a _ r0 t.scalars.1 s.distinct_scalars s.few_scalars
     (two (table_image a) _ _ _ e0)) (λ r1 e1.
-    then_gives b _ (table_in a r1) _ y after (table_again a b _ r1 t.rows.1 s.distinct_rows s.few_rows (two (table_image b) _ _ _ e1))
+    then_gives b _ (table_in a r1) _ y after
+    (table_again a b _ r1 t.rows.1 s.distinct_rows s.few_rows (two (table_image b) _ _ _ e1))
     (λ r2 e2.
     then_gives c _ (table_in (a ++ b) r2) _ y after
     (table_again (a ++ b) c _ r2 t.words.1 s.distinct_words s.few_words (two (table_image c) _ _ _ e2)) (λ r3 e3.
     then_gives d _ (table_in (a ++ (b ++ c)) r3) _ y after
     (table_again (a ++ (b ++ c)) d _ r3 t.views.1 s.distinct_views s.few_views (two (table_image d) _ _ _ e3)) (λ r4 e4.
     then_gives g.scan _ (short_in r4) _ y after (short_again g.scan (short_number g.scan h.scan) _ r4 e4) (λ r5 e5.
-    then_gives g.update _ (short_in r5) _ y after (short_again g.update (short_number g.update h.update) _ r5 e5) (λ r6 e6.
-    then_gives (length g.lines) after (line_count_in r6) _ y after (count_again (length g.lines) after r6 h.few_lines e6)
+    then_gives g.update _ (short_in r5) _ y after
+    (short_again g.update (short_number g.update h.update) _ r5 e5) (λ r6 e6.
+    then_gives (length g.lines) after (line_count_in r6) _ y after
+    (count_again (length g.lines) after r6 h.few_lines e6)
     (λ r7 e7. (r7, refl, e7)))))))))))
 
 abbrev Done : Type 0
@@ -286,8 +310,8 @@ targets_again lines (k ∷ ks) h =
     ap (λ (b : Bool). let d : Done = if b then checked_targets lines ks else Err (refusal.NoSuchLine k) in d) h.0
     ∙ targets_again lines ks h.1
 
-then_is : {A B : Type 0} (m : Result A ImageRefusal) (x : A) (f : A → Result B ImageRefusal) (p : Result B ImageRefusal) → m ≡ Ok x →
-    f x ≡ p → (m >>= f) ≡ p
+then_is : {A B : Type 0} (m : Result A ImageRefusal) (x : A) (f : A → Result B ImageRefusal)
+    (p : Result B ImageRefusal) → m ≡ Ok x → f x ≡ p → (m >>= f) ≡ p
 then_is {A} m x f p e h = subst (λ (n : Result A ImageRefusal). (n >>= f) ≡ p) (sym e) h
 
 -- an image, and bytes behind it
@@ -306,7 +330,8 @@ with_more v c h say after =
     (then_is (lines_in (head s) v (length s.lines) 1 0 a.0) ((s.lines, c.comments), b.0) _ all b.1
     (ap (λ (z : List ℕ). ended z >>= λ end. refused_as Invalid (checked_targets s.lines ks) >>= λ done.
     (let m : Result Commented ImageRefusal = Ok c in m)) b.2
-    ∙ ap (λ (d : Done). ended after >>= λ end. refused_as Invalid d >>= λ done. (let m : Result Commented ImageRefusal = Ok c in m))
+    ∙ ap (λ (d : Done).
+    ended after >>= λ end. refused_as Invalid d >>= λ done. (let m : Result Commented ImageRefusal = Ok c in m))
     (targets_again s.lines ks h.listing.targets)))
 
 pub decodes_all : DecodesAllImages

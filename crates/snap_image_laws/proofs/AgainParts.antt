@@ -1,5 +1,7 @@
 -- What an image says is read from it again: bytes, numbers, codes and slots.
-use Rattle.std.proofs.Common.{◌≡◌, ℕ, ◌+◌, ◌<◌, ◌≤◌, ◌^◌, suc, Bool, true, false, ◌||◌, List, [], ◌∷◌, ◌++◌, length, take, drop, Option, Some, Result, Ok, Err, bytes_eq, nat_le, if◌then◌else◌, refl, sym, ap, ◌∙◌, subst, arith}
+use Rattle.std.proofs.Common.{◌≡◌, ℕ, ◌+◌, ◌<◌, ◌≤◌, ◌^◌, suc, Bool, true, false, ◌||◌, List, [], ◌∷◌, ◌++◌, length}
+use Rattle.std.proofs.Common.{take, drop, Option, Some, Result, Ok, Err, bytes_eq, nat_le}
+use Rattle.std.proofs.Common.{if◌then◌else◌, refl, sym, ap, ◌∙◌, subst, arith}
 use Rattle.std.proofs.lemmas.List.{length-append}
 use Rattle.std.proofs.lemmas.Nat.{from_be_bytes-to_be_bytes_2, from_be_bytes-to_be_bytes_8}
 use Rattle.std.proofs.Math.Seq.{take-append_seam, drop-append_seam}
@@ -13,24 +15,26 @@ use Rattle.snap_semantics.specs.declared.text.Sort.TheVariants as sort
 use Rattle.snap_semantics.specs.Answers.{◌>>=◌, refused_as}
 use Rattle.snap_image_format.specs.Image.{slot}
 use Rattle.snap_image_format.specs.ImageCodes.{Codes, of_code}
-use Rattle.snap_image_format.specs.ImageForms.{Rest, Read, byte_from, byte_in, bytes_in, short_in, long_in, known_code, code_in, known_name, slot_in, allowed}
+use Rattle.snap_image_format.specs.ImageForms.{Rest, Read, byte_from, byte_in, bytes_in, short_in, long_in}
+use Rattle.snap_image_format.specs.ImageForms.{known_code, code_in, known_name, slot_in, allowed}
 use Rattle.snap_semantics.specs.RightUses.{IsRight}
 use Rattle.snap_semantics.specs.Source.{Name, Source}
-use Rattle.snap_semantics.specs.Uses.{Use, Named, BankUse, FieldUse, HandshakeUse, ViewUse, TupleUse, is_among, use_of_sort, same_sort, kind_has, checked_use, checked_uses, scalar, row, words, view}
+use Rattle.snap_semantics.specs.Uses.{Use, Named, BankUse, FieldUse, HandshakeUse, ViewUse, TupleUse, is_among}
+use Rattle.snap_semantics.specs.Uses.{use_of_sort, same_sort, kind_has, checked_use}
+use Rattle.snap_semantics.specs.Uses.{checked_uses, scalar, row, words, view}
 use Rattle.snap_image_laws.proofs.Slots.{same_name, sorted}
 
 -- a rule that gives this value, with these bytes behind it
 abbrev pub Gives : {A : Type 0} → Read A → A → List ℕ → Type 0
 Gives {A} m x after = (r : Rest) × (m ≡ Ok (x, r)) × (r.bytes ≡ after)
 
-pub then_gives : {A B : Type 0} (x : A) (mid : List ℕ) (m : Read A) (f : (A × Rest) → Read B) (y : B) (after : List ℕ) → Gives m x mid →
-    ((r : Rest) → r.bytes ≡ mid → Gives (f (x, r)) y after) → Gives (m >>= f) y after
+pub then_gives : {A B : Type 0} (x : A) (mid : List ℕ) (m : Read A) (f : (A × Rest) → Read B) (y : B) (after : List ℕ) →
+    Gives m x mid → ((r : Rest) → r.bytes ≡ mid → Gives (f (x, r)) y after) → Gives (m >>= f) y after
 then_gives {A} x mid m f y after g h = subst (λ (n : Read A). Gives (n >>= f) y after) (sym g.1) (h g.0 g.2)
 
 -- a test that is passed
-pub then_done : {A B : Type 0} (x : A) (m : Result A ImageRefusal) (f : A → Read B) (y : B) (after : List ℕ) → m ≡ Ok x →
-    Gives (f x) y after →
-    Gives (m >>= f) y after
+pub then_done : {A B : Type 0} (x : A) (m : Result A ImageRefusal) (f : A → Read B) (y : B) (after : List ℕ) →
+    m ≡ Ok x → Gives (f x) y after → Gives (m >>= f) y after
 then_done {A} x m f y after e g = subst (λ (n : Result A ImageRefusal). Gives (n >>= f) y after) (sym e) g
 
 pub gives_if : {A : Type 0} (b : Bool) (m n : Read A) (x : A) (after : List ℕ) → b ≡ true → Gives m x after →
@@ -41,7 +45,8 @@ gives_if false m n x after e g = absurd cc
 pub byte_again : (b : ℕ) (after : List ℕ) (r : Rest) → r.bytes ≡ b ∷ after → Gives (byte_in r) b after
 byte_again b after r e = subst (λ (z : List ℕ). Gives (byte_from r.passed z) b after) (sym e) (_, refl, refl)
 
-bytes_again : (n : ℕ) (xs after : List ℕ) (r : Rest) → length xs ≡ n → r.bytes ≡ xs ++ after → Gives (bytes_in n r) xs after
+bytes_again : (n : ℕ) (xs after : List ℕ) (r : Rest) → length xs ≡ n →
+    r.bytes ≡ xs ++ after → Gives (bytes_in n r) xs after
 bytes_again n xs after r l e =
     let all : length r.bytes ≡ length xs + length after = ap (λ (z : List ℕ). length z) e ∙ length-append xs after in
     let within : n ≤ length r.bytes = omega (arith, all, l) in
@@ -54,31 +59,34 @@ bytes_again n xs after r l e =
     gives_if (nat_le n (length r.bytes)) _ _ xs after test
     (behind, ap (λ (z : List ℕ). let a : Read (List ℕ) = Ok (z, behind) in a) taken, left)
 
-pub short_again : (k : ℕ) → k < 2 ^ 16 → (after : List ℕ) (r : Rest) → r.bytes ≡ to_be_bytes w16 k ++ after → Gives (short_in r) k after
+pub short_again : (k : ℕ) → k < 2 ^ 16 → (after : List ℕ) (r : Rest) →
+    r.bytes ≡ to_be_bytes w16 k ++ after → Gives (short_in r) k after
 unfolding short_in
 short_again k small after r e =
     then_gives (to_be_bytes w16 k) after (bytes_in 2 r) _ k after (bytes_again 2 (to_be_bytes w16 k) after r refl e)
     (λ t h. (t, ap (λ (n : ℕ). let a : Read ℕ = Ok (n, t) in a) (from_be_bytes-to_be_bytes_2 k small), h))
 
-pub long_again : (k : ℕ) → k < 2 ^ 64 → (after : List ℕ) (r : Rest) → r.bytes ≡ to_be_bytes w64 k ++ after → Gives (long_in r) k after
+pub long_again : (k : ℕ) → k < 2 ^ 64 → (after : List ℕ) (r : Rest) →
+    r.bytes ≡ to_be_bytes w64 k ++ after → Gives (long_in r) k after
 unfolding long_in
 long_again k small after r e =
     then_gives (to_be_bytes w64 k) after (bytes_in 8 r) _ k after (bytes_again 8 (to_be_bytes w64 k) after r refl e)
     (λ t h. (t, ap (λ (n : ℕ). let a : Read ℕ = Ok (n, t) in a) (from_be_bytes-to_be_bytes_8 k small), h))
 
-pub known_again : {A : Type 0} (at : ℕ) (r : Rest) (o : Option A) (x : A) (after : List ℕ) → o ≡ Some x → r.bytes ≡ after →
-    Gives (known_code at r o) x after
+pub known_again : {A : Type 0} (at : ℕ) (r : Rest) (o : Option A) (x : A) (after : List ℕ) → o ≡ Some x →
+    r.bytes ≡ after → Gives (known_code at r o) x after
 known_again {A} at r o x after e h = subst (λ (p : Option A). Gives (known_code at r p) x after) (sym e) (r, refl, h)
 
-pub code_again : {A : Type 0} (codes : Codes A) (x : A) → of_code codes (codes.code x) ≡ Some x → (after : List ℕ) (r : Rest) →
-    r.bytes ≡ codes.code x ∷ after → Gives (code_in codes r) x after
+pub code_again : {A : Type 0} (codes : Codes A) (x : A) → of_code codes (codes.code x) ≡ Some x →
+    (after : List ℕ) (r : Rest) → r.bytes ≡ codes.code x ∷ after → Gives (code_in codes r) x after
 unfolding code_in
 code_again codes x coded after r e =
     then_gives (codes.code x) after (byte_in r) _ x after (byte_again (codes.code x) after r e)
     (λ t h. known_again r.passed t (of_code codes (codes.code x)) x after coded h)
 
 slot_by : (n : Name) (ns : List Name) (x : Name) (b : Bool) → bytes_eq x n ≡ b → (b || is_among x ns) ≡ true →
-    (is_among x ns ≡ true → slice_get ns (slot ns x) ≡ Some x) → slice_get (n ∷ ns) (if b then 0 else slot ns x + 1) ≡ Some x
+    (is_among x ns ≡ true → slice_get ns (slot ns x) ≡ Some x) →
+    slice_get (n ∷ ns) (if b then 0 else slot ns x + 1) ≡ Some x
 slot_by n ns x true e t rest = ap (λ (y : Name). let o : Option Name = Some y in o) (sym (same_name x n e))
 slot_by n ns x false e t rest =
     let next : slot ns x + 1 ≡ suc (slot ns x) = omega arith in ap (λ (k : ℕ). slice_get (n ∷ ns) k) next ∙ rest t
@@ -131,20 +139,20 @@ scalar_again g line x after r right e =
     slot_again g.scalars line x after r (sorted_scalar (is_among x g.scalars) (is_among x g.rows) (is_among x g.words)
     (is_among x g.views) right) e
 
-pub row_again : (g : Source) (line : ℕ) (x : Name) (after : List ℕ) (r : Rest) → IsRight g (row x) → r.bytes ≡ slot g.rows x ∷ after →
-    Gives (slot_in line g.rows r) x after
+pub row_again : (g : Source) (line : ℕ) (x : Name) (after : List ℕ) (r : Rest) → IsRight g (row x) →
+    r.bytes ≡ slot g.rows x ∷ after → Gives (slot_in line g.rows r) x after
 row_again g line x after r right e =
     slot_again g.rows line x after r (sorted_row (is_among x g.scalars) (is_among x g.rows) (is_among x g.words)
     (is_among x g.views) right) e
 
-pub words_again : (g : Source) (line : ℕ) (x : Name) (after : List ℕ) (r : Rest) → IsRight g (words x) → r.bytes ≡ slot g.words x ∷ after →
-    Gives (slot_in line g.words r) x after
+pub words_again : (g : Source) (line : ℕ) (x : Name) (after : List ℕ) (r : Rest) → IsRight g (words x) →
+    r.bytes ≡ slot g.words x ∷ after → Gives (slot_in line g.words r) x after
 words_again g line x after r right e =
     slot_again g.words line x after r (sorted_words (is_among x g.scalars) (is_among x g.rows) (is_among x g.words)
     (is_among x g.views) right) e
 
-pub view_again : (g : Source) (line : ℕ) (x : Name) (after : List ℕ) (r : Rest) → IsRight g (view x) → r.bytes ≡ slot g.views x ∷ after →
-    Gives (slot_in line g.views r) x after
+pub view_again : (g : Source) (line : ℕ) (x : Name) (after : List ℕ) (r : Rest) → IsRight g (view x) →
+    r.bytes ≡ slot g.views x ∷ after → Gives (slot_in line g.views r) x after
 view_again g line x after r right e =
     slot_again g.views line x after r (sorted_view (is_among x g.scalars) (is_among x g.rows) (is_among x g.words)
     (is_among x g.views) right) e
@@ -181,4 +189,5 @@ uses_checked s line (u ∷ us) h =
     ap (λ (d : Done). d >>= λ done. checked_uses s line us) (use_checked s line u h.0) ∙ uses_checked s line us h.1
 
 pub allowed_again : (s : Source) (line : ℕ) (us : List Use) → Right s us → allowed s line us ≡ Ok tt
-allowed_again s line us h = ap (λ (d : Done). let c : Result (Unit {0}) ImageRefusal = refused_as Invalid d in c) (uses_checked s line us h)
+allowed_again s line us h =
+    ap (λ (d : Done). let c : Result (Unit {0}) ImageRefusal = refused_as Invalid d in c) (uses_checked s line us h)

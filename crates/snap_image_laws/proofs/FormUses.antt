@@ -1,4 +1,5 @@
--- What an allowed form speaks of is right.
+-- Where the form of an instruction passes its check, the kind has
+-- the bank, tuple or view that the form needs (`uses_allowed`).
 use Rattle.std.proofs.Common.{◌≡◌, ℕ, Bool, true, false, List, Result, Ok, Err, if◌then◌else◌, refl}
 use Rattle.std.specs.List.{AllByRecursion}
 use Rattle.snap_image_format.specs.declared.image.InstrTag.{InstrTag}
@@ -23,7 +24,9 @@ abbrev Done : Type 0
 Done = Result (Unit {0}) ListingRefusal
 
 test_ok : (P : Type 0) (line : ℕ) (b : Bool) → (b ≡ true → P) →
-    Holds (λ done. P × Unit {0}) (let c : Checked = refused_as Invalid ((let d : Done = if b then Ok tt else Err (refusal.WrongKind line) in d) >>= λ done. (let d : Done = Ok tt in d)) in c)
+    Holds (λ done. P × Unit {0}) (let c : Checked = refused_as Invalid
+    ((let d : Done = if b then Ok tt else Err (refusal.WrongKind line) in d) >>= λ done. (let d : Done = Ok tt in d)) in
+    c)
 test_ok P line true f = (f refl, tt)
 test_ok P line false f = tt
 

@@ -1,4 +1,4 @@
--- An image is bytes.
+-- The image of a listing is a list of bytes, all below 256, where its comments are.
 use Rattle.std.proofs.Common.{◌≡◌, ℕ, ◌<◌, true, List, [], ◌∷◌, ◌++◌, length, Option, Some, None, arith}
 use Rattle.std.proofs.lemmas.Bool.{and_parts}
 use Rattle.std.specs.Int.{w16, w64, to_be_bytes}
@@ -19,7 +19,9 @@ use Rattle.snap_semantics.specs.declared.instr.Expr.TheVariants as expr
 use Rattle.snap_semantics.specs.declared.instr.Index.{Index}
 use Rattle.snap_semantics.specs.declared.instr.Index.TheVariants as index
 use Rattle.snap_semantics.specs.declared.instr.Instr.{Instr}
-use Rattle.snap_semantics.specs.declared.instr.Instr.TheVariants.{Let, LetPlace, Get, Bit, Look, Put, PutBit, PutView, ViewData, ViewOf, Each, First, Next, If, IfAll, Goto, Call, Return, Finish}
+use Rattle.snap_semantics.specs.declared.instr.Instr.TheVariants.{Let, LetPlace, Get, Bit, Look, Put, PutBit, PutView}
+use Rattle.snap_semantics.specs.declared.instr.Instr.TheVariants.{ViewData, ViewOf, Each, First, Next, If, IfAll}
+use Rattle.snap_semantics.specs.declared.instr.Instr.TheVariants.{Goto, Call, Return, Finish}
 use Rattle.snap_semantics.specs.declared.instr.Join.{Join}
 use Rattle.snap_semantics.specs.declared.instr.Join.TheVariants as join
 use Rattle.snap_semantics.specs.declared.instr.Line.{Line}
@@ -32,8 +34,12 @@ use Rattle.snap_semantics.specs.declared.instr.Term.TheVariants as term
 use Rattle.snap_semantics.specs.declared.instr.Tuple.{Tuple}
 use Rattle.snap_semantics.specs.declared.instr.Tuple.TheVariants as tuple
 use Rattle.snap_semantics.specs.Comments.{Comment}
-use Rattle.snap_image_format.specs.Image.{slot, index_image, field_tag, term_image, expr_image, comparison_image, condition_image, where_image, tuple_image, instr_tag, operands_image, line_image, comment_image, behind_line, lines_image, names_image, table_image, head_image}
-use Rattle.snap_image_format.specs.ImageCodes.{version_code, kind_code, term_code, relation_code, join_code, range_code, instr_code}
+use Rattle.snap_image_format.specs.Image.{slot, index_image, field_tag, term_image, expr_image, comparison_image}
+use Rattle.snap_image_format.specs.Image.{condition_image, where_image, tuple_image, instr_tag, operands_image}
+use Rattle.snap_image_format.specs.Image.{line_image, comment_image, behind_line, lines_image}
+use Rattle.snap_image_format.specs.Image.{names_image, table_image, head_image}
+use Rattle.snap_image_format.specs.ImageCodes.{version_code, kind_code, term_code, relation_code}
+use Rattle.snap_image_format.specs.ImageCodes.{join_code, range_code, instr_code}
 use Rattle.snap_semantics.specs.IsListing.{IsName, IsListing}
 use Rattle.snap_semantics.specs.Source.{Name, Source}
 use Rattle.snap_semantics.specs.Token.{is_letter}
@@ -53,7 +59,10 @@ short_bytes : (k : ℕ) → AreBytes (to_be_bytes w16 k)
 short_bytes k = (omega arith, (omega arith, tt))
 
 long_bytes : (k : ℕ) → AreBytes (to_be_bytes w64 k)
-long_bytes k = (omega arith, (omega arith, (omega arith, (omega arith, (omega arith, (omega arith, (omega arith, (omega arith, tt))))))))
+long_bytes k = (
+  omega arith,
+  (omega arith, (omega arith, (omega arith, (omega arith, (omega arith, (omega arith, (omega arith, tt))))))),
+)
 
 slot_is_byte : (names : List Name) (x : Name) → IsTable names → IsByte (slot names x)
 slot_is_byte names x tables = let within = slot_within names x in omega (arith, within, tables.0)
@@ -120,7 +129,8 @@ term_bytes : (g : Source) → Tables g → (t : Term) → AreBytes (term_image g
 term_bytes g tables (term.Index i) = index_bytes g tables i
 term_bytes g tables term.Arg = (omega arith, tt)
 term_bytes g tables (term.Row x i) = (omega arith, (slot_is_byte g.rows x tables.rows, index_bytes g tables i))
-term_bytes g tables (term.Field f x i) = (field_is_byte f, (slot_is_byte g.words x tables.words, index_bytes g tables i))
+term_bytes g tables (term.Field f x i) =
+    (field_is_byte f, (slot_is_byte g.words x tables.words, index_bytes g tables i))
 term_bytes g tables (term.Handshake x i j) = (
   omega arith,
   (
@@ -132,7 +142,8 @@ term_bytes g tables (term.Handshake x i j) = (
 
 expr_bytes : (g : Source) → Tables g → (x : Expr) → AreBytes (expr_image g x)
 expr_bytes g tables (expr.Term t) = (omega arith, term_bytes g tables t)
-expr_bytes g tables (expr.Sum t u) = (omega arith, behind (term_image g t) (term_image g u) (term_bytes g tables t) (term_bytes g tables u))
+expr_bytes g tables (expr.Sum t u) =
+    (omega arith, behind (term_image g t) (term_image g u) (term_bytes g tables t) (term_bytes g tables u))
 expr_bytes g tables (expr.Not t) = (omega arith, term_bytes g tables t)
 
 comparison_bytes : (g : Source) → Tables g → (k : Comparison) → AreBytes (comparison_image g k)
@@ -144,12 +155,14 @@ comparison_bytes g tables k = (
 
 -- two comparisons, three and four
 two_bytes : (g : Source) → Tables g → (k l : Comparison) → AreBytes (comparison_image g k ++ comparison_image g l)
-two_bytes g tables k l = behind (comparison_image g k) (comparison_image g l) (comparison_bytes g tables k) (comparison_bytes g tables l)
+two_bytes g tables k l =
+    behind (comparison_image g k) (comparison_image g l) (comparison_bytes g tables k) (comparison_bytes g tables l)
 
 three_bytes : (g : Source) → Tables g → (k l m : Comparison) →
     AreBytes (comparison_image g k ++ (comparison_image g l ++ comparison_image g m))
 three_bytes g tables k l m =
-    behind (comparison_image g k) (comparison_image g l ++ comparison_image g m) (comparison_bytes g tables k) (two_bytes g tables l m)
+    behind (comparison_image g k) (comparison_image g l ++ comparison_image g m)
+    (comparison_bytes g tables k) (two_bytes g tables l m)
 
 condition_bytes : (g : Source) → Tables g → (k : Condition) → AreBytes (condition_image g k)
 condition_bytes g tables (One k) = (omega arith, (omega arith, comparison_bytes g tables k))
@@ -165,10 +178,12 @@ where_bytes g tables (Some k) = (omega arith, condition_bytes g tables k)
 
 tuple_bytes : (g : Source) → Tables g → (t : Tuple) → AreBytes (tuple_image g t)
 tuple_bytes g tables (tuple.Seq m n v) =
-    let last_two = behind (expr_image g n) (slot g.views v ∷ []) (expr_bytes g tables n) (slot_is_byte g.views v tables.views, tt) in
+    let last_two =
+    behind (expr_image g n) (slot g.views v ∷ []) (expr_bytes g tables n) (slot_is_byte g.views v tables.views, tt) in
     behind (expr_image g m) (expr_image g n ++ slot g.views v ∷ []) (expr_bytes g tables m) last_two
 tuple_bytes g tables (tuple.Bits m x n v) =
-    let last_two = behind (expr_image g n) (slot g.views v ∷ []) (expr_bytes g tables n) (slot_is_byte g.views v tables.views, tt) in
+    let last_two =
+    behind (expr_image g n) (slot g.views v ∷ []) (expr_bytes g tables n) (slot_is_byte g.views v tables.views, tt) in
     behind (expr_image g m) (slot g.rows x ∷ (expr_image g n ++ slot g.views v ∷ [])) (expr_bytes g tables m)
     (slot_is_byte g.rows x tables.rows, last_two)
 tuple_bytes g tables (tuple.Multi m n o) =
@@ -177,20 +192,28 @@ tuple_bytes g tables (tuple.Multi m n o) =
 
 operands_bytes : (g : Source) → Tables g → (x : Instr) → AreBytes (operands_image g x)
 operands_bytes g tables (Let x v) = (slot_is_byte g.scalars x tables.scalars, expr_bytes g tables v)
-operands_bytes g tables (LetPlace x i v) =
-    (slot_is_byte g.rows x tables.rows, behind (index_image g i) (expr_image g v) (index_bytes g tables i) (expr_bytes g tables v))
-operands_bytes g tables (Get x i j) =
-    (slot_is_byte g.words x tables.words, behind (index_image g i) (index_image g j) (index_bytes g tables i) (index_bytes g tables j))
-operands_bytes g tables (Bit x b i j) =
-    (slot_is_byte g.scalars x tables.scalars, behind (index_image g i) (index_image g j) (index_bytes g tables i) (index_bytes g tables j))
+operands_bytes g tables (LetPlace x i v) = (
+  slot_is_byte g.rows x tables.rows,
+  behind (index_image g i) (expr_image g v) (index_bytes g tables i) (expr_bytes g tables v),
+)
+operands_bytes g tables (Get x i j) = (
+  slot_is_byte g.words x tables.words,
+  behind (index_image g i) (index_image g j) (index_bytes g tables i) (index_bytes g tables j),
+)
+operands_bytes g tables (Bit x b i j) = (
+  slot_is_byte g.scalars x tables.scalars,
+  behind (index_image g i) (index_image g j) (index_bytes g tables i) (index_bytes g tables j),
+)
 operands_bytes g tables (Look x i) = (slot_is_byte g.views x tables.views, index_bytes g tables i)
-operands_bytes g tables (Put i t) = behind (index_image g i) (tuple_image g t) (index_bytes g tables i) (tuple_bytes g tables t)
+operands_bytes g tables (Put i t) =
+    behind (index_image g i) (tuple_image g t) (index_bytes g tables i) (tuple_bytes g tables t)
 operands_bytes g tables (PutBit b i j v) =
     behind (index_image g i) (index_image g j ++ expr_image g v) (index_bytes g tables i)
     (behind (index_image g j) (expr_image g v) (index_bytes g tables j) (expr_bytes g tables v))
 operands_bytes g tables (PutView i x) =
     behind (index_image g i) (slot g.views x ∷ []) (index_bytes g tables i) (slot_is_byte g.views x tables.views, tt)
-operands_bytes g tables (ViewData x z) = (slot_is_byte g.views x tables.views, (slot_is_byte g.words z tables.words, tt))
+operands_bytes g tables (ViewData x z) =
+    (slot_is_byte g.views x tables.views, (slot_is_byte g.words z tables.words, tt))
 operands_bytes g tables (ViewOf x z i) =
     (slot_is_byte g.views x tables.views, (slot_is_byte g.words z tables.words, index_bytes g tables i))
 operands_bytes g tables (Each over x v k) = (
@@ -209,11 +232,14 @@ operands_bytes g tables (First x over k target) = (
         (condition_bytes g tables k) (short_bytes target),
   ),
 )
-operands_bytes g tables (Next x over target) = (slot_is_byte g.scalars x tables.scalars, (range_is_byte over, short_bytes target))
+operands_bytes g tables (Next x over target) =
+    (slot_is_byte g.scalars x tables.scalars, (range_is_byte over, short_bytes target))
 operands_bytes g tables (If k target) =
     behind (condition_image g k) (to_be_bytes w16 target) (condition_bytes g tables k) (short_bytes target)
-operands_bytes g tables (IfAll over k target) =
-    (range_is_byte over, behind (condition_image g k) (to_be_bytes w16 target) (condition_bytes g tables k) (short_bytes target))
+operands_bytes g tables (IfAll over k target) = (
+  range_is_byte over,
+  behind (condition_image g k) (to_be_bytes w16 target) (condition_bytes g tables k) (short_bytes target),
+)
 operands_bytes g tables (Goto target) = short_bytes target
 operands_bytes g tables (Call target) = short_bytes target
 operands_bytes g tables (Return x) = (slot_is_byte g.views x tables.views, tt)
@@ -234,8 +260,8 @@ line_bytes g tables x =
     (form_is_byte (instr_tag x.instr), operands_bytes g tables x.instr)
 
 -- where the comments are used up there is none
-lines_bytes : (v : ImageVersion) (g : Source) → Tables g → (xs : List Line) (cs : List Comment) → AllByRecursion HasBytes cs →
-    AreBytes (lines_image v g xs cs)
+lines_bytes : (v : ImageVersion) (g : Source) → Tables g → (xs : List Line) (cs : List Comment) →
+    AllByRecursion HasBytes cs → AreBytes (lines_image v g xs cs)
 lines_bytes v g tables [] cs h = tt
 lines_bytes v g tables (x ∷ xs) [] h =
     let others = lines_image v g xs [] in
@@ -252,14 +278,16 @@ letter_is_byte b e = grind (arith, e)
 letters_are_bytes : (x : Name) → list_all is_letter x ≡ true → AreBytes x
 letters_are_bytes [] e = tt
 letters_are_bytes (b ∷ x) e =
-    let letters = and_parts (is_letter b) (list_all is_letter x) e in (letter_is_byte b letters.0, letters_are_bytes x letters.1)
+    let letters = and_parts (is_letter b) (list_all is_letter x) e in
+    (letter_is_byte b letters.0, letters_are_bytes x letters.1)
 
 length_is_byte : (x : Name) → IsName x → IsByte (length x)
 length_is_byte x h = let short = short_name x h in omega (arith, short)
 
 names_bytes : (xs : List Name) → AllByRecursion IsName xs → AreBytes (names_image xs)
 names_bytes [] h = tt
-names_bytes (x ∷ xs) h = (length_is_byte x h.0, behind x (names_image xs) (letters_are_bytes x h.0.0.1) (names_bytes xs h.1))
+names_bytes (x ∷ xs) h =
+    (length_is_byte x h.0, behind x (names_image xs) (letters_are_bytes x h.0.0.1) (names_bytes xs h.1))
 
 table_bytes : (xs : List Name) → IsTable xs → AreBytes (table_image xs)
 table_bytes xs h = (omega (arith, h.0), names_bytes xs h.1)

@@ -1,3 +1,4 @@
+-- The proofs of snap_image_laws, by their modules.
 pub mod AgainComments
 pub mod AgainForms
 pub mod AgainInstrs

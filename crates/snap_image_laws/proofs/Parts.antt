@@ -1,5 +1,7 @@
 -- What is read from an image is what the image says: the rules of one byte, and how parts are put together.
-use Rattle.std.proofs.Common.{◌≡◌, ℕ, ◌<◌, ◌≤◌, ◌^◌, zero, suc, Bool, true, false, List, [], ◌∷◌, ◌++◌, length, take, drop, get_or, Option, Some, None, Result, Ok, Err, nat_eq, nat_le, if◌then◌else◌, refl, sym, ap, ◌∙◌, append_assoc, subst, arith}
+use Rattle.std.proofs.Common.{◌≡◌, ℕ, ◌<◌, ◌≤◌, ◌^◌, zero, suc, Bool, true, false, List, [], ◌∷◌, ◌++◌, length, take}
+use Rattle.std.proofs.Common.{drop, get_or, Option, Some, None, Result, Ok, Err, nat_eq, nat_le, if◌then◌else◌, refl}
+use Rattle.std.proofs.Common.{sym, ap, ◌∙◌, append_assoc, subst, arith}
 use Rattle.std.proofs.lemmas.Bool.{eqb-true}
 use Rattle.std.proofs.lemmas.List.{length-take-le, take-append-drop}
 use Rattle.std.proofs.lemmas.Nat.{be_bytes_2, be_bytes_8}
@@ -10,7 +12,8 @@ use Rattle.snap_semantics.specs.declared.text.Sort.{Sort}
 use Rattle.snap_semantics.specs.Answers.{◌>>=◌}
 use Rattle.snap_image_format.specs.Image.{slot}
 use Rattle.snap_image_format.specs.ImageCodes.{Codes, coded, of_code}
-use Rattle.snap_image_format.specs.ImageForms.{Rest, byte_from, byte_in, bytes_in, short_in, long_in, known_code, code_in, known_name, slot_in}
+use Rattle.snap_image_format.specs.ImageForms.{Rest, byte_from, byte_in, bytes_in, short_in, long_in, known_code}
+use Rattle.snap_image_format.specs.ImageForms.{code_in, known_name, slot_in}
 use Rattle.snap_semantics.specs.RightUses.{IsRight}
 use Rattle.snap_semantics.specs.Source.{Name, Source}
 use Rattle.snap_semantics.specs.Uses.{Use, Named}
@@ -22,16 +25,18 @@ abbrev pub Holds : {A : Type 0} → (A → Type 0) → Result A ImageRefusal →
 Holds P (Ok x) = P x
 Holds P (Err e) = Unit {0}
 
-pub then_with : {A B : Type 0} (Q : A → Type 0) (P : B → Type 0) (r : Result A ImageRefusal) (f : A → Result B ImageRefusal) →
-    Holds Q r → ((x : A) → Q x → Holds P (f x)) → Holds P (r >>= f)
+pub then_with : {A B : Type 0} (Q : A → Type 0) (P : B → Type 0) (r : Result A ImageRefusal)
+    (f : A → Result B ImageRefusal) → Holds Q r → ((x : A) → Q x → Holds P (f x)) → Holds P (r >>= f)
 then_with Q P (Ok x) f g h = h x g
 then_with Q P (Err e) f g h = tt
 
-pub then_any : {A B : Type 0} (P : B → Type 0) (r : Result A ImageRefusal) (f : A → Result B ImageRefusal) → ((x : A) → Holds P (f x)) → Holds P (r >>= f)
+pub then_any : {A B : Type 0} (P : B → Type 0) (r : Result A ImageRefusal) (f : A → Result B ImageRefusal) →
+    ((x : A) → Holds P (f x)) → Holds P (r >>= f)
 then_any P (Ok x) f h = h x
 then_any P (Err e) f h = tt
 
-pub holds_as : {A : Type 0} (Q P : A → Type 0) (r : Result A ImageRefusal) → Holds Q r → ((x : A) → Q x → P x) → Holds P r
+pub holds_as : {A : Type 0} (Q P : A → Type 0) (r : Result A ImageRefusal) → Holds Q r →
+    ((x : A) → Q x → P x) → Holds P r
 holds_as Q P (Ok x) h f = f x h
 holds_as Q P (Err e) h f = tt
 
@@ -39,11 +44,13 @@ pub holds_of : {A : Type 0} (P : A → Type 0) (r : Result A ImageRefusal) (x : 
 holds_of P (Ok y) x h e = let p : y ≡ x = cc in subst P p h
 holds_of P (Err d) x h e = absurd cc
 
-pub holds_if : {A : Type 0} (P : A → Type 0) (b : Bool) (r t : Result A ImageRefusal) → (b ≡ true → Holds P r) → (b ≡ false → Holds P t) → Holds P (if b then r else t)
+pub holds_if : {A : Type 0} (P : A → Type 0) (b : Bool) (r t : Result A ImageRefusal) → (b ≡ true → Holds P r) →
+    (b ≡ false → Holds P t) → Holds P (if b then r else t)
 holds_if P true r t g h = g refl
 holds_if P false r t g h = h refl
 
--- What the bytes `before` say: `said`, with `after` behind it, in a form that can be said; what it speaks of is right in the listing.
+-- What the bytes `before` say: `said`, with `after` behind it, in a form that can be said; what it
+-- speaks of is right in the listing.
 pub record Part (s : Source) (before said after : List ℕ) (spoken : List Use) (F : Type 0) : Type 0 where
   pub bytes : AreBytes before → (before ≡ said ++ after) × AreBytes after × F
   pub uses : AllByRecursion (IsRight s) spoken
@@ -62,26 +69,32 @@ both {s} {a} {b} {c} {x} {y} {us} {vs} p q = record {
   uses = all_both (IsRight s) us vs p.uses q.uses;
 }
 
-pub reformed : {s : Source} {a b x : List ℕ} {us : List Use} {F G : Type 0} → (F → G) → Part s a x b us F → Part s a x b us G
+pub reformed : {s : Source} {a b x : List ℕ} {us : List Use} {F G : Type 0} → (F → G) →
+    Part s a x b us F → Part s a x b us G
 reformed f p = record { bytes = λ small. (let h = p.bytes small in (h.0, h.1, f h.2)); uses = p.uses }
 
 -- a part without a form of its own, and one behind it
-pub skip : {s : Source} {a b c x y : List ℕ} {us vs : List Use} {G : Type 0} → Part s a x b us U → Part s b y c vs G → Part s a (x ++ y) c (us ++ vs) G
+pub skip : {s : Source} {a b c x y : List ℕ} {us vs : List Use} {G : Type 0} → Part s a x b us U → Part s b y c vs G →
+    Part s a (x ++ y) c (us ++ vs) G
 skip p q = reformed (λ f. f.1) (both p q)
 
 -- a part, and one without a form of its own behind it
-pub last : {s : Source} {a b c x y : List ℕ} {us vs : List Use} {F : Type 0} → Part s a x b us F → Part s b y c vs U → Part s a (x ++ y) c (us ++ vs) F
+pub last : {s : Source} {a b c x y : List ℕ} {us vs : List Use} {F : Type 0} → Part s a x b us F → Part s b y c vs U →
+    Part s a (x ++ y) c (us ++ vs) F
 last p q = reformed (λ f. f.0) (both p q)
 
 -- a part, and one behind it that speaks of nothing
-pub ending : {s : Source} {a b c x y : List ℕ} {us : List Use} {F : Type 0} → Part s a x b us F → Part s b y c [] U → Part s a (x ++ y) c us F
+pub ending : {s : Source} {a b c x y : List ℕ} {us : List Use} {F : Type 0} → Part s a x b us F →
+    Part s b y c [] U → Part s a (x ++ y) c us F
 ending p q = let r = last p q in record { bytes = r.bytes; uses = p.uses }
 
 -- the forms of three parts, and of four
-pub three_of : {s : Source} {a b x : List ℕ} {us : List Use} {F G H : Type 0} → Part s a x b us (F × (G × H)) → Part s a x b us (F × G × H)
+pub three_of : {s : Source} {a b x : List ℕ} {us : List Use} {F G H : Type 0} →
+    Part s a x b us (F × (G × H)) → Part s a x b us (F × G × H)
 three_of p = reformed (λ f. (f.0, f.1.0, f.1.1)) p
 
-pub four_of : {s : Source} {a b x : List ℕ} {us : List Use} {F G H I : Type 0} → Part s a x b us (F × (G × (H × I))) → Part s a x b us (F × G × H × I)
+pub four_of : {s : Source} {a b x : List ℕ} {us : List Use} {F G H I : Type 0} → Part s a x b us (F × (G × (H × I))) →
+    Part s a x b us (F × G × H × I)
 four_of p = reformed (λ f. (f.0, f.1.0, f.1.1.0, f.1.1.1)) p
 
 -- nothing read
@@ -113,8 +126,8 @@ abbrev pub Known : {A : Type 0} → (A → Type 0) → Option A → Type 0
 Known P None = Unit {0}
 Known P (Some x) = P x
 
-coded_if : {A : Type 0} (code : A → ℕ) (x : A) (b : ℕ) (o : Option A) (q : Bool) → nat_eq (code x) b ≡ q → Known (λ y. code y ≡ b) o →
-    Known (λ y. code y ≡ b) (if q then Some x else o)
+coded_if : {A : Type 0} (code : A → ℕ) (x : A) (b : ℕ) (o : Option A) (q : Bool) → nat_eq (code x) b ≡ q →
+    Known (λ y. code y ≡ b) o → Known (λ y. code y ≡ b) (if q then Some x else o)
 coded_if code x b o true e h = eqb-true (code x) b e
 coded_if code x b o false e h = h
 
@@ -125,23 +138,27 @@ coded_is code (x ∷ xs) b = coded_if code x b (coded code xs b) (nat_eq (code x
 abbrev pub CodeIs : {A : Type 0} → Codes A → Rest → (A × Rest) → Type 0
 CodeIs codes r x = r.bytes ≡ codes.code x.0 ∷ x.1.bytes
 
-known_is : {A : Type 0} (codes : Codes A) (r after : Rest) (b : ℕ) (o : Option A) → r.bytes ≡ b ∷ after.bytes → Known (λ y. codes.code y ≡ b) o →
-    Holds (CodeIs codes r) (known_code r.passed after o)
+known_is : {A : Type 0} (codes : Codes A) (r after : Rest) (b : ℕ) (o : Option A) → r.bytes ≡ b ∷ after.bytes →
+    Known (λ y. codes.code y ≡ b) o → Holds (CodeIs codes r) (known_code r.passed after o)
 known_is codes r after b None e h = tt
 known_is codes r after b (Some x) e h = e ∙ ap (λ (k : ℕ). k ∷ after.bytes) (sym h)
 
 pub code_is : {A : Type 0} (codes : Codes A) (r : Rest) → Holds (CodeIs codes r) (code_in codes r)
 unfolding code_in
-code_is codes r = then_with (ByteIs r) (CodeIs codes r) (byte_in r) _ (byte_is r) (λ b e. known_is codes r b.1 b.0 (of_code codes b.0) e (coded_is codes.code codes.all b.0))
+code_is codes r =
+    then_with (ByteIs r) (CodeIs codes r) (byte_in r) _ (byte_is r)
+    (λ b e. known_is codes r b.1 b.0 (of_code codes b.0) e (coded_is codes.code codes.all b.0))
 
 -- what the names of a sort give for a slot
 abbrev pub HasSlots : Source → List Name → Sort → Type 0
-HasSlots s names wanted = (b : ℕ) (x : Name) → slice_get names b ≡ Some x → (slot names x ≡ b) × IsRight s (Named wanted x)
+HasSlots s names wanted =
+    (b : ℕ) (x : Name) → slice_get names b ≡ Some x → (slot names x ≡ b) × IsRight s (Named wanted x)
 
 abbrev pub SlotIs : Source → List Name → Sort → Rest → (Name × Rest) → Type 0
 SlotIs s names wanted r x = Part s r.bytes (slot names x.0 ∷ []) x.1.bytes (Named wanted x.0 ∷ []) U
 
-name_is : (s : Source) (names : List Name) (wanted : Sort) (line : ℕ) (r after : Rest) (b : ℕ) (o : Option Name) → HasSlots s names wanted →
+name_is : (s : Source) (names : List Name) (wanted : Sort) (line : ℕ) (r after : Rest) (b : ℕ) (o : Option Name) →
+    HasSlots s names wanted →
     slice_get names b ≡ o → r.bytes ≡ b ∷ after.bytes → Holds (SlotIs s names wanted r) (known_name line after o)
 name_is s names wanted line r after b None h g e = tt
 name_is s names wanted line r after b (Some x) h g e =
@@ -153,7 +170,8 @@ pub slot_is : (s : Source) (names : List Name) (wanted : Sort) → HasSlots s na
     Holds (SlotIs s names wanted r) (slot_in line names r)
 unfolding slot_in
 slot_is s names wanted h line r =
-    then_with (ByteIs r) (SlotIs s names wanted r) (byte_in r) _ (byte_is r) (λ b e. name_is s names wanted line r b.1 b.0 (slice_get names b.0) h refl e)
+    then_with (ByteIs r) (SlotIs s names wanted r) (byte_in r) _ (byte_is r)
+    (λ b e. name_is s names wanted line r b.1 b.0 (slice_get names b.0) h refl e)
 
 small_take : (n : ℕ) (bytes : List ℕ) → AreBytes bytes → AreBytes (take n bytes)
 small_take zero bytes h = tt
@@ -172,13 +190,17 @@ small_at (b ∷ bytes) h (suc i) = small_at bytes h.1 i
 
 -- so many bytes, and those behind them
 abbrev pub BytesAre : ℕ → Rest → (List ℕ × Rest) → Type 0
-BytesAre n r x = (length x.0 ≡ n) × (r.bytes ≡ x.0 ++ x.1.bytes) × (AreBytes r.bytes → AreBytes x.0 × AreBytes x.1.bytes)
+BytesAre n r x =
+    (length x.0 ≡ n) × (r.bytes ≡ x.0 ++ x.1.bytes) × (AreBytes r.bytes → AreBytes x.0 × AreBytes x.1.bytes)
 
 pub bytes_are : (n : ℕ) (r : Rest) → Holds (BytesAre n r) (bytes_in n r)
 bytes_are n r =
     holds_if (BytesAre n r) (nat_le n (length r.bytes)) _ _
-    (λ e. let le : n ≤ length r.bytes = grind arith in
-    (length-take-le n r.bytes le, sym (take-append-drop n r.bytes), λ small. (small_take n r.bytes small, small_drop n r.bytes small)))
+    (λ e. let le : n ≤ length r.bytes = grind arith in (
+      length-take-le n r.bytes le,
+      sym (take-append-drop n r.bytes),
+      λ small. (small_take n r.bytes small, small_drop n r.bytes small),
+    ))
     (λ e. tt)
 
 below_16 : (bs : List ℕ) → ((i : ℕ) → get_or bs i 0 < 256) → from_be_bytes w16 bs < 2 ^ 16
@@ -193,7 +215,8 @@ short_fits s r =
     then_with (BytesAre 2 r) (ShortFits s r) (bytes_in 2 r) _ (bytes_are 2 r) (λ x h. record {
       bytes = λ small.
           let t = h.2 small in
-          let w : to_be_bytes w16 (from_be_bytes w16 x.0) ≡ x.0 = be_bytes_2 x.0 (from_be_bytes w16 x.0) h.0 (small_at x.0 t.0) refl in
+          let w : to_be_bytes w16 (from_be_bytes w16 x.0) ≡ x.0 =
+          be_bytes_2 x.0 (from_be_bytes w16 x.0) h.0 (small_at x.0 t.0) refl in
           (h.1 ∙ ap (λ (z : List ℕ). z ++ x.1.bytes) (sym w), t.1, below_16 x.0 (small_at x.0 t.0));
       uses = tt;
     })
@@ -206,7 +229,14 @@ short_is s r = holds_as (ShortFits s r) (ShortIs s r) (short_in r) (short_fits s
 
 below_64 : (bs : List ℕ) → ((i : ℕ) → get_or bs i 0 < 256) → from_be_bytes w64 bs < 2 ^ 64
 below_64 bs small =
-    let a = small 0 in let b = small 1 in let c = small 2 in let d = small 3 in let e = small 4 in let f = small 5 in let g = small 6 in let h = small 7 in
+    let a = small 0 in
+    let b = small 1 in
+    let c = small 2 in
+    let d = small 3 in
+    let e = small 4 in
+    let f = small 5 in
+    let g = small 6 in
+    let h = small 7 in
     omega arith
 
 abbrev pub LongIs : Source → Rest → (ℕ × Rest) → Type 0
@@ -218,7 +248,8 @@ long_is s r =
     then_with (BytesAre 8 r) (LongIs s r) (bytes_in 8 r) _ (bytes_are 8 r) (λ x h. record {
       bytes = λ small.
           let t = h.2 small in
-          let w : to_be_bytes w64 (from_be_bytes w64 x.0) ≡ x.0 = be_bytes_8 x.0 (from_be_bytes w64 x.0) h.0 (small_at x.0 t.0) refl in
+          let w : to_be_bytes w64 (from_be_bytes w64 x.0) ≡ x.0 =
+          be_bytes_8 x.0 (from_be_bytes w64 x.0) h.0 (small_at x.0 t.0) refl in
           (h.1 ∙ ap (λ (z : List ℕ). z ++ x.1.bytes) (sym w), t.1, below_64 x.0 (small_at x.0 t.0));
       uses = tt;
     })

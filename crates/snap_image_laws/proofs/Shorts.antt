@@ -1,4 +1,4 @@
--- The numbers of lines have two bytes.
+-- The line numbers and the targets of a listing fit the two bytes that they have in an image.
 use Rattle.std.proofs.Common.{◌≡◌, ℕ, Bool, true, false, ◌||◌, List, [], ◌∷◌, length, nat_eq, refl, subst, arith}
 use Rattle.std.proofs.lemmas.Bool.{eqb-true}
 use Rattle.std.specs.List.{AllByRecursion}
@@ -31,7 +31,8 @@ numbered_by s line lines k false e h rest t = rest t
 pub numbered : (s : Source) (lines : List Line) (k : ℕ) → AllByRecursion (IsLine s) lines → has_line lines k ≡ true →
     is_line_number k ≡ true
 numbered s [] k h t = absurd cc
-numbered s (line ∷ lines) k h t = numbered_by s line lines k (nat_eq line.number k) refl h.0.number (numbered s lines k h.1) t
+numbered s (line ∷ lines) k h t =
+    numbered_by s line lines k (nat_eq line.number k) refl h.0.number (numbered s lines k h.1) t
 
 short_targets : (s : Source) (lines : List Line) (ks : List ℕ) → AllByRecursion (IsLine s) lines →
     AllByRecursion (λ (k : ℕ). has_line lines k ≡ true) ks →
@@ -39,12 +40,14 @@ short_targets : (s : Source) (lines : List Line) (ks : List ℕ) → AllByRecurs
 short_targets s lines [] h t = tt
 short_targets s lines (k ∷ ks) h t = (short_number k (numbered s lines k h t.0), short_targets s lines ks h t.1)
 
-lines_by : (s : Source) (lines : List Line) → AllByRecursion (IsLine s) lines → AllByRecursion IsShort (line_targets lines) →
-    AllByRecursion HasShortNumbers lines
+lines_by : (s : Source) (lines : List Line) → AllByRecursion (IsLine s) lines →
+    AllByRecursion IsShort (line_targets lines) → AllByRecursion HasShortNumbers lines
 lines_by s [] h t = tt
 lines_by s (line ∷ lines) h t =
-    let here = all_first IsShort (instr_targets line.instr) (line_targets lines) t in
-    ((short_number line.number h.0.number, here), lines_by s lines h.1 (all_rest IsShort (instr_targets line.instr) (line_targets lines) t))
+    let here = all_first IsShort (instr_targets line.instr) (line_targets lines) t in (
+      (short_number line.number h.0.number, here),
+      lines_by s lines h.1 (all_rest IsShort (instr_targets line.instr) (line_targets lines) t),
+    )
 
 -- the lines of a listing
 pub short_lines : (s : Source) → IsListing s → AllByRecursion HasShortNumbers s.lines

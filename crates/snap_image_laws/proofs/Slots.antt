@@ -1,5 +1,6 @@
--- The slots of names that are declared once.
-use Rattle.std.proofs.Common.{◌≡◌, ℕ, ◌+◌, ◌≤◌, zero, suc, Bool, true, false, ◌||◌, List, [], ◌∷◌, ◌++◌, length, Option, Some, None, bytes_eq, if◌then◌else◌, refl, sym, ap, ◌∙◌, subst, arith}
+-- The slots of an image: the place of a name among the names of its sort, which are declared once.
+use Rattle.std.proofs.Common.{◌≡◌, ℕ, ◌+◌, ◌≤◌, zero, suc, Bool, true, false, ◌||◌, List, [], ◌∷◌, ◌++◌, length}
+use Rattle.std.proofs.Common.{Option, Some, None, bytes_eq, if◌then◌else◌, refl, sym, ap, ◌∙◌, subst, arith}
 use Rattle.std.specs.Cmp.Lexicographic.{same_text}
 use Rattle.std.proofs.lemmas.Bool.{or_parts, or_left, or_right}
 use Rattle.std.proofs.lemmas.List.Folds.{list_any-append}
@@ -29,8 +30,12 @@ at_among (y ∷ ys) zero x e = or_left (bytes_eq x y) (is_among x ys) (name_same
 at_among (y ∷ ys) (suc b) x e = or_right (bytes_eq x y) (is_among x ys) (at_among ys b x e)
 
 -- a name that is among these is not one that is not
-other : (x y : Name) (ys : List Name) (q : Bool) → bytes_eq x y ≡ q → is_among y ys ≡ false → is_among x ys ≡ true → q ≡ false
-other x y ys true p f t = let e : y ≡ x = sym (same_name x y p) in let g : is_among x ys ≡ false = subst (λ (z : Name). is_among z ys ≡ false) e f in absurd cc
+other : (x y : Name) (ys : List Name) (q : Bool) → bytes_eq x y ≡ q → is_among y ys ≡ false →
+    is_among x ys ≡ true → q ≡ false
+other x y ys true p f t =
+    let e : y ≡ x = sym (same_name x y p) in
+    let g : is_among x ys ≡ false = subst (λ (z : Name). is_among z ys ≡ false) e f in
+    absurd cc
 other x y ys false p f t = refl
 
 slot_back : (xs : List Name) → AreDistinct xs → (b : ℕ) (x : Name) → slice_get xs b ≡ Some x → slot xs x ≡ b
@@ -51,7 +56,10 @@ slot_within (n ∷ ns) x = within_by (bytes_eq x n) (slot ns x) (length ns) (slo
 
 pub distinct_first : (xs ys : List Name) → AreDistinct (xs ++ ys) → AreDistinct xs
 distinct_first [] ys d = tt
-distinct_first (x ∷ xs) ys d = ((or_parts (is_among x xs) (is_among x ys) (sym (list_any-append (bytes_eq x) xs ys) ∙ d.0)).0, distinct_first xs ys d.1)
+distinct_first (x ∷ xs) ys d = (
+  (or_parts (is_among x xs) (is_among x ys) (sym (list_any-append (bytes_eq x) xs ys) ∙ d.0)).0,
+  distinct_first xs ys d.1,
+)
 
 pub distinct_rest : (xs ys : List Name) → AreDistinct (xs ++ ys) → AreDistinct ys
 distinct_rest [] ys d = d
@@ -61,12 +69,15 @@ distinct_rest (x ∷ xs) ys d = distinct_rest xs ys d.1
 pub apart : (xs ys : List Name) (x : Name) → AreDistinct (xs ++ ys) → is_among x ys ≡ true → is_among x xs ≡ false
 apart [] ys x d t = refl
 apart (z ∷ zs) ys x d t =
-    let later : is_among x (zs ++ ys) ≡ true = list_any-append (bytes_eq x) zs ys ∙ or_right (is_among x zs) (is_among x ys) t in
+    let later : is_among x (zs ++ ys) ≡ true =
+    list_any-append (bytes_eq x) zs ys ∙ or_right (is_among x zs) (is_among x ys) t in
     let p : bytes_eq x z ≡ false = other x z (zs ++ ys) (bytes_eq x z) refl d.0 later in
     ap (λ (q : Bool). q || is_among x zs) p ∙ apart zs ys x d.1 t
 
 abbrev pub sorted : Bool → Bool → Bool → Bool → Option Sort
-sorted a b c d = if a then Some sort.Scalar else if b then Some sort.Row else if c then Some sort.Words else if d then Some sort.View else None
+sorted a b c d =
+    if a then Some sort.Scalar else if b then Some sort.Row else if c then Some sort.Words
+    else if d then Some sort.View else None
 
 rows_sorted : (a b c d : Bool) → a ≡ false → b ≡ true → sorted a b c d ≡ Some sort.Row
 rows_sorted true b c d e f = absurd cc
@@ -114,19 +125,22 @@ slots_of s d =
       rows = λ k x e.
           let t = at_among b k x e in (
             slot_back b (distinct_first b (c ++ v) db) k x e,
-            rows_sorted (is_among x a) (is_among x b) (is_among x c) (is_among x v) (apart a (b ++ (c ++ v)) x d (among_left x b (c ++ v) t)) t,
+            rows_sorted (is_among x a) (is_among x b) (is_among x c) (is_among x v)
+                (apart a (b ++ (c ++ v)) x d (among_left x b (c ++ v) t)) t,
           );
       words = λ k x e.
           let t = at_among c k x e in
           let u = among_left x c v t in (
             slot_back c (distinct_first c v dc) k x e,
-            words_sorted (is_among x a) (is_among x b) (is_among x c) (is_among x v) (apart a (b ++ (c ++ v)) x d (among_right x b (c ++ v) u)) (apart b (c ++ v) x db u) t,
+            words_sorted (is_among x a) (is_among x b) (is_among x c) (is_among x v)
+                (apart a (b ++ (c ++ v)) x d (among_right x b (c ++ v) u)) (apart b (c ++ v) x db u) t,
           );
       views = λ k x e.
           let t = at_among v k x e in
           let u = among_right x c v t in (
             slot_back v dv k x e,
-            views_sorted (is_among x a) (is_among x b) (is_among x c) (is_among x v) (apart a (b ++ (c ++ v)) x d (among_right x b (c ++ v) u)) (apart b (c ++ v) x db u)
+            views_sorted (is_among x a) (is_among x b) (is_among x c) (is_among x v)
+                (apart a (b ++ (c ++ v)) x d (among_right x b (c ++ v) u)) (apart b (c ++ v) x db u)
                 (apart c v x dc t) t,
           );
     }

@@ -1,4 +1,4 @@
--- The names of a listing, sort by sort.
+-- The names of each sort of a listing fit a table of an image: at most 32 names, of at most eight letters.
 use Rattle.std.proofs.Common.{◌≡◌, ◌+◌, ◌≤◌, List, ◌++◌, length, nat_lt, arith, false}
 use Rattle.std.proofs.lemmas.Bool.{or_parts}
 use Rattle.std.proofs.lemmas.List.{length-append}
@@ -9,10 +9,14 @@ use Rattle.snap_image_laws.specs.Widths.{IsTable}
 use Rattle.snap_listing_grammar.proofs.Alls.{all_first, all_rest}
 
 table_first : (xs ys : List Name) → IsTable (xs ++ ys) → IsTable xs
-table_first xs ys h = let both : length (xs ++ ys) ≡ length xs + length ys = length-append xs ys in (omega (arith, h.0, both), all_first IsName xs ys h.1)
+table_first xs ys h =
+    let both : length (xs ++ ys) ≡ length xs + length ys = length-append xs ys in
+    (omega (arith, h.0, both), all_first IsName xs ys h.1)
 
 table_rest : (xs ys : List Name) → IsTable (xs ++ ys) → IsTable ys
-table_rest xs ys h = let both : length (xs ++ ys) ≡ length xs + length ys = length-append xs ys in (omega (arith, h.0, both), all_rest IsName xs ys h.1)
+table_rest xs ys h =
+    let both : length (xs ++ ys) ≡ length xs + length ys = length-append xs ys in
+    (omega (arith, h.0, both), all_rest IsName xs ys h.1)
 
 pub scalars_table : (s : Source) → IsListing s → IsTable s.scalars
 scalars_table s h = table_first s.scalars (s.rows ++ (s.words ++ s.views)) (h.few_names, h.names)
@@ -40,7 +44,10 @@ pub record Tables (s : Source) : Type 0 where
   pub views : IsTable s.views
 
 pub tables_of : (s : Source) → IsListing s → Tables s
-tables_of s h = record { scalars = scalars_table s h; rows = rows_table s h; words = words_table s h; views = views_table s h }
+tables_of s h =
+    record { scalars = scalars_table s h; rows = rows_table s h; words = words_table s h; views = views_table s h }
 
 pub short_name : (x : Name) → IsName x → length x ≤ 8
-short_name x h = let short : nat_lt 8 (length x) ≡ false = (or_parts (nat_lt 8 (length x)) (is_reserved x) h.1).0 in grind (arith, short)
+short_name x h =
+    let short : nat_lt 8 (length x) ≡ false = (or_parts (nat_lt 8 (length x)) (is_reserved x) h.1).0 in
+    grind (arith, short)

@@ -1,4 +1,5 @@
--- The laws of images.
+-- The laws of images: what is decoded has these bytes as its image,
+-- each image of a listing is decoded, and none begins another.
 use Rattle.std.specs.Prelude.{◌≡◌, ℕ, ◌<◌, List, ◌∷◌, ◌++◌, Some, None, Ok, Err}
 use Rattle.std.specs.List.{AllByRecursion}
 use Rattle.snap_image_format.specs.declared.image.ImageVersion.{ImageVersion}
@@ -12,7 +13,8 @@ AreBytes bytes = AllByRecursion (λ b. b < 256) bytes
 
 -- what is decoded is a listing with comments, and the bytes are its image in some version
 abbrev pub DecodesOnlyImages : Type 0
-DecodesOnlyImages = (bytes : List ℕ) (c : Commented) → AreBytes bytes → commented_in bytes ≡ Ok c → IsCommented c × IsImageOf bytes c
+DecodesOnlyImages =
+    (bytes : List ℕ) (c : Commented) → AreBytes bytes → commented_in bytes ≡ Ok c → IsCommented c × IsImageOf bytes c
 
 -- each image of every listing is decoded as that listing; so no two listings have one image
 abbrev pub DecodesAllImages : Type 0
@@ -20,7 +22,9 @@ DecodesAllImages = (v : ImageVersion) (c : Commented) → IsCommented c → CanS
 
 -- more bytes than an image are none: no image begins another
 abbrev pub RefusesMore : Type 0
-RefusesMore = (v : ImageVersion) (c : Commented) (b : ℕ) (bytes : List ℕ) → IsCommented c → CanSay v c → commented_in (image_in v c ++ b ∷ bytes) ≡ Err Extra
+RefusesMore =
+    (v : ImageVersion) (c : Commented) (b : ℕ) (bytes : List ℕ) → IsCommented c → CanSay v c →
+    commented_in (image_in v c ++ b ∷ bytes) ≡ Err Extra
 
 -- the bytes of a comment are bytes
 abbrev pub HasBytes : Comment → Type 0
@@ -29,4 +33,5 @@ HasBytes (Some bytes) = AreBytes bytes
 
 -- an image is bytes, where its comments are
 abbrev pub ImagesAreBytes : Type 0
-ImagesAreBytes = (v : ImageVersion) (c : Commented) → IsCommented c → AllByRecursion HasBytes c.comments → AreBytes (image_in v c)
+ImagesAreBytes =
+    (v : ImageVersion) (c : Commented) → IsCommented c → AllByRecursion HasBytes c.comments → AreBytes (image_in v c)

@@ -1,4 +1,5 @@
--- What fits the bytes of an image: every listing does.
+-- What fits the bytes of an image: at most 32 names of a sort, of
+-- at most eight letters, and line numbers and targets of two bytes.
 use Rattle.std.specs.Prelude.{ℕ, ◌<◌, ◌≤◌, ◌^◌, List, length}
 use Rattle.std.specs.List.{AllByRecursion}
 use Rattle.snap_semantics.specs.declared.instr.Instr.{Instr}

@@ -1,5 +1,7 @@
-//! The laws of images.
-ghost use Rattle.snap_image_laws.specs.Laws.{DecodesAllImages, DecodesOnlyImages, ImagesAreBytes, RefusesMore};
+//! The laws of images, proved: what is decoded has these bytes as its
+//! image, each image of a listing is decoded, and none begins another.
+ghost use Rattle.snap_image_laws.specs.Laws.{DecodesAllImages, DecodesOnlyImages};
+ghost use Rattle.snap_image_laws.specs.Laws.{ImagesAreBytes, RefusesMore};
 
 /// What is decoded is a listing with comments, and the bytes are its image in some version.
 pub fn what_is_decoded_is_an_image()

@@ -1,4 +1,4 @@
--- What a form speaks of, as one test.
+-- Checking what the form of an instruction of an image needs of the kind comes to one test, `has_form`.
 use Rattle.std.proofs.Common.{◌≡◌, ℕ, Bool, true, false, Result, Ok, Err, if◌then◌else◌, refl}
 use Rattle.snap_image_format.specs.declared.image.InstrTag.{InstrTag}
 use Rattle.snap_image_format.specs.declared.image.InstrTag.TheVariants as tag
@@ -20,13 +20,15 @@ Done = Result (Unit {0}) ListingRefusal
 
 -- one use alone
 use_alone : (line : ℕ) (b : Bool) →
-    (let c : Checked = refused_as Invalid ((let d : Done = if b then Ok tt else Err (refusal.WrongKind line) in d) >>= λ done. (let d : Done = Ok tt in d)) in c) ≡
+    (let c : Checked = refused_as Invalid ((let d : Done = if b then Ok tt else Err (refusal.WrongKind line) in d)
+    >>= λ done. (let d : Done = Ok tt in d)) in c) ≡
     (let c : Checked = if b then Ok tt else Err (Invalid (refusal.WrongKind line)) in c)
 use_alone line true = refl
 use_alone line false = refl
 
 pub form_allowed : (s : Source) (line : ℕ) (f : InstrTag) →
-    allowed s line (form_uses f) ≡ (let c : Checked = if has_form s.kind f then Ok tt else Err (Invalid (refusal.WrongKind line)) in c)
+    allowed s line (form_uses f)
+    ≡ (let c : Checked = if has_form s.kind f then Ok tt else Err (Invalid (refusal.WrongKind line)) in c)
 form_allowed s line tag.Let = refl
 form_allowed s line tag.LetPlace = refl
 form_allowed s line tag.Get = refl

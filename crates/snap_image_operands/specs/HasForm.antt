@@ -1,4 +1,4 @@
--- The forms of a kind.
+-- `has_form`: whether a kind of registers has the bank, tuple or view that an instruction with this tag needs.
 use Rattle.std.specs.Prelude.{Bool, true}
 use Rattle.snap_words.specs.Kind.{has_bank, has_view}
 use Rattle.snap_words.specs.declared.address.Bank.TheVariants as bank

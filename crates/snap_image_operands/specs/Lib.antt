@@ -1,1 +1,2 @@
+-- The definitions of snap_image_operands, by their modules.
 pub mod HasForm

@@ -1,6 +1,8 @@
-//! Comparisons and conditions of an image.
+//! Reads comparisons and conditions from an image.
 ghost use Rattle.std.specs.Prelude.{◌≡◌};
-ghost use Rattle.snap_image_format.specs.ImageForms.{comparison_in, one_in, two_in, three_in, four_in, comparisons_in, condition_in, where_of_flag, where_in};
+ghost use Rattle.snap_image_format.specs.ImageForms.{comparison_in, one_in, two_in};
+ghost use Rattle.snap_image_format.specs.ImageForms.{three_in, four_in, comparisons_in};
+ghost use Rattle.snap_image_format.specs.ImageForms.{condition_in, where_of_flag, where_in};
 ghost use Rattle.snap_listing_core.specs.Fields.{header_source};
 ghost use Rattle.snap_image_codes.specs.Reads.{Reads};
 

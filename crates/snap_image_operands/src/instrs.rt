@@ -1,7 +1,12 @@
-//! The instructions of an image.
+//! `instr`: reads an instruction from an image, with a function for the operands of each form.
 ghost use Rattle.std.specs.Prelude.{◌≡◌};
 ghost use Rattle.snap_image_format.specs.ImageForms.{allowed};
-ghost use Rattle.snap_image_format.specs.ImageInstrs.{form_uses, let_in, let_place_in, get_in, bit_in, look_in, put_seq_in, put_bits_in, put_multi_in, put_bit_in, put_view_in, view_data_in, view_of_in, each_in, first_in, next_in, if_in, if_all_in, goto_in, call_in, return_in, operands_in, instr_in};
+ghost use Rattle.snap_image_format.specs.ImageInstrs.{form_uses, let_in, let_place_in, get_in};
+ghost use Rattle.snap_image_format.specs.ImageInstrs.{bit_in, look_in, put_seq_in, put_bits_in};
+ghost use Rattle.snap_image_format.specs.ImageInstrs.{put_multi_in, put_bit_in, put_view_in};
+ghost use Rattle.snap_image_format.specs.ImageInstrs.{view_data_in, view_of_in, each_in, first_in};
+ghost use Rattle.snap_image_format.specs.ImageInstrs.{next_in, if_in, if_all_in, goto_in};
+ghost use Rattle.snap_image_format.specs.ImageInstrs.{call_in, return_in, operands_in, instr_in};
 ghost use Rattle.snap_listing_core.specs.Fields.{header_source};
 ghost use Rattle.snap_image_codes.specs.Reads.{Reads};
 ghost use Rattle.snap_image_operands.specs.HasForm.{has_form};

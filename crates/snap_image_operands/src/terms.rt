@@ -1,6 +1,10 @@
-//! Indices, terms and expressions of an image.
+//! Reads indices, terms and expressions from an image.
 ghost use Rattle.std.specs.Prelude.{◌≡◌, [], ◌∷◌};
-ghost use Rattle.snap_image_format.specs.ImageForms.{allowed, number_index, scalar_index, index_of_tag, index_in, row_term, field_term, handshake_term, index_term, term_of_tag, term_in, plain_expr, sum_expr, not_expr, expr_of_tag, expr_in};
+ghost use Rattle.snap_image_format.specs.ImageForms.{allowed, number_index, scalar_index};
+ghost use Rattle.snap_image_format.specs.ImageForms.{index_of_tag, index_in, row_term};
+ghost use Rattle.snap_image_format.specs.ImageForms.{field_term, handshake_term, index_term};
+ghost use Rattle.snap_image_format.specs.ImageForms.{term_of_tag, term_in, plain_expr};
+ghost use Rattle.snap_image_format.specs.ImageForms.{sum_expr, not_expr, expr_in};
 ghost use Rattle.snap_semantics.specs.Uses.{FieldUse, HandshakeUse};
 ghost use Rattle.snap_listing_core.specs.Fields.{header_source};
 ghost use Rattle.snap_image_codes.specs.Reads.{Reads};

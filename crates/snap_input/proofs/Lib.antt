@@ -1,3 +1,4 @@
+-- The proofs of snap_input, by their modules.
 pub mod Answered
 pub mod Loads
 pub mod Parting

@@ -1,4 +1,4 @@
--- A listing's text and the program that is loaded from its image.
+-- The program that is loaded from the image of a listing's text is that listing; and such an image is never refused.
 use Rattle.std.proofs.Common.{◌≡◌, ℕ, List, Result, Ok, Err, drop, refl, ◌∙◌, ap, subst}
 use Rattle.snap_semantics.specs.Answers.{◌>>=◌, refused_as, IsRefusal}
 use Rattle.snap_image_format.specs.Assembly.{assembled}
@@ -24,7 +24,8 @@ abbrev pub IsAssembled : (text image : List ℕ) → Type 0
 IsAssembled text image = refused_as refusal.Listing (assembled text) ≡ Ok image
 
 assembled_from : (answer : Result Commented ListingRefusal) (image : List ℕ)
-    → refused_as refusal.Listing (answer >>= λ c. Ok (image_of c)) ≡ Ok image → (c : Commented) × (answer ≡ Ok c) × (image_of c ≡ image)
+    → refused_as refusal.Listing (answer >>= λ c. Ok (image_of c)) ≡ Ok image →
+    (c : Commented) × (answer ≡ Ok c) × (image_of c ≡ image)
 assembled_from (Ok c) image e = (c, refl, cc)
 assembled_from (Err r) image e = absurd cc
 
@@ -40,8 +41,11 @@ unfolding assembled
 decoded reads decodes text image e =
     let from = assembled_from (commented_of text) image e in
     let c = from.0 in
-    let good = reads text c from.1 in
-    (c.source, good.1, source_is image c (subst (λ z. commented_in z ≡ Ok c) from.2 (decodes version.Second c good.0 tt)))
+    let good = reads text c from.1 in (
+      c.source,
+      good.1,
+      source_is image c (subst (λ z. commented_in z ≡ Ok c) from.2 (decodes version.Second c good.0 tt)),
+    )
 
 -- the program is the listing that the text is
 pub loaded : ReadsOnlyCommented → DecodesAllImages → (text image : List ℕ) (program : Source) → IsAssembled text image
@@ -54,21 +58,27 @@ loaded reads decodes text image program e is_program =
 
 -- a text that is not assembled is no listing, for the same reason
 same_refusal : (answer : Result Source ListingRefusal) (with : Source → Commented) (found : Fault Refusal)
-    → IsRefusal found (refused_as refusal.Listing ((answer >>= λ s. Ok (with s)) >>= λ c. Ok (image_of c))) → IsRefusal found (refused_as refusal.Listing answer)
+    → IsRefusal found (refused_as refusal.Listing ((answer >>= λ s. Ok (with s)) >>= λ c. Ok (image_of c))) →
+    IsRefusal found (refused_as refusal.Listing answer)
 same_refusal answer with fault.Memory e = tt
 same_refusal (Ok s) with (fault.Refused r) e = absurd cc
 same_refusal (Err reason) with (fault.Refused r) e = cc
 
 pub not_assembled : (text : List ℕ) (found : Fault Refusal)
-    → IsRefusal found (refused_as refusal.Listing (assembled text)) → IsRefusal found (refused_as refusal.Listing (listing_of text))
+    → IsRefusal found (refused_as refusal.Listing (assembled text)) →
+    IsRefusal found (refused_as refusal.Listing (listing_of text))
 unfolding assembled commented_of
-not_assembled text = same_refusal (listing_of text) (λ s. record { source = s; comments = drop header_lines (line_comments (lines_of text)) })
+not_assembled text =
+    same_refusal (listing_of text)
+    (λ s. record { source = s; comments = drop header_lines (line_comments (lines_of text)) })
 
-is_no_refusal : (s : Source) (r : ImageRefusal) (answer : Result Source ImageRefusal) → answer ≡ Ok s → answer ≡ Err r → ⊥
+is_no_refusal : (s : Source) (r : ImageRefusal) (answer : Result Source ImageRefusal) →
+    answer ≡ Ok s → answer ≡ Err r → ⊥
 is_no_refusal s r answer is_s is_r = cc
 
 -- the image is not refused
-pub never_refused : ReadsOnlyCommented → DecodesAllImages → (text image : List ℕ) (found : Fault ImageRefusal) (r : ImageRefusal)
+pub never_refused : ReadsOnlyCommented → DecodesAllImages →
+    (text image : List ℕ) (found : Fault ImageRefusal) (r : ImageRefusal)
     → IsAssembled text image → found ≡ fault.Refused r → IsRefusal found (listing_of_image image) → ⊥
 never_refused reads decodes text image found r e is_refused h =
     let read = decoded reads decodes text image e in

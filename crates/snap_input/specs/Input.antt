@@ -1,4 +1,4 @@
--- The listing that an input says to run, and the texts behind it.
+-- `parted`: a task on the listing that an input has or that is shipped, and on a number of texts after it.
 use Rattle.std.specs.Prelude.{ℕ, nat_eq, List, length, drop, Result, Ok, Err, if◌then◌else◌}
 use Rattle.snap_semantics.specs.declared.refusal.Refusal.{Refusal}
 use Rattle.snap_semantics.specs.declared.refusal.Refusal.TheVariants as refusal
@@ -22,14 +22,16 @@ texts_for (subject.Shipped g) parts = parts
 
 -- so many texts behind the listing
 abbrev pub checked_parts : Subject → (count : ℕ) → List (List ℕ) → Result (Unit {0}) Refusal
-checked_parts s count parts = if nat_eq (length (texts_for s parts)) count then Ok tt else Err (refusal.WrongParts (length parts))
+checked_parts s count parts =
+    if nat_eq (length (texts_for s parts)) count then Ok tt else Err (refusal.WrongParts (length parts))
 
 -- the parts, where there are so many
 abbrev pub counted_parts : Subject → (count : ℕ) → List (List ℕ) → Result (List (List ℕ)) Refusal
 counted_parts s count parts = checked_parts s count parts >>= λ there. Ok parts
 
 -- a task on a listing and so many texts
-unfoldable pub parted : {A : Type 0} → Subject → (count : ℕ) → List (List ℕ) → (Source → List (List ℕ) → Result A Refusal) → Result A Refusal
+unfoldable pub parted : {A : Type 0} → Subject → (count : ℕ) → List (List ℕ) →
+    (Source → List (List ℕ) → Result A Refusal) → Result A Refusal
 parted s count parts f = do
   there ← checked_parts s count parts
   l ← listing_for s parts

@@ -1,3 +1,4 @@
+-- The definitions of snap_input, by their modules.
 pub mod Input
 pub mod Parts
 pub mod Schedules

@@ -1,5 +1,6 @@
--- The parts of an input, which lines of `%` alone part.
-use Rattle.std.specs.Prelude.{ℕ, ◌||◌, Bool, nat_eq, List, [], ◌∷◌, ◌++◌, bytes_eq, codes, slice_index_or, if◌then◌else◌}
+-- `parts_of`: the parts of an input, split at the lines that are `%` alone.
+use Rattle.std.specs.Prelude.{ℕ, ◌||◌, Bool, nat_eq, List, [], ◌∷◌, ◌++◌, bytes_eq}
+use Rattle.std.specs.Prelude.{codes, slice_index_or, if◌then◌else◌}
 use Rattle.snap_semantics.specs.Token.{onto_line}
 
 -- the most bytes of an input
@@ -13,7 +14,9 @@ full_lines (b ∷ bytes) = if nat_eq b 10 then (b ∷ []) ∷ full_lines bytes e
 
 -- `%` alone; one carriage return may stand behind it, and the line feed may be missing
 abbrev pub ends_part : List ℕ → Bool
-ends_part line = bytes_eq line (codes "%\n") || (bytes_eq line (codes "%\r\n") || (bytes_eq line (codes "%") || bytes_eq line (codes "%\r")))
+ends_part line =
+    bytes_eq line (codes "%\n")
+    || (bytes_eq line (codes "%\r\n") || (bytes_eq line (codes "%") || bytes_eq line (codes "%\r")))
 
 -- bytes before the first part
 abbrev pub onto_part : List ℕ → List (List ℕ) → List (List ℕ)
@@ -22,7 +25,8 @@ onto_part bytes (part ∷ parts) = (bytes ++ part) ∷ parts
 
 abbrev pub parts_of_lines : List (List ℕ) → List (List ℕ)
 parts_of_lines [] = [] ∷ []
-parts_of_lines (line ∷ lines) = if ends_part line then [] ∷ parts_of_lines lines else onto_part line (parts_of_lines lines)
+parts_of_lines (line ∷ lines) =
+    if ends_part line then [] ∷ parts_of_lines lines else onto_part line (parts_of_lines lines)
 
 -- the parts of an input: one more than it has lines that end a part
 abbrev pub parts_of : List ℕ → List (List ℕ)

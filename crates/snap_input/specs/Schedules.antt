@@ -1,4 +1,4 @@
--- The schedule that a text is, for a listing.
+-- `schedule_for`: the schedule of an input's text, if its shape fits the kind of the listing.
 use Rattle.std.specs.Prelude.{ℕ, List, Result, Ok, Err, if◌then◌else◌}
 use Rattle.snap_words.specs.Kind.{fits}
 use Rattle.snap_words.specs.declared.shape.WordFault.TheVariants.{BadShape}

@@ -1,4 +1,5 @@
-//! Images of listings: assembled, listed, and loaded as programs.
+//! Images for the program's tasks: `assemble`, `list` and `upgrade`; and `program_of`, the program
+//! of a listing's text.
 ghost use Rattle.std.specs.Prelude.{◌≡◌, ◌≢◌, ◌<◌, ℕ, List, ◌∷◌, ◌++◌, None, Err, length, take};
 ghost use Rattle.snap_semantics.specs.Answers.{Answers, refused_as};
 ghost use Rattle.snap_image_format.specs.Assembly.{assembled, listed, upgraded};

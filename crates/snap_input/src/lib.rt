@@ -1,5 +1,5 @@
-//! What the program reads: the parts of an input, the listing that it runs, and the texts behind
-//! it.
+//! What the program reads: the parts of an input, which are the listing that it runs and the texts
+//! after it.
 #![tactic(auto)]
 
 mod images;

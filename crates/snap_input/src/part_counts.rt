@@ -1,4 +1,5 @@
-//! How many parts an input has.
+//! `parts_for`: the parts of an input, once they are counted: the listing, if it is not a shipped
+//! one, and the texts after it.
 ghost use Rattle.std.specs.Prelude.{◌≡◌, ◌≤◌, ◌<◌, ℕ, List, Err, length, map};
 ghost use Rattle.snap_semantics.specs.Answers.{Answers};
 ghost use Rattle.snap_semantics.specs.declared.fault.Fault.TheVariants.{Refused};

@@ -1,4 +1,4 @@
-//! The parts of an input.
+//! `split_parts`: the parts of an input, split at the lines that are `%` alone.
 ghost use Rattle.std.specs.Prelude.{◌≡◌, ◌+◌, ◌≤◌, ◌<◌, ℕ, IfOk, map, length, take, drop, [], ◌∷◌};
 ghost use Rattle.std.specs.Prelude.{false};
 ghost use Rattle.std.specs.Io.BufRead.{take_through, drop_through};
@@ -47,6 +47,9 @@ pub fn count_separators(input: &[u8]) -> usize
     ensures parts { result + 1 ≡ length (parts_of input.now) }
     ensures few { result ≤ length input.now }
 {
+    if !may_part(input) {
+        return 0;
+    }
     let mut count = 0;
     let mut rest = input;
     while !rest.is_empty() {
@@ -67,6 +70,10 @@ pub fn split_parts(alloc: Global, input: &[u8]) -> Result<Vec<&[u8]>, AllocError
     ensures { IfOk result (λ parts. map (λ part. part.now) parts.items ≡ parts_of input.now) }
 {
     let mut parts = Vec::new(alloc);
+    if !may_part(input) {
+        parts.push(input)?;
+        return Ok(parts);
+    }
     let mut part = input;
     let mut len = 0;
     let mut rest = input;

@@ -1,4 +1,5 @@
-//! Schedules for a program.
+//! `schedule_for`: reads the schedule in a part of an input, whose shape is to fit the kind of the
+//! program.
 ghost use Rattle.std.specs.Prelude.{◌≡◌};
 ghost use Rattle.snap_semantics.specs.Answers.{Answers, refused_as};
 ghost use Rattle.snap_semantics.specs.Schedule.{schedule_of};

@@ -1,4 +1,5 @@
-//! The listing that a task runs, and the texts behind it.
+//! `program_for`: the program of the listing that a task runs, from the input's first part or
+//! shipped; and the texts after that part.
 ghost use Rattle.std.specs.Prelude.{◌≡◌, ◌<◌, IfOk, length, map};
 ghost use Rattle.snap_semantics.specs.Answers.{Answers};
 ghost use Rattle.snap_input.specs.Input.{listing_for, texts_for};

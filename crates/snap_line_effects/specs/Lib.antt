@@ -1,3 +1,4 @@
+-- The definitions of snap_line_effects, by their modules.
 pub mod TupleValues
 pub mod Lines
 pub mod Rows

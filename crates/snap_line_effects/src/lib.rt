@@ -1,4 +1,4 @@
-//! The lines of a listing: a function for each form.
+//! Running the lines of a listing: a function for each form of line.
 #![tactic(auto)]
 
 mod control_lines;

@@ -1,4 +1,5 @@
-//! What running a line comes to.
+//! `Continuation` and `Halt`: where a process goes on after a line, or how its operation ends; and
+//! why a line was not run.
 ghost use Rattle.std.specs.Prelude.{◌≡◌};
 ghost use Rattle.snap_semantics.specs.Source.{following};
 ghost use Rattle.snap_line_effects.specs.Lines.{cause_of, next_line};

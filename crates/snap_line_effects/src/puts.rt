@@ -1,4 +1,5 @@
-//! What a line puts into a register, and what is checked of it.
+//! `TupleValues`: the values that a `put` line writes to a register, and the check that bits are 0
+//! or 1.
 ghost use Rattle.std.specs.Prelude.{◌≡◌, ◌&&◌, true, false, Ok, MatchResult, take};
 ghost use Rattle.std.specs.List.{list_all};
 ghost use Rattle.snap_words.specs.Kind.{has_bits, is_bit, is_sized, kept};

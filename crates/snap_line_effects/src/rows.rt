@@ -1,4 +1,5 @@
-//! A row with the new values of its places.
+//! `new_row`: the row that a line `each` sets: the new values of its places, and after them the old
+//! ones.
 ghost use Rattle.std.specs.Prelude.{◌≡◌, [], ◌∷◌, ◌++◌, drop, IfOk, OnOk};
 ghost use Rattle.snap_asm_program.specs.NamedLines.{name_at, named_expr, named_where};
 ghost use Rattle.snap_line_effects.specs.Lines.{IfAnswered};

@@ -1,3 +1,4 @@
+-- The proofs of snap_lint, by their modules.
 pub mod Marking
 pub mod Quiet
 pub mod Lines

@@ -1,5 +1,7 @@
--- A line that is found by its number is one of the lines, and what it leads to is there.
-use Rattle.std.specs.Prelude.{◌≡◌, ℕ, zero, suc, ◌<◌, ◌⊎◌, Bool, true, false, List, [], ◌∷◌, ◌++◌, length, Option, Some, None, nat_eq, if◌then◌else◌, slice_index_or, refl}
+-- Lemmas of the lint on a listing's lines: an instruction found by its number (`instr_at`) is of one of the lines,
+-- and the lines to which it may lead exist.
+use Rattle.std.specs.Prelude.{◌≡◌, ℕ, zero, suc, ◌<◌, ◌⊎◌, Bool, true, false, List, [], ◌∷◌, ◌++◌, length, Option}
+use Rattle.std.specs.Prelude.{Some, None, nat_eq, if◌then◌else◌, slice_index_or, refl}
 use Rattle.std.proofs.Common.{sym, ◌∙◌, ap, subst, arith, inl, inr}
 use Rattle.std.proofs.lemmas.Bool.{eqb-true, eq-eqb, or_cases, or_left, or_right}
 use Rattle.std.proofs.lemmas.List.Elements.{Contains-append_left, Contains-append_right}
@@ -16,8 +18,9 @@ head_there : {X : Type 0} (x y : X) (xs : List X) → x ≡ y → Contains (x �
 head_there x y xs e = (0, omega arith, e)
 
 -- the first of two lists, by a test
-found_step : (b : Bool) (line : Line) (lines : List Line) (k : ℕ) (i : Instr) (rest : Option Instr) → (b ≡ true → line.number ≡ k) →
-    (rest ≡ Some i → Contains lines (line_of k i)) → (if b then Some line.instr else rest) ≡ Some i → Contains (line ∷ lines) (line_of k i)
+found_step : (b : Bool) (line : Line) (lines : List Line) (k : ℕ) (i : Instr) (rest : Option Instr) →
+    (b ≡ true → line.number ≡ k) → (rest ≡ Some i → Contains lines (line_of k i)) →
+    (if b then Some line.instr else rest) ≡ Some i → Contains (line ∷ lines) (line_of k i)
 found_step true line lines k i rest h later is =
     let instr : line.instr ≡ i = cc in
     head_there line (line_of k i) lines (ap (λ n. line_of n line.instr) (h refl) ∙ ap (line_of k) instr)
@@ -28,7 +31,8 @@ found [] k i is = absurd (cc)
 found (line ∷ lines) k i is =
     found_step (nat_eq line.number k) line lines k i (instr_at lines k) (eqb-true line.number k) (found lines k i) is
 
-instr_step : (b : Bool) (line : Line) (rest : Option Instr) → (rest ≡ None → ⊥) ⊎ (b ≡ true) → (if b then Some line.instr else rest) ≡ None → ⊥
+instr_step : (b : Bool) (line : Line) (rest : Option Instr) → (rest ≡ None → ⊥) ⊎ (b ≡ true) →
+    (if b then Some line.instr else rest) ≡ None → ⊥
 instr_step true line rest h is = cc
 instr_step false line rest h is = elim h [
   | inl there ↦ there is
@@ -39,7 +43,8 @@ instr_step false line rest h is = elim h [
 pub has_instr : (lines : List Line) (k : ℕ) → has_line lines k ≡ true → instr_at lines k ≡ None → ⊥
 has_instr [] k is none = cc
 has_instr (line ∷ lines) k is none =
-    instr_step (nat_eq line.number k) line (instr_at lines k) (elim (or_cases (nat_eq line.number k) (has_line lines k) is) [
+    instr_step (nat_eq line.number k) line (instr_at lines k)
+    (elim (or_cases (nat_eq line.number k) (has_line lines k) is) [
       | inl here ↦ inr here
       | inr later ↦ inl (has_instr lines k later)
     ]) none
@@ -47,7 +52,8 @@ has_instr (line ∷ lines) k is none =
 first_there : (lines : List Line) (m : ℕ) → first_number lines ≡ Some m → has_line lines m ≡ true
 first_there [] m is = absurd (cc)
 first_there (line ∷ lines) m is =
-    or_left (nat_eq line.number m) (has_line lines m) (eq-eqb line.number m (let e : Some line.number ≡ Some m = is in cc))
+    or_left (nat_eq line.number m) (has_line lines m)
+    (eq-eqb line.number m (let e : Some line.number ≡ Some m = is in cc))
 
 following_step : (b : Bool) (lines : List Line) (m : ℕ) (rest : Option ℕ) → (rest ≡ Some m → has_line lines m ≡ true) →
     (if b then first_number lines else rest) ≡ Some m → has_line lines m ≡ true
@@ -69,22 +75,24 @@ back : {X : Type 0} (P : X → Type 0) (xs ys : List X) → AllByRecursion P (xs
 back P [] ys h = h
 back P (x ∷ xs) ys h = back P xs ys h.1
 
-targets_step : (P : ℕ → Type 0) (b : Bool) (line : Line) (i : Instr) (rest : Option Instr) → AllByRecursion P (instr_targets line.instr) →
-    (rest ≡ Some i → AllByRecursion P (instr_targets i)) → (if b then Some line.instr else rest) ≡ Some i → AllByRecursion P (instr_targets i)
+targets_step : (P : ℕ → Type 0) (b : Bool) (line : Line) (i : Instr) (rest : Option Instr) →
+    AllByRecursion P (instr_targets line.instr) → (rest ≡ Some i → AllByRecursion P (instr_targets i)) →
+    (if b then Some line.instr else rest) ≡ Some i → AllByRecursion P (instr_targets i)
 targets_step P true line i rest here later is =
     subst (λ j. AllByRecursion P (instr_targets j)) (let e : line.instr ≡ i = cc in e) here
 targets_step P false line i rest here later is = later is
 
 -- what holds of the targets of all lines holds of those of a line
-pub targets_of : (P : ℕ → Type 0) (lines : List Line) (k : ℕ) (i : Instr) → AllByRecursion P (line_targets lines) → instr_at lines k ≡ Some i →
-    AllByRecursion P (instr_targets i)
+pub targets_of : (P : ℕ → Type 0) (lines : List Line) (k : ℕ) (i : Instr) → AllByRecursion P (line_targets lines) →
+    instr_at lines k ≡ Some i → AllByRecursion P (instr_targets i)
 targets_of P [] k i h is = absurd (cc)
 targets_of P (line ∷ lines) k i h is =
-    targets_step P (nat_eq line.number k) line i (instr_at lines k) (front P (instr_targets line.instr) (line_targets lines) h)
+    targets_step P (nat_eq line.number k) line i (instr_at lines k)
+    (front P (instr_targets line.instr) (line_targets lines) h)
     (targets_of P lines k i (back P (instr_targets line.instr) (line_targets lines) h)) is
 
-in_flat_at : {X A : Type 0} (f : X → List A) (xs : List X) (x : X) (y : A) (k : ℕ) → k < length xs → slice_index_or xs k x ≡ x →
-    Contains (f x) y → Contains (flat_map f xs) y
+in_flat_at : {X A : Type 0} (f : X → List A) (xs : List X) (x : X) (y : A) (k : ℕ) → k < length xs →
+    slice_index_or xs k x ≡ x → Contains (f x) y → Contains (flat_map f xs) y
 in_flat_at f [] x y k less is h = absurd (omega (arith, less))
 in_flat_at {A} f (z ∷ xs) x y zero less is h =
     Contains-append_left (f z) (flat_map f xs) y (subst (λ u. Contains {X = A} (f u) y) (sym is) h)
@@ -92,5 +100,6 @@ in_flat_at f (z ∷ xs) x y (suc k) less is h =
     Contains-append_right (f z) (flat_map f xs) y (in_flat_at f xs x y k (omega (arith, less)) is h)
 
 -- what one element gives is among what all give
-pub in_flat : {X A : Type 0} (f : X → List A) (xs : List X) (x : X) (y : A) → Contains xs x → Contains (f x) y → Contains (flat_map f xs) y
+pub in_flat : {X A : Type 0} (f : X → List A) (xs : List X) (x : X) (y : A) → Contains xs x →
+    Contains (f x) y → Contains (flat_map f xs) y
 in_flat f xs x y there h = in_flat_at f xs x y there.0 there.1 there.2 h

@@ -1,5 +1,7 @@
--- No process leaves the flow of control, and where one traps, its line is warned of.
-use Rattle.std.specs.Prelude.{◌≡◌, ◌≢◌, ℕ, zero, suc, ◌-◌, List, [], ◌∷◌, length, take, Option, Some, None, Result, Ok, Err, refl}
+-- The lint is sound: in every run, control stays on the lines that its flow reaches, and a trap that it can foresee
+-- is at a line with a warning of it.
+use Rattle.std.specs.Prelude.{◌≡◌, ◌≢◌, ℕ, zero, suc, ◌-◌, List, [], ◌∷◌, length, take}
+use Rattle.std.specs.Prelude.{Option, Some, None, Result, Ok, Err, refl}
 use Rattle.std.proofs.Common.{sym, subst, inl, inr}
 use Rattle.std.proofs.lemmas.Bool.{cases_lt}
 use Rattle.std.proofs.lemmas.List.{get_or_past}
@@ -21,7 +23,8 @@ use Rattle.snap_semantics.specs.IsListing.{IsListing}
 use Rattle.snap_semantics.specs.Run.{after}
 use Rattle.snap_semantics.specs.Source.{Source, instr_at}
 use Rattle.snap_semantics.specs.State.{Locals, Memory, Process, State, initial, initial_process, nobody, process_at}
-use Rattle.snap_semantics.specs.Table.{Effect, Goes, Answers, Finishes, effect_at, leave, step, entry, call_skip, called, call, crash, done}
+use Rattle.snap_semantics.specs.Table.{Effect, Goes, Answers, Finishes, effect_at, leave, step, entry, call_skip}
+use Rattle.snap_semantics.specs.Table.{called, call, crash, done}
 use Rattle.snap_semantics.specs.Value.{Context}
 use Rattle.snap_runs.specs.Run.{before, item, outcome as outcome_at, run_of_items, state}
 use Rattle.snap_lint.specs.declared.concern.Concern.{Concern}
@@ -56,13 +59,13 @@ module _ (s : Source) (listing : IsListing s) (shape : Counts) where
   abbrev taker : ℕ → Process → Activity → Context
   taker i p a = record { shape = shape; me = i; op = a.op; locals = p.locals; place = 0 }
 
-  at_keeps : (c : Context) (m : Memory) (a : Activity) → MayStand s a.op a.link a.line → (i : Option Instr) → instr_at s.lines a.line ≡ i →
-      Keeps s a.line a.op (effect_at s c m a i)
+  at_keeps : (c : Context) (m : Memory) (a : Activity) → MayStand s a.op a.link a.line → (i : Option Instr) →
+      instr_at s.lines a.line ≡ i → Keeps s a.line a.op (effect_at s c m a i)
   at_keeps c m a stand None is = absurd (has_instr s.lines a.line (comes_to_line s _ a.line stand.here) is)
   at_keeps c m a stand (Some i) is = line_keeps s listing c m a stand i is
 
-  leave_keeps : (S : State) (i : ℕ) (a : Activity) (l : Locals) (r : Result Effect Cause) → StateInFlow s S → Keeps s a.line a.op r →
-      StateInFlow s (leave S i a l r).0
+  leave_keeps : (S : State) (i : ℕ) (a : Activity) (l : Locals) (r : Result Effect Cause) → StateInFlow s S →
+      Keeps s a.line a.op r → StateInFlow s (leave S i a l r).0
   unfolding Keeps
   leave_keeps S i a l (Ok (Goes m k link line)) h keeps = All-set (ProcessInFlow s) S.processes (i - 1) _ keeps h
   leave_keeps S i a l (Ok (Answers v)) h keeps = All-set (ProcessInFlow s) S.processes (i - 1) _ tt h
@@ -74,23 +77,27 @@ module _ (s : Source) (listing : IsListing s) (shape : Counts) where
   step_keeps S i p Idle h own = h
   step_keeps S i p (Trapped why a) h own = h
   step_keeps S i p (Crashed was) h own = h
-  step_keeps S i p (Busy a) h own = leave_keeps S i a p.locals _ h (at_keeps (taker i p a) S.memory a own (instr_at s.lines a.line) refl)
+  step_keeps S i p (Busy a) h own =
+      leave_keeps S i a p.locals _ h (at_keeps (taker i p a) S.memory a own (instr_at s.lines a.line) refl)
 
   entry_comes : (o : Op) → MayStand s o None (entry s o)
   entry_comes Scan = record { here = scan_begins s listing.targets.0; after_call = tt }
   entry_comes (Update word value) = record { here = update_begins s listing.targets.1.0; after_call = tt }
 
-  called_keeps : (S : State) (i : ℕ) (p : Process) (o : Op) (why : Option Reason) → StateInFlow s S → StateInFlow s (called s S i p o why).0
+  called_keeps : (S : State) (i : ℕ) (p : Process) (o : Op) (why : Option Reason) → StateInFlow s S →
+      StateInFlow s (called s S i p o why).0
   called_keeps S i p o (Some why) h = h
   called_keeps S i p o None h = All-set (ProcessInFlow s) S.processes (i - 1) _ (entry_comes o) h
 
-  call_keeps : (S : State) (i : ℕ) (o : Op) (p : Process) (status : Status) → StateInFlow s S → StateInFlow s (call s shape S i o p status).0
+  call_keeps : (S : State) (i : ℕ) (o : Op) (p : Process) (status : Status) → StateInFlow s S →
+      StateInFlow s (call s shape S i o p status).0
   call_keeps S i o p (Trapped e a) h = h
   call_keeps S i o p (Crashed was) h = h
   call_keeps S i o p (Busy a) h = h
   call_keeps S i o p Idle h = called_keeps S i p o (call_skip s.kind shape i o) h
 
-  crash_keeps : (S : State) (i : ℕ) (p : Process) (status : Status) → StateInFlow s S → StateInFlow s (crash S i p status).0
+  crash_keeps : (S : State) (i : ℕ) (p : Process) (status : Status) → StateInFlow s S →
+      StateInFlow s (crash S i p status).0
   crash_keeps S i p (Trapped e a) h = h
   crash_keeps S i p (Crashed was) h = h
   crash_keeps S i p (Busy a) h = All-set (ProcessInFlow s) S.processes (i - 1) _ tt h
@@ -116,8 +123,8 @@ module _ (s : Source) (listing : IsListing s) (shape : Counts) where
   before_in items (suc t) = state_in items t
 
   -- what a step traps on is warned of
-  left_trap : (S : State) (i : ℕ) (a : Activity) (l : Locals) (r : Result Effect Cause) (why : Cause) → Keeps s a.line a.op r →
-      (leave S i a l r).1 ≡ outcome.Trapped why → IsWarnedOf s a.line why
+  left_trap : (S : State) (i : ℕ) (a : Activity) (l : Locals) (r : Result Effect Cause) (why : Cause) →
+      Keeps s a.line a.op r → (leave S i a l r).1 ≡ outcome.Trapped why → IsWarnedOf s a.line why
   unfolding Keeps
   left_trap S i a l (Ok (Goes m k link line)) why keeps is = absurd (cc)
   left_trap S i a l (Ok (Answers v)) why keeps is = absurd (cc)
@@ -147,19 +154,21 @@ module _ (s : Source) (listing : IsListing s) (shape : Counts) where
   call_trap S i o p (Busy a) why is = absurd (cc)
   call_trap S i o p Idle why is = called_trap S i p o (call_skip s.kind shape i o) why is
 
-  crash_trap : (S : State) (i : ℕ) (p : Process) (status : Status) (why : Cause) → (crash S i p status).1 ≡ outcome.Trapped why → WarnedSomewhere why
+  crash_trap : (S : State) (i : ℕ) (p : Process) (status : Status) (why : Cause) →
+      (crash S i p status).1 ≡ outcome.Trapped why → WarnedSomewhere why
   crash_trap S i p (Trapped e a) why is = absurd (cc)
   crash_trap S i p (Crashed was) why is = absurd (cc)
   crash_trap S i p (Busy a) why is = absurd (cc)
   crash_trap S i p Idle why is = absurd (cc)
 
-  item_trap : (S : State) (x : Item) (why : Cause) → StateInFlow s S → (done s shape S x).1 ≡ outcome.Trapped why → WarnedSomewhere why
+  item_trap : (S : State) (x : Item) (why : Cause) → StateInFlow s S →
+      (done s shape S x).1 ≡ outcome.Trapped why → WarnedSomewhere why
   item_trap S (Step i) why h is = step_trap S i (process_at S i) (process_at S i).status why (process_in S h i) is
   item_trap S (Call i o) why h is = call_trap S i o (process_at S i) (process_at S i).status why is
   item_trap S (Crash i) why h is = crash_trap S i (process_at S i) (process_at S i).status why is
 
-  silent : (c : Concern) → SaysNothingOf c (warnings s) → (why : Cause) → concern_of why ≡ Some c → (items : List Item) (t : ℕ) →
-      outcome_at (run_of_items s shape items) t ≡ outcome.Trapped why → ⊥
+  silent : (c : Concern) → SaysNothingOf c (warnings s) → (why : Cause) → concern_of why ≡ Some c →
+      (items : List Item) (t : ℕ) → outcome_at (run_of_items s shape items) t ≡ outcome.Trapped why → ⊥
   silent c nothing why of items t is =
       let r = run_of_items s shape items in
       let warned = item_trap (before r t) (item r t) why (before_in items t) is in

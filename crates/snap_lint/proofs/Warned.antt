@@ -1,4 +1,5 @@
--- A line that may trap in a mode in which control comes to it is warned of.
+-- If control reaches a line in a mode in which the line may trap (`may_trap`), then `warnings` of the lint has a
+-- warning of it.
 use Rattle.std.specs.Prelude.{◌≡◌, ℕ, Bool, true, ◌&&◌, List, [], ◌∷◌, Some, if◌then◌else◌, refl}
 use Rattle.std.proofs.Common.{sym, subst, arith}
 use Rattle.std.proofs.lemmas.Bool.{and_from}
@@ -16,7 +17,8 @@ use Rattle.snap_lint.specs.declared.mode.Mode.TheVariants as mode
 use Rattle.snap_lint.specs.Flow.{lines_in, reach_of}
 use Rattle.snap_lint.specs.Marks.{is_in}
 use Rattle.snap_lint.specs.Sound.{IsWarnedOf, concern_of}
-use Rattle.snap_lint.specs.Warnings.{concerns, is_reached_in, is_warned_of, line_warnings, may_trap, modes, warning_of, warnings}
+use Rattle.snap_lint.specs.Warnings.{concerns, is_reached_in, is_warned_of, line_warnings}
+use Rattle.snap_lint.specs.Warnings.{may_trap, modes, warning_of, warnings}
 use Rattle.snap_lint.proofs.Lines.{found, in_flat, line_of}
 
 any_of : {X : Type 0} (p : X → Bool) (xs : List X) (x : X) → Contains xs x → p x ≡ true → list_any p xs ≡ true
@@ -57,18 +59,22 @@ module _ (s : Source) (k : ℕ) (i : Instr) (here : instr_at s.lines k ≡ Some 
       any_of (λ n. is_in (lines_in (reach_of s) n) k && may_trap s c n (line_of k i)) modes m (each_mode m)
       (and_from (is_in (lines_in (reach_of s) m) k) (may_trap s c m (line_of k i)) in' may)
 
-  warned_as : (why : Cause) (c : Concern) → concern_of why ≡ Some c → Contains (warnings s) (warning_at k c) → IsWarnedOf s k why
+  warned_as : (why : Cause) (c : Concern) → concern_of why ≡ Some c →
+      Contains (warnings s) (warning_at k c) → IsWarnedOf s k why
   warned_as why c is h = λ d same. subst (λ x. Contains (warnings s) (warning_at k x)) (let e : c ≡ d = cc in e) h
 
   module _ (m : Mode) (in' : is_in (lines_in (reach_of s) m) k ≡ true) where
     pub off_end_warned : may_trap s concern.OffEnd m (line_of k i) ≡ true → IsWarnedOf s k cause.OffEnd
-    off_end_warned may = warned_as cause.OffEnd concern.OffEnd refl (listed concern.OffEnd (somehow concern.OffEnd m in' may))
+    off_end_warned may =
+        warned_as cause.OffEnd concern.OffEnd refl (listed concern.OffEnd (somehow concern.OffEnd m in' may))
 
     pub nested_warned : may_trap s concern.Nested m (line_of k i) ≡ true → IsWarnedOf s k cause.Nested
-    nested_warned may = warned_as cause.Nested concern.Nested refl (listed concern.Nested (somehow concern.Nested m in' may))
+    nested_warned may =
+        warned_as cause.Nested concern.Nested refl (listed concern.Nested (somehow concern.Nested m in' may))
 
     pub bad_end_warned : may_trap s concern.BadEnd m (line_of k i) ≡ true → IsWarnedOf s k cause.BadEnd
-    bad_end_warned may = warned_as cause.BadEnd concern.BadEnd refl (listed concern.BadEnd (somehow concern.BadEnd m in' may))
+    bad_end_warned may =
+        warned_as cause.BadEnd concern.BadEnd refl (listed concern.BadEnd (somehow concern.BadEnd m in' may))
 
     pub owner_warned : may_trap s concern.Owner m (line_of k i) ≡ true → IsWarnedOf s k cause.Owner
     owner_warned may = warned_as cause.Owner concern.Owner refl (listed concern.Owner (somehow concern.Owner m in' may))

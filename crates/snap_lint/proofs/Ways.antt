@@ -1,5 +1,7 @@
--- What is reached round by round is what ways lead to.
-use Rattle.std.specs.Prelude.{◌≡◌, ℕ, zero, suc, Bool, true, false, ◌&&◌, ◌||◌, List, [], ◌∷◌, length, nat_eq, if◌then◌else◌, refl}
+-- `ReachedByWays`: the lines that the lint marks round by round (`reached`) are exactly those to which a path of
+-- edges leads from a start.
+use Rattle.std.specs.Prelude.{◌≡◌, ℕ, zero, suc, Bool, true, false, ◌&&◌, ◌||◌, List, []}
+use Rattle.std.specs.Prelude.{◌∷◌, length, nat_eq, if◌then◌else◌, refl}
 use Rattle.std.proofs.Common.{sym, ap, subst, arith, inl, inr}
 use Rattle.std.proofs.lemmas.Bool.{or_cases, and_parts, eqb-true}
 use Rattle.std.proofs.lemmas.List.Elements.{Contains-append_right}
@@ -14,8 +16,8 @@ use Rattle.snap_lint.proofs.Marking.{edge_reached, only_lines, line_reached, sta
 abbrev Passes : (Line → Bool) → ℕ → Type 0
 Passes p k = (line : Line) × (line.number ≡ k) × (p line ≡ true)
 
-passes_step : (p : Line → Bool) (b : Bool) (line : Line) (xs : List ℕ) (k : ℕ) → (b ≡ true → p line ≡ true) → (is_in xs k ≡ true → Passes p k) →
-    is_in (if b then line.number ∷ xs else xs) k ≡ true → Passes p k
+passes_step : (p : Line → Bool) (b : Bool) (line : Line) (xs : List ℕ) (k : ℕ) → (b ≡ true → p line ≡ true) →
+    (is_in xs k ≡ true → Passes p k) → is_in (if b then line.number ∷ xs else xs) k ≡ true → Passes p k
 passes_step p true line xs k own later is = elim (or_cases (nat_eq k line.number) (is_in xs k) is) [
   | inl here ↦ (line, sym (eqb-true k line.number here), own refl)
   | inr more ↦ later more
@@ -71,10 +73,13 @@ module _ (lines : List Line) (es : List Edge) (starts : List ℕ) where
   unfolding reached
   has_way k is = way_of (length lines) k is
 
-  arrives : (way : List ℕ) (k : ℕ) → LeadsTo lines es starts way k → has_line lines k ≡ true → is_in (reached lines es starts) k ≡ true
+  arrives : (way : List ℕ) (k : ℕ) → LeadsTo lines es starts way k → has_line lines k ≡ true →
+      is_in (reached lines es starts) k ≡ true
   arrives [] k start line = start_reached lines es starts k start line
   arrives (j ∷ way) k h line = edge_reached lines es starts j k (arrives way j h.2 h.1) h.0 line
 
 pub reached_by_ways : ReachedByWays
-reached_by_ways lines es starts k =
-    ((λ is. (line_reached lines es starts k is, has_way lines es starts k is)), (λ h. arrives lines es starts h.1.0 k h.1.1 h.0))
+reached_by_ways lines es starts k = (
+  (λ is. (line_reached lines es starts k is, has_way lines es starts k is)),
+  (λ h. arrives lines es starts h.1.0 k h.1.1 h.0),
+)

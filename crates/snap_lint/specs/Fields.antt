@@ -1,4 +1,4 @@
--- A flow is seen as the lines to which control may come.
+-- `reach_seen`: the lint's struct `Flow`, seen as the `Reach` of the definitions, with its lists of line numbers.
 use Rattle.snap_lint.specs.declared.flow.Flow.TheInside.{Inside}
 use Rattle.snap_lint.specs.Flow.{Reach}
 

@@ -1,5 +1,6 @@
 -- The flow of control: to which lines a process may come, in a scan and in an update, outside calls and within them.
-use Rattle.std.specs.Prelude.{ℕ, Bool, true, false, not, ◌&&◌, ◌||◌, List, [], ◌∷◌, ◌++◌, map, Option, Some, None, is_none, if◌then◌else◌}
+use Rattle.std.specs.Prelude.{ℕ, Bool, true, false, not, ◌&&◌, ◌||◌, List, [], ◌∷◌, ◌++◌, map}
+use Rattle.std.specs.Prelude.{Option, Some, None, is_none, if◌then◌else◌}
 use Rattle.std.specs.List.{flat_map}
 use Rattle.snap_lint.specs.declared.edges.Edge.{Edge}
 use Rattle.snap_lint.specs.declared.mode.Mode.{Mode}
@@ -7,7 +8,8 @@ use Rattle.snap_lint.specs.declared.mode.Mode.TheVariants as mode
 use Rattle.snap_lint.specs.declared.mode.Way.{Way}
 use Rattle.snap_lint.specs.declared.mode.Way.TheVariants.{Outside, Within, Unwritten}
 use Rattle.snap_semantics.specs.declared.instr.Instr.{Instr}
-use Rattle.snap_semantics.specs.declared.instr.Instr.TheVariants.{Put, First, Next, If, IfAll, Goto, Call, Return, Finish}
+use Rattle.snap_semantics.specs.declared.instr.Instr.TheVariants.{Put, First, Next, If, IfAll, Goto}
+use Rattle.snap_semantics.specs.declared.instr.Instr.TheVariants.{Call, Return, Finish}
 use Rattle.snap_semantics.specs.declared.instr.Line.{Line}
 use Rattle.snap_semantics.specs.Source.{Source, following}
 use Rattle.snap_lint.specs.Marks.{is_in, numbers_where, reached}
@@ -123,7 +125,8 @@ reach_from lines entry scan update = record {
 -- the reach of control in a listing
 abbrev pub reach_of : Source → Reach
 reach_of s =
-    reach_from s.lines s.update (reached s.lines (edges s.lines Outside) (s.scan ∷ [])) (reached s.lines (edges s.lines Outside) (s.update ∷ []))
+    reach_from s.lines s.update (reached s.lines (edges s.lines Outside) (s.scan ∷ []))
+    (reached s.lines (edges s.lines Outside) (s.update ∷ []))
 
 -- the lines to which control may come in a mode
 abbrev pub lines_in : Reach → Mode → List ℕ

@@ -1,3 +1,4 @@
+-- The definitions of snap_lint, by their modules.
 pub mod Marks
 pub mod Flow
 pub mod Fields

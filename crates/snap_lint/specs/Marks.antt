@@ -1,5 +1,7 @@
--- The lines that are reached from some lines, round by round.
-use Rattle.std.specs.Prelude.{◌≡◌, ◌↔◌, ℕ, zero, true, suc, Bool, ◌&&◌, ◌||◌, List, [], ◌∷◌, length, nat_eq, if◌then◌else◌}
+-- Which lines of a listing can be reached from given start lines: by rounds of marking along edges (`reached`), and
+-- by paths of edges (`LeadsTo`).
+use Rattle.std.specs.Prelude.{◌≡◌, ◌↔◌, ℕ, zero, true, suc, Bool, ◌&&◌, ◌||◌, List}
+use Rattle.std.specs.Prelude.{[], ◌∷◌, length, nat_eq, if◌then◌else◌}
 use Rattle.std.specs.List.{Contains, list_any}
 use Rattle.snap_lint.specs.declared.edges.Edge.{Edge}
 use Rattle.snap_semantics.specs.declared.instr.Line.{Line}
@@ -16,11 +18,13 @@ is_led_to es marks k = list_any (λ (e : Edge). nat_eq e.to k && is_in marks e.f
 -- the numbers of the lines that pass a test
 abbrev pub numbers_where : (Line → Bool) → List Line → List ℕ
 numbers_where test [] = []
-numbers_where test (line ∷ lines) = if test line then line.number ∷ numbers_where test lines else numbers_where test lines
+numbers_where test (line ∷ lines) =
+    if test line then line.number ∷ numbers_where test lines else numbers_where test lines
 
 -- a line is marked where it is one of the starts, or a line that was marked before leads to it
 abbrev pub next_marks : List Line → List Edge → List ℕ → List ℕ → List ℕ
-next_marks lines es starts marks = numbers_where (λ line. is_in starts line.number || is_led_to es marks line.number) lines
+next_marks lines es starts marks =
+    numbers_where (λ line. is_in starts line.number || is_led_to es marks line.number) lines
 
 -- the marks after so many rounds, from none
 abbrev pub marks_after : List Line → List Edge → List ℕ → ℕ → List ℕ
@@ -31,8 +35,8 @@ marks_after lines es starts (suc n) = next_marks lines es starts (marks_after li
 unfoldable pub reached : List Line → List Edge → List ℕ → List ℕ
 reached lines es starts = marks_after lines es starts (length lines)
 
--- A way leads to line k: a list of lines, the last one first. Each leads to the one behind it on the way, and the first one
--- that was passed is a start.
+-- A way leads to line k: a list of lines, the last one first. Each leads to the one behind it on the way, and the
+-- first one that was passed is a start.
 abbrev pub LeadsTo : List Line → List Edge → List ℕ → List ℕ → ℕ → Type 0
 LeadsTo lines es starts [] k = is_in starts k ≡ true
 LeadsTo lines es starts (j ∷ way) k =
@@ -41,4 +45,5 @@ LeadsTo lines es starts (j ∷ way) k =
 -- Exactly the lines are reached to which a way leads from a start.
 abbrev pub ReachedByWays : Type 0
 ReachedByWays = (lines : List Line) (es : List Edge) (starts : List ℕ) (k : ℕ) →
-    (is_in (reached lines es starts) k ≡ true) ↔ ((has_line lines k ≡ true) × ((way : List ℕ) × LeadsTo lines es starts way k))
+    (is_in (reached lines es starts) k ≡ true)
+    ↔ ((has_line lines k ≡ true) × ((way : List ℕ) × LeadsTo lines es starts way k))

@@ -1,4 +1,5 @@
--- What the warnings promise of every run.
+-- Soundness of the lint (`TrapsAreWarnedOf`, `SilentNeverTraps`): in no run does a process trap, for a cause that has
+-- a `Concern`, at a line without that warning.
 use Rattle.std.specs.Prelude.{◌≡◌, ◌≢◌, ℕ, List, Option, Some, None}
 use Rattle.std.specs.List.{All, Contains}
 use Rattle.snap_words.specs.Shape.{Counts}
@@ -29,11 +30,13 @@ concern_of cause.OffEnd = Some concern.OffEnd
 
 -- a line is warned of, wherever the cause is one that the flow of control can tell
 abbrev pub IsWarnedOf : Source → ℕ → Cause → Type 0
-IsWarnedOf l line why = (c : Concern) → concern_of why ≡ Some c → Contains (warnings l) (record { line = line; concern = c })
+IsWarnedOf l line why =
+    (c : Concern) → concern_of why ≡ Some c → Contains (warnings l) (record { line = line; concern = c })
 
 -- After t items of any schedule: where process i has trapped, the line at which it stands is warned of.
 abbrev pub TrapsAreWarnedOf : Type 0
-TrapsAreWarnedOf = (l : Source) → IsListing l → (shape : Counts) (items : List Item) (t i : ℕ) (why : Cause) (a : Activity) →
+TrapsAreWarnedOf =
+    (l : Source) → IsListing l → (shape : Counts) (items : List Item) (t i : ℕ) (why : Cause) (a : Activity) →
     (process_at (state (run_of_items l shape items) t) i).status ≡ Trapped why a → IsWarnedOf l a.line why
 
 -- nothing is said of a concern
@@ -42,5 +45,7 @@ SaysNothingOf c ws = All (λ (w : Warning). w.concern ≢ c) ws
 
 -- Where nothing is said of a concern, no item of any schedule traps for it.
 abbrev pub SilentNeverTraps : Type 0
-SilentNeverTraps = (l : Source) → IsListing l → (c : Concern) → SaysNothingOf c (warnings l) → (why : Cause) → concern_of why ≡ Some c →
+SilentNeverTraps =
+    (l : Source) → IsListing l → (c : Concern) → SaysNothingOf c (warnings l) →
+    (why : Cause) → concern_of why ≡ Some c →
     (shape : Counts) (items : List Item) (t : ℕ) → outcome (run_of_items l shape items) t ≢ outcome.Trapped why

@@ -1,4 +1,5 @@
--- What is to be warned of, line by line.
+-- `warnings` of a listing, line by line: where a line may trap (`may_trap`), is never reached, leads to no end or
+-- lets an update finish without a write.
 use Rattle.std.specs.Prelude.{Bool, true, false, not, ◌&&◌, ◌||◌, List, [], ◌∷◌, if◌then◌else◌}
 use Rattle.std.specs.List.{flat_map, list_any}
 use Rattle.snap_words.specs.declared.address.Bank.{Bank}
@@ -87,7 +88,8 @@ is_warned_of s f line c = is_reached_in f (λ m. may_trap s c m line) line
 -- what a line can be warned of, in the order of the warnings
 abbrev pub concerns : List Concern
 concerns =
-    concern.OffEnd ∷ concern.Nested ∷ concern.BadEnd ∷ concern.Owner ∷ concern.Unreached ∷ concern.Endless ∷ concern.NoWrite ∷ []
+    concern.OffEnd ∷ concern.Nested ∷ concern.BadEnd ∷ concern.Owner ∷ concern.Unreached
+    ∷ concern.Endless ∷ concern.NoWrite ∷ []
 
 abbrev pub warning_of : Source → Reach → Line → Concern → List Warning
 warning_of s f line c = if is_warned_of s f line c then record { line = line.number; concern = c } ∷ [] else []

@@ -1,4 +1,5 @@
-//! What is warned of.
+//! `Concern` and `Warning` of the lint: a line, and what may go wrong at it, such as a call within
+//! a call or a write of another process's register.
 
 /// What a line may run into.
 #[derive(Clone, Copy, Debug, PartialEq, Eq)]

@@ -1,4 +1,5 @@
-//! Which line leads to which.
+//! `Edge`: from which line of a listing control may go to which other one, by going on to the next
+//! line or by a jump.
 ghost use Rattle.std.specs.Prelude.{◌≡◌, ◌++◌, IfOk, OnOk};
 ghost use Rattle.snap_lint.specs.Flow.{
   edge_to,

@@ -1,4 +1,5 @@
-//! The lines to which control may come.
+//! `Flow`: the lines of a listing to which control may come in each `Mode`, and those from which it
+//! may come to an end.
 ghost use Rattle.std.specs.Prelude.{◌≡◌, ◌++◌, [], ◌∷◌, IfOk};
 ghost use Rattle.snap_lint.specs.declared.mode.Way.TheVariants.{Outside, Unwritten, Within};
 ghost use Rattle.snap_lint.specs.Flow.{

@@ -1,4 +1,4 @@
-//! What is to be warned of, line by line.
+//! `warnings`: the lint, which warns line by line of what a listing may run into.
 ghost use Rattle.std.specs.Prelude.{◌≡◌, ◌++◌, ◌&&◌, not, IfOk, OnOk};
 ghost use Rattle.std.specs.List.{flat_map, list_any};
 ghost use Rattle.snap_lint.specs.Flow.{lines_in, out_in};

@@ -1,4 +1,5 @@
-//! The lines to which edges lead from some lines.
+//! `reached`: the lines of a listing to which edges of its flow of control lead from given start
+//! lines, found by marking round by round.
 ghost use Rattle.std.specs.Prelude.{◌≡◌, IfOk};
 ghost use Rattle.snap_lint.specs.Marks.{is_in, is_led_to, next_marks, reached};
 

@@ -1,4 +1,5 @@
-//! What a process is at, as far as control goes.
+//! `Mode` and `Way`: whether a process is in a scan or an update, and within a call or outside, as
+//! far as the lint's flow of control tells.
 ghost use Rattle.std.specs.Prelude.{◌≡◌};
 ghost use Rattle.snap_lint.specs.Flow.{way_of};
 

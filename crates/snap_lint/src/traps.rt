@@ -1,4 +1,5 @@
-//! What a line may trap on, as far as the flow of control can tell.
+//! `may_trap`: whether a line may trap in a `Mode`: it runs off the end, calls within a call, ends
+//! the wrong operation, or writes another process's register.
 ghost use Rattle.std.specs.Prelude.{◌≡◌};
 ghost use Rattle.snap_lint.specs.Warnings.{
   is_own,

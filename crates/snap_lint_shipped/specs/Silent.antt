@@ -1,4 +1,4 @@
--- The listings that come with the program, and what is warned of in them.
+-- `IsSilent`: the lint warns of nothing in a listing. It is stated of the shipped listings U, B and M.
 use Rattle.std.specs.Prelude.{◌≡◌, []}
 use Rattle.snap_runs_of_u.specs.ListingU.{listing_u}
 use Rattle.snap_runs_of_b.specs.ListingB.{listing_b}

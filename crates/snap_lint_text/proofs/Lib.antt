@@ -1,1 +1,2 @@
+-- The proofs of snap_lint_text, by their modules.
 mod WarningSamples

@@ -1,1 +1,2 @@
+-- The definitions of snap_lint_text, by their modules.
 pub mod Lint

@@ -1,4 +1,5 @@
--- What a line speaks of, checked part by part, is what it speaks of, checked one by one.
+-- Checking an instruction part by part (`checked_instr`) comes to
+-- checking one by one all that it names and needs of the kind.
 use Rattle.std.proofs.Common.{◌≡◌, ℕ, List, [], ◌∷◌, ◌++◌, Option, Some, None, Ok, Err, refl, ap, ◌∙◌, append_assoc}
 use Rattle.snap_words.specs.declared.address.Bank.TheVariants as bank
 use Rattle.snap_words.specs.declared.kind.KindTag.TheVariants as kind
@@ -10,7 +11,9 @@ use Rattle.snap_semantics.specs.declared.instr.Expr.TheVariants as expr
 use Rattle.snap_semantics.specs.declared.instr.Index.{Index}
 use Rattle.snap_semantics.specs.declared.instr.Index.TheVariants as index
 use Rattle.snap_semantics.specs.declared.instr.Instr.{Instr}
-use Rattle.snap_semantics.specs.declared.instr.Instr.TheVariants.{Let, LetPlace, Get, Bit, Look, Put, PutBit, PutView, ViewData, ViewOf, Each, First, Next, If, IfAll, Goto, Call, Return, Finish}
+use Rattle.snap_semantics.specs.declared.instr.Instr.TheVariants.{Let, LetPlace, Get, Bit, Look, Put, PutBit, PutView}
+use Rattle.snap_semantics.specs.declared.instr.Instr.TheVariants.{ViewData, ViewOf, Each, First, Next, If, IfAll}
+use Rattle.snap_semantics.specs.declared.instr.Instr.TheVariants.{Goto, Call, Return, Finish}
 use Rattle.snap_semantics.specs.declared.instr.Term.{Term}
 use Rattle.snap_semantics.specs.declared.instr.Term.TheVariants as term
 use Rattle.snap_semantics.specs.declared.instr.Tuple.{Tuple}
@@ -20,20 +23,25 @@ use Rattle.snap_semantics.specs.declared.text.Sort.TheVariants as sort
 use Rattle.snap_semantics.specs.Answers.{◌>>=◌}
 use Rattle.snap_semantics.specs.Source.{Name, Source}
 use Rattle.snap_semantics.specs.Table.{bank_of}
-use Rattle.snap_semantics.specs.Uses.{Use, Named, BankUse, FieldUse, HandshakeUse, ViewUse, TupleUse, scalar, row, words, view, checked_use, checked_uses, index_uses, term_uses, expr_uses, comparison_uses, condition_uses, where_uses, tuple_uses, instr_uses}
-use Rattle.snap_listing_core.specs.Checks.{Checked, checked_index, checked_indexes, checked_place, checked_term, checked_expr, checked_comparison, checked_condition, checked_where, checked_tuple, checked_instr}
+use Rattle.snap_semantics.specs.Uses.{Use, Named, BankUse, FieldUse, HandshakeUse, ViewUse, TupleUse, scalar, row}
+use Rattle.snap_semantics.specs.Uses.{words, view, checked_use, checked_uses, index_uses, term_uses, expr_uses}
+use Rattle.snap_semantics.specs.Uses.{comparison_uses, condition_uses, where_uses, tuple_uses, instr_uses}
+use Rattle.snap_listing_core.specs.Checks.{Checked, checked_index, checked_indexes, checked_place, checked_term}
+use Rattle.snap_listing_core.specs.Checks.{checked_expr, checked_comparison, checked_condition, checked_where}
+use Rattle.snap_listing_core.specs.Checks.{checked_tuple, checked_instr}
 
 then_nothing : (r : Checked) → r ≡ (r >>= λ (done : Unit {0}). let alone : Checked = Ok tt in alone)
 then_nothing (Ok x) = refl
 then_nothing (Err e) = refl
 
-regrouped : (r k l : Checked) → ((r >>= λ (done : Unit {0}). k) >>= λ (done : Unit {0}). l) ≡ (r >>= λ (done : Unit {0}). k >>= λ (done : Unit {0}). l)
+regrouped : (r k l : Checked) → ((r >>= λ (done : Unit {0}). k) >>= λ (done : Unit {0}). l)
+    ≡ (r >>= λ (done : Unit {0}). k >>= λ (done : Unit {0}). l)
 regrouped (Ok x) k l = refl
 regrouped (Err e) k l = refl
 
 -- one part, and then the other
-pub both : (s : Source) (line : ℕ) (us vs : List Use) (r k : Checked) → r ≡ checked_uses s line us → k ≡ checked_uses s line vs →
-    (r >>= λ (done : Unit {0}). k) ≡ checked_uses s line (us ++ vs)
+pub both : (s : Source) (line : ℕ) (us vs : List Use) (r k : Checked) → r ≡ checked_uses s line us →
+    k ≡ checked_uses s line vs → (r >>= λ (done : Unit {0}). k) ≡ checked_uses s line (us ++ vs)
 both s line [] vs r k p q = ap (λ (x : Checked). x >>= λ (done : Unit {0}). k) p ∙ q
 both s line (u ∷ us) vs r k p q =
     let first = checked_use s line u in
@@ -58,42 +66,53 @@ index_checks s line index.Word = refl
 index_checks s line index.Place = refl
 index_checks s line (index.Scalar x) = alone s line (scalar x)
 
-indexes_checks : (s : Source) (line : ℕ) (i j : Index) → checked_indexes s line i j ≡ checked_uses s line (index_uses i ++ index_uses j)
-indexes_checks s line i j = both s line (index_uses i) (index_uses j) _ _ (index_checks s line i) (index_checks s line j)
+indexes_checks : (s : Source) (line : ℕ) (i j : Index) →
+    checked_indexes s line i j ≡ checked_uses s line (index_uses i ++ index_uses j)
+indexes_checks s line i j =
+    both s line (index_uses i) (index_uses j) _ _ (index_checks s line i) (index_checks s line j)
 
 place_checks : (s : Source) (line : ℕ) (wanted : Sort) (x : Name) (i : Index) →
     checked_place s line wanted x i ≡ checked_uses s line (Named wanted x ∷ index_uses i)
-place_checks s line wanted x i = first_then s line (Named wanted x) (index_uses i) (checked_index s line i) (index_checks s line i)
+place_checks s line wanted x i =
+    first_then s line (Named wanted x) (index_uses i) (checked_index s line i) (index_checks s line i)
 
 term_checks : (s : Source) (line : ℕ) (t : Term) → checked_term s line t ≡ checked_uses s line (term_uses t)
 term_checks s line (term.Index i) = index_checks s line i
 term_checks s line term.Arg = refl
 term_checks s line (term.Row x i) = place_checks s line sort.Row x i
-term_checks s line (term.Field f x i) = first_then s line (FieldUse f) (words x ∷ index_uses i) _ (place_checks s line sort.Words x i)
+term_checks s line (term.Field f x i) =
+    first_then s line (FieldUse f) (words x ∷ index_uses i) _ (place_checks s line sort.Words x i)
 term_checks s line (term.Handshake x i j) =
     first_then s line HandshakeUse (words x ∷ (index_uses i ++ index_uses j)) _
     (first_then s line (words x) (index_uses i ++ index_uses j) _ (indexes_checks s line i j))
 
 expr_checks : (s : Source) (line : ℕ) (e : Expr) → checked_expr s line e ≡ checked_uses s line (expr_uses e)
 expr_checks s line (expr.Term t) = term_checks s line t
-expr_checks s line (expr.Sum t u) = both s line (term_uses t) (term_uses u) _ _ (term_checks s line t) (term_checks s line u)
+expr_checks s line (expr.Sum t u) =
+    both s line (term_uses t) (term_uses u) _ _ (term_checks s line t) (term_checks s line u)
 expr_checks s line (expr.Not t) = term_checks s line t
 
-comparison_checks : (s : Source) (line : ℕ) (k : Comparison) → checked_comparison s line k ≡ checked_uses s line (comparison_uses k)
-comparison_checks s line k = both s line (term_uses k.left) (term_uses k.right) _ _ (term_checks s line k.left) (term_checks s line k.right)
+comparison_checks : (s : Source) (line : ℕ) (k : Comparison) →
+    checked_comparison s line k ≡ checked_uses s line (comparison_uses k)
+comparison_checks s line k =
+    both s line (term_uses k.left) (term_uses k.right) _ _ (term_checks s line k.left) (term_checks s line k.right)
 
-condition_checks : (s : Source) (line : ℕ) (k : Condition) → checked_condition s line k ≡ checked_uses s line (condition_uses k)
+condition_checks : (s : Source) (line : ℕ) (k : Condition) →
+    checked_condition s line k ≡ checked_uses s line (condition_uses k)
 condition_checks s line (One k) = comparison_checks s line k
-condition_checks s line (Two j k l) = both s line (comparison_uses k) (comparison_uses l) _ _ (comparison_checks s line k) (comparison_checks s line l)
+condition_checks s line (Two j k l) =
+    both s line (comparison_uses k) (comparison_uses l) _ _ (comparison_checks s line k) (comparison_checks s line l)
 condition_checks s line (Three j k l m) =
     both s line (comparison_uses k) (comparison_uses l ++ comparison_uses m) _ _ (comparison_checks s line k)
     (both s line (comparison_uses l) (comparison_uses m) _ _ (comparison_checks s line l) (comparison_checks s line m))
 condition_checks s line (Four j k l m o) =
-    both s line (comparison_uses k) (comparison_uses l ++ (comparison_uses m ++ comparison_uses o)) _ _ (comparison_checks s line k)
+    both s line (comparison_uses k) (comparison_uses l ++ (comparison_uses m ++ comparison_uses o)) _ _
+    (comparison_checks s line k)
     (both s line (comparison_uses l) (comparison_uses m ++ comparison_uses o) _ _ (comparison_checks s line l)
     (both s line (comparison_uses m) (comparison_uses o) _ _ (comparison_checks s line m) (comparison_checks s line o)))
 
-where_checks : (s : Source) (line : ℕ) (k : Option Condition) → checked_where s line k ≡ checked_uses s line (where_uses k)
+where_checks : (s : Source) (line : ℕ) (k : Option Condition) →
+    checked_where s line k ≡ checked_uses s line (where_uses k)
 where_checks s line None = refl
 where_checks s line (Some k) = condition_checks s line k
 
@@ -113,7 +132,8 @@ tuple_checks s line (tuple.Multi d i t) =
     (both s line (expr_uses i) (expr_uses t) _ _ (expr_checks s line i) (expr_checks s line t)))
 
 put_bit_checks : (s : Source) (line : ℕ) (i j : Index) (e : Expr) →
-    (checked_indexes s line i j >>= λ (done : Unit {0}). checked_expr s line e) ≡ checked_uses s line (index_uses i ++ (index_uses j ++ expr_uses e))
+    (checked_indexes s line i j >>= λ (done : Unit {0}). checked_expr s line e)
+    ≡ checked_uses s line (index_uses i ++ (index_uses j ++ expr_uses e))
 put_bit_checks s line i j e =
     both s line (index_uses i ++ index_uses j) (expr_uses e) _ _ (indexes_checks s line i j) (expr_checks s line e)
     ∙ ap (λ (us : List Use). checked_uses s line us) (append_assoc (index_uses i) (index_uses j) (expr_uses e))
@@ -122,21 +142,26 @@ pub instr_checks : (s : Source) (line : ℕ) (i : Instr) → checked_instr s lin
 instr_checks s line (Let x e) = first_then s line (scalar x) (expr_uses e) _ (expr_checks s line e)
 instr_checks s line (LetPlace x i e) =
     both s line (row x ∷ index_uses i) (expr_uses e) _ _ (place_checks s line sort.Row x i) (expr_checks s line e)
-instr_checks s line (Get x i j) = first_then s line (words x) (index_uses i ++ index_uses j) _ (indexes_checks s line i j)
+instr_checks s line (Get x i j) =
+    first_then s line (words x) (index_uses i ++ index_uses j) _ (indexes_checks s line i j)
 instr_checks s line (Bit x b i j) =
     first_then s line (scalar x) (BankUse (bank_of b) ∷ (index_uses i ++ index_uses j)) _
     (first_then s line (BankUse (bank_of b)) (index_uses i ++ index_uses j) _ (indexes_checks s line i j))
 instr_checks s line (Look x i) =
-    first_then s line (view x) (BankUse bank.V ∷ index_uses i) _ (first_then s line (BankUse bank.V) (index_uses i) _ (index_checks s line i))
-instr_checks s line (Put i t) = both s line (index_uses i) (tuple_uses t) _ _ (index_checks s line i) (tuple_checks s line t)
+    first_then s line (view x) (BankUse bank.V ∷ index_uses i) _
+    (first_then s line (BankUse bank.V) (index_uses i) _ (index_checks s line i))
+instr_checks s line (Put i t) =
+    both s line (index_uses i) (tuple_uses t) _ _ (index_checks s line i) (tuple_checks s line t)
 instr_checks s line (PutBit b i j e) =
-    first_then s line (BankUse (bank_of b)) (index_uses i ++ (index_uses j ++ expr_uses e)) _ (put_bit_checks s line i j e)
+    first_then s line (BankUse (bank_of b))
+    (index_uses i ++ (index_uses j ++ expr_uses e)) _ (put_bit_checks s line i j e)
 instr_checks s line (PutView i x) =
     first_then s line (BankUse bank.V) (index_uses i ++ view x ∷ []) _
     (both s line (index_uses i) (view x ∷ []) _ _ (index_checks s line i) (alone s line (view x)))
 instr_checks s line (ViewData x y) = first_then s line (view x) (words y ∷ []) _ (alone s line (words y))
 instr_checks s line (ViewOf x y i) =
-    first_then s line (view x) (ViewUse ∷ words y ∷ index_uses i) _ (first_then s line ViewUse (words y ∷ index_uses i) _ (place_checks s line sort.Words y i))
+    first_then s line (view x) (ViewUse ∷ words y ∷ index_uses i) _
+    (first_then s line ViewUse (words y ∷ index_uses i) _ (place_checks s line sort.Words y i))
 instr_checks s line (Each g x e k) =
     first_then s line (row x) (expr_uses e ++ where_uses k) _
     (both s line (expr_uses e) (where_uses k) _ _ (expr_checks s line e) (where_checks s line k))

@@ -1,4 +1,4 @@
--- Definitions of the contracts of targets.
+-- The target of an instruction, and `checked_target`: the listing has a line with that number.
 use Rattle.std.specs.Prelude.{ℕ, List, [], ◌∷◌, Option, Some, None, Result, Ok, Err, if◌then◌else◌}
 use Rattle.snap_semantics.specs.declared.instr.Line.{Line}
 use Rattle.snap_semantics.specs.declared.refusal.ListingRefusal.{ListingRefusal}

@@ -1,4 +1,4 @@
-//! Listings with their comments.
+//! `CommentedListing`: a listing, and for each of its lines its comment, if it has one.
 ghost use Rattle.std.specs.Prelude.{◌≡◌, map};
 ghost use Rattle.snap_semantics.specs.Comments.{IsCommented};
 ghost use Rattle.snap_listing_core.specs.Fields.{commented, seen_comment};

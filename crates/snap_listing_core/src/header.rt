@@ -1,4 +1,5 @@
-//! What the header lines of a listing say.
+//! `Header`: what the header lines of a listing say:
+//! its kind, its names by sort and its two entries.
 ghost use Rattle.std.specs.Prelude.{◌≡◌};
 ghost use Rattle.snap_semantics.specs.Uses.{is_among};
 

@@ -1,5 +1,5 @@
-//! Rules that reading, printing and images share: which identifiers are no names, which numbers lines may have, how comparisons are
-//! joined.
+//! Rules that the texts and the images of listings share: the reserved words,
+//! the numbers that lines may have, and the keywords that join comparisons.
 ghost use Rattle.std.specs.Prelude.{◌≡◌, bytes_eq};
 ghost use Rattle.std.specs.List.{list_any};
 ghost use Rattle.snap_semantics.specs.ListingForms.{is_line_number, is_reserved, join_keyword};

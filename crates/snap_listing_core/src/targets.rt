@@ -1,6 +1,8 @@
-//! Numbered lines, and the lines to which they lead.
+//! `checked_targets`: each line to which an instruction of a listing
+//! may lead has to be one of its lines; and copies of lines.
 ghost use Rattle.std.specs.Prelude.{◌≡◌, [], ◌∷◌, ◌++◌, OnOk};
-ghost use Rattle.snap_semantics.specs.Listing.{instr_targets, has_line, checked_targets, line_targets};
+ghost use Rattle.snap_semantics.specs.Listing.{instr_targets, has_line};
+ghost use Rattle.snap_semantics.specs.Listing.{checked_targets, line_targets};
 ghost use Rattle.snap_listing_core.specs.Targets.{target_list, checked_target};
 
 use snap_semantics::{Instr, Line, ListingRefusal};

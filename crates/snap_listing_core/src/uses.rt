@@ -1,9 +1,14 @@
-//! What an instruction speaks of: each name has to be declared, and of the sort that its place takes, and the kind has to have
-//! each bank, field and tuple.
+//! Checks what an instruction of a listing names and needs: each name is
+//! declared and of its sort, and the kind has each bank, field and tuple.
 ghost use Rattle.std.specs.Prelude.{◌≡◌};
 ghost use Rattle.snap_words.specs.Kind.{has_bank, has_field, has_handshakes, has_view};
-ghost use Rattle.snap_semantics.specs.Uses.{sort_of, same_sort, same_kind, instr_uses, checked_uses};
-ghost use Rattle.snap_listing_core.specs.Checks.{checked_name, checked_kind, checked_index, checked_indexes, checked_place, checked_term, checked_expr, checked_comparison, checked_condition, checked_where, checked_tuple, checked_access, checked_assignment, checked_instr};
+ghost use Rattle.snap_semantics.specs.Uses.{sort_of, same_sort, same_kind};
+ghost use Rattle.snap_semantics.specs.Uses.{instr_uses, checked_uses};
+ghost use Rattle.snap_listing_core.specs.Checks.{checked_name, checked_kind, checked_index};
+ghost use Rattle.snap_listing_core.specs.Checks.{checked_indexes, checked_place, checked_term};
+ghost use Rattle.snap_listing_core.specs.Checks.{checked_expr, checked_comparison};
+ghost use Rattle.snap_listing_core.specs.Checks.{checked_condition, checked_where, checked_tuple};
+ghost use Rattle.snap_listing_core.specs.Checks.{checked_access, checked_assignment, checked_instr};
 ghost use Rattle.snap_listing_core.specs.Fields.{header_source};
 
 use crate::header::{Header, is_among};
@@ -351,7 +356,8 @@ fn checked_instr(header: &Header, line: u64, instr: &Instr) -> Result<(), Listin
     }
 }
 
-/// What an instruction speaks of, from left to right: the first that is not as it has to be decides.
+/// What an instruction speaks of, from left to right:
+/// the first that is not as it has to be decides.
 #[tactic(auto, using(crate::proofs::Checks::instr_checks))]
 pub fn checked_uses(header: &Header, line: u64, instr: &Instr) -> Result<(), ListingRefusal>
     ensures { result ≡ checked_uses (header_source header.now) line (instr_uses instr.now) }

@@ -1,4 +1,5 @@
--- Rules that the code has and the grammar does not name.
+-- Rules for a symbol with an expression, a name or an index after it, and
+-- for `[@]`, which the code has and the grammar of listings does not name.
 use Rattle.std.specs.Prelude.{Bool, false, List, Option}
 use Rattle.snap_semantics.specs.declared.instr.Expr.{Expr}
 use Rattle.snap_semantics.specs.declared.instr.Index.{Index}

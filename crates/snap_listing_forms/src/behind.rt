@@ -1,5 +1,7 @@
-//! The parts of a line that stand behind a symbol.
-ghost use Rattle.snap_listing_forms.specs.Rules.{expr_behind, name_behind, index_behind, every_place};
+//! Reads the parts of a listing's line that begin with a symbol:
+//! a symbol and an expression, a name or an index; and `[@]`.
+ghost use Rattle.snap_listing_forms.specs.Rules.{expr_behind, name_behind};
+ghost use Rattle.snap_listing_forms.specs.Rules.{index_behind, every_place};
 ghost use Rattle.snap_text.specs.Tokens.{Finds, view_tokens};
 
 use snap_listing_terms::{expr_at, index_at, name_at};

@@ -1,7 +1,13 @@
-//! The instructions of a listing. A form begins behind the instruction's first keyword, and goes to
-//! the end of the line.
+//! Reads the instructions of a listing's lines, with a function for
+//! each form: from after its first keyword to the end of the line.
 ghost use Rattle.snap_semantics.specs.Rules.{or_else};
-ghost use Rattle.snap_semantics.specs.ListingForms.{let_form, let_place_form, get_form, pair_at, bit_bank_at, bit_form, look_form, put_form, put_bit_form, put_view_form, view_data_form, view_of_form, each_form, first_form, next_form, if_form, if_all_form, goto_form, call_form, return_form, finish_form, form_of_keyword, line_form};
+ghost use Rattle.snap_semantics.specs.ListingForms.{let_form, let_place_form, get_form};
+ghost use Rattle.snap_semantics.specs.ListingForms.{pair_at, bit_bank_at, bit_form, look_form};
+ghost use Rattle.snap_semantics.specs.ListingForms.{put_form, put_bit_form, put_view_form};
+ghost use Rattle.snap_semantics.specs.ListingForms.{view_data_form, view_of_form, each_form};
+ghost use Rattle.snap_semantics.specs.ListingForms.{first_form, next_form, if_form, if_all_form};
+ghost use Rattle.snap_semantics.specs.ListingForms.{goto_form, call_form, return_form};
+ghost use Rattle.snap_semantics.specs.ListingForms.{finish_form, form_of_keyword, line_form};
 ghost use Rattle.snap_text.specs.Tokens.{Finds, view_tokens};
 
 use crate::behind::{every_place, expr_behind, index_behind, name_behind};

@@ -1,5 +1,7 @@
-//! The tuples that are put into a word, at the front of the tokens of a line.
-ghost use Rattle.snap_semantics.specs.ListingForms.{seq_tuple_at, bits_tuple_at, multi_tuple_at, triple_at, tuple_at};
+//! Reads the tuple that a `put` line of a listing writes to
+//! a word, for each kind, at the front of a line's tokens.
+ghost use Rattle.snap_semantics.specs.ListingForms.{seq_tuple_at, bits_tuple_at};
+ghost use Rattle.snap_semantics.specs.ListingForms.{multi_tuple_at, triple_at, tuple_at};
 ghost use Rattle.snap_text.specs.Tokens.{Finds, view_tokens};
 
 use crate::behind::{expr_behind, name_behind};

@@ -1,5 +1,6 @@
--- The forms of header lines read what is spelled so.
-use Rattle.std.proofs.Common.{◌≡◌, ℕ, Bool, true, false, List, [], ◌∷◌, map, Option, Some, None, bytes_eq, if◌then◌else◌, refl, ap, ◌∙◌}
+-- The rules for the header lines of a listing read again the kind, the names and the entries that are spelled.
+use Rattle.std.proofs.Common.{◌≡◌, ℕ, Bool, true, false, List, [], ◌∷◌, map, Option, Some, None, bytes_eq}
+use Rattle.std.proofs.Common.{if◌then◌else◌, refl, ap, ◌∙◌}
 use Rattle.std.proofs.lemmas.Slice.Eq.{bytes_eq-Decides}
 use Rattle.snap_words.specs.declared.kind.KindTag.{KindTag}
 use Rattle.snap_words.specs.declared.kind.KindTag.TheVariants as kind
@@ -24,7 +25,8 @@ keyword_again keyword ts = some_by (bytes_eq keyword keyword) ts ((bytes_eq-Deci
 
 words_again : (ws : List (List ℕ)) → words_form (map (λ (x : List ℕ). Identifier x) ws) ≡ Some ws
 words_again [] = refl
-words_again (w ∷ ws) = then_by (words_form (map (λ (x : List ℕ). Identifier x) ws)) ws _ (Some (w ∷ ws)) (words_again ws) refl
+words_again (w ∷ ws) =
+    then_by (words_form (map (λ (x : List ℕ). Identifier x) ws)) ws _ (Some (w ∷ ws)) (words_again ws) refl
 
 pub kind_again : (k : KindTag) → kind_form (spelled_kind k) ≡ Some k
 unfolding kind_form
@@ -36,9 +38,12 @@ pub names_again : (keyword : List ℕ) (names : List Name) → names_form keywor
 unfolding names_form
 names_again keyword names =
     let ts = map (λ (x : List ℕ). Identifier x) names in
-    then_by (keyword_at keyword (Identifier keyword ∷ ts)) ts _ (Some names) (keyword_again keyword ts) (words_again names)
+    then_by (keyword_at keyword (Identifier keyword ∷ ts)) ts _ (Some names)
+    (keyword_again keyword ts) (words_again names)
 
-pub entry_again : (keyword : List ℕ) (k : ℕ) → is_line_number k ≡ true → entry_form keyword (spelled_entry keyword k) ≡ Some k
+pub entry_again : (keyword : List ℕ) (k : ℕ) → is_line_number k ≡ true →
+    entry_form keyword (spelled_entry keyword k) ≡ Some k
 unfolding entry_form
 entry_again keyword k h =
-    then_by (keyword_at keyword (spelled_entry keyword k)) (Number k ∷ []) _ (Some k) (keyword_again keyword (Number k ∷ [])) (some_by (is_line_number k) k h)
+    then_by (keyword_at keyword (spelled_entry keyword k)) (Number k ∷ []) _ (Some k)
+    (keyword_again keyword (Number k ∷ [])) (some_by (is_line_number k) k h)

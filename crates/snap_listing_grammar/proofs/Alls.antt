@@ -1,4 +1,5 @@
--- What holds of all of two lists, one behind the other, holds of all of each; and what holds of all of a list, of all but the first.
+-- Lemmas about `AllByRecursion` for the laws of listings: two lists,
+-- one after the other, each of them, and a list without its front.
 use Rattle.std.proofs.Common.{ℕ, zero, suc, List, [], ◌∷◌, ◌++◌, drop}
 use Rattle.std.specs.List.{AllByRecursion}
 
@@ -10,11 +11,13 @@ pub all_rest : {A : Type 0} (P : A → Type 0) (xs ys : List A) → AllByRecursi
 all_rest P [] ys h = h
 all_rest P (x ∷ xs) ys h = all_rest P xs ys h.1
 
-pub all_both : {A : Type 0} (P : A → Type 0) (xs ys : List A) → AllByRecursion P xs → AllByRecursion P ys → AllByRecursion P (xs ++ ys)
+pub all_both : {A : Type 0} (P : A → Type 0) (xs ys : List A) → AllByRecursion P xs →
+    AllByRecursion P ys → AllByRecursion P (xs ++ ys)
 all_both P [] ys h g = g
 all_both P (x ∷ xs) ys h g = (h.0, all_both P xs ys h.1 g)
 
-pub all_dropped : {A : Type 0} (P : A → Type 0) (k : ℕ) (xs : List A) → AllByRecursion P xs → AllByRecursion P (drop k xs)
+pub all_dropped : {A : Type 0} (P : A → Type 0) (k : ℕ) (xs : List A) →
+    AllByRecursion P xs → AllByRecursion P (drop k xs)
 all_dropped P zero xs h = h
 all_dropped P (suc k) [] h = tt
 all_dropped P (suc k) (x ∷ xs) h = all_dropped P k xs h.1

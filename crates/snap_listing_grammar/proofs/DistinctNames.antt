@@ -1,4 +1,4 @@
--- Names of which none stands twice.
+-- Names of a listing of which none stands twice (`AreDistinct`), and one name more that is none of them.
 use Rattle.std.proofs.Common.{◌≡◌, ℕ, Bool, true, false, List, [], ◌∷◌, ◌++◌, bytes_eq, refl, sym}
 use Rattle.std.proofs.lemmas.Bool.{or_parts, or_from}
 use Rattle.std.proofs.lemmas.Slice.Eq.{bytes_eq-Decides}
@@ -9,10 +9,14 @@ use Rattle.snap_semantics.specs.Uses.{is_among}
 
 -- names are compared alike from both sides
 pub other_by : (x y : List ℕ) (b : Bool) → bytes_eq x y ≡ b → bytes_eq y x ≡ false → b ≡ false
-other_by x y true h e = let p : y ≡ x = sym (same_text x y (sym h)) in let q : bytes_eq y x ≡ true = (bytes_eq-Decides y x).1 p in cc (q, e)
+other_by x y true h e =
+    let p : y ≡ x = sym (same_text x y (sym h)) in
+    let q : bytes_eq y x ≡ true = (bytes_eq-Decides y x).1 p in
+    cc (q, e)
 other_by x y false h e = refl
 
-among_snoc : (x w : Name) (xs : List Name) → is_among x xs ≡ false → bytes_eq x w ≡ false → is_among x (xs ++ w ∷ []) ≡ false
+among_snoc : (x w : Name) (xs : List Name) → is_among x xs ≡ false → bytes_eq x w ≡ false →
+    is_among x (xs ++ w ∷ []) ≡ false
 among_snoc x w [] e f = or_from (bytes_eq x w) false f refl
 among_snoc x w (y ∷ ys) e f =
     let apart = or_parts (bytes_eq x y) (is_among x ys) e in

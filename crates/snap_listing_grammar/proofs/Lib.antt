@@ -1,3 +1,4 @@
+-- The proofs of snap_listing_grammar, by their modules.
 pub mod AgainForms
 pub mod AgainHeader
 pub mod AgainHeaderForms

@@ -1,4 +1,5 @@
--- The laws of reading and printing listings.
+-- The laws of reading and printing listings: what is read is spelled by
+-- the text, what spells a listing is read, and so is what is printed.
 use Rattle.std.specs.Prelude.{◌≡◌, ℕ, ◌<◌, ◌≤◌, List, length, Ok}
 use Rattle.std.specs.List.{AllByRecursion}
 use Rattle.snap_semantics.specs.CanonicalText.{canonical_text}
@@ -20,7 +21,8 @@ ReadsOnlySpelled = (text : List ℕ) (s : Source) → listing_of text ≡ Ok s �
 
 -- every listing is read from every text that spells it
 abbrev pub ReadsAllSpelled : Type 0
-ReadsAllSpelled = (text : List ℕ) (s : Source) → length text ≤ 65536 → IsListing s → Spells text s → listing_of text ≡ Ok s
+ReadsAllSpelled =
+    (text : List ℕ) (s : Source) → length text ≤ 65536 → IsListing s → Spells text s → listing_of text ≡ Ok s
 
 -- what is printed of a listing spells it
 abbrev pub PrintsSpelling : Type 0
@@ -28,8 +30,10 @@ PrintsSpelling = (c : Commented) → IsCommented c → Spells (canonical_text c)
 
 -- what is read with its comments is a listing with comments
 abbrev pub ReadsOnlyCommented : Type 0
-ReadsOnlyCommented = (text : List ℕ) (c : Commented) → commented_of text ≡ Ok c → IsCommented c × (listing_of text ≡ Ok c.source)
+ReadsOnlyCommented =
+    (text : List ℕ) (c : Commented) → commented_of text ≡ Ok c → IsCommented c × (listing_of text ≡ Ok c.source)
 
 -- what is printed of a listing is read as that listing with its comments, where it is within the size of a text
 abbrev pub ReadsPrinted : Type 0
-ReadsPrinted = (c : Commented) → IsCommented c → length (canonical_text c) ≤ 65536 → commented_of (canonical_text c) ≡ Ok c
+ReadsPrinted =
+    (c : Commented) → IsCommented c → length (canonical_text c) ≤ 65536 → commented_of (canonical_text c) ≡ Ok c

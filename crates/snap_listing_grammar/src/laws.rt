@@ -1,5 +1,8 @@
-//! The laws of reading and printing listings.
-ghost use Rattle.snap_listing_grammar.specs.Laws.{PrintsSpelling, ReadsAllSpelled, ReadsOnlyCommented, ReadsOnlySpelled, ReadsPrinted};
+//! The laws of reading and printing listings, proved: what is read is spelled
+//! by the text, what spells a listing is read, and so is what is printed.
+ghost use Rattle.snap_listing_grammar.specs.Laws.{PrintsSpelling, ReadsAllSpelled};
+ghost use Rattle.snap_listing_grammar.specs.Laws.{ReadsOnlyCommented};
+ghost use Rattle.snap_listing_grammar.specs.Laws.{ReadsOnlySpelled, ReadsPrinted};
 
 /// What is read is a listing, and the text spells it.
 pub fn what_is_read_is_spelled()

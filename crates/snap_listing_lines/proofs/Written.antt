@@ -1,4 +1,5 @@
--- What stands for the lines of a listing in its canonical text.
+-- The lines after the header of a listing's canonical text are those of `LineTexts`: numbers and instructions,
+-- without comments.
 use Rattle.std.proofs.Common.{◌≡◌, ℕ, zero, suc, List, [], ◌∷◌, map, drop, Some, refl, sym, ap, ◌∙◌, subst}
 use Rattle.std.specs.List.{AllByRecursion}
 use Rattle.std.proofs.lemmas.List.{length-map}
@@ -19,32 +20,40 @@ no_comments_good [] = tt
 no_comments_good (line ∷ lines) = (tt, no_comments_good lines)
 
 pub uncommented_is : (s : Source) → IsListing s → IsCommented (uncommented s)
-uncommented_is s h = record { listing = h; each_line = length-map s.lines no_comment; comments = no_comments_good s.lines }
+uncommented_is s h =
+    record { listing = h; each_line = length-map s.lines no_comment; comments = no_comments_good s.lines }
 
 -- with comments of which there are none
 pub commented_is : (s : Source) (comments : List Comment) → IsListing s → comments ≡ map no_comment s.lines →
     IsCommented (record { source = s; comments = comments })
-commented_is s comments h e = subst (λ cs. IsCommented (record { source = s; comments = cs })) (sym e) (uncommented_is s h)
+commented_is s comments h e =
+    subst (λ cs. IsCommented (record { source = s; comments = cs })) (sym e) (uncommented_is s h)
 
 dropped : (k : ℕ) (ls : List TextLine) → line_tokens (drop k ls) ≡ drop k (line_tokens ls)
 dropped zero ls = refl
 dropped (suc k) [] = refl
 dropped (suc k) (l ∷ ls) = dropped k ls
 
-texts_are : (lines : List Line) (rest : List TextLine) → line_tokens rest ≡ found_lines (map spelled_line lines) → texts_from lines rest ≡ map written lines
+texts_are : (lines : List Line) (rest : List TextLine) → line_tokens rest ≡ found_lines (map spelled_line lines) →
+    texts_from lines rest ≡ map written lines
 texts_are [] rest e = refl
 texts_are (line ∷ lines) [] e = absurd cc
 texts_are (line ∷ lines) (l ∷ rest) e =
     let first : l.tokens ≡ Some (spelled_line line) = cc in
     let others : line_tokens rest ≡ found_lines (map spelled_line lines) = cc in
-    ap (λ o. let text : NumberedText = record { number = line.number; text = line_to [] (tokens_in o) } in text ∷ texts_from lines rest) first
+    ap (λ o. let text : NumberedText = record {
+      number = line.number;
+      text = line_to [] (tokens_in o);
+    } in text ∷ texts_from lines rest) first
     ∙ ap (λ ts. written line ∷ ts) (texts_are lines rest others)
 
 -- behind the header of the canonical text stand the lines
-pub lines_written : (s : Source) → IsListing s → texts_from s.lines (drop 7 (text_lines (canonical_text (uncommented s)))) ≡ map written s.lines
+pub lines_written : (s : Source) → IsListing s →
+    texts_from s.lines (drop 7 (text_lines (canonical_text (uncommented s)))) ≡ map written s.lines
 lines_written s h =
     texts_are s.lines (drop 7 (text_lines (canonical_text (uncommented s))))
-    (dropped 7 (text_lines (canonical_text (uncommented s))) ∙ ap (drop 7) (printed_spells (uncommented s) (uncommented_is s h)))
+    (dropped 7 (text_lines (canonical_text (uncommented s)))
+    ∙ ap (drop 7) (printed_spells (uncommented s) (uncommented_is s h)))
 
 -- one line more is passed over
 pub passed : (k : ℕ) (ls : List TextLine) → behind (drop k ls) ≡ drop (suc k) ls

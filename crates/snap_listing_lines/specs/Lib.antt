@@ -1,1 +1,2 @@
+-- The definitions of snap_listing_lines, by their modules.
 pub mod LineTexts

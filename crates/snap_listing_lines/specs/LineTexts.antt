@@ -1,4 +1,5 @@
--- The lines of a listing, each as text: its number and its instruction as in the canonical text of the listing, without the comment.
+-- The lines of a listing, each as text: its number and its instruction as in the canonical text of the listing,
+-- without the comment.
 use Rattle.std.specs.Prelude.{ℕ, List, [], ◌∷◌, map, Option, Some, None, nat_eq, if◌then◌else◌}
 use Rattle.snap_semantics.specs.declared.instr.Line.{Line}
 use Rattle.snap_semantics.specs.Layout.{line_to}
@@ -44,4 +45,5 @@ behind (line ∷ lines) = lines
 abbrev pub texts_from : List Line → List TextLine → List NumberedText
 texts_from [] rest = []
 texts_from (line ∷ lines) rest =
-    let text : NumberedText = record { number = line.number; text = line_to [] (first_tokens rest) } in text ∷ texts_from lines (behind rest)
+    let text : NumberedText = record { number = line.number; text = line_to [] (first_tokens rest) } in
+    text ∷ texts_from lines (behind rest)

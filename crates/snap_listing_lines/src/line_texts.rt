@@ -5,7 +5,8 @@ ghost use Rattle.snap_semantics.specs.Comments.{no_comment, uncommented};
 ghost use Rattle.snap_semantics.specs.Layout.{line_to};
 ghost use Rattle.snap_semantics.specs.Token.{text_lines};
 ghost use Rattle.snap_listing_core.specs.Fields.{seen_comment};
-ghost use Rattle.snap_listing_lines.specs.LineTexts.{behind, first_tokens, seen_line, text_with, texts_from, written};
+ghost use Rattle.snap_listing_lines.specs.LineTexts.{behind, first_tokens, seen_line};
+ghost use Rattle.snap_listing_lines.specs.LineTexts.{text_with, texts_from, written};
 
 use snap_listing_core::{CommentedListing, Listing};
 use snap_listing_printer::print;

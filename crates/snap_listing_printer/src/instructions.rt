@@ -1,9 +1,11 @@
-//! The spelling of the lines of a listing: tuples, instructions and the header.
+//! Spells the lines of a listing as tokens: tuples, instructions and the header lines.
 ghost use Rattle.std.specs.Prelude.{◌≡◌, [], ◌∷◌, ◌++◌, map, OnOk, codes};
 ghost use Rattle.snap_semantics.specs.declared.instr.Instr.TheVariants as instr;
 ghost use Rattle.snap_semantics.specs.declared.instr.Tuple.TheVariants as tuple;
 ghost use Rattle.snap_semantics.specs.declared.text.Symbol.TheVariants as symbol;
-ghost use Rattle.snap_semantics.specs.Spelling.{spelled_expr, spelled_tuple, bank_keyword, spelled_instr, spelled_line, kind_keyword, spelled_names, spelled_entry};
+ghost use Rattle.snap_semantics.specs.Spelling.{spelled_expr, spelled_tuple, bank_keyword};
+ghost use Rattle.snap_semantics.specs.Spelling.{spelled_instr, spelled_line, kind_keyword};
+ghost use Rattle.snap_semantics.specs.Spelling.{spelled_names, spelled_entry};
 ghost use Rattle.snap_semantics.specs.Token.{Identifier, Sign};
 
 use crate::spelling::Spelling;
@@ -406,7 +408,8 @@ impl<'a> Spelling<'a> {
 
     /// The line of the kind.
     pub fn push_kind(&mut self, kind: KindTag) -> Result<(), AllocError>
-        ensures { OnOk result (self.new ≡ self.old ++ spelled_names (codes "kind") (kind_keyword kind ∷ [])) }
+        ensures { OnOk result (self.new ≡ self.old
+            ++ spelled_names (codes "kind") (kind_keyword kind ∷ [])) }
     {
         self.push_identifier(b"kind")?;
         self.push_identifier(kind_keyword(kind))

@@ -1,8 +1,9 @@
-//! Listings in their canonical text.
+//! `print`: the canonical text of a listing, with the comments of its lines.
 ghost use Rattle.std.specs.Prelude.{◌≡◌, [], ◌∷◌, ◌++◌, length, map, codes, OnOk, IfOk};
 ghost use Rattle.snap_semantics.specs.CanonicalText.{comment_end, commented_text, canonical_text};
 ghost use Rattle.snap_semantics.specs.Layout.{line_to, line_text};
-ghost use Rattle.snap_semantics.specs.Spelling.{spelled_line, spelled_names, spelled_entry, kind_keyword};
+ghost use Rattle.snap_semantics.specs.Spelling.{spelled_line, spelled_names};
+ghost use Rattle.snap_semantics.specs.Spelling.{spelled_entry, kind_keyword};
 ghost use Rattle.snap_listing_core.specs.Fields.{seen_comment};
 
 use crate::spelling::Spelling;
@@ -14,7 +15,8 @@ use std::alloc::{AllocError, Global};
 
 /// Adds the line of the kind.
 fn push_kind_line(out: &mut Vec<u8>, alloc: Global, kind: KindTag) -> Result<(), AllocError>
-    ensures { OnOk result (out.new.items ≡ out.old.items ++ line_text (spelled_names (codes "kind") (kind_keyword kind ∷ []))) }
+    ensures { OnOk result (out.new.items ≡ out.old.items
+        ++ line_text (spelled_names (codes "kind") (kind_keyword kind ∷ []))) }
 {
     let mut line = Spelling::new(alloc);
     line.push_kind(kind)?;

@@ -1,8 +1,13 @@
-//! The spelling of a line of a listing, token by token: its indices, terms and conditions.
+//! `Spelling`: the tokens of a listing's line, as far as it
+//! is spelled; spells its indices, terms and conditions.
 ghost use Rattle.std.specs.Prelude.{◌≡◌, [], ◌∷◌, ◌++◌, OnOk};
 ghost use Rattle.snap_semantics.specs.declared.instr.Term.TheVariants as term;
 ghost use Rattle.snap_semantics.specs.ListingForms.{join_keyword};
-ghost use Rattle.snap_semantics.specs.Spelling.{spelled_index, spelled_place, field_keyword, spelled_term, spelled_expr, spelled_relation, spelled_comparison, spelled_condition, spelled_where, spelled_range, spelled_target, spelled_pair, in_brackets, in_parentheses};
+ghost use Rattle.snap_semantics.specs.Spelling.{spelled_index, spelled_place, field_keyword};
+ghost use Rattle.snap_semantics.specs.Spelling.{spelled_term, spelled_expr, spelled_relation};
+ghost use Rattle.snap_semantics.specs.Spelling.{spelled_comparison, spelled_condition};
+ghost use Rattle.snap_semantics.specs.Spelling.{spelled_where, spelled_range, spelled_target};
+ghost use Rattle.snap_semantics.specs.Spelling.{spelled_pair, in_brackets, in_parentheses};
 ghost use Rattle.snap_semantics.specs.Token.{Identifier, Number, Sign};
 ghost use Rattle.snap_text.specs.Tokens.{view_token, view_tokens};
 

@@ -1,4 +1,5 @@
--- What is read of a text that is known to be a listing.
+-- A text that `listing_of` reads as some listing is known to be a
+-- listing (`IsListingText`), and no other listing is read from it.
 use Rattle.std.proofs.Common.{◌≡◌, ◌∙◌, ℕ, List, Result, Ok, Err, IfOk, subst, sym}
 use Rattle.std.specs.Prelude.{MatchResult}
 use Rattle.snap_semantics.specs.Listing.{listing_of}
@@ -21,6 +22,7 @@ pub same_listing : (text : List ℕ) (s l : Source) → listing_of text ≡ Ok s
 same_listing text s l is read = same_source l s (sym read ∙ is)
 
 -- as a call answers it
-pub if_read : {E : Type 0} (text : List ℕ) (s : Source) (r : Result Source E) → listing_of text ≡ Ok s → IfOk r (λ l. listing_of text ≡ Ok l) → IfOk r (λ l. l ≡ s)
+pub if_read : {E : Type 0} (text : List ℕ) (s : Source) (r : Result Source E) → listing_of text ≡ Ok s →
+    IfOk r (λ l. listing_of text ≡ Ok l) → IfOk r (λ l. l ≡ s)
 if_read text s (Ok l) is read = same_listing text s l is read
 if_read text s (Err e) is read = tt

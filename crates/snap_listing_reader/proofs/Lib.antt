@@ -1,3 +1,4 @@
+-- The proofs of snap_listing_reader, by their modules.
 pub mod KnownListings
 pub mod Lines
 pub mod Names

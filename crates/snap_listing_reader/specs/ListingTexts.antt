@@ -1,4 +1,4 @@
--- Texts that are known to be listings.
+-- `IsListingText`: a text that is read as a listing, and not refused.
 use Rattle.std.specs.Prelude.{ℕ, List, MatchResult}
 use Rattle.snap_semantics.specs.Listing.{listing_of}
 

@@ -1,4 +1,4 @@
--- Definitions of the reader's contracts.
+-- The steps of the reader of listings, as definitions: the next header line, one name more, one numbered line more.
 use Rattle.std.specs.Prelude.{ℕ, Bool, true, false, List, [], ◌∷◌, ◌++◌, length, Result, Ok, Err, nat_le, if◌then◌else◌}
 use Rattle.snap_semantics.specs.declared.instr.Line.{Line}
 use Rattle.snap_semantics.specs.declared.refusal.ListingRefusal.{ListingRefusal}
@@ -43,7 +43,9 @@ onto xs (Err e) = Err e
 
 -- the numbered line that a text line is, behind line number `last`, with so many lines before it
 abbrev pub numbered_line : Source → ℕ → ℕ → TextLine → Result Line ListingRefusal
-numbered_line s last count text = form_or (refusal.BadLine text.number) (line_form s.kind) text.tokens >>= λ line. checked_line s text.number last count line
+numbered_line s last count text =
+    form_or (refusal.BadLine text.number) (line_form s.kind) text.tokens >>= λ line.
+    checked_line s text.number last count line
 
 -- the number of the next line, and the lines with it
 abbrev pub added_line : Source → ℕ → List Line → TextLine → Result (ℕ × List Line) ListingRefusal

@@ -1,12 +1,16 @@
-//! The header lines of a listing.
+//! Reads the header lines of a listing: its kind, the
+//! names of each sort of locals, and its two entries.
 ghost use Rattle.std.specs.Prelude.{◌≡◌, ◌++◌, map, IfOk};
 ghost use Rattle.std.specs.List.{list_all};
 ghost use Rattle.snap_semantics.specs.Answers.{Answers};
-ghost use Rattle.snap_semantics.specs.HeaderForms.{kind_of_keyword, kind_form, words_form, names_form, entry_form};
-ghost use Rattle.snap_semantics.specs.Listing.{header_line, is_bad_name, new_names, names_line, header_of};
+ghost use Rattle.snap_semantics.specs.HeaderForms.{kind_of_keyword, kind_form};
+ghost use Rattle.snap_semantics.specs.HeaderForms.{names_form, entry_form};
+ghost use Rattle.snap_semantics.specs.Listing.{header_line, is_bad_name};
+ghost use Rattle.snap_semantics.specs.Listing.{new_names, names_line, header_of};
 ghost use Rattle.snap_semantics.specs.Uses.{is_among};
 ghost use Rattle.snap_listing_core.specs.Fields.{header_source};
-ghost use Rattle.snap_listing_reader.specs.ReaderSteps.{next_header, is_identifier, letters_of, new_name};
+ghost use Rattle.snap_listing_reader.specs.ReaderSteps.{next_header, is_identifier};
+ghost use Rattle.snap_listing_reader.specs.ReaderSteps.{letters_of, new_name};
 ghost use Rattle.snap_text.specs.Lines.{view_line};
 ghost use Rattle.snap_text.specs.Tokens.{Finds, view_tokens};
 

@@ -1,4 +1,4 @@
-//! Texts that are known to be listings.
+//! `read_known`: reads a text that is known to be a listing, so that only memory can be missing.
 ghost use Rattle.std.specs.Prelude.{◌≡◌, IfOk, Ok};
 ghost use Rattle.snap_semantics.specs.Listing.{listing_of};
 ghost use Rattle.snap_listing_reader.specs.ListingTexts.{IsListingText};

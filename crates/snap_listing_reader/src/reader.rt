@@ -1,8 +1,10 @@
-//! Reads listings.
+//! `read` and `read_commented`: the listing that a text spells, without
+//! or with its comments, or the first reason why the text is refused.
 ghost use Rattle.std.specs.Prelude.{◌≡◌, ◌<◌, Err, IfOk, drop, length};
 ghost use Rattle.snap_semantics.specs.Answers.{Answers};
 ghost use Rattle.snap_semantics.specs.Comments.{header_lines, commented_of};
-ghost use Rattle.snap_semantics.specs.Listing.{numbered_lines, with_lines, listing_of_lines, listing_of};
+ghost use Rattle.snap_semantics.specs.Listing.{numbered_lines, with_lines};
+ghost use Rattle.snap_semantics.specs.Listing.{listing_of_lines, listing_of};
 ghost use Rattle.snap_listing_core.specs.Fields.{header_source};
 ghost use Rattle.snap_listing_reader.specs.ReaderSteps.{numbered_line, added_line};
 ghost use Rattle.snap_semantics.specs.declared.fault.Fault.TheVariants.{Refused};

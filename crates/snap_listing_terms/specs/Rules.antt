@@ -1,4 +1,5 @@
--- Rules that the code has and the grammar does not name.
+-- Rules for a sum in a line of a listing, `+` and a term, which
+-- the code has and the grammar of listings does not name.
 use Rattle.std.specs.Prelude.{Bool, List, Some}
 use Rattle.snap_semantics.specs.declared.instr.Expr.{Expr}
 use Rattle.snap_semantics.specs.declared.instr.Expr.TheVariants as expr

@@ -1,6 +1,10 @@
-//! Expressions and conditions at the front of the tokens of a line, and what stands about them.
+//! Reads an expression or a condition, and `where`, a range or `goto
+//! N` beside it, at the front of the tokens of a listing's line.
 ghost use Rattle.std.specs.Prelude.{◌≡◌, Some};
-ghost use Rattle.snap_semantics.specs.ListingForms.{not_expr, term_expr, expr_at, relation_at, comparison_at, join_keyword, joined_at, third_on, second_on, first_on, condition_at, where_at, range_at, target_at};
+ghost use Rattle.snap_semantics.specs.ListingForms.{not_expr, term_expr, expr_at, relation_at};
+ghost use Rattle.snap_semantics.specs.ListingForms.{comparison_at, join_keyword, joined_at};
+ghost use Rattle.snap_semantics.specs.ListingForms.{third_on, second_on, first_on};
+ghost use Rattle.snap_semantics.specs.ListingForms.{condition_at, where_at, range_at, target_at};
 ghost use Rattle.snap_listing_terms.specs.Rules.{plus_term, sum_on};
 ghost use Rattle.snap_text.specs.Tokens.{Finds, view_tokens};
 

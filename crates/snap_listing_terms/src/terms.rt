@@ -1,6 +1,11 @@
-//! Names, indices and terms at the front of the tokens of a line.
+//! Reads names, indices and terms at the front of the tokens of a listing's line.
 ghost use Rattle.std.specs.Prelude.{◌≡◌};
-ghost use Rattle.snap_semantics.specs.ListingForms.{name_of_identifier, name_at, index_of_identifier, number_index, place_index, identifier_index, index_at, place_at, named_place_at, arg_term, row_term, field_of_keyword, field_term, handshake_term, index_term, term_at};
+ghost use Rattle.snap_semantics.specs.ListingForms.{name_of_identifier, name_at};
+ghost use Rattle.snap_semantics.specs.ListingForms.{index_of_identifier, number_index};
+ghost use Rattle.snap_semantics.specs.ListingForms.{place_index, identifier_index, index_at};
+ghost use Rattle.snap_semantics.specs.ListingForms.{place_at, named_place_at, arg_term};
+ghost use Rattle.snap_semantics.specs.ListingForms.{row_term, field_of_keyword, field_term};
+ghost use Rattle.snap_semantics.specs.ListingForms.{handshake_term, index_term, term_at};
 ghost use Rattle.snap_text.specs.Tokens.{Finds, view_tokens};
 
 use snap_listing_core::is_reserved;

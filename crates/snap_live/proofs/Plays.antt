@@ -1,5 +1,6 @@
--- Plays that go one turn further.
-use Rattle.std.proofs.Common.{◌≡◌, ℕ, zero, suc, ◌+◌, ◌<◌, List, [], ◌∷◌, ◌++◌, length, drop, refl, sym, ap, ◌∙◌, subst, arith, get_or, add-one, drop-cons, length-append, Bool, true, false, Option}
+-- A worker's play of its script, with one turn more: what a step, a call or the crash leaves due of the script.
+use Rattle.std.proofs.Common.{◌≡◌, ℕ, zero, suc, ◌+◌, ◌<◌, List, [], ◌∷◌, ◌++◌, length, drop, refl, sym, ap, ◌∙◌}
+use Rattle.std.proofs.Common.{subst, arith, get_or, add-one, drop-cons, length-append, Bool, true, false, Option}
 use Rattle.std.specs.Prelude.{MatchBool}
 use Rattle.snap_semantics.specs.declared.process.Item.{Item}
 use Rattle.snap_semantics.specs.declared.process.Item.TheVariants.{Step, Call, Crash}
@@ -16,7 +17,8 @@ use Rattle.snap_sched.specs.ScriptText.{Script}
 use Rattle.snap_live.specs.Script.{crashes_behind}
 use Rattle.snap_live_desk.specs.Shown.{DeskView, SeatView}
 use Rattle.snap_live.specs.Worker.{Made, Kept}
-use Rattle.snap_live.specs.Play.{IsDue, IsCrash, IsBegun, Due, rest, busy, over, Does, Moves, Plays, Leaves, after_call, after_step}
+use Rattle.snap_live.specs.Play.{IsDue, IsCrash, IsBegun, Due, rest, busy, over, Does}
+use Rattle.snap_live.specs.Play.{Moves, Plays, Leaves, after_call, after_step}
 
 plays-push : (crash : Option ℕ) (k : ℕ) (d e f : Due) (ts : List OwnTurn) (t : OwnTurn)
     → Plays crash k d ts e → Moves crash (k + length ts) e t f → Plays crash k d (ts ++ t ∷ []) f
@@ -72,30 +74,36 @@ call_due (outcome.Skipped r) os = refl
 
 made_asked : (b a : SeatView) (x : Item) (m : Sequel) → Made b a x m → b.asked ≡ length b.own → a.asked ≡ length a.own
 made_asked b a x m d e =
-    let n : length a.own ≡ length b.own + 1 = ap (λ (l : List OwnTurn). length l) d.own ∙ length-append b.own (own_turn d.number x d.outcome ∷ []) in
+    let n : length a.own ≡ length b.own + 1 =
+    ap (λ (l : List OwnTurn). length l) d.own ∙ length-append b.own (own_turn d.number x d.outcome ∷ []) in
     let k = d.asked in omega arith
 
 -- whether the crash comes, by the turns that were made
-comes_at : (script : Script) (s : SeatView) (b : Bool) → s.asked ≡ length s.own → crashes_behind script.crash s.asked ≡ b → crashes_behind script.crash (length s.own) ≡ b
+comes_at : (script : Script) (s : SeatView) (b : Bool) → s.asked ≡ length s.own →
+    crashes_behind script.crash s.asked ≡ b → crashes_behind script.crash (length s.own) ≡ b
 comes_at script s b asked is = ap (λ (k : ℕ). crashes_behind script.crash k) (sym asked) ∙ is
 
 -- a step goes on as the worker reads it
 pub steps_on : (script : Script) (os : List Op) (b a : SeatView) (i : ℕ) (m k : Sequel)
-    → Made b a (Step i) m → m ≡ k → b.asked ≡ length b.own → crashes_behind script.crash b.asked ≡ false → Leaves script b.own (busy os)
+    → Made b a (Step i) m → m ≡ k → b.asked ≡ length b.own →
+    crashes_behind script.crash b.asked ≡ false → Leaves script b.own (busy os)
     → (a.asked ≡ length a.own) × Leaves script a.own (due_of k os)
 steps_on script os b a i m k d e asked quiet p = (
   made_asked b a (Step i) m d asked,
-  leaves-push script b.own a.own (busy os) (due_of k os) (own_turn d.number (Step i) d.outcome) false p d.own (comes_at script b false asked quiet)
+  leaves-push script b.own a.own (busy os) (due_of k os) (own_turn d.number (Step i) d.outcome) false p d.own
+      (comes_at script b false asked quiet)
       (tt, ap (λ (x : Sequel). due_of x os) (sym e ∙ d.reads) ∙ sym (step_due d.outcome os)),
 )
 
 -- a call goes on as the worker reads it
 calls_on : (script : Script) (os : List Op) (op : Op) (b a : SeatView) (i : ℕ) (m : Sequel)
-    → Made b a (Call i op) m → b.asked ≡ length b.own → crashes_behind script.crash b.asked ≡ false → Leaves script b.own (rest (op ∷ os))
+    → Made b a (Call i op) m → b.asked ≡ length b.own → crashes_behind script.crash b.asked ≡ false →
+    Leaves script b.own (rest (op ∷ os))
     → (a.asked ≡ length a.own) × Leaves script a.own (due_called m os)
 calls_on script os op b a i m d asked quiet p = (
   made_asked b a (Call i op) m d asked,
-  leaves-push script b.own a.own (rest (op ∷ os)) (due_called m os) (own_turn d.number (Call i op) d.outcome) false p d.own (comes_at script b false asked quiet)
+  leaves-push script b.own a.own (rest (op ∷ os)) (due_called m os)
+      (own_turn d.number (Call i op) d.outcome) false p d.own (comes_at script b false asked quiet)
       (refl, ap (λ (x : Sequel). due_called x os) d.reads ∙ sym (call_due d.outcome os)),
 )
 
@@ -105,11 +113,13 @@ pub crash_on : (script : Script) (b a : SeatView) (i : ℕ) (m : Sequel)
     → (a.asked ≡ length a.own) × Leaves script a.own over
 crash_on script b a i m d asked comes begun = (
   made_asked b a (Crash i) m d asked,
-  leaves-push script b.own a.own begun.0 over (own_turn d.number (Crash i) d.outcome) true begun.1 d.own (comes_at script b true asked comes)
+  leaves-push script b.own a.own begun.0 over (own_turn d.number (Crash i) d.outcome) true begun.1 d.own
+      (comes_at script b true asked comes)
       (begun.2, tt, refl),
 )
 
-pub kept_of : (may : ℕ → ℕ → Bool → Type 0) (desk : DeskView) (p q limit : ℕ) (s : SeatView) (ts : List Turn) → p ≡ q → Kept may desk p limit s ts → Kept may desk q limit s ts
+pub kept_of : (may : ℕ → ℕ → Bool → Type 0) (desk : DeskView) (p q limit : ℕ) (s : SeatView) (ts : List Turn) →
+    p ≡ q → Kept may desk p limit s ts → Kept may desk q limit s ts
 kept_of may desk p q limit s ts e k = subst (λ (x : ℕ). Kept may desk x limit s ts) e k
 
 -- where an operation is left, it is due
@@ -119,7 +129,8 @@ left_is_due [] (suc at) lt = absurd (omega arith)
 left_is_due (o ∷ os) zero lt = tt
 left_is_due (o ∷ os) (suc at) lt = left_is_due os at (omega arith)
 
-pub begun_left : (script : Script) (ts : List OwnTurn) (at : ℕ) → at < length script.operations → Leaves script ts (rest (drop at script.operations)) → IsBegun script ts
+pub begun_left : (script : Script) (ts : List OwnTurn) (at : ℕ) → at < length script.operations →
+    Leaves script ts (rest (drop at script.operations)) → IsBegun script ts
 begun_left script ts at lt p = (rest (drop at script.operations), p, left_is_due script.operations at lt)
 
 goes_on : (m : Sequel) (os : List Op) → (m ≡ sequel.Skipped → ⊥) → due_called m os ≡ busy os
@@ -130,17 +141,23 @@ goes_on sequel.Skipped os ne = absurd (ne refl)
 
 -- a call of the operation at this place
 pub calls_at : (script : Script) (l : List Op) (at : ℕ) (o : Op) (b a : SeatView) (i : ℕ) (m : Sequel)
-    → l ≡ script.operations → at < length script.operations → Made b a (Call i (get_or l at o)) m → b.asked ≡ length b.own → crashes_behind script.crash b.asked ≡ false
+    → l ≡ script.operations → at < length script.operations → Made b a (Call i (get_or l at o)) m →
+    b.asked ≡ length b.own → crashes_behind script.crash b.asked ≡ false
     → Leaves script b.own (rest (drop at script.operations))
     → (a.asked ≡ length a.own) × Leaves script a.own (due_called m (drop (at + 1) script.operations))
 calls_at script l at o b a i m same lt called asked quiet p =
     let ops = script.operations in
-    let made : Made b a (Call i (get_or ops at o)) m = subst (λ (k : List Op). Made b a (Call i (get_or k at o)) m) same called in
-    let e : drop at ops ≡ get_or ops at o ∷ drop (at + 1) ops = drop-cons ops at o lt ∙ ap (λ (k : ℕ). get_or ops at o ∷ drop k ops) (sym (add-one at)) in
-    calls_on script (drop (at + 1) ops) (get_or ops at o) b a i m made asked quiet (subst (λ (l : List Op). Leaves script b.own (rest l)) e p)
+    let made : Made b a (Call i (get_or ops at o)) m =
+    subst (λ (k : List Op). Made b a (Call i (get_or k at o)) m) same called in
+    let e : drop at ops ≡ get_or ops at o ∷ drop (at + 1) ops =
+    drop-cons ops at o lt ∙ ap (λ (k : ℕ). get_or ops at o ∷ drop k ops) (sym (add-one at)) in
+    calls_on script (drop (at + 1) ops) (get_or ops at o) b a i m made asked quiet
+    (subst (λ (l : List Op). Leaves script b.own (rest l)) e p)
 
-pub call_goes : (script : Script) (os : List Op) (ts : List OwnTurn) (m : Sequel) → (m ≡ sequel.Skipped → ⊥) → Leaves script ts (due_called m os) → Leaves script ts (busy os)
+pub call_goes : (script : Script) (os : List Op) (ts : List OwnTurn) (m : Sequel) → (m ≡ sequel.Skipped → ⊥) →
+    Leaves script ts (due_called m os) → Leaves script ts (busy os)
 call_goes script os ts m ne p = subst (λ (d : Due). Leaves script ts d) (goes_on m os ne) p
 
-pub call_passes : (script : Script) (os : List Op) (ts : List OwnTurn) (m : Sequel) → m ≡ sequel.Skipped → Leaves script ts (due_called m os) → Leaves script ts (rest os)
+pub call_passes : (script : Script) (os : List Op) (ts : List OwnTurn) (m : Sequel) → m ≡ sequel.Skipped →
+    Leaves script ts (due_called m os) → Leaves script ts (rest os)
 call_passes script os ts m e p = subst (λ (k : Sequel). Leaves script ts (due_called k os)) e p

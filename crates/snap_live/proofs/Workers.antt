@@ -1,5 +1,8 @@
--- What all workers together did.
-use Rattle.std.proofs.Common.{◌≡◌, ◌⊎◌, ℕ, zero, suc, ◌+◌, ◌-◌, ◌*◌, ◌<◌, ◌≤◌, List, [], ◌∷◌, ◌++◌, length, map, get_or, refl, sym, ap, ◌∙◌, subst, ⊎_elim, inl, inr, arith, Bool, true, false, Option, Some, None, eq-eqb, length-append}
+-- What all workers of a live run did, put together: the first of them to stop, and the turns of each process in one
+-- record.
+use Rattle.std.proofs.Common.{◌≡◌, ◌⊎◌, ℕ, zero, suc, ◌+◌, ◌-◌, ◌*◌, ◌<◌, ◌≤◌, List, [], ◌∷◌, ◌++◌, length, map}
+use Rattle.std.proofs.Common.{get_or, refl, sym, ap, ◌∙◌, subst, ⊎_elim, inl, inr, arith, Bool, true, false, Option}
+use Rattle.std.proofs.Common.{Some, None, eq-eqb, length-append}
 use Rattle.std.specs.Prelude.{All, nat_eq}
 use Rattle.std.specs.List.{AllByRecursion}
 use mathlib.Core.Logic.{dite}
@@ -25,7 +28,8 @@ use Rattle.snap_live.specs.Script.{script_at}
 use Rattle.snap_live_desk.specs.Shown.{DeskView, SeatView, Keeps, seat_of, seats_of}
 use Rattle.snap_live_desk.specs.Closed.{HasSeat, IsLeastMissing, NamesMissing}
 use Rattle.snap_live.specs.Worker.{shown, IsLetOn, MayGoOn, MayNotGoOn, Stopped, Ended, WorkedView, IsWorked}
-use Rattle.snap_live.specs.LiveRun.{turns_at, Played, IsLive, IsPart, GivesUp, MayFault, or_first, first_stop, then_first, fault_of, AllWorked}
+use Rattle.snap_live.specs.LiveRun.{turns_at, Played, IsLive, IsPart, GivesUp, MayFault, or_first, first_stop}
+use Rattle.snap_live.specs.LiveRun.{then_first, fault_of, AllWorked}
 use Rattle.snap_live_desk.proofs.Joins.{prefix_length}
 use Rattle.snap_live_desk.proofs.Gathered.{has_at}
 use Rattle.snap_live.proofs.Handles.{at_last, at_left, map_at, map_length, any_default}
@@ -34,7 +38,8 @@ use Rattle.snap_live.proofs.Handles.{at_last, at_left, map_at, map_length, any_d
 
 pub seats_length : (d : DeskView) (n : ℕ) → length (seats_of d n) ≡ n
 seats_length d zero = refl
-seats_length d (suc n) = length-append (seats_of d n) (seat_of d (suc n) ∷ []) ∙ (let e = seats_length d n in omega arith)
+seats_length d (suc n) =
+    length-append (seats_of d n) (seat_of d (suc n) ∷ []) ∙ (let e = seats_length d n in omega arith)
 
 pub seats_at : (d : DeskView) (n k : ℕ) (s : SeatView) → k < n → get_or (seats_of d n) k s ≡ seat_of d (k + 1)
 seats_at d zero k s lt = absurd (omega arith)
@@ -43,67 +48,89 @@ seats_at d (suc n) k s lt =
     dite (ℕ_discrete k n)
     (λ e.
     let at : k ≡ length (seats_of d n) = e ∙ sym len in
-    ap (λ (j : ℕ). get_or (seats_of d n ++ seat_of d (suc n) ∷ []) j s) at ∙ at_last (seats_of d n) (seat_of d (suc n)) s
+    ap (λ (j : ℕ). get_or (seats_of d n ++ seat_of d (suc n) ∷ []) j s) at
+    ∙ at_last (seats_of d n) (seat_of d (suc n)) s
     ∙ ap (seat_of d) (let m : suc n ≡ k + 1 = omega arith in m))
     (λ ne. at_left (seats_of d n) (seat_of d (suc n)) k s (omega arith) ∙ seats_at d n k s (omega arith))
 
 -- what start_all asks of each seat
-pub new_seats : (d : DeskView) (n : ℕ) (ss : List SeatView) → ss ≡ seats_of d n → All (λ (s : SeatView). (s ≡ seat_of d s.process) × IsOneOf n s.process) ss
+pub new_seats : (d : DeskView) (n : ℕ) (ss : List SeatView) → ss ≡ seats_of d n →
+    All (λ (s : SeatView). (s ≡ seat_of d s.process) × IsOneOf n s.process) ss
 new_seats d n ss e k s lt =
     let len : length ss ≡ n = ap (λ (l : List SeatView). length l) e ∙ seats_length d n in
-    let at : get_or ss k s ≡ seat_of d (k + 1) = ap (λ (l : List SeatView). get_or l k s) e ∙ seats_at d n k s (omega arith) in
-    subst (λ (v : SeatView). (v ≡ seat_of d v.process) × IsOneOf n v.process) (sym at) (refl, (omega arith, omega arith))
+    let at : get_or ss k s ≡ seat_of d (k + 1) =
+    ap (λ (l : List SeatView). get_or l k s) e ∙ seats_at d n k s (omega arith) in
+    subst (λ (v : SeatView). (v ≡ seat_of d v.process) × IsOneOf n v.process) (sym at)
+    (refl, (omega arith, omega arith))
 
 -- what the handles promise of all workers, as their handles' parts say it
-pub workers_of : {H M : Type 0} (seat_in : H → SeatView) (script_in : H → Script) (gate_in : H → M) (limit_in : H → ℕ) (may : M → ℕ → ℕ → Bool → Type 0)
-    (desk : DeskView) (scripts : List Script) (limit : ℕ) (gate : M) (ss : List SeatView) (hs : List H) (ws : List WorkedView)
-    → ss ≡ seats_of desk (length scripts) → map seat_in hs ≡ ss → map script_in hs ≡ map (λ (s : SeatView). script_at scripts (s.process - 1)) ss
+pub workers_of : {H M : Type 0} (seat_in : H → SeatView) (script_in : H → Script) (gate_in : H → M) (limit_in : H → ℕ)
+    (may : M → ℕ → ℕ → Bool → Type 0)
+    (desk : DeskView) (scripts : List Script) (limit : ℕ) (gate : M) (ss : List SeatView)
+    (hs : List H) (ws : List WorkedView)
+    → ss ≡ seats_of desk (length scripts) → map seat_in hs ≡ ss →
+    map script_in hs ≡ map (λ (s : SeatView). script_at scripts (s.process - 1)) ss
     → All (λ (h : H). gate_in h ≡ gate) hs → All (λ (h : H). limit_in h ≡ limit) hs
     → length ws ≡ length hs
-    → ((k : ℕ) (w : WorkedView) → k < length hs → (h : H) × (h ≡ get_or hs k h) × IsWorked (may (gate_in h)) (seat_in h).desk (seat_in h).process (script_in h) (limit_in h) (get_or ws k w))
+    → ((k : ℕ) (w : WorkedView) → k < length hs → (h : H) × (h ≡ get_or hs k h)
+    × IsWorked (may (gate_in h)) (seat_in h).desk (seat_in h).process (script_in h) (limit_in h) (get_or ws k w))
     → AllWorked (may gate) desk scripts limit ws
-workers_of {H = H} {M = M} seat_in script_in gate_in limit_in may desk scripts limit gate ss hs ws new seats script gates limits len each =
+workers_of {H = H} {M = M} seat_in script_in gate_in limit_in may desk scripts limit gate ss hs ws new seats
+    script gates limits len each =
     let n : ℕ = length scripts in
-    let handles : length hs ≡ n = sym (map_length seat_in hs) ∙ ap (λ (l : List SeatView). length l) (seats ∙ new) ∙ seats_length desk n in record {
+    let handles : length hs ≡ n =
+    sym (map_length seat_in hs) ∙ ap (λ (l : List SeatView). length l) (seats ∙ new) ∙ seats_length desk n in
+    record {
       each_process = len ∙ handles;
       worked = λ k w lt.
           let below : k < length hs = omega arith in
           let r = each k w below in
           let h = r.0 in
           let seat : seat_in h ≡ seat_of desk (k + 1) =
-          ap seat_in r.1 ∙ sym (map_at seat_in hs k h) ∙ ap (λ (l : List SeatView). get_or l k (seat_in h)) (seats ∙ new) ∙ seats_at desk n k (seat_in h) lt in
+          ap seat_in r.1 ∙ sym (map_at seat_in hs k h)
+          ∙ ap (λ (l : List SeatView). get_or l k (seat_in h)) (seats ∙ new) ∙ seats_at desk n k (seat_in h) lt in
           let of_script : SeatView → Script = λ s. script_at scripts (s.process - 1) in
-          let in_seats : k < length (map of_script ss) = (let a = map_length of_script ss in let b = ap (λ (l : List SeatView). length l) new in let c = seats_length desk n in omega arith) in
+          let in_seats : k < length (map of_script ss) =
+          (let a = map_length of_script ss in let b =
+          ap (λ (l : List SeatView). length l) new in let c = seats_length desk n in omega arith) in
           let x : SeatView = seat_of desk 0 in
           let same : (k + 1) - 1 ≡ k = omega arith in
           let script_is : script_in h ≡ script_at scripts k =
           ap script_in r.1 ∙ sym (map_at script_in hs k h) ∙ ap (λ (l : List Script). get_or l k (script_in h)) script
           ∙ any_default (map of_script ss) k (script_in h) (of_script x) in_seats
-          ∙ map_at of_script ss k x ∙ ap of_script (ap (λ (l : List SeatView). get_or l k x) new ∙ seats_at desk n k x lt) ∙ ap (script_at scripts) same in
+          ∙ map_at of_script ss k x
+          ∙ ap of_script (ap (λ (l : List SeatView). get_or l k x) new ∙ seats_at desk n k x lt)
+          ∙ ap (script_at scripts) same in
           let gate_is : gate_in h ≡ gate = ap gate_in r.1 ∙ gates k h below in
           let limit_is : limit_in h ≡ limit = ap limit_in r.1 ∙ limits k h below in
           let v = get_or ws k w in
           subst (λ (m : M). IsWorked (may m) desk (k + 1) (script_at scripts k) limit v) gate_is
           (subst (λ (l : ℕ). IsWorked (may (gate_in h)) desk (k + 1) (script_at scripts k) l v) limit_is
           (subst (λ (t : Script). IsWorked (may (gate_in h)) desk (k + 1) t (limit_in h) v) script_is
-          (subst (λ (s : SeatView). IsWorked (may (gate_in h)) s.desk s.process (script_in h) (limit_in h) v) seat r.2)));
+          (subst
+          (λ (s : SeatView). IsWorked (may (gate_in h)) s.desk s.process (script_in h) (limit_in h) v) seat r.2)));
     }
 
 -- the first stop
 
-or_then : (p q : ℕ) (o r : Option Stop) (l : Option (ℕ × Stop)) → or_first p o (then_first l q r) ≡ then_first (or_first p o l) q r
+or_then : (p q : ℕ) (o r : Option Stop) (l : Option (ℕ × Stop)) →
+    or_first p o (then_first l q r) ≡ then_first (or_first p o l) q r
 or_then p q None r l = refl
 or_then p q (Some f) r l = refl
 
-pub first-push : (ws : List WorkedView) (w : WorkedView) → first_stop (ws ++ w ∷ []) ≡ then_first (first_stop ws) w.seat.process w.stop
+pub first-push : (ws : List WorkedView) (w : WorkedView) →
+    first_stop (ws ++ w ∷ []) ≡ then_first (first_stop ws) w.seat.process w.stop
 first-push [] w = refl
-first-push (v ∷ vs) w = ap (or_first v.seat.process v.stop) (first-push vs w) ∙ or_then v.seat.process w.seat.process v.stop w.stop (first_stop vs)
+first-push (v ∷ vs) w =
+    ap (or_first v.seat.process v.stop) (first-push vs w)
+    ∙ or_then v.seat.process w.seat.process v.stop w.stop (first_stop vs)
 
 none_first : (p : ℕ) (o : Option Stop) (l : Option (ℕ × Stop)) → or_first p o l ≡ None → (o ≡ None) × (l ≡ None)
 none_first p None l e = (refl, e)
 none_first p (Some f) l e = absurd (cc)
 
-no_stop : (ws : List WorkedView) (k : ℕ) (d : WorkedView) → first_stop ws ≡ None → k < length ws → (get_or ws k d).stop ≡ None
+no_stop : (ws : List WorkedView) (k : ℕ) (d : WorkedView) → first_stop ws ≡ None →
+    k < length ws → (get_or ws k d).stop ≡ None
 no_stop [] k d e lt = absurd (omega arith)
 no_stop (w ∷ ws) zero d e lt = (none_first w.seat.process w.stop (first_stop ws) e).0
 no_stop (w ∷ ws) (suc k) d e lt = no_stop ws k d (none_first w.seat.process w.stop (first_stop ws) e).1 (omega arith)
@@ -116,11 +143,15 @@ record Stopping (ws : List WorkedView) (pf : ℕ × Stop) : Type 0 where
   stop : (d : WorkedView) → (get_or ws at d).stop ≡ Some pf.1
   before : (j : ℕ) (d : WorkedView) → j < at → (get_or ws j d).stop ≡ None
 
-some_first : (p : ℕ) (o : Option Stop) (l : Option (ℕ × Stop)) (pf : ℕ × Stop) → or_first p o l ≡ Some pf → ((p ≡ pf.0) × (o ≡ Some pf.1)) ⊎ ((o ≡ None) × (l ≡ Some pf))
+some_first : (p : ℕ) (o : Option Stop) (l : Option (ℕ × Stop)) (pf : ℕ × Stop) → or_first p o l ≡ Some pf →
+    ((p ≡ pf.0) × (o ≡ Some pf.1)) ⊎ ((o ≡ None) × (l ≡ Some pf))
 some_first p None l pf e = inr (refl, e)
-some_first p (Some f) l pf e = let s : (p, f) ≡ pf = cc in inl (ap (λ (x : ℕ × Stop). x.0) s, ap (λ (x : ℕ × Stop). Some x.1) s)
+some_first p (Some f) l pf e =
+    let s : (p, f) ≡ pf = cc in
+    inl (ap (λ (x : ℕ × Stop). x.0) s, ap (λ (x : ℕ × Stop). Some x.1) s)
 
-none_before : (w : WorkedView) (ws : List WorkedView) (k : ℕ) → w.stop ≡ None → ((j : ℕ) (d : WorkedView) → j < k → (get_or ws j d).stop ≡ None)
+none_before : (w : WorkedView) (ws : List WorkedView) (k : ℕ) → w.stop ≡ None →
+    ((j : ℕ) (d : WorkedView) → j < k → (get_or ws j d).stop ≡ None)
     → (j : ℕ) (d : WorkedView) → j < suc k → (get_or (w ∷ ws) j d).stop ≡ None
 none_before w ws k here more zero d lt = here
 none_before w ws k here more (suc j) d lt = more j d (omega arith)
@@ -158,7 +189,8 @@ put_length true t ts = omega arith
 put_length false t ts = omega arith
 
 -- how many turns a process has does not hang on the state
-same_times : (base : Setting) (S T : State) (k l p : ℕ) (xs : List Item) → length (turns_from base S k p xs) ≡ length (turns_from base T l p xs)
+same_times : (base : Setting) (S T : State) (k l p : ℕ) (xs : List Item) →
+    length (turns_from base S k p xs) ≡ length (turns_from base T l p xs)
 same_times base S T k l p [] = refl
 same_times base S T k l p (x ∷ xs) =
     let a = done base.source base.shape S x in let b = done base.source base.shape T x in
@@ -192,7 +224,8 @@ hit_one (suc n) w b = dite (ℕ_discrete (suc n) w)
     (λ e. let t : one_if (nat_eq (suc n) w) ≡ 1 = ap one_if (eq-eqb (suc n) w e) in omega arith)
     (λ ne. let h = hit_one n w (b.0, (let le = b.1 in omega arith)) in omega arith)
 
-all_counted : (base : Setting) (S : State) (n : ℕ) (xs : List Item) → AllByRecursion (λ (x : Item). IsOneOf n (who x)) xs → length xs ≤ counted base S n xs
+all_counted : (base : Setting) (S : State) (n : ℕ) (xs : List Item) →
+    AllByRecursion (λ (x : Item). IsOneOf n (who x)) xs → length xs ≤ counted base S n xs
 all_counted base S n [] all = omega arith
 all_counted base S n (x ∷ xs) all =
     let e = counted-cons base S n x xs in let h = hit_one n (who x) all.0 in
@@ -208,21 +241,26 @@ counted_few base S (suc n) limit xs each =
     let h = each (suc n) (omega arith, omega arith) in omega arith
 
 counted_fewer : (base : Setting) (S : State) (n limit q : ℕ) (xs : List Item)
-    → ((p : ℕ) → IsOneOf n p → length (turns_from base S 0 p xs) ≤ limit) → IsOneOf n q → length (turns_from base S 0 q xs) < limit → counted base S n xs < n * limit
+    → ((p : ℕ) → IsOneOf n p → length (turns_from base S 0 p xs) ≤ limit) → IsOneOf n q →
+    length (turns_from base S 0 q xs) < limit → counted base S n xs < n * limit
 unfolding counted
 counted_fewer base S zero limit q xs each one few = absurd (omega (arith, one.0, one.1))
 counted_fewer base S (suc n) limit q xs each one few =
-    let down : (p : ℕ) → IsOneOf n p → length (turns_from base S 0 p xs) ≤ limit = λ p b. each p (b.0, (let le = b.1 in omega arith)) in
+    let down : (p : ℕ) → IsOneOf n p → length (turns_from base S 0 p xs) ≤ limit =
+    λ p b. each p (b.0, (let le = b.1 in omega arith)) in
     dite (ℕ_discrete q (suc n))
     (λ e.
     let r = counted_few base S n limit xs down in
-    let h : length (turns_from base S 0 (suc n) xs) < limit = subst (λ (k : ℕ). length (turns_from base S 0 k xs) < limit) e few in omega arith)
+    let h : length (turns_from base S 0 (suc n) xs) < limit =
+    subst (λ (k : ℕ). length (turns_from base S 0 k xs) < limit) e few in omega arith)
     (λ ne.
     let r = counted_fewer base S n limit q xs down (one.0, (let le = one.1 in omega arith)) few in
     let h = each (suc n) (omega arith, omega arith) in omega arith)
 
-pub few_items : (base : Setting) (limit q : ℕ) (xs : List Item) → AllByRecursion (λ (x : Item). IsOneOf base.shape.n (who x)) xs
-    → ((p : ℕ) → IsOneOf base.shape.n p → length (turns_of base p xs) ≤ limit) → IsOneOf base.shape.n q → length (turns_of base q xs) < limit
+pub few_items : (base : Setting) (limit q : ℕ) (xs : List Item) →
+    AllByRecursion (λ (x : Item). IsOneOf base.shape.n (who x)) xs
+    → ((p : ℕ) → IsOneOf base.shape.n p → length (turns_of base p xs) ≤ limit) → IsOneOf base.shape.n q →
+    length (turns_of base q xs) < limit
     → length xs < base.shape.n * limit
 few_items base limit q xs all each one few =
     let S = initial base.source base.shape in
@@ -230,7 +268,8 @@ few_items base limit q xs all each one few =
     let b = counted_fewer base S base.shape.n limit q xs each one few in omega arith
 
 -- a worker's turns are a whole play of its script, or a begun one
-whole_or_begun : (may : ℕ → ℕ → Bool → Type 0) (script : Script) (limit : ℕ) (seat : SeatView) (o : Option Stop) → Ended may script limit seat o → IsPlay script seat.own ⊎ IsBegun script seat.own
+whole_or_begun : (may : ℕ → ℕ → Bool → Type 0) (script : Script) (limit : ℕ) (seat : SeatView) (o : Option Stop) →
+    Ended may script limit seat o → IsPlay script seat.own ⊎ IsBegun script seat.own
 whole_or_begun may script limit seat None e = inl e
 whole_or_begun may script limit seat (Some stop) e = inr e.begun
 
@@ -245,7 +284,8 @@ seat_in w = w.seat
 abbrev turns_told : WorkedView → List Turn
 turns_told w = w.turns
 
-module _ (may : ℕ → ℕ → Bool → Type 0) (desk : DeskView) (scripts : List Script) (limit : ℕ) (ws : List WorkedView) (workers_joined : AllWorked may desk scripts limit ws) where
+module _ (may : ℕ → ℕ → Bool → Type 0) (desk : DeskView) (scripts : List Script) (limit : ℕ) (ws : List WorkedView)
+    (workers_joined : AllWorked may desk scripts limit ws) where
   seat_at : (k : ℕ) (d : SeatView) → get_or (map seat_in ws) k d ≡ (get_or ws k (idle d)).seat
   seat_at k d = map_at seat_in ws k (idle d)
 
@@ -256,7 +296,8 @@ module _ (may : ℕ → ℕ → Bool → Type 0) (desk : DeskView) (scripts : Li
   at_desk k d lt =
       let w = get_or ws k (idle d) in
       let n = seat_count in
-      subst (λ (s : SeatView). s.desk ≡ desk) (sym (seat_at k d)) (workers_joined.worked k (idle d) (omega arith)).kept.at_desk
+      subst (λ (s : SeatView). s.desk ≡ desk) (sym (seat_at k d))
+      (workers_joined.worked k (idle d) (omega arith)).kept.at_desk
 
   pub everybody : (p : ℕ) → IsOneOf (length scripts) p → HasSeat p (map seat_in ws)
   everybody p one =
@@ -266,15 +307,18 @@ module _ (may : ℕ → ℕ → Bool → Type 0) (desk : DeskView) (scripts : Li
       let a = one.0 in let b = one.1 in
       let lt : k < length scripts = omega arith in
       let same : k + 1 ≡ p = omega arith in
-      has_at p k (map seat_in ws) d (omega arith) (ap (λ (s : SeatView). s.process) (seat_at k d) ∙ (workers_joined.worked k (idle d) lt).kept.of_process ∙ same)
+      has_at p k (map seat_in ws) d (omega arith)
+      (ap (λ (s : SeatView). s.process) (seat_at k d) ∙ (workers_joined.worked k (idle d) lt).kept.of_process ∙ same)
 
   module _ (items : List Item) (keeps : All (Keeps desk.base items) (map seat_in ws)) where
     -- the turns of worker k are the items of its process
-    own_is : (k : ℕ) (d : SeatView) → k < length scripts → turns_of desk.base (k + 1) items ≡ (get_or ws k (idle d)).seat.own
+    own_is : (k : ℕ) (d : SeatView) → k < length scripts →
+        turns_of desk.base (k + 1) items ≡ (get_or ws k (idle d)).seat.own
     own_is k d lt =
         let w = get_or ws k (idle d) in
         let n = seat_count in
-        let h : Keeps desk.base items w.seat = subst (λ (s : SeatView). Keeps desk.base items s) (seat_at k d) (keeps k d (omega arith)) in
+        let h : Keeps desk.base items w.seat =
+        subst (λ (s : SeatView). Keeps desk.base items s) (seat_at k d) (keeps k d (omega arith)) in
         ap (λ (p : ℕ). turns_of desk.base p items) (sym (workers_joined.worked k (idle d) lt).kept.of_process) ∙ h.1
 
     few_own : (p : ℕ) → IsOneOf (length scripts) p → length (turns_of desk.base p items) ≤ limit
@@ -289,24 +333,29 @@ module _ (may : ℕ → ℕ → Bool → Type 0) (desk : DeskView) (scripts : Li
         subst (λ (q : ℕ). length (turns_of desk.base q items) ≤ limit) same (omega arith)
 
     -- the turns of a worker that came to the end of its script
-    whole_at : (k : ℕ) (d : SeatView) → k < length scripts → (get_or ws k (idle d)).stop ≡ None → IsPlay (script_at scripts k) (turns_of desk.base (k + 1) items)
+    whole_at : (k : ℕ) (d : SeatView) → k < length scripts → (get_or ws k (idle d)).stop ≡ None →
+        IsPlay (script_at scripts k) (turns_of desk.base (k + 1) items)
     whole_at k d lt none =
         let w = get_or ws k (idle d) in
         let r = workers_joined.worked k (idle d) lt in
-        let ended : Ended may (script_at scripts k) limit w.seat None = subst (λ (o : Option Stop). Ended may (script_at scripts k) limit w.seat o) none r.ended in
+        let ended : Ended may (script_at scripts k) limit w.seat None =
+        subst (λ (o : Option Stop). Ended may (script_at scripts k) limit w.seat o) none r.ended in
         subst (λ (l : List OwnTurn). IsPlay (script_at scripts k) l) (sym (own_is k d lt)) ended
 
     let_on_at : (k : ℕ) → k < length scripts → IsLetOn may (k + 1) (length (turns_of desk.base (k + 1) items))
     let_on_at k lt =
         let d : SeatView = seat_of desk 0 in
-        subst (λ (l : List OwnTurn). IsLetOn may (k + 1) (length l)) (sym (own_is k d lt)) (workers_joined.worked k (idle d) lt).kept.let_on
+        subst (λ (l : List OwnTurn). IsLetOn may (k + 1) (length l)) (sym (own_is k d lt))
+        (workers_joined.worked k (idle d) lt).kept.let_on
 
     few_at : (k : ℕ) → k < length scripts → length (turns_of desk.base (k + 1) items) ≤ limit
     few_at k lt =
         let d : SeatView = seat_of desk 0 in
-        subst (λ (l : List OwnTurn). length l ≤ limit) (sym (own_is k d lt)) (workers_joined.worked k (idle d) lt).kept.few
+        subst (λ (l : List OwnTurn). length l ≤ limit) (sym (own_is k d lt))
+        (workers_joined.worked k (idle d) lt).kept.few
 
-    pub plays_all : first_stop ws ≡ None → (k : ℕ) → k < length scripts → Played may desk.base items (k + 1) (script_at scripts k) limit (turns_at (map turns_told ws) k)
+    pub plays_all : first_stop ws ≡ None → (k : ℕ) → k < length scripts →
+        Played may desk.base items (k + 1) (script_at scripts k) limit (turns_at (map turns_told ws) k)
     plays_all none k lt =
         let d : SeatView = seat_of desk 0 in
         let r = workers_joined.worked k (idle d) lt in
@@ -322,50 +371,65 @@ module _ (may : ℕ → ℕ → Bool → Type 0) (desk : DeskView) (scripts : Li
         let d : SeatView = seat_of desk 0 in
         let w = get_or ws k (idle d) in
         let r = workers_joined.worked k (idle d) lt in record {
-          plays = subst (λ (l : List OwnTurn). IsPlay (script_at scripts k) l ⊎ IsBegun (script_at scripts k) l) (sym (own_is k d lt)) (whole_or_begun may (script_at scripts k) limit w.seat w.stop r.ended);
+          plays =
+              subst (λ (l : List OwnTurn). IsPlay (script_at scripts k) l ⊎ IsBegun (script_at scripts k) l)
+              (sym (own_is k d lt)) (whole_or_begun may (script_at scripts k) limit w.seat w.stop r.ended);
           few = few_at k lt;
           let_on = let_on_at k lt;
         }
 
     -- how the worker at fault stopped
-    stopped_at : (pf : ℕ × Stop) (at : Stopping ws pf) (d : SeatView) → Stopped may (script_at scripts at.at) limit (get_or ws at.at (idle d)).seat pf.1
+    stopped_at : (pf : ℕ × Stop) (at : Stopping ws pf) (d : SeatView) →
+        Stopped may (script_at scripts at.at) limit (get_or ws at.at (idle d)).seat pf.1
     stopped_at pf at d =
         let n = workers_joined.each_process in
         let k = at.at in
         let lt : k < length scripts = (let l = at.there in omega arith) in
-        subst (λ (o : Option Stop). Ended may (script_at scripts k) limit (get_or ws k (idle d)).seat o) (at.stop (idle d)) (workers_joined.worked k (idle d) lt).ended
+        subst (λ (o : Option Stop). Ended may (script_at scripts k) limit (get_or ws k (idle d)).seat o)
+        (at.stop (idle d)) (workers_joined.worked k (idle d) lt).ended
 
-    gives_up : length scripts ≡ desk.base.shape.n → IsValidRun (run_of desk.base items) → length items ≤ 1000000 → (pf : ℕ × Stop) → Stopping ws pf → GivesUp may desk.base scripts limit pf.0 items
+    gives_up : length scripts ≡ desk.base.shape.n → IsValidRun (run_of desk.base items) → length items ≤ 1000000 →
+        (pf : ℕ × Stop) → Stopping ws pf → GivesUp may desk.base scripts limit pf.0 items
     gives_up n fits short pf at =
         let d : SeatView = seat_of desk 0 in
         let k = at.at in
         let many = workers_joined.each_process in
         let lt : k < length scripts = (let l = at.there in omega arith) in
-        let process : pf.0 ≡ k + 1 = sym (at.process (idle d)) ∙ (workers_joined.worked k (idle d) lt).kept.of_process in
+        let process : pf.0 ≡ k + 1 =
+        sym (at.process (idle d)) ∙ (workers_joined.worked k (idle d) lt).kept.of_process in
         let back : pf.0 - 1 ≡ k = omega arith in
         let begun : IsBegun (script_at scripts k) (turns_of desk.base (k + 1) items) =
-        subst (λ (l : List OwnTurn). IsBegun (script_at scripts k) l) (sym (own_is k d lt)) (stopped_at pf at d).begun in record {
+        subst (λ (l : List OwnTurn). IsBegun (script_at scripts k) l) (sym (own_is k d lt))
+        (stopped_at pf at d).begun in
+        record {
           fits = fits;
           short = short;
           parts = λ j below. part_at j (omega arith);
           one = (omega arith, omega arith);
-          begun = subst (λ (p : ℕ). IsBegun (script_at scripts (pf.0 - 1)) (turns_of desk.base p items)) (sym process) (subst (λ (j : ℕ). IsBegun (script_at scripts j) (turns_of desk.base (k + 1) items)) (sym back) begun);
+          begun =
+              subst (λ (p : ℕ). IsBegun (script_at scripts (pf.0 - 1)) (turns_of desk.base p items)) (sym process)
+              (subst (λ (j : ℕ). IsBegun (script_at scripts j) (turns_of desk.base (k + 1) items)) (sym back) begun);
           whole = λ j below. whole_at j d (omega arith) (at.before j (idle d) (omega arith));
         }
 
     -- what the worker at fault knows of its turns, said of those in the record
     of_record : (T : ℕ → ℕ → Type 0) (pf : ℕ × Stop) (at : Stopping ws pf) (d : SeatView)
-        → T (get_or ws at.at (idle d)).seat.process (length (get_or ws at.at (idle d)).seat.own) → T pf.0 (length (turns_of desk.base pf.0 items))
+        → T (get_or ws at.at (idle d)).seat.process (length (get_or ws at.at (idle d)).seat.own) →
+        T pf.0 (length (turns_of desk.base pf.0 items))
     of_record T pf at d h =
         let k = at.at in
         let many = workers_joined.each_process in
         let lt : k < length scripts = (let l = at.there in omega arith) in
-        let process : pf.0 ≡ k + 1 = sym (at.process (idle d)) ∙ (workers_joined.worked k (idle d) lt).kept.of_process in
-        let own : (get_or ws k (idle d)).seat.own ≡ turns_of desk.base pf.0 items = sym (own_is k d lt) ∙ ap (λ (p : ℕ). turns_of desk.base p items) (sym process) in
-        subst (λ (l : List OwnTurn). T pf.0 (length l)) own (subst (λ (p : ℕ). T p (length (get_or ws k (idle d)).seat.own)) (at.process (idle d)) h)
+        let process : pf.0 ≡ k + 1 =
+        sym (at.process (idle d)) ∙ (workers_joined.worked k (idle d) lt).kept.of_process in
+        let own : (get_or ws k (idle d)).seat.own ≡ turns_of desk.base pf.0 items =
+        sym (own_is k d lt) ∙ ap (λ (p : ℕ). turns_of desk.base p items) (sym process) in
+        subst (λ (l : List OwnTurn). T pf.0 (length l)) own
+        (subst (λ (p : ℕ). T p (length (get_or ws k (idle d)).seat.own)) (at.process (idle d)) h)
 
     pub limit_fault : length scripts ≡ desk.base.shape.n → IsValidRun (run_of desk.base items) → length items ≤ 1000000
-        → (p : ℕ) → first_stop ws ≡ Some (p, TurnLimit) → MayFault may desk.base scripts limit (fault.Refused (refusal.TurnLimit p))
+        → (p : ℕ) → first_stop ws ≡ Some (p, TurnLimit) →
+        MayFault may desk.base scripts limit (fault.Refused (refusal.TurnLimit p))
     limit_fault n fits short p e =
         let d : SeatView = seat_of desk 0 in
         let pf : ℕ × Stop = (p, TurnLimit) in
@@ -376,7 +440,8 @@ module _ (may : ℕ → ℕ → Bool → Type 0) (desk : DeskView) (scripts : Li
         }
 
     pub full_fault : length scripts ≡ desk.base.shape.n → IsValidRun (run_of desk.base items) → length items ≤ 1000000
-        → (p : ℕ) → first_stop ws ≡ Some (p, Full) → MayFault may desk.base scripts limit (fault.Refused (refusal.Full 1000000))
+        → (p : ℕ) → first_stop ws ≡ Some (p, Full) →
+        MayFault may desk.base scripts limit (fault.Refused (refusal.Full 1000000))
     full_fault n fits short p e =
         let d : SeatView = seat_of desk 0 in
         let pf : ℕ × Stop = (p, Full) in
@@ -385,27 +450,35 @@ module _ (may : ℕ → ℕ → Bool → Type 0) (desk : DeskView) (scripts : Li
         let w = get_or ws k (idle d) in
         let c = seat_count in
         let lt : k < length scripts = (let l = at.there in let m = workers_joined.each_process in omega arith) in
-        let h : Keeps desk.base items w.seat = subst (λ (s : SeatView). Keeps desk.base items s) (seat_at k d) (keeps k d (omega arith)) in
+        let h : Keeps desk.base items w.seat =
+        subst (λ (s : SeatView). Keeps desk.base items s) (seat_at k d) (keeps k d (omega arith)) in
         let longer : length w.seat.seen ≤ length items = prefix_length w.seat.seen items h.0 in
         let why = (stopped_at pf at d).why in
         let seen = why.0 in
         let all : length items ≡ 1000000 = omega arith in
         let up = gives_up n fits short pf at in
-        let goes_on : MayGoOn may p (length (turns_of desk.base p items)) limit = of_record (λ q made. MayGoOn may q made limit) pf at d why.1 in
-        let every : (q : ℕ) → IsOneOf desk.base.shape.n q → length (turns_of desk.base q items) ≤ limit = λ q one. few_own q (one.0, (let le = one.1 in omega arith)) in
-        let few = few_items desk.base limit p items fits.all every up.one goes_on.fewer in
-        (refl, record { items = items; process = p; given_up = up; full = all; goes_on = goes_on; many = (omega arith) })
+        let goes_on : MayGoOn may p (length (turns_of desk.base p items)) limit =
+        of_record (λ q made. MayGoOn may q made limit) pf at d why.1 in
+        let every : (q : ℕ) → IsOneOf desk.base.shape.n q → length (turns_of desk.base q items) ≤ limit =
+        λ q one. few_own q (one.0, (let le = one.1 in omega arith)) in
+        let few = few_items desk.base limit p items fits.all every up.one goes_on.fewer in (
+          refl,
+          record { items = items; process = p; given_up = up; full = all; goes_on = goes_on; many = (omega arith) },
+        )
 
 -- the run, as its caller sees it
 
-module _ (may : ℕ → ℕ → Bool → Type 0) (desk : DeskView) (base : Setting) (scripts : List Script) (limit : ℕ) (ws : List WorkedView) (workers_joined : AllWorked may desk scripts limit ws)
-    (of_base : desk.base ≡ base) (n : length scripts ≡ base.shape.n) (ss : List SeatView) (seats : ss ≡ map seat_in ws) where
+module _ (may : ℕ → ℕ → Bool → Type 0) (desk : DeskView) (base : Setting) (scripts : List Script) (limit : ℕ)
+    (ws : List WorkedView) (workers_joined : AllWorked may desk scripts limit ws)
+    (of_base : desk.base ≡ base) (n : length scripts ≡ base.shape.n) (ss : List SeatView)
+    (seats : ss ≡ map seat_in ws) where
   many : length scripts ≡ desk.base.shape.n
   many = n ∙ sym (ap (λ (b : Setting). b.shape.n) of_base)
 
   nobody_least : (p : ℕ) → IsLeastMissing p desk.base.shape.n ss → ⊥
   nobody_least p m =
-      m.missing (subst (λ (l : List SeatView). HasSeat p l) (sym seats) (everybody may desk scripts limit ws workers_joined p (subst (λ (k : ℕ). IsOneOf k p) (sym many) m.one)))
+      m.missing (subst (λ (l : List SeatView). HasSeat p l) (sym seats)
+      (everybody may desk scripts limit ws workers_joined p (subst (λ (k : ℕ). IsOneOf k p) (sym many) m.one)))
 
   pub nobody_missing : (f : Fault LiveRefusal) → NamesMissing f desk.base.shape.n ss → ⊥
   nobody_missing fault.Memory m = m
@@ -417,24 +490,32 @@ module _ (may : ℕ → ℕ → Bool → Type 0) (desk : DeskView) (base : Setti
     all_kept : All (Keeps desk.base kept.items) (map seat_in ws)
     all_kept = subst (λ (l : List SeatView). All (Keeps desk.base kept.items) l) seats keeps
 
-    pub run_ends : (turns : List (List Turn)) → turns ≡ map turns_told ws → first_stop ws ≡ None → IsLive may base scripts limit kept turns
+    pub run_ends : (turns : List (List Turn)) → turns ≡ map turns_told ws → first_stop ws ≡ None →
+        IsLive may base scripts limit kept turns
     run_ends turns told none =
         subst (λ (b : Setting). IsLive may b scripts limit kept turns) of_base (record {
           of_base = kept_base;
-          each_process = ap (λ (l : List (List Turn)). length l) told ∙ map_length turns_told ws ∙ workers_joined.each_process ∙ many;
+          each_process =
+              ap (λ (l : List (List Turn)). length l) told ∙ map_length turns_told ws
+              ∙ workers_joined.each_process ∙ many;
           played = λ k lt.
-              subst (λ (l : List (List Turn)). Played may desk.base kept.items (k + 1) (script_at scripts k) limit (turns_at l k)) (sym told)
-              (plays_all may desk scripts limit ws workers_joined kept.items all_kept none k (subst (λ (m : ℕ). k < m) (sym many) lt));
+              subst (λ (l : List (List Turn)).
+              Played may desk.base kept.items (k + 1) (script_at scripts k) limit (turns_at l k)) (sym told)
+              (plays_all may desk scripts limit ws workers_joined kept.items all_kept none k
+              (subst (λ (m : ℕ). k < m) (sym many) lt));
         })
 
     same_run : kept ≡ run_of desk.base kept.items
     same_run = ap (λ (b : Setting). run_of b kept.items) kept_base
 
-    pub run_faults : IsValidRun kept → length kept.items ≤ 1000000 → (p : ℕ) (f : Stop) → first_stop ws ≡ Some (p, f) → MayFault may base scripts limit (fault_of p f)
+    pub run_faults : IsValidRun kept → length kept.items ≤ 1000000 → (p : ℕ) (f : Stop) →
+        first_stop ws ≡ Some (p, f) → MayFault may base scripts limit (fault_of p f)
     run_faults valid short p Memory e = tt
     run_faults valid short p Full e =
         subst (λ (b : Setting). MayFault may b scripts limit (fault.Refused (refusal.Full 1000000))) of_base
-        (full_fault may desk scripts limit ws workers_joined kept.items all_kept many (subst (λ (r : Run). IsValidRun r) same_run valid) short p e)
+        (full_fault may desk scripts limit ws workers_joined kept.items all_kept many
+        (subst (λ (r : Run). IsValidRun r) same_run valid) short p e)
     run_faults valid short p TurnLimit e =
         subst (λ (b : Setting). MayFault may b scripts limit (fault.Refused (refusal.TurnLimit p))) of_base
-        (limit_fault may desk scripts limit ws workers_joined kept.items all_kept many (subst (λ (r : Run). IsValidRun r) same_run valid) short p e)
+        (limit_fault may desk scripts limit ws workers_joined kept.items all_kept many
+        (subst (λ (r : Run). IsValidRun r) same_run valid) short p e)

@@ -1,3 +1,4 @@
+-- The definitions of snap_live, by their modules.
 pub mod Script
 pub mod Play
 pub mod Sequels

@@ -9,8 +9,8 @@ use Rattle.snap_live_desk.specs.declared.seat_state.OwnTurn.{OwnTurn}
 use Rattle.snap_sched.specs.ScriptText.{Script}
 use Rattle.snap_live.specs.Script.{crashes_behind}
 
--- what is due of a script: the call of the first of these operations; the steps of an operation and then these; nothing, after a trap
--- or a crash
+-- what is due of a script: the call of the first of these operations; the steps of an operation and then these;
+-- nothing, after a trap or a crash
 pub data Due : Type 0 where
   rest : List Op → Due
   busy : List Op → Due
@@ -63,8 +63,8 @@ Does (rest (o ∷ os)) t e = IsCallOf o t.item × (e ≡ after_call t.outcome os
 Does (busy os) t e = IsStep t.item × (e ≡ after_step t.outcome os)
 Does over t e = ⊥
 
--- the turn behind k turns: where the crash comes at it, a crash in the place of what was due, and then nothing is due any more; else
--- what was due
+-- the turn behind k turns: where the crash comes at it, a crash in the place of what was due, and then nothing is due
+-- any more; else what was due
 abbrev pub Moves : Option ℕ → ℕ → Due → OwnTurn → Due → Type 0
 Moves crash k d t e = MatchBool (crashes_behind crash k) (IsDue d × IsCrash t.item × (e ≡ over)) (Does d t e)
 

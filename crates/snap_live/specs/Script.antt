@@ -1,4 +1,4 @@
--- The script of a process, and its crash.
+-- The script of a process in a live run: the one of process k + 1 (`script_at`), and at which turn it crashes.
 use Rattle.std.specs.Prelude.{ℕ, ◌+◌, Bool, false, List, [], Option, Some, None, nat_eq, slice_index_or}
 use Rattle.snap_sched.specs.ScriptText.{Script}
 

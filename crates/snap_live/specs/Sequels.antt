@@ -1,4 +1,4 @@
--- What an outcome means for the rest of a script.
+-- `sequel_of`: what the outcome of a turn means for the rest of the script that a worker plays.
 use Rattle.snap_semantics.specs.declared.process.Outcome.{Outcome}
 use Rattle.snap_semantics.specs.declared.process.Outcome.TheVariants.{Answered, Finished, Trapped, Skipped}
 use Rattle.snap_live.specs.declared.worker.Sequel.{Sequel}

@@ -1,5 +1,7 @@
--- What a worker keeps, and where it stops. What its gate may answer to a process at a turn is `may`.
-use Rattle.std.specs.Prelude.{◌≡◌, ℕ, ◌+◌, ◌<◌, ◌≤◌, ◌⊎◌, List, [], ◌∷◌, ◌++◌, length, map, Bool, true, false, Option, Some, None, Vec, vec_capacity}
+-- What the worker of one process keeps as it plays its script in a live run, and why it stops (`Stopped`). What its
+-- gate may answer to a process at a turn is `may`.
+use Rattle.std.specs.Prelude.{◌≡◌, ℕ, ◌+◌, ◌<◌, ◌≤◌, ◌⊎◌, List, [], ◌∷◌, ◌++◌, length, map, Bool, true, false, Option}
+use Rattle.std.specs.Prelude.{Some, None, Vec, vec_capacity}
 use Rattle.std.specs.Global.{Global}
 use Rattle.snap_words.specs.Shape.{IsOneOf, max_items}
 use Rattle.snap_semantics.specs.declared.process.Item.{Item}
@@ -43,7 +45,8 @@ abbrev pub MayNotGoOn : (may : ℕ → ℕ → Bool → Type 0) → (process mad
 MayNotGoOn may process made limit = (made ≡ limit) ⊎ MayBeRefused may process made limit
 
 -- the seat of this process at this desk, whose turns were told, at most so many, each after the gate
-pub record Kept (may : ℕ → ℕ → Bool → Type 0) (desk : DeskView) (process limit : ℕ) (seat : SeatView) (turns : List Turn) : Type 0 where
+pub record Kept (may : ℕ → ℕ → Bool → Type 0) (desk : DeskView) (process limit : ℕ) (seat : SeatView)
+    (turns : List Turn) : Type 0 where
   pub at_desk : seat.desk ≡ desk
   pub of_process : seat.process ≡ process
   pub few : length seat.own ≤ limit
@@ -67,7 +70,8 @@ NoFurther may limit seat Full = (length seat.seen ≡ max_items) × MayGoOn may 
 NoFurther may limit seat Memory = (length seat.seen < max_items) × MayGoOn may seat.process (length seat.own) limit
 
 -- the worker stopped before the end of its script: a turn was due, and this is why it was not made
-pub record Stopped (may : ℕ → ℕ → Bool → Type 0) (script : Script) (limit : ℕ) (seat : SeatView) (stop : Stop) : Type 0 where
+pub record Stopped (may : ℕ → ℕ → Bool → Type 0) (script : Script) (limit : ℕ)
+    (seat : SeatView) (stop : Stop) : Type 0 where
   pub begun : IsBegun script seat.own
   pub why : NoFurther may limit seat stop
 
@@ -87,6 +91,7 @@ pub record WorkedView : Type 0 where
   pub turns : List Turn
   pub stop : Option Stop
 
-pub record IsWorked (may : ℕ → ℕ → Bool → Type 0) (desk : DeskView) (process : ℕ) (script : Script) (limit : ℕ) (w : WorkedView) : Type 0 where
+pub record IsWorked (may : ℕ → ℕ → Bool → Type 0) (desk : DeskView) (process : ℕ) (script : Script) (limit : ℕ)
+    (w : WorkedView) : Type 0 where
   pub kept : Kept may desk process limit w.seat w.turns
   pub ended : Ended may script limit w.seat w.stop

@@ -1,4 +1,4 @@
-//! What workers ask before each turn.
+//! `Gate`: what workers of a live run ask before each turn, whether their process may make it.
 ghost use Rattle.std.specs.Prelude.{◌≡◌, ℕ, Bool, true};
 
 /// Lets processes on, turn by turn.

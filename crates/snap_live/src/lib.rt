@@ -1,5 +1,5 @@
-//! A desk at which threads take turns: one record, and a seat for each process. Scripts of all
-//! processes, played at once.
+//! Live runs: plays the scripts of all processes at once at a desk, where each thread takes turns
+//! with one seat on one record.
 #![tactic(auto)]
 
 mod gate;

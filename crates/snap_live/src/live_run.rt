@@ -1,11 +1,15 @@
-//! Workers in threads, each with one seat.
-ghost use Rattle.std.specs.Prelude.{◌≡◌, ℕ, ◌+◌, ◌-◌, ◌*◌, ◌^◌, ◌<◌, ◌≤◌, [], ◌∷◌, length, vec_len, vec_items, vec_capacity, All, map, slice_index_or, IfOk, IfErr, Some, None};
+//! `run_live`: plays the scripts of all processes at once, a worker with one seat in a thread for
+//! each.
+ghost use Rattle.std.specs.Prelude.{◌≡◌, ◌+◌, ◌-◌, ◌*◌, ◌^◌, ◌<◌, ◌≤◌, [], ◌∷◌};
+ghost use Rattle.std.specs.Prelude.{ℕ, length, vec_len, All, map};
+ghost use Rattle.std.specs.Prelude.{slice_index_or, IfOk, IfErr, Some, None};
 ghost use Rattle.snap_words.specs.Shape.{IsOneOf, max_items};
 ghost use Rattle.snap_live_desk.specs.declared.seat_state.Setting.{Setting};
 ghost use Rattle.snap_live.specs.Script.{script_at};
 ghost use Rattle.snap_live_desk.specs.Shown.{seat_of, seats_of};
 ghost use Rattle.snap_live.specs.Worker.{HasRoom, IsWorked, WorkedView};
-ghost use Rattle.snap_live.specs.LiveRun.{AllWorked, IsLive, MayFault, first_stop, then_first, fault_of};
+ghost use Rattle.snap_live.specs.LiveRun.{AllWorked, IsLive, MayFault};
+ghost use Rattle.snap_live.specs.LiveRun.{first_stop, then_first, fault_of};
 
 use crate::gate::Gate;
 use crate::start_gate::StartGate;

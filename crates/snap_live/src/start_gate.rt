@@ -1,4 +1,5 @@
-//! How workers begin together: a gate before the one that their caller gave.
+//! `StartGate`: lets the workers of a live run begin together, before the gate that their caller
+//! gave.
 ghost use Rattle.std.specs.Prelude.{◌≡◌};
 
 use crate::gate::Gate;

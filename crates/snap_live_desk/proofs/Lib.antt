@@ -1,5 +1,7 @@
+-- The proofs of snap_live_desk, by their modules.
 pub mod Ends
 pub mod Gathered
+pub mod Held
 pub mod Joins
 pub mod Lists
 pub mod Moves

@@ -1,5 +1,6 @@
--- Runs that go one item further, and beginnings of lists.
-use Rattle.std.proofs.Common.{◌≡◌, ◌≢◌, ℕ, suc, ◌+◌, ◌≤◌, List, [], ◌∷◌, ◌++◌, length, refl, sym, ap, ◌∙◌, subst, arith, Bool, true, false, append_assoc, ne_eqb, eq-eqb, nat_eq}
+-- The turns of a process (`turns_of`) in a desk's history with one more item; and laws of prefixes of lists of items.
+use Rattle.std.proofs.Common.{◌≡◌, ◌≢◌, ℕ, suc, ◌+◌, ◌≤◌, List, [], ◌∷◌, ◌++◌, length, refl, sym, ap, ◌∙◌, subst}
+use Rattle.std.proofs.Common.{arith, Bool, true, false, append_assoc, ne_eqb, eq-eqb, nat_eq}
 use Rattle.std.proofs.lemmas.List.{take_all}
 use mathlib.Core.List.{IsPrefix}
 use Rattle.snap_semantics.specs.declared.process.Item.{Item}
@@ -15,15 +16,19 @@ use Rattle.snap_live_desk.specs.declared.seat_state.Setting.{Setting}
 use Rattle.snap_live_desk.specs.Turns.{run_of, last_outcome, turns_from, turns_of, put_if, own_turn}
 
 -- the state after all items
-whole : (base : Setting) (xs : List Item) → state (run_of base xs) (length xs) ≡ after base.source base.shape (initial base.source base.shape) xs
-whole base xs = ap (after base.source base.shape (initial base.source base.shape)) (take_all (length xs) xs (omega arith))
+whole : (base : Setting) (xs : List Item) →
+    state (run_of base xs) (length xs) ≡ after base.source base.shape (initial base.source base.shape) xs
+whole base xs =
+    ap (after base.source base.shape (initial base.source base.shape)) (take_all (length xs) xs (omega arith))
 
 -- what comes of one item more
 last-push : (base : Setting) (xs : List Item) (x : Item)
-    → last_outcome base (xs ++ x ∷ []) ≡ (done base.source base.shape (after base.source base.shape (initial base.source base.shape) xs) x).1
+    → last_outcome base (xs ++ x ∷ [])
+    ≡ (done base.source base.shape (after base.source base.shape (initial base.source base.shape) xs) x).1
 last-push base xs x =
     let r : Run = run_of base xs in
-    ap (outcome (with_item r x)) (longer r x) ∙ outcome_last r x ∙ ap (λ (S : State). (done base.source base.shape S x).1) (whole base xs)
+    ap (outcome (with_item r x)) (longer r x) ∙ outcome_last r x
+    ∙ ap (λ (S : State). (done base.source base.shape S x).1) (whole base xs)
 
 put_if-append : (b : Bool) (t : OwnTurn) (xs ys : List OwnTurn) → put_if b t (xs ++ ys) ≡ put_if b t xs ++ ys
 put_if-append true t xs ys = refl
@@ -31,7 +36,8 @@ put_if-append false t xs ys = refl
 
 turns_from-push : (base : Setting) (S : State) (k p : ℕ) (xs : List Item) (x : Item)
     → turns_from base S k p (xs ++ x ∷ [])
-    ≡ turns_from base S k p xs ++ put_if (nat_eq p (who x)) (own_turn (k + length (xs ++ x ∷ [])) x (done base.source base.shape (after base.source base.shape S xs) x).1) []
+    ≡ turns_from base S k p xs ++ put_if (nat_eq p (who x))
+    (own_turn (k + length (xs ++ x ∷ [])) x (done base.source base.shape (after base.source base.shape S xs) x).1) []
 turns_from-push base S k p [] x = refl
 turns_from-push base S k p (y ∷ ys) x =
     let S' : State = (done base.source base.shape S y).0 in
@@ -39,20 +45,24 @@ turns_from-push base S k p (y ∷ ys) x =
     let o : Outcome = (done base.source base.shape (after base.source base.shape S' ys) x).1 in
     let n : (k + 1) + length (ys ++ x ∷ []) ≡ k + suc (length (ys ++ x ∷ [])) = omega arith in
     ap (λ (ts : List OwnTurn). put_if (nat_eq p (who y)) t ts) (turns_from-push base S' (k + 1) p ys x)
-    ∙ put_if-append (nat_eq p (who y)) t (turns_from base S' (k + 1) p ys) (put_if (nat_eq p (who x)) (own_turn ((k + 1) + length (ys ++ x ∷ [])) x o) [])
-    ∙ ap (λ (m : ℕ). put_if (nat_eq p (who y)) t (turns_from base S' (k + 1) p ys) ++ put_if (nat_eq p (who x)) (own_turn m x o) []) n
+    ∙ put_if-append (nat_eq p (who y)) t (turns_from base S' (k + 1) p ys)
+    (put_if (nat_eq p (who x)) (own_turn ((k + 1) + length (ys ++ x ∷ [])) x o) [])
+    ∙ ap (λ (m : ℕ).
+    put_if (nat_eq p (who y)) t (turns_from base S' (k + 1) p ys) ++ put_if (nat_eq p (who x)) (own_turn m x o) []) n
 
 zeroes : (n : ℕ) → 0 + n ≡ n
 zeroes n = omega arith
 
 -- a turn of this process
 pub turns_of-mine : (base : Setting) (p : ℕ) (xs : List Item) (x : Item) → p ≡ who x
-    → turns_of base p (xs ++ x ∷ []) ≡ turns_of base p xs ++ own_turn (length (xs ++ x ∷ [])) x (last_outcome base (xs ++ x ∷ [])) ∷ []
+    → turns_of base p (xs ++ x ∷ [])
+    ≡ turns_of base p xs ++ own_turn (length (xs ++ x ∷ [])) x (last_outcome base (xs ++ x ∷ [])) ∷ []
 turns_of-mine base p xs x e =
     let S : State = initial base.source base.shape in
     let o : Outcome = (done base.source base.shape (after base.source base.shape S xs) x).1 in
     turns_from-push base S 0 p xs x
-    ∙ ap (λ (b : Bool). turns_of base p xs ++ put_if b (own_turn (0 + length (xs ++ x ∷ [])) x o) []) (eq-eqb p (who x) e)
+    ∙ ap (λ (b : Bool). turns_of base p xs ++ put_if b (own_turn (0 + length (xs ++ x ∷ [])) x o) [])
+    (eq-eqb p (who x) e)
     ∙ ap (λ (m : ℕ). turns_of base p xs ++ own_turn m x o ∷ []) (zeroes (length (xs ++ x ∷ [])))
     ∙ ap (λ (o : Outcome). turns_of base p xs ++ own_turn (length (xs ++ x ∷ [])) x o ∷ []) (sym (last-push base xs x))
 
@@ -61,11 +71,14 @@ empty_end [] = refl
 empty_end (t ∷ ts) = ap (λ (us : List OwnTurn). t ∷ us) (empty_end ts)
 
 -- a turn of another
-pub turns_of-other : (base : Setting) (p : ℕ) (xs : List Item) (x : Item) → p ≢ who x → turns_of base p (xs ++ x ∷ []) ≡ turns_of base p xs
+pub turns_of-other : (base : Setting) (p : ℕ) (xs : List Item) (x : Item) → p ≢ who x →
+    turns_of base p (xs ++ x ∷ []) ≡ turns_of base p xs
 turns_of-other base p xs x ne =
     let S : State = initial base.source base.shape in
     turns_from-push base S 0 p xs x
-    ∙ ap (λ (b : Bool). turns_of base p xs ++ put_if b (own_turn (0 + length (xs ++ x ∷ [])) x (done base.source base.shape (after base.source base.shape S xs) x).1) []) (ne_eqb p (who x) ne)
+    ∙ ap (λ (b : Bool). turns_of base p xs ++ put_if b
+    (own_turn (0 + length (xs ++ x ∷ [])) x (done base.source base.shape (after base.source base.shape S xs) x).1) [])
+    (ne_eqb p (who x) ne)
     ∙ empty_end (turns_of base p xs)
 
 pub prefix_same : (xs : List Item) → IsPrefix xs xs

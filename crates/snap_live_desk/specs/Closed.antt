@@ -1,4 +1,5 @@
--- The seats that are handed in at the end.
+-- The seats with which a desk is closed: each process has one (`HasSeat`), or the refusal names the least that has
+-- none (`NamesMissing`).
 use Rattle.std.specs.Prelude.{◌≡◌, ℕ, ◌<◌, ◌≤◌, ◌⊎◌, List, [], ◌∷◌}
 use mathlib.Core.List.{IsPrefix}
 use Rattle.snap_semantics.specs.declared.process.Item.{Item}

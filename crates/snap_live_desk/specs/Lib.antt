@@ -1,3 +1,4 @@
+-- The definitions of snap_live_desk, by their modules.
 pub mod Closed
 pub mod Rule
 pub mod Seats

@@ -1,5 +1,7 @@
--- The rule of the desk's table, and what each step tells.
-use Rattle.std.specs.Prelude.{◌≡◌, ℕ, ◌+◌, ◌*◌, ◌^◌, ◌<◌, ◌≤◌, ◌++◌, List, [], ◌∷◌, length, Bool, true, false, Option, Some, None, ◌⊎◌}
+-- The rule of the desk's table, `TableInvariant`: tickets, processes, the slot of the record, what seats have seen;
+-- and what each step tells its seat.
+use Rattle.std.specs.Prelude.{◌≡◌, ℕ, ◌+◌, ◌*◌, ◌^◌, ◌<◌, ◌≤◌, ◌++◌, List, [], ◌∷◌, length}
+use Rattle.std.specs.Prelude.{Bool, true, false, Option, Some, None, ◌⊎◌}
 use mathlib.Core.Option.{Option as Maybe, some}
 use mathlib.Core.List.{IsPrefix}
 use lib.ListN.{get_elem?}
@@ -12,7 +14,8 @@ use Rattle.snap_live_desk.specs.declared.seat_state.Own.{Own}
 use Rattle.snap_live_desk.specs.declared.seat_state.Stage.TheVariants.{Idle, Waits, Served}
 use Rattle.snap_runs.specs.Run.{Run}
 use Rattle.snap_live_desk.specs.Turns.{run_of, turns_of}
-use Rattle.snap_live_desk.specs.SeatStates.{ticket_of, tickets_of, is_served, grip_of, waits, serves, rests, names, publishes, catches_up, tells, turns_in}
+use Rattle.snap_live_desk.specs.SeatStates.{ticket_of, tickets_of, is_served, grip_of, waits, serves, rests, names}
+use Rattle.snap_live_desk.specs.SeatStates.{publishes, catches_up, tells, turns_in}
 
 -- f of each view, added up
 abbrev pub total : (SeatState → ℕ) → List SeatState → ℕ
@@ -24,8 +27,10 @@ At views i v = get_elem? views i ≡ some v
 
 -- the tickets from `serving` on and below `next` are out, each with one seat
 pub record Tickets (next serving : ℕ) (views : List SeatState) : Type 0 where
-  pub apart : (i j : ℕ) (v w : SeatState) → At views i v → At views j w → (t : ℕ) → ticket_of v.stage ≡ Some t → ticket_of w.stage ≡ Some t → i ≡ j
-  pub within : (i : ℕ) (v : SeatState) → At views i v → (t : ℕ) → ticket_of v.stage ≡ Some t → (serving ≤ t) × (t < next)
+  pub apart : (i j : ℕ) (v w : SeatState) → At views i v → At views j w → (t : ℕ) → ticket_of v.stage ≡ Some t →
+      ticket_of w.stage ≡ Some t → i ≡ j
+  pub within : (i : ℕ) (v : SeatState) → At views i v → (t : ℕ) →
+      ticket_of v.stage ≡ Some t → (serving ≤ t) × (t < next)
   pub served : (i : ℕ) (v : SeatState) → At views i v → is_served v.stage ≡ true → ticket_of v.stage ≡ Some serving
   pub waiting : total (λ v. tickets_of v.stage) views + serving ≡ next
   pub drawn : total (λ v. v.draws) views ≡ next
@@ -44,11 +49,13 @@ pub record Processes (base : Setting) (count : ℕ) (views : List SeatState) : T
   pub one_opens : (i j : ℕ) (v w : SeatState) → At views i v → At views j w → v.opens ≡ true → w.opens ≡ true → i ≡ j
   pub knows : (i : ℕ) (v : SeatState) → At views i v → v.opens ≡ true → v.named ≡ count
   pub named : (i : ℕ) (v : SeatState) → At views i v → (p : ℕ) → HasProcess p v.owns → (1 ≤ p) × (p ≤ count)
-  pub differ : (i j : ℕ) (v w : SeatState) → At views i v → At views j w → (p : ℕ) → HasProcess p v.owns → HasProcess p w.owns → i ≡ j
+  pub differ : (i j : ℕ) (v w : SeatState) → At views i v → At views j w → (p : ℕ) →
+      HasProcess p v.owns → HasProcess p w.owns → i ≡ j
 
 -- the record is away only while a seat is served, and at home it holds the history
 pub record Slot (base : Setting) (log : List Item) (home : Maybe (Option Run)) (views : List SeatState) : Type 0 where
-  pub at_home : ((i : ℕ) (v : SeatState) → At views i v → is_served v.stage ≡ false) → home ≡ some (Some (run_of base log))
+  pub at_home : ((i : ℕ) (v : SeatState) → At views i v → is_served v.stage ≡ false) →
+      home ≡ some (Some (run_of base log))
   pub grips : (i : ℕ) (v : SeatState) → At views i v → is_served v.stage ≡ true → grip_of v.stage ≡ log
   pub of_base : (i : ℕ) (v : SeatState) → At views i v → v.alive ≡ true → v.base ≡ base
 
@@ -61,7 +68,8 @@ abbrev pub AllPrefix : List (List Item) → List Item → Type 0
 AllPrefix [] xs = Unit {0}
 AllPrefix (o ∷ os) xs = IsPrefix o xs × AllPrefix os xs
 
--- what is seen is a beginning of the history, the longest of them is all of it, and each seat's turns are its processes' items
+-- what is seen is a beginning of the history, the longest of them is all of it, and each seat's turns are its
+-- processes' items
 pub record Lists (base : Setting) (count : ℕ) (log : List Item) (views : List SeatState) : Type 0 where
   pub seen : (i : ℕ) (v : SeatState) → At views i v → IsPrefix v.seen log
   pub olds : (i : ℕ) (v : SeatState) → At views i v → AllPrefix v.olds v.seen
@@ -98,7 +106,8 @@ Drew st m r n = n ≡ (waits m.0 r, m.1)
 -- the seat is served where the number found is its ticket
 abbrev pub Looked : Step (Option Run) → Mine → ℕ → Mine → Type 0
 Looked st m r n =
-    (ticket_of m.0.stage ≡ Some r → (items : List Item) × IsPrefix m.0.seen items × Holds m (serves m.0 r items) items n)
+    (ticket_of m.0.stage ≡ Some r →
+    (items : List Item) × IsPrefix m.0.seen items × Holds m (serves m.0 r items) items n)
     × ((ticket_of m.0.stage ≡ Some r → ⊥) → n ≡ m)
 
 -- the history goes on by the item, and the seat's turns are those of its process in it

@@ -1,5 +1,6 @@
--- What a seat knows, and what a step makes of it.
-use Rattle.std.specs.Prelude.{◌≡◌, ℕ, ◌+◌, ◌≤◌, List, [], ◌∷◌, ◌++◌, length, nat_lt, if◌then◌else◌, Bool, true, false, Option, Some, None}
+-- `SeatState`s, which are what a seat of a desk knows: one for a new seat, and how each step changes it.
+use Rattle.std.specs.Prelude.{◌≡◌, ℕ, ◌+◌, ◌≤◌, List, [], ◌∷◌, ◌++◌, length, nat_lt}
+use Rattle.std.specs.Prelude.{if◌then◌else◌, Bool, true, false, Option, Some, None}
 use Rattle.snap_semantics.specs.declared.process.Item.{Item}
 use Rattle.snap_words.specs.declared.kind.KindTag.TheVariants.{Seq}
 use Rattle.snap_live_desk.specs.declared.seat_state.Setting.{Setting}
@@ -39,7 +40,17 @@ own p ts = record { process = p; turns = ts }
 
 -- the seat that may name, after so many
 abbrev pub opener : Setting → ℕ → SeatState
-opener base n = record { alive = true; base = base; seen = []; olds = []; owns = []; draws = 0; stage = Idle; opens = true; named = n }
+opener base n = record {
+  alive = true;
+  base = base;
+  seen = [];
+  olds = [];
+  owns = [];
+  draws = 0;
+  stage = Idle;
+  opens = true;
+  named = n;
+}
 
 abbrev pub newcomer : Setting → SeatState
 newcomer base = opener base 0
@@ -53,7 +64,17 @@ no_setting = record {
 
 -- a seat that was joined into another
 abbrev pub nobody : SeatState
-nobody = record { alive = false; base = no_setting; seen = []; olds = []; owns = []; draws = 0; stage = Idle; opens = false; named = 0 }
+nobody = record {
+  alive = false;
+  base = no_setting;
+  seen = [];
+  olds = [];
+  owns = [];
+  draws = 0;
+  stage = Idle;
+  opens = false;
+  named = 0;
+}
 
 abbrev pub rests : SeatState → SeatState
 rests v = record v { stage = Idle }
@@ -72,7 +93,17 @@ abbrev pub stays : SeatState → SeatState
 stays v = record v { opens = false }
 
 abbrev pub comes : SeatState → SeatState
-comes v = record { alive = v.alive; base = v.base; seen = v.seen; olds = []; owns = []; draws = 0; stage = Idle; opens = v.opens; named = v.named }
+comes v = record {
+  alive = v.alive;
+  base = v.base;
+  seen = v.seen;
+  olds = [];
+  owns = [];
+  draws = 0;
+  stage = Idle;
+  opens = v.opens;
+  named = v.named;
+}
 
 -- the first process's turns, and with one turn more
 abbrev pub turns_in : List Own → List OwnTurn
@@ -103,7 +134,12 @@ longer xs ys = if nat_lt (length xs) (length ys) then ys else xs
 
 -- what two seats know
 abbrev pub both : SeatState → SeatState → SeatState
-both v w = record v { seen = longer v.seen w.seen; olds = v.seen ∷ w.seen ∷ []; owns = v.owns ++ w.owns; draws = v.draws + w.draws }
+both v w = record v {
+  seen = longer v.seen w.seen;
+  olds = v.seen ∷ w.seen ∷ [];
+  owns = v.owns ++ w.owns;
+  draws = v.draws + w.draws;
+}
 
 abbrev pub tells : SeatState → SeatState
 tells v = record v { olds = [] }
@@ -111,7 +147,12 @@ tells v = record v { olds = [] }
 -- after a turn that added an item, and after one that was refused
 abbrev pub after_turn : SeatState → List Item → Item → Outcome → SeatState
 after_turn v g x o =
-    record v { seen = g ++ x ∷ []; owns = with_turn v.owns (own_turn (length (g ++ x ∷ [])) x o); draws = v.draws + 1; stage = Idle }
+    record v {
+      seen = g ++ x ∷ [];
+      owns = with_turn v.owns (own_turn (length (g ++ x ∷ [])) x o);
+      draws = v.draws + 1;
+      stage = Idle;
+    }
 
 abbrev pub after_full : SeatState → List Item → SeatState
 after_full v g = record v { seen = g; draws = v.draws + 1; stage = Idle }

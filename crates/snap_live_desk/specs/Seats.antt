@@ -1,4 +1,4 @@
--- What the steps ask of a seat.
+-- What the steps on the desk's table ask of a seat: that it is of this table, and between turns.
 use Rattle.std.specs.Prelude.{◌≡◌, [], true}
 use Rattle.atomic_table.specs.Seated.{TableId}
 use Rattle.snap_live_desk.specs.declared.seat_state.Stage.TheVariants.{Idle}

@@ -1,4 +1,5 @@
--- A desk and its seats, as contracts see them.
+-- `DeskView`, `SeatView` and `NoteView`: a desk, a seat and a note as contracts see them; and `IsTurn`, what a turn
+-- does to its seat.
 use Rattle.std.specs.Prelude.{◌≡◌, ℕ, zero, suc, ◌≤◌, ◌++◌, List, [], ◌∷◌, length}
 use Rattle.snap_words.specs.Shape.{max_items}
 use mathlib.Core.List.{IsPrefix}
@@ -25,8 +26,8 @@ pub record NoteView : Type 0 where
   pub desk : DeskView
   pub seen : List Item
 
--- after a turn the seat has seen a history that begins with what it had seen and ends with the item, whose outcome is that of the run.
--- The process's items in it are the seat's turns, each once and in order.
+-- after a turn the seat has seen a history that begins with what it had seen and ends with the item, whose outcome is
+-- that of the run. The process's items in it are the seat's turns, each once and in order.
 pub record IsTurn (before after : SeatView) (item : Item) (number : ℕ) (outcome : Outcome) : Type 0 where
   pub more : IsPrefix before.seen after.seen
   pub last : (h : List Item) × (after.seen ≡ h ++ item ∷ [])
@@ -45,7 +46,8 @@ abbrev pub seats_of : DeskView → ℕ → List SeatView
 seats_of d zero = []
 seats_of d (suc n) = seats_of d n ++ seat_of d (suc n) ∷ []
 
--- what a record has to do with a seat: it begins with what the seat has seen, and its items of the seat's process are the seat's turns
+-- what a record has to do with a seat: it begins with what the seat has seen, and its items of the seat's process are
+-- the seat's turns
 abbrev pub Keeps : Setting → List Item → SeatView → Type 0
 Keeps base items s = IsPrefix s.seen items × (turns_of base s.process items ≡ s.own)
 

@@ -1,4 +1,5 @@
--- What a turn does to a seat.
+-- What a turn at a desk does to the state of its seat: `Turned`, where the item is added to the history, and
+-- `RefusedAs`, where it is not.
 use Rattle.std.specs.Prelude.{◌≡◌, ℕ, ◌<◌, ◌≤◌, ◌++◌, List, [], ◌∷◌, length}
 use Rattle.snap_words.specs.Shape.{max_items}
 use mathlib.Core.List.{IsPrefix}
@@ -22,5 +23,7 @@ pub record Turned (m : Mine) (item : Item) (number : ℕ) (outcome : Outcome) (n
 
 -- nothing was added: the seat has seen the full history; or it has seen nothing more, and no full history
 abbrev pub RefusedAs : RecordFault → Mine → Mine → Type 0
-RefusedAs Full m n = (found : List Item) × IsPrefix m.0.seen found × (length found ≡ max_items) × (n ≡ (after_full m.0 found, [])) × OwnTurns m.0.base n.0.seen n.0.owns
+RefusedAs Full m n =
+    (found : List Item) × IsPrefix m.0.seen found × (length found ≡ max_items) × (n ≡ (after_full m.0 found, []))
+    × OwnTurns m.0.base n.0.seen n.0.owns
 RefusedAs Memory m n = (n ≡ (after_refusal m.0, [])) × (length n.0.seen < max_items)

@@ -1,4 +1,4 @@
--- The turns of one process in the run of a list of items.
+-- `turns_of`: the turns of one process in a desk's history, which are its items with their numbers and outcomes.
 use Rattle.std.specs.Prelude.{ℕ, ◌+◌, Bool, true, false, List, [], ◌∷◌, length, nat_eq}
 use Rattle.snap_semantics.specs.declared.process.Item.{Item}
 use Rattle.snap_semantics.specs.declared.process.Outcome.{Outcome}

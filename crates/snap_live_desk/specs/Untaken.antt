@@ -1,4 +1,5 @@
--- A turn that was refused.
+-- `NoTurn`: what a seat of a desk has seen after a turn that was refused, since memory ran out or the history is
+-- full.
 use Rattle.std.specs.Prelude.{◌≡◌, ◌<◌, length}
 use Rattle.snap_words.specs.Shape.{max_items}
 use mathlib.Core.List.{IsPrefix}

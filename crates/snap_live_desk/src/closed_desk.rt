@@ -1,4 +1,5 @@
-//! The end of a desk: the record of all turns.
+//! `close`: the end of a desk. It takes the seats of all processes back, and gives the record of
+//! all turns.
 ghost use Rattle.std.specs.Prelude.{◌≡◌, ℕ, ◌≤◌, IfOk, IfErr, MatchBool, MatchOption, All};
 ghost use mathlib.Core.List.{IsPrefix};
 ghost use Rattle.snap_words.specs.Shape.{IsOneOf};

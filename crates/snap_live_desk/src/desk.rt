@@ -1,4 +1,5 @@
-//! A desk: one record that threads share.
+//! `Desk`: one record in a table that threads share; `open` gives a new desk and a seat for each
+//! process.
 ghost use Rattle.std.specs.Prelude.{◌≡◌, ◌+◌, ◌≤◌, [], IfOk};
 ghost use Rattle.snap_live_desk.specs.Seats.{IsSeatOf, IsSame};
 ghost use Rattle.snap_live_desk.specs.SeatStates.{opener};
@@ -31,7 +32,10 @@ impl<K: Kind> Model for Desk<K> {
 
     ghost Value = { DeskView };
 
-    ghost view = { λ d. record { id = d.table.shared.table_id; base = setting_of d.table.shared.key.value } };
+    ghost view = { λ d. record {
+      id = d.table.shared.table_id;
+      base = setting_of d.table.shared.key.value;
+    } };
 
     ghost invariant = { λ d. (d.table.shared.table_id.words ≡ 4) ×
         (d.table.shared.table_id.slots ≡ 1) × (d.count ≡ d.table.shared.key.value.shape.n) ×

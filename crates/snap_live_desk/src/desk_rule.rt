@@ -1,5 +1,7 @@
-//! The rule of the desk's table, and the names of its steps.
-ghost use Rattle.snap_live_desk.specs.Rule.{TableInvariant, NamedProcess, Drew, Looked, Published, CaughtUp, ServedOut, Told};
+//! `DeskRule`, the invariant of the desk's table, and a type for each step that seats make on it:
+//! `Draw`, `Look`, `Publish`, `Serve` and others.
+ghost use Rattle.snap_live_desk.specs.Rule.{TableInvariant, NamedProcess, Drew, Looked};
+ghost use Rattle.snap_live_desk.specs.Rule.{Published, CaughtUp, ServedOut, Told};
 ghost use Rattle.snap_live_desk.specs.SeatStates.{newcomer, stays, comes, both, nobody};
 ghost use Rattle.snap_live_desk.specs.Turns.{setting_of};
 

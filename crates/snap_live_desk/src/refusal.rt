@@ -1,4 +1,4 @@
-//! Why a live call is refused.
+//! `LiveRefusal`: why a turn at a desk or a live run is refused.
 use snap_semantics::Fault;
 use thiserror::Error;
 

@@ -1,4 +1,5 @@
-//! Seats: the right to the turns of one process.
+//! `Seat`: the right to make the turns of one process at a desk; `Note`: what a seat has seen, for
+//! another.
 ghost use Rattle.std.specs.Prelude.{◌≡◌, ◌+◌, ◌^◌, ◌<◌, [], ◌∷◌, IfOk, IfErr, length};
 ghost use mathlib.Core.List.{IsPrefix};
 ghost use Rattle.snap_words.specs.Shape.{IsOneOf};
@@ -46,7 +47,13 @@ impl<K: Kind> Model for Seat<K> {
 
     ghost Value = { SeatView };
 
-    ghost view = { λ s. record { desk = record { id = s.table_seat.table_id; base = s.table_seat.me.0.base }; process = s.process; asked = s.asked; seen = s.table_seat.me.0.seen; own = turns_in s.table_seat.me.0.owns } };
+    ghost view = { λ s. record {
+      desk = record { id = s.table_seat.table_id; base = s.table_seat.me.0.base };
+      process = s.process;
+      asked = s.asked;
+      seen = s.table_seat.me.0.seen;
+      own = turns_in s.table_seat.me.0.owns;
+    } };
 
     ghost invariant = { λ s. IsIdle s.table_seat.me ×
         (s.table_seat.me.0.owns ≡ own s.process (turns_in s.table_seat.me.0.owns) ∷ []) ×
@@ -68,7 +75,10 @@ impl<K: Kind> Model for Note<K> {
 
     ghost Value = { NoteView };
 
-    ghost view = { λ n. record { desk = record { id = n.table_seat.table_id; base = n.table_seat.me.0.base }; seen = n.table_seat.me.0.seen } };
+    ghost view = { λ n. record {
+      desk = record { id = n.table_seat.table_id; base = n.table_seat.me.0.base };
+      seen = n.table_seat.me.0.seen;
+    } };
 
     ghost invariant = { λ n. IsIdle n.table_seat.me × (n.table_seat.me.0.owns ≡ []) ×
         (n.table_seat.me.0.draws ≡ 0) × (n.seen ≡ length n.table_seat.me.0.seen) };

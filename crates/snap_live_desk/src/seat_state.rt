@@ -1,5 +1,5 @@
-//! What a seat knows of its desk. No value of these types is made: they are what the desk's rule
-//! speaks of.
+//! `SeatState`: what a seat knows of its desk. No value of these ghost types is made: the desk's
+//! rule speaks of them.
 use snap_asm_program::Program;
 use snap_semantics::{Item, Outcome};
 use snap_words::Shape;

@@ -1,10 +1,12 @@
-//! The steps on the words and the one slot of the desk's table. A seat of the table is a
-//! `TableSeat`.
-ghost use Rattle.std.specs.Prelude.{◌≡◌, ℕ, ◌+◌, ◌*◌, ◌^◌, ◌<◌, ◌++◌, [], ◌∷◌, true, Some, None, length, MatchBool};
+//! The steps of seats on the desk's shared table, which has four words and one slot for the record:
+//! `draw` a ticket, `wait`, `take` the record, `publish`, `serve`.
+ghost use Rattle.std.specs.Prelude.{◌≡◌, ◌+◌, ◌*◌, ◌^◌, ◌<◌, ◌++◌, [], ◌∷◌};
+ghost use Rattle.std.specs.Prelude.{true, Some, None, length, MatchBool};
 ghost use Rattle.snap_live_desk.specs.declared.seat_state.Stage.TheVariants.{Idle, Waits, Served};
 ghost use Rattle.snap_semantics.specs.Table.{who};
 ghost use Rattle.snap_live_desk.specs.Turns.{last_outcome, run_of};
-ghost use Rattle.snap_live_desk.specs.SeatStates.{waits, serves, rests, names, stays, comes, grip_of, own, turns_in, publishes, catches_up, both, tells};
+ghost use Rattle.snap_live_desk.specs.SeatStates.{waits, rests, names, stays, comes, grip_of, own};
+ghost use Rattle.snap_live_desk.specs.SeatStates.{turns_in, publishes, catches_up, both, tells};
 ghost use Rattle.snap_live_desk.specs.Rule.{Taken, HasAll, OwnTurns, AllPrefix};
 ghost use Rattle.snap_live_desk.specs.Seats.{IsSeatOf, IsSame, IsIdle};
 

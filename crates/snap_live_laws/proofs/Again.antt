@@ -1,5 +1,7 @@
--- What is printed of a live run, read again.
-use Rattle.std.proofs.Common.{◌≡◌, ℕ, suc, ◌+◌, ◌-◌, ◌<◌, ◌≤◌, List, ◌++◌, length, drop, Ok, refl, sym, ap, ◌∙◌, subst, arith}
+-- What is printed of a live run, read again: it is cut into a schedule and a report (`LiveRunsAreCut`), and the
+-- schedule's run is the same (`LiveRunsAreReadAgain`).
+use Rattle.std.proofs.Common.{◌≡◌, ℕ, suc, ◌+◌, ◌-◌, ◌<◌, ◌≤◌, List, ◌++◌, length, drop}
+use Rattle.std.proofs.Common.{Ok, refl, sym, ap, ◌∙◌, subst, arith}
 use Rattle.std.proofs.Math.Seq.{drop-append_seam}
 use Rattle.std.proofs.lemmas.List.Elements.{All-contains, All-from_get_or, All-from_recursion, recursion_from_All}
 use Rattle.std.specs.List.{AllByRecursion}
@@ -27,7 +29,8 @@ use Rattle.snap_live_laws.proofs.PlaysFit.{play_fits, script_fits}
 use Rattle.snap_live_laws.proofs.Schedules.{cut_there}
 use Rattle.snap_live_laws.proofs.ScriptsFit.{FitsScript}
 
-module _ (g : Setup) (limit : ℕ) (text : List ℕ) (numbers : AllByRecursion FitsScript g.scripts.scripts) (live : IsLiveText g limit text) where
+module _ (g : Setup) (limit : ℕ) (text : List ℕ) (numbers : AllByRecursion FitsScript g.scripts.scripts)
+    (live : IsLiveText g limit text) where
   abbrev history : Run
   history = run_of (setting g) live.items
 
@@ -42,9 +45,11 @@ module _ (g : Setup) (limit : ℕ) (text : List ℕ) (numbers : AllByRecursion F
       let same : k + 1 ≡ p = omega (arith, low) in
       let turns = turns_of (setting g) p live.items in
       let plays : IsPlay (script_at g.scripts.scripts k) turns =
-      subst (λ (q : ℕ). IsPlay (script_at g.scripts.scripts k) (turns_of (setting g) q live.items)) same (live.plays k (omega (arith, low, high))) in
+      subst (λ (q : ℕ). IsPlay (script_at g.scripts.scripts k) (turns_of (setting g) q live.items)) same
+      (live.plays k (omega (arith, low, high))) in
       let fit = play_fits (script_at g.scripts.scripts k) turns (script_fits g.scripts.scripts k numbers) plays in
-      All-contains (λ (t : OwnTurn). FitsItem t.item) turns (turn_at history p s) (All-from_recursion (λ (t : OwnTurn). FitsItem t.item) turns fit)
+      All-contains (λ (t : OwnTurn). FitsItem t.item) turns (turn_at history p s)
+      (All-from_recursion (λ (t : OwnTurn). FitsItem t.item) turns fit)
       (told_there history p s lt refl)
 
   items_fit : AllByRecursion FitsItem live.items
@@ -53,7 +58,8 @@ module _ (g : Setup) (limit : ℕ) (text : List ℕ) (numbers : AllByRecursion F
   is_schedule : IsSchedule (played g live.items)
   is_schedule = record { shape = live.there.shape; processes = live.fits.all; few = live.short; fits = items_fit }
 
-  cut_written : before_report (schedule_text (played g live.items) ++ report_at history (length live.items)) ≡ schedule_text (played g live.items)
+  cut_written : before_report (schedule_text (played g live.items) ++ report_at history (length live.items))
+      ≡ schedule_text (played g live.items)
   cut_written = cut_there (played g live.items) is_schedule (drop 9 (report_at history (length live.items)))
 
   cut : before_report text ≡ schedule_text (played g live.items)
@@ -61,7 +67,8 @@ module _ (g : Setup) (limit : ℕ) (text : List ℕ) (numbers : AllByRecursion F
 
   report_behind : report_in text ≡ report_at history (length live.items)
   report_behind =
-      ap (λ (front : List ℕ). drop (length front) text) cut ∙ ap (drop (length (schedule_text (played g live.items)))) live.written
+      ap (λ (front : List ℕ). drop (length front) text) cut
+      ∙ ap (drop (length (schedule_text (played g live.items)))) live.written
       ∙ drop-append_seam (schedule_text (played g live.items)) (report_at history (length live.items))
 
   is_cut : IsCut g live.items text
@@ -77,7 +84,8 @@ pub live_runs_are_cut : LiveRunsAreCut
 live_runs_are_cut subject limit input text g e live = is_cut g limit text (input_read subject input g e).numbers live
 
 -- of a text that is cut so
-module _ (again : PrintsAgain) (only : ReadsOnlySpelled) (g : Setup) (items : List Item) (text : List ℕ) (h : IsCut g items text) where
+module _ (again : PrintsAgain) (only : ReadsOnlySpelled) (g : Setup) (items : List Item) (text : List ℕ)
+    (h : IsCut g items text) where
   reads : length (before_report text) ≤ 4194304 → schedule_of (before_report text) ≡ Ok (played g items)
   reads few =
       ap schedule_of h.schedule
@@ -93,7 +101,8 @@ module _ (again : PrintsAgain) (only : ReadsOnlySpelled) (g : Setup) (items : Li
     short = λ few.
         let long = schedule_short (played g items) h.is_schedule in
         subst (λ (front : List ℕ). length front ≤ 4194304) (sym h.schedule) (omega (arith, long, few));
-    reports = λ s e. ap (λ (x : Schedule). report_at (run_over g.source x) (length x.items)) (no_other s e) ∙ sym h.report;
+    reports =
+        λ s e. ap (λ (x : Schedule). report_at (run_over g.source x) (length x.items)) (no_other s e) ∙ sym h.report;
   }
 
 pub live_runs_are_read_again : PrintsAgain → ReadsOnlySpelled → LiveRunsAreReadAgain

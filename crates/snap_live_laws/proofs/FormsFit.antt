@@ -1,5 +1,6 @@
 -- The numbers of a form of scripts that was read have 64 bits.
-use Rattle.std.proofs.Common.{◌≡◌, ℕ, Bool, true, false, List, Option, Some, None, codes, if◌then◌else◌, IfSome, refl, subst}
+use Rattle.std.proofs.Common.{◌≡◌, ℕ, Bool, true, false, List, Option, Some, None}
+use Rattle.std.proofs.Common.{codes, if◌then◌else◌, IfSome, refl, subst}
 use Rattle.std.specs.List.{AllByRecursion}
 use Rattle.snap_semantics.specs.declared.process.Op.{Op}
 use Rattle.snap_semantics.specs.declared.process.Op.TheVariants as op
@@ -15,7 +16,8 @@ use Rattle.snap_sched.specs.declared.script_forms.ScriptForm.TheVariants as scri
 use Rattle.snap_sched.proofs.Found.{item_found}
 
 -- what holds of what is found, step by step
-found_bind : {A B : Type 0} (P : B → Type 0) (o : Option A) (f : A → Option B) → ((x : A) → o ≡ Some x → IfSome (f x) P) → IfSome (o >>= f) P
+found_bind : {A B : Type 0} (P : B → Type 0) (o : Option A) (f : A → Option B) →
+    ((x : A) → o ≡ Some x → IfSome (f x) P) → IfSome (o >>= f) P
 found_bind P None f h = tt
 found_bind P (Some x) f h = h x refl
 
@@ -36,7 +38,8 @@ spelled_fits : (i : ℕ) (o : Op) → AllByRecursion IsSound (spelled_call i o) 
 spelled_fits i op.Scan h = tt
 spelled_fits i (op.Update word value) h = (h.1.1.0, h.1.1.1.0)
 
-as_call_fits : (f : ItemForm) (ts : List Token) → IsSpelling f ts → AllByRecursion IsSound ts → IfSome (as_call f) FitsForm
+as_call_fits : (f : ItemForm) (ts : List Token) → IsSpelling f ts →
+    AllByRecursion IsSound ts → IfSome (as_call f) FitsForm
 as_call_fits (Steps i count) ts h g = tt
 as_call_fits (Calls i o) ts h g = spelled_fits i o (subst (AllByRecursion IsSound) h g)
 as_call_fits (Crashes i) ts h g = tt
@@ -48,7 +51,8 @@ call_fits ts g = found_bind FitsForm (item_form ts) as_call (λ f e. as_call_fit
 crash_fits : (ts : List Token) → IfSome (crash_at_form ts) FitsForm
 unfolding crash_at_form
 crash_fits ts =
-    found_bind FitsForm (number_at ts) _ (λ i e. found_bind FitsForm (keyword_at (codes "crash") i.1) _ (λ rest e. found_bind FitsForm (number_at rest) _ (λ turn e.
+    found_bind FitsForm (number_at ts) _ (λ i e.
+    found_bind FitsForm (keyword_at (codes "crash") i.1) _ (λ rest e. found_bind FitsForm (number_at rest) _ (λ turn e.
     found_bind FitsForm (end_at turn.1) _ (λ end e. found_if FitsForm (is_turn turn.0) (script.Crash i.0 turn.0) tt))))
 
 pub form_fits : (ts : List Token) → AllByRecursion IsSound ts → IfSome (script_form ts) FitsForm

@@ -40,10 +40,12 @@ texts_read l texts g e =
     let made : Setup = record { source = l; scripts = read.0 } in
     let is : g ≡ made = same_answer (Ok made) made g refl read.2 in
     let scripts = scripts_read l (part 0 texts) read.0 read.1 in
-    subst (λ (x : Setup). (l ≡ x.source) × (fits x.source.kind x.scripts.shape ≡ true) × AllByRecursion FitsScript x.scripts.scripts) (sym is)
+    subst (λ (x : Setup). (l ≡ x.source) × (fits x.source.kind x.scripts.shape ≡ true)
+    × AllByRecursion FitsScript x.scripts.scripts) (sym is)
     (refl, scripts.0, scripts.1)
 
-parts_read : (subject : Subject) (parts : List (List ℕ)) (g : Setup) → setup_for subject parts ≡ Ok g → IsRead subject parts g
+parts_read : (subject : Subject) (parts : List (List ℕ)) (g : Setup) →
+    setup_for subject parts ≡ Ok g → IsRead subject parts g
 unfolding parted
 parts_read subject parts g e =
     let behind = (both (checked_parts subject 1 parts) _ g e).2 in
@@ -51,6 +53,8 @@ parts_read subject parts g e =
     let texts = texts_read read.0 (texts_for subject parts) g read.2 in
     record { listing = read.1 ∙ ap (λ (l : Source). Ok l) texts.0; shape = texts.1; numbers = texts.2 }
 
-pub input_read : (subject : Subject) (input : List ℕ) (g : Setup) → setup_of subject input ≡ Ok g → IsRead subject (parts_of input) g
+pub input_read : (subject : Subject) (input : List ℕ) (g : Setup) → setup_of subject input ≡ Ok g →
+    IsRead subject (parts_of input) g
 input_read subject input g e =
-    parts_read subject (parts_of input) g (within (nat_lt max_input (length input)) refusal.InputTooLong (setup_for subject (parts_of input)) g e)
+    parts_read subject (parts_of input) g
+    (within (nat_lt max_input (length input)) refusal.InputTooLong (setup_for subject (parts_of input)) g e)

@@ -1,5 +1,6 @@
--- How long the text of a schedule is at most.
-use Rattle.std.proofs.Common.{ℕ, suc, ◌+◌, ◌*◌, ◌<◌, ◌≤◌, ◌^◌, Bool, true, false, List, [], ◌∷◌, ◌++◌, length, nat_eq, if◌then◌else◌, codes, decimal, arith}
+-- The text of a schedule has at most 12 + 52 bytes for each item (`schedule_short`).
+use Rattle.std.proofs.Common.{ℕ, suc, ◌+◌, ◌*◌, ◌<◌, ◌≤◌, ◌^◌, Bool, true, false, List, [], ◌∷◌, ◌++◌, length, nat_eq}
+use Rattle.std.proofs.Common.{if◌then◌else◌, codes, decimal, arith}
 use Rattle.std.proofs.lemmas.Fmt.{length-decimal-le}
 use Rattle.std.proofs.lemmas.List.{length-append}
 use Rattle.std.specs.List.{AllByRecursion}
@@ -38,7 +39,8 @@ module _ (n most : ℕ) (small : n ≤ max_count) (few : most ≤ 1000000) where
       let process = of_process i le in
       let times = counted count (omega (arith, lt, few)) in
       let behind = length-append (decimal count) (codes "\n") in
-      let all = length-append (decimal i) (codes "*" ++ (decimal count ++ codes "\n")) in omega (arith, process, times, behind, all)
+      let all = length-append (decimal i) (codes "*" ++ (decimal count ++ codes "\n")) in
+      omega (arith, process, times, behind, all)
 
   form_short : (f : ItemForm) → IsWithin n most f → length (line_text (spelled_form f)) ≤ 52
   form_short (Steps i count) h = steps_short i count (nat_eq count 1) h.0 h.1
@@ -51,7 +53,8 @@ module _ (n most : ℕ) (small : n ≤ max_count) (few : most ≤ 1000000) where
       let second = wide value h.1.1 in
       let last = length-append (decimal value) (codes "\n") in
       let behind = length-append (decimal word) (codes " " ++ (decimal value ++ codes "\n")) in
-      let all = length-append (decimal i) (codes " update " ++ (decimal word ++ (codes " " ++ (decimal value ++ codes "\n")))) in
+      let all =
+      length-append (decimal i) (codes " update " ++ (decimal word ++ (codes " " ++ (decimal value ++ codes "\n")))) in
       omega (arith, process, first, second, last, behind, all)
   form_short (Crashes i) h =
       let process = of_process i h in
@@ -91,5 +94,6 @@ schedule_short s h =
     let last = length-append (decimal s.shape.w) (codes "\n") in
     let behind = length-append (decimal s.shape.n) (codes " " ++ (decimal s.shape.w ++ codes "\n")) in
     let all = length-append (line_text (spelled_shape s.shape)) (forms_text (forms_of s.items)) in
-    let forms = forms_short s.shape.n (length s.items) h.shape.0.1 h.few (forms_of s.items) (forms_within s.shape.n s.items h.processes h.fits) in
+    let forms = forms_short s.shape.n (length s.items) h.shape.0.1 h.few (forms_of s.items)
+    (forms_within s.shape.n s.items h.processes h.fits) in
     let no = no_more s.items in omega (arith, n, w, last, behind, all, forms, no)

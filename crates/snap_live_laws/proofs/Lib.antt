@@ -1,3 +1,4 @@
+-- The proofs of snap_live_laws, by their modules.
 mod Cut
 pub mod Schedules
 mod Lengths

@@ -9,7 +9,8 @@ use Rattle.snap_semantics.specs.declared.process.Outcome.TheVariants as outcome
 use Rattle.snap_semantics.specs.ScheduleText.{FitsItem, FitsWords}
 use Rattle.snap_sched.specs.ScriptText.{Script}
 use Rattle.snap_live_desk.specs.declared.seat_state.OwnTurn.{OwnTurn}
-use Rattle.snap_live.specs.Play.{Due, Does, IsCallOf, IsCrash, IsDue, IsPlay, IsStep, Plays, after_call, after_step, busy, over, rest}
+use Rattle.snap_live.specs.Play.{Due, Does, IsCallOf, IsCrash, IsDue, IsPlay, IsStep, Plays}
+use Rattle.snap_live.specs.Play.{after_call, after_step, busy, over, rest}
 use Rattle.snap_live.specs.Script.{crashes_behind, script_at}
 use Rattle.snap_live_laws.proofs.ScriptsFit.{FitsScript}
 
@@ -54,21 +55,25 @@ stepped_due (outcome.Skipped reason) os h = h
 
 does_fit : (d e : Due) (t : OwnTurn) → FitsDue d → Does d t e → FitsItem t.item × FitsDue e
 does_fit (rest []) e t fits h = absurd h
-does_fit (rest (o ∷ os)) e t fits h = (call_fits o t.item fits.0 h.0, subst FitsDue (sym h.1) (called_due t.outcome os fits.1))
+does_fit (rest (o ∷ os)) e t fits h =
+    (call_fits o t.item fits.0 h.0, subst FitsDue (sym h.1) (called_due t.outcome os fits.1))
 does_fit (busy os) e t fits h = (step_fits t.item h.0, subst FitsDue (sym h.1) (stepped_due t.outcome os fits))
 does_fit over e t fits h = absurd h
 
-moves_fit : (b : Bool) (d e : Due) (t : OwnTurn) → FitsDue d → MatchBool b (IsDue d × IsCrash t.item × (e ≡ over)) (Does d t e) → FitsItem t.item × FitsDue e
+moves_fit : (b : Bool) (d e : Due) (t : OwnTurn) → FitsDue d →
+    MatchBool b (IsDue d × IsCrash t.item × (e ≡ over)) (Does d t e) → FitsItem t.item × FitsDue e
 moves_fit true d e t fits h = (crash_fits t.item h.1, subst FitsDue (sym h.2) tt)
 moves_fit false d e t fits h = does_fit d e t fits h
 
-plays_fit : (crash : Option ℕ) (k : ℕ) (d e : Due) (ts : List OwnTurn) → FitsDue d → Plays crash k d ts e → AllByRecursion (λ t. FitsItem t.item) ts
+plays_fit : (crash : Option ℕ) (k : ℕ) (d e : Due) (ts : List OwnTurn) → FitsDue d → Plays crash k d ts e →
+    AllByRecursion (λ t. FitsItem t.item) ts
 plays_fit crash k d e [] fits h = tt
 plays_fit crash k d e (t ∷ ts) fits h =
     let one = moves_fit (crashes_behind crash k) d h.0 t fits h.1 in
     (one.0, plays_fit crash (k + 1) h.0 e ts one.1 h.2)
 
-pub play_fits : (script : Script) (ts : List OwnTurn) → FitsScript script → IsPlay script ts → AllByRecursion (λ t. FitsItem t.item) ts
+pub play_fits : (script : Script) (ts : List OwnTurn) → FitsScript script → IsPlay script ts →
+    AllByRecursion (λ t. FitsItem t.item) ts
 play_fits script ts fits h = plays_fit script.crash 0 (rest script.operations) h.0 ts fits h.1
 
 -- the script of each process

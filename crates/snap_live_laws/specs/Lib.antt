@@ -1,2 +1,3 @@
+-- The definitions of snap_live_laws, by their modules.
 pub mod Printed
 pub mod RunAgain

@@ -1,4 +1,4 @@
--- What is printed of a live run, cut where its report begins.
+-- `before_report` and `report_in`: what is printed of a live run, cut into the schedule and the report of its end.
 use Rattle.std.specs.Prelude.{ℕ, Bool, List, [], ◌∷◌, ◌++◌, bytes_eq, codes, drop, if◌then◌else◌, length, take}
 use Rattle.snap_input.specs.Parts.{full_lines}
 

@@ -1,4 +1,5 @@
--- What is printed of a live run, run again.
+-- What is printed of a live run, run again: it is a schedule and a report (`LiveRunsAreCut`), and the run over that
+-- schedule is the same (`LiveRunsAreReadAgain`).
 use Rattle.std.specs.Prelude.{◌≡◌, ℕ, ◌≤◌, List, ◌++◌, length, Ok}
 use Rattle.snap_semantics.specs.Schedule.{Schedule, schedule_of}
 use Rattle.snap_semantics.specs.ScheduleText.{IsSchedule, schedule_text}
@@ -20,9 +21,9 @@ pub record IsCut (g : Setup) (items : List Item) (text : List ℕ) : Type 0 wher
   pub report : report_in text ≡ report_at (run_over g.source (played g items)) (length items)
   pub whole : text ≡ before_report text ++ report_in text
 
--- What stands before the report, if it is no longer than a schedule may be, is read as the items of the live run, and as
--- nothing else: the run over them is the same, and so is its report. It is no longer where there are at most 80,000
--- items.
+-- What stands before the report, if it is no longer than a schedule may be, is read as the items of the live run, and
+-- as nothing else: the run over them is the same, and so is its report. It is no longer where
+-- there are at most 80,000 items.
 pub record IsReadAgain (g : Setup) (items : List Item) (text : List ℕ) : Type 0 where
   pub reads : length (before_report text) ≤ 4194304 → schedule_of (before_report text) ≡ Ok (played g items)
   pub no_other : (s : Schedule) → schedule_of (before_report text) ≡ Ok s → s ≡ played g items

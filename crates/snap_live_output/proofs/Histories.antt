@@ -1,5 +1,6 @@
--- Items of a history, one by one.
-use Rattle.std.proofs.Common.{◌≡◌, ℕ, ◌+◌, ◌-◌, ◌<◌, ◌++◌, true, List, [], ◌∷◌, Some, None, length, take, get_or, nat_lt, ◌∙◌, sym, ap, arith}
+-- The first t + 1 items of a live run's history are its first t and then the next one.
+use Rattle.std.proofs.Common.{◌≡◌, ℕ, ◌+◌, ◌-◌, ◌<◌, ◌++◌, true, List, [], ◌∷◌, Some, None, length, take, get_or}
+use Rattle.std.proofs.Common.{nat_lt, ◌∙◌, sym, ap, arith}
 use Rattle.snap_runs.proofs.Computing.{lt_true}
 use Rattle.std.proofs.lemmas.List.{take_more}
 use Rattle.std.proofs.lemmas.Option.{slice_get-get_or}
@@ -19,7 +20,8 @@ pub is_there : (xs : List Item) (t : ℕ) → t < length xs → nth (t + 1) xs �
 is_there xs t below e = let is = next_is xs t below in cc
 
 -- and with it they are the first t + 1
-pub one_more : (xs items : List Item) (t : ℕ) (x : Item) → t < length xs → nth (t + 1) xs ≡ Some x → items ≡ take t xs ++ x ∷ [] → items ≡ take (t + 1) xs
+pub one_more : (xs items : List Item) (t : ℕ) (x : Item) → t < length xs → nth (t + 1) xs ≡ Some x →
+    items ≡ take t xs ++ x ∷ [] → items ≡ take (t + 1) xs
 one_more xs items t x below e is =
     let same : get_or xs t (Step 0) ≡ x = let found = next_is xs t below in cc in
     is ∙ ap (λ (y : Item). take t xs ++ y ∷ []) (sym same) ∙ sym (take_more xs t (Step 0) below)

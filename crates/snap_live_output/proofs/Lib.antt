@@ -1,3 +1,4 @@
+-- The proofs of snap_live_output, by their modules.
 pub mod Shipped
 pub mod Histories
 pub mod Lives

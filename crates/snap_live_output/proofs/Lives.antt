@@ -1,4 +1,5 @@
--- The history of a live run, as a text.
+-- The text that is written of a live run in which all workers played their scripts is one that may be written
+-- (`IsGatedText`).
 use Rattle.std.proofs.Common.{◌≡◌, ℕ, ◌≤◌, Bool, List, length, ◌∙◌, ap, subst}
 use Rattle.snap_semantics.specs.Source.{Source}
 use Rattle.snap_sched.specs.ScriptText.{AreScripts, Scripts}
@@ -10,15 +11,19 @@ use Rattle.snap_live_desk.specs.Turns.{run_of}
 use Rattle.snap_live_output.specs.LiveOutput.{IsGatedText, Setup, history_text, setting}
 
 -- what all workers did is such a text
-pub live_text : (may : ℕ → ℕ → Bool → Type 0) (g : Setup) (limit : ℕ) (l : Source) (s : Scripts) (kept : Run) (turns : List (List Turn)) (text : List ℕ) →
-    l ≡ g.source → s ≡ g.scripts → AreScripts g.scripts →
-    IsLive may (let b : Setting = record { source = l; shape = s.shape } in b) s.scripts limit kept turns → IsValidRun kept → length kept.items ≤ 1000000 → text ≡ history_text kept →
-    IsGatedText may g limit text
+pub live_text : (may : ℕ → ℕ → Bool → Type 0) (g : Setup) (limit : ℕ) (l : Source) (s : Scripts) (kept : Run)
+    (turns : List (List Turn)) (text : List ℕ) → l ≡ g.source → s ≡ g.scripts → AreScripts g.scripts →
+    IsLive may (let b : Setting = record { source = l; shape = s.shape } in b) s.scripts limit kept turns →
+    IsValidRun kept → length kept.items ≤ 1000000 → text ≡ history_text kept → IsGatedText may g limit text
 live_text may g limit l s kept turns text is_source are_scripts there live fits short written =
-    let of_source : IsLive may (let b : Setting = record { source = g.source; shape = s.shape } in b) s.scripts limit kept turns =
-    subst (λ (x : Source). IsLive may (let b : Setting = record { source = x; shape = s.shape } in b) s.scripts limit kept turns) is_source live in
+    let of_source : IsLive may
+    (let b : Setting = record { source = g.source; shape = s.shape } in b) s.scripts limit kept turns =
+    subst (λ (x : Source). IsLive may
+    (let b : Setting = record { source = x; shape = s.shape } in b) s.scripts limit kept turns) is_source live in
     let of_setup : IsLive may (setting g) g.scripts.scripts limit kept turns =
-    subst (λ (x : Scripts). IsLive may (let b : Setting = record { source = g.source; shape = x.shape } in b) x.scripts limit kept turns) are_scripts of_source in
+    subst (λ (x : Scripts).
+    IsLive may (let b : Setting = record { source = g.source; shape = x.shape } in b) x.scripts limit kept turns)
+    are_scripts of_source in
     let same : kept ≡ run_of (setting g) kept.items = ap (λ (b : Setting). run_of b kept.items) of_setup.of_base in
     record {
       live = record {

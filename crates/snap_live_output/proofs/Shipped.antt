@@ -1,4 +1,5 @@
--- What a live run of a shipped listing writes, taken apart.
+-- A live run of a shipped listing writes the history of a run of that listing, which keeps its promises
+-- (`LiveRunsAreSnapshots`).
 use Rattle.std.proofs.Common.{◌≡◌, ℕ, ◌≤◌, true, List, Ok, length, nat_lt, refl, sym, ap, subst, arith}
 use Rattle.snap_words.specs.Kind.{fits}
 use Rattle.snap_words.specs.declared.kind.KindTag.{KindTag}
@@ -29,19 +30,24 @@ fits_listing l text s e =
     subst (λ (x : Scripts). fits l.kind x.shape ≡ true) fit.1 fit.0
 
 -- what is played is the listing, and scripts that fit it
-plays_listing : (l : Source) (texts : List (List ℕ)) (g : Setup) → setup_text l texts ≡ Ok g → (g.source ≡ l) × (fits l.kind g.scripts.shape ≡ true)
+plays_listing : (l : Source) (texts : List (List ℕ)) (g : Setup) → setup_text l texts ≡ Ok g →
+    (g.source ≡ l) × (fits l.kind g.scripts.shape ≡ true)
 unfolding setup_text
 plays_listing l texts g e =
     let read = both (scripts_for l (part 0 texts)) _ g e in
     let made : Setup = record { source = l; scripts = read.0 } in
-    let is : g ≡ made = same_answer (Ok made) made g refl read.2 in
-    (ap (λ (x : Setup). x.source) is, subst (λ (x : Setup). fits l.kind x.scripts.shape ≡ true) (sym is) (fits_listing l (part 0 texts) read.0 read.1))
+    let is : g ≡ made = same_answer (Ok made) made g refl read.2 in (
+      ap (λ (x : Setup). x.source) is,
+      subst (λ (x : Setup). fits l.kind x.scripts.shape ≡ true) (sym is) (fits_listing l (part 0 texts) read.0 read.1),
+    )
 
 -- with a shipped listing
-plays_shipped : (k : KindTag) (input : List ℕ) (g : Setup) → setup_of (Shipped k) input ≡ Ok g → (g.source ≡ shipped k) × (fits (shipped k).kind g.scripts.shape ≡ true)
+plays_shipped : (k : KindTag) (input : List ℕ) (g : Setup) → setup_of (Shipped k) input ≡ Ok g →
+    (g.source ≡ shipped k) × (fits (shipped k).kind g.scripts.shape ≡ true)
 plays_shipped k input g e =
     plays_listing (shipped k) (parts_of input) g
-    (of_texts k 1 (parts_of input) setup_text g (within (nat_lt max_input (length input)) refusal.InputTooLong (setup_for (Shipped k) (parts_of input)) g e))
+    (of_texts k 1 (parts_of input) setup_text g
+    (within (nat_lt max_input (length input)) refusal.InputTooLong (setup_for (Shipped k) (parts_of input)) g e))
 
 -- a live run has fewer items than there are sequence numbers
 suffices : (k : KindTag) (items : List Item) → length items ≤ 1000000 → NumbersSuffice k items
@@ -56,7 +62,9 @@ live_runs kept k limit input text h =
       run = run_of (setting g) live.items;
       of_listing = is.0;
       fits = live.fits;
-      promises = subst (λ (l : Source). KeepsPromises k (let r : Run = record { source = l; shape = g.scripts.shape; items = live.items } in r))
+      promises =
+          subst (λ (l : Source).
+          KeepsPromises k (let r : Run = record { source = l; shape = g.scripts.shape; items = live.items } in r))
           (sym is.0) (kept k g.scripts.shape live.items live.there.shape is.1 (suffices k live.items live.short));
       written = live.written;
     }

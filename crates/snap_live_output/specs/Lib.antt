@@ -1,2 +1,5 @@
+-- The definitions of snap_live_output, by their modules.
+pub mod LiveAnswer
 pub mod LiveOutput
 pub mod LiveRuns
+pub mod Uncalled

@@ -1,7 +1,6 @@
--- What a live run writes for what it reads, or why it writes nothing. Threads take turns as it happens: so the output is one of many,
--- and each of them is the history of one list of items.
-use Rattle.std.specs.Prelude.{◌≡◌, ℕ, ◌+◌, ◌<◌, ◌≤◌, List, ◌++◌, length, nat_lt, Bool, Vec, Result, Ok, Err, ⊤, if◌then◌else◌}
-use Rattle.std.specs.Global.{Global}
+-- What a live run writes for an input, or why it writes nothing: `AnswersLive`. Threads take turns as it happens: so
+-- the output is one of many, each the history of one list of items.
+use Rattle.std.specs.Prelude.{◌≡◌, ℕ, ◌+◌, ◌<◌, ◌≤◌, List, ◌++◌, length, nat_lt, Bool, Result, Ok, Err, if◌then◌else◌}
 use Rattle.snap_words.specs.Shape.{max_items}
 use Rattle.snap_words.specs.Kind.{fits}
 use Rattle.snap_words.specs.declared.shape.WordFault.TheVariants.{BadShape}
@@ -65,16 +64,18 @@ setup_of s input = if nat_lt max_input (length input) then Err refusal.InputTooL
 
 -- a run as the text of a schedule, and the report of its end
 abbrev pub history_text : Run → List ℕ
-history_text r = schedule_text (let s : Schedule = record { shape = r.shape; items = r.items } in s) ++ report_at r (length r.items)
+history_text r =
+    schedule_text (let s : Schedule = record { shape = r.shape; items = r.items } in s) ++ report_at r (length r.items)
 
--- The text is that of a run of at most a million items, which are of the processes that are there; those of each are a play of its
--- script, of at most so many turns.
+-- The text is that of a run of at most a million items, which are of the processes that are there; those of each are
+-- a play of its script, of at most so many turns.
 pub record IsLiveText (g : Setup) (limit : ℕ) (text : List ℕ) : Type 0 where
   pub items : List Item
   pub there : AreScripts g.scripts
   pub fits : IsValidRun (run_of (setting g) items)
   pub short : length items ≤ max_items
-  pub plays : (k : ℕ) → k < g.scripts.shape.n → IsPlay (script_at g.scripts.scripts k) (turns_of (setting g) (k + 1) items)
+  pub plays : (k : ℕ) → k < g.scripts.shape.n →
+      IsPlay (script_at g.scripts.scripts k) (turns_of (setting g) (k + 1) items)
   pub few : (k : ℕ) → k < g.scripts.shape.n → length (turns_of (setting g) (k + 1) items) ≤ limit
   pub written : text ≡ history_text (run_of (setting g) items)
 
@@ -102,11 +103,5 @@ MayWrite may s limit input text = (g : Setup) × (setup_of s input ≡ Ok g) × 
 
 -- when a live run may be given up
 abbrev pub MayGiveUp : (may : ℕ → ℕ → Bool → Type 0) → Subject → (limit : ℕ) → (input : List ℕ) → LiveRefusal → Type 0
-MayGiveUp may s limit input r = (g : Setup) × (setup_of s input ≡ Ok g) × MayFault may (setting g) g.scripts.scripts limit (inner.Refused r)
-
--- What a live run answers for an input: a text; or why the input says nothing to play; or why the run was given up.
-abbrev pub AnswersLive : (may : ℕ → ℕ → Bool → Type 0) → Subject → (limit : ℕ) → (input : List ℕ) → Result (Vec ℕ Global) LiveRunFault → Type 0
-AnswersLive may s limit input (Ok out) = MayWrite may s limit input out.items
-AnswersLive may s limit input (Err fault.Memory) = ⊤
-AnswersLive may s limit input (Err (fault.Refused r)) = setup_of s input ≡ Err r
-AnswersLive may s limit input (Err (fault.Live r)) = MayGiveUp may s limit input r
+MayGiveUp may s limit input r =
+    (g : Setup) × (setup_of s input ≡ Ok g) × MayFault may (setting g) g.scripts.scripts limit (inner.Refused r)

@@ -1,4 +1,5 @@
--- What is written by live runs of the listings that are shipped.
+-- `LiveRunsAreSnapshots`: what a live run of a shipped listing writes is the history of a run that keeps all promises
+-- of the listing.
 use Rattle.std.specs.Prelude.{◌≡◌, ℕ, List}
 use Rattle.snap_words.specs.declared.kind.KindTag.{KindTag}
 use Rattle.snap_runs.specs.Run.{Run, IsValidRun}
@@ -17,4 +18,5 @@ pub record IsSnapshotText (g : KindTag) (text : List ℕ) : Type 0 where
 
 -- Whatever threads do, what a live run of a shipped listing writes is such a history.
 abbrev pub LiveRunsAreSnapshots : Type 0
-LiveRunsAreSnapshots = (g : KindTag) (limit : ℕ) (input text : List ℕ) → IsLiveOutput (Shipped g) limit input text → IsSnapshotText g text
+LiveRunsAreSnapshots =
+    (g : KindTag) (limit : ℕ) (input text : List ℕ) → IsLiveOutput (Shipped g) limit input text → IsSnapshotText g text

@@ -1,4 +1,4 @@
-//! Why a live run writes nothing.
+//! `LiveRunFault`: why a live run writes nothing: its input is refused, or the run is given up.
 ghost use Rattle.std.specs.Prelude.{◌≡◌};
 ghost use Rattle.snap_live_output.specs.LiveOutput.{of_input_fault, of_live_fault};
 ghost use Rattle.snap_live_output.specs.declared.fault.LiveRunFault.TheVariants.{Memory};

@@ -1,4 +1,5 @@
-//! What is promised of live runs.
+//! `live_runs_are_snapshots`: the law that what a live run of a shipped listing writes is the
+//! history of a run that keeps all its promises.
 ghost use Rattle.snap_live_output.specs.LiveRuns.{LiveRunsAreSnapshots};
 
 use snap_promises::shipped_runs_keep_promises;

@@ -7,8 +7,10 @@ mod laws;
 mod output;
 mod played_text;
 mod setup;
+mod uncalled;
 mod written;
 
 pub use fault::LiveRunFault;
 pub use laws::live_runs_are_snapshots;
-pub use output::live_output;
+pub use output::{LiveOutput, live_output};
+pub use uncalled::UncalledCall;

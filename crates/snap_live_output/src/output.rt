@@ -1,20 +1,31 @@
-//! What a live run writes for an input.
+//! `live_output`: what a live run writes for an input, the history of the run and its report, or
+//! why it writes nothing.
 ghost use Rattle.std.specs.Prelude.{◌≡◌, ◌≤◌};
 ghost use Rattle.snap_words.specs.Shape.{max_items};
-ghost use Rattle.snap_live_output.specs.LiveOutput.{AnswersLive};
+ghost use Rattle.snap_live_output.specs.LiveAnswer.{AnswersLive};
 
 use crate::fault::LiveRunFault;
 use crate::played_text::play;
 use crate::setup::setup_of;
+use crate::uncalled::uncalled_text;
 use snap_live::Gate;
 use snap_subject::Subject;
 use std::alloc::Global;
 use std::sync::Wait;
 use std::thread::Threads;
 
+/// What a live run writes: the history of the run, and what is said of the operations in its
+/// scripts that call nothing, which is nothing where there is none.
+#[derive(Debug, Drop)]
+pub struct LiveOutput {
+    pub text: Vec<u8>,
+    pub uncalled: Vec<u8>,
+}
+
 /// The history of one live run of what an input says to play, each process in a thread of its own
 /// and with at most `limit` turns: as the text of a schedule, and then its report. Or why there is
 /// none.
+#[tactic(auto, unfolding(crate::specs::Uncalled::uncalled_of))]
 pub fn live_output<G: Gate, R: Threads + Wait + Sync>(
     rt: &R,
     alloc: Global,
@@ -22,10 +33,12 @@ pub fn live_output<G: Gate, R: Threads + Wait + Sync>(
     limit: u64,
     gate: &G,
     input: &[u8],
-) -> Result<Vec<u8>, LiveRunFault>
+) -> Result<LiveOutput, LiveRunFault>
     requires { (1 ≤ limit) × (limit ≤ max_items) }
     ensures { AnswersLive (G.may_answer gate.now) subject limit input.now result }
 {
     let setup = setup_of(alloc, subject, input)?;
-    Ok(play(rt, alloc, &setup, limit, gate)?)
+    let uncalled = uncalled_text(alloc, &setup)?;
+    let text = play(rt, alloc, &setup, limit, gate)?;
+    Ok(LiveOutput { text, uncalled })
 }

@@ -1,4 +1,4 @@
-//! A live run, as the text of its history.
+//! `play`: plays a live run's scripts, each process in a thread, and gives the text of its history.
 ghost use Rattle.std.specs.Prelude.{◌≡◌, ◌≤◌, IfErr, IfOk};
 ghost use Rattle.snap_words.specs.Shape.{max_items};
 ghost use Rattle.snap_live.specs.LiveRun.{MayFault};

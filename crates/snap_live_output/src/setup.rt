@@ -1,4 +1,5 @@
-//! What a live run plays: a listing, and a script for each process.
+//! `Setup`: what a live run plays, which is a listing and a script for each process; and how an
+//! input is read as one.
 ghost use Rattle.std.specs.Prelude.{◌≡◌, ◌<◌, ◌≤◌, length, map};
 ghost use Rattle.snap_words.specs.Kind.{fits};
 ghost use Rattle.snap_semantics.specs.Answers.{Answers, refused_as};

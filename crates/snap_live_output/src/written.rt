@@ -1,4 +1,5 @@
-//! A record as text: its items as a schedule, and the report of its end.
+//! `history_text`: the record of a live run as text, its items as a schedule and then the report of
+//! its end.
 ghost use Rattle.std.specs.Prelude.{◌≡◌, ◌+◌, ◌<◌, ◌≤◌, ◌^◌, ◌++◌, [], ◌∷◌, IfOk, OnOk, length};
 ghost use Rattle.std.specs.Prelude.{take};
 ghost use Rattle.snap_words.specs.Shape.{max_items};

@@ -1,2 +1,3 @@
+-- The definitions of snap_loans, by their modules.
 pub mod Loans
 pub mod Searches

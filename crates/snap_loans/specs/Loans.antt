@@ -17,8 +17,8 @@ abbrev pub write_before : List Step → ℕ → Option ℕ → Option ℕ
 write_before ss j None = None
 write_before ss j (Some k) = last_before (wanted.WriteOf j) ss k
 
--- The place at which a view was written that step k takes: beside the word that its process had read last from register j, or
--- into register v[j].
+-- The place at which a view was written that step k takes: beside the word that its process had read last from
+-- register j, or into register v[j].
 abbrev pub source_by : List Step → ℕ → Step → Act → Option ℕ
 source_by ss k s (act.Borrow j) = write_before ss j (last_before (wanted.ReadOf s.process j) ss k)
 source_by ss k s (act.Look j) = last_before (wanted.Published j) ss k
@@ -59,7 +59,11 @@ taken_in ss s = not_before s.from (last_before (wanted.Taking s.process) ss s.to
 abbrev pub view_taken_at : List Step → Option ℕ → Option Borrowed
 view_taken_at ss None = None
 view_taken_at ss (Some k) =
-    Some (record { taken = k; written = source_of ss k (step_at ss k); lender = scan_written ss (source_of ss k (step_at ss k)) })
+    Some (record {
+      taken = k;
+      written = source_of ss k (step_at ss k);
+      lender = scan_written ss (source_of ss k (step_at ss k));
+    })
 
 -- the view that a scan took last
 unfoldable pub view_taken : List Step → ScanPlaces → Option Borrowed

@@ -1,5 +1,6 @@
--- What is searched for among the items of a run.
-use Rattle.std.specs.Prelude.{ℕ, zero, suc, Bool, true, false, ◌&&◌, ◌||◌, List, [], ◌∷◌, Option, Some, None, nat_eq, if◌then◌else◌, get_or}
+-- `Wanted`: searches in the trace of a run for the first or the last step of a sort, such as the end of an operation.
+use Rattle.std.specs.Prelude.{ℕ, zero, suc, Bool, true, false, ◌&&◌, ◌||◌, List, [], ◌∷◌}
+use Rattle.std.specs.Prelude.{Option, Some, None, nat_eq, if◌then◌else◌, get_or}
 use Rattle.snap_acts.specs.declared.act.Act.{Act}
 use Rattle.snap_acts.specs.declared.act.Act.TheVariants as act
 use Rattle.snap_acts.specs.declared.act.Step.{Step}

@@ -1,5 +1,5 @@
-//! Searches in what the items of a run did: which step is the first or the last of a sort, which view a step takes, and whose
-//! scan saw it.
+//! Searches in what the items of a run did: which step is the first or the last of a sort, which
+//! view a step takes, and whose scan saw it.
 #![tactic(auto)]
 
 mod loans;

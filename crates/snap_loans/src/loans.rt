@@ -1,6 +1,7 @@
-//! Which view a step takes, and whose scan saw it.
+//! `Borrowed`: which view a scan took, where in the trace it was written, and whose scan saw it.
 ghost use Rattle.std.specs.Prelude.{◌≡◌, ◌≤◌, ◌<◌, IfSome, length};
-ghost use Rattle.snap_loans.specs.Loans.{view_taken, view_taken_at, not_before, scan_before, scan_ended, scan_from, scan_written, source_of, taken_in, write_before};
+ghost use Rattle.snap_loans.specs.Loans.{view_taken, scan_before, scan_ended};
+ghost use Rattle.snap_loans.specs.Loans.{source_of, taken_in, write_before};
 
 use crate::wanted::{Wanted, last_before};
 use snap_acts::{Act, Step};
@@ -13,8 +14,8 @@ pub struct ScanPlaces {
     pub to: usize,
 }
 
-/// A view that a scan took: the place at which it did, and, where they are there, the place at which it was written and the
-/// scan that saw it.
+/// A view that a scan took: the place at which it did, and, where they are there, the place at
+/// which it was written and the scan that saw it.
 #[derive(Clone, Copy, Debug)]
 pub struct Borrowed {
     pub taken: usize,

@@ -1,4 +1,5 @@
-//! What is searched for among the items of a run.
+//! `Wanted`, `first_from` and `last_before`: searches in the trace of a run for a step, such as the
+//! end of an operation or a write.
 ghost use Rattle.std.specs.Prelude.{◌≡◌, ◌≤◌, ◌<◌, IfSome, drop, length, option_map};
 ghost use Rattle.snap_loans.specs.Searches.{
   first_meeting,

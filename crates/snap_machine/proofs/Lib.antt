@@ -1,3 +1,4 @@
+-- The proofs of snap_machine, by their modules.
 pub mod Found
 pub mod Numbered
 pub mod Kept

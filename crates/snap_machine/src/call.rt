@@ -1,4 +1,5 @@
-//! A call of a process, and a crash of one.
+//! `call` and `crash`: a process of a machine is asked for a scan or an update, which it begins or
+//! skips; and a process crashes.
 ghost use Rattle.std.specs.Prelude.{◌≡◌, length, map};
 ghost use Rattle.snap_words.specs.Shape.{IsOneOf};
 ghost use Rattle.snap_semantics.specs.Table.{call_skip, done, entry, owner_skip};
@@ -83,8 +84,9 @@ pub fn crash<K: Kind>(
     }
 }
 
-/// Why an idle process is not asked for an operation.
-fn call_skip(kind: KindTag, shape: Shape, i: u64, op: Op) -> Option<Reason>
+/// Why an idle process is not asked for an operation: the word of an update is not there, or it is
+/// another process's.
+pub fn call_skip(kind: KindTag, shape: Shape, i: u64, op: Op) -> Option<Reason>
     ensures { result ≡ call_skip kind shape i op }
 {
     match op {

@@ -1,4 +1,5 @@
-//! What can be read of a machine.
+//! `Contents` and `Local`: what a register, or a local of a process, has when it is read from a
+//! machine.
 use snap_words::{Kind, View};
 
 /// What a register has.

@@ -1,4 +1,4 @@
-//! Equal processes.
+//! `copy_processes`: processes equal to those of a machine, for a copy of it.
 ghost use Rattle.std.specs.Prelude.{◌≡◌, IfOk, map, vec_items};
 ghost use Rattle.snap_semantics.specs.Source.{Source};
 ghost use Rattle.snap_values.specs.Seen.{seen_process};

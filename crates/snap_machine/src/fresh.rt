@@ -1,4 +1,5 @@
-//! Processes as they begin.
+//! `new_processes`: the processes of a new machine, idle and with locals of zeros and unwritten
+//! words.
 ghost use Rattle.std.specs.Prelude.{◌≡◌, IfOk, map, replicate, vec_items};
 ghost use Rattle.snap_words.specs.Kind.{initial_word};
 ghost use Rattle.snap_words.specs.Shape.{places};

@@ -8,6 +8,7 @@ mod fresh;
 mod machine;
 mod step;
 
+pub use call::call_skip;
 pub use contents::{Contents, Local};
 pub use machine::Machine;
 pub use snap_regs::RegisterFault;

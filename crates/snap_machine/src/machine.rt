@@ -1,5 +1,18 @@
-//! The machine.
-ghost use Rattle.std.specs.Prelude.{◌≡◌, ◌<◌, false, IfOk, IsTrue, MatchResult, OnErr, OnSome, length, nat_eq, option_map};
+//! `Machine`: a program, its registers and its processes; it does one item of a schedule at a time
+//! (`apply`), or with an `Undo`.
+ghost use Rattle.std.specs.Prelude.{
+  ◌≡◌,
+  ◌<◌,
+  false,
+  IfOk,
+  IsTrue,
+  MatchResult,
+  OnErr,
+  OnSome,
+  length,
+  nat_eq,
+  option_map,
+};
 ghost use Rattle.snap_words.specs.Shape.{IsOneOf};
 ghost use Rattle.snap_semantics.specs.Memory.{may_grow};
 ghost use Rattle.snap_semantics.specs.Readers.{
@@ -14,7 +27,13 @@ ghost use Rattle.snap_semantics.specs.State.{initial, process_at, values};
 ghost use Rattle.snap_semantics.specs.Table.{done, who};
 ghost use Rattle.snap_regs.specs.Store.{IsOfShape};
 ghost use Rattle.snap_regs.specs.declared.fault.RegisterFault.TheVariants.{Index};
-ghost use Rattle.snap_machine.specs.SeenContents.{local_at, seen_contents, seen_local, seen_named, value_there};
+ghost use Rattle.snap_machine.specs.SeenContents.{
+  local_at,
+  seen_contents,
+  seen_local,
+  seen_named,
+  value_there,
+};
 ghost use Rattle.snap_undo.specs.Undo.{CanPut, put};
 ghost use Rattle.snap_values.specs.Seen.{seen_locals};
 

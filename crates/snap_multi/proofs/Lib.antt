@@ -1,1 +1,2 @@
+-- The proofs of snap_multi, by their modules.
 pub mod Samples

@@ -27,7 +27,8 @@ embedded_starts = (refl, tt, refl, refl)
 embedded_ends : Ends (run_of 2 1 update_then_scan) 2 37 (Some 55) (0 ∷ [])
 embedded_ends = (refl, refl, refl)
 
-update_writes : (executes (run_of 2 1 update_then_scan) 2 57 40 ≡ true) × (values (state (run_of 2 1 update_then_scan) 39) ≡ 0 ∷ [])
+update_writes : (executes (run_of 2 1 update_then_scan) 2 57 40 ≡ true)
+    × (values (state (run_of 2 1 update_then_scan) 39) ≡ 0 ∷ [])
     × (values (state (run_of 2 1 update_then_scan) 40) ≡ 5 ∷ [])
 update_writes = (refl, refl, refl)
 
@@ -37,7 +38,8 @@ update_done = refl
 scan_ends : Starts (run_of 2 1 update_then_scan) 1 42 None × Ends (run_of 2 1 update_then_scan) 1 70 None (5 ∷ [])
 scan_ends = ((refl, refl), (refl, refl))
 
-scan_counts : (double_collects (run_of 2 1 update_then_scan) 1 42 70 ≡ 1) × (own_steps (run_of 2 1 update_then_scan) 1 42 70 ≡ 28)
+scan_counts : (double_collects (run_of 2 1 update_then_scan) 1 42 70 ≡ 1)
+    × (own_steps (run_of 2 1 update_then_scan) 1 42 70 ≡ 28)
 scan_counts = (refl, refl)
 
 -- One process and two words.
@@ -47,11 +49,12 @@ second_word = Call 1 (Update 2 7) ∷ times 40 1
 second_word_is : values (state (run_of 1 2 second_word) 41) ≡ 0 ∷ 7 ∷ []
 second_word_is = refl
 
--- Process 2 updates three times while process 1 scans, each time between its two collects: three double collects fail, and
--- the scan borrows the view that process 2 put with the third update, which is what the second one wrote.
+-- Process 2 updates three times while process 1 scans, each time between its two collects: three double collects
+-- fail, and the scan borrows the view that process 2 put with the third update, which is what the second one wrote.
 abbrev pub scan_borrows : List Item
 scan_borrows =
-    Call 1 Scan ∷ times 13 1 ++ Call 2 (Update 1 5) ∷ times 40 2 ++ times 28 1 ++ Call 2 (Update 1 6) ∷ times 40 2 ++ times 28 1
+    Call 1 Scan ∷ times 13 1 ++ Call 2 (Update 1 5) ∷ times 40 2 ++ times 28 1
+    ++ Call 2 (Update 1 6) ∷ times 40 2 ++ times 28 1
     ++ Call 2 (Update 1 7) ∷ times 40 2 ++ times 19 1
 
 borrows_ends : Starts (run_of 2 1 scan_borrows) 1 1 None × Ends (run_of 2 1 scan_borrows) 1 212 None (6 ∷ [])

@@ -1,4 +1,4 @@
-//! Runs of M over schedules.
+//! `run`: the record of listing M over any schedule, a run that keeps all that is promised of M.
 ghost use Rattle.std.specs.Prelude.{◌≡◌, IfOk, true};
 ghost use Rattle.snap_words.specs.Kind.{fits};
 ghost use Rattle.snap_words.specs.declared.kind.KindTag.TheVariants as kind;

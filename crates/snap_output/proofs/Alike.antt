@@ -1,4 +1,5 @@
--- A trace is refused as a run is.
+-- The program refuses to trace an input exactly where it refuses to run it, and for the same reason
+-- (`RefusesTracesAsRuns`).
 use Rattle.std.proofs.Common.{ℕ, Bool, true, false, List, Result, Ok, Err, length, nat_lt, if◌then◌else◌, sym, subst}
 use Rattle.snap_semantics.specs.Answers.{◌>>=◌}
 use Rattle.snap_semantics.specs.Source.{Source}
@@ -19,7 +20,8 @@ neither : (x y : List ℕ) → AreRefusedAlike (Ok x) (Ok y)
 neither x y r = (λ e. absurd cc, λ e. absurd cc)
 
 -- behind what both rest on
-behind : {A : Type 0} (x : Result A Refusal) (f g : A → Result (List ℕ) Refusal) → ((a : A) → AreRefusedAlike (f a) (g a)) → AreRefusedAlike (x >>= f) (x >>= g)
+behind : {A : Type 0} (x : Result A Refusal) (f g : A → Result (List ℕ) Refusal) →
+    ((a : A) → AreRefusedAlike (f a) (g a)) → AreRefusedAlike (x >>= f) (x >>= g)
 behind (Ok a) f g h = h a
 behind (Err e) f g h = λ r. (λ same. same, λ same. same)
 
@@ -39,8 +41,10 @@ pub traces_as_runs : RefusesTracesAsRuns
 unfolding output_of parted
 traces_as_runs s input =
     let parts = parts_of input in
-    either (nat_lt 16777216 (length input)) refusal.InputTooLong (parted s 1 parts traces_text) (parted s 1 parts run_text)
+    either (nat_lt 16777216 (length input)) refusal.InputTooLong
+    (parted s 1 parts traces_text) (parted s 1 parts run_text)
     (behind (checked_parts s 1 parts) (λ there. listing_for s parts >>= λ l. traces_text l (texts_for s parts))
     (λ there. listing_for s parts >>= λ l. run_text l (texts_for s parts))
-    (λ there. behind (listing_for s parts) (λ l. traces_text l (texts_for s parts)) (λ l. run_text l (texts_for s parts))
+    (λ there.
+    behind (listing_for s parts) (λ l. traces_text l (texts_for s parts)) (λ l. run_text l (texts_for s parts))
     (λ l. texts_alike l (texts_for s parts))))

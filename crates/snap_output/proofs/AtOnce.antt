@@ -1,4 +1,5 @@
--- What is refused at once, by the clauses of the calls that find it.
+-- The refusals that calls find in an input before any memory is asked for are those of `found_at_once`, for each
+-- task.
 use Rattle.std.proofs.Common.{◌≡◌, ℕ, Bool, true, false, List, [], ◌∷◌, ◌++◌, length, nat_lt, ◌<◌, ◌≤◌}
 use Rattle.std.proofs.Common.{take, drop, refl, sym, ◌∙◌, ap}
 use Rattle.std.specs.Prelude.{Option, Some, None, Result, Ok, Err, option_map, bytes_eq, if◌then◌else◌, ◌≢◌}

@@ -1,3 +1,4 @@
+-- The proofs of snap_output, by their modules.
 pub mod Shipping
 pub mod Schedules
 pub mod AtOnce

@@ -1,4 +1,5 @@
--- What is answered of the schedules of a batch.
+-- What is written for the schedules of a batch or a survey is what is written for the parts of the input
+-- (`over_schedules`).
 use Rattle.std.proofs.Common.{◌≡◌, ℕ, List, Result, Ok, ◌∙◌, ap, subst}
 use Rattle.snap_semantics.specs.Answers.{Answers}
 use Rattle.snap_semantics.specs.Source.{Source}
@@ -10,7 +11,8 @@ use Rattle.snap_input.proofs.Parting.{behind}
 use Rattle.snap_output.specs.Output.{checked_schedules, over_schedules}
 
 -- what is answered of the schedules is answered of the parts
-pub of_schedules : {X A : Type 0} (view : X → A) (result : Result X (Fault Refusal)) (text : Source → List (List ℕ) → Result A Refusal)
+pub of_schedules : {X A : Type 0} (view : X → A) (result : Result X (Fault Refusal))
+    (text : Source → List (List ℕ) → Result A Refusal)
     (s : Subject) (parts found texts : List (List ℕ)) (l : Source) →
     checked_schedules s parts ≡ Ok tt → found ≡ parts → listing_for s found ≡ Ok l → texts ≡ texts_for s found →
     Answers view result (text l texts) → Answers view result (over_schedules s parts text)

@@ -1,4 +1,5 @@
--- What is written for an input, taken apart: of which run it is.
+-- `prints_the_run`, `writes_the_run` and `snapshots`: what the program writes for an input is of the run that the
+-- input names; of U, B or M it is a snapshot's.
 use Rattle.std.proofs.Common.{◌≡◌, ℕ, true, List, [], ◌∷◌, Ok, length, nat_lt, ◌≤◌, refl, subst, sym, ◌∙◌, arith}
 use Rattle.std.proofs.lemmas.Bool.{eq-eqb, le-ltb}
 use Rattle.std.specs.Prelude.{Result, codes, map}
@@ -28,10 +29,12 @@ use Rattle.snap_debug.specs.Session.{performance}
 use Rattle.snap_debug_commands.specs.declared.command.Command.{Command}
 use Rattle.snap_debug_commands.specs.declared.command.Command.TheVariants as command
 use Rattle.snap_input.proofs.Answered.{both, not_refused, passed, same_answer, within}
-use Rattle.snap_output.specs.Headline.{PrintsTheRun, ListsBackAsSource, AsksFor, IsScheduleFor, AreSchedulesFor, RunsWhatIsAsked, WritesTheRun, SnapshotListingsAreSnapshots, texts_in}
+use Rattle.snap_output.specs.Headline.{PrintsTheRun, ListsBackAsSource, AsksFor, IsScheduleFor, AreSchedulesFor}
+use Rattle.snap_output.specs.Headline.{RunsWhatIsAsked, WritesTheRun, SnapshotListingsAreSnapshots, texts_in}
 use Rattle.snap_shipped.specs.Shipped.{shipped}
 use Rattle.snap_input.specs.Input.{checked_parts, listing_for, parted, texts_for}
-use Rattle.snap_output.specs.Output.{audit_listing, batch_text, batched, checked_schedules, debug_text, of_task, output_of, run_text, verdicts_text}
+use Rattle.snap_output.specs.Output.{audit_listing, batch_text, batched, checked_schedules, debug_text, of_task}
+use Rattle.snap_output.specs.Output.{output_of, run_text, verdicts_text}
 use Rattle.snap_survey_output.specs.Surveys.{schedules_for}
 use Rattle.snap_input.specs.Parts.{part, parts_of, max_input}
 use Rattle.snap_perform.proofs.ToTheEnd.{is_run}
@@ -43,7 +46,8 @@ use Rattle.snap_tasks.specs.declared.task.Task.TheVariants as task
 
 pub prints_the_run : PrintsTheRun
 unfolding perform_of perform_listing schedule_for
-prints_the_run x y z l s cs is_listing is_schedule fit are_commands = rw (is_listing, is_schedule, fit, are_commands) refl
+prints_the_run x y z l s cs is_listing is_schedule fit are_commands =
+    rw (is_listing, is_schedule, fit, are_commands) refl
 
 pub lists_back : ListsBack → ListsBackAsSource
 unfolding assembled
@@ -61,7 +65,8 @@ schedule_from l y s e =
     )
 
 -- and those that texts are, one for one
-schedules_from : (l : Source) (texts : List (List ℕ)) (ss : List Schedule) → schedules_for l texts ≡ Ok ss → AreSchedulesFor l texts ss
+schedules_from : (l : Source) (texts : List (List ℕ)) (ss : List Schedule) →
+    schedules_for l texts ≡ Ok ss → AreSchedulesFor l texts ss
 schedules_from l [] ss e =
     let none : List Schedule = [] in
     subst (λ xs. AreSchedulesFor l [] xs) (sym (same_answer (schedules_for l []) none ss refl e)) tt
@@ -75,7 +80,8 @@ schedules_from l (text ∷ texts) ss e =
 
 -- what is performed
 performed : (l : Source) (y z text : List ℕ) → perform_listing l y z ≡ Ok text →
-    (s : Schedule) × (cs : List Command) × IsScheduleFor l y s × (commands_of z ≡ Ok cs) × (text ≡ performance (run_over l s) cs)
+    (s : Schedule) × (cs : List Command) × IsScheduleFor l y s × (commands_of z ≡ Ok cs)
+    × (text ≡ performance (run_over l s) cs)
 unfolding perform_listing
 performed l y z text e =
     let read = both (schedule_for l y) _ text e in
@@ -84,7 +90,8 @@ performed l y z text e =
       asked.0,
       schedule_from l y read.0 read.1,
       not_refused refusal.Commands (commands_of z) asked.0 asked.1,
-      same_answer (Ok (performance (run_over l read.0) asked.0)) (performance (run_over l read.0) asked.0) text refl asked.2,
+      same_answer (Ok (performance (run_over l read.0) asked.0))
+          (performance (run_over l read.0) asked.0) text refl asked.2,
     )
 
 -- by the one command `run`
@@ -94,7 +101,8 @@ only_run l s cs text read e =
     subst (λ (asked : List Command). text ≡ performance (run_over l s) asked)
     (same_answer (commands_of (codes "run\n")) (command.Run ∷ []) cs is_run read) e
 
-audited : (l : Source) (y text : List ℕ) → audit_listing l y ≡ Ok text → (s : Schedule) × IsScheduleFor l y s × (text ≡ audit_text (run_over l s))
+audited : (l : Source) (y text : List ℕ) → audit_listing l y ≡ Ok text →
+    (s : Schedule) × IsScheduleFor l y s × (text ≡ audit_text (run_over l s))
 unfolding audit_listing
 audited l y text e =
     let read = both (schedule_for l y) _ text e in (
@@ -110,7 +118,8 @@ reported l texts text e =
     let read = both (schedules_for l texts) _ text e in (
       read.0,
       schedules_from l texts read.0 read.1,
-      same_answer (Ok (reports_text 1 (map (end_report l) read.0))) (reports_text 1 (map (end_report l) read.0)) text refl read.2,
+      same_answer (Ok (reports_text 1 (map (end_report l) read.0)))
+          (reports_text 1 (map (end_report l) read.0)) text refl read.2,
     )
 
 -- the output is that of the parts
@@ -119,8 +128,9 @@ unfolding output_of
 of_parts t input text e = within (nat_lt max_input (length input)) refusal.InputTooLong (of_task t input) text e
 
 -- and what is found of parts is found of the listing and the texts after it
-of_listing : (s : Subject) (count : ℕ) (parts : List (List ℕ)) (f : Source → List (List ℕ) → Result (List ℕ) Refusal) (text : List ℕ) →
-    parted s count parts f ≡ Ok text → (l : Source) × (listing_for s parts ≡ Ok l) × (f l (texts_for s parts) ≡ Ok text)
+of_listing : (s : Subject) (count : ℕ) (parts : List (List ℕ)) (f : Source → List (List ℕ) → Result (List ℕ) Refusal)
+    (text : List ℕ) → parted s count parts f ≡ Ok text →
+    (l : Source) × (listing_for s parts ≡ Ok l) × (f l (texts_for s parts) ≡ Ok text)
 unfolding parted
 of_listing s count parts f text e =
     let counted = both (checked_parts s count parts) _ text e in both (listing_for s parts) _ text counted.2
@@ -135,8 +145,12 @@ pub writes_the_run : (subject : Subject) (input text : List ℕ) → WritesTheRu
 writes_the_run s input text = record {
   runs = λ e.
       let of = of_listing s 1 (parts_of input) run_text text (of_parts (task.Run s) input text e) in
-      let found = performed of.0 (part 0 (texts_in s input)) (codes "run\n") text of.2 in
-      (of.0, found.0, record { listing = of.1; schedule = found.2 }, only_run of.0 found.0 found.1 text found.3 found.4);
+      let found = performed of.0 (part 0 (texts_in s input)) (codes "run\n") text of.2 in (
+        of.0,
+        found.0,
+        record { listing = of.1; schedule = found.2 },
+        only_run of.0 found.0 found.1 text found.3 found.4,
+      );
   debugs = λ e.
       let of = of_listing s 2 (parts_of input) debug_text text (of_parts (task.Debug s) input text e) in
       let found = performed of.0 (part 0 (texts_in s input)) (part 1 (texts_in s input)) text of.2 in
@@ -152,7 +166,8 @@ writes_the_run s input text = record {
 }
 
 -- what is asked for is run
-module _ (subject : Subject) (input : List ℕ) (l : Source) (s : Schedule) (short : length input ≤ max_input) (asks : AsksFor subject input l s) where
+module _ (subject : Subject) (input : List ℕ) (l : Source) (s : Schedule) (short : length input ≤ max_input)
+    (asks : AsksFor subject input l s) where
   -- a task on so many texts gives what it gives of the listing and these texts
   given : (count : ℕ) (f : Source → List (List ℕ) → Result (List ℕ) Refusal) → length (texts_in subject input) ≡ count →
       parted subject count (parts_of input) f ≡ f l (texts_in subject input)
@@ -179,7 +194,9 @@ module _ (subject : Subject) (input : List ℕ) (l : Source) (s : Schedule) (sho
   pub runs_what_is_asked : RunsWhatIsAsked subject input l s
   runs_what_is_asked = record {
     runs = λ one. whole (task.Run subject) ∙ given 1 run_text one ∙ performs (codes "run\n") (command.Run ∷ []) is_run;
-    debugs = λ cs two are. whole (task.Debug subject) ∙ given 2 debug_text two ∙ performs (part 1 (texts_in subject input)) cs are;
+    debugs =
+        λ cs two are.
+        whole (task.Debug subject) ∙ given 2 debug_text two ∙ performs (part 1 (texts_in subject input)) cs are;
     audits = λ one. whole (task.Audit subject) ∙ given 1 verdicts_text one ∙ audits;
   }
 

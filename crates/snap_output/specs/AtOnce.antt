@@ -1,4 +1,4 @@
--- The refusals that are found before any memory is asked for.
+-- `found_at_once`: the refusal of an input that the program finds before it asks for any memory, for each task.
 use Rattle.std.specs.Prelude.{ℕ, nat_lt, List, [], ◌∷◌, length, take, drop, bytes_eq, if◌then◌else◌}
 use Rattle.std.specs.Prelude.{Option, Some, None, Result, Ok, Err, option_map}
 use Rattle.snap_image_format.specs.Image.{signature}

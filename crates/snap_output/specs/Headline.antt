@@ -1,5 +1,5 @@
--- What the program is for, in one place: what is printed is what the table of lines gives, what is assembled lists back, and
--- what is printed of listing U, B or M is of a run that is a snapshot.
+-- What the program is for, in one place: what is printed is what the table of lines gives, what is assembled lists
+-- back, and what is printed of listing U, B or M is of a run that is a snapshot.
 use Rattle.std.specs.Prelude.{◌≡◌, ℕ, ◌≤◌, true, List, [], ◌∷◌, length, map, Ok}
 use Rattle.snap_words.specs.Kind.{fits}
 use Rattle.snap_words.specs.declared.kind.KindTag.{KindTag}
@@ -26,8 +26,8 @@ use Rattle.snap_perform.specs.Perform.{perform_of}
 use Rattle.snap_subject.specs.declared.subject.Subject.{Subject}
 use Rattle.snap_tasks.specs.declared.task.Task.TheVariants as task
 
--- For every listing, schedule and debugger commands: the bytes of `perform` are the replies to the commands over the run that
--- the table of lines gives, and the report of the position that they reach.
+-- For every listing, schedule and debugger commands: the bytes of `perform` are the replies to the commands over the
+-- run that the table of lines gives, and the report of the position that they reach.
 abbrev pub PrintsTheRun : Type 0
 PrintsTheRun = (x y z : List ℕ) (l : Source) (s : Schedule) (cs : List Command) →
     listing_of x ≡ Ok l → schedule_of y ≡ Ok s → fits l.kind s.shape ≡ true → commands_of z ≡ Ok cs →
@@ -53,10 +53,13 @@ pub record AsksFor (subject : Subject) (input : List ℕ) (l : Source) (s : Sche
 
 -- The program runs what an input asks for, if the input is not too long and has as many texts as the task takes.
 pub record RunsWhatIsAsked (subject : Subject) (input : List ℕ) (l : Source) (s : Schedule) : Type 0 where
-  pub runs : length (texts_in subject input) ≡ 1 → output_of (task.Run subject) input ≡ Ok (performance (run_over l s) (command.Run ∷ []))
-  pub debugs : (cs : List Command) → length (texts_in subject input) ≡ 2 → commands_of (part 1 (texts_in subject input)) ≡ Ok cs →
+  pub runs : length (texts_in subject input) ≡ 1 →
+      output_of (task.Run subject) input ≡ Ok (performance (run_over l s) (command.Run ∷ []))
+  pub debugs : (cs : List Command) → length (texts_in subject input) ≡ 2 →
+      commands_of (part 1 (texts_in subject input)) ≡ Ok cs →
       output_of (task.Debug subject) input ≡ Ok (performance (run_over l s) cs)
-  pub audits : length (texts_in subject input) ≡ 1 → output_of (task.Audit subject) input ≡ Ok (audit_text (run_over l s))
+  pub audits : length (texts_in subject input) ≡ 1 →
+      output_of (task.Audit subject) input ≡ Ok (audit_text (run_over l s))
 
 -- These texts are these schedules, one for one.
 abbrev pub AreSchedulesFor : Source → List (List ℕ) → List Schedule → Type 0
@@ -77,14 +80,15 @@ pub record WritesTheRun (subject : Subject) (input text : List ℕ) : Type 0 whe
       (l : Source) × (ss : List Schedule) × (listing_for subject (parts_of input) ≡ Ok l)
       × AreSchedulesFor l (texts_in subject input) ss × (text ≡ reports_text 1 (map (end_report l) ss))
 
--- The run of U, B or M over a schedule keeps all that is promised of its listing. It does not matter how the listing was spelled: a text
--- that is read as U is U.
+-- The run of U, B or M over a schedule keeps all that is promised of its listing. It does not matter how the listing
+-- was spelled: a text that is read as U is U.
 pub record IsSnapshotOver (g : KindTag) (s : Schedule) : Type 0 where
   pub valid : IsValidRun (run_over (shipped g) s)
   pub promises : KeepsPromises g (run_over (shipped g) s)
 
 abbrev pub SnapshotListingsAreSnapshots : Type 0
-SnapshotListingsAreSnapshots = (g : KindTag) (text : List ℕ) (s : Schedule) → IsScheduleFor (shipped g) text s → IsSnapshotOver g s
+SnapshotListingsAreSnapshots =
+    (g : KindTag) (text : List ℕ) (s : Schedule) → IsScheduleFor (shipped g) text s → IsSnapshotOver g s
 
 pub record Headline : Type 0 where
   pub prints_the_run : PrintsTheRun

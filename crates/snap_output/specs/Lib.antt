@@ -1,3 +1,4 @@
+-- The definitions of snap_output, by their modules.
 pub mod Output
 pub mod Prepared
 pub mod AtOnce

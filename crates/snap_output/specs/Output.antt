@@ -1,5 +1,7 @@
--- What the program writes for what it reads, or why it refuses.
-use Rattle.std.specs.Prelude.{ℕ, Bool, ◌&&◌, nat_le, nat_lt, List, [], ◌∷◌, ◌++◌, length, map, Result, Ok, Err, codes, decimal, if◌then◌else◌}
+-- `output_of`: what the program writes for an input, for each task (`run`, `debug`, `audit`, `batch`, `survey`, ..),
+-- or why it refuses.
+use Rattle.std.specs.Prelude.{ℕ, Bool, ◌&&◌, nat_le, nat_lt, List, [], ◌∷◌, ◌++◌, length, map}
+use Rattle.std.specs.Prelude.{Result, Ok, Err, codes, decimal, if◌then◌else◌}
 use Rattle.snap_semantics.specs.declared.refusal.Refusal.{Refusal}
 use Rattle.snap_semantics.specs.declared.refusal.Refusal.TheVariants as refusal
 use Rattle.snap_semantics.specs.Answers.{◌>>=◌, refused_as}
@@ -49,10 +51,12 @@ batch_text l texts = do
 -- 1 to 4,096 schedules behind the listing
 abbrev pub checked_schedules : Subject → List (List ℕ) → Result (Unit {0}) Refusal
 checked_schedules s parts =
-    if nat_lt 0 (length (texts_for s parts)) && nat_le (length (texts_for s parts)) 4096 then Ok tt else Err (refusal.WrongParts (length parts))
+    if nat_lt 0 (length (texts_for s parts)) && nat_le (length (texts_for s parts)) 4096 then Ok tt
+    else Err (refusal.WrongParts (length parts))
 
 -- what is said of a listing and its 1 to 4,096 schedules
-abbrev pub over_schedules : {A : Type 0} → Subject → List (List ℕ) → (Source → List (List ℕ) → Result A Refusal) → Result A Refusal
+abbrev pub over_schedules : {A : Type 0} → Subject → List (List ℕ) →
+    (Source → List (List ℕ) → Result A Refusal) → Result A Refusal
 over_schedules s parts text =
     checked_schedules s parts >>= λ there. listing_for s parts >>= λ l. text l (texts_for s parts)
 

@@ -1,4 +1,5 @@
--- What is found of an input in one thread.
+-- `prepared_text`: what one thread prepares of a task's output: all of it, or a batch whose schedules have yet to run
+-- side by side.
 use Rattle.std.specs.Prelude.{ℕ, List, map}
 use Rattle.snap_runner.specs.End.{end_report}
 use Rattle.snap_batch.specs.Reports.{reports_text}

@@ -1,4 +1,4 @@
--- Which tasks refuse the same inputs.
+-- `RefusesTracesAsRuns`: the tasks `trace` and `run` refuse the same inputs, for the same reasons.
 use Rattle.std.specs.Prelude.{◌≡◌, ◌↔◌, ℕ, List, Result, Err}
 use Rattle.snap_semantics.specs.declared.refusal.Refusal.{Refusal}
 use Rattle.snap_subject.specs.declared.subject.Subject.{Subject}
@@ -11,4 +11,5 @@ AreRefusedAlike x y = (r : Refusal) → (x ≡ Err r) ↔ (y ≡ Err r)
 
 -- A trace is refused exactly where a run is, and for the same reason.
 abbrev pub RefusesTracesAsRuns : Type 0
-RefusesTracesAsRuns = (s : Subject) (input : List ℕ) → AreRefusedAlike (output_of (task.Trace s) input) (output_of (task.Run s) input)
+RefusesTracesAsRuns =
+    (s : Subject) (input : List ℕ) → AreRefusedAlike (output_of (task.Trace s) input) (output_of (task.Run s) input)

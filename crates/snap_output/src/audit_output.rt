@@ -1,4 +1,5 @@
-//! The audit of a listing under a schedule.
+//! `audit_program`: what the task `audit` writes, the verdict of each finished scan of a listing's
+//! run under a schedule.
 ghost use Rattle.std.specs.Prelude.{◌≡◌, IfOk};
 ghost use Rattle.snap_runs.specs.Run.{run_over};
 ghost use Rattle.snap_semantics.specs.Answers.{Answers};

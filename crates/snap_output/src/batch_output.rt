@@ -1,4 +1,5 @@
-//! A listing under many schedules.
+//! `Batch`: what the task `batch` writes, the report of the end of each of many schedules of one
+//! listing.
 ghost use Rattle.std.specs.Prelude.{◌≡◌, ◌++◌, ◌<◌, ◌^◌, IfOk, OnOk, length, map};
 ghost use Rattle.snap_semantics.specs.Answers.{Answers};
 ghost use Rattle.snap_batch.specs.Reports.{numbered_report, reports_text};

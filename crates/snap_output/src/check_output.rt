@@ -1,4 +1,5 @@
-//! What is said of a text that is a listing.
+//! `check_of`: what the task `check` writes of a text, the listing's kind and number of lines, or
+//! why it is no listing.
 ghost use Rattle.std.specs.Prelude.{◌≡◌, ◌<◌, Err, IfOk, length};
 ghost use Rattle.snap_semantics.specs.Answers.{Answers, refused_as};
 ghost use Rattle.snap_semantics.specs.Listing.{listing_of};

@@ -1,4 +1,5 @@
-//! The headline, and which tasks refuse the same inputs.
+//! `headline`, the law of the whole program (what is printed is the run; what is assembled lists
+//! back; U, B and M are snapshots), and that a trace is refused where a run is.
 ghost use Rattle.snap_output.specs.Headline.{Headline};
 ghost use Rattle.snap_output.specs.Refusals.{RefusesTracesAsRuns};
 

@@ -1,2 +1,3 @@
+-- The proofs of snap_page, by their modules.
 pub mod Names
 pub mod Short

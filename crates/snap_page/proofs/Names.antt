@@ -1,4 +1,4 @@
--- Bytes that are no text name nothing.
+-- Bytes from a page that are not UTF-8 name no task and no shipped listing.
 use Rattle.std.proofs.Common.{◌≡◌, ℕ, Bool, true, false, List, [], ◌∷◌, None, refl, ap, subst, sym}
 use Rattle.std.specs.Prelude.{IsUtf8, bytes_eq, codes, option_map}
 use Rattle.std.proofs.lemmas.Slice.Eq.{bytes_eq-Decides}

@@ -1,4 +1,5 @@
--- What is refused at once is handed without memory.
+-- A refusal that is found at once is handed to the page without memory: `needs_no_memory` holds of each refusal of
+-- `found_at_once`.
 use Rattle.std.proofs.Common.{◌≡◌, ℕ, Bool, true, false, List, [], ◌∷◌, length, nat_lt, nat_le, nat_eq, ◌&&◌, refl}
 use Rattle.std.specs.Prelude.{Option, Some, None, Result, Ok, Err, option_map, bytes_eq, take, drop, if◌then◌else◌}
 use Rattle.snap_image_format.specs.Image.{signature}

@@ -1,4 +1,4 @@
--- What a page asks for, and what it is handed.
+-- What a page in a browser asks the program for (`task_of`), and the code and the text that it is handed for it.
 use Rattle.std.specs.Prelude.{ℕ, Bool, true, false, List, [], ◌∷◌, ◌++◌, codes}
 use Rattle.std.specs.Prelude.{Option, Some, None, option_map, Result, Ok, Err}
 use Rattle.snap_semantics.specs.declared.refusal.ImageRefusal.TheVariants as image

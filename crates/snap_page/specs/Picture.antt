@@ -1,4 +1,4 @@
--- The picture that a page asks for, and what it is handed.
+-- `drawn`: the picture of a run that a page in a browser asks for; and the code and the text that the page is handed.
 use Rattle.std.specs.Prelude.{ℕ, false, List, ◌++◌, codes, Some, Result, Ok, Err}
 use Rattle.snap_semantics.specs.Answers.{◌>>=◌, refused_as}
 use Rattle.snap_semantics.specs.Listing.{listing_of}
@@ -14,7 +14,8 @@ abbrev pub drawn_listing : List ℕ → Result Source PictureRefusal
 drawn_listing text = refused_as refusal.Input (refused_as Listing (listing_of text))
 
 -- The picture of a listing's run under a schedule, from one item to another, or the first reason why there is none.
-abbrev pub drawn : (listing schedule : List ℕ) → (from to : ℕ) → (style legend : List ℕ) → Result (List ℕ) PictureRefusal
+abbrev pub drawn : (listing schedule : List ℕ) → (from to : ℕ) → (style legend : List ℕ) →
+    Result (List ℕ) PictureRefusal
 drawn listing schedule from to style legend = do
   l ← drawn_listing listing
   picture_of l (Some listing) schedule (record { from = Some from; to = Some to; reads = false }) style legend

@@ -1,4 +1,4 @@
-//! What a page asks for.
+//! `task_of`: the task that a page in a browser names, and the listing that it is to run.
 ghost use Rattle.std.specs.Prelude.{◌≡◌, IfSome, IsUtf8, None};
 ghost use Rattle.snap_page.specs.Page.{subject_of, task_for, task_of};
 

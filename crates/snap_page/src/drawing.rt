@@ -1,4 +1,5 @@
-//! The picture that a page asks for, and how it is handed.
+//! `handed_picture`: puts the picture of a run that a page in a browser asks for into the page's
+//! memory, or the line that says why there is none.
 ghost use Rattle.std.specs.Prelude.{◌≡◌, ◌<◌, ◌⊎◌, ◌↔◌, ℕ, List, Result, length, take};
 ghost use Rattle.snap_semantics.specs.Answers.{Answers};
 ghost use Rattle.snap_picture.specs.declared.refusal.PictureRefusal.{PictureRefusal};

@@ -1,4 +1,5 @@
-//! What a page is handed.
+//! `Handed`: what a page in a browser is handed, a code and the length of the output or of the line
+//! of a refusal.
 ghost use Rattle.std.specs.Prelude.{◌≡◌, ◌≢◌, ◌<◌, ◌≤◌, ◌+◌, ◌^◌, ◌++◌, ◌⊎◌, ◌↔◌, ℕ, List, true};
 ghost use Rattle.std.specs.Prelude.{Err, IfOk, Result, codes, length, take};
 ghost use Rattle.snap_semantics.specs.Answers.{Answers};

@@ -1,1 +1,2 @@
+-- The proofs of snap_perform, by their modules.
 pub mod ToTheEnd

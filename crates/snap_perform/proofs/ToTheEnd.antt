@@ -1,5 +1,7 @@
--- A run to the end, with no marks, without a session.
-use Rattle.std.proofs.Common.{◌≡◌, ℕ, zero, suc, ◌+◌, ◌-◌, List, [], ◌∷◌, ◌++◌, Result, Ok, Err, length, refl, ◌∙◌, ap, append-nil, arith}
+-- Running a schedule to its end without a session writes what the one debugger command `run` writes, with no marks
+-- set.
+use Rattle.std.proofs.Common.{◌≡◌, ℕ, zero, suc, ◌+◌, ◌-◌, List, [], ◌∷◌, ◌++◌, Result, Ok}
+use Rattle.std.proofs.Common.{Err, length, refl, ◌∙◌, ap, append-nil, arith}
 use Rattle.std.specs.Prelude.{codes}
 use Rattle.snap_semantics.specs.Answers.{◌>>=◌}
 use Rattle.snap_semantics.specs.Report.{position_line}
@@ -19,7 +21,8 @@ use Rattle.snap_perform.specs.Perform.{end_text, perform_listing, run_listing}
 
 -- the one command
 pub is_run : commands_of (codes "run\n") ≡ Ok (command.Run ∷ [])
-unfolding forms.keyword_form forms.number_form forms.numbers_form forms.place_form forms.bit_form forms.address_form forms.breakpoint_form forms.register_form forms.moving_form forms.marking_form forms.showing_form forms.command_form
+unfolding forms.keyword_form forms.number_form forms.numbers_form forms.place_form forms.bit_form forms.address_form
+    forms.breakpoint_form forms.register_form forms.moving_form forms.marking_form forms.showing_form forms.command_form
 is_run = refl
 
 -- without marks a run goes on as far as it may
@@ -47,6 +50,7 @@ run_performance l s =
 pub to_the_end : (l : Source) (y : List ℕ) → perform_listing l y (codes "run\n") ≡ run_listing l y
 unfolding perform_listing run_listing
 to_the_end l y = rw is_run (go (schedule_for l y)) where
-  go : (read : Result Schedule Refusal) → (read >>= λ s. Ok (performance (run_over l s) (command.Run ∷ []))) ≡ (read >>= λ s. Ok (end_text l s))
+  go : (read : Result Schedule Refusal) →
+      (read >>= λ s. Ok (performance (run_over l s) (command.Run ∷ []))) ≡ (read >>= λ s. Ok (end_text l s))
   go (Ok s) = ap Ok (run_performance l s)
   go (Err e) = refl

@@ -1,4 +1,5 @@
--- What is performed: a listing under a schedule, with debugger commands.
+-- `perform_of`: what is written for a listing, a schedule and debugger commands; `run_listing`: for a schedule that
+-- is run to its end.
 use Rattle.std.specs.Prelude.{ℕ, List, ◌++◌, length, Result, Ok, codes}
 use Rattle.snap_semantics.specs.declared.refusal.Refusal.{Refusal}
 use Rattle.snap_semantics.specs.declared.refusal.Refusal.TheVariants as refusal

@@ -1,4 +1,5 @@
--- A command's reply, written behind the command.
+-- `command_reply`: the lines that are written for a debugger command, `> ` with the command and then the session's
+-- reply.
 use Rattle.std.specs.Prelude.{ℕ, List, ◌++◌, codes}
 use Rattle.snap_semantics.specs.Layout.{line_text}
 use Rattle.snap_debug_commands.specs.CommandForms.{spelled_command}

@@ -1,10 +1,12 @@
-//! A listing under a schedule, with debugger commands.
+//! `perform`: what is written for a listing, a schedule and debugger commands, each command with
+//! its reply.
 ghost use Rattle.std.specs.Prelude.{◌≡◌, ◌++◌, IfOk, OnOk};
 ghost use Rattle.snap_runs.specs.Run.{run_over};
 ghost use Rattle.snap_semantics.specs.Answers.{Answers, refused_as};
 ghost use Rattle.snap_semantics.specs.declared.refusal.Refusal.TheVariants as refusal;
 ghost use Rattle.snap_debug_commands.specs.Commands.{commands_of};
-ghost use Rattle.snap_debug.specs.Session.{after_commands, answer, performance, replies_text, session_report};
+ghost use Rattle.snap_debug.specs.Session.{after_commands, answer, performance};
+ghost use Rattle.snap_debug.specs.Session.{replies_text, session_report};
 ghost use Rattle.snap_perform.specs.Perform.{perform_listing, perform_of};
 ghost use Rattle.snap_perform.specs.Replies.{command_reply};
 

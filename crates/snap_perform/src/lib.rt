@@ -1,4 +1,5 @@
-//! A listing under a schedule: as debugger commands ask for it, and to its end.
+//! What is written for a listing under a schedule: the replies to debugger commands, or the end of
+//! the run.
 #![tactic(auto)]
 
 mod debug_output;

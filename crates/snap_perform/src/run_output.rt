@@ -1,4 +1,5 @@
-//! A listing under a schedule, to its end.
+//! `run_program`: what is written for a listing under a schedule that is run to its end, without a
+//! session.
 ghost use Rattle.std.specs.Prelude.{◌≡◌, IfOk, codes};
 ghost use Rattle.snap_semantics.specs.Answers.{Answers};
 ghost use Rattle.snap_runner.specs.End.{IsEnd};

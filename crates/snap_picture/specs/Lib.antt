@@ -1,1 +1,2 @@
+-- The definitions of snap_picture, by their modules.
 pub mod Picture

@@ -1,5 +1,6 @@
--- The picture of a listing under a schedule.
-use Rattle.std.specs.Prelude.{ℕ, suc, ◌-◌, Bool, true, false, ◌||◌, List, [], ◌∷◌, ◌++◌, length, Option, Some, None, Result, Ok, Err, nat_eq, nat_lt, if◌then◌else◌}
+-- `picture_of`: the SVG picture of a listing's run under a schedule, or the first reason why there is none.
+use Rattle.std.specs.Prelude.{ℕ, suc, ◌-◌, Bool, true, false, ◌||◌, List, [], ◌∷◌, ◌++◌, length, Option, Some, None}
+use Rattle.std.specs.Prelude.{Result, Ok, Err, nat_eq, nat_lt, if◌then◌else◌}
 use Rattle.snap_words.specs.Shape.{Counts}
 use Rattle.snap_semantics.specs.Answers.{◌>>=◌, refused_as}
 use Rattle.snap_semantics.specs.Schedule.{Schedule}
@@ -74,7 +75,8 @@ abbrev pub picture_text : Run → Part → Option (List ℕ) → List ℕ → (s
 picture_text r p listing schedule style legend = picture_by r (shapes r) p listing schedule style legend
 
 -- the picture of a listing under a schedule, or the first reason why there is none
-unfoldable pub picture_of : Source → Option (List ℕ) → List ℕ → Options → (style legend : List ℕ) → Result (List ℕ) PictureRefusal
+unfoldable pub picture_of : Source → Option (List ℕ) → List ℕ → Options → (style legend : List ℕ) →
+    Result (List ℕ) PictureRefusal
 picture_of l listing schedule o style legend = do
   s ← refused_as refusal.Input (schedule_for l schedule)
   p ← part_of (length s.items) s.shape o

@@ -1,10 +1,11 @@
-//! The picture of a listing under a schedule.
+//! `picture`: reads a schedule, runs a listing over it, and draws the run as SVG.
 ghost use Rattle.std.specs.Prelude.{◌≡◌, ◌≤◌, IfOk, length, option_map};
 ghost use Rattle.snap_words.specs.Shape.{max_items};
 ghost use Rattle.snap_runs.specs.Run.{run_over};
 ghost use Rattle.snap_semantics.specs.Answers.{Answers, Gives, refused_as};
 ghost use Rattle.snap_input.specs.Schedules.{schedule_for};
-ghost use Rattle.snap_picture.specs.Picture.{counts_of, given_or, part_between, part_of, picture_by, picture_of, picture_text};
+ghost use Rattle.snap_picture.specs.Picture.{counts_of, given_or, part_between, part_of};
+ghost use Rattle.snap_picture.specs.Picture.{picture_by, picture_of, picture_text};
 ghost use Rattle.snap_picture.specs.declared.refusal.PictureRefusal.TheVariants as refusal;
 
 use crate::options::{Look, Options};
@@ -106,7 +107,8 @@ fn picture_by<K: Kind>(
     look: &Look<'_>,
 ) -> Result<Vec<u8>, AllocError>
     ensures { IfOk result (λ out. out.items ≡ picture_by history.now shapes.now window.now
-        (option_map (λ t. t.now) listing.entry) schedule.now look.now.style.now look.now.legend.now) }
+        (option_map (λ t. t.now) listing.entry) schedule.now
+        look.now.style.now look.now.legend.now) }
 {
     let mut out = Vec::new(alloc);
     push_head(&mut out, window, &counts_of(history, shapes), look.style)?;
@@ -127,8 +129,10 @@ fn picture_text<K: Kind>(
     look: &Look<'_>,
 ) -> Result<Vec<u8>, AllocError>
     requires { program.now.kind ≡ K.TAG }
-    ensures { IfOk result (λ out. out.items ≡ picture_text (run_over program.now items.now) window.now
-        (option_map (λ t. t.now) listing.entry) schedule.now look.now.style.now look.now.legend.now) }
+    ensures { IfOk result (λ out. out.items
+        ≡ picture_text (run_over program.now items.now) window.now
+        (option_map (λ t. t.now) listing.entry) schedule.now
+        look.now.style.now look.now.legend.now) }
 {
     let history = record_over::<K>(alloc, program, items)?;
     let steps = trace::<K>(alloc, program, items)?;
@@ -151,7 +155,8 @@ fn schedule_of<K: Kind>(
     text: &[u8],
 ) -> Result<Schedule, Fault<PictureRefusal>>
     requires { program.now.kind ≡ K.TAG }
-    ensures { Answers (λ s. s) result (refused_as refusal.Input (schedule_for program.now text.now)) }
+    ensures { Answers (λ s. s) result
+        (refused_as refusal.Input (schedule_for program.now text.now)) }
 {
     match snap_input::schedule_for::<K>(alloc, program, text) {
         Ok(schedule) => Ok(schedule),

@@ -1,4 +1,4 @@
-//! What is asked for.
+//! `Options`: which items of a run a picture shows; `Look`: its style and its legend.
 
 /// Which items are drawn, where not all are, and whether reads lead to what they read.
 #[derive(Clone, Copy, Debug)]

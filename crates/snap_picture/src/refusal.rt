@@ -1,4 +1,4 @@
-//! Why there is no picture.
+//! `PictureRefusal`: why there is no picture of a listing's run under a schedule.
 use snap_semantics::Refusal;
 use thiserror::Error;
 

@@ -1,4 +1,5 @@
-//! What a title counts.
+//! `Sought`: what the title of a run's picture counts among its shapes, as scans that were answered
+//! or scans without a point.
 ghost use Rattle.std.specs.Prelude.{◌≡◌};
 ghost use Rattle.snap_picture.specs.Picture.{counted, counts_as, is_update};
 

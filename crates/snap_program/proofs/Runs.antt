@@ -1,5 +1,7 @@
--- What a run answers, by cases on its answer.
-use Rattle.std.proofs.Common.{◌≡◌, ℕ, ◌<◌, Bool, true, List, [], Option, Result, Ok, Err, Vec, length, take, ◌⊎◌, inl, inr, refl, sym, subst}
+-- What a whole run of the program has read and written, by cases on its answer: no memory, a refusal, a device that
+-- failed, or all of the output.
+use Rattle.std.proofs.Common.{◌≡◌, ℕ, ◌<◌, Bool, true, List, [], Option, Result, Ok, Err, Vec}
+use Rattle.std.proofs.Common.{length, take, ◌⊎◌, inl, inr, refl, sym, subst}
 use Rattle.std.specs.Prelude.{⊤, IfOk, IsErr, IsErrAnd}
 use Rattle.std.specs.Global.{Global}
 use Rattle.std.specs.Io.KnownBytes.{Appends}
@@ -11,16 +13,19 @@ use Rattle.snap_semantics.specs.declared.refusal.Refusal.{Refusal}
 use Rattle.snap_output.specs.Output.{output_of}
 use Rattle.snap_live_output.specs.declared.fault.LiveRunFault.{LiveRunFault}
 use Rattle.snap_live_output.specs.declared.fault.LiveRunFault.TheVariants as run
-use Rattle.snap_live_output.specs.LiveOutput.{AnswersLive}
+use Rattle.snap_live_output.specs.LiveAnswer.{AnswersLive}
 use Rattle.snap_subject.specs.declared.subject.Subject.{Subject}
-use Rattle.snap_program.specs.WholeRun.{of_fault, of_live_fault, IsWhole, RefusesLive, RefusesTask, Takes, Reads, Sends, ConductsOn, ConductsKeeping, IsKept, done_of}
+use Rattle.snap_program.specs.WholeRun.{of_fault, of_live_fault, IsWhole, RefusesLive, RefusesTask, Takes, Reads}
+use Rattle.snap_program.specs.WholeRun.{Sends, ConductsOn, ConductsKeeping, IsKept, done_of}
 use Rattle.snap_program.specs.declared.fault.ConductFault.{ConductFault}
 use Rattle.snap_program.specs.declared.fault.ConductFault.TheVariants as fault
 use Rattle.snap_tasks.specs.declared.task.Task.{Task}
 
 -- no memory for what was read
-pub no_room : (answer : Result (Vec ℕ Global) ConductFault) (input : List ℕ) (before after : Option (List ℕ)) (failed : Bool)
-    → IsErr answer × IsErrAnd answer (λ e. e ≡ fault.Memory) → Takes input before after → Reads answer before after failed
+pub no_room : (answer : Result (Vec ℕ Global) ConductFault) (input : List ℕ)
+    (before after : Option (List ℕ)) (failed : Bool)
+    → IsErr answer × IsErrAnd answer (λ e. e ≡ fault.Memory) → Takes input before after →
+    Reads answer before after failed
 no_room (Ok v) input before after failed h takes = absurd h.1
 no_room (Err e) input before after failed h takes = (input, takes, inl h.1)
 
@@ -42,7 +47,9 @@ is_kept (Err fault.Read) input = tt
 is_kept (Err (fault.Write count)) input = tt
 
 -- a task is refused as its output says
-pub why_task : (e : Fault Refusal) (task : Task) (input : List ℕ) → Answers {X = Vec ℕ Global} (λ v. v.items) (Err e) (output_of task input) → Why (RefusesTask task input) (of_fault e)
+pub why_task : (e : Fault Refusal) (task : Task) (input : List ℕ) →
+    Answers {X = Vec ℕ Global} (λ v. v.items) (Err e) (output_of task input) →
+    Why (RefusesTask task input) (of_fault e)
 why_task inner.Memory task input h = tt
 why_task (inner.Refused f) task input h = h
 
@@ -65,8 +72,10 @@ pub passed_on : {A : Type 0} (answer : Result A ConductFault) (e : ConductFault)
 passed_on (Ok found) e from = absurd from.1
 passed_on (Err f) e from = from
 
-pub stops : {A : Type 0} (answer : Result A ConductFault) (e : ConductFault) (text : List ℕ) (taken taken_after : Option (List ℕ)) (w s : Bool)
-    → IsErr answer × IsErrAnd answer (λ f. f ≡ e) → Sends (Err e) text taken taken_after w s → Sends (done_of answer) text taken taken_after w s
+pub stops : {A : Type 0} (answer : Result A ConductFault) (e : ConductFault) (text : List ℕ)
+    (taken taken_after : Option (List ℕ)) (w s : Bool)
+    → IsErr answer × IsErrAnd answer (λ f. f ≡ e) → Sends (Err e) text taken taken_after w s →
+    Sends (done_of answer) text taken taken_after w s
 stops (Ok found) e text taken taken_after w s from h = absurd from.1
 stops (Err f) e text taken taken_after w s from h =
     subst (λ (x : ConductFault). Sends (Err x) text taken taken_after w s) (sym from.1) h
@@ -84,45 +93,93 @@ module _ (IsOutput : List ℕ → List ℕ → Type 0) (Refuses : List ℕ → C
   gave_up (fault.Write count) input now before after taken r w s same takes whole h = absurd h
 
   -- a refusal that `?` passes on
-  pub refused : (answer : Result (Unit {0}) ConductFault) (e : ConductFault) (input now : List ℕ) (before after taken : Option (List ℕ)) (r w s : Bool)
+  pub refused : (answer : Result (Unit {0}) ConductFault) (e : ConductFault) (input now : List ℕ)
+      (before after taken : Option (List ℕ)) (r w s : Bool)
       → IsErr answer × IsErrAnd answer (λ f. f ≡ e)
       → now ≡ input → Takes input before after → IsWhole input after → Why (Refuses now) e
       → ConductsOn IsOutput Refuses input answer before after taken taken r w s
   refused (Ok done) e input now before after taken r w s from same takes whole h = absurd from.1
   refused (Err f) e input now before after taken r w s from same takes whole h =
-      subst (λ (x : ConductFault). ConductsOn IsOutput Refuses input (Err x) before after taken taken r w s) (sym from.1) (gave_up e input now before after taken r w s same takes whole h)
+      subst (λ (x : ConductFault). ConductsOn IsOutput Refuses input (Err x) before after taken taken r w s)
+      (sym from.1) (gave_up e input now before after taken r w s same takes whole h)
 
-  stopped : (e : ConductFault) (count : ℕ) (input text : List ℕ) (before after taken taken_after : Option (List ℕ)) (r w s : Bool)
-      → e ≡ fault.Write count → count < length text → Appends taken taken_after (take count text) → (w ≡ true) ⊎ (s ≡ true)
+  stopped : (e : ConductFault) (count : ℕ) (input text : List ℕ)
+      (before after taken taken_after : Option (List ℕ)) (r w s : Bool)
+      → e ≡ fault.Write count → count < length text →
+      Appends taken taken_after (take count text) → (w ≡ true) ⊎ (s ≡ true)
       → Takes input before after → IsWhole input after → IsOutput input text
       → ConductsOn IsOutput Refuses input (Err e) before after taken taken_after r w s
   stopped e count input text before after taken taken_after r w s is within sent device takes whole h =
-      subst (λ (x : ConductFault). ConductsOn IsOutput Refuses input (Err x) before after taken taken_after r w s) (sym is)
+      subst (λ (x : ConductFault). ConductsOn IsOutput Refuses input (Err x) before after taken taken_after r w s)
+      (sym is)
       (take count text, takes, whole, sent, (text, h, within, refl, device))
 
   -- the text is there, and is sent as far as the writer takes it
-  pub sends : (answer : Result (Unit {0}) ConductFault) (input now text sent : List ℕ) (before after taken taken_after : Option (List ℕ)) (r w s : Bool)
+  pub sends : (answer : Result (Unit {0}) ConductFault) (input now text sent : List ℕ)
+      (before after taken taken_after : Option (List ℕ)) (r w s : Bool)
       → now ≡ input → sent ≡ text → Takes input before after → IsWhole input after → IsOutput now text
-      → Sends answer sent taken taken_after w s → ConductsOn IsOutput Refuses input answer before after taken taken_after r w s
-  sends (Ok done) input now text sent before after taken taken_after r w s same same_text takes whole h done_so =
-      (text, takes, whole, subst (λ (x : List ℕ). Appends taken taken_after x) same_text done_so, subst (λ (x : List ℕ). IsOutput x text) same h)
+      → Sends answer sent taken taken_after w s →
+      ConductsOn IsOutput Refuses input answer before after taken taken_after r w s
+  sends (Ok done) input now text sent before after taken taken_after r w s same same_text takes whole h done_so = (
+    text,
+    takes,
+    whole,
+    subst (λ (x : List ℕ). Appends taken taken_after x) same_text done_so,
+    subst (λ (x : List ℕ). IsOutput x text) same h,
+  )
   sends (Err e) input now text sent before after taken taken_after r w s same same_text takes whole h stop =
       stopped e stop.0 input text before after taken taken_after r w s stop.1
-      (subst (λ (x : List ℕ). stop.0 < length x) same_text stop.2) (subst (λ (x : List ℕ). Appends taken taken_after (take stop.0 x)) same_text stop.3) stop.4 takes whole
+      (subst (λ (x : List ℕ). stop.0 < length x) same_text stop.2)
+      (subst (λ (x : List ℕ). Appends taken taken_after (take stop.0 x)) same_text stop.3) stop.4 takes whole
       (subst (λ (x : List ℕ). IsOutput x text) same h)
 
   not_read_so : (e : ConductFault) (kept : List ℕ) (before after taken : Option (List ℕ)) (r w s : Bool)
       → Reads (Err e) before after r → ConductsKeeping IsOutput Refuses kept (Err e) before after taken taken r w s
   not_read_so e kept before after taken r w s h = elim h.2 [
-    | inl m ↦ subst (λ (x : ConductFault). ConductsKeeping IsOutput Refuses kept (Err x) before after taken taken r w s) (sym m)
+    | inl m ↦
+        subst (λ (x : ConductFault). ConductsKeeping IsOutput Refuses kept (Err x) before after taken taken r w s)
+        (sym m)
         (h.0, tt, ([], h.1, tt, Appends-nil taken, refl))
-    | inr d ↦ subst (λ (x : ConductFault). ConductsKeeping IsOutput Refuses kept (Err x) before after taken taken r w s) (sym d.0)
+    | inr d ↦
+        subst (λ (x : ConductFault). ConductsKeeping IsOutput Refuses kept (Err x) before after taken taken r w s)
+        (sym d.0)
         (h.0, tt, ([], h.1, tt, Appends-nil taken, (refl, d.1)))
   ]
 
   -- reading failed
-  pub not_read : (answer : Result (Unit {0}) ConductFault) (e : ConductFault) (kept : List ℕ) (before after taken : Option (List ℕ)) (r w s : Bool)
-      → IsErr answer × IsErrAnd answer (λ f. f ≡ e) → Reads (Err e) before after r → ConductsKeeping IsOutput Refuses kept answer before after taken taken r w s
+  pub not_read : (answer : Result (Unit {0}) ConductFault) (e : ConductFault) (kept : List ℕ)
+      (before after taken : Option (List ℕ)) (r w s : Bool)
+      → IsErr answer × IsErrAnd answer (λ f. f ≡ e) → Reads (Err e) before after r →
+      ConductsKeeping IsOutput Refuses kept answer before after taken taken r w s
   not_read (Ok done) e kept before after taken r w s from h = absurd from.1
   not_read (Err f) e kept before after taken r w s from h =
-      subst (λ (x : ConductFault). ConductsKeeping IsOutput Refuses kept (Err x) before after taken taken r w s) (sym from.1) (not_read_so e kept before after taken r w s h)
+      subst (λ (x : ConductFault). ConductsKeeping IsOutput Refuses kept (Err x) before after taken taken r w s)
+      (sym from.1) (not_read_so e kept before after taken r w s h)
+
+-- outputs that are these are also those
+pub also : (Narrow Wide : List ℕ → List ℕ → Type 0) (Refuses : List ℕ → ConductFault → Type 0)
+    → ((input text : List ℕ) → Narrow input text → Wide input text)
+    → (answer : Result (Unit {0}) ConductFault) (input : List ℕ)
+    (before after taken taken_after : Option (List ℕ)) (r w s : Bool)
+    → ConductsOn Narrow Refuses input answer before after taken taken_after r w s
+    → ConductsOn Wide Refuses input answer before after taken taken_after r w s
+also Narrow Wide Refuses wider (Ok done) input before after taken taken_after r w s h =
+    (h.0, h.1, h.2, h.3, wider input h.0 h.4)
+also Narrow Wide Refuses wider (Err fault.Memory) input before after taken taken_after r w s h = h
+also Narrow Wide Refuses wider (Err (fault.Refused f)) input before after taken taken_after r w s h = h
+also Narrow Wide Refuses wider (Err (fault.Live f)) input before after taken taken_after r w s h = h
+also Narrow Wide Refuses wider (Err fault.Read) input before after taken taken_after r w s h = h
+also Narrow Wide Refuses wider (Err (fault.Write count)) input before after taken taken_after r w s h =
+    let there = h.4 in (h.0, h.1, h.2, h.3, (there.0, wider input there.0 there.1, there.2, there.3, there.4))
+
+-- what a run that ends with a fault did, where `?` passes that fault on
+pub passed_whole : (IsOutput : List ℕ → List ℕ → Type 0) (Refuses : List ℕ → ConductFault → Type 0)
+    (answer : Result (Unit {0}) ConductFault) (e : ConductFault) (input : List ℕ)
+    (before after taken taken_after : Option (List ℕ)) (r w s : Bool)
+    → IsErr answer × IsErrAnd answer (λ f. f ≡ e)
+    → ConductsOn IsOutput Refuses input (Err e) before after taken taken_after r w s
+    → ConductsOn IsOutput Refuses input answer before after taken taken_after r w s
+passed_whole IsOutput Refuses (Ok done) e input before after taken taken_after r w s from h = absurd from.1
+passed_whole IsOutput Refuses (Err f) e input before after taken taken_after r w s from h =
+    subst (λ (x : ConductFault). ConductsOn IsOutput Refuses input (Err x) before after taken taken_after r w s)
+    (sym from.1) h

@@ -1,4 +1,5 @@
--- The statuses that the program ends with.
+-- `fault_status`: the status with which the program ends after a fault: 1 for a refused input or a live run that was
+-- given up, 3 for a device.
 use Rattle.std.specs.Prelude.{ℕ}
 use Rattle.snap_program.specs.declared.fault.ConductFault.{ConductFault}
 use Rattle.snap_program.specs.declared.fault.ConductFault.TheVariants as fault

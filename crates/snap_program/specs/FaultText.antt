@@ -1,4 +1,4 @@
--- The texts of faults.
+-- `fault_text`: the text of a `ConductFault`, why a whole run of the program did not write its output.
 use Rattle.std.specs.Prelude.{ℕ, List, ◌++◌, codes}
 use Rattle.snap_refusals.specs.RefusalText.{numbered, refused_text}
 use Rattle.snap_live_desk.specs.declared.refusal.LiveRefusal.{LiveRefusal}

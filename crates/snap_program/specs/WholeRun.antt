@@ -1,5 +1,6 @@
 -- A whole run of the program, from a byte source to a byte sink.
-use Rattle.std.specs.Prelude.{◌≡◌, ℕ, ◌<◌, ◌≤◌, Vec, Bool, true, List, [], false, take, Option, Result, Ok, Err, IfOk, length, ⊤, ◌⊎◌}
+use Rattle.std.specs.Prelude.{◌≡◌, ℕ, ◌<◌, ◌≤◌, Vec, Bool, true, List, [], false, take}
+use Rattle.std.specs.Prelude.{Option, Result, Ok, Err, IfOk, length, ⊤, ◌⊎◌}
 use Rattle.std.specs.Global.{Global}
 use Rattle.std.specs.Io.KnownBytes.{Consumes, Appends, IsAtEnd}
 use Rattle.snap_output.specs.Output.{clean_of, output_of}
@@ -11,6 +12,7 @@ use Rattle.snap_semantics.specs.declared.fault.Fault.TheVariants as inner
 use Rattle.snap_live_output.specs.declared.fault.LiveRunFault.{LiveRunFault}
 use Rattle.snap_live_output.specs.declared.fault.LiveRunFault.TheVariants as run
 use Rattle.snap_live_output.specs.LiveOutput.{MayGiveUp, MayWrite, setup_of}
+use Rattle.snap_live_output.specs.Uncalled.{uncalled_of}
 use Rattle.snap_subject.specs.declared.subject.Subject.{Subject}
 use Rattle.snap_program.specs.declared.fault.ConductFault.{ConductFault}
 use Rattle.snap_program.specs.declared.fault.ConductFault.TheVariants as fault
@@ -37,21 +39,28 @@ Takes input before after = Consumes before after input × (length input ≤ 1677
 -- reading took an input, whole where it answers one; or it failed, or found no memory
 abbrev pub Reads : Result (Vec ℕ Global) ConductFault → Option (List ℕ) → Option (List ℕ) → Bool → Type 0
 Reads (Ok v) before after failed = Takes v.items before after × IsWhole v.items after × (failed ≡ false)
-Reads (Err e) before after failed = (input : List ℕ) × Takes input before after × ((e ≡ fault.Memory) ⊎ ((e ≡ fault.Read) × (failed ≡ true)))
+Reads (Err e) before after failed =
+    (input : List ℕ) × Takes input before after × ((e ≡ fault.Memory) ⊎ ((e ≡ fault.Read) × (failed ≡ true)))
 
 -- writing sent all of a text, or the first count bytes
-abbrev pub Sends : Result (Unit {0}) ConductFault → List ℕ → Option (List ℕ) → Option (List ℕ) → (failed stalled : Bool) → Type 0
+abbrev pub Sends : Result (Unit {0}) ConductFault → List ℕ → Option (List ℕ) → Option (List ℕ) →
+    (failed stalled : Bool) → Type 0
 Sends (Ok done) text before after failed stalled = Appends before after text
-Sends (Err e) text before after failed stalled = (count : ℕ) × (e ≡ fault.Write count) × (count < length text) × Appends before after (take count text) × ((failed ≡ true) ⊎ (stalled ≡ true))
+Sends (Err e) text before after failed stalled =
+    (count : ℕ) × (e ≡ fault.Write count) × (count < length text) × Appends before after (take count text)
+    × ((failed ≡ true) ⊎ (stalled ≡ true))
 
--- what has been written by a run that answered so, where an input may have these outputs and be refused for these reasons
-abbrev pub Writes : (answer : Result (Unit {0}) ConductFault) (IsOutput : List ℕ → Type 0) (Refuses : ConductFault → Type 0) (text : List ℕ) (reader_failed writer_failed writer_stalled : Bool) → Type 0
+-- what has been written by a run that answered so, where an input may have these outputs
+-- and be refused for these reasons
+abbrev pub Writes : (answer : Result (Unit {0}) ConductFault) (IsOutput : List ℕ → Type 0)
+    (Refuses : ConductFault → Type 0) (text : List ℕ) (reader_failed writer_failed writer_stalled : Bool) → Type 0
 Writes (Ok done) IsOutput Refuses text r w s = IsOutput text
 Writes (Err fault.Memory) IsOutput Refuses text r w s = text ≡ []
 Writes (Err (fault.Refused f)) IsOutput Refuses text r w s = (text ≡ []) × Refuses (fault.Refused f)
 Writes (Err (fault.Live f)) IsOutput Refuses text r w s = (text ≡ []) × Refuses (fault.Live f)
 Writes (Err fault.Read) IsOutput Refuses text r w s = (text ≡ []) × (r ≡ true)
-Writes (Err (fault.Write count)) IsOutput Refuses text r w s = (whole : List ℕ) × IsOutput whole × (count < length whole) × (text ≡ take count whole) × ((w ≡ true) ⊎ (s ≡ true))
+Writes (Err (fault.Write count)) IsOutput Refuses text r w s =
+    (whole : List ℕ) × IsOutput whole × (count < length whole) × (text ≡ take count whole) × ((w ≡ true) ⊎ (s ≡ true))
 
 -- whether the input that was taken is whole; after a read fault or for want of memory it need not be
 abbrev pub IsWholeFor : Result (Unit {0}) ConductFault → List ℕ → Option (List ℕ) → Type 0
@@ -62,16 +71,20 @@ IsWholeFor (Err (fault.Live f)) input after = IsWhole input after
 IsWholeFor (Err fault.Read) input after = ⊤
 IsWholeFor (Err (fault.Write count)) input after = IsWhole input after
 
--- A whole run on this input: it takes it, and has written what its answer says of the outputs that the input may have, and nothing else.
-abbrev pub ConductsOn : (IsOutput : (input text : List ℕ) → Type 0) (Refuses : (input : List ℕ) → ConductFault → Type 0) (input : List ℕ)
-    (answer : Result (Unit {0}) ConductFault) (left left_after taken taken_after : Option (List ℕ)) (reader_failed writer_failed writer_stalled : Bool) → Type 0
+-- A whole run on this input: it takes it, and has written what its answer says of the outputs that the input may
+-- have, and nothing else.
+abbrev pub ConductsOn : (IsOutput : (input text : List ℕ) → Type 0)
+    (Refuses : (input : List ℕ) → ConductFault → Type 0) (input : List ℕ)
+    (answer : Result (Unit {0}) ConductFault) (left left_after taken taken_after : Option (List ℕ))
+    (reader_failed writer_failed writer_stalled : Bool) → Type 0
 ConductsOn IsOutput Refuses input answer left left_after taken taken_after r w s =
     (text : List ℕ) × Takes input left left_after × IsWholeFor answer input left_after
     × Appends taken taken_after text × Writes answer (IsOutput input) (Refuses input) text r w s
 
 -- A whole run of some input.
 abbrev pub ConductsBy : (IsOutput : (input text : List ℕ) → Type 0) (Refuses : (input : List ℕ) → ConductFault → Type 0)
-    (answer : Result (Unit {0}) ConductFault) (left left_after taken taken_after : Option (List ℕ)) (reader_failed writer_failed writer_stalled : Bool) → Type 0
+    (answer : Result (Unit {0}) ConductFault) (left left_after taken taken_after : Option (List ℕ))
+    (reader_failed writer_failed writer_stalled : Bool) → Type 0
 ConductsBy IsOutput Refuses answer left left_after taken taken_after r w s =
     (input : List ℕ) × ConductsOn IsOutput Refuses input answer left left_after taken taken_after r w s
 
@@ -81,10 +94,13 @@ IsKept (Err (fault.Refused f)) kept input = kept ≡ input
 IsKept _ kept input = ⊤
 
 -- A whole run that keeps its input.
-abbrev pub ConductsKeeping : (IsOutput : (input text : List ℕ) → Type 0) (Refuses : (input : List ℕ) → ConductFault → Type 0) (kept : List ℕ)
-    (answer : Result (Unit {0}) ConductFault) (left left_after taken taken_after : Option (List ℕ)) (reader_failed writer_failed writer_stalled : Bool) → Type 0
+abbrev pub ConductsKeeping : (IsOutput : (input text : List ℕ) → Type 0)
+    (Refuses : (input : List ℕ) → ConductFault → Type 0) (kept : List ℕ)
+    (answer : Result (Unit {0}) ConductFault) (left left_after taken taken_after : Option (List ℕ))
+    (reader_failed writer_failed writer_stalled : Bool) → Type 0
 ConductsKeeping IsOutput Refuses kept answer left left_after taken taken_after r w s =
-    (input : List ℕ) × IsKept answer kept input × ConductsOn IsOutput Refuses input answer left left_after taken taken_after r w s
+    (input : List ℕ) × IsKept answer kept input
+    × ConductsOn IsOutput Refuses input answer left left_after taken taken_after r w s
 
 -- the output of a task
 abbrev pub IsOutputOf : Task → (input text : List ℕ) → Type 0
@@ -96,24 +112,45 @@ RefusesTask task input (fault.Refused f) = output_of task input ≡ Err f
 RefusesTask task input _ = ⊥
 
 -- A whole run of a task: each input has one output, or one refusal.
-abbrev pub Conducts : (answer : Result (Unit {0}) ConductFault) (task : Task) (left left_after taken taken_after : Option (List ℕ)) (reader_failed writer_failed writer_stalled : Bool) → Type 0
-Conducts answer task left left_after taken taken_after r w s = ConductsBy (IsOutputOf task) (RefusesTask task) answer left left_after taken taken_after r w s
+abbrev pub Conducts : (answer : Result (Unit {0}) ConductFault) (task : Task)
+    (left left_after taken taken_after : Option (List ℕ)) (reader_failed writer_failed writer_stalled : Bool) → Type 0
+Conducts answer task left left_after taken taken_after r w s =
+    ConductsBy (IsOutputOf task) (RefusesTask task) answer left left_after taken taken_after r w s
 
 -- why a live run writes nothing: the input is refused, or the run is given up
-abbrev pub RefusesLive : (may : ℕ → ℕ → Bool → Type 0) → Subject → (limit : ℕ) → (input : List ℕ) → ConductFault → Type 0
+abbrev pub RefusesLive : (may : ℕ → ℕ → Bool → Type 0) → Subject → (limit : ℕ) →
+    (input : List ℕ) → ConductFault → Type 0
 RefusesLive may subject limit input (fault.Refused f) = setup_of subject input ≡ Err f
 RefusesLive may subject limit input (fault.Live f) = MayGiveUp may subject limit input f
 RefusesLive may subject limit input _ = ⊥
-
--- A whole live run: each input has many outputs, or one refusal; and the run may be given up.
-abbrev pub ConductsLive : (may : ℕ → ℕ → Bool → Type 0) (subject : Subject) (limit : ℕ) (answer : Result (Unit {0}) ConductFault) (left left_after taken taken_after : Option (List ℕ)) (reader_failed writer_failed writer_stalled : Bool) → Type 0
-ConductsLive may subject limit answer left left_after taken taken_after r w s =
-    ConductsBy (MayWrite may subject limit) (RefusesLive may subject limit) answer left left_after taken taken_after r w s
 
 -- a whole run that also answers what it found, without that
 abbrev pub done_of : {A : Type 0} → Result A ConductFault → Result (Unit {0}) ConductFault
 done_of (Ok found) = Ok tt
 done_of (Err e) = Err e
+
+-- an output of a live run, and what is said of the operations that call nothing, where that is answered
+abbrev pub IsLiveOf : Result (Vec ℕ Global) ConductFault → (may : ℕ → ℕ → Bool → Type 0) → Subject → (limit : ℕ) →
+    (input text : List ℕ) → Type 0
+IsLiveOf answer may subject limit input text =
+    MayWrite may subject limit input text × IfOk answer (λ uncalled. uncalled_of subject input ≡ Ok uncalled.items)
+
+-- A whole live run that keeps its input, and answers what is said of the operations that call nothing: each input has
+-- many outputs, or one refusal; and the run may be given up.
+abbrev pub ConductsLiveKeeping : (may : ℕ → ℕ → Bool → Type 0) (subject : Subject) (limit : ℕ) (kept : List ℕ)
+    (answer : Result (Vec ℕ Global) ConductFault) (left left_after taken taken_after : Option (List ℕ))
+    (reader_failed writer_failed writer_stalled : Bool) → Type 0
+ConductsLiveKeeping may subject limit kept answer left left_after taken taken_after r w s =
+    ConductsKeeping (IsLiveOf answer may subject limit) (RefusesLive may subject limit) kept
+    (done_of answer) left left_after taken taken_after r w s
+
+-- A whole live run, of which no more is answered.
+abbrev pub ConductsLive : (may : ℕ → ℕ → Bool → Type 0) (subject : Subject) (limit : ℕ)
+    (answer : Result (Unit {0}) ConductFault) (left left_after taken taken_after : Option (List ℕ))
+    (reader_failed writer_failed writer_stalled : Bool) → Type 0
+ConductsLive may subject limit answer left left_after taken taken_after r w s =
+    ConductsBy (MayWrite may subject limit)
+    (RefusesLive may subject limit) answer left left_after taken taken_after r w s
 
 -- the output of a survey, and whether all of its runs are clean, where that is answered
 abbrev pub IsSurveyOf : Result Bool ConductFault → Subject → (input text : List ℕ) → Type 0
@@ -121,6 +158,8 @@ IsSurveyOf answer subject input text =
     IsOutputOf (task.Survey subject) input text × IfOk answer (λ clean. clean_of subject input ≡ Ok clean)
 
 -- A whole run of a survey, which keeps its input: what it writes and when it is refused are the task's.
-abbrev pub ConductsSurvey : (answer : Result Bool ConductFault) (subject : Subject) (kept : List ℕ) (left left_after taken taken_after : Option (List ℕ)) (reader_failed writer_failed writer_stalled : Bool) → Type 0
+abbrev pub ConductsSurvey : (answer : Result Bool ConductFault) (subject : Subject) (kept : List ℕ)
+    (left left_after taken taken_after : Option (List ℕ)) (reader_failed writer_failed writer_stalled : Bool) → Type 0
 ConductsSurvey answer subject kept left left_after taken taken_after r w s =
-    ConductsKeeping (IsSurveyOf answer subject) (RefusesTask (task.Survey subject)) kept (done_of answer) left left_after taken taken_after r w s
+    ConductsKeeping (IsSurveyOf answer subject) (RefusesTask (task.Survey subject)) kept
+    (done_of answer) left left_after taken taken_after r w s

@@ -1,3 +1,5 @@
+//! `ByteSink`: to which a whole run of the program writes its output or its messages, such as
+//! standard output.
 ghost use Rattle.std.specs.Prelude.{◌≡◌, ◌≤◌, ◌<◌, ℕ, List, Bool, false, Option, length, is_err};
 ghost use Rattle.std.specs.Prelude.{IfOk, ◌==◌};
 ghost use Rattle.std.specs.Io.KnownBytes.{WriteAppends};

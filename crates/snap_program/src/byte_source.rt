@@ -1,3 +1,4 @@
+//! `ByteSource`: from which a whole run of the program reads its input, such as standard input.
 ghost use Rattle.std.specs.Prelude.{◌≡◌, ◌≤◌, ℕ, List, Bool, false, Option, length, is_err, IfOk};
 ghost use Rattle.std.specs.Io.KnownBytes.{ReadConsumes};
 

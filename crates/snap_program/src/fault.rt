@@ -1,4 +1,5 @@
-//! Why a whole run did not write its output.
+//! `ConductFault`: why a whole run of the program did not write its output; `fault_status` is the
+//! status that it ends with.
 ghost use Rattle.std.specs.Prelude.{◌≡◌};
 ghost use Rattle.snap_program.specs.WholeRun.{of_fault, of_live_fault};
 ghost use Rattle.snap_program.specs.ExitStatus.{fault_status};

@@ -1,4 +1,5 @@
-//! The texts of faults.
+//! `fault_line`: the line that says why a whole run of the program did not write its output, for a
+//! `ConductFault`.
 ghost use Rattle.std.specs.Prelude.{◌≡◌, ◌++◌, codes, OnOk, IfOk};
 ghost use Rattle.snap_program.specs.FaultText.{fault_text, live_refusal_text};
 

@@ -1,11 +1,14 @@
-//! A whole run of the program.
+//! `conduct` and its variants: a whole run of the program, which reads an input from a byte source
+//! and writes its output, and nothing else, to a byte sink.
 ghost use Rattle.std.specs.Prelude.{◌≡◌, ◌≤◌, ◌<◌, ◌++◌, ◌⊎◌, ℕ, List, [], true, false, length};
 ghost use Rattle.std.specs.Prelude.{take, IfOk, IfErr, OnOk, OnErr, MatchResult};
 ghost use Rattle.std.specs.Io.KnownBytes.{Consumes, Appends, IsAtEnd};
 ghost use Rattle.snap_words.specs.Shape.{max_items};
 ghost use Rattle.snap_output.specs.Output.{output_of};
-ghost use Rattle.snap_program.specs.WholeRun.{Reads, Sends, Conducts, ConductsKeeping, ConductsLive, ConductsSurvey, IsOutputOf, RefusesLive, RefusesTask};
-ghost use Rattle.snap_live_output.specs.LiveOutput.{MayWrite};
+ghost use Rattle.snap_program.specs.WholeRun.{Reads, Sends, Conducts, ConductsKeeping};
+ghost use Rattle.snap_program.specs.WholeRun.{ConductsLive};
+ghost use Rattle.snap_program.specs.WholeRun.{ConductsLiveKeeping, ConductsSurvey, IsOutputOf};
+ghost use Rattle.snap_program.specs.WholeRun.{RefusesTask};
 
 use crate::byte_sink::ByteSink;
 use crate::byte_source::ByteSource;
@@ -141,10 +144,12 @@ pub fn conduct_live<G: Gate, R: ByteSource, W: ByteSink>(
         (R.has_failed source.new) (W.has_failed sink.new) (W.is_stalled sink.new) }
 {
     let mut kept = Vec::new(alloc);
-    conduct_live_keeping(rt, alloc, subject, limit, gate, source, sink, &mut kept)
+    conduct_live_keeping(rt, alloc, subject, limit, gate, source, sink, &mut kept)?;
+    Ok(())
 }
 
-/// Does the same, and keeps the input: where it is refused, it was kept.
+/// Does the same, and answers what is said of the operations in the scripts that call nothing. The
+/// input is kept: where it is refused, it was kept.
 pub fn conduct_live_keeping<G: Gate, R: ByteSource, W: ByteSink>(
     rt: &(impl Threads + Wait + Sync),
     alloc: Global,
@@ -154,18 +159,18 @@ pub fn conduct_live_keeping<G: Gate, R: ByteSource, W: ByteSink>(
     source: &mut R,
     sink: &mut W,
     kept: &mut Vec<u8>,
-) -> Result<(), ConductFault>
+) -> Result<Vec<u8>, ConductFault>
     requires limit { (1 ≤ limit) × (limit ≤ max_items) }
     requires source { R.has_failed source.old ≡ false }
     requires sink { W.has_failed sink.old ≡ false }
     requires goes_on { W.is_stalled sink.old ≡ false }
-    ensures { ConductsKeeping (MayWrite (G.may_answer gate.now) subject limit)
-        (RefusesLive (G.may_answer gate.now) subject limit) kept.new.items result
+    ensures { ConductsLiveKeeping (G.may_answer gate.now) subject limit kept.new.items result
         (R.left source.old) (R.left source.new) (W.taken sink.old) (W.taken sink.new)
         (R.has_failed source.new) (W.has_failed sink.new) (W.is_stalled sink.new) }
 {
     let input = read_all(alloc, source)?;
     *kept = input;
-    let text = live_output(rt, alloc, subject, limit, gate, kept.as_slice())?;
-    write_all(sink, text.as_slice())
+    let found = live_output(rt, alloc, subject, limit, gate, kept.as_slice())?;
+    write_all(sink, found.text.as_slice())?;
+    Ok(found.uncalled)
 }

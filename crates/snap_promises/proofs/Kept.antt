@@ -1,4 +1,4 @@
--- The promises of a listing, each from its law, put together.
+-- All promises of the runs of U, B and M together: for each listing, `RunsKeepPromises` follows from its single laws.
 use Rattle.std.proofs.Common.{◌≡◌, ◌<◌, ℕ, List, arith, subst, sym}
 use Rattle.snap_semantics.specs.declared.process.Item.{Item}
 use Rattle.snap_semantics.specs.Source.{Source}
@@ -15,12 +15,15 @@ use Rattle.snap_runs_of_u.specs.Promises as u
 use Rattle.snap_runs_of_b.specs.Promises as b
 use Rattle.snap_runs_of_m.specs.Promises as m
 use Rattle.snap_shipped.specs.Shipped.{shipped_bounds}
-use Rattle.snap_promises.specs.Kept.{MovesAreReal, OwnUpdatesShow, RunsKeepPromises, borrowing_line, collect_lines, update_turns}
+use Rattle.snap_promises.specs.Kept.{MovesAreReal, OwnUpdatesShow, RunsKeepPromises}
+use Rattle.snap_promises.specs.Kept.{borrowing_line, collect_lines, update_turns}
 
 -- what holds of as many words as processes holds of w words, where these are as many
 of_square : (P : Run → Type 0) (l : Source) (n w : ℕ) (items : List Item) → w ≡ n →
-    P (record { source = l; shape = record { n = n; w = n }; items = items }) → P (record { source = l; shape = record { n = n; w = w }; items = items })
-of_square P l n w items e h = subst (λ (x : ℕ). P (record { source = l; shape = record { n = n; w = x }; items = items })) (sym e) h
+    P (record { source = l; shape = record { n = n; w = n }; items = items }) →
+    P (record { source = l; shape = record { n = n; w = w }; items = items })
+of_square P l n w items e h =
+    subst (λ (x : ℕ). P (record { source = l; shape = record { n = n; w = x }; items = items })) (sym e) h
 
 -- the promises that speak of the shape
 abbrev HasPlaces : KindTag → Run → Type 0
@@ -32,8 +35,8 @@ HasTurns g r = IsWaitFree (shipped_bounds g r.shape).steps (update_turns g r.sha
 abbrev HasCleanTests : KindTag → Run → Type 0
 HasCleanTests g r = PassedTestsAreClean (collect_lines g) (shipped_bounds g r.shape).writes r
 
-pub of_u : u.RunsAreSnapshots → u.OperationsHavePlaces → u.WaitFree → u.PassedTestsAreClean → u.MovesAreWrites → u.BorrowedViewsAreLent →
-    u.OwnUpdatesAreSeen → RunsKeepPromises kind.Seq
+pub of_u : u.RunsAreSnapshots → u.OperationsHavePlaces → u.WaitFree → u.PassedTestsAreClean → u.MovesAreWrites →
+    u.BorrowedViewsAreLent → u.OwnUpdatesAreSeen → RunsKeepPromises kind.Seq
 of_u snapshots places turns clean moves lent own s items shape fit suffice =
     let same = eqb-true s.w s.n fit in record {
       snapshot = snapshots s items shape fit suffice;
@@ -41,12 +44,14 @@ of_u snapshots places turns clean moves lent own s items shape fit suffice =
       wait_free = of_square (HasTurns kind.Seq) listing_u s.n s.w items same (turns s.n items suffice);
       clean_tests = of_square (HasCleanTests kind.Seq) listing_u s.n s.w items same (clean s.n items suffice);
       real_moves = of_square (MovesAreReal kind.Seq) listing_u s.n s.w items same (moves s.n items suffice);
-      lent_views = of_square (BorrowedViewsAreLent (borrowing_line kind.Seq)) listing_u s.n s.w items same (lent s.n items suffice);
+      lent_views =
+          of_square (BorrowedViewsAreLent (borrowing_line kind.Seq)) listing_u s.n s.w items same
+          (lent s.n items suffice);
       own_updates = of_square (OwnUpdatesShow kind.Seq) listing_u s.n s.w items same (own s.n items suffice);
     }
 
-pub of_b : b.RunsAreSnapshots → b.OperationsHavePlaces → b.WaitFree → b.PassedTestsAreClean → b.MovesAreWrites → b.BorrowedViewsAreLent →
-    b.OwnUpdatesAreSeen → RunsKeepPromises kind.Bits
+pub of_b : b.RunsAreSnapshots → b.OperationsHavePlaces → b.WaitFree → b.PassedTestsAreClean → b.MovesAreWrites →
+    b.BorrowedViewsAreLent → b.OwnUpdatesAreSeen → RunsKeepPromises kind.Bits
 of_b snapshots places turns clean moves lent own s items shape fit suffice =
     let same = eqb-true s.w s.n fit in record {
       snapshot = snapshots s items shape fit;
@@ -54,12 +59,13 @@ of_b snapshots places turns clean moves lent own s items shape fit suffice =
       wait_free = of_square (HasTurns kind.Bits) listing_b s.n s.w items same (turns s.n items);
       clean_tests = of_square (HasCleanTests kind.Bits) listing_b s.n s.w items same (clean s.n items);
       real_moves = of_square (MovesAreReal kind.Bits) listing_b s.n s.w items same (moves s.n items);
-      lent_views = of_square (BorrowedViewsAreLent (borrowing_line kind.Bits)) listing_b s.n s.w items same (lent s.n items);
+      lent_views =
+          of_square (BorrowedViewsAreLent (borrowing_line kind.Bits)) listing_b s.n s.w items same (lent s.n items);
       own_updates = of_square (OwnUpdatesShow kind.Bits) listing_b s.n s.w items same (own s.n items);
     }
 
-pub of_m : m.RunsAreSnapshots → m.OperationsHavePlaces → m.WaitFree → m.PassedTestsAreClean → m.MovesAreEvents → m.BorrowedViewsAreLent →
-    RunsKeepPromises kind.Multi
+pub of_m : m.RunsAreSnapshots → m.OperationsHavePlaces → m.WaitFree → m.PassedTestsAreClean → m.MovesAreEvents →
+    m.BorrowedViewsAreLent → RunsKeepPromises kind.Multi
 of_m snapshots places turns clean moves lent s items shape fit suffice =
     let first = shape.1.0 in let some : 0 < s.w = omega (arith, first) in record {
       snapshot = snapshots s items shape fit;
@@ -71,7 +77,8 @@ of_m snapshots places turns clean moves lent s items shape fit suffice =
       own_updates = tt;
     }
 
-pub of_each : RunsKeepPromises kind.Seq → RunsKeepPromises kind.Bits → RunsKeepPromises kind.Multi → (g : KindTag) → RunsKeepPromises g
+pub of_each : RunsKeepPromises kind.Seq → RunsKeepPromises kind.Bits → RunsKeepPromises kind.Multi →
+    (g : KindTag) → RunsKeepPromises g
 of_each seq bits multi kind.Seq = seq
 of_each seq bits multi kind.Bits = bits
 of_each seq bits multi kind.Multi = multi

@@ -1,1 +1,2 @@
+-- The proofs of snap_promises, by their modules.
 mod Kept

@@ -6,7 +6,8 @@ use Rattle.snap_words.specs.declared.kind.KindTag.{KindTag}
 use Rattle.snap_words.specs.declared.kind.KindTag.TheVariants as kind
 use Rattle.snap_semantics.specs.declared.process.Item.{Item}
 use Rattle.snap_runs.specs.Placement.{OperationsHavePlaces}
-use Rattle.snap_runs.specs.Promises.{BorrowedViewsAreLent, CollectLines, MovesAreWrites, ObservedMove, OwnUpdatesAreSeen, PassedTestsAreClean}
+use Rattle.snap_runs.specs.Promises.{BorrowedViewsAreLent, CollectLines, MovesAreWrites, ObservedMove}
+use Rattle.snap_runs.specs.Promises.{OwnUpdatesAreSeen, PassedTestsAreClean}
 use Rattle.snap_runs.specs.Run.{IsValidRun, Run}
 use Rattle.snap_runs.specs.Scan.{PendingScan}
 use Rattle.snap_runs.specs.Snapshot.{IsSnapshotRun}
@@ -37,15 +38,17 @@ update_turns kind.Seq s = 4 * (s.n * s.n) + 8 * s.n + 11
 update_turns kind.Bits s = 8 * (s.n * s.n) + 15 * s.n + 12
 update_turns kind.Multi s = 14 * (s.n * s.n) + 16 * (s.n * s.w) + 22 * s.n + 8 * s.w + 16
 
--- Where a scan sees a process move, that process has done something since the scan's previous double collect, or since the scan's
--- start where there is none: in U and B a write of its word; in M a write, or an answer to the scanner's handshake.
+-- Where a scan sees a process move, that process has done something since the scan's previous double collect, or
+-- since the scan's start where there is none: in U and B a write of its word; in M a write, or an answer to the
+-- scanner's handshake.
 abbrev pub MovesAreReal : KindTag → Run → Type 0
 MovesAreReal kind.Seq r = MovesAreWrites 17 listing_u.moved 32 r
 MovesAreReal kind.Bits r = MovesAreWrites 21 listing_b.moved 46 r
 MovesAreReal kind.Multi r = IsValidRun r → (i j : ℕ) (link : Option ℕ) (c t : ℕ) → PendingScan r i link c t → c < t →
     ObservedMove r 31 listing_m.moved i j t → m.RecentEvent r i j c t
 
--- A scan shows the value of its process's last update. Nothing is said of M, where other processes write to the same word.
+-- A scan shows the value of its process's last update. Nothing is said of M, where other
+-- processes write to the same word.
 abbrev pub OwnUpdatesShow : KindTag → Run → Type 0
 OwnUpdatesShow kind.Multi r = ⊤
 OwnUpdatesShow _ r = OwnUpdatesAreSeen r
@@ -72,5 +75,6 @@ NumbersSuffice _ items = ⊤
 
 -- Every run of the listing that is shipped for this kind keeps its promises.
 abbrev pub RunsKeepPromises : KindTag → Type 0
-RunsKeepPromises g = (s : Counts) (items : List Item) → IsShape s.n s.w → fits (shipped g).kind s ≡ true → NumbersSuffice g items →
+RunsKeepPromises g =
+    (s : Counts) (items : List Item) → IsShape s.n s.w → fits (shipped g).kind s ≡ true → NumbersSuffice g items →
     KeepsPromises g (record { source = shipped g; shape = s; items = items })

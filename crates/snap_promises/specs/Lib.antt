@@ -1,1 +1,2 @@
+-- The definitions of snap_promises, by their modules.
 pub mod Kept

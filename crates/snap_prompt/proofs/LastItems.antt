@@ -1,4 +1,4 @@
--- Of the last item of a position.
+-- The last item before a position of the session at a prompt is one of the run's items, and of one of its processes.
 use Rattle.std.proofs.Common.{◌≡◌, ◌<◌, ◌≤◌, ℕ, zero, suc, List, [], ◌∷◌, length, Option, Some, None, ap, arith, subst}
 use Rattle.std.specs.List.{AllByRecursion}
 use Rattle.std.specs.Prelude.{slice_index_or}
@@ -11,7 +11,8 @@ use Rattle.snap_runs.specs.Run.{Run, item, outcome}
 use Rattle.snap_debug.specs.Replies.{last_of}
 
 -- what holds of the process of each item holds of that of one
-each : (P : ℕ → Type 0) (xs : List Item) (t : ℕ) → AllByRecursion (λ (x : Item). P (who x)) xs → t < length xs → P (who (slice_index_or xs t (Step 0)))
+each : (P : ℕ → Type 0) (xs : List Item) (t : ℕ) → AllByRecursion (λ (x : Item). P (who x)) xs → t < length xs →
+    P (who (slice_index_or xs t (Step 0)))
 each P [] t all within = absurd (omega (arith, within))
 each P (x ∷ xs) zero all within = all.0
 each P (x ∷ xs) (suc t) all within = let less : t < length xs = omega (arith, within) in each P xs t all.1 less
@@ -21,8 +22,8 @@ first_of None = 0
 first_of (Some o) = o.0
 
 -- the last item is one of the run's, of one of its processes
-pub is_one : (r : Run) (t i : ℕ) (o : Outcome) → AllByRecursion (λ (x : Item). IsOneOf r.shape.n (who x)) r.items → t ≤ length r.items →
-    last_of r t ≡ Some (i, o) → (0 < t) × IsOneOf r.shape.n i
+pub is_one : (r : Run) (t i : ℕ) (o : Outcome) → AllByRecursion (λ (x : Item). IsOneOf r.shape.n (who x)) r.items →
+    t ≤ length r.items → last_of r t ≡ Some (i, o) → (0 < t) × IsOneOf r.shape.n i
 is_one r zero i o all within e = absurd cc
 is_one r (suc t) i o all within e =
     let less : t < length r.items = omega (arith, within) in

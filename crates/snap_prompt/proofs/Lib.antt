@@ -1,3 +1,4 @@
+-- The proofs of snap_prompt, by their modules.
 pub mod GoesOn
 pub mod KeepsRun
 pub mod LastItems

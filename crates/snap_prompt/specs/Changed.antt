@@ -1,5 +1,7 @@
--- What a move says: the item at which it stands, and what changed.
-use Rattle.std.specs.Prelude.{ℕ, ◌-◌, Bool, true, false, List, [], ◌++◌, Option, Some, None, codes, decimal, map, if◌then◌else◌}
+-- What the prompt shows of a move of the session: `item_text`, the last item and the line that it ran, and `changed`,
+-- what differs in the state.
+use Rattle.std.specs.Prelude.{ℕ, ◌-◌, Bool, true, false, List, [], ◌++◌, Option, Some}
+use Rattle.std.specs.Prelude.{None, codes, decimal, map, if◌then◌else◌}
 use Rattle.snap_words.specs.declared.kind.KindTag.{KindTag}
 use Rattle.snap_semantics.specs.Readers.{line_of}
 use Rattle.snap_semantics.specs.Report.{processes_lines, register_lines}
@@ -19,7 +21,8 @@ use Rattle.snap_debug.specs.Session.{Session, state_of}
 unfoldable pub state_text : KindTag → State → List ℕ
 state_text kind s = owned_text [] (lines_of (register_lines kind s.memory ++ processes_lines kind 1 s.processes))
 
--- What changed from one state to another: of the lines of their reports those that differ, old and new, in the report's order.
+-- What changed from one state to another: of the lines of their reports those that differ, old
+-- and new, in the report's order.
 unfoldable pub changed : KindTag → State → State → List ℕ
 changed kind old new = text_between (lines_of (state_text kind old)) (lines_of (state_text kind new))
 

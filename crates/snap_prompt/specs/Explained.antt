@@ -1,4 +1,4 @@
--- What is said to `why`.
+-- `explained_text`: what the prompt answers to `why` of an item, or that there is no such item.
 use Rattle.std.specs.Prelude.{ℕ, List, Option, Some, None, nat_le, if◌then◌else◌}
 use Rattle.snap_semantics.specs.declared.refusal.CommandRefusal.TheVariants as refusal
 use Rattle.snap_debug.specs.Session.{Session, total}

@@ -30,13 +30,16 @@ range_text what from to = codes ": " ++ what ++ codes " " ++ decimal from ++ cod
 -- the registers of a kind
 abbrev pub registers_text : KindTag → Counts → List ℕ
 registers_text kind.Seq s = range_text (codes "the registers are r") 1 s.w
-registers_text kind.Bits s = range_text (codes "the registers are q I J with I and J to the number of processes, and r") 1 s.w
-registers_text kind.Multi s = range_text (codes "the registers are q I J, p I J and v I with I and J to the number of processes, and r") 1 s.w
+registers_text kind.Bits s =
+    range_text (codes "the registers are q I J with I and J to the number of processes, and r") 1 s.w
+registers_text kind.Multi s =
+    range_text (codes "the registers are q I J, p I J and v I with I and J to the number of processes, and r") 1 s.w
 
 -- what would have been right
 unfoldable pub hint_text : Session → CommandRefusal → List ℕ
 hint_text s (refusal.BadCommand line) = codes ": `help` says what can be typed"
-hint_text s refusal.NoSuchLine = range_text (codes "the lines are") (first_number s.run.source.lines) (last_number 0 s.run.source.lines)
+hint_text s refusal.NoSuchLine =
+    range_text (codes "the lines are") (first_number s.run.source.lines) (last_number 0 s.run.source.lines)
 hint_text s refusal.NoSuchProcess = range_text (codes "the processes are") 1 s.run.shape.n
 hint_text s refusal.NoSuchRegister = registers_text s.run.source.kind s.run.shape
 hint_text s refusal.NoSuchPosition = range_text (codes "the positions are") 0 (total s)

@@ -1,3 +1,4 @@
+-- The definitions of snap_prompt, by their modules.
 pub mod Changed
 pub mod Explained
 pub mod Hints

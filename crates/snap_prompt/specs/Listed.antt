@@ -1,5 +1,6 @@
--- The lines of the listing around the one at which a process stands.
-use Rattle.std.specs.Prelude.{ℕ, zero, suc, ◌-◌, Bool, ◌&&◌, List, [], ◌∷◌, ◌++◌, Option, Some, None, codes, map, nat_eq, nat_le, if◌then◌else◌}
+-- `list_text`: what the prompt answers to `list`, the lines of the listing around the one at which a process is.
+use Rattle.std.specs.Prelude.{ℕ, zero, suc, ◌-◌, Bool, ◌&&◌, List, [], ◌∷◌, ◌++◌, Option, Some, None, codes, map}
+use Rattle.std.specs.Prelude.{nat_eq, nat_le, if◌then◌else◌}
 use Rattle.snap_semantics.specs.Readers.{line_of}
 use Rattle.snap_semantics.specs.Report.{head_line}
 use Rattle.snap_semantics.specs.State.{process_at}

@@ -1,5 +1,6 @@
 -- A prompt over a debugger's session: what is shown before a line, and what is answered to it.
-use Rattle.std.specs.Prelude.{ℕ, ◌+◌, ◌-◌, ◌^◌, List, [], ◌++◌, length, min, Bool, true, false, Option, Some, None, Result, Ok, Err, codes, decimal, nat_eq, if◌then◌else◌}
+use Rattle.std.specs.Prelude.{ℕ, ◌+◌, ◌-◌, ◌^◌, List, [], ◌++◌, length, min, Bool, true, false, Option, Some, None}
+use Rattle.std.specs.Prelude.{Result, Ok, Err, codes, decimal, nat_eq, if◌then◌else◌}
 use Rattle.snap_dialog.specs.Dialog.{Answer}
 use Rattle.snap_semantics.specs.Report.{position_line}
 use Rattle.snap_semantics.specs.Schedule.{Schedule}
@@ -9,7 +10,8 @@ use Rattle.snap_semantics.specs.declared.refusal.ScheduleRefusal.{ScheduleRefusa
 use Rattle.snap_runs.specs.Run.{Run, run_over}
 use Rattle.snap_report.specs.OutcomeText.{head_lines}
 use Rattle.snap_debug.specs.Replies.{last_of}
-use Rattle.snap_debug.specs.Session.{Session, answer, at_position, commanded, opened, position_text, reopened, reply_text, session_report, state_of, total}
+use Rattle.snap_debug.specs.Session.{Session, answer, at_position, commanded, opened, position_text, reopened}
+use Rattle.snap_debug.specs.Session.{reply_text, session_report, state_of, total}
 use Rattle.snap_debug_commands.specs.declared.command.Command.{Command}
 use Rattle.snap_debug_commands.specs.declared.command.Command.TheVariants as command
 use Rattle.snap_sched_edits.specs.Edits.{edited, form_of}
@@ -27,8 +29,8 @@ use Rattle.snap_prompt.specs.Explained.{explained_text, item_or_position}
 use Rattle.snap_prompt.specs.Hints.{refused_addition, refused_line, refused_steps}
 use Rattle.snap_prompt.specs.Listed.{list_text, process_of}
 
--- A session, what was asked for last, what is to be added where the next line says yes, how many lines were read, and whether the
--- position stands before each line.
+-- A session, what was asked for last, what is to be added where the next line says yes, how many lines were read, and
+-- whether the position stands before each line.
 pub record Prompt : Type 0 where
   pub session : Session
   pub last : Option Ask
@@ -42,11 +44,18 @@ opened_prompt r shows = record { session = opened r; last = None; question = Non
 
 -- `9/64> `
 unfoldable pub prompt_text : Prompt → List ℕ
-prompt_text p = if p.shows then decimal p.session.position ++ codes "/" ++ decimal (total p.session) ++ codes "> " else []
+prompt_text p =
+    if p.shows then decimal p.session.position ++ codes "/" ++ decimal (total p.session) ++ codes "> " else []
 
 -- with one line more; they are counted up to 2^64 - 1
 abbrev pub counted : Prompt → Prompt
-counted p = record { session = p.session; last = p.last; question = p.question; lines = min (p.lines + 1) (2 ^ 64 - 1); shows = p.shows }
+counted p = record {
+  session = p.session;
+  last = p.last;
+  question = p.question;
+  lines = min (p.lines + 1) (2 ^ 64 - 1);
+  shows = p.shows;
+}
 
 abbrev pub with_session : Session → Prompt → Prompt
 with_session s p = record { session = s; last = p.last; question = p.question; lines = p.lines; shows = p.shows }
@@ -130,7 +139,8 @@ abbrev pub led_by : Prompt → ℕ → Result ℕ NoSteps → Answer Prompt
 led_by p i (Err why) = says p (refused_steps p.session p.lines i why)
 led_by p i (Ok count) = wanted p (addition.Steps i count)
 
--- As many steps of process i are added as lead it from the position to a goal. That they don't is said at once, and nothing is asked.
+-- As many steps of process i are added as lead it from the position to a goal. That they don't is said at once, and
+-- nothing is asked.
 unfoldable pub led : Prompt → ℕ → Goal → Answer Prompt
 led p i g = led_by p i (steps_to p.session i g)
 
@@ -184,7 +194,8 @@ asked p (Ok a) = done_meant p (meant p.last a)
 
 -- the answer to a question
 abbrev pub decided : Prompt → Addition → Bool → Answer Prompt
-decided p a agreed = if agreed then added (with_question None p) a else says (with_question None p) (codes "nothing is cut\n")
+decided p a agreed =
+    if agreed then added (with_question None p) a else says (with_question None p) (codes "nothing is cut\n")
 
 abbrev pub answered_to : Prompt → Option Addition → List ℕ → Answer Prompt
 answered_to p None line = asked p (ask_of p.lines line)

@@ -1,4 +1,5 @@
-//! What changed from one state to another.
+//! `state_text`: the report of a machine's state, by which the prompt finds what a move of the
+//! session changed.
 ghost use Rattle.std.specs.Prelude.{◌≡◌, ◌++◌, IfOk, OnOk};
 ghost use Rattle.snap_semantics.specs.Report.{processes_lines};
 ghost use Rattle.snap_prompt.specs.Changed.{state_text};
@@ -21,13 +22,15 @@ fn processes_lines<K: Kind>(out: &mut Vec<u8>, machine: &Machine<K>) -> Result<(
     Ok(())
 }
 
-/// The report of a machine's state: its registers, and its processes with their locals. Each line says of whom it speaks.
+/// The report of a machine's state: its registers, and its processes with their locals.
+/// Each line says of whom it speaks.
 #[tactic(auto, using(snap_text::proofs::Texts::joined), unfolding(crate::specs::Changed::state_text))]
 pub(crate) fn state_text<K: Kind>(
     alloc: Global,
     machine: &Machine<K>,
 ) -> Result<Vec<u8>, AllocError>
-    ensures { IfOk result (λ text. text.items ≡ state_text machine.now.source.kind machine.now.state) }
+    ensures { IfOk result (λ text.
+        text.items ≡ state_text machine.now.source.kind machine.now.state) }
 {
     let mut lines = Vec::new(alloc);
     register_lines(&mut lines, machine)?;

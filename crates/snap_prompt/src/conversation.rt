@@ -1,4 +1,5 @@
-//! A dialog with a session, for each kind of registers.
+//! `converse`: a whole dialog at the debugger's prompt about a program under a schedule, for each
+//! kind of registers.
 ghost use Rattle.std.specs.Prelude.{◌≡◌, ℕ, List, IfSome, OnOk};
 ghost use Rattle.std.specs.Io.KnownBytes.{Appends};
 ghost use Rattle.snap_dialog.specs.Dialog.{IsDialog, dialog, transcript};
@@ -14,8 +15,9 @@ use snap_sched::Schedule;
 use snap_words::{Bits, KindTag, Multi, Seq};
 use std::alloc::Global;
 
-/// Talks at a console about a program under a schedule, from the position before its first item, to `quit` or the end of the
-/// input: each line is answered before the next prompt, and what is shown is the transcript of the lines.
+/// Talks at a console about a program under a schedule, from the position before its first item, to
+/// `quit` or the end of the input: each line is answered before the next prompt, and what is shown
+/// is the transcript of the lines.
 pub fn converse<C: Console>(
     alloc: Global,
     program: &Program,
@@ -23,11 +25,15 @@ pub fn converse<C: Console>(
     shows: bool,
     console: &mut C,
 ) -> Result<(), DialogFault>
-    ensures passes { OnOk result ((lines : List (List ℕ)) × IsDialog answer_line (opened_prompt (run_over program.now schedule) shows) lines
+    ensures passes { OnOk result ((lines : List (List ℕ))
+        × IsDialog answer_line (opened_prompt (run_over program.now schedule) shows) lines
         × PassesAll (C.passed console.old) (C.passed console.new)
-        (dialog prompt_text answer_line (opened_prompt (run_over program.now schedule) shows) lines)) }
-    ensures shown { OnOk result (IfSome (C.left console.old) (λ input. Appends (C.shown console.old) (C.shown console.new)
-        (transcript prompt_text answer_line (opened_prompt (run_over program.now schedule) shows) (typed_lines input)))) }
+        (dialog prompt_text answer_line
+        (opened_prompt (run_over program.now schedule) shows) lines)) }
+    ensures shown { OnOk result (IfSome (C.left console.old) (λ input.
+        Appends (C.shown console.old) (C.shown console.new)
+        (transcript prompt_text answer_line
+        (opened_prompt (run_over program.now schedule) shows) (typed_lines input)))) }
 {
     match program.kind() {
         KindTag::Seq => {

@@ -1,4 +1,5 @@
-//! Why an item came out as it did.
+//! What the prompt answers to `why` of an item: why it came out as it did, or that there is no such
+//! item.
 ghost use Rattle.std.specs.Prelude.{◌≡◌, ◌++◌, OnOk, map};
 ghost use Rattle.snap_listing_lines.specs.LineTexts.{written};
 ghost use Rattle.snap_prompt.specs.Explained.{explained_text};

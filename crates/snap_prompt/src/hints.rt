@@ -1,6 +1,8 @@
-//! What is said where a line is refused.
+//! What the debugger's prompt says of a line that it refuses: why, and what would have been right.
 ghost use Rattle.std.specs.Prelude.{◌≡◌, ◌++◌, OnOk, codes};
-ghost use Rattle.snap_prompt.specs.Hints.{added_hint, first_number, hint_text, last_number, range_text, refused_addition, refused_line, refused_steps, registers_text, standing_line};
+ghost use Rattle.snap_prompt.specs.Hints.{added_hint, first_number, hint_text, last_number};
+ghost use Rattle.snap_prompt.specs.Hints.{range_text, refused_addition, refused_line};
+ghost use Rattle.snap_prompt.specs.Hints.{refused_steps, registers_text, standing_line};
 
 use snap_debug::{Session, push_refusal};
 use snap_reach::NoSteps;
@@ -58,7 +60,8 @@ fn push_registers(out: &mut Vec<u8>, kind: KindTag, shape: Shape) -> Result<(), 
         ),
         KindTag::Multi => push_range(
             out,
-            b"the registers are q I J, p I J and v I with I and J to the number of processes, and r",
+            b"the registers are q I J, p I J and v I with I and J to the number of processes, \
+and r",
             1,
             shape.w(),
         ),
@@ -175,7 +178,8 @@ pub(crate) fn push_refused_steps<K: Kind>(
     process: u64,
     why: NoSteps,
 ) -> Result<(), AllocError>
-    ensures { OnOk result (out.new.items ≡ out.old.items ++ refused_steps session.now line process why) }
+    ensures { OnOk result (out.new.items ≡ out.old.items
+        ++ refused_steps session.now line process why) }
 {
     match why {
         NoSteps::NoSuchProcess => {

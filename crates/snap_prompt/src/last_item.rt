@@ -1,4 +1,5 @@
-//! The last item before a position.
+//! The last item before the position of a prompt's session, as it is shown after a move: its
+//! outcome, and the line that it ran.
 ghost use Rattle.std.specs.Prelude.{◌≡◌, ◌<◌, ◌≤◌, ◌++◌, ◌-◌, IfOk, OnOk, Some, length, map};
 ghost use Rattle.std.specs.List.{AllByRecursion};
 ghost use Rattle.snap_words.specs.Shape.{IsOneOf};
@@ -8,7 +9,8 @@ ghost use Rattle.snap_semantics.specs.Table.{who};
 ghost use Rattle.snap_runs.specs.Run.{state};
 ghost use Rattle.snap_listing_lines.specs.LineTexts.{written};
 ghost use Rattle.snap_debug.specs.Session.{Obeys, at_position};
-ghost use Rattle.snap_prompt.specs.Changed.{item_head, item_line, item_text, line_run, ran, run_text};
+ghost use Rattle.snap_prompt.specs.Changed.{item_head, item_line, item_text};
+ghost use Rattle.snap_prompt.specs.Changed.{line_run, ran, run_text};
 
 use snap_debug::{Command, Reply, Session};
 use snap_listing_lines::LineTexts;
@@ -142,7 +144,8 @@ pub(crate) fn push_item<K: Kind>(
     session: &mut Session<K>,
 ) -> Result<(), AllocError>
     requires texts { texts.now ≡ map written session.old.run.source.lines }
-    requires processes { AllByRecursion (λ x. IsOneOf session.old.run.shape.n (who x)) session.old.run.items }
+    requires processes { AllByRecursion
+        (λ x. IsOneOf session.old.run.shape.n (who x)) session.old.run.items }
     ensures text { OnOk result (out.new.items ≡ out.old.items
         ++ item_text session.old.run session.old.position) }
     ensures same { OnOk result (session.new ≡ session.old) }

@@ -1,8 +1,10 @@
-//! The lines of the listing around the one at which a process stands.
+//! What the prompt answers to `list`: the lines of the listing around the one at which a process
+//! is.
 ghost use Rattle.std.specs.Prelude.{◌≡◌, ◌++◌, OnOk, map};
 ghost use Rattle.snap_words.specs.Shape.{IsOneOf};
 ghost use Rattle.snap_listing_lines.specs.LineTexts.{text_with, written};
-ghost use Rattle.snap_prompt.specs.Listed.{is_near, list_text, pointer_text, marked_line, near_line, near_lines, stand_text, text_or_none};
+ghost use Rattle.snap_prompt.specs.Listed.{is_near, list_text, pointer_text, marked_line};
+ghost use Rattle.snap_prompt.specs.Listed.{near_line, near_lines, stand_text, text_or_none};
 
 use crate::hints::push_refused_line;
 use snap_debug::Session;
@@ -33,7 +35,8 @@ fn push_mark(out: &mut Vec<u8>, line: u64, number: u64) -> Result<(), AllocError
 
 /// Adds the text of a line.
 fn push_line_text(out: &mut Vec<u8>, texts: &LineTexts, number: u64) -> Result<(), AllocError>
-    ensures { OnOk result (out.new.items ≡ out.old.items ++ text_or_none (text_with texts.now number)) }
+    ensures { OnOk result (out.new.items ≡ out.old.items
+        ++ text_or_none (text_with texts.now number)) }
 {
     match texts.with_number(number) {
         Some(text) => push_text(out, text),

@@ -1,4 +1,5 @@
-//! What lines mean.
+//! What lines at the prompt mean: the last thing again or the thing itself, whether it moves the
+//! session; and the text of `help`.
 ghost use Rattle.std.specs.Prelude.{◌≡◌, ◌++◌, OnOk};
 ghost use Rattle.snap_prompt.specs.Prompt.{help_text, meant, moves};
 
@@ -8,8 +9,12 @@ use snap_text::push_text;
 use std::alloc::AllocError;
 
 /// What lines can ask for.
-const HELP: &[u8] =
-    b"step K, back K, goto T, run, rrun\nbreak I N, clear I N, watch A, unwatch A\nshow I, show A, values, events, where\nall, list, list I, why, why T, report, save, help, quit\nto add items: step I K, until I N, end I, call I scan, call I update K X, crash I\nA is a register: r K, q I J, p I J or v I\ns, b: step 1, back 1; s, b, r, g, p before numbers: step, back, run, goto, show; b I N: break I N\nan empty line: the last line again\n";
+const HELP: &[u8] = b"step K, back K, goto T, run, rrun\nbreak I N, clear I N, watch A, unwatch A\n\
+show I, show A, values, events, where\nall, list, list I, why, why T, report, save, help, quit\n\
+to add items: step I K, until I N, end I, call I scan, call I update K X, crash I\n\
+A is a register: r K, q I J, p I J or v I\n\
+s, b: step 1, back 1; s, b, r, g, p before numbers: step, back, run, goto, show; b I N: break I N\n\
+an empty line: the last line again\n";
 
 /// Adds what lines can ask for.
 #[tactic(auto, unfolding(crate::specs::Prompt::help_text))]

@@ -1,4 +1,4 @@
-//! A prompt over a session.
+//! `Prompt`: a debugger session that is talked to line by line, with the answer to each line.
 ghost use Rattle.std.specs.Prelude.{◌≡◌, ◌++◌, IfOk, OnOk, Ok};
 ghost use Rattle.snap_runs.specs.Run.{run_over};
 ghost use Rattle.snap_debug.specs.Replies.{last_of};
@@ -9,7 +9,10 @@ ghost use Rattle.snap_semantics.specs.ScheduleText.{schedule_text};
 ghost use Rattle.snap_semantics.specs.Token.{lines_of};
 ghost use Rattle.snap_prompt.specs.Explained.{explained_text, item_or_position};
 ghost use Rattle.snap_prompt.specs.Listed.{list_text, process_of};
-ghost use Rattle.snap_prompt.specs.Prompt.{added, answer_line, asked, at_end_of, decided, did_text, done, led, move_or_refusal, opened_prompt, prompt_text, question_text, reply_or_refusal, schedule_of_run, wanted, with_session};
+ghost use Rattle.snap_prompt.specs.Prompt.{added, answer_line, asked, at_end_of, decided};
+ghost use Rattle.snap_prompt.specs.Prompt.{did_text, done, led, move_or_refusal, opened_prompt};
+ghost use Rattle.snap_prompt.specs.Prompt.{prompt_text, question_text, reply_or_refusal};
+ghost use Rattle.snap_prompt.specs.Prompt.{schedule_of_run, wanted, with_session};
 ghost use Rattle.snap_prompt.specs.Changed.{item_text, state_text};
 
 use crate::changed::state_text;
@@ -55,9 +58,16 @@ impl<K: Kind> Model for Prompt<K> {
 
     ghost Value = { Prompt };
 
-    ghost view = { λ p. record { session = p.session; last = p.last; question = p.question; lines = p.lines; shows = p.shows } };
+    ghost view = { λ p. record {
+      session = p.session;
+      last = p.last;
+      question = p.question;
+      lines = p.lines;
+      shows = p.shows;
+    } };
 
-    ghost invariant = { λ p. (p.schedule ≡ schedule_of_run p.session.run) × (p.texts ≡ map written p.session.run.source.lines) };
+    ghost invariant = { λ p. (p.schedule ≡ schedule_of_run p.session.run)
+        × (p.texts ≡ map written p.session.run.source.lines) };
 }
 
 impl<K: Kind> Drop for Prompt<K> {
@@ -76,7 +86,8 @@ impl<K: Kind> Drop for Prompt<K> {
 }
 
 impl<K: Kind> Prompt<K> {
-    /// Before the first item of a schedule, which it takes. `shows` says whether the position stands before each line.
+    /// Before the first item of a schedule, which it takes. `shows` says whether the position
+    /// stands before each line.
     pub fn over(
         alloc: Global,
         program: &Program,
@@ -104,7 +115,9 @@ impl<K: Kind> Prompt<K> {
     #[tactic(auto, using(snap_text::proofs::Texts::joined))]
     fn push_moved(&mut self, out: &mut Vec<u8>, before: &[u8]) -> Result<(), AllocError>
         ensures text { let s = self.old.session in OnOk result (out.new.items ≡ out.old.items
-            ++ item_text s.run s.position ++ text_between (lines_of before.now) (lines_of (state_text s.run.source.kind (state_of s)))) }
+            ++ item_text s.run s.position
+            ++ text_between (lines_of before.now)
+            (lines_of (state_text s.run.source.kind (state_of s)))) }
         ensures same { OnOk result (self.new ≡ self.old) }
     {
         let _shape = self.schedule.shape();
@@ -117,7 +130,8 @@ impl<K: Kind> Prompt<K> {
     fn push_reply(&mut self, out: &mut Vec<u8>, command: &Command) -> Result<(), AllocError>
         ensures text { let s = self.old.session in OnOk result (out.new.items ≡ out.old.items
             ++ reply_or_refusal s command.now (commanded s command.now)) }
-        ensures state { OnOk result (self.new ≡ with_session (answer self.old.session command.now).0 self.old) }
+        ensures state { OnOk result
+            (self.new ≡ with_session (answer self.old.session command.now).0 self.old) }
     {
         match do_command(&mut self.session, command) {
             Ok(reply) => push_text(out, reply.as_slice()),
@@ -131,7 +145,8 @@ impl<K: Kind> Prompt<K> {
     fn push_move(&mut self, out: &mut Vec<u8>, command: &Command) -> Result<(), AllocError>
         ensures text { let s = self.old.session in OnOk result (out.new.items ≡ out.old.items
             ++ move_or_refusal s command.now (commanded s command.now)) }
-        ensures state { OnOk result (self.new ≡ with_session (answer self.old.session command.now).0 self.old) }
+        ensures state { OnOk result
+            (self.new ≡ with_session (answer self.old.session command.now).0 self.old) }
     {
         let before = state_text(self.alloc, self.session.machine())?;
         match do_command(&mut self.session, command) {
@@ -147,8 +162,10 @@ impl<K: Kind> Prompt<K> {
     /// Does a command, and adds what is said of it.
     #[tactic(auto, unfolding(crate::specs::Prompt::did_text))]
     fn push_done(&mut self, out: &mut Vec<u8>, command: &Command) -> Result<(), AllocError>
-        ensures text { OnOk result (out.new.items ≡ out.old.items ++ did_text self.old.session command.now) }
-        ensures state { OnOk result (self.new ≡ with_session (answer self.old.session command.now).0 self.old) }
+        ensures text { OnOk result (out.new.items ≡ out.old.items
+            ++ did_text self.old.session command.now) }
+        ensures state { OnOk result
+            (self.new ≡ with_session (answer self.old.session command.now).0 self.old) }
     {
         if moves(command) {
             self.push_move(out, command)
@@ -168,7 +185,8 @@ impl<K: Kind> Prompt<K> {
 
     /// Goes on with another schedule, at its end.
     fn extend(&mut self, schedule: Schedule) -> Result<(), AllocError>
-        ensures { OnOk result (self.new ≡ with_session (at_end_of schedule self.old.session) self.old) }
+        ensures { OnOk result
+            (self.new ≡ with_session (at_end_of schedule self.old.session) self.old) }
     {
         self.session = self.reopened(&schedule)?;
         self.schedule = schedule;
@@ -180,7 +198,8 @@ impl<K: Kind> Prompt<K> {
     fn push_end(&mut self, out: &mut Vec<u8>, before: &[u8]) -> Result<(), AllocError>
         ensures text { let s = self.old.session in OnOk result (out.new.items ≡ out.old.items
             ++ position_line (total s) (total s) ++ item_text s.run s.position
-            ++ text_between (lines_of before.now) (lines_of (state_text s.run.source.kind (state_of s)))) }
+            ++ text_between (lines_of before.now)
+            (lines_of (state_text s.run.source.kind (state_of s)))) }
         ensures same { OnOk result (self.new ≡ self.old) }
     {
         let total = self.session.total();
@@ -191,7 +210,8 @@ impl<K: Kind> Prompt<K> {
     /// Adds items behind the position, where the schedule is cut, and adds what is said of that.
     #[tactic(auto, unfolding(crate::specs::Prompt::added, crate::specs::Changed::moved_text, crate::specs::Changed::changed))]
     fn push_added(&mut self, out: &mut Vec<u8>, addition: Addition) -> Result<(), AllocError>
-        ensures text { OnOk result (out.new.items ≡ out.old.items ++ (added self.old addition).text) }
+        ensures text { OnOk result (out.new.items ≡ out.old.items
+            ++ (added self.old addition).text) }
         ensures state { OnOk result (self.new ≡ (added self.old addition).state) }
     {
         let position = self.session.position();
@@ -219,7 +239,8 @@ impl<K: Kind> Prompt<K> {
     /// Adds items at the end of the schedule, or asks.
     #[tactic(auto, unfolding(crate::specs::Prompt::wanted))]
     fn push_wanted(&mut self, out: &mut Vec<u8>, addition: Addition) -> Result<(), AllocError>
-        ensures text { OnOk result (out.new.items ≡ out.old.items ++ (wanted self.old addition).text) }
+        ensures text { OnOk result (out.new.items ≡ out.old.items
+            ++ (wanted self.old addition).text) }
         ensures state { OnOk result (self.new ≡ (wanted self.old addition).state) }
     {
         if self.session.position() == self.session.total() {
@@ -233,7 +254,8 @@ impl<K: Kind> Prompt<K> {
     /// Adds as many steps of a process as lead it to a goal, or adds why there are none.
     #[tactic(auto, unfolding(crate::specs::Prompt::led))]
     fn push_led(&mut self, out: &mut Vec<u8>, process: u64, goal: Goal) -> Result<(), AllocError>
-        ensures text { OnOk result (out.new.items ≡ out.old.items ++ (led self.old process goal).text) }
+        ensures text { OnOk result (out.new.items ≡ out.old.items
+            ++ (led self.old process goal).text) }
         ensures state { OnOk result (self.new ≡ (led self.old process goal).state) }
     {
         match steps_to(&self.session, process, goal)? {
@@ -252,7 +274,8 @@ impl<K: Kind> Prompt<K> {
 
     /// Adds the schedule.
     fn push_schedule(&self, out: &mut Vec<u8>) -> Result<(), AllocError>
-        ensures { OnOk result (out.new.items ≡ out.old.items ++ schedule_text (schedule_of_run self.now.session.run)) }
+        ensures { OnOk result (out.new.items ≡ out.old.items
+            ++ schedule_text (schedule_of_run self.now.session.run)) }
     {
         let text = print(self.alloc, &self.schedule)?;
         push_text(out, text.as_slice())
@@ -260,7 +283,8 @@ impl<K: Kind> Prompt<K> {
 
     /// The process of the last item, and 1 where there is none.
     fn last_process(&self) -> Result<u64, AllocError>
-        ensures { IfOk result (λ i. i ≡ process_of (last_of self.now.session.run self.now.session.position)) }
+        ensures { IfOk result (λ i.
+            i ≡ process_of (last_of self.now.session.run self.now.session.position)) }
     {
         match self.session.last()? {
             Some((process, _)) => Ok(u64::from(process)),
@@ -270,7 +294,8 @@ impl<K: Kind> Prompt<K> {
 
     /// Adds the lines around the one at which a process stands.
     fn push_list_of(&self, out: &mut Vec<u8>, process: u64) -> Result<(), AllocError>
-        ensures { OnOk result (out.new.items ≡ out.old.items ++ list_text self.now.session process) }
+        ensures { OnOk result (out.new.items ≡ out.old.items
+            ++ list_text self.now.session process) }
     {
         push_list(out, &self.texts, &self.session, process)
     }
@@ -355,7 +380,8 @@ impl<K: Kind> Prompt<K> {
         addition: Addition,
         agreed: bool,
     ) -> Result<(), AllocError>
-        ensures text { OnOk result (out.new.items ≡ out.old.items ++ (decided self.old addition agreed).text) }
+        ensures text { OnOk result (out.new.items ≡ out.old.items
+            ++ (decided self.old addition agreed).text) }
         ensures state { OnOk result (self.new ≡ (decided self.old addition agreed).state) }
     {
         self.question = None;
@@ -383,7 +409,8 @@ impl<K: Kind> Prompt<K> {
     /// Adds what is answered to a line, and tells whether the dialog goes on.
     #[tactic(auto, unfolding(crate::specs::Prompt::answer_line))]
     fn push_answered(&mut self, out: &mut Vec<u8>, line: &[u8]) -> Result<bool, AllocError>
-        ensures text { OnOk result (out.new.items ≡ out.old.items ++ (answer_line self.old line.now).text) }
+        ensures text { OnOk result (out.new.items ≡ out.old.items
+            ++ (answer_line self.old line.now).text) }
         ensures state { OnOk result (self.new ≡ (answer_line self.old line.now).state) }
         ensures goes_on { IfOk result (λ more. more ≡ (answer_line self.old line.now).goes_on) }
     {

@@ -1,5 +1,7 @@
--- What a line at a prompt asks for.
-use Rattle.std.specs.Prelude.{ℕ, List, [], ◌∷◌, ◌++◌, Bool, true, false, not, Option, Some, None, Result, Ok, Err, codes, length, nat_eq, nat_lt, is_some, if◌then◌else◌, ◌==◌}
+-- `ask_of`: what a line at the debugger's prompt asks for, one of the prompt's own words or a debugger command, or
+-- why it is refused.
+use Rattle.std.specs.Prelude.{ℕ, List, [], ◌∷◌, ◌++◌, Bool, true, false, not, Option, Some, None, Result, Ok, Err}
+use Rattle.std.specs.Prelude.{codes, length, nat_eq, nat_lt, is_some, if◌then◌else◌, ◌==◌}
 use Rattle.std.specs.Io.BufRead.{strip_last}
 use Rattle.snap_semantics.specs.Rules.{◌>>=◌, or_else, keyword_at, number_at, end_at}
 use Rattle.snap_semantics.specs.Token.{Token, is_lexeme_byte, tokens_of}
@@ -34,11 +36,13 @@ word_ask ts =
 
 -- `list`, or `list I`
 unfoldable pub list_ask : List Token → Option Ask
-list_ask ts = or_else (alone (codes "list") (ask.ListLast) ts) (number_form (codes "list") ts >>= λ i. Some (ask.List i))
+list_ask ts =
+    or_else (alone (codes "list") (ask.ListLast) ts) (number_form (codes "list") ts >>= λ i. Some (ask.List i))
 
 -- `why`, or `why T`
 unfoldable pub why_ask : List Token → Option Ask
-why_ask ts = or_else (alone (codes "why") (ask.Why None) ts) (number_form (codes "why") ts >>= λ t. Some (ask.Why (Some t)))
+why_ask ts =
+    or_else (alone (codes "why") (ask.Why None) ts) (number_form (codes "why") ts >>= λ t. Some (ask.Why (Some t)))
 
 -- a scan, or an update
 unfoldable pub op_form : List Token → Option Op
@@ -76,12 +80,14 @@ leading_ask ts =
 
 -- `b I N` is a breakpoint
 unfoldable pub break_ask : List Token → Option Ask
-break_ask ts = numbers_form (codes "b") ts >>= λ at. Some (ask.Do (command.Break (record { process = at.0; line = at.1 })))
+break_ask ts =
+    numbers_form (codes "b") ts >>= λ at. Some (ask.Do (command.Break (record { process = at.0; line = at.1 })))
 
 -- what tokens ask for, where that is the prompt's own
 unfoldable pub prompt_ask : List Token → Option Ask
 prompt_ask ts =
-    or_else (word_ask ts) (or_else (list_ask ts) (or_else (why_ask ts) (or_else (break_ask ts) (or_else (leading_ask ts) (adding_ask ts)))))
+    or_else (word_ask ts)
+    (or_else (list_ask ts) (or_else (why_ask ts) (or_else (break_ask ts) (or_else (leading_ask ts) (adding_ask ts)))))
 
 abbrev pub prompt_ask_in : Option (List Token) → Option Ask
 prompt_ask_in None = None
@@ -129,8 +135,8 @@ abbrev pub ask_or : Option Ask → Result Ask CommandRefusal → Result Ask Comm
 ask_or None other = other
 ask_or (Some a) other = Ok a
 
--- What line `number` asks for: an empty one for the last thing again, a line of the prompt's own for what it says, and another
--- line for the command that it is.
+-- What line `number` asks for: an empty one for the last thing again, a line of the prompt's own for what it says,
+-- and another line for the command that it is.
 abbrev pub ask_of : ℕ → List ℕ → Result Ask CommandRefusal
 ask_of number line =
     if nat_lt 1048576 (length line) then Err refusal.TooLong else

@@ -1,1 +1,2 @@
+-- The definitions of snap_prompt_lines, by their modules.
 pub mod Ask

@@ -1,9 +1,11 @@
-//! What lines ask for.
+//! `Ask`: what a line at the debugger's prompt asks for; `ask_of` reads it, and `is_yes` an answer
+//! to a question.
 ghost use Rattle.std.specs.Prelude.{◌≡◌, IfOk};
 ghost use Rattle.std.specs.Io.BufRead.{strip_last};
 ghost use Rattle.snap_semantics.specs.Answers.{Answers};
 ghost use Rattle.snap_semantics.specs.Token.{tokens_of};
-ghost use Rattle.snap_prompt_lines.specs.Ask.{ask_of, at_line, command_asked, first_command, is_yes, prompt_ask_in};
+ghost use Rattle.snap_prompt_lines.specs.Ask.{ask_of, at_line, command_asked};
+ghost use Rattle.snap_prompt_lines.specs.Ask.{first_command, is_yes, prompt_ask_in};
 ghost use Rattle.snap_debug_commands.specs.Commands.{commands_of};
 
 use crate::forms::{prompt_ask, yes_form};
@@ -38,7 +40,8 @@ pub enum Ask {
     ListLast,
     /// And those around the one at which this process stands.
     List(u64),
-    /// Why the scan that an item answered had its answer, or why its process trapped; that of the position where none is named.
+    /// Why the scan that an item answered had its answer, or why its process trapped; that of the
+    /// position where none is named.
     Why(Option<u64>),
     Add(Addition),
     /// As many steps as lead a process to a line, or to the end of its operation.

@@ -1,45 +1,15 @@
-//! The forms of the prompt's own lines.
+//! The forms of the prompt's own lines, such as `list`, `why`, `call`, `until` and `end`, which are
+//! no debugger commands.
 ghost use Rattle.snap_text.specs.Tokens.{Finds, view_tokens};
-ghost use Rattle.snap_debug_commands.specs.CommandForms.{keyword_form, number_form, numbers_form};
-ghost use Rattle.snap_prompt_lines.specs.Ask.{adding_ask, alone, break_ask, call_ask, leading_ask, list_ask, op_form, prompt_ask, steps_ask, why_ask, word_ask, yes_form};
+ghost use Rattle.snap_prompt_lines.specs.Ask.{adding_ask, alone, break_ask, call_ask, leading_ask};
+ghost use Rattle.snap_prompt_lines.specs.Ask.{list_ask, op_form, prompt_ask, steps_ask, why_ask};
+ghost use Rattle.snap_prompt_lines.specs.Ask.{word_ask, yes_form};
 
 use crate::ask::Ask;
-use snap_debug_commands::{Breakpoint, Command};
+use snap_debug_commands::{Breakpoint, Command, keyword_form, number_form, numbers_form};
 use snap_sched_edits::Addition;
 use snap_semantics::Op;
-use snap_text::{Token, end_at, keyword_at, number_at};
-
-/// A keyword alone.
-#[tactic(auto, unfolding(snap_debug_commands::specs::CommandForms::keyword_form))]
-fn keyword_form(keyword: &[u8], tokens: &[Token<'_>]) -> Option<()>
-    ensures { Finds (λ end. end) result (keyword_form keyword.now (view_tokens tokens.now)) }
-{
-    let rest = keyword_at(keyword, tokens)?;
-    end_at(rest)
-}
-
-/// A keyword and a number.
-#[tactic(auto, unfolding(snap_debug_commands::specs::CommandForms::number_form))]
-fn number_form(keyword: &[u8], tokens: &[Token<'_>]) -> Option<u64>
-    ensures { Finds (λ number. number) result (number_form keyword.now (view_tokens tokens.now)) }
-{
-    let rest = keyword_at(keyword, tokens)?;
-    let (number, rest) = number_at(rest)?;
-    end_at(rest)?;
-    Some(number)
-}
-
-/// A keyword and two numbers.
-#[tactic(auto, unfolding(snap_debug_commands::specs::CommandForms::numbers_form))]
-fn numbers_form(keyword: &[u8], tokens: &[Token<'_>]) -> Option<(u64, u64)>
-    ensures { Finds (λ numbers. numbers) result (numbers_form keyword.now (view_tokens tokens.now)) }
-{
-    let rest = keyword_at(keyword, tokens)?;
-    let (i, rest) = number_at(rest)?;
-    let (j, rest) = number_at(rest)?;
-    end_at(rest)?;
-    Some((i, j))
-}
+use snap_text::{Token, keyword_at, number_at};
 
 /// A word alone, which asks for this.
 #[tactic(auto, unfolding(crate::specs::Ask::alone))]

@@ -1,4 +1,5 @@
-//! Short forms of commands.
+//! The short forms of the prompt's commands: a line whose first word is one letter, as `s` for
+//! `step`, is spelled out.
 ghost use Rattle.std.specs.Prelude.{◌≡◌, ◌++◌, IfOk, OnOk};
 ghost use Rattle.snap_prompt_lines.specs.Ask.{long_word, spelled_out, stands_alone};
 

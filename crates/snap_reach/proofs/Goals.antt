@@ -1,5 +1,6 @@
--- A step towards a goal.
-use Rattle.std.proofs.Common.{◌≡◌, ◌<◌, ◌+◌, ◌-◌, ℕ, suc, Bool, true, false, if◌then◌else◌, Option, Some, sym, ap, ◌∙◌, arith}
+-- A step of a process towards its goal, a line or the end of its operation: how the count of steps goes on with it.
+use Rattle.std.proofs.Common.{◌≡◌, ◌<◌, ◌+◌, ◌-◌, ℕ, suc, Bool, true, false}
+use Rattle.std.proofs.Common.{if◌then◌else◌, Option, Some, sym, ap, ◌∙◌, arith}
 use Rattle.snap_words.specs.Shape.{Counts}
 use Rattle.snap_semantics.specs.Source.{Source}
 use Rattle.snap_semantics.specs.State.{State, process_at}
@@ -34,18 +35,22 @@ pub told : (g : Goal) (t u : Status) (b v : Bool) → u ≡ t → b ≡ has_reac
 told g t u b v same is e = rw (sym same) (sym is ∙ e)
 
 -- it leads to the goal
-pub leads : (l l' : Source) (shape shape' : Counts) (i taken most : ℕ) (g : Goal) (s s' : State) (o : Outcome) (all : Option ℕ) →
-    l' ≡ l → shape' ≡ shape → steps_from l shape i g taken (most - taken) s ≡ all → taken < most →
+pub leads : (l l' : Source) (shape shape' : Counts) (i taken most : ℕ) (g : Goal) (s s' : State) (o : Outcome)
+    (all : Option ℕ) → l' ≡ l → shape' ≡ shape → steps_from l shape i g taken (most - taken) s ≡ all → taken < most →
     done l' shape' s (Step i) ≡ (s', o) → has_reached g (process_at s' i).status ≡ true → Some (taken + 1) ≡ all
 leads l l' shape shape' i taken most g s s' o all same same_shape is less does there =
     sym (one l shape i taken most g s s' o less (taken_by l l' shape shape' i s s' o same same_shape does)
-    ∙ ap (λ (b : Bool). if b then Some (taken + 1) else steps_from l shape i g (taken + 1) (most - (taken + 1)) s') there) ∙ is
+    ∙ ap (λ (b : Bool). if b then Some (taken + 1) else steps_from l shape i g (taken + 1) (most - (taken + 1)) s')
+    there)
+    ∙ is
 
 -- or it goes on behind it
-pub goes_on : (l l' : Source) (shape shape' : Counts) (i taken most : ℕ) (g : Goal) (s s' : State) (o : Outcome) (all : Option ℕ) →
-    l' ≡ l → shape' ≡ shape → steps_from l shape i g taken (most - taken) s ≡ all → taken < most →
+pub goes_on : (l l' : Source) (shape shape' : Counts) (i taken most : ℕ) (g : Goal) (s s' : State) (o : Outcome)
+    (all : Option ℕ) → l' ≡ l → shape' ≡ shape → steps_from l shape i g taken (most - taken) s ≡ all → taken < most →
     done l' shape' s (Step i) ≡ (s', o) → has_reached g (process_at s' i).status ≡ false →
     steps_from l shape i g (taken + 1) (most - (taken + 1)) s' ≡ all
 goes_on l l' shape shape' i taken most g s s' o all same same_shape is less does there =
     sym (one l shape i taken most g s s' o less (taken_by l l' shape shape' i s s' o same same_shape does)
-    ∙ ap (λ (b : Bool). if b then Some (taken + 1) else steps_from l shape i g (taken + 1) (most - (taken + 1)) s') there) ∙ is
+    ∙ ap (λ (b : Bool). if b then Some (taken + 1) else steps_from l shape i g (taken + 1) (most - (taken + 1)) s')
+    there)
+    ∙ is

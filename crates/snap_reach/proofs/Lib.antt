@@ -1,2 +1,3 @@
+-- The proofs of snap_reach, by their modules.
 pub mod Goals
 pub mod Fewest

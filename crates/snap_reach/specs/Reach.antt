@@ -1,5 +1,6 @@
 -- How many steps a process takes to a line, or to the end of its operation.
-use Rattle.std.specs.Prelude.{◌≡◌, ℕ, zero, suc, ◌+◌, ◌-◌, ◌<◌, ◌≤◌, Bool, true, false, not, List, Option, Some, None, Result, Ok, Err, ⊤, nat_eq, if◌then◌else◌, replicate}
+use Rattle.std.specs.Prelude.{◌≡◌, ℕ, zero, suc, ◌+◌, ◌-◌, ◌<◌, ◌≤◌, Bool, true, false, not, List, Option, Some, None}
+use Rattle.std.specs.Prelude.{Result, Ok, Err, ⊤, nat_eq, if◌then◌else◌, replicate}
 use Rattle.snap_words.specs.Shape.{Counts, max_items}
 use Rattle.snap_semantics.specs.Listing.{has_line}
 use Rattle.snap_semantics.specs.Run.{after}
@@ -32,8 +33,8 @@ has_reached g (Crashed was) = true
 abbrev pub stepped : Source → Counts → ℕ → State → State
 stepped l shape i s = (done l shape s (Step i)).0
 
--- How many steps process i takes to a goal, with those that it took before this state: at least one more, and at most so many more
--- as are left. None where these don't lead there.
+-- How many steps process i takes to a goal, with those that it took before this state: at least one more, and at most
+-- so many more as are left. None where these don't lead there.
 abbrev pub steps_from : Source → Counts → ℕ → Goal → (taken left : ℕ) → State → Option ℕ
 steps_from l shape i g taken zero s = None
 steps_from l shape i g taken (suc left) s =
@@ -72,10 +73,11 @@ abbrev pub steps_if : Result (Unit {0}) NoSteps → Option ℕ → Result ℕ No
 steps_if (Ok u) steps = or_full steps
 steps_if (Err why) steps = Err why
 
--- How many steps process i takes to a goal from where a session stands: the fewest, at least one, and as many as there is room for
--- behind the position.
+-- How many steps process i takes to a goal from where a session stands: the fewest, at least one, and as many as
+-- there is room for behind the position.
 unfoldable pub steps_to : Session → ℕ → Goal → Result ℕ NoSteps
-steps_to s i g = steps_if (checked s i g) (steps_from s.run.source s.run.shape i g 0 (max_items - s.position) (state_of s))
+steps_to s i g =
+    steps_if (checked s i g) (steps_from s.run.source s.run.shape i g 0 (max_items - s.position) (state_of s))
 
 -- whether process i has reached a goal after k steps of its own
 abbrev pub reached_after : Source → Counts → ℕ → Goal → State → ℕ → Bool
@@ -91,8 +93,8 @@ pub record IsFewest (l : Source) (shape : Counts) (i : ℕ) (g : Goal) (s : Stat
 abbrev pub LeadsNowhere : Source → Counts → ℕ → Goal → State → ℕ → Type 0
 LeadsNowhere l shape i g s most = (j : ℕ) → 0 < j → j ≤ most → reached_after l shape i g s j ≡ false
 
--- What an answer about a goal says of the steps of process i behind the position: these are the fewest, and there is room for them; or
--- there is no room for as many as would lead there.
+-- What an answer about a goal says of the steps of process i behind the position: these are the fewest, and there is
+-- room for them; or there is no room for as many as would lead there.
 abbrev pub IsRightOf : Session → ℕ → Goal → Result ℕ NoSteps → Type 0
 IsRightOf s i g (Ok k) = IsFewest s.run.source s.run.shape i g (state_of s) k × (k ≤ max_items - s.position)
 IsRightOf s i g (Err none.Full) = LeadsNowhere s.run.source s.run.shape i g (state_of s) (max_items - s.position)

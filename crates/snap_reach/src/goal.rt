@@ -1,4 +1,5 @@
-//! To where a process steps, and why it does not.
+//! `Goal`: to where a process is to step, a line or the end of its operation; `NoSteps`: why no
+//! steps lead it there.
 
 /// To where a process steps. It stops earlier where it is no longer busy.
 #[derive(Clone, Copy, Debug, PartialEq, Eq)]

@@ -1,7 +1,9 @@
-//! Steps, counted.
+//! `steps_to`: counts the steps that a process of a debugger session takes to a `Goal`, on a copy
+//! of the machine.
 ghost use Rattle.std.specs.Prelude.{◌≡◌, ◌<◌, ◌^◌, IfOk, OnOk};
 ghost use Rattle.snap_words.specs.Shape.{IsOneOf};
-ghost use Rattle.snap_reach.specs.Reach.{IsRightOf, checked, checked_goal, checked_status, has_reached, is_at, steps_from, steps_to};
+ghost use Rattle.snap_reach.specs.Reach.{IsRightOf, checked, checked_goal, checked_status};
+ghost use Rattle.snap_reach.specs.Reach.{has_reached, is_at, steps_from, steps_to};
 
 use crate::goal::{Goal, NoSteps};
 use snap_asm_program::Program;
@@ -52,7 +54,8 @@ fn count_steps<K: Kind>(
     Ok(None)
 }
 
-/// How many steps a process of a machine takes to a goal, at most this many. The machine stays as it is.
+/// How many steps a process of a machine takes to a goal, at most this many.
+/// The machine stays as it is.
 fn steps_of<K: Kind>(
     machine: &Machine<K>,
     process: u32,

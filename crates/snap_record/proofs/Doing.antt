@@ -1,5 +1,6 @@
--- The first items of a list, done one after the other.
-use Rattle.std.proofs.Common.{◌≡◌, ℕ, zero, suc, ◌+◌, ◌<◌, ◌≤◌, List, [], ◌∷◌, ◌++◌, length, take, drop, sym, ap, ◌∙◌, append_assoc, arith}
+-- A `Record` does the first items of a list one after another: its run has then these items more (`with_items`).
+use Rattle.std.proofs.Common.{◌≡◌, ℕ, zero, suc, ◌+◌, ◌<◌, ◌≤◌, List, [], ◌∷◌, ◌++◌, length}
+use Rattle.std.proofs.Common.{take, drop, sym, ap, ◌∙◌, append_assoc, arith}
 use Rattle.std.proofs.lemmas.List.{take_all}
 use Rattle.snap_semantics.specs.declared.process.Item.{Item}
 use Rattle.snap_runs.specs.Run.{Run}
@@ -12,10 +13,14 @@ pub record Doing (r : Run) (xs : List Item) (count k : ℕ) (now : Run) (left : 
   pub left_are : left ≡ drop k xs
 
 -- the first k items and the next one
-next_taken : (xs : List Item) (k : ℕ) (x : Item) (rest : List Item) → x ∷ rest ≡ drop k xs → (take k xs ++ x ∷ [] ≡ take (k + 1) xs) × (rest ≡ drop (k + 1) xs)
-next_taken xs k x rest h = (let e : suc k ≡ k + 1 = omega arith in let t = by_place xs k h in (t.0 ∙ ap (λ m. take m xs) e, t.1 ∙ ap (λ m. drop m xs) e))
+next_taken : (xs : List Item) (k : ℕ) (x : Item) (rest : List Item) → x ∷ rest ≡ drop k xs →
+    (take k xs ++ x ∷ [] ≡ take (k + 1) xs) × (rest ≡ drop (k + 1) xs)
+next_taken xs k x rest h =
+    (let e : suc k ≡ k + 1 =
+    omega arith in let t = by_place xs k h in (t.0 ∙ ap (λ m. take m xs) e, t.1 ∙ ap (λ m. drop m xs) e))
   where
-    by_place : (xs : List Item) (k : ℕ) → x ∷ rest ≡ drop k xs → (take k xs ++ x ∷ [] ≡ take (suc k) xs) × (rest ≡ drop (suc k) xs)
+    by_place : (xs : List Item) (k : ℕ) → x ∷ rest ≡ drop k xs →
+        (take k xs ++ x ∷ [] ≡ take (suc k) xs) × (rest ≡ drop (suc k) xs)
     by_place [] zero h = absurd cc
     by_place [] (suc k) h = absurd cc
     by_place (y ∷ ys) zero h = (cc, cc)
@@ -23,7 +28,8 @@ next_taken xs k x rest h = (let e : suc k ≡ k + 1 = omega arith in let t = by_
 
 -- one more is done
 pub one_done : (r : Run) (xs : List Item) (count k : ℕ) (now now' : Run) (left left' : List Item) (x : Item) →
-    Doing r xs count k now left → k < count → left ≡ x ∷ left' → now' ≡ with_item now x → Doing r xs count (k + 1) now' left'
+    Doing r xs count k now left → k < count → left ≡ x ∷ left' → now' ≡ with_item now x →
+    Doing r xs count (k + 1) now' left'
 one_done r xs count k now now' left left' x h lt next is =
     let t = next_taken xs k x left' (sym next ∙ h.left_are) in
     record {
@@ -42,7 +48,8 @@ nothing_left (x ∷ xs) zero h = absurd cc
 nothing_left (x ∷ xs) (suc k) h = let e = nothing_left xs k h in omega (arith, e)
 
 -- all are done where none is left
-pub all_done : (r : Run) (xs : List Item) (count k : ℕ) (now : Run) (left : List Item) → Doing r xs count k now left → left ≡ [] → now ≡ with_items r (take count xs)
+pub all_done : (r : Run) (xs : List Item) (count k : ℕ) (now : Run) (left : List Item) → Doing r xs count k now left →
+    left ≡ [] → now ≡ with_items r (take count xs)
 all_done r xs count k now left h none =
     let few = nothing_left xs k (sym none ∙ h.left_are) in
     let le = h.few in

@@ -1,5 +1,7 @@
--- The events of a run from an item on.
-use Rattle.std.proofs.Common.{◌≡◌, ℕ, zero, suc, ◌+◌, ◌<◌, ◌≤◌, List, [], ◌∷◌, ◌++◌, length, drop, get_or, slice_index_or, refl, sym, ap, ◌∙◌, arith}
+-- `events_from`: the events of a run after item t: the one of the next item, if it has one, and then those of the
+-- items after that.
+use Rattle.std.proofs.Common.{◌≡◌, ℕ, zero, suc, ◌+◌, ◌<◌, ◌≤◌, List, [], ◌∷◌, ◌++◌, length, drop, get_or}
+use Rattle.std.proofs.Common.{slice_index_or, refl, sym, ap, ◌∙◌, arith}
 use Rattle.std.proofs.lemmas.List.{take_all, drop_all}
 use Rattle.std.specs.List.{AllByRecursion}
 use Rattle.snap_words.specs.Shape.{Counts, IsOneOf}
@@ -28,7 +30,8 @@ next_item (x ∷ xs) zero lt = refl
 next_item (x ∷ xs) (suc t) lt = next_item xs t (omega (arith, lt))
 
 -- the next event
-pub next_left : (es : List Event) (k : ℕ) (e : Event) → k < length es → e ≡ get_or es k e → drop k es ≡ e ∷ drop (k + 1) es
+pub next_left : (es : List Event) (k : ℕ) (e : Event) → k < length es → e ≡ get_or es k e →
+    drop k es ≡ e ∷ drop (k + 1) es
 next_left es k e lt is = (let next : suc k ≡ k + 1 = omega arith in by_place es k lt is ∙ ap (λ m. e ∷ drop m es) next)
   where
     by_place : (es : List Event) (k : ℕ) → k < length es → e ≡ get_or es k e → drop k es ≡ e ∷ drop (suc k) es
@@ -37,7 +40,8 @@ next_left es k e lt is = (let next : suc k ≡ k + 1 = omega arith in by_place e
     by_place (x ∷ es) (suc k) lt is = by_place es k (omega (arith, lt)) is
 
 -- the event of the next item, where it has one, and then those behind it
-pub next_events : (r : Run) (t : ℕ) → t < length r.items → events_from r t ≡ event_of (suc t) (item r (suc t)) (outcome r (suc t)) ++ events_from r (suc t)
+pub next_events : (r : Run) (t : ℕ) → t < length r.items →
+    events_from r t ≡ event_of (suc t) (item r (suc t)) (outcome r (suc t)) ++ events_from r (suc t)
 next_events r t lt =
     let s = r.source in
     let n = r.shape in
@@ -58,7 +62,8 @@ all_events r =
     ap (events r.source r.shape (initial r.source r.shape) 1) (take_all (length r.items) r.items (omega arith))
 
 -- an event of an item that is one of so many
-event_within : (n u t : ℕ) (x : Item) (o : Outcome) → IsOneOf n (who x) → t ≤ u → AllByRecursion (IsWithin n u) (event_of t x o)
+event_within : (n u t : ℕ) (x : Item) (o : Outcome) → IsOneOf n (who x) → t ≤ u →
+    AllByRecursion (IsWithin n u) (event_of t x o)
 event_within n u t (Step i) outcomes.Called one le = tt
 event_within n u t (Call i op) outcomes.Called one le = ((one, le), tt)
 event_within n u t (Crash i) outcomes.Called one le = tt
@@ -70,7 +75,8 @@ event_within n u t x outcomes.Crashed one le = ((one, le), tt)
 event_within n u t x (outcomes.Skipped c) one le = tt
 
 -- events of items, the first of which is item t
-events_within : (s : Source) (n : Counts) (S : State) (t u : ℕ) (xs : List Item) → AllByRecursion (λ x. IsOneOf n.n (who x)) xs → t + length xs ≤ suc u →
+events_within : (s : Source) (n : Counts) (S : State) (t u : ℕ) (xs : List Item) →
+    AllByRecursion (λ x. IsOneOf n.n (who x)) xs → t + length xs ≤ suc u →
     AllByRecursion (IsWithin n.n u) (events s n S t xs)
 events_within s n S t u [] all le = tt
 events_within s n S t u (x ∷ xs) all le =
@@ -95,7 +101,8 @@ event_after t u x outcomes.Crashed le = (le, tt)
 event_after t u x (outcomes.Skipped c) le = tt
 
 -- nor are the events of later items
-pub events_after : (s : Source) (n : Counts) (S : State) (t u : ℕ) (xs : List Item) → t ≤ u → AllByRecursion (λ (e : Event). t ≤ e.item) (events s n S u xs)
+pub events_after : (s : Source) (n : Counts) (S : State) (t u : ℕ) (xs : List Item) → t ≤ u →
+    AllByRecursion (λ (e : Event). t ≤ e.item) (events s n S u xs)
 events_after s n S t u [] le = tt
 events_after s n S t u (x ∷ xs) le =
     join_all (λ (e : Event). t ≤ e.item) (event_of u x (done s n S x).1) (events s n (done s n S x).0 (u + 1) xs)
@@ -103,7 +110,8 @@ events_after s n S t u (x ∷ xs) le =
     (events_after s n (done s n S x).0 t (u + 1) xs (omega (arith, le)))
 
 -- one event at most, and then later ones
-event_rises : (t : ℕ) (x : Item) (o : Outcome) (es : List Event) → AllByRecursion (λ (e : Event). t ≤ e.item) es → IsRising es → IsRising (event_of t x o ++ es)
+event_rises : (t : ℕ) (x : Item) (o : Outcome) (es : List Event) → AllByRecursion (λ (e : Event). t ≤ e.item) es →
+    IsRising es → IsRising (event_of t x o ++ es)
 event_rises t (Step i) outcomes.Called es later rises = rises
 event_rises t (Call i op) outcomes.Called es later rises = (later, rises)
 event_rises t (Crash i) outcomes.Called es later rises = rises
@@ -118,7 +126,8 @@ event_rises t x (outcomes.Skipped c) es later rises = rises
 events_rise : (s : Source) (n : Counts) (S : State) (t : ℕ) (xs : List Item) → IsRising (events s n S t xs)
 events_rise s n S t [] = tt
 events_rise s n S t (x ∷ xs) =
-    event_rises t x (done s n S x).1 (events s n (done s n S x).0 (t + 1) xs) (events_after s n (done s n S x).0 t (t + 1) xs (omega arith))
+    event_rises t x (done s n S x).1 (events s n (done s n S x).0 (t + 1) xs)
+    (events_after s n (done s n S x).0 t (t + 1) xs (omega arith))
     (events_rise s n (done s n S x).0 (t + 1) xs)
 
 -- the events of a run rise

@@ -1,4 +1,4 @@
--- Items that are kept, with one call more.
+-- The items that a record has stored (`AreKept`) are the same after one more call is stored.
 use Rattle.std.proofs.Common.{◌≡◌, ℕ, List, [], ◌∷◌, ◌++◌, length, get_or, refl, ap, ◌∙◌}
 use Rattle.std.proofs.Math.ListN.{get_or-append}
 use Rattle.std.proofs.Math.Seq.{get_or-append_seam}
@@ -11,7 +11,8 @@ use Rattle.snap_record.specs.declared.items.StoredItem.{StoredItem}
 use Rattle.snap_record.specs.declared.items.StoredItem.TheVariants as kept
 
 -- with one call more the items are the same
-same_items : (calls : List Called) (c : Called) (xs : List StoredItem) → AllByRecursion (IsThere (length calls)) xs → kept_items (calls ++ c ∷ []) xs ≡ kept_items calls xs
+same_items : (calls : List Called) (c : Called) (xs : List StoredItem) → AllByRecursion (IsThere (length calls)) xs →
+    kept_items (calls ++ c ∷ []) xs ≡ kept_items calls xs
 same_items calls c [] h = refl
 same_items calls c (kept.Step i ∷ xs) h = ap (λ l. item.Step i ∷ l) (same_items calls c xs h.1)
 same_items calls c (kept.Call k ∷ xs) h =
@@ -20,10 +21,12 @@ same_items calls c (kept.Call k ∷ xs) h =
 same_items calls c (kept.Crash i ∷ xs) h = ap (λ l. item.Crash i ∷ l) (same_items calls c xs h.1)
 
 -- a call more
-pub call_kept : (calls calls' : List Called) (c : Called) (k : ℕ) (old new : List StoredItem) → calls' ≡ calls ++ c ∷ [] → k ≡ length calls → new ≡ old ++ kept.Call k ∷ [] → AreKept calls old →
+pub call_kept : (calls calls' : List Called) (c : Called) (k : ℕ) (old new : List StoredItem) →
+    calls' ≡ calls ++ c ∷ [] → k ≡ length calls → new ≡ old ++ kept.Call k ∷ [] → AreKept calls old →
     kept_items calls' new ≡ kept_items calls old ++ call_item c ∷ []
 call_kept calls calls' c k old new more place is h =
-    ap (λ l. kept_items l new) more ∙ ap (kept_items (calls ++ c ∷ [])) is ∙ map-append (kept_item (calls ++ c ∷ [])) old (kept.Call k ∷ [])
+    ap (λ l. kept_items l new) more ∙ ap (kept_items (calls ++ c ∷ [])) is
+    ∙ map-append (kept_item (calls ++ c ∷ [])) old (kept.Call k ∷ [])
     ∙ ap (λ l. l ++ kept_item (calls ++ c ∷ []) (kept.Call k) ∷ []) (same_items calls c old h.there)
     ∙ ap (λ m. kept_items calls old ++ call_item (get_or (calls ++ c ∷ []) m nobody) ∷ []) place
     ∙ ap (λ d. kept_items calls old ++ call_item d ∷ []) (get_or-append_seam calls c [] nobody)

@@ -1,3 +1,4 @@
+-- The proofs of snap_record, by their modules.
 pub mod Locals
 pub mod Names
 pub mod Histories

@@ -1,5 +1,6 @@
--- The roles of lines.
-use Rattle.std.proofs.Common.{◌≡◌, ◌⊎◌, inl, inr, ℕ, suc, ◌≤◌, List, [], ◌∷◌, ◌++◌, length, get_or, sym, ap, subst, ◌∙◌, arith}
+-- The table of line roles of a record (`AreRoles`), made line by line.
+use Rattle.std.proofs.Common.{◌≡◌, ◌⊎◌, inl, inr, ℕ, suc, ◌≤◌, List, [], ◌∷◌, ◌++◌}
+use Rattle.std.proofs.Common.{length, get_or, sym, ap, subst, ◌∙◌, arith}
 use Rattle.std.proofs.Math.ListN.{get_or-append}
 use Rattle.std.proofs.Math.Nat.{eq-or-lt_of_le}
 use Rattle.std.proofs.Math.Seq.{get_or-append_seam}
@@ -9,10 +10,15 @@ use Rattle.snap_record.specs.Roles.{AreRoles, role_of}
 use Rattle.snap_record.specs.declared.roles.LineRole.{LineRole}
 
 -- one line more
-pub roles_more : (s : Source) (ms new : List LineRole) (m : LineRole) (k : ℕ) → AreRoles s ms → k ≡ length ms → new ≡ ms ++ m ∷ [] → m ≡ role_of (instr_at s.lines k) → AreRoles s new
-roles_more s ms new m k h at is right = subst (AreRoles s) (sym is) (λ j lt d. by_place j d (eq-or-lt_of_le (let longer = length-append ms (m ∷ []) in let e : j ≤ length ms = omega (arith, lt, longer) in e)))
+pub roles_more : (s : Source) (ms new : List LineRole) (m : LineRole) (k : ℕ) → AreRoles s ms → k ≡ length ms →
+    new ≡ ms ++ m ∷ [] → m ≡ role_of (instr_at s.lines k) → AreRoles s new
+roles_more s ms new m k h at is right =
+    subst (AreRoles s) (sym is) (λ j lt d. by_place j d
+    (eq-or-lt_of_le (let longer = length-append ms (m ∷ []) in let e : j ≤ length ms = omega (arith, lt, longer) in e)))
   where
-    by_place : (j : ℕ) (d : LineRole) → (j ≡ length ms) ⊎ (suc j ≤ length ms) → get_or (ms ++ m ∷ []) j d ≡ role_of (instr_at s.lines j)
+    by_place : (j : ℕ) (d : LineRole) → (j ≡ length ms) ⊎ (suc j ≤ length ms) →
+        get_or (ms ++ m ∷ []) j d ≡ role_of (instr_at s.lines j)
     by_place j d (inl same) =
-        ap (λ i. get_or (ms ++ m ∷ []) i d) same ∙ get_or-append_seam ms m [] d ∙ right ∙ ap (λ i. role_of (instr_at s.lines i)) (at ∙ sym same)
+        ap (λ i. get_or (ms ++ m ∷ []) i d) same ∙ get_or-append_seam ms m [] d ∙ right
+        ∙ ap (λ i. role_of (instr_at s.lines i)) (at ∙ sym same)
     by_place j d (inr less) = get_or-append ms (m ∷ []) d j less ∙ h j less d

@@ -1,4 +1,4 @@
--- A schedule's run is within what is said of runs.
+-- The run of a listing over a schedule (`run_over`) is a valid one (`IsValidRun`).
 use Rattle.snap_semantics.specs.Schedule.{Schedule}
 use Rattle.snap_semantics.specs.ScheduleText.{IsSchedule}
 use Rattle.snap_semantics.specs.Source.{Source}

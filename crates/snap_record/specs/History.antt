@@ -1,5 +1,7 @@
--- What is kept of a run besides its items, and what it tells.
-use Rattle.std.specs.Prelude.{◌≡◌, ℕ, suc, ◌+◌, ◌-◌, ◌≤◌, ◌&&◌, List, [], ◌∷◌, ◌++◌, length, map, replicate, nat_eq, nat_le, if◌then◌else◌, slice_index, slice_set}
+-- What a record keeps of its run besides the items, and what of the run it has to match: values, their changes,
+-- events, and double collects.
+use Rattle.std.specs.Prelude.{◌≡◌, ℕ, suc, ◌+◌, ◌-◌, ◌≤◌, ◌&&◌, List, [], ◌∷◌, ◌++◌, length, map, replicate, nat_eq}
+use Rattle.std.specs.Prelude.{nat_le, if◌then◌else◌, slice_index, slice_set}
 use Rattle.std.specs.List.{AllByRecursion}
 use Rattle.snap_words.specs.Shape.{IsOneOf, max_items}
 use Rattle.snap_semantics.specs.declared.event.Event.{Event}
@@ -32,25 +34,30 @@ changes_to t k (x ∷ xs) (y ∷ ys) = change_at t k x y ++ changes_to t (k + 1)
 
 -- how many double collects each process has had, once process i has done this with this outcome
 abbrev pub counted : StepRole → Outcome → ℕ → List ℕ → List ℕ
-counted d o i counts = if is_test d && is_stepped o then slice_set counts (i - 1) (suc (slice_index counts (i - 1))) else counts
+counted d o i counts =
+    if is_test d && is_stepped o then slice_set counts (i - 1) (suc (slice_index counts (i - 1))) else counts
 
 -- how many double collects the process of an event has had up to it
 abbrev pub collects_at : Run → Event → ℕ
 collects_at r e = double_collects r e.process 0 e.item
 
--- the values now, the changes that led there, the events, and the double collects of each process, now and at each event
-pub record Tells (r : Run) (now : List ℕ) (changes : List Change) (events : List Event) (collects at_events : List ℕ) : Type 0 where
+-- the values now, the changes that led there, the events, and the double collects of each
+-- process, now and at each event
+pub record Tells (r : Run) (now : List ℕ) (changes : List Change) (events : List Event)
+    (collects at_events : List ℕ) : Type 0 where
   pub value_count : length now ≡ r.shape.w
   pub now_is : now ≡ values (state r (length r.items))
   pub values_are : LeadsAlong r changes
   pub changes_are_past : AllByRecursion (λ (x : Change). x.item ≤ length r.items) changes
   pub events_are : events ≡ events_of r (length r.items)
   pub process_count : length collects ≡ r.shape.n
-  pub collects_are : (i : ℕ) → IsOneOf r.shape.n i → slice_index collects (i - 1) ≡ double_collects r i 0 (length r.items)
+  pub collects_are : (i : ℕ) → IsOneOf r.shape.n i →
+      slice_index collects (i - 1) ≡ double_collects r i 0 (length r.items)
   pub at_events_are : at_events ≡ map (collects_at r) events
 
 -- what a record keeps: a run that fits and has at most a million items, its last state, and what is told of it
-pub record IsRecord (r : Run) (k : KindTag) (S : State) (now : List ℕ) (changes : List Change) (events : List Event) (collects at_events : List ℕ) : Type 0 where
+pub record IsRecord (r : Run) (k : KindTag) (S : State) (now : List ℕ) (changes : List Change) (events : List Event)
+    (collects at_events : List ℕ) : Type 0 where
   pub kind : r.source.kind ≡ k
   pub state_is : S ≡ state r (length r.items)
   pub fits : IsValidRun r

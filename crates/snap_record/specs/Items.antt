@@ -1,4 +1,5 @@
--- Items as a record keeps them.
+-- The items of a record as they are stored (`StoredItem`): steps, crashes, and calls by their place in a list of
+-- calls.
 use Rattle.std.specs.Prelude.{ℕ, ◌<◌, ◌≤◌, Bool, List, length, map, get_or, ⊤}
 use Rattle.std.specs.List.{AllByRecursion}
 use Rattle.snap_semantics.specs.declared.process.Item.{Item}

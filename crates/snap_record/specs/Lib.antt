@@ -1,3 +1,4 @@
+-- The definitions of snap_record, by their modules.
 pub mod Record
 pub mod Items
 pub mod History

@@ -1,4 +1,4 @@
--- The names of views are of no other locals.
+-- `ViewsAlone`: no process has a scalar, a row or a `words` local with the name of a view.
 use Rattle.std.specs.Prelude.{◌≡◌, ℕ, Some, None}
 use Rattle.snap_semantics.specs.Readers.{find_name}
 use Rattle.snap_semantics.specs.Source.{Name, Source}

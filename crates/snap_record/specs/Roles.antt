@@ -1,4 +1,5 @@
--- What the lines of a listing are to a record, by their numbers.
+-- `LineRole`: which lines of a listing write a word, test, or return a view, for a record to note; a table by line
+-- number (`AreRoles`).
 use Rattle.std.specs.Prelude.{◌≡◌, ℕ, ◌<◌, List, length, Option, Some, None, get_or}
 use Rattle.snap_semantics.specs.Source.{Source, instr_at}
 use Rattle.snap_semantics.specs.declared.instr.Instr.{Instr}

@@ -1,4 +1,4 @@
--- Roles of steps as the definitions have them.
+-- `seen_step_role`: the `StepRole` of the code, seen as that of the definitions.
 use Rattle.snap_runs.specs.StepRoles.{StepRole, Write, Test, Answer, Nothing}
 use Rattle.std.specs.Prelude.{List, [], ◌∷◌, Option, Some, None}
 use Rattle.snap_record.specs.declared.step_role.StepRole as code

@@ -1,5 +1,8 @@
-//! What a record keeps of its run besides the items.
-ghost use Rattle.std.specs.Prelude.{◌≡◌, ◌+◌, ◌-◌, ◌<◌, ◌≤◌, ◌++◌, ◌∷◌, [], IsTrue, get_or, length, map, vec_capacity, vec_len, slice_index, slice_set, ℕ, List, ◌&&◌, ◌^◌, false};
+//! What a record keeps of its run besides the items: changes of values (`Change`), events, and
+//! counts of double collects.
+ghost use Rattle.std.specs.Prelude.{◌≡◌, ◌+◌, ◌-◌, ◌<◌, ◌≤◌, ◌++◌, ◌∷◌, [], ◌&&◌, ◌^◌};
+ghost use Rattle.std.specs.Prelude.{IsTrue, get_or, length, map, vec_capacity};
+ghost use Rattle.std.specs.Prelude.{vec_len, slice_index, slice_set, ℕ, List, false};
 ghost use Rattle.snap_words.specs.Shape.{IsOneOf};
 ghost use Rattle.snap_semantics.specs.Run.{call_event, event_of};
 ghost use Rattle.snap_semantics.specs.State.{values};

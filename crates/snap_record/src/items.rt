@@ -1,4 +1,5 @@
-//! The items of a record, kept in little room.
+//! `History`: the items that a record has done, stored compactly: operations are stored for calls
+//! alone.
 ghost use Rattle.std.specs.Prelude.{◌≡◌, ◌<◌, ◌++◌, ◌∷◌, ◌^◌, [], true, length, OnOk};
 ghost use Rattle.snap_semantics.specs.Readers.{nth};
 ghost use Rattle.snap_record.specs.Items.{IsThere, kept_item};
@@ -38,7 +39,8 @@ impl Model for History {
 
     ghost view = { λ h. record {
       items = kept_items h.calls.items h.items.items;
-      ready = nat_lt (vec_len h.items) (vec_capacity h.items) && nat_lt (vec_len h.calls) (vec_capacity h.calls);
+      ready = nat_lt (vec_len h.items) (vec_capacity h.items)
+          && nat_lt (vec_len h.calls) (vec_capacity h.calls);
     } };
 
     ghost invariant = { λ h. AreKept h.calls.items h.items.items };

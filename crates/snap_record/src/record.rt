@@ -1,5 +1,8 @@
-//! A machine with its history.
-ghost use Rattle.std.specs.Prelude.{◌≡◌, ◌↔◌, ◌<◌, ◌≤◌, ◌+◌, ℕ, [], drop, get_or, length, map, replicate, take, Err, IfOk, OnOk, OnErr};
+//! `Record`: a machine with the items that it has done, their events, and the changes of the values
+//! of the words.
+ghost use Rattle.std.specs.Prelude.{◌≡◌, ◌↔◌, ◌<◌, ◌≤◌, ◌+◌, []};
+ghost use Rattle.std.specs.Prelude.{ℕ, drop, get_or, length, map};
+ghost use Rattle.std.specs.Prelude.{replicate, take, Err, IfOk, OnOk, OnErr};
 ghost use Rattle.std.specs.List.{AllByRecursion};
 ghost use Rattle.snap_words.specs.Shape.{IsOneOf, max_items};
 ghost use Rattle.snap_semantics.specs.State.{initial};
@@ -73,7 +76,11 @@ impl<K: Kind> Model for Record<K> {
 
     ghost Value = { Run };
 
-    ghost view = { λ r. record { source = r.machine.source; shape = r.machine.shape; items = r.items.items } };
+    ghost view = { λ r. record {
+      source = r.machine.source;
+      shape = r.machine.shape;
+      items = r.items.items;
+    } };
 
     ghost invariant = { λ r. IsRecord
         (record { source = r.machine.source; shape = r.machine.shape; items = r.items.items })

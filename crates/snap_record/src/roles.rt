@@ -1,4 +1,5 @@
-//! What the lines of a listing are to a record.
+//! `LineRole`: which lines of a program write a word, test, or return a view; a record looks it up
+//! by line number.
 ghost use Rattle.std.specs.Prelude.{◌≡◌, IfOk, IfSome, IsTrue, option_map};
 ghost use Rattle.snap_semantics.specs.Source.{Source, instr_at};
 ghost use Rattle.snap_semantics.specs.State.{Locals};

@@ -1,4 +1,4 @@
-//! Values as they change.
+//! `Row`: the values of the words at one position of a run, which are set in place.
 ghost use Rattle.std.specs.Prelude.{◌≡◌, ◌<◌, IfOk, length, replicate, slice_set};
 
 use snap_words::View;

@@ -1,4 +1,5 @@
-//! What is found of a scan among events.
+//! A search in the events of a record: how many double collects a scan took up to its answer
+//! (`collects_until`).
 ghost use Rattle.std.specs.Prelude.{◌≡◌, drop, length, map};
 ghost use Rattle.snap_runs.specs.Run.{Run};
 ghost use Rattle.snap_runs.specs.Scan.{double_collects};

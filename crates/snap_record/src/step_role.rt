@@ -1,11 +1,13 @@
-//! What has to be noted of an item before it is done.
+//! `StepRole`: what a record has to note of an item, found out before it is done: a write of a
+//! word, a test, or the answer of a scan.
 ghost use Rattle.std.specs.Prelude.{◌≡◌, IfOk, IsTrue, []};
 ghost use Rattle.snap_words.specs.Shape.{IsOneOf};
 ghost use Rattle.snap_semantics.specs.Source.{instr_at};
 ghost use Rattle.snap_semantics.specs.State.{process_at, value_at};
 ghost use Rattle.snap_semantics.specs.Table.{who};
 ghost use Rattle.snap_semantics.specs.declared.process.Item.TheVariants.{Step};
-ghost use Rattle.snap_runs.specs.StepRoles.{step_role_at, step_role_of, line_step_role, returned, Nothing};
+ghost use Rattle.snap_runs.specs.StepRoles.{step_role_at, step_role_of};
+ghost use Rattle.snap_runs.specs.StepRoles.{line_step_role, returned, Nothing};
 ghost use Rattle.snap_semantics.specs.RightUses.{HasRightUses};
 ghost use Rattle.snap_record.specs.Names.{Lacks, ViewsAlone};
 ghost use Rattle.snap_record.specs.Roles.{AreRoles};

@@ -1,1 +1,2 @@
+-- The definitions of snap_refusals, by their modules.
 pub mod RefusalText

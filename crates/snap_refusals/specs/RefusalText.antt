@@ -1,4 +1,5 @@
--- The texts of refusals: of each its code, its name and its number.
+-- The text of a `Refusal` of an input (its listing, image or schedule): its code, its name and its number.
+-- `refusal_line` is the line that is printed.
 use Rattle.std.specs.Prelude.{ℕ, List, ◌++◌, codes, decimal}
 use Rattle.snap_words.specs.declared.shape.WordFault.{WordFault}
 use Rattle.snap_words.specs.declared.shape.WordFault.TheVariants as words

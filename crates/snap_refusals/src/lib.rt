@@ -1,4 +1,5 @@
-//! What is said of a refused input.
+//! Prints why an input is refused: `refusal_line` has the code, the name and the number of a
+//! `Refusal`.
 #![tactic(auto)]
 
 mod refusal_text;

@@ -1,4 +1,5 @@
-//! The texts of refusals.
+//! The text of a `Refusal` of an input: its code, name and number. `refusal_line` is the whole
+//! line.
 ghost use Rattle.std.specs.Prelude.{◌≡◌, ◌++◌, OnOk, IfOk};
 ghost use Rattle.snap_refusals.specs.RefusalText.{
   numbered,

@@ -1,3 +1,4 @@
+-- The proofs of snap_regs, by their modules.
 pub mod Contents
 pub mod NewRegisters
 pub mod Puts

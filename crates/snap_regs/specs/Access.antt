@@ -1,4 +1,5 @@
--- Which registers there are, and when one is not written.
+-- Which bit and view registers there are of a kind and shape, and why a write is refused (`IsWordRefused`,
+-- `IsBitRefused`, `IsViewRefused`).
 use Rattle.std.specs.Prelude.{◌≡◌, ℕ, Bool, true, false, ◌&&◌}
 use Rattle.snap_words.specs.Kind.{has_bank, is_bit, may_write}
 use Rattle.snap_words.specs.Shape.{Counts, is_place}
@@ -27,7 +28,8 @@ IsWordRefused k s who i Owner = (is_place s.w i ≡ true) × (may_write k who ba
 abbrev pub IsBitRefused : KindTag → Counts → ℕ → BitBank → ℕ → ℕ → ℕ → RegisterFault → Type 0
 IsBitRefused k s who b i j x Index = is_bit_place k s b i j ≡ false
 IsBitRefused k s who b i j x NotABit = (is_bit_place k s b i j ≡ true) × (is_bit x ≡ false)
-IsBitRefused k s who b i j x Owner = (is_bit_place k s b i j ≡ true) × (is_bit x ≡ true) × (may_write k who (bank_of b) i ≡ false)
+IsBitRefused k s who b i j x Owner =
+    (is_bit_place k s b i j ≡ true) × (is_bit x ≡ true) × (may_write k who (bank_of b) i ≡ false)
 
 -- why a process does not put a view
 abbrev pub IsViewRefused : KindTag → Counts → ℕ → ℕ → RegisterFault → Type 0

@@ -1,4 +1,4 @@
--- Rows of bits, kept one behind the other.
+-- `rows_of`: the rows of bit registers, which are stored in one list, row after row.
 use Rattle.std.specs.Prelude.{◌≡◌, ℕ, zero, suc, ◌*◌, ◌≤◌, Bool, true, false, List, [], ◌∷◌, length, map, take, drop}
 use Rattle.snap_words.specs.Shape.{max_count}
 

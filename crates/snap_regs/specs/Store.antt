@@ -1,4 +1,5 @@
--- What registers are seen as, and which memories are of a shape.
+-- `Store`: registers and their shape as the definitions see them; `IsOfShape`: the banks have the sizes of a kind and
+-- shape.
 use Rattle.std.specs.Prelude.{◌≡◌, ℕ, ◌-◌, true, List, length, slice_set, if◌then◌else◌}
 use Rattle.std.specs.List.{All}
 use Rattle.snap_words.specs.Kind.{has_bank, is_sized}
@@ -21,7 +22,10 @@ abbrev pub with_word : ℕ → Word → Store → Store
 with_word i x r = record { shape = r.shape; memory = with_memory_words (slice_set r.memory.words (i - 1) x) r.memory }
 
 abbrev pub with_bit : BitBank → ℕ → ℕ → ℕ → Store → Store
-with_bit b i j x r = record { shape = r.shape; memory = with_memory_bits b (with_bit_at (bits_of b r.memory) (i - 1) (j - 1) x) r.memory }
+with_bit b i j x r = record {
+  shape = r.shape;
+  memory = with_memory_bits b (with_bit_at (bits_of b r.memory) (i - 1) (j - 1) x) r.memory;
+}
 
 abbrev pub with_view : ℕ → List ℕ → Store → Store
 with_view i v r = record { shape = r.shape; memory = with_memory_views (slice_set r.memory.views (i - 1) v) r.memory }

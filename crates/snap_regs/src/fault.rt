@@ -1,4 +1,5 @@
-//! Why a register is not read or not written.
+//! `RegisterFault`: why a register is not read or written: there is none, it is another process's,
+//! or the value is no bit.
 use thiserror::Error;
 
 /// Why a register is not read or not written.

@@ -1,4 +1,4 @@
-//! Laws of what is read and written.
+//! Laws of registers: what is written to a register is read from it, and no other register changes.
 ghost use Rattle.snap_semantics.specs.WithContents.{PutIsThere, OthersStay};
 
 /// What is put into a register is read there, and the registers of all other addresses are as they

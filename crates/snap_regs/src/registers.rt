@@ -1,5 +1,8 @@
-//! The registers.
-ghost use Rattle.std.specs.Prelude.{◌≡◌, ◌-◌, ◌<◌, ◌≤◌, true, false, [], length, Some, None, map, replicate, IfOk, MatchResult, OnErr, OnOk, slice_index_or, slice_set};
+//! `Registers`: the registers of a shape, of any kind: words, bits and views, read by any process
+//! and written by those who may.
+ghost use Rattle.std.specs.Prelude.{◌≡◌, ◌-◌, ◌<◌, ◌≤◌, []};
+ghost use Rattle.std.specs.Prelude.{true, false, length, Some, None, map, replicate};
+ghost use Rattle.std.specs.Prelude.{IfOk, MatchResult, OnOk, slice_index_or};
 ghost use Rattle.snap_words.specs.Kind.{initial_word, is_bit, is_sized, may_write};
 ghost use Rattle.snap_words.specs.Shape.{is_place, max_count};
 ghost use Rattle.snap_words.specs.Word.{no_word};
@@ -8,8 +11,10 @@ ghost use Rattle.snap_semantics.specs.WithContents.{with_contents};
 ghost use Rattle.snap_semantics.specs.Readers.{contents, WordContents, BitContents, ViewContents};
 ghost use Rattle.snap_semantics.specs.State.{initial_memory};
 ghost use Rattle.snap_semantics.specs.Table.{bank_of, bit_at, bits_of};
-ghost use Rattle.snap_regs.specs.Access.{is_bit_place, is_view_place, IsWordRefused, IsBitRefused, IsViewRefused};
-ghost use Rattle.snap_regs.specs.Store.{HasColumns, IsOfShape, rows_in, with_word, with_bit, with_view};
+ghost use Rattle.snap_regs.specs.Access.{is_bit_place, is_view_place};
+ghost use Rattle.snap_regs.specs.Access.{IsWordRefused, IsBitRefused, IsViewRefused};
+ghost use Rattle.snap_regs.specs.Store.{HasColumns, IsOfShape, rows_in};
+ghost use Rattle.snap_regs.specs.Store.{with_word, with_bit, with_view};
 ghost use Rattle.snap_regs.specs.declared.fault.RegisterFault.TheVariants.{Index, Owner};
 
 use crate::fault::RegisterFault;
@@ -35,7 +40,15 @@ impl<K: Kind> Model for Registers<K> {
 
     ghost Value = { Store };
 
-    ghost view = { λ r. record { shape = r.shape; memory = record { words = map K.as_word r.words.items; q = r.q; p = r.p; views = r.views.items } } };
+    ghost view = { λ r. record {
+      shape = r.shape;
+      memory = record {
+        words = map K.as_word r.words.items;
+        q = r.q;
+        p = r.p;
+        views = r.views.items;
+      };
+    } };
 
     ghost invariant = { λ r. IsOfShape K.TAG r.shape
         (record { words = map K.as_word r.words.items; q = r.q; p = r.p; views = r.views.items }) };

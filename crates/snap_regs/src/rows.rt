@@ -1,5 +1,6 @@
-//! Rows of bits, and views of zeros.
-ghost use Rattle.std.specs.Prelude.{◌≡◌, ◌+◌, ◌*◌, ◌^◌, ◌<◌, ◌≤◌, [], IfOk, length, replicate, slice_index_or};
+//! `BitRows`: rows of bit registers, stored in one list; and views of zeros.
+ghost use Rattle.std.specs.Prelude.{◌≡◌, ◌+◌, ◌*◌, ◌^◌, ◌<◌, ◌≤◌, []};
+ghost use Rattle.std.specs.Prelude.{IfOk, length, replicate, slice_index_or};
 ghost use Rattle.snap_words.specs.Shape.{max_count};
 ghost use Rattle.snap_semantics.specs.Table.{bit_at, with_bit_at};
 

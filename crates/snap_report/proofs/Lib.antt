@@ -1,1 +1,2 @@
+-- The proofs of snap_report, by their modules.
 pub mod Lines

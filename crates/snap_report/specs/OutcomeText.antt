@@ -1,4 +1,4 @@
--- The printed texts of what came of an item, and of where processes stand.
+-- The printed texts of an item's outcome (`outcome_text`), and of where each process stands (`head_lines`).
 use Rattle.std.specs.Prelude.{ℕ, ◌+◌, List, [], ◌∷◌, ◌++◌, codes}
 use Rattle.snap_semantics.specs.declared.process.Outcome.{Outcome}
 use Rattle.snap_semantics.specs.declared.process.Outcome.TheVariants as outcome

@@ -1,12 +1,14 @@
--- Parts of the lines of a report.
+-- Single lines of a machine's report: its first line, the line of a register, and the lines of locals.
 use Rattle.std.specs.Prelude.{ℕ, List, [], ◌++◌, Option, Some, None, codes, decimal}
 use Rattle.snap_words.specs.declared.address.Bank.{Bank}
 use Rattle.snap_words.specs.declared.address.Bank.TheVariants as bank
 use Rattle.snap_words.specs.declared.kind.KindTag.{KindTag}
 use Rattle.snap_semantics.specs.declared.text.Sort.{Sort}
 use Rattle.snap_semantics.specs.declared.text.Sort.TheVariants as sort
-use Rattle.snap_semantics.specs.Readers.{Contents, WordContents, BitContents, ViewContents, LocalValue, NumberValue, RowValue, WordsValue, ViewValue, nth}
-use Rattle.snap_semantics.specs.Report.{word_line, bit_line, view_line, number_local, list_local, words_local, locals_lines}
+use Rattle.snap_semantics.specs.Readers.{Contents, WordContents, BitContents, ViewContents, LocalValue, NumberValue}
+use Rattle.snap_semantics.specs.Readers.{RowValue, WordsValue, ViewValue, nth}
+use Rattle.snap_semantics.specs.Report.{word_line, bit_line, view_line, number_local}
+use Rattle.snap_semantics.specs.Report.{list_local, words_local, locals_lines}
 use Rattle.snap_semantics.specs.Source.{Name}
 use Rattle.snap_semantics.specs.State.{Locals, Memory}
 

@@ -1,4 +1,4 @@
--- The report of a position of a run.
+-- `report_at`: the printed report of a run after its first t items.
 use Rattle.std.specs.Prelude.{ℕ, List, length}
 use Rattle.snap_semantics.specs.Report.{report_text}
 use Rattle.snap_runs.specs.Run.{Run, state, events_of}

@@ -11,7 +11,7 @@ mod reports;
 mod word_text;
 
 pub use event_text::{event_line, event_lines, op_text};
-pub use outcomes::{head_lines, outcome_text};
+pub use outcomes::{head_lines, outcome_text, reason_text};
 pub use printed::Report;
 pub use process_text::{head_line, process_lines};
 pub use register_text::{register_line, register_lines, values_line};

@@ -1,4 +1,5 @@
-//! The printed texts of what came of an item, and of where processes stand.
+//! The printed texts of an item's outcome (`outcome_text`), and of where each process stands
+//! (`head_lines`).
 ghost use Rattle.std.specs.Prelude.{◌≡◌, ◌++◌, OnOk};
 ghost use Rattle.snap_report.specs.OutcomeText.{head_lines, outcome_text, reason_text};
 
@@ -9,8 +10,8 @@ use snap_text::{push_numbers, push_text};
 use snap_words::Kind;
 use std::alloc::AllocError;
 
-/// Why an item was skipped.
-fn reason_text(out: &mut Vec<u8>, reason: Reason) -> Result<(), AllocError>
+/// Why an item is skipped.
+pub fn reason_text(out: &mut Vec<u8>, reason: Reason) -> Result<(), AllocError>
     ensures { OnOk result (out.new.items ≡ out.old.items ++ reason_text reason) }
 {
     match reason {

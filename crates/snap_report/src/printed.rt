@@ -1,4 +1,4 @@
-//! Printed reports.
+//! `Report`: the text of a printed report of a machine.
 ghost use Rattle.std.specs.Prelude.{◌≡◌};
 
 use std::marker::Model;

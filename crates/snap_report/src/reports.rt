@@ -1,4 +1,5 @@
-//! The report of a position.
+//! `report`: the printed report of a machine at a position (a number of items done), with the
+//! events up to it.
 ghost use Rattle.std.specs.Prelude.{◌≡◌, ◌++◌, OnOk};
 ghost use Rattle.snap_semantics.specs.Report.{position_line, report_text};
 ghost use Rattle.snap_report.specs.ReportLines.{first_line};

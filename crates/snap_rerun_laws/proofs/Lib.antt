@@ -1,1 +1,2 @@
+-- The proofs of snap_rerun_laws, by their modules.
 mod Rerun

@@ -1,4 +1,5 @@
--- A live run's schedule, run again.
+-- The schedule that is printed of a live run, given to the task `run` with the same listing, prints the live run's
+-- report again (`LiveRunsAreRunAgain`).
 use Rattle.std.proofs.Common.{◌≡◌, ℕ, ◌≤◌, true, List, [], ◌∷◌, ◌++◌, Ok, codes, length, refl, sym, ap, ◌∙◌}
 use Rattle.snap_words.specs.Kind.{fits}
 use Rattle.snap_semantics.specs.Report.{position_line}
@@ -18,12 +19,14 @@ use Rattle.snap_live_laws.proofs.Schedules.{alone}
 use Rattle.snap_rerun_laws.specs.Rerun.{LiveRunsAreRunAgain, printed_again}
 
 -- what is run of a text that is a schedule
-is_ended : (l : Source) (y : List ℕ) (s : Schedule) → schedule_of y ≡ Ok s → fits l.kind s.shape ≡ true → run_listing l y ≡ Ok (end_text l s)
+is_ended : (l : Source) (y : List ℕ) (s : Schedule) → schedule_of y ≡ Ok s → fits l.kind s.shape ≡ true →
+    run_listing l y ≡ Ok (end_text l s)
 unfolding run_listing schedule_for
 is_ended l y s is fit = rw (is, fit) refl
 
 -- its report is the one that the live run has printed
-reports : (g : Setup) (items : List Item) (text : List ℕ) → IsCut g items text → end_text g.source (played g items) ≡ printed_again (length items) text
+reports : (g : Setup) (items : List Item) (text : List ℕ) → IsCut g items text →
+    end_text g.source (played g items) ≡ printed_again (length items) text
 unfolding end_report
 reports g items text h =
     ap (λ (report : List ℕ). codes "> run\n" ++ position_line (length items) (length items) ++ report) (sym h.report)
@@ -36,7 +39,8 @@ run_again cut read subject limit input text g e live =
     record {
       runs = λ few.
           to_the_end g.source y
-          ∙ is_ended g.source y s ((read subject limit input text g e live).reads few) (input_read subject input g e).shape
+          ∙ is_ended g.source y s ((read subject limit input text g e live).reads few)
+          (input_read subject input g e).shape
           ∙ ap (λ (out : List ℕ). Ok out) (reports g live.items text h);
       one_part = ap parts_of h.schedule ∙ alone s h.is_schedule ∙ ap (λ (front : List ℕ). front ∷ []) (sym h.schedule);
     }

@@ -1,1 +1,2 @@
+-- The definitions of snap_rerun_laws, by their modules.
 pub mod Rerun

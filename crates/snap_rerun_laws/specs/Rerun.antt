@@ -1,4 +1,5 @@
--- What is printed where a live run's schedule is run again.
+-- `LiveRunsAreRunAgain`: the schedule that is printed of a live run, run again over the same listing, prints the same
+-- report, byte for byte.
 use Rattle.std.specs.Prelude.{◌≡◌, ℕ, ◌≤◌, List, [], ◌∷◌, ◌++◌, length, Ok, codes}
 use Rattle.snap_semantics.specs.Report.{position_line}
 use Rattle.snap_semantics.specs.declared.process.Item.{Item}

@@ -1,4 +1,5 @@
-//! What is printed where a live run's schedule is run again.
+//! The law that the schedule printed of a live run, run again over the same listing, prints the
+//! live run's report.
 #![tactic(auto)]
 
 ghost use Rattle.snap_rerun_laws.specs.Rerun.{LiveRunsAreRunAgain};

@@ -1,3 +1,4 @@
+-- The proofs of snap_run_trace, by their modules.
 pub mod Wholes
 pub mod Changes
 pub mod Owned

@@ -1,5 +1,7 @@
--- Lines with their owners, of texts that are put together.
-use Rattle.std.proofs.Common.{◌≡◌, ℕ, zero, suc, ◌+◌, Bool, true, false, List, [], ◌∷◌, ◌++◌, length, take, nat_eq, codes, if◌then◌else◌, refl, sym, ap, ◌∙◌, append_assoc, arith}
+-- Lines of a report with their owner, such as a process, put in front (`owned_text`), where the report is put
+-- together from parts.
+use Rattle.std.proofs.Common.{◌≡◌, ℕ, zero, suc, ◌+◌, Bool, true, false, List, [], ◌∷◌, ◌++◌, length, take, nat_eq}
+use Rattle.std.proofs.Common.{codes, if◌then◌else◌, refl, sym, ap, ◌∙◌, append_assoc, arith}
 use Rattle.std.specs.Prelude.{◌==◌}
 use Rattle.std.specs.List.{AllByRecursion}
 use Rattle.snap_semantics.specs.Token.{lines_of, onto_line}
@@ -10,7 +12,8 @@ use Rattle.snap_run_trace.proofs.Wholes.{IsWhole, before, feeds, feeds_append, j
 abbrev pub IsPlain : List ℕ → Type 0
 IsPlain line = feeds line ≡ 0
 
-onto_plain : (b : ℕ) (lines : List (List ℕ)) → nat_eq b 10 ≡ false → AllByRecursion IsPlain lines → AllByRecursion IsPlain (onto_line b lines)
+onto_plain : (b : ℕ) (lines : List (List ℕ)) → nat_eq b 10 ≡ false → AllByRecursion IsPlain lines →
+    AllByRecursion IsPlain (onto_line b lines)
 onto_plain b [] e h = (rw e refl, tt)
 onto_plain b (line ∷ lines) e h = (rw e h.0, h.1)
 
@@ -58,7 +61,8 @@ one_feed : (line : List ℕ) → IsPlain line → feeds (line ++ codes "\n") ≡
 one_feed line h = let f = feeds_append line (codes "\n") in omega (arith, f, h)
 
 -- there are as many lines as before
-pub owned_feeds : (owner : List ℕ) (lines : List (List ℕ)) → IsPlain owner → AllByRecursion IsPlain lines → feeds (owned_text owner lines) ≡ length lines
+pub owned_feeds : (owner : List ℕ) (lines : List (List ℕ)) → IsPlain owner → AllByRecursion IsPlain lines →
+    feeds (owned_text owner lines) ≡ length lines
 owned_feeds owner [] h k = refl
 owned_feeds owner (line ∷ lines) h k =
     let first = one_feed (owned_line owner line) (line_plain owner line h k.0) in
@@ -70,7 +74,8 @@ pub owned_whole : (owner : List ℕ) (lines : List (List ℕ)) → IsWhole (owne
 owned_whole owner [] = no_text
 owned_whole owner (line ∷ lines) =
     let first = (before (owned_line owner line) (codes "\n") new_line).whole in
-    joined (owned_line owner line ++ codes "\n") (owned_text (next_owner owner line) lines) first (owned_whole (next_owner owner line) lines)
+    joined (owned_line owner line ++ codes "\n") (owned_text (next_owner owner line) lines) first
+    (owned_whole (next_owner owner line) lines)
 
 -- The first of these lines speaks of itself, or there is none.
 abbrev pub SpeaksFirst : List (List ℕ) → Type 0
@@ -78,13 +83,15 @@ SpeaksFirst [] = Unit {0}
 SpeaksFirst ([] ∷ lines) = ⊥
 SpeaksFirst ((b ∷ bs) ∷ lines) = (b == 32) ≡ false
 
-speaks_alone : (owner : List ℕ) (lines : List (List ℕ)) → SpeaksFirst lines → owned_text owner lines ≡ owned_text [] lines
+speaks_alone : (owner : List ℕ) (lines : List (List ℕ)) → SpeaksFirst lines →
+    owned_text owner lines ≡ owned_text [] lines
 speaks_alone owner [] h = refl
 speaks_alone owner ([] ∷ lines) h = absurd h
 speaks_alone owner ((b ∷ bs) ∷ lines) h = rw h refl
 
 -- behind other lines, where the first one speaks of itself
-pub behind_lines : (owner : List ℕ) (xs ys : List (List ℕ)) → SpeaksFirst ys → owned_text owner (xs ++ ys) ≡ owned_text owner xs ++ owned_text [] ys
+pub behind_lines : (owner : List ℕ) (xs ys : List (List ℕ)) → SpeaksFirst ys →
+    owned_text owner (xs ++ ys) ≡ owned_text owner xs ++ owned_text [] ys
 behind_lines owner [] ys h = speaks_alone owner ys h
 behind_lines owner (x ∷ xs) ys h =
     ap (λ t. owned_line owner x ++ codes "\n" ++ t) (behind_lines (next_owner owner x) xs ys h)

@@ -1,11 +1,18 @@
--- The parts of a report: each is made of whole lines, and its first line speaks of itself.
-use Rattle.std.proofs.Common.{◌≡◌, ℕ, zero, suc, ◌+◌, ◌-◌, ◌<◌, Bool, true, false, not, ◌&&◌, List, [], ◌∷◌, ◌++◌, length, codes, decimal, nat_eq, if◌then◌else◌, refl, sym, ap, ◌∙◌, subst, append_assoc, append-nil, slice_index_or, slice_set, arith}
+-- The parts of a report (`IsPart`): each is made of whole lines, the first of which names its own owner
+-- (`SpeaksFirst`).
+use Rattle.std.proofs.Common.{◌≡◌, ℕ, zero, suc, ◌+◌, ◌-◌, ◌<◌, Bool, true, false, not, ◌&&◌, List, [], ◌∷◌, ◌++◌}
+use Rattle.std.proofs.Common.{length, codes, decimal, nat_eq, if◌then◌else◌, refl, sym, ap, ◌∙◌, subst, append_assoc}
+use Rattle.std.proofs.Common.{append-nil, slice_index_or, slice_set, arith}
 use Rattle.std.specs.Prelude.{◌==◌}
 use Rattle.std.proofs.lemmas.List.{get_or-set_same, set-get_or}
 use Rattle.snap_words.specs.Word.{Word}
 use Rattle.snap_words.specs.declared.kind.KindTag.{KindTag}
 use Rattle.snap_semantics.specs.declared.event.Event.{Event}
-use Rattle.snap_semantics.specs.Report.{bank_lines, bit_line, event_line, event_lines, happening_text, head_line, list_local, locals_lines, locals_text, number_local, numbers_text, process_lines, processes_lines, register_lines, row_lines, status_text, values_line, view_line, view_lines, word_line, word_lines, word_local, word_text, words_local}
+use Rattle.snap_semantics.specs.Report.{bank_lines, bit_line, event_line, event_lines, happening_text, head_line}
+use Rattle.snap_semantics.specs.Report.{list_local, locals_lines, locals_text, number_local, numbers_text}
+use Rattle.snap_semantics.specs.Report.{process_lines, processes_lines, register_lines, row_lines, status_text}
+use Rattle.snap_semantics.specs.Report.{values_line, view_line, view_lines, word_line}
+use Rattle.snap_semantics.specs.Report.{word_lines, word_local, word_text, words_local}
 use Rattle.snap_semantics.specs.Source.{Name}
 use Rattle.snap_semantics.specs.State.{Locals, Memory, NameMap, Process, State, nobody, process_at, values}
 use Rattle.snap_semantics.specs.Token.{lines_of, onto_line}
@@ -36,7 +43,8 @@ speaks_text : (t : List ℕ) → begins t ≡ true → SpeaksFirst (lines_of t)
 speaks_text [] e = tt
 speaks_text (b ∷ t) e = by_case (nat_eq b 10) (b == 32) refl e
   where
-    by_case : (v w : Bool) → (b == 32) ≡ w → (not v && not w) ≡ true → SpeaksFirst (if v then [] ∷ lines_of t else onto_line b (lines_of t))
+    by_case : (v w : Bool) → (b == 32) ≡ w → (not v && not w) ≡ true →
+        SpeaksFirst (if v then [] ∷ lines_of t else onto_line b (lines_of t))
     by_case true w f e = absurd cc
     by_case false true f e = absurd cc
     by_case false false f e = speaks_byte b (lines_of t) f
@@ -62,22 +70,27 @@ ended x = (before x (codes "\n") new_line).whole
 words_whole : (g : KindTag) (k : ℕ) (xs : List Word) → IsWhole (word_lines g k xs)
 words_whole g k [] = no_text
 words_whole g k (x ∷ xs) =
-    joined (word_line g k x) (word_lines g (k + 1) xs) (ended (codes "r " ++ decimal k ++ codes " = " ++ word_text g x)) (words_whole g (k + 1) xs)
+    joined (word_line g k x) (word_lines g (k + 1) xs)
+    (ended (codes "r " ++ decimal k ++ codes " = " ++ word_text g x)) (words_whole g (k + 1) xs)
 
 row_whole : (bank : List ℕ) (i j : ℕ) (xs : List ℕ) → IsWhole (row_lines bank i j xs)
 row_whole bank i j [] = no_text
 row_whole bank i j (x ∷ xs) =
     joined (bit_line bank i j x) (row_lines bank i (j + 1) xs)
-    (ended (bank ++ codes " " ++ decimal i ++ codes " " ++ decimal j ++ codes " = " ++ decimal x)) (row_whole bank i (j + 1) xs)
+    (ended (bank ++ codes " " ++ decimal i ++ codes " " ++ decimal j ++ codes " = " ++ decimal x))
+    (row_whole bank i (j + 1) xs)
 
 bank_whole : (bank : List ℕ) (i : ℕ) (rows : List (List ℕ)) → IsWhole (bank_lines bank i rows)
 bank_whole bank i [] = no_text
-bank_whole bank i (row ∷ rows) = joined (row_lines bank i 1 row) (bank_lines bank (i + 1) rows) (row_whole bank i 1 row) (bank_whole bank (i + 1) rows)
+bank_whole bank i (row ∷ rows) =
+    joined (row_lines bank i 1 row) (bank_lines bank (i + 1) rows) (row_whole bank i 1 row)
+    (bank_whole bank (i + 1) rows)
 
 views_whole : (i : ℕ) (views : List (List ℕ)) → IsWhole (view_lines i views)
 views_whole i [] = no_text
 views_whole i (view ∷ views) =
-    joined (view_line i view) (view_lines (i + 1) views) (ended (codes "v " ++ decimal i ++ codes " =" ++ numbers_text view)) (views_whole (i + 1) views)
+    joined (view_line i view) (view_lines (i + 1) views)
+    (ended (codes "v " ++ decimal i ++ codes " =" ++ numbers_text view)) (views_whole (i + 1) views)
 
 registers_whole : (g : KindTag) (m : Memory) → IsWhole (register_lines g m)
 registers_whole g m =
@@ -85,10 +98,12 @@ registers_whole g m =
     let q = bank_lines (codes "q") 1 m.q in
     let p = bank_lines (codes "p") 1 m.p in
     joined (words ++ q ++ p) (view_lines 1 m.views)
-    (joined (words ++ q) p (joined words q (words_whole g 1 m.words) (bank_whole (codes "q") 1 m.q)) (bank_whole (codes "p") 1 m.p))
+    (joined (words ++ q) p (joined words q (words_whole g 1 m.words) (bank_whole (codes "q") 1 m.q))
+    (bank_whole (codes "p") 1 m.p))
     (views_whole 1 m.views)
 
-sort_whole : {A : Type 0} (f : Name → A → List ℕ) (es : NameMap A) → ((x : Name) (v : A) → IsWhole (f x v)) → IsWhole (locals_lines f es)
+sort_whole : {A : Type 0} (f : Name → A → List ℕ) (es : NameMap A) →
+    ((x : Name) (v : A) → IsWhole (f x v)) → IsWhole (locals_lines f es)
 sort_whole f [] h = no_text
 sort_whole f (e ∷ es) h = joined (f e.0 e.1) (locals_lines f es) (h e.0 e.1) (sort_whole f es h)
 
@@ -118,18 +133,21 @@ locals_whole g l =
 process_part : (g : KindTag) (i : ℕ) (p : Process) → IsPart (process_lines g i p)
 process_part g i p = record {
   whole =
-      joined (head_line i p.status) (locals_text g p.locals) (ended (codes "process " ++ decimal i ++ codes " " ++ status_text p.status))
+      joined (head_line i p.status) (locals_text g p.locals)
+      (ended (codes "process " ++ decimal i ++ codes " " ++ status_text p.status))
       (locals_whole g p.locals);
   speaks = speaks_text (process_lines g i p) refl;
 }
 
 processes_part : (g : KindTag) (i : ℕ) (ps : List Process) → IsPart (processes_lines g i ps)
 processes_part g i [] = no_part
-processes_part g i (p ∷ ps) = part_joined (process_lines g i p) (processes_lines g (i + 1) ps) (process_part g i p) (processes_part g (i + 1) ps)
+processes_part g i (p ∷ ps) =
+    part_joined (process_lines g i p) (processes_lines g (i + 1) ps) (process_part g i p) (processes_part g (i + 1) ps)
 
 event_part : (e : Event) → IsPart (event_line e)
 event_part e = record {
-  whole = ended (codes "event " ++ decimal e.item ++ codes " " ++ decimal e.process ++ codes " " ++ happening_text e.what);
+  whole =
+      ended (codes "event " ++ decimal e.item ++ codes " " ++ decimal e.process ++ codes " " ++ happening_text e.what);
   speaks = speaks_text (event_line e) refl;
 }
 
@@ -139,7 +157,9 @@ events_part (e ∷ es) = part_joined (event_line e) (event_lines es) (event_part
 
 events_more : (es new : List Event) → event_lines (es ++ new) ≡ event_lines es ++ event_lines new
 events_more [] new = refl
-events_more (e ∷ es) new = ap (λ t. event_line e ++ t) (events_more es new) ∙ sym (append_assoc (event_line e) (event_lines es) (event_lines new))
+events_more (e ∷ es) new =
+    ap (λ t. event_line e ++ t) (events_more es new)
+    ∙ sym (append_assoc (event_line e) (event_lines es) (event_lines new))
 
 -- the values and the registers
 abbrev shared : KindTag → State → List ℕ
@@ -147,7 +167,8 @@ shared g S = values_line (values S) ++ register_lines g S.memory
 
 shared_whole : (g : KindTag) (S : State) → IsWhole (shared g S)
 shared_whole g S =
-    joined (values_line (values S)) (register_lines g S.memory) (ended (codes "values" ++ numbers_text (values S))) (registers_whole g S.memory)
+    joined (values_line (values S)) (register_lines g S.memory)
+    (ended (codes "values" ++ numbers_text (values S))) (registers_whole g S.memory)
 
 shared_feeds : (g : KindTag) (i : ℕ) (S S' : State) → IsMove g i S S' → feeds (shared g S) ≡ feeds (shared g S')
 shared_feeds g i S S' h =
@@ -157,9 +178,11 @@ shared_feeds g i S S' h =
     ∙ sym (wholes.feeds_append (values_line (values S')) (register_lines g S'.memory))
 
 -- lines with their owners, behind others
-owned_lines : (a b : List ℕ) → IsWhole a → IsPart b → lines_of (owned (a ++ b)) ≡ lines_of (owned a) ++ lines_of (owned b)
+owned_lines : (a b : List ℕ) → IsWhole a → IsPart b →
+    lines_of (owned (a ++ b)) ≡ lines_of (owned a) ++ lines_of (owned b)
 owned_lines a b h k =
-    ap (λ ls. lines_of (owned_text [] ls)) (h.apart b) ∙ ap lines_of (behind_lines [] (lines_of a) (lines_of b) k.speaks)
+    ap (λ ls. lines_of (owned_text [] ls)) (h.apart b)
+    ∙ ap lines_of (behind_lines [] (lines_of a) (lines_of b) k.speaks)
     ∙ (owned_whole [] (lines_of a)).apart (owned b)
 
 owned_count : (t : List ℕ) → IsWhole t → length (lines_of (owned t)) ≡ feeds t
@@ -177,7 +200,9 @@ between_same : (a : List ℕ) → between a a ≡ []
 between_same a = changes.same (lines_of (owned a))
 
 between_came : (a b : List ℕ) → IsWhole a → IsPart b → between a (a ++ b) ≡ between [] b
-between_came a b h k = ap (text_between (lines_of (owned a))) (owned_lines a b h k) ∙ changes.came (lines_of (owned a)) (lines_of (owned b))
+between_came a b h k =
+    ap (text_between (lines_of (owned a))) (owned_lines a b h k)
+    ∙ changes.came (lines_of (owned a)) (lines_of (owned b))
 
 -- the processes before one, and those behind it
 record IsSplit (g : KindTag) (k j : ℕ) (ps : List Process) : Type 0 where
@@ -215,14 +240,15 @@ regroup : (x f p b e : List ℕ) → (x ++ (f ++ (p ++ b))) ++ e ≡ x ++ (f ++ 
 regroup x f p b e = simp append_assoc
 
 -- what changed is of the values, the registers and one process, with the events that came
-parts_changed : (x x' f p p' b e n : List ℕ) → IsWhole x → IsWhole x' → IsPart f → IsPart p → IsPart p' → IsPart b → IsPart e → IsPart n →
-    feeds x ≡ feeds x' → feeds p ≡ feeds p' →
+parts_changed : (x x' f p p' b e n : List ℕ) → IsWhole x → IsWhole x' → IsPart f → IsPart p →
+    IsPart p' → IsPart b → IsPart e → IsPart n → feeds x ≡ feeds x' → feeds p ≡ feeds p' →
     between ((x ++ (f ++ (p ++ b))) ++ e) ((x' ++ (f ++ (p' ++ b))) ++ (e ++ n)) ≡ between (x ++ p) ((x' ++ p') ++ n)
 parts_changed x x' f p p' b e n hx hx' hf hp hp' hb he hn sx sp =
     ap (λ t. between t ((x' ++ (f ++ (p' ++ b))) ++ (e ++ n))) (regroup x f p b e)
     ∙ ap (between (x ++ (f ++ (p ++ (b ++ e))))) (regroup x' f p' b (e ++ n))
     ∙ between_apart x x' (f ++ (p ++ (b ++ e))) (f ++ (p' ++ (b ++ (e ++ n)))) hx hx'
-    (part_joined f (p ++ (b ++ e)) hf (part_joined p (b ++ e) hp be)) (part_joined f (p' ++ (b ++ (e ++ n))) hf (part_joined p' (b ++ (e ++ n)) hp' ben)) sx
+    (part_joined f (p ++ (b ++ e)) hf (part_joined p (b ++ e) hp be))
+    (part_joined f (p' ++ (b ++ (e ++ n))) hf (part_joined p' (b ++ (e ++ n)) hp' ben)) sx
     ∙ ap (λ t. between x x' ++ t) (inner ∙ sym outer)
     ∙ sym (between_apart x x' p (p' ++ n) hx hx' hp (part_joined p' n hp' hn) sx)
     ∙ ap (between (x ++ p)) (sym (append_assoc x' p' n))
@@ -235,24 +261,31 @@ parts_changed x x' f p p' b e n hx hx' hf hp hp' hb he hn sx sp =
 
     inner : between (f ++ (p ++ (b ++ e))) (f ++ (p' ++ (b ++ (e ++ n)))) ≡ between p p' ++ between [] n
     inner =
-        between_apart f f (p ++ (b ++ e)) (p' ++ (b ++ (e ++ n))) hf.whole hf.whole (part_joined p (b ++ e) hp be) (part_joined p' (b ++ (e ++ n)) hp' ben) refl
+        between_apart f f (p ++ (b ++ e)) (p' ++ (b ++ (e ++ n))) hf.whole hf.whole (part_joined p (b ++ e) hp be)
+        (part_joined p' (b ++ (e ++ n)) hp' ben) refl
         ∙ ap (λ t. t ++ between (p ++ (b ++ e)) (p' ++ (b ++ (e ++ n)))) (between_same f)
         ∙ between_apart p p' (b ++ e) (b ++ (e ++ n)) hp.whole hp'.whole be ben sp
         ∙ ap (λ t. between p p' ++ between (b ++ e) t) (sym (append_assoc b e n))
         ∙ ap (λ t. between p p' ++ t) (between_came (b ++ e) n be.whole hn)
 
     outer : between p (p' ++ n) ≡ between p p' ++ between [] n
-    outer = ap (λ t. between t (p' ++ n)) (sym (append-nil p)) ∙ between_apart p p' [] n hp.whole hp'.whole no_part hn sp
+    outer =
+        ap (λ t. between t (p' ++ n)) (sym (append-nil p)) ∙ between_apart p p' [] n hp.whole hp'.whole no_part hn sp
 
--- A move of one process changes its own lines and those of the values and the registers, and events come behind the others.
-pub narrowed : (g : KindTag) (i : ℕ) (S S' : State) (es new : List Event) → 0 < i → i - 1 < length S.processes → IsMove g i S S' →
-    between (state_text g S es) (state_text g S' (es ++ new)) ≡ between (process_text g i S []) (process_text g i S' new)
+-- A move of one process changes its own lines and those of the values and the registers, and
+-- events come behind the others.
+pub narrowed : (g : KindTag) (i : ℕ) (S S' : State) (es new : List Event) → 0 < i → i - 1 < length S.processes →
+    IsMove g i S S' → between (state_text g S es) (state_text g S' (es ++ new))
+    ≡ between (process_text g i S []) (process_text g i S' new)
 narrowed g i S S' es new one there h =
     ap (λ t. between t (state_text g S' (es ++ new))) (ap (λ t. (shared g S ++ t) ++ event_lines es) old)
     ∙ ap (between ((shared g S ++ (sp.front ++ (mine ++ sp.rest))) ++ event_lines es))
-    (ap (λ t. (shared g S' ++ t) ++ event_lines (es ++ new)) now ∙ ap (λ t. (shared g S' ++ (sp.front ++ (moved ++ sp.rest))) ++ t) (events_more es new))
-    ∙ parts_changed (shared g S) (shared g S') sp.front mine moved sp.rest (event_lines es) (event_lines new) (shared_whole g S) (shared_whole g S')
-    sp.front_part (process_part g i (process_at S i)) (process_part g i h.process) sp.rest_part (events_part es) (events_part new)
+    (ap (λ t. (shared g S' ++ t) ++ event_lines (es ++ new)) now
+    ∙ ap (λ t. (shared g S' ++ (sp.front ++ (moved ++ sp.rest))) ++ t) (events_more es new))
+    ∙ parts_changed (shared g S) (shared g S') sp.front mine moved sp.rest (event_lines es) (event_lines new)
+    (shared_whole g S) (shared_whole g S')
+    sp.front_part (process_part g i (process_at S i)) (process_part g i h.process) sp.rest_part
+    (events_part es) (events_part new)
     (shared_feeds g i S S' h) (sym h.lines)
     ∙ ap (λ t. between t ((shared g S' ++ moved) ++ event_lines new)) (sym (append-nil (shared g S ++ mine)))
     ∙ ap (λ p. between (process_text g i S []) ((shared g S' ++ process_lines g i p) ++ event_lines new)) (sym own)
@@ -270,7 +303,9 @@ narrowed g i S S' es new one there h =
     number = omega (arith, one)
 
     own : process_at S' i ≡ h.process
-    own = ap (λ ps. slice_index_or ps (i - 1) nobody) h.processes ∙ get_or-set_same S.processes (i - 1) h.process nobody there
+    own =
+        ap (λ ps. slice_index_or ps (i - 1) nobody) h.processes
+        ∙ get_or-set_same S.processes (i - 1) h.process nobody there
 
     old : processes_lines g 1 S.processes ≡ sp.front ++ (mine ++ sp.rest)
     old =
@@ -278,4 +313,6 @@ narrowed g i S S' es new one there h =
         ∙ ap (λ n. sp.front ++ (process_lines g n (process_at S i) ++ sp.rest)) number
 
     now : processes_lines g 1 S'.processes ≡ sp.front ++ (moved ++ sp.rest)
-    now = ap (processes_lines g 1) h.processes ∙ sp.text h.process ∙ ap (λ n. sp.front ++ (process_lines g n h.process ++ sp.rest)) number
+    now =
+        ap (processes_lines g 1) h.processes ∙ sp.text h.process
+        ∙ ap (λ n. sp.front ++ (process_lines g n h.process ++ sp.rest)) number

@@ -1,4 +1,5 @@
--- The report is the sum of the trace.
+-- `SumsToReport`: the changes that a trace has of the first t items, made one after another in the first report, give
+-- the report after item t.
 use Rattle.std.proofs.Common.{◌≡◌, ℕ, zero, suc, [], refl, ap, ◌∙◌}
 use Rattle.snap_runs.specs.Run.{Run}
 use Rattle.snap_changes.specs.Changes.{put_all}
@@ -10,5 +11,6 @@ pub summed : (r : Run) (t : ℕ) → put_all (changes_to r t) (report_lines r 0)
 unfolding item_changes
 summed r zero = refl
 summed r (suc t) =
-    put_after (changes_to r t) (item_changes r (suc t)) (report_lines r 0) ∙ ap (put_all (item_changes r (suc t))) (summed r t)
+    put_after (changes_to r t) (item_changes r (suc t)) (report_lines r 0)
+    ∙ ap (put_all (item_changes r (suc t))) (summed r t)
     ∙ put_from 0 [] (report_lines r t) (report_lines r (suc t)) refl

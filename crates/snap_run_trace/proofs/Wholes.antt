@@ -1,5 +1,7 @@
--- Texts that end with a line feed, and how many lines they have.
-use Rattle.std.proofs.Common.{◌≡◌, ℕ, suc, ◌+◌, ◌<◌, Bool, true, false, List, [], ◌∷◌, ◌++◌, length, nat_eq, codes, if◌then◌else◌, refl, sym, ap, ◌∙◌, append_assoc, arith}
+-- Texts of whole lines (`IsWhole`): each has as many lines as line feeds, and two of them joined have the lines of
+-- both.
+use Rattle.std.proofs.Common.{◌≡◌, ℕ, suc, ◌+◌, ◌<◌, Bool, true, false, List, [], ◌∷◌, ◌++◌, length, nat_eq, codes}
+use Rattle.std.proofs.Common.{if◌then◌else◌, refl, sym, ap, ◌∙◌, append_assoc, arith}
 use Rattle.std.proofs.lemmas.List.{length-append}
 use Rattle.snap_semantics.specs.Token.{lines_of, onto_line}
 
@@ -64,7 +66,8 @@ byte_before b t h = record {
   apart_by true rest = ap (λ (ls : List (List ℕ)). [] ∷ ls) (h.whole.apart rest)
   apart_by false rest = ap (onto_line b) (h.whole.apart rest) ∙ onto_more b (lines_of t) (lines_of rest) many
 
-  count_by : (v : Bool) → length (if v then [] ∷ lines_of t else onto_line b (lines_of t)) ≡ (if v then suc (feeds t) else feeds t)
+  count_by : (v : Bool) → length (if v then [] ∷ lines_of t else onto_line b (lines_of t))
+      ≡ (if v then suc (feeds t) else feeds t)
   count_by true = ap suc h.whole.count
   count_by false = onto_length b (lines_of t) many ∙ h.whole.count
 

@@ -1,4 +1,5 @@
--- What changed from one state to another: of all, and of one process and the registers.
+-- `between`: the lines of a report that differ from one state of a run to the next, of the whole report, and of one
+-- process and the registers.
 use Rattle.std.specs.Prelude.{ℕ, List, [], ◌++◌}
 use Rattle.snap_words.specs.declared.kind.KindTag.{KindTag}
 use Rattle.snap_semantics.specs.declared.event.Event.{Event}
@@ -18,8 +19,10 @@ between a b = text_between (lines_of (owned a)) (lines_of (owned b))
 
 -- a report behind its first line
 abbrev pub state_text : KindTag → State → List Event → List ℕ
-state_text g S es = values_line (values S) ++ register_lines g S.memory ++ processes_lines g 1 S.processes ++ event_lines es
+state_text g S es =
+    values_line (values S) ++ register_lines g S.memory ++ processes_lines g 1 S.processes ++ event_lines es
 
 -- the same of process i alone
 abbrev pub process_text : KindTag → ℕ → State → List Event → List ℕ
-process_text g i S es = values_line (values S) ++ register_lines g S.memory ++ process_lines g i (process_at S i) ++ event_lines es
+process_text g i S es =
+    values_line (values S) ++ register_lines g S.memory ++ process_lines g i (process_at S i) ++ event_lines es

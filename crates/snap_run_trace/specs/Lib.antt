@@ -1,3 +1,4 @@
+-- The definitions of snap_run_trace, by their modules.
 pub mod Between
 pub mod Step
 pub mod Trace

@@ -1,4 +1,5 @@
--- What is said of one item, read from the state before it and the state after it: of its process and of the registers.
+-- `done_text`: what a trace prints of one item, made from the states before and after it: its outcome, the line that
+-- it ran, and what it changed.
 use Rattle.std.specs.Prelude.{ℕ, List, [], ◌++◌, Option, Some, None, codes, decimal}
 use Rattle.snap_words.specs.Shape.{Counts}
 use Rattle.snap_semantics.specs.declared.process.Item.{Item}
@@ -44,4 +45,5 @@ did_line texts S t x o = head_text texts t (who x) o (line_run x (process_at S (
 unfoldable pub done_text : List NumberedText → Source → Counts → State → ℕ → Item → List ℕ
 done_text texts s n S t x =
     did_line texts S t x (done s n S x).1
-    ++ between (process_text s.kind (who x) S []) (process_text s.kind (who x) (done s n S x).0 (event_of t x (done s n S x).1))
+    ++ between (process_text s.kind (who x) S [])
+    (process_text s.kind (who x) (done s n S x).0 (event_of t x (done s n S x).1))

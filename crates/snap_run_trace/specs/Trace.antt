@@ -8,8 +8,8 @@ use Rattle.snap_listing_lines.specs.LineTexts.{written}
 use Rattle.snap_report.specs.RunReport.{report_at}
 use Rattle.snap_run_trace.specs.Step.{did_line}
 
--- The lines of the report after t items but its first one, each of which says of whom it speaks: the values, the registers,
--- the processes with their locals, and the events.
+-- The lines of the report after t items but its first one, each of which says of whom it speaks: the values, the
+-- registers, the processes with their locals, and the events.
 abbrev pub report_lines : Run → ℕ → List (List ℕ)
 report_lines r t = lines_of (owned_text [] (behind_first (lines_of (report_at r t))))
 

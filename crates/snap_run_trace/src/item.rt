@@ -1,4 +1,5 @@
-//! What one item does, and what it changes.
+//! The trace of one item of a run: its outcome, the line of the listing that it ran, and what it
+//! changed in the report.
 ghost use Rattle.std.specs.Prelude.{◌≡◌, [], ◌++◌, IfOk, OnOk};
 ghost use Rattle.snap_words.specs.Shape.{IsOneOf};
 ghost use Rattle.snap_semantics.specs.Run.{event_of};

@@ -1,4 +1,4 @@
-//! A whole run, item by item.
+//! `trace`: the text of a program's run over a schedule, item by item, with what each item changed.
 ghost use Rattle.std.specs.Prelude.{◌≡◌, IfOk};
 ghost use Rattle.snap_runs.specs.Run.{run_over};
 ghost use Rattle.snap_run_trace.specs.Trace.{trace_text};

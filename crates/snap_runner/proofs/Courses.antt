@@ -1,5 +1,7 @@
--- A machine that goes through items.
-use Rattle.std.proofs.Common.{◌≡◌, ℕ, zero, suc, ◌+◌, ◌<◌, ◌≤◌, List, [], ◌∷◌, ◌++◌, length, replicate, refl, sym, ap, subst, ◌∙◌, append_assoc, append-nil, length-append, Option, arith}
+-- Laws of a `Course`, a machine that goes through a schedule with the events that callers saw: its items add up, and
+-- a step of a process that is not busy does nothing, however often it comes.
+use Rattle.std.proofs.Common.{◌≡◌, ℕ, zero, suc, ◌+◌, ◌<◌, ◌≤◌, List, [], ◌∷◌, ◌++◌, length, replicate, refl, sym, ap}
+use Rattle.std.proofs.Common.{subst, ◌∙◌, append_assoc, append-nil, length-append, Option, arith}
 use Rattle.std.specs.List.{AllByRecursion, flat_map}
 use Rattle.std.proofs.lemmas.List.{length-replicate, replicate_more, replicate-append-replicate}
 use Rattle.snap_words.specs.Shape.{Counts, IsOneOf}
@@ -22,7 +24,8 @@ use Rattle.snap_runner.specs.Courses.{DoesNothing, Takes}
 use Rattle.snap_runner.specs.declared.course.Course.{Course}
 
 -- the state after some items and some more
-after_more : (s : Source) (n : Counts) (S : State) (xs ys : List Item) → after s n S (xs ++ ys) ≡ after s n (after s n S xs) ys
+after_more : (s : Source) (n : Counts) (S : State) (xs ys : List Item) →
+    after s n S (xs ++ ys) ≡ after s n (after s n S xs) ys
 after_more s n S [] ys = refl
 after_more s n S (x ∷ xs) ys = after_more s n (done s n S x).0 xs ys
 
@@ -35,7 +38,8 @@ events_more s n S t (x ∷ xs) ys =
     let first = event_of t x (done s n S x).1 in
     ap (λ es. first ++ es) (events_more s n S' (t + 1) xs ys)
     ∙ sym (append_assoc first (events s n S' (t + 1) xs) (events s n (after s n S' xs) (t + 1 + length xs) ys))
-    ∙ ap (λ k. (first ++ events s n S' (t + 1) xs) ++ events s n (after s n S' xs) k ys) (let e : t + 1 + length xs ≡ t + suc (length xs) = omega arith in e)
+    ∙ ap (λ k. (first ++ events s n S' (t + 1) xs) ++ events s n (after s n S' xs) k ys)
+    (let e : t + 1 + length xs ≡ t + suc (length xs) = omega arith in e)
 
 -- no items
 pub takes_none : {K W : Type 0} (c : Course K W) (k : ℕ) (x : Item) → k ≡ 0 → Takes c (replicate k x) c
@@ -48,7 +52,8 @@ takes_none c k x none = rw none (record {
 })
 
 -- some items, and some more
-pub takes_more : {K W : Type 0} (c d e : Course K W) (xs ys : List Item) → Takes c xs d → Takes d ys e → Takes c (xs ++ ys) e
+pub takes_more : {K W : Type 0} (c d e : Course K W) (xs ys : List Item) → Takes c xs d →
+    Takes d ys e → Takes c (xs ++ ys) e
 takes_more c d e xs ys h more =
     let s = c.machine.source in
     let n = c.machine.shape in
@@ -59,16 +64,18 @@ takes_more c d e xs ys h more =
       shape = more.shape ∙ h.shape;
       state = more.state ∙ rw (h.source, h.shape, h.state) (sym (after_more s n S xs ys));
       events = more.events ∙ rw (h.events, h.source, h.shape, h.state, number)
-          (append_assoc c.events.items (events s n S (c.done + 1) xs) (events s n (after s n S xs) (c.done + 1 + length xs) ys)
+          (append_assoc c.events.items (events s n S (c.done + 1) xs)
+          (events s n (after s n S xs) (c.done + 1 + length xs) ys)
           ∙ ap (λ es. c.events.items ++ es) (sym (events_more s n S (c.done + 1) xs ys)));
       number = (let a = h.number in let b = more.number in let l = length-append xs ys in omega (arith, a, b, l));
     }
 
 -- an item once more
-pub takes_once_more : {K W : Type 0} (c d e : Course K W) (k m : ℕ) (x : Item) → m ≡ k + 1 → Takes c (replicate k x) d → Takes d (x ∷ []) e →
-    Takes c (replicate m x) e
+pub takes_once_more : {K W : Type 0} (c d e : Course K W) (k m : ℕ) (x : Item) → m ≡ k + 1 →
+    Takes c (replicate k x) d → Takes d (x ∷ []) e → Takes c (replicate m x) e
 takes_once_more c d e k m x is h more =
-    subst (λ xs. Takes c xs e) (replicate_more k x ∙ ap (λ j. replicate j x) (sym is)) (takes_more c d e (replicate k x) (x ∷ []) h more)
+    subst (λ xs. Takes c xs e) (replicate_more k x ∙ ap (λ j. replicate j x) (sym is))
+    (takes_more c d e (replicate k x) (x ∷ []) h more)
 
 -- an item that does nothing, however often
 pub takes_idle : {K W : Type 0} (c d e : Course K W) (k j m : ℕ) (x : Item) → m ≡ k + j →
@@ -83,10 +90,12 @@ takes_idle c d e k j m x is h nothing machine same number =
       events = ap (λ v. v.items) same ∙ sym (append-nil d.events.items) ∙ ap (λ es. d.events.items ++ es) (sym idle.1);
       number = (let l = length-replicate j x in omega (arith, number, l));
     } in
-    subst (λ xs. Takes c xs e) (replicate-append-replicate k j x ∙ ap (λ i. replicate i x) (sym is)) (takes_more c d e (replicate k x) (replicate j x) h more)
+    subst (λ xs. Takes c xs e) (replicate-append-replicate k j x ∙ ap (λ i. replicate i x) (sym is))
+    (takes_more c d e (replicate k x) (replicate j x) h more)
 
 -- an item that is skipped does nothing
-skipped : (s : Source) (n : Counts) (S : State) (x : Item) (r : Reason) → done s n S x ≡ (S, Skipped r) → DoesNothing s n S x
+skipped : (s : Source) (n : Counts) (S : State) (x : Item) (r : Reason) →
+    done s n S x ≡ (S, Skipped r) → DoesNothing s n S x
 skipped s n S x r is t zero = (refl, refl)
 skipped s n S x r is t (suc k) =
     let rest = skipped s n S x r is (t + 1) k in (
@@ -95,24 +104,28 @@ skipped s n S x r is t (suc k) =
     )
 
 -- nor does a step of a process that is idle
-pub idle_does_nothing : (s : Source) (n : Counts) (S : State) (x : Item) (i : ℕ) → x ≡ Step i → (process_at S i).status ≡ Idle → DoesNothing s n S x
+pub idle_does_nothing : (s : Source) (n : Counts) (S : State) (x : Item) (i : ℕ) → x ≡ Step i →
+    (process_at S i).status ≡ Idle → DoesNothing s n S x
 idle_does_nothing s n S x i is stands =
     subst (DoesNothing s n S) (sym is) (skipped s n S (Step i) reason.Idle (ap (step s n S i (process_at S i)) stands))
 
 -- of one that has trapped
-pub trapped_does_nothing : (s : Source) (n : Counts) (S : State) (x : Item) (i : ℕ) (e : Cause) (a : Activity) → x ≡ Step i →
-    (process_at S i).status ≡ Trapped e a → DoesNothing s n S x
+pub trapped_does_nothing : (s : Source) (n : Counts) (S : State) (x : Item) (i : ℕ) (e : Cause) (a : Activity) →
+    x ≡ Step i → (process_at S i).status ≡ Trapped e a → DoesNothing s n S x
 trapped_does_nothing s n S x i e a is stands =
-    subst (DoesNothing s n S) (sym is) (skipped s n S (Step i) reason.Trapped (ap (step s n S i (process_at S i)) stands))
+    subst (DoesNothing s n S) (sym is)
+    (skipped s n S (Step i) reason.Trapped (ap (step s n S i (process_at S i)) stands))
 
 -- and of one that has crashed
-pub crashed_does_nothing : (s : Source) (n : Counts) (S : State) (x : Item) (i : ℕ) (was : Option Activity) → x ≡ Step i →
-    (process_at S i).status ≡ Crashed was → DoesNothing s n S x
+pub crashed_does_nothing : (s : Source) (n : Counts) (S : State) (x : Item) (i : ℕ) (was : Option Activity) →
+    x ≡ Step i → (process_at S i).status ≡ Crashed was → DoesNothing s n S x
 crashed_does_nothing s n S x i was is stands =
-    subst (DoesNothing s n S) (sym is) (skipped s n S (Step i) reason.Crashed (ap (step s n S i (process_at S i)) stands))
+    subst (DoesNothing s n S) (sym is)
+    (skipped s n S (Step i) reason.Crashed (ap (step s n S i (process_at S i)) stands))
 
 -- of these items some are done, and the others are left
-pub record Going {K W : Type 0} (s : Source) (n : Counts) (all : List Item) (c : Course K W) (left : List Item) : Type 0 where
+pub record Going {K W : Type 0} (s : Source) (n : Counts) (all : List Item) (c : Course K W)
+    (left : List Item) : Type 0 where
   pub fits : AllByRecursion (λ x. IsOneOf n.n (who x)) left
   pub source : c.machine.source ≡ s
   pub shape : c.machine.shape ≡ n
@@ -127,37 +140,42 @@ all_right P [] ys h = h
 all_right P (x ∷ xs) ys h = all_right P xs ys h.1
 
 -- an item that stands at the front may be done
-first_fits : (P : Item → Type 0) (k : ℕ) (x : Item) (ys : List Item) → 0 < k → AllByRecursion P (replicate k x ++ ys) → P x
+first_fits : (P : Item → Type 0) (k : ℕ) (x : Item) (ys : List Item) → 0 < k →
+    AllByRecursion P (replicate k x ++ ys) → P x
 first_fits P zero x ys some h = absurd (omega (arith, some))
 first_fits P (suc k) x ys some h = h.0
 
 -- the items of a segment stand before those of the segments behind it
-in_front : (left left' : List Segment) (r : Segment) (x : Item) (k : ℕ) → left ≡ r ∷ left' → replicate k x ≡ segment_items r →
-    flat_map segment_items left ≡ replicate k x ++ flat_map segment_items left'
-in_front left left' r x k next is = ap (flat_map segment_items) next ∙ ap (λ xs. xs ++ flat_map segment_items left') (sym is)
+in_front : (left left' : List Segment) (r : Segment) (x : Item) (k : ℕ) → left ≡ r ∷ left' →
+    replicate k x ≡ segment_items r → flat_map segment_items left ≡ replicate k x ++ flat_map segment_items left'
+in_front left left' r x k next is =
+    ap (flat_map segment_items) next ∙ ap (λ xs. xs ++ flat_map segment_items left') (sym is)
 
 -- the item that comes next may be done
-pub next_fits : {K W : Type 0} (s : Source) (n : Counts) (all : List Item) (left left' : List Segment) (r : Segment) (c : Course K W) (x : Item) (k : ℕ) →
-    Going s n all c (flat_map segment_items left) → left ≡ r ∷ left' → replicate k x ≡ segment_items r → 0 < k → IsOneOf c.machine.shape.n (who x)
+pub next_fits : {K W : Type 0} (s : Source) (n : Counts) (all : List Item) (left left' : List Segment) (r : Segment)
+    (c : Course K W) (x : Item) (k : ℕ) → Going s n all c (flat_map segment_items left) → left ≡ r ∷ left' →
+    replicate k x ≡ segment_items r → 0 < k → IsOneOf c.machine.shape.n (who x)
 next_fits s n all left left' r c x k h next is some =
     subst (λ (m : Counts). IsOneOf m.n (who x)) (sym h.shape)
     (first_fits (λ x. IsOneOf n.n (who x)) k x (flat_map segment_items left') some
     (subst (λ xs. AllByRecursion (λ x. IsOneOf n.n (who x)) xs) (in_front left left' r x k next is) h.fits))
 
 -- and there is a number for it, as often as it comes
-pub next_few : {K W : Type 0} (s : Source) (n : Counts) (all : List Item) (left left' : List Segment) (r : Segment) (c : Course K W) (x : Item) (k : ℕ) →
-    Going s n all c (flat_map segment_items left) → left ≡ r ∷ left' → replicate k x ≡ segment_items r → c.done + k ≤ 1000000
+pub next_few : {K W : Type 0} (s : Source) (n : Counts) (all : List Item) (left left' : List Segment) (r : Segment)
+    (c : Course K W) (x : Item) (k : ℕ) → Going s n all c (flat_map segment_items left) → left ≡ r ∷ left' →
+    replicate k x ≡ segment_items r → c.done + k ≤ 1000000
 next_few s n all left left' r c x k h next is =
     let e = h.number in
     let f = h.few in
-    let m = ap length (in_front left left' r x k next is) ∙ length-append (replicate k x) (flat_map segment_items left') in
+    let m =
+    ap length (in_front left left' r x k next is) ∙ length-append (replicate k x) (flat_map segment_items left') in
     let l = length-replicate k x in
     omega (arith, e, f, m, l)
 
 -- when they are done, the others are left
-pub some_more : {K W : Type 0} (s : Source) (n : Counts) (all : List Item) (left left' : List Segment) (r : Segment) (c c' : Course K W) (x : Item) (k : ℕ) →
-    Going s n all c (flat_map segment_items left) → left ≡ r ∷ left' → replicate k x ≡ segment_items r → Takes c (replicate k x) c' →
-    Going s n all c' (flat_map segment_items left')
+pub some_more : {K W : Type 0} (s : Source) (n : Counts) (all : List Item) (left left' : List Segment) (r : Segment)
+    (c c' : Course K W) (x : Item) (k : ℕ) → Going s n all c (flat_map segment_items left) → left ≡ r ∷ left' →
+    replicate k x ≡ segment_items r → Takes c (replicate k x) c' → Going s n all c' (flat_map segment_items left')
 some_more s n all left left' r c c' x k h next is took =
     let xs = replicate k x in
     let ys = flat_map segment_items left' in
@@ -172,7 +190,8 @@ some_more s n all left left' r c c' x k h next is took =
       shape = took.shape ∙ g.shape;
       state = g.state ∙ after_more s n c.machine.state xs ys ∙ rw (took.state, g.source, g.shape) refl;
       events = g.events ∙ ap (λ es. c.events.items ++ es) (events_more s n c.machine.state (c.done + 1) xs ys)
-          ∙ sym (append_assoc c.events.items (events s n c.machine.state (c.done + 1) xs) (events s n (after s n c.machine.state xs) (c.done + 1 + length xs) ys))
+          ∙ sym (append_assoc c.events.items (events s n c.machine.state (c.done + 1) xs)
+          (events s n (after s n c.machine.state xs) (c.done + 1 + length xs) ys))
           ∙ rw (took.events, took.state, number, g.source, g.shape) refl;
       number = omega (arith, a, b, l);
       few = g.few;

@@ -1,4 +1,4 @@
--- A machine that goes through items, with what callers saw of them.
+-- `Takes`: a `Course`, which is a machine with the events that callers saw of its items, does some more items.
 use Rattle.std.specs.Prelude.{◌≡◌, ℕ, ◌+◌, List, [], ◌++◌, length, replicate}
 use Rattle.snap_words.specs.Shape.{Counts}
 use Rattle.snap_semantics.specs.declared.process.Item.{Item}
@@ -12,7 +12,8 @@ pub record Takes {K W : Type 0} (c : Course K W) (xs : List Item) (c' : Course K
   pub source : c'.machine.source ≡ c.machine.source
   pub shape : c'.machine.shape ≡ c.machine.shape
   pub state : c'.machine.state ≡ after c.machine.source c.machine.shape c.machine.state xs
-  pub events : c'.events.items ≡ c.events.items ++ events c.machine.source c.machine.shape c.machine.state (c.done + 1) xs
+  pub events : c'.events.items
+      ≡ c.events.items ++ events c.machine.source c.machine.shape c.machine.state (c.done + 1) xs
   pub number : c'.done ≡ c.done + length xs
 
 -- an item changes nothing, and callers see nothing of it, however often it comes

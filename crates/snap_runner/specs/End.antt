@@ -1,4 +1,4 @@
--- The end of a run.
+-- `end_report`, the report of the end of a listing's run over a schedule, and `IsEnd`, a machine that has come there.
 use Rattle.std.specs.Prelude.{◌≡◌, ℕ, List, length}
 use Rattle.snap_semantics.specs.Run.{after, events}
 use Rattle.snap_semantics.specs.Schedule.{Schedule}

@@ -1,5 +1,7 @@
-//! A machine over a whole schedule.
-ghost use Rattle.std.specs.Prelude.{◌≡◌, ◌<◌, ◌+◌, [], ◌∷◌, ◌++◌, ◌^◌, true, IfOk, OnOk, length, option_to_list, replicate};
+//! `Course`: a machine with the events that callers saw; `run_to_end` takes it through a whole
+//! schedule.
+ghost use Rattle.std.specs.Prelude.{◌≡◌, ◌<◌, ◌+◌, [], ◌∷◌, ◌++◌, ◌^◌};
+ghost use Rattle.std.specs.Prelude.{true, IfOk, OnOk, option_to_list, replicate};
 ghost use Rattle.std.specs.List.{AllByRecursion};
 ghost use Rattle.snap_words.specs.Shape.{IsOneOf};
 ghost use Rattle.snap_semantics.specs.Run.{event_of};

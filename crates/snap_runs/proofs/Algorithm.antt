@@ -1,5 +1,7 @@
--- An algorithm in its own words: typed variables, one move for each line; and the runs of its processes.
-use Rattle.std.specs.Prelude.{◌≡◌, ℕ, zero, suc, ◌+◌, ◌-◌, Bool, if◌then◌else◌, List, map, Option, Some, None, Result, Ok, slice_index_or, slice_set, replicate, refl}
+-- `Algorithm`: any listing in its own words, with typed variables, program
+-- counters and one move for each line; and the runs of its processes.
+use Rattle.std.specs.Prelude.{◌≡◌, ℕ, zero, suc, ◌+◌, ◌-◌, Bool, if◌then◌else◌, List, map, Option, Some, None, Result}
+use Rattle.std.specs.Prelude.{Ok, slice_index_or, slice_set, replicate, refl}
 use Rattle.snap_words.specs.Shape.{Counts}
 use Rattle.snap_semantics.specs.declared.process.Cause.{Cause}
 use Rattle.snap_semantics.specs.declared.process.Item.{Item}
@@ -16,8 +18,8 @@ use Rattle.snap_semantics.specs.Source.{Source}
 use Rattle.snap_semantics.specs.State.{Locals, Memory, Process, State, initial_memory, initial_process}
 use Rattle.snap_semantics.specs.Table.{Effect, Goes, Answers, Finishes, call_skip, entry, who}
 
--- In all that follows V are the variables of a process, P the program counters, and M the memory, which may carry counters
--- beside the registers.
+-- In all that follows V are the variables of a process, P the program counters, and M the memory, which may carry
+-- counters beside the registers.
 
 -- what a busy process is asked: a scan, a scan embedded in an update, or an update outside its scan
 pub data Mode : Type 0 where
@@ -66,8 +68,8 @@ abbrev pub WhenBusy : {P : Type 0} → (Mode → P → Type 0) → Control P →
 WhenBusy Holds Idle = Unit {0}
 WhenBusy Holds (At d k) = Holds d k
 
-pub when_busy : {P : Type 0} (A B : Mode → P → Type 0) → ((d : Mode) (k : P) → A d k → B d k) → (control : Control P) → WhenBusy A control →
-    WhenBusy B control
+pub when_busy : {P : Type 0} (A B : Mode → P → Type 0) → ((d : Mode) (k : P) → A d k → B d k) →
+    (control : Control P) → WhenBusy A control → WhenBusy B control
 when_busy A B gives Idle h = tt
 when_busy A B gives (At d k) h = gives d k h
 
@@ -97,8 +99,8 @@ LeadsTo Holds (Begin d p k) = Holds d p k
 LeadsTo Holds (Answer v) = Unit {0}
 LeadsTo Holds Finish = Unit {0}
 
-pub leads_to : {V P M : Type 0} (A B : Mode → V → P → Type 0) → ((d : Mode) (p : V) (k : P) → A d p k → B d p k) → (v : Move V P M) → LeadsTo A v →
-    LeadsTo B v
+pub leads_to : {V P M : Type 0} (A B : Mode → V → P → Type 0) → ((d : Mode) (p : V) (k : P) → A d p k → B d p k) →
+    (v : Move V P M) → LeadsTo A v → LeadsTo B v
 leads_to A B gives (To d m p k) h = gives d p k h
 leads_to A B gives (Begin d p k) h = gives d p k h
 leads_to A B gives (Answer v) h = tt
@@ -179,13 +181,30 @@ stepped_auxiliary a k time g = record {
 
 -- after a line that begins an embedded scan
 abbrev pub begun_auxiliary : {V P M : Type 0} → Algorithm V P M → P → ℕ → Auxiliary → Auxiliary
-begun_auxiliary a k time g = record { since = time; own = 0; collects = 0; round = time; tested = 0; called = g.called; wrote = g.wrote + a.writes k }
+begun_auxiliary a k time g = record {
+  since = time;
+  own = 0;
+  collects = 0;
+  round = time;
+  tested = 0;
+  called = g.called;
+  wrote = g.wrote + a.writes k;
+}
 
 -- after a call
 abbrev pub called_auxiliary : ℕ → Op → Auxiliary → Auxiliary
-called_auxiliary time Scan g = record { since = time; own = 0; collects = 0; round = time; tested = 0; called = time; wrote = 0 }
+called_auxiliary time Scan g =
+    record { since = time; own = 0; collects = 0; round = time; tested = 0; called = time; wrote = 0 }
 called_auxiliary time (Update word value) g =
-    record { since = g.since; own = g.own; collects = g.collects; round = g.round; tested = g.tested; called = time; wrote = 0 }
+    record {
+      since = g.since;
+      own = g.own;
+      collects = g.collects;
+      round = g.round;
+      tested = g.tested;
+      called = time;
+      wrote = 0;
+    }
 
 -- what an item does: nothing, or another memory and another process
 pub data Change (V P M : Type 0) : Type 0 where
@@ -193,20 +212,30 @@ pub data Change (V P M : Type 0) : Type 0 where
   New : (memory : M) → (process : TypedProcess V P M) → (outcome : Outcome) → Change V P M
 
 abbrev pub by_move : {V P M : Type 0} → Algorithm V P M → ℕ → M → TypedProcess V P M → P → Move V P M → Change V P M
-by_move a time m q k (To d m' p k') = New m' (record { control = At d k'; variables = p; auxiliary = stepped_auxiliary a k time q.auxiliary }) Stepped
-by_move a time m q k (Begin d p k') = New m (record { control = At d k'; variables = p; auxiliary = begun_auxiliary a k time q.auxiliary }) Stepped
+by_move a time m q k (To d m' p k') =
+    New m' (record { control = At d k'; variables = p; auxiliary = stepped_auxiliary a k time q.auxiliary }) Stepped
+by_move a time m q k (Begin d p k') =
+    New m (record { control = At d k'; variables = p; auxiliary = begun_auxiliary a k time q.auxiliary }) Stepped
 by_move a time m q k (Answer v) =
-    New m (record { control = Idle; variables = q.variables; auxiliary = stepped_auxiliary a k time q.auxiliary }) (Answered v)
-by_move a time m q k Finish = New m (record { control = Idle; variables = q.variables; auxiliary = stepped_auxiliary a k time q.auxiliary }) Finished
+    New m (record { control = Idle; variables = q.variables; auxiliary = stepped_auxiliary a k time q.auxiliary })
+    (Answered v)
+by_move a time m q k Finish =
+    New m
+    (record { control = Idle; variables = q.variables; auxiliary = stepped_auxiliary a k time q.auxiliary }) Finished
 
 abbrev pub by_step : {V P M : Type 0} → Algorithm V P M → ℕ → M → ℕ → TypedProcess V P M → Control P → Change V P M
 by_step a time m i q Idle = Same reason.Idle
 by_step a time m i q (At d k) = by_move a time m q k (a.move i d m q.variables k)
 
-abbrev pub by_admission : {V P M : Type 0} → Algorithm V P M → ℕ → M → TypedProcess V P M → Op → Option Reason → Change V P M
+abbrev pub by_admission : {V P M : Type 0} → Algorithm V P M → ℕ → M → TypedProcess V P M →
+    Op → Option Reason → Change V P M
 by_admission a time m q op (Some why) = Same why
 by_admission a time m q op None =
-    New m (record { control = At (mode_of op) (a.counter op); variables = q.variables; auxiliary = called_auxiliary time op q.auxiliary }) Called
+    New m (record {
+      control = At (mode_of op) (a.counter op);
+      variables = q.variables;
+      auxiliary = called_auxiliary time op q.auxiliary;
+    }) Called
 
 abbrev pub by_call : {V P M : Type 0} → Algorithm V P M → ℕ → M → ℕ → Op → TypedProcess V P M → Control P → Change V P M
 by_call a time m i op q Idle = by_admission a time m q op (call_skip a.source.kind a.shape i op)

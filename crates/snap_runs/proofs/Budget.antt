@@ -1,4 +1,5 @@
--- The own steps of a scan: so many before its first double collect, and so many for each that has failed.
+-- `budget`: the own steps of a scan before its first double collect,
+-- and `round` more for each double collect that has failed.
 use Rattle.std.specs.Prelude.{◌≡◌, ℕ, zero, suc, ◌+◌, ◌-◌, ◌*◌, ◌≤◌, refl}
 use Rattle.std.proofs.Common.{ap, arith}
 
@@ -21,7 +22,9 @@ next_budget round rest c c' e = ap (budget round rest) (let f : c' ≡ suc c = o
 budget_mono : (round rest c more : ℕ) → budget round rest c ≤ budget round rest (c + more)
 unfolding budget
 budget_mono round rest c zero =
-    let e : budget round rest (c + 0) ≡ budget round rest c = ap (budget round rest) (let f : c + 0 ≡ c = omega arith in f) in omega arith
+    let e : budget round rest (c + 0) ≡ budget round rest c =
+    ap (budget round rest) (let f : c + 0 ≡ c = omega arith in f) in
+    omega arith
 budget_mono round rest c (suc more) =
     let e : budget round rest (c + suc more) ≡ budget round rest (c + more) + round =
     ap (budget round rest) (let f : c + suc more ≡ suc (c + more) = omega arith in f) in
@@ -37,5 +40,6 @@ budget_is round rest (suc c) =
 pub budget_le : (round rest c most : ℕ) → c ≤ most → budget round rest c ≤ most * round + rest
 budget_le round rest c most h =
     let a : budget round rest c ≤ budget round rest (c + (most - c)) = budget_mono round rest c (most - c) in
-    let e : budget round rest (c + (most - c)) ≡ budget round rest most = ap (budget round rest) (let f : c + (most - c) ≡ most = omega arith in f) in
+    let e : budget round rest (c + (most - c)) ≡ budget round rest most =
+    ap (budget round rest) (let f : c + (most - c) ≡ most = omega arith in f) in
     let b : budget round rest most ≡ most * round + rest = budget_is round rest most in omega arith

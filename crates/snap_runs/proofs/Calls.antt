@@ -1,5 +1,6 @@
 -- The calls of a run, for any listing: under which one a process is, and that no two of a process are open at once.
-use Rattle.std.specs.Prelude.{◌≡◌, ◌≢◌, ℕ, zero, suc, ◌-◌, ◌<◌, ◌≤◌, ◌⊎◌, true, List, length, Option, Some, None, Result, Ok, Err, slice_set, refl}
+use Rattle.std.specs.Prelude.{◌≡◌, ◌≢◌, ℕ, zero, suc, ◌-◌, ◌<◌, ◌≤◌, ◌⊎◌, true, List, length, Option, Some, None}
+use Rattle.std.specs.Prelude.{Result, Ok, Err, slice_set, refl}
 use Rattle.std.proofs.Common.{sym, ◌∙◌, ap, subst, arith, inl, inr}
 use Rattle.std.proofs.lemmas.Bool.{cases_eq, cases_lt}
 use Rattle.std.proofs.lemmas.List.Elements.{All-from_recursion}
@@ -19,32 +20,40 @@ use Rattle.snap_semantics.specs.declared.process.Status.{Status}
 use Rattle.snap_semantics.specs.declared.process.Status.TheVariants.{Idle, Busy, Trapped, Crashed}
 use Rattle.snap_semantics.specs.Source.{Source, instr_at}
 use Rattle.snap_semantics.specs.State.{Locals, Memory, Process, State, nobody, process_at, initial_process}
-use Rattle.snap_semantics.specs.Table.{Effect, Goes, Answers, Finishes, effect_at, leave, step, call_skip, called, call, crash, done, who}
+use Rattle.snap_semantics.specs.Table.{Effect, Goes, Answers, Finishes, effect_at, leave, step}
+use Rattle.snap_semantics.specs.Table.{call_skip, called, call, crash, done, who}
 use Rattle.snap_runs.specs.Run.{Run, IsValidRun, state, item, outcome}
 use Rattle.snap_runs.specs.Operation.{EndsAreOfOperations}
 use Rattle.snap_runs.specs.Scan.{FinishedScan, is_not_skipped}
 use Rattle.snap_runs.specs.Update.{PendingUpdate}
 use Rattle.snap_runs.proofs.Embedding.{next_state}
-use Rattle.snap_runs.proofs.Transitions.{MaySkip, Transition, skipped, calls, goes, answers, finishes, traps, crashes, status_of, own_turn}
+use Rattle.snap_runs.proofs.Transitions.{MaySkip, Transition, skipped, calls, goes, answers}
+use Rattle.snap_runs.proofs.Transitions.{finishes, traps, crashes, status_of, own_turn}
 
 -- An item leaves a state, or changes its process and perhaps the memory.
 abbrev pub Touches : State → ℕ → State → Type 0
-Touches S i S' = ((m : Memory) × (p : Process) × (S' ≡ record { memory = m; processes = slice_set S.processes (i - 1) p })) ⊎ (S' ≡ S)
+Touches S i S' =
+    ((m : Memory) × (p : Process) × (S' ≡ record { memory = m; processes = slice_set S.processes (i - 1) p }))
+    ⊎ (S' ≡ S)
 
-leave_touches : (S : State) (i : ℕ) (a : Activity) (l : Locals) (e : Result Effect Cause) → Touches S i (leave S i a l e).0
+leave_touches : (S : State) (i : ℕ) (a : Activity) (l : Locals) (e : Result Effect Cause) →
+    Touches S i (leave S i a l e).0
 leave_touches S i a l (Ok (Goes m k link line)) = inl (m, _, refl)
 leave_touches S i a l (Ok (Answers v)) = inl (S.memory, _, refl)
 leave_touches S i a l (Ok Finishes) = inl (S.memory, _, refl)
 leave_touches S i a l (Err e) = inl (S.memory, _, refl)
 
-step_touches : (s : Source) (shape : Counts) (S : State) (i : ℕ) (p : Process) (status : Status) → Touches S i (step s shape S i p status).0
+step_touches : (s : Source) (shape : Counts) (S : State) (i : ℕ) (p : Process) (status : Status) →
+    Touches S i (step s shape S i p status).0
 step_touches s shape S i p (Trapped e a) = inr refl
 step_touches s shape S i p (Crashed was) = inr refl
 step_touches s shape S i p Idle = inr refl
 step_touches s shape S i p (Busy a) = leave_touches S i a p.locals
-    (effect_at s (record { shape = shape; me = i; op = a.op; locals = p.locals; place = 0 }) S.memory a (instr_at s.lines a.line))
+    (effect_at s (record { shape = shape; me = i; op = a.op; locals = p.locals; place = 0 }) S.memory a
+    (instr_at s.lines a.line))
 
-called_touches : (s : Source) (S : State) (i : ℕ) (p : Process) (o : Op) (why : Option Reason) → Touches S i (called s S i p o why).0
+called_touches : (s : Source) (S : State) (i : ℕ) (p : Process) (o : Op) (why : Option Reason) →
+    Touches S i (called s S i p o why).0
 called_touches s S i p o (Some why) = inr refl
 called_touches s S i p o None = inl (S.memory, _, refl)
 
@@ -73,7 +82,8 @@ same_count S S' i (inr h) = ap (λ (x : State). length x.processes) h
 other_status : (S S' : State) (k i : ℕ) → Touches S k S' → 0 < k → 0 < i → k ≢ i → status_of S' i ≡ status_of S i
 other_status S S' k i (inl h) pk pi other =
     ap (λ (x : State). status_of x i) h.2
-    ∙ ap (λ (p : Process). p.status) (get_or-set_other S.processes (k - 1) (i - 1) h.1 nobody (λ same. other (omega arith)))
+    ∙ ap (λ (p : Process). p.status)
+    (get_or-set_other S.processes (k - 1) (i - 1) h.1 nobody (λ same. other (omega arith)))
 other_status S S' k i (inr h) pk pi other = ap (λ (x : State). status_of x i) h
 
 -- A process is at an operation that was called and has not ended, or has trapped or crashed.
@@ -95,18 +105,21 @@ IsEnd (Answered view) = Unit {0}
 IsEnd Finished = Unit {0}
 IsEnd _ = ⊥
 
-stays_occupied : {s s' : Status} {x : Item} {out : Outcome} (o : Op) → Transition s x out s' → (EndsWith o out → ⊥) → Occupied o s → Occupied o s'
+stays_occupied : {s s' : Status} {x : Item} {out : Outcome} (o : Op) → Transition s x out s' →
+    (EndsWith o out → ⊥) → Occupied o s → Occupied o s'
 stays_occupied o (skipped s x why may) not_end h = h
 stays_occupied o (calls i p line) not_end h = absurd h
 stays_occupied o (goes i a line link) not_end h = h
-stays_occupied o (answers i a view is) not_end h = absurd (not_end (subst (λ p. EndsWith p (Answered view)) (sym is ∙ h) tt))
-stays_occupied o (finishes i a word value is) not_end h = absurd (not_end (subst (λ p. EndsWith p Finished) (sym is ∙ h) tt))
+stays_occupied o (answers i a view is) not_end h =
+    absurd (not_end (subst (λ p. EndsWith p (Answered view)) (sym is ∙ h) tt))
+stays_occupied o (finishes i a word value is) not_end h =
+    absurd (not_end (subst (λ p. EndsWith p Finished) (sym is ∙ h) tt))
 stays_occupied o (traps i a cause) not_end h = tt
 stays_occupied o (crashes i s was) not_end h = tt
 
 -- a call finds its process idle, and occupies it
-is_called : {s s' : Status} {x : Item} {out : Outcome} (i : ℕ) (o : Op) → Transition s x out s' → out ≡ Called → x ≡ Call i o →
-    (s ≡ Idle) × Occupied o s'
+is_called : {s s' : Status} {x : Item} {out : Outcome} (i : ℕ) (o : Op) → Transition s x out s' → out ≡ Called →
+    x ≡ Call i o → (s ≡ Idle) × Occupied o s'
 is_called i o (skipped s x why may) out is = absurd (cc)
 is_called i o (calls k p line) out is = (refl, cc)
 is_called i o (goes k a line link) out is = absurd (cc)
@@ -137,9 +150,10 @@ is_finished (traps k a cause) out = absurd (cc)
 is_finished (crashes k s was) out = absurd (cc)
 
 -- a busy process that steps is not skipped
-pub is_not_skipped_there : {s s' : Status} {x : Item} {out : Outcome} (i : ℕ) (a : Activity) → Transition s x out s' → s ≡ Busy a → x ≡ Step i →
-    is_not_skipped out ≡ true
-is_not_skipped_there i a (skipped s x why may) is step = absurd (subst (λ y. MaySkip (Busy a) y) step (subst (λ y. MaySkip y x) is may))
+pub is_not_skipped_there : {s s' : Status} {x : Item} {out : Outcome} (i : ℕ) (a : Activity) → Transition s x out s' →
+    s ≡ Busy a → x ≡ Step i → is_not_skipped out ≡ true
+is_not_skipped_there i a (skipped s x why may) is step =
+    absurd (subst (λ y. MaySkip (Busy a) y) step (subst (λ y. MaySkip y x) is may))
 is_not_skipped_there i a (calls k p line) is step = refl
 is_not_skipped_there i a (goes k b line link) is step = refl
 is_not_skipped_there i a (answers k b view e) is step = refl
@@ -164,13 +178,16 @@ module _ (r : Run) (fits : IsValidRun r) where
   pub turn : (t i : ℕ) → t < length r.items → IsOneOf r.shape.n i → who (item r (suc t)) ≡ i →
       Transition (status t i) (item r (suc t)) (outcome r (suc t)) (status (suc t) i)
   turn t i h one his =
-      subst (λ (S : State). Transition (status t i) (item r (suc t)) (outcome r (suc t)) (status_of S i)) (sym (next_state r t h))
+      subst (λ (S : State). Transition (status t i) (item r (suc t)) (outcome r (suc t)) (status_of S i))
+      (sym (next_state r t h))
       (own_turn r.source r.shape (state r t) i (processes_count t (omega arith)) one (item r (suc t)) his)
 
-  pub other_turn : (t i : ℕ) → t < length r.items → IsOneOf r.shape.n i → who (item r (suc t)) ≢ i → status (suc t) i ≡ status t i
+  pub other_turn : (t i : ℕ) → t < length r.items → IsOneOf r.shape.n i →
+      who (item r (suc t)) ≢ i → status (suc t) i ≡ status t i
   other_turn t i h one other =
       ap (λ (S : State). status_of S i) (next_state r t h)
-      ∙ other_status (state r t) _ (who (item r (suc t))) i (touches r.source r.shape (state r t) (item r (suc t))) (item_one t h).0 one.0 other
+      ∙ other_status (state r t) _ (who (item r (suc t))) i
+      (touches r.source r.shape (state r t) (item r (suc t))) (item_one t h).0 one.0 other
 
   -- item c is such a call
   abbrev pub Calls : ℕ → Op → ℕ → Type 0
@@ -189,30 +206,38 @@ module _ (r : Run) (fits : IsValidRun r) where
         | inl same ↦ (let is : item r (suc t) ≡ Call i o = subst (λ y. item r y ≡ Call i o) same call.0 in
             let out : outcome r (suc t) ≡ Called = subst (λ y. outcome r y ≡ Called) same call.1 in
             (is_called i o (turn t i (omega arith) one (ap who is)) out is).1)
-        | inr more ↦ (let past : Occupied o (status t i) = occupied i o c t one pos (omega arith) (omega arith) call (λ u lt less. still u lt (omega arith)) in
+        | inr more ↦ (let past : Occupied o (status t i) =
+            occupied i o c t one pos (omega arith) (omega arith) call (λ u lt less. still u lt (omega arith)) in
             elim (cases_eq (who (item r (suc t))) i) [
-              | inl his ↦ stays_occupied o (turn t i (omega arith) one his) (λ ends. still (suc t) (omega arith) (omega arith) (his, ends)) past
+              | inl his ↦
+                  stays_occupied o (turn t i (omega arith) one his)
+                  (λ ends. still (suc t) (omega arith) (omega arith) (his, ends)) past
               | inr other ↦ subst (Occupied o) (sym (other_turn t i (omega arith) one other)) past
             ])
       ]
 
   -- no call of a process finds an open one
-  not_called : (i : ℕ) (o p : Op) (c d : ℕ) → IsOneOf r.shape.n i → 0 < c → c < d → d ≤ length r.items → Calls i o c → Calls i p d →
-      ((u : ℕ) → c < u → u < d → EndsAt i o u → ⊥) → ⊥
+  not_called : (i : ℕ) (o p : Op) (c d : ℕ) → IsOneOf r.shape.n i → 0 < c → c < d → d ≤ length r.items → Calls i o c →
+      Calls i p d → ((u : ℕ) → c < u → u < d → EndsAt i o u → ⊥) → ⊥
   not_called i o p c zero one pos lt short call again still = omega arith
   not_called i o p c (suc t) one pos lt short call again still =
-      let past : Occupied o (status t i) = occupied i o c t one pos (omega arith) (omega arith) call (λ u less le. still u less (omega arith)) in
+      let past : Occupied o (status t i) =
+      occupied i o c t one pos (omega arith) (omega arith) call (λ u less le. still u less (omega arith)) in
       subst (Occupied o) (is_called i p (turn t i (omega arith) one (ap who again.0)) again.1 again.0).0 past
 
   -- two calls of a process that are open before an item are one
-  pub one_call : (i : ℕ) (o p : Op) (c d t : ℕ) → IsOneOf r.shape.n i → 0 < c → 0 < d → c < t → d < t → t ≤ length r.items → Calls i o c → Calls i p d →
+  pub one_call : (i : ℕ) (o p : Op) (c d t : ℕ) → IsOneOf r.shape.n i → 0 < c →
+      0 < d → c < t → d < t → t ≤ length r.items → Calls i o c → Calls i p d →
       ((u : ℕ) → c < u → u < t → EndsAt i o u → ⊥) → ((u : ℕ) → d < u → u < t → EndsAt i p u → ⊥) → c ≡ d
   one_call i o p c d t one pc pd lc ld short call again still_c still_d =
       elim (cases_eq c d) [
         | inl same ↦ same
         | inr other ↦ elim (cases_lt c d) [
-          | inl less ↦ absurd (not_called i o p c d one pc less (omega arith) call again (λ u lt le. still_c u lt (omega arith)))
-          | inr more ↦ absurd (not_called i p o d c one pd (omega arith) (omega arith) again call (λ u lt le. still_d u lt (omega arith)))
+          | inl less ↦
+              absurd (not_called i o p c d one pc less (omega arith) call again (λ u lt le. still_c u lt (omega arith)))
+          | inr more ↦
+              absurd (not_called i p o d c one pd (omega arith) (omega arith) again call
+              (λ u lt le. still_d u lt (omega arith)))
         ]
       ]
 
@@ -230,7 +255,8 @@ module _ (r : Run) (fits : IsValidRun r) where
   UnderAt i t (Trapped cause a) = Unit {0}
   UnderAt i t (Crashed was) = Unit {0}
 
-  longer : (i t : ℕ) (o : Op) → (who (item r (suc t)) ≡ i → IsEnd (outcome r (suc t)) → ⊥) → UnderCall i o t → UnderCall i o (suc t)
+  longer : (i t : ℕ) (o : Op) → (who (item r (suc t)) ≡ i → IsEnd (outcome r (suc t)) → ⊥) →
+      UnderCall i o t → UnderCall i o (suc t)
   longer i t o not_end h = record {
     call = h.call;
     is = h.is;
@@ -242,14 +268,15 @@ module _ (r : Run) (fits : IsValidRun r) where
     ];
   }
 
-  longer_at : (i t : ℕ) (s : Status) → (who (item r (suc t)) ≡ i → IsEnd (outcome r (suc t)) → ⊥) → UnderAt i t s → UnderAt i (suc t) s
+  longer_at : (i t : ℕ) (s : Status) → (who (item r (suc t)) ≡ i → IsEnd (outcome r (suc t)) → ⊥) →
+      UnderAt i t s → UnderAt i (suc t) s
   longer_at i t Idle not_end h = tt
   longer_at i t (Busy a) not_end h = longer i t a.op not_end h
   longer_at i t (Trapped cause a) not_end h = tt
   longer_at i t (Crashed was) not_end h = tt
 
-  next_under : {s s' : Status} {x : Item} {out : Outcome} (i t : ℕ) → Transition s x out s' → item r (suc t) ≡ x → outcome r (suc t) ≡ out →
-      who (item r (suc t)) ≡ i → UnderAt i t s → UnderAt i (suc t) s'
+  next_under : {s s' : Status} {x : Item} {out : Outcome} (i t : ℕ) → Transition s x out s' → item r (suc t) ≡ x →
+      outcome r (suc t) ≡ out → who (item r (suc t)) ≡ i → UnderAt i t s → UnderAt i (suc t) s'
   next_under i t (skipped s x why may) is comes his h = longer_at i t s (λ own ends. subst IsEnd comes ends) h
   next_under i t (calls k o line) is comes his h =
       let same : k ≡ i = sym (ap who is) ∙ his in
@@ -269,7 +296,8 @@ module _ (r : Run) (fits : IsValidRun r) where
   -- a busy process is under a call
   pub under : (t i : ℕ) → t ≤ length r.items → IsOneOf r.shape.n i → UnderAt i t (status t i)
   under zero i h one =
-      subst (UnderAt i 0) (sym (ap (λ (p : Process). p.status) (get_or-replicate r.shape.n (i - 1) (initial_process r.source r.shape) nobody (omega arith)))) tt
+      subst (UnderAt i 0) (sym (ap (λ (p : Process). p.status)
+      (get_or-replicate r.shape.n (i - 1) (initial_process r.source r.shape) nobody (omega arith)))) tt
   under (suc t) i h one =
       elim (cases_eq (who (item r (suc t))) i) [
         | inl his ↦ next_under i t (turn t i (omega arith) one his) refl refl his (under t i (omega arith) one)
@@ -284,7 +312,8 @@ module _ (r : Run) (fits : IsValidRun r) where
       let i = who (item r (suc t)) in
       let one = item_one t h in
       let was = is_answered view (turn t i h one refl) out in
-      let u : UnderCall i op.Scan t = subst (λ o. UnderCall i o t) was.2 (subst (UnderAt i t) was.1 (under t i (omega arith) one)) in
+      let u : UnderCall i op.Scan t =
+      subst (λ o. UnderCall i o t) was.2 (subst (UnderAt i t) was.1 (under t i (omega arith) one)) in
       let le : u.call ≤ t = u.order in (
         u.call,
         record {
@@ -308,7 +337,8 @@ module _ (r : Run) (fits : IsValidRun r) where
       let i = who (item r (suc t)) in
       let one = item_one t h in
       let was = is_finished (turn t i h one refl) out in
-      let u : UnderCall i (op.Update was.1 was.2) t = subst (λ o. UnderCall i o t) was.4 (subst (UnderAt i t) was.3 (under t i (omega arith) one)) in
+      let u : UnderCall i (op.Update was.1 was.2) t =
+      subst (λ o. UnderCall i o t) was.4 (subst (UnderAt i t) was.3 (under t i (omega arith) one)) in
       let le : u.call ≤ t = u.order in (
         u.call,
         was.1,

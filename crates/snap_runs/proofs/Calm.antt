@@ -1,6 +1,9 @@
--- A run with crashes, looked at through one without them: instead of a crash, and of each item of a process that has crashed,
--- comes a call that is skipped. The states are the same, but that who has crashed is still at what it was at.
-use Rattle.std.specs.Prelude.{◌≡◌, ℕ, zero, suc, ◌-◌, ◌<◌, ◌≤◌, ◌⊎◌, Bool, true, false, ◌&&◌, List, [], ◌∷◌, length, map, take, Option, Some, None, Result, Ok, Err, nat_eq, nat_lt, nat_le, slice_index_or, slice_set, if◌then◌else◌, refl}
+-- A run with crashes, looked at through one without them: instead of a crash, and of each item of a process that has
+-- crashed, comes a call that is skipped. The states are the same, but that who has crashed is still at what it was
+-- at.
+use Rattle.std.specs.Prelude.{◌≡◌, ℕ, zero, suc, ◌-◌, ◌<◌, ◌≤◌, ◌⊎◌, Bool, true, false, ◌&&◌, List, [], ◌∷◌, length}
+use Rattle.std.specs.Prelude.{map, take, Option, Some, None, Result, Ok, Err, nat_eq, nat_lt, nat_le, slice_index_or}
+use Rattle.std.specs.Prelude.{slice_set, if◌then◌else◌, refl}
 use Rattle.std.specs.List.{AllByRecursion}
 use Rattle.std.proofs.Common.{sym, ◌∙◌, ap, subst, arith, inl, inr}
 use Rattle.std.proofs.lemmas.List.{map-set}
@@ -24,7 +27,8 @@ use Rattle.snap_semantics.specs.declared.process.Status.TheVariants.{Idle, Busy,
 use Rattle.snap_semantics.specs.Run.{after}
 use Rattle.snap_semantics.specs.Source.{Source, instr_at}
 use Rattle.snap_semantics.specs.State.{Locals, Memory, Process, State, nobody, process_at, initial, initial_process}
-use Rattle.snap_semantics.specs.Table.{Effect, Goes, Answers, Finishes, effect_at, leave, step, entry, owner_skip, call_skip, called, call, crashed, crash, done, who}
+use Rattle.snap_semantics.specs.Table.{Effect, Goes, Answers, Finishes, effect_at, leave, step, entry, owner_skip}
+use Rattle.snap_semantics.specs.Table.{call_skip, called, call, crashed, crash, done, who}
 use Rattle.snap_runs.specs.Run.{Run, IsValidRun, state, item, outcome}
 use Rattle.snap_runs.specs.WaitFree.{is_alive}
 use Rattle.snap_runs.proofs.Calls.{turn, item_one}
@@ -68,15 +72,22 @@ abbrev along : State × Outcome → State × Outcome
 along x = (calmed x.0, x.1)
 
 set_along : (S : State) (i : ℕ) (m : Memory) (q : Process) (out : Outcome) →
-    ◌≡◌ {A = State × Outcome} (record { memory = m; processes = slice_set (map revived S.processes) (i - 1) (revived q) }, out)
+    ◌≡◌ {A = State × Outcome} (
+      record { memory = m; processes = slice_set (map revived S.processes) (i - 1) (revived q) },
+      out,
+    )
     (calmed (record { memory = m; processes = slice_set S.processes (i - 1) q }), out)
 set_along S i m q out =
-    ap (λ (ps : List Process). let x : State × Outcome = (record { memory = m; processes = ps }, out) in x) (sym (map-set revived S.processes (i - 1) q))
+    ap (λ (ps : List Process). let x : State × Outcome = (record { memory = m; processes = ps }, out) in x)
+    (sym (map-set revived S.processes (i - 1) q))
 
-leave_along : (S : State) (i : ℕ) (a : Activity) (l : Locals) (e : Result Effect Cause) → leave (calmed S) i a l e ≡ along (leave S i a l e)
+leave_along : (S : State) (i : ℕ) (a : Activity) (l : Locals) (e : Result Effect Cause) →
+    leave (calmed S) i a l e ≡ along (leave S i a l e)
 leave_along S i a l (Ok (Goes m k link line)) =
-    set_along S i m (record { status = Busy (record { op = a.op; line = line; link = link }); locals = k }) outcomes.Stepped
-leave_along S i a l (Ok (Answers v)) = set_along S i S.memory (record { status = Idle; locals = l }) (outcomes.Answered v)
+    set_along S i m
+    (record { status = Busy (record { op = a.op; line = line; link = link }); locals = k }) outcomes.Stepped
+leave_along S i a l (Ok (Answers v)) =
+    set_along S i S.memory (record { status = Idle; locals = l }) (outcomes.Answered v)
 leave_along S i a l (Ok Finishes) = set_along S i S.memory (record { status = Idle; locals = l }) outcomes.Finished
 leave_along S i a l (Err c) = set_along S i S.memory (record { status = Trapped c a; locals = l }) (outcomes.Trapped c)
 
@@ -103,7 +114,8 @@ owner_alive kind.Multi i word = tt
 skip_alive : (k : KindTag) (shape : Counts) (i : ℕ) (op : Op) → IsAlive (call_skip k shape i op)
 skip_alive k shape i Scan = tt
 skip_alive k shape i (Update word value) =
-    alive_either (nat_lt 0 word && nat_le word shape.w) (owner_skip k i word) (Some reason.NoSuchWord) (owner_alive k i word) refl
+    alive_either (nat_lt 0 word && nat_le word shape.w) (owner_skip k i word)
+    (Some reason.NoSuchWord) (owner_alive k i word) refl
 
 crashed_or_not : (st : Status) → (uncrashed st ≡ st) ⊎ ((was : Option Activity) × (st ≡ Crashed was))
 crashed_or_not Idle = inl refl
@@ -144,10 +156,12 @@ module _ (s : Source) (shape : Counts) where
 
   -- what is done with the process as it stands
   at_process : {A : Type 0} (S : State) (i : ℕ) (f : Process → Status → A) →
-      f (process_at (calmed S) i) (process_at (calmed S) i).status ≡ f (revived (process_at S i)) (uncrashed (process_at S i).status)
+      f (process_at (calmed S) i) (process_at (calmed S) i).status
+      ≡ f (revived (process_at S i)) (uncrashed (process_at S i).status)
   at_process S i f = ap (λ (p : Process). f p p.status) (revived_at S i)
 
-  alive_of : (S : State) (i : ℕ) (a : Activity) (l : Locals) (e : Result Effect Cause) → is_alive (leave S i a l e).1 ≡ true
+  alive_of : (S : State) (i : ℕ) (a : Activity) (l : Locals) (e : Result Effect Cause) →
+      is_alive (leave S i a l e).1 ≡ true
   alive_of S i a l (Ok (Goes m k link line)) = refl
   alive_of S i a l (Ok (Answers v)) = refl
   alive_of S i a l (Ok Finishes) = refl
@@ -155,11 +169,14 @@ module _ (s : Source) (shape : Counts) where
 
   -- a step of a process that has not crashed
   step_along : (S : State) (i : ℕ) (p : Process) (st : Status) → uncrashed st ≡ st →
-      (is_alive (step s shape S i p st).1 ≡ true) × (step s shape (calmed S) i (revived p) (uncrashed st) ≡ along (step s shape S i p st))
+      (is_alive (step s shape S i p st).1 ≡ true)
+      × (step s shape (calmed S) i (revived p) (uncrashed st) ≡ along (step s shape S i p st))
   step_along S i p Idle e = (refl, refl)
   step_along S i p (Trapped c a) e = (refl, refl)
   step_along S i p (Busy a) e =
-      let x = effect_at s (record { shape = shape; me = i; op = a.op; locals = p.locals; place = 0 }) S.memory a (instr_at s.lines a.line) in
+      let x =
+      effect_at s (record { shape = shape; me = i; op = a.op; locals = p.locals; place = 0 }) S.memory a
+      (instr_at s.lines a.line) in
       (alive_of S i a p.locals x, leave_along S i a p.locals x)
   step_along S i p (Crashed None) e = absurd (cc)
   step_along S i p (Crashed (Some a)) e = absurd (cc)
@@ -168,17 +185,22 @@ module _ (s : Source) (shape : Counts) where
       called s (calmed S) i (revived p) op why ≡ along (called s S i p op why)
   called_along S i p op (Some why) = refl
   called_along S i p op None =
-      set_along S i S.memory (record { status = Busy (record { op = op; line = entry s op; link = None }); locals = p.locals }) outcomes.Called
+      set_along S i S.memory
+      (record { status = Busy (record { op = op; line = entry s op; link = None }); locals = p.locals }) outcomes.Called
 
-  called_alive : (S : State) (i : ℕ) (p : Process) (op : Op) (why : Option Reason) → IsAlive why → is_alive (called s S i p op why).1 ≡ true
+  called_alive : (S : State) (i : ℕ) (p : Process) (op : Op) (why : Option Reason) → IsAlive why →
+      is_alive (called s S i p op why).1 ≡ true
   called_alive S i p op (Some why) h = h
   called_alive S i p op None h = refl
 
   -- a call of a process that has not crashed
   call_along : (S : State) (i : ℕ) (op : Op) (p : Process) (st : Status) → uncrashed st ≡ st →
-      (is_alive (call s shape S i op p st).1 ≡ true) × (call s shape (calmed S) i op (revived p) (uncrashed st) ≡ along (call s shape S i op p st))
-  call_along S i op p Idle e =
-      (called_alive S i p op (call_skip s.kind shape i op) (skip_alive s.kind shape i op), called_along S i p op (call_skip s.kind shape i op))
+      (is_alive (call s shape S i op p st).1 ≡ true)
+      × (call s shape (calmed S) i op (revived p) (uncrashed st) ≡ along (call s shape S i op p st))
+  call_along S i op p Idle e = (
+    called_alive S i p op (call_skip s.kind shape i op) (skip_alive s.kind shape i op),
+    called_along S i p op (call_skip s.kind shape i op),
+  )
   call_along S i op p (Trapped c a) e = (refl, refl)
   call_along S i op p (Busy a) e = (refl, refl)
   call_along S i op p (Crashed None) e = absurd (cc)
@@ -186,7 +208,8 @@ module _ (s : Source) (shape : Counts) where
 
   -- a skipped call instead
   pausing : (S : State) (i : ℕ) (p : Process) (st : Status) →
-      (why : Reason) × (call s shape (calmed S) i (Update 0 0) (revived p) (uncrashed st) ≡ (calmed S, outcomes.Skipped why))
+      (why : Reason)
+      × (call s shape (calmed S) i (Update 0 0) (revived p) (uncrashed st) ≡ (calmed S, outcomes.Skipped why))
   pausing S i p Idle = (reason.NoSuchWord, refl)
   pausing S i p (Busy a) = (reason.Busy, refl)
   pausing S i p (Trapped c a) = (reason.Trapped, refl)
@@ -194,7 +217,8 @@ module _ (s : Source) (shape : Counts) where
   pausing S i p (Crashed (Some a)) = (reason.Busy, refl)
 
   -- an item that leaves what is seen of the state
-  paused : (S : State) (x : Item) → instead x (done s shape S x).1 ≡ pause (who x) → calmed (done s shape S x).0 ≡ calmed S →
+  paused : (S : State) (x : Item) → instead x (done s shape S x).1 ≡ pause (who x) →
+      calmed (done s shape S x).0 ≡ calmed S →
       IsDead x (done s shape S x).1 (process_at S (who x)).status → Pauses S x
   paused S x is same dead =
       let y = pausing S (who x) (process_at S (who x)) (process_at S (who x)).status in
@@ -209,25 +233,33 @@ module _ (s : Source) (shape : Counts) where
   -- an item of a crashed process
   step_paused : (S : State) (i : ℕ) (was : Option Activity) → (process_at S i).status ≡ Crashed was → Pauses S (Step i)
   step_paused S i was e =
-      let out : step s shape S i (process_at S i) (process_at S i).status ≡ (S, outcomes.Skipped reason.Crashed) = ap (step s shape S i (process_at S i)) e in
-      paused S (Step i) (ap (λ (y : State × Outcome). if is_alive y.1 then Step i else pause i) out) (ap (λ (y : State × Outcome). calmed y.0) out)
+      let out : step s shape S i (process_at S i) (process_at S i).status ≡ (S, outcomes.Skipped reason.Crashed) =
+      ap (step s shape S i (process_at S i)) e in
+      paused S (Step i) (ap (λ (y : State × Outcome). if is_alive y.1 then Step i else pause i) out)
+      (ap (λ (y : State × Outcome). calmed y.0) out)
       (ap (λ (y : State × Outcome). y.1) out, (was, e))
 
-  call_paused : (S : State) (i : ℕ) (op : Op) (was : Option Activity) → (process_at S i).status ≡ Crashed was → Pauses S (Call i op)
+  call_paused : (S : State) (i : ℕ) (op : Op) (was : Option Activity) →
+      (process_at S i).status ≡ Crashed was → Pauses S (Call i op)
   call_paused S i op was e =
-      let out : call s shape S i op (process_at S i) (process_at S i).status ≡ (S, outcomes.Skipped reason.Crashed) = ap (call s shape S i op (process_at S i)) e in
-      paused S (Call i op) (ap (λ (y : State × Outcome). if is_alive y.1 then Call i op else pause i) out) (ap (λ (y : State × Outcome). calmed y.0) out)
+      let out : call s shape S i op (process_at S i) (process_at S i).status ≡ (S, outcomes.Skipped reason.Crashed) =
+      ap (call s shape S i op (process_at S i)) e in
+      paused S (Call i op) (ap (λ (y : State × Outcome). if is_alive y.1 then Call i op else pause i) out)
+      (ap (λ (y : State × Outcome). calmed y.0) out)
       (ap (λ (y : State × Outcome). y.1) out)
 
   -- a crash
-  stop_unseen : (S : State) (i : ℕ) (was : Option Activity) → uncrashed (Crashed was) ≡ uncrashed (process_at S i).status →
+  stop_unseen : (S : State) (i : ℕ) (was : Option Activity) →
+      uncrashed (Crashed was) ≡ uncrashed (process_at S i).status →
       calmed (crashed S i (process_at S i) was).0 ≡ calmed S
   stop_unseen S i was e =
       ap (λ (ps : List Process). let T : State = record { memory = S.memory; processes = ps } in T)
-      (map-set_same revived S.processes (i - 1) (record { status = Crashed was; locals = (process_at S i).locals }) nobody
+      (map-set_same revived S.processes (i - 1)
+      (record { status = Crashed was; locals = (process_at S i).locals }) nobody
       (ap (λ (st : Status). let p : Process = record { status = st; locals = (process_at S i).locals } in p) e))
 
-  crash_unseen : (S : State) (i : ℕ) (st : Status) → (process_at S i).status ≡ st → calmed (crash S i (process_at S i) st).0 ≡ calmed S
+  crash_unseen : (S : State) (i : ℕ) (st : Status) → (process_at S i).status ≡ st →
+      calmed (crash S i (process_at S i) st).0 ≡ calmed S
   crash_unseen S i (Trapped c a) e = refl
   crash_unseen S i (Crashed was) e = refl
   crash_unseen S i (Busy a) e = stop_unseen S i (Some a) (ap uncrashed (sym e))
@@ -242,7 +274,8 @@ module _ (s : Source) (shape : Counts) where
 
   crash_paused : (S : State) (i : ℕ) → Pauses S (Crash i)
   crash_paused S i =
-      paused S (Crash i) refl (crash_unseen S i (process_at S i).status refl) (stopped_by S i (process_at S i) (process_at S i).status)
+      paused S (Crash i) refl (crash_unseen S i (process_at S i).status refl)
+      (stopped_by S i (process_at S i) (process_at S i).status)
 
   -- an item of a process that has not crashed
   step_kept : (S : State) (i : ℕ) → uncrashed (process_at S i).status ≡ (process_at S i).status → Keeps S (Step i)
@@ -255,7 +288,8 @@ module _ (s : Source) (shape : Counts) where
         no_crash = tt;
       }
 
-  call_kept : (S : State) (i : ℕ) (op : Op) → uncrashed (process_at S i).status ≡ (process_at S i).status → Keeps S (Call i op)
+  call_kept : (S : State) (i : ℕ) (op : Op) →
+      uncrashed (process_at S i).status ≡ (process_at S i).status → Keeps S (Call i op)
   call_kept S i op e =
       let x = call_along S i op (process_at S i) (process_at S i).status e in
       record {
@@ -279,7 +313,8 @@ module _ (s : Source) (shape : Counts) where
   case_of S (Crash i) = inr (crash_paused S i)
 
   -- the state that an item leaves
-  next_calm : (S : State) (x : Item) → (done s shape (calmed S) (instead x (done s shape S x).1)).0 ≡ calmed (done s shape S x).0
+  next_calm : (S : State) (x : Item) →
+      (done s shape (calmed S) (instead x (done s shape S x).1)).0 ≡ calmed (done s shape S x).0
   next_calm S x =
       elim (case_of S x) [
         | inl k ↦ ap (λ y. (done s shape (calmed S) y).0) k.same_item ∙ ap (λ (y : State × Outcome). y.0) k.same_done
@@ -287,11 +322,13 @@ module _ (s : Source) (shape : Counts) where
       ]
 
   -- the states of the calm run
-  calm_after : (xs : List Item) (S : State) (t : ℕ) → after s shape (calmed S) (take t (calm_items s shape S xs)) ≡ calmed (after s shape S (take t xs))
+  calm_after : (xs : List Item) (S : State) (t : ℕ) →
+      after s shape (calmed S) (take t (calm_items s shape S xs)) ≡ calmed (after s shape S (take t xs))
   calm_after xs S zero = refl
   calm_after [] S (suc t) = refl
   calm_after (x ∷ xs) S (suc t) =
-      ap (λ T. after s shape T (take t (calm_items s shape (done s shape S x).0 xs))) (next_calm S x) ∙ calm_after xs (done s shape S x).0 t
+      ap (λ T. after s shape T (take t (calm_items s shape (done s shape S x).0 xs))) (next_calm S x)
+      ∙ calm_after xs (done s shape S x).0 t
 
   -- its items
   calm_length : (xs : List Item) (S : State) → length (calm_items s shape S xs) ≡ length xs
@@ -300,14 +337,17 @@ module _ (s : Source) (shape : Counts) where
 
   calm_item : (xs : List Item) (S : State) (t : ℕ) → t < length xs →
       slice_index_or (calm_items s shape S xs) t (Step 0)
-      ≡ instead (slice_index_or xs t (Step 0)) (done s shape (after s shape S (take t xs)) (slice_index_or xs t (Step 0))).1
+      ≡ instead (slice_index_or xs t (Step 0))
+      (done s shape (after s shape S (take t xs)) (slice_index_or xs t (Step 0))).1
   calm_item [] S t h = absurd (omega arith)
   calm_item (x ∷ xs) S zero h = refl
   calm_item (x ∷ xs) S (suc t) h = calm_item xs (done s shape S x).0 t (omega arith)
 
-  calm_who : (n : ℕ) (xs : List Item) (S : State) → AllByRecursion (λ x. IsOneOf n (who x)) xs → AllByRecursion (λ x. IsOneOf n (who x)) (calm_items s shape S xs)
+  calm_who : (n : ℕ) (xs : List Item) (S : State) → AllByRecursion (λ x. IsOneOf n (who x)) xs →
+      AllByRecursion (λ x. IsOneOf n (who x)) (calm_items s shape S xs)
   calm_who n [] S h = tt
-  calm_who n (x ∷ xs) S h = (subst (IsOneOf n) (sym (who_instead x (done s shape S x).1)) h.0, calm_who n xs (done s shape S x).0 h.1)
+  calm_who n (x ∷ xs) S h =
+      (subst (IsOneOf n) (sym (who_instead x (done s shape S x).1)) h.0, calm_who n xs (done s shape S x).0 h.1)
 
   calm_steady : (xs : List Item) (S : State) → AllByRecursion IsNoCrash (calm_items s shape S xs)
   calm_steady [] S = tt
@@ -332,7 +372,8 @@ first_calm s shape =
     (map_same revived shape.n (initial_process s shape))
 
 -- who has not crashed has not crashed after an item that is no crash
-uncrashed_after : {st st' : Status} {x : Item} {out : Outcome} → Transition st x out st' → IsNoCrash x → uncrashed st ≡ st → uncrashed st' ≡ st'
+uncrashed_after : {st st' : Status} {x : Item} {out : Outcome} → Transition st x out st' → IsNoCrash x →
+    uncrashed st ≡ st → uncrashed st' ≡ st'
 uncrashed_after (skipped st x why may) quiet e = e
 uncrashed_after (calls i op line) quiet e = refl
 uncrashed_after (goes i a line link) quiet e = refl
@@ -356,21 +397,25 @@ module _ (r : Run) where
   pub process_is : (t i : ℕ) → process_at (state (calm r) t) i ≡ revived (process_at (state r t) i)
   process_is t i = ap (λ (S : State). process_at S i) (state_is t) ∙ revived_at (state r t) i
 
-  outcome_by : (t : ℕ) (y : Item) → item (calm r) (suc t) ≡ y → outcome (calm r) (suc t) ≡ (done r.source r.shape (calmed (state r t)) y).1
+  outcome_by : (t : ℕ) (y : Item) → item (calm r) (suc t) ≡ y →
+      outcome (calm r) (suc t) ≡ (done r.source r.shape (calmed (state r t)) y).1
   outcome_by t y is =
       ap (λ (S : State). (done r.source r.shape S (item (calm r) (suc t))).1) (state_is t)
       ∙ ap (λ (x : Item). (done r.source r.shape (calmed (state r t)) x).1) is
 
   standing : (t i : ℕ) → uncrashed (process_at (state r t) i).status ≡ (process_at (state r t) i).status →
       process_at (state (calm r) t) i ≡ process_at (state r t) i
-  standing t i e = process_is t i ∙ ap (λ (st : Status). let p : Process = record { status = st; locals = (process_at (state r t) i).locals } in p) e
+  standing t i e =
+      process_is t i ∙ ap
+      (λ (st : Status). let p : Process = record { status = st; locals = (process_at (state r t) i).locals } in p) e
 
   -- Item t + 1 is the same in the calm run, and its process stands the same, before and after it.
   pub record Kept (t : ℕ) : Type 0 where
     pub item_is : item (calm r) (suc t) ≡ item r (suc t)
     pub outcome_is : outcome (calm r) (suc t) ≡ outcome r (suc t)
     pub before : process_at (state (calm r) t) (who (item r (suc t))) ≡ process_at (state r t) (who (item r (suc t)))
-    pub later : process_at (state (calm r) (suc t)) (who (item r (suc t))) ≡ process_at (state r (suc t)) (who (item r (suc t)))
+    pub later : process_at (state (calm r) (suc t)) (who (item r (suc t)))
+        ≡ process_at (state r (suc t)) (who (item r (suc t)))
 
   -- Item t + 1 is a crash or an item of a crashed process, and in the calm run a call that is skipped.
   pub record Paused (t : ℕ) : Type 0 where

@@ -1,6 +1,7 @@
--- What the items of a run with crashes do, they do in the same run without crashes: starts and ends of scans and updates, lines
--- that are executed, and counts.
-use Rattle.std.specs.Prelude.{◌≡◌, ℕ, zero, suc, ◌<◌, ◌≤◌, ◌⊎◌, Bool, true, false, ◌&&◌, List, length, Option, Some, None, refl}
+-- What the items of a run with crashes do, they do in the same run without crashes: starts and ends of scans and
+-- updates, lines that are executed, and counts.
+use Rattle.std.specs.Prelude.{◌≡◌, ℕ, zero, suc, ◌<◌, ◌≤◌, ◌⊎◌, Bool, true, false, ◌&&◌}
+use Rattle.std.specs.Prelude.{List, length, Option, Some, None, refl}
 use Rattle.std.proofs.Common.{sym, ◌∙◌, ap, subst, arith, inl, inr}
 use Rattle.snap_semantics.specs.declared.process.Activity.{Activity}
 use Rattle.snap_semantics.specs.declared.process.Item.{Item}
@@ -15,7 +16,9 @@ use Rattle.snap_semantics.specs.declared.process.Status.TheVariants.{Crashed}
 use Rattle.snap_semantics.specs.State.{Process, process_at, values}
 use Rattle.snap_semantics.specs.Table.{who}
 use Rattle.snap_runs.specs.Run.{Run, IsValidRun, state, before, item, outcome}
-use Rattle.snap_runs.specs.Scan.{line_in, link_in, IsCallLine, ReturnsView, Starts, Ends, PendingScan, FinishedScan, count, steps, is_if_all, is_stepped, is_not_skipped, ends_double_collect, takes_step, double_collects, own_steps}
+use Rattle.snap_runs.specs.Scan.{line_in, link_in, IsCallLine, ReturnsView, Starts, Ends, PendingScan, FinishedScan}
+use Rattle.snap_runs.specs.Scan.{count, steps, is_if_all, is_stepped, is_not_skipped, ends_double_collect, takes_step}
+use Rattle.snap_runs.specs.Scan.{double_collects, own_steps}
 use Rattle.snap_runs.specs.Update.{is_at, executes, IsDone, PendingUpdate}
 use Rattle.snap_runs.proofs.Calm.{IsDead, calm, same_length, state_is, process_is, Kept, Paused, kept_or_paused}
 use Rattle.snap_runs.proofs.Computing.{same_number, same_from}
@@ -37,11 +40,13 @@ and_no false = refl
 -- an item of a crashed process, where it is a step: it is skipped, and the process has crashed
 dead_step : (f : ℕ → Status) (i : ℕ) (x : Item) (out : Outcome) → steps i x ≡ true → IsDead x out (f (who x)) →
     (out ≡ outcomes.Skipped reason.Crashed) × ((was : Option Activity) × (f i ≡ Crashed was))
-dead_step f i (Step k) out h dead = (dead.0, subst (λ j. (was : Option Activity) × (f j ≡ Crashed was)) (same_from k i h) dead.1)
+dead_step f i (Step k) out h dead =
+    (dead.0, subst (λ j. (was : Option Activity) × (f j ≡ Crashed was)) (same_from k i h) dead.1)
 dead_step f i (Call k op) out h dead = absurd (cc)
 dead_step f i (Crash k) out h dead = absurd (cc)
 
-dead_outcome : (x : Item) (out : Outcome) (st : Status) → IsDead x out st → (out ≡ outcomes.Crashed) ⊎ ((why : Reason) × (out ≡ outcomes.Skipped why))
+dead_outcome : (x : Item) (out : Outcome) (st : Status) → IsDead x out st →
+    (out ≡ outcomes.Crashed) ⊎ ((why : Reason) × (out ≡ outcomes.Skipped why))
 dead_outcome (Step k) out st dead = inr (reason.Crashed, dead.0)
 dead_outcome (Call k op) out st dead = inr (reason.Crashed, dead)
 dead_outcome (Crash k) out st dead = dead
@@ -62,18 +67,22 @@ module _ (r : Run) where
     status t i = (process_at (state r t) i).status
 
     -- how the process of a step stands before and after it
-    stands_before : (t i : ℕ) → Kept r t → who (item r (suc t)) ≡ i → process_at (state (calm r) t) i ≡ process_at (state r t) i
+    stands_before : (t i : ℕ) → Kept r t → who (item r (suc t)) ≡ i →
+        process_at (state (calm r) t) i ≡ process_at (state r t) i
     stands_before t i k mine = subst (λ j. process_at (state (calm r) t) j ≡ process_at (state r t) j) mine k.before
 
-    stands_after : (t i : ℕ) → Kept r t → who (item r (suc t)) ≡ i → process_at (state (calm r) (suc t)) i ≡ process_at (state r (suc t)) i
-    stands_after t i k mine = subst (λ j. process_at (state (calm r) (suc t)) j ≡ process_at (state r (suc t)) j) mine k.later
+    stands_after : (t i : ℕ) → Kept r t → who (item r (suc t)) ≡ i →
+        process_at (state (calm r) (suc t)) i ≡ process_at (state r (suc t)) i
+    stands_after t i k mine =
+        subst (λ j. process_at (state (calm r) (suc t)) j ≡ process_at (state r (suc t)) j) mine k.later
 
     dead_at : (t i : ℕ) → Paused r t → steps i (item r (suc t)) ≡ true →
         (outcome r (suc t) ≡ outcomes.Skipped reason.Crashed) × ((was : Option Activity) × (status t i ≡ Crashed was))
     dead_at t i k h = dead_step (status t) i (item r (suc t)) (outcome r (suc t)) h k.dead
 
     -- nothing comes of such an item
-    not_dead : (t : ℕ) (out : Outcome) → Paused r t → outcome r (suc t) ≡ out → (out ≡ outcomes.Crashed → ⊥) → ((why : Reason) → out ≡ outcomes.Skipped why → ⊥) → ⊥
+    not_dead : (t : ℕ) (out : Outcome) → Paused r t → outcome r (suc t) ≡ out → (out ≡ outcomes.Crashed → ⊥) →
+        ((why : Reason) → out ≡ outcomes.Skipped why → ⊥) → ⊥
     not_dead t out k is no_crash no_skip =
         elim (dead_outcome (item r (suc t)) (outcome r (suc t)) (status t (who (item r (suc t)))) k.dead) [
           | inl e ↦ no_crash (sym is ∙ e)
@@ -87,27 +96,42 @@ module _ (r : Run) where
           | inr k ↦ ap who k.item_is
         ]
 
-    pub executes_same : (i line t : ℕ) → t < length r.items → executes (calm r) i line (suc t) ≡ executes r i line (suc t)
+    pub executes_same : (i line t : ℕ) → t < length r.items →
+        executes (calm r) i line (suc t) ≡ executes r i line (suc t)
     executes_same i line t h =
         elim (kept_or_paused r fits t h) [
           | inl k ↦ ap (λ y. steps i y && is_at line (process_at (state (calm r) t) i).status) k.item_is
-              ∙ same_test (steps i (item r (suc t))) (is_at line (process_at (state (calm r) t) i).status) (is_at line (status t i))
-              (λ his. ap (λ (p : Process). is_at line p.status) (stands_before t i k (ap who (step_of i (item r (suc t)) his))))
+              ∙ same_test (steps i (item r (suc t)))
+              (is_at line (process_at (state (calm r) t) i).status) (is_at line (status t i))
+              (λ his.
+              ap (λ (p : Process). is_at line p.status) (stands_before t i k (ap who (step_of i (item r (suc t)) his))))
           | inr k ↦ ap (λ y. steps i y && is_at line (process_at (state (calm r) t) i).status) k.item_is
-              ∙ sym (never (steps i (item r (suc t))) (is_at line (status t i)) (λ his. ap (is_at line) (dead_at t i k his).1.1))
+              ∙ sym (never (steps i (item r (suc t))) (is_at line (status t i))
+              (λ his. ap (is_at line) (dead_at t i k his).1.1))
         ]
 
-    collect_same : (i t : ℕ) → t < length r.items → ends_double_collect (calm r) i (suc t) ≡ ends_double_collect r i (suc t)
+    collect_same : (i t : ℕ) → t < length r.items →
+        ends_double_collect (calm r) i (suc t) ≡ ends_double_collect r i (suc t)
     collect_same i t h =
         let there = (process_at (state (calm r) t) i).status in
         elim (kept_or_paused r fits t h) [
-          | inl k ↦ ap (λ y. steps i y && (is_if_all (line_in r.source there) && is_stepped (outcome (calm r) (suc t)))) k.item_is
-              ∙ same_test (steps i (item r (suc t))) (is_if_all (line_in r.source there) && is_stepped (outcome (calm r) (suc t))) (is_if_all (line_in r.source (status t i)) && is_stepped (outcome r (suc t)))
-              (λ his. ap (λ (p : Process). is_if_all (line_in r.source p.status) && is_stepped (outcome (calm r) (suc t))) (stands_before t i k (ap who (step_of i (item r (suc t)) his)))
+          | inl k ↦
+              ap (λ y. steps i y && (is_if_all (line_in r.source there) && is_stepped (outcome (calm r) (suc t))))
+              k.item_is
+              ∙ same_test (steps i (item r (suc t)))
+              (is_if_all (line_in r.source there) && is_stepped (outcome (calm r) (suc t)))
+              (is_if_all (line_in r.source (status t i)) && is_stepped (outcome r (suc t)))
+              (λ his.
+              ap (λ (p : Process). is_if_all (line_in r.source p.status) && is_stepped (outcome (calm r) (suc t)))
+              (stands_before t i k (ap who (step_of i (item r (suc t)) his)))
               ∙ ap (λ o. is_if_all (line_in r.source (status t i)) && is_stepped o) k.outcome_is)
-          | inr k ↦ ap (λ y. steps i y && (is_if_all (line_in r.source there) && is_stepped (outcome (calm r) (suc t)))) k.item_is
-              ∙ sym (never (steps i (item r (suc t))) (is_if_all (line_in r.source (status t i)) && is_stepped (outcome r (suc t)))
-              (λ his. ap (λ o. is_if_all (line_in r.source (status t i)) && is_stepped o) (dead_at t i k his).0 ∙ and_no (is_if_all (line_in r.source (status t i)))))
+          | inr k ↦
+              ap (λ y. steps i y && (is_if_all (line_in r.source there) && is_stepped (outcome (calm r) (suc t))))
+              k.item_is
+              ∙ sym (never (steps i (item r (suc t)))
+              (is_if_all (line_in r.source (status t i)) && is_stepped (outcome r (suc t)))
+              (λ his. ap (λ o. is_if_all (line_in r.source (status t i)) && is_stepped o) (dead_at t i k his).0
+              ∙ and_no (is_if_all (line_in r.source (status t i)))))
         ]
 
     step_same : (i t : ℕ) → t < length r.items → takes_step (calm r) i (suc t) ≡ takes_step r i (suc t)
@@ -116,28 +140,34 @@ module _ (r : Run) where
           | inl k ↦ ap (λ y. steps i y && is_not_skipped (outcome (calm r) (suc t))) k.item_is
               ∙ ap (λ o. steps i (item r (suc t)) && is_not_skipped o) k.outcome_is
           | inr k ↦ ap (λ y. steps i y && is_not_skipped (outcome (calm r) (suc t))) k.item_is
-              ∙ sym (never (steps i (item r (suc t))) (is_not_skipped (outcome r (suc t))) (λ his. ap is_not_skipped (dead_at t i k his).0))
+              ∙ sym (never (steps i (item r (suc t))) (is_not_skipped (outcome r (suc t)))
+              (λ his. ap is_not_skipped (dead_at t i k his).0))
         ]
 
     -- tests that agree at each item count the same
-    same_count : (f g : ℕ → Bool) → ((t : ℕ) → t < length r.items → f (suc t) ≡ g (suc t)) → (c e : ℕ) → e ≤ length r.items → count f c e ≡ count g c e
+    same_count : (f g : ℕ → Bool) → ((t : ℕ) → t < length r.items → f (suc t) ≡ g (suc t)) → (c e : ℕ) →
+        e ≤ length r.items → count f c e ≡ count g c e
     same_count f g agree c e le = same_counts f g c e (λ t lt upto. at_item t lt (omega arith))
       where
         at_item : (t : ℕ) → c < t → t ≤ length r.items → f t ≡ g t
         at_item zero lt upto = absurd (omega arith)
         at_item (suc t) lt upto = agree t (omega arith)
 
-    pub same_executions : (i line c e : ℕ) → e ≤ length r.items → count (executes (calm r) i line) c e ≡ count (executes r i line) c e
-    same_executions i line c e le = same_count (executes (calm r) i line) (executes r i line) (executes_same i line) c e le
+    pub same_executions : (i line c e : ℕ) → e ≤ length r.items →
+        count (executes (calm r) i line) c e ≡ count (executes r i line) c e
+    same_executions i line c e le =
+        same_count (executes (calm r) i line) (executes r i line) (executes_same i line) c e le
 
     pub same_collects : (i c e : ℕ) → e ≤ length r.items → double_collects (calm r) i c e ≡ double_collects r i c e
-    same_collects i c e le = same_count (ends_double_collect (calm r) i) (ends_double_collect r i) (collect_same i) c e le
+    same_collects i c e le =
+        same_count (ends_double_collect (calm r) i) (ends_double_collect r i) (collect_same i) c e le
 
     pub same_steps : (i c e : ℕ) → e ≤ length r.items → own_steps (calm r) i c e ≡ own_steps r i c e
     same_steps i c e le = same_count (takes_step (calm r) i) (takes_step r i) (step_same i) c e le
 
     -- where a scan starts and ends
-    starts_to : (i : ℕ) (link : Option ℕ) (t : ℕ) → t < length r.items → Starts r i (suc t) link → Starts (calm r) i (suc t) link
+    starts_to : (i : ℕ) (link : Option ℕ) (t : ℕ) → t < length r.items → Starts r i (suc t) link →
+        Starts (calm r) i (suc t) link
     starts_to i None t h s =
         elim (kept_or_paused r fits t h) [
           | inl k ↦ (k.item_is ∙ s.0, k.outcome_is ∙ s.1)
@@ -147,14 +177,16 @@ module _ (r : Run) where
         elim (kept_or_paused r fits t h) [
           | inl k ↦ (
             k.item_is ∙ s.0,
-            subst (λ (p : Process). IsCallLine (line_in r.source p.status)) (sym (stands_before t i k (ap who s.0))) s.1,
+            subst (λ (p : Process). IsCallLine (line_in r.source p.status))
+                (sym (stands_before t i k (ap who s.0))) s.1,
             k.outcome_is ∙ s.2,
             ap (λ (p : Process). link_in p.status) (stands_after t i k (ap who s.0)) ∙ s.3,
           )
           | inr k ↦ absurd (not_dead t outcomes.Stepped k s.2 (λ e. absurd (cc)) (λ why e. absurd (cc)))
         ]
 
-    starts_from : (i : ℕ) (link : Option ℕ) (t : ℕ) → t < length r.items → Starts (calm r) i (suc t) link → Starts r i (suc t) link
+    starts_from : (i : ℕ) (link : Option ℕ) (t : ℕ) → t < length r.items →
+        Starts (calm r) i (suc t) link → Starts r i (suc t) link
     starts_from i None t h s =
         elim (kept_or_paused r fits t h) [
           | inl k ↦ (sym k.item_is ∙ s.0, sym k.outcome_is ∙ s.1)
@@ -171,7 +203,8 @@ module _ (r : Run) where
           | inr k ↦ absurd (let e = sym k.outcome_is ∙ s.2 in cc)
         ]
 
-    ends_to : (i : ℕ) (link : Option ℕ) (view : List ℕ) (t : ℕ) → t < length r.items → Ends r i (suc t) link view → Ends (calm r) i (suc t) link view
+    ends_to : (i : ℕ) (link : Option ℕ) (view : List ℕ) (t : ℕ) → t < length r.items → Ends r i (suc t) link view →
+        Ends (calm r) i (suc t) link view
     ends_to i None view t h s =
         elim (kept_or_paused r fits t h) [
           | inl k ↦ (ap who k.item_is ∙ s.0, k.outcome_is ∙ s.1)
@@ -188,7 +221,8 @@ module _ (r : Run) where
               let e : ◌≡◌ {A = Option ℕ} None (Some l) = sym (ap link_in d.1.1) ∙ s.2 in cc)
         ]
 
-    ends_from : (i : ℕ) (link : Option ℕ) (view : List ℕ) (t : ℕ) → t < length r.items → Ends (calm r) i (suc t) link view → Ends r i (suc t) link view
+    ends_from : (i : ℕ) (link : Option ℕ) (view : List ℕ) (t : ℕ) → t < length r.items →
+        Ends (calm r) i (suc t) link view → Ends r i (suc t) link view
     ends_from i None view t h s =
         elim (kept_or_paused r fits t h) [
           | inl k ↦ (ap who (sym k.item_is) ∙ s.0, sym k.outcome_is ∙ s.1)
@@ -205,19 +239,23 @@ module _ (r : Run) where
         ]
 
     -- from item 1 on
-    at_starts_to : (i : ℕ) (link : Option ℕ) (t : ℕ) → 0 < t → t ≤ length r.items → Starts r i t link → Starts (calm r) i t link
+    at_starts_to : (i : ℕ) (link : Option ℕ) (t : ℕ) → 0 < t → t ≤ length r.items →
+        Starts r i t link → Starts (calm r) i t link
     at_starts_to i link zero pos h s = absurd (omega arith)
     at_starts_to i link (suc t) pos h s = starts_to i link t (omega arith) s
 
-    at_starts_from : (i : ℕ) (link : Option ℕ) (t : ℕ) → 0 < t → t ≤ length r.items → Starts (calm r) i t link → Starts r i t link
+    at_starts_from : (i : ℕ) (link : Option ℕ) (t : ℕ) → 0 < t → t ≤ length r.items →
+        Starts (calm r) i t link → Starts r i t link
     at_starts_from i link zero pos h s = absurd (omega arith)
     at_starts_from i link (suc t) pos h s = starts_from i link t (omega arith) s
 
-    at_ends_to : (i : ℕ) (link : Option ℕ) (view : List ℕ) (t : ℕ) → 0 < t → t ≤ length r.items → Ends r i t link view → Ends (calm r) i t link view
+    at_ends_to : (i : ℕ) (link : Option ℕ) (view : List ℕ) (t : ℕ) → 0 < t → t ≤ length r.items →
+        Ends r i t link view → Ends (calm r) i t link view
     at_ends_to i link view zero pos h s = absurd (omega arith)
     at_ends_to i link view (suc t) pos h s = ends_to i link view t (omega arith) s
 
-    at_ends_from : (i : ℕ) (link : Option ℕ) (view : List ℕ) (t : ℕ) → 0 < t → t ≤ length r.items → Ends (calm r) i t link view → Ends r i t link view
+    at_ends_from : (i : ℕ) (link : Option ℕ) (view : List ℕ) (t : ℕ) → 0 < t → t ≤ length r.items →
+        Ends (calm r) i t link view → Ends r i t link view
     at_ends_from i link view zero pos h s = absurd (omega arith)
     at_ends_from i link view (suc t) pos h s = ends_from i link view t (omega arith) s
 
@@ -237,7 +275,9 @@ module _ (r : Run) where
           first = first;
           order = order;
           last = subst (λ k. e ≤ k) (sym (same_length r)) last;
-          goes_on = λ t view lt less ends. s.goes_on t view lt less (at_ends_from i link view t (omega arith) (omega arith) ends);
+          goes_on =
+              λ t view lt less ends.
+              s.goes_on t view lt less (at_ends_from i link view t (omega arith) (omega arith) ends);
         }
 
     pub scan_from : (i : ℕ) (link : Option ℕ) (c e : ℕ) → PendingScan (calm r) i link c e → PendingScan r i link c e
@@ -251,16 +291,24 @@ module _ (r : Run) where
           first = first;
           order = order;
           last = last;
-          goes_on = λ t view lt less ends. s.goes_on t view lt less (at_ends_to i link view t (omega arith) (omega arith) ends);
+          goes_on =
+              λ t view lt less ends.
+              s.goes_on t view lt less (at_ends_to i link view t (omega arith) (omega arith) ends);
         }
 
-    pub finished_to : (i : ℕ) (link : Option ℕ) (c e : ℕ) (view : List ℕ) → FinishedScan r i link c e view → FinishedScan (calm r) i link c e view
+    pub finished_to : (i : ℕ) (link : Option ℕ) (c e : ℕ) (view : List ℕ) → FinishedScan r i link c e view →
+        FinishedScan (calm r) i link c e view
     finished_to i link c e view f =
         let order : c < e = f.order in
         let last : e ≤ length r.items = f.scan.last in
-        record { scan = scan_to i link c e f.scan; order = order; ends = at_ends_to i link view e (omega arith) last f.ends }
+        record {
+          scan = scan_to i link c e f.scan;
+          order = order;
+          ends = at_ends_to i link view e (omega arith) last f.ends;
+        }
 
-    pub finished_from : (i : ℕ) (link : Option ℕ) (c e : ℕ) (view : List ℕ) → FinishedScan (calm r) i link c e view → FinishedScan r i link c e view
+    pub finished_from : (i : ℕ) (link : Option ℕ) (c e : ℕ) (view : List ℕ) → FinishedScan (calm r) i link c e view →
+        FinishedScan r i link c e view
     finished_from i link c e view f =
         let s = scan_from i link c e f.scan in
         let order : c < e = f.order in
@@ -309,7 +357,8 @@ module _ (r : Run) where
           | inr k ↦ absurd (let e = sym k.outcome_is ∙ s.1 in cc)
         ]
 
-    pub updating_to : (i word value c e : ℕ) → PendingUpdate r i word value c e → PendingUpdate (calm r) i word value c e
+    pub updating_to : (i word value c e : ℕ) → PendingUpdate r i word value c e →
+        PendingUpdate (calm r) i word value c e
     updating_to i word value c e up =
         let order : c ≤ e = up.order in
         let last : e ≤ length r.items = up.last in
@@ -325,7 +374,8 @@ module _ (r : Run) where
           goes_on = λ t lt less done. up.goes_on t lt less (done_from i t (omega arith) (omega arith) done);
         }
 
-    pub updating_from : (i word value c e : ℕ) → PendingUpdate (calm r) i word value c e → PendingUpdate r i word value c e
+    pub updating_from : (i word value c e : ℕ) → PendingUpdate (calm r) i word value c e →
+        PendingUpdate r i word value c e
     updating_from i word value c e up =
         let order : c ≤ e = up.order in
         let last : e ≤ length r.items = subst (λ k. e ≤ k) (same_length r) up.last in

@@ -9,9 +9,14 @@ use Rattle.snap_semantics.specs.Table.{who}
 use Rattle.snap_runs.specs.Run.{Run, IsValidRun, state, before, item}
 use Rattle.snap_runs.specs.Scan.{own_steps}
 use Rattle.snap_runs.specs.Update.{is_at, executes, PendingUpdate}
-use Rattle.snap_runs.specs.Promises.{HasTrapped, NeverTraps, ChangesOnlyAt, WritesItsUpdate, WritesOnce, HavePoints, CollectsAtMost, StepsAtMost, row_place, ObservedMove, MovesAreWrites, CollectLines, ExecutesFor, IsUpdating, WritesWord, CleanReads, PassedTestsAreClean, BorrowedViewsAreLent, OwnUpdatesAreSeen}
+use Rattle.snap_runs.specs.Promises.{HasTrapped, NeverTraps, ChangesOnlyAt, WritesItsUpdate, WritesOnce, HavePoints}
+use Rattle.snap_runs.specs.Promises.{CollectsAtMost, StepsAtMost, row_place, ObservedMove, MovesAreWrites}
+use Rattle.snap_runs.specs.Promises.{CollectLines, ExecutesFor, IsUpdating, WritesWord, CleanReads}
+use Rattle.snap_runs.specs.Promises.{PassedTestsAreClean, BorrowedViewsAreLent, OwnUpdatesAreSeen}
 use Rattle.snap_runs.proofs.Calm.{calm, uncrashed, same_length, process_is, steady_of}
-use Rattle.snap_runs.proofs.CalmItems.{values_same, locals_same, locals_before, who_same, executes_same, same_executions, same_collects, same_steps, at_executes, scan_to, finished_to, finished_from, done_to, done_from, updating_to, updating_from}
+use Rattle.snap_runs.proofs.CalmItems.{values_same, locals_same, locals_before, who_same, executes_same}
+use Rattle.snap_runs.proofs.CalmItems.{same_executions, same_collects, same_steps, at_executes, scan_to, finished_to}
+use Rattle.snap_runs.proofs.CalmItems.{finished_from, done_to, done_from, updating_to, updating_from}
 use Rattle.snap_runs.proofs.Steady.{Steady, fits_of}
 
 trapped_too : (st : Status) → HasTrapped st → HasTrapped (uncrashed st)
@@ -46,18 +51,22 @@ module _ (r : Run) where
   pub never_traps : OfCalm NeverTraps → NeverTraps r
   never_traps p fits i t one h trapped =
       p (steady_of r fits) (fits_calm fits) i t one (short t h)
-      (subst (λ (q : Process). HasTrapped q.status) (sym (process_is r t i)) (trapped_too (process_at (state r t) i).status trapped))
+      (subst (λ (q : Process). HasTrapped q.status) (sym (process_is r t i))
+      (trapped_too (process_at (state r t) i).status trapped))
 
   pub changes_only_at : (line : ℕ) → OfCalm (ChangesOnlyAt line) → ChangesOnlyAt line r
   changes_only_at line p fits t h =
       elim (p (steady_of r fits) (fits_calm fits) t (short (suc t) h)) [
         | inl same ↦ inl (sym (values_same r (suc t)) ∙ same ∙ values_same r t)
-        | inr ex ↦ inr (sym (executes_same r fits (who (item r (suc t))) line t h) ∙ subst (λ i. executes (calm r) i line (suc t) ≡ true) (who_same r fits t h) ex)
+        | inr ex ↦
+            inr (sym (executes_same r fits (who (item r (suc t))) line t h)
+            ∙ subst (λ i. executes (calm r) i line (suc t) ≡ true) (who_same r fits t h) ex)
       ]
 
   pub writes_its_update : (line : ℕ) → OfCalm (WritesItsUpdate line) → WritesItsUpdate line r
   writes_its_update line p fits i t one h ex =
-      let x = p (steady_of r fits) (fits_calm fits) i t one (short (suc t) h) (executes_same r fits i line t h ∙ ex) in (
+      let x =
+      p (steady_of r fits) (fits_calm fits) i t one (short (suc t) h) (executes_same r fits i line t h ∙ ex) in (
         x.0,
         x.1,
         x.2,
@@ -83,11 +92,13 @@ module _ (r : Run) where
 
   pub collects_at_most : (most : ℕ) → OfCalm (CollectsAtMost most) → CollectsAtMost most r
   collects_at_most most p fits i link c e scan =
-      subst (λ y. y ≤ most) (same_collects r fits i c e scan.last) (p (steady_of r fits) (fits_calm fits) i link c e (scan_to r fits i link c e scan))
+      subst (λ y. y ≤ most) (same_collects r fits i c e scan.last)
+      (p (steady_of r fits) (fits_calm fits) i link c e (scan_to r fits i link c e scan))
 
   pub steps_at_most : (most : ℕ) → OfCalm (StepsAtMost most) → StepsAtMost most r
   steps_at_most most p fits i link c e scan =
-      subst (λ y. y ≤ most) (same_steps r fits i c e scan.last) (p (steady_of r fits) (fits_calm fits) i link c e (scan_to r fits i link c e scan))
+      subst (λ y. y ≤ most) (same_steps r fits i c e scan.last)
+      (p (steady_of r fits) (fits_calm fits) i link c e (scan_to r fits i link c e scan))
 
   -- the steps of an update
   abbrev pub UpdatesAtMost : ℕ → Run → Type 0
@@ -95,22 +106,29 @@ module _ (r : Run) where
 
   pub updates_at_most : (most : ℕ) → OfCalm (UpdatesAtMost most) → IsValidRun r → UpdatesAtMost most r
   updates_at_most most p fits i word value c e up =
-      subst (λ y. y ≤ most) (same_steps r fits i c e up.last) (p (steady_of r fits) i word value c e (updating_to r fits i word value c e up))
+      subst (λ y. y ≤ most) (same_steps r fits i c e up.last)
+      (p (steady_of r fits) i word value c e (updating_to r fits i word value c e up))
 
   -- a move that a scan sees
-  pub observed_to : IsValidRun r → (line : ℕ) (row : Name) (i j t : ℕ) → 0 < t → t ≤ length r.items → ObservedMove r line row i j t →
-      ObservedMove (calm r) line row i j t
+  pub observed_to : IsValidRun r → (line : ℕ) (row : Name) (i j t : ℕ) → 0 < t → t ≤ length r.items →
+      ObservedMove r line row i j t → ObservedMove (calm r) line row i j t
   observed_to fits line row i j t pos h move = record {
     process = move.process;
     executed = at_executes r fits i line t pos h ∙ move.executed;
-    grows = subst (λ (l : Locals). row_place l row j < row_place (process_at (state (calm r) t) i).locals row j) (sym (locals_before r t i))
-        (subst (λ (l : Locals). row_place (process_at (before r t) i).locals row j < row_place l row j) (sym (locals_same r t i)) move.grows);
+    grows =
+        subst (λ (l : Locals). row_place l row j < row_place (process_at (state (calm r) t) i).locals row j)
+        (sym (locals_before r t i))
+        (subst (λ (l : Locals). row_place (process_at (before r t) i).locals row j < row_place l row j)
+        (sym (locals_same r t i)) move.grows);
   }
 
-  pub moves_are_writes : (raises : ℕ) (row : Name) (writes : ℕ) → OfCalm (MovesAreWrites raises row writes) → MovesAreWrites raises row writes r
+  pub moves_are_writes : (raises : ℕ) (row : Name) (writes : ℕ) → OfCalm (MovesAreWrites raises row writes) →
+      MovesAreWrites raises row writes r
   moves_are_writes raises row writes p fits i j link c t scan lt move =
       let last : t ≤ length r.items = scan.last in
-      let w = p (steady_of r fits) (fits_calm fits) i j link c t (scan_to r fits i link c t scan) lt (observed_to fits raises row i j t (omega arith) last move) in
+      let w =
+      p (steady_of r fits) (fits_calm fits) i j link c t (scan_to r fits i link c t scan) lt
+      (observed_to fits raises row i j t (omega arith) last move) in
       let after_start : c < w.item = w.after_start in
       let before_move : w.item < t = w.before_move in
       record {
@@ -122,24 +140,26 @@ module _ (r : Run) where
       }
 
   -- a passed test
-  executes_for : IsValidRun r → (i line : ℕ) (scalar : Name) (k t : ℕ) → 0 < t → t ≤ length r.items → ExecutesFor (calm r) i line scalar k t →
-      ExecutesFor r i line scalar k t
+  executes_for : IsValidRun r → (i line : ℕ) (scalar : Name) (k t : ℕ) → 0 < t → t ≤ length r.items →
+      ExecutesFor (calm r) i line scalar k t → ExecutesFor r i line scalar k t
   executes_for fits i line scalar k t pos h x = (
     sym (at_executes r fits i line t pos h) ∙ x.0,
     sym (ap (λ (l : Locals). value_at scalar l.scalars 0) (locals_before r t i)) ∙ x.1,
   )
 
-  writes_word : IsValidRun r → (line k t : ℕ) → 0 < t → t ≤ length r.items → WritesWord r line k t → WritesWord (calm r) line k t
+  writes_word : IsValidRun r → (line k t : ℕ) → 0 < t → t ≤ length r.items →
+      WritesWord r line k t → WritesWord (calm r) line k t
   writes_word fits line k zero pos h w = absurd (omega arith)
   writes_word fits line k (suc t) pos h w = (
     w.0,
     w.1,
     at_executes r fits w.0 line (suc t) pos h ∙ w.2,
-    subst (λ (q : Process). IsUpdating k q.status) (sym (process_is r t w.0)) (updating_too k (process_at (state r t) w.0).status w.3),
+    subst (λ (q : Process). IsUpdating k q.status) (sym (process_is r t w.0))
+        (updating_too k (process_at (state r t) w.0).status w.3),
   )
 
-  clean_reads : IsValidRun r → (lines : CollectLines) (writes i c t middle k : ℕ) → t ≤ length r.items → CleanReads (calm r) lines writes i c t middle k →
-      CleanReads r lines writes i c t middle k
+  clean_reads : IsValidRun r → (lines : CollectLines) (writes i c t middle k : ℕ) → t ≤ length r.items →
+      CleanReads (calm r) lines writes i c t middle k → CleanReads r lines writes i c t middle k
   clean_reads fits lines writes i c t middle k last x =
       let after_start : c < x.first = x.after_start in
       let before_middle : x.first ≤ middle = x.before_middle in
@@ -149,7 +169,8 @@ module _ (r : Run) where
         first = x.first;
         second = x.second;
         reads_first = executes_for fits i lines.first lines.scalar k x.first (omega arith) (omega arith) x.reads_first;
-        reads_second = executes_for fits i lines.second lines.scalar k x.second (omega arith) (omega arith) x.reads_second;
+        reads_second =
+            executes_for fits i lines.second lines.scalar k x.second (omega arith) (omega arith) x.reads_second;
         after_start = after_start;
         recent = subst (λ y. y ≤ 1) (same_collects r fits i x.first t last) x.recent;
         before_middle = before_middle;
@@ -158,18 +179,24 @@ module _ (r : Run) where
         unwritten = λ u lt less w. x.unwritten u lt less (writes_word fits writes k u (omega arith) (omega arith) w);
       }
 
-  pub passed_tests_are_clean : (lines : CollectLines) (writes : ℕ) → OfCalm (PassedTestsAreClean lines writes) → PassedTestsAreClean lines writes r
+  pub passed_tests_are_clean : (lines : CollectLines) (writes : ℕ) → OfCalm (PassedTestsAreClean lines writes) →
+      PassedTestsAreClean lines writes r
   passed_tests_are_clean lines writes p fits i link c t scan lt ex to =
       let last : t ≤ length r.items = scan.last in
-      let x = p (steady_of r fits) (fits_calm fits) i link c t (scan_to r fits i link c t scan) lt (at_executes r fits i lines.test t (omega arith) last ∙ ex)
-      (ap (λ (q : Process). is_at lines.passed q.status) (process_is r t i) ∙ at_too lines.passed (process_at (state r t) i).status to) in
+      let x =
+      p (steady_of r fits) (fits_calm fits) i link c t (scan_to r fits i link c t scan) lt
+      (at_executes r fits i lines.test t (omega arith) last ∙ ex)
+      (ap (λ (q : Process). is_at lines.passed q.status) (process_is r t i)
+      ∙ at_too lines.passed (process_at (state r t) i).status to) in
       (x.0, λ k one. clean_reads fits lines writes i c t x.0 k last (x.1 k one))
 
   pub borrowed_views_are_lent : (line : ℕ) → OfCalm (BorrowedViewsAreLent line) → BorrowedViewsAreLent line r
   borrowed_views_are_lent line p fits i link c e view f ex =
       let order : c < e = f.order in
       let last : e ≤ length r.items = f.scan.last in
-      let x = p (steady_of r fits) (fits_calm fits) i link c e view (finished_to r fits i link c e view f) (at_executes r fits i line e (omega arith) last ∙ ex) in
+      let x =
+      p (steady_of r fits) (fits_calm fits) i link c e view (finished_to r fits i link c e view f)
+      (at_executes r fits i line e (omega arith) last ∙ ex) in
       record {
         lender = x.lender;
         other = x.other;
@@ -186,6 +213,8 @@ module _ (r : Run) where
       let order : c < e = f.order in
       let last : e ≤ length r.items = f.scan.last in
       let shorter : ended ≤ length r.items = up.last in
-      p (steady_of r fits) (fits_calm fits) i word value called ended c e view (updating_to r fits i word value called ended up) lt
+      p (steady_of r fits) (fits_calm fits) i word value called ended c e view
+      (updating_to r fits i word value called ended up) lt
       (done_to r fits i ended (omega arith) shorter is_done) after
-      (λ t more less d. none t more less (done_from r fits i t (omega arith) (omega arith) d)) (finished_to r fits i None c e view f)
+      (λ t more less d. none t more less (done_from r fits i t (omega arith) (omega arith) d))
+      (finished_to r fits i None c e view f)

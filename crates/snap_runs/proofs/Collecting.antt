@@ -1,5 +1,7 @@
--- The reads of a double collect: the copies of a process are the words that it read at items of the first and of the second collect.
-use Rattle.std.specs.Prelude.{◌≡◌, ℕ, zero, suc, ◌+◌, ◌-◌, ◌<◌, ◌≤◌, ◌⊎◌, Bool, false, List, length, slice_set, if◌then◌else◌, refl}
+-- The reads of a double collect, for any algorithm: the copies of a process
+-- are the words that it read at items of the first and of the second collect.
+use Rattle.std.specs.Prelude.{◌≡◌, ℕ, zero, suc, ◌+◌, ◌-◌, ◌<◌, ◌≤◌, ◌⊎◌, Bool, false}
+use Rattle.std.specs.Prelude.{List, length, slice_set, if◌then◌else◌, refl}
 use Rattle.std.proofs.Common.{sym, ◌∙◌, ap, subst, arith, inl, inr}
 use Rattle.std.proofs.lemmas.Bool.{cases_eq}
 use Rattle.std.proofs.lemmas.Grind.{get_or-set_at}
@@ -11,15 +13,16 @@ use Rattle.snap_semantics.specs.declared.process.Item.TheVariants.{Step}
 use Rattle.snap_semantics.specs.declared.process.Op.{Op}
 use Rattle.snap_semantics.specs.declared.process.Op.TheVariants.{Scan, Update}
 use Rattle.snap_runs.specs.Run.{}
-use Rattle.snap_runs.proofs.Algorithm.{Mode, Control, Idle, At, WhenBusy, Move, To, Begin, Answer, Finish, TypedProcess, Algorithm, typed_at, item_at, typed_state, called_auxiliary}
+use Rattle.snap_runs.proofs.Algorithm.{Mode, Control, Idle, At, WhenBusy, Move, To, Begin, Answer, Finish}
+use Rattle.snap_runs.proofs.Algorithm.{TypedProcess, Algorithm, typed_at, item_at, typed_state, called_auxiliary}
 use Rattle.snap_runs.proofs.Computing.{either}
 use Rattle.snap_runs.proofs.Embedding as embed
 use Rattle.snap_runs.proofs.Held.{word_at}
 use Rattle.snap_runs.proofs.ItemCases as cases
 use Rattle.snap_runs.proofs.Steady.{Steady}
 
--- what a line is in a double collect: it reads a word into the first copies, or has read it; the same of the second ones; or all
--- copies are there
+-- what a line is in a double collect: it reads a word into the first copies, or has read it; the same of the second
+-- ones; or all copies are there
 pub data Phase : Type 0 where
   Away : Phase
   ReadsFirst : Phase
@@ -41,18 +44,22 @@ module _ {V P M : Type 0} (a : Algorithm V P M) (c : Copies V P M) where
   -- what a line that leads from one phase to another does to the copies
   abbrev pub Reached : Phase → M → V → Phase → V → Type 0
   Reached Away m p from p' = Unit {0}
-  Reached ReadsFirst m p from p' = (c.index p' ≡ 1) ⊎ ((from ≡ HasFirst) × (c.index p' ≡ c.index p + 1) × (c.first p' ≡ c.first p))
+  Reached ReadsFirst m p from p' =
+      (c.index p' ≡ 1) ⊎ ((from ≡ HasFirst) × (c.index p' ≡ c.index p + 1) × (c.first p' ≡ c.first p))
   Reached HasFirst m p from p' =
       (from ≡ ReadsFirst) × (c.index p' ≡ c.index p) × IsOneOf c.places (c.index p) × (c.places ≤ length (c.first p))
       × (c.first p' ≡ slice_set (c.first p) (c.index p - 1) (word_at (c.words m) (c.index p)))
   Reached ReadsSecond m p from p' =
       (c.first p' ≡ c.first p)
-      × (((from ≡ HasFirst) × (c.places ≤ c.index p) × (c.index p' ≡ 1)) ⊎ ((from ≡ HasSecond) × (c.index p' ≡ c.index p + 1) × (c.second p' ≡ c.second p)))
+      × (((from ≡ HasFirst) × (c.places ≤ c.index p) × (c.index p' ≡ 1))
+      ⊎ ((from ≡ HasSecond) × (c.index p' ≡ c.index p + 1) × (c.second p' ≡ c.second p)))
   Reached HasSecond m p from p' =
-      (c.first p' ≡ c.first p) × (from ≡ ReadsSecond) × (c.index p' ≡ c.index p) × IsOneOf c.places (c.index p) × (c.places ≤ length (c.second p))
+      (c.first p' ≡ c.first p) × (from ≡ ReadsSecond) × (c.index p' ≡ c.index p) × IsOneOf c.places (c.index p)
+      × (c.places ≤ length (c.second p))
       × (c.second p' ≡ slice_set (c.second p) (c.index p - 1) (word_at (c.words m) (c.index p)))
   Reached Collected m p from p' =
-      (c.first p' ≡ c.first p) × (c.second p' ≡ c.second p) × (((from ≡ HasSecond) × (c.places ≤ c.index p)) ⊎ (from ≡ Collected))
+      (c.first p' ≡ c.first p) × (c.second p' ≡ c.second p)
+      × (((from ≡ HasSecond) × (c.places ≤ c.index p)) ⊎ (from ≡ Collected))
 
   abbrev pub Reaches : M → V → P → Move V P M → Type 0
   Reaches m p k (To d' m' p' k') = Reached (c.phase k') m p (c.phase k) p'
@@ -61,7 +68,10 @@ module _ {V P M : Type 0} (a : Algorithm V P M) (c : Copies V P M) where
   Reaches m p k Finish = Unit {0}
 
   module _ (items : List Item) (fits : Steady (embed.run_of a items)) (does : embed.AllDo a items)
-      (reaches : (t i : ℕ) → t < length items → IsOneOf a.shape.n i → WhenBusy (λ d k. Reaches (typed_state a items t).memory (typed_at a (typed_state a items t) i).variables k (a.move i d (typed_state a items t).memory (typed_at a (typed_state a items t) i).variables k)) (typed_at a (typed_state a items t) i).control)
+      (reaches : (t i : ℕ) → t < length items → IsOneOf a.shape.n i →
+      WhenBusy (λ d k. Reaches (typed_state a items t).memory (typed_at a (typed_state a items t) i).variables k
+      (a.move i d (typed_state a items t).memory (typed_at a (typed_state a items t) i).variables k))
+      (typed_at a (typed_state a items t) i).control)
       (quiet : (k : P) → (c.phase k ≡ Away) ⊎ (a.restarts k ≡ false)) (away : (op : Op) → c.phase (a.counter op) ≡ Away)
       (i : ℕ) (one : IsOneOf a.shape.n i) where
     abbrev pub his : ℕ → TypedProcess V P M
@@ -87,7 +97,8 @@ module _ {V P M : Type 0} (a : Algorithm V P M) (c : Copies V P M) where
       pub reading : Reading phase k time
       pub copy : word_at copies k ≡ word_at (words time) k
 
-    read_on : (phase : Phase) (s t t' : ℕ) (x y : List Word) (k : ℕ) → t ≤ t' → word_at y k ≡ word_at x k → Read phase s t x k → Read phase s t' y k
+    read_on : (phase : Phase) (s t t' : ℕ) (x y : List Word) (k : ℕ) → t ≤ t' → word_at y k ≡ word_at x k →
+        Read phase s t x k → Read phase s t' y k
     read_on phase s t t' x y k le same h =
         let before : h.time < t = h.before in
         record { time = h.time; after = h.after; before = omega arith; reading = h.reading; copy = same ∙ h.copy }
@@ -112,21 +123,26 @@ module _ {V P M : Type 0} (a : Algorithm V P M) (c : Copies V P M) where
     Progress s t p Collected = Both s t p (c.places + 1)
 
     -- more time, with the copies as they are
-    first_on : (s t : ℕ) (p p' : V) (j j' : ℕ) → c.first p' ≡ c.first p → j' ≤ j → FirstTo s t p j → FirstTo s (suc t) p' j'
+    first_on : (s t : ℕ) (p p' : V) (j j' : ℕ) → c.first p' ≡ c.first p → j' ≤ j →
+        FirstTo s t p j → FirstTo s (suc t) p' j'
     first_on s t p p' j j' same le h k one_k lt =
-        read_on ReadsFirst s t (suc t) (c.first p) (c.first p') k (omega arith) (ap (λ x. word_at x k) same) (h k one_k (omega arith))
+        read_on ReadsFirst s t (suc t) (c.first p) (c.first p') k (omega arith)
+        (ap (λ x. word_at x k) same) (h k one_k (omega arith))
 
-    both_on : (s t : ℕ) (p p' : V) (j j' : ℕ) → c.first p' ≡ c.first p → c.second p' ≡ c.second p → ((k : ℕ) → IsOneOf c.places k → k < j' → k < j) → Both s t p j →
-        Both s (suc t) p' j'
+    both_on : (s t : ℕ) (p p' : V) (j j' : ℕ) → c.first p' ≡ c.first p → c.second p' ≡ c.second p →
+        ((k : ℕ) → IsOneOf c.places k → k < j' → k < j) → Both s t p j → Both s (suc t) p' j'
     both_on s t p p' j j' same same2 less h =
         let to : h.middle ≤ t = h.to in
         record {
           middle = h.middle;
           from = h.from;
           to = omega arith;
-          first = λ k one_k. read_on ReadsFirst s h.middle h.middle (c.first p) (c.first p') k (omega arith) (ap (λ x. word_at x k) same) (h.first k one_k);
+          first =
+              λ k one_k. read_on ReadsFirst s h.middle h.middle (c.first p) (c.first p') k (omega arith)
+              (ap (λ x. word_at x k) same) (h.first k one_k);
           second = λ k one_k lt.
-              read_on ReadsSecond h.middle t (suc t) (c.second p) (c.second p') k (omega arith) (ap (λ x. word_at x k) same2) (h.second k one_k (less k one_k lt));
+              read_on ReadsSecond h.middle t (suc t) (c.second p) (c.second p') k (omega arith)
+              (ap (λ x. word_at x k) same2) (h.second k one_k (less k one_k lt));
         }
 
     longer : (s t : ℕ) (p : V) (phase : Phase) → Progress s t p phase → Progress s (suc t) p phase
@@ -138,11 +154,12 @@ module _ {V P M : Type 0} (a : Algorithm V P M) (c : Copies V P M) where
     longer s t p Collected h = both_on s t p p (c.places + 1) (c.places + 1) refl refl (λ k o lt. lt) h
 
     -- a copy that is read now
-    read_now : (phase : Phase) (s t : ℕ) (d : Mode) (l : P) (x x' : List Word) (k : ℕ) → s ≤ t → item_at items t ≡ Step i → (his t).control ≡ At d l →
+    read_now : (phase : Phase) (s t : ℕ) (d : Mode) (l : P) (x x' : List Word) (k : ℕ) →
+        s ≤ t → item_at items t ≡ Step i → (his t).control ≡ At d l →
         c.phase l ≡ phase → IsOneOf c.places (c.index (his t).variables) → c.places ≤ length x →
         x' ≡ slice_set x (c.index (his t).variables - 1) (word_at (words t) (c.index (his t).variables)) →
-        (IsOneOf c.places k → k < c.index (his t).variables → Read phase s t x k) → IsOneOf c.places k → k < c.index (his t).variables + 1 →
-        Read phase s (suc t) x' k
+        (IsOneOf c.places k → k < c.index (his t).variables → Read phase s t x k) → IsOneOf c.places k →
+        k < c.index (his t).variables + 1 → Read phase s (suc t) x' k
     read_now phase s t d l x x' k le is at its inside len set old one_k lt =
         let j = c.index (his t).variables in
         elim (cases_eq k j) [
@@ -162,22 +179,24 @@ module _ {V P M : Type 0} (a : Algorithm V P M) (c : Copies V P M) where
         ]
 
     -- a step at a line
-    advance : (s t : ℕ) (d : Mode) (l : P) (p' : V) (to : Phase) → s ≤ t → item_at items t ≡ Step i → (his t).control ≡ At d l →
-        Reached to (typed_state a items t).memory (his t).variables (c.phase l) p' →
-        Progress s t (his t).variables (c.phase l) →
-        Progress s (suc t) p' to
+    advance : (s t : ℕ) (d : Mode) (l : P) (p' : V) (to : Phase) → s ≤ t → item_at items t ≡ Step i →
+        (his t).control ≡ At d l → Reached to (typed_state a items t).memory (his t).variables (c.phase l) p' →
+        Progress s t (his t).variables (c.phase l) → Progress s (suc t) p' to
     advance s t d l p' Away le is at r h = tt
     advance s t d l p' ReadsFirst le is at r h =
         elim r [
           | inl first ↦ (λ k one_k lt. absurd (let e : c.index p' ≡ 1 = first in omega arith))
           | inr next ↦ (let e : c.index p' ≡ c.index (his t).variables + 1 = next.1 in
-              first_on s t (his t).variables p' (c.index (his t).variables + 1) (c.index p') next.2 (omega arith) (subst (Progress s t (his t).variables) next.0 h))
+              first_on s t (his t).variables p' (c.index (his t).variables + 1) (c.index p') next.2 (omega arith)
+              (subst (Progress s t (his t).variables) next.0 h))
         ]
     advance s t d l p' HasFirst le is at r h =
         let e : c.index p' ≡ c.index (his t).variables = r.1 in
-        let g : FirstTo s t (his t).variables (c.index (his t).variables) = subst (Progress s t (his t).variables) r.0 h in
+        let g : FirstTo s t (his t).variables (c.index (his t).variables) =
+        subst (Progress s t (his t).variables) r.0 h in
         λ k one_k lt.
-        read_now ReadsFirst s t d l (c.first (his t).variables) (c.first p') k le is at r.0 r.2 r.3 r.4 (g k) one_k (omega arith)
+        read_now ReadsFirst s t d l (c.first (his t).variables)
+        (c.first p') k le is at r.0 r.2 r.3 r.4 (g k) one_k (omega arith)
     advance s t d l p' ReadsSecond le is at r h =
         let p = (his t).variables in
         elim r.1 [
@@ -188,11 +207,14 @@ module _ {V P M : Type 0} (a : Algorithm V P M) (c : Copies V P M) where
                 middle = t;
                 from = le;
                 to = omega arith;
-                first = λ k one_k. read_on ReadsFirst s t t (c.first p) (c.first p') k (omega arith) (ap (λ x. word_at x k) r.0) (g k one_k (omega arith));
+                first =
+                    λ k one_k. read_on ReadsFirst s t t (c.first p) (c.first p') k (omega arith)
+                    (ap (λ x. word_at x k) r.0) (g k one_k (omega arith));
                 second = λ k one_k lt. absurd (omega arith);
               })
           | inr next ↦ (let e : c.index p' ≡ c.index p + 1 = next.1 in
-              both_on s t p p' (c.index p + 1) (c.index p') r.0 next.2 (λ k o lt. omega arith) (subst (Progress s t p) next.0 h))
+              both_on s t p p' (c.index p + 1) (c.index p') r.0 next.2 (λ k o lt. omega arith)
+              (subst (Progress s t p) next.0 h))
         ]
     advance s t d l p' HasSecond le is at r h =
         let p = (his t).variables in
@@ -203,15 +225,19 @@ module _ {V P M : Type 0} (a : Algorithm V P M) (c : Copies V P M) where
           middle = g.middle;
           from = g.from;
           to = omega arith;
-          first = λ k one_k. read_on ReadsFirst s g.middle g.middle (c.first p) (c.first p') k (omega arith) (ap (λ x. word_at x k) r.0) (g.first k one_k);
+          first =
+              λ k one_k. read_on ReadsFirst s g.middle g.middle (c.first p) (c.first p') k (omega arith)
+              (ap (λ x. word_at x k) r.0) (g.first k one_k);
           second = λ k one_k lt.
-              read_now ReadsSecond g.middle t d l (c.second p) (c.second p') k to is at r.1 r.3 r.4 r.5 (g.second k) one_k (omega arith);
+              read_now ReadsSecond g.middle t d l (c.second p) (c.second p') k to is at r.1 r.3 r.4 r.5
+              (g.second k) one_k (omega arith);
         }
     advance s t d l p' Collected le is at r h =
         let p = (his t).variables in
         elim r.2 [
           | inl done ↦ (let all : c.places ≤ c.index p = done.1 in
-              both_on s t p p' (c.index p + 1) (c.places + 1) r.0 r.1 (λ k o lt. omega arith) (subst (Progress s t p) done.0 h))
+              both_on s t p p' (c.index p + 1) (c.places + 1) r.0 r.1 (λ k o lt. omega arith)
+              (subst (Progress s t p) done.0 h))
           | inr on ↦ both_on s t p p' (c.places + 1) (c.places + 1) r.0 r.1 (λ k o lt. lt) (subst (Progress s t p) on h)
         ]
 
@@ -225,14 +251,21 @@ module _ {V P M : Type 0} (a : Algorithm V P M) (c : Copies V P M) where
         ]
     anew s t p' m p HasFirst r = absurd (let e : Away ≡ ReadsFirst = r.0 in cc)
     anew s t p' m p ReadsSecond r =
-        elim r.1 [ inl start ↦ absurd (let e : Away ≡ HasFirst = start.0 in cc) | inr next ↦ absurd (let e : Away ≡ HasSecond = next.0 in cc) ]
+        elim r.1 [
+          | inl start ↦ absurd (let e : Away ≡ HasFirst = start.0 in cc)
+          | inr next ↦ absurd (let e : Away ≡ HasSecond = next.0 in cc)
+        ]
     anew s t p' m p HasSecond r = absurd (let e : Away ≡ ReadsSecond = r.1 in cc)
     anew s t p' m p Collected r =
-        elim r.2 [ inl done ↦ absurd (let e : Away ≡ HasSecond = done.0 in cc) | inr on ↦ absurd (let e : Away ≡ Collected = on in cc) ]
+        elim r.2 [
+          | inl done ↦ absurd (let e : Away ≡ HasSecond = done.0 in cc)
+          | inr on ↦ absurd (let e : Away ≡ Collected = on in cc)
+        ]
 
     -- the process at state t
     abbrev pub Tracked : ℕ → TypedProcess V P M → Type 0
-    Tracked t q = (q.auxiliary.round ≤ t) × WhenBusy (λ d k. Progress q.auxiliary.round t q.variables (c.phase k)) q.control
+    Tracked t q =
+        (q.auxiliary.round ≤ t) × WhenBusy (λ d k. Progress q.auxiliary.round t q.variables (c.phase k)) q.control
 
     kept : (t s : ℕ) (p : V) (control : Control P) → WhenBusy (λ d k. Progress s t p (c.phase k)) control →
         WhenBusy (λ d k. Progress s (suc t) p (c.phase k)) control
@@ -244,12 +277,15 @@ module _ {V P M : Type 0} (a : Algorithm V P M) (c : Copies V P M) where
 
     stepped : (t : ℕ) (d : Mode) (k : P) (v : Move V P M) → item_at items t ≡ Step i → (his t).control ≡ At d k →
         Reaches (typed_state a items t).memory (his t).variables k v → (his t).auxiliary.round ≤ t →
-        Progress (his t).auxiliary.round t (his t).variables (c.phase k) → Tracked (suc t) (cases.moved a (suc t) (his t) k v)
+        Progress (his t).auxiliary.round t (his t).variables (c.phase k) →
+        Tracked (suc t) (cases.moved a (suc t) (his t) k v)
     stepped t d k (To d' m' p' k') is at r le h =
         let s = (his t).auxiliary.round in (
           round_le t s (a.restarts k) le,
           elim (quiet k) [
-            | inl gone ↦ anew (if a.restarts k then suc t else s) (suc t) p' (typed_state a items t).memory (his t).variables (c.phase k')
+            | inl gone ↦
+                anew (if a.restarts k then suc t else s) (suc t) p' (typed_state a items t).memory
+                (his t).variables (c.phase k')
                 (subst (λ y. Reached (c.phase k') (typed_state a items t).memory (his t).variables y p') gone r)
             | inr still ↦ subst (λ b. Progress (if b then suc t else s) (suc t) p' (c.phase k')) (sym still)
                 (advance s t d k p' (c.phase k') le is at r h)
@@ -259,7 +295,8 @@ module _ {V P M : Type 0} (a : Algorithm V P M) (c : Copies V P M) where
     stepped t d k (Answer v) is at r le h = (round_le t (his t).auxiliary.round (a.restarts k) le, tt)
     stepped t d k Finish is at r le h = (round_le t (his t).auxiliary.round (a.restarts k) le, tt)
 
-    called_round : (t : ℕ) (op : Op) (q : TypedProcess V P M) → q.auxiliary.round ≤ t → (called_auxiliary (suc t) op q.auxiliary).round ≤ suc t
+    called_round : (t : ℕ) (op : Op) (q : TypedProcess V P M) → q.auxiliary.round ≤ t →
+        (called_auxiliary (suc t) op q.auxiliary).round ≤ suc t
     called_round t Scan q le = omega arith
     called_round t (Update word value) q le = omega arith
 
@@ -269,14 +306,24 @@ module _ {V P M : Type 0} (a : Algorithm V P M) (c : Copies V P M) where
         let h = tracked t (omega arith) in
         let le : (his t).auxiliary.round ≤ t = h.0 in
         elim (cases.item_case a items fits does i one t (omega arith)) [
-          | inl stays ↦ subst (Tracked (suc t)) (sym stays.same) (omega arith, kept t (his t).auxiliary.round (his t).variables (his t).control h.1)
+          | inl stays ↦ subst (Tracked (suc t)) (sym stays.same) (
+            omega arith,
+            kept t (his t).auxiliary.round (his t).variables (his t).control h.1,
+          )
           | inr busy_or_called ↦ elim busy_or_called [
             | inl s ↦ subst (Tracked (suc t)) (sym s.after)
-                (stepped t s.mode s.counter (a.move i s.mode (typed_state a items t).memory (his t).variables s.counter) s.item s.control
-                (subst (WhenBusy (λ d k. Reaches (typed_state a items t).memory (his t).variables k (a.move i d (typed_state a items t).memory (his t).variables k))) s.control (reaches t i (omega arith) one))
+                (stepped t s.mode s.counter
+                (a.move i s.mode (typed_state a items t).memory (his t).variables s.counter) s.item s.control
+                (subst (WhenBusy (λ d k. Reaches (typed_state a items t).memory (his t).variables k
+                (a.move i d (typed_state a items t).memory (his t).variables k)))
+                s.control (reaches t i (omega arith) one))
                 le
-                (subst (WhenBusy (λ d k. Progress (his t).auxiliary.round t (his t).variables (c.phase k))) s.control h.1))
-            | inr k ↦ subst (Tracked (suc t)) (sym k.after)
-                (called_round t k.op (his t) le, subst (Progress (called_auxiliary (suc t) k.op (his t).auxiliary).round (suc t) (his t).variables) (sym (away k.op)) tt)
+                (subst (WhenBusy (λ d k. Progress (his t).auxiliary.round t (his t).variables (c.phase k)))
+                s.control h.1))
+            | inr k ↦ subst (Tracked (suc t)) (sym k.after) (
+              called_round t k.op (his t) le,
+              subst (Progress (called_auxiliary (suc t) k.op (his t).auxiliary).round (suc t) (his t).variables)
+                  (sym (away k.op)) tt,
+            )
           ]
         ]

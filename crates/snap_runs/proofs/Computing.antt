@@ -1,5 +1,7 @@
--- Tests of numbers and choices.
-use Rattle.std.specs.Prelude.{◌≡◌, ◌≢◌, ℕ, ◌+◌, ◌<◌, ◌≤◌, Bool, true, false, not, ◌&&◌, Option, Some, None, nat_eq, nat_lt, nat_le, if◌then◌else◌, refl}
+-- Lemmas about comparisons of numbers (`nat_lt`, `nat_le`,
+-- `nat_eq`), `&&` and `if`, by which the proofs about runs compute.
+use Rattle.std.specs.Prelude.{◌≡◌, ◌≢◌, ℕ, ◌+◌, ◌<◌, ◌≤◌, Bool, true, false, not, ◌&&◌, Option, Some, None, nat_eq}
+use Rattle.std.specs.Prelude.{nat_lt, nat_le, if◌then◌else◌, refl}
 use Rattle.std.proofs.Common.{ap, arith}
 use Rattle.std.proofs.lemmas.Grind.{common_steps}
 
@@ -42,13 +44,14 @@ pub if_true : {A : Type 0} (t : Bool) (x y : A) → t ≡ true → (if t then x 
 if_true t x y h = ap (λ v. if v then x else y) h
 
 -- what holds of both sides holds of the choice
-pub either : {A : Type 0} (P : A → Type 0) (b : Bool) (x y : A) → (b ≡ true → P x) → (b ≡ false → P y) → P (if b then x else y)
+pub either : {A : Type 0} (P : A → Type 0) (b : Bool) (x y : A) → (b ≡ true → P x) →
+    (b ≡ false → P y) → P (if b then x else y)
 either P true x y f g = f refl
 either P false x y f g = g refl
 
 -- the same of what may be there
-pub whether : {A B : Type 0} (P : B → Type 0) (f : Option A → B) (o : Option A) → (o ≡ None → P (f None)) → ((x : A) → o ≡ Some x → P (f (Some x))) →
-    P (f o)
+pub whether : {A B : Type 0} (P : B → Type 0) (f : Option A → B) (o : Option A) → (o ≡ None → P (f None)) →
+    ((x : A) → o ≡ Some x → P (f (Some x))) → P (f o)
 whether P f None g h = g refl
 whether P f (Some x) g h = h x refl
 
@@ -62,7 +65,8 @@ not_true true h = absurd (cc)
 not_true false h = refl
 
 -- where nothing is said against it
-pub none_then : {A : Type 0} (b : Bool) (o : Option A) (x : A) → (if b then o else Some x) ≡ None → (b ≡ true) × (o ≡ None)
+pub none_then : {A : Type 0} (b : Bool) (o : Option A) (x : A) →
+    (if b then o else Some x) ≡ None → (b ≡ true) × (o ≡ None)
 none_then true o x h = (refl, h)
 none_then false o x h = absurd (cc)
 

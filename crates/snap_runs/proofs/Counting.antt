@@ -1,4 +1,5 @@
--- Counts of the items that pass a test.
+-- Lemmas about `count`, the number of items of a run between two others
+-- that pass a test: with one more item, and from a later one on.
 use Rattle.std.specs.Prelude.{◌≡◌, ℕ, zero, suc, ◌<◌, ◌≤◌, Bool, true, false, ◌&&◌, nat_lt, if◌then◌else◌, refl}
 use Rattle.std.proofs.Common.{◌∙◌, ap, arith}
 use Rattle.snap_runs.specs.Scan.{count}
@@ -8,11 +9,14 @@ use Rattle.snap_runs.proofs.Computing.{lt_true, lt_false, lt_from}
 pub count_none : (test : ℕ → Bool) (c e : ℕ) → e ≤ c → count test c e ≡ 0
 count_none test c zero h = refl
 count_none test c (suc e) h =
-    ap (λ b. if b && test (suc e) then suc (count test c e) else count test c e) (lt_false c (suc e) h) ∙ count_none test c e (omega arith)
+    ap (λ b. if b && test (suc e) then suc (count test c e) else count test c e) (lt_false c (suc e) h)
+    ∙ count_none test c e (omega arith)
 
 -- one more item
-pub count_next : (test : ℕ → Bool) (c e : ℕ) → c ≤ e → count test c (suc e) ≡ (if test (suc e) then suc (count test c e) else count test c e)
-count_next test c e h = ap (λ b. if b && test (suc e) then suc (count test c e) else count test c e) (lt_true c (suc e) (omega arith))
+pub count_next : (test : ℕ → Bool) (c e : ℕ) → c ≤ e →
+    count test c (suc e) ≡ (if test (suc e) then suc (count test c e) else count test c e)
+count_next test c e h =
+    ap (λ b. if b && test (suc e) then suc (count test c e) else count test c e) (lt_true c (suc e) (omega arith))
 
 -- fewer from a later item on
 pub count_later : (test : ℕ → Bool) (c c' e : ℕ) → c ≤ c' → count test c' e ≤ count test c e

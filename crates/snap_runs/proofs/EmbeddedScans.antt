@@ -1,4 +1,5 @@
--- The embedded scans of a run: an update that has made its view and not yet written it has the view of one that is finished.
+-- The embedded scans of a run of any algorithm: an update that has made
+-- its view and not yet written it has the view of one that is finished.
 use Rattle.std.specs.Prelude.{◌≡◌, ℕ, zero, suc, ◌<◌, ◌≤◌, ◌⊎◌, List, length, Some, refl}
 use Rattle.std.proofs.Common.{sym, ◌∙◌, ap, subst, arith, inl, inr}
 use Rattle.std.proofs.Math.Nat.{eq-or-lt_of_le}
@@ -11,7 +12,10 @@ use Rattle.snap_semantics.specs.declared.process.Op.{Op}
 use Rattle.snap_semantics.specs.declared.process.Op.TheVariants.{Scan, Update}
 use Rattle.snap_runs.specs.Run.{Run, state, outcome}
 use Rattle.snap_runs.specs.Scan.{Starts, Ends, FinishedScan, IsCallLine, ReturnsView, line_in, link_in}
-use Rattle.snap_runs.proofs.Algorithm.{Mode, Scanning, Embedded, Updating, mode_of, Control, Idle, At, WhenBusy, Move, To, Begin, Answer, Finish, TypedProcess, Algorithm, by_move, typed_at, outcome_of, item_at, typed_state, process_of, begun_auxiliary, called_auxiliary}
+use Rattle.snap_runs.proofs.Algorithm.{Mode, Scanning, Embedded, Updating, mode_of, Control, Idle, At, WhenBusy, Move}
+use Rattle.snap_runs.proofs.Algorithm.{To, Begin, Answer, Finish, TypedProcess, Algorithm, by_move, typed_at}
+use Rattle.snap_runs.proofs.Algorithm.{outcome_of, item_at, typed_state, process_of}
+use Rattle.snap_runs.proofs.Algorithm.{begun_auxiliary, called_auxiliary}
 use Rattle.snap_runs.proofs.Embedding as embed
 use Rattle.snap_runs.proofs.Flow.{Lines}
 use Rattle.snap_runs.proofs.ItemCases as cases
@@ -23,15 +27,20 @@ module _ {V P M : Type 0} (a : Algorithm V P M) (lines : Lines V P M) where
   Embeds Scanning p k (To d' m' p' k') = d' ≡ Scanning
   Embeds Scanning p k (Begin d' p' k') = ⊥
   Embeds (Embedded w x) p k (To d' m' p' k') =
-      ((d' ≡ Embedded w x) × (lines.IsReturn k → ⊥)) ⊎ ((d' ≡ Updating w x) × lines.IsReturn k × (lines.answer p' ≡ lines.answer p))
+      ((d' ≡ Embedded w x) × (lines.IsReturn k → ⊥))
+      ⊎ ((d' ≡ Updating w x) × lines.IsReturn k × (lines.answer p' ≡ lines.answer p))
   Embeds (Embedded w x) p k (Begin d' p' k') = ⊥
-  Embeds (Updating w x) p k (To d' m' p' k') = (d' ≡ Updating w x) × (lines.IsLate k' → lines.IsLate k × (lines.answer p' ≡ lines.answer p))
+  Embeds (Updating w x) p k (To d' m' p' k') =
+      (d' ≡ Updating w x) × (lines.IsLate k' → lines.IsLate k × (lines.answer p' ≡ lines.answer p))
   Embeds (Updating w x) p k (Begin d' p' k') = (d' ≡ Embedded w x) × IsCallLine (instr_at a.source.lines (a.number k))
   Embeds d p k (Answer v) = Unit {0}
   Embeds d p k Finish = Unit {0}
 
   module _ (listed : scans.Listed a lines) (run : scans.Execution a lines)
-      (embeds : (t i : ℕ) → t < length run.items → IsOneOf a.shape.n i → WhenBusy (λ d k. Embeds d (typed_at a (typed_state a run.items t) i).variables k (a.move i d (typed_state a run.items t).memory (typed_at a (typed_state a run.items t) i).variables k)) (typed_at a (typed_state a run.items t) i).control)
+      (embeds : (t i : ℕ) → t < length run.items → IsOneOf a.shape.n i →
+      WhenBusy (λ d k. Embeds d (typed_at a (typed_state a run.items t) i).variables k
+      (a.move i d (typed_state a run.items t).memory (typed_at a (typed_state a run.items t) i).variables k))
+      (typed_at a (typed_state a run.items t) i).control)
       (not_late : (op : Op) → lines.IsLate (a.counter op) → ⊥)
       (i : ℕ) (one : IsOneOf a.shape.n i) where
     abbrev items : List Item
@@ -77,29 +86,34 @@ module _ {V P M : Type 0} (a : Algorithm V P M) (lines : Lines V P M) where
     lends_longer c t view h = record { to = h.to; before = (let b : h.to ≤ t = h.before in omega arith); scan = h.scan }
 
     -- an item that is no step of the busy process
-    kept : (t since : ℕ) (view : List ℕ) (control : Control P) → ((d : Mode) (k : P) → control ≡ At d k → item_at items t ≡ Step i → ⊥) →
+    kept : (t since : ℕ) (view : List ℕ) (control : Control P) →
+        ((d : Mode) (k : P) → control ≡ At d k → item_at items t ≡ Step i → ⊥) →
         Tracked t since view control → Tracked (suc t) since view control
     kept t since view Idle no_step h = tt
     kept t since view (At Scanning k) no_step h = tt
-    kept t since view (At (Embedded w x) k) no_step h = longer since t (λ v ends. no_step (Embedded w x) k refl ends.0) h
+    kept t since view (At (Embedded w x) k) no_step h =
+        longer since t (λ v ends. no_step (Embedded w x) k refl ends.0) h
     kept t since view (At (Updating w x) k) no_step h = λ late. lends_longer since t view (h late)
 
     -- the process at its line, in the words of the machine
     busy : (t : ℕ) (d : Mode) (k : P) → t < length items → (his t).control ≡ At d k →
-        process_at (state r t) i ≡ process_of a (record { control = At d k; variables = (his t).variables; auxiliary = (his t).auxiliary })
+        process_at (state r t) i
+        ≡ process_of a (record { control = At d k; variables = (his t).variables; auxiliary = (his t).auxiliary })
     busy t d k short at =
         embed.process_at_is a items run.fits run.does t i (omega arith) one
-        ∙ ap (λ (p : Control P). process_of a (record { control = p; variables = (his t).variables; auxiliary = (his t).auxiliary })) at
+        ∙ ap (λ (p : Control P).
+        process_of a (record { control = p; variables = (his t).variables; auxiliary = (his t).auxiliary })) at
 
     -- a line that does not return ends no scan
-    no_end : (t : ℕ) (d : Mode) (k : P) (view : List ℕ) → t < length items → (his t).control ≡ At d k → (lines.IsReturn k → ⊥) →
-        Ends r i (suc t) (Some a.back) view → ⊥
+    no_end : (t : ℕ) (d : Mode) (k : P) (view : List ℕ) → t < length items → (his t).control ≡ At d k →
+        (lines.IsReturn k → ⊥) → Ends r i (suc t) (Some a.back) view → ⊥
     no_end t d k view short at none ends =
-        none (listed.returns (his t).variables k view (subst (λ (p : Process). ReturnsView (line_in a.source p.status) p.locals view) (busy t d k short at) ends.1)).0
+        none (listed.returns (his t).variables k view
+        (subst (λ (p : Process). ReturnsView (line_in a.source p.status) p.locals view) (busy t d k short at) ends.1)).0
 
     -- a line that returns ends its embedded scan
-    ended : (t w x : ℕ) (k : P) → t < length items → item_at items t ≡ Step i → (his t).control ≡ At (Embedded w x) k → lines.IsReturn k →
-        Open (his t).auxiliary.since t →
+    ended : (t w x : ℕ) (k : P) → t < length items → item_at items t ≡ Step i →
+        (his t).control ≡ At (Embedded w x) k → lines.IsReturn k → Open (his t).auxiliary.since t →
         Lending (his t).auxiliary.since (suc t) (lines.answer (his t).variables)
     ended t w x k short is at returns h =
         let c = (his t).auxiliary.since in
@@ -120,34 +134,42 @@ module _ {V P M : Type 0} (a : Algorithm V P M) (lines : Lines V P M) where
             order = omega arith;
             ends = (
               is,
-              subst (λ (p : Process). ReturnsView (line_in a.source p.status) p.locals view) (sym (busy t (Embedded w x) k short at)) (listed.answers (his t).variables k returns),
+              subst (λ (p : Process). ReturnsView (line_in a.source p.status) p.locals view)
+                  (sym (busy t (Embedded w x) k short at)) (listed.answers (his t).variables k returns),
               ap (λ (p : Process). link_in p.status) (busy t (Embedded w x) k short at),
             );
           };
         }
 
     -- a line that begins an embedded scan
-    begun : (t w x : ℕ) (k : P) (p' : V) (k' : P) → t < length items → item_at items t ≡ Step i → (his t).control ≡ At (Updating w x) k →
-        IsCallLine (instr_at a.source.lines (a.number k)) →
-        his (suc t) ≡ record { control = At (Embedded w x) k'; variables = p'; auxiliary = begun_auxiliary a k (suc t) (his t).auxiliary } →
-        outcome r (suc t) ≡ outcome_of (by_move a (suc t) (typed_state a items t).memory (his t) k (Begin (Embedded w x) p' k')) → Open (suc t) (suc t)
+    begun : (t w x : ℕ) (k : P) (p' : V) (k' : P) → t < length items → item_at items t ≡ Step i →
+        (his t).control ≡ At (Updating w x) k → IsCallLine (instr_at a.source.lines (a.number k)) →
+        his (suc t) ≡ record {
+          control = At (Embedded w x) k';
+          variables = p';
+          auxiliary = begun_auxiliary a k (suc t) (his t).auxiliary;
+        } → outcome r (suc t)
+        ≡ outcome_of (by_move a (suc t) (typed_state a items t).memory (his t) k (Begin (Embedded w x) p' k')) →
+        Open (suc t) (suc t)
     begun t w x k p' k' short is at calls after out = record {
       starts = (
         is,
         subst (λ (p : Process). IsCallLine (line_in a.source p.status)) (sym (busy t (Updating w x) k short at)) calls,
         out,
-        ap (λ (p : Process). link_in p.status) (embed.process_at_is a items run.fits run.does (suc t) i (omega arith) one ∙ ap (process_of a) after),
+        ap (λ (p : Process). link_in p.status)
+            (embed.process_at_is a items run.fits run.does (suc t) i (omega arith) one ∙ ap (process_of a) after),
       );
       first = omega arith;
       order = omega arith;
       goes_on = λ u view lo hi. absurd (omega arith);
     }
 
-    stepped : (t : ℕ) (d : Mode) (k : P) (v : Move V P M) → t < length items → item_at items t ≡ Step i → (his t).control ≡ At d k →
-        Embeds d (his t).variables k v → his (suc t) ≡ cases.moved a (suc t) (his t) k v →
+    stepped : (t : ℕ) (d : Mode) (k : P) (v : Move V P M) → t < length items → item_at items t ≡ Step i →
+        (his t).control ≡ At d k → Embeds d (his t).variables k v → his (suc t) ≡ cases.moved a (suc t) (his t) k v →
         outcome r (suc t) ≡ outcome_of (by_move a (suc t) (typed_state a items t).memory (his t) k v) →
         Tracked t (his t).auxiliary.since (lines.answer (his t).variables) (At d k) →
-        Tracked (suc t) (cases.moved a (suc t) (his t) k v).auxiliary.since (lines.answer (cases.moved a (suc t) (his t) k v).variables) (cases.moved a (suc t) (his t) k v).control
+        Tracked (suc t) (cases.moved a (suc t) (his t) k v).auxiliary.since
+        (lines.answer (cases.moved a (suc t) (his t) k v).variables) (cases.moved a (suc t) (his t) k v).control
     stepped t Scanning k (To d' m' p' k') short is at e after out h =
         subst (λ y. Tracked (suc t) (his t).auxiliary.since (lines.answer p') (At y k')) (sym e) tt
     stepped t Scanning k (Begin d' p' k') short is at e after out h = absurd e
@@ -163,11 +185,16 @@ module _ {V P M : Type 0} (a : Algorithm V P M) (lines : Lines V P M) where
     stepped t (Updating w x) k (To d' m' p' k') short is at e after out h =
         let since = (his t).auxiliary.since in
         subst (λ y. Tracked (suc t) since (lines.answer p') (At y k')) (sym e.0)
-        (λ late. let was = e.1 late in subst (Lending since (suc t)) (sym was.1) (lends_longer since t (lines.answer (his t).variables) (h was.0)))
+        (λ late. let was = e.1 late in
+        subst (Lending since (suc t)) (sym was.1) (lends_longer since t (lines.answer (his t).variables) (h was.0)))
     stepped t (Updating w x) k (Begin d' p' k') short is at e after out h =
         subst (λ y. Tracked (suc t) (suc t) (lines.answer p') (At y k')) (sym e.0)
         (begun t w x k p' k' short is at e.1
-        (after ∙ ap (λ y. record { control = At y k'; variables = p'; auxiliary = begun_auxiliary a k (suc t) (his t).auxiliary }) e.0) out)
+        (after ∙ ap (λ y. record {
+          control = At y k';
+          variables = p';
+          auxiliary = begun_auxiliary a k (suc t) (his t).auxiliary;
+        }) e.0) out)
     stepped t d k (Answer v) short is at e after out h = tt
     stepped t d k Finish short is at e after out h = tt
 
@@ -175,28 +202,36 @@ module _ {V P M : Type 0} (a : Algorithm V P M) (lines : Lines V P M) where
     called t since view Scan = tt
     called t since view (Update word value) = λ late. absurd (not_late (Update word value) late)
 
-    tracked : (t : ℕ) → t ≤ length items → Tracked t (his t).auxiliary.since (lines.answer (his t).variables) (his t).control
+    tracked : (t : ℕ) → t ≤ length items →
+        Tracked t (his t).auxiliary.since (lines.answer (his t).variables) (his t).control
     tracked zero short =
-        subst (λ (q : TypedProcess V P M). Tracked 0 q.auxiliary.since (lines.answer q.variables) q.control) (sym (embed.first_process_is a i one)) tt
+        subst (λ (q : TypedProcess V P M). Tracked 0 q.auxiliary.since (lines.answer q.variables) q.control)
+        (sym (embed.first_process_is a i one)) tt
     tracked (suc t) short =
         let before = tracked t (omega arith) in
-        let Next : TypedProcess V P M → Type 0 = λ q. Tracked (suc t) q.auxiliary.since (lines.answer q.variables) q.control in
+        let Next : TypedProcess V P M → Type 0 =
+        λ q. Tracked (suc t) q.auxiliary.since (lines.answer q.variables) q.control in
         elim (cases.item_case a items run.fits run.does i one t (omega arith)) [
           | inl stays ↦ subst Next (sym stays.same)
               (kept t (his t).auxiliary.since (lines.answer (his t).variables) (his t).control
               (λ d k at is. absurd (let e = sym (stays.idle is) ∙ at in cc)) before)
           | inr busy_or_called ↦ elim busy_or_called [
             | inl s ↦ subst Next (sym s.after)
-                (stepped t s.mode s.counter (a.move i s.mode (typed_state a items t).memory (his t).variables s.counter) (omega arith) s.item s.control
-                (subst (WhenBusy (λ d k. Embeds d (his t).variables k (a.move i d (typed_state a items t).memory (his t).variables k))) s.control (embeds t i (omega arith) one))
+                (stepped t s.mode s.counter (a.move i s.mode (typed_state a items t).memory (his t).variables s.counter)
+                (omega arith) s.item s.control
+                (subst (WhenBusy
+                (λ d k. Embeds d (his t).variables k (a.move i d (typed_state a items t).memory (his t).variables k)))
+                s.control (embeds t i (omega arith) one))
                 s.after s.outcome_is
                 (subst (Tracked t (his t).auxiliary.since (lines.answer (his t).variables)) s.control before))
             | inr c ↦ subst Next (sym c.after)
-                (called (suc t) (called_auxiliary (suc t) c.op (his t).auxiliary).since (lines.answer (his t).variables) c.op)
+                (called (suc t) (called_auxiliary (suc t) c.op (his t).auxiliary).since
+                (lines.answer (his t).variables) c.op)
           ]
         ]
 
     -- what an update has made and not yet written is the view of its embedded scan
     pub lending : (t w x : ℕ) (k : P) → t ≤ length items → (his t).control ≡ At (Updating w x) k → lines.IsLate k →
         Lending (his t).auxiliary.since t (lines.answer (his t).variables)
-    lending t w x k short at late = subst (Tracked t (his t).auxiliary.since (lines.answer (his t).variables)) at (tracked t short) late
+    lending t w x k short at late =
+        subst (Tracked t (his t).auxiliary.since (lines.answer (his t).variables)) at (tracked t short) late

@@ -1,4 +1,5 @@
--- Where a process executes a line it stands there, and what a step there leaves.
+-- A process of an `Algorithm` that executes a line stands at the
+-- program counter of that line; and what its step there leaves.
 use Rattle.std.specs.Prelude.{◌≡◌, ℕ, suc, ◌<◌, true, ◌&&◌, List, length, Option, Some, nat_eq}
 use Rattle.std.proofs.Common.{sym, ◌∙◌, ap, subst, arith}
 use Rattle.snap_words.specs.Shape.{IsOneOf}
@@ -10,7 +11,9 @@ use Rattle.snap_semantics.specs.declared.process.Outcome.TheVariants.{Stepped}
 use Rattle.snap_runs.specs.Run.{Run, state, item}
 use Rattle.snap_runs.specs.Scan.{steps}
 use Rattle.snap_runs.specs.Update.{is_at, executes}
-use Rattle.snap_runs.proofs.Algorithm.{Mode, Control, Idle, At, Move, To, TypedProcess, TypedState, Algorithm, by_move, by_step, typed_at, changed, happens, item_at, typed_state, status_of, stepped_auxiliary, memory_after}
+use Rattle.snap_runs.proofs.Algorithm.{Mode, Control, Idle, At, Move, To, TypedProcess, TypedState, Algorithm}
+use Rattle.snap_runs.proofs.Algorithm.{by_move, by_step, typed_at, changed, happens, item_at, typed_state, status_of}
+use Rattle.snap_runs.proofs.Algorithm.{stepped_auxiliary, memory_after}
 use Rattle.snap_runs.proofs.Computing.{both, same_number, same_from}
 use Rattle.snap_runs.proofs.Embedding as embed
 use Rattle.snap_runs.proofs.Steady.{Steady}
@@ -26,14 +29,16 @@ module _ {V P M : Type 0} (a : Algorithm V P M) where
     pub counter_with : ℕ → Option P
     pub alone : (k : P) → counter_with (a.number k) ≡ Some k
 
-  pub at_number : (numbered : Numbered) (k : P) (line : ℕ) (there : P) → numbered.counter_with line ≡ Some there → nat_eq (a.number k) line ≡ true →
-      k ≡ there
+  pub at_number : (numbered : Numbered) (k : P) (line : ℕ) (there : P) → numbered.counter_with line ≡ Some there →
+      nat_eq (a.number k) line ≡ true → k ≡ there
   at_number numbered k line there is same =
-      let e : Some k ≡ Some there = sym (numbered.alone k) ∙ ap numbered.counter_with (same_from (a.number k) line same) ∙ is in cc
+      let e : Some k ≡ Some there =
+      sym (numbered.alone k) ∙ ap numbered.counter_with (same_from (a.number k) line same) ∙ is in
+      cc
 
   -- a process at a line stands at its program counter
-  busy_at : (numbered : Numbered) (line : ℕ) (there : P) (control : Control P) → numbered.counter_with line ≡ Some there →
-      is_at line (status_of a control) ≡ true →
+  busy_at : (numbered : Numbered) (line : ℕ) (there : P) (control : Control P) →
+      numbered.counter_with line ≡ Some there → is_at line (status_of a control) ≡ true →
       (d : Mode) × (control ≡ At d there)
   busy_at numbered line there Idle is h = absurd (cc)
   busy_at numbered line there (At d k) is h = (d, ap (λ y. At d y) (at_number numbered k line there is h))
@@ -50,12 +55,12 @@ module _ {V P M : Type 0} (a : Algorithm V P M) where
     one_of t i h is = subst (λ y. IsOneOf a.shape.n (who y)) is (embed.one_at a items fits t h)
 
     -- a step at a line executes it
-    pub line_executes : (t i line : ℕ) (d : Mode) (k : P) → t < length items → item_at items t ≡ Step i → (at t i).control ≡ At d k →
-        nat_eq (a.number k) line ≡ true →
-        executes r i line (suc t) ≡ true
+    pub line_executes : (t i line : ℕ) (d : Mode) (k : P) → t < length items → item_at items t ≡ Step i →
+        (at t i).control ≡ At d k → nat_eq (a.number k) line ≡ true → executes r i line (suc t) ≡ true
     line_executes t i line d k h is there same =
         let stands : is_at line (process_at (state r t) i).status ≡ true =
-        ap (λ (p : Process). is_at line p.status) (embed.process_at_is a items fits does t i (omega arith) (one_of t i h is))
+        ap (λ (p : Process). is_at line p.status)
+        (embed.process_at_is a items fits does t i (omega arith) (one_of t i h is))
         ∙ ap (λ (p : Control P). is_at line (status_of a p)) there ∙ same in
         ap (λ (y : Item). steps i y && is_at line (process_at (state r t) i).status) is
         ∙ ap (λ b. b && is_at line (process_at (state r t) i).status) (same_number i) ∙ stands
@@ -68,30 +73,37 @@ module _ {V P M : Type 0} (a : Algorithm V P M) where
     stands_at numbered t i line there h one is ex =
         let parts = both (steps i (item r (suc t))) (is_at line (process_at (state r t) i).status) ex in
         let stands : is_at line (status_of a (at t i).control) ≡ true =
-        sym (ap (λ (p : Process). is_at line p.status) (embed.process_at_is a items fits does t i (omega arith) one)) ∙ parts.1 in
+        sym (ap (λ (p : Process). is_at line p.status) (embed.process_at_is a items fits does t i (omega arith) one))
+        ∙ parts.1 in
         (step_of i (item_at items t) parts.0, busy_at numbered line there (at t i).control is stands)
 
     -- the state after a step at a line, and its memory
     state_after : (t i : ℕ) (d : Mode) (k : P) → item_at items t ≡ Step i → (at t i).control ≡ At d k →
-        typed_state a items (suc t) ≡ changed (typed_state a items t) i (by_step a (suc t) (typed_state a items t).memory i (at t i) (At d k))
+        typed_state a items (suc t)
+        ≡ changed (typed_state a items t) i (by_step a (suc t) (typed_state a items t).memory i (at t i) (At d k))
     state_after t i d k is there =
         ap (happens a (suc t) (typed_state a items t)) is
-        ∙ ap (λ (p : Control P). changed (typed_state a items t) i (by_step a (suc t) (typed_state a items t).memory i (at t i) p)) there
+        ∙ ap (λ (p : Control P).
+        changed (typed_state a items t) i (by_step a (suc t) (typed_state a items t).memory i (at t i) p)) there
 
     pub memory_next : (t i : ℕ) (d : Mode) (k : P) → item_at items t ≡ Step i → (at t i).control ≡ At d k →
-        (typed_state a items (suc t)).memory ≡ memory_after (typed_state a items t).memory (a.move i d (typed_state a items t).memory (at t i).variables k)
+        (typed_state a items (suc t)).memory
+        ≡ memory_after (typed_state a items t).memory (a.move i d (typed_state a items t).memory (at t i).variables k)
     memory_next t i d k is there =
         ap (λ (x : TypedState V P M). x.memory) (state_after t i d k is there)
-        ∙ embed.move_memory a (suc t) (typed_state a items t) i k (a.move i d (typed_state a items t).memory (at t i).variables k)
+        ∙ embed.move_memory a (suc t) (typed_state a items t) i k
+        (a.move i d (typed_state a items t).memory (at t i).variables k)
 
     -- the variables after a step at a line that goes on
-    pub variables_next : (t i : ℕ) (d : Mode) (k : P) (d' : Mode) (m' : M) (p' : V) (k' : P) → IsOneOf a.shape.n i → item_at items t ≡ Step i →
-        (at t i).control ≡ At d k →
+    pub variables_next : (t i : ℕ) (d : Mode) (k : P) (d' : Mode) (m' : M) (p' : V) (k' : P) →
+        IsOneOf a.shape.n i → item_at items t ≡ Step i → (at t i).control ≡ At d k →
         a.move i d (typed_state a items t).memory (at t i).variables k ≡ To d' m' p' k' →
         (at (suc t) i).variables ≡ p'
     variables_next t i d k d' m' p' k' one is there goes =
         let x = typed_state a items t in
-        let q' : TypedProcess V P M = record { control = At d' k'; variables = p'; auxiliary = stepped_auxiliary a k (suc t) (at t i).auxiliary } in
+        let q' : TypedProcess V P M =
+        record { control = At d' k'; variables = p'; auxiliary = stepped_auxiliary a k (suc t) (at t i).auxiliary } in
         ap (λ (q : TypedProcess V P M). q.variables)
         (embed.process_next a items t i m' q' Stepped one
-        (state_after t i d k is there ∙ ap (λ (v : Move V P M). changed x i (by_move a (suc t) x.memory (at t i) k v)) goes))
+        (state_after t i d k is there
+        ∙ ap (λ (v : Move V P M). changed x i (by_move a (suc t) x.memory (at t i) k v)) goes))

@@ -1,10 +1,12 @@
--- How control passes from line to line: a scan stays a scan until it returns, and an update writes once.
+-- How control passes from line to line of any `Algorithm`: a
+-- scan stays a scan until it returns, and an update writes once.
 use Rattle.std.specs.Prelude.{◌≡◌, ℕ, ◌+◌, ◌⊎◌, Bool, true, false, List, Option, Some, None, refl}
 use Rattle.std.proofs.Common.{sym, ◌∙◌, ap, subst, arith, inl, inr}
 use Rattle.snap_semantics.specs.declared.process.Op.TheVariants.{Scan, Update}
 use Rattle.snap_semantics.specs.Source.{instr_at}
 use Rattle.snap_runs.specs.Scan.{ReturnsView}
-use Rattle.snap_runs.proofs.Algorithm.{Mode, Scanning, Embedded, Updating, op_of, Control, Idle, At, Move, To, Begin, Answer, Finish, Algorithm}
+use Rattle.snap_runs.proofs.Algorithm.{Mode, Scanning, Embedded, Updating, op_of, Control, Idle, At, Move, To, Begin}
+use Rattle.snap_runs.proofs.Algorithm.{Answer, Finish, Algorithm}
 use Rattle.snap_runs.proofs.ScanSpan as span
 use Rattle.snap_runs.proofs.UpdateSpan as called
 
@@ -53,7 +55,8 @@ pub scan_line : (Owned : ℕ → Type 0) (update : Bool) (d : Mode) → IsInScan
 scan_line Owned true d inside line = not_update Owned d inside line
 scan_line Owned false d inside line = tt
 
-pub update_of : (Owned : ℕ → Type 0) (d : Mode) → IsUpdateOf Owned d → (word : ℕ) × (value : ℕ) × Owned word × (d ≡ Updating word value)
+pub update_of : (Owned : ℕ → Type 0) (d : Mode) → IsUpdateOf Owned d →
+    (word : ℕ) × (value : ℕ) × Owned word × (d ≡ Updating word value)
 update_of Owned Scanning u = absurd u
 update_of Owned (Embedded word value) u = absurd u
 update_of Owned (Updating word value) u = (word, value, u, refl)
@@ -122,8 +125,8 @@ module _ {V P M : Type 0} (lines : Lines V P M) where
   makes_late Owned (Embedded word value) k up made = absurd up
   makes_late Owned (Updating word value) k up made = made
 
-  pub writes_more : (Owned : ℕ → Type 0) (d : Mode) (k k' : P) (w : ℕ) → IsUpdateOf Owned d → lines.written k' ≡ lines.written k + 1 →
-      HasWritten (At d k) w → HasWritten (At d k') (w + 1)
+  pub writes_more : (Owned : ℕ → Type 0) (d : Mode) (k k' : P) (w : ℕ) → IsUpdateOf Owned d →
+      lines.written k' ≡ lines.written k + 1 → HasWritten (At d k) w → HasWritten (At d k') (w + 1)
   writes_more Owned Scanning k k' w up more h = tt
   writes_more Owned (Embedded word value) k k' w up more h = absurd up
   writes_more Owned (Updating word value) k k' w up more h = ap (λ y. y + 1) h ∙ sym more
@@ -149,23 +152,27 @@ module _ {V P M : Type 0} (lines : Lines V P M) where
     Flows Scanning m p k (Answer v) = lines.IsReturn k × (v ≡ lines.answer p)
     Flows Scanning m p k Finish = ⊥
     Flows (Embedded word value) m p k (To d' m' p' k') =
-        lines.Kept m m' × (a.writes k ≡ 0) × ((d' ≡ Embedded word value) ⊎ ((d' ≡ Updating word value) × lines.IsReturn k × (lines.written k' ≡ 0)))
+        lines.Kept m m' × (a.writes k ≡ 0)
+        × ((d' ≡ Embedded word value) ⊎ ((d' ≡ Updating word value) × lines.IsReturn k × (lines.written k' ≡ 0)))
     Flows (Embedded word value) m p k (Begin d' p' k') = ⊥
     Flows (Embedded word value) m p k (Answer v) = ⊥
     Flows (Embedded word value) m p k Finish = ⊥
     Flows (Updating word value) m p k (To d' m' p' k') =
-        (lines.Kept m m' ⊎ lines.IsWrite k) × (d' ≡ Updating word value) × (lines.written k' ≡ lines.written k + a.writes k) × (lines.IsLate k' → lines.IsLate k)
+        (lines.Kept m m' ⊎ lines.IsWrite k) × (d' ≡ Updating word value)
+        × (lines.written k' ≡ lines.written k + a.writes k) × (lines.IsLate k' → lines.IsLate k)
     Flows (Updating word value) m p k (Begin d' p' k') = (d' ≡ Embedded word value) × (lines.written k + a.writes k ≡ 0)
     Flows (Updating word value) m p k (Answer v) = ⊥
     Flows (Updating word value) m p k Finish = lines.IsLast k
 
     -- a line of a scan that goes on
-    pub within : (d : Mode) (m m' : M) (p p' : V) (k k' : P) → IsInScan d → a.writes k ≡ 0 → lines.Kept m m' → Flows d m p k (To d m' p' k')
+    pub within : (d : Mode) (m m' : M) (p p' : V) (k k' : P) → IsInScan d → a.writes k ≡ 0 →
+        lines.Kept m m' → Flows d m p k (To d m' p' k')
     within Scanning m m' p p' k k' inside quiet kept = (refl, kept)
     within (Embedded word value) m m' p p' k k' inside quiet kept = (kept, quiet, inl refl)
     within (Updating word value) m m' p p' k k' inside quiet kept = absurd inside
 
-    pub keeps_memory : (d : Mode) (m : M) (p : V) (k : P) (v : Move V P M) → Flows d m p k v → KeepsMemory m v ⊎ lines.IsWrite k
+    pub keeps_memory : (d : Mode) (m : M) (p : V) (k : P) (v : Move V P M) → Flows d m p k v →
+        KeepsMemory m v ⊎ lines.IsWrite k
     keeps_memory Scanning m p k (To d' m' p' k') h = inl h.1
     keeps_memory Scanning m p k (Begin d' p' k') h = absurd h
     keeps_memory Scanning m p k (Answer v) h = inl tt
@@ -190,14 +197,16 @@ module _ {V P M : Type 0} (lines : Lines V P M) where
     pub makes_no_more : (d : Mode) (m : M) (p : V) (k : P) (v : Move V P M) → Flows d m p k v → MakesNoMore d k v
     makes_no_more Scanning m p k (To d' m' p' k') h = subst (λ x. IsMaking x k' → ⊥) (sym h.0) (λ made. made)
     makes_no_more (Embedded word value) m p k (To d' m' p' k') h = λ made. tt
-    makes_no_more (Updating word value) m p k (To d' m' p' k') h = subst (λ x. IsMaking x k' → lines.IsLate k) (sym h.1) h.3
+    makes_no_more (Updating word value) m p k (To d' m' p' k') h =
+        subst (λ x. IsMaking x k' → lines.IsLate k) (sym h.1) h.3
     makes_no_more d m p k (Begin d' p' k') h = tt
     makes_no_more d m p k (Answer v) h = tt
     makes_no_more d m p k Finish h = tt
 
-    pub counts_writes : (d : Mode) (m : M) (p : V) (k : P) (v : Move V P M) (w : ℕ) → Flows d m p k v → HasWritten (At d k) w →
-        CountsWrites (w + a.writes k) v
-    counts_writes Scanning m p k (To d' m' p' k') w h is = subst (λ x. HasWritten (At x k') (w + a.writes k)) (sym h.0) tt
+    pub counts_writes : (d : Mode) (m : M) (p : V) (k : P) (v : Move V P M) (w : ℕ) → Flows d m p k v →
+        HasWritten (At d k) w → CountsWrites (w + a.writes k) v
+    counts_writes Scanning m p k (To d' m' p' k') w h is =
+        subst (λ x. HasWritten (At x k') (w + a.writes k)) (sym h.0) tt
     counts_writes Scanning m p k (Begin d' p' k') w h is = absurd h
     counts_writes (Embedded word value) m p k (To d' m' p' k') w h is =
         let none : w + a.writes k ≡ 0 = (let q : a.writes k ≡ 0 = h.1 in omega arith) in
@@ -222,8 +231,8 @@ module _ {V P M : Type 0} (lines : Lines V P M) where
     answers_at d m p k Finish h = tt
 
     -- an update never answers
-    pub never_answers : (d : Mode) (m : M) (p : V) (k : P) (v : Move V P M) (word value : ℕ) → op_of d ≡ Update word value → Flows d m p k v →
-        called.NoAnswer a v
+    pub never_answers : (d : Mode) (m : M) (p : V) (k : P) (v : Move V P M) (word value : ℕ) →
+        op_of d ≡ Update word value → Flows d m p k v → called.NoAnswer a v
     never_answers d m p k (To d' m' p' k') word value is h = tt
     never_answers d m p k (Begin d' p' k') word value is h = tt
     never_answers Scanning m p k (Answer v) word value is h = absurd (cc)
@@ -239,14 +248,16 @@ module _ {V P M : Type 0} (lines : Lines V P M) where
     in_scan (Some l) (Updating word value) h = absurd (let e : ◌≡◌ {A = Option ℕ} None (Some l) = h in cc)
 
     pub stays : (link : Option ℕ) (d : Mode) (m : M) (p : V) (k : P) (v : Move V P M) →
-        (lines.IsReturn k → ReturnsView (instr_at a.source.lines (a.number k)) (a.locals_of p) (lines.answer p)) → Flows d m p k v →
-        span.Inside a link d → span.Stays a link k p v
+        (lines.IsReturn k → ReturnsView (instr_at a.source.lines (a.number k)) (a.locals_of p) (lines.answer p)) →
+        Flows d m p k v → span.Inside a link d → span.Stays a link k p v
     stays link Scanning m p k (To d' m' p' k') returns h inside = inl (subst (span.Inside a link) (sym h.0) inside)
     stays link Scanning m p k (Begin d' p' k') returns h inside = absurd h
     stays None Scanning m p k (Answer v) returns h inside = tt
-    stays (Some l) Scanning m p k (Answer v) returns h inside = absurd (let e : ◌≡◌ {A = Option ℕ} None (Some l) = inside in cc)
+    stays (Some l) Scanning m p k (Answer v) returns h inside =
+        absurd (let e : ◌≡◌ {A = Option ℕ} None (Some l) = inside in cc)
     stays link Scanning m p k Finish returns h inside = absurd h
-    stays None (Embedded word value) m p k v returns h inside = absurd (let e : Update word value ≡ Scan = inside.1 in cc)
+    stays None (Embedded word value) m p k v returns h inside =
+        absurd (let e : Update word value ≡ Scan = inside.1 in cc)
     stays (Some l) (Embedded word value) m p k (To d' m' p' k') returns h inside =
         elim h.2 [
           | inl same ↦ inl (subst (span.Inside a (Some l)) (sym same) inside)

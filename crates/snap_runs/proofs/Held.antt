@@ -1,5 +1,7 @@
--- Values that the words had at some state of a run, and words that stand after one another.
-use Rattle.std.specs.Prelude.{◌≡◌, ℕ, ◌+◌, ◌-◌, ◌<◌, ◌≤◌, ◌⊎◌, Bool, true, false, List, take, length, map, slice_index_or, if◌then◌else◌}
+-- `Held`: a view that was the values of the words at some state of a run; `Beside`
+-- and `Lent`: a view that stood in a word which was written at least twice since.
+use Rattle.std.specs.Prelude.{◌≡◌, ℕ, ◌+◌, ◌-◌, ◌<◌, ◌≤◌, ◌⊎◌, Bool, true, false, List, take, length, map}
+use Rattle.std.specs.Prelude.{slice_index_or, if◌then◌else◌}
 use Rattle.std.proofs.Common.{sym, ◌∙◌, ap, subst, arith, inl, inr}
 use Rattle.std.proofs.lemmas.List.{get_or-take, ext_get_or, length-take-le}
 use Rattle.snap_words.specs.Shape.{IsOneOf}
@@ -19,38 +21,55 @@ seq_at m k = (word_at m k).seq
 abbrev pub Held : (ℕ → List Word) → ℕ → ℕ → List ℕ → Type 0
 Held history t lo v = (u : ℕ) × (lo ≤ u) × (u ≤ t) × (data_of (history u) ≡ v)
 
-pub held_wider : (history : ℕ → List Word) (t t' lo lo' : ℕ) (v : List ℕ) → t ≤ t' → lo' ≤ lo → Held history t lo v → Held history t' lo' v
+pub held_wider : (history : ℕ → List Word) (t t' lo lo' : ℕ) (v : List ℕ) → t ≤ t' → lo' ≤ lo →
+    Held history t lo v → Held history t' lo' v
 held_wider history t t' lo lo' v e f h = (h.0, omega arith, omega arith, h.3)
 
 -- after two writes or more since item lo this view stood beside a word of process k
 abbrev pub Beside : (ℕ → List Word) → ℕ → ℕ → ℕ → List ℕ → Type 0
-Beside history t lo k v = (u : ℕ) × (lo ≤ u) × (u ≤ t) × (seq_at (history lo) k + 2 ≤ seq_at (history u) k) × ((word_at (history u) k).view ≡ v)
+Beside history t lo k v =
+    (u : ℕ) × (lo ≤ u) × (u ≤ t) × (seq_at (history lo) k + 2 ≤ seq_at (history u) k)
+    × ((word_at (history u) k).view ≡ v)
 
-pub beside_wider : (history : ℕ → List Word) (t t' lo k : ℕ) (v : List ℕ) → t ≤ t' → Beside history t lo k v → Beside history t' lo k v
+pub beside_wider : (history : ℕ → List Word) (t t' lo k : ℕ) (v : List ℕ) → t ≤ t' →
+    Beside history t lo k v → Beside history t' lo k v
 beside_wider history t t' lo k v e h = (h.0, h.1, omega arith, h.3, h.4)
 
-pub beside_now : (history : ℕ → List Word) (t lo k : ℕ) (words : List Word) → history t ≡ words → lo ≤ t → seq_at (history lo) k + 2 ≤ seq_at words k →
-    Beside history t lo k (word_at words k).view
-beside_now history t lo k words now le two =
-    (t, le, omega arith, subst (λ ws. seq_at (history lo) k + 2 ≤ seq_at ws k) (sym now) two, ap (λ ws. (word_at ws k).view) now)
+pub beside_now : (history : ℕ → List Word) (t lo k : ℕ) (words : List Word) → history t ≡ words → lo ≤ t →
+    seq_at (history lo) k + 2 ≤ seq_at words k → Beside history t lo k (word_at words k).view
+beside_now history t lo k words now le two = (
+  t,
+  le,
+  omega arith,
+  subst (λ ws. seq_at (history lo) k + 2 ≤ seq_at ws k) (sym now) two,
+  ap (λ ws. (word_at ws k).view) now,
+)
 
 -- it was held, and stood so
 abbrev pub Lent : (ℕ → List Word) → ℕ → ℕ → ℕ → List ℕ → Type 0
 Lent history t lo k v = Held history t lo v × Beside history t lo k v
 
-pub lent_wider : (history : ℕ → List Word) (t t' lo k : ℕ) (v : List ℕ) → t ≤ t' → Lent history t lo k v → Lent history t' lo k v
-lent_wider history t t' lo k v e h = (held_wider history t t' lo lo v e (omega arith) h.0, beside_wider history t t' lo k v e h.1)
+pub lent_wider : (history : ℕ → List Word) (t t' lo k : ℕ) (v : List ℕ) → t ≤ t' →
+    Lent history t lo k v → Lent history t' lo k v
+lent_wider history t t' lo k v e h =
+    (held_wider history t t' lo lo v e (omega arith) h.0, beside_wider history t t' lo k v e h.1)
 
 -- the words at item t are the words now
-pub at_most_now : (history : ℕ → List Word) (words : List Word) (t : ℕ) → history t ≡ words → (k : ℕ) → seq_at (history t) k ≤ seq_at words k
-at_most_now history words t now k = let e : seq_at (history t) k ≡ seq_at words k = ap (λ w. seq_at w k) now in omega arith
+pub at_most_now : (history : ℕ → List Word) (words : List Word) (t : ℕ) → history t ≡ words → (k : ℕ) →
+    seq_at (history t) k ≤ seq_at words k
+at_most_now history words t now k =
+    let e : seq_at (history t) k ≡ seq_at words k = ap (λ w. seq_at w k) now in
+    omega arith
 
-pub at_least_now : (history : ℕ → List Word) (words : List Word) (t : ℕ) → history t ≡ words → (k : ℕ) → seq_at words k ≤ seq_at (history t) k
-at_least_now history words t now k = let e : seq_at (history t) k ≡ seq_at words k = ap (λ w. seq_at w k) now in omega arith
+pub at_least_now : (history : ℕ → List Word) (words : List Word) (t : ℕ) → history t ≡ words → (k : ℕ) →
+    seq_at words k ≤ seq_at (history t) k
+at_least_now history words t now k =
+    let e : seq_at (history t) k ≡ seq_at words k = ap (λ w. seq_at w k) now in
+    omega arith
 
 -- the words at some round are not later than the words now, also where a line starts another round
-pub opened_next : (n : ℕ) (history : ℕ → List Word) (words : List Word) (again : Bool) (t round : ℕ) → history t ≡ words →
-    ((k : ℕ) → IsOneOf n k → seq_at (history round) k ≤ seq_at words k) →
+pub opened_next : (n : ℕ) (history : ℕ → List Word) (words : List Word) (again : Bool) (t round : ℕ) →
+    history t ≡ words → ((k : ℕ) → IsOneOf n k → seq_at (history round) k ≤ seq_at words k) →
     (k : ℕ) → IsOneOf n k → seq_at (history (if again then t else round)) k ≤ seq_at words k
 opened_next n history words true t round now h k i = at_most_now history words t now k
 opened_next n history words false t round now h k i = h k i
@@ -79,11 +98,12 @@ squeezed a mid b (inr p) (inr q) e = q
 abbrev pub Grows : ℕ → List Word → List Word → Type 0
 Grows n m m' = (k : ℕ) → IsOneOf n k → WordBefore (word_at m k) (word_at m' k)
 
-pub same_data : (n : ℕ) (m b : List Word) → length m ≡ n → n ≤ length b → ((k : ℕ) → IsOneOf n k → word_at m k ≡ word_at b k) →
-    data_of m ≡ data_of (take n b)
+pub same_data : (n : ℕ) (m b : List Word) → length m ≡ n → n ≤ length b →
+    ((k : ℕ) → IsOneOf n k → word_at m k ≡ word_at b k) → data_of m ≡ data_of (take n b)
 same_data n m b len more h =
     let len_b : length (take n b) ≡ n = length-take-le n b more in
     ap data_of (ext_get_or no_word m (take n b) (len ∙ sym len_b) (λ i lt.
     let at : i + 1 - 1 ≡ i = omega arith in
-    ap (λ k. slice_index_or m k no_word) (sym at) ∙ h (i + 1) (omega arith, omega arith) ∙ ap (λ k. slice_index_or b k no_word) at
+    ap (λ k. slice_index_or m k no_word) (sym at) ∙ h (i + 1) (omega arith, omega arith)
+    ∙ ap (λ k. slice_index_or b k no_word) at
     ∙ sym (get_or-take n b i no_word (omega arith))))

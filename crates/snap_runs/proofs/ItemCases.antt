@@ -1,4 +1,5 @@
--- What one item does to one process: nothing, a step at its line, or a call.
+-- The cases of what an item of a run does to one typed process
+-- of an `Algorithm`: nothing, a step at its line, or a call.
 use Rattle.std.specs.Prelude.{◌≡◌, ℕ, suc, ◌<◌, ◌⊎◌, List, length, Option, Some, None, refl}
 use Rattle.std.proofs.Common.{sym, ◌∙◌, ap, inl, inr}
 use Rattle.std.proofs.lemmas.Bool.{cases_eq}
@@ -10,19 +11,27 @@ use Rattle.snap_semantics.specs.declared.process.Op.{Op}
 use Rattle.snap_semantics.specs.declared.process.Outcome.TheVariants.{Called, Stepped, Answered, Finished}
 use Rattle.snap_semantics.specs.declared.process.Reason.{Reason}
 use Rattle.snap_runs.specs.Run.{Run, outcome}
-use Rattle.snap_runs.proofs.Algorithm.{Mode, mode_of, Control, Idle, At, Move, To, Begin, Answer, Finish, TypedProcess, TypedState, Algorithm, by_move, by_step, by_admission, by_call, typed_at, by_item, changed, outcome_of, happens, item_at, typed_state, stepped_auxiliary, begun_auxiliary, called_auxiliary}
+use Rattle.snap_runs.proofs.Algorithm.{Mode, mode_of, Control, Idle, At, Move, To, Begin, Answer, Finish}
+use Rattle.snap_runs.proofs.Algorithm.{TypedProcess, TypedState, Algorithm, by_move, by_step, by_admission, by_call}
+use Rattle.snap_runs.proofs.Algorithm.{typed_at, by_item, changed, outcome_of, happens, item_at, typed_state}
+use Rattle.snap_runs.proofs.Algorithm.{stepped_auxiliary, begun_auxiliary, called_auxiliary}
 use Rattle.snap_runs.proofs.Embedding as embed
 use Rattle.snap_runs.proofs.Steady.{Steady}
 
 module _ {V P M : Type 0} (a : Algorithm V P M) where
   -- the process after a move at line k
   abbrev pub moved : ℕ → TypedProcess V P M → P → Move V P M → TypedProcess V P M
-  moved time q k (To d m p k') = record { control = At d k'; variables = p; auxiliary = stepped_auxiliary a k time q.auxiliary }
-  moved time q k (Begin d p k') = record { control = At d k'; variables = p; auxiliary = begun_auxiliary a k time q.auxiliary }
-  moved time q k (Answer v) = record { control = Idle; variables = q.variables; auxiliary = stepped_auxiliary a k time q.auxiliary }
-  moved time q k Finish = record { control = Idle; variables = q.variables; auxiliary = stepped_auxiliary a k time q.auxiliary }
+  moved time q k (To d m p k') =
+      record { control = At d k'; variables = p; auxiliary = stepped_auxiliary a k time q.auxiliary }
+  moved time q k (Begin d p k') =
+      record { control = At d k'; variables = p; auxiliary = begun_auxiliary a k time q.auxiliary }
+  moved time q k (Answer v) =
+      record { control = Idle; variables = q.variables; auxiliary = stepped_auxiliary a k time q.auxiliary }
+  moved time q k Finish =
+      record { control = Idle; variables = q.variables; auxiliary = stepped_auxiliary a k time q.auxiliary }
 
-  module _ (items : List Item) (fits : Steady (embed.run_of a items)) (does : embed.AllDo a items) (i : ℕ) (one : IsOneOf a.shape.n i) where
+  module _ (items : List Item) (fits : Steady (embed.run_of a items)) (does : embed.AllDo a items) (i : ℕ)
+      (one : IsOneOf a.shape.n i) where
     abbrev pub r : Run
     r = embed.run_of a items
 
@@ -45,54 +54,101 @@ module _ {V P M : Type 0} (a : Algorithm V P M) where
       pub item : item_at items t ≡ Step i
       pub control : (his t).control ≡ At mode counter
       pub after : his (suc t) ≡ moved (suc t) (his t) counter (move_at t mode counter)
-      pub outcome_is : outcome r (suc t) ≡ outcome_of (by_move a (suc t) (typed_state a items t).memory (his t) counter (move_at t mode counter))
+      pub outcome_is : outcome r (suc t)
+          ≡ outcome_of (by_move a (suc t) (typed_state a items t).memory (his t) counter (move_at t mode counter))
 
     -- a call that is admitted
     pub record Calls (t : ℕ) : Type 0 where
       pub op : Op
       pub item : item_at items t ≡ Call i op
       pub idle : (his t).control ≡ Idle
-      pub after : his (suc t) ≡ record { control = At (mode_of op) (a.counter op); variables = (his t).variables; auxiliary = called_auxiliary (suc t) op (his t).auxiliary }
+      pub after : his (suc t) ≡ record {
+        control = At (mode_of op) (a.counter op);
+        variables = (his t).variables;
+        auxiliary = called_auxiliary (suc t) op (his t).auxiliary;
+      }
 
     abbrev pub Case : ℕ → Type 0
     Case t = Stays t ⊎ (Steps t ⊎ Calls t)
 
-    move_case : (t : ℕ) (k : P) (v : Move V P M) → typed_state a items (suc t) ≡ changed (typed_state a items t) i (by_move a (suc t) (typed_state a items t).memory (his t) k v) →
+    move_case : (t : ℕ) (k : P) (v : Move V P M) → typed_state a items (suc t)
+        ≡ changed (typed_state a items t) i (by_move a (suc t) (typed_state a items t).memory (his t) k v) →
         his (suc t) ≡ moved (suc t) (his t) k v
     move_case t k (To d m p k') e =
-        embed.process_next a items t i m (record { control = At d k'; variables = p; auxiliary = stepped_auxiliary a k (suc t) (his t).auxiliary }) Stepped one e
+        embed.process_next a items t i m (record {
+          control = At d k';
+          variables = p;
+          auxiliary = stepped_auxiliary a k (suc t) (his t).auxiliary;
+        }) Stepped one e
     move_case t k (Begin d p k') e =
-        embed.process_next a items t i (typed_state a items t).memory (record { control = At d k'; variables = p; auxiliary = begun_auxiliary a k (suc t) (his t).auxiliary }) Stepped one e
+        embed.process_next a items t i (typed_state a items t).memory (record {
+          control = At d k';
+          variables = p;
+          auxiliary = begun_auxiliary a k (suc t) (his t).auxiliary;
+        }) Stepped one e
     move_case t k (Answer v) e =
-        embed.process_next a items t i (typed_state a items t).memory (record { control = Idle; variables = (his t).variables; auxiliary = stepped_auxiliary a k (suc t) (his t).auxiliary }) (Answered v) one e
+        embed.process_next a items t i (typed_state a items t).memory (record {
+          control = Idle;
+          variables = (his t).variables;
+          auxiliary = stepped_auxiliary a k (suc t) (his t).auxiliary;
+        }) (Answered v) one e
     move_case t k Finish e =
-        embed.process_next a items t i (typed_state a items t).memory (record { control = Idle; variables = (his t).variables; auxiliary = stepped_auxiliary a k (suc t) (his t).auxiliary }) Finished one e
+        embed.process_next a items t i (typed_state a items t).memory (record {
+          control = Idle;
+          variables = (his t).variables;
+          auxiliary = stepped_auxiliary a k (suc t) (his t).auxiliary;
+        }) Finished one e
 
     step_case : (t : ℕ) (control : Control P) → item_at items t ≡ Step i → (his t).control ≡ control →
-        typed_state a items (suc t) ≡ changed (typed_state a items t) i (by_step a (suc t) (typed_state a items t).memory i (his t) control) →
+        typed_state a items (suc t)
+        ≡ changed (typed_state a items t) i (by_step a (suc t) (typed_state a items t).memory i (his t) control) →
         outcome r (suc t) ≡ outcome_of (by_step a (suc t) (typed_state a items t).memory i (his t) control) → Case t
-    step_case t Idle is at e out = inl (record { same = ap (λ (y : TypedState V P M). typed_at a y i) e; idle = λ h. at })
+    step_case t Idle is at e out =
+        inl (record { same = ap (λ (y : TypedState V P M). typed_at a y i) e; idle = λ h. at })
     step_case t (At d k) is at e out =
-        inr (inl (record { mode = d; counter = k; item = is; control = at; after = move_case t k (move_at t d k) e; outcome_is = out }))
+        inr (inl (record {
+          mode = d;
+          counter = k;
+          item = is;
+          control = at;
+          after = move_case t k (move_at t d k) e;
+          outcome_is = out;
+        }))
 
     admission_case : (t : ℕ) (op : Op) (o : Option Reason) → item_at items t ≡ Call i op → (his t).control ≡ Idle →
-        typed_state a items (suc t) ≡ changed (typed_state a items t) i (by_admission a (suc t) (typed_state a items t).memory (his t) op o) → Case t
-    admission_case t op (Some why) is at e = inl (record { same = ap (λ (y : TypedState V P M). typed_at a y i) e; idle = λ h. at })
+        typed_state a items (suc t) ≡ changed (typed_state a items t) i
+        (by_admission a (suc t) (typed_state a items t).memory (his t) op o) → Case t
+    admission_case t op (Some why) is at e =
+        inl (record { same = ap (λ (y : TypedState V P M). typed_at a y i) e; idle = λ h. at })
     admission_case t op None is at e =
-        let q : TypedProcess V P M = record { control = At (mode_of op) (a.counter op); variables = (his t).variables; auxiliary = called_auxiliary (suc t) op (his t).auxiliary } in
-        inr (inr (record { op = op; item = is; idle = at; after = embed.process_next a items t i (typed_state a items t).memory q Called one e }))
+        let q : TypedProcess V P M = record {
+          control = At (mode_of op) (a.counter op);
+          variables = (his t).variables;
+          auxiliary = called_auxiliary (suc t) op (his t).auxiliary;
+        } in
+        inr (inr (record {
+          op = op;
+          item = is;
+          idle = at;
+          after = embed.process_next a items t i (typed_state a items t).memory q Called one e;
+        }))
 
     call_case : (t : ℕ) (op : Op) (control : Control P) → item_at items t ≡ Call i op → (his t).control ≡ control →
-        typed_state a items (suc t) ≡ changed (typed_state a items t) i (by_call a (suc t) (typed_state a items t).memory i op (his t) control) → Case t
+        typed_state a items (suc t) ≡ changed (typed_state a items t) i
+        (by_call a (suc t) (typed_state a items t).memory i op (his t) control) → Case t
     call_case t op Idle is at e = admission_case t op (call_skip a.source.kind a.shape i op) is at e
     call_case t op (At d k) is at e =
-        inl (record { same = ap (λ (y : TypedState V P M). typed_at a y i) e; idle = λ h. absurd (let f = sym is ∙ h in cc) })
+        inl (record {
+          same = ap (λ (y : TypedState V P M). typed_at a y i) e;
+          idle = λ h. absurd (let f = sym is ∙ h in cc);
+        })
 
     his_case : (t : ℕ) (y : Item) → t < length items → item_at items t ≡ y → who y ≡ i → Case t
     his_case t (Step k) short is w =
         let is2 : item_at items t ≡ Step i = is ∙ ap (λ u. Step u) w in
         step_case t (his t).control is2 refl (ap (happens a (suc t) (typed_state a items t)) is2)
-        (embed.outcome_is a items fits does t short ∙ ap (λ (y : Item). outcome_of (by_item a (suc t) (typed_state a items t) y)) is2)
+        (embed.outcome_is a items fits does t short
+        ∙ ap (λ (y : Item). outcome_of (by_item a (suc t) (typed_state a items t) y)) is2)
     his_case t (Call k op) short is w =
         let is2 : item_at items t ≡ Call i op = is ∙ ap (λ u. Call u op) w in
         call_case t op (his t).control is2 refl (ap (happens a (suc t) (typed_state a items t)) is2)
@@ -108,7 +164,8 @@ module _ {V P M : Type 0} (a : Algorithm V P M) where
     after_step t d k is at =
         move_case t k (move_at t d k)
         (ap (happens a (suc t) (typed_state a items t)) is
-        ∙ ap (λ (p : Control P). changed (typed_state a items t) i (by_step a (suc t) (typed_state a items t).memory i (his t) p)) at)
+        ∙ ap (λ (p : Control P).
+        changed (typed_state a items t) i (by_step a (suc t) (typed_state a items t).memory i (his t) p)) at)
 
     pub item_case : (t : ℕ) → t < length items → Case t
     item_case t short =
@@ -116,7 +173,10 @@ module _ {V P M : Type 0} (a : Algorithm V P M) where
           | inl his_item ↦ his_case t (item_at items t) short refl his_item
           | inr other ↦ (let one_who : IsOneOf a.shape.n (who (item_at items t)) = embed.one_at a items fits t short in
               inl (record {
-                same = embed.other_process a (typed_state a items t) (who (item_at items t)) i (by_item a (suc t) (typed_state a items t) (item_at items t)) one_who.0 one.0 (λ same. other (sym same));
+                same =
+                    embed.other_process a (typed_state a items t) (who (item_at items t)) i
+                    (by_item a (suc t) (typed_state a items t) (item_at items t)) one_who.0 one.0
+                    (λ same. other (sym same));
                 idle = λ h. absurd (other (ap who h));
               }))
         ]

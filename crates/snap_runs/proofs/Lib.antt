@@ -1,3 +1,4 @@
+-- The proofs of snap_runs, by their modules.
 pub mod Computing
 pub mod Counting
 pub mod Places

@@ -1,5 +1,6 @@
 -- Every run that keeps the promises is linearizable: each update at its write, and each scan at its point.
-use Rattle.std.specs.Prelude.{◌≡◌, ℕ, zero, suc, ◌<◌, ◌≤◌, ◌⊎◌, true, List, [], ◌∷◌, ◌++◌, length, Option, Some, None, replicate, map, refl}
+use Rattle.std.specs.Prelude.{◌≡◌, ℕ, zero, suc, ◌<◌, ◌≤◌, ◌⊎◌, true, List, [], ◌∷◌, ◌++◌}
+use Rattle.std.specs.Prelude.{length, Option, Some, None, replicate, map, refl}
 use Rattle.std.specs.List.{AllByRecursion, Contains}
 use Rattle.std.proofs.Common.{sym, ◌∙◌, ap, subst, arith, inl, inr}
 use Rattle.std.proofs.lemmas.Bool.{cases_eq, cases_lt}
@@ -24,18 +25,23 @@ use Rattle.snap_runs.specs.WriteStrong.{UpdateCall, updates}
 use Rattle.snap_runs.proofs.Embedding.{map_same}
 use Rattle.snap_runs.proofs.Operations as operations
 use Rattle.snap_runs.proofs.Operations.{count_two, counted_item}
-use Rattle.snap_runs.proofs.Order.{Pairs, Apart, Sooner, all_pairs, all_push, all_weaker, pairs_push, pairs_weaker, after_all, after_none, after_push, length_after_all, runs_push, keeps_order, sooner_differs, sooner_next, sooner_item, sooner_item_le, sooner_or_here, sooner_before_item}
+use Rattle.snap_runs.proofs.Order.{Pairs, Apart, Sooner, all_pairs, all_push, all_weaker, pairs_push, pairs_weaker}
+use Rattle.snap_runs.proofs.Order.{after_all, after_none, after_push, length_after_all, runs_push, keeps_order}
+use Rattle.snap_runs.proofs.Order.{sooner_differs, sooner_next, sooner_item}
+use Rattle.snap_runs.proofs.Order.{sooner_item_le, sooner_or_here, sooner_before_item}
 use Rattle.snap_runs.proofs.Written.{WritesAt, WrittenUpTo, updates_push}
 
 -- at the start each word is 0
-first_values : (k : KindTag) (shape : Counts) → map (λ (x : Word). x.datum) (initial_memory k shape).words ≡ replicate shape.w 0
+first_values : (k : KindTag) (shape : Counts) →
+    map (λ (x : Word). x.datum) (initial_memory k shape).words ≡ replicate shape.w 0
 first_values kind.Seq shape = map_same (λ (x : Word). x.datum) shape.w (initial_word kind.Seq shape)
 first_values kind.Bits shape = map_same (λ (x : Word). x.datum) shape.w (initial_word kind.Bits shape)
 first_values kind.Multi shape = map_same (λ (x : Word). x.datum) shape.w (initial_word kind.Multi shape)
 
 -- an operation by its parts
 pub same_parts : (i i' c c' : ℕ) (end end' : Option ℕ) (a a' : Action) → i ≡ i' → c ≡ c' → end ≡ end' → a ≡ a' →
-    ◌≡◌ {A = Operation} (record { process = i; call = c; end = end; action = a }) (record { process = i'; call = c'; end = end'; action = a' })
+    ◌≡◌ {A = Operation} (record { process = i; call = c; end = end; action = a })
+    (record { process = i'; call = c'; end = end'; action = a' })
 same_parts i i' c c' end end' a a' p q u v =
     ap (λ y. let o : Operation = record { process = y; call = c; end = end; action = a } in o) p
     ∙ ap (λ y. let o : Operation = record { process = i'; call = y; end = end; action = a } in o) q
@@ -86,76 +92,103 @@ module _ (line : ℕ) (r : Run) (fits : IsValidRun r) (points : HasLinearization
     pub spot : Spot o.action o.process o.call o.end t s
 
   -- an operation has one spot
-  one_write : (i word value c t t' : ℕ) → PendingUpdate r i word value c t' → c < t → t < t' → executes r i line t ≡ true → executes r i line t' ≡ true → ⊥
+  one_write : (i word value c t t' : ℕ) → PendingUpdate r i word value c t' → c < t → t < t' →
+      executes r i line t ≡ true → executes r i line t' ≡ true → ⊥
   one_write i word value c t t' up lt less ex ex' =
       let two = count_two (executes r i line) c t t' lt less ex ex' in
       let most : count (executes r i line) c t' ≤ 1 = (points.writes_once fits i word value c t' up).0 in omega arith
 
-  pub finished_of : (i c s : ℕ) (end : Option ℕ) (view : List ℕ) → TookPlace r i c end (Sees view) → end ≡ Some s → FinishedScan r i None c s view
-  finished_of i c s (Some e) view took is = let same : e ≡ s = cc in subst (λ y. FinishedScan r i None c y view) same took
+  pub finished_of : (i c s : ℕ) (end : Option ℕ) (view : List ℕ) → TookPlace r i c end (Sees view) → end ≡ Some s →
+      FinishedScan r i None c s view
+  finished_of i c s (Some e) view took is =
+      let same : e ≡ s = cc in
+      subst (λ y. FinishedScan r i None c y view) same took
   finished_of i c s None view took is = absurd took
 
-  same_spot : (a a' : Action) (i i' c c' : ℕ) (end end' : Option ℕ) (t t' s s' : ℕ) → TookPlace r i c end a → TookPlace r i' c' end' a' →
+  same_spot : (a a' : Action) (i i' c c' : ℕ) (end end' : Option ℕ) (t t' s s' : ℕ) →
+      TookPlace r i c end a → TookPlace r i' c' end' a' →
       Spot a i c end t s → Spot a' i' c' end' t' s' → t ≤ length r.items → t' ≤ length r.items →
       ((e : ℕ) → end ≡ Some e → t ≤ e) → ((e : ℕ) → end' ≡ Some e → t' ≤ e) → c ≡ c' → (t ≡ t') × (s ≡ s')
-  same_spot (Sets word value) (Sets word' value') i i' c c' end end' t t' s s' took took' spot spot' last last' still still' same =
+  same_spot (Sets word value) (Sets word' value') i i' c c' end end' t t' s s' took took' spot spot'
+      last last' still still' same =
       let lt : c < t = spot.1 in
       let lt' : c' < t' = spot'.1 in
       let up = operations.open_update r i word value c t end took (omega arith) last still in
       let up' = operations.open_update r i' word' value' c' t' end' took' (omega arith) last' still' in
-      let call : Call i (op.Update word value) ≡ Call i' (op.Update word' value') = sym up.call ∙ ap (item r) same ∙ up'.call in
+      let call : Call i (op.Update word value) ≡ Call i' (op.Update word' value') =
+      sym up.call ∙ ap (item r) same ∙ up'.call in
       let his : i ≡ i' = cc in
       let none : s ≡ 0 = spot.0 in
       let none' : s' ≡ 0 = spot'.0 in (
         elim (cases_eq t t') [
           | inl now ↦ now
           | inr other ↦ elim (cases_lt t t') [
-            | inl less ↦ absurd (one_write i' word' value' c' t t' up' (omega arith) less (subst (λ y. executes r y line t ≡ true) his spot.2) spot'.2)
-            | inr more ↦ absurd (one_write i word value c t' t up (omega arith) (omega arith) (subst (λ y. executes r y line t' ≡ true) (sym his) spot'.2) spot.2)
+            | inl less ↦
+                absurd (one_write i' word' value' c' t t' up' (omega arith) less
+                (subst (λ y. executes r y line t ≡ true) his spot.2) spot'.2)
+            | inr more ↦
+                absurd (one_write i word value c t' t up (omega arith) (omega arith)
+                (subst (λ y. executes r y line t' ≡ true) (sym his) spot'.2) spot.2)
           ]
         ],
         omega arith,
       )
-  same_spot (Sets word value) (Sees view') i i' c c' end end' t t' s s' took took' spot spot' last last' still still' same =
+  same_spot (Sets word value) (Sees view') i i' c c' end end' t t' s s' took took' spot spot'
+      last last' still still' same =
       let lt : c < t = spot.1 in
       let up = operations.open_update r i word value c t end took (omega arith) last still in
       let f = finished_of i' c' s' end' view' took' spot'.1 in
-      absurd (let call : Call i (op.Update word value) ≡ Call i' op.Scan = sym up.call ∙ ap (item r) same ∙ f.scan.starts.0 in cc)
-  same_spot (Sees view) (Sets word' value') i i' c c' end end' t t' s s' took took' spot spot' last last' still still' same =
+      absurd (let call : Call i (op.Update word value) ≡ Call i' op.Scan =
+      sym up.call ∙ ap (item r) same ∙ f.scan.starts.0 in cc)
+  same_spot (Sees view) (Sets word' value') i i' c c' end end' t t' s s' took took' spot spot'
+      last last' still still' same =
       let lt' : c' < t' = spot'.1 in
       let up' = operations.open_update r i' word' value' c' t' end' took' (omega arith) last' still' in
       let f = finished_of i c s end view took spot.1 in
-      absurd (let call : Call i op.Scan ≡ Call i' (op.Update word' value') = sym f.scan.starts.0 ∙ ap (item r) same ∙ up'.call in cc)
+      absurd (let call : Call i op.Scan ≡ Call i' (op.Update word' value') =
+      sym f.scan.starts.0 ∙ ap (item r) same ∙ up'.call in cc)
   same_spot (Sees view) (Sees view') i i' c c' end end' t t' s s' took took' spot spot' last last' still still' same =
       let f = finished_of i c s end view took spot.1 in
       let f' = finished_of i' c' s' end' view' took' spot'.1 in
       let call : Call i op.Scan ≡ Call i' op.Scan = sym f.scan.starts.0 ∙ ap (item r) same ∙ f'.scan.starts.0 in
       let his : i ≡ i' = cc in
       let ends : s ≡ s' =
-      operations.same_answer r i' c' s s' view view' (subst (λ y. FinishedScan r i' None y s view) same (subst (λ y. FinishedScan r y None c s view) his f)) f' in
+      operations.same_answer r i' c' s s' view view'
+      (subst (λ y. FinishedScan r i' None y s view) same (subst (λ y. FinishedScan r y None c s view) his f)) f' in
       (sym spot.2 ∙ ap point ends ∙ spot'.2, ends)
 
   pub one_spot : (o : Operation) (t s t' s' : ℕ) → Placed t s o → Placed t' s' o → (t ≡ t') × (s ≡ s')
   one_spot o t s t' s' p q =
-      same_spot o.action o.action o.process o.process o.call o.call o.end o.end t t' s s' p.operation q.operation p.spot q.spot p.last q.last
+      same_spot o.action o.action o.process o.process o.call o.call o.end o.end t t' s s' p.operation
+      q.operation p.spot q.spot p.last q.last
       p.open_still q.open_still refl
 
   -- and a spot has one operation
-  same_at : (a a' : Action) (i i' c c' : ℕ) (end end' : Option ℕ) (t s : ℕ) → TookPlace r i c end a → TookPlace r i' c' end' a' → Spot a i c end t s →
-      Spot a' i' c' end' t s → t ≤ length r.items → ((e : ℕ) → end ≡ Some e → t ≤ e) → ((e : ℕ) → end' ≡ Some e → t ≤ e) →
+  same_at : (a a' : Action) (i i' c c' : ℕ) (end end' : Option ℕ) (t s : ℕ) → TookPlace r i c end a →
+      TookPlace r i' c' end' a' → Spot a i c end t s → Spot a' i' c' end' t s → t ≤ length r.items →
+      ((e : ℕ) → end ≡ Some e → t ≤ e) → ((e : ℕ) → end' ≡ Some e → t ≤ e) →
       (i ≡ i') × (c ≡ c') × (end ≡ end') × (a ≡ a')
   same_at (Sets word value) (Sets word' value') i i' c c' end end' t s took took' spot spot' last still still' =
       let lt : c < t = spot.1 in
       let lt' : c' < t = spot'.1 in
-      let his : i ≡ i' = operations.executes_who r i line t spot.2 ∙ sym (operations.executes_who r i' line t spot'.2) in
-      let his_took : TookPlace r i c' end' (Sets word' value') = subst (λ y. TookPlace r y c' end' (Sets word' value')) (sym his) took' in
+      let his : i ≡ i' =
+      operations.executes_who r i line t spot.2 ∙ sym (operations.executes_who r i' line t spot'.2) in
+      let his_took : TookPlace r i c' end' (Sets word' value') =
+      subst (λ y. TookPlace r y c' end' (Sets word' value')) (sym his) took' in
       let up = operations.open_update r i word value c t end took (omega arith) last still in
       let up' = operations.open_update r i word' value' c' t end' his_took (omega arith) last still' in
       let same = operations.same_update r fits i word value word' value' c c' t lt lt' up up' in
-      let at_c : TookPlace r i c end' (Sets word' value') = subst (λ y. TookPlace r i y end' (Sets word' value')) (sym same.0) his_took in
-      let at_word : TookPlace r i c end' (Sets word value') = subst (λ y. TookPlace r i c end' (Sets y value')) (sym same.1) at_c in
-      let at_value : TookPlace r i c end' (Sets word value) = subst (λ y. TookPlace r i c end' (Sets word y)) (sym same.2) at_word in
-      (his, same.0, operations.same_end r i word value c end end' took at_value, same_sets word word' value value' same.1 same.2)
+      let at_c : TookPlace r i c end' (Sets word' value') =
+      subst (λ y. TookPlace r i y end' (Sets word' value')) (sym same.0) his_took in
+      let at_word : TookPlace r i c end' (Sets word value') =
+      subst (λ y. TookPlace r i c end' (Sets y value')) (sym same.1) at_c in
+      let at_value : TookPlace r i c end' (Sets word value) =
+      subst (λ y. TookPlace r i c end' (Sets word y)) (sym same.2) at_word in (
+        his,
+        same.0,
+        operations.same_end r i word value c end end' took at_value,
+        same_sets word word' value value' same.1 same.2,
+      )
   same_at (Sets word value) (Sees view') i i' c c' end end' t s took took' spot spot' last still still' =
       absurd (let none : s ≡ 0 = spot.0 in let some : 0 < s = spot'.0 in omega arith)
   same_at (Sees view) (Sets word' value') i i' c c' end end' t s took took' spot spot' last still still' =
@@ -169,13 +202,15 @@ module _ (line : ℕ) (r : Run) (fits : IsValidRun r) (points : HasLinearization
   same_operation : (o o' : Operation) (t s : ℕ) → Placed t s o → Placed t s o' → o ≡ o'
   same_operation o o' t s p p' =
       let same =
-      same_at o.action o'.action o.process o'.process o.call o'.call o.end o'.end t s p.operation p'.operation p.spot p'.spot p.last p.open_still p'.open_still in
+      same_at o.action o'.action o.process o'.process o.call o'.call o.end o'.end t s p.operation p'.operation p.spot
+      p'.spot p.last p.open_still p'.open_still in
       same_parts o.process o'.process o.call o'.call o.end o'.end o.action o'.action same.0 same.1 same.2 same.3
 
   apart : (a b : Operation) (t s t' s' : ℕ) → Placed t s a → Placed t' s' b → Sooner t s t' s' → Apart a b
   apart a b t s t' s' p q sooner = (
     λ same. let spots =
-        same_spot a.action b.action a.process b.process a.call b.call a.end b.end t t' s s' p.operation q.operation p.spot q.spot p.last q.last p.open_still q.open_still same in
+        same_spot a.action b.action a.process b.process a.call b.call a.end b.end t t' s s' p.operation q.operation
+        p.spot q.spot p.last q.last p.open_still q.open_still same in
         sooner_differs t s t' s' sooner spots.0 spots.1,
     λ ended. let called : a.call ≤ t = p.called in
         let le : t' ≤ ended.0 = q.open_still ended.0 ended.1 in
@@ -192,12 +227,14 @@ module _ (line : ℕ) (r : Run) (fits : IsValidRun r) (points : HasLinearization
       omega arith
 
   -- no spot is before the first item, and no number past the last
-  first_item : (a : Action) (i c : ℕ) (end : Option ℕ) (t s : ℕ) → TookPlace r i c end a → Spot a i c end t s → c ≤ t → 0 < t
+  first_item : (a : Action) (i c : ℕ) (end : Option ℕ) (t s : ℕ) → TookPlace r i c end a →
+      Spot a i c end t s → c ≤ t → 0 < t
   first_item (Sets word value) i c end t s took spot le = let lt : c < t = spot.1 in omega arith
   first_item (Sees view) i c end t s took spot le =
       let f = finished_of i c s end view took spot.1 in let pos : 0 < c = f.scan.first in omega arith
 
-  last_number : (a : Action) (i c : ℕ) (end : Option ℕ) (t s : ℕ) → TookPlace r i c end a → Spot a i c end t s → s ≤ length r.items
+  last_number : (a : Action) (i c : ℕ) (end : Option ℕ) (t s : ℕ) → TookPlace r i c end a →
+      Spot a i c end t s → s ≤ length r.items
   last_number (Sets word value) i c end t s took spot = let none : s ≡ 0 = spot.0 in omega arith
   last_number (Sees view) i c end t s took spot = let f = finished_of i c s end view took spot.1 in f.scan.last
 
@@ -220,8 +257,8 @@ module _ (line : ℕ) (r : Run) (fits : IsValidRun r) (points : HasLinearization
     pub has : (o : Operation) (u v : ℕ) → Placed u v o → Sooner u v t s → Contains os o
 
   -- the spot is that of an operation, or of none
-  with_operation : (t s : ℕ) (now : List ℕ) (os : List Operation) (o : Operation) → OrderedUpTo t s now os → Placed t s o → Allows now o.action →
-      OrderedUpTo t (suc s) (after now o.action) (os ++ o ∷ [])
+  with_operation : (t s : ℕ) (now : List ℕ) (os : List Operation) (o : Operation) → OrderedUpTo t s now os →
+      Placed t s o → Allows now o.action → OrderedUpTo t (suc s) (after now o.action) (os ++ o ∷ [])
   with_operation t s now os o h p allows = record {
     placed = all_push (Before t (suc s)) os o
         (all_weaker (Before t s) (Before t (suc s)) os (λ x b. (b.0, b.1, b.2, sooner_next b.0 b.1 t s b.3)) h.placed)
@@ -231,14 +268,17 @@ module _ (line : ℕ) (r : Run) (fits : IsValidRun r) (points : HasLinearization
     leaves = after_push zeros os o ∙ ap (λ y. after y o.action) h.leaves;
     has = λ x u v q sooner. elim (sooner_or_here u v t s sooner) [
       | inl less ↦ Contains-append_left os (o ∷ []) x (h.has x u v q less)
-      | inr here ↦ (let same : o ≡ x = same_operation o x t s p (subst (λ y. Placed t y x) here.1 (subst (λ y. Placed y v x) here.0 q)) in
+      | inr here ↦ (let same : o ≡ x =
+          same_operation o x t s p (subst (λ y. Placed t y x) here.1 (subst (λ y. Placed y v x) here.0 q)) in
           subst (λ y. Contains (os ++ o ∷ []) y) same (Contains-push os o))
     ];
   }
 
-  with_none : (t s : ℕ) (now : List ℕ) (os : List Operation) → OrderedUpTo t s now os → ((o : Operation) → Placed t s o → ⊥) → OrderedUpTo t (suc s) now os
+  with_none : (t s : ℕ) (now : List ℕ) (os : List Operation) → OrderedUpTo t s now os →
+      ((o : Operation) → Placed t s o → ⊥) → OrderedUpTo t (suc s) now os
   with_none t s now os h none = record {
-    placed = all_weaker (Before t s) (Before t (suc s)) os (λ x b. (b.0, b.1, b.2, sooner_next b.0 b.1 t s b.3)) h.placed;
+    placed =
+        all_weaker (Before t s) (Before t (suc s)) os (λ x b. (b.0, b.1, b.2, sooner_next b.0 b.1 t s b.3)) h.placed;
     pairs = h.pairs;
     runs = h.runs;
     leaves = h.leaves;
@@ -249,7 +289,8 @@ module _ (line : ℕ) (r : Run) (fits : IsValidRun r) (points : HasLinearization
   }
 
   -- once all numbers of an item are passed, the next item's come
-  at_next_item : (t : ℕ) (now : List ℕ) (os : List Operation) → OrderedUpTo t (suc (length r.items)) now os → OrderedUpTo (suc t) 0 now os
+  at_next_item : (t : ℕ) (now : List ℕ) (os : List Operation) →
+      OrderedUpTo t (suc (length r.items)) now os → OrderedUpTo (suc t) 0 now os
   at_next_item t now os h = record {
     placed = all_weaker (Before t (suc (length r.items))) (Before (suc t) 0) os
         (λ x b. (b.0, b.1, b.2, sooner_item b.0 b.1 t (suc (length r.items)) b.3)) h.placed;
@@ -262,12 +303,14 @@ module _ (line : ℕ) (r : Run) (fits : IsValidRun r) (points : HasLinearization
   }
 
   -- whether an operation has a spot at which a scan, or an update, would have one
-  no_scan_in : (t s i c : ℕ) (end : Option ℕ) (a : Action) → ((view : List ℕ) → FinishedScan r i None c (suc s) view → point (suc s) ≡ t → ⊥) →
+  no_scan_in : (t s i c : ℕ) (end : Option ℕ) (a : Action) →
+      ((view : List ℕ) → FinishedScan r i None c (suc s) view → point (suc s) ≡ t → ⊥) →
       TookPlace r i c end a → Spot a i c end t (suc s) → ⊥
   no_scan_in t s i c end (Sets word value) none took spot = let zeroed : suc s ≡ 0 = spot.0 in omega arith
   no_scan_in t s i c end (Sees view) none took spot = none view (finished_of i c (suc s) end view took spot.1) spot.2
 
-  no_scan : (t s : ℕ) → ((i c : ℕ) (view : List ℕ) → FinishedScan r i None c (suc s) view → point (suc s) ≡ t → ⊥) → (o : Operation) → Placed t (suc s) o → ⊥
+  no_scan : (t s : ℕ) → ((i c : ℕ) (view : List ℕ) → FinishedScan r i None c (suc s) view → point (suc s) ≡ t → ⊥) →
+      (o : Operation) → Placed t (suc s) o → ⊥
   no_scan t s none o p = no_scan_in t s o.process o.call o.end o.action (none o.process o.call) p.operation p.spot
 
   no_update_in : (t i c : ℕ) (end : Option ℕ) (a : Action) → (executes r i line t ≡ true → ⊥) → Spot a i c end t 0 → ⊥
@@ -284,13 +327,22 @@ module _ (line : ℕ) (r : Run) (fits : IsValidRun r) (points : HasLinearization
       decided : (xs : List Operation) → OrderedUpTo t (suc s) (values (state r t)) xs → updates os ≡ updates xs →
           (d : AnswerAt (suc s) ⊎ NoAnswer (suc s)) → answer_at (suc s) ≡ d →
           (more : List Operation) × OrderedUpTo t (suc (suc s)) (values (state r t)) more × (updates os ≡ updates more)
-      decided xs past same (inr never) is =
-          (xs, with_none t (suc s) (values (state r t)) xs past (no_scan t s (λ i c view f here. never i c view f)), same)
+      decided xs past same (inr never) is = (
+        xs,
+        with_none t (suc s) (values (state r t)) xs past (no_scan t s (λ i c view f here. never i c view f)),
+        same,
+      )
       decided xs past same (inl a) is =
           let at_point : point (suc s) ≡ a.point = point_is (suc s) (inl a) is in
           elim (cases_eq a.point t) [
-            | inr other ↦ (xs, with_none t (suc s) (values (state r t)) xs past (no_scan t s (λ i c view f here. other (sym at_point ∙ here))), same)
-            | inl here ↦ (let o : Operation = record { process = a.process; call = a.call; end = Some (suc s); action = Sees a.view } in
+            | inr other ↦ (
+              xs,
+              with_none t (suc s) (values (state r t)) xs past
+                  (no_scan t s (λ i c view f here. other (sym at_point ∙ here))),
+              same,
+            )
+            | inl here ↦ (let o : Operation =
+                record { process = a.process; call = a.call; end = Some (suc s); action = Sees a.view } in
                 let low : a.call ≤ a.point = a.low in
                 let high : a.point ≤ suc s = a.high in
                 let p : Placed t (suc s) o = record {
@@ -334,13 +386,14 @@ module _ (line : ℕ) (r : Run) (fits : IsValidRun r) (points : HasLinearization
         subst (WrittenUpTo line r (suc t)) rest.2 first.2,
       )
     where
-      decided : (xs : List Operation) → OrderedUpTo (suc t) 0 (values (state r t)) xs → WrittenUpTo line r t (updates xs) →
-          WriteAt (suc t) ⊎ NoWrite (suc t) →
-          (more : List Operation) × OrderedUpTo (suc t) 1 (values (state r (suc t))) more × WrittenUpTo line r (suc t) (updates more)
+      decided : (xs : List Operation) → OrderedUpTo (suc t) 0 (values (state r t)) xs →
+          WrittenUpTo line r t (updates xs) → WriteAt (suc t) ⊎ NoWrite (suc t) → (more : List Operation)
+          × OrderedUpTo (suc t) 1 (values (state r (suc t))) more × WrittenUpTo line r (suc t) (updates more)
       decided xs past written (inl w) =
           let lt : w.call < suc t = w.before_it in
           let x = operations.update_operation r w.process w.word w.value w.call (suc t) lt w.updating in
-          let o : Operation = record { process = w.process; call = w.call; end = x.end; action = Sets w.word w.value } in
+          let o : Operation =
+          record { process = w.process; call = w.call; end = x.end; action = Sets w.word w.value } in
           let p : Placed (suc t) 0 o = record {
             operation = x.took_place;
             called = omega arith;
@@ -353,15 +406,18 @@ module _ (line : ℕ) (r : Run) (fits : IsValidRun r) (points : HasLinearization
           let is_word : IsOneOf r.shape.w w.word = w.is_word in
           let sets : IsOneOf (length (values (state r t))) w.word = subst (λ y. IsOneOf y w.word) (sym count) is_word in
           let u : UpdateCall = record { process = w.process; call = w.call; word = w.word; value = w.value } in
-          let writes : WritesAt line r (suc t) u = record { executed = w.executed; before_it = lt; updating = w.updating } in (
+          let writes : WritesAt line r (suc t) u =
+          record { executed = w.executed; before_it = lt; updating = w.updating } in (
             xs ++ o ∷ [],
-            subst (λ y. OrderedUpTo (suc t) 1 y (xs ++ o ∷ [])) (sym w.written) (with_operation (suc t) 0 (values (state r t)) xs o past p sets),
+            subst (λ y. OrderedUpTo (suc t) 1 y (xs ++ o ∷ [])) (sym w.written)
+                (with_operation (suc t) 0 (values (state r t)) xs o past p sets),
             (updates xs, written, inl (u, writes, updates_push xs o)),
           )
       decided xs past written (inr never) = (
         xs,
         subst (λ y. OrderedUpTo (suc t) 1 y xs) (sym never.kept)
-            (with_none (suc t) 0 (values (state r t)) xs past (λ o p. no_update_in (suc t) o.process o.call o.end o.action (never.none o.process) p.spot)),
+            (with_none (suc t) 0 (values (state r t)) xs past
+            (λ o p. no_update_in (suc t) o.process o.call o.end o.action (never.none o.process) p.spot)),
         (updates xs, written, inr (never.none, refl)),
       )
 
@@ -408,25 +464,31 @@ module _ (line : ℕ) (r : Run) (fits : IsValidRun r) (points : HasLinearization
             },
           )
 
-  pub complete : (os : List Operation) → OrderedUpTo (suc (length r.items)) 0 (values (state r (length r.items))) os → (o : Operation) → IsOperation r o →
-      HasEnded o → Contains os o
+  pub complete : (os : List Operation) → OrderedUpTo (suc (length r.items)) 0 (values (state r (length r.items))) os →
+      (o : Operation) → IsOperation r o → HasEnded o → Contains os o
   complete os h o took ended =
-      let its : TookPlace r o.process o.call (Some ended.0) o.action = subst (λ y. TookPlace r o.process o.call y o.action) ended.1 took in
+      let its : TookPlace r o.process o.call (Some ended.0) o.action =
+      subst (λ y. TookPlace r o.process o.call y o.action) ended.1 took in
       let p = spot_of o.action o.process o.call ended.0 its in
       let last : p.0 ≤ length r.items = p.2.last in
       subst (λ y. Contains os (record { process = o.process; call = o.call; end = y; action = o.action })) (sym ended.1)
-      (h.has (record { process = o.process; call = o.call; end = Some ended.0; action = o.action }) p.0 p.1 p.2 (inl (omega arith)))
+      (h.has (record { process = o.process; call = o.call; end = Some ended.0; action = o.action }) p.0 p.1 p.2
+      (inl (omega arith)))
 
-  pub is_linearization : (os : List Operation) → OrderedUpTo (suc (length r.items)) 0 (values (state r (length r.items))) os → IsLinearization r os
+  pub is_linearization : (os : List Operation) →
+      OrderedUpTo (suc (length r.items)) 0 (values (state r (length r.items))) os → IsLinearization r os
   is_linearization os h =
       let t = suc (length r.items) in
       let pairs = pairs_weaker Follows Apart os (λ a b f. apart a b f.0 f.1 f.2 f.3 f.4 f.5 f.6) h.pairs in
       record {
-        took_place = All-from_recursion (IsOperation r) os (all_weaker (Before t 0) (IsOperation r) os (λ o b. b.2.operation) h.placed);
+        took_place =
+            All-from_recursion (IsOperation r) os
+            (all_weaker (Before t 0) (IsOperation r) os (λ o b. b.2.operation) h.placed);
         once = λ i j d lt short. (all_pairs Apart os pairs i j d lt short).0;
         complete = complete os h;
         order = keeps_order os
-            (all_weaker (Before t 0) (λ o. EndedBefore o o → ⊥) os (λ o b. not_ended_before_itself o b.0 b.1 b.2) h.placed) pairs;
+            (all_weaker (Before t 0) (λ o. EndedBefore o o → ⊥) os
+            (λ o b. not_ended_before_itself o b.0 b.1 b.2) h.placed) pairs;
         runs = h.runs;
       }
 
@@ -435,8 +497,8 @@ linearizable_by_points line r h fits =
     let x = ordered line r fits h (length r.items) (omega arith) in (x.0, is_linearization line r fits h x.0 x.1)
 
 -- in a run in which every scan has a point, embedded ones too
-pub with_all_points : (line : ℕ) (r : Run) → ChangesOnlyAt line r → WritesItsUpdate line r → WritesOnce line r → HavePoints r →
-    HasLinearizationPoints line r
+pub with_all_points : (line : ℕ) (r : Run) → ChangesOnlyAt line r → WritesItsUpdate line r → WritesOnce line r →
+    HavePoints r → HasLinearizationPoints line r
 with_all_points line r changes writes once points = record {
   changes_only_at = changes;
   writes_its_update = writes;

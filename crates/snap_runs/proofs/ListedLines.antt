@@ -1,4 +1,5 @@
--- What a listing says of each of its lines, and so of all.
+-- `LineListed`: what the proof about an algorithm asks of each line
+-- of its listing (tests, writes, calls and returns), and so of all.
 use Rattle.std.specs.Prelude.{◌≡◌, ℕ, ◌+◌, ◌≤◌, ◌⊎◌, List, Option, Some, nat_eq, if◌then◌else◌}
 use Rattle.std.proofs.Common.{sym, ◌∙◌, ap, inl, inr}
 use Rattle.std.proofs.lemmas.Bool.{cases_eq}
@@ -22,9 +23,11 @@ module _ {V P M : Type 0} (a : Algorithm V P M) (lines : Lines V P M) (line : �
     -- the line that writes has that number
     pub wrote : (if nat_eq (a.number k) line then 1 else 0) ≡ a.writes k
     -- a `call` line begins a scan
-    pub calls : IsCallLine (instr_at a.source.lines (a.number k)) → (me : ℕ) (d : Mode) (m : M) (p : V) → span.NotTo a (a.move me d m p k)
+    pub calls : IsCallLine (instr_at a.source.lines (a.number k)) → (me : ℕ) (d : Mode) (m : M) (p : V) →
+        span.NotTo a (a.move me d m p k)
     -- a line that returns a view returns the answer
-    pub returns : (p : V) (v : List ℕ) → ReturnsView (instr_at a.source.lines (a.number k)) (a.locals_of p) v → lines.IsReturn k × (lines.answer p ≡ v)
+    pub returns : (p : V) (v : List ℕ) → ReturnsView (instr_at a.source.lines (a.number k)) (a.locals_of p) v →
+        lines.IsReturn k × (lines.answer p ≡ v)
     -- an update writes at most once up to the end of a line
     pub once : lines.written k + a.writes k ≤ 1
 
@@ -32,8 +35,8 @@ module _ {V P M : Type 0} (a : Algorithm V P M) (lines : Lines V P M) (line : �
   numbered each = record { counter_with = counter_with; alone = λ k. (each k).alone }
 
   pub listed : ((k : P) → LineListed k) →
-      ((p : V) (k : P) → lines.IsReturn k → ReturnsView (instr_at a.source.lines (a.number k)) (a.locals_of p) (lines.answer p)) →
-      Listed a lines
+      ((p : V) (k : P) → lines.IsReturn k →
+      ReturnsView (instr_at a.source.lines (a.number k)) (a.locals_of p) (lines.answer p)) → Listed a lines
   listed each answers = record {
     tested = λ k. (each k).tested;
     calls = λ me d m p k call. (each k).calls call me d m p;
@@ -41,11 +44,13 @@ module _ {V P M : Type 0} (a : Algorithm V P M) (lines : Lines V P M) (line : �
     answers = answers;
   }
 
-  pub once : ((k : P) → LineListed k) → ((k : P) → lines.IsLast k → (lines.written k ≡ 1) × (a.writes k ≡ 0)) → Once a lines line
+  pub once : ((k : P) → LineListed k) →
+      ((k : P) → lines.IsLast k → (lines.written k ≡ 1) × (a.writes k ≡ 0)) → Once a lines line
   once each last = record { writes_is = λ k. (each k).wrote; most = λ k. (each k).once; last = last }
 
   -- a line is the one that writes, or it writes nothing
-  pub writes_or_not : ((k : P) → LineListed k) → (there k : P) → counter_with line ≡ Some there → (k ≡ there) ⊎ (a.writes k ≡ 0)
+  pub writes_or_not : ((k : P) → LineListed k) → (there k : P) → counter_with line ≡ Some there →
+      (k ≡ there) ⊎ (a.writes k ≡ 0)
   writes_or_not each there k is =
       elim (cases_eq (a.number k) line) [
         | inl same ↦ inl (at_number a (numbered each) k line there is (ap (λ y. nat_eq y line) same ∙ same_number line))

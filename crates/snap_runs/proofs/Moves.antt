@@ -1,4 +1,4 @@
--- The moves that a scan sees, and that what they tell of has happened since its previous double collect.
+-- The moves that a scan of any algorithm sees: each tells of an event since the scan's previous double collect.
 use Rattle.std.specs.Prelude.{◌≡◌, ℕ, zero, suc, ◌+◌, ◌<◌, ◌≤◌, ◌⊎◌, true, List, length, Option, Some}
 use Rattle.std.proofs.Common.{◌∙◌, ap, subst, arith, inl, inr}
 use Rattle.std.proofs.Math.Nat.{eq-or-lt_of_le}
@@ -22,10 +22,10 @@ use Rattle.snap_runs.proofs.Scans as scans
 use Rattle.snap_runs.proofs.WordWrites as writes
 
 -- where a number has grown, and each item is an event or leaves it, there was an event
-grown_at : (Event : ℕ → Type 0) (f : ℕ → ℕ) (last : ℕ) → ((v : ℕ) → v < last → Event (suc v) ⊎ (f (suc v) ≡ f v)) → (u v : ℕ) → u ≤ v → v ≤ last →
-    f u < f v →
-    (x : ℕ) × (u < x) × (x ≤ v) × Event x
-grown_at Event f last each u zero le short lt = absurd (let e : f u ≡ f 0 = ap f (let z : u ≡ 0 = omega arith in z) in omega arith)
+grown_at : (Event : ℕ → Type 0) (f : ℕ → ℕ) (last : ℕ) → ((v : ℕ) → v < last → Event (suc v) ⊎ (f (suc v) ≡ f v)) →
+    (u v : ℕ) → u ≤ v → v ≤ last → f u < f v → (x : ℕ) × (u < x) × (x ≤ v) × Event x
+grown_at Event f last each u zero le short lt =
+    absurd (let e : f u ≡ f 0 = ap f (let z : u ≡ 0 = omega arith in z) in omega arith)
 grown_at Event f last each u (suc v) le short lt =
     elim (eq-or-lt_of_le le) [
       | inl same ↦ absurd (let e : f u ≡ f (suc v) = ap f same in omega arith)
@@ -37,7 +37,8 @@ grown_at Event f last each u (suc v) le short lt =
       ]
     ]
 
-module _ {V P M : Type 0} (a : Algorithm V P M) (lines : Lines V P M) (listed : scans.Listed a lines) (run : scans.Execution a lines) where
+module _ {V P M : Type 0} (a : Algorithm V P M) (lines : Lines V P M) (listed : scans.Listed a lines)
+    (run : scans.Execution a lines) where
   abbrev items : List Item
   items = run.items
 
@@ -51,24 +52,26 @@ module _ {V P M : Type 0} (a : Algorithm V P M) (lines : Lines V P M) (listed : 
   pub record Observed (there : P) (raised : ℕ → V → V) (row : Name) (i j t : ℕ) : Type 0 where
     pub mode : Mode
     pub control : (at t i).control ≡ At mode there
-    pub grows : row_place (a.locals_of (at t i).variables) row j < row_place (a.locals_of (raised i (at t i).variables)) row j
+    pub grows : row_place (a.locals_of (at t i).variables) row j
+        < row_place (a.locals_of (raised i (at t i).variables)) row j
 
   row_is : (row : Name) (t i j : ℕ) → t ≤ length items → IsOneOf a.shape.n i →
       row_place (process_at (state r t) i).locals row j ≡ row_place (a.locals_of (at t i).variables) row j
-  row_is row t i j short one = ap (λ (p : Process). row_place p.locals row j) (embed.process_at_is a items run.fits run.does t i short one)
+  row_is row t i j short one =
+      ap (λ (p : Process). row_place p.locals row j) (embed.process_at_is a items run.fits run.does t i short one)
 
   pub observed : (numbered : executing.Numbered a) (line : ℕ) (there next : P) (raised : ℕ → V → V) (row : Name) →
       numbered.counter_with line ≡ Some there →
-      ((me : ℕ) (d : Mode) (m : M) (p : V) → a.move me d m p there ≡ To d m (raised me p) next) → (i j t : ℕ) → t < length items → IsOneOf a.shape.n i →
-      ObservedMove r line row i j (suc t) →
-      Observed there raised row i j t
+      ((me : ℕ) (d : Mode) (m : M) (p : V) → a.move me d m p there ≡ To d m (raised me p) next) → (i j t : ℕ) →
+      t < length items → IsOneOf a.shape.n i → ObservedMove r line row i j (suc t) → Observed there raised row i j t
   observed numbered line there next raised row its goes i j t short one move =
       let stands = executing.stands_at a items run.fits run.does numbered t i line there short one its move.executed in
       let d = stands.1.0 in
       let m = (typed_state a items t).memory in
       let p = (at t i).variables in
       let after : (at (suc t) i).variables ≡ raised i p =
-      executing.variables_next a items run.fits run.does t i d there d m (raised i p) next one stands.0 stands.1.1 (goes i d m p) in
+      executing.variables_next a items run.fits run.does t i d there d m
+      (raised i p) next one stands.0 stands.1.1 (goes i d m p) in
       record {
         mode = d;
         control = stands.1.1;
@@ -85,9 +88,11 @@ module _ {V P M : Type 0} (a : Algorithm V P M) (lines : Lines V P M) (listed : 
     pub event : Event item
     pub recent : double_collects r i item t ≤ 1
 
-  -- so it is where a number has grown since the start of the scan's double collect, of which at most one end has followed
+  -- so it is where a number has grown since the start of the scan's double collect, of
+  -- which at most one end has followed
   pub recent : (Event : ℕ → Type 0) (f : ℕ → ℕ) → ((v : ℕ) → v < length items → Event (suc v) ⊎ (f (suc v) ≡ f v)) →
-      (i : ℕ) (link : Option ℕ) (c t : ℕ) (d : Mode) (k : P) → PendingScan r i link c (suc t) → c ≤ t → (at t i).control ≡ At d k → a.tests k ≡ 0 →
+      (i : ℕ) (link : Option ℕ) (c t : ℕ) (d : Mode) (k : P) → PendingScan r i link c (suc t) →
+      c ≤ t → (at t i).control ≡ At d k → a.tests k ≡ 0 →
       (at t i).auxiliary.tested ≤ 1 → f (at t i).auxiliary.round < f t → Recent Event i c (suc t)
   recent Event f each i link c t d k scan le there none few grown =
       let one = scan.process in
@@ -98,24 +103,41 @@ module _ {V P M : Type 0} (a : Algorithm V P M) (lines : Lines V P M) (listed : 
       let event = grown_at Event f (length items) each round t g.round_before (omega arith) grown in
       let tested : (at t i).auxiliary.tested ≡ double_collects r i round t = g.tested in
       let last : double_collects r i round (suc t) ≤ double_collects r i round t + a.tests k =
-      span.last_collects a listed.tested items run.fits run.does (scans.lawful a lines listed run) i one round t d k g.round_before (omega arith) there in
+      span.last_collects a listed.tested items run.fits run.does
+      (scans.lawful a lines listed run) i one round t d k g.round_before (omega arith) there in
       let fewer : double_collects r i event.0 (suc t) ≤ double_collects r i round (suc t) =
       count_later (ends_double_collect r i) round event.0 (suc t) (omega arith) in
-      record { item = event.0; after_start = omega arith; before_move = omega arith; event = event.3; recent = omega arith }
+      record {
+        item = event.0;
+        after_start = omega arith;
+        before_move = omega arith;
+        event = event.3;
+        recent = omega arith;
+      }
 
-  -- Where each process writes its own word alone: the word of process j is newer than at the start of the double collect.
+  -- Where each process writes its own word alone: the word of process j is newer than at
+  -- the start of the double collect.
   pub recent_write : (line : ℕ) (writer : writes.Writer a lines line) →
-      ((t i : ℕ) (d : Mode) → t < length items → IsOneOf a.shape.n i → (at t i).control ≡ At d writer.counter → IsUpdateOf (writer.Owned i) d) →
-      ((i word : ℕ) → writer.Owned i word → word ≡ i) →
-      (i j : ℕ) (link : Option ℕ) (c t : ℕ) (d : Mode) (k : P) → IsOneOf a.shape.n j → PendingScan r i link c (suc t) → c ≤ t → (at t i).control ≡ At d k →
+      ((t i : ℕ) (d : Mode) → t < length items → IsOneOf a.shape.n i → (at t i).control ≡ At d writer.counter →
+      IsUpdateOf (writer.Owned i) d) → ((i word : ℕ) → writer.Owned i word → word ≡ i) →
+      (i j : ℕ) (link : Option ℕ) (c t : ℕ) (d : Mode) (k : P) → IsOneOf a.shape.n j →
+      PendingScan r i link c (suc t) → c ≤ t → (at t i).control ≡ At d k →
       a.tests k ≡ 0 → (at t i).auxiliary.tested ≤ 1 →
-      seq_at (writes.words_at a lines line writer run (at t i).auxiliary.round) j < seq_at (writes.words_at a lines line writer run t) j →
-      RecentWrite r line i j c (suc t)
+      seq_at (writes.words_at a lines line writer run (at t i).auxiliary.round) j
+      < seq_at (writes.words_at a lines line writer run t) j → RecentWrite r line i j c (suc t)
   recent_write line writer updates own i j link c t d k other scan le there none few newer =
-      let each : (v : ℕ) → v < length items → (executes r j line (suc v) ≡ true) ⊎ (seq_at (writes.words_at a lines line writer run (suc v)) j ≡ seq_at (writes.words_at a lines line writer run v) j) =
+      let each : (v : ℕ) → v < length items → (executes r j line (suc v) ≡ true) ⊎ (seq_at
+      (writes.words_at a lines line writer run (suc v)) j ≡ seq_at (writes.words_at a lines line writer run v) j) =
       λ v h. elim (writes.word_changes a lines line writer run updates own j v other h) [
         | inl wrote ↦ inl wrote
         | inr same ↦ inr (ap (λ (w : Word). w.seq) same)
       ] in
-      let x = recent (λ y. executes r j line y ≡ true) (λ y. seq_at (writes.words_at a lines line writer run y) j) each i link c t d k scan le there none few newer in
-      record { item = x.item; after_start = x.after_start; before_move = x.before_move; executed = x.event; recent = x.recent }
+      let x = recent (λ y. executes r j line y ≡ true)
+      (λ y. seq_at (writes.words_at a lines line writer run y) j) each i link c t d k scan le there none few newer in
+      record {
+        item = x.item;
+        after_start = x.after_start;
+        before_move = x.before_move;
+        executed = x.event;
+        recent = x.recent;
+      }

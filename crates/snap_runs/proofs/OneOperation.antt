@@ -1,4 +1,4 @@
--- An operation of a run is the one of its call.
+-- Each operation of a run has a call among the items, and two operations with the same call are one.
 use Rattle.std.specs.Prelude.{◌≡◌, ℕ, ◌<◌, ◌≤◌, List, length, Option, Some, None}
 use Rattle.std.proofs.Common.{sym, ◌∙◌, ap, subst, arith}
 use Rattle.snap_semantics.specs.declared.process.Item.TheVariants.{Call}
@@ -26,13 +26,14 @@ module _ (r : Run) where
       TookPlace r i c end' (Sees view') → (end ≡ end') × (view ≡ view')
   same_scan i c view view' (Some e) (Some e') took took' =
       let ends : e ≡ e' = same_answer r i c e e' view view' took took' in
-      let out : ◌≡◌ {A = Outcome} (Answered view) (Answered view') = sym took.ends.1 ∙ ap (outcome r) ends ∙ took'.ends.1 in
+      let out : ◌≡◌ {A = Outcome} (Answered view) (Answered view') =
+      sym took.ends.1 ∙ ap (outcome r) ends ∙ took'.ends.1 in
       (ap (λ y. Some y) ends, cc)
   same_scan i c view view' None end' took took' = absurd took
   same_scan i c view view' (Some e) None took took' = absurd took'
 
-  same_call : (a a' : Action) (i i' c c' : ℕ) (end end' : Option ℕ) → TookPlace r i c end a → TookPlace r i' c' end' a' →
-      c ≡ c' →
+  same_call : (a a' : Action) (i i' c c' : ℕ) (end end' : Option ℕ) →
+      TookPlace r i c end a → TookPlace r i' c' end' a' → c ≡ c' →
       ◌≡◌ {A = Operation} (record { process = i; call = c; end = end; action = a })
       (record { process = i'; call = c'; end = end'; action = a' })
   same_call (Sets word value) (Sets word' value') i i' c c' end end' took took' same =
@@ -63,8 +64,10 @@ module _ (r : Run) where
       let call : Call i op.Scan ≡ Call i' op.Scan =
       sym (asks_scan i c view end took) ∙ ap (item r) same ∙ asks_scan i' c' view' end' took' in
       let his : i ≡ i' = cc in
-      let at_who : TookPlace r i c' end' (Sees view') = subst (λ y. TookPlace r y c' end' (Sees view')) (sym his) took' in
-      let at_call : TookPlace r i c end' (Sees view') = subst (λ y. TookPlace r i y end' (Sees view')) (sym same) at_who in
+      let at_who : TookPlace r i c' end' (Sees view') =
+      subst (λ y. TookPlace r y c' end' (Sees view')) (sym his) took' in
+      let at_call : TookPlace r i c end' (Sees view') =
+      subst (λ y. TookPlace r i y end' (Sees view')) (sym same) at_who in
       let seen = same_scan i c view view' end end' took at_call in
       same_parts i i' c c' end end' (Sees view) (Sees view') his same seen.0 (ap (λ y. Sees y) seen.1)
 

@@ -1,5 +1,6 @@
 -- The operations of a run in which one line writes: what each item that writes and each item that answers belongs to.
-use Rattle.std.specs.Prelude.{◌≡◌, ℕ, zero, suc, ◌-◌, ◌<◌, ◌≤◌, ◌⊎◌, Bool, true, false, ◌&&◌, List, length, Option, Some, None, nat_lt, if◌then◌else◌, slice_set, refl}
+use Rattle.std.specs.Prelude.{◌≡◌, ℕ, zero, suc, ◌-◌, ◌<◌, ◌≤◌, ◌⊎◌, Bool, true, false, ◌&&◌, List, length, Option}
+use Rattle.std.specs.Prelude.{Some, None, nat_lt, if◌then◌else◌, slice_set, refl}
 use Rattle.std.proofs.Common.{sym, ◌∙◌, ap, subst, arith, inl, inr}
 use Rattle.std.proofs.lemmas.Bool.{cases_eq, cases_lt}
 use Rattle.std.proofs.Math.Nat.{eq-or-lt_of_le}
@@ -33,9 +34,12 @@ counted_one false x h = absurd (cc)
 pub count_one : (test : ℕ → Bool) (c t e : ℕ) → c < t → t ≤ e → test t ≡ true → 1 ≤ count test c e
 count_one test c t zero lt le passes = absurd (omega arith)
 count_one test c t (suc e) lt le passes =
-    let next : count test c (suc e) ≡ (if test (suc e) then suc (count test c e) else count test c e) = count_next test c e (omega arith) in
+    let next : count test c (suc e) ≡ (if test (suc e) then suc (count test c e) else count test c e) =
+    count_next test c e (omega arith) in
     elim (eq-or-lt_of_le le) [
-      | inl same ↦ (let one = counted_one (test (suc e)) (count test c e) (subst (λ y. test y ≡ true) same passes) in omega arith)
+      | inl same ↦
+          (let one = counted_one (test (suc e)) (count test c e) (subst (λ y. test y ≡ true) same passes) in
+          omega arith)
       | inr less ↦ (let past = count_one test c t e lt (omega arith) passes in
           let more = counted (test (suc e)) (count test c e) in omega arith)
     ]
@@ -44,7 +48,8 @@ pub count_two : (test : ℕ → Bool) (c t e : ℕ) → c < t → t < e → test
 count_two test c t zero lt le passes again = absurd (omega arith)
 count_two test c t (suc e) lt le passes again =
     let past = count_one test c t e lt (omega arith) passes in
-    let next : count test c (suc e) ≡ (if test (suc e) then suc (count test c e) else count test c e) = count_next test c e (omega arith) in
+    let next : count test c (suc e) ≡ (if test (suc e) then suc (count test c e) else count test c e) =
+    count_next test c e (omega arith) in
     let one = counted_one (test (suc e)) (count test c e) again in omega arith
 
 -- where some are counted, there is one
@@ -63,7 +68,8 @@ passing_last test c e n false passes is so past more = passing_next test c e (pa
 pub counted_item : (test : ℕ → Bool) (c e : ℕ) → 1 ≤ count test c e → Passing test c e
 counted_item test c zero h = absurd (omega arith)
 counted_item test c (suc e) h =
-    passing_last test c e (count test c e) (nat_lt c (suc e)) (test (suc e)) refl refl (λ more. counted_item test c e more) h
+    passing_last test c e (count test c e) (nat_lt c (suc e)) (test (suc e)) refl refl
+    (λ more. counted_item test c e more) h
 
 -- whether an outcome is an answer, and whether it is the end of an update
 abbrev pub Answering : Outcome → Type 0
@@ -114,12 +120,12 @@ ends_answer (outcome.Skipped why) h = absurd h
 
 module _ (r : Run) where
   pub executes_who : (i line t : ℕ) → executes r i line t ≡ true → i ≡ who (item r t)
-  executes_who i line t ex = step_of i (item r t) (both (steps i (item r t)) (is_at line (process_at (before r t) i).status) ex).0
+  executes_who i line t ex =
+      step_of i (item r t) (both (steps i (item r t)) (is_at line (process_at (before r t) i).status) ex).0
 
   -- an operation ends once
-  pub same_done : (i word value word' value' c e e' : ℕ) → PendingUpdate r i word value c e → PendingUpdate r i word' value' c e' → c < e → IsDone r i e → c < e' →
-      IsDone r i e' →
-      e ≡ e'
+  pub same_done : (i word value word' value' c e e' : ℕ) → PendingUpdate r i word value c e →
+      PendingUpdate r i word' value' c e' → c < e → IsDone r i e → c < e' → IsDone r i e' → e ≡ e'
   same_done i word value word' value' c e e' up up' lt done lt' done' =
       elim (cases_eq e e') [
         | inl same ↦ same
@@ -129,7 +135,8 @@ module _ (r : Run) where
         ]
       ]
 
-  pub same_answer : (i c e e' : ℕ) (view view' : List ℕ) → FinishedScan r i None c e view → FinishedScan r i None c e' view' → e ≡ e'
+  pub same_answer : (i c e e' : ℕ) (view view' : List ℕ) → FinishedScan r i None c e view →
+      FinishedScan r i None c e' view' → e ≡ e'
   same_answer i c e e' view view' f f' =
       elim (cases_eq e e') [
         | inl same ↦ same
@@ -161,10 +168,22 @@ module _ (r : Run) where
   first_end i c zero = inr (λ t lt le done. omega arith)
   first_end i c (suc e) =
       elim (first_end i c e) [
-        | inl x ↦ inl (record { item = x.item; after = x.after; within = (let le : x.item ≤ e = x.within in omega arith); done = x.done; first = x.first })
+        | inl x ↦ inl (record {
+          item = x.item;
+          after = x.after;
+          within = (let le : x.item ≤ e = x.within in omega arith);
+          done = x.done;
+          first = x.first;
+        })
         | inr none ↦ elim (cases_lt c (suc e)) [
           | inl lt ↦ elim (done_or_not i (suc e)) [
-            | inl done ↦ inl (record { item = suc e; after = lt; within = omega arith; done = done; first = λ t more less. none t more (omega arith) })
+            | inl done ↦ inl (record {
+              item = suc e;
+              after = lt;
+              within = omega arith;
+              done = done;
+              first = λ t more less. none t more (omega arith);
+            })
             | inr not ↦ inr (λ t more le done. elim (eq-or-lt_of_le le) [
               | inl same ↦ not (subst (IsDone r i) same done)
               | inr less ↦ none t more (omega arith) done
@@ -175,7 +194,8 @@ module _ (r : Run) where
       ]
 
   -- an update that is open before item t, and not later
-  pub shorter : (i word value c t e : ℕ) → c ≤ t → t ≤ e → PendingUpdate r i word value c e → PendingUpdate r i word value c t
+  pub shorter : (i word value c t e : ℕ) → c ≤ t → t ≤ e → PendingUpdate r i word value c e →
+      PendingUpdate r i word value c t
   shorter i word value c t e le more up = record {
     process = up.process;
     call = up.call;
@@ -192,7 +212,8 @@ module _ (r : Run) where
     pub took_place : TookPlace r i c end (Sets word value)
     pub open_still : (e : ℕ) → end ≡ Some e → t ≤ e
 
-  pub update_operation : (i word value c t : ℕ) → c < t → PendingUpdate r i word value c t → UpdateOperation i word value c t
+  pub update_operation : (i word value c t : ℕ) → c < t → PendingUpdate r i word value c t →
+      UpdateOperation i word value c t
   update_operation i word value c t before up =
       let last : t ≤ length r.items = up.last in
       elim (first_end i c (length r.items)) [
@@ -236,13 +257,15 @@ module _ (r : Run) where
       ]
 
   -- the update of an operation was open before each item up to its end
-  pub open_update : (i word value c t : ℕ) (end : Option ℕ) → TookPlace r i c end (Sets word value) → c ≤ t → t ≤ length r.items →
-      ((e : ℕ) → end ≡ Some e → t ≤ e) → PendingUpdate r i word value c t
-  open_update i word value c t (Some e) took le last open_still = shorter i word value c t e le (open_still e refl) took.0
+  pub open_update : (i word value c t : ℕ) (end : Option ℕ) → TookPlace r i c end (Sets word value) → c ≤ t →
+      t ≤ length r.items → ((e : ℕ) → end ≡ Some e → t ≤ e) → PendingUpdate r i word value c t
+  open_update i word value c t (Some e) took le last open_still =
+      shorter i word value c t e le (open_still e refl) took.0
   open_update i word value c t None took le last open_still = shorter i word value c t (length r.items) le last took.0
 
   -- an update that has not ended has no end
-  still_open : (i word value c e : ℕ) → TookPlace r i c (Some e) (Sets word value) → TookPlace r i c None (Sets word value) → ⊥
+  still_open : (i word value c e : ℕ) → TookPlace r i c (Some e) (Sets word value) →
+      TookPlace r i c None (Sets word value) → ⊥
   still_open i word value c e h h' =
       let last : e ≤ length r.items = h.0.last in
       elim (eq-or-lt_of_le last) [
@@ -251,7 +274,8 @@ module _ (r : Run) where
       ]
 
   -- an update has ended at one item, or has not
-  pub same_end : (i word value c : ℕ) (end end' : Option ℕ) → TookPlace r i c end (Sets word value) → TookPlace r i c end' (Sets word value) → end ≡ end'
+  pub same_end : (i word value c : ℕ) (end end' : Option ℕ) → TookPlace r i c end (Sets word value) →
+      TookPlace r i c end' (Sets word value) → end ≡ end'
   same_end i word value c (Some e) (Some e') h h' =
       let same : e ≡ e' = same_done i word value word value c e e' h.0 h'.0 h.1 h.2 h'.1 h'.2 in ap (λ y. Some y) same
   same_end i word value c (Some e) None h h' = absurd (still_open i word value c e h h')
@@ -260,26 +284,31 @@ module _ (r : Run) where
 
   -- the scan of an answer, and the update of a write, are one
   module _ (fits : IsValidRun r) where
-    pub same_scan : (i i' c c' e : ℕ) (view view' : List ℕ) → FinishedScan r i None c e view → FinishedScan r i' None c' e view' →
-        (i ≡ i') × (c ≡ c') × (view ≡ view')
+    pub same_scan : (i i' c c' e : ℕ) (view view' : List ℕ) → FinishedScan r i None c e view →
+        FinishedScan r i' None c' e view' → (i ≡ i') × (c ≡ c') × (view ≡ view')
     same_scan i i' c c' e view view' f f' =
         let his : i ≡ i' = sym f.ends.0 ∙ f'.ends.0 in
         let starts : Calls r fits i op.Scan c' = subst (λ y. Calls r fits y op.Scan c') (sym his) f'.scan.starts in (
           his,
-          one_call r fits i op.Scan op.Scan c c' e f.scan.process f.scan.first f'.scan.first f.order f'.order f.scan.last f.scan.starts starts
-              (λ u lt less ends. let out = ends_answer (outcome_at r u) ends.1 in f.scan.goes_on u out.0 lt less (ends.0, out.1))
-              (λ u lt less ends. let out = ends_answer (outcome_at r u) ends.1 in f'.scan.goes_on u out.0 lt less (ends.0 ∙ his, out.1)),
+          one_call r fits i op.Scan op.Scan c c' e f.scan.process f.scan.first f'.scan.first f.order f'.order
+              f.scan.last f.scan.starts starts
+              (λ u lt less ends.
+              let out = ends_answer (outcome_at r u) ends.1 in f.scan.goes_on u out.0 lt less (ends.0, out.1))
+              (λ u lt less ends.
+              let out = ends_answer (outcome_at r u) ends.1 in f'.scan.goes_on u out.0 lt less (ends.0 ∙ his, out.1)),
           (let e : ◌≡◌ {A = Outcome} (outcome.Answered view) (outcome.Answered view') = sym f.ends.1 ∙ f'.ends.1 in cc),
         )
 
-    pub same_update : (i word value word' value' c c' t : ℕ) → c < t → c' < t → PendingUpdate r i word value c t → PendingUpdate r i word' value' c' t →
-        (c ≡ c') × (word ≡ word') × (value ≡ value')
+    pub same_update : (i word value word' value' c c' t : ℕ) → c < t → c' < t → PendingUpdate r i word value c t →
+        PendingUpdate r i word' value' c' t → (c ≡ c') × (word ≡ word') × (value ≡ value')
     same_update i word value word' value' c c' t lt lt' up up' =
         let same : c ≡ c' =
-        one_call r fits i (op.Update word value) (op.Update word' value') c c' t up.process up.first up'.first lt lt' up.last (up.call, up.called) (up'.call, up'.called)
+        one_call r fits i (op.Update word value) (op.Update word' value') c c' t up.process up.first up'.first lt lt'
+        up.last (up.call, up.called) (up'.call, up'.called)
         (λ u more less ends. up.goes_on u more less (ends.0, ends_done word value (outcome_at r u) ends.1))
         (λ u more less ends. up'.goes_on u more less (ends.0, ends_done word' value' (outcome_at r u) ends.1)) in
-        let call : Call i (op.Update word value) ≡ Call i (op.Update word' value') = sym up.call ∙ ap (item r) same ∙ up'.call in
+        let call : Call i (op.Update word value) ≡ Call i (op.Update word' value') =
+        sym up.call ∙ ap (item r) same ∙ up'.call in
         (same, cc, cc)
 
   module _ (line : ℕ) (fits : IsValidRun r) (points : HasLinearizationPoints line r) where
@@ -305,7 +334,16 @@ module _ (r : Run) where
             | inl a ↦ (let scan = answer_ends r fits t a.0 lt a.1 in
                 let i = who (item r (suc t)) in
                 let p = points.answers_have_points fits i scan.0 (suc t) a.0 scan.1 in
-                inl (record { process = i; call = scan.0; view = a.0; finished = scan.1; point = p.0; low = p.1; high = p.2; held = p.3 }))
+                inl (record {
+                  process = i;
+                  call = scan.0;
+                  view = a.0;
+                  finished = scan.1;
+                  point = p.0;
+                  low = p.1;
+                  high = p.2;
+                  held = p.3;
+                }))
             | inr not ↦ inr (λ i c view f. not view f.ends.1)
           ]
           | inr ge ↦ inr (λ i c view f. let last : suc t ≤ length r.items = f.scan.last in omega arith)
@@ -340,11 +378,22 @@ module _ (r : Run) where
         by_test : (b : Bool) → executes r (who (item r (suc t))) line (suc t) ≡ b → WriteAt (suc t) ⊎ NoWrite (suc t)
         by_test true is =
             let w = points.writes_its_update fits (who (item r (suc t))) t one h is in
-            inl (record { process = who (item r (suc t)); word = w.0; value = w.1; call = w.2; updating = w.3; before_it = w.4; is_word = w.5; executed = is; written = w.6 })
+            inl (record {
+              process = who (item r (suc t));
+              word = w.0;
+              value = w.1;
+              call = w.2;
+              updating = w.3;
+              before_it = w.4;
+              is_word = w.5;
+              executed = is;
+              written = w.6;
+            })
         by_test false is =
             inr (record {
               none = λ k ex.
-                  let ex2 : executes r (who (item r (suc t))) line (suc t) ≡ true = subst (λ y. executes r y line (suc t) ≡ true) (executes_who k line (suc t) ex) ex in
+                  let ex2 : executes r (who (item r (suc t))) line (suc t) ≡ true =
+                  subst (λ y. executes r y line (suc t) ≡ true) (executes_who k line (suc t) ex) ex in
                   absurd (cc);
               kept = elim (points.changes_only_at fits t h) [
                 | inl same ↦ same

@@ -1,4 +1,5 @@
--- The operations of a run in one order: at each item the update that writes there, and then the scans with their points there.
+-- The operations of a run in one order: at each item the update that writes there, and then the scans with their
+-- points there.
 use Rattle.std.specs.Prelude.{◌≡◌, ℕ, zero, suc, ◌-◌, ◌<◌, ◌≤◌, ◌⊎◌, List, [], ◌∷◌, ◌++◌, length, slice_index_or, refl}
 use Rattle.std.specs.List.{AllByRecursion, AllPairs}
 use Rattle.std.proofs.Common.{◌∙◌, subst, arith, inl, inr}
@@ -21,20 +22,24 @@ all_pairs R (o ∷ os) h zero (suc j) d lt short = All-from_recursion (R o) os h
 all_pairs R (o ∷ os) h (suc i) (suc j) d lt short = all_pairs R os h.1 i j d (omega arith) (omega arith)
 
 -- one more at the end
-pub all_push : (P : Operation → Type 0) (os : List Operation) (o : Operation) → AllByRecursion P os → P o → AllByRecursion P (os ++ o ∷ [])
+pub all_push : (P : Operation → Type 0) (os : List Operation) (o : Operation) → AllByRecursion P os → P o →
+    AllByRecursion P (os ++ o ∷ [])
 all_push P [] o h last = (last, tt)
 all_push P (x ∷ os) o h last = (h.0, all_push P os o h.1 last)
 
-pub all_weaker : (P Q : Operation → Type 0) (os : List Operation) → ((o : Operation) → P o → Q o) → AllByRecursion P os → AllByRecursion Q os
+pub all_weaker : (P Q : Operation → Type 0) (os : List Operation) → ((o : Operation) → P o → Q o) →
+    AllByRecursion P os → AllByRecursion Q os
 all_weaker P Q [] gives h = tt
 all_weaker P Q (o ∷ os) gives h = (gives o h.0, all_weaker P Q os gives h.1)
 
-pub pairs_push : (R : Operation → Operation → Type 0) (P : Operation → Type 0) (os : List Operation) (o : Operation) → ((x : Operation) → P x → R x o) →
-    AllByRecursion P os → Pairs R os → Pairs R (os ++ o ∷ [])
+pub pairs_push : (R : Operation → Operation → Type 0) (P : Operation → Type 0) (os : List Operation) (o : Operation) →
+    ((x : Operation) → P x → R x o) → AllByRecursion P os → Pairs R os → Pairs R (os ++ o ∷ [])
 pairs_push R P [] o gives h pairs = (tt, tt)
-pairs_push R P (x ∷ os) o gives h pairs = (all_push (R x) os o pairs.0 (gives x h.0), pairs_push R P os o gives h.1 pairs.1)
+pairs_push R P (x ∷ os) o gives h pairs =
+    (all_push (R x) os o pairs.0 (gives x h.0), pairs_push R P os o gives h.1 pairs.1)
 
-pub pairs_weaker : (R S : Operation → Operation → Type 0) (os : List Operation) → ((a b : Operation) → R a b → S a b) → Pairs R os → Pairs S os
+pub pairs_weaker : (R S : Operation → Operation → Type 0) (os : List Operation) →
+    ((a b : Operation) → R a b → S a b) → Pairs R os → Pairs S os
 pairs_weaker R S [] gives h = tt
 pairs_weaker R S (o ∷ os) gives h = (all_weaker (R o) (S o) os (gives o) h.0, pairs_weaker R S os gives h.1)
 
@@ -47,7 +52,8 @@ pub after_none : (values : List ℕ) → after_all values [] ≡ values
 unfolding after_all
 after_none values = refl
 
-pub after_push : (values : List ℕ) (os : List Operation) (o : Operation) → after_all values (os ++ o ∷ []) ≡ after (after_all values os) o.action
+pub after_push : (values : List ℕ) (os : List Operation) (o : Operation) →
+    after_all values (os ++ o ∷ []) ≡ after (after_all values os) o.action
 unfolding after_all
 after_push values [] o = refl
 after_push values (x ∷ os) o = after_push (after values x.action) os o
@@ -61,13 +67,14 @@ unfolding after_all
 length_after_all values [] = refl
 length_after_all values (o ∷ os) = length_after_all (after values o.action) os ∙ length_after values o.action
 
-pub runs_push : (values : List ℕ) (os : List Operation) (o : Operation) → RunsFrom values os → Allows (after_all values os) o.action →
-    RunsFrom values (os ++ o ∷ [])
+pub runs_push : (values : List ℕ) (os : List Operation) (o : Operation) → RunsFrom values os →
+    Allows (after_all values os) o.action → RunsFrom values (os ++ o ∷ [])
 unfolding after_all
 runs_push values [] o runs allows = (allows, tt)
 runs_push values (x ∷ os) o runs allows = (runs.0, runs_push (after values x.action) os o runs.1 allows)
 
--- of two operations that stand in this order: their calls are two, and the second did not end before the first was called
+-- of two operations that stand in this order: their calls are two, and the second did not
+-- end before the first was called
 abbrev pub Apart : Operation → Operation → Type 0
 Apart a b = (a.call ≡ b.call → ⊥) × (EndedBefore b a → ⊥)
 

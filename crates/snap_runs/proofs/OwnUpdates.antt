@@ -1,5 +1,6 @@
 -- A scan that a process calls after an update of its own shows that update's value.
-use Rattle.std.specs.Prelude.{◌≡◌, ℕ, zero, suc, ◌-◌, ◌<◌, ◌≤◌, Bool, true, false, List, length, Some, None, slice_index, refl}
+use Rattle.std.specs.Prelude.{◌≡◌, ℕ, zero, suc, ◌-◌, ◌<◌, ◌≤◌, Bool, true, false, List}
+use Rattle.std.specs.Prelude.{length, Some, None, slice_index, refl}
 use Rattle.std.proofs.Common.{sym, ◌∙◌, ap, subst, arith, inl, inr}
 use Rattle.std.proofs.lemmas.Bool.{cases_lt}
 use Rattle.std.proofs.lemmas.Grind.{get_or-set_at}
@@ -17,7 +18,8 @@ use Rattle.snap_runs.specs.Run.{Run, state, item, outcome}
 use Rattle.snap_runs.specs.Scan.{PendingScan, HasPoint, count}
 use Rattle.snap_runs.specs.Update.{executes, IsDone, PendingUpdate}
 use Rattle.snap_runs.specs.Promises.{HavePoints, OwnUpdatesAreSeen}
-use Rattle.snap_runs.proofs.Algorithm.{Mode, Updating, op_of, Control, At, TypedProcess, Algorithm, by_call, typed_at, by_item, outcome_of, item_at, typed_state}
+use Rattle.snap_runs.proofs.Algorithm.{Mode, Updating, op_of, Control, At, TypedProcess, Algorithm, by_call, typed_at}
+use Rattle.snap_runs.proofs.Algorithm.{by_item, outcome_of, item_at, typed_state}
 use Rattle.snap_runs.proofs.Counting.{count_none, count_not}
 use Rattle.snap_runs.proofs.Embedding as embed
 use Rattle.snap_runs.proofs.Executing as executing
@@ -41,9 +43,16 @@ last_of : (test : ℕ → Bool) (c e : ℕ) → 0 < count test c e → LastOf te
 last_of test c zero h = absurd (omega arith)
 last_of test c (suc e) h =
     elim (cases_lt e c) [
-      | inl early ↦ absurd (let none : count test c (suc e) ≡ 0 = count_none test c (suc e) (omega arith) in omega arith)
+      | inl early ↦
+          absurd (let none : count test c (suc e) ≡ 0 = count_none test c (suc e) (omega arith) in omega arith)
       | inr le ↦ (elim (test (suc e)) as (λ b. test (suc e) ≡ b → LastOf test c (suc e)) [
-        | true ↦ λ is. record { item = e; after = omega arith; before = omega arith; passes = is; no_later = λ u lo hi. absurd (omega arith) }
+        | true ↦ λ is. record {
+          item = e;
+          after = omega arith;
+          before = omega arith;
+          passes = is;
+          no_later = λ u lo hi. absurd (omega arith);
+        }
         | false ↦ λ is.
             let fewer : count test c (suc e) ≡ count test c e = count_not test c e (omega arith) is in
             let rest : LastOf test c e = last_of test c e (omega arith) in
@@ -65,10 +74,13 @@ last_of test c (suc e) h =
 datum_at : (ws : List Word) (k : ℕ) → k - 1 < length ws → slice_index (data_of ws) (k - 1) ≡ (word_at ws k).datum
 datum_at ws k lt = get_or-map (λ (w : Word). w.datum) ws (k - 1) no_word 0 lt
 
-module _ {V P M : Type 0} (a : Algorithm V P M) (lines : Lines V P M) (line : ℕ) (writer : writes.Writer a lines line) (listed : scans.Listed a lines)
+module _ {V P M : Type 0} (a : Algorithm V P M) (lines : Lines V P M) (line : ℕ) (writer : writes.Writer a lines line)
+    (listed : scans.Listed a lines)
     (run : scans.Execution a lines)
-    (updates : (t i : ℕ) (d : Mode) → t < length run.items → IsOneOf a.shape.n i → (typed_at a (typed_state a run.items t) i).control ≡ At d writer.counter → IsUpdateOf (writer.Owned i) d)
-    (once : writes_once.Once a lines line) (numbered : executing.Numbered a) (its : numbered.counter_with line ≡ Some writer.counter)
+    (updates : (t i : ℕ) (d : Mode) → t < length run.items → IsOneOf a.shape.n i →
+    (typed_at a (typed_state a run.items t) i).control ≡ At d writer.counter → IsUpdateOf (writer.Owned i) d)
+    (once : writes_once.Once a lines line) (numbered : executing.Numbered a)
+    (its : numbered.counter_with line ≡ Some writer.counter)
     (own : (i word : ℕ) → writer.Owned i word → word ≡ i)
     (sizes : (t : ℕ) → t ≤ length run.items → length (writes.words_at a lines line writer run t) ≡ a.shape.n) where
   abbrev items : List Item
@@ -99,15 +111,20 @@ module _ {V P M : Type 0} (a : Algorithm V P M) (lines : Lines V P M) (line : �
 
   module _ (i : ℕ) (one : IsOneOf a.shape.n i) where
     abbrev Under : Op → ℕ → ℕ → Type 0
-    Under op c t = called.Under a line once.writes_is items run.fits run.does i one (writes_once.silent a lines line once run i one) op c t
+    Under op c t =
+        called.Under a line once.writes_is items run.fits run.does i one
+        (writes_once.silent a lines line once run i one) op c t
 
     -- a process that is called is not in an update
-    not_updating : (word value c e : ℕ) (op : Op) → PendingUpdate r i word value c (suc e) → c ≤ e → item r (suc e) ≡ Call i op → outcome r (suc e) ≡ Called → ⊥
+    not_updating : (word value c e : ℕ) (op : Op) → PendingUpdate r i word value c (suc e) → c ≤ e →
+        item r (suc e) ≡ Call i op → outcome r (suc e) ≡ Called → ⊥
     not_updating word value c e op up le call out =
         let last : suc e ≤ length items = up.last in
-        let g = called.going a line once.writes_is items run.fits run.does i one (writes_once.silent a lines line once run i one) word value c (suc e) e up le (omega arith) in
+        let g = called.going a line once.writes_is items run.fits run.does i one
+        (writes_once.silent a lines line once run i one) word value c (suc e) e up le (omega arith) in
         let x = typed_state a items e in
-        let busy : outcome_of (by_item a (suc e) x (item_at items e)) ≡ outcome_of (by_call a (suc e) x.memory i op (at e i) (At g.mode g.counter)) =
+        let busy : outcome_of (by_item a (suc e) x (item_at items e))
+        ≡ outcome_of (by_call a (suc e) x.memory i op (at e i) (At g.mode g.counter)) =
         ap (λ (y : Item). outcome_of (by_item a (suc e) x y)) call
         ∙ ap (λ (p : Control P). outcome_of (by_call a (suc e) x.memory i op (at e i) p)) g.control in
         absurd (let f = sym out ∙ embed.outcome_is a items run.fits run.does e (omega arith) ∙ busy in cc)
@@ -126,7 +143,8 @@ module _ {V P M : Type 0} (a : Algorithm V P M) (lines : Lines V P M) (line : �
         let there = executing.stands_at a items run.fits run.does numbered t i line writer.counter short one its ex in
         let d = there.1.0 in
         let up = update_of (writer.Owned i) d (updates t i d short one there.1.1) in
-        let control : (at t i).control ≡ At (Updating up.0 up.1) writer.counter = there.1.1 ∙ ap (λ y. At y writer.counter) up.3 in
+        let control : (at t i).control ≡ At (Updating up.0 up.1) writer.counter =
+        there.1.1 ∙ ap (λ y. At y writer.counter) up.3 in
         record {
           word = up.0;
           value = up.1;
@@ -134,13 +152,15 @@ module _ {V P M : Type 0} (a : Algorithm V P M) (lines : Lines V P M) (line : �
           is = up.3;
           control = there.1.1;
           under =
-              subst (called.UnderAt a line once.writes_is items run.fits run.does i one (writes_once.silent a lines line once run i one) t (at t i)) control
-              (called.under a line once.writes_is items run.fits run.does i one (writes_once.silent a lines line once run i one) t (omega arith));
+              subst (called.UnderAt a line once.writes_is items run.fits run.does i one
+              (writes_once.silent a lines line once run i one) t (at t i)) control
+              (called.under a line once.writes_is items run.fits run.does i one
+              (writes_once.silent a lines line once run i one) t (omega arith));
         }
 
     -- before the call it writes only in an update that is done by then
-    before_call : (done c t : ℕ) (op : Op) → ((u : ℕ) → done < u → u < suc c → IsDone r i u → ⊥) → done ≤ t → t ≤ c → suc c ≤ length items →
-        item r (suc c) ≡ Call i op → outcome r (suc c) ≡ Called → Writing t → ⊥
+    before_call : (done c t : ℕ) (op : Op) → ((u : ℕ) → done < u → u < suc c → IsDone r i u → ⊥) → done ≤ t → t ≤ c →
+        suc c ≤ length items → item r (suc c) ≡ Call i op → outcome r (suc c) ≡ Called → Writing t → ⊥
     before_call done c t op none lo hi short call out w =
         let under : Under (Update w.word w.value) (at t i).auxiliary.called t = w.under in
         let order : (at t i).auxiliary.called ≤ t = under.order in
@@ -152,7 +172,10 @@ module _ {V P M : Type 0} (a : Algorithm V P M) (lines : Lines V P M) (line : �
           first = under.first;
           order = omega arith;
           last = short;
-          goes_on = λ u after before ends. elim (cases_lt t u) [ inl late ↦ none u (omega arith) before ends | inr early ↦ under.open_still u after early ends ];
+          goes_on = λ u after before ends. elim (cases_lt t u) [
+            | inl late ↦ none u (omega arith) before ends
+            | inr early ↦ under.open_still u after early ends
+          ];
         })
         (omega arith) call out
 
@@ -167,8 +190,8 @@ module _ {V P M : Type 0} (a : Algorithm V P M) (lines : Lines V P M) (line : �
         absurd (let e2 : Update w.word w.value ≡ Scan = sym (ap op_of mode) ∙ op in cc)
 
     -- after an update that is done, and up to the end of a scan that it called next, it writes nothing
-    quiet : (done c e : ℕ) → ((u : ℕ) → done < u → u < c → IsDone r i u → ⊥) → PendingScan r i None c e → (t : ℕ) → done ≤ t → t < e →
-        executes r i line (suc t) ≡ false
+    quiet : (done c e : ℕ) → ((u : ℕ) → done < u → u < c → IsDone r i u → ⊥) → PendingScan r i None c e → (t : ℕ) →
+        done ≤ t → t < e → executes r i line (suc t) ≡ false
     quiet done zero e none scan t lo hi = absurd (let pos : 0 < 0 = scan.first in omega arith)
     quiet done (suc c) e none scan t lo hi =
         let last : e ≤ length items = scan.last in
@@ -179,7 +202,8 @@ module _ {V P M : Type 0} (a : Algorithm V P M) (lines : Lines V P M) (line : �
               let w = writing t (omega arith) is in
               absurd (elim (cases_lt c t) [
                 | inl late ↦ in_scan (suc c) e t scan (omega arith) hi w
-                | inr early ↦ before_call done c t Scan none lo (omega arith) (omega arith) scan.starts.0 scan.starts.1 w
+                | inr early ↦
+                    before_call done c t Scan none lo (omega arith) (omega arith) scan.starts.0 scan.starts.1 w
               ])
         ]) refl
 
@@ -195,15 +219,19 @@ module _ {V P M : Type 0} (a : Algorithm V P M) (lines : Lines V P M) (line : �
     wrote : (word value c e : ℕ) → PendingUpdate r i word value c e → c < e → IsDone r i e → Wrote word value c e
     wrote word value c e up lt done =
         let last : e ≤ length items = up.last in
-        let two = writes.once_in_update a lines line writer run updates once numbered its (fits_of r run.fits) i word value c e up in
+        let two =
+        writes.once_in_update a lines line writer run updates once numbered its
+        (fits_of r run.fits) i word value c e up in
         let one_write : count (executes r i line) c e ≡ 1 = two.1 lt done in
         let l : LastOf (executes r i line) c e = last_of (executes r i line) c e (omega arith) in
         let v = l.item in
         let before : v < e = l.before in
         let short : v < length items = omega arith in
-        let there = executing.stands_at a items run.fits run.does numbered v i line writer.counter short one its l.passes in
+        let there =
+        executing.stands_at a items run.fits run.does numbered v i line writer.counter short one its l.passes in
         let w = writes.written a lines line writer run updates v i there.1.0 short there.0 there.1.1 in
-        let g = called.going a line once.writes_is items run.fits run.does i one (writes_once.silent a lines line once run i one) word value c e v up l.after before in
+        let g = called.going a line once.writes_is items run.fits run.does i one
+        (writes_once.silent a lines line once run i one) word value c e v up l.after before in
         let same : At g.mode g.counter ≡ At (Updating w.word w.value) writer.counter = sym g.control ∙ w.control in
         let mode : g.mode ≡ Updating w.word w.value = cc in
         let op : Update w.word w.value ≡ Update word value = sym (ap op_of mode) ∙ g.op in
@@ -218,12 +246,14 @@ module _ {V P M : Type 0} (a : Algorithm V P M) (lines : Lines V P M) (line : �
           before = before;
           is_own = sym its_word ∙ owned;
           datum = ap (λ ws. (word_at ws i).datum) w.words_are
-              ∙ ap (λ (x : Word). x.datum) (get_or-set_at (words v) (w.word - 1) (i - 1) new no_word (ap (λ y. y - 1) (sym owned)) (omega arith))
+              ∙ ap (λ (x : Word). x.datum)
+              (get_or-set_at (words v) (w.word - 1) (i - 1) new no_word (ap (λ y. y - 1) (sym owned)) (omega arith))
               ∙ writer.datum_is i w.word w.value (typed_state a items v).memory (at v i).variables ∙ its_value;
           none_since = l.no_later;
         }
 
-    shown : (word value u : ℕ) → u ≤ length items → word ≡ i → (word_at (words u) i).datum ≡ value → slice_index (values (state r u)) (word - 1) ≡ value
+    shown : (word value u : ℕ) → u ≤ length items → word ≡ i → (word_at (words u) i).datum ≡ value →
+        slice_index (values (state r u)) (word - 1) ≡ value
     shown word value u short same datum =
         let size : length (words u) ≡ a.shape.n = sizes u short in
         ap (λ vs. slice_index vs (word - 1)) (writes.values_is a lines line writer run u short)

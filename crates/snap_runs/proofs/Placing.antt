@@ -1,4 +1,5 @@
--- Each operation of a linearization by points has its place: the item of its spot.
+-- Each operation of a linearization by points has an item at which
+-- it takes place: an update its write, and a scan its point.
 use Rattle.std.specs.Prelude.{◌≡◌, ℕ, suc, ◌≤◌, ◌⊎◌, List, [], ◌∷◌, length, Option, Some, None, slice_index_or, refl}
 use Rattle.std.specs.List.{AllByRecursion, AllPairs, AllZip, Contains}
 use Rattle.std.specs.List.Sorted.{IsNonDecreasing}
@@ -19,7 +20,8 @@ use Rattle.snap_runs.proofs.Order.{Pairs, sooner_item_le}
 pub non_decreasing : (xs : List ℕ) → AllPairs (λ x y. x ≤ y) xs → IsNonDecreasing xs
 non_decreasing xs h i j d le short =
     elim (eq-or-lt_of_le le) [
-      | inl same ↦ (let e : slice_index_or xs i d ≡ slice_index_or xs j d = ap (λ k. slice_index_or xs k d) same in omega arith)
+      | inl same ↦
+          (let e : slice_index_or xs i d ≡ slice_index_or xs j d = ap (λ k. slice_index_or xs k d) same in omega arith)
       | inr less ↦ h i j d less short
     ]
 
@@ -53,7 +55,8 @@ module _ (line : ℕ) (r : Run) (fits : IsValidRun r) (points : HasLinearization
   seen_at i c t s end view took spot = decided (linear.answer_at line r fits points s) refl
     where
       decided : (d : AnswerAt s ⊎ NoAnswer s) → linear.answer_at line r fits points s ≡ d → values (state r t) ≡ view
-      decided (inr never) is = absurd (never i c view (linear.finished_of line r fits points i c s end view took spot.1))
+      decided (inr never) is =
+          absurd (never i c view (linear.finished_of line r fits points i c s end view took spot.1))
       decided (inl a) is =
           let its = linear.finished_of line r fits points i c s end view took spot.1 in
           let same = operations.same_scan r fits i a.process c a.call s view a.view its a.finished in
@@ -99,7 +102,8 @@ module _ (line : ℕ) (r : Run) (fits : IsValidRun r) (points : HasLinearization
   none_sooner a p [] h follows = tt
   none_sooner a p (o ∷ os) h follows = (no_sooner a o p h.0 follows.0, none_sooner a p os h.1 follows.1)
 
-  rising : (os : List Operation) (h : AllByRecursion Stands os) → Pairs Follows os → AllPairs (λ u v. u ≤ v) (places os h)
+  rising : (os : List Operation) (h : AllByRecursion Stands os) → Pairs Follows os →
+      AllPairs (λ u v. u ≤ v) (places os h)
   unfolding places
   rising [] h pairs = λ i j d lt short. absurd (omega arith)
   rising (o ∷ os) h pairs =

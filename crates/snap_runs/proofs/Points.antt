@@ -1,4 +1,5 @@
--- Every finished scan has a point, where what a line returns was the values at some state since the scan's start.
+-- Every finished scan of any algorithm has a point, where the view that
+-- a line returns was the values at some state since the scan's start.
 use Rattle.std.specs.Prelude.{◌≡◌, ℕ, zero, suc, ◌<◌, ◌≤◌, List, length}
 use Rattle.std.proofs.Common.{◌∙◌, subst, arith}
 use Rattle.snap_words.specs.Shape.{IsOneOf}
@@ -13,7 +14,8 @@ use Rattle.snap_runs.proofs.Held.{Held}
 use Rattle.snap_runs.proofs.Scans as scans
 use Rattle.snap_runs.proofs.WordWrites as writes
 
-module _ {V P M : Type 0} (a : Algorithm V P M) (lines : Lines V P M) (line : ℕ) (writer : writes.Writer a lines line) (listed : scans.Listed a lines)
+module _ {V P M : Type 0} (a : Algorithm V P M) (lines : Lines V P M) (line : ℕ) (writer : writes.Writer a lines line)
+    (listed : scans.Listed a lines)
     (run : scans.Execution a lines) where
   abbrev items : List Item
   items = run.items
@@ -25,12 +27,14 @@ module _ {V P M : Type 0} (a : Algorithm V P M) (lines : Lines V P M) (line : �
   at t i = typed_at a (typed_state a items t) i
 
   -- what was held was the values
-  point_of : (c e t : ℕ) (v : List ℕ) → t ≤ length items → t ≤ e → Held (writes.words_at a lines line writer run) t c v → HasPoint r c e v
+  point_of : (c e t : ℕ) (v : List ℕ) → t ≤ length items → t ≤ e →
+      Held (writes.words_at a lines line writer run) t c v → HasPoint r c e v
   point_of c e t v le more h =
       let u : h.0 ≤ t = h.2 in
       (h.0, h.1, omega arith, writes.values_is a lines line writer run h.0 (omega arith) ∙ h.3)
 
-  module _ (held : (t i : ℕ) (d : Mode) (k : P) → t ≤ length items → IsOneOf a.shape.n i → (at t i).control ≡ At d k → lines.IsReturn k →
+  module _ (held : (t i : ℕ) (d : Mode) (k : P) → t ≤ length items → IsOneOf a.shape.n i →
+      (at t i).control ≡ At d k → lines.IsReturn k →
       Held (writes.words_at a lines line writer run) t (at t i).auxiliary.since (lines.answer (at t i).variables)) where
     pub have_points : HavePoints r
     have_points fits i link c zero view h = absurd (let lt : c < 0 = h.order in omega arith)
@@ -42,4 +46,5 @@ module _ {V P M : Type 0} (a : Algorithm V P M) (lines : Lines V P M) (line : �
         let returned = held t i g.mode g.counter (omega arith) one g.control ending.at_return in
         point_of c (suc t) t view (omega arith) (omega arith)
         (subst (Held (writes.words_at a lines line writer run) t c) ending.answers
-        (subst (λ s. Held (writes.words_at a lines line writer run) t s (lines.answer (at t i).variables)) g.since returned))
+        (subst (λ s. Held (writes.words_at a lines line writer run) t s (lines.answer (at t i).variables))
+        g.since returned))

@@ -1,5 +1,7 @@
--- What a run is up to an item it is in every longer run; and so the updates that it has written come first there.
-use Rattle.std.specs.Prelude.{◌≡◌, ℕ, zero, suc, ◌<◌, ◌≤◌, ◌⊎◌, ◌&&◌, List, [], ◌∷◌, ◌++◌, length, Option, Some, None, refl}
+-- Write strong linearizability by points: a run is, up to an item, what it is
+-- in every longer run, and so the updates that it has written come first there.
+use Rattle.std.specs.Prelude.{◌≡◌, ℕ, zero, suc, ◌<◌, ◌≤◌, ◌⊎◌, ◌&&◌, List, [], ◌∷◌}
+use Rattle.std.specs.Prelude.{◌++◌, length, Option, Some, None, refl}
 use Rattle.std.specs.List.{AllByRecursion}
 use Rattle.std.proofs.Common.{sym, ◌∙◌, ap, subst, arith, inl, inr}
 use Rattle.std.proofs.lemmas.Bool.{cases_lt}
@@ -17,7 +19,8 @@ use Rattle.snap_runs.specs.Update.{is_at, executes, IsDone, PendingUpdate}
 use Rattle.snap_runs.specs.Operation.{Operation}
 use Rattle.snap_runs.specs.Linearization.{IsLinearization}
 use Rattle.snap_runs.specs.LinearizationPoints.{HasLinearizationPoints}
-use Rattle.snap_runs.specs.WriteStrong.{UpdateCall, updates, IsPrefix, IsWriteStrongChoice, WriteStronglyLinearizableByPoints, IsShorter}
+use Rattle.snap_runs.specs.WriteStrong.{UpdateCall, updates, IsPrefix, IsWriteStrongChoice}
+use Rattle.snap_runs.specs.WriteStrong.{WriteStronglyLinearizableByPoints, IsShorter}
 use Rattle.snap_runs.proofs.Linear as linear
 use Rattle.snap_runs.proofs.Written.{AddsAt, WrittenUpTo, same_written, earlier}
 
@@ -64,7 +67,8 @@ all_before P [] more h = tt
 all_before P (x ∷ items) more h = (h.0, all_before P items more h.1)
 
 module _ (source : Source) (shape : Counts) where
-  fits_before : (items more : List Item) → IsValidRun (run_of_items source shape (items ++ more)) → IsValidRun (run_of_items source shape items)
+  fits_before : (items more : List Item) → IsValidRun (run_of_items source shape (items ++ more)) →
+      IsValidRun (run_of_items source shape items)
   fits_before items more h = record {
     all = all_before (λ x. IsOneOf shape.n (who x)) items more h.all;
   }
@@ -163,7 +167,8 @@ module _ (source : Source) (shape : Counts) where
         ]
 
     module _ (line : ℕ)
-        (points : (items : List Item) → IsShorter most items → HasLinearizationPoints line (run_of_items source shape items)) where
+        (points : (items : List Item) → IsShorter most items →
+        HasLinearizationPoints line (run_of_items source shape items)) where
       -- the operations of a run by their points, with what holds of them
       abbrev Ordered : (items : List Item) → Covers items → List Operation → Type 0
       Ordered items c os =
@@ -173,7 +178,8 @@ module _ (source : Source) (shape : Counts) where
 
       ordered : (items : List Item) (c : Covers items) → (os : List Operation) × Ordered items c os
       ordered items c =
-          let x = linear.ordered line (run_of_items source shape items) c.1 (points items c.0) (length items) (omega arith) in
+          let x =
+          linear.ordered line (run_of_items source shape items) c.1 (points items c.0) (length items) (omega arith) in
           (x.0, (x.1, x.2))
 
       -- the choice: of any other run, none
@@ -192,10 +198,12 @@ module _ (source : Source) (shape : Counts) where
           let x = ordered items c in
           linear.is_linearization line (run_of_items source shape items) c.1 (points items c.0) x.0 x.1.0
 
-      keeps_updates : (items more : List Item) → Covers (items ++ more) → (d : Decided items) (e : Decided (items ++ more)) →
+      keeps_updates : (items more : List Item) → Covers (items ++ more) →
+          (d : Decided items) (e : Decided (items ++ more)) →
           IsPrefix (updates (chosen items d)) (updates (chosen (items ++ more) e))
       unfolding chosen
-      keeps_updates items more h (inr not) e = absurd (not (shorter_before most items more h.0, fits_before items more h.1))
+      keeps_updates items more h (inr not) e =
+          absurd (not (shorter_before most items more h.0, fits_before items more h.1))
       keeps_updates items more h (inl c) (inr not) = absurd (not h)
       keeps_updates items more h (inl c) (inl later) =
           let x = ordered items c in
@@ -206,7 +214,9 @@ module _ (source : Source) (shape : Counts) where
       unfolding choose
       write_strong = record {
         linearizes = λ items enough fits. linearizes items (enough, fits) (decision items);
-        keeps_updates = λ items more enough fits. keeps_updates items more (enough, fits) (decision items) (decision (items ++ more));
+        keeps_updates =
+            λ items more enough fits.
+            keeps_updates items more (enough, fits) (decision items) (decision (items ++ more));
       }
 
 pub write_strongly_linearizable_by_points : WriteStronglyLinearizableByPoints

@@ -1,5 +1,7 @@
--- From the start of a scan to its end: what the proof remembers of a process is what its items say.
-use Rattle.std.specs.Prelude.{◌≡◌, ◌≢◌, ℕ, zero, suc, ◌+◌, ◌<◌, ◌≤◌, ◌⊎◌, Bool, true, false, ◌&&◌, List, length, Option, Some, None, if◌then◌else◌, refl}
+-- From the start of a scan to its end: what the proof remembers of its
+-- process, its own steps and its double collects, is what the run's items say.
+use Rattle.std.specs.Prelude.{◌≡◌, ◌≢◌, ℕ, zero, suc, ◌+◌, ◌<◌, ◌≤◌, ◌⊎◌, Bool, true, false, ◌&&◌, List, length}
+use Rattle.std.specs.Prelude.{Option, Some, None, if◌then◌else◌, refl}
 use Rattle.std.proofs.Common.{sym, ◌∙◌, ap, subst, arith, inl, inr}
 use Rattle.std.proofs.lemmas.Bool.{cases_eq}
 use Rattle.std.proofs.Math.Nat.{eq-or-lt_of_le}
@@ -14,8 +16,14 @@ use Rattle.snap_semantics.specs.State.{process_at}
 use Rattle.snap_semantics.specs.Table.{who}
 use Rattle.snap_words.specs.Shape.{IsOneOf}
 use Rattle.snap_runs.specs.Run.{Run, state, before, item, outcome}
-use Rattle.snap_runs.specs.Scan.{line_in, link_in, IsCallLine, ReturnsView, Starts, PendingScan, steps, is_if_all, is_stepped, is_not_skipped, ends_double_collect, takes_step, double_collects, own_steps}
-use Rattle.snap_runs.proofs.Algorithm.{Mode, Scanning, Embedded, Updating, op_of, link_of, mode_of, op_is, link_is, Control, Idle, At, Move, To, Begin, Answer, Finish, embedding, TypedProcess, TypedState, Algorithm, by_move, by_step, by_call, typed_at, by_item, changed, outcome_of, happens, item_at, typed_state, status_of, process_of, stepped_auxiliary, begun_auxiliary, called_auxiliary}
+use Rattle.snap_runs.specs.Scan.{line_in, link_in, IsCallLine, ReturnsView, Starts, PendingScan, steps, is_if_all}
+use Rattle.snap_runs.specs.Scan.{is_stepped, is_not_skipped, ends_double_collect}
+use Rattle.snap_runs.specs.Scan.{takes_step, double_collects, own_steps}
+use Rattle.snap_runs.proofs.Algorithm.{Mode, Scanning, Embedded, Updating, op_of, link_of, mode_of, op_is, link_is}
+use Rattle.snap_runs.proofs.Algorithm.{Control, Idle, At, Move, To, Begin, Answer, Finish, embedding, TypedProcess}
+use Rattle.snap_runs.proofs.Algorithm.{TypedState, Algorithm, by_move, by_step, by_call, typed_at, by_item, changed}
+use Rattle.snap_runs.proofs.Algorithm.{outcome_of, happens, item_at, typed_state, status_of, process_of}
+use Rattle.snap_runs.proofs.Algorithm.{stepped_auxiliary, begun_auxiliary, called_auxiliary}
 use Rattle.snap_runs.proofs.Counting.{count_none, count_next, count_not}
 use Rattle.snap_runs.proofs.Computing.{same_number, other_number}
 use Rattle.snap_runs.proofs.Embedding as embed
@@ -74,7 +82,8 @@ module _ {V P M : Type 0} (a : Algorithm V P M) where
 
   module _ (tests_is : (k : P) → (if is_if_all (instr_at a.source.lines (a.number k)) then 1 else 0) ≡ a.tests k)
       (items : List Item) (fits : Steady (embed.run_of a items)) (does : embed.AllDo a items)
-      (lawful : (t i : ℕ) → t < length items → IsOneOf a.shape.n i → LawfulAt i (typed_state a items t).memory (typed_at a (typed_state a items t) i).variables (typed_at a (typed_state a items t) i).control)
+      (lawful : (t i : ℕ) → t < length items → IsOneOf a.shape.n i → LawfulAt i (typed_state a items t).memory
+      (typed_at a (typed_state a items t) i).variables (typed_at a (typed_state a items t) i).control)
       (i : ℕ) (one : IsOneOf a.shape.n i) where
     abbrev pub r : Run
     r = embed.run_of a items
@@ -104,19 +113,23 @@ module _ {V P M : Type 0} (a : Algorithm V P M) where
       pub tested : (his t).auxiliary.tested ≡ double_collects r i (his t).auxiliary.round t
 
     -- the counts after an item that is no step of the process
-    collects_same : (c t : ℕ) → c ≤ t → steps i (item_at items t) ≡ false → double_collects r i c (suc t) ≡ double_collects r i c t
+    collects_same : (c t : ℕ) → c ≤ t → steps i (item_at items t) ≡ false →
+        double_collects r i c (suc t) ≡ double_collects r i c t
     collects_same c t le none =
         count_not (ends_double_collect r i) c t le
-        (ap (λ b. b && (is_if_all (line_in r.source (process_at (before r (suc t)) i).status) && is_stepped (outcome r (suc t)))) none)
+        (ap (λ b. b
+        && (is_if_all (line_in r.source (process_at (before r (suc t)) i).status) && is_stepped (outcome r (suc t))))
+        none)
 
     own_same : (c t : ℕ) → c ≤ t → steps i (item_at items t) ≡ false → own_steps r i c (suc t) ≡ own_steps r i c t
     own_same c t le none = count_not (takes_step r i) c t le (ap (λ b. b && is_not_skipped (outcome r (suc t))) none)
 
     -- another process's item, and what changes nothing
-    same_goes : (link : Option ℕ) (c t : ℕ) → c ≤ t → his (suc t) ≡ his t → ((who (item_at items t) ≡ i → ⊥) ⊎ (steps i (item_at items t) ≡ false)) →
-        Goes link c t → Goes link c (suc t)
+    same_goes : (link : Option ℕ) (c t : ℕ) → c ≤ t → his (suc t) ≡ his t →
+        ((who (item_at items t) ≡ i → ⊥) ⊎ (steps i (item_at items t) ≡ false)) → Goes link c t → Goes link c (suc t)
     same_goes link c t le same why g =
-        let none : steps i (item_at items t) ≡ false = elim why [ inl other ↦ not_his i (item_at items t) other | inr unstepped ↦ unstepped ] in
+        let none : steps i (item_at items t) ≡ false =
+        elim why [ inl other ↦ not_his i (item_at items t) other | inr unstepped ↦ unstepped ] in
         record {
           mode = g.mode;
           counter = g.counter;
@@ -125,10 +138,15 @@ module _ {V P M : Type 0} (a : Algorithm V P M) where
           since = ap (λ (q : TypedProcess V P M). q.auxiliary.since) same ∙ g.since;
           own = ap (λ (q : TypedProcess V P M). q.auxiliary.own) same ∙ g.own
               ∙ sym (own_same c t le none);
-          collects = ap (λ (q : TypedProcess V P M). q.auxiliary.collects) same ∙ g.collects ∙ sym (collects_same c t le none);
+          collects =
+              ap (λ (q : TypedProcess V P M). q.auxiliary.collects) same ∙ g.collects ∙ sym (collects_same c t le none);
           round_after = subst (λ (q : TypedProcess V P M). c ≤ q.auxiliary.round) (sym same) g.round_after;
-          round_before = subst (λ (q : TypedProcess V P M). q.auxiliary.round ≤ suc t) (sym same) (let le2 : (his t).auxiliary.round ≤ t = g.round_before in omega arith);
-          tested = subst (λ (q : TypedProcess V P M). q.auxiliary.tested ≡ double_collects r i q.auxiliary.round (suc t)) (sym same)
+          round_before =
+              subst (λ (q : TypedProcess V P M). q.auxiliary.round ≤ suc t) (sym same)
+              (let le2 : (his t).auxiliary.round ≤ t = g.round_before in omega arith);
+          tested =
+              subst (λ (q : TypedProcess V P M). q.auxiliary.tested ≡ double_collects r i q.auxiliary.round (suc t))
+              (sym same)
               (g.tested ∙ sym (collects_same (his t).auxiliary.round t g.round_before none));
         }
 
@@ -141,31 +159,38 @@ module _ {V P M : Type 0} (a : Algorithm V P M) where
     and_true false = refl
 
     is_busy_at : (t : ℕ) → t ≤ length items → (d : Mode) (k : P) → (his t).control ≡ At d k →
-        process_at (state r t) i ≡ process_of a (record { control = At d k; variables = (his t).variables; auxiliary = (his t).auxiliary })
+        process_at (state r t) i
+        ≡ process_of a (record { control = At d k; variables = (his t).variables; auxiliary = (his t).auxiliary })
     is_busy_at t le d k e =
         embed.process_at_is a items fits does t i le one
-        ∙ ap (λ (p : Control P). process_of a (record { control = p; variables = (his t).variables; auxiliary = (his t).auxiliary })) e
+        ∙ ap (λ (p : Control P).
+        process_of a (record { control = p; variables = (his t).variables; auxiliary = (his t).auxiliary })) e
 
     -- the counts after a step of the process
-    collects_next : (c t : ℕ) (d : Mode) (k : P) → c ≤ t → t ≤ length items → steps i (item_at items t) ≡ true → outcome r (suc t) ≡ Stepped →
-        (his t).control ≡ At d k →
+    collects_next : (c t : ℕ) (d : Mode) (k : P) → c ≤ t → t ≤ length items →
+        steps i (item_at items t) ≡ true → outcome r (suc t) ≡ Stepped → (his t).control ≡ At d k →
         double_collects r i c (suc t) ≡ double_collects r i c t + a.tests k
     collects_next c t d k le short steps_is out_is at =
         let line : line_in r.source (process_at (before r (suc t)) i).status ≡ instr_at a.source.lines (a.number k) =
         ap (λ (y : Process). line_in r.source y.status) (is_busy_at t short d k at) in
         let old = double_collects r i c t in
         count_next (ends_double_collect r i) c t le
-        ∙ ap (λ b. if b && (is_if_all (line_in r.source (process_at (before r (suc t)) i).status) && is_stepped (outcome r (suc t))) then suc old else old) steps_is
-        ∙ ap (λ (o : Outcome). if is_if_all (line_in r.source (process_at (before r (suc t)) i).status) && is_stepped o then suc old else old) out_is
-        ∙ ap (λ b. if b then suc old else old) (and_true (is_if_all (line_in r.source (process_at (before r (suc t)) i).status)))
+        ∙ ap (λ b. if b && (is_if_all (line_in r.source (process_at (before r (suc t)) i).status)
+        && is_stepped (outcome r (suc t))) then suc old else old) steps_is
+        ∙ ap (λ (o : Outcome). if is_if_all (line_in r.source (process_at (before r (suc t)) i).status)
+        && is_stepped o then suc old else old) out_is
+        ∙ ap (λ b. if b then suc old else old)
+        (and_true (is_if_all (line_in r.source (process_at (before r (suc t)) i).status)))
         ∙ ap (λ o. if is_if_all o then suc old else old) line
         ∙ add_one (is_if_all (instr_at a.source.lines (a.number k))) old
         ∙ ap (λ y. old + y) (tests_is k)
 
-    own_next : (c t : ℕ) → c ≤ t → steps i (item_at items t) ≡ true → outcome r (suc t) ≡ Stepped → own_steps r i c (suc t) ≡ suc (own_steps r i c t)
+    own_next : (c t : ℕ) → c ≤ t → steps i (item_at items t) ≡ true → outcome r (suc t) ≡ Stepped →
+        own_steps r i c (suc t) ≡ suc (own_steps r i c t)
     own_next c t le steps_is out_is =
         count_next (takes_step r i) c t le
-        ∙ ap (λ b. if b && is_not_skipped (outcome r (suc t)) then suc (own_steps r i c t) else own_steps r i c t) steps_is
+        ∙ ap
+        (λ b. if b && is_not_skipped (outcome r (suc t)) then suc (own_steps r i c t) else own_steps r i c t) steps_is
         ∙ ap (λ (o : Outcome). if is_not_skipped o then suc (own_steps r i c t) else own_steps r i c t) out_is
 
     -- the last double collect goes on, or another one starts
@@ -183,30 +208,38 @@ module _ {V P M : Type 0} (a : Algorithm V P M) where
     tested_next false round t tested h = h
 
     -- a step of the process that stays in the scan
-    step_goes : (link : Option ℕ) (c e t : ℕ) (v : Move V P M) (d : Mode) (k : P) → PendingScan r i link c e → c ≤ t → suc t < e → item_at items t ≡ Step i →
-        (his t).control ≡ At d k → Inside link d → a.move i d (memory t) (his t).variables k ≡ v → Stays link k (his t).variables v → Goes link c t →
-        Goes link c (suc t)
+    step_goes : (link : Option ℕ) (c e t : ℕ) (v : Move V P M) (d : Mode) (k : P) →
+        PendingScan r i link c e → c ≤ t → suc t < e → item_at items t ≡ Step i →
+        (his t).control ≡ At d k → Inside link d → a.move i d (memory t) (his t).variables k ≡ v →
+        Stays link k (his t).variables v → Goes link c t → Goes link c (suc t)
     step_goes link c e t v d k scan le lt is at inside is_v stays g =
         let x = typed_state a items t in
         let short : t < length items = (let last : e ≤ length items = scan.last in omega arith) in
         let item_is_change : by_item a (suc t) x (item_at items t) ≡ by_move a (suc t) x.memory (his t) k v =
-        ap (by_item a (suc t) x) is ∙ ap (by_step a (suc t) x.memory i (his t)) at ∙ ap (by_move a (suc t) x.memory (his t) k) is_v in
+        ap (by_item a (suc t) x) is ∙ ap (by_step a (suc t) x.memory i (his t)) at
+        ∙ ap (by_move a (suc t) x.memory (his t) k) is_v in
         let state_becomes : typed_state a items (suc t) ≡ changed x i (by_move a (suc t) x.memory (his t) k v) =
-        ap (λ (y : Item). changed x (who y) (by_item a (suc t) x (item_at items t))) is ∙ ap (changed x i) item_is_change in
+        ap (λ (y : Item). changed x (who y) (by_item a (suc t) x (item_at items t))) is
+        ∙ ap (changed x i) item_is_change in
         let out_is : outcome r (suc t) ≡ outcome_of (by_move a (suc t) x.memory (his t) k v) =
         embed.outcome_is a items fits does t short ∙ ap outcome_of item_is_change in
         let steps_is : steps i (item_at items t) ≡ true = ap (steps i) is ∙ same_number i in
         stepped_goes link c e t d k scan le lt short is at g v state_becomes out_is steps_is stays
       where
-        stepped_goes : (link : Option ℕ) (c e t : ℕ) (d : Mode) (k : P) → PendingScan r i link c e → c ≤ t → suc t < e → t < length items →
-            item_at items t ≡ Step i →
+        stepped_goes : (link : Option ℕ) (c e t : ℕ) (d : Mode) (k : P) → PendingScan r i link c e →
+            c ≤ t → suc t < e → t < length items → item_at items t ≡ Step i →
             (his t).control ≡ At d k → Goes link c t → (v : Move V P M) →
             typed_state a items (suc t) ≡ changed (typed_state a items t) i (by_move a (suc t) (memory t) (his t) k v) →
-            outcome r (suc t) ≡ outcome_of (by_move a (suc t) (memory t) (his t) k v) → steps i (item_at items t) ≡ true →
-            Stays link k (his t).variables v → Goes link c (suc t)
-        stepped_goes link c e t d k scan le lt short is at g (To d' m' p' k') state_becomes out_is steps_is (inl inside) =
+            outcome r (suc t) ≡ outcome_of (by_move a (suc t) (memory t) (his t) k v) →
+            steps i (item_at items t) ≡ true → Stays link k (his t).variables v → Goes link c (suc t)
+        stepped_goes link c e t d k scan le lt short is at g (To d' m' p' k') state_becomes
+            out_is steps_is (inl inside) =
             let q' : TypedProcess V P M =
-            record { control = At d' k'; variables = p'; auxiliary = stepped_auxiliary a k (suc t) (his t).auxiliary } in
+            record {
+              control = At d' k';
+              variables = p';
+              auxiliary = stepped_auxiliary a k (suc t) (his t).auxiliary;
+            } in
             let new : his (suc t) ≡ q' = embed.process_next a items t i m' q' Stepped one state_becomes in
             record {
               mode = d';
@@ -214,17 +247,28 @@ module _ {V P M : Type 0} (a : Algorithm V P M) where
               control = ap (λ (q : TypedProcess V P M). q.control) new;
               inside = inside;
               since = ap (λ (q : TypedProcess V P M). q.auxiliary.since) new ∙ g.since;
-              own = ap (λ (q : TypedProcess V P M). q.auxiliary.own) new ∙ ap suc g.own ∙ sym (own_next c t le steps_is out_is);
+              own =
+                  ap (λ (q : TypedProcess V P M). q.auxiliary.own) new ∙ ap suc g.own
+                  ∙ sym (own_next c t le steps_is out_is);
               collects = ap (λ (q : TypedProcess V P M). q.auxiliary.collects) new ∙ ap (λ y. y + a.tests k) g.collects
                   ∙ sym (collects_next c t d k le (omega arith) steps_is out_is at);
-              round_after = subst (λ (q : TypedProcess V P M). c ≤ q.auxiliary.round) (sym new) (round_from (a.restarts k) c (his t).auxiliary.round t g.round_after le);
-              round_before = subst (λ (q : TypedProcess V P M). q.auxiliary.round ≤ suc t) (sym new) (round_to (a.restarts k) (his t).auxiliary.round t g.round_before);
-              tested = subst (λ (q : TypedProcess V P M). q.auxiliary.tested ≡ double_collects r i q.auxiliary.round (suc t)) (sym new)
+              round_after =
+                  subst (λ (q : TypedProcess V P M). c ≤ q.auxiliary.round) (sym new)
+                  (round_from (a.restarts k) c (his t).auxiliary.round t g.round_after le);
+              round_before =
+                  subst (λ (q : TypedProcess V P M). q.auxiliary.round ≤ suc t) (sym new)
+                  (round_to (a.restarts k) (his t).auxiliary.round t g.round_before);
+              tested =
+                  subst (λ (q : TypedProcess V P M). q.auxiliary.tested ≡ double_collects r i q.auxiliary.round (suc t))
+                  (sym new)
                   (tested_next (a.restarts k) (his t).auxiliary.round t ((his t).auxiliary.tested + a.tests k)
-                  (ap (λ y. y + a.tests k) g.tested ∙ sym (collects_next (his t).auxiliary.round t d k g.round_before (omega arith) steps_is out_is at)));
+                  (ap (λ y. y + a.tests k) g.tested
+                  ∙ sym (collects_next (his t).auxiliary.round t d k g.round_before (omega arith) steps_is out_is at)));
             }
-        stepped_goes None c e t d k scan le lt short is at g (To d' m' p' k') state_becomes out_is steps_is (inr h) = absurd h
-        stepped_goes (Some l) c e t d k scan le lt short is at g (To d' m' p' k') state_becomes out_is steps_is (inr h) =
+        stepped_goes None c e t d k scan le lt short is at g (To d' m' p' k') state_becomes out_is steps_is (inr h) =
+            absurd h
+        stepped_goes (Some l) c e t d k scan le lt short is at g (To d' m' p' k')
+            state_becomes out_is steps_is (inr h) =
             let busy = is_busy_at t (omega arith) d k at in
             let inside : link_of a.back g.mode ≡ Some l = g.inside in
             absurd (scan.goes_on (suc t) h.0 (omega arith) lt (
@@ -239,53 +283,67 @@ module _ {V P M : Type 0} (a : Algorithm V P M) where
         stepped_goes link c e t d k scan le lt short is at g Finish state_becomes out_is steps_is h = absurd h
 
     -- the item of the process in its scan: a step, or a call that is skipped
-    item_goes : (link : Option ℕ) (c e t : ℕ) (y : Item) → PendingScan r i link c e → c ≤ t → suc t < e → item_at items t ≡ y → who y ≡ i → Goes link c t →
-        Goes link c (suc t)
+    item_goes : (link : Option ℕ) (c e t : ℕ) (y : Item) → PendingScan r i link c e → c ≤ t → suc t < e →
+        item_at items t ≡ y → who y ≡ i → Goes link c t → Goes link c (suc t)
     item_goes link c e t (Step k) scan le lt is w g =
         let is2 : item_at items t ≡ Step i = is ∙ ap (λ u. Step u) w in
         let short : t < length items = (let last : e ≤ length items = scan.last in omega arith) in
         let law : Lawful i g.mode (memory t) (his t).variables g.counter =
         subst (LawfulAt i (memory t) (his t).variables) g.control (lawful t i short one) in
-        step_goes link c e t (a.move i g.mode (memory t) (his t).variables g.counter) g.mode g.counter scan le lt is2 g.control g.inside refl (law.stays link g.inside) g
+        step_goes link c e t (a.move i g.mode (memory t) (his t).variables g.counter) g.mode g.counter scan le lt is2
+        g.control g.inside refl (law.stays link g.inside) g
     item_goes link c e t (Call k op) scan le lt is w g =
         let x = typed_state a items t in
         let is2 : item_at items t ≡ Call i op = is ∙ ap (λ u. Call u op) w in
         let state_becomes : typed_state a items (suc t) ≡ x =
-        ap (happens a (suc t) x) is2 ∙ ap (λ (p : Control P). changed x i (by_call a (suc t) x.memory i op (his t) p)) g.control in
+        ap (happens a (suc t) x) is2
+        ∙ ap (λ (p : Control P). changed x i (by_call a (suc t) x.memory i op (his t) p)) g.control in
         same_goes link c t le (ap (λ (y : TypedState V P M). typed_at a y i) state_becomes) (inr (ap (steps i) is2)) g
     item_goes link c e t (Crash k) scan le lt is w g =
         let x = typed_state a items t in
-        same_goes link c t le (ap (λ (y : TypedState V P M). typed_at a y i) (ap (happens a (suc t) x) is)) (inr (ap (steps i) is)) g
+        same_goes link c t le (ap (λ (y : TypedState V P M). typed_at a y i) (ap (happens a (suc t) x) is))
+        (inr (ap (steps i) is)) g
 
-    next_goes : (link : Option ℕ) (c e t : ℕ) → PendingScan r i link c e → c ≤ t → suc t < e → Goes link c t → Goes link c (suc t)
+    next_goes : (link : Option ℕ) (c e t : ℕ) → PendingScan r i link c e → c ≤ t → suc t < e →
+        Goes link c t → Goes link c (suc t)
     next_goes link c e t scan le lt g =
         let short : t < length items = (let last : e ≤ length items = scan.last in omega arith) in
         let his_one : IsOneOf a.shape.n (who (item_at items t)) = embed.one_at a items fits t short in
         elim (cases_eq (who (item_at items t)) i) [
           | inl his_item ↦ item_goes link c e t (item_at items t) scan le lt refl his_item g
           | inr other ↦ same_goes link c t le
-              (embed.other_process a (typed_state a items t) (who (item_at items t)) i (by_item a (suc t) (typed_state a items t) (item_at items t)) his_one.0 one.0 (λ same. other (sym same)))
+              (embed.other_process a (typed_state a items t) (who (item_at items t)) i
+              (by_item a (suc t) (typed_state a items t) (item_at items t)) his_one.0 one.0 (λ same. other (sym same)))
               (inl other) g
         ]
 
     -- the item that starts a top-level scan
-    called_goes : (c : ℕ) → c < length items → item_at items c ≡ Call i Scan → outcome r (suc c) ≡ Called → Goes None (suc c) (suc c)
+    called_goes : (c : ℕ) → c < length items → item_at items c ≡ Call i Scan →
+        outcome r (suc c) ≡ Called → Goes None (suc c) (suc c)
     called_goes c short is out =
         let x = typed_state a items c in
-        let item_is_change : by_item a (suc c) x (item_at items c) ≡ by_call a (suc c) x.memory i Scan (his c) (his c).control = ap (by_item a (suc c) x) is in
-        let state_becomes : typed_state a items (suc c) ≡ changed x i (by_call a (suc c) x.memory i Scan (his c) (his c).control) =
-        ap (λ (y : Item). changed x (who y) (by_item a (suc c) x (item_at items c))) is ∙ ap (changed x i) item_is_change in
+        let item_is_change : by_item a (suc c) x (item_at items c)
+        ≡ by_call a (suc c) x.memory i Scan (his c) (his c).control = ap (by_item a (suc c) x) is in
+        let state_becomes : typed_state a items (suc c)
+        ≡ changed x i (by_call a (suc c) x.memory i Scan (his c) (his c).control) =
+        ap (λ (y : Item). changed x (who y) (by_item a (suc c) x (item_at items c))) is
+        ∙ ap (changed x i) item_is_change in
         let out_is : outcome_of (by_call a (suc c) x.memory i Scan (his c) (his c).control) ≡ Called =
         sym (ap outcome_of item_is_change) ∙ sym (embed.outcome_is a items fits does c short) ∙ out in
         from_control c (his c).control state_becomes out_is
       where
         from_control : (c : ℕ) (control : Control P) →
-            typed_state a items (suc c) ≡ changed (typed_state a items c) i (by_call a (suc c) (memory c) i Scan (his c) control) →
+            typed_state a items (suc c)
+            ≡ changed (typed_state a items c) i (by_call a (suc c) (memory c) i Scan (his c) control) →
             outcome_of (by_call a (suc c) (memory c) i Scan (his c) control) ≡ Called → Goes None (suc c) (suc c)
         from_control c Idle state_becomes out_is =
             let x = typed_state a items c in
             let q' : TypedProcess V P M =
-            record { control = At (mode_of Scan) (a.counter Scan); variables = (his c).variables; auxiliary = called_auxiliary (suc c) Scan (his c).auxiliary } in
+            record {
+              control = At (mode_of Scan) (a.counter Scan);
+              variables = (his c).variables;
+              auxiliary = called_auxiliary (suc c) Scan (his c).auxiliary;
+            } in
             let new : his (suc c) ≡ q' = embed.process_next a items c i x.memory q' Called one state_becomes in
             record {
               mode = mode_of Scan;
@@ -293,32 +351,41 @@ module _ {V P M : Type 0} (a : Algorithm V P M) where
               control = ap (λ (q : TypedProcess V P M). q.control) new;
               inside = (link_is a.back Scan, op_is Scan);
               since = ap (λ (q : TypedProcess V P M). q.auxiliary.since) new;
-              own = ap (λ (q : TypedProcess V P M). q.auxiliary.own) new ∙ sym (count_none (takes_step r i) (suc c) (suc c) (omega arith));
+              own =
+                  ap (λ (q : TypedProcess V P M). q.auxiliary.own) new
+                  ∙ sym (count_none (takes_step r i) (suc c) (suc c) (omega arith));
               collects = ap (λ (q : TypedProcess V P M). q.auxiliary.collects) new
                   ∙ sym (count_none (ends_double_collect r i) (suc c) (suc c) (omega arith));
               round_after = subst (λ (q : TypedProcess V P M). suc c ≤ q.auxiliary.round) (sym new) (omega arith);
               round_before = subst (λ (q : TypedProcess V P M). q.auxiliary.round ≤ suc c) (sym new) (omega arith);
-              tested = subst (λ (q : TypedProcess V P M). q.auxiliary.tested ≡ double_collects r i q.auxiliary.round (suc c)) (sym new)
+              tested =
+                  subst (λ (q : TypedProcess V P M). q.auxiliary.tested ≡ double_collects r i q.auxiliary.round (suc c))
+                  (sym new)
                   (sym (count_none (ends_double_collect r i) (suc c) (suc c) (omega arith)));
             }
         from_control c (At d k) state_becomes out_is = absurd (cc)
 
     -- the item that starts an embedded scan
-    begun_goes : (l c : ℕ) → c < length items → item_at items c ≡ Step i → IsCallLine (line_in r.source (process_at (state r c) i).status) →
-        outcome r (suc c) ≡ Stepped →
+    begun_goes : (l c : ℕ) → c < length items → item_at items c ≡ Step i →
+        IsCallLine (line_in r.source (process_at (state r c) i).status) → outcome r (suc c) ≡ Stepped →
         link_in (process_at (state r (suc c)) i).status ≡ Some l → Goes (Some l) (suc c) (suc c)
     begun_goes l c short is call out link =
         let x = typed_state a items c in
         let law = lawful c i short one in
-        let item_is_change : by_item a (suc c) x (item_at items c) ≡ by_step a (suc c) x.memory i (his c) (his c).control = ap (by_item a (suc c) x) is in
-        let state_becomes : typed_state a items (suc c) ≡ changed x i (by_step a (suc c) x.memory i (his c) (his c).control) =
-        ap (λ (y : Item). changed x (who y) (by_item a (suc c) x (item_at items c))) is ∙ ap (changed x i) item_is_change in
+        let item_is_change : by_item a (suc c) x (item_at items c)
+        ≡ by_step a (suc c) x.memory i (his c) (his c).control = ap (by_item a (suc c) x) is in
+        let state_becomes : typed_state a items (suc c)
+        ≡ changed x i (by_step a (suc c) x.memory i (his c) (his c).control) =
+        ap (λ (y : Item). changed x (who y) (by_item a (suc c) x (item_at items c))) is
+        ∙ ap (changed x i) item_is_change in
         let out_is : outcome_of (by_step a (suc c) x.memory i (his c) (his c).control) ≡ Stepped =
         sym (ap outcome_of item_is_change) ∙ sym (embed.outcome_is a items fits does c short) ∙ out in
         let call_is : IsCallLine (line_in a.source (status_of a (his c).control)) =
-        subst (λ (y : Process). IsCallLine (line_in a.source y.status)) (embed.process_at_is a items fits does c i (omega arith) one) call in
+        subst (λ (y : Process). IsCallLine (line_in a.source y.status))
+        (embed.process_at_is a items fits does c i (omega arith) one) call in
         let link_is : link_in (status_of a (his (suc c)).control) ≡ Some l =
-        sym (ap (λ (y : Process). link_in y.status) (embed.process_at_is a items fits does (suc c) i (omega arith) one)) ∙ link in
+        sym (ap (λ (y : Process). link_in y.status) (embed.process_at_is a items fits does (suc c) i (omega arith) one))
+        ∙ link in
         from_control l c (his c).control state_becomes out_is call_is link_is law
       where
         from_move : (l c : ℕ) (d : Mode) (k : P) (v : Move V P M) → NotTo v →
@@ -328,7 +395,8 @@ module _ {V P M : Type 0} (a : Algorithm V P M) where
         from_move l c d k (To d' m' p' k') not_to state_becomes out_is link_is = absurd not_to
         from_move l c d k (Begin d' p' k') not_to state_becomes out_is link_is =
             let x = typed_state a items c in
-            let q' : TypedProcess V P M = record { control = At d' k'; variables = p'; auxiliary = begun_auxiliary a k (suc c) (his c).auxiliary } in
+            let q' : TypedProcess V P M =
+            record { control = At d' k'; variables = p'; auxiliary = begun_auxiliary a k (suc c) (his c).auxiliary } in
             let new : his (suc c) ≡ q' = embed.process_next a items c i x.memory q' Stepped one state_becomes in
             record {
               mode = d';
@@ -336,21 +404,28 @@ module _ {V P M : Type 0} (a : Algorithm V P M) where
               control = ap (λ (q : TypedProcess V P M). q.control) new;
               inside = sym (ap (λ (q : TypedProcess V P M). link_in (status_of a q.control)) new) ∙ link_is;
               since = ap (λ (q : TypedProcess V P M). q.auxiliary.since) new;
-              own = ap (λ (q : TypedProcess V P M). q.auxiliary.own) new ∙ sym (count_none (takes_step r i) (suc c) (suc c) (omega arith));
+              own =
+                  ap (λ (q : TypedProcess V P M). q.auxiliary.own) new
+                  ∙ sym (count_none (takes_step r i) (suc c) (suc c) (omega arith));
               collects = ap (λ (q : TypedProcess V P M). q.auxiliary.collects) new
                   ∙ sym (count_none (ends_double_collect r i) (suc c) (suc c) (omega arith));
               round_after = subst (λ (q : TypedProcess V P M). suc c ≤ q.auxiliary.round) (sym new) (omega arith);
               round_before = subst (λ (q : TypedProcess V P M). q.auxiliary.round ≤ suc c) (sym new) (omega arith);
-              tested = subst (λ (q : TypedProcess V P M). q.auxiliary.tested ≡ double_collects r i q.auxiliary.round (suc c)) (sym new)
+              tested =
+                  subst (λ (q : TypedProcess V P M). q.auxiliary.tested ≡ double_collects r i q.auxiliary.round (suc c))
+                  (sym new)
                   (sym (count_none (ends_double_collect r i) (suc c) (suc c) (omega arith)));
             }
         from_move l c d k (Answer v) not_to state_becomes out_is link_is = absurd (cc)
         from_move l c d k Finish not_to state_becomes out_is link_is = absurd (cc)
 
         from_control : (l c : ℕ) (control : Control P) →
-            typed_state a items (suc c) ≡ changed (typed_state a items c) i (by_step a (suc c) (memory c) i (his c) control) →
-            outcome_of (by_step a (suc c) (memory c) i (his c) control) ≡ Stepped → IsCallLine (line_in a.source (status_of a control)) →
-            link_in (status_of a (his (suc c)).control) ≡ Some l → LawfulAt i (memory c) (his c).variables control → Goes (Some l) (suc c) (suc c)
+            typed_state a items (suc c)
+            ≡ changed (typed_state a items c) i (by_step a (suc c) (memory c) i (his c) control) →
+            outcome_of (by_step a (suc c) (memory c) i (his c) control) ≡ Stepped →
+            IsCallLine (line_in a.source (status_of a control)) →
+            link_in (status_of a (his (suc c)).control) ≡ Some l →
+            LawfulAt i (memory c) (his c).variables control → Goes (Some l) (suc c) (suc c)
         from_control l c Idle state_becomes out_is call link law = absurd call
         from_control l c (At d k) state_becomes out_is call link law =
             from_move l c d k (a.move i d (memory c) (his c).variables k) (law.calls call) state_becomes out_is link
@@ -400,8 +475,12 @@ module _ {V P M : Type 0} (a : Algorithm V P M) where
         double_collects r i c (suc t) ≤ double_collects r i c t + a.tests k
     last_collects c t d k le short at =
         let status = line_in r.source (process_at (before r (suc t)) i).status in
-        let line : status ≡ instr_at a.source.lines (a.number k) = ap (λ (y : Process). line_in r.source y.status) (is_busy_at t short d k at) in
-        let tested : (if is_if_all status then 1 else 0) ≡ a.tests k = ap (λ o. if is_if_all o then 1 else 0) line ∙ tests_is k in
+        let line : status ≡ instr_at a.source.lines (a.number k) =
+        ap (λ (y : Process). line_in r.source y.status) (is_busy_at t short d k at) in
+        let tested : (if is_if_all status then 1 else 0) ≡ a.tests k =
+        ap (λ o. if is_if_all o then 1 else 0) line ∙ tests_is k in
         subst (λ y. y ≤ double_collects r i c t + a.tests k) (sym (count_next (ends_double_collect r i) c t le))
-        (subst (λ y. (if steps i (item r (suc t)) && (is_if_all status && is_stepped (outcome r (suc t))) then suc (double_collects r i c t) else double_collects r i c t) ≤ double_collects r i c t + y) tested
-        (inner_more (steps i (item r (suc t))) (is_if_all status) (is_stepped (outcome r (suc t))) (double_collects r i c t)))
+        (subst (λ y. (if steps i (item r (suc t)) && (is_if_all status && is_stepped (outcome r (suc t)))
+        then suc (double_collects r i c t) else double_collects r i c t) ≤ double_collects r i c t + y) tested
+        (inner_more (steps i (item r (suc t))) (is_if_all status)
+        (is_stepped (outcome r (suc t))) (double_collects r i c t)))

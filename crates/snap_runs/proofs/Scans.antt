@@ -10,7 +10,9 @@ use Rattle.snap_semantics.specs.declared.process.Item.TheVariants.{Step, Call, C
 use Rattle.snap_semantics.specs.declared.process.Outcome.TheVariants.{Answered}
 use Rattle.snap_runs.specs.Run.{state, outcome}
 use Rattle.snap_runs.specs.Scan.{IsCallLine, ReturnsView, Ends, PendingScan, FinishedScan, line_in, is_if_all}
-use Rattle.snap_runs.proofs.Algorithm.{Mode, Control, Idle, At, WhenBusy, Move, To, Begin, Answer, Finish, TypedProcess, Algorithm, by_move, by_step, by_call, typed_at, by_item, outcome_of, item_at, typed_state, process_of}
+use Rattle.snap_runs.proofs.Algorithm.{Mode, Control, Idle, At, WhenBusy, Move, To, Begin, Answer, Finish}
+use Rattle.snap_runs.proofs.Algorithm.{TypedProcess, Algorithm, by_move, by_step, by_call, typed_at, by_item}
+use Rattle.snap_runs.proofs.Algorithm.{outcome_of, item_at, typed_state, process_of}
 use Rattle.snap_runs.proofs.Embedding as embed
 use Rattle.snap_runs.proofs.Flow.{Lines}
 use Rattle.snap_runs.proofs.Flow as flow
@@ -23,23 +25,27 @@ module _ {V P M : Type 0} (a : Algorithm V P M) (lines : Lines V P M) where
     -- an `if all` line is one that ends a double collect
     pub tested : (k : P) → (if is_if_all (instr_at a.source.lines (a.number k)) then 1 else 0) ≡ a.tests k
     -- a `call` line begins a scan
-    pub calls : (me : ℕ) (d : Mode) (m : M) (p : V) (k : P) → IsCallLine (instr_at a.source.lines (a.number k)) → span.NotTo a (a.move me d m p k)
+    pub calls : (me : ℕ) (d : Mode) (m : M) (p : V) (k : P) → IsCallLine (instr_at a.source.lines (a.number k)) →
+        span.NotTo a (a.move me d m p k)
     -- a line that returns a view returns the answer, and the lines that return are these
     pub returns : (p : V) (k : P) (v : List ℕ) → ReturnsView (instr_at a.source.lines (a.number k)) (a.locals_of p) v →
         lines.IsReturn k × (lines.answer p ≡ v)
-    pub answers : (p : V) (k : P) → lines.IsReturn k → ReturnsView (instr_at a.source.lines (a.number k)) (a.locals_of p) (lines.answer p)
+    pub answers : (p : V) (k : P) → lines.IsReturn k →
+        ReturnsView (instr_at a.source.lines (a.number k)) (a.locals_of p) (lines.answer p)
 
   abbrev pub FlowsAt : ℕ → M → V → Control P → Type 0
   FlowsAt me m p = WhenBusy (λ d k. flow.Flows lines a d m p k (a.move me d m p k))
 
   abbrev pub AllFlow : List Item → Type 0
   AllFlow items = (t i : ℕ) → t < length items → IsOneOf a.shape.n i →
-      FlowsAt i (typed_state a items t).memory (typed_at a (typed_state a items t) i).variables (typed_at a (typed_state a items t) i).control
+      FlowsAt i (typed_state a items t).memory (typed_at a (typed_state a items t) i).variables
+      (typed_at a (typed_state a items t) i).control
 
   -- an update has written as often as its line says
   abbrev pub AllWrite : List Item → Type 0
   AllWrite items = (t i : ℕ) → t ≤ length items → IsOneOf a.shape.n i →
-      flow.HasWritten lines (typed_at a (typed_state a items t) i).control (typed_at a (typed_state a items t) i).auxiliary.wrote
+      flow.HasWritten lines (typed_at a (typed_state a items t) i).control
+      (typed_at a (typed_state a items t) i).auxiliary.wrote
 
   -- A run in which each line that is met does its move, and passes control on as the lines of the listing do.
   pub record Execution : Type 0 where
@@ -50,7 +56,8 @@ module _ {V P M : Type 0} (a : Algorithm V P M) (lines : Lines V P M) where
     pub wrote : AllWrite items
 
   -- what ends with an answer stands at a line that returns it
-  answered : (t : ℕ) (m : M) (q : TypedProcess V P M) (k : P) (v : Move V P M) (view : List ℕ) → outcome_of (by_move a t m q k v) ≡ Answered view →
+  answered : (t : ℕ) (m : M) (q : TypedProcess V P M) (k : P) (v : Move V P M) (view : List ℕ) →
+      outcome_of (by_move a t m q k v) ≡ Answered view →
       flow.AnswersAt lines q.variables k v → lines.IsReturn k × (lines.answer q.variables ≡ view)
   answered t m q k (To d m' p k') view out h = absurd (cc)
   answered t m q k (Begin d p k') view out h = absurd (cc)
@@ -69,9 +76,11 @@ module _ {V P M : Type 0} (a : Algorithm V P M) (lines : Lines V P M) where
     }
 
     pub lawful : (t i : ℕ) → t < length items → IsOneOf a.shape.n i →
-        span.LawfulAt a i (typed_state a items t).memory (typed_at a (typed_state a items t) i).variables (typed_at a (typed_state a items t) i).control
+        span.LawfulAt a i (typed_state a items t).memory (typed_at a (typed_state a items t) i).variables
+        (typed_at a (typed_state a items t) i).control
     lawful t i h one =
-        lawful_at i (typed_state a items t).memory (typed_at a (typed_state a items t) i).variables (typed_at a (typed_state a items t) i).control (run.flows t i h one)
+        lawful_at i (typed_state a items t).memory (typed_at a (typed_state a items t) i).variables
+        (typed_at a (typed_state a items t) i).control (run.flows t i h one)
 
     module _ (i : ℕ) (one : IsOneOf a.shape.n i) where
       abbrev pub his : ℕ → TypedProcess V P M
@@ -81,7 +90,8 @@ module _ {V P M : Type 0} (a : Algorithm V P M) (lines : Lines V P M) where
       abbrev pub Goes : Option ℕ → ℕ → ℕ → Type 0
       Goes link c t = span.Goes a listed.tested items run.fits run.does lawful i one link c t
 
-      pub goes : (link : Option ℕ) (c e t : ℕ) → PendingScan (embed.run_of a items) i link c e → c ≤ t → t < e → Goes link c t
+      pub goes : (link : Option ℕ) (c e t : ℕ) →
+          PendingScan (embed.run_of a items) i link c e → c ≤ t → t < e → Goes link c t
       goes link c e t scan le lt = span.goes a listed.tested items run.fits run.does lawful i one link c e t scan le lt
 
       -- at state t it is about to end with this view
@@ -90,23 +100,29 @@ module _ {V P M : Type 0} (a : Algorithm V P M) (lines : Lines V P M) where
         pub at_return : lines.IsReturn goes_on.counter
         pub answers : lines.answer (his t).variables ≡ view
 
-      embedded_ending : (l c t : ℕ) (view : List ℕ) → t < length items → Goes (Some l) c t → Ends (embed.run_of a items) i (suc t) (Some l) view →
-          Ending (Some l) c t view
+      embedded_ending : (l c t : ℕ) (view : List ℕ) → t < length items → Goes (Some l) c t →
+          Ends (embed.run_of a items) i (suc t) (Some l) view → Ending (Some l) c t view
       embedded_ending l c t view short g ends =
-          let busy : process_at (state (embed.run_of a items) t) i ≡ process_of a (record { control = At g.mode g.counter; variables = (his t).variables; auxiliary = (his t).auxiliary }) =
+          let busy : process_at (state (embed.run_of a items) t) i ≡ process_of a
+          (record { control = At g.mode g.counter; variables = (his t).variables; auxiliary = (his t).auxiliary }) =
           embed.process_at_is a items run.fits run.does t i (omega arith) one
-          ∙ ap (λ (p : Control P). process_of a (record { control = p; variables = (his t).variables; auxiliary = (his t).auxiliary })) g.control in
+          ∙ ap (λ (p : Control P). process_of a
+          (record { control = p; variables = (his t).variables; auxiliary = (his t).auxiliary })) g.control in
           let returned =
-          listed.returns (his t).variables g.counter view (subst (λ (p : Process). ReturnsView (line_in a.source p.status) p.locals view) busy ends.1) in
+          listed.returns (his t).variables g.counter view
+          (subst (λ (p : Process). ReturnsView (line_in a.source p.status) p.locals view) busy ends.1) in
           record { goes_on = g; at_return = returned.0; answers = returned.1 }
 
-      called_ending : (c t : ℕ) (view : List ℕ) → t < length items → Goes None c t → (y : Item) → item_at items t ≡ y → who y ≡ i →
+      called_ending : (c t : ℕ) (view : List ℕ) → t < length items → Goes None c t →
+          (y : Item) → item_at items t ≡ y → who y ≡ i →
           outcome (embed.run_of a items) (suc t) ≡ Answered view → Ending None c t view
       called_ending c t view short g (Call k op) is w out =
           let is2 : item_at items t ≡ Call i op = is ∙ ap (λ u. Call u op) w in
-          let e : outcome_of (by_item a (suc t) (typed_state a items t) (item_at items t)) ≡ outcome_of (by_call a (suc t) (typed_state a items t).memory i op (his t) (At g.mode g.counter)) =
+          let e : outcome_of (by_item a (suc t) (typed_state a items t) (item_at items t))
+          ≡ outcome_of (by_call a (suc t) (typed_state a items t).memory i op (his t) (At g.mode g.counter)) =
           ap (λ (y : Item). outcome_of (by_item a (suc t) (typed_state a items t) y)) is2
-          ∙ ap (λ (p : Control P). outcome_of (by_call a (suc t) (typed_state a items t).memory i op (his t) p)) g.control in
+          ∙ ap (λ (p : Control P). outcome_of (by_call a (suc t) (typed_state a items t).memory i op (his t) p))
+          g.control in
           absurd (let f = sym out ∙ embed.outcome_is a items run.fits run.does t short ∙ e in cc)
       called_ending c t view short g (Crash k) is w out =
           let e = ap (λ (y : Item). outcome_of (by_item a (suc t) (typed_state a items t) y)) is in
@@ -114,22 +130,26 @@ module _ {V P M : Type 0} (a : Algorithm V P M) (lines : Lines V P M) where
       called_ending c t view short g (Step k) is w out =
           let is2 : item_at items t ≡ Step i = is ∙ ap (λ u. Step u) w in
           let m = (typed_state a items t).memory in
-          let e : outcome_of (by_item a (suc t) (typed_state a items t) (item_at items t)) ≡ outcome_of (by_step a (suc t) m i (his t) (At g.mode g.counter)) =
+          let e : outcome_of (by_item a (suc t) (typed_state a items t) (item_at items t))
+          ≡ outcome_of (by_step a (suc t) m i (his t) (At g.mode g.counter)) =
           ap (λ (y : Item). outcome_of (by_item a (suc t) (typed_state a items t) y)) is2
           ∙ ap (λ (p : Control P). outcome_of (by_step a (suc t) m i (his t) p)) g.control in
           let v = a.move i g.mode m (his t).variables g.counter in
           let flows_on : flow.Flows lines a g.mode m (his t).variables g.counter v =
           subst (FlowsAt i m (his t).variables) g.control (run.flows t i short one) in
-          let returned = answered (suc t) m (his t) g.counter v view (sym e ∙ sym (embed.outcome_is a items run.fits run.does t short) ∙ out)
+          let returned = answered (suc t) m (his t) g.counter v view
+          (sym e ∙ sym (embed.outcome_is a items run.fits run.does t short) ∙ out)
           (flow.answers_at lines a g.mode m (his t).variables g.counter v flows_on) in
           record { goes_on = g; at_return = returned.0; answers = returned.1 }
 
-      pub ending : (link : Option ℕ) (c t : ℕ) (view : List ℕ) → FinishedScan (embed.run_of a items) i link c (suc t) view → Ending link c t view
+      pub ending : (link : Option ℕ) (c t : ℕ) (view : List ℕ) →
+          FinishedScan (embed.run_of a items) i link c (suc t) view → Ending link c t view
       ending None c t view h =
           let scan = h.scan in
           let last : suc t ≤ length items = scan.last in
           let lt : c < suc t = h.order in
-          called_ending c t view (omega arith) (goes None c (suc t) t scan (omega arith) (omega arith)) (item_at items t) refl h.ends.0 h.ends.1
+          called_ending c t view (omega arith) (goes None c (suc t) t scan (omega arith) (omega arith))
+          (item_at items t) refl h.ends.0 h.ends.1
       ending (Some l) c t view h =
           let scan = h.scan in
           let last : suc t ≤ length items = scan.last in

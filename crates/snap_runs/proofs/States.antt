@@ -1,4 +1,4 @@
--- What holds at each state of a run, where a step rests on what followed at all states before.
+-- Induction over the states of a run, `at_each`, where each step may use what followed at all states before.
 use Rattle.std.specs.Prelude.{◌≡◌, ℕ, zero, suc, ◌<◌, ◌≤◌}
 use Rattle.std.proofs.Common.{sym, subst, arith, inl, inr}
 use Rattle.std.proofs.Math.Nat.{eq-or-lt_of_le}

@@ -1,4 +1,4 @@
--- Runs in which no process crashes.
+-- `Steady`: a run in which no process crashes, and each item is of one of the processes.
 use Rattle.std.specs.List.{AllByRecursion}
 use Rattle.snap_words.specs.Shape.{IsOneOf}
 use Rattle.snap_semantics.specs.declared.process.Item.{Item}

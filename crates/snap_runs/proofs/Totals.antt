@@ -1,4 +1,4 @@
--- Sums over the places 1 to n.
+-- Lemmas about `total`, the sum of a function over the places 1 to n: bounds on it, and what makes it grow.
 use Rattle.std.specs.Prelude.{◌≡◌, ℕ, zero, suc, ◌+◌, ◌*◌, ◌<◌, ◌≤◌, Bool, true, if◌then◌else◌}
 use Rattle.std.proofs.Common.{sym, ◌∙◌, ap, subst, arith, inl, inr}
 use Rattle.std.proofs.lemmas.Bool.{cases_eq}
@@ -21,7 +21,8 @@ total_le most f (suc n) h =
     let more : suc n * most ≡ n * most + most = one_more n most in omega arith
 
 -- the same where one place is 0
-pub total_less : (most : ℕ) (f : ℕ → ℕ) (n i : ℕ) → IsOneOf n i → f i ≡ 0 → ((k : ℕ) → IsOneOf n k → f k ≤ most) → total f n + most ≤ n * most
+pub total_less : (most : ℕ) (f : ℕ → ℕ) (n i : ℕ) → IsOneOf n i → f i ≡ 0 →
+    ((k : ℕ) → IsOneOf n k → f k ≤ most) → total f n + most ≤ n * most
 unfolding total
 total_less most f zero i one z h = absurd (omega arith)
 total_less most f (suc n) i one z h =
@@ -29,7 +30,8 @@ total_less most f (suc n) i one z h =
     elim (cases_eq i (suc n)) [
       | inl same ↦ (let rest : total f n ≤ n * most = total_le most f n (λ k e. h k (e.0, omega arith)) in
           let last : f (suc n) ≡ 0 = ap f (sym same) ∙ z in omega arith)
-      | inr other ↦ (let rest : total f n + most ≤ n * most = total_less most f n i (one.0, omega arith) z (λ k e. h k (e.0, omega arith)) in
+      | inr other ↦ (let rest : total f n + most ≤ n * most =
+          total_less most f n i (one.0, omega arith) z (λ k e. h k (e.0, omega arith)) in
           let last : f (suc n) ≤ most = h (suc n) (omega arith, omega arith) in omega arith)
     ]
 
@@ -40,14 +42,16 @@ total_mono f g (suc n) h =
     let rest : total f n ≤ total g n = total_mono f g n (λ k i. h k (i.0, omega arith)) in
     let last : f (suc n) ≤ g (suc n) = h (suc n) (omega arith, omega arith) in omega arith
 
-pub total_more : (f g : ℕ → ℕ) (n i : ℕ) → IsOneOf n i → f i < g i → ((k : ℕ) → IsOneOf n k → f k ≤ g k) → total f n < total g n
+pub total_more : (f g : ℕ → ℕ) (n i : ℕ) → IsOneOf n i → f i < g i →
+    ((k : ℕ) → IsOneOf n k → f k ≤ g k) → total f n < total g n
 unfolding total
 total_more f g zero i one lt h = absurd (omega arith)
 total_more f g (suc n) i one lt h =
     elim (cases_eq i (suc n)) [
       | inl same ↦ (let rest : total f n ≤ total g n = total_mono f g n (λ k e. h k (e.0, omega arith)) in
           let last : f (suc n) < g (suc n) = subst (λ x. f x < g x) same lt in omega arith)
-      | inr other ↦ (let rest : total f n < total g n = total_more f g n i (one.0, omega arith) lt (λ k e. h k (e.0, omega arith)) in
+      | inr other ↦ (let rest : total f n < total g n =
+          total_more f g n i (one.0, omega arith) lt (λ k e. h k (e.0, omega arith)) in
           let last : f (suc n) ≤ g (suc n) = h (suc n) (omega arith, omega arith) in omega arith)
     ]
 

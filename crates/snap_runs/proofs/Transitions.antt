@@ -1,12 +1,15 @@
--- What one item does to the status of its process, for any listing.
-use Rattle.std.specs.Prelude.{◌≡◌, ℕ, ◌-◌, Bool, true, false, List, [], length, nat_lt, Option, Some, None, Result, Ok, Err, if◌then◌else◌, slice_set, refl}
+-- `Transition`: what one item may do to the status of its process, and what comes of it, for any listing.
+use Rattle.std.specs.Prelude.{◌≡◌, ℕ, ◌-◌, Bool, true, false, List, [], length, nat_lt, Option, Some, None, Result}
+use Rattle.std.specs.Prelude.{Ok, Err, if◌then◌else◌, slice_set, refl}
 use Rattle.std.proofs.Common.{sym, ap, subst, arith}
 use Rattle.std.proofs.lemmas.Grind.{get_or-set_at}
 use Rattle.snap_words.specs.Shape.{Counts, IsOneOf, places}
 use Rattle.snap_words.specs.Word.{Word}
 use Rattle.snap_words.specs.declared.address.Bank.TheVariants as bank
 use Rattle.snap_semantics.specs.declared.instr.Instr.{Instr}
-use Rattle.snap_semantics.specs.declared.instr.Instr.TheVariants.{Let, LetPlace, Get, Bit, Look, Put, PutBit, PutView, ViewData, ViewOf, Each, First, Next, If, IfAll, Goto, Return, Finish}
+use Rattle.snap_semantics.specs.declared.instr.Instr.TheVariants.{Let, LetPlace, Get, Bit, Look, Put, PutBit, PutView}
+use Rattle.snap_semantics.specs.declared.instr.Instr.TheVariants.{ViewData, ViewOf, Each, First, Next, If}
+use Rattle.snap_semantics.specs.declared.instr.Instr.TheVariants.{IfAll, Goto, Return, Finish}
 use Rattle.snap_semantics.specs.declared.instr.Instr.TheVariants as instr
 use Rattle.snap_semantics.specs.declared.process.Activity.{Activity}
 use Rattle.snap_semantics.specs.declared.process.Cause.{Cause}
@@ -23,7 +26,10 @@ use Rattle.snap_semantics.specs.declared.process.Status.TheVariants.{Idle, Busy,
 use Rattle.snap_semantics.specs.Answers.{◌>>=◌}
 use Rattle.snap_semantics.specs.Source.{Name, Source, following, instr_at}
 use Rattle.snap_semantics.specs.State.{Locals, Memory, Process, State, nobody, process_at, value_at}
-use Rattle.snap_semantics.specs.Table.{Effect, Goes, Answers, Finishes, on, range_end, places_to, all_true, first_true, conditions, each_value, tuple_word, with_bits, bit_value, owned, bank_of, first_goes, call_goes, return_goes, finish_goes, effect, effect_at, leave, step, entry, call_skip, called, call, crashed, crash, done, who}
+use Rattle.snap_semantics.specs.Table.{Effect, Goes, Answers, Finishes, on, range_end, places_to, all_true}
+use Rattle.snap_semantics.specs.Table.{first_true, conditions, each_value, tuple_word, with_bits, bit_value, owned}
+use Rattle.snap_semantics.specs.Table.{bank_of, first_goes, call_goes, return_goes, finish_goes, effect, effect_at}
+use Rattle.snap_semantics.specs.Table.{leave, step, entry, call_skip, called, call, crashed, crash, done, who}
 use Rattle.snap_semantics.specs.Value.{Context, at_place, place_in, index_value, expr_value, condition_holds, each_of}
 
 -- which operation a line may end, where it does not trap or go on
@@ -35,7 +41,8 @@ EndsOnly Scan (Ok Finishes) = ⊥
 EndsOnly (Update word value) (Ok Finishes) = Unit {0}
 EndsOnly op (Err e) = Unit {0}
 
-ends_then : {A : Type 0} (op : Op) (x : Result A Cause) (f : A → Result Effect Cause) → ((v : A) → EndsOnly op (f v)) → EndsOnly op (x >>= f)
+ends_then : {A : Type 0} (op : Op) (x : Result A Cause) (f : A → Result Effect Cause) →
+    ((v : A) → EndsOnly op (f v)) → EndsOnly op (x >>= f)
 unfolding EndsOnly
 ends_then op (Ok v) f h = h v
 ends_then op (Err e) f h = tt
@@ -54,7 +61,8 @@ unfolding EndsOnly
 ends_on op None m l link line = tt
 ends_on op (Some k) m l link line = tt
 
-ends_either : (op : Op) (b : Bool) (x y : Result Effect Cause) → EndsOnly op x → EndsOnly op y → EndsOnly op (if b then x else y)
+ends_either : (op : Op) (b : Bool) (x y : Result Effect Cause) → EndsOnly op x → EndsOnly op y →
+    EndsOnly op (if b then x else y)
 unfolding EndsOnly
 ends_either op true x y h k = h
 ends_either op false x y h k = k
@@ -69,7 +77,8 @@ ends_call : (s : Source) (op : Op) (a : Activity) (m : Memory) (l : Locals) (tar
 ends_call s op a m l target (Some k) = ends_fault op _
 ends_call s op a m l target None = ends_on op _ _ _ _ _
 
-ends_return : (m : Memory) (l : Locals) (v : List ℕ) (op : Op) (link : Option ℕ) → EndsOnly op (return_goes m l v op link)
+ends_return : (m : Memory) (l : Locals) (v : List ℕ) (op : Op) (link : Option ℕ) →
+    EndsOnly op (return_goes m l v op link)
 unfolding EndsOnly
 ends_return m l v Scan None = tt
 ends_return m l v (Update word value) None = tt
@@ -86,39 +95,66 @@ line_ends : (s : Source) (c : Context) (m : Memory) (a : Activity) (i : Instr) �
 line_ends s c m a (Let x e) =
     let next = following s.lines a.line in ends_then {A = ℕ} a.op (expr_value c e) _ (λ v. ends_on a.op next _ _ _ _)
 line_ends s c m a (LetPlace x i e) =
-    let next = following s.lines a.line in ends_then {A = ℕ} a.op (place_in (places c.shape) (index_value c i)) _ (λ k. ends_then {A = ℕ} a.op (expr_value c e) _ (λ v. ends_on a.op next _ _ _ _))
+    let next = following s.lines a.line in
+    ends_then {A = ℕ} a.op (place_in (places c.shape) (index_value c i)) _
+    (λ k. ends_then {A = ℕ} a.op (expr_value c e) _ (λ v. ends_on a.op next _ _ _ _))
 line_ends s c m a (Get x i j) =
-    let next = following s.lines a.line in ends_then {A = ℕ} a.op (place_in (places c.shape) (index_value c i)) _ (λ k. ends_then {A = ℕ} a.op (place_in c.shape.w (index_value c j)) _ (λ r. ends_on a.op next _ _ _ _))
+    let next = following s.lines a.line in
+    ends_then {A = ℕ} a.op (place_in (places c.shape) (index_value c i)) _
+    (λ k. ends_then {A = ℕ} a.op (place_in c.shape.w (index_value c j)) _ (λ r. ends_on a.op next _ _ _ _))
 line_ends s c m a (Bit x b i j) =
-    let next = following s.lines a.line in ends_then {A = ℕ} a.op (place_in c.shape.n (index_value c i)) _ (λ k. ends_then {A = ℕ} a.op (place_in c.shape.n (index_value c j)) _ (λ l. ends_on a.op next _ _ _ _))
+    let next = following s.lines a.line in
+    ends_then {A = ℕ} a.op (place_in c.shape.n (index_value c i)) _
+    (λ k. ends_then {A = ℕ} a.op (place_in c.shape.n (index_value c j)) _ (λ l. ends_on a.op next _ _ _ _))
 line_ends s c m a (Look x i) =
-    let next = following s.lines a.line in ends_then {A = ℕ} a.op (place_in c.shape.n (index_value c i)) _ (λ k. ends_on a.op next _ _ _ _)
+    let next = following s.lines a.line in
+    ends_then {A = ℕ} a.op (place_in c.shape.n (index_value c i)) _ (λ k. ends_on a.op next _ _ _ _)
 line_ends s c m a (Put i t) =
-    let next = following s.lines a.line in ends_then {A = ℕ} a.op (place_in c.shape.w (index_value c i)) _ (λ r. ends_then {A = Word} a.op (tuple_word c t) _ (λ parts. ends_then {A = Word} a.op (with_bits parts) _ (λ word. ends_then {A = Word} a.op (owned s.kind c bank.R (index_value c i) word) _ (λ x. ends_on a.op next _ _ _ _))))
+    let next = following s.lines a.line in
+    ends_then {A = ℕ} a.op (place_in c.shape.w (index_value c i)) _ (λ r.
+    ends_then {A = Word} a.op (tuple_word c t) _ (λ parts. ends_then {A = Word} a.op (with_bits parts) _ (λ word.
+    ends_then {A = Word} a.op (owned s.kind c bank.R (index_value c i) word) _ (λ x. ends_on a.op next _ _ _ _))))
 line_ends s c m a (PutBit b i j e) =
-    let next = following s.lines a.line in ends_then {A = ℕ} a.op (place_in c.shape.n (index_value c i)) _ (λ k. ends_then {A = ℕ} a.op (place_in c.shape.n (index_value c j)) _ (λ l. ends_then {A = ℕ} a.op (expr_value c e) _ (λ v. ends_then {A = ℕ} a.op (bit_value v) _ (λ bit. ends_then {A = ℕ} a.op (owned s.kind c (bank_of b) (index_value c i) bit) _ (λ x. ends_on a.op next _ _ _ _)))))
+    let next = following s.lines a.line in
+    ends_then {A = ℕ} a.op (place_in c.shape.n (index_value c i)) _ (λ k.
+    ends_then {A = ℕ} a.op (place_in c.shape.n (index_value c j)) _ (λ l.
+    ends_then {A = ℕ} a.op (expr_value c e) _ (λ v. ends_then {A = ℕ} a.op (bit_value v) _ (λ bit.
+    ends_then {A = ℕ} a.op (owned s.kind c (bank_of b) (index_value c i) bit) _ (λ x. ends_on a.op next _ _ _ _)))))
 line_ends s c m a (PutView i x) =
-    let next = following s.lines a.line in ends_then {A = ℕ} a.op (place_in c.shape.n (index_value c i)) _ (λ k. ends_then {A = List ℕ} a.op (owned s.kind c bank.V (index_value c i) (value_at x c.locals.views [])) _ (λ v. ends_on a.op next _ _ _ _))
+    let next = following s.lines a.line in
+    ends_then {A = ℕ} a.op (place_in c.shape.n (index_value c i)) _ (λ k. ends_then {A = List ℕ} a.op
+    (owned s.kind c bank.V (index_value c i) (value_at x c.locals.views [])) _ (λ v. ends_on a.op next _ _ _ _))
 line_ends s c m a (ViewData x y) =
     let next = following s.lines a.line in ends_on a.op next _ _ _ _
 line_ends s c m a (ViewOf x y i) =
-    let next = following s.lines a.line in ends_then {A = ℕ} a.op (place_in (places c.shape) (index_value c i)) _ (λ k. ends_on a.op next _ _ _ _)
+    let next = following s.lines a.line in
+    ends_then {A = ℕ} a.op (place_in (places c.shape) (index_value c i)) _ (λ k. ends_on a.op next _ _ _ _)
 line_ends s c m a (Each g x e k) =
-    let next = following s.lines a.line in ends_then {A = List ℕ} a.op (each_of (λ p. each_value (at_place c p) x e k) (places_to (range_end c.shape g))) _ (λ vs. ends_on a.op next _ _ _ _)
+    let next = following s.lines a.line in
+    ends_then {A = List ℕ} a.op (each_of (λ p. each_value (at_place c p) x e k) (places_to (range_end c.shape g))) _
+    (λ vs. ends_on a.op next _ _ _ _)
 line_ends s c m a (First x g k target) =
-    ends_then {A = List Bool} a.op (conditions c (range_end c.shape g) k) _ (λ bs. ends_first s a.op a m c.locals x target (first_true 1 bs))
+    ends_then {A = List Bool} a.op (conditions c (range_end c.shape g) k) _
+    (λ bs. ends_first s a.op a m c.locals x target (first_true 1 bs))
 line_ends s c m a (Next x g target) =
-    let next = following s.lines a.line in ends_either a.op (nat_lt (value_at x c.locals.scalars 0) (range_end c.shape g)) _ _ (ends_goes a.op _ _ _ _) (ends_on a.op next _ _ _ _)
+    let next = following s.lines a.line in
+    ends_either a.op (nat_lt (value_at x c.locals.scalars 0) (range_end c.shape g)) _ _
+    (ends_goes a.op _ _ _ _) (ends_on a.op next _ _ _ _)
 line_ends s c m a (If k target) =
-    let next = following s.lines a.line in ends_then {A = Bool} a.op (condition_holds c k) _ (λ b. ends_either a.op b _ _ (ends_goes a.op _ _ _ _) (ends_on a.op next _ _ _ _))
+    let next = following s.lines a.line in
+    ends_then {A = Bool} a.op (condition_holds c k) _
+    (λ b. ends_either a.op b _ _ (ends_goes a.op _ _ _ _) (ends_on a.op next _ _ _ _))
 line_ends s c m a (IfAll g k target) =
-    let next = following s.lines a.line in ends_then {A = List Bool} a.op (conditions c (range_end c.shape g) k) _ (λ bs. ends_either a.op (all_true bs) _ _ (ends_goes a.op _ _ _ _) (ends_on a.op next _ _ _ _))
+    let next = following s.lines a.line in
+    ends_then {A = List Bool} a.op (conditions c (range_end c.shape g) k) _
+    (λ bs. ends_either a.op (all_true bs) _ _ (ends_goes a.op _ _ _ _) (ends_on a.op next _ _ _ _))
 line_ends s c m a (Goto target) = ends_goes a.op _ _ _ _
 line_ends s c m a (instr.Call target) = ends_call s a.op a m c.locals target a.link
 line_ends s c m a (Return x) = ends_return m c.locals (value_at x c.locals.views []) a.op a.link
 line_ends s c m a Finish = ends_finish a.op a.link
 
-line_at_ends : (s : Source) (c : Context) (m : Memory) (a : Activity) (i : Option Instr) → EndsOnly a.op (effect_at s c m a i)
+line_at_ends : (s : Source) (c : Context) (m : Memory) (a : Activity) (i : Option Instr) →
+    EndsOnly a.op (effect_at s c m a i)
 line_at_ends s c m a None = ends_fault a.op _
 line_at_ends s c m a (Some i) = line_ends s c m a i
 
@@ -140,82 +176,115 @@ MaySkip _ _ = Unit {0}
 -- what an item may do to the status of its process, and what comes of it
 pub data Transition : Status → Item → Outcome → Status → Type 0 where
   skipped : (s : Status) (x : Item) (why : Reason) → MaySkip s x → Transition s x (outcome.Skipped why) s
-  calls : (i : ℕ) (op : Op) (line : ℕ) → Transition Idle (Call i op) outcome.Called (Busy (record { op = op; line = line; link = None }))
+  calls : (i : ℕ) (op : Op) (line : ℕ) →
+      Transition Idle (Call i op) outcome.Called (Busy (record { op = op; line = line; link = None }))
   goes : (i : ℕ) (a : Activity) (line : ℕ) (link : Option ℕ) →
       Transition (Busy a) (Step i) outcome.Stepped (Busy (record { op = a.op; line = line; link = link }))
-  answers : (i : ℕ) (a : Activity) (view : List ℕ) → a.op ≡ Scan → Transition (Busy a) (Step i) (outcome.Answered view) Idle
-  finishes : (i : ℕ) (a : Activity) (word value : ℕ) → a.op ≡ Update word value → Transition (Busy a) (Step i) outcome.Finished Idle
-  traps : (i : ℕ) (a : Activity) (cause : Cause) → Transition (Busy a) (Step i) (outcome.Trapped cause) (Trapped cause a)
+  answers : (i : ℕ) (a : Activity) (view : List ℕ) → a.op ≡ Scan →
+      Transition (Busy a) (Step i) (outcome.Answered view) Idle
+  finishes : (i : ℕ) (a : Activity) (word value : ℕ) → a.op ≡ Update word value →
+      Transition (Busy a) (Step i) outcome.Finished Idle
+  traps : (i : ℕ) (a : Activity) (cause : Cause) →
+      Transition (Busy a) (Step i) (outcome.Trapped cause) (Trapped cause a)
   crashes : (i : ℕ) (s : Status) (was : Option Activity) → Transition s (Crash i) outcome.Crashed (Crashed was)
 
 -- process i's status in a state
 abbrev pub status_of : State → ℕ → Status
 status_of S i = (process_at S i).status
 
-module _ (s : Source) (shape : Counts) (S : State) (i : ℕ) (count : length S.processes ≡ shape.n) (one : IsOneOf shape.n i) where
-  own_status : (m : Memory) (p : Process) → status_of (record { memory = m; processes = slice_set S.processes (i - 1) p }) i ≡ p.status
-  own_status m p = ap (λ (q : Process). q.status) (get_or-set_at S.processes (i - 1) (i - 1) p nobody refl (omega arith))
+module _ (s : Source) (shape : Counts) (S : State) (i : ℕ) (count : length S.processes ≡ shape.n)
+    (one : IsOneOf shape.n i) where
+  own_status : (m : Memory) (p : Process) →
+      status_of (record { memory = m; processes = slice_set S.processes (i - 1) p }) i ≡ p.status
+  own_status m p =
+      ap (λ (q : Process). q.status) (get_or-set_at S.processes (i - 1) (i - 1) p nobody refl (omega arith))
 
   -- what a line leaves
   leaves : (a : Activity) (l : Locals) (e : Result Effect Cause) → EndsOnly a.op e →
       Transition (Busy a) (Step i) (leave S i a l e).1 (status_of (leave S i a l e).0 i)
   unfolding EndsOnly
   leaves a l (Ok (Goes m k link line)) h =
-      subst (Transition (Busy a) (Step i) outcome.Stepped) (sym (own_status m (record { status = Busy (record { op = a.op; line = line; link = link }); locals = k })))
+      subst (Transition (Busy a) (Step i) outcome.Stepped)
+      (sym (own_status m (record { status = Busy (record { op = a.op; line = line; link = link }); locals = k })))
       (goes i a line link)
   leaves a l (Ok (Answers v)) h =
-      subst (Transition (Busy a) (Step i) (outcome.Answered v)) (sym (own_status S.memory (record { status = Idle; locals = l })))
+      subst (Transition (Busy a) (Step i) (outcome.Answered v))
+      (sym (own_status S.memory (record { status = Idle; locals = l })))
       (answers i a v (scan_of v a.op h))
   leaves a l (Ok Finishes) h =
       let up = update_of a.op h in
-      subst (Transition (Busy a) (Step i) outcome.Finished) (sym (own_status S.memory (record { status = Idle; locals = l })))
+      subst (Transition (Busy a) (Step i) outcome.Finished)
+      (sym (own_status S.memory (record { status = Idle; locals = l })))
       (finishes i a up.0 up.1 up.2)
   leaves a l (Err e) h =
-      subst (Transition (Busy a) (Step i) (outcome.Trapped e)) (sym (own_status S.memory (record { status = Trapped e a; locals = l })))
+      subst (Transition (Busy a) (Step i) (outcome.Trapped e))
+      (sym (own_status S.memory (record { status = Trapped e a; locals = l })))
       (traps i a e)
 
   steps : (status : Status) → status_of S i ≡ status →
-      Transition status (Step i) (step s shape S i (process_at S i) status).1 (status_of (step s shape S i (process_at S i) status).0 i)
-  steps (Trapped e a) is = subst (Transition (Trapped e a) (Step i) _) (sym is) (skipped (Trapped e a) (Step i) reason.Trapped tt)
-  steps (Crashed was) is = subst (Transition (Crashed was) (Step i) _) (sym is) (skipped (Crashed was) (Step i) reason.Crashed tt)
+      Transition status (Step i) (step s shape S i (process_at S i) status).1
+      (status_of (step s shape S i (process_at S i) status).0 i)
+  steps (Trapped e a) is =
+      subst (Transition (Trapped e a) (Step i) _) (sym is) (skipped (Trapped e a) (Step i) reason.Trapped tt)
+  steps (Crashed was) is =
+      subst (Transition (Crashed was) (Step i) _) (sym is) (skipped (Crashed was) (Step i) reason.Crashed tt)
   steps Idle is = subst (Transition Idle (Step i) _) (sym is) (skipped Idle (Step i) reason.Idle tt)
   steps (Busy a) is =
       leaves a (process_at S i).locals _
-      (line_at_ends s (record { shape = shape; me = i; op = a.op; locals = (process_at S i).locals; place = 0 }) S.memory a (instr_at s.lines a.line))
+      (line_at_ends s (record { shape = shape; me = i; op = a.op; locals = (process_at S i).locals; place = 0 })
+      S.memory a (instr_at s.lines a.line))
 
   admits : (op : Op) (why : Option Reason) → status_of S i ≡ Idle →
-      Transition Idle (Call i op) (called s S i (process_at S i) op why).1 (status_of (called s S i (process_at S i) op why).0 i)
+      Transition Idle (Call i op) (called s S i (process_at S i) op why).1
+      (status_of (called s S i (process_at S i) op why).0 i)
   admits op (Some why) is = subst (Transition Idle (Call i op) _) (sym is) (skipped Idle (Call i op) why tt)
   admits op None is =
-      subst (Transition Idle (Call i op) outcome.Called) (sym (own_status S.memory (record { status = Busy (record { op = op; line = entry s op; link = None }); locals = (process_at S i).locals })))
+      subst (Transition Idle (Call i op) outcome.Called) (sym (own_status S.memory (record {
+        status = Busy (record { op = op; line = entry s op; link = None });
+        locals = (process_at S i).locals;
+      })))
       (calls i op (entry s op))
 
   is_called : (op : Op) (status : Status) → status_of S i ≡ status →
-      Transition status (Call i op) (call s shape S i op (process_at S i) status).1 (status_of (call s shape S i op (process_at S i) status).0 i)
-  is_called op (Trapped e a) is = subst (Transition (Trapped e a) (Call i op) _) (sym is) (skipped (Trapped e a) (Call i op) reason.Trapped tt)
-  is_called op (Crashed was) is = subst (Transition (Crashed was) (Call i op) _) (sym is) (skipped (Crashed was) (Call i op) reason.Crashed tt)
-  is_called op (Busy a) is = subst (Transition (Busy a) (Call i op) _) (sym is) (skipped (Busy a) (Call i op) reason.Busy tt)
+      Transition status (Call i op) (call s shape S i op (process_at S i) status).1
+      (status_of (call s shape S i op (process_at S i) status).0 i)
+  is_called op (Trapped e a) is =
+      subst (Transition (Trapped e a) (Call i op) _) (sym is) (skipped (Trapped e a) (Call i op) reason.Trapped tt)
+  is_called op (Crashed was) is =
+      subst (Transition (Crashed was) (Call i op) _) (sym is) (skipped (Crashed was) (Call i op) reason.Crashed tt)
+  is_called op (Busy a) is =
+      subst (Transition (Busy a) (Call i op) _) (sym is) (skipped (Busy a) (Call i op) reason.Busy tt)
   is_called op Idle is = admits op (call_skip s.kind shape i op) is
 
   stops : (status : Status) (was : Option Activity) →
-      Transition status (Crash i) (crashed S i (process_at S i) was).1 (status_of (crashed S i (process_at S i) was).0 i)
+      Transition status (Crash i) (crashed S i (process_at S i) was).1
+      (status_of (crashed S i (process_at S i) was).0 i)
   stops status was =
-      subst (Transition status (Crash i) outcome.Crashed) (sym (own_status S.memory (record { status = Crashed was; locals = (process_at S i).locals })))
+      subst (Transition status (Crash i) outcome.Crashed)
+      (sym (own_status S.memory (record { status = Crashed was; locals = (process_at S i).locals })))
       (crashes i status was)
 
   is_crashed : (status : Status) → status_of S i ≡ status →
-      Transition status (Crash i) (crash S i (process_at S i) status).1 (status_of (crash S i (process_at S i) status).0 i)
-  is_crashed (Trapped e a) is = subst (Transition (Trapped e a) (Crash i) _) (sym is) (skipped (Trapped e a) (Crash i) reason.Trapped tt)
-  is_crashed (Crashed was) is = subst (Transition (Crashed was) (Crash i) _) (sym is) (skipped (Crashed was) (Crash i) reason.Crashed tt)
+      Transition status (Crash i) (crash S i (process_at S i) status).1
+      (status_of (crash S i (process_at S i) status).0 i)
+  is_crashed (Trapped e a) is =
+      subst (Transition (Trapped e a) (Crash i) _) (sym is) (skipped (Trapped e a) (Crash i) reason.Trapped tt)
+  is_crashed (Crashed was) is =
+      subst (Transition (Crashed was) (Crash i) _) (sym is) (skipped (Crashed was) (Crash i) reason.Crashed tt)
   is_crashed (Busy a) is = stops (Busy a) (Some a)
   is_crashed Idle is = stops Idle None
 
-  pub own_turn : (x : Item) → who x ≡ i → Transition (status_of S i) x (done s shape S x).1 (status_of (done s shape S x).0 i)
+  pub own_turn : (x : Item) → who x ≡ i →
+      Transition (status_of S i) x (done s shape S x).1 (status_of (done s shape S x).0 i)
   own_turn (Step k) e =
-      subst (λ y. Transition (status_of S i) (Step y) (done s shape S (Step y)).1 (status_of (done s shape S (Step y)).0 i)) (sym e) (steps (status_of S i) refl)
+      subst
+      (λ y. Transition (status_of S i) (Step y) (done s shape S (Step y)).1 (status_of (done s shape S (Step y)).0 i))
+      (sym e) (steps (status_of S i) refl)
   own_turn (Call k op) e =
-      subst (λ y. Transition (status_of S i) (Call y op) (done s shape S (Call y op)).1 (status_of (done s shape S (Call y op)).0 i)) (sym e)
+      subst (λ y. Transition (status_of S i) (Call y op) (done s shape S (Call y op)).1
+      (status_of (done s shape S (Call y op)).0 i)) (sym e)
       (is_called op (status_of S i) refl)
   own_turn (Crash k) e =
-      subst (λ y. Transition (status_of S i) (Crash y) (done s shape S (Crash y)).1 (status_of (done s shape S (Crash y)).0 i)) (sym e)
+      subst (λ y. Transition (status_of S i) (Crash y) (done s shape S (Crash y)).1
+      (status_of (done s shape S (Crash y)).0 i)) (sym e)
       (is_crashed (status_of S i) refl)

@@ -1,5 +1,7 @@
--- The steps of an update: those of its lines outside its scan, and those of the scan.
-use Rattle.std.specs.Prelude.{◌≡◌, ◌≢◌, ℕ, zero, suc, ◌+◌, ◌<◌, ◌≤◌, ◌⊎◌, Bool, true, false, ◌&&◌, List, length, Option, Some, None, if◌then◌else◌, refl}
+-- A bound on the own steps of an update of any algorithm: those
+-- of its lines outside its embedded scan, and those of the scan.
+use Rattle.std.specs.Prelude.{◌≡◌, ◌≢◌, ℕ, zero, suc, ◌+◌, ◌<◌, ◌≤◌, ◌⊎◌, Bool, true, false, ◌&&◌, List, length}
+use Rattle.std.specs.Prelude.{Option, Some, None, if◌then◌else◌, refl}
 use Rattle.std.proofs.Common.{sym, ◌∙◌, ap, subst, arith, inl, inr}
 use Rattle.std.proofs.lemmas.Bool.{cases_eq}
 use Rattle.std.proofs.Math.Nat.{eq-or-lt_of_le}
@@ -13,7 +15,10 @@ use Rattle.snap_semantics.specs.declared.process.Reason.{Reason}
 use Rattle.snap_runs.specs.Run.{Run, item, outcome}
 use Rattle.snap_runs.specs.Scan.{steps, is_not_skipped, own_steps, takes_step}
 use Rattle.snap_runs.specs.Update.{IsDone, PendingUpdate}
-use Rattle.snap_runs.proofs.Algorithm.{Mode, Scanning, Embedded, Updating, op_of, Control, Idle, At, Move, To, Begin, Answer, Finish, Auxiliary, TypedProcess, TypedState, Algorithm, by_move, by_step, by_admission, by_call, typed_at, by_item, changed, outcome_of, happens, item_at, typed_state, stepped_auxiliary, begun_auxiliary}
+use Rattle.snap_runs.proofs.Algorithm.{Mode, Scanning, Embedded, Updating, op_of, Control, Idle, At, Move, To, Begin}
+use Rattle.snap_runs.proofs.Algorithm.{Answer, Finish, Auxiliary, TypedProcess, TypedState, Algorithm, by_move}
+use Rattle.snap_runs.proofs.Algorithm.{by_step, by_admission, by_call, typed_at, by_item, changed, outcome_of}
+use Rattle.snap_runs.proofs.Algorithm.{happens, item_at, typed_state, stepped_auxiliary, begun_auxiliary}
 use Rattle.snap_runs.proofs.Counting.{count_none, count_next, count_not}
 use Rattle.snap_runs.proofs.Embedding as embed
 use Rattle.snap_runs.proofs.Flow as flow
@@ -22,8 +27,8 @@ use Rattle.snap_runs.proofs.Scans as scans
 use Rattle.snap_runs.proofs.ScanSpan.{not_his}
 
 module _ {V P M : Type 0} (a : Algorithm V P M) (lines : Lines V P M) where
-  -- How many steps an update has ahead at a line of its own, outside its scan; whether the scan is behind it; and how many
-  -- steps it has ahead when the scan returns, and when it is called.
+  -- How many steps an update has ahead at a line of its own, outside its scan; whether the scan is behind it; and how
+  -- many steps it has ahead when the scan returns, and when it is called.
   pub record Ahead : Type 0 where
     pub ahead : V → P → ℕ
     pub scanned : P → Bool
@@ -52,8 +57,8 @@ module _ {V P M : Type 0} (a : Algorithm V P M) (lines : Lines V P M) where
   own_step h p k (Answer v) n = n
   own_step h p k Finish n = n
 
-  -- What an update has spent with what it has ahead: the steps of its scan count once the scan is made, and until then those
-  -- that it has taken.
+  -- What an update has spent with what it has ahead: the steps of its scan count once the scan is made, and until
+  -- then those that it has taken.
   abbrev pub Spending : Ahead → ℕ → ℕ → V → Auxiliary → Control P → Type 0
   Spending h scan own p g Idle = Unit {0}
   Spending h scan own p g (At Scanning k) = Unit {0}
@@ -62,14 +67,19 @@ module _ {V P M : Type 0} (a : Algorithm V P M) (lines : Lines V P M) where
 
   module _ (run : scans.Execution a lines) (h : Ahead) (scan : ℕ) (i : ℕ) (one : IsOneOf a.shape.n i)
       -- what the lines of an update do, and those that return
-      (nearer : (t : ℕ) (word value : ℕ) (k : P) → t < length run.items → (typed_at a (typed_state a run.items t) i).control ≡ At (Updating word value) k →
-      Nearer h (typed_at a (typed_state a run.items t) i).variables k (a.move i (Updating word value) (typed_state a run.items t).memory (typed_at a (typed_state a run.items t) i).variables k))
-      (resumes : (word value : ℕ) (m : M) (p : V) (k : P) → lines.IsReturn k → Resumes h (a.move i (Embedded word value) m p k))
+      (nearer : (t : ℕ) (word value : ℕ) (k : P) → t < length run.items →
+      (typed_at a (typed_state a run.items t) i).control ≡ At (Updating word value) k →
+      Nearer h (typed_at a (typed_state a run.items t) i).variables k (a.move i (Updating word value)
+      (typed_state a run.items t).memory (typed_at a (typed_state a run.items t) i).variables k))
+      (resumes : (word value : ℕ) (m : M) (p : V) (k : P) → lines.IsReturn k →
+      Resumes h (a.move i (Embedded word value) m p k))
       -- a scan has one more step within its bound
-      (within : (t : ℕ) (d : Mode) (k : P) → t ≤ length run.items → (typed_at a (typed_state a run.items t) i).control ≡ At d k → IsInScan d →
+      (within : (t : ℕ) (d : Mode) (k : P) → t ≤ length run.items →
+      (typed_at a (typed_state a run.items t) i).control ≡ At d k → IsInScan d →
       (typed_at a (typed_state a run.items t) i).auxiliary.own + 1 ≤ scan)
       -- where an update begins
-      (begins : (p : V) (word value : ℕ) → (h.ahead p (a.counter (Update word value)) ≤ h.total) × (h.scanned (a.counter (Update word value)) ≡ false)) where
+      (begins : (p : V) (word value : ℕ) → (h.ahead p (a.counter (Update word value)) ≤ h.total)
+      × (h.scanned (a.counter (Update word value)) ≡ false)) where
     abbrev items : List Item
     items = run.items
 
@@ -103,32 +113,38 @@ module _ {V P M : Type 0} (a : Algorithm V P M) (lines : Lines V P M) where
         (one_more (takes_step r i (suc t)) (own_steps r i c t))
 
     -- the process stays as it is
-    same_spent : (word value c t : ℕ) → c ≤ t → his (suc t) ≡ his t → steps i (item_at items t) ≡ false → Spent word value c t → Spent word value c (suc t)
+    same_spent : (word value c t : ℕ) → c ≤ t → his (suc t) ≡ his t → steps i (item_at items t) ≡ false →
+        Spent word value c t → Spent word value c (suc t)
     same_spent word value c t le same none g = record {
       mode = g.mode;
       counter = g.counter;
       control = ap (λ (q : TypedProcess V P M). q.control) same ∙ g.control;
       op = g.op;
-      spent = subst (λ (q : TypedProcess V P M). Spending h scan (own_steps r i c (suc t)) q.variables q.auxiliary (At g.mode g.counter)) (sym same)
-          (subst (λ y. Spending h scan y (his t).variables (his t).auxiliary (At g.mode g.counter)) (sym (own_same c t le none)) g.spent);
+      spent =
+          subst (λ (q : TypedProcess V P M).
+          Spending h scan (own_steps r i c (suc t)) q.variables q.auxiliary (At g.mode g.counter)) (sym same)
+          (subst (λ y. Spending h scan y (his t).variables (his t).auxiliary (At g.mode g.counter))
+          (sym (own_same c t le none)) g.spent);
     }
 
     -- what a step of the scan leaves to be spent
-    after_scan : (own own' word value : ℕ) (k : P) (g : Auxiliary) (d' : Mode) (m' : M) (p' : V) (k' : P) (time : ℕ) → own' ≤ own + 1 →
-        g.own + 1 ≤ scan → own + h.rest ≤ h.total + g.own →
+    after_scan : (own own' word value : ℕ) (k : P) (g : Auxiliary) (d' : Mode) (m' : M) (p' : V) (k' : P) (time : ℕ) →
+        own' ≤ own + 1 → g.own + 1 ≤ scan → own + h.rest ≤ h.total + g.own →
         ((d' ≡ Embedded word value) ⊎ ((d' ≡ Updating word value) × Resumes h (To d' m' p' k'))) →
         Spending h scan own' p' (stepped_auxiliary a k time g) (At d' k')
     after_scan own own' word value k g d' m' p' k' time more few spent (inl same) =
         subst (λ y. Spending h scan own' p' (stepped_auxiliary a k time g) (At y k')) (sym same) (omega arith)
     after_scan own own' word value k g d' m' p' k' time more few spent (inr back) =
-        let resumed : Resumes h (To (Updating word value) m' p' k') = subst (λ y. Resumes h (To y m' p' k')) back.0 back.1 in
+        let resumed : Resumes h (To (Updating word value) m' p' k') =
+        subst (λ y. Resumes h (To y m' p' k')) back.0 back.1 in
         let le : h.ahead p' k' ≤ h.rest = resumed.0 in
         subst (λ y. Spending h scan own' p' (stepped_auxiliary a k time g) (At y k')) (sym back.0)
         (subst (λ b. own' + h.ahead p' k' ≤ h.total + (if b then scan else 0)) (sym resumed.1) (omega arith))
 
     -- a step of the process, which does not end the update
-    stepped : (word value c t : ℕ) (d : Mode) (k : P) (v : Move V P M) → c ≤ t → t < length items → (his t).control ≡ At d k →
-        op_of d ≡ Update word value → a.move i d (memory t) (his t).variables k ≡ v → (IsDone r i (suc t) → ⊥) → who (item_at items t) ≡ i →
+    stepped : (word value c t : ℕ) (d : Mode) (k : P) (v : Move V P M) → c ≤ t →
+        t < length items → (his t).control ≡ At d k → op_of d ≡ Update word value →
+        a.move i d (memory t) (his t).variables k ≡ v → (IsDone r i (suc t) → ⊥) → who (item_at items t) ≡ i →
         typed_state a items (suc t) ≡ changed (typed_state a items t) i (by_move a (suc t) (memory t) (his t) k v) →
         outcome r (suc t) ≡ outcome_of (by_move a (suc t) (memory t) (his t) k v) →
         flow.Flows lines a d (memory t) (his t).variables k v →
@@ -136,7 +152,8 @@ module _ {V P M : Type 0} (a : Algorithm V P M) (lines : Lines V P M) where
     stepped word value c t Scanning k v le short at op is still own becomes out flows spent = absurd (cc)
     stepped word value c t (Embedded w x) k (To d' m' p' k') le short at op is still own becomes out flows spent =
         let g = (his t).auxiliary in
-        let q' : TypedProcess V P M = record { control = At d' k'; variables = p'; auxiliary = stepped_auxiliary a k (suc t) g } in
+        let q' : TypedProcess V P M =
+        record { control = At d' k'; variables = p'; auxiliary = stepped_auxiliary a k (suc t) g } in
         let new : his (suc t) ≡ q' = embed.process_next a items t i m' q' Stepped one becomes in
         let resumed : (d' ≡ Embedded w x) ⊎ ((d' ≡ Updating w x) × Resumes h (To d' m' p' k')) =
         elim flows.2 [
@@ -151,75 +168,101 @@ module _ {V P M : Type 0} (a : Algorithm V P M) (lines : Lines V P M) where
             | inl same ↦ ap op_of same ∙ op
             | inr back ↦ ap op_of back.0 ∙ op
           ];
-          spent = subst (λ (q : TypedProcess V P M). Spending h scan (own_steps r i c (suc t)) q.variables q.auxiliary (At d' k')) (sym new)
-              (after_scan (own_steps r i c t) (own_steps r i c (suc t)) w x k g d' m' p' k' (suc t) (own_next c t le) (within t (Embedded w x) k (omega arith) at tt) spent resumed);
+          spent =
+              subst (λ (q : TypedProcess V P M).
+              Spending h scan (own_steps r i c (suc t)) q.variables q.auxiliary (At d' k')) (sym new)
+              (after_scan (own_steps r i c t) (own_steps r i c (suc t)) w x k g d' m' p' k' (suc t) (own_next c t le)
+              (within t (Embedded w x) k (omega arith) at tt) spent resumed);
         }
-    stepped word value c t (Embedded w x) k (Begin d' p' k') le short at op is still own becomes out flows spent = absurd flows
-    stepped word value c t (Embedded w x) k (Answer v) le short at op is still own becomes out flows spent = absurd flows
+    stepped word value c t (Embedded w x) k (Begin d' p' k') le short at op is still own becomes out flows spent =
+        absurd flows
+    stepped word value c t (Embedded w x) k (Answer v) le short at op is still own becomes out flows spent =
+        absurd flows
     stepped word value c t (Embedded w x) k Finish le short at op is still own becomes out flows spent = absurd flows
     stepped word value c t (Updating w x) k (To d' m' p' k') le short at op is still own becomes out flows spent =
         let g = (his t).auxiliary in
-        let q' : TypedProcess V P M = record { control = At d' k'; variables = p'; auxiliary = stepped_auxiliary a k (suc t) g } in
+        let q' : TypedProcess V P M =
+        record { control = At d' k'; variables = p'; auxiliary = stepped_auxiliary a k (suc t) g } in
         let new : his (suc t) ≡ q' = embed.process_next a items t i m' q' Stepped one becomes in
-        let n : Nearer h (his t).variables k (To d' m' p' k') = subst (Nearer h (his t).variables k) is (nearer t w x k short at) in
+        let n : Nearer h (his t).variables k (To d' m' p' k') =
+        subst (Nearer h (his t).variables k) is (nearer t w x k short at) in
         let left : own_steps r i c (suc t) + h.ahead p' k' ≤ h.total + (if h.scanned k' then scan else 0) =
         (let fewer : h.ahead p' k' + 1 ≤ h.ahead (his t).variables k = n.0 in
         let more = own_next c t le in
-        subst (λ b. own_steps r i c (suc t) + h.ahead p' k' ≤ h.total + (if b then scan else 0)) (sym n.1) (omega arith)) in
+        subst (λ b. own_steps r i c (suc t) + h.ahead p' k' ≤ h.total + (if b then scan else 0)) (sym n.1)
+        (omega arith)) in
         record {
           mode = d';
           counter = k';
           control = ap (λ (q : TypedProcess V P M). q.control) new;
           op = ap op_of flows.1 ∙ op;
-          spent = subst (λ (q : TypedProcess V P M). Spending h scan (own_steps r i c (suc t)) q.variables q.auxiliary (At d' k')) (sym new)
-              (subst (λ y. Spending h scan (own_steps r i c (suc t)) p' (stepped_auxiliary a k (suc t) g) (At y k')) (sym flows.1) left);
+          spent =
+              subst (λ (q : TypedProcess V P M).
+              Spending h scan (own_steps r i c (suc t)) q.variables q.auxiliary (At d' k')) (sym new)
+              (subst (λ y. Spending h scan (own_steps r i c (suc t)) p' (stepped_auxiliary a k (suc t) g) (At y k'))
+              (sym flows.1) left);
         }
     stepped word value c t (Updating w x) k (Begin d' p' k') le short at op is still own becomes out flows spent =
         let g = (his t).auxiliary in
-        let q' : TypedProcess V P M = record { control = At d' k'; variables = p'; auxiliary = begun_auxiliary a k (suc t) g } in
+        let q' : TypedProcess V P M =
+        record { control = At d' k'; variables = p'; auxiliary = begun_auxiliary a k (suc t) g } in
         let new : his (suc t) ≡ q' = embed.process_next a items t i (memory t) q' Stepped one becomes in
-        let n : Nearer h (his t).variables k (Begin d' p' k') = subst (Nearer h (his t).variables k) is (nearer t w x k short at) in
+        let n : Nearer h (his t).variables k (Begin d' p' k') =
+        subst (Nearer h (his t).variables k) is (nearer t w x k short at) in
         let left : own_steps r i c (suc t) + h.rest ≤ h.total + 0 =
         (let fewer : h.rest + 1 ≤ h.ahead (his t).variables k = n.0 in
         let more = own_next c t le in
         let before : own_steps r i c t + h.ahead (his t).variables k ≤ h.total + 0 =
-        subst (λ b. own_steps r i c t + h.ahead (his t).variables k ≤ h.total + (if b then scan else 0)) n.1 spent in omega arith) in
+        subst (λ b. own_steps r i c t + h.ahead (his t).variables k ≤ h.total + (if b then scan else 0)) n.1 spent in
+        omega arith) in
         record {
           mode = d';
           counter = k';
           control = ap (λ (q : TypedProcess V P M). q.control) new;
           op = ap op_of flows.0 ∙ op;
-          spent = subst (λ (q : TypedProcess V P M). Spending h scan (own_steps r i c (suc t)) q.variables q.auxiliary (At d' k')) (sym new)
-              (subst (λ y. Spending h scan (own_steps r i c (suc t)) p' (begun_auxiliary a k (suc t) g) (At y k')) (sym flows.0) left);
+          spent =
+              subst (λ (q : TypedProcess V P M).
+              Spending h scan (own_steps r i c (suc t)) q.variables q.auxiliary (At d' k')) (sym new)
+              (subst (λ y. Spending h scan (own_steps r i c (suc t)) p' (begun_auxiliary a k (suc t) g) (At y k'))
+              (sym flows.0) left);
         }
-    stepped word value c t (Updating w x) k (Answer v) le short at op is still own becomes out flows spent = absurd flows
-    stepped word value c t (Updating w x) k Finish le short at op is still own becomes out flows spent = absurd (still (own, out))
+    stepped word value c t (Updating w x) k (Answer v) le short at op is still own becomes out flows spent =
+        absurd flows
+    stepped word value c t (Updating w x) k Finish le short at op is still own becomes out flows spent =
+        absurd (still (own, out))
 
     -- an item of the process
-    item_spent : (word value c e t : ℕ) (y : Item) → PendingUpdate r i word value c e → c ≤ t → suc t < e → item_at items t ≡ y → who y ≡ i →
-        Spent word value c t → Spent word value c (suc t)
+    item_spent : (word value c e t : ℕ) (y : Item) → PendingUpdate r i word value c e → c ≤ t → suc t < e →
+        item_at items t ≡ y → who y ≡ i → Spent word value c t → Spent word value c (suc t)
     item_spent word value c e t (Step j) up le lt is w g =
         let is2 : item_at items t ≡ Step i = is ∙ ap (λ u. Step u) w in
         let short : t < length items = (let last : e ≤ length items = up.last in omega arith) in
         let x = typed_state a items t in
-        stepped word value c t g.mode g.counter (a.move i g.mode x.memory (his t).variables g.counter) le short g.control g.op refl
+        stepped word value c t g.mode g.counter
+        (a.move i g.mode x.memory (his t).variables g.counter) le short g.control g.op refl
         (λ done. up.goes_on (suc t) (omega arith) lt done) (ap who is2)
-        (ap (happens a (suc t) x) is2 ∙ ap (λ (p : Control P). changed x i (by_step a (suc t) x.memory i (his t) p)) g.control)
+        (ap (happens a (suc t) x) is2
+        ∙ ap (λ (p : Control P). changed x i (by_step a (suc t) x.memory i (his t) p)) g.control)
         (embed.outcome_is a items run.fits run.does t short ∙ ap (λ (y : Item). outcome_of (by_item a (suc t) x y)) is2
         ∙ ap (λ (p : Control P). outcome_of (by_step a (suc t) x.memory i (his t) p)) g.control)
         (subst (scans.FlowsAt a lines i x.memory (his t).variables) g.control (run.flows t i short one)) g.spent
     item_spent word value c e t (Call j o) up le lt is w g =
         let is2 : item_at items t ≡ Call i o = is ∙ ap (λ u. Call u o) w in
         let x = typed_state a items t in
-        same_spent word value c t le (ap (λ (y : TypedState V P M). typed_at a y i) (ap (happens a (suc t) x) is2 ∙ ap (λ (p : Control P). changed x i (by_call a (suc t) x.memory i o (his t) p)) g.control))
+        same_spent word value c t le (ap (λ (y : TypedState V P M). typed_at a y i) (ap (happens a (suc t) x) is2
+        ∙ ap (λ (p : Control P). changed x i (by_call a (suc t) x.memory i o (his t) p)) g.control))
         (ap (steps i) is2) g
     item_spent word value c e t (Crash j) up le lt is w g =
-        same_spent word value c t le (ap (λ (y : TypedState V P M). typed_at a y i) (ap (happens a (suc t) (typed_state a items t)) is)) (ap (steps i) is) g
+        same_spent word value c t le
+        (ap (λ (y : TypedState V P M). typed_at a y i) (ap (happens a (suc t) (typed_state a items t)) is))
+        (ap (steps i) is) g
 
     -- at its call nothing is spent
     admitted : (word value c : ℕ) (o : Option Reason) →
-        typed_state a items (suc c) ≡ changed (typed_state a items c) i (by_admission a (suc c) (memory c) (his c) (Update word value) o) →
-        outcome_of (by_admission a (suc c) (memory c) (his c) (Update word value) o) ≡ Called → Spent word value (suc c) (suc c)
+        typed_state a items (suc c)
+        ≡ changed (typed_state a items c) i (by_admission a (suc c) (memory c) (his c) (Update word value) o) →
+        outcome_of (by_admission a (suc c) (memory c) (his c) (Update word value) o) ≡ Called →
+        Spent word value (suc c) (suc c)
     admitted word value c (Some why) becomes out = absurd (cc)
     admitted word value c None becomes out =
         let new = embed.process_next a items c i (memory c) _ Called one becomes in
@@ -227,56 +270,78 @@ module _ {V P M : Type 0} (a : Algorithm V P M) (lines : Lines V P M) where
         let b = begins p word value in
         let none : own_steps r i (suc c) (suc c) ≡ 0 = count_none (takes_step r i) (suc c) (suc c) (omega arith) in
         let most : h.ahead p (a.counter (Update word value)) ≤ h.total = b.0 in
-        let left : own_steps r i (suc c) (suc c) + h.ahead p (a.counter (Update word value)) ≤ h.total + (if h.scanned (a.counter (Update word value)) then scan else 0) =
-        subst (λ y. own_steps r i (suc c) (suc c) + h.ahead p (a.counter (Update word value)) ≤ h.total + (if y then scan else 0)) (sym b.1) (omega arith) in
+        let left : own_steps r i (suc c) (suc c) + h.ahead p (a.counter (Update word value))
+        ≤ h.total + (if h.scanned (a.counter (Update word value)) then scan else 0) =
+        subst (λ y. own_steps r i (suc c) (suc c) + h.ahead p (a.counter (Update word value))
+        ≤ h.total + (if y then scan else 0)) (sym b.1) (omega arith) in
         record {
           mode = Updating word value;
           counter = a.counter (Update word value);
           control = ap (λ (q : TypedProcess V P M). q.control) new;
           op = refl;
-          spent = subst (λ (q : TypedProcess V P M). own_steps r i (suc c) (suc c) + h.ahead q.variables (a.counter (Update word value)) ≤ h.total + (if h.scanned (a.counter (Update word value)) then scan else 0)) (sym new) left;
+          spent =
+              subst (λ (q : TypedProcess V P M).
+              own_steps r i (suc c) (suc c) + h.ahead q.variables (a.counter (Update word value))
+              ≤ h.total + (if h.scanned (a.counter (Update word value)) then scan else 0)) (sym new) left;
         }
 
     called_spent : (word value c : ℕ) (control : Control P) →
-        typed_state a items (suc c) ≡ changed (typed_state a items c) i (by_call a (suc c) (memory c) i (Update word value) (his c) control) →
-        outcome_of (by_call a (suc c) (memory c) i (Update word value) (his c) control) ≡ Called → Spent word value (suc c) (suc c)
-    called_spent word value c Idle becomes out = admitted word value c (call_skip a.source.kind a.shape i (Update word value)) becomes out
+        typed_state a items (suc c)
+        ≡ changed (typed_state a items c) i (by_call a (suc c) (memory c) i (Update word value) (his c) control) →
+        outcome_of (by_call a (suc c) (memory c) i (Update word value) (his c) control) ≡ Called →
+        Spent word value (suc c) (suc c)
+    called_spent word value c Idle becomes out =
+        admitted word value c (call_skip a.source.kind a.shape i (Update word value)) becomes out
     called_spent word value c (At d k) becomes out = absurd (cc)
 
-    first_spent : (word value c : ℕ) → 0 < c → c ≤ length items → item r c ≡ Call i (Update word value) → outcome r c ≡ Called → Spent word value c c
+    first_spent : (word value c : ℕ) → 0 < c → c ≤ length items → item r c ≡ Call i (Update word value) →
+        outcome r c ≡ Called → Spent word value c c
     first_spent word value zero pos short is out = absurd (omega arith)
     first_spent word value (suc c) pos short is out =
         let x = typed_state a items c in
         called_spent word value c (his c).control (ap (happens a (suc c) x) is)
-        (sym (embed.outcome_is a items run.fits run.does c (omega arith) ∙ ap (λ (y : Item). outcome_of (by_item a (suc c) x y)) is) ∙ out)
+        (sym (embed.outcome_is a items run.fits run.does c (omega arith)
+        ∙ ap (λ (y : Item). outcome_of (by_item a (suc c) x y)) is) ∙ out)
 
     kept : (t : ℕ) → t < length items → who (item_at items t) ≢ i → his (suc t) ≡ his t
     kept t short other =
         let his_one : IsOneOf a.shape.n (who (item_at items t)) = embed.one_at a items run.fits t short in
-        embed.other_process a (typed_state a items t) (who (item_at items t)) i (by_item a (suc t) (typed_state a items t) (item_at items t)) his_one.0 one.0 (λ same. other (sym same))
+        embed.other_process a (typed_state a items t) (who (item_at items t)) i
+        (by_item a (suc t) (typed_state a items t) (item_at items t)) his_one.0 one.0 (λ same. other (sym same))
 
     spent_at : (word value c e t : ℕ) → PendingUpdate r i word value c e → c ≤ t → t < e → Spent word value c t
     spent_at word value c e zero up le lt = absurd (let pos : 0 < c = up.first in omega arith)
     spent_at word value c e (suc t) up le lt =
         let last : e ≤ length items = up.last in
         elim (eq-or-lt_of_le le) [
-          | inl same ↦ subst (λ y. Spent word value c y) same (first_spent word value c up.first (omega arith) up.call up.called)
+          | inl same ↦
+              subst (λ y. Spent word value c y) same (first_spent word value c up.first (omega arith) up.call up.called)
           | inr more ↦ elim (cases_eq (who (item_at items t)) i) [
-            | inl his_item ↦ item_spent word value c e t (item_at items t) up (omega arith) lt refl his_item (spent_at word value c e t up (omega arith) (omega arith))
-            | inr other ↦ same_spent word value c t (omega arith) (kept t (omega arith) other) (not_his i (item_at items t) other) (spent_at word value c e t up (omega arith) (omega arith))
+            | inl his_item ↦
+                item_spent word value c e t (item_at items t) up (omega arith) lt refl his_item
+                (spent_at word value c e t up (omega arith) (omega arith))
+            | inr other ↦
+                same_spent word value c t (omega arith) (kept t (omega arith) other)
+                (not_his i (item_at items t) other) (spent_at word value c e t up (omega arith) (omega arith))
           ]
         ]
 
     -- a busy update has room for one more step
-    one_step_left : (word value c t : ℕ) (d : Mode) (k : P) → t < length items → (his t).control ≡ At d k → op_of d ≡ Update word value →
-        Spending h scan (own_steps r i c t) (his t).variables (his t).auxiliary (At d k) → own_steps r i c t + 1 ≤ h.total + scan
+    one_step_left : (word value c t : ℕ) (d : Mode) (k : P) → t < length items →
+        (his t).control ≡ At d k → op_of d ≡ Update word value →
+        Spending h scan (own_steps r i c t) (his t).variables (his t).auxiliary (At d k) →
+        own_steps r i c t + 1 ≤ h.total + scan
     one_step_left word value c t Scanning k short at op spent = absurd (cc)
-    one_step_left word value c t (Embedded w x) k short at op spent = let few = within t (Embedded w x) k (omega arith) at tt in omega arith
+    one_step_left word value c t (Embedded w x) k short at op spent =
+        let few = within t (Embedded w x) k (omega arith) at tt in
+        omega arith
     one_step_left word value c t (Updating w x) k short at op spent =
-        let own = own_step h (his t).variables k (a.move i (Updating w x) (memory t) (his t).variables k) (nearer t w x k short at) in
+        let own = own_step h (his t).variables k
+        (a.move i (Updating w x) (memory t) (his t).variables k) (nearer t w x k short at) in
         at_most_scan (h.scanned k) spent own
       where
-        at_most_scan : (b : Bool) → own_steps r i c t + h.ahead (his t).variables k ≤ h.total + (if b then scan else 0) → 1 ≤ h.ahead (his t).variables k →
+        at_most_scan : (b : Bool) → own_steps r i c t + h.ahead (his t).variables k
+            ≤ h.total + (if b then scan else 0) → 1 ≤ h.ahead (his t).variables k →
             own_steps r i c t + 1 ≤ h.total + scan
         at_most_scan true spent own = omega arith
         at_most_scan false spent own = omega arith
@@ -287,7 +352,9 @@ module _ {V P M : Type 0} (a : Algorithm V P M) (lines : Lines V P M) where
     update_steps word value c (suc t) up =
         let last : suc t ≤ length items = up.last in
         elim (eq-or-lt_of_le up.order) [
-          | inl same ↦ (let none : own_steps r i c (suc t) ≡ 0 = count_none (takes_step r i) c (suc t) (omega arith) in omega arith)
+          | inl same ↦
+              (let none : own_steps r i c (suc t) ≡ 0 = count_none (takes_step r i) c (suc t) (omega arith) in
+              omega arith)
           | inr more ↦ (let g = spent_at word value c (suc t) t up (omega arith) (omega arith) in
               let left = one_step_left word value c t g.mode g.counter (omega arith) g.control g.op g.spent in
               let next = own_next c t (omega arith) in omega arith)

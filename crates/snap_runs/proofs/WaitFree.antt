@@ -1,5 +1,7 @@
--- Where no process traps, a call has as many turns as it takes steps, up to a crash, so that bounds on steps are bounds on turns.
-use Rattle.std.specs.Prelude.{◌≡◌, ℕ, zero, suc, ◌<◌, ◌≤◌, Bool, true, false, ◌&&◌, ◌⊎◌, length, Option, None, nat_lt, if◌then◌else◌, refl}
+-- Where no process traps, a call has as many turns as it takes steps, up to a crash, so that bounds on steps are
+-- bounds on turns.
+use Rattle.std.specs.Prelude.{◌≡◌, ℕ, zero, suc, ◌<◌, ◌≤◌, Bool, true, false, ◌&&◌, ◌⊎◌}
+use Rattle.std.specs.Prelude.{length, Option, None, nat_lt, if◌then◌else◌, refl}
 use Rattle.std.proofs.Common.{sym, ◌∙◌, ap, subst, arith, inl, inr}
 use Rattle.snap_words.specs.Shape.{IsOneOf}
 use Rattle.snap_semantics.specs.declared.process.Activity.{Activity}
@@ -24,13 +26,15 @@ use Rattle.snap_runs.proofs.Computing.{lt_from, same_from}
 use Rattle.snap_runs.proofs.Operations.{ends_done, ends_answer}
 
 -- tests that agree at each item count the same
-pub same_counts : (test other : ℕ → Bool) (c e : ℕ) → ((t : ℕ) → c < t → t ≤ e → test t ≡ other t) → count test c e ≡ count other c e
+pub same_counts : (test other : ℕ → Bool) (c e : ℕ) → ((t : ℕ) → c < t → t ≤ e → test t ≡ other t) →
+    count test c e ≡ count other c e
 same_counts test other c zero h = refl
 same_counts test other c (suc e) h =
     at_last (nat_lt c (suc e)) refl (same_counts test other c e (λ t lt le. h t lt (omega arith)))
   where
     at_last : (b : Bool) → nat_lt c (suc e) ≡ b → count test c e ≡ count other c e →
-        (if b && test (suc e) then suc (count test c e) else count test c e) ≡ (if b && other (suc e) then suc (count other c e) else count other c e)
+        (if b && test (suc e) then suc (count test c e) else count test c e)
+        ≡ (if b && other (suc e) then suc (count other c e) else count other c e)
     at_last true is past =
         ap (λ y. if y then suc (count test c e) else count test c e) (h (suc e) (lt_from c (suc e) is) (omega arith))
         ∙ ap (λ y. if other (suc e) then suc y else y) past
@@ -72,27 +76,33 @@ module _ (r : Run) (fits : IsValidRun r) (safe : NeverTraps r) where
       ∙ ap (λ (y : Status). (step r.source r.shape (state r t) i (process_at (state r t) i) y).1) at
 
   -- while a call is open, no turn of its process is skipped before it crashes
-  turn_counts : (i : ℕ) (o : Op) (c t : ℕ) → IsOneOf r.shape.n i → 0 < c → c < t → t ≤ length r.items → Calls r fits i o c →
-      ((u : ℕ) → c < u → u < t → EndsAt r fits i o u → ⊥) →
+  turn_counts : (i : ℕ) (o : Op) (c t : ℕ) → IsOneOf r.shape.n i → 0 < c → c < t → t ≤ length r.items →
+      Calls r fits i o c → ((u : ℕ) → c < u → u < t → EndsAt r fits i o u → ⊥) →
       (steps i (item r t) && is_alive (outcome r t)) ≡ takes_step r i t
   turn_counts i o c zero one pos lt short call still = absurd (omega arith)
   turn_counts i o c (suc t) one pos lt short call still =
       and_when (steps i (item r (suc t))) (is_alive (outcome r (suc t))) (is_not_skipped (outcome r (suc t))) (λ his.
       let step = step_is i (item r (suc t)) his in
-      let there = occupied r fits i o c t one pos (omega arith) (omega arith) call (λ u more le ends. still u more (omega arith) ends) in
+      let there = occupied r fits i o c t one pos (omega arith) (omega arith) call
+      (λ u more le ends. still u more (omega arith) ends) in
       elim (busy_then o (status r fits t i) there (safe fits i t one (omega arith))) [
-        | inl busy ↦ alive (outcome r (suc t)) (is_not_skipped_there i busy.0 (turn r fits t i (omega arith) one (ap who step)) busy.1 step)
-        | inr stopped ↦ (let out = crashed_step i t stopped.0 step stopped.1 in ap is_alive out ∙ sym (ap is_not_skipped out))
+        | inl busy ↦
+            alive (outcome r (suc t))
+            (is_not_skipped_there i busy.0 (turn r fits t i (omega arith) one (ap who step)) busy.1 step)
+        | inr stopped ↦
+            (let out = crashed_step i t stopped.0 step stopped.1 in ap is_alive out ∙ sym (ap is_not_skipped out))
       ])
 
   turns_are_steps : (i : ℕ) (o : Op) (c e : ℕ) → IsOneOf r.shape.n i → 0 < c → e ≤ length r.items → Calls r fits i o c →
       ((u : ℕ) → c < u → u < e → EndsAt r fits i o u → ⊥) → turns r i c e ≡ own_steps r i c e
   turns_are_steps i o c e one pos short call still =
       same_counts (λ t. steps i (item r t) && is_alive (outcome r t)) (takes_step r i) c e
-      (λ t lt le. turn_counts i o c t one pos lt (omega arith) call (λ u more less ends. still u more (omega arith) ends))
+      (λ t lt le.
+      turn_counts i o c t one pos lt (omega arith) call (λ u more less ends. still u more (omega arith) ends))
 
 pub wait_free : (scan_steps update_steps : ℕ) (r : Run) → NeverTraps r → StepsAtMost scan_steps r →
-    (IsValidRun r → (i word value c e : ℕ) → PendingUpdate r i word value c e → own_steps r i c e ≤ update_steps) → IsWaitFree scan_steps update_steps r
+    (IsValidRun r → (i word value c e : ℕ) → PendingUpdate r i word value c e → own_steps r i c e ≤ update_steps) →
+    IsWaitFree scan_steps update_steps r
 wait_free scan_steps update_steps r safe scans updates fits = record {
   scans = λ i c e scan.
       subst (λ y. y ≤ scan_steps)

@@ -1,8 +1,11 @@
--- Numbers within limits: lists of them, words that are read and written, and the first state.
-use Rattle.std.specs.Prelude.{◌≡◌, ℕ, zero, suc, ◌+◌, ◌<◌, ◌≤◌, List, [], ◌∷◌, ◌++◌, take, drop, length, map, slice_index_or, slice_set, replicate}
+-- Lemmas about numbers that stay within `Limits`: lists of them,
+-- words that are read and written, and the first state of a run.
+use Rattle.std.specs.Prelude.{◌≡◌, ℕ, zero, suc, ◌+◌, ◌<◌, ◌≤◌, List, [], ◌∷◌, ◌++◌, take, drop, length, map}
+use Rattle.std.specs.Prelude.{slice_index_or, slice_set, replicate}
 use Rattle.std.specs.List.{AllByRecursion, range_with_len}
 use Rattle.std.proofs.Common.{sym, subst, arith}
-use Rattle.std.proofs.lemmas.List.{map-set, length-set, length-take, length-drop, length-append, length-map, length-replicate}
+use Rattle.std.proofs.lemmas.List.{map-set, length-set, length-take, length-drop}
+use Rattle.std.proofs.lemmas.List.{length-append, length-map, length-replicate}
 use Rattle.std.proofs.lemmas.List.FromFn.{length-map-range_with_len}
 use Rattle.snap_words.specs.Kind.{initial_word}
 use Rattle.snap_words.specs.Shape.{Counts, IsOneOf, places}
@@ -20,16 +23,19 @@ use Rattle.snap_runs.proofs.Places.{for_each}
 use Rattle.snap_runs.proofs.Plain.{plain_at, plain_copied}
 
 -- what holds of each of a list
-pub all_wider : {A : Type 0} (P Q : A → Type 0) → ((x : A) → P x → Q x) → (xs : List A) → AllByRecursion P xs → AllByRecursion Q xs
+pub all_wider : {A : Type 0} (P Q : A → Type 0) → ((x : A) → P x → Q x) → (xs : List A) →
+    AllByRecursion P xs → AllByRecursion Q xs
 all_wider P Q gives [] h = tt
 all_wider P Q gives (x ∷ xs) h = (gives x h.0, all_wider P Q gives xs h.1)
 
-pub all_set : {A : Type 0} (P : A → Type 0) (xs : List A) (k : ℕ) (y : A) → AllByRecursion P xs → P y → AllByRecursion P (slice_set xs k y)
+pub all_set : {A : Type 0} (P : A → Type 0) (xs : List A) (k : ℕ) (y : A) → AllByRecursion P xs → P y →
+    AllByRecursion P (slice_set xs k y)
 all_set P [] k y h new = tt
 all_set P (x ∷ xs) zero y h new = (new, h.1)
 all_set P (x ∷ xs) (suc k) y h new = (h.0, all_set P xs k y h.1 new)
 
-pub all_read : {A : Type 0} (P : A → Type 0) (xs : List A) (k : ℕ) (none : A) → AllByRecursion P xs → P none → P (slice_index_or xs k none)
+pub all_read : {A : Type 0} (P : A → Type 0) (xs : List A) (k : ℕ) (none : A) → AllByRecursion P xs →
+    P none → P (slice_index_or xs k none)
 all_read P [] k none h other = other
 all_read P (x ∷ xs) zero none h other = h.0
 all_read P (x ∷ xs) (suc k) none h other = all_read P xs k none h.1 other
@@ -44,7 +50,8 @@ all_dropped P zero xs h = h
 all_dropped P (suc n) [] h = tt
 all_dropped P (suc n) (x ∷ xs) h = all_dropped P n xs h.1
 
-all_joined : {A : Type 0} (P : A → Type 0) (xs ys : List A) → AllByRecursion P xs → AllByRecursion P ys → AllByRecursion P (xs ++ ys)
+all_joined : {A : Type 0} (P : A → Type 0) (xs ys : List A) → AllByRecursion P xs →
+    AllByRecursion P ys → AllByRecursion P (xs ++ ys)
 all_joined P [] ys h more = more
 all_joined P (x ∷ xs) ys h more = (h.0, all_joined P xs ys h.1 more)
 
@@ -52,19 +59,24 @@ pub all_same : {A : Type 0} (P : A → Type 0) (n : ℕ) (x : A) → P x → All
 all_same P zero x h = tt
 all_same P (suc n) x h = (h, all_same P n x h)
 
-pub all_mapped : {A B : Type 0} (P : B → Type 0) (f : A → B) (xs : List A) → AllByRecursion (λ x. P (f x)) xs → AllByRecursion P (map f xs)
+pub all_mapped : {A B : Type 0} (P : B → Type 0) (f : A → B) (xs : List A) →
+    AllByRecursion (λ x. P (f x)) xs → AllByRecursion P (map f xs)
 all_mapped P f [] h = tt
 all_mapped P f (x ∷ xs) h = (h.0, all_mapped P f xs h.1)
 
 all_in_range : (P : ℕ → Type 0) (f : ℕ → ℕ) (from count : ℕ) → ((k : ℕ) → from ≤ k → k < from + count → P (f k)) →
     AllByRecursion P (map f (range_with_len from count))
 all_in_range P f from zero each = tt
-all_in_range P f from (suc count) each =
-    (each from (omega arith) (omega arith), all_in_range P f (from + 1) count (λ k low high. each k (omega arith) (omega arith)))
+all_in_range P f from (suc count) each = (
+  each from (omega arith) (omega arith),
+  all_in_range P f (from + 1) count (λ k low high. each k (omega arith) (omega arith)),
+)
 
 -- at most so many
-pub set_within : {A : Type 0} (count : ℕ) (P : A → Type 0) (xs : List A) (k : ℕ) (y : A) → AtMost count P xs → P y → AtMost count P (slice_set xs k y)
-set_within count P xs k y h new = (let same = length-set xs k y in let few : length xs ≤ count = h.0 in omega arith, all_set P xs k y h.1 new)
+pub set_within : {A : Type 0} (count : ℕ) (P : A → Type 0) (xs : List A) (k : ℕ) (y : A) → AtMost count P xs → P y →
+    AtMost count P (slice_set xs k y)
+set_within count P xs k y h new =
+    (let same = length-set xs k y in let few : length xs ≤ count = h.0 in omega arith, all_set P xs k y h.1 new)
 
 pub taken_within : {A : Type 0} (n : ℕ) (P : A → Type 0) (xs : List A) → AllByRecursion P xs → AtMost n P (take n xs)
 taken_within n P xs h = (let e = length-take n xs in omega arith, all_taken P n xs h)
@@ -73,25 +85,29 @@ same_within : {A : Type 0} (n count : ℕ) (P : A → Type 0) (x : A) → n ≤ 
 same_within n count P x le h = (let e = length-replicate n x in omega arith, all_same P n x h)
 
 -- a row after `each`
-pub row_within : (n count most : ℕ) (f : ℕ → ℕ) (old : List ℕ) → n ≤ count → ((k : ℕ) → IsOneOf n k → f k ≤ most) → AtMost count (λ x. x ≤ most) old →
-    AtMost count (λ x. x ≤ most) (for_each n f old)
+pub row_within : (n count most : ℕ) (f : ℕ → ℕ) (old : List ℕ) → n ≤ count → ((k : ℕ) → IsOneOf n k → f k ≤ most) →
+    AtMost count (λ x. x ≤ most) old → AtMost count (λ x. x ≤ most) (for_each n f old)
 row_within n count most f old le each h = (
   let few : length old ≤ count = h.0 in
       let all = length-append (map f (places_to n)) (drop n old) in
       let made = length-map-range_with_len f 1 n in let left = length-drop n old in omega arith,
-  all_joined (λ x. x ≤ most) (map f (places_to n)) (drop n old) (all_in_range (λ x. x ≤ most) f 1 n (λ k low high. each k (omega arith, omega arith)))
+  all_joined (λ x. x ≤ most) (map f (places_to n)) (drop n old)
+      (all_in_range (λ x. x ≤ most) f 1 n (λ k low high. each k (omega arith, omega arith)))
       (all_dropped (λ x. x ≤ most) n old h.1),
 )
 
 -- bits that are set and read
-pub bit_set_within : (n : ℕ) (rows : List (List ℕ)) (i j x : ℕ) → AtMost n (AtMost n IsBit) rows → IsBit x → AtMost n (AtMost n IsBit) (with_bit_at rows i j x)
+pub bit_set_within : (n : ℕ) (rows : List (List ℕ)) (i j x : ℕ) → AtMost n (AtMost n IsBit) rows → IsBit x →
+    AtMost n (AtMost n IsBit) (with_bit_at rows i j x)
 bit_set_within n rows i j x h is =
     set_within n (AtMost n IsBit) rows i (slice_set (slice_index_or rows i []) j x) h
     (set_within n IsBit (slice_index_or rows i []) j x (all_read (AtMost n IsBit) rows i [] h.1 (omega arith, tt)) is)
 
-pub bit_read_within : (n : ℕ) (rows : List (List ℕ)) (i j : ℕ) → AtMost n (AtMost n IsBit) rows → IsBit (bit_at rows i j)
+pub bit_read_within : (n : ℕ) (rows : List (List ℕ)) (i j : ℕ) →
+    AtMost n (AtMost n IsBit) rows → IsBit (bit_at rows i j)
 bit_read_within n rows i j h =
-    all_read IsBit (slice_index_or rows i []) j 0 (all_read (AtMost n IsBit) rows i [] h.1 (omega arith, tt)).1 (omega arith)
+    all_read IsBit (slice_index_or rows i []) j 0
+    (all_read (AtMost n IsBit) rows i [] h.1 (omega arith, tt)).1 (omega arith)
 
 -- limits that are no smaller
 pub record Wider (m m' : Limits) : Type 0 where
@@ -118,7 +134,8 @@ module _ (m m' : Limits) (wide : Wider m m') (s : Counts) (V V' : ℕ → Type 0
     view = values_wider s.w w.view h.view;
   }
 
-  words_wider : (count : ℕ) (ws : List Word) → AtMost count (IsWordWithin m s V) ws → AtMost count (IsWordWithin m' s V') ws
+  words_wider : (count : ℕ) (ws : List Word) → AtMost count (IsWordWithin m s V) ws →
+      AtMost count (IsWordWithin m' s V') ws
   words_wider count ws h = (h.0, all_wider (IsWordWithin m s V) (IsWordWithin m' s V') word_wider ws h.1)
 
   pub memory_wider : (x : Memory) → IsMemoryWithin m s V x → IsMemoryWithin m' s V' x
@@ -129,10 +146,14 @@ module _ (m m' : Limits) (wide : Wider m m') (s : Counts) (V V' : ℕ → Type 0
     views = (h.views.0, all_wider (AtMost s.w V) (AtMost s.w V') (values_wider s.w) x.views h.views.1);
   }
 
-  numbers_wider : (limits limits' : NameMap ℕ) → ((x : Name) → value_at x limits 0 ≤ value_at x limits' 0) → (x : Name) (row : List ℕ) →
+  numbers_wider : (limits limits' : NameMap ℕ) →
+      ((x : Name) → value_at x limits 0 ≤ value_at x limits' 0) → (x : Name) (row : List ℕ) →
       AtMost (places s) (λ y. y ≤ value_at x limits 0) row → AtMost (places s) (λ y. y ≤ value_at x limits' 0) row
-  numbers_wider limits limits' le x row h =
-      (h.0, all_wider (λ y. y ≤ value_at x limits 0) (λ y. y ≤ value_at x limits' 0) (λ y most. let b = le x in omega arith) row h.1)
+  numbers_wider limits limits' le x row h = (
+    h.0,
+    all_wider (λ y. y ≤ value_at x limits 0) (λ y. y ≤ value_at x limits' 0)
+        (λ y most. let b = le x in omega arith) row h.1,
+  )
 
   pub locals_wider : (l : Locals) → IsLocalsWithin m s V l → IsLocalsWithin m' s V' l
   locals_wider l h = record {
@@ -176,7 +197,8 @@ module _ (m : Limits) (s : Counts) (V : ℕ → Type 0) (zeroed : V 0) where
   data_within ws h = (
     let few = length-take s.w ws in
         let e = length-map (take s.w ws) (λ (w : Word). w.datum) in omega arith,
-    all_mapped V (λ (w : Word). w.datum) (take s.w ws) (all_wider Within (λ w. V w.datum) (λ w is. is.datum) (take s.w ws) (all_taken Within s.w ws h)),
+    all_mapped V (λ (w : Word). w.datum) (take s.w ws)
+        (all_wider Within (λ w. V w.datum) (λ w is. is.datum) (take s.w ws) (all_taken Within s.w ws h)),
   )
 
   -- what a word says
@@ -185,19 +207,24 @@ module _ (m : Limits) (s : Counts) (V : ℕ → Type 0) (zeroed : V 0) where
 
   -- words of the proof, and as the machine has them
   module _ (plain : Word → Word) (none : plain no_word ≡ no_word) where
-    pub read_within : (ws : List Word) (k : ℕ) → AllByRecursion Within (map plain ws) → Within (plain (slice_index_or ws k no_word))
-    read_within ws k h = subst Within (plain_at plain none ws k) (all_read Within (map plain ws) k no_word h none_within)
+    pub read_within : (ws : List Word) (k : ℕ) → AllByRecursion Within (map plain ws) →
+        Within (plain (slice_index_or ws k no_word))
+    read_within ws k h =
+        subst Within (plain_at plain none ws k) (all_read Within (map plain ws) k no_word h none_within)
 
-    pub copied_within : (count : ℕ) (a ws : List Word) (k r : ℕ) → AtMost count Within (map plain a) → AllByRecursion Within (map plain ws) →
+    pub copied_within : (count : ℕ) (a ws : List Word) (k r : ℕ) →
+        AtMost count Within (map plain a) → AllByRecursion Within (map plain ws) →
         AtMost count Within (map plain (slice_set a k (slice_index_or ws r no_word)))
     copied_within count a ws k r old h =
         subst (AtMost count Within) (plain_copied plain none a ws k r)
-        (set_within count Within (map plain a) k (slice_index_or (map plain ws) r no_word) old (all_read Within (map plain ws) r no_word h none_within))
+        (set_within count Within (map plain a) k (slice_index_or (map plain ws) r no_word) old
+        (all_read Within (map plain ws) r no_word h none_within))
 
-    pub written_within : (count : ℕ) (ws : List Word) (k : ℕ) (w : Word) → AtMost count Within (map plain ws) → Within (plain w) →
-        AtMost count Within (map plain (slice_set ws k w))
+    pub written_within : (count : ℕ) (ws : List Word) (k : ℕ) (w : Word) → AtMost count Within (map plain ws) →
+        Within (plain w) → AtMost count Within (map plain (slice_set ws k w))
     written_within count ws k w old h =
-        subst (AtMost count Within) (sym (map-set plain ws k w)) (set_within count Within (map plain ws) k (plain w) old h)
+        subst (AtMost count Within) (sym (map-set plain ws k w))
+        (set_within count Within (map plain ws) k (plain w) old h)
 
   -- the first state
   row_of_zeros : (n count most : ℕ) → n ≤ count → AtMost count (λ x. x ≤ most) (replicate n 0)
@@ -226,21 +253,35 @@ module _ (m : Limits) (s : Counts) (V : ℕ → Type 0) (zeroed : V 0) where
   first_words k n count le = same_within n count Within (initial_word k s) le (first_word_within k)
 
   first_bits : AtMost s.n (AtMost s.n IsBit) (replicate s.n (replicate s.n 0))
-  first_bits = same_within s.n s.n (AtMost s.n IsBit) (replicate s.n 0) (omega arith) (row_of_zeros s.n s.n 1 (omega arith))
+  first_bits =
+      same_within s.n s.n (AtMost s.n IsBit) (replicate s.n 0) (omega arith) (row_of_zeros s.n s.n 1 (omega arith))
 
   pub first_memory_within : (k : KindTag) → IsMemoryWithin m s V (initial_memory k s)
   first_memory_within kind.Seq =
-      record { words = first_words kind.Seq s.w s.w (omega arith); q = (omega arith, tt); p = (omega arith, tt); views = (omega arith, tt) }
+      record {
+        words = first_words kind.Seq s.w s.w (omega arith);
+        q = (omega arith, tt);
+        p = (omega arith, tt);
+        views = (omega arith, tt);
+      }
   first_memory_within kind.Bits =
-      record { words = first_words kind.Bits s.w s.w (omega arith); q = first_bits; p = (omega arith, tt); views = (omega arith, tt) }
+      record {
+        words = first_words kind.Bits s.w s.w (omega arith);
+        q = first_bits;
+        p = (omega arith, tt);
+        views = (omega arith, tt);
+      }
   first_memory_within kind.Multi = record {
     words = first_words kind.Multi s.w s.w (omega arith);
     q = first_bits;
     p = first_bits;
-    views = same_within s.n s.n (AtMost s.w V) (replicate s.w 0) (omega arith) (same_within s.w s.w V 0 (omega arith) zeroed);
+    views =
+        same_within s.n s.n (AtMost s.w V) (replicate s.w 0) (omega arith)
+        (same_within s.w s.w V 0 (omega arith) zeroed);
   }
 
-  all_named : {A : Type 0} (P : Name × A → Type 0) (v : A) → ((x : Name) → P (x, v)) → (xs : List Name) → AllByRecursion P (all_at v xs)
+  all_named : {A : Type 0} (P : Name × A → Type 0) (v : A) → ((x : Name) → P (x, v)) → (xs : List Name) →
+      AllByRecursion P (all_at v xs)
   all_named P v each [] = tt
   all_named P v each (x ∷ xs) = (each x, all_named P v each xs)
 
@@ -254,5 +295,6 @@ module _ (m : Limits) (s : Counts) (V : ℕ → Type 0) (zeroed : V 0) where
         (λ (e : Name × List Word). AtMost (places s) Within e.1) (replicate (places s) (initial_word source.kind s))
         (λ x. first_words source.kind (places s) (places s) (omega arith)) source.words;
     views = all_named
-        (λ (e : Name × List ℕ). AtMost s.w V e.1) (replicate s.w 0) (λ x. same_within s.w s.w V 0 (omega arith) zeroed) source.views;
+        (λ (e : Name × List ℕ). AtMost s.w V e.1) (replicate s.w 0)
+        (λ x. same_within s.w s.w V 0 (omega arith) zeroed) source.views;
   }

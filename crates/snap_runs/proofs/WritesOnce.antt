@@ -11,7 +11,9 @@ use Rattle.snap_semantics.specs.declared.process.Outcome.TheVariants.{Finished}
 use Rattle.snap_runs.specs.Run.{outcome}
 use Rattle.snap_runs.specs.Scan.{count}
 use Rattle.snap_runs.specs.Update.{executes, IsDone, PendingUpdate}
-use Rattle.snap_runs.proofs.Algorithm.{Mode, Scanning, Embedded, Updating, op_of, Control, At, Move, To, Begin, Answer, Finish, TypedProcess, Algorithm, by_move, by_step, by_call, typed_at, by_item, outcome_of, item_at, typed_state}
+use Rattle.snap_runs.proofs.Algorithm.{Mode, Scanning, Embedded, Updating, op_of, Control, At, Move, To, Begin}
+use Rattle.snap_runs.proofs.Algorithm.{Answer, Finish, TypedProcess, Algorithm, by_move, by_step, by_call, typed_at}
+use Rattle.snap_runs.proofs.Algorithm.{by_item, outcome_of, item_at, typed_state}
 use Rattle.snap_runs.proofs.Embedding as embed
 use Rattle.snap_runs.proofs.Flow.{Lines}
 use Rattle.snap_runs.proofs.Flow as flow
@@ -35,23 +37,33 @@ module _ {V P M : Type 0} (a : Algorithm V P M) (lines : Lines V P M) (line : �
     his t = typed_at a (typed_state a items t) i
 
     flows_at : (t : ℕ) (d : Mode) (k : P) → t < length items → (his t).control ≡ At d k →
-        flow.Flows lines a d (typed_state a items t).memory (his t).variables k (a.move i d (typed_state a items t).memory (his t).variables k)
-    flows_at t d k h is = subst (scans.FlowsAt a lines i (typed_state a items t).memory (his t).variables) is (run.flows t i h one)
+        flow.Flows lines a d (typed_state a items t).memory (his t).variables k
+        (a.move i d (typed_state a items t).memory (his t).variables k)
+    flows_at t d k h is =
+        subst (scans.FlowsAt a lines i (typed_state a items t).memory (his t).variables) is (run.flows t i h one)
 
-    pub silent : (t : ℕ) → t < length items → (d : Mode) (k : P) → (his t).control ≡ At d k → (word value : ℕ) → op_of d ≡ Update word value →
+    pub silent : (t : ℕ) → t < length items → (d : Mode) (k : P) → (his t).control ≡ At d k →
+        (word value : ℕ) → op_of d ≡ Update word value →
         called.NoAnswer a (a.move i d (typed_state a items t).memory (his t).variables k)
     silent t h d k is word value e =
-        flow.never_answers lines a d (typed_state a items t).memory (his t).variables k (a.move i d (typed_state a items t).memory (his t).variables k) word value e (flows_at t d k h is)
+        flow.never_answers lines a d (typed_state a items t).memory (his t).variables k
+        (a.move i d (typed_state a items t).memory (his t).variables k) word value e (flows_at t d k h is)
 
-    most_once : (d : Mode) (k : P) (w word value : ℕ) → op_of d ≡ Update word value → flow.HasWritten lines (At d k) w → w + a.writes k ≤ 1
+    most_once : (d : Mode) (k : P) (w word value : ℕ) → op_of d ≡ Update word value →
+        flow.HasWritten lines (At d k) w → w + a.writes k ≤ 1
     most_once Scanning k w word value e h = absurd (cc)
-    most_once (Embedded x y) k w word value e h = let most : lines.written k + a.writes k ≤ 1 = once.most k in omega arith
-    most_once (Updating x y) k w word value e h = let most : lines.written k + a.writes k ≤ 1 = once.most k in omega arith
+    most_once (Embedded x y) k w word value e h =
+        let most : lines.written k + a.writes k ≤ 1 = once.most k in
+        omega arith
+    most_once (Updating x y) k w word value e h =
+        let most : lines.written k + a.writes k ≤ 1 = once.most k in
+        omega arith
 
     -- where an update is done it has written
     once_done : (t : ℕ) (m : M) (q : TypedProcess V P M) (d : Mode) (k : P) (v : Move V P M) (w word value : ℕ) →
         outcome_of (by_move a t m q k v) ≡ Finished →
-        op_of d ≡ Update word value → flow.Flows lines a d m q.variables k v → flow.HasWritten lines (At d k) w → (w ≡ 1) × (a.writes k ≡ 0)
+        op_of d ≡ Update word value → flow.Flows lines a d m q.variables k v →
+        flow.HasWritten lines (At d k) w → (w ≡ 1) × (a.writes k ≡ 0)
     once_done t m q d k (To d' m' p k') w word value out e h is = absurd (cc)
     once_done t m q d k (Begin d' p k') w word value out e h is = absurd (cc)
     once_done t m q d k (Answer v) w word value out e h is = absurd (cc)
@@ -62,13 +74,16 @@ module _ {V P M : Type 0} (a : Algorithm V P M) (lines : Lines V P M) (line : �
     abbrev pub Going : (word value c t : ℕ) → Type 0
     Going word value c t = called.Going a line once.writes_is items run.fits run.does i one silent word value c t
 
-    done_once : (word value c t : ℕ) → c ≤ t → t < length items → Going word value c t → (y : Item) → item_at items t ≡ y → who y ≡ i →
-        outcome (embed.run_of a items) (suc t) ≡ Finished → count (executes (embed.run_of a items) i line) c (suc t) ≡ 1
+    done_once : (word value c t : ℕ) → c ≤ t → t < length items → Going word value c t → (y : Item) →
+        item_at items t ≡ y → who y ≡ i → outcome (embed.run_of a items) (suc t) ≡ Finished →
+        count (executes (embed.run_of a items) i line) c (suc t) ≡ 1
     done_once word value c t le short g (Call k op) is w out =
         let is2 : item_at items t ≡ Call i op = is ∙ ap (λ u. Call u op) w in
-        let e : outcome_of (by_item a (suc t) (typed_state a items t) (item_at items t)) ≡ outcome_of (by_call a (suc t) (typed_state a items t).memory i op (his t) (At g.mode g.counter)) =
+        let e : outcome_of (by_item a (suc t) (typed_state a items t) (item_at items t))
+        ≡ outcome_of (by_call a (suc t) (typed_state a items t).memory i op (his t) (At g.mode g.counter)) =
         ap (λ (y : Item). outcome_of (by_item a (suc t) (typed_state a items t) y)) is2
-        ∙ ap (λ (p : Control P). outcome_of (by_call a (suc t) (typed_state a items t).memory i op (his t) p)) g.control in
+        ∙ ap
+        (λ (p : Control P). outcome_of (by_call a (suc t) (typed_state a items t).memory i op (his t) p)) g.control in
         absurd (let f = sym out ∙ embed.outcome_is a items run.fits run.does t short ∙ e in cc)
     done_once word value c t le short g (Crash k) is w out =
         let e = ap (λ (y : Item). outcome_of (by_item a (suc t) (typed_state a items t) y)) is in
@@ -76,37 +91,52 @@ module _ {V P M : Type 0} (a : Algorithm V P M) (lines : Lines V P M) (line : �
     done_once word value c t le short g (Step k) is w out =
         let is2 : item_at items t ≡ Step i = is ∙ ap (λ u. Step u) w in
         let m = (typed_state a items t).memory in
-        let e : outcome_of (by_item a (suc t) (typed_state a items t) (item_at items t)) ≡ outcome_of (by_step a (suc t) m i (his t) (At g.mode g.counter)) =
+        let e : outcome_of (by_item a (suc t) (typed_state a items t) (item_at items t))
+        ≡ outcome_of (by_step a (suc t) m i (his t) (At g.mode g.counter)) =
         ap (λ (y : Item). outcome_of (by_item a (suc t) (typed_state a items t) y)) is2
         ∙ ap (λ (p : Control P). outcome_of (by_step a (suc t) m i (his t) p)) g.control in
         let written : flow.HasWritten lines (At g.mode g.counter) (his t).auxiliary.wrote =
-        subst (λ (p : Control P). flow.HasWritten lines p (his t).auxiliary.wrote) g.control (run.wrote t i (omega arith) one) in
-        let ended = once_done (suc t) m (his t) g.mode g.counter (a.move i g.mode m (his t).variables g.counter) (his t).auxiliary.wrote word value
-        (sym e ∙ sym (embed.outcome_is a items run.fits run.does t short) ∙ out) g.op (flows_at t g.mode g.counter short g.control) written in
+        subst (λ (p : Control P). flow.HasWritten lines p (his t).auxiliary.wrote) g.control
+        (run.wrote t i (omega arith) one) in
+        let ended =
+        once_done (suc t) m (his t) g.mode g.counter (a.move i g.mode m (his t).variables g.counter)
+        (his t).auxiliary.wrote word value
+        (sym e ∙ sym (embed.outcome_is a items run.fits run.does t short) ∙ out) g.op
+        (flows_at t g.mode g.counter short g.control) written in
         let one_write : (his t).auxiliary.wrote ≡ 1 = ended.0 in
         let none_more : a.writes g.counter ≡ 0 = ended.1 in
         let is_count : (his t).auxiliary.wrote ≡ count (executes (embed.run_of a items) i line) c t = g.wrote in
-        let next : count (executes (embed.run_of a items) i line) c (suc t) ≡ count (executes (embed.run_of a items) i line) c t + a.writes g.counter =
-        called.line_counts a line once.writes_is items run.fits run.does i one silent t c g.mode g.counter le (omega arith) is2 g.control in
+        let next : count (executes (embed.run_of a items) i line) c (suc t)
+        ≡ count (executes (embed.run_of a items) i line) c t + a.writes g.counter =
+        called.line_counts a line once.writes_is items run.fits run.does i one silent t c g.mode g.counter le
+        (omega arith) is2 g.control in
         omega arith
 
     pub writes_once : (word value c e : ℕ) → PendingUpdate (embed.run_of a items) i word value c e →
-        (count (executes (embed.run_of a items) i line) c e ≤ 1) × (c < e → IsDone (embed.run_of a items) i e → count (executes (embed.run_of a items) i line) c e ≡ 1)
+        (count (executes (embed.run_of a items) i line) c e ≤ 1)
+        × (c < e → IsDone (embed.run_of a items) i e → count (executes (embed.run_of a items) i line) c e ≡ 1)
     writes_once word value c zero up = (omega arith, λ lt done. absurd (omega arith))
     writes_once word value c (suc t) up =
         let r = embed.run_of a items in
         let last : suc t ≤ length items = up.last in
         elim (eq-or-lt_of_le up.order) [
-          | inl same ↦ (let none : count (executes r i line) c (suc t) ≡ 0 = called.none_yet a line once.writes_is items run.fits run.does i one silent c (suc t) (omega arith) in
+          | inl same ↦ (let none : count (executes r i line) c (suc t) ≡ 0 =
+              called.none_yet a line once.writes_is items run.fits run.does i one silent c (suc t) (omega arith) in
               (omega arith, λ lt done. absurd (omega arith)))
           | inr more ↦ (
-              let g = called.going a line once.writes_is items run.fits run.does i one silent word value c (suc t) t up (omega arith) (omega arith) in
+              let g =
+              called.going a line once.writes_is items run.fits run.does i one silent word value c (suc t) t up
+              (omega arith) (omega arith) in
               let written : flow.HasWritten lines (At g.mode g.counter) (his t).auxiliary.wrote =
-              subst (λ (p : Control P). flow.HasWritten lines p (his t).auxiliary.wrote) g.control (run.wrote t i (omega arith) one) in
+              subst (λ (p : Control P). flow.HasWritten lines p (his t).auxiliary.wrote) g.control
+              (run.wrote t i (omega arith) one) in
               let most : (his t).auxiliary.wrote + a.writes g.counter ≤ 1 =
               most_once g.mode g.counter (his t).auxiliary.wrote word value g.op written in
               let is : (his t).auxiliary.wrote ≡ count (executes r i line) c t = g.wrote in
               let next : count (executes r i line) c (suc t) ≤ count (executes r i line) c t + a.writes g.counter =
-              called.line_at_most a line once.writes_is items run.fits run.does i one silent t c g.mode g.counter (omega arith) (omega arith) g.control in
-              (omega arith, λ lt done. done_once word value c t (omega arith) (omega arith) g (item_at items t) refl done.0 done.1))
+              called.line_at_most a line once.writes_is items run.fits run.does i one silent t c g.mode g.counter
+              (omega arith) (omega arith) g.control in (
+                omega arith,
+                λ lt done. done_once word value c t (omega arith) (omega arith) g (item_at items t) refl done.0 done.1,
+              ))
         ]

@@ -1,7 +1,8 @@
 -- The audit of a run: of each scan that was called and has been answered, whether it has a point, and how many double
 -- collects it took.
 use Rattle.std.specs.List.{AllByRecursion}
-use Rattle.std.specs.Prelude.{◌≡◌, IsSome, ℕ, zero, suc, ◌-◌, ◌<◌, ◌≤◌, Bool, true, false, ◌&&◌, List, [], ◌∷◌, ◌++◌, length, Option, Some, None, bytes_eq, nat_eq, if◌then◌else◌}
+use Rattle.std.specs.Prelude.{◌≡◌, IsSome, ℕ, zero, suc, ◌-◌, ◌<◌, ◌≤◌, Bool, true, false, ◌&&◌, List, [], ◌∷◌, ◌++◌}
+use Rattle.std.specs.Prelude.{length, Option, Some, None, bytes_eq, nat_eq, if◌then◌else◌}
 use Rattle.snap_semantics.specs.declared.process.Outcome.{Outcome}
 use Rattle.snap_semantics.specs.declared.process.Outcome.TheVariants as outcome
 use Rattle.snap_semantics.specs.State.{values}
@@ -18,7 +19,8 @@ is_called _ = false
 -- the last item up to item t that called an operation of process i, and 0 where there is none
 abbrev pub last_call : Run → ℕ → ℕ → ℕ
 last_call r i zero = 0
-last_call r i (suc t) = if nat_eq (who (item r (suc t))) i && is_called (outcome_at r (suc t)) then suc t else last_call r i t
+last_call r i (suc t) =
+    if nat_eq (who (item r (suc t))) i && is_called (outcome_at r (suc t)) then suc t else last_call r i t
 
 -- the least of so many items, the first of which is item t, after which the values are this view
 abbrev pub least_point : Run → List ℕ → ℕ → ℕ → Option ℕ
@@ -48,8 +50,8 @@ verdicts r (suc t) = verdicts r t ++ verdict_at r (suc t) (outcome_at r (suc t))
 abbrev pub audit : Run → List Verdict
 audit r = verdicts r (length r.items)
 
--- What is found of a scan's point is right: the least item from its start to its end after which the values are its view,
--- and none where there is none.
+-- What is found of a scan's point is right: the least item from its start to its end after which the values are its
+-- view, and none where there is none.
 abbrev pub IsLeastPoint : Run → (c e : ℕ) → List ℕ → Option ℕ → Type 0
 IsLeastPoint r c e view None = HasPoint r c e view → ⊥
 IsLeastPoint r c e view (Some t) =

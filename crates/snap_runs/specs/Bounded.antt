@@ -1,5 +1,6 @@
 -- Bounded: how large the numbers get that a listing keeps, in registers, in locals, and in what a process is at.
-use Rattle.std.specs.Prelude.{◌≡◌, ℕ, suc, ◌+◌, ◌-◌, ◌<◌, ◌≤◌, ◌⊎◌, true, List, length, map, IsSome, IfSome, slice_index, slice_set}
+use Rattle.std.specs.Prelude.{◌≡◌, ℕ, suc, ◌+◌, ◌-◌, ◌<◌, ◌≤◌, ◌⊎◌, true, List, length}
+use Rattle.std.specs.Prelude.{map, IsSome, IfSome, slice_index, slice_set}
 use Rattle.std.specs.List.{AllByRecursion}
 use Rattle.snap_words.specs.Shape.{Counts, IsOneOf, places}
 use Rattle.snap_words.specs.Word.{Word}

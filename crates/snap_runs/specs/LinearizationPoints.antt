@@ -5,7 +5,8 @@ use Rattle.snap_runs.specs.Scan.{FinishedScan, HasPoint}
 use Rattle.snap_runs.specs.Promises.{ChangesOnlyAt, WritesItsUpdate, WritesOnce}
 use Rattle.snap_runs.specs.Linearization.{IsLinearizable}
 
--- Every scan that was called and has been answered has a point. Of a scan that is embedded in an update nothing is asked.
+-- Every scan that was called and has been answered has a point. Of a scan that is embedded
+-- in an update nothing is asked.
 abbrev pub AnswersHavePoints : Run → Type 0
 AnswersHavePoints r = IsValidRun r → (i c e : ℕ) (view : List ℕ) → FinishedScan r i None c e view → HasPoint r c e view
 

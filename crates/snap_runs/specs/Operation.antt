@@ -11,7 +11,8 @@ pub data Action : Type 0 where
   Sets : (word value : ℕ) → Action
   Sees : (view : List ℕ) → Action
 
--- An operation: the process that called it, the item of the call, the item of the end, where it has ended, and what it does.
+-- An operation: the process that called it, the item of the call, the item of the end, where
+-- it has ended, and what it does.
 pub record Operation : Type 0 where
   pub process : ℕ
   pub call : ℕ
@@ -23,7 +24,8 @@ abbrev pub TookPlace : Run → ℕ → ℕ → Option ℕ → Action → Type 0
 -- an update, which was done at item e
 TookPlace r i c (Some e) (Sets word value) = PendingUpdate r i word value c e × (c < e) × IsDone r i e
 -- an update, which is not done by the end of the run
-TookPlace r i c None (Sets word value) = PendingUpdate r i word value c (length r.items) × (IsDone r i (length r.items) → ⊥)
+TookPlace r i c None (Sets word value) =
+    PendingUpdate r i word value c (length r.items) × (IsDone r i (length r.items) → ⊥)
 -- a scan, which answered this view at item e
 TookPlace r i c (Some e) (Sees view) = FinishedScan r i None c e view
 -- a scan that has not ended has seen no view yet
@@ -45,6 +47,8 @@ EndedBefore first second = (e : ℕ) × (first.end ≡ Some e) × (e < second.ca
 abbrev pub EndsAreOfOperations : Type 0
 EndsAreOfOperations = (r : Run) → IsValidRun r → (t : ℕ) → t < length r.items →
     ((view : List ℕ) → outcome r (suc t) ≡ Answered view →
-    (c : ℕ) × IsOperation r (record { process = who (item r (suc t)); call = c; end = Some (suc t); action = Sees view }))
+    (c : ℕ)
+    × IsOperation r (record { process = who (item r (suc t)); call = c; end = Some (suc t); action = Sees view }))
     × (outcome r (suc t) ≡ Finished →
-    (c : ℕ) × (word : ℕ) × (value : ℕ) × IsOperation r (record { process = who (item r (suc t)); call = c; end = Some (suc t); action = Sets word value }))
+    (c : ℕ) × (word : ℕ) × (value : ℕ)
+    × IsOperation r (record { process = who (item r (suc t)); call = c; end = Some (suc t); action = Sets word value }))

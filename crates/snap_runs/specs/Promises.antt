@@ -1,5 +1,7 @@
--- What a snapshot promises of a run.
-use Rattle.std.specs.Prelude.{◌≡◌, ◌≢◌, ℕ, suc, ◌-◌, ◌<◌, ◌≤◌, ◌⊎◌, true, List, [], length, Option, Some, None, slice_index, slice_set}
+-- The promises of a snapshot for one run of any listing, each on its own: no traps, one write for
+-- each update, points of scans, clean tests, borrowed views, limits on double collects and steps.
+use Rattle.std.specs.Prelude.{◌≡◌, ◌≢◌, ℕ, suc, ◌-◌, ◌<◌, ◌≤◌, ◌⊎◌, true, List, [], length}
+use Rattle.std.specs.Prelude.{Option, Some, None, slice_index, slice_set}
 use Rattle.snap_words.specs.Shape.{IsOneOf}
 use Rattle.snap_semantics.specs.declared.process.Op.TheVariants.{Update}
 use Rattle.snap_semantics.specs.declared.process.Status.{Status}
@@ -18,17 +20,20 @@ HasTrapped _ = ⊥
 
 -- No process ever traps.
 abbrev pub NeverTraps : Run → Type 0
-NeverTraps r = IsValidRun r → (i t : ℕ) → IsOneOf r.shape.n i → t ≤ length r.items → HasTrapped (process_at (state r t) i).status → ⊥
+NeverTraps r =
+    IsValidRun r → (i t : ℕ) → IsOneOf r.shape.n i → t ≤ length r.items →
+    HasTrapped (process_at (state r t) i).status → ⊥
 
 -- An item changes the values only where it executes this line.
 abbrev pub ChangesOnlyAt : ℕ → Run → Type 0
 ChangesOnlyAt line r = IsValidRun r → (t : ℕ) → t < length r.items →
     (values (state r (suc t)) ≡ values (state r t)) ⊎ (executes r (who (item r (suc t))) line (suc t) ≡ true)
 
--- An item that executes this line lies in an update of its process, after its call and not after its end; it writes that
--- update's value at that update's word, and the other places stay.
+-- An item that executes this line lies in an update of its process, after its call and not after its end; it writes
+-- that update's value at that update's word, and the other places stay.
 abbrev pub WritesItsUpdate : ℕ → Run → Type 0
-WritesItsUpdate line r = IsValidRun r → (i t : ℕ) → IsOneOf r.shape.n i → t < length r.items → executes r i line (suc t) ≡ true →
+WritesItsUpdate line r =
+    IsValidRun r → (i t : ℕ) → IsOneOf r.shape.n i → t < length r.items → executes r i line (suc t) ≡ true →
     (word : ℕ) × (value : ℕ) × (c : ℕ) × PendingUpdate r i word value c (suc t) × (c < suc t) × IsOneOf r.shape.w word
     × (values (state r (suc t)) ≡ slice_set (values (state r t)) (word - 1) value)
 
@@ -39,15 +44,19 @@ WritesOnce line r = IsValidRun r → (i word value c e : ℕ) → PendingUpdate 
 
 -- Every finished scan has a point, called or embedded in an update.
 abbrev pub HavePoints : Run → Type 0
-HavePoints r = IsValidRun r → (i : ℕ) (link : Option ℕ) (c e : ℕ) (view : List ℕ) → FinishedScan r i link c e view → HasPoint r c e view
+HavePoints r =
+    IsValidRun r → (i : ℕ) (link : Option ℕ) (c e : ℕ) (view : List ℕ) →
+    FinishedScan r i link c e view → HasPoint r c e view
 
 -- Every scan, finished or not, has at most so many double collects.
 abbrev pub CollectsAtMost : ℕ → Run → Type 0
-CollectsAtMost most r = IsValidRun r → (i : ℕ) (link : Option ℕ) (c e : ℕ) → PendingScan r i link c e → double_collects r i c e ≤ most
+CollectsAtMost most r =
+    IsValidRun r → (i : ℕ) (link : Option ℕ) (c e : ℕ) → PendingScan r i link c e → double_collects r i c e ≤ most
 
 -- Every scan, finished or not, takes at most so many steps of its process.
 abbrev pub StepsAtMost : ℕ → Run → Type 0
-StepsAtMost most r = IsValidRun r → (i : ℕ) (link : Option ℕ) (c e : ℕ) → PendingScan r i link c e → own_steps r i c e ≤ most
+StepsAtMost most r =
+    IsValidRun r → (i : ℕ) (link : Option ℕ) (c e : ℕ) → PendingScan r i link c e → own_steps r i c e ≤ most
 
 -- place j of a row
 abbrev pub row_place : Locals → Name → ℕ → ℕ
@@ -59,7 +68,8 @@ pub record ObservedMove (r : Run) (line : ℕ) (row : Name) (i j t : ℕ) : Type
   pub executed : executes r i line t ≡ true
   pub grows : row_place (process_at (before r t) i).locals row j < row_place (process_at (state r t) i).locals row j
 
--- Between items c and t process j executes this line, and process i has at most one double collect from there to item t.
+-- Between items c and t process j executes this line, and process i has at most one
+-- double collect from there to item t.
 pub record RecentWrite (r : Run) (line : ℕ) (i j c t : ℕ) : Type 0 where
   pub item : ℕ
   pub after_start : c < item
@@ -69,11 +79,12 @@ pub record RecentWrite (r : Run) (line : ℕ) (i j c t : ℕ) : Type 0 where
 
 -- A move that a scan sees is a write since its previous double collect, or since its start where there is none.
 abbrev pub MovesAreWrites : ℕ → Name → ℕ → Run → Type 0
-MovesAreWrites raises row writes r = IsValidRun r → (i j : ℕ) (link : Option ℕ) (c t : ℕ) → PendingScan r i link c t → c < t →
+MovesAreWrites raises row writes r =
+    IsValidRun r → (i j : ℕ) (link : Option ℕ) (c t : ℕ) → PendingScan r i link c t → c < t →
     ObservedMove r raises row i j t → RecentWrite r writes i j c t
 
--- The lines of a listing's double collect: line `first` reads word k into the first copies and line `second` reads it into the
--- second ones, where k is this scalar; line `test` leads to line `passed` where the copies agree.
+-- The lines of a listing's double collect: line `first` reads word k into the first copies and line `second` reads it
+-- into the second ones, where k is this scalar; line `test` leads to line `passed` where the copies agree.
 pub record CollectLines : Type 0 where
   pub first : ℕ
   pub second : ℕ
@@ -83,7 +94,8 @@ pub record CollectLines : Type 0 where
 
 -- At item t process i executes this line with k in this scalar.
 abbrev pub ExecutesFor : Run → ℕ → ℕ → Name → ℕ → ℕ → Type 0
-ExecutesFor r i line scalar k t = (executes r i line t ≡ true) × (value_at scalar (process_at (before r t) i).locals.scalars 0 ≡ k)
+ExecutesFor r i line scalar k t =
+    (executes r i line t ≡ true) × (value_at scalar (process_at (before r t) i).locals.scalars 0 ≡ k)
 
 -- in an update of this word
 abbrev pub IsUpdating : ℕ → Status → Type 0
@@ -92,10 +104,11 @@ IsUpdating word _ = ⊥
 
 -- At item t some process executes this line in an update of word k.
 abbrev pub WritesWord : Run → ℕ → ℕ → ℕ → Type 0
-WritesWord r line k t = (i : ℕ) × IsOneOf r.shape.n i × (executes r i line t ≡ true) × IsUpdating k (process_at (before r t) i).status
+WritesWord r line k t =
+    (i : ℕ) × IsOneOf r.shape.n i × (executes r i line t ≡ true) × IsUpdating k (process_at (before r t) i).status
 
--- Process i reads word k twice in the double collect that ends at item t, before and after state `middle`, and in between
--- nobody writes that word.
+-- Process i reads word k twice in the double collect that ends at item t, before and after state `middle`, and in
+-- between nobody writes that word.
 pub record CleanReads (r : Run) (lines : CollectLines) (writes i c t middle k : ℕ) : Type 0 where
   pub first : ℕ
   pub second : ℕ
@@ -109,9 +122,11 @@ pub record CleanReads (r : Run) (lines : CollectLines) (writes i c t middle k : 
   pub before_test : second < t
   pub unwritten : (u : ℕ) → first < u → u < second → WritesWord r writes k u → ⊥
 
--- A passed test of a scan is clean: there is a state between its collects, and no word is written between the scan's two reads of it.
+-- A passed test of a scan is clean: there is a state between its collects, and no word is written between the scan's
+-- two reads of it.
 abbrev pub PassedTestsAreClean : CollectLines → ℕ → Run → Type 0
-PassedTestsAreClean lines writes r = IsValidRun r → (i : ℕ) (link : Option ℕ) (c t : ℕ) → PendingScan r i link c t → c < t →
+PassedTestsAreClean lines writes r =
+    IsValidRun r → (i : ℕ) (link : Option ℕ) (c t : ℕ) → PendingScan r i link c t → c < t →
     executes r i lines.test t ≡ true → is_at lines.passed (process_at (state r t) i).status ≡ true →
     (middle : ℕ) × ((k : ℕ) → IsOneOf r.shape.w k → CleanReads r lines writes i c t middle k)
 
@@ -128,11 +143,12 @@ pub record LentView (r : Run) (i c e : ℕ) (view : List ℕ) : Type 0 where
 
 -- A scan that ends at this line has the view of a whole embedded scan of another process within it.
 abbrev pub BorrowedViewsAreLent : ℕ → Run → Type 0
-BorrowedViewsAreLent line r = IsValidRun r → (i : ℕ) (link : Option ℕ) (c e : ℕ) (view : List ℕ) → FinishedScan r i link c e view →
+BorrowedViewsAreLent line r =
+    IsValidRun r → (i : ℕ) (link : Option ℕ) (c e : ℕ) (view : List ℕ) → FinishedScan r i link c e view →
     executes r i line e ≡ true → LentView r i c e view
 
--- A scan that a process calls after an update of its own shows that update's value, where no other one of its updates is done
--- between.
+-- A scan that a process calls after an update of its own shows that update's value, where no other one of its updates
+-- is done between.
 abbrev pub OwnUpdatesAreSeen : Run → Type 0
 OwnUpdatesAreSeen r = IsValidRun r → (i word value called done c e : ℕ) (view : List ℕ) →
     PendingUpdate r i word value called done → called < done → IsDone r i done →

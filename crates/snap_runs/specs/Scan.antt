@@ -1,5 +1,6 @@
 -- The scans of a run: where they start and end, their points, and how many double collects and steps they take.
-use Rattle.std.specs.Prelude.{◌≡◌, ℕ, zero, suc, ◌<◌, ◌≤◌, Bool, true, false, ◌&&◌, List, [], length, Option, Some, None, nat_eq, nat_lt, if◌then◌else◌}
+use Rattle.std.specs.Prelude.{◌≡◌, ℕ, zero, suc, ◌<◌, ◌≤◌, Bool, true, false, ◌&&◌, List, [], length, Option, Some}
+use Rattle.std.specs.Prelude.{None, nat_eq, nat_lt, if◌then◌else◌}
 use Rattle.snap_words.specs.Shape.{IsOneOf}
 use Rattle.snap_semantics.specs.declared.instr.Instr.{Instr}
 use Rattle.snap_semantics.specs.declared.instr.Instr.TheVariants as instr
@@ -39,14 +40,16 @@ ReturnsView _ l view = ⊥
 abbrev pub Starts : Run → ℕ → ℕ → Option ℕ → Type 0
 Starts r i c None = (item r c ≡ Call i op.Scan) × (outcome_at r c ≡ outcome.Called)
 Starts r i c (Some k) =
-    (item r c ≡ Step i) × IsCallLine (line_in r.source (process_at (before r c) i).status) × (outcome_at r c ≡ outcome.Stepped)
+    (item r c ≡ Step i) × IsCallLine (line_in r.source (process_at (before r c) i).status)
+    × (outcome_at r c ≡ outcome.Stepped)
     × (link_in (process_at (state r c) i).status ≡ Some k)
 
 -- Item e ends a scan of process i with this view: it answers it, or executes a `return` line with that link.
 abbrev pub Ends : Run → ℕ → ℕ → Option ℕ → List ℕ → Type 0
 Ends r i e None view = (who (item r e) ≡ i) × (outcome_at r e ≡ outcome.Answered view)
 Ends r i e (Some k) view =
-    (item r e ≡ Step i) × ReturnsView (line_in r.source (process_at (before r e) i).status) (process_at (before r e) i).locals view
+    (item r e ≡ Step i)
+    × ReturnsView (line_in r.source (process_at (before r e) i).status) (process_at (before r e) i).locals view
     × (link_in (process_at (before r e) i).status ≡ Some k)
 
 -- Item c starts a scan of process i, which has not ended before item e.
@@ -96,7 +99,8 @@ is_not_skipped _ = true
 -- whether item t ends a double collect of process i: it executes an `if all` line
 abbrev pub ends_double_collect : Run → ℕ → ℕ → Bool
 ends_double_collect r i t =
-    steps i (item r t) && (is_if_all (line_in r.source (process_at (before r t) i).status) && is_stepped (outcome_at r t))
+    steps i (item r t)
+    && (is_if_all (line_in r.source (process_at (before r t) i).status) && is_stepped (outcome_at r t))
 
 -- whether item t is a step of process i that is not skipped
 abbrev pub takes_step : Run → ℕ → ℕ → Bool

@@ -1,12 +1,13 @@
--- What a snapshot listing promises of each of its runs, in one place.
+-- `IsSnapshotRun`: all that a snapshot listing promises of each of its runs, in one record; and its `Bounds`.
 use Rattle.std.specs.Prelude.{ℕ}
 use Rattle.snap_runs.specs.Audit.{VerdictsHavePoints}
 use Rattle.snap_runs.specs.Linearization.{IsLinearizable}
-use Rattle.snap_runs.specs.Promises.{NeverTraps, ChangesOnlyAt, WritesItsUpdate, WritesOnce, HavePoints, CollectsAtMost, StepsAtMost}
+use Rattle.snap_runs.specs.Promises.{NeverTraps, ChangesOnlyAt, WritesItsUpdate, WritesOnce, HavePoints}
+use Rattle.snap_runs.specs.Promises.{CollectsAtMost, StepsAtMost}
 use Rattle.snap_runs.specs.Run.{Run}
 
--- The line at which an update writes its word; and how many double collects a scan has at most, as the algorithm's authors bound
--- them and by the sharp bound, and how many steps it takes at most.
+-- The line at which an update writes its word; and how many double collects a scan has at most, as the algorithm's
+-- authors bound them and by the sharp bound, and how many steps it takes at most.
 pub record Bounds : Type 0 where
   pub writes : ℕ
   pub collects : ℕ
@@ -21,7 +22,8 @@ pub record IsSnapshotRun (b : Bounds) (r : Run) : Type 0 where
   pub changes_only_at : ChangesOnlyAt b.writes r
   pub writes_its_update : WritesItsUpdate b.writes r
   pub writes_once : WritesOnce b.writes r
-  -- each finished scan's view is the values at one state between its call and its answer, and an audit finds such a state
+  -- each finished scan's view is the values at one state between its call and its answer,
+  -- and an audit finds such a state
   pub have_points : HavePoints r
   pub verdicts_have_points : VerdictsHavePoints r
   -- no scan has more double collects or takes more steps

@@ -1,4 +1,5 @@
--- What a line does, as far as a history of a run has to know.
+-- `StepRole`: what a step means for the history of a run: the write
+-- of a word, a test for all, the answer of a scan, or nothing.
 use Rattle.std.specs.Prelude.{ℕ, Bool, true, false, List, [], Option, Some, None}
 use Rattle.snap_semantics.specs.Source.{Source, instr_at}
 use Rattle.snap_semantics.specs.State.{Locals, State, process_at, value_at}

@@ -1,4 +1,5 @@
--- The updates of a run, and where a process executes a line.
+-- `PendingUpdate`: an update of a run that is not done before
+-- an item; and the items at which a process executes a line.
 use Rattle.std.specs.Prelude.{◌≡◌, ℕ, ◌<◌, ◌≤◌, Bool, false, ◌&&◌, length, nat_eq}
 use Rattle.snap_words.specs.Shape.{IsOneOf}
 use Rattle.snap_semantics.specs.declared.process.Item.TheVariants.{Call}

@@ -1,4 +1,5 @@
--- Wait-free: a call is over after so many turns of its own process, whatever the others do or stop doing.
+-- `KeepsGoing`, wait-freedom: a call is over after a bounded number
+-- of turns of its own process, whatever the others do or stop doing.
 use Rattle.std.specs.Prelude.{ℕ, ◌≤◌, Bool, true, false, ◌&&◌, None}
 use Rattle.snap_semantics.specs.declared.process.Outcome.{Outcome}
 use Rattle.snap_semantics.specs.declared.process.Outcome.TheVariants.{Skipped}
@@ -16,8 +17,8 @@ is_alive _ = true
 abbrev pub turns : Run → ℕ → ℕ → ℕ → ℕ
 turns r i = count (λ t. steps i (item r t) && is_alive (outcome r t))
 
--- A call that has not ended before item e has had at most so many turns up to item e. A turn that is skipped counts, so that a
--- process that trapped or that stands still for ever would not keep this.
+-- A call that has not ended before item e has had at most so many turns up to item e. A turn that is skipped counts,
+-- so that a process that trapped or that stands still for ever would not keep this.
 pub record KeepsGoing (scan_turns update_turns : ℕ) (r : Run) : Type 0 where
   pub scans : (i c e : ℕ) → PendingScan r i None c e → turns r i c e ≤ scan_turns
   pub updates : (i word value c e : ℕ) → PendingUpdate r i word value c e → turns r i c e ≤ update_turns

@@ -1,5 +1,5 @@
--- Write strongly linearizable: as a run goes on, the updates that its linearization lists keep their order, and more come
--- only behind them.
+-- Write strongly linearizable: as a run goes on, the updates that its linearization lists keep their order, and more
+-- come only behind them.
 use Rattle.std.specs.Prelude.{◌≡◌, ℕ, ◌<◌, List, [], ◌∷◌, ◌++◌, length, Option, Some, None}
 use Rattle.snap_words.specs.Shape.{Counts}
 use Rattle.snap_semantics.specs.Source.{Source}
@@ -9,8 +9,8 @@ use Rattle.snap_runs.specs.Operation.{Action, Sets, Sees, Operation}
 use Rattle.snap_runs.specs.Linearization.{IsLinearization}
 use Rattle.snap_runs.specs.LinearizationPoints.{HasLinearizationPoints}
 
--- The call of an update: by which process, at which item, and what for. The end is no part of it, since an update that is
--- open in a run may have ended in a longer one.
+-- The call of an update: by which process, at which item, and what for. The end is no part of it, since an update
+-- that is open in a run may have ended in a longer one.
 pub record UpdateCall : Type 0 where
   pub process : ℕ
   pub call : ℕ
@@ -37,14 +37,16 @@ abbrev pub IsShorter : Option ℕ → List Item → Type 0
 IsShorter None items = Unit {0}
 IsShorter (Some most) items = length items < most
 
--- A choice of a list of operations for each list of items, by which a listing with this shape is write strongly linearizable
--- in all runs that are shorter than a limit, or in all runs where there is none.
-pub record IsWriteStrongChoice (source : Source) (shape : Counts) (most : Option ℕ) (choose : List Item → List Operation) : Type 0 where
+-- A choice of a list of operations for each list of items, by which a listing with this shape is write strongly
+-- linearizable in all runs that are shorter than a limit, or in all runs where there is none.
+pub record IsWriteStrongChoice (source : Source) (shape : Counts) (most : Option ℕ)
+    (choose : List Item → List Operation) : Type 0 where
   -- what is chosen is a linearization of the run over the items
   pub linearizes : (items : List Item) → IsShorter most items → IsValidRun (run_of_items source shape items) →
       IsLinearization (run_of_items source shape items) (choose items)
   -- the updates that are listed once the run has gone on begin with those that were listed before
-  pub keeps_updates : (items more : List Item) → IsShorter most (items ++ more) → IsValidRun (run_of_items source shape (items ++ more)) →
+  pub keeps_updates : (items more : List Item) → IsShorter most (items ++ more) →
+      IsValidRun (run_of_items source shape (items ++ more)) →
       IsPrefix (updates (choose items)) (updates (choose (items ++ more)))
 
 -- There is one.

@@ -1,4 +1,4 @@
--- What every run promises, whose run without crashes keeps what the frame asks for.
+-- The promises of every run of a listing that has a `Frame`, from what its runs without crashes keep.
 use Rattle.std.specs.Prelude.{◌≡◌, ℕ, zero, suc, ◌+◌, ◌<◌, ◌≤◌, List, Option, Some}
 use Rattle.std.proofs.Common.{arith}
 use Rattle.snap_semantics.specs.declared.process.Item.{Item}

@@ -1,5 +1,5 @@
--- What is known of a listing of which one line writes a word, and of each of its runs without crashes: its promises
--- follow from this.
+-- `Frame` and `Kept`: what is known of the lines of a listing of which one line writes
+-- a word, and of each of its runs without crashes; its promises follow from this.
 use Rattle.std.specs.Prelude.{◌≡◌, ℕ, suc, ◌+◌, ◌<◌, ◌≤◌, true, false, List, length, Option, Some}
 use Rattle.std.proofs.Common.{arith}
 use Rattle.snap_words.specs.Shape.{IsOneOf}

@@ -1,9 +1,10 @@
--- What an item leaves of the memory, where each line but some leaves it.
+-- An item keeps a part of the memory, or is a step at one of the few lines of the algorithm that do not keep it.
 use Rattle.std.specs.Prelude.{◌≡◌, ℕ, ◌⊎◌, refl}
 use Rattle.std.proofs.Common.{sym, subst, inl, inr}
 use Rattle.snap_semantics.specs.declared.process.Item.{Item}
 use Rattle.snap_semantics.specs.declared.process.Item.TheVariants.{Step, Call, Crash}
-use Rattle.snap_runs.proofs.Algorithm.{Mode, Control, Idle, At, TypedState, Algorithm, by_step, memory_after, typed_at, changed, happens}
+use Rattle.snap_runs.proofs.Algorithm.{Mode, Control, Idle, At, TypedState, Algorithm, by_step, memory_after}
+use Rattle.snap_runs.proofs.Algorithm.{typed_at, changed, happens}
 use Rattle.snap_runs.proofs.Embedding as embed
 
 module _ {V P M : Type 0} (a : Algorithm V P M) (Same : M → M → Type 0) (same : (m : M) → Same m m)

@@ -1,4 +1,5 @@
--- What every run promises of a listing in which each process writes its own word alone.
+-- What the proofs of the single-writer listings U and B share: scans show
+-- own updates, borrowed views are lent, and observed moves are writes.
 use Rattle.std.specs.Prelude.{◌≡◌, ℕ, zero, suc, ◌<◌, ◌≤◌, List, length, Some}
 use Rattle.std.proofs.Common.{subst, arith}
 use Rattle.snap_words.specs.Shape.{IsOneOf}

@@ -1,5 +1,7 @@
 -- Listing B in its own words: its lines, its variables, and what each line does.
-use Rattle.std.specs.Prelude.{◌≡◌, ℕ, ◌+◌, ◌-◌, ◌⊎◌, max, Bool, true, false, not, ◌&&◌, List, [], ◌∷◌, take, map, Option, Some, None, nat_eq, nat_lt, if◌then◌else◌, slice_index, slice_set, replicate, refl}
+use Rattle.std.specs.Prelude.{◌≡◌, ℕ, ◌+◌, ◌-◌, ◌⊎◌, max, Bool, true, false, not, ◌&&◌, List, [], ◌∷◌, take, map}
+use Rattle.std.specs.Prelude.{Option, Some, None, nat_eq, nat_lt, if◌then◌else◌}
+use Rattle.std.specs.Prelude.{slice_index, slice_set, replicate, refl}
 use Rattle.std.proofs.Common.{ap}
 use Rattle.snap_words.specs.Kind.{initial_word}
 use Rattle.snap_words.specs.Word.{Word}
@@ -9,7 +11,8 @@ use Rattle.snap_semantics.specs.Table.{places_to, all_true, first_true, bit_at, 
 use Rattle.snap_semantics.specs.declared.process.Op.{Op}
 use Rattle.snap_semantics.specs.declared.process.Op.TheVariants.{Scan, Update}
 use Rattle.snap_runs.proofs.Algorithm as typed
-use Rattle.snap_runs.proofs.Algorithm.{Mode, Scanning, Embedded, Updating, value_of, To, Begin, Answer, Finish, Algorithm, returning, embedding}
+use Rattle.snap_runs.proofs.Algorithm.{Mode, Scanning, Embedded, Updating, value_of, To, Begin, Answer, Finish}
+use Rattle.snap_runs.proofs.Algorithm.{Algorithm, returning, embedding}
 use Rattle.snap_runs.proofs.Embedding.{map_same}
 use Rattle.snap_runs.proofs.Flow.{Lines, IsScanOf, IsUpdateOf, IsLine}
 use Rattle.snap_runs.proofs.Held.{word_at, seq_at}
@@ -169,7 +172,8 @@ at_limit p k = nat_eq (moved_at p k) limit
 
 -- lines 15, 17, 19 and 43
 abbrev pub next_to : ℕ → Mode → Registers → Variables → ProgramCounter → ProgramCounter → Move
-next_to n d m p back on = if nat_lt p.j n then To d m (record p { j = p.j + 1 }) back else To d m (record p { j = 1 }) on
+next_to n d m p back on =
+    if nat_lt p.j n then To d m (record p { j = p.j + 1 }) back else To d m (record p { j = 1 }) on
 
 -- lines 26 and 28
 abbrev pub return_to : Mode → Registers → Variables → Move
@@ -190,7 +194,14 @@ first_to d m p (Some k) = To d m (record p { j = k }) borrows
 
 -- the word that line 46 writes
 abbrev pub word_put : ℕ → ℕ → Mode → Registers → Variables → Word
-word_put n me d m p = record { datum = value_of d; seq = seq_at m.words me + 1; id = 0; toggle = p.t; handshakes = take n p.f; view = p.s }
+word_put n me d m p = record {
+  datum = value_of d;
+  seq = seq_at m.words me + 1;
+  id = 0;
+  toggle = p.t;
+  handshakes = take n p.f;
+  view = p.s;
+}
 
 -- the registers after lines 14 and 46
 abbrev pub with_put : ℕ → Registers → Variables → Registers
@@ -281,7 +292,9 @@ first_registers n = record { words = first_words n n; q = replicate n (replicate
 abbrev pub locals_with : ℕ → Words → Locals
 locals_with n ws = record {
   scalars = (listing.j, 0) ∷ (listing.x, 0) ∷ (listing.t, 0) ∷ [];
-  rows = (listing.moved, replicate (max n n) 0) ∷ (listing.g, replicate (max n n) 0) ∷ (listing.f, replicate (max n n) 0) ∷ [];
+  rows =
+      (listing.moved, replicate (max n n) 0) ∷ (listing.g, replicate (max n n) 0)
+      ∷ (listing.f, replicate (max n n) 0) ∷ [];
   words = (listing.a, ws) ∷ (listing.b, ws) ∷ [];
   views = (listing.s, replicate n 0) ∷ [];
 }
@@ -303,7 +316,10 @@ algorithm n = record {
   first_variables = first_variables n;
   first_memory = first_registers n;
   variables_is = ap (locals_with n) (map_same plain (max n n) (first_word n));
-  memory_is = ap (λ (ws : Words). let m : Memory = record { words = ws; q = replicate n (replicate n 0); p = []; views = [] } in m) (map_same plain n (first_word n));
+  memory_is =
+      ap (λ (ws : Words).
+      let m : Memory = record { words = ws; q = replicate n (replicate n 0); p = []; views = [] } in m)
+      (map_same plain n (first_word n));
   entry_is = entry_is;
 }
 

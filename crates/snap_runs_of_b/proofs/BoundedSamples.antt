@@ -87,7 +87,10 @@ after_update_within = record {
         status = tt;
         locals = record {
           scalars = (omega arith, (omega arith, (omega arith, tt)));
-          rows = ((omega arith, (omega arith, tt)), ((omega arith, (omega arith, tt)), ((omega arith, (omega arith, tt)), tt)));
+          rows = (
+            (omega arith, (omega arith, tt)),
+            ((omega arith, (omega arith, tt)), ((omega arith, (omega arith, tt)), tt)),
+          );
           words = ((omega arith, (unwritten_within, tt)), ((omega arith, (unwritten_within, tt)), tt));
           views = ((omega arith, (inl refl, tt)), tt);
         };
@@ -119,7 +122,8 @@ five_unasked (inr asked) = no_call asked.0 asked.1 asked.2 asked.4
 -- Process 2 updates twice while process 1 scans: the scan sees two moves, which is the limit of row `moved`.
 abbrev scan_borrows : List Item
 scan_borrows =
-    Call 1 Scan ∷ (replicate 14 (Step 1) ++ (Call 2 (Update 2 5) ∷ (replicate 32 (Step 2) ++ (replicate 20 (Step 1) ++ (Call 2 (Update 2 6) ∷ (replicate 32 (Step 2) ++ replicate 9 (Step 1)))))))
+    Call 1 Scan ∷ (replicate 14 (Step 1) ++ (Call 2 (Update 2 5) ∷ (replicate 32 (Step 2)
+    ++ (replicate 20 (Step 1) ++ (Call 2 (Update 2 6) ∷ (replicate 32 (Step 2) ++ replicate 9 (Step 1)))))))
 
 moves_reach_limit : row_place (process_at (state (run_of 2 scan_borrows) 107) 1).locals moved 2 ≡ 2
 moves_reach_limit = refl

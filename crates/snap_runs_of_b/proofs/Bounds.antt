@@ -1,4 +1,4 @@
--- The double collects and the steps of every scan of B.
+-- Every scan of B keeps the limits of its promises: on its double collects, with the sharp one, and on its own steps.
 use Rattle.std.specs.Prelude.{◌+◌}
 use Rattle.std.proofs.Common.{arith}
 use Rattle.snap_runs_frame.proofs.Every as every

@@ -1,4 +1,5 @@
--- One process of B changes, and no word.
+-- An item of B that writes no word keeps the invariant: one
+-- process changes, and perhaps a handshake bit that it puts.
 use Rattle.std.specs.Prelude.{◌≡◌, ◌≢◌, ℕ, ◌<◌, ◌≤◌, ◌⊎◌, length, refl}
 use Rattle.std.proofs.Common.{sym, ◌∙◌, ap, subst, arith, inl, inr}
 use Rattle.snap_words.specs.Shape.{IsOneOf}
@@ -12,11 +13,12 @@ use Rattle.snap_runs_of_b.proofs.Control.{BitWords}
 use Rattle.snap_runs_of_b.proofs.Flows.{Making}
 use Rattle.snap_runs_of_b.proofs.Follow.{Grows}
 use Rattle.snap_runs_of_b.proofs.Handshake.{Square}
-use Rattle.snap_runs_of_b.proofs.Invariant.{ProcessInvariant, PairInvariant, Invariant, Answered, AnswersAt, reach_at, others_act}
+use Rattle.snap_runs_of_b.proofs.Invariant.{ProcessInvariant, PairInvariant, Invariant}
+use Rattle.snap_runs_of_b.proofs.Invariant.{Answered, AnswersAt, reach_at, others_act}
 
 -- what holds of the changed process and went on holding of the others holds of each pair
-pub each_pair : (n : ℕ) (x : State) (i : ℕ) (m : Registers) (q : Process) (o : Outcome) → length x.processes ≡ n → IsOneOf n i →
-    (R : ℕ → Process → ℕ → Process → Type 0) → R i q i q →
+pub each_pair : (n : ℕ) (x : State) (i : ℕ) (m : Registers) (q : Process) (o : Outcome) →
+    length x.processes ≡ n → IsOneOf n i → (R : ℕ → Process → ℕ → Process → Type 0) → R i q i q →
     ((k : ℕ) → IsOneOf n k → k ≢ i → R i q k (typed_at (algorithm n) x k)) →
     ((k : ℕ) → IsOneOf n k → k ≢ i → R k (typed_at (algorithm n) x k) i q) →
     ((u v : ℕ) → IsOneOf n u → IsOneOf n v → v ≢ i → R u (typed_at (algorithm n) x u) v (typed_at (algorithm n) x v)) →
@@ -27,24 +29,30 @@ each_pair n x i m q o count one R both first second neither u v iu iv =
     (k : ℕ) → IsOneOf n k → E k (typed_at (algorithm n) (changed x i (New m q o)) k) =
     frame.each_next (algorithm n) x i m q o count one in
     each (λ k p. R k p v (typed_at (algorithm n) (changed x i (New m q o)) v)) (each (R i q) both first v iv)
-    (λ k ik other. each (R k (typed_at (algorithm n) x k)) (second k ik other) (λ y iy another. neither k y ik iy another) v iv) u iu
+    (λ k ik other.
+    each (R k (typed_at (algorithm n) x k)) (second k ik other) (λ y iy another. neither k y ik iy another) v iv) u iu
 
 -- One process changes, and perhaps a bit that it puts; the words stay.
-pub record ProcessChange (n t : ℕ) (history : ℕ → Words) (x : State) (i : ℕ) (q : Process) (m' : Registers) (q' : Process) : Type 0 where
+pub record ProcessChange (n t : ℕ) (history : ℕ → Words) (x : State) (i : ℕ) (q : Process)
+    (m' : Registers) (q' : Process) : Type 0 where
   pub words : m'.words ≡ x.memory.words
   pub square : Square n m'.q
   pub rows : (u k : ℕ) → IsOneOf n u → IsOneOf n k → u ≢ i → bit_for m'.q u k ≡ bit_for x.memory.q u k
   pub own : ProcessInvariant n t history m' i q'
   -- a view in the making is one that it was making before, or its scan starts now
-  pub making : Making q'.control → (q'.auxiliary.since ≡ t) ⊎ (Making q.control × (q'.auxiliary.since ≡ q.auxiliary.since))
+  pub making : Making q'.control →
+      (q'.auxiliary.since ≡ t) ⊎ (Making q.control × (q'.auxiliary.since ≡ q.auxiliary.since))
   pub since : (q'.auxiliary.since ≡ t) ⊎ (q'.auxiliary.since ≡ q.auxiliary.since)
   -- as the process that asks: where there was a write since it put its bit, it had asked before
-  pub asks : (k : ℕ) → IsOneOf n k → k < reach_at n q'.variables q'.control → place q'.variables.marks k < seq_at x.memory.words k →
-      (k < reach_at n q.variables q.control) × (place q.variables.marks k < seq_at x.memory.words k) × (place q.variables.g k ≡ place q'.variables.g k)
+  pub asks : (k : ℕ) → IsOneOf n k → k < reach_at n q'.variables q'.control →
+      place q'.variables.marks k < seq_at x.memory.words k → (k < reach_at n q.variables q.control)
+      × (place q.variables.marks k < seq_at x.memory.words k) × (place q.variables.g k ≡ place q'.variables.g k)
   -- as the process that answers
-  pub answers : (u bit : ℕ) → IsOneOf n u → bit_for x.memory.q u i ≡ bit → AnswersAt u bit q.variables q.control → AnswersAt u bit q'.variables q'.control
+  pub answers : (u bit : ℕ) → IsOneOf n u → bit_for x.memory.q u i ≡ bit → AnswersAt u bit q.variables q.control →
+      AnswersAt u bit q'.variables q'.control
 
-module _ (n t : ℕ) (history : ℕ → Words) (x : State) (i : ℕ) (m' : Registers) (q' : Process) (o : Outcome) (count : length x.processes ≡ n)
+module _ (n t : ℕ) (history : ℕ → Words) (x : State) (i : ℕ) (m' : Registers) (q' : Process) (o : Outcome)
+    (count : length x.processes ≡ n)
     (one : IsOneOf n i) (now : history t ≡ x.memory.words) (h : Invariant n t history x)
     (change : ProcessChange n t history x i (typed_at (algorithm n) x i) m' q') where
   abbrev pub old : ℕ → Process
@@ -62,7 +70,8 @@ module _ (n t : ℕ) (history : ℕ → Words) (x : State) (i : ℕ) (m' : Regis
       let own = h.each k ik in
       others_act n t t history x.memory m' k (old k) (omega arith) (after (Grows n x.memory.words) (λ u iu. inr refl))
       (ap (λ w. word_at w k) change.words) (λ u iu. change.rows k u ik iu other)
-      (after (λ w. Late n w (old k).variables.g (old k).variables.marks k (reach_at n (old k).variables (old k).control)) own.late)
+      (after (λ w.
+      Late n w (old k).variables.g (old k).variables.marks k (reach_at n (old k).variables (old k).control)) own.late)
       (after (Viewed n history t (old k).auxiliary.since) own.views) own
 
   -- its scan is older than the views that others make of later words, or starts now
@@ -89,7 +98,8 @@ module _ (n t : ℕ) (history : ℕ → Words) (x : State) (i : ℕ) (m' : Regis
       subst (λ bit. AnswersAt i bit (old k).variables (old k).control) r.2 (h.answered i k one ik r.0 r.1)
 
   answers : (k : ℕ) → IsOneOf n k → Answered n x.memory.words k (old k) i q'
-  answers k ik lt more = change.answers k (place (old k).variables.g i) ik ((h.each k ik).asked i one lt) (h.answered k i ik one lt more)
+  answers k ik lt more =
+      change.answers k (place (old k).variables.g i) ik ((h.each k ik).asked i one lt) (h.answered k i ik one lt more)
 
   itself : Answered n x.memory.words i q' i q'
   itself lt more =
@@ -104,10 +114,12 @@ module _ (n t : ℕ) (history : ℕ → Words) (x : State) (i : ℕ) (m' : Regis
     each = frame.each_next (algorithm n) x i m' q' o count one (ProcessInvariant n t history m') change.own others;
     start = after
         (λ w. (u v : ℕ) → IsOneOf n u → IsOneOf n v → PairInvariant history w (next u) (next v) v)
-        (each_pair n x i m' q' o count one (λ u p v r. PairInvariant history x.memory.words p r v) (λ making lt. omega arith)
+        (each_pair n x i m' q' o count one
+        (λ u p v r. PairInvariant history x.memory.words p r v) (λ making lt. omega arith)
         (λ k ik other. starts_first k ik) (λ k ik other. makes_later k ik) (λ u v iu iv other. h.start u v iu iv));
     answered = after
         (λ w. (u v : ℕ) → IsOneOf n u → IsOneOf n v → Answered n w u (next u) v (next v))
-        (each_pair n x i m' q' o count one (Answered n x.memory.words) itself (λ k ik other. asked k ik) (λ k ik other. answers k ik)
+        (each_pair n x i m' q' o count one (Answered n x.memory.words) itself
+        (λ k ik other. asked k ik) (λ k ik other. answers k ik)
         (λ u v iu iv other. h.answered u v iu iv));
   }

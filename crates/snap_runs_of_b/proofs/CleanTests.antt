@@ -1,5 +1,6 @@
 -- The double collects of B: which line reads which copy, and that a passed test is clean.
-use Rattle.std.specs.Prelude.{◌≡◌, ℕ, suc, ◌+◌, ◌≤◌, ◌⊎◌, max, Bool, true, false, List, length, map, nat_eq, nat_lt, if◌then◌else◌, refl}
+use Rattle.std.specs.Prelude.{◌≡◌, ℕ, suc, ◌+◌, ◌≤◌, ◌⊎◌, max, Bool, true, false, List}
+use Rattle.std.specs.Prelude.{length, map, nat_eq, nat_lt, if◌then◌else◌, refl}
 use Rattle.std.proofs.Common.{sym, ap, arith, inl, inr}
 use Rattle.snap_semantics.specs.Table.{places_to, all_true, first_true}
 use Rattle.snap_semantics.specs.declared.process.Item.{Item}
@@ -15,10 +16,13 @@ use Rattle.snap_runs.proofs.ItemCases.{moved}
 use Rattle.snap_runs_frame.proofs.Every as every
 use Rattle.snap_runs_frame.proofs.Frame as frames
 use Rattle.snap_runs_of_b.specs.Promises.{run_of, double_collect, PassedTestsAreClean}
-use Rattle.snap_runs_of_b.proofs.Algorithm.{Registers, Move, Process, Variables, ProgramCounter, L15, L16, L17, L18, L19, L20, L21, L22, L23, L25, L26, L28, L43, L44, number, agree, at_limit, move, first_to, counter, restarts, IsLineOf, algorithm}
+use Rattle.snap_runs_of_b.proofs.Algorithm.{Registers, Move, Process, Variables, ProgramCounter, L15, L16, L17, L18}
+use Rattle.snap_runs_of_b.proofs.Algorithm.{L19, L20, L21, L22, L23, L25, L26, L28, L43, L44, number, agree, at_limit}
+use Rattle.snap_runs_of_b.proofs.Algorithm.{move, first_to, counter, restarts, IsLineOf, algorithm}
 use Rattle.snap_runs_of_b.proofs.PassedTests.{equal_counts}
 use Rattle.snap_runs_of_b.proofs.Control.{VariablesAt}
-use Rattle.snap_runs_of_b.proofs.Runs.{words_at, registers_at, process_after, invariant, invariant_of, stage_of, counts_of}
+use Rattle.snap_runs_of_b.proofs.Runs.{words_at, registers_at, process_after, invariant}
+use Rattle.snap_runs_of_b.proofs.Runs.{invariant_of, stage_of, counts_of}
 use Rattle.snap_runs_of_b.proofs.Kept.{frame, kept, calm_kept}
 use Rattle.snap_runs.proofs.Steady.{Steady}
 
@@ -31,7 +35,8 @@ phase L20 = Collected
 phase _ = Away
 
 abbrev pub copies : ℕ → Copies Variables ProgramCounter Registers
-copies n = record { words = λ m. m.words; places = n; index = λ p. p.j; first = λ p. p.a; second = λ p. p.b; phase = phase }
+copies n =
+    record { words = λ m. m.words; places = n; index = λ p. p.j; first = λ p. p.a; second = λ p. p.b; phase = phase }
 
 -- what is said of a line by its phase
 record Named (k : ProgramCounter) : Type 0 where
@@ -49,17 +54,19 @@ abbrev pub Reaches : ℕ → Registers → Variables → ProgramCounter → Move
 Reaches n = collecting.Reaches (algorithm n) (copies n)
 
 -- what each line does to the copies
-reaches : (n me : ℕ) (d : Mode) (m : Registers) (p : Variables) (k : ProgramCounter) → IsLineOf me d k → VariablesAt n me p k → n ≤ length p.a →
-    n ≤ length p.b →
-    Reaches n m p k (move n me d m p k)
+reaches : (n me : ℕ) (d : Mode) (m : Registers) (p : Variables) (k : ProgramCounter) → IsLineOf me d k →
+    VariablesAt n me p k → n ≤ length p.a → n ≤ length p.b → Reaches n m p k (move n me d m p k)
 reaches n me d m p L15 s h a b = either (Reaches n m p L15) (nat_lt p.j n) _ _ (λ e. tt) (λ e. inl refl)
 reaches n me d m p L16 s h a b = (refl, refl, h.0, a, refl)
 reaches n me d m p L17 s h a b =
-    either (Reaches n m p L17) (nat_lt p.j n) _ _ (λ e. inr (refl, refl, refl)) (λ e. (refl, inl (refl, not_lt p.j n e, refl)))
+    either (Reaches n m p L17) (nat_lt p.j n) _ _ (λ e. inr (refl, refl, refl))
+    (λ e. (refl, inl (refl, not_lt p.j n e, refl)))
 reaches n me d m p L18 s h a b = (refl, refl, refl, h.0, b, refl)
 reaches n me d m p L19 s h a b =
-    either (Reaches n m p L19) (nat_lt p.j n) _ _ (λ e. (refl, inr (refl, refl, refl))) (λ e. (refl, refl, inl (refl, not_lt p.j n e)))
-reaches n me d m p L20 s h a b = either (Reaches n m p L20) (all_true (map (agree me p) (places_to n))) _ _ (λ e. tt) (λ e. tt)
+    either (Reaches n m p L19) (nat_lt p.j n) _ _ (λ e. (refl, inr (refl, refl, refl)))
+    (λ e. (refl, refl, inl (refl, not_lt p.j n e)))
+reaches n me d m p L20 s h a b =
+    either (Reaches n m p L20) (all_true (map (agree me p) (places_to n))) _ _ (λ e. tt) (λ e. tt)
 reaches n me d m p L22 s h a b =
     whether (Reaches n m p L22) (first_to d m p) (first_true 1 (map (at_limit p) (places_to n))) (λ e. tt) (λ k e. tt)
 reaches n me Scanning m p L26 s h a b = tt
@@ -76,7 +83,8 @@ reaches n me d m p k s h a b = tt
 
 -- the test passes only where all copies agree
 passes : (n t : ℕ) (q : Process) (d : Mode) (m : Registers) (p : Variables) (b : Bool) →
-    is_at 25 (status_of (algorithm n) (moved (algorithm n) t q L20 (if b then To d m p L25 else To d m p L21)).control) ≡ true → b ≡ true
+    is_at 25 (status_of (algorithm n) (moved (algorithm n) t q L20 (if b then To d m p L25 else To d m p L21)).control)
+    ≡ true → b ≡ true
 passes n t q d m p true h = refl
 passes n t q d m p false h = absurd (cc)
 
@@ -101,7 +109,9 @@ collects n items fits = record {
       let own = invariant_of n items fits t i (omega arith) one in
       let a : length q.variables.a ≡ max n n = own.sized.0 in
       let b : length q.variables.b ≡ max n n = own.sized.1 in
-      when_busy _ _ (λ d k well. reaches n i d (registers_at n items t) q.variables k well.0 well.1 (omega arith) (omega arith)) q.control own.well;
+      when_busy _ _
+      (λ d k well. reaches n i d (registers_at n items t) q.variables k well.0 well.1 (omega arith) (omega arith))
+      q.control own.well;
   quiet = λ k. (named k).quiet;
   away = away;
   first = λ k. (named k).first;
@@ -115,10 +125,12 @@ collects n items fits = record {
       let q = process_after n items t i in
       let p = q.variables in
       let all = passes n (suc t) q d (registers_at n items t) p (all_true (map (agree i p) (places_to n))) to in
-      equal_counts n i (words_at n items) t q.auxiliary.since q.auxiliary.round (words_at n items t) p (stage_of n items fits t i d L20 short one is).1 all k one_k;
+      equal_counts n i (words_at n items) t q.auxiliary.since q.auxiliary.round (words_at n items t) p
+      (stage_of n items fits t i d L20 short one is).1 all k one_k;
 }
 
 pub passed_tests_are_clean_lem : PassedTestsAreClean
 passed_tests_are_clean_lem n items =
-    every.passed_tests_are_clean (frame n) items (calm_kept n items) double_collect (copies n) L20 (λ steady. counts n _ steady)
+    every.passed_tests_are_clean (frame n) items (calm_kept n items) double_collect
+    (copies n) L20 (λ steady. counts n _ steady)
     (λ steady. collects n _ steady)

@@ -1,5 +1,6 @@
 -- The handshake and the two collects of a double collect of B, and what a scan learns of them.
-use Rattle.std.specs.Prelude.{◌≡◌, ℕ, ◌+◌, ◌-◌, ◌<◌, ◌≤◌, Bool, true, false, not, ◌&&◌, List, take, length, map, slice_set, nat_eq, if◌then◌else◌, refl}
+use Rattle.std.specs.Prelude.{◌≡◌, ℕ, ◌+◌, ◌-◌, ◌<◌, ◌≤◌, Bool, true, false, not, ◌&&◌, List, take, length, map}
+use Rattle.std.specs.Prelude.{slice_set, nat_eq, if◌then◌else◌, refl}
 use Rattle.std.proofs.Common.{sym, ◌∙◌, ap, subst, arith, inl, inr}
 use Rattle.std.proofs.lemmas.Bool.{cases_eq, cases_lt}
 use Rattle.std.proofs.lemmas.Grind.{get_or-set_at}
@@ -13,10 +14,10 @@ use Rattle.snap_runs.proofs.Places.{all_pass}
 use Rattle.snap_runs_of_b.proofs.Algorithm.{Words, Variables, place, handshake_at, agree}
 use Rattle.snap_runs_of_b.proofs.Follow.{follows_seq, IsLaterWord, follows_trans, same_word, toggled, squeezed}
 
--- In all that follows `history u` are the words after u items, t is the number of items so far and `words` the words now;
--- `since` is the item that started the scan, `round` the item that started its double collect, and `opening` the words
--- then. The scan is process i's; g are the bits that it drew, and `marks` say how often each word had been written when
--- its bit was put.
+-- In all that follows `history u` are the words after u items, t is the number of items so far and `words` the words
+-- now; `since` is the item that started the scan, `round` the item that started its double collect, and `opening` the
+-- words then. The scan is process i's; g are the bits that it drew, and `marks` say how often each word had been
+-- written when its bit was put.
 
 -- the writes of process k up to the scan's start, and the moves of k that it has seen since
 abbrev pub floor : Words → List ℕ → ℕ → ℕ
@@ -45,7 +46,9 @@ PutTo n opening words g marks i j = (k : ℕ) → IsOneOf n k → k < j → Put 
 
 -- Two writes after the mark show in the bit, up to place r.
 abbrev pub Late : ℕ → Words → List ℕ → List ℕ → ℕ → ℕ → Type 0
-Late n words g marks i r = (k : ℕ) → IsOneOf n k → k < r → place marks k + 2 ≤ seq_at words k → handshake_at (word_at words k) i ≡ place g k → ⊥
+Late n words g marks i r =
+    (k : ℕ) → IsOneOf n k → k < r → place marks k + 2 ≤ seq_at words k →
+    handshake_at (word_at words k) i ≡ place g k → ⊥
 
 -- a word of the first collect: not older than its mark, which is not older than the double collect; `now` is not older
 pub record FirstCopy (opening : Words) (marks : List ℕ) (copy now : Words) (k : ℕ) : Type 0 where
@@ -59,7 +62,8 @@ First n opening words marks a j = (k : ℕ) → IsOneOf n k → k < j → FirstC
 
 -- The view beside the second or a later write since the scan's start was the values at some state since.
 abbrev pub Viewed : ℕ → (ℕ → Words) → ℕ → ℕ → Words → Type 0
-Viewed n history t since words = (k : ℕ) → IsOneOf n k → seq_at (history since) k + 2 ≤ seq_at words k → Held history t since (word_at words k).view
+Viewed n history t since words =
+    (k : ℕ) → IsOneOf n k → seq_at (history since) k + 2 ≤ seq_at words k → Held history t since (word_at words k).view
 
 -- a word of the second collect: `between` is not later, and `now` not older
 pub record SecondCopy (opening : Words) (g marks : List ℕ) (i k : ℕ) (between copy now : Word) : Type 0 where
@@ -71,44 +75,53 @@ pub record SecondCopy (opening : Words) (g marks : List ℕ) (i k : ℕ) (betwee
   pub same : copy.seq ≤ seq_at opening k → handshake_at copy i ≡ place g k
 
 -- The second collect has come to place j; `between` are the words at a state between the two collects.
-pub record Second (n i : ℕ) (history : ℕ → Words) (t since round : ℕ) (words : Words) (g marks : List ℕ) (a b : Words) (j : ℕ) (between : Words) : Type 0 where
+pub record Second (n i : ℕ) (history : ℕ → Words) (t since round : ℕ) (words : Words) (g marks : List ℕ) (a b : Words)
+    (j : ℕ) (between : Words) : Type 0 where
   -- the first collect was before
   pub first : (k : ℕ) → IsOneOf n k → FirstCopy (history round) marks a between k
   -- the second collect was after it, and the words now are not older
-  pub read : (k : ℕ) → IsOneOf n k → k < j → SecondCopy (history round) g marks i k (word_at between k) (word_at b k) (word_at words k)
+  pub read : (k : ℕ) → IsOneOf n k → k < j →
+      SecondCopy (history round) g marks i k (word_at between k) (word_at b k) (word_at words k)
   pub now : (k : ℕ) → IsOneOf n k → IsLaterWord (word_at between k) (word_at words k)
   -- the views that the second collect read are as those of the registers
-  pub views : (k : ℕ) → IsOneOf n k → k < j → seq_at (history since) k + 2 ≤ seq_at b k → Lent history t since k (word_at b k).view
+  pub views : (k : ℕ) → IsOneOf n k → k < j → seq_at (history since) k + 2 ≤ seq_at b k →
+      Lent history t since k (word_at b k).view
 
 -- There is such a state since the scan's start.
 abbrev pub Between : ℕ → ℕ → (ℕ → Words) → ℕ → ℕ → ℕ → Words → List ℕ → List ℕ → Words → Words → ℕ → Type 0
-Between n i history t since round words g marks a b j = (u : ℕ) × (since ≤ u) × (u ≤ t) × Second n i history t since round words g marks a b j (history u)
+Between n i history t since round words g marks a b j =
+    (u : ℕ) × (since ≤ u) × (u ≤ t) × Second n i history t since round words g marks a b j (history u)
 
 -- The double collect has failed and its moves are counted.
-pub record Gained (n : ℕ) (history : ℕ → Words) (t since : ℕ) (words : Words) (moved : List ℕ) (b : Words) : Type 0 where
+pub record Gained (n : ℕ) (history : ℕ → Words) (t since : ℕ) (words : Words)
+    (moved : List ℕ) (b : Words) : Type 0 where
   -- every move is a write that the second collect saw
   pub low : (k : ℕ) → IsOneOf n k → floor (history since) moved k ≤ seq_at b k
   -- the words now are not older than the second collect
   pub before : (k : ℕ) → IsOneOf n k → IsLaterWord (word_at b k) (word_at words k)
   -- the views that it read are as those of the registers
-  pub views : (k : ℕ) → IsOneOf n k → seq_at (history since) k + 2 ≤ seq_at b k → Lent history t since k (word_at b k).view
+  pub views : (k : ℕ) → IsOneOf n k → seq_at (history since) k + 2 ≤ seq_at b k →
+      Lent history t since k (word_at b k).view
 
 -- places that are set, and places that are kept
-pub word_set : (ws : Words) (j k : ℕ) (w : Word) → 0 < j → j ≤ length ws → k ≡ j → word_at (slice_set ws (j - 1) w) k ≡ w
+pub word_set : (ws : Words) (j k : ℕ) (w : Word) → 0 < j → j ≤ length ws → k ≡ j →
+    word_at (slice_set ws (j - 1) w) k ≡ w
 word_set ws j k w pos le e = get_or-set_at ws (j - 1) (k - 1) w no_word (omega arith) (omega arith)
 
-pub word_kept : (ws : Words) (j k : ℕ) (w : Word) → 0 < j → 0 < k → (k ≡ j → ⊥) → word_at (slice_set ws (j - 1) w) k ≡ word_at ws k
+pub word_kept : (ws : Words) (j k : ℕ) (w : Word) → 0 < j → 0 < k → (k ≡ j → ⊥) →
+    word_at (slice_set ws (j - 1) w) k ≡ word_at ws k
 word_kept ws j k w pj pk other = get_or-set_other ws (j - 1) (k - 1) w no_word (λ same. other (omega arith))
 
 pub place_set : (row : List ℕ) (j k v : ℕ) → 0 < j → j ≤ length row → k ≡ j → place (slice_set row (j - 1) v) k ≡ v
 place_set row j k v pos le e = get_or-set_at row (j - 1) (k - 1) v 0 (omega arith) (omega arith)
 
-pub place_kept : (row : List ℕ) (j k v : ℕ) → 0 < j → 0 < k → (k ≡ j → ⊥) → place (slice_set row (j - 1) v) k ≡ place row k
+pub place_kept : (row : List ℕ) (j k v : ℕ) → 0 < j → 0 < k → (k ≡ j → ⊥) →
+    place (slice_set row (j - 1) v) k ≡ place row k
 place_kept row j k v pj pk other = get_or-set_other row (j - 1) (k - 1) v 0 (λ same. other (omega arith))
 
 -- line 13 draws a bit for one more process
-pub put_drawn : (n : ℕ) (opening words : Words) (g marks : List ℕ) (i j v : ℕ) → IsOneOf n j → PutTo n opening words g marks i j →
-    PutTo n opening words (slice_set g (j - 1) v) marks i j
+pub put_drawn : (n : ℕ) (opening words : Words) (g marks : List ℕ) (i j v : ℕ) → IsOneOf n j →
+    PutTo n opening words g marks i j → PutTo n opening words (slice_set g (j - 1) v) marks i j
 put_drawn n opening words g marks i j v one h k ik lt =
     let old : Put opening words g marks i k = h k ik lt in
     record {
@@ -122,32 +135,44 @@ put_drawn n opening words g marks i j v one h k ik lt =
       before = old.before;
     }
 
-pub just_drawn : (n : ℕ) (opening words : Words) (g : List ℕ) (a : Words) (i j : ℕ) → IsOneOf n j → n ≤ length g → seq_at opening j ≤ seq_at a j →
-    IsLaterWord (word_at a j) (word_at words j) →
+pub just_drawn : (n : ℕ) (opening words : Words) (g : List ℕ) (a : Words) (i j : ℕ) → IsOneOf n j →
+    n ≤ length g → seq_at opening j ≤ seq_at a j → IsLaterWord (word_at a j) (word_at words j) →
     Drawn opening words (slice_set g (j - 1) (handshake_at (word_at a j) i)) i j
 just_drawn n opening words g a i j one len fresh before =
-    record { word = word_at a j; fresh = fresh; before = before; says = place_set g j j (handshake_at (word_at a j) i) one.0 (omega arith) refl }
+    record {
+      word = word_at a j;
+      fresh = fresh;
+      before = before;
+      says = place_set g j j (handshake_at (word_at a j) i) one.0 (omega arith) refl;
+    }
 
 -- line 14 puts it
-pub put_more : (n : ℕ) (opening words : Words) (g marks : List ℕ) (i j : ℕ) → IsOneOf n j → n ≤ length marks → seq_at opening j ≤ seq_at words j →
-    Drawn opening words g i j →
+pub put_more : (n : ℕ) (opening words : Words) (g marks : List ℕ) (i j : ℕ) → IsOneOf n j →
+    n ≤ length marks → seq_at opening j ≤ seq_at words j → Drawn opening words g i j →
     PutTo n opening words g marks i j → PutTo n opening words g (slice_set marks (j - 1) (seq_at words j)) i (j + 1)
 put_more n opening words g marks i j one len opened drawn h k ik lt =
     let P : ℕ → ℕ → Type 0 = λ m u. (seq_at opening u ≤ m) × (m ≤ seq_at words u) in
     elim (cases_eq k j) [
-      | inl same ↦ (let e : place (slice_set marks (j - 1) (seq_at words j)) k ≡ seq_at words k = place_set marks j k (seq_at words j) one.0 (omega arith) same ∙ ap (seq_at words) (sym same) in
-          let o : seq_at opening k ≤ seq_at words k = subst (λ u. seq_at opening u ≤ seq_at words u) (sym same) opened in
-          record { drawn = subst (Drawn opening words g i) (sym same) drawn; fresh = omega arith; before = omega arith })
+      | inl same ↦ (let e : place (slice_set marks (j - 1) (seq_at words j)) k ≡ seq_at words k =
+          place_set marks j k (seq_at words j) one.0 (omega arith) same ∙ ap (seq_at words) (sym same) in
+          let o : seq_at opening k ≤ seq_at words k =
+          subst (λ u. seq_at opening u ≤ seq_at words u) (sym same) opened in
+          record {
+            drawn = subst (Drawn opening words g i) (sym same) drawn;
+            fresh = omega arith;
+            before = omega arith;
+          })
       | inr other ↦ (let old : Put opening words g marks i k = h k ik (omega arith) in
-          let e : place (slice_set marks (j - 1) (seq_at words j)) k ≡ place marks k = place_kept marks j k (seq_at words j) one.0 ik.0 other in
+          let e : place (slice_set marks (j - 1) (seq_at words j)) k ≡ place marks k =
+          place_kept marks j k (seq_at words j) one.0 ik.0 other in
           let f : seq_at opening k ≤ place marks k = old.fresh in
           let b : place marks k ≤ seq_at words k = old.before in
           record { drawn = old.drawn; fresh = omega arith; before = omega arith })
     ]
 
 -- a first copy has the same word
-same_copy : (opening : Words) (marks : List ℕ) (x y now : Words) (k : ℕ) → word_at x k ≡ word_at y k → FirstCopy opening marks x now k →
-    FirstCopy opening marks y now k
+same_copy : (opening : Words) (marks : List ℕ) (x y now : Words) (k : ℕ) → word_at x k ≡ word_at y k →
+    FirstCopy opening marks x now k → FirstCopy opening marks y now k
 same_copy opening marks x y now k e h = record {
   fresh = h.fresh;
   marked = subst (λ (w : Word). place marks k ≤ w.seq) e h.marked;
@@ -155,8 +180,8 @@ same_copy opening marks x y now k e h = record {
 }
 
 -- line 16 reads one more word
-pub first_more : (n : ℕ) (opening words : Words) (g marks : List ℕ) (i : ℕ) (a : Words) (j : ℕ) → IsOneOf n j → n ≤ length a →
-    PutTo n opening words g marks i (n + 1) →
+pub first_more : (n : ℕ) (opening words : Words) (g marks : List ℕ) (i : ℕ) (a : Words) (j : ℕ) →
+    IsOneOf n j → n ≤ length a → PutTo n opening words g marks i (n + 1) →
     First n opening words marks a j → First n opening words marks (slice_set a (j - 1) (word_at words j)) (j + 1)
 first_more n opening words g marks i a j one len shaken h k ik lt =
     let put : Put opening words g marks i k = shaken k ik (omega arith) in
@@ -169,8 +194,8 @@ first_more n opening words g marks i a j one len shaken h k ik lt =
     ]
 
 -- when the first collect is done, the words of now stand between the collects
-pub second_starts : (n i : ℕ) (history : ℕ → Words) (t since round : ℕ) (words : Words) (g marks : List ℕ) (a b : Words) → history t ≡ words →
-    since ≤ t →
+pub second_starts : (n i : ℕ) (history : ℕ → Words) (t since round : ℕ) (words : Words)
+    (g marks : List ℕ) (a b : Words) → history t ≡ words → since ≤ t →
     First n (history round) words marks a (n + 1) → Between n i history t since round words g marks a b 1
 second_starts n i history t since round words g marks a b now le h =
     let P : Words → Type 0 = λ between. Second n i history t since round words g marks a b 1 between in
@@ -183,17 +208,17 @@ second_starts n i history t since round words g marks a b now le h =
     (t, le, omega arith, subst P (sym now) here)
 
 -- with no write since the double collect's start the word says the bit that was drawn
-still_says : (opening words : Words) (g : List ℕ) (i k : ℕ) → Drawn opening words g i k → seq_at words k ≤ seq_at opening k →
-    handshake_at (word_at words k) i ≡ place g k
+still_says : (opening words : Words) (g : List ℕ) (i k : ℕ) → Drawn opening words g i k →
+    seq_at words k ≤ seq_at opening k → handshake_at (word_at words k) i ≡ place g k
 still_says opening words g i k d le =
     let fresh : seq_at opening k ≤ d.word.seq = d.fresh in
     sym (d.says ∙ ap (λ (w : Word). handshake_at w i) (same_word d.word (word_at words k) d.before (omega arith)))
 
 -- line 18 reads one more word
-pub second_more : (n i : ℕ) (history : ℕ → Words) (t since round : ℕ) (words : Words) (g marks : List ℕ) (a b : Words) (j : ℕ) → IsOneOf n j →
-    n ≤ length b → history t ≡ words → since ≤ t →
-    Viewed n history t since words → PutTo n (history round) words g marks i (n + 1) → Late n words g marks i (n + 1) →
-    Between n i history t since round words g marks a b j →
+pub second_more : (n i : ℕ) (history : ℕ → Words) (t since round : ℕ) (words : Words) (g marks : List ℕ)
+    (a b : Words) (j : ℕ) → IsOneOf n j → n ≤ length b → history t ≡ words → since ≤ t →
+    Viewed n history t since words → PutTo n (history round) words g marks i (n + 1) →
+    Late n words g marks i (n + 1) → Between n i history t since round words g marks a b j →
     Between n i history t since round words g marks a (slice_set b (j - 1) (word_at words j)) (j + 1)
 second_more n i history t since round words g marks a b j one len at_t le v shaken late h =
     let s : Second n i history t since round words g marks a b j (history h.0) = h.3 in (
@@ -204,23 +229,28 @@ second_more n i history t since round words g marks a b j one len at_t le v shak
         first = s.first;
         now = s.now;
         read = λ k ik lt.
-            let P : Word → Type 0 = λ w. SecondCopy (history round) g marks i k (word_at (history h.0) k) w (word_at words k) in
+            let P : Word → Type 0 =
+            λ w. SecondCopy (history round) g marks i k (word_at (history h.0) k) w (word_at words k) in
             elim (cases_eq k j) [
-              | inl same ↦ subst P (ap (word_at words) same ∙ sym (word_set b j k (word_at words j) one.0 (omega arith) same))
+              | inl same ↦
+                  subst P (ap (word_at words) same ∙ sym (word_set b j k (word_at words j) one.0 (omega arith) same))
                   (record {
                     after = s.now k ik;
                     before = inr refl;
                     late = late k ik (omega arith);
                     same = still_says (history round) words g i k (shaken k ik (omega arith)).drawn;
                   })
-              | inr other ↦ subst P (sym (word_kept b j k (word_at words j) one.0 ik.0 other)) (s.read k ik (omega arith))
+              | inr other ↦
+                  subst P (sym (word_kept b j k (word_at words j) one.0 ik.0 other)) (s.read k ik (omega arith))
             ];
         views = λ k ik lt.
             let P : Word → Type 0 = λ w. seq_at (history since) k + 2 ≤ w.seq → Lent history t since k w.view in
             elim (cases_eq k j) [
-              | inl same ↦ subst P (ap (word_at words) same ∙ sym (word_set b j k (word_at words j) one.0 (omega arith) same))
+              | inl same ↦
+                  subst P (ap (word_at words) same ∙ sym (word_set b j k (word_at words j) one.0 (omega arith) same))
                   (λ more. (v k ik more, beside_now history t since k words at_t le more))
-              | inr other ↦ subst P (sym (word_kept b j k (word_at words j) one.0 ik.0 other)) (s.views k ik (omega arith))
+              | inr other ↦
+                  subst P (sym (word_kept b j k (word_at words j) one.0 ik.0 other)) (s.views k ik (omega arith))
             ];
       },
     )
@@ -231,11 +261,12 @@ pub copies_follow : (n i : ℕ) (history : ℕ → Words) (t since round : ℕ) 
     (k : ℕ) → IsOneOf n k → IsLaterWord (word_at p.a k) (word_at p.b k)
 copies_follow n i history t since round words p h k ik =
     let s : Second n i history t since round words p.g p.marks p.a p.b (n + 1) (history h.0) = h.3 in
-    follows_trans (word_at p.a k) (word_at (history h.0) k) (word_at p.b k) (s.first k ik).before (s.read k ik (omega arith)).after
+    follows_trans (word_at p.a k) (word_at (history h.0) k) (word_at p.b k) (s.first k ik).before
+    (s.read k ik (omega arith)).after
 
 -- copies that agree have equal counts
-pub agreed : (a b : Word) (mark bit i : ℕ) → IsLaterWord a b → mark ≤ a.seq → (mark + 2 ≤ b.seq → handshake_at b i ≡ bit → ⊥) → handshake_at b i ≡ bit →
-    a.toggle ≡ b.toggle → b.seq ≤ a.seq
+pub agreed : (a b : Word) (mark bit i : ℕ) → IsLaterWord a b → mark ≤ a.seq →
+    (mark + 2 ≤ b.seq → handshake_at b i ≡ bit → ⊥) → handshake_at b i ≡ bit → a.toggle ≡ b.toggle → b.seq ≤ a.seq
 agreed a b mark bit i f marked late handshake toggle =
     elim (cases_lt a.seq b.seq) [
       | inl lt ↦ absurd (late (let two : a.seq + 2 ≤ b.seq = toggled a b f lt toggle in omega arith) handshake)
@@ -250,7 +281,8 @@ pub record Agreed (i : ℕ) (p : Variables) (k : ℕ) : Type 0 where
 
 pub agreed_of : (i : ℕ) (p : Variables) (k : ℕ) → agree i p k ≡ true → Agreed i p k
 agreed_of i p k h =
-    let same = both (nat_eq (handshake_at (word_at p.a k) i) (place p.g k)) (nat_eq (handshake_at (word_at p.b k) i) (place p.g k) && nat_eq (word_at p.a k).toggle (word_at p.b k).toggle) h in
+    let same = both (nat_eq (handshake_at (word_at p.a k) i) (place p.g k))
+    (nat_eq (handshake_at (word_at p.b k) i) (place p.g k) && nat_eq (word_at p.a k).toggle (word_at p.b k).toggle) h in
     let rest = both (nat_eq (handshake_at (word_at p.b k) i) (place p.g k)) (nat_eq (word_at p.a k).toggle (word_at p.b k).toggle) same.1 in
     record {
       handshake_a = same_from (handshake_at (word_at p.a k) i) (place p.g k) same.0;
@@ -261,7 +293,8 @@ agreed_of i p k h =
 equal : (x y : ℕ) → x ≡ y → nat_eq x y ≡ true
 equal x y e = ap (λ z. nat_eq x z) (sym e) ∙ same_number x
 
-pub agree_if : (i : ℕ) (p : Variables) (k : ℕ) → handshake_at (word_at p.a k) i ≡ place p.g k → handshake_at (word_at p.b k) i ≡ place p.g k →
+pub agree_if : (i : ℕ) (p : Variables) (k : ℕ) → handshake_at (word_at p.a k) i ≡ place p.g k →
+    handshake_at (word_at p.b k) i ≡ place p.g k →
     (word_at p.a k).toggle ≡ (word_at p.b k).toggle → agree i p k ≡ true
 agree_if i p k e f h =
     rw (equal (handshake_at (word_at p.a k) i) (place p.g k) e, equal (handshake_at (word_at p.b k) i) (place p.g k) f, equal (word_at p.a k).toggle (word_at p.b k).toggle h) refl
@@ -278,9 +311,11 @@ moved_since n i history t since round words p h k ik differ =
           let fresh : seq_at (history round) k ≤ place p.marks k = (s.first k ik).fresh in
           let marked : place p.marks k ≤ seq_at p.a k = (s.first k ik).marked in
           let one : word_at p.a k ≡ word_at p.b k =
-          same_word (word_at p.a k) (word_at p.b k) (copies_follow n i history t since round words p h k ik) (omega arith) in
+          same_word (word_at p.a k) (word_at p.b k)
+          (copies_follow n i history t since round words p h k ik) (omega arith) in
           let says : handshake_at (word_at p.b k) i ≡ place p.g k = (s.read k ik (omega arith)).same le in
-          let yes : agree i p k ≡ true = agree_if i p k (ap (λ (w : Word). handshake_at w i) one ∙ says) says (ap (λ (w : Word). w.toggle) one) in
+          let yes : agree i p k ≡ true =
+          agree_if i p k (ap (λ (w : Word). handshake_at w i) one ∙ says) says (ap (λ (w : Word). w.toggle) one) in
           let e : true ≡ false = sym yes ∙ differ in cc)
     ]
 

@@ -1,4 +1,5 @@
--- The double collects and own steps of a scan of B.
+-- The double collects and own steps that a scan of B has made
+-- at each line, how a line raises them, and the limits on them.
 use Rattle.std.specs.Prelude.{◌≡◌, ℕ, suc, ◌+◌, ◌*◌, ◌<◌, ◌≤◌, false, not, map, nat_lt, if◌then◌else◌, refl}
 use Rattle.std.proofs.Common.{ap, arith}
 use Rattle.snap_words.specs.Shape.{IsOneOf}
@@ -10,7 +11,10 @@ use Rattle.snap_runs.proofs.Computing.{not_lt, either, whether}
 use Rattle.snap_runs.proofs.Places.{for_each, for_each_at, some_fails}
 use Rattle.snap_runs.proofs.Totals.{total, total_le, total_less, total_raised}
 use Rattle.snap_runs.proofs.Flow.{IsScanLine}
-use Rattle.snap_runs_of_b.proofs.Algorithm.{Registers, Move, Variables, ProgramCounter, L10, L11, L12, L13, L14, L15, L16, L17, L18, L19, L20, L21, L22, L23, L25, L26, L27, L28, L40, L41, L42, L43, L44, L45, L46, L47, move, first_to, agree, limit, moved_at, counted, at_limit, tests, restarts, in_update}
+use Rattle.snap_runs_of_b.proofs.Algorithm.{Registers, Move, Variables, ProgramCounter, L10, L11, L12, L13, L14, L15}
+use Rattle.snap_runs_of_b.proofs.Algorithm.{L16, L17, L18, L19, L20, L21, L22, L23, L25, L26, L27, L28, L40, L41, L42}
+use Rattle.snap_runs_of_b.proofs.Algorithm.{L43, L44, L45, L46, L47, move, first_to, agree, limit, moved_at, counted}
+use Rattle.snap_runs_of_b.proofs.Algorithm.{at_limit, tests, restarts, in_update}
 use Rattle.snap_runs_of_b.proofs.Control.{BelowLimit, VariablesAt}
 
 -- the own steps of c failed double collects
@@ -26,12 +30,16 @@ moves n p = total (moved_at p) n
 
 moves_le : (n : ℕ) (p : Variables) → BelowLimit n p → moves n p ≤ n
 moves_le n p below =
-    let all : moves n p ≤ n * 1 = total_le 1 (moved_at p) n (λ k i. let less : moved_at p k < limit = below k i in omega arith) in omega arith
+    let all : moves n p ≤ n * 1 =
+    total_le 1 (moved_at p) n (λ k i. let less : moved_at p k < limit = below k i in omega arith) in
+    omega arith
 
 -- they are fewer where one process has not been seen to move
 pub moves_less : (n i : ℕ) (p : Variables) → IsOneOf n i → moved_at p i ≡ 0 → BelowLimit n p → moves n p < n
 moves_less n i p one zeroed below =
-    let all : moves n p + 1 ≤ n * 1 = total_less 1 (moved_at p) n i one zeroed (λ k e. let less : moved_at p k < limit = below k e in omega arith) in omega arith
+    let all : moves n p + 1 ≤ n * 1 =
+    total_less 1 (moved_at p) n i one zeroed (λ k e. let less : moved_at p k < limit = below k e in omega arith) in
+    omega arith
 
 -- Where a scan of process me stands at a line, with this many own steps and ended double collects since its start, and
 -- `recent` ended double collects since its current one was started.
@@ -39,8 +47,8 @@ abbrev pub Count : ℕ → ℕ → Variables → ℕ → ℕ → ℕ → Program
 -- none yet
 Count n me p own c recent L10 = (own ≡ 0) × (c ≡ 0) × (recent ≡ 0)
 Count n me p own c recent L11 = (own ≤ 1) × (c ≡ 0) × (recent ≡ 0)
--- every failed double collect has raised a move; the steps since the last one are four for each place of the handshake and two for each
--- place that a collect has done
+-- every failed double collect has raised a move; the steps since the last one are four for each place of the
+-- handshake and two for each place that a collect has done
 Count n me p own c recent L12 = (own + 4 ≤ budget n c + 4 * p.j) × (c ≤ moves n p) × (recent ≡ 0)
 Count n me p own c recent L13 = (own + 3 ≤ budget n c + 4 * p.j) × (c ≤ moves n p) × (recent ≡ 0)
 Count n me p own c recent L14 = (own + 2 ≤ budget n c + 4 * p.j) × (c ≤ moves n p) × (recent ≡ 0)
@@ -51,7 +59,9 @@ Count n me p own c recent L18 = (own + 2 ≤ budget n c + 6 * n + 2 * p.j) × (c
 Count n me p own c recent L19 = (own + 1 ≤ budget n c + 6 * n + 2 * p.j) × (c ≤ moves n p) × (recent ≡ 0)
 Count n me p own c recent L20 = (own ≤ budget n c + 8 * n) × (c ≤ moves n p) × (recent ≡ 0)
 -- one more has failed: it is within the bound, since a process does not see itself move; its moves are to be counted
-Count n me p own c recent L21 = (own + 3 ≤ budget n c) × (c ≤ moves n p + 1) × (c ≤ n) × (recent ≤ 1) × (all_true (map (agree me p) (places_to n)) ≡ false)
+Count n me p own c recent L21 =
+    (own + 3 ≤ budget n c) × (c ≤ moves n p + 1) × (c ≤ n) × (recent ≤ 1)
+    × (all_true (map (agree me p) (places_to n)) ≡ false)
 -- its moves are counted; then as before, or the scan ends
 Count n me p own c recent L22 = (own + 2 ≤ budget n c) × (c ≤ moves n p) × (c ≤ n)
 Count n me p own c recent L23 = (own + 1 ≤ budget n c) × (c ≤ moves n p)
@@ -84,7 +94,8 @@ after_count n me p failed p' is =
     total_raised (moved_at p) (moved_at p') (λ u. not (agree me p u)) n k i (ap not some.3) is
 
 -- each line keeps the counts: c' and recent' are the double collects with its own
-pub count_move : (n me : ℕ) (d : Mode) (m : Registers) (p : Variables) (k : ProgramCounter) (own c c' recent recent' : ℕ) → c' ≡ c + tests k →
+pub count_move : (n me : ℕ) (d : Mode) (m : Registers) (p : Variables) (k : ProgramCounter)
+    (own c c' recent recent' : ℕ) → c' ≡ c + tests k →
     recent' ≡ (if restarts k then 0 else recent + tests k) → VariablesAt n me p k → ((k ≡ L20) → moves n p < n) →
     Count n me p own c recent k → CountMove n me (suc own) c' recent' (move n me d m p k)
 count_move n me d m p L10 own c c' recent recent' e f keeps sharp h = (omega arith, omega arith, omega arith)
@@ -120,7 +131,8 @@ count_move n me d m p L19 own c c' recent recent' e f keeps sharp h =
 count_move n me d m p L20 own c c' recent recent' e f keeps sharp h =
     let b : budget n c' ≡ budget n c + (8 * n + 4) = next_budget (round n) 2 c c' e in
     let less : moves n p < n = sharp refl in
-    either (CountMove n me (suc own) c' recent') (all_true (map (agree me p) (places_to n))) _ _ (λ t. (omega arith, omega arith))
+    either (CountMove n me (suc own) c' recent') (all_true (map (agree me p) (places_to n))) _ _
+    (λ t. (omega arith, omega arith))
     (λ t. (omega arith, omega arith, omega arith, omega arith, t))
 count_move n me d m p L21 own c c' recent recent' e f keeps sharp h =
     let b : budget n c' ≡ budget n c = same_budget (round n) 2 c c' e in
@@ -151,8 +163,8 @@ count_move n me (Updating word value) m p L44 own c c' recent recent' e f keeps 
 count_move n me d m p k own c c' recent recent' e f keeps sharp h = tt
 
 -- the bounds at each line of a scan
-pub collects_le : (n me : ℕ) (p : Variables) (k : ProgramCounter) (own c recent : ℕ) → 0 < n → VariablesAt n me p k → ((k ≡ L20) → moves n p < n) →
-    Count n me p own c recent k → IsScanLine (in_update k) → c + tests k ≤ n
+pub collects_le : (n me : ℕ) (p : Variables) (k : ProgramCounter) (own c recent : ℕ) → 0 < n → VariablesAt n me p k →
+    ((k ≡ L20) → moves n p < n) → Count n me p own c recent k → IsScanLine (in_update k) → c + tests k ≤ n
 collects_le n me p L10 own c recent pos keeps sharp h s = omega arith
 collects_le n me p L11 own c recent pos keeps sharp h s = omega arith
 collects_le n me p L20 own c recent pos keeps sharp h s = let t : moves n p < n = sharp refl in omega arith
@@ -177,8 +189,8 @@ own_all n c own le h =
     let b : budget n c ≤ n * (8 * n + 4) + 2 = budget_le (round n) 2 c n le in
     let e : n * (8 * n + 4) ≡ 8 * (n * n) + 4 * n = grind arith in omega arith
 
-pub own_le : (n me : ℕ) (p : Variables) (k : ProgramCounter) (own c recent : ℕ) → VariablesAt n me p k → Count n me p own c recent k → c ≤ n →
-    IsScanLine (in_update k) → own + 1 ≤ 8 * (n * n) + 12 * n + 7
+pub own_le : (n me : ℕ) (p : Variables) (k : ProgramCounter) (own c recent : ℕ) → VariablesAt n me p k →
+    Count n me p own c recent k → c ≤ n → IsScanLine (in_update k) → own + 1 ≤ 8 * (n * n) + 12 * n + 7
 own_le n me p L10 own c recent keeps h le s = omega arith
 own_le n me p L11 own c recent keeps h le s = omega arith
 own_le n me p L40 own c recent keeps h le s = absurd s

@@ -19,7 +19,11 @@ use Rattle.snap_runs.proofs.Scans as scans
 use Rattle.snap_runs.proofs.WordWrites as word_writes
 use Rattle.snap_runs.proofs.WritesOnce as writes_once
 use Rattle.snap_runs_of_b.specs.ListingB.{listing_b}
-use Rattle.snap_runs_of_b.proofs.Algorithm.{Registers, plain, Move, Control, Variables, ProgramCounter, L10, L11, L12, L13, L14, L15, L16, L17, L18, L19, L20, L21, L22, L23, L25, L26, L27, L28, L40, L41, L42, L43, L44, L45, L46, L47, number, locals_of, agree, at_limit, move, first_to, algorithm, IsScan, IsUpdate, IsLineOf, IsLate, writes, written, word_put, lines}
+use Rattle.snap_runs_of_b.proofs.Algorithm.{Registers, plain, Move, Control, Variables, ProgramCounter, L10, L11, L12}
+use Rattle.snap_runs_of_b.proofs.Algorithm.{L13, L14, L15, L16, L17, L18, L19, L20, L21, L22, L23, L25, L26, L27, L28}
+use Rattle.snap_runs_of_b.proofs.Algorithm.{L40, L41, L42, L43, L44, L45, L46, L47, number, locals_of, agree}
+use Rattle.snap_runs_of_b.proofs.Algorithm.{at_limit, move, first_to, algorithm, IsScan, IsUpdate, IsLineOf, IsLate}
+use Rattle.snap_runs_of_b.proofs.Algorithm.{writes, written, word_put, lines}
 
 abbrev pub Making : Control → Type 0
 Making = flow.Making lines
@@ -31,31 +35,37 @@ abbrev pub Flows : ℕ → Mode → Registers → Variables → ProgramCounter �
 Flows n = flow.Flows lines (algorithm n)
 
 -- a line of a scan that goes on
-on : (n me : ℕ) (d : Mode) (m m' : Registers) (p p' : Variables) (k k' : ProgramCounter) → IsScan me d → writes k ≡ 0 → m'.words ≡ m.words →
-    Flows n d m p k (To d m' p' k')
-on n me d m m' p p' k k' s quiet kept = flow.within lines (algorithm n) d m m' p p' k k' (scan_inside (λ word. word ≡ me) d s) quiet kept
+on : (n me : ℕ) (d : Mode) (m m' : Registers) (p p' : Variables) (k k' : ProgramCounter) → IsScan me d →
+    writes k ≡ 0 → m'.words ≡ m.words → Flows n d m p k (To d m' p' k')
+on n me d m m' p p' k k' s quiet kept =
+    flow.within lines (algorithm n) d m m' p p' k k' (scan_inside (λ word. word ≡ me) d s) quiet kept
 
 -- a line of an update that goes on and does not write, before its scan
-before : (n me : ℕ) (d : Mode) (m : Registers) (p p' : Variables) (k k' : ProgramCounter) → IsUpdate me d → written k ≡ 0 → writes k ≡ 0 →
-    written k' ≡ 0 → (IsLate k' → ⊥) → Flows n d m p k (To d m p' k')
+before : (n me : ℕ) (d : Mode) (m : Registers) (p p' : Variables) (k k' : ProgramCounter) → IsUpdate me d →
+    written k ≡ 0 → writes k ≡ 0 → written k' ≡ 0 → (IsLate k' → ⊥) → Flows n d m p k (To d m p' k')
 before n me Scanning m p p' k k' s past now next early = absurd s
 before n me (Embedded word value) m p p' k k' s past now next early = absurd s
-before n me (Updating word value) m p p' k k' s past now next early = (inl refl, refl, (omega arith), λ late. absurd (early late))
+before n me (Updating word value) m p p' k k' s past now next early =
+    (inl refl, refl, (omega arith), λ late. absurd (early late))
 
-pub flows : (n me : ℕ) (d : Mode) (m : Registers) (p : Variables) (k : ProgramCounter) → IsLineOf me d k → Flows n d m p k (move n me d m p k)
+pub flows : (n me : ℕ) (d : Mode) (m : Registers) (p : Variables) (k : ProgramCounter) → IsLineOf me d k →
+    Flows n d m p k (move n me d m p k)
 flows n me d m p L10 s = on n me d m _ p _ L10 L11 s refl refl
 flows n me d m p L11 s = on n me d m _ p _ L11 L12 s refl refl
 flows n me d m p L12 s = on n me d m _ p _ L12 L13 s refl refl
 flows n me d m p L13 s = on n me d m _ p _ L13 L14 s refl refl
 flows n me d m p L14 s = on n me d m _ p _ L14 L15 s refl refl
 flows n me d m p L15 s =
-    either (Flows n d m p L15) (nat_lt p.j n) _ _ (λ b. on n me d m m p _ L15 L12 s refl refl) (λ b. on n me d m m p _ L15 L16 s refl refl)
+    either (Flows n d m p L15) (nat_lt p.j n) _ _ (λ b. on n me d m m p _ L15 L12 s refl refl)
+    (λ b. on n me d m m p _ L15 L16 s refl refl)
 flows n me d m p L16 s = on n me d m _ p _ L16 L17 s refl refl
 flows n me d m p L17 s =
-    either (Flows n d m p L17) (nat_lt p.j n) _ _ (λ b. on n me d m m p _ L17 L16 s refl refl) (λ b. on n me d m m p _ L17 L18 s refl refl)
+    either (Flows n d m p L17) (nat_lt p.j n) _ _ (λ b. on n me d m m p _ L17 L16 s refl refl)
+    (λ b. on n me d m m p _ L17 L18 s refl refl)
 flows n me d m p L18 s = on n me d m _ p _ L18 L19 s refl refl
 flows n me d m p L19 s =
-    either (Flows n d m p L19) (nat_lt p.j n) _ _ (λ b. on n me d m m p _ L19 L18 s refl refl) (λ b. on n me d m m p _ L19 L20 s refl refl)
+    either (Flows n d m p L19) (nat_lt p.j n) _ _ (λ b. on n me d m m p _ L19 L18 s refl refl)
+    (λ b. on n me d m m p _ L19 L20 s refl refl)
 flows n me d m p L20 s =
     either (Flows n d m p L20) (all_true (map (agree me p) (places_to n))) _ _
     (λ b. on n me d m m p p L20 L25 s refl refl) (λ b. on n me d m m p p L20 L21 s refl refl)
@@ -77,7 +87,8 @@ flows n me d m p L41 s = before n me d m p _ L41 L42 s refl refl refl (λ h. h)
 flows n me d m p L42 s = before n me d m p _ L42 L43 s refl refl refl (λ h. h)
 flows n me d m p L43 s =
     either (Flows n d m p L43) (nat_lt p.j n) _ _
-    (λ b. before n me d m p _ L43 L41 s refl refl refl (λ h. h)) (λ b. before n me d m p _ L43 L44 s refl refl refl (λ h. h))
+    (λ b. before n me d m p _ L43 L41 s refl refl refl (λ h. h)) (λ b.
+    before n me d m p _ L43 L44 s refl refl refl (λ h. h))
 flows n me Scanning m p L44 s = absurd s
 flows n me (Embedded word value) m p L44 s = absurd s
 flows n me (Updating word value) m p L44 s = (refl, refl)
@@ -123,13 +134,42 @@ counter_with k =
     else None
 
 pub line_listed : (n : ℕ) (k : ProgramCounter) → LineListed (algorithm n) lines 46 counter_with k
-line_listed n L26 = record { alone = refl; tested = refl; wrote = refl; calls = λ h. absurd h; returns = λ p v h. (inl refl, h); once = omega arith }
-line_listed n L28 = record { alone = refl; tested = refl; wrote = refl; calls = λ h. absurd h; returns = λ p v h. (inr refl, h); once = omega arith }
-line_listed n L44 = record { alone = refl; tested = refl; wrote = refl; calls = λ h me d m p. span.embeds (algorithm n) L10 d p; returns = λ p v h. absurd h; once = omega arith }
-line_listed n k = record { alone = refl; tested = refl; wrote = refl; calls = λ h. absurd h; returns = λ p v h. absurd h; once = omega arith }
+line_listed n L26 = record {
+  alone = refl;
+  tested = refl;
+  wrote = refl;
+  calls = λ h. absurd h;
+  returns = λ p v h. (inl refl, h);
+  once = omega arith;
+}
+line_listed n L28 = record {
+  alone = refl;
+  tested = refl;
+  wrote = refl;
+  calls = λ h. absurd h;
+  returns = λ p v h. (inr refl, h);
+  once = omega arith;
+}
+line_listed n L44 = record {
+  alone = refl;
+  tested = refl;
+  wrote = refl;
+  calls = λ h me d m p. span.embeds (algorithm n) L10 d p;
+  returns = λ p v h. absurd h;
+  once = omega arith;
+}
+line_listed n k = record {
+  alone = refl;
+  tested = refl;
+  wrote = refl;
+  calls = λ h. absurd h;
+  returns = λ p v h. absurd h;
+  once = omega arith;
+}
 
 -- lines 26 and 28 return s
-answers : (p : Variables) (k : ProgramCounter) → lines.IsReturn k → ReturnsView (instr_at listing_b.lines (number k)) (locals_of p) p.s
+answers : (p : Variables) (k : ProgramCounter) → lines.IsReturn k →
+    ReturnsView (instr_at listing_b.lines (number k)) (locals_of p) p.s
 answers p k (inl is) = subst (λ y. ReturnsView (instr_at listing_b.lines (number y)) (locals_of p) p.s) (sym is) refl
 answers p k (inr is) = subst (λ y. ReturnsView (instr_at listing_b.lines (number y)) (locals_of p) p.s) (sym is) refl
 
@@ -138,30 +178,40 @@ abbrev pub Embeds : ℕ → Mode → Variables → ProgramCounter → Move → T
 Embeds n = embedded.Embeds (algorithm n) lines
 
 -- a line of a scan that goes on
-stay : (n me : ℕ) (d : Mode) (m : Registers) (p p' : Variables) (k k' : ProgramCounter) → IsScan me d → (lines.IsReturn k → ⊥) → Embeds n d p k (To d m p' k')
+stay : (n me : ℕ) (d : Mode) (m : Registers) (p p' : Variables) (k k' : ProgramCounter) → IsScan me d →
+    (lines.IsReturn k → ⊥) → Embeds n d p k (To d m p' k')
 stay n me Scanning m p p' k k' s none = refl
 stay n me (Embedded word value) m p p' k k' s none = inl (refl, none)
 stay n me (Updating word value) m p p' k k' s none = absurd s
 
 -- a line of an update that goes on before its scan
-early : (n me : ℕ) (d : Mode) (m : Registers) (p p' : Variables) (k k' : ProgramCounter) → IsUpdate me d → (IsLate k' → ⊥) → Embeds n d p k (To d m p' k')
+early : (n me : ℕ) (d : Mode) (m : Registers) (p p' : Variables) (k k' : ProgramCounter) → IsUpdate me d →
+    (IsLate k' → ⊥) → Embeds n d p k (To d m p' k')
 early n me Scanning m p p' k k' s none = absurd s
 early n me (Embedded word value) m p p' k k' s none = absurd s
 early n me (Updating word value) m p p' k k' s none = (refl, λ late. absurd (none late))
 
-pub embeds : (n me : ℕ) (d : Mode) (m : Registers) (p : Variables) (k : ProgramCounter) → IsLineOf me d k → Embeds n d p k (move n me d m p k)
+pub embeds : (n me : ℕ) (d : Mode) (m : Registers) (p : Variables) (k : ProgramCounter) → IsLineOf me d k →
+    Embeds n d p k (move n me d m p k)
 embeds n me d m p L10 s = stay n me d _ p _ L10 _ s (answers p L10)
 embeds n me d m p L11 s = stay n me d _ p _ L11 _ s (answers p L11)
 embeds n me d m p L12 s = stay n me d _ p _ L12 _ s (answers p L12)
 embeds n me d m p L13 s = stay n me d _ p _ L13 _ s (answers p L13)
 embeds n me d m p L14 s = stay n me d _ p _ L14 _ s (answers p L14)
-embeds n me d m p L15 s = either (Embeds n d p L15) (nat_lt p.j n) _ _ (λ b. stay n me d _ p _ L15 _ s (answers p L15)) (λ b. stay n me d _ p _ L15 _ s (answers p L15))
+embeds n me d m p L15 s =
+    either (Embeds n d p L15) (nat_lt p.j n) _ _ (λ b. stay n me d _ p _ L15 _ s (answers p L15))
+    (λ b. stay n me d _ p _ L15 _ s (answers p L15))
 embeds n me d m p L16 s = stay n me d _ p _ L16 _ s (answers p L16)
-embeds n me d m p L17 s = either (Embeds n d p L17) (nat_lt p.j n) _ _ (λ b. stay n me d _ p _ L17 _ s (answers p L17)) (λ b. stay n me d _ p _ L17 _ s (answers p L17))
+embeds n me d m p L17 s =
+    either (Embeds n d p L17) (nat_lt p.j n) _ _ (λ b. stay n me d _ p _ L17 _ s (answers p L17))
+    (λ b. stay n me d _ p _ L17 _ s (answers p L17))
 embeds n me d m p L18 s = stay n me d _ p _ L18 _ s (answers p L18)
-embeds n me d m p L19 s = either (Embeds n d p L19) (nat_lt p.j n) _ _ (λ b. stay n me d _ p _ L19 _ s (answers p L19)) (λ b. stay n me d _ p _ L19 _ s (answers p L19))
+embeds n me d m p L19 s =
+    either (Embeds n d p L19) (nat_lt p.j n) _ _ (λ b. stay n me d _ p _ L19 _ s (answers p L19))
+    (λ b. stay n me d _ p _ L19 _ s (answers p L19))
 embeds n me d m p L20 s =
-    either (Embeds n d p L20) (all_true (map (agree me p) (places_to n))) _ _ (λ b. stay n me d _ p _ L20 _ s (answers p L20)) (λ b. stay n me d _ p _ L20 _ s (answers p L20))
+    either (Embeds n d p L20) (all_true (map (agree me p) (places_to n))) _ _
+    (λ b. stay n me d _ p _ L20 _ s (answers p L20)) (λ b. stay n me d _ p _ L20 _ s (answers p L20))
 embeds n me d m p L21 s = stay n me d _ p _ L21 _ s (answers p L21)
 embeds n me d m p L22 s =
     whether (Embeds n d p L22) (first_to d m p) (first_true 1 (map (at_limit p) (places_to n)))
@@ -178,7 +228,9 @@ embeds n me (Updating word value) m p L28 s = absurd s
 embeds n me d m p L40 s = early n me d _ p _ L40 _ s (λ h. h)
 embeds n me d m p L41 s = early n me d _ p _ L41 _ s (λ h. h)
 embeds n me d m p L42 s = early n me d _ p _ L42 _ s (λ h. h)
-embeds n me d m p L43 s = either (Embeds n d p L43) (nat_lt p.j n) _ _ (λ b. early n me d _ p _ L43 _ s (λ h. h)) (λ b. early n me d _ p _ L43 _ s (λ h. h))
+embeds n me d m p L43 s =
+    either (Embeds n d p L43) (nat_lt p.j n) _ _ (λ b. early n me d _ p _ L43 _ s (λ h. h))
+    (λ b. early n me d _ p _ L43 _ s (λ h. h))
 embeds n me Scanning m p L44 s = absurd s
 embeds n me (Embedded word value) m p L44 s = absurd s
 embeds n me (Updating word value) m p L44 s = (refl, tt)

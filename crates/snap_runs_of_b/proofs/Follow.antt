@@ -1,4 +1,5 @@
--- Words of one register that stand after one another: each write of it changes the toggle.
+-- Two words of one register of B, one of them later (`IsLaterWord`): each
+-- write turns the toggle, so that equal toggles are two writes apart.
 use Rattle.std.specs.Prelude.{◌≡◌, ℕ, ◌+◌, ◌<◌, ◌≤◌, ◌⊎◌, List}
 use Rattle.std.proofs.Common.{sym, ap, subst, arith, inl, inr}
 use Rattle.snap_words.specs.Shape.{IsOneOf}
@@ -10,7 +11,10 @@ abbrev pub IsLaterWord : Word → Word → Type 0
 IsLaterWord x y = ((x.seq < y.seq) × (x.toggle ≡ y.toggle → x.seq + 2 ≤ y.seq)) ⊎ (x ≡ y)
 
 pub follows_trans : (x y z : Word) → IsLaterWord x y → IsLaterWord y z → IsLaterWord x z
-follows_trans x y z (inl p) (inl q) = let a : x.seq < y.seq = p.0 in let b : y.seq < z.seq = q.0 in inl (omega arith, λ e. omega arith)
+follows_trans x y z (inl p) (inl q) =
+    let a : x.seq < y.seq = p.0 in
+    let b : y.seq < z.seq = q.0 in
+    inl (omega arith, λ e. omega arith)
 follows_trans x y z (inl p) (inr q) = subst (λ (w : Word). IsLaterWord x w) q (inl p)
 follows_trans x y z (inr p) q = subst (λ (w : Word). IsLaterWord w z) (sym p) q
 

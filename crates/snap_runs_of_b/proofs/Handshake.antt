@@ -1,5 +1,6 @@
 -- The handshake of B: the bits that a scan has put, and what the other processes answer in their next words.
-use Rattle.std.specs.Prelude.{◌≡◌, ◌≢◌, ℕ, ◌+◌, ◌-◌, ◌<◌, ◌≤◌, ◌⊎◌, max, List, [], length, map, nat_lt, slice_index, slice_index_or, slice_set, refl}
+use Rattle.std.specs.Prelude.{◌≡◌, ◌≢◌, ℕ, ◌+◌, ◌-◌, ◌<◌, ◌≤◌, ◌⊎◌, max, List, [], length, map, nat_lt, slice_index}
+use Rattle.std.specs.Prelude.{slice_index_or, slice_set, refl}
 use Rattle.std.proofs.Common.{sym, ◌∙◌, ap, subst, arith, inl, inr}
 use Rattle.std.proofs.lemmas.Bool.{cases_eq}
 use Rattle.std.proofs.lemmas.Grind.{get_or-set_at}
@@ -9,7 +10,10 @@ use Rattle.snap_semantics.specs.Table.{places_to, all_true, first_true, with_bit
 use Rattle.snap_runs.proofs.Algorithm.{Mode, Scanning, Embedded, Updating, To, Begin, Answer, Finish}
 use Rattle.snap_runs.proofs.Computing.{not_lt, either, whether}
 use Rattle.snap_runs.proofs.Held.{seq_at}
-use Rattle.snap_runs_of_b.proofs.Algorithm.{Registers, Move, Variables, ProgramCounter, L10, L12, L13, L14, L15, L16, L17, L18, L19, L20, L22, L23, L26, L28, L40, L41, L42, L43, L44, L46, L47, move, first_to, return_to, place, bit_for, answer, agree, at_limit, IsUpdate, IsLineOf}
+use Rattle.snap_runs_of_b.proofs.Algorithm.{Registers, Move, Variables, ProgramCounter, L10, L12, L13, L14, L15, L16}
+use Rattle.snap_runs_of_b.proofs.Algorithm.{L17, L18, L19, L20, L22, L23, L26, L28, L40, L41, L42, L43, L44, L46, L47}
+use Rattle.snap_runs_of_b.proofs.Algorithm.{move, first_to, return_to, place, bit_for, answer}
+use Rattle.snap_runs_of_b.proofs.Algorithm.{agree, at_limit, IsUpdate, IsLineOf}
 use Rattle.snap_runs_of_b.proofs.Control.{VariablesAt, Sized}
 use Rattle.snap_runs_of_b.proofs.Collect.{place_set, place_kept}
 use Rattle.snap_runs_of_b.proofs.Stage.{reach, answer_differs}
@@ -29,26 +33,33 @@ pub bit_set : (n : ℕ) (q : List (List ℕ)) (i j k v : ℕ) → Square n q →
 bit_set n q i j k v h one jn e =
     let rows : length q ≡ n = h.rows in
     let bits : length (row_of q i) ≡ n = h.bits i one in
-    ap (λ row. slice_index row (k - 1)) (get_or-set_at q (i - 1) (i - 1) (slice_set (row_of q i) (j - 1) v) [] refl (omega arith))
+    ap (λ row. slice_index row (k - 1))
+    (get_or-set_at q (i - 1) (i - 1) (slice_set (row_of q i) (j - 1) v) [] refl (omega arith))
     ∙ place_set (row_of q i) j k v jn.0 (omega arith) e
 
-pub bit_kept : (n : ℕ) (q : List (List ℕ)) (i j k v : ℕ) → Square n q → IsOneOf n i → IsOneOf n j → IsOneOf n k → (k ≡ j → ⊥) →
-    bit_for (with_bit_at q (i - 1) (j - 1) v) i k ≡ bit_for q i k
+pub bit_kept : (n : ℕ) (q : List (List ℕ)) (i j k v : ℕ) → Square n q → IsOneOf n i → IsOneOf n j → IsOneOf n k →
+    (k ≡ j → ⊥) → bit_for (with_bit_at q (i - 1) (j - 1) v) i k ≡ bit_for q i k
 bit_kept n q i j k v h one jn kn other =
     let rows : length q ≡ n = h.rows in
-    ap (λ row. slice_index row (k - 1)) (get_or-set_at q (i - 1) (i - 1) (slice_set (row_of q i) (j - 1) v) [] refl (omega arith))
+    ap (λ row. slice_index row (k - 1))
+    (get_or-set_at q (i - 1) (i - 1) (slice_set (row_of q i) (j - 1) v) [] refl (omega arith))
     ∙ place_kept (row_of q i) j k v jn.0 kn.0 other
 
-pub other_row : (q : List (List ℕ)) (i j u v : ℕ) → 0 < i → 0 < u → u ≢ i → row_of (with_bit_at q (i - 1) (j - 1) v) u ≡ row_of q u
-other_row q i j u v pi pu other = get_or-set_other q (i - 1) (u - 1) (slice_set (row_of q i) (j - 1) v) [] (λ same. other (omega arith))
+pub other_row : (q : List (List ℕ)) (i j u v : ℕ) → 0 < i → 0 < u → u ≢ i →
+    row_of (with_bit_at q (i - 1) (j - 1) v) u ≡ row_of q u
+other_row q i j u v pi pu other =
+    get_or-set_other q (i - 1) (u - 1) (slice_set (row_of q i) (j - 1) v) [] (λ same. other (omega arith))
 
-pub square_set : (n : ℕ) (q : List (List ℕ)) (i j v : ℕ) → Square n q → IsOneOf n i → Square n (with_bit_at q (i - 1) (j - 1) v)
+pub square_set : (n : ℕ) (q : List (List ℕ)) (i j v : ℕ) → Square n q → IsOneOf n i →
+    Square n (with_bit_at q (i - 1) (j - 1) v)
 square_set n q i j v h one =
     let rows : length q ≡ n = h.rows in
     record {
       rows = length-set q (i - 1) (slice_set (row_of q i) (j - 1) v) ∙ rows;
       bits = λ u ui. elim (cases_eq u i) [
-        | inl same ↦ ap length (get_or-set_at q (i - 1) (u - 1) (slice_set (row_of q i) (j - 1) v) [] (omega arith) (omega arith))
+        | inl same ↦
+            ap length
+            (get_or-set_at q (i - 1) (u - 1) (slice_set (row_of q i) (j - 1) v) [] (omega arith) (omega arith))
             ∙ length-set (row_of q i) (j - 1) v ∙ h.bits i one
         | inr other ↦ ap length (other_row q i j u v one.0 ui.0 other) ∙ h.bits u ui
       ];
@@ -61,7 +72,8 @@ Asked n q g i r = (k : ℕ) → IsOneOf n k → k < r → bit_for q i k ≡ plac
 -- A line of process i keeps the bit that it put for k, or has just put it: then no write of k was later.
 abbrev pub KeepsBit : ℕ → Registers → Variables → ℕ → Registers → Variables → ℕ → Type 0
 KeepsBit i m p r m' p' k =
-    ((k < r) × (place p'.g k ≡ place p.g k) × (place p'.marks k ≡ place p.marks k) × (bit_for m'.q i k ≡ bit_for m.q i k))
+    ((k < r) × (place p'.g k ≡ place p.g k) × (place p'.marks k ≡ place p.marks k)
+    × (bit_for m'.q i k ≡ bit_for m.q i k))
     ⊎ ((place p'.marks k ≡ seq_at m.words k) × (bit_for m'.q i k ≡ place p'.g k))
 
 abbrev pub BitsMove : ℕ → ℕ → Registers → Variables → ℕ → Move → Type 0
@@ -70,11 +82,12 @@ BitsMove n i m p r (Begin d p' k') = k' ≡ L10
 BitsMove n i m p r (Answer v) = Unit {0}
 BitsMove n i m p r Finish = Unit {0}
 
-pub bits_move : (n i : ℕ) (d : Mode) (m : Registers) (p : Variables) (k : ProgramCounter) → IsOneOf n i → Square n m.q → Sized n p → IsLineOf i d k →
-    VariablesAt n i p k →
+pub bits_move : (n i : ℕ) (d : Mode) (m : Registers) (p : Variables) (k : ProgramCounter) →
+    IsOneOf n i → Square n m.q → Sized n p → IsLineOf i d k → VariablesAt n i p k →
     BitsMove n i m p (reach n p k) (move n i d m p k)
 bits_move n i d m p L12 one square sized s h = λ k ik lt. inl (omega arith, refl, refl, refl)
-bits_move n i d m p L13 one square sized s h = λ k ik lt. inl (lt, place_kept p.g p.j k _ h.0.0 ik.0 (λ e. omega arith), refl, refl)
+bits_move n i d m p L13 one square sized s h =
+    λ k ik lt. inl (lt, place_kept p.g p.j k _ h.0.0 ik.0 (λ e. omega arith), refl, refl)
 bits_move n i d m p L14 one square sized s h = λ k ik lt.
     let len : length p.marks ≡ max n n = sized.4 in
     let jn : IsOneOf n p.j = h.0 in
@@ -115,7 +128,8 @@ bits_move n i Scanning m p L28 one square sized s h = tt
 bits_move n i (Embedded word value) m p L28 one square sized s h = λ k ik lt. absurd (omega arith)
 bits_move n i (Updating word value) m p L28 one square sized s h = absurd s
 bits_move n i d m p L43 one square sized s h =
-    either (BitsMove n i m p (reach n p L43)) (nat_lt p.j n) _ _ (λ b. λ k ik lt. absurd (omega arith)) (λ b. λ k ik lt. absurd (omega arith))
+    either (BitsMove n i m p (reach n p L43)) (nat_lt p.j n) _ _ (λ b. λ k ik lt. absurd (omega arith))
+    (λ b. λ k ik lt. absurd (omega arith))
 bits_move n i Scanning m p L44 one square sized s h = absurd s
 bits_move n i (Embedded word value) m p L44 one square sized s h = absurd s
 bits_move n i (Updating word value) m p L44 one square sized s h = refl
@@ -129,13 +143,17 @@ PutsMove i m p (Begin d p' k) = Unit {0}
 PutsMove i m p (Answer v) = Unit {0}
 PutsMove i m p Finish = Unit {0}
 
-pub puts_move : (n i : ℕ) (d : Mode) (m : Registers) (p : Variables) (k : ProgramCounter) → PutsMove i m p (move n i d m p k)
+pub puts_move : (n i : ℕ) (d : Mode) (m : Registers) (p : Variables) (k : ProgramCounter) →
+    PutsMove i m p (move n i d m p k)
 puts_move n i d m p L14 = inr refl
 puts_move n i d m p L15 = either (PutsMove i m p) (nat_lt p.j n) _ _ (λ b. inl refl) (λ b. inl refl)
 puts_move n i d m p L17 = either (PutsMove i m p) (nat_lt p.j n) _ _ (λ b. inl refl) (λ b. inl refl)
 puts_move n i d m p L19 = either (PutsMove i m p) (nat_lt p.j n) _ _ (λ b. inl refl) (λ b. inl refl)
-puts_move n i d m p L20 = either (PutsMove i m p) (all_true (map (agree i p) (places_to n))) _ _ (λ b. inl refl) (λ b. inl refl)
-puts_move n i d m p L22 = whether (PutsMove i m p) (first_to d m p) (first_true 1 (map (at_limit p) (places_to n))) (λ e. inl refl) (λ k e. inl refl)
+puts_move n i d m p L20 =
+    either (PutsMove i m p) (all_true (map (agree i p) (places_to n))) _ _ (λ b. inl refl) (λ b. inl refl)
+puts_move n i d m p L22 =
+    whether (PutsMove i m p) (first_to d m p) (first_true 1 (map (at_limit p) (places_to n)))
+    (λ e. inl refl) (λ k e. inl refl)
 puts_move n i Scanning m p L26 = tt
 puts_move n i (Embedded word value) m p L26 = inl refl
 puts_move n i (Updating word value) m p L26 = tt
@@ -160,8 +178,8 @@ rows_kept n i u k m p q' pi pu other (inl e) = ap (λ q. bit_for q u k) e
 rows_kept n i u k m p q' pi pu other (inr e) =
     ap (λ q. bit_for q u k) e ∙ ap (λ row. slice_index row (k - 1)) (other_row m.q i p.j u (place p.g p.j) pi pu other)
 
--- What process k will say in its next word to the process that put this bit for it, line by line: it has read the bit, or it
--- will. `said` is the place of its row f for that process.
+-- What process k will say in its next word to the process that put this bit for it, line by line: it has read the
+-- bit, or it will. `said` is the place of its row f for that process.
 abbrev pub Says : ℕ → ℕ → Mode → Type 0
 Says said bit Scanning = Unit {0}
 Says said bit (Embedded word value) = said ≡ bit → ⊥
@@ -182,7 +200,8 @@ AnswersMove i bit (Begin d p k) = Answers i bit d p k
 AnswersMove i bit (Answer v) = Unit {0}
 AnswersMove i bit Finish = Unit {0}
 
-answers_return : (i bit : ℕ) (d : Mode) (m : Registers) (p : Variables) → Says (place p.f i) bit d → AnswersMove i bit (return_to d m p)
+answers_return : (i bit : ℕ) (d : Mode) (m : Registers) (p : Variables) → Says (place p.f i) bit d →
+    AnswersMove i bit (return_to d m p)
 answers_return i bit Scanning m p h = tt
 answers_return i bit (Embedded word value) m p h = h
 answers_return i bit (Updating word value) m p h = tt
@@ -193,12 +212,15 @@ all_said me said bit (Embedded word value) s h = h
 all_said me said bit (Updating word value) s h = h
 
 -- a process's lines keep what it will say, while the bit stands
-pub answers_move : (n me i bit : ℕ) (d : Mode) (m : Registers) (p : Variables) (k : ProgramCounter) → IsOneOf n i → Sized n p → IsLineOf me d k →
-    VariablesAt n me p k → bit_for m.q i me ≡ bit →
+pub answers_move : (n me i bit : ℕ) (d : Mode) (m : Registers) (p : Variables) (k : ProgramCounter) →
+    IsOneOf n i → Sized n p → IsLineOf me d k → VariablesAt n me p k → bit_for m.q i me ≡ bit →
     Answers i bit d p k → AnswersMove i bit (move n me d m p k)
-answers_move n me i bit d m p L15 one sized s keeps put h = either (AnswersMove i bit) (nat_lt p.j n) _ _ (λ b. h) (λ b. h)
-answers_move n me i bit d m p L17 one sized s keeps put h = either (AnswersMove i bit) (nat_lt p.j n) _ _ (λ b. h) (λ b. h)
-answers_move n me i bit d m p L19 one sized s keeps put h = either (AnswersMove i bit) (nat_lt p.j n) _ _ (λ b. h) (λ b. h)
+answers_move n me i bit d m p L15 one sized s keeps put h =
+    either (AnswersMove i bit) (nat_lt p.j n) _ _ (λ b. h) (λ b. h)
+answers_move n me i bit d m p L17 one sized s keeps put h =
+    either (AnswersMove i bit) (nat_lt p.j n) _ _ (λ b. h) (λ b. h)
+answers_move n me i bit d m p L19 one sized s keeps put h =
+    either (AnswersMove i bit) (nat_lt p.j n) _ _ (λ b. h) (λ b. h)
 answers_move n me i bit d m p L20 one sized s keeps put h =
     either (AnswersMove i bit) (all_true (map (agree me p) (places_to n))) _ _ (λ b. h) (λ b. h)
 answers_move n me i bit d m p L22 one sized s keeps put h =

@@ -6,7 +6,8 @@ use Rattle.snap_words.specs.Word.{Word}
 use Rattle.snap_runs.proofs.Algorithm.{Idle, At, WhenBusy, typed_at}
 use Rattle.snap_runs.proofs.Flow.{InScan}
 use Rattle.snap_runs.proofs.Held.{word_at, held_wider, seq_at}
-use Rattle.snap_runs_of_b.proofs.Algorithm.{Words, Registers, Control, Process, State, Variables, place, bit_for, algorithm}
+use Rattle.snap_runs_of_b.proofs.Algorithm.{Words, Registers, Control, Process, State}
+use Rattle.snap_runs_of_b.proofs.Algorithm.{Variables, place, bit_for, algorithm}
 use Rattle.snap_runs_of_b.proofs.Control.{BitWords, Sized, ControlWell}
 use Rattle.snap_runs_of_b.proofs.Lines.{SaysBits}
 use Rattle.snap_runs_of_b.proofs.Follow.{follows_seq, Grows}
@@ -62,15 +63,17 @@ pub record ProcessInvariant (n t : ℕ) (history : ℕ → Words) (m : Registers
   -- an update has written once at line 47, and not before
   pub wrote : HasWritten q.control q.auxiliary.wrote
 
--- A view that process v makes after its word, b, was written since u's last scan started, is made by a scan that started no
--- earlier than u's.
+-- A view that process v makes after its word, b, was written since u's last scan started, is made by a scan that
+-- started no earlier than u's.
 abbrev pub PairInvariant : (ℕ → Words) → Words → Process → Process → ℕ → Type 0
-PairInvariant history words u v b = Making v.control → seq_at (history u.auxiliary.since) b < seq_at words b → u.auxiliary.since ≤ v.auxiliary.since
+PairInvariant history words u v b =
+    Making v.control → seq_at (history u.auxiliary.since) b < seq_at words b → u.auxiliary.since ≤ v.auxiliary.since
 
 -- where process b has written since process i put its bit for b, b will say another bit to i in its next word
 abbrev pub Answered : ℕ → Words → ℕ → Process → ℕ → Process → Type 0
 Answered n words i u b v =
-    b < reach_at n u.variables u.control → place u.variables.marks b < seq_at words b → AnswersAt i (place u.variables.g b) v.variables v.control
+    b < reach_at n u.variables u.control → place u.variables.marks b < seq_at words b →
+    AnswersAt i (place u.variables.g b) v.variables v.control
 
 -- What holds in every state of a run: the registers, each process, and each pair of processes.
 pub record Invariant (n t : ℕ) (history : ℕ → Words) (x : State) : Type 0 where
@@ -79,22 +82,25 @@ pub record Invariant (n t : ℕ) (history : ℕ → Words) (x : State) : Type 0 
   -- what the words say are bits
   pub bits : BitWords n x.memory.words
   pub each : (i : ℕ) → IsOneOf n i → ProcessInvariant n t history x.memory i (typed_at (algorithm n) x i)
-  pub start : (i k : ℕ) → IsOneOf n i → IsOneOf n k → PairInvariant history x.memory.words (typed_at (algorithm n) x i) (typed_at (algorithm n) x k) k
-  pub answered : (i k : ℕ) → IsOneOf n i → IsOneOf n k → Answered n x.memory.words i (typed_at (algorithm n) x i) k (typed_at (algorithm n) x k)
+  pub start : (i k : ℕ) → IsOneOf n i → IsOneOf n k →
+      PairInvariant history x.memory.words (typed_at (algorithm n) x i) (typed_at (algorithm n) x k) k
+  pub answered : (i k : ℕ) → IsOneOf n i → IsOneOf n k →
+      Answered n x.memory.words i (typed_at (algorithm n) x i) k (typed_at (algorithm n) x k)
 
-stage_at_kept : (n i : ℕ) (history : ℕ → Words) (t t' since round : ℕ) (words words' : Words) (p : Variables) (control : Control) → t ≤ t' →
-    Grows n words words' → ControlWell n i p control →
+stage_at_kept : (n i : ℕ) (history : ℕ → Words) (t t' since round : ℕ) (words words' : Words) (p : Variables)
+    (control : Control) → t ≤ t' → Grows n words words' → ControlWell n i p control →
     StageAt n i history t since round words p control → StageAt n i history t' since round words' p control
 stage_at_kept n i history t t' since round words words' p Idle le g well h = tt
 stage_at_kept n i history t t' since round words words' p (At d k) le g well h =
     stage_kept n i history t t' since round words words' p k le g (line_place n i p k well.1) h
 
 -- other processes act
-pub others_act : (n t t' : ℕ) (history : ℕ → Words) (m m' : Registers) (i : ℕ) (q : Process) → t ≤ t' → Grows n m.words m'.words →
-    word_at m'.words i ≡ word_at m.words i →
+pub others_act : (n t t' : ℕ) (history : ℕ → Words) (m m' : Registers) (i : ℕ) (q : Process) →
+    t ≤ t' → Grows n m.words m'.words → word_at m'.words i ≡ word_at m.words i →
     ((k : ℕ) → IsOneOf n k → bit_for m'.q i k ≡ bit_for m.q i k) →
     Late n m'.words q.variables.g q.variables.marks i (reach_at n q.variables q.control) →
-    Viewed n history t' q.auxiliary.since m'.words → ProcessInvariant n t history m i q → ProcessInvariant n t' history m' i q
+    Viewed n history t' q.auxiliary.since m'.words → ProcessInvariant n t history m i q →
+    ProcessInvariant n t' history m' i q
 others_act n t t' history m m' i q le g same put late v h = record {
   well = h.well;
   sized = h.sized;
@@ -102,13 +108,17 @@ others_act n t t' history m m' i q le g same put late v h = record {
   toggle = subst (λ (w : Word). ToggledAt w.toggle q.variables q.control) (sym same) h.toggle;
   since_le = let f : q.auxiliary.since ≤ t = h.since_le in omega arith;
   low = λ k ik. let l : seq_at (history q.auxiliary.since) k ≤ seq_at m.words k = h.low k ik in
-      let s : seq_at m.words k ≤ seq_at m'.words k = follows_seq (word_at m.words k) (word_at m'.words k) (g k ik) in omega arith;
+      let s : seq_at m.words k ≤ seq_at m'.words k = follows_seq (word_at m.words k) (word_at m'.words k) (g k ik) in
+      omega arith;
   opened = λ k ik. let l : seq_at (history q.auxiliary.round) k ≤ seq_at m.words k = h.opened k ik in
-      let s : seq_at m.words k ≤ seq_at m'.words k = follows_seq (word_at m.words k) (word_at m'.words k) (g k ik) in omega arith;
+      let s : seq_at m.words k ≤ seq_at m'.words k = follows_seq (word_at m.words k) (word_at m'.words k) (g k ik) in
+      omega arith;
   views = v;
   asked = λ k ik lt. put k ik ∙ h.asked k ik lt;
   late = late;
-  stage = stage_at_kept n i history t t' q.auxiliary.since q.auxiliary.round m.words m'.words q.variables q.control le g h.well h.stage;
+  stage =
+      stage_at_kept n i history t t' q.auxiliary.since q.auxiliary.round m.words m'.words q.variables
+      q.control le g h.well h.stage;
   self = λ scan. h.self scan ∙ sym (ap (λ (w : Word). w.seq) same);
   counts = h.counts;
   wrote = h.wrote;
@@ -119,9 +129,12 @@ time_passes n t history x h = record {
   size = h.size;
   square = h.square;
   bits = h.bits;
-  each = λ i e. others_act n t (suc t) history x.memory x.memory i (typed_at (algorithm n) x i) (omega arith) (λ k j. inr refl) refl (λ k j. refl)
+  each =
+      λ i e. others_act n t (suc t) history x.memory x.memory i (typed_at (algorithm n) x i) (omega arith)
+      (λ k j. inr refl) refl (λ k j. refl)
       (h.each i e).late
-      (λ k j more. held_wider history t (suc t) _ _ _ (omega arith) (omega arith) ((h.each i e).views k j more)) (h.each i e);
+      (λ k j more. held_wider history t (suc t) _ _ _ (omega arith) (omega arith) ((h.each i e).views k j more))
+      (h.each i e);
   start = h.start;
   answered = h.answered;
 }

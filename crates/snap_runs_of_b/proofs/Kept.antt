@@ -12,22 +12,23 @@ use Rattle.snap_runs.proofs.Steady.{Steady}
 use Rattle.snap_runs.proofs.UpdateSteps.{Ahead, Nearer, Resumes}
 use Rattle.snap_runs_frame.proofs.Frame as frames
 use Rattle.snap_runs_of_b.specs.Promises.{run_of}
-use Rattle.snap_runs_of_b.proofs.Algorithm.{Words, Registers, Variables, ProgramCounter, L40, L41, L42, L43, L44, L45, L46, L47, IsUpdate, IsLineOf, in_update, tests, move, lines, algorithm}
+use Rattle.snap_runs_of_b.proofs.Algorithm.{Words, Registers, Variables, ProgramCounter, L40, L41, L42, L43, L44, L45}
+use Rattle.snap_runs_of_b.proofs.Algorithm.{L46, L47, IsUpdate, IsLineOf, in_update, tests, move, lines, algorithm}
 use Rattle.snap_runs_of_b.proofs.Count.{collects_le, own_le}
 use Rattle.snap_runs_of_b.proofs.Flows.{numbered, listed, once, writer}
 use Rattle.snap_runs_of_b.proofs.Preserve.{few_moves}
-use Rattle.snap_runs_of_b.proofs.Runs.{words_at, registers_at, process_after, invariant_of, execution, well_of, stage_of, counts_of}
+use Rattle.snap_runs_of_b.proofs.Runs.{words_at, registers_at, process_after, invariant_of}
+use Rattle.snap_runs_of_b.proofs.Runs.{execution, well_of, stage_of, counts_of}
 use Rattle.snap_runs_of_b.proofs.Stage.{Stage}
 
 -- line 46 is one of an update
-pub updates : (n : ℕ) (items : List Item) → Steady (run_of n items) → (t i : ℕ) (d : Mode) → t < length items → IsOneOf n i →
-    (process_after n items t i).control ≡ At d L46 →
-    IsUpdate i d
+pub updates : (n : ℕ) (items : List Item) → Steady (run_of n items) → (t i : ℕ) (d : Mode) → t < length items →
+    IsOneOf n i → (process_after n items t i).control ≡ At d L46 → IsUpdate i d
 updates n items fits t i d h one e = (well_of n items fits t i d L46 (omega arith) one e).0
 
 -- at a line that returns s, the values were s at some state since the scan's start
-pub return_held : (n i : ℕ) (history : ℕ → Words) (t since round : ℕ) (words : Words) (p : Variables) (k : ProgramCounter) → lines.IsReturn k →
-    Stage n i history t since round words p k → Held history t since p.s
+pub return_held : (n i : ℕ) (history : ℕ → Words) (t since round : ℕ) (words : Words) (p : Variables)
+    (k : ProgramCounter) → lines.IsReturn k → Stage n i history t since round words p k → Held history t since p.s
 return_held n i history t since round words p k (inl is) h = subst (Stage n i history t since round words p) is h
 return_held n i history t since round words p k (inr is) h = (subst (Stage n i history t since round words p) is h).0
 
@@ -36,9 +37,10 @@ abbrev pub most_steps : ℕ → ℕ
 most_steps n = 8 * (n * n) + 12 * n + 7
 
 -- the bounds at each line
-pub within : (n : ℕ) (items : List Item) → Steady (run_of n items) → (t i : ℕ) (d : Mode) (k : ProgramCounter) → t ≤ length items → IsOneOf n i →
-    (process_after n items t i).control ≡ At d k → IsInScan d →
-    ((process_after n items t i).auxiliary.collects + tests k ≤ n) × ((process_after n items t i).auxiliary.own + 1 ≤ most_steps n)
+pub within : (n : ℕ) (items : List Item) → Steady (run_of n items) → (t i : ℕ) (d : Mode) (k : ProgramCounter) →
+    t ≤ length items → IsOneOf n i → (process_after n items t i).control ≡ At d k → IsInScan d →
+    ((process_after n items t i).auxiliary.collects + tests k ≤ n)
+    × ((process_after n items t i).auxiliary.own + 1 ≤ most_steps n)
 within n items fits t i d k le one at scan =
     let q = process_after n items t i in
     let g = q.auxiliary in
@@ -77,13 +79,15 @@ scanned _ = true
 abbrev its : (n : ℕ) → Ahead (algorithm n) lines
 its n = record { ahead = ahead n; scanned = scanned; rest = 3; total = 8 + 3 * (n - 1) }
 
-pub nearer : (n me word value : ℕ) (m : Registers) (p : Variables) (k : ProgramCounter) → IsLineOf me (Updating word value) k →
+pub nearer : (n me word value : ℕ) (m : Registers) (p : Variables) (k : ProgramCounter) →
+    IsLineOf me (Updating word value) k →
     Nearer (algorithm n) lines (its n) p k (move n me (Updating word value) m p k)
 nearer n me word value m p L40 s = (omega arith, refl)
 nearer n me word value m p L41 s = (omega arith, refl)
 nearer n me word value m p L42 s = (omega arith, refl)
 nearer n me word value m p L43 s =
-    either (Nearer (algorithm n) lines (its n) p L43) (nat_lt p.j n) _ _ (λ is. let lt : p.j < n = lt_from p.j n is in (omega arith, refl)) (λ is. (omega arith, refl))
+    either (Nearer (algorithm n) lines (its n) p L43) (nat_lt p.j n) _ _
+    (λ is. let lt : p.j < n = lt_from p.j n is in (omega arith, refl)) (λ is. (omega arith, refl))
 nearer n me word value m p L44 s = (omega arith, refl)
 nearer n me word value m p L45 s = (omega arith, refl)
 nearer n me word value m p L46 s = (omega arith, refl)
@@ -93,9 +97,11 @@ nearer n me word value m p k s = absurd s
 pub resumes : (n me word value : ℕ) (m : Registers) (p : Variables) (k : ProgramCounter) → lines.IsReturn k →
     Resumes (algorithm n) lines (its n) (move n me (Embedded word value) m p k)
 resumes n me word value m p k (inl is) =
-    subst (λ y. Resumes (algorithm n) lines (its n) (move n me (Embedded word value) m p y)) (sym is) (omega arith, refl)
+    subst (λ y. Resumes (algorithm n) lines (its n) (move n me (Embedded word value) m p y)) (sym is)
+    (omega arith, refl)
 resumes n me word value m p k (inr is) =
-    subst (λ y. Resumes (algorithm n) lines (its n) (move n me (Embedded word value) m p y)) (sym is) (omega arith, refl)
+    subst (λ y. Resumes (algorithm n) lines (its n) (move n me (Embedded word value) m p y)) (sym is)
+    (omega arith, refl)
 
 abbrev pub frame : (n : ℕ) → frames.Frame (algorithm n) lines 46
 frame n = record {
@@ -120,7 +126,8 @@ kept n items fits = record {
   updates = updates n items fits;
   held = λ t i d k le one at returns.
       let q = process_after n items t i in
-      return_held n i (words_at n items) t q.auxiliary.since q.auxiliary.round (words_at n items t) q.variables k returns
+      return_held n i (words_at n items) t q.auxiliary.since q.auxiliary.round
+      (words_at n items t) q.variables k returns
       (stage_of n items fits t i d k le one at);
   within = within n items fits;
   nearer = λ t i word value k lt one at.

@@ -17,7 +17,8 @@ not_late : (op : Op) → IsLate (counter op) → ⊥
 not_late Scan late = late
 not_late (Update word value) late = late
 
-lends : (n : ℕ) (items : List Item) (fits : Steady (run_of n items)) → single.Lends (frame n) (λ i word is. is) items (kept n items fits)
+lends : (n : ℕ) (items : List Item) (fits : Steady (run_of n items)) →
+    single.Lends (frame n) (λ i word is. is) items (kept n items fits)
 lends n items fits = record {
   sizes = λ t short. (invariant n items fits t short).size;
   pairs = λ t i k short one kone making more. (invariant n items fits t short).start i k one kone making more;
@@ -27,10 +28,12 @@ lends n items fits = record {
   not_late = not_late;
   embeds = λ t i short one.
       let q = process_after n items t i in
-      when_busy _ _ (λ d k well. embeds n i d (registers_at n items t) q.variables k well.0) q.control (invariant_of n items fits t i (omega arith) one).well;
+      when_busy _ _ (λ d k well. embeds n i d (registers_at n items t) q.variables k well.0) q.control
+      (invariant_of n items fits t i (omega arith) one).well;
 }
 
 pub borrowed_views_are_lent_lem : BorrowedViewsAreLent
 borrowed_views_are_lent_lem n items =
-    single.borrowed_views_are_lent (frame n) (λ i word is. is) items (calm_kept n items) 28 L28 refl (λ steady. lends n _ steady)
+    single.borrowed_views_are_lent (frame n) (λ i word is. is) items
+    (calm_kept n items) 28 L28 refl (λ steady. lends n _ steady)
     (λ steady t i d le one at. (stage_of n _ steady t i d L28 le one at).1)

@@ -1,5 +1,8 @@
--- Each line of listing B does its move.
-use Rattle.std.specs.Prelude.{◌≡◌, ℕ, zero, suc, ◌+◌, ◌-◌, ◌<◌, ◌≤◌, max, Bool, true, false, not, ◌&&◌, ◌||◌, List, [], ◌∷◌, take, map, Option, Some, None, Result, Ok, Err, slice_index, slice_index_or, slice_set, nat_eq, nat_lt, if◌then◌else◌, refl}
+-- Each numbered line of listing B has the effect of its move in
+-- `Algorithm.antt`, and does not trap where it has what it needs.
+use Rattle.std.specs.Prelude.{◌≡◌, ℕ, zero, suc, ◌+◌, ◌-◌, ◌<◌, ◌≤◌, max, Bool, true, false, not, ◌&&◌, ◌||◌, List}
+use Rattle.std.specs.Prelude.{[], ◌∷◌, take, map, Option, Some, None, Result, Ok, Err, slice_index, slice_index_or}
+use Rattle.std.specs.Prelude.{slice_set, nat_eq, nat_lt, if◌then◌else◌, refl}
 use Rattle.std.specs.List.{list_all}
 use Rattle.std.proofs.Common.{sym, ◌∙◌, ap, arith}
 use Rattle.std.proofs.lemmas.List.{map-set}
@@ -8,9 +11,11 @@ use Rattle.snap_words.specs.Word.{Word, no_word}
 use Rattle.snap_semantics.specs.Answers.{◌>>=◌}
 use Rattle.snap_semantics.specs.Source.{instr_at}
 use Rattle.snap_semantics.specs.State.{Memory, NameMap}
-use Rattle.snap_semantics.specs.Table.{places_to, Goes, Effect, effect_at, all_true, first_true, first_goes, bit_value, with_bits, with_bit_at}
+use Rattle.snap_semantics.specs.Table.{places_to, Goes, Effect, effect_at, all_true, first_true, first_goes}
+use Rattle.snap_semantics.specs.Table.{bit_value, with_bits, with_bit_at}
 use Rattle.snap_words.specs.Kind.{is_bit}
-use Rattle.snap_semantics.specs.Value.{Context, at_place, place_in, term_value, relates, comparison_holds, condition_holds}
+use Rattle.snap_semantics.specs.Value.{Context, at_place, place_in, term_value, relates}
+use Rattle.snap_semantics.specs.Value.{comparison_holds, condition_holds}
 use Rattle.snap_semantics.specs.declared.instr.Index.TheVariants.{Place}
 use Rattle.snap_semantics.specs.declared.instr.Relation.{Relation}
 use Rattle.snap_semantics.specs.declared.instr.Relation.TheVariants.{Equal, Different}
@@ -27,7 +32,11 @@ use Rattle.snap_runs.proofs.Places.{bind_ok, place_ok, each_ok, sum_ok}
 use Rattle.snap_runs_of_b.specs.ListingB as listing
 use Rattle.snap_runs_of_b.specs.ListingB.{listing_b}
 use Rattle.snap_runs_of_b.specs.Promises.{square}
-use Rattle.snap_runs_of_b.proofs.Algorithm.{Words, Registers, Variables, ProgramCounter, L10, L11, L12, L13, L14, L15, L16, L17, L18, L19, L20, L21, L22, L23, L25, L26, L27, L28, L40, L41, L42, L43, L44, L45, L46, L47, number, back, plain, real, locals_of, place, handshake_at, agree, limit, moved_at, counted, at_limit, word_put, move, first_to, algorithm, IsLineOf}
+use Rattle.snap_runs_of_b.proofs.Algorithm.{Words, Registers, Variables, ProgramCounter, L10, L11, L12, L13, L14, L15}
+use Rattle.snap_runs_of_b.proofs.Algorithm.{L16, L17, L18, L19, L20, L21, L22, L23, L25, L26, L27, L28, L40, L41, L42}
+use Rattle.snap_runs_of_b.proofs.Algorithm.{L43, L44, L45, L46, L47, number, back, plain, real, locals_of, place}
+use Rattle.snap_runs_of_b.proofs.Algorithm.{handshake_at, agree, limit, moved_at, counted, at_limit, word_put, move}
+use Rattle.snap_runs_of_b.proofs.Algorithm.{first_to, algorithm, IsLineOf}
 
 -- a row of bits
 abbrev pub Bits : ℕ → List ℕ → Type 0
@@ -75,10 +84,13 @@ at_k n me d p k = at_place (context_of (square n) me (op_of d) p) k
 
 -- operands at a place
 handshake_ok : (n me : ℕ) (d : Mode) (p : Variables) (k : ℕ) (ws : Words) → IsOneOf (max n n) k → IsOneOf n me →
-    (place_in (max n n) k >>= λ u. place_in n me >>= λ h. let r : Result ℕ Cause = Ok (slice_index (slice_index_or (map plain ws) u no_word).handshakes h) in r) ≡ Ok (handshake_at (word_at ws k) me)
+    (place_in (max n n) k >>= λ u. place_in n me >>= λ h.
+    let r : Result ℕ Cause = Ok (slice_index (slice_index_or (map plain ws) u no_word).handshakes h) in r)
+    ≡ Ok (handshake_at (word_at ws k) me)
 handshake_ok n me d p k ws h one =
     bind_ok _ _ _ _ (place_ok (max n n) k h)
-    (bind_ok _ _ _ _ (place_ok n me one) (ap (λ (w : Word). let r : Result ℕ Cause = Ok (slice_index w.handshakes (me - 1)) in r) (plain_at plain refl ws (k - 1))))
+    (bind_ok _ _ _ _ (place_ok n me one) (ap (λ (w : Word).
+    let r : Result ℕ Cause = Ok (slice_index w.handshakes (me - 1)) in r) (plain_at plain refl ws (k - 1))))
 
 handshake_a : (n me : ℕ) (d : Mode) (p : Variables) (k : ℕ) → IsOneOf (max n n) k → IsOneOf n me →
     term_value (at_k n me d p k) listing.handshake_a ≡ Ok (handshake_at (word_at p.a k) me)
@@ -90,17 +102,22 @@ handshake_b n me d p k h one = handshake_ok n me d p k p.b h one
 
 toggle_a : (n me : ℕ) (d : Mode) (p : Variables) (k : ℕ) → IsOneOf (max n n) k →
     term_value (at_k n me d p k) listing.toggle_a ≡ Ok (word_at p.a k).toggle
-toggle_a n me d p k h = bind_ok _ _ _ _ (place_ok (max n n) k h) (ap (λ (w : Word). let r : Result ℕ Cause = Ok w.toggle in r) (plain_at plain refl p.a (k - 1)))
+toggle_a n me d p k h =
+    bind_ok _ _ _ _ (place_ok (max n n) k h)
+    (ap (λ (w : Word). let r : Result ℕ Cause = Ok w.toggle in r) (plain_at plain refl p.a (k - 1)))
 
 toggle_b : (n me : ℕ) (d : Mode) (p : Variables) (k : ℕ) → IsOneOf (max n n) k →
     term_value (at_k n me d p k) listing.toggle_b ≡ Ok (word_at p.b k).toggle
-toggle_b n me d p k h = bind_ok _ _ _ _ (place_ok (max n n) k h) (ap (λ (w : Word). let r : Result ℕ Cause = Ok w.toggle in r) (plain_at plain refl p.b (k - 1)))
+toggle_b n me d p k h =
+    bind_ok _ _ _ _ (place_ok (max n n) k h)
+    (ap (λ (w : Word). let r : Result ℕ Cause = Ok w.toggle in r) (plain_at plain refl p.b (k - 1)))
 
 row_ok : (n me : ℕ) (d : Mode) (p : Variables) (k : ℕ) → IsOneOf (max n n) k →
     term_value (at_k n me d p k) (Row listing.moved Place) ≡ Ok (moved_at p k)
 row_ok n me d p k h = bind_ok _ _ _ _ (place_ok (max n n) k h) refl
 
-bit_ok : (n me : ℕ) (d : Mode) (p : Variables) (k : ℕ) → IsOneOf (max n n) k → term_value (at_k n me d p k) listing.bit ≡ Ok (place p.g k)
+bit_ok : (n me : ℕ) (d : Mode) (p : Variables) (k : ℕ) → IsOneOf (max n n) k →
+    term_value (at_k n me d p k) listing.bit ≡ Ok (place p.g k)
 bit_ok n me d p k h = bind_ok _ _ _ _ (place_ok (max n n) k h) refl
 
 owned_ok : {A : Type 0} (own : Bool) (word : A) (cause : Cause) (f : A → Result Effect Cause) → own ≡ true →
@@ -119,27 +136,34 @@ bits_taken zero row h = refl
 bits_taken (suc n) [] h = refl
 bits_taken (suc n) (x ∷ row) h =
     both_true (is_bit x) (list_all is_bit (take n row)) (le_true x 1 (h 1 (omega arith, omega arith)))
-    (bits_taken n row (λ k i. let e : place (x ∷ row) (suc k) ≡ place row k = shifted x row k i.0 in let low : place (x ∷ row) (suc k) ≤ 1 = h (suc k) (omega arith, omega arith) in omega arith))
+    (bits_taken n row (λ k i. let e : place (x ∷ row) (suc k) ≡ place row k =
+    shifted x row k i.0 in let low : place (x ∷ row) (suc k) ≤ 1 = h (suc k) (omega arith, omega arith) in omega arith))
   where
     shifted : (x : ℕ) (row : List ℕ) (k : ℕ) → 0 < k → place (x ∷ row) (suc k) ≡ place row k
     shifted x row zero pos = absurd (omega arith)
     shifted x row (suc k) pos =
-        ap (slice_index (x ∷ row)) (let e : suc (suc k) - 1 ≡ suc k = omega arith in e) ∙ ap (slice_index row) (let e : k ≡ suc k - 1 = omega arith in e)
+        ap (slice_index (x ∷ row)) (let e : suc (suc k) - 1 ≡ suc k = omega arith in e)
+        ∙ ap (slice_index row) (let e : k ≡ suc k - 1 = omega arith in e)
 
 bits_ok : (w : Word) → w.toggle ≤ 1 → list_all is_bit w.handshakes ≡ true → with_bits w ≡ Ok w
 bits_ok w h e = if_true _ _ _ (both_true (is_bit w.toggle) (list_all is_bit w.handshakes) (le_true w.toggle 1 h) e)
 
 -- one comparison of the two copies at a place
 handshakes_a : (n me : ℕ) (d : Mode) (p : Variables) (k : ℕ) (r : Relation) → IsOneOf (max n n) k → IsOneOf n me →
-    comparison_holds (at_k n me d p k) (listing.compare listing.handshake_a r listing.bit) ≡ Ok (relates r (handshake_at (word_at p.a k) me) (place p.g k))
-handshakes_a n me d p k r i one = bind_ok _ _ _ _ (handshake_a n me d p k i one) (bind_ok _ _ _ _ (bit_ok n me d p k i) refl)
+    comparison_holds (at_k n me d p k) (listing.compare listing.handshake_a r listing.bit)
+    ≡ Ok (relates r (handshake_at (word_at p.a k) me) (place p.g k))
+handshakes_a n me d p k r i one =
+    bind_ok _ _ _ _ (handshake_a n me d p k i one) (bind_ok _ _ _ _ (bit_ok n me d p k i) refl)
 
 handshakes_b : (n me : ℕ) (d : Mode) (p : Variables) (k : ℕ) (r : Relation) → IsOneOf (max n n) k → IsOneOf n me →
-    comparison_holds (at_k n me d p k) (listing.compare listing.handshake_b r listing.bit) ≡ Ok (relates r (handshake_at (word_at p.b k) me) (place p.g k))
-handshakes_b n me d p k r i one = bind_ok _ _ _ _ (handshake_b n me d p k i one) (bind_ok _ _ _ _ (bit_ok n me d p k i) refl)
+    comparison_holds (at_k n me d p k) (listing.compare listing.handshake_b r listing.bit)
+    ≡ Ok (relates r (handshake_at (word_at p.b k) me) (place p.g k))
+handshakes_b n me d p k r i one =
+    bind_ok _ _ _ _ (handshake_b n me d p k i one) (bind_ok _ _ _ _ (bit_ok n me d p k i) refl)
 
 toggles : (n me : ℕ) (d : Mode) (p : Variables) (k : ℕ) (r : Relation) → IsOneOf (max n n) k →
-    comparison_holds (at_k n me d p k) (listing.compare listing.toggle_a r listing.toggle_b) ≡ Ok (relates r (word_at p.a k).toggle (word_at p.b k).toggle)
+    comparison_holds (at_k n me d p k) (listing.compare listing.toggle_a r listing.toggle_b)
+    ≡ Ok (relates r (word_at p.a k).toggle (word_at p.b k).toggle)
 toggles n me d p k r i = bind_ok _ _ _ _ (toggle_a n me d p k i) (bind_ok _ _ _ _ (toggle_b n me d p k i) refl)
 
 -- all of them, at line 20
@@ -170,14 +194,20 @@ differ_ok n me d p k i one =
     (ap (λ b. let r : Result Bool Cause = Ok b in r) (some_differ same_a same_b same_toggle))))
 
 first_shown : (n : ℕ) (d : Mode) (m : Registers) (p : Variables) (o : Option ℕ) →
-    first_goes listing_b (activity (op_of d) (link_of (number back) d) 22) (real m) (locals_of p) listing.j 27 o ≡ shown (algorithm n) m (first_to d m p o)
+    first_goes listing_b (activity (op_of d) (link_of (number back) d) 22) (real m) (locals_of p) listing.j 27 o
+    ≡ shown (algorithm n) m (first_to d m p o)
 first_shown n d m p None = refl
 first_shown n d m p (Some k) = refl
 
 -- what a line leaves: these words among the locals, this view, these words or this bit among the registers
 abbrev pub left_words : Registers → Variables → Mode → ℕ → NameMap Words → Result Effect Cause
 left_words m p d line ws =
-    Ok (Goes (real m) (record { scalars = (locals_of p).scalars; rows = (locals_of p).rows; words = ws; views = (locals_of p).views }) (link_of (number back) d) line)
+    Ok (Goes (real m) (record {
+      scalars = (locals_of p).scalars;
+      rows = (locals_of p).rows;
+      words = ws;
+      views = (locals_of p).views;
+    }) (link_of (number back) d) line)
 
 abbrev pub left_view : Registers → Variables → Mode → ℕ → List ℕ → Result Effect Cause
 left_view m p d line v = Ok (Goes (real m) (locals_of (record p { s = v })) (link_of (number back) d) line)
@@ -188,13 +218,16 @@ real_with m ws = record { words = ws; q = m.q; p = []; views = [] }
 abbrev pub with_put_bit : ℕ → Registers → Variables → ℕ → Registers
 with_put_bit me m p y = record { words = m.words; q = with_bit_at m.q (me - 1) (p.j - 1) y }
 
-pub each_line : (n me : ℕ) (d : Mode) (m : Registers) (p : Variables) (k : ProgramCounter) → IsOneOf n me → IsLineOf me d k → Needs n p k →
-    at_line (record { n = n; w = n }) me (op_of d) m (link_of (number back) d) (number k) p ≡ shown (algorithm n) m (move n me d m p k)
+pub each_line : (n me : ℕ) (d : Mode) (m : Registers) (p : Variables) (k : ProgramCounter) →
+    IsOneOf n me → IsLineOf me d k → Needs n p k →
+    at_line (record { n = n; w = n }) me (op_of d) m (link_of (number back) d) (number k) p
+    ≡ shown (algorithm n) m (move n me d m p k)
 each_line n me d m p L10 one s h = bind_ok _ _ _ _ (each_ok _ (λ k. 0) 1 n (λ k low high. refl)) refl
 each_line n me d m p L11 one s h = refl
 each_line n me d m p L12 one s h =
     bind_ok _ _ _ _ (place_ok (max n n) p.j (in_places n p.j h)) (bind_ok _ _ _ _ (place_ok n p.j h)
-    (ap (λ (ws : Words). left_words m p d 13 ((listing.a, ws) ∷ (listing.b, map plain p.b) ∷ [])) (plain_copied plain refl p.a m.words (p.j - 1) (p.j - 1))))
+    (ap (λ (ws : Words). left_words m p d 13 ((listing.a, ws) ∷ (listing.b, map plain p.b) ∷ []))
+    (plain_copied plain refl p.a m.words (p.j - 1) (p.j - 1))))
 each_line n me d m p L13 one s h =
     bind_ok _ _ _ _ (place_ok (max n n) p.j (in_places n p.j h))
     (bind_ok _ _ _ _ (handshake_ok n me d p p.j p.a (in_places n p.j h) one) refl)
@@ -203,16 +236,25 @@ each_line n me d m p L14 one s h =
     (bind_ok _ _ _ _ (place_ok n p.j h.0)
     (bind_ok _ _ _ _ (bind_ok _ _ _ _ (place_ok (max n n) p.j (in_places n p.j h.0)) refl)
     (bind_ok _ _ _ _ (bit_value_ok (place p.g p.j) h.1)
-    (owned_ok (nat_eq me me) (place p.g p.j) Owner (λ y. Ok (Goes (real (with_put_bit me m p y)) (locals_of p) (link_of (number back) d) 15)) (same_number me)))))
-each_line n me d m p L15 one s h = if_of (shown (algorithm n) m) (nat_lt p.j n) (To d m (record p { j = p.j + 1 }) L12) (To d m (record p { j = 1 }) L16)
+    (owned_ok (nat_eq me me) (place p.g p.j) Owner
+    (λ y. Ok (Goes (real (with_put_bit me m p y)) (locals_of p) (link_of (number back) d) 15)) (same_number me)))))
+each_line n me d m p L15 one s h =
+    if_of (shown (algorithm n) m) (nat_lt p.j n) (To d m (record p { j = p.j + 1 }) L12)
+    (To d m (record p { j = 1 }) L16)
 each_line n me d m p L16 one s h =
     bind_ok _ _ _ _ (place_ok (max n n) p.j (in_places n p.j h)) (bind_ok _ _ _ _ (place_ok n p.j h)
-    (ap (λ (ws : Words). left_words m p d 17 ((listing.a, ws) ∷ (listing.b, map plain p.b) ∷ [])) (plain_copied plain refl p.a m.words (p.j - 1) (p.j - 1))))
-each_line n me d m p L17 one s h = if_of (shown (algorithm n) m) (nat_lt p.j n) (To d m (record p { j = p.j + 1 }) L16) (To d m (record p { j = 1 }) L18)
+    (ap (λ (ws : Words). left_words m p d 17 ((listing.a, ws) ∷ (listing.b, map plain p.b) ∷ []))
+    (plain_copied plain refl p.a m.words (p.j - 1) (p.j - 1))))
+each_line n me d m p L17 one s h =
+    if_of (shown (algorithm n) m) (nat_lt p.j n) (To d m (record p { j = p.j + 1 }) L16)
+    (To d m (record p { j = 1 }) L18)
 each_line n me d m p L18 one s h =
     bind_ok _ _ _ _ (place_ok (max n n) p.j (in_places n p.j h)) (bind_ok _ _ _ _ (place_ok n p.j h)
-    (ap (λ (ws : Words). left_words m p d 19 ((listing.a, map plain p.a) ∷ (listing.b, ws) ∷ [])) (plain_copied plain refl p.b m.words (p.j - 1) (p.j - 1))))
-each_line n me d m p L19 one s h = if_of (shown (algorithm n) m) (nat_lt p.j n) (To d m (record p { j = p.j + 1 }) L18) (To d m (record p { j = 1 }) L20)
+    (ap (λ (ws : Words). left_words m p d 19 ((listing.a, map plain p.a) ∷ (listing.b, ws) ∷ []))
+    (plain_copied plain refl p.b m.words (p.j - 1) (p.j - 1))))
+each_line n me d m p L19 one s h =
+    if_of (shown (algorithm n) m) (nat_lt p.j n) (To d m (record p { j = p.j + 1 }) L18)
+    (To d m (record p { j = 1 }) L20)
 each_line n me d m p L20 one s h =
     bind_ok _ _ _ _ (each_ok _ (agree me p) 1 n (λ k low high. agree_ok n me d p k (in_range n k low high) one))
     (if_of (shown (algorithm n) m) (all_true (map (agree me p) (places_to n))) (To d m p L25) (To d m p L21))
@@ -234,14 +276,17 @@ each_line n me Scanning m p L26 one s h = refl
 each_line n me (Embedded w x) m p L26 one s h = refl
 each_line n me (Updating w x) m p L26 one s h = absurd s
 each_line n me d m p L27 one s h =
-    bind_ok _ _ _ _ (place_ok (max n n) p.j (in_places n p.j h)) (ap (λ (w : Word). left_view m p d 28 w.view) (plain_at plain refl p.b (p.j - 1)))
+    bind_ok _ _ _ _ (place_ok (max n n) p.j (in_places n p.j h))
+    (ap (λ (w : Word). left_view m p d 28 w.view) (plain_at plain refl p.b (p.j - 1)))
 each_line n me Scanning m p L28 one s h = refl
 each_line n me (Embedded w x) m p L28 one s h = refl
 each_line n me (Updating w x) m p L28 one s h = absurd s
 each_line n me d m p L40 one s h = refl
 each_line n me d m p L41 one s h = bind_ok _ _ _ _ (place_ok n p.j h) (bind_ok _ _ _ _ (place_ok n me one) refl)
 each_line n me d m p L42 one s h = bind_ok _ _ _ _ (place_ok (max n n) p.j (in_places n p.j h)) refl
-each_line n me d m p L43 one s h = if_of (shown (algorithm n) m) (nat_lt p.j n) (To d m (record p { j = p.j + 1 }) L41) (To d m (record p { j = 1 }) L44)
+each_line n me d m p L43 one s h =
+    if_of (shown (algorithm n) m) (nat_lt p.j n) (To d m (record p { j = p.j + 1 }) L41)
+    (To d m (record p { j = 1 }) L44)
 each_line n me Scanning m p L44 one s h = absurd s
 each_line n me (Embedded w x) m p L44 one s h = absurd s
 each_line n me (Updating w x) m p L44 one s h = refl
@@ -253,7 +298,8 @@ each_line n me (Updating w x) m p L46 one s h =
     (bind_ok _ _ _ _ (bits_ok (plain (word_put n me (Updating w x) m p)) h.0 (bits_taken n p.f h.1))
     (owned_ok (nat_eq me me) (plain (word_put n me (Updating w x) m p)) Owner
     (λ y. Ok (Goes (real_with m (slice_set (map plain m.words) (me - 1) y)) (locals_of p) None 47)) (same_number me)
-    ∙ ap (λ (ws : Words). let r : Result Effect Cause = Ok (Goes (real_with m ws) (locals_of p) None 47) in r) (sym (map-set plain m.words (me - 1) (word_put n me (Updating w x) m p)))))
+    ∙ ap (λ (ws : Words). let r : Result Effect Cause = Ok (Goes (real_with m ws) (locals_of p) None 47) in r)
+    (sym (map-set plain m.words (me - 1) (word_put n me (Updating w x) m p)))))
 each_line n me Scanning m p L47 one s h = absurd s
 each_line n me (Embedded w x) m p L47 one s h = absurd s
 each_line n me (Updating w x) m p L47 one s h = refl

@@ -11,7 +11,9 @@ use Rattle.snap_runs.proofs.Held.{word_at, seq_at, at_most_now}
 use Rattle.snap_runs.proofs.Scans as scans
 use Rattle.snap_runs.proofs.States.{at_each}
 use Rattle.snap_runs_of_b.specs.Promises.{run_of}
-use Rattle.snap_runs_of_b.proofs.Algorithm.{Words, Registers, Control, Process, State, ProgramCounter, place, handshake_at, first_word, first_words, first_registers, IsLineOf, lines, algorithm}
+use Rattle.snap_runs_of_b.proofs.Algorithm.{Words, Registers, Control, Process, State, ProgramCounter, place}
+use Rattle.snap_runs_of_b.proofs.Algorithm.{handshake_at, first_word, first_words}
+use Rattle.snap_runs_of_b.proofs.Algorithm.{first_registers, IsLineOf, lines, algorithm}
 use Rattle.snap_runs_of_b.proofs.Control.{ControlWell, VariablesAt, does}
 use Rattle.snap_runs_of_b.proofs.Count.{Count}
 use Rattle.snap_runs_of_b.proofs.Flows.{flows}
@@ -43,7 +45,9 @@ zero_row : (n i : ℕ) → IsOneOf n i → row_of (replicate n (replicate n 0)) 
 zero_row n i h = get_or-replicate n (i - 1) (replicate n 0) [] (omega arith)
 
 zero_bit : (n k count : ℕ) → IsOneOf n k → n ≤ count → place (replicate count 0) k ≤ 1
-zero_bit n k count h le = let z : place (replicate count 0) k ≡ 0 = get_or-replicate count (k - 1) 0 0 (omega arith) in omega arith
+zero_bit n k count h le =
+    let z : place (replicate count 0) k ≡ 0 = get_or-replicate count (k - 1) 0 0 (omega arith) in
+    omega arith
 
 process_at_the_start : (n : ℕ) (history : ℕ → Words) (i : ℕ) → IsOneOf n i → history 0 ≡ first_words n n →
     ProcessInvariant n 0 history (first_registers n) i (first_process (algorithm n))
@@ -72,16 +76,30 @@ process_at_the_start n history i h now =
       wrote = tt;
     }
 
-at_the_start : (n : ℕ) (history : ℕ → Words) → history 0 ≡ first_words n n → Invariant n 0 history (first_state (algorithm n))
+at_the_start : (n : ℕ) (history : ℕ → Words) → history 0 ≡ first_words n n →
+    Invariant n 0 history (first_state (algorithm n))
 at_the_start n history now =
     let at = embed.first_process_is (algorithm n) in
     record {
       size = length-replicate n (first_word n);
-      square = record { rows = length-replicate n (replicate n 0); bits = λ i h. ap length (zero_row n i h) ∙ length-replicate n 0 };
-      bits = λ k i jk ji. subst (λ (w : Word). handshake_at w i ≤ 1) (sym (zero_at n k jk)) (zero_bit n i n ji (omega arith));
-      each = λ i h. subst (λ (q : Process). ProcessInvariant n 0 history (first_registers n) i q) (sym (at i h)) (process_at_the_start n history i h now);
-      start = λ i k h j. subst (λ (q : Process). PairInvariant history (first_words n n) (typed_at (algorithm n) (first_state (algorithm n)) i) q k) (sym (at k j)) (λ making lt. absurd making);
-      answered = λ i k h j. subst (λ (q : Process). Answered n (first_words n n) i q k (typed_at (algorithm n) (first_state (algorithm n)) k)) (sym (at i h)) (λ lt more. absurd (omega arith));
+      square = record {
+        rows = length-replicate n (replicate n 0);
+        bits = λ i h. ap length (zero_row n i h) ∙ length-replicate n 0;
+      };
+      bits =
+          λ k i jk ji.
+          subst (λ (w : Word). handshake_at w i ≤ 1) (sym (zero_at n k jk)) (zero_bit n i n ji (omega arith));
+      each =
+          λ i h. subst (λ (q : Process). ProcessInvariant n 0 history (first_registers n) i q) (sym (at i h))
+          (process_at_the_start n history i h now);
+      start =
+          λ i k h j. subst (λ (q : Process).
+          PairInvariant history (first_words n n) (typed_at (algorithm n) (first_state (algorithm n)) i) q k)
+          (sym (at k j)) (λ making lt. absurd making);
+      answered =
+          λ i k h j. subst
+          (λ (q : Process). Answered n (first_words n n) i q k (typed_at (algorithm n) (first_state (algorithm n)) k))
+          (sym (at i h)) (λ lt more. absurd (omega arith));
     }
 
 -- the invariant at state t, where each state up to there has had as many words
@@ -89,9 +107,11 @@ pub invariant : (n : ℕ) (items : List Item) → Steady (run_of n items) → (t
     Invariant n t (words_at n items) (state_at n items t)
 invariant n items fits =
     let a = algorithm n in
-    at_each (λ t. Invariant n t (words_at n items) (state_at n items t)) (λ t. length (words_at n items t) ≡ n) (length items)
+    at_each (λ t. Invariant n t (words_at n items) (state_at n items t))
+    (λ t. length (words_at n items t) ≡ n) (length items)
     (at_the_start n (words_at n items) refl) (λ t h. h.size)
-    (λ t lt sizes h. item_keeps n t (words_at n items) (state_at n items t) (item_at items t) sizes (embed.count a items t) (embed.one_at a items fits t lt) h refl)
+    (λ t lt sizes h. item_keeps n t (words_at n items) (state_at n items t) (item_at items t) sizes
+    (embed.count a items t) (embed.one_at a items fits t lt) h refl)
 
 pub invariant_of : (n : ℕ) (items : List Item) → Steady (run_of n items) → (t i : ℕ) → t ≤ length items → IsOneOf n i →
     ProcessInvariant n t (words_at n items) (registers_at n items t) i (process_after n items t i)
@@ -100,7 +120,8 @@ invariant_of n items fits t i h one = (invariant n items fits t h).each i one
 pub all_do : (n : ℕ) (items : List Item) → Steady (run_of n items) → embed.AllDo (algorithm n) items
 all_do n items fits t i h one =
     let o = invariant_of n items fits t i (omega arith) one in
-    does n i (registers_at n items t) (process_after n items t i).variables (process_after n items t i).control one (invariant n items fits t (omega arith)).bits o.sized o.bits o.well
+    does n i (registers_at n items t) (process_after n items t i).variables (process_after n items t i).control one
+    (invariant n items fits t (omega arith)).bits o.sized o.bits o.well
 
 -- the run, with what is known of its lines
 abbrev pub execution : (n : ℕ) (items : List Item) → Steady (run_of n items) → scans.Execution (algorithm n) lines
@@ -110,28 +131,35 @@ execution n items fits = record {
   does = all_do n items fits;
   flows = λ t i h one.
       let q = process_after n items t i in
-      when_busy _ _ (λ d k well. flows n i d (registers_at n items t) q.variables k well.0) q.control (invariant_of n items fits t i (omega arith) one).well;
+      when_busy _ _ (λ d k well. flows n i d (registers_at n items t) q.variables k well.0) q.control
+      (invariant_of n items fits t i (omega arith) one).well;
   wrote = λ t i h one. (invariant_of n items fits t i h one).wrote;
 }
 
 -- what a process at a line keeps there
-pub well_of : (n : ℕ) (items : List Item) → Steady (run_of n items) → (t i : ℕ) (d : Mode) (k : ProgramCounter) → t ≤ length items → IsOneOf n i →
-    (process_after n items t i).control ≡ At d k →
+pub well_of : (n : ℕ) (items : List Item) → Steady (run_of n items) → (t i : ℕ) (d : Mode) (k : ProgramCounter) →
+    t ≤ length items → IsOneOf n i → (process_after n items t i).control ≡ At d k →
     IsLineOf i d k × VariablesAt n i (process_after n items t i).variables k
-well_of n items fits t i d k le one e = subst (ControlWell n i (process_after n items t i).variables) e (invariant_of n items fits t i le one).well
+well_of n items fits t i d k le one e =
+    subst (ControlWell n i (process_after n items t i).variables) e (invariant_of n items fits t i le one).well
 
 -- a busy process is at the stage of its line
-pub stage_of : (n : ℕ) (items : List Item) → Steady (run_of n items) → (t i : ℕ) (d : Mode) (k : ProgramCounter) → t ≤ length items → IsOneOf n i →
-    (process_after n items t i).control ≡ At d k →
-    Stage n i (words_at n items) t (process_after n items t i).auxiliary.since (process_after n items t i).auxiliary.round (words_at n items t) (process_after n items t i).variables k
+pub stage_of : (n : ℕ) (items : List Item) → Steady (run_of n items) → (t i : ℕ) (d : Mode) (k : ProgramCounter) →
+    t ≤ length items → IsOneOf n i → (process_after n items t i).control ≡ At d k →
+    Stage n i (words_at n items) t (process_after n items t i).auxiliary.since
+    (process_after n items t i).auxiliary.round (words_at n items t) (process_after n items t i).variables k
 stage_of n items fits t i d k le one e =
     let q = process_after n items t i in
-    subst (λ (p : Control). StageAt n i (words_at n items) t q.auxiliary.since q.auxiliary.round (words_at n items t) q.variables p) e (invariant_of n items fits t i le one).stage
+    subst (λ (p : Control).
+    StageAt n i (words_at n items) t q.auxiliary.since q.auxiliary.round (words_at n items t) q.variables p)
+    e (invariant_of n items fits t i le one).stage
 
 -- and its counts are those of its line
-pub counts_of : (n : ℕ) (items : List Item) → Steady (run_of n items) → (t i : ℕ) (d : Mode) (k : ProgramCounter) → t ≤ length items → IsOneOf n i →
-    (process_after n items t i).control ≡ At d k →
-    Count n i (process_after n items t i).variables (process_after n items t i).auxiliary.own (process_after n items t i).auxiliary.collects (process_after n items t i).auxiliary.tested k
+pub counts_of : (n : ℕ) (items : List Item) → Steady (run_of n items) → (t i : ℕ) (d : Mode) (k : ProgramCounter) →
+    t ≤ length items → IsOneOf n i → (process_after n items t i).control ≡ At d k →
+    Count n i (process_after n items t i).variables (process_after n items t i).auxiliary.own
+    (process_after n items t i).auxiliary.collects (process_after n items t i).auxiliary.tested k
 counts_of n items fits t i d k le one e =
     let q = process_after n items t i in
-    subst (CountAt n i q.variables q.auxiliary.own q.auxiliary.collects q.auxiliary.tested) e (invariant_of n items fits t i le one).counts
+    subst (CountAt n i q.variables q.auxiliary.own q.auxiliary.collects q.auxiliary.tested) e
+    (invariant_of n items fits t i le one).counts

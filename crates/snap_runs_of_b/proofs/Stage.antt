@@ -1,5 +1,6 @@
 -- How far a scan of B has come at each line, and that each line takes it on.
-use Rattle.std.specs.Prelude.{◌≡◌, ℕ, zero, suc, ◌+◌, ◌-◌, ◌≤◌, max, true, false, List, take, length, map, nat_eq, nat_lt, if◌then◌else◌, slice_set, refl}
+use Rattle.std.specs.Prelude.{◌≡◌, ℕ, zero, suc, ◌+◌, ◌-◌, ◌≤◌, max, true, false, List, take, length, map, nat_eq}
+use Rattle.std.specs.Prelude.{nat_lt, if◌then◌else◌, slice_set, refl}
 use Rattle.std.proofs.Common.{sym, ◌∙◌, subst, arith, inl, inr}
 use Rattle.std.proofs.lemmas.Bool.{cases_eq}
 use Rattle.std.proofs.lemmas.List.{length-set}
@@ -10,11 +11,18 @@ use Rattle.snap_runs.proofs.Algorithm.{Mode, Scanning, Embedded, Updating, To, B
 use Rattle.snap_runs.proofs.Computing.{not_lt, same_from, either, whether}
 use Rattle.snap_runs.proofs.Held.{word_at, Held, held_wider, Beside, beside_wider, Lent, lent_wider, data_of, seq_at}
 use Rattle.snap_runs.proofs.Places.{for_each_at, first_found}
-use Rattle.snap_runs_of_b.proofs.Algorithm.{Words, Registers, Move, Variables, ProgramCounter, L10, L11, L12, L13, L14, L15, L16, L17, L18, L19, L20, L21, L22, L23, L25, L26, L27, L28, L40, L41, L42, L43, L44, L45, L46, L47, move, first_to, place, handshake_at, answer, flipped, agree, limit, moved_at, counted, at_limit, IsLineOf, restarts, writes}
+use Rattle.snap_runs_of_b.proofs.Algorithm.{Words, Registers, Move, Variables, ProgramCounter, L10, L11, L12, L13}
+use Rattle.snap_runs_of_b.proofs.Algorithm.{L14, L15, L16, L17, L18, L19, L20, L21, L22, L23, L25, L26, L27, L28, L40}
+use Rattle.snap_runs_of_b.proofs.Algorithm.{L41, L42, L43, L44, L45, L46, L47, move, first_to, place, handshake_at}
+use Rattle.snap_runs_of_b.proofs.Algorithm.{answer, flipped, agree, limit, moved_at, counted}
+use Rattle.snap_runs_of_b.proofs.Algorithm.{at_limit, IsLineOf, restarts, writes}
 use Rattle.snap_runs_of_b.proofs.Control.{VariablesAt, Sized}
 use Rattle.snap_runs_of_b.proofs.Lines.{Bits, SaysBits}
 use Rattle.snap_runs_of_b.proofs.Follow.{IsLaterWord, follows_trans, follows_seq, Grows}
-use Rattle.snap_runs_of_b.proofs.Collect.{floor, Low, Drawn, Put, PutTo, Late, First, Viewed, Second, Between, Gained, word_set, place_set, place_kept, put_drawn, just_drawn, put_more, first_more, second_starts, second_more, copies_follow, moved_since, gained_at}
+use Rattle.snap_runs_of_b.proofs.Collect.{floor, Low, Drawn, Put, PutTo, Late, First, Viewed, Second, Between, Gained}
+use Rattle.snap_runs_of_b.proofs.Collect.{word_set, place_set, place_kept, put_drawn, just_drawn, put_more}
+use Rattle.snap_runs_of_b.proofs.Collect.{first_more, second_starts, second_more}
+use Rattle.snap_runs_of_b.proofs.Collect.{copies_follow, moved_since, gained_at}
 use Rattle.snap_runs_of_b.proofs.PassedTests.{passed}
 
 -- The copy of the word at place j was read since the double collect's start.
@@ -38,16 +46,20 @@ reach n p _ = 0
 -- How far a scan has come at each line.
 abbrev pub Stage : ℕ → ℕ → (ℕ → Words) → ℕ → ℕ → ℕ → Words → Variables → ProgramCounter → Type 0
 -- a double collect starts no earlier than its scan
-Stage n i history t since round words p L10 = (k : ℕ) → IsOneOf n k → seq_at (history since) k ≤ seq_at (history round) k
--- every move that the scan has seen is a write between its start and the start of this double collect (Low), up to line 21
+Stage n i history t since round words p L10 =
+    (k : ℕ) → IsOneOf n k → seq_at (history since) k ≤ seq_at (history round) k
+-- every move that the scan has seen is a write between its start and the start of this
+-- double collect (Low), up to line 21
 Stage n i history t since round words p L11 = Low n (history since) (history round) p.moved
 -- the bits for the places below j are put; the copy of word j is read, its bit drawn, then put
 Stage n i history t since round words p L12 =
     Low n (history since) (history round) p.moved × PutTo n (history round) words p.g p.marks i p.j
 Stage n i history t since round words p L13 =
-    Low n (history since) (history round) p.moved × PutTo n (history round) words p.g p.marks i p.j × Copied (history round) words p.a p.j
+    Low n (history since) (history round) p.moved × PutTo n (history round) words p.g p.marks i p.j
+    × Copied (history round) words p.a p.j
 Stage n i history t since round words p L14 =
-    Low n (history since) (history round) p.moved × PutTo n (history round) words p.g p.marks i p.j × Drawn (history round) words p.g i p.j
+    Low n (history since) (history round) p.moved × PutTo n (history round) words p.g p.marks i p.j
+    × Drawn (history round) words p.g i p.j
 Stage n i history t since round words p L15 =
     Low n (history since) (history round) p.moved × PutTo n (history round) words p.g p.marks i (p.j + 1)
 -- all bits are put; the first collect has come to place j, and goes on
@@ -78,7 +90,8 @@ Stage n i history t since round words p L25 = Held history t since (data_of (tak
 Stage n i history t since round words p L26 = Held history t since p.s
 -- process j has moved up to the limit, so that the view beside its second write will do; then so does s
 Stage n i history t since round words p L27 = Gained n history t since words p.moved p.b × (moved_at p p.j ≡ limit)
-Stage n i history t since round words p L28 = Held history t since p.s × ((k : ℕ) × IsOneOf n k × Beside history t since k p.s)
+Stage n i history t since round words p L28 =
+    Held history t since p.s × ((k : ℕ) × IsOneOf n k × Beside history t since k p.s)
 -- an update has no view yet, then that of its embedded scan, until it has written it
 Stage n i history t since round words p L40 = Unit {0}
 Stage n i history t since round words p L41 = Unit {0}
@@ -97,7 +110,8 @@ StageMove n i history t since round (Answer v) = Held history t since v
 StageMove n i history t since round Finish = Unit {0}
 
 -- what is known of every process, at whichever line it stands
-pub record Known (n i : ℕ) (history : ℕ → Words) (t since round : ℕ) (words : Words) (d : Mode) (p : Variables) (k : ProgramCounter) : Type 0 where
+pub record Known (n i : ℕ) (history : ℕ → Words) (t since round : ℕ) (words : Words) (d : Mode) (p : Variables)
+    (k : ProgramCounter) : Type 0 where
   -- there are n words at every state, and those of state t are the words now
   pub lengths : (u : ℕ) → u ≤ t → length (history u) ≡ n
   pub now : history t ≡ words
@@ -112,18 +126,24 @@ pub record Known (n i : ℕ) (history : ℕ → Words) (t since round : ℕ) (wo
   pub keeps : VariablesAt n i p k
 
 -- each line takes the scan on; a line that starts another double collect does so at item t
-pub stage_move : (n i : ℕ) (history : ℕ → Words) (t since round : ℕ) (d : Mode) (m : Registers) (p : Variables) (k : ProgramCounter) →
+pub stage_move : (n i : ℕ) (history : ℕ → Words) (t since round : ℕ) (d : Mode)
+    (m : Registers) (p : Variables) (k : ProgramCounter) →
     Known n i history t since round m.words d p k → Stage n i history t since round m.words p k →
     StageMove n i history t since (if restarts k then t else round) (move n i d m p k)
 stage_move n i history t since round d m p L10 known h =
-    λ k ik. rw (for_each_at n (λ k. 0) p.moved k ik) (let l : seq_at (history since) k ≤ seq_at (history round) k = h k ik in omega arith)
+    λ k ik. rw (for_each_at n (λ k. 0) p.moved k ik)
+    (let l : seq_at (history since) k ≤ seq_at (history round) k = h k ik in omega arith)
 stage_move n i history t since round d m p L11 known h = (h, λ k ik lt. absurd (omega arith))
 stage_move n i history t since round d m p L12 known h =
     let len : length p.a ≡ max n n = known.sized.0 in
     let one : IsOneOf n p.j = known.keeps.0 in
     let set : word_at (slice_set p.a (p.j - 1) (word_at m.words p.j)) p.j ≡ word_at m.words p.j =
-    word_set p.a p.j p.j (word_at m.words p.j) one.0 (omega arith) refl in
-    (h.0, h.1, subst (λ (w : Word). (seq_at (history round) p.j ≤ w.seq) × IsLaterWord w (word_at m.words p.j)) (sym set) (known.opened p.j one, inr refl))
+    word_set p.a p.j p.j (word_at m.words p.j) one.0 (omega arith) refl in (
+      h.0,
+      h.1,
+      subst (λ (w : Word). (seq_at (history round) p.j ≤ w.seq) × IsLaterWord w (word_at m.words p.j)) (sym set)
+          (known.opened p.j one, inr refl),
+    )
 stage_move n i history t since round d m p L13 known h =
     let len : length p.g ≡ max n n = known.sized.2 in
     let one : IsOneOf n p.j = known.keeps.0 in (
@@ -137,7 +157,8 @@ stage_move n i history t since round d m p L14 known h =
     (h.0, put_more n (history round) m.words p.g p.marks i p.j one (omega arith) (known.opened p.j one) h.2 h.1)
 stage_move n i history t since round d m p L15 known h =
     either (StageMove n i history t since round) (nat_lt p.j n) _ _ (λ b. h)
-    (λ b. (h.0, λ k ik lt. h.1 k ik (let ge : n ≤ p.j = not_lt p.j n b in omega arith), λ k ik lt. absurd (omega arith)))
+    (λ b.
+    (h.0, λ k ik lt. h.1 k ik (let ge : n ≤ p.j = not_lt p.j n b in omega arith), λ k ik lt. absurd (omega arith)))
 stage_move n i history t since round d m p L16 known h =
     let len : length p.a ≡ max n n = known.sized.0 in
     (h.0, h.1, first_more n (history round) m.words p.g p.marks i p.a p.j known.keeps.0 (omega arith) h.1 h.2)
@@ -150,8 +171,12 @@ stage_move n i history t since round d m p L17 known h =
           (λ k ik lt. h.2 k ik (let ge : n ≤ p.j = not_lt p.j n b in omega arith)),
     ))
 stage_move n i history t since round d m p L18 known h =
-    let len : length p.b ≡ max n n = known.sized.1 in
-    (h.0, h.1, second_more n i history t since round m.words p.g p.marks p.a p.b p.j known.keeps.0 (omega arith) known.now known.since_le known.views h.1 known.late h.2)
+    let len : length p.b ≡ max n n = known.sized.1 in (
+      h.0,
+      h.1,
+      second_more n i history t since round m.words p.g p.marks p.a p.b p.j known.keeps.0
+          (omega arith) known.now known.since_le known.views h.1 known.late h.2,
+    )
 stage_move n i history t since round d m p L19 known h =
     let inside : IsOneOf n p.j = known.keeps.0 in
     either (StageMove n i history t since round) (nat_lt p.j n) _ _ (λ b. h)
@@ -174,7 +199,8 @@ stage_move n i history t since round d m p L21 known h =
           let le : seq_at p.a k ≤ seq_at p.b k =
           follows_seq (word_at p.a k) (word_at p.b k) (copies_follow n i history t since round m.words p h.1 k ik) in
           rw (for_each_at n (counted i p) p.moved k ik)
-          (gained_at (seq_at (history since) k) (seq_at (history round) k) (seq_at p.b k) (moved_at p k) (agree i p k) (h.0 k ik) (omega arith)
+          (gained_at (seq_at (history since) k) (seq_at (history round) k) (seq_at p.b k) (moved_at p k)
+          (agree i p k) (h.0 k ik) (omega arith)
           (moved_since n i history t since round m.words p h.1 k ik));
       before = λ k ik. (s.read k ik (omega arith)).before;
       views = λ k ik. s.views k ik (omega arith);
@@ -182,8 +208,12 @@ stage_move n i history t since round d m p L21 known h =
 stage_move n i history t since round d m p L22 known h =
     whether (StageMove n i history t since round) (first_to d m p) (first_true 1 (map (at_limit p) (places_to n)))
     (λ e k ik. let low : floor (history since) p.moved k ≤ seq_at p.b k = h.low k ik in
-    let le : seq_at p.b k ≤ seq_at m.words k = follows_seq (word_at p.b k) (word_at m.words k) (h.before k ik) in omega arith)
-    (λ k e. (record { low = h.low; before = h.before; views = h.views }, same_from (moved_at p k) limit (first_found 1 n (at_limit p) k e).2))
+    let le : seq_at p.b k ≤ seq_at m.words k = follows_seq (word_at p.b k) (word_at m.words k) (h.before k ik) in
+    omega arith)
+    (λ k e. (
+      record { low = h.low; before = h.before; views = h.views },
+      same_from (moved_at p k) limit (first_found 1 n (at_limit p) k e).2,
+    ))
 stage_move n i history t since round d m p L23 known h =
     let one : p.j ≡ 1 = known.keeps.0 in
     (subst (λ words. Low n (history since) words p.moved) (sym known.now) h, λ k ik lt. absurd (omega arith))
@@ -203,7 +233,8 @@ stage_move n i history t since round (Updating word value) m p L28 known h = abs
 stage_move n i history t since round d m p L40 known h = tt
 stage_move n i history t since round d m p L41 known h = tt
 stage_move n i history t since round d m p L42 known h = tt
-stage_move n i history t since round d m p L43 known h = either (StageMove n i history t since round) (nat_lt p.j n) _ _ (λ b. tt) (λ b. tt)
+stage_move n i history t since round d m p L43 known h =
+    either (StageMove n i history t since round) (nat_lt p.j n) _ _ (λ b. tt) (λ b. tt)
 stage_move n i history t since round Scanning m p L44 known h = absurd known.line
 stage_move n i history t since round (Embedded word value) m p L44 known h = absurd known.line
 stage_move n i history t since round (Updating word value) m p L44 known h = refl
@@ -212,13 +243,14 @@ stage_move n i history t since round d m p L46 known h = tt
 stage_move n i history t since round d m p L47 known h = tt
 
 -- Time passes and other processes write.
-pub low_kept : (n : ℕ) (base words words' : Words) (moved : List ℕ) → Grows n words words' → Low n base words moved → Low n base words' moved
+pub low_kept : (n : ℕ) (base words words' : Words) (moved : List ℕ) → Grows n words words' →
+    Low n base words moved → Low n base words' moved
 low_kept n base words words' moved g h k ik =
     let l : floor base moved k ≤ seq_at words k = h k ik in
     let le : seq_at words k ≤ seq_at words' k = follows_seq (word_at words k) (word_at words' k) (g k ik) in omega arith
 
-drawn_kept : (n : ℕ) (opening words words' : Words) (g : List ℕ) (i k : ℕ) → IsOneOf n k → Grows n words words' → Drawn opening words g i k →
-    Drawn opening words' g i k
+drawn_kept : (n : ℕ) (opening words words' : Words) (g : List ℕ) (i k : ℕ) → IsOneOf n k → Grows n words words' →
+    Drawn opening words g i k → Drawn opening words' g i k
 drawn_kept n opening words words' g i k ik grows h = record {
   word = h.word;
   fresh = h.fresh;
@@ -226,15 +258,16 @@ drawn_kept n opening words words' g i k ik grows h = record {
   says = h.says;
 }
 
-put_kept : (n : ℕ) (opening words words' : Words) (g marks : List ℕ) (i j : ℕ) → Grows n words words' → PutTo n opening words g marks i j →
-    PutTo n opening words' g marks i j
+put_kept : (n : ℕ) (opening words words' : Words) (g marks : List ℕ) (i j : ℕ) → Grows n words words' →
+    PutTo n opening words g marks i j → PutTo n opening words' g marks i j
 put_kept n opening words words' g marks i j grows h k ik lt =
     let old : Put opening words g marks i k = h k ik lt in
     record {
       drawn = drawn_kept n opening words words' g i k ik grows old.drawn;
       fresh = old.fresh;
       before = (let b : place marks k ≤ seq_at words k = old.before in
-          let le : seq_at words k ≤ seq_at words' k = follows_seq (word_at words k) (word_at words' k) (grows k ik) in omega arith);
+          let le : seq_at words k ≤ seq_at words' k = follows_seq (word_at words k) (word_at words' k) (grows k ik) in
+          omega arith);
     }
 
 first_kept : (n : ℕ) (opening words words' : Words) (marks : List ℕ) (a : Words) (j : ℕ) → Grows n words words' →
@@ -245,8 +278,8 @@ first_kept n opening words words' marks a j grows h k ik lt = record {
   before = follows_trans (word_at a k) (word_at words k) (word_at words' k) (h k ik lt).before (grows k ik);
 }
 
-between_kept : (n i : ℕ) (history : ℕ → Words) (t t' since round : ℕ) (words words' : Words) (g marks : List ℕ) (a b : Words) (j : ℕ) → t ≤ t' →
-    Grows n words words' →
+between_kept : (n i : ℕ) (history : ℕ → Words) (t t' since round : ℕ) (words words' : Words)
+    (g marks : List ℕ) (a b : Words) (j : ℕ) → t ≤ t' → Grows n words words' →
     Between n i history t since round words g marks a b j → Between n i history t' since round words' g marks a b j
 between_kept n i history t t' since round words words' g marks a b j le grows h =
     let s : Second n i history t since round words g marks a b j (history h.0) = h.3 in (
@@ -257,17 +290,20 @@ between_kept n i history t t' since round words words' g marks a b j le grows h 
         first = s.first;
         read = λ k ik lt. record {
           after = (s.read k ik lt).after;
-          before = follows_trans (word_at b k) (word_at words k) (word_at words' k) (s.read k ik lt).before (grows k ik);
+          before =
+              follows_trans (word_at b k) (word_at words k) (word_at words' k) (s.read k ik lt).before (grows k ik);
           late = (s.read k ik lt).late;
           same = (s.read k ik lt).same;
         };
-        now = λ k ik. follows_trans (word_at (history h.0) k) (word_at words k) (word_at words' k) (s.now k ik) (grows k ik);
+        now =
+            λ k ik.
+            follows_trans (word_at (history h.0) k) (word_at words k) (word_at words' k) (s.now k ik) (grows k ik);
         views = λ k ik lt more. lent_wider history t t' since k (word_at b k).view le (s.views k ik lt more);
       },
     )
 
-gained_kept : (n : ℕ) (history : ℕ → Words) (t t' since : ℕ) (words words' : Words) (moved : List ℕ) (b : Words) → t ≤ t' → Grows n words words' →
-    Gained n history t since words moved b → Gained n history t' since words' moved b
+gained_kept : (n : ℕ) (history : ℕ → Words) (t t' since : ℕ) (words words' : Words) (moved : List ℕ) (b : Words) →
+    t ≤ t' → Grows n words words' → Gained n history t since words moved b → Gained n history t' since words' moved b
 gained_kept n history t t' since words words' moved b le grows h = record {
   low = h.low;
   before = λ k ik. follows_trans (word_at b k) (word_at words k) (word_at words' k) (h.before k ik) (grows k ik);
@@ -285,21 +321,35 @@ line_place n i p L13 h = h.0
 line_place n i p L14 h = h.0
 line_place n i p k h = tt
 
-pub stage_kept : (n i : ℕ) (history : ℕ → Words) (t t' since round : ℕ) (words words' : Words) (p : Variables) (k : ProgramCounter) → t ≤ t' →
-    Grows n words words' → IsLinePlace n p k →
+pub stage_kept : (n i : ℕ) (history : ℕ → Words) (t t' since round : ℕ) (words words' : Words)
+    (p : Variables) (k : ProgramCounter) → t ≤ t' → Grows n words words' → IsLinePlace n p k →
     Stage n i history t since round words p k → Stage n i history t' since round words' p k
 stage_kept n i history t t' since round words words' p L10 le g one h = h
 stage_kept n i history t t' since round words words' p L11 le g one h = h
-stage_kept n i history t t' since round words words' p L12 le g one h = (h.0, put_kept n (history round) words words' p.g p.marks i p.j g h.1)
-stage_kept n i history t t' since round words words' p L13 le g one h =
-    (h.0, put_kept n (history round) words words' p.g p.marks i p.j g h.1, (h.2.0, follows_trans (word_at p.a p.j) (word_at words p.j) (word_at words' p.j) h.2.1 (g p.j one)))
-stage_kept n i history t t' since round words words' p L14 le g one h =
-    (h.0, put_kept n (history round) words words' p.g p.marks i p.j g h.1, drawn_kept n (history round) words words' p.g i p.j one g h.2)
-stage_kept n i history t t' since round words words' p L15 le g one h = (h.0, put_kept n (history round) words words' p.g p.marks i (p.j + 1) g h.1)
-stage_kept n i history t t' since round words words' p L16 le g one h =
-    (h.0, put_kept n (history round) words words' p.g p.marks i (n + 1) g h.1, first_kept n (history round) words words' p.marks p.a p.j g h.2)
-stage_kept n i history t t' since round words words' p L17 le g one h =
-    (h.0, put_kept n (history round) words words' p.g p.marks i (n + 1) g h.1, first_kept n (history round) words words' p.marks p.a (p.j + 1) g h.2)
+stage_kept n i history t t' since round words words' p L12 le g one h =
+    (h.0, put_kept n (history round) words words' p.g p.marks i p.j g h.1)
+stage_kept n i history t t' since round words words' p L13 le g one h = (
+  h.0,
+  put_kept n (history round) words words' p.g p.marks i p.j g h.1,
+  (h.2.0, follows_trans (word_at p.a p.j) (word_at words p.j) (word_at words' p.j) h.2.1 (g p.j one)),
+)
+stage_kept n i history t t' since round words words' p L14 le g one h = (
+  h.0,
+  put_kept n (history round) words words' p.g p.marks i p.j g h.1,
+  drawn_kept n (history round) words words' p.g i p.j one g h.2,
+)
+stage_kept n i history t t' since round words words' p L15 le g one h =
+    (h.0, put_kept n (history round) words words' p.g p.marks i (p.j + 1) g h.1)
+stage_kept n i history t t' since round words words' p L16 le g one h = (
+  h.0,
+  put_kept n (history round) words words' p.g p.marks i (n + 1) g h.1,
+  first_kept n (history round) words words' p.marks p.a p.j g h.2,
+)
+stage_kept n i history t t' since round words words' p L17 le g one h = (
+  h.0,
+  put_kept n (history round) words words' p.g p.marks i (n + 1) g h.1,
+  first_kept n (history round) words words' p.marks p.a (p.j + 1) g h.2,
+)
 stage_kept n i history t t' since round words words' p L18 le g one h = (
   h.0,
   put_kept n (history round) words words' p.g p.marks i (n + 1) g h.1,
@@ -314,20 +364,29 @@ stage_kept n i history t t' since round words words' p L20 le g one h =
     (h.0, between_kept n i history t t' since round words words' p.g p.marks p.a p.b (n + 1) le g h.1)
 stage_kept n i history t t' since round words words' p L21 le g one h =
     (h.0, between_kept n i history t t' since round words words' p.g p.marks p.a p.b (n + 1) le g h.1)
-stage_kept n i history t t' since round words words' p L22 le g one h = gained_kept n history t t' since words words' p.moved p.b le g h
-stage_kept n i history t t' since round words words' p L23 le g one h = low_kept n (history since) words words' p.moved g h
-stage_kept n i history t t' since round words words' p L25 le g one h = held_wider history t t' since since (data_of (take n p.b)) le (omega arith) h
-stage_kept n i history t t' since round words words' p L26 le g one h = held_wider history t t' since since p.s le (omega arith) h
-stage_kept n i history t t' since round words words' p L27 le g one h = (gained_kept n history t t' since words words' p.moved p.b le g h.0, h.1)
-stage_kept n i history t t' since round words words' p L28 le g one h =
-    (held_wider history t t' since since p.s le (omega arith) h.0, (h.1.0, h.1.1, beside_wider history t t' since h.1.0 p.s le h.1.2))
+stage_kept n i history t t' since round words words' p L22 le g one h =
+    gained_kept n history t t' since words words' p.moved p.b le g h
+stage_kept n i history t t' since round words words' p L23 le g one h =
+    low_kept n (history since) words words' p.moved g h
+stage_kept n i history t t' since round words words' p L25 le g one h =
+    held_wider history t t' since since (data_of (take n p.b)) le (omega arith) h
+stage_kept n i history t t' since round words words' p L26 le g one h =
+    held_wider history t t' since since p.s le (omega arith) h
+stage_kept n i history t t' since round words words' p L27 le g one h =
+    (gained_kept n history t t' since words words' p.moved p.b le g h.0, h.1)
+stage_kept n i history t t' since round words words' p L28 le g one h = (
+  held_wider history t t' since since p.s le (omega arith) h.0,
+  (h.1.0, h.1.1, beside_wider history t t' since h.1.0 p.s le h.1.2),
+)
 stage_kept n i history t t' since round words words' p L40 le g one h = tt
 stage_kept n i history t t' since round words words' p L41 le g one h = tt
 stage_kept n i history t t' since round words words' p L42 le g one h = tt
 stage_kept n i history t t' since round words words' p L43 le g one h = tt
 stage_kept n i history t t' since round words words' p L44 le g one h = tt
-stage_kept n i history t t' since round words words' p L45 le g one h = held_wider history t t' since since p.s le (omega arith) h
-stage_kept n i history t t' since round words words' p L46 le g one h = held_wider history t t' since since p.s le (omega arith) h
+stage_kept n i history t t' since round words words' p L45 le g one h =
+    held_wider history t t' since since p.s le (omega arith) h
+stage_kept n i history t t' since round words words' p L46 le g one h =
+    held_wider history t t' since since p.s le (omega arith) h
 stage_kept n i history t t' since round words words' p L47 le g one h = tt
 
 -- The lengths of the copies and the rows, the bits for the readers, and the toggle: it is the word's, but for line 46.
@@ -347,7 +406,8 @@ FitMove n toggle (Begin d p k) = Fit n toggle p k
 FitMove n toggle (Answer v) = Unit {0}
 FitMove n toggle Finish = Unit {0}
 
-bits_set : (n : ℕ) (row : List ℕ) (j v : ℕ) → IsOneOf n j → n ≤ length row → v ≤ 1 → Bits n row → Bits n (slice_set row (j - 1) v)
+bits_set : (n : ℕ) (row : List ℕ) (j v : ℕ) → IsOneOf n j → n ≤ length row → v ≤ 1 → Bits n row →
+    Bits n (slice_set row (j - 1) v)
 bits_set n row j v one len bit h k ik =
     elim (cases_eq k j) [
       | inl same ↦ subst (λ x. x ≤ 1) (sym (place_set row j k v one.0 (omega arith) same)) bit
@@ -375,18 +435,23 @@ flipped_differs zero h e = absurd (omega arith)
 flipped_differs (suc zero) h e = absurd (omega arith)
 flipped_differs (suc (suc t)) h e = absurd (omega arith)
 
-pub fit_move : (n i toggle : ℕ) (d : Mode) (m : Registers) (p : Variables) (k : ProgramCounter) → IsLineOf i d k → VariablesAt n i p k →
-    writes k ≡ 0 → Fit n toggle p k → FitMove n toggle (move n i d m p k)
-fit_move n i toggle d m p L12 s keeps quiet h = ((length-set p.a (p.j - 1) (word_at m.words p.j) ∙ h.0.0, h.0.1, h.0.2, h.0.3, h.0.4), h.1, h.2)
+pub fit_move : (n i toggle : ℕ) (d : Mode) (m : Registers) (p : Variables) (k : ProgramCounter) → IsLineOf i d k →
+    VariablesAt n i p k → writes k ≡ 0 → Fit n toggle p k → FitMove n toggle (move n i d m p k)
+fit_move n i toggle d m p L12 s keeps quiet h =
+    ((length-set p.a (p.j - 1) (word_at m.words p.j) ∙ h.0.0, h.0.1, h.0.2, h.0.3, h.0.4), h.1, h.2)
 fit_move n i toggle d m p L13 s keeps quiet h =
     ((h.0.0, h.0.1, length-set p.g (p.j - 1) (handshake_at (word_at p.a p.j) i) ∙ h.0.2, h.0.3, h.0.4), h.1, h.2)
-fit_move n i toggle d m p L14 s keeps quiet h = ((h.0.0, h.0.1, h.0.2, h.0.3, length-set p.marks (p.j - 1) (seq_at m.words p.j) ∙ h.0.4), h.1, h.2)
+fit_move n i toggle d m p L14 s keeps quiet h =
+    ((h.0.0, h.0.1, h.0.2, h.0.3, length-set p.marks (p.j - 1) (seq_at m.words p.j) ∙ h.0.4), h.1, h.2)
 fit_move n i toggle d m p L15 s keeps quiet h = either (FitMove n toggle) (nat_lt p.j n) _ _ (λ b. h) (λ b. h)
-fit_move n i toggle d m p L16 s keeps quiet h = ((length-set p.a (p.j - 1) (word_at m.words p.j) ∙ h.0.0, h.0.1, h.0.2, h.0.3, h.0.4), h.1, h.2)
+fit_move n i toggle d m p L16 s keeps quiet h =
+    ((length-set p.a (p.j - 1) (word_at m.words p.j) ∙ h.0.0, h.0.1, h.0.2, h.0.3, h.0.4), h.1, h.2)
 fit_move n i toggle d m p L17 s keeps quiet h = either (FitMove n toggle) (nat_lt p.j n) _ _ (λ b. h) (λ b. h)
-fit_move n i toggle d m p L18 s keeps quiet h = ((h.0.0, length-set p.b (p.j - 1) (word_at m.words p.j) ∙ h.0.1, h.0.2, h.0.3, h.0.4), h.1, h.2)
+fit_move n i toggle d m p L18 s keeps quiet h =
+    ((h.0.0, length-set p.b (p.j - 1) (word_at m.words p.j) ∙ h.0.1, h.0.2, h.0.3, h.0.4), h.1, h.2)
 fit_move n i toggle d m p L19 s keeps quiet h = either (FitMove n toggle) (nat_lt p.j n) _ _ (λ b. h) (λ b. h)
-fit_move n i toggle d m p L20 s keeps quiet h = either (FitMove n toggle) (all_true (map (agree i p) (places_to n))) _ _ (λ b. h) (λ b. h)
+fit_move n i toggle d m p L20 s keeps quiet h =
+    either (FitMove n toggle) (all_true (map (agree i p) (places_to n))) _ _ (λ b. h) (λ b. h)
 fit_move n i toggle d m p L22 s keeps quiet h =
     whether (FitMove n toggle) (first_to d m p) (first_true 1 (map (at_limit p) (places_to n))) (λ e. h) (λ k e. h)
 fit_move n i toggle Scanning m p L26 s keeps quiet h = tt
@@ -396,8 +461,11 @@ fit_move n i toggle Scanning m p L28 s keeps quiet h = tt
 fit_move n i toggle (Embedded word value) m p L28 s keeps quiet h = h
 fit_move n i toggle (Updating word value) m p L28 s keeps quiet h = absurd s
 fit_move n i toggle d m p L42 s keeps quiet h =
-    let len : length p.f ≡ max n n = h.0.3 in
-    ((h.0.0, h.0.1, h.0.2, length-set p.f (p.j - 1) (answer p.x) ∙ h.0.3, h.0.4), (h.1.0, bits_set n p.f p.j (answer p.x) keeps (omega arith) (answer_bit p.x) h.1.1), h.2)
+    let len : length p.f ≡ max n n = h.0.3 in (
+      (h.0.0, h.0.1, h.0.2, length-set p.f (p.j - 1) (answer p.x) ∙ h.0.3, h.0.4),
+      (h.1.0, bits_set n p.f p.j (answer p.x) keeps (omega arith) (answer_bit p.x) h.1.1),
+      h.2,
+    )
 fit_move n i toggle d m p L43 s keeps quiet h = either (FitMove n toggle) (nat_lt p.j n) _ _ (λ b. h) (λ b. h)
 fit_move n i toggle Scanning m p L44 s keeps quiet h = absurd s
 fit_move n i toggle (Embedded word value) m p L44 s keeps quiet h = absurd s

@@ -1,4 +1,4 @@
--- Listing B: single-writer words with a bit for each reader and a toggle.
+-- Listing B as a `Source`: single-writer words with a handshake bit for each reader and a toggle.
 use Rattle.std.specs.Prelude.{ℕ, [], ◌∷◌, Some, None}
 use Rattle.snap_words.specs.declared.kind.Field.TheVariants as field
 use Rattle.snap_words.specs.declared.kind.KindTag.TheVariants as kind
@@ -9,7 +9,9 @@ use Rattle.snap_semantics.specs.declared.instr.Condition.TheVariants.{One, Three
 use Rattle.snap_semantics.specs.declared.instr.Expr.TheVariants.{Term, Sum, Not}
 use Rattle.snap_semantics.specs.declared.instr.Index.TheVariants.{Number, Me, Place, Scalar}
 use Rattle.snap_semantics.specs.declared.instr.Instr.{Instr}
-use Rattle.snap_semantics.specs.declared.instr.Instr.TheVariants.{Let, LetPlace, Get, Bit, Put, PutBit, ViewData, ViewOf, Each, First, Next, IfAll, Goto, Call, Return, Finish}
+use Rattle.snap_semantics.specs.declared.instr.Instr.TheVariants.{Let, LetPlace, Get, Bit, Put, PutBit, ViewData}
+use Rattle.snap_semantics.specs.declared.instr.Instr.TheVariants.{ViewOf, Each, First, Next, IfAll}
+use Rattle.snap_semantics.specs.declared.instr.Instr.TheVariants.{Goto, Call, Return, Finish}
 use Rattle.snap_semantics.specs.declared.instr.Join.TheVariants.{And, Or}
 use Rattle.snap_semantics.specs.declared.instr.Line.{Line}
 use Rattle.snap_semantics.specs.declared.instr.Range.TheVariants.{Processes}

@@ -54,7 +54,8 @@ FewSteps = (n : ℕ) (items : List Item) → promises.StepsAtMost (8 * (n * n) +
 abbrev pub SharpCollects : Type 0
 SharpCollects = (n : ℕ) (items : List Item) → promises.CollectsAtMost n (run_of n items)
 
--- A move that a scan sees at line 21 is a write since its previous double collect, or since its start where there is none.
+-- A move that a scan sees at line 21 is a write since its previous double collect, or since
+-- its start where there is none.
 abbrev pub MovesAreWrites : Type 0
 MovesAreWrites = (n : ℕ) (items : List Item) → promises.MovesAreWrites 21 moved 46 (run_of n items)
 
@@ -86,10 +87,11 @@ OperationsHavePlaces = (n : ℕ) (items : List Item) → placement.OperationsHav
 abbrev pub WriteStronglyLinearizable : Type 0
 WriteStronglyLinearizable = (n : ℕ) → IsWriteStronglyLinearizable listing_b (square n) None
 
--- Every call is over after so many turns of its process, whatever the others do: a scan after the steps above, and an update after
--- 8 n n + 15 n + 12.
+-- Every call is over after so many turns of its process, whatever the others do: a scan after the steps above, and an
+-- update after 8 n n + 15 n + 12.
 abbrev pub WaitFree : Type 0
-WaitFree = (n : ℕ) (items : List Item) → IsWaitFree (8 * (n * n) + 12 * n + 7) (8 * (n * n) + 15 * n + 12) (run_of n items)
+WaitFree =
+    (n : ℕ) (items : List Item) → IsWaitFree (8 * (n * n) + 12 * n + 7) (8 * (n * n) + 15 * n + 12) (run_of n items)
 
 -- the line at which an update writes, and the bounds of scans
 abbrev pub bounds : Counts → Bounds

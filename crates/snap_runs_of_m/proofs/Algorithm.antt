@@ -1,5 +1,7 @@
 -- The processes of M by its own lines and locals, over a memory that counts what is done.
-use Rattle.std.specs.Prelude.{◌≡◌, ◌<◌, ◌⊎◌, ℕ, ◌+◌, ◌-◌, ◌≤◌, max, Bool, true, false, not, ◌&&◌, List, [], ◌∷◌, take, map, Option, Some, None, nat_eq, nat_lt, if◌then◌else◌, slice_index, slice_index_or, slice_set, replicate, refl}
+use Rattle.std.specs.Prelude.{◌≡◌, ◌<◌, ◌⊎◌, ℕ, ◌+◌, ◌-◌, ◌≤◌, max, Bool, true, false, not, ◌&&◌, List, [], ◌∷◌, take}
+use Rattle.std.specs.Prelude.{map, Option, Some, None, nat_eq, nat_lt, if◌then◌else◌, slice_index, slice_index_or}
+use Rattle.std.specs.Prelude.{slice_set, replicate, refl}
 use Rattle.std.proofs.Common.{ap}
 use Rattle.snap_words.specs.Kind.{initial_word}
 use Rattle.snap_words.specs.Shape.{Counts, IsOneOf}
@@ -12,7 +14,8 @@ use Rattle.snap_semantics.specs.Value.{Context}
 use Rattle.snap_semantics.specs.Table.{places_to, all_true, first_true, bit_at, with_bit_at, entry}
 use Rattle.snap_runs.proofs.Held.{word_at, seq_at}
 use Rattle.snap_runs.proofs.Algorithm as typed
-use Rattle.snap_runs.proofs.Algorithm.{Mode, Scanning, Embedded, Updating, value_of, To, Begin, Answer, Finish, Algorithm, returning, embedding}
+use Rattle.snap_runs.proofs.Algorithm.{Mode, Scanning, Embedded, Updating, value_of, To, Begin, Answer, Finish}
+use Rattle.snap_runs.proofs.Algorithm.{Algorithm, returning, embedding}
 use Rattle.snap_runs.proofs.Flow.{Lines, IsScanOf, IsUpdateOf, IsLine}
 use Rattle.snap_runs.proofs.Places.{for_each}
 use Rattle.snap_runs.proofs.Embedding.{map_same}
@@ -104,8 +107,8 @@ Words = List Word
 abbrev pub Bits : Type 0
 Bits = List (List ℕ)
 
--- The registers, and what the proof counts beside them. A word of M has no sequence number, so here its part `seq` counts the
--- writes of that word.
+-- The registers, and what the proof counts beside them. A word of M has no sequence number, so here its part `seq`
+-- counts the writes of that word.
 pub record Registers : Type 0 where
   pub words : Words
   pub q : Bits
@@ -421,7 +424,12 @@ locals_with n w copies =
     }
 
 abbrev pub memory_with : ℕ → ℕ → Words → Memory
-memory_with n w words = record { words = words; q = replicate n (replicate n 0); p = replicate n (replicate n 0); views = replicate n (replicate w 0) }
+memory_with n w words = record {
+  words = words;
+  q = replicate n (replicate n 0);
+  p = replicate n (replicate n 0);
+  views = replicate n (replicate w 0);
+}
 
 -- the algorithm for n processes and w words
 abbrev pub algorithm : ℕ → ℕ → Algorithm Variables ProgramCounter Registers

@@ -87,7 +87,10 @@ after_update_within = record {
             (omega arith, (omega arith, tt)),
             (
               (omega arith, (omega arith, tt)),
-              ((omega arith, (omega arith, tt)), ((omega arith, (omega arith, tt)), ((omega arith, (omega arith, tt)), tt))),
+              (
+                (omega arith, (omega arith, tt)),
+                ((omega arith, (omega arith, tt)), ((omega arith, (omega arith, tt)), tt)),
+              ),
             ),
           );
           words = ((omega arith, (unwritten_within, tt)), ((omega arith, (unwritten_within, tt)), tt));
@@ -102,7 +105,8 @@ after_update_within = record {
 -- Process 2 updates three times while process 1 scans: the scan sees three moves, which is the limit of row `moved`.
 abbrev scan_borrows : List Item
 scan_borrows =
-    Call 1 Scan ∷ (replicate 13 (Step 1) ++ (Call 2 (Update 1 5) ∷ (replicate 40 (Step 2) ++ (replicate 28 (Step 1) ++ (Call 2 (Update 1 6) ∷ (replicate 40 (Step 2)
+    Call 1 Scan ∷ (replicate 13 (Step 1) ++ (Call 2 (Update 1 5)
+    ∷ (replicate 40 (Step 2) ++ (replicate 28 (Step 1) ++ (Call 2 (Update 1 6) ∷ (replicate 40 (Step 2)
     ++ (replicate 28 (Step 1) ++ (Call 2 (Update 1 7) ∷ (replicate 40 (Step 2) ++ replicate 19 (Step 1))))))))))
 
 moves_reach_limit : row_place (process_at (state (run_of 2 1 scan_borrows) 210) 1).locals moved 2 ≡ 3

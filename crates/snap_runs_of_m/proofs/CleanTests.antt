@@ -1,5 +1,6 @@
 -- The double collects of M: which line reads which copy, and that a passed test is clean.
-use Rattle.std.specs.Prelude.{◌≡◌, ℕ, suc, ◌+◌, ◌≤◌, ◌<◌, ◌⊎◌, max, Bool, true, false, List, length, nat_eq, nat_lt, if◌then◌else◌, refl}
+use Rattle.std.specs.Prelude.{◌≡◌, ℕ, suc, ◌+◌, ◌≤◌, ◌<◌, ◌⊎◌, max, Bool, true, false, List}
+use Rattle.std.specs.Prelude.{length, nat_eq, nat_lt, if◌then◌else◌, refl}
 use Rattle.std.proofs.Common.{ap, arith, inl, inr}
 use Rattle.snap_words.specs.Word.{Word}
 use Rattle.snap_semantics.specs.declared.process.Item.{Item}
@@ -14,7 +15,10 @@ use Rattle.snap_runs.proofs.ItemCases.{moved}
 use Rattle.snap_runs_frame.proofs.Every as every
 use Rattle.snap_runs_frame.proofs.Frame as frames
 use Rattle.snap_runs_of_m.specs.Promises.{run_of, double_collect, PassedTestsAreClean}
-use Rattle.snap_runs_of_m.proofs.Algorithm.{Registers, Move, Process, Variables, ProgramCounter, L16, L17, L18, L19, L20, L21, L22, L23, L24, L25, L26, L27, L28, L29, L30, L31, L32, L33, L34, L35, L37, L53, L54, number, same_at, all_still, third_move, move, first_to, counter, restarts, IsLineOf, algorithm}
+use Rattle.snap_runs_of_m.proofs.Algorithm.{Registers, Move, Process, Variables, ProgramCounter, L16, L17, L18, L19}
+use Rattle.snap_runs_of_m.proofs.Algorithm.{L20, L21, L22, L23, L24, L25, L26, L27, L28, L29, L30, L31, L32, L33, L34}
+use Rattle.snap_runs_of_m.proofs.Algorithm.{L35, L37, L53, L54, number, same_at, all_still, third_move, move}
+use Rattle.snap_runs_of_m.proofs.Algorithm.{first_to, counter, restarts, IsLineOf, algorithm}
 use Rattle.snap_runs_of_m.proofs.Collect.{same_copies}
 use Rattle.snap_runs_of_m.proofs.Control.{Keeps}
 use Rattle.snap_runs_of_m.proofs.Runs.{state_at, registers_at, inv, own, stage_of, counts_of}
@@ -40,7 +44,8 @@ phase L30 = Collected
 phase _ = Away
 
 abbrev pub copies : ℕ → Copies Variables ProgramCounter Registers
-copies w = record { words = λ m. m.words; places = w; index = λ p. p.k; first = λ p. p.a; second = λ p. p.b; phase = phase }
+copies w =
+    record { words = λ m. m.words; places = w; index = λ p. p.k; first = λ p. p.a; second = λ p. p.b; phase = phase }
 
 -- what is said of a line by its phase
 record Named (k : ProgramCounter) : Type 0 where
@@ -58,25 +63,29 @@ abbrev pub Reaches : ℕ → ℕ → Registers → Variables → ProgramCounter 
 Reaches n w = collecting.Reaches (algorithm n w) (copies w)
 
 -- what each line does to the copies
-reaches : (n w me : ℕ) (d : Mode) (m : Registers) (p : Variables) (k : ProgramCounter) → IsLineOf w d k → Keeps n w d p k → w ≤ length p.a →
-    w ≤ length p.b →
-    Reaches n w m p k (move n w me d m p k)
+reaches : (n w me : ℕ) (d : Mode) (m : Registers) (p : Variables) (k : ProgramCounter) → IsLineOf w d k →
+    Keeps n w d p k → w ≤ length p.a → w ≤ length p.b → Reaches n w m p k (move n w me d m p k)
 reaches n w me d m p L16 s h a b = either (Reaches n w m p L16) (nat_lt p.j n) _ _ (λ e. tt) (λ e. inl h.1)
 reaches n w me d m p L17 s h a b = (refl, refl, h.1, a, refl)
 reaches n w me d m p L18 s h a b =
-    either (Reaches n w m p L18) (nat_lt p.k w) _ _ (λ e. inr (refl, refl, refl)) (λ e. (refl, inl (refl, not_lt p.k w e, refl)))
+    either (Reaches n w m p L18) (nat_lt p.k w) _ _ (λ e. inr (refl, refl, refl))
+    (λ e. (refl, inl (refl, not_lt p.k w e, refl)))
 reaches n w me d m p L19 s h a b = (refl, refl, refl, h.1, b, refl)
 reaches n w me d m p L20 s h a b =
-    either (Reaches n w m p L20) (nat_lt p.k w) _ _ (λ e. (refl, inr (refl, refl, refl))) (λ e. (refl, refl, inl (refl, not_lt p.k w e)))
+    either (Reaches n w m p L20) (nat_lt p.k w) _ _ (λ e. (refl, inr (refl, refl, refl)))
+    (λ e. (refl, refl, inl (refl, not_lt p.k w e)))
 reaches n w me d m p L21 s h a b = (refl, refl, inr refl)
 reaches n w me d m p L22 s h a b = (refl, refl, inr refl)
-reaches n w me d m p L23 s h a b = either (Reaches n w m p L23) (nat_lt p.j n) _ _ (λ e. (refl, refl, inr refl)) (λ e. (refl, refl, inr refl))
+reaches n w me d m p L23 s h a b =
+    either (Reaches n w m p L23) (nat_lt p.j n) _ _ (λ e. (refl, refl, inr refl)) (λ e. (refl, refl, inr refl))
 reaches n w me d m p L24 s h a b = (refl, refl, inr refl)
 reaches n w me d m p L25 s h a b = (refl, refl, inr refl)
-reaches n w me d m p L26 s h a b = either (Reaches n w m p L26) (same_at p.a p.b p.k) _ _ (λ e. (refl, refl, inr refl)) (λ e. (refl, refl, inr refl))
+reaches n w me d m p L26 s h a b =
+    either (Reaches n w m p L26) (same_at p.a p.b p.k) _ _ (λ e. (refl, refl, inr refl)) (λ e. (refl, refl, inr refl))
 reaches n w me d m p L27 s h a b = (refl, refl, inr refl)
 reaches n w me d m p L28 s h a b = (refl, refl, inr refl)
-reaches n w me d m p L29 s h a b = either (Reaches n w m p L29) (nat_lt p.k w) _ _ (λ e. (refl, refl, inr refl)) (λ e. (refl, refl, inr refl))
+reaches n w me d m p L29 s h a b =
+    either (Reaches n w m p L29) (nat_lt p.k w) _ _ (λ e. (refl, refl, inr refl)) (λ e. (refl, refl, inr refl))
 reaches n w me d m p L30 s h a b = either (Reaches n w m p L30) (all_still n p) _ _ (λ e. tt) (λ e. tt)
 reaches n w me d m p L32 s h a b = whether (Reaches n w m p L32) (first_to d m p) (third_move n p) (λ e. tt) (λ k e. tt)
 reaches n w me Scanning m p L35 s h a b = tt
@@ -93,7 +102,9 @@ reaches n w me d m p k s h a b = tt
 
 -- the test passes only where nobody is marked
 passes : (n w t : ℕ) (q : Process) (d : Mode) (m : Registers) (p : Variables) (b : Bool) →
-    is_at 34 (status_of (algorithm n w) (moved (algorithm n w) t q L30 (if b then To d m p L34 else To d m p L31)).control) ≡ true → b ≡ true
+    is_at 34
+    (status_of (algorithm n w) (moved (algorithm n w) t q L30 (if b then To d m p L34 else To d m p L31)).control)
+    ≡ true → b ≡ true
 passes n w t q d m p true h = refl
 passes n w t q d m p false h = absurd (cc)
 
@@ -109,7 +120,8 @@ counts n w items some fits = record {
 }
 
 collects : (n w : ℕ) (items : List Item) (some : 0 < w) (fits : Steady (run_of n w items)) →
-    frames.Collects (frame n w) items (kept n w items some fits) (counts n w items some fits) (copies w) double_collect L30
+    frames.Collects (frame n w) items (kept n w items some fits)
+    (counts n w items some fits) (copies w) double_collect L30
 collects n w items some fits = record {
   words_are = λ t. refl;
   places = refl;
@@ -118,7 +130,9 @@ collects n w items some fits = record {
       let his = own n w items some fits t i (omega arith) one in
       let a : length q.variables.a ≡ max n w = his.long.a in
       let b : length q.variables.b ≡ max n w = his.long.b in
-      when_busy _ _ (λ d k well. reaches n w i d (registers_at n w items t) q.variables k well.0 well.1 (omega arith) (omega arith)) q.control his.well;
+      when_busy _ _
+      (λ d k well. reaches n w i d (registers_at n w items t) q.variables k well.0 well.1 (omega arith) (omega arith))
+      q.control his.well;
   quiet = λ k. (named k).quiet;
   away = away;
   first = λ k. (named k).first;
@@ -137,7 +151,8 @@ collects n w items some fits = record {
       let still = passes n w (suc t) q d (history t) p (all_still n p) to in
       let stage = stage_of n w items some fits t i d L30 short one is in
       ap (λ (x : Word). x.seq) (same_copies n w i history round t p.g p.a p.b p.h one laws stage.1 k one_k
-      (still_bits n w i history round t p (w + 1) stage.2 still) (still_words n w i history round t p one laws stage.1 stage.2 still k one_k));
+      (still_bits n w i history round t p (w + 1) stage.2 still)
+      (still_words n w i history round t p one laws stage.1 stage.2 still k one_k));
 }
 
 pub passed_tests_are_clean_lem : PassedTestsAreClean

@@ -13,7 +13,8 @@ use Rattle.snap_runs_of_m.proofs.Basics.{less_or_not, set_here, set_there}
 use Rattle.snap_runs_of_m.proofs.History.{words_of, id_at, Laws}
 use Rattle.snap_runs_of_m.proofs.SameWords.{Alike, alike_of}
 
--- In all that follows `history u` are the registers after u items, t is the number of items so far, and `me` the process.
+-- In all that follows `history u` are the registers after u items, t is the number of
+-- items so far, and `me` the process.
 
 -- the writes of process c, and its answers to the handshakes of process i
 abbrev pub events : Registers → ℕ → ℕ → ℕ
@@ -33,7 +34,8 @@ pub record Copied (history : ℕ → Registers) (from to k : ℕ) (copy : Word) 
   pub until : at ≤ to
   pub is : copy ≡ word_at (history at).words k
 
--- The process has read the bit of process c, and then, until state `to`, asked for its opposite; it still asks for that.
+-- The process has read the bit of process c, and then, until state `to`, asked for its
+-- opposite; it still asks for that.
 pub record Asked (history : ℕ → Registers) (from to t me c value : ℕ) : Type 0 where
   pub sight : ReadBit history from to me c value
   pub at : ℕ
@@ -41,9 +43,11 @@ pub record Asked (history : ℕ → Registers) (from to t me c value : ℕ) : Ty
   pub until : at ≤ to
   pub kept : (u : ℕ) → at ≤ u → u ≤ t → bit (history u).q me c ≡ value
 
--- How far a double collect has come: the handshakes with the processes before `asked`, the first copies of the words before
--- `first`, the second copies of those before `second`, and the late bits of the processes before `late`, each after the one before.
-pub record Collected (n w me : ℕ) (history : ℕ → Registers) (from t : ℕ) (g : List ℕ) (a b : Words) (h : List ℕ) (asked first second late : ℕ) : Type 0 where
+-- How far a double collect has come: the handshakes with the processes before `asked`, the first copies of the words
+-- before `first`, the second copies of those before `second`, and the late bits of the processes before `late`, each
+-- after the one before.
+pub record Collected (n w me : ℕ) (history : ℕ → Registers) (from t : ℕ) (g : List ℕ) (a b : Words) (h : List ℕ)
+    (asked first second late : ℕ) : Type 0 where
   -- the handshakes were done here, the first collect here, and the second here
   pub shaken : ℕ
   pub middle : ℕ
@@ -59,14 +63,18 @@ pub record Collected (n w me : ℕ) (history : ℕ → Registers) (from t : ℕ)
 
 read_until : (history : ℕ → Registers) (from to to' me c value : ℕ) → to ≤ to' → ReadBit history from to me c value →
     ReadBit history from to' me c value
-read_until history from to to' me c value le h = record { at = h.at; after = h.after; until = (let u : h.at ≤ to = h.until in omega arith); is = h.is }
+read_until history from to to' me c value le h =
+    record { at = h.at; after = h.after; until = (let u : h.at ≤ to = h.until in omega arith); is = h.is }
 
-copied_until : (history : ℕ → Registers) (from to to' k : ℕ) (x : Word) → to ≤ to' → Copied history from to k x → Copied history from to' k x
-copied_until history from to to' k x le h = record { at = h.at; after = h.after; until = (let u : h.at ≤ to = h.until in omega arith); is = h.is }
+copied_until : (history : ℕ → Registers) (from to to' k : ℕ) (x : Word) → to ≤ to' →
+    Copied history from to k x → Copied history from to' k x
+copied_until history from to to' k x le h =
+    record { at = h.at; after = h.after; until = (let u : h.at ≤ to = h.until in omega arith); is = h.is }
 
 module _ (n w me : ℕ) (history : ℕ → Registers) (from : ℕ) where
   -- a double collect starts
-  pub collected_starts : (t : ℕ) (g : List ℕ) (a b : Words) (h : List ℕ) → from ≤ t → Collected n w me history from t g a b h 1 1 1 1
+  pub collected_starts : (t : ℕ) (g : List ℕ) (a b : Words) (h : List ℕ) → from ≤ t →
+      Collected n w me history from t g a b h 1 1 1 1
   collected_starts t g a b h le = record {
     shaken = t;
     middle = t;
@@ -82,10 +90,12 @@ module _ (n w me : ℕ) (history : ℕ → Registers) (from : ℕ) where
   }
 
   -- other bounds for the same
-  pub collected_as : (t : ℕ) (g : List ℕ) (a b : Words) (h : List ℕ) (asked asked' first first' second second' late late' : ℕ) →
+  pub collected_as : (t : ℕ) (g : List ℕ) (a b : Words) (h : List ℕ)
+      (asked asked' first first' second second' late late' : ℕ) →
       ((c : ℕ) → IsOneOf n c → c < asked' → c < asked) → ((k : ℕ) → IsOneOf w k → k < first' → k < first) →
       ((k : ℕ) → IsOneOf w k → k < second' → k < second) → ((c : ℕ) → IsOneOf n c → c < late' → c < late) →
-      Collected n w me history from t g a b h asked first second late → Collected n w me history from t g a b h asked' first' second' late'
+      Collected n w me history from t g a b h asked first second late →
+      Collected n w me history from t g a b h asked' first' second' late'
   collected_as t g a b h asked asked' first first' second second' late late' f1 f2 f3 f4 x = record {
     shaken = x.shaken;
     middle = x.middle;
@@ -103,7 +113,8 @@ module _ (n w me : ℕ) (history : ℕ → Registers) (from : ℕ) where
   -- time passes, and what the process asks stays
   pub collected_kept : (t : ℕ) (g : List ℕ) (a b : Words) (h : List ℕ) (asked first second late : ℕ) →
       ((c : ℕ) → IsOneOf n c → bit (history (suc t)).q me c ≡ bit (history t).q me c) →
-      Collected n w me history from t g a b h asked first second late → Collected n w me history from (suc t) g a b h asked first second late
+      Collected n w me history from t g a b h asked first second late →
+      Collected n w me history from (suc t) g a b h asked first second late
   collected_kept t g a b h asked first second late same x =
       let now : x.ended ≤ t = x.now in
       let later : x.middle ≤ x.ended = x.later in
@@ -140,7 +151,8 @@ module _ (n w me : ℕ) (history : ℕ → Registers) (from : ℕ) where
 
   -- line 14 keeps the bit that was read for process j
   pub asked_row : (t : ℕ) (g : List ℕ) (a b : Words) (h : List ℕ) (j x first second late : ℕ) → IsOneOf n j →
-      Collected n w me history from t g a b h j first second late → Collected n w me history from t (slice_set g (j - 1) x) a b h j first second late
+      Collected n w me history from t g a b h j first second late →
+      Collected n w me history from t (slice_set g (j - 1) x) a b h j first second late
   asked_row t g a b h j x first second late one y = record {
     shaken = y.shaken;
     middle = y.middle;
@@ -149,7 +161,10 @@ module _ (n w me : ℕ) (history : ℕ → Registers) (from : ℕ) where
     between = y.between;
     later = y.later;
     now = y.now;
-    handshakes = λ c o lt. subst (Asked history from y.shaken t me c) (sym (set_there g j c x one.0 o.0 (λ same. absurd (let e : c ≡ j = same in omega arith)))) (y.handshakes c o lt);
+    handshakes =
+        λ c o lt. subst (Asked history from y.shaken t me c)
+        (sym (set_there g j c x one.0 o.0 (λ same. absurd (let e : c ≡ j = same in omega arith))))
+        (y.handshakes c o lt);
     firsts = y.firsts;
     seconds = y.seconds;
     lates = y.lates;
@@ -157,7 +172,8 @@ module _ (n w me : ℕ) (history : ℕ → Registers) (from : ℕ) where
 
   -- line 15 asks process j
   pub asked_more : (t : ℕ) (g : List ℕ) (a b : Words) (h : List ℕ) (j : ℕ) → IsOneOf n j →
-      ((c : ℕ) → IsOneOf n c → c ≢ j → bit (history (suc t)).q me c ≡ bit (history t).q me c) → bit (history (suc t)).q me j ≡ place g j →
+      ((c : ℕ) → IsOneOf n c → c ≢ j → bit (history (suc t)).q me c ≡ bit (history t).q me c) →
+      bit (history (suc t)).q me j ≡ place g j →
       ReadBit history from t me j (place g j) → Collected n w me history from t g a b h j 1 1 1 →
       Collected n w me history from (suc t) g a b h (j + 1) 1 1 1
   asked_more t g a b h j one others his sight y =
@@ -175,14 +191,18 @@ module _ (n w me : ℕ) (history : ℕ → Registers) (from : ℕ) where
         now = omega arith;
         handshakes = λ c o lt. elim (cases_eq c j) [
           | inl same ↦ subst (λ v. Asked history from (suc t) (suc t) me v (place g v)) (sym same) (record {
-            sight = (let u : sight.at ≤ t = sight.until in record { at = sight.at; after = sight.after; until = omega arith; is = sight.is });
+            sight =
+                (let u : sight.at ≤ t = sight.until in
+                record { at = sight.at; after = sight.after; until = omega arith; is = sight.is });
             at = suc t;
             after = (let u : sight.at ≤ t = sight.until in omega arith);
             until = omega arith;
             kept = λ u le more. ap (λ v. bit (history v).q me j) (let e : u ≡ suc t = omega arith in e) ∙ his;
           })
           | inr other ↦ (let z = y.handshakes c o (omega arith) in let until : z.at ≤ y.shaken = z.until in record {
-            sight = (let s = z.sight in let u : s.at ≤ y.shaken = s.until in record { at = s.at; after = s.after; until = omega arith; is = s.is });
+            sight =
+                (let s = z.sight in let u : s.at ≤ y.shaken = s.until in
+                record { at = s.at; after = s.after; until = omega arith; is = s.is });
             at = z.at;
             after = z.after;
             until = omega arith;
@@ -199,16 +219,19 @@ module _ (n w me : ℕ) (history : ℕ → Registers) (from : ℕ) where
 
   -- a word that is read now
   read_now : (t from' k : ℕ) (m : Registers) → history t ≡ m → from' ≤ t → Copied history from' t k (word_at m.words k)
-  read_now t from' k m now le = record { at = t; after = le; until = omega arith; is = ap (λ (x : Registers). word_at x.words k) (sym now) }
+  read_now t from' k m now le =
+      record { at = t; after = le; until = omega arith; is = ap (λ (x : Registers). word_at x.words k) (sym now) }
 
   -- a copy of one more word
-  copy_more : (copies : Words) (m : Registers) (t from' to : ℕ) (k y : ℕ) → IsOneOf w k → IsOneOf w y → w ≤ length copies → history t ≡ m →
-      from' ≤ t → to ≤ t → y < k + 1 →
-      (y < k → Copied history from' to y (word_at copies y)) → Copied history from' t y (word_at (slice_set copies (k - 1) (word_at m.words k)) y)
+  copy_more : (copies : Words) (m : Registers) (t from' to : ℕ) (k y : ℕ) → IsOneOf w k →
+      IsOneOf w y → w ≤ length copies → history t ≡ m → from' ≤ t → to ≤ t → y < k + 1 →
+      (y < k → Copied history from' to y (word_at copies y)) →
+      Copied history from' t y (word_at (slice_set copies (k - 1) (word_at m.words k)) y)
   copy_more copies m t from' to k y one o len now le le2 lt old =
       elim (cases_eq y k) [
         | inl same ↦ subst (Copied history from' t y)
-            (ap (word_at m.words) same ∙ sym (get_or-set_at copies (k - 1) (y - 1) (word_at m.words k) no_word (ap (λ v. v - 1) same) (omega arith)))
+            (ap (word_at m.words) same ∙ sym
+            (get_or-set_at copies (k - 1) (y - 1) (word_at m.words k) no_word (ap (λ v. v - 1) same) (omega arith)))
             (read_now t from' y m now le)
         | inr other ↦ subst (Copied history from' t y)
             (sym (get_or-set_other copies (k - 1) (y - 1) (word_at m.words k) no_word (λ same. other (omega arith))))
@@ -216,8 +239,8 @@ module _ (n w me : ℕ) (history : ℕ → Registers) (from : ℕ) where
       ]
 
   -- line 17 reads one more word
-  pub first_more : (t : ℕ) (m : Registers) (g : List ℕ) (a b : Words) (h : List ℕ) (asked k : ℕ) → IsOneOf w k → w ≤ length a → history t ≡ m →
-      Collected n w me history from t g a b h asked k 1 1 →
+  pub first_more : (t : ℕ) (m : Registers) (g : List ℕ) (a b : Words) (h : List ℕ) (asked k : ℕ) →
+      IsOneOf w k → w ≤ length a → history t ≡ m → Collected n w me history from t g a b h asked k 1 1 →
       Collected n w me history from t g (slice_set a (k - 1) (word_at m.words k)) b h asked (k + 1) 1 1
   first_more t m g a b h asked k one len is x =
       let now : x.ended ≤ t = x.now in
@@ -232,14 +255,16 @@ module _ (n w me : ℕ) (history : ℕ → Registers) (from : ℕ) where
         later = omega arith;
         now = omega arith;
         handshakes = x.handshakes;
-        firsts = λ y o lt. copy_more a m t x.shaken x.middle k y one o len is (omega arith) (omega arith) lt (λ less. x.firsts y o less);
+        firsts =
+            λ y o lt. copy_more a m t x.shaken x.middle k y one o len is (omega arith)
+            (omega arith) lt (λ less. x.firsts y o less);
         seconds = λ k o lt. absurd (omega arith);
         lates = λ c o lt. absurd (omega arith);
       }
 
   -- line 19 reads one more word
-  pub second_more : (t : ℕ) (m : Registers) (g : List ℕ) (a b : Words) (h : List ℕ) (asked first k : ℕ) → IsOneOf w k → w ≤ length b → history t ≡ m →
-      Collected n w me history from t g a b h asked first k 1 →
+  pub second_more : (t : ℕ) (m : Registers) (g : List ℕ) (a b : Words) (h : List ℕ) (asked first k : ℕ) →
+      IsOneOf w k → w ≤ length b → history t ≡ m → Collected n w me history from t g a b h asked first k 1 →
       Collected n w me history from t g a (slice_set b (k - 1) (word_at m.words k)) h asked first (k + 1) 1
   second_more t m g a b h asked first k one len is x =
       let now : x.ended ≤ t = x.now in
@@ -254,12 +279,15 @@ module _ (n w me : ℕ) (history : ℕ → Registers) (from : ℕ) where
         now = omega arith;
         handshakes = x.handshakes;
         firsts = x.firsts;
-        seconds = λ y o lt. copy_more b m t x.middle x.ended k y one o len is (omega arith) (omega arith) lt (λ less. x.seconds y o less);
+        seconds =
+            λ y o lt. copy_more b m t x.middle x.ended k y one o len is (omega arith)
+            (omega arith) lt (λ less. x.seconds y o less);
         lates = λ c o lt. absurd (omega arith);
       }
 
   -- line 22 keeps the late bit of process j
-  pub late_more : (t : ℕ) (g : List ℕ) (a b : Words) (h : List ℕ) (asked first second j v : ℕ) → IsOneOf n j → n ≤ length h →
+  pub late_more : (t : ℕ) (g : List ℕ) (a b : Words) (h : List ℕ) (asked first second j v : ℕ) →
+      IsOneOf n j → n ≤ length h →
       (x : Collected n w me history from t g a b h asked first second j) → ReadBit history x.ended t me j v →
       Collected n w me history from t g a b (slice_set h (j - 1) v) asked first second (j + 1)
   late_more t g a b h asked first second j v one len x sight = record {
@@ -276,7 +304,8 @@ module _ (n w me : ℕ) (history : ℕ → Registers) (from : ℕ) where
     lates = λ c o lt. elim (cases_eq c j) [
       | inl same ↦ subst (λ y. ReadBit history x.ended t me y (place (slice_set h (j - 1) v) y)) (sym same)
           (subst (ReadBit history x.ended t me j) (sym (set_here h j v one.0 (omega arith))) sight)
-      | inr other ↦ subst (ReadBit history x.ended t me c) (sym (set_there h j c v one.0 o.0 other)) (x.lates c o (omega arith))
+      | inr other ↦
+          subst (ReadBit history x.ended t me c) (sym (set_there h j c v one.0 o.0 other)) (x.lates c o (omega arith))
     ];
   }
 
@@ -284,8 +313,10 @@ same_self : (x : Word) → same_words x x ≡ true
 same_self x = grind (arith, common_steps)
 
 -- A whole double collect.
-module _ (n w me : ℕ) (history : ℕ → Registers) (from t : ℕ) (g : List ℕ) (a b : Words) (h : List ℕ) (one : IsOneOf n me)
-    (laws : (u : ℕ) → u ≤ t → Laws n w history u) (x : Collected n w me history from t g a b h (n + 1) (w + 1) (w + 1) (n + 1)) where
+module _ (n w me : ℕ) (history : ℕ → Registers) (from t : ℕ) (g : List ℕ) (a b : Words)
+    (h : List ℕ) (one : IsOneOf n me)
+    (laws : (u : ℕ) → u ≤ t → Laws n w history u)
+    (x : Collected n w me history from t g a b h (n + 1) (w + 1) (w + 1) (n + 1)) where
   -- copies that are not the same: the writer of the second one has written since the double collect started
   pub seen_by_words : (k : ℕ) → IsOneOf w k → same_at a b k ≡ false →
       IsOneOf n (word_at b k).id × ((history from).writes (word_at b k).id < (history t).writes (word_at b k).id)
@@ -304,9 +335,12 @@ module _ (n w me : ℕ) (history : ℕ → Registers) (from t : ℕ) (g : List �
         | inl lt ↦ (let c = id_at (history second.at) k in
             let id : c ≡ (word_at b k).id = ap (λ (y : Word). y.id) (sym second.is) in
             let named : IsOneOf n c = (laws second.at (omega arith)).now.named k o (omega arith) in
-            let newer : (history first.at).writes c < (history second.at).writes c = ((laws second.at (omega arith)).since first.at (omega arith)).newer k o lt in
-            let before : (history from).writes c ≤ (history first.at).writes c = ((laws first.at (omega arith)).since from (omega arith)).writes c named in
-            let after : (history second.at).writes c ≤ (history t).writes c = ((laws t (omega arith)).since second.at (omega arith)).writes c named in
+            let newer : (history first.at).writes c < (history second.at).writes c =
+            ((laws second.at (omega arith)).since first.at (omega arith)).newer k o lt in
+            let before : (history from).writes c ≤ (history first.at).writes c =
+            ((laws first.at (omega arith)).since from (omega arith)).writes c named in
+            let after : (history second.at).writes c ≤ (history t).writes c =
+            ((laws t (omega arith)).since second.at (omega arith)).writes c named in
             subst (λ y. IsOneOf n y × ((history from).writes y < (history t).writes y)) id (named, omega arith))
         | inr same ↦ absurd (let e : word_at a k ≡ word_at b k = first.is ∙ same ∙ sym second.is in
             let f : same_at a b k ≡ true = ap (λ (y : Word). same_words y (word_at b k)) e ∙ same_self (word_at b k) in
@@ -314,7 +348,8 @@ module _ (n w me : ℕ) (history : ℕ → Registers) (from t : ℕ) (g : List �
       ]
 
   -- a late bit that differs: its process has answered since the double collect started
-  pub seen_by_bits : (c : ℕ) → IsOneOf n c → place h c ≢ place g c → (history from).answers c me < (history t).answers c me
+  pub seen_by_bits : (c : ℕ) → IsOneOf n c → place h c ≢ place g c →
+      (history from).answers c me < (history t).answers c me
   seen_by_bits c o differ =
       let now : x.ended ≤ t = x.now in
       let later : x.middle ≤ x.ended = x.later in
@@ -329,13 +364,16 @@ module _ (n w me : ℕ) (history : ℕ → Registers) (from t : ℕ) (g : List �
       let b2 : late.at ≤ t = late.until in
       elim (((laws late.at b2).since sight.at (omega arith)).signed c me o one) [
         | inl still ↦ absurd (differ (late.is ∙ sym still ∙ sym sight.is))
-        | inr lt ↦ (let before : (history from).answers c me ≤ (history sight.at).answers c me = ((laws sight.at (omega arith)).since from a1).answers c me o one in
-            let after : (history late.at).answers c me ≤ (history t).answers c me = ((laws t (omega arith)).since late.at b2).answers c me o one in omega arith)
+        | inr lt ↦ (let before : (history from).answers c me ≤ (history sight.at).answers c me =
+            ((laws sight.at (omega arith)).since from a1).answers c me o one in
+            let after : (history late.at).answers c me ≤ (history t).answers c me =
+            ((laws t (omega arith)).since late.at b2).answers c me o one in omega arith)
       ]
 
   -- A word whose copies look the same was not written between them, where the bit of its writer did not turn.
   no_write : (k : ℕ) → IsOneOf w k → ((c : ℕ) → IsOneOf n c → place h c ≡ place g c) → same_at a b k ≡ true →
-      (first : Copied history x.shaken x.middle k (word_at a k)) (second : Copied history x.middle x.ended k (word_at b k)) →
+      (first : Copied history x.shaken x.middle k (word_at a k))
+      (second : Copied history x.middle x.ended k (word_at b k)) →
       seq_at (history first.at).words k < seq_at (history second.at).words k → ⊥
   no_write k o still same first second lt =
       let now : x.ended ≤ t = x.now in
@@ -350,21 +388,28 @@ module _ (n w me : ℕ) (history : ℕ → Registers) (from t : ℕ) (g : List �
       let named : IsOneOf n c = (laws second.at (omega arith)).now.named k o (omega arith) in
       let alike : Alike (word_at a k) (word_at b k) = alike_of (word_at a k) (word_at b k) same in
       let copied : (word_at a k).id ≡ (word_at b k).id = omega arith in
-      let ids : id_at (history first.at) k ≡ c = ap (λ (y : Word). y.id) (sym first.is) ∙ copied ∙ ap (λ (y : Word). y.id) second.is in
+      let ids : id_at (history first.at) k ≡ c =
+      ap (λ (y : Word). y.id) (sym first.is) ∙ copied ∙ ap (λ (y : Word). y.id) second.is in
       let toggles : (word_at (history first.at).words k).toggle ≡ (word_at (history second.at).words k).toggle =
       ap (λ (y : Word). y.toggle) (sym first.is) ∙ alike.toggles ∙ ap (λ (y : Word). y.toggle) second.is in
-      let twice : (history first.at).writes c + 2 ≤ (history second.at).writes c = ((laws second.at (omega arith)).since first.at (omega arith)).twice k o lt ids toggles in
+      let twice : (history first.at).writes c + 2 ≤ (history second.at).writes c =
+      ((laws second.at (omega arith)).since first.at (omega arith)).twice k o lt ids toggles in
       let handshake = x.handshakes c named (let le : c ≤ n = named.1 in omega arith) in
       let h1 : handshake.at ≤ x.shaken = handshake.until in
       let late = x.lates c named (let le : c ≤ n = named.1 in omega arith) in
       let l1 : x.ended ≤ late.at = late.after in
       let l2 : late.at ≤ t = late.until in
-      let low : (history handshake.at).writes c ≤ (history first.at).writes c = ((laws first.at (omega arith)).since handshake.at (omega arith)).writes c named in
-      let high : (history second.at).writes c ≤ (history late.at).writes c = ((laws late.at l2).since second.at (omega arith)).writes c named in
-      let answers : (history late.at).writes c ≤ (history late.at).answers c me = (laws late.at l2).now.answers_from c me named one in
+      let low : (history handshake.at).writes c ≤ (history first.at).writes c =
+      ((laws first.at (omega arith)).since handshake.at (omega arith)).writes c named in
+      let high : (history second.at).writes c ≤ (history late.at).writes c =
+      ((laws late.at l2).since second.at (omega arith)).writes c named in
+      let answers : (history late.at).writes c ≤ (history late.at).answers c me =
+      (laws late.at l2).now.answers_from c me named one in
       (laws late.at l2).answered c me ((history handshake.at).writes c) (place g c) named one
       (λ u le more. handshake.kept u (elim (less_or_not u handshake.at) [
-        | inl less ↦ absurd (let back : (history u).writes c ≤ (history handshake.at).writes c = ((laws handshake.at (omega arith)).since u (omega arith)).writes c named in omega arith)
+        | inl less ↦
+            absurd (let back : (history u).writes c ≤ (history handshake.at).writes c =
+            ((laws handshake.at (omega arith)).since u (omega arith)).writes c named in omega arith)
         | inr ge ↦ ge
       ]) (omega arith))
       (omega arith) (sym late.is ∙ still c named)
@@ -380,16 +425,21 @@ module _ (n w me : ℕ) (history : ℕ → Registers) (from t : ℕ) (g : List �
       let a2 : first.at ≤ x.middle = first.until in
       let b1 : x.middle ≤ second.at = second.after in
       let b2 : second.at ≤ x.ended = second.until in
-      let before : WordBefore (word_at (history first.at).words k) (word_at (history x.middle).words k) = ((laws x.middle (omega arith)).since first.at a2).before k o in
-      let after : WordBefore (word_at (history x.middle).words k) (word_at (history second.at).words k) = ((laws second.at (omega arith)).since x.middle b1).before k o in
+      let before : WordBefore (word_at (history first.at).words k) (word_at (history x.middle).words k) =
+      ((laws x.middle (omega arith)).since first.at a2).before k o in
+      let after : WordBefore (word_at (history x.middle).words k) (word_at (history second.at).words k) =
+      ((laws second.at (omega arith)).since x.middle b1).before k o in
       elim (((laws second.at (omega arith)).since first.at (omega arith)).before k o) [
         | inl lt ↦ absurd (no_write k o still same first second lt)
-        | inr e ↦ squeezed (word_at (history first.at).words k) (word_at (history x.middle).words k) (word_at (history second.at).words k) before after (ap (λ (y : Word). y.seq) e)
+        | inr e ↦
+            squeezed (word_at (history first.at).words k) (word_at (history x.middle).words k)
+            (word_at (history second.at).words k) before after (ap (λ (y : Word). y.seq) e)
             ∙ sym second.is
       ]
 
   -- so both copies are one
-  pub same_copies : (k : ℕ) → IsOneOf w k → ((c : ℕ) → IsOneOf n c → place h c ≡ place g c) → same_at a b k ≡ true → word_at a k ≡ word_at b k
+  pub same_copies : (k : ℕ) → IsOneOf w k → ((c : ℕ) → IsOneOf n c → place h c ≡ place g c) →
+      same_at a b k ≡ true → word_at a k ≡ word_at b k
   same_copies k o still same =
       let now : x.ended ≤ t = x.now in
       let first = x.firsts k o (omega arith) in
@@ -413,11 +463,13 @@ module _ (n w me : ℕ) (history : ℕ → Registers) (from t : ℕ) (g : List �
         x.middle,
         omega arith,
         omega arith,
-        same_data w (words_of history x.middle) b (laws x.middle (omega arith)).now.size len (λ k o. unchanged k o still (same k o)),
+        same_data w (words_of history x.middle) b (laws x.middle (omega arith)).now.size len
+            (λ k o. unchanged k o still (same k o)),
       )
 
 -- Three events of one process since a scan's start: it has put a view after it had answered the scan's process.
-pub borrowed_put : (n w me c since t : ℕ) (history : ℕ → Registers) → Laws n w history since → Laws n w history t → IsOneOf n c → IsOneOf n me →
+pub borrowed_put : (n w me c since t : ℕ) (history : ℕ → Registers) →
+    Laws n w history since → Laws n w history t → IsOneOf n c → IsOneOf n me →
     events (history since) c me + 3 ≤ events (history t) c me → (history since).answers c me < (history t).puts c
 borrowed_put n w me c since t history then now one i three =
     let a : (history t).answers c me ≤ (history t).writes c + 1 = now.now.answers_to c me one i in
@@ -426,8 +478,8 @@ borrowed_put n w me c since t history then now one i three =
     omega arith
 
 -- so its view is the values at some state since
-pub borrowed : (n w me c since t : ℕ) (history : ℕ → Registers) → Laws n w history since → Laws n w history t → since ≤ t → IsOneOf n c →
-    IsOneOf n me →
-    events (history since) c me + 3 ≤ events (history t) c me → Held (words_of history) t since (view_at (history t).views c)
+pub borrowed : (n w me c since t : ℕ) (history : ℕ → Registers) → Laws n w history since → Laws n w history t →
+    since ≤ t → IsOneOf n c → IsOneOf n me → events (history since) c me + 3 ≤ events (history t) c me →
+    Held (words_of history) t since (view_at (history t).views c)
 borrowed n w me c since t history then now le one i three =
     (now.since since le).viewed c me one i (borrowed_put n w me c since t history then now one i three)

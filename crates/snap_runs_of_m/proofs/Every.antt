@@ -1,10 +1,13 @@
--- What every run of M promises.
+-- Every run of M keeps its promises, by the frame that U, B and M share: no
+-- traps, one write for each update, a point for each scan, linearizable.
 use Rattle.std.specs.Prelude.{◌+◌, ◌*◌, ◌<◌, None}
 use Rattle.std.proofs.Common.{arith}
 use Rattle.snap_runs.proofs.Prefixes.{write_strongly_linearizable_by_points}
 use Rattle.snap_runs_frame.proofs.Every as every
 use Rattle.snap_runs_of_m.specs.ListingM.{listing_m}
-use Rattle.snap_runs_of_m.specs.Promises.{NeverTraps, ChangesOnlyAt57, WritesItsUpdate, WritesOnce, HavePoints, Linearizable, OperationsHavePlaces, WriteStronglyLinearizable, WaitFree, RunsAreSnapshots, counts}
+use Rattle.snap_runs_of_m.specs.Promises.{NeverTraps, ChangesOnlyAt57, WritesItsUpdate, WritesOnce, HavePoints}
+use Rattle.snap_runs_of_m.specs.Promises.{Linearizable, OperationsHavePlaces, WriteStronglyLinearizable, WaitFree}
+use Rattle.snap_runs_of_m.specs.Promises.{RunsAreSnapshots, counts}
 use Rattle.snap_runs_of_m.proofs.Kept.{frame, calm_kept}
 
 pub never_traps_lem : NeverTraps

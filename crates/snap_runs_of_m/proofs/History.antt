@@ -1,4 +1,4 @@
--- What is so of the registers of M at all times, and from one state to a later one.
+-- What holds of the registers of M at every state (`Now`), and from one state to a later one (`Since`).
 use Rattle.std.specs.Prelude.{◌≡◌, ◌≢◌, ℕ, suc, ◌+◌, ◌<◌, ◌≤◌, ◌⊎◌, length, refl}
 use Rattle.std.proofs.Common.{sym, ◌∙◌, ap, subst, arith, inl, inr}
 use Rattle.std.proofs.Math.Nat.{eq-or-lt_of_le}
@@ -50,8 +50,9 @@ pub record Since (n w : ℕ) (history : ℕ → Registers) (u t : ℕ) : Type 0 
   pub turned : (c k : ℕ) → IsOneOf n c → IsOneOf w k →
       ((history u).toggles c k ≡ (history t).toggles c k) ⊎ ((history u).writes c < (history t).writes c)
   -- a word that was written since and looks the same has a writer that has written twice since
-  pub twice : (k : ℕ) → IsOneOf w k → seq_at (history u).words k < seq_at (history t).words k → id_at (history u) k ≡ id_at (history t) k →
-      toggle_at (history u) k ≡ toggle_at (history t) k → (history u).writes (id_at (history t) k) + 2 ≤ (history t).writes (id_at (history t) k)
+  pub twice : (k : ℕ) → IsOneOf w k → seq_at (history u).words k < seq_at (history t).words k →
+      id_at (history u) k ≡ id_at (history t) k → toggle_at (history u) k ≡ toggle_at (history t) k →
+      (history u).writes (id_at (history t) k) + 2 ≤ (history t).writes (id_at (history t) k)
   -- a bit turns by an answer alone
   pub signed : (c i : ℕ) → IsOneOf n c → IsOneOf n i →
       (bit (history u).p c i ≡ bit (history t).p c i) ⊎ ((history u).answers c i < (history t).answers c i)
@@ -59,10 +60,12 @@ pub record Since (n w : ℕ) (history : ℕ → Registers) (u t : ℕ) : Type 0 
   pub viewed : (c i : ℕ) → IsOneOf n c → IsOneOf n i → (history u).answers c i < (history t).puts c →
       Held (words_of history) t u (view_at (history t).views c)
 
--- Where process i asks one thing as soon as process c has written more than `low` times, c's second answer since is another.
+-- Where process i asks one thing as soon as process c has written more than `low` times, c's
+-- second answer since is another.
 abbrev pub Answered : ℕ → (ℕ → Registers) → ℕ → Type 0
 Answered n history t =
-    (c i low value : ℕ) → IsOneOf n c → IsOneOf n i → ((u : ℕ) → u ≤ t → low < (history u).writes c → bit (history u).q i c ≡ value) →
+    (c i low value : ℕ) → IsOneOf n c → IsOneOf n i →
+    ((u : ℕ) → u ≤ t → low < (history u).writes c → bit (history u).q i c ≡ value) →
     low + 2 ≤ (history t).answers c i → bit (history t).p c i ≢ value
 
 pub record Laws (n w : ℕ) (history : ℕ → Registers) (t : ℕ) : Type 0 where
@@ -89,14 +92,17 @@ pub record Answer (history : ℕ → Registers) (t : ℕ) (m m' : Registers) (c 
 -- put the view of process c
 abbrev pub Put : ℕ → (ℕ → Registers) → ℕ → Registers → ℕ → Type 0
 Put n history t m' c =
-    (u i : ℕ) → u ≤ t → IsOneOf n i → (history u).answers c i < m'.puts c → Held (words_of history) t u (view_at m'.views c)
+    (u i : ℕ) → u ≤ t → IsOneOf n i → (history u).answers c i < m'.puts c →
+    Held (words_of history) t u (view_at m'.views c)
 
 pub record Acts (n w : ℕ) (history : ℕ → Registers) (t : ℕ) (m m' : Registers) : Type 0 where
   pub words : (k : ℕ) → IsOneOf w k → (word_at m'.words k ≡ word_at m.words k) ⊎ Rewritten n m m' k
   pub writes : (c : ℕ) → IsOneOf n c → m.writes c ≤ m'.writes c
   pub toggles : (c k : ℕ) → IsOneOf n c → IsOneOf w k → (m.toggles c k ≡ m'.toggles c k) ⊎ (m.writes c < m'.writes c)
-  pub bits : (c i : ℕ) → IsOneOf n c → IsOneOf n i → ((bit m.p c i ≡ bit m'.p c i) × (m.answers c i ≡ m'.answers c i)) ⊎ Answer history t m m' c i
-  pub views : (c : ℕ) → IsOneOf n c → ((m.puts c ≡ m'.puts c) × (view_at m.views c ≡ view_at m'.views c)) ⊎ Put n history t m' c
+  pub bits : (c i : ℕ) → IsOneOf n c → IsOneOf n i →
+      ((bit m.p c i ≡ bit m'.p c i) × (m.answers c i ≡ m'.answers c i)) ⊎ Answer history t m m' c i
+  pub views : (c : ℕ) → IsOneOf n c →
+      ((m.puts c ≡ m'.puts c) × (view_at m.views c ≡ view_at m'.views c)) ⊎ Put n history t m' c
 
 pub acts_nothing : (n w : ℕ) (history : ℕ → Registers) (t : ℕ) (m : Registers) → Acts n w history t m m
 acts_nothing n w history t m = record {
@@ -117,17 +123,21 @@ since_itself n w history t now = record {
   turned = λ c k h i. inl refl;
   twice = λ k h lt. absurd (omega arith);
   signed = λ c i h j. inl refl;
-  viewed = λ c i h j lt. absurd (let le : (history t).puts c ≤ (history t).answers c i = now.puts_to c i h j in omega arith);
+  viewed =
+      λ c i h j lt. absurd (let le : (history t).puts c ≤ (history t).answers c i = now.puts_to c i h j in omega arith);
 }
 
 -- one item more
-module _ (n w : ℕ) (history : ℕ → Registers) (t : ℕ) (m' : Registers) (is : history (suc t) ≡ m') (acts : Acts n w history t (history t) m') where
+module _ (n w : ℕ) (history : ℕ → Registers) (t : ℕ) (m' : Registers) (is : history (suc t) ≡ m')
+    (acts : Acts n w history t (history t) m') where
   word_next : (u k : ℕ) → IsOneOf w k → WordBefore (word_at (history u).words k) (word_at (history t).words k) →
       WordBefore (word_at (history u).words k) (word_at m'.words k)
   word_next u k h before =
       elim (acts.words k h) [
         | inl same ↦ subst (λ (x : Word). WordBefore (word_at (history u).words k) x) (sym same) before
-        | inr r ↦ before_trans (word_at (history u).words k) (word_at (history t).words k) (word_at m'.words k) before (inl r.later)
+        | inr r ↦
+            before_trans (word_at (history u).words k) (word_at (history t).words k)
+            (word_at m'.words k) before (inl r.later)
       ]
 
   answers_next : (c i : ℕ) → IsOneOf n c → IsOneOf n i → (history t).answers c i ≤ m'.answers c i
@@ -137,15 +147,16 @@ module _ (n w : ℕ) (history : ℕ → Registers) (t : ℕ) (m' : Registers) (i
         | inr r ↦ (let lt : (history t).answers c i < m'.answers c i = r.more in omega arith)
       ]
 
-  newer_next : (u k : ℕ) → Since n w history u t → IsOneOf w k → IsOneOf n (id_at m' k) → seq_at (history u).words k < seq_at m'.words k →
-      (history u).writes (id_at m' k) < m'.writes (id_at m' k)
+  newer_next : (u k : ℕ) → Since n w history u t → IsOneOf w k → IsOneOf n (id_at m' k) →
+      seq_at (history u).words k < seq_at m'.words k → (history u).writes (id_at m' k) < m'.writes (id_at m' k)
   newer_next u k old h one lt =
       let grows : (history t).writes (id_at m' k) ≤ m'.writes (id_at m' k) = acts.writes (id_at m' k) one in
       elim (acts.words k h) [
         | inl same ↦ (let here : (history u).writes (id_at m' k) < (history t).writes (id_at m' k) =
             subst (λ (x : Word). (history u).writes x.id < (history t).writes x.id) (sym same)
             (old.newer k h (subst (λ (x : Word). seq_at (history u).words k < x.seq) same lt)) in omega arith)
-        | inr r ↦ (let first : (history u).writes (id_at m' k) ≤ (history t).writes (id_at m' k) = old.writes (id_at m' k) one in
+        | inr r ↦ (let first : (history u).writes (id_at m' k) ≤ (history t).writes (id_at m' k) =
+            old.writes (id_at m' k) one in
             let last : (history t).writes (id_at m' k) < m'.writes (id_at m' k) = r.wrote in omega arith)
       ]
 
@@ -164,7 +175,8 @@ module _ (n w : ℕ) (history : ℕ → Registers) (t : ℕ) (m' : Registers) (i
 
   twice_next : (u k : ℕ) → Now n w (history u) → Since n w history u t → IsOneOf w k → IsOneOf n (id_at m' k) →
       seq_at (history u).words k < seq_at m'.words k →
-      id_at (history u) k ≡ id_at m' k → toggle_at (history u) k ≡ toggle_at m' k → (history u).writes (id_at m' k) + 2 ≤ m'.writes (id_at m' k)
+      id_at (history u) k ≡ id_at m' k → toggle_at (history u) k ≡ toggle_at m' k →
+      (history u).writes (id_at m' k) + 2 ≤ m'.writes (id_at m' k)
   twice_next u k now old h one lt same_id same_toggle =
       let c = id_at m' k in
       let grows : (history t).writes c ≤ m'.writes c = acts.writes c one in
@@ -193,14 +205,16 @@ module _ (n w : ℕ) (history : ℕ → Registers) (t : ℕ) (m' : Registers) (i
         | inr r ↦ inr (let lt : (history t).answers c i < m'.answers c i = r.more in omega arith)
       ]
 
-  viewed_next : (u c i : ℕ) → u ≤ t → Since n w history u t → IsOneOf n c → IsOneOf n i → (history u).answers c i < m'.puts c →
-      Held (words_of history) (suc t) u (view_at m'.views c)
+  viewed_next : (u c i : ℕ) → u ≤ t → Since n w history u t → IsOneOf n c → IsOneOf n i →
+      (history u).answers c i < m'.puts c → Held (words_of history) (suc t) u (view_at m'.views c)
   viewed_next u c i le old h j lt =
       elim (acts.views c h) [
         | inl same ↦ subst (Held (words_of history) (suc t) u) same.1
             (held_wider (words_of history) t (suc t) u u (view_at (history t).views c) (omega arith) (omega arith)
             (old.viewed c i h j (subst (λ y. (history u).answers c i < y) (sym same.0) lt)))
-        | inr put ↦ held_wider (words_of history) t (suc t) u u (view_at m'.views c) (omega arith) (omega arith) (put u i le j lt)
+        | inr put ↦
+            held_wider (words_of history) t (suc t) u u (view_at m'.views c) (omega arith)
+            (omega arith) (put u i le j lt)
       ]
 
   answered_next : Answered n history t → (c i low value : ℕ) → IsOneOf n c → IsOneOf n i →
@@ -208,7 +222,9 @@ module _ (n w : ℕ) (history : ℕ → Registers) (t : ℕ) (m' : Registers) (i
       low + 2 ≤ m'.answers c i → bit m'.p c i ≢ value
   answered_next old c i low value h j asks more =
       elim (acts.bits c i h j) [
-        | inl same ↦ (λ e. old c i low value h j (λ u le. asks u (omega arith)) (let s : (history t).answers c i ≡ m'.answers c i = same.1 in omega arith) (same.0 ∙ e))
+        | inl same ↦
+            (λ e. old c i low value h j (λ u le. asks u (omega arith))
+            (let s : (history t).answers c i ≡ m'.answers c i = same.1 in omega arith) (same.0 ∙ e))
         | inr r ↦ (λ e.
             let counts : m'.answers c i ≡ (history r.read).writes c + 1 = r.counts in
             let earlier : r.read ≤ t = r.earlier in
@@ -218,25 +234,42 @@ module _ (n w : ℕ) (history : ℕ → Registers) (t : ℕ) (m' : Registers) (i
 
   since_next : (u : ℕ) → u ≤ t → Now n w (history u) → Now n w m' → Since n w history u t → Since n w history u (suc t)
   since_next u le now next old =
-      let P : Registers → Type 0 = λ m. (k : ℕ) → IsOneOf w k → WordBefore (word_at (history u).words k) (word_at m.words k) in
+      let P : Registers → Type 0 =
+      λ m. (k : ℕ) → IsOneOf w k → WordBefore (word_at (history u).words k) (word_at m.words k) in
       let back : m' ≡ history (suc t) = sym is in
-      let writer : (k : ℕ) → IsOneOf w k → seq_at (history u).words k < seq_at m'.words k → IsOneOf n (id_at m' k) = λ k h lt. next.named k h (omega arith) in
+      let writer : (k : ℕ) → IsOneOf w k → seq_at (history u).words k < seq_at m'.words k → IsOneOf n (id_at m' k) =
+      λ k h lt. next.named k h (omega arith) in
       record {
         before = subst P back (λ k h. word_next u k h (old.before k h));
         writes = subst (λ (m : Registers). (c : ℕ) → IsOneOf n c → (history u).writes c ≤ m.writes c) back
-            (λ c h. let a : (history u).writes c ≤ (history t).writes c = old.writes c h in let b : (history t).writes c ≤ m'.writes c = acts.writes c h in omega arith);
-        answers = subst (λ (m : Registers). (c i : ℕ) → IsOneOf n c → IsOneOf n i → (history u).answers c i ≤ m.answers c i) back
-            (λ c i h j. let a : (history u).answers c i ≤ (history t).answers c i = old.answers c i h j in let b : (history t).answers c i ≤ m'.answers c i = answers_next c i h j in omega arith);
-        newer = subst (λ (m : Registers). (k : ℕ) → IsOneOf w k → seq_at (history u).words k < seq_at m.words k → (history u).writes (id_at m k) < m.writes (id_at m k)) back
+            (λ c h. let a : (history u).writes c ≤ (history t).writes c =
+            old.writes c h in let b : (history t).writes c ≤ m'.writes c = acts.writes c h in omega arith);
+        answers =
+            subst
+            (λ (m : Registers). (c i : ℕ) → IsOneOf n c → IsOneOf n i → (history u).answers c i ≤ m.answers c i) back
+            (λ c i h j. let a : (history u).answers c i ≤ (history t).answers c i = old.answers c i h j in
+            let b : (history t).answers c i ≤ m'.answers c i = answers_next c i h j in
+            omega arith);
+        newer =
+            subst (λ (m : Registers). (k : ℕ) → IsOneOf w k → seq_at (history u).words k < seq_at m.words k →
+            (history u).writes (id_at m k) < m.writes (id_at m k)) back
             (λ k h lt. newer_next u k old h (writer k h lt) lt);
-        turned = subst (λ (m : Registers). (c k : ℕ) → IsOneOf n c → IsOneOf w k → ((history u).toggles c k ≡ m.toggles c k) ⊎ ((history u).writes c < m.writes c)) back
+        turned =
+            subst (λ (m : Registers). (c k : ℕ) → IsOneOf n c → IsOneOf w k →
+            ((history u).toggles c k ≡ m.toggles c k) ⊎ ((history u).writes c < m.writes c)) back
             (λ c k h i. turned_next u c k old h i);
-        twice = subst (λ (m : Registers). (k : ℕ) → IsOneOf w k → seq_at (history u).words k < seq_at m.words k → id_at (history u) k ≡ id_at m k →
+        twice =
+            subst (λ (m : Registers).
+            (k : ℕ) → IsOneOf w k → seq_at (history u).words k < seq_at m.words k → id_at (history u) k ≡ id_at m k →
             toggle_at (history u) k ≡ toggle_at m k → (history u).writes (id_at m k) + 2 ≤ m.writes (id_at m k)) back
             (λ k h lt e f. twice_next u k now old h (writer k h lt) lt e f);
-        signed = subst (λ (m : Registers). (c i : ℕ) → IsOneOf n c → IsOneOf n i → (bit (history u).p c i ≡ bit m.p c i) ⊎ ((history u).answers c i < m.answers c i)) back
+        signed =
+            subst (λ (m : Registers). (c i : ℕ) → IsOneOf n c → IsOneOf n i →
+            (bit (history u).p c i ≡ bit m.p c i) ⊎ ((history u).answers c i < m.answers c i)) back
             (λ c i h j. signed_next u c i old h j);
-        viewed = subst (λ (m : Registers). (c i : ℕ) → IsOneOf n c → IsOneOf n i → (history u).answers c i < m.puts c → Held (words_of history) (suc t) u (view_at m.views c)) back
+        viewed =
+            subst (λ (m : Registers). (c i : ℕ) → IsOneOf n c → IsOneOf n i → (history u).answers c i < m.puts c →
+            Held (words_of history) (suc t) u (view_at m.views c)) back
             (λ c i h j lt. viewed_next u c i le old h j lt);
       }
 
@@ -251,13 +284,14 @@ module _ (n w : ℕ) (history : ℕ → Registers) (t : ℕ) (m' : Registers) (i
           | inr less ↦ since_next u (omega arith) (laws u (omega arith)).now next (old.since u (omega arith))
         ];
         answered = subst (λ (m : Registers). (c i low value : ℕ) → IsOneOf n c → IsOneOf n i →
-            ((u : ℕ) → u ≤ suc t → low < (history u).writes c → bit (history u).q i c ≡ value) → low + 2 ≤ m.answers c i → bit m.p c i ≢ value) (sym is)
+            ((u : ℕ) → u ≤ suc t → low < (history u).writes c → bit (history u).q i c ≡ value) →
+            low + 2 ≤ m.answers c i → bit m.p c i ≢ value) (sym is)
             (answered_next old.answered);
       }
 
 -- the laws up to one item more
-pub laws_up_to : (n w : ℕ) (history : ℕ → Registers) (t : ℕ) → ((u : ℕ) → u ≤ t → Laws n w history u) → Laws n w history (suc t) → (u : ℕ) →
-    u ≤ suc t → Laws n w history u
+pub laws_up_to : (n w : ℕ) (history : ℕ → Registers) (t : ℕ) → ((u : ℕ) → u ≤ t → Laws n w history u) →
+    Laws n w history (suc t) → (u : ℕ) → u ≤ suc t → Laws n w history u
 laws_up_to n w history t old new u le =
     elim (eq-or-lt_of_le le) [
       | inl same ↦ subst (Laws n w history) (sym same) new

@@ -12,7 +12,8 @@ use Rattle.snap_runs.proofs.Steady.{Steady}
 use Rattle.snap_runs.proofs.UpdateSteps.{Ahead, Nearer, Resumes}
 use Rattle.snap_runs_frame.proofs.Frame as frames
 use Rattle.snap_runs_of_m.specs.Promises.{run_of}
-use Rattle.snap_runs_of_m.proofs.Algorithm.{Registers, Variables, ProgramCounter, L50, L51, L52, L53, L54, L55, L56, L57, L58, IsUpdate, IsLineOf, in_update, tests, move, lines, algorithm}
+use Rattle.snap_runs_of_m.proofs.Algorithm.{Registers, Variables, ProgramCounter, L50, L51, L52, L53, L54, L55, L56}
+use Rattle.snap_runs_of_m.proofs.Algorithm.{L57, L58, IsUpdate, IsLineOf, in_update, tests, move, lines, algorithm}
 use Rattle.snap_runs_of_m.proofs.Count.{collects_le, own_le}
 use Rattle.snap_runs_of_m.proofs.Flows.{numbered, listed, once, writer}
 use Rattle.snap_runs_of_m.proofs.History.{words_of}
@@ -22,14 +23,14 @@ use Rattle.snap_runs_of_m.proofs.Runs.{state_at, registers_at, inv, execution, w
 use Rattle.snap_runs_of_m.proofs.Stage.{Stage}
 
 -- line 57 is one of an update
-pub updates : (n w : ℕ) (items : List Item) → 0 < w → Steady (run_of n w items) → (t i : ℕ) (d : Mode) → t < length items → IsOneOf n i →
-    (typed_at (algorithm n w) (state_at n w items t) i).control ≡ At d L57 →
-    IsUpdate w d
+pub updates : (n w : ℕ) (items : List Item) → 0 < w → Steady (run_of n w items) →
+    (t i : ℕ) (d : Mode) → t < length items → IsOneOf n i →
+    (typed_at (algorithm n w) (state_at n w items t) i).control ≡ At d L57 → IsUpdate w d
 updates n w items some fits t i d h one e = (well_of n w items some fits t i d L57 (omega arith) one e).0
 
 -- at a line that returns s, the values were s at some state since the scan's start
-pub return_held : (n w i : ℕ) (history : ℕ → Registers) (t since round : ℕ) (p : Variables) (k : ProgramCounter) → lines.IsReturn k →
-    Stage n w i history t since round p k → Held (words_of history) t since p.s
+pub return_held : (n w i : ℕ) (history : ℕ → Registers) (t since round : ℕ) (p : Variables) (k : ProgramCounter) →
+    lines.IsReturn k → Stage n w i history t since round p k → Held (words_of history) t since p.s
 return_held n w i history t since round p k (inl is) h = subst (Stage n w i history t since round p) is h
 return_held n w i history t since round p k (inr is) h = (subst (Stage n w i history t since round p) is h).0
 
@@ -38,7 +39,8 @@ abbrev pub most_steps : ℕ → ℕ → ℕ
 most_steps n w = 14 * (n * n) + 16 * (n * w) + 19 * n + 8 * w + 10
 
 -- the bounds at each line
-pub within : (n w : ℕ) (items : List Item) → 0 < w → Steady (run_of n w items) → (t i : ℕ) (d : Mode) (k : ProgramCounter) → t ≤ length items → IsOneOf n i →
+pub within : (n w : ℕ) (items : List Item) → 0 < w → Steady (run_of n w items) →
+    (t i : ℕ) (d : Mode) (k : ProgramCounter) → t ≤ length items → IsOneOf n i →
     (typed_at (algorithm n w) (state_at n w items t) i).control ≡ At d k → IsInScan d →
     ((typed_at (algorithm n w) (state_at n w items t) i).auxiliary.collects + tests k ≤ 2 * n - 1)
     × ((typed_at (algorithm n w) (state_at n w items t) i).auxiliary.own + 1 ≤ most_steps n w)
@@ -51,12 +53,15 @@ within n w items some fits t i d k le one at scan =
     let well = well_of n w items some fits t i d k le one at in
     let stage = stage_of n w items some fits t i d k le one at in
     let counts = counts_of n w items some fits t i d k le one at in
-    let books : Books n w i (history g.since) (history t) d q.variables k = subst (BooksAt n w i (history g.since) (history t) q.variables) at o.books in
+    let books : Books n w i (history g.since) (history t) d q.variables k =
+    subst (BooksAt n w i (history g.since) (history t) q.variables) at o.books in
     let inside = scan_line (IsOneOf w) (in_update k) d scan well.0 in
     let sharp =
     sharp_at n w i history t g.since g.round d q.variables k
-    one ((v.laws t (omega arith)).since g.round o.round_le) well.0 well.1 books stage in
-    (collects_le n w q.variables k g.own g.collects g.tested (omega arith) sharp counts inside, own_le n w d q.variables k g.own g.collects g.tested well.1 counts inside)
+    one ((v.laws t (omega arith)).since g.round o.round_le) well.0 well.1 books stage in (
+      collects_le n w q.variables k g.own g.collects g.tested (omega arith) sharp counts inside,
+      own_le n w d q.variables k g.own g.collects g.tested well.1 counts inside,
+    )
 
 -- the steps that an update has ahead at its own lines: three for each bit that is still to be answered
 abbrev ahead : ℕ → Variables → ProgramCounter → ℕ
@@ -82,13 +87,15 @@ scanned _ = true
 abbrev its : (n w : ℕ) → Ahead (algorithm n w) lines
 its n w = record { ahead = ahead n; scanned = scanned; rest = 4; total = 9 + 3 * (n - 1) }
 
-pub nearer : (n w me word value : ℕ) (m : Registers) (p : Variables) (k : ProgramCounter) → IsLineOf w (Updating word value) k →
+pub nearer : (n w me word value : ℕ) (m : Registers) (p : Variables) (k : ProgramCounter) →
+    IsLineOf w (Updating word value) k →
     Nearer (algorithm n w) lines (its n w) p k (move n w me (Updating word value) m p k)
 nearer n w me word value m p L50 s = (omega arith, refl)
 nearer n w me word value m p L51 s = (omega arith, refl)
 nearer n w me word value m p L52 s = (omega arith, refl)
 nearer n w me word value m p L53 s =
-    either (Nearer (algorithm n w) lines (its n w) p L53) (nat_lt p.j n) _ _ (λ is. let lt : p.j < n = lt_from p.j n is in (omega arith, refl)) (λ is. (omega arith, refl))
+    either (Nearer (algorithm n w) lines (its n w) p L53) (nat_lt p.j n) _ _
+    (λ is. let lt : p.j < n = lt_from p.j n is in (omega arith, refl)) (λ is. (omega arith, refl))
 nearer n w me word value m p L54 s = (omega arith, refl)
 nearer n w me word value m p L55 s = (omega arith, refl)
 nearer n w me word value m p L56 s = (omega arith, refl)
@@ -99,9 +106,11 @@ nearer n w me word value m p k s = absurd s
 pub resumes : (n w me word value : ℕ) (m : Registers) (p : Variables) (k : ProgramCounter) → lines.IsReturn k →
     Resumes (algorithm n w) lines (its n w) (move n w me (Embedded word value) m p k)
 resumes n w me word value m p k (inl is) =
-    subst (λ y. Resumes (algorithm n w) lines (its n w) (move n w me (Embedded word value) m p y)) (sym is) (omega arith, refl)
+    subst (λ y. Resumes (algorithm n w) lines (its n w) (move n w me (Embedded word value) m p y)) (sym is)
+    (omega arith, refl)
 resumes n w me word value m p k (inr is) =
-    subst (λ y. Resumes (algorithm n w) lines (its n w) (move n w me (Embedded word value) m p y)) (sym is) (omega arith, refl)
+    subst (λ y. Resumes (algorithm n w) lines (its n w) (move n w me (Embedded word value) m p y)) (sym is)
+    (omega arith, refl)
 
 abbrev pub frame : (n w : ℕ) → frames.Frame (algorithm n w) lines 57
 frame n w = record {

@@ -1,3 +1,4 @@
+-- The proofs of snap_runs_of_m, by their modules.
 pub mod Algorithm
 pub mod Basics
 pub mod Lines

@@ -1,7 +1,9 @@
--- What each line of M does.
+-- Each numbered line of listing M has the effect of its move in
+-- `Algorithm.antt`, and does not trap where it has what it needs.
 use Rattle.snap_runs.proofs.Places.{bind_ok, place_ok, each_ok, sum_ok, owned_ok}
 use Rattle.snap_runs.proofs.Computing.{if_true, le_true, same_number, if_of}
-use Rattle.std.specs.Prelude.{◌≡◌, ℕ, ◌+◌, ◌-◌, ◌<◌, ◌≤◌, max, true, ◌&&◌, [], ◌∷◌, map, Option, Some, None, Result, Ok, Err, slice_index_or, nat_eq, nat_lt, nat_le, if◌then◌else◌, refl}
+use Rattle.std.specs.Prelude.{◌≡◌, ℕ, ◌+◌, ◌-◌, ◌<◌, ◌≤◌, max, true, ◌&&◌, [], ◌∷◌, map, Option, Some, None, Result}
+use Rattle.std.specs.Prelude.{Ok, Err, slice_index_or, nat_eq, nat_lt, nat_le, if◌then◌else◌, refl}
 use Rattle.std.proofs.Common.{sym, ◌∙◌, ap, arith}
 use Rattle.std.proofs.lemmas.List.{map-set}
 use Rattle.snap_words.specs.Shape.{Counts, IsOneOf}
@@ -22,7 +24,13 @@ use Rattle.snap_runs.proofs.Plain.{plain_at, plain_copied}
 use Rattle.snap_runs_of_m.specs.ListingM as names
 use Rattle.snap_runs_of_m.specs.ListingM.{listing_m}
 use Rattle.snap_runs_of_m.specs.Promises.{counts}
-use Rattle.snap_runs_of_m.proofs.Algorithm.{Words, Registers, plain, real, Variables, locals_of, context_of, ProgramCounter, L10, L11, L12, L13, L14, L15, L16, L17, L18, L19, L20, L21, L22, L23, L24, L25, L26, L27, L28, L29, L30, L31, L32, L33, L34, L35, L36, L37, L50, L51, L52, L53, L54, L55, L56, L57, L58, number, move, first_to, algorithm, Needs, IsLineOf, place, flip, same_words, same_at, marked, counted, all_still, third_move, limit, at_limit, borrows, back, written}
+use Rattle.snap_runs_of_m.proofs.Algorithm.{Words, Registers, plain, real, Variables, locals_of, context_of}
+use Rattle.snap_runs_of_m.proofs.Algorithm.{ProgramCounter, L10, L11, L12, L13, L14, L15, L16, L17, L18, L19, L20}
+use Rattle.snap_runs_of_m.proofs.Algorithm.{L21, L22, L23, L24, L25, L26, L27, L28, L29, L30, L31, L32, L33, L34, L35}
+use Rattle.snap_runs_of_m.proofs.Algorithm.{L36, L37, L50, L51, L52, L53, L54, L55, L56, L57, L58, number, move}
+use Rattle.snap_runs_of_m.proofs.Algorithm.{first_to, algorithm, Needs, IsLineOf, place, flip, same_words, same_at}
+use Rattle.snap_runs_of_m.proofs.Algorithm.{marked, counted, all_still, third_move, limit}
+use Rattle.snap_runs_of_m.proofs.Algorithm.{at_limit, borrows, back, written}
 use Rattle.snap_runs_of_m.proofs.Basics.{flip_bit}
 
 abbrev pub act : Op → Option ℕ → ℕ → Activity
@@ -58,13 +66,15 @@ toggle_term : (xs : Words) (k : ℕ) → (slice_index_or (map plain xs) (k - 1) 
 toggle_term xs k = ap (λ (x : Word). x.toggle) (plain_at plain refl xs (k - 1))
 
 same_is : (xs ys : Words) (k : ℕ) →
-    same_words (slice_index_or (map plain xs) (k - 1) no_word) (slice_index_or (map plain ys) (k - 1) no_word) ≡ same_at xs ys k
+    same_words (slice_index_or (map plain xs) (k - 1) no_word) (slice_index_or (map plain ys) (k - 1) no_word)
+    ≡ same_at xs ys k
 same_is xs ys k =
     ap (λ (x : Word). same_words x (slice_index_or (map plain ys) (k - 1) no_word)) (plain_at plain refl xs (k - 1))
     ∙ ap (λ (y : Word). same_words (word_at xs k) y) (plain_at plain refl ys (k - 1))
 
 first_shown : (n w : ℕ) (d : Mode) (m : Registers) (p : Variables) (o : Option ℕ) →
-    first_goes listing_m (act (op_of d) (link_of (number back) d) 32) (real m) (locals_of p) names.j (number borrows) o ≡ shown (algorithm n w) m (first_to d m p o)
+    first_goes listing_m (act (op_of d) (link_of (number back) d) 32) (real m) (locals_of p) names.j (number borrows) o
+    ≡ shown (algorithm n w) m (first_to d m p o)
 first_shown n w d m p None = refl
 first_shown n w d m p (Some k) = refl
 
@@ -76,8 +86,9 @@ with_copies p a b = record {
   views = (locals_of p).views;
 }
 
-pub lines : (n w me : ℕ) (d : Mode) (m : Registers) (p : Variables) (k : ProgramCounter) → IsLineOf w d k → Needs n w me d p k →
-    at_line (counts n w) me (op_of d) m (link_of (number back) d) (number k) p ≡ shown (algorithm n w) m (move n w me d m p k)
+pub lines : (n w me : ℕ) (d : Mode) (m : Registers) (p : Variables) (k : ProgramCounter) → IsLineOf w d k →
+    Needs n w me d p k → at_line (counts n w) me (op_of d) m (link_of (number back) d) (number k) p
+    ≡ shown (algorithm n w) m (move n w me d m p k)
 lines n w me d m p L10 s h = bind_ok _ _ _ _ (each_ok _ (λ c. 0) 1 n (λ c low high. refl)) refl
 lines n w me d m p L11 s h = refl
 lines n w me d m p L12 s h = refl
@@ -85,15 +96,18 @@ lines n w me d m p L13 s h = bind_ok _ _ _ _ (place_ok n p.j h.0) (bind_ok _ _ _
 lines n w me d m p L14 s h = bind_ok _ _ _ _ (place_ok (max n w) p.j (process_place n w p.j h)) refl
 lines n w me d m p L15 s h =
     bind_ok _ _ _ _ (place_ok n me h.1) (bind_ok _ _ _ _ (place_ok n p.j h.0)
-    (bind_ok _ _ _ _ (if_true (nat_le p.x 1) (Ok p.x) (Err NotABit) (le_true p.x 1 h.2)) (owned_ok (nat_eq me me) p.x Owner _ (same_number me))))
+    (bind_ok _ _ _ _ (if_true (nat_le p.x 1) (Ok p.x) (Err NotABit) (le_true p.x 1 h.2))
+    (owned_ok (nat_eq me me) p.x Owner _ (same_number me))))
 lines n w me d m p L16 s h = if_of (shown (algorithm n w) m) (nat_lt p.j n) _ _
 lines n w me d m p L17 s h =
     bind_ok _ _ _ _ (place_ok (max n w) p.k (word_place n w p.k h)) (bind_ok _ _ _ _ (place_ok w p.k h)
-    (ap (λ (xs : Words). Ok (Goes (real m) (with_copies p xs (map plain p.b)) (link_of (number back) d) 18)) (plain_copied plain refl p.a m.words (p.k - 1) (p.k - 1))))
+    (ap (λ (xs : Words). Ok (Goes (real m) (with_copies p xs (map plain p.b)) (link_of (number back) d) 18))
+    (plain_copied plain refl p.a m.words (p.k - 1) (p.k - 1))))
 lines n w me d m p L18 s h = if_of (shown (algorithm n w) m) (nat_lt p.k w) _ _
 lines n w me d m p L19 s h =
     bind_ok _ _ _ _ (place_ok (max n w) p.k (word_place n w p.k h)) (bind_ok _ _ _ _ (place_ok w p.k h)
-    (ap (λ (xs : Words). Ok (Goes (real m) (with_copies p (map plain p.a) xs) (link_of (number back) d) 20)) (plain_copied plain refl p.b m.words (p.k - 1) (p.k - 1))))
+    (ap (λ (xs : Words). Ok (Goes (real m) (with_copies p (map plain p.a) xs) (link_of (number back) d) 20))
+    (plain_copied plain refl p.b m.words (p.k - 1) (p.k - 1))))
 lines n w me d m p L20 s h = if_of (shown (algorithm n w) m) (nat_lt p.k w) _ _
 lines n w me d m p L21 s h = bind_ok _ _ _ _ (place_ok n p.j h.0) (bind_ok _ _ _ _ (place_ok n me h.1) refl)
 lines n w me d m p L22 s h = bind_ok _ _ _ _ (place_ok (max n w) p.j (process_place n w p.j h)) refl
@@ -103,23 +117,30 @@ lines n w me d m p L25 s h =
     bind_ok _ _ _ _
     (each_ok _ (marked p) 1 n (λ c low high.
     let i : IsOneOf (max n w) c = in_range n w c low high in
-    bind_ok _ _ _ _ (bind_ok _ _ _ _ (row_term n w me d p c names.h i) (bind_ok _ _ _ _ (row_term n w me d p c names.g i) refl)) refl))
+    bind_ok _ _ _ _
+    (bind_ok _ _ _ _ (row_term n w me d p c names.h i) (bind_ok _ _ _ _ (row_term n w me d p c names.g i) refl)) refl))
     refl
 lines n w me d m p L26 s h =
     let i : IsOneOf (max n w) p.k = word_place n w p.k h in
-    let test = same_words (slice_index_or (map plain p.a) (p.k - 1) no_word) (slice_index_or (map plain p.b) (p.k - 1) no_word) in
+    let test =
+    same_words (slice_index_or (map plain p.a) (p.k - 1) no_word) (slice_index_or (map plain p.b) (p.k - 1) no_word) in
     bind_ok _ _ test _
-    (bind_ok _ _ _ _ (bind_ok _ _ _ _ (bind_ok _ _ _ _ (place_ok (max n w) p.k i) refl) (bind_ok _ _ _ _ (bind_ok _ _ _ _ (place_ok (max n w) p.k i) refl) refl))
-    (bind_ok _ _ _ _ (bind_ok _ _ _ _ (bind_ok _ _ _ _ (place_ok (max n w) p.k i) refl) (bind_ok _ _ _ _ (bind_ok _ _ _ _ (place_ok (max n w) p.k i) refl) refl)) refl))
-    (ap (λ b. if b then shown (algorithm n w) m (To d m p L29) else shown (algorithm n w) m (To d m p L27)) (same_is p.a p.b p.k)
+    (bind_ok _ _ _ _ (bind_ok _ _ _ _ (bind_ok _ _ _ _ (place_ok (max n w) p.k i) refl)
+    (bind_ok _ _ _ _ (bind_ok _ _ _ _ (place_ok (max n w) p.k i) refl) refl))
+    (bind_ok _ _ _ _ (bind_ok _ _ _ _ (bind_ok _ _ _ _ (place_ok (max n w) p.k i) refl)
+    (bind_ok _ _ _ _ (bind_ok _ _ _ _ (place_ok (max n w) p.k i) refl) refl)) refl))
+    (ap (λ b. if b then shown (algorithm n w) m (To d m p L29) else shown (algorithm n w) m (To d m p L27))
+    (same_is p.a p.b p.k)
     ∙ if_of (shown (algorithm n w) m) (same_at p.a p.b p.k) (To d m p L29) (To d m p L27))
 lines n w me d m p L27 s h =
-    bind_ok _ _ (word_at p.b p.k).id _ (bind_ok _ _ _ _ (place_ok (max n w) p.k (word_place n w p.k h)) (ap (λ y. Ok y) (id_term p.b p.k))) refl
+    bind_ok _ _ (word_at p.b p.k).id _
+    (bind_ok _ _ _ _ (place_ok (max n w) p.k (word_place n w p.k h)) (ap (λ y. Ok y) (id_term p.b p.k))) refl
 lines n w me d m p L28 s h = bind_ok _ _ _ _ (place_ok (max n w) p.x (process_place n w p.x h)) refl
 lines n w me d m p L29 s h = if_of (shown (algorithm n w) m) (nat_lt p.k w) _ _
 lines n w me d m p L30 s h =
     bind_ok _ _ _ _
-    (each_ok _ (λ c. nat_eq (place p.d c) 0) 1 n (λ c low high. bind_ok _ _ _ _ (row_term n w me d p c names.d (in_range n w c low high)) refl))
+    (each_ok _ (λ c. nat_eq (place p.d c) 0) 1 n
+    (λ c low high. bind_ok _ _ _ _ (row_term n w me d p c names.d (in_range n w c low high)) refl))
     (if_of (shown (algorithm n w) m) (all_still n p) (To d m p L34) (To d m p L31))
 lines n w me d m p L31 s h =
     bind_ok _ _ _ _
@@ -131,7 +152,8 @@ lines n w me d m p L31 s h =
     refl
 lines n w me d m p L32 s h =
     bind_ok _ _ _ _
-    (each_ok _ (at_limit p) 1 n (λ c low high. bind_ok _ _ _ _ (row_term n w me d p c names.moved (in_range n w c low high)) refl))
+    (each_ok _ (at_limit p) 1 n
+    (λ c low high. bind_ok _ _ _ _ (row_term n w me d p c names.moved (in_range n w c low high)) refl))
     (first_shown n w d m p (third_move n p))
 lines n w me d m p L33 s h = refl
 lines n w me d m p L34 s h = refl
@@ -156,15 +178,18 @@ lines n w me d m p L55 s h = bind_ok _ _ _ _ (place_ok n me h) (owned_ok (nat_eq
 lines n w me Scanning m p L56 s h = absurd s
 lines n w me (Embedded y z) m p L56 s h = absurd s
 lines n w me (Updating y z) m p L56 s h =
-    bind_ok _ _ _ _ (place_ok (max n w) y (word_place n w y h)) (bind_ok _ _ _ _ (bind_ok _ _ _ _ (bind_ok _ _ _ _ (place_ok (max n w) y (word_place n w y h)) refl) refl) refl)
+    bind_ok _ _ _ _ (place_ok (max n w) y (word_place n w y h))
+    (bind_ok _ _ _ _ (bind_ok _ _ _ _ (bind_ok _ _ _ _ (place_ok (max n w) y (word_place n w y h)) refl) refl) refl)
 lines n w me Scanning m p L57 s h = absurd s
 lines n w me (Embedded y z) m p L57 s h = absurd s
 lines n w me (Updating y z) m p L57 s h =
     let word : Word = plain (written me (Updating y z) m p) in
     bind_ok _ _ _ _ (place_ok w y h.0)
     (bind_ok _ _ word _ (bind_ok _ _ _ _ (bind_ok _ _ _ _ (place_ok (max n w) y (word_place n w y h.0)) refl) refl)
-    (bind_ok _ _ word _ (if_true (nat_le (place p.tog y) 1 && true) (Ok word) (Err NotABit) (ap (λ b. b && true) (le_true (place p.tog y) 1 h.1)))
-    (ap (λ (xs : Words). Ok (Goes (record { words = xs; q = m.q; p = m.p; views = m.views }) (locals_of p) None 58)) (sym (map-set plain m.words (y - 1) (written me (Updating y z) m p))))))
+    (bind_ok _ _ word _ (if_true (nat_le (place p.tog y) 1 && true) (Ok word) (Err NotABit)
+    (ap (λ b. b && true) (le_true (place p.tog y) 1 h.1)))
+    (ap (λ (xs : Words). Ok (Goes (record { words = xs; q = m.q; p = m.p; views = m.views }) (locals_of p) None 58))
+    (sym (map-set plain m.words (y - 1) (written me (Updating y z) m p))))))
 lines n w me Scanning m p L58 s h = absurd s
 lines n w me (Embedded y z) m p L58 s h = absurd s
 lines n w me (Updating y z) m p L58 s h = refl

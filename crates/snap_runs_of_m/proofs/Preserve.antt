@@ -1,8 +1,9 @@
--- Every state of a run of M keeps the invariant.
+-- Each item of a run of M keeps the invariant.
 use Rattle.snap_runs.proofs.Flow.{scan_inside}
 use Rattle.snap_runs.proofs.Totals.{total_less}
 use Rattle.snap_runs.proofs.Computing.{either, lt_true, same_number, other_number}
-use Rattle.std.specs.Prelude.{◌≡◌, ◌≢◌, ℕ, suc, ◌+◌, ◌*◌, ◌<◌, ◌≤◌, Bool, true, false, length, Option, Some, None, nat_lt, if◌then◌else◌, refl}
+use Rattle.std.specs.Prelude.{◌≡◌, ◌≢◌, ℕ, suc, ◌+◌, ◌*◌, ◌<◌, ◌≤◌, Bool, true, false, length, Option, Some, None}
+use Rattle.std.specs.Prelude.{nat_lt, if◌then◌else◌, refl}
 use Rattle.std.proofs.Common.{sym, ◌∙◌, ap, subst, arith, inl, inr}
 use Rattle.std.proofs.lemmas.Bool.{cases_eq}
 use Rattle.std.proofs.lemmas.Grind.{common_steps}
@@ -15,21 +16,35 @@ use Rattle.snap_semantics.specs.declared.process.Item.{Item}
 use Rattle.snap_semantics.specs.declared.process.Item.TheVariants.{Step, Call, Crash}
 use Rattle.snap_semantics.specs.declared.process.Outcome.TheVariants.{Called, Stepped, Answered, Finished}
 use Rattle.snap_semantics.specs.Table.{call_skip, who}
-use Rattle.snap_runs.proofs.Algorithm.{Idle, At, To, Begin, Answer, Finish, New, by_move, by_step, by_admission, by_call, memory_after, typed_at, changed, happens, stepped_auxiliary, begun_auxiliary, called_auxiliary, Mode, Scanning, Embedded, Updating, op_of}
+use Rattle.snap_runs.proofs.Algorithm.{Idle, At, To, Begin, Answer, Finish, New, by_move, by_step, by_admission}
+use Rattle.snap_runs.proofs.Algorithm.{by_call, memory_after, typed_at, changed, happens, stepped_auxiliary}
+use Rattle.snap_runs.proofs.Algorithm.{begun_auxiliary, called_auxiliary, Mode, Scanning, Embedded, Updating, op_of}
 use Rattle.snap_runs.proofs.Embedding as embed
 use Rattle.snap_runs.proofs.Flow as flow
 use Rattle.snap_runs.proofs.Held.{Held}
 use Rattle.snap_runs_of_m.specs.Promises.{counts}
-use Rattle.snap_runs_of_m.proofs.Algorithm.{counter, limit, lines, Registers, restarts, Process, Control, Move, State, Variables, ProgramCounter, L10, L11, L12, L13, L14, L15, L16, L17, L18, L19, L20, L21, L22, L23, L24, L25, L26, L27, L28, L29, L30, L31, L32, L33, L34, L35, L36, L37, L50, L51, L52, L53, L54, L55, L56, L57, L58, place, bit, flip, move, first_to, return_to, embed_to, same_at, all_still, third_move, after_15, after_52, after_55, after_57, IsLineOf, IsScan, tests, writes, algorithm}
+use Rattle.snap_runs_of_m.proofs.Algorithm.{counter, limit, lines, Registers, restarts, Process, Control, Move, State}
+use Rattle.snap_runs_of_m.proofs.Algorithm.{Variables, ProgramCounter, L10, L11, L12, L13, L14, L15, L16, L17, L18}
+use Rattle.snap_runs_of_m.proofs.Algorithm.{L19, L20, L21, L22, L23, L24, L25, L26, L27, L28, L29, L30, L31, L32, L33}
+use Rattle.snap_runs_of_m.proofs.Algorithm.{L34, L35, L36, L37, L50, L51, L52, L53, L54, L55, L56, L57, L58, place}
+use Rattle.snap_runs_of_m.proofs.Algorithm.{bit, flip, move, first_to, return_to, embed_to, same_at, all_still}
+use Rattle.snap_runs_of_m.proofs.Algorithm.{third_move, after_15, after_52, after_55, after_57, IsLineOf, IsScan}
+use Rattle.snap_runs_of_m.proofs.Algorithm.{tests, writes, algorithm}
 use Rattle.snap_runs_of_m.proofs.Basics.{less_or_not}
-use Rattle.snap_runs_of_m.proofs.Control.{Keeps, BelowLimit, LongMove, long_move, MoveWell, ControlWell, Ground, move_well, called_well}
+use Rattle.snap_runs_of_m.proofs.Control.{Keeps, BelowLimit, LongMove, long_move, MoveWell}
+use Rattle.snap_runs_of_m.proofs.Control.{ControlWell, Ground, move_well, called_well}
 use Rattle.snap_runs_of_m.proofs.Flows.{flows}
 use Rattle.snap_runs_of_m.proofs.History.{words_of, Now, Since, Laws, acts_nothing, laws_next, laws_up_to}
 use Rattle.snap_runs_of_m.proofs.Collect.{events}
 use Rattle.snap_runs_of_m.proofs.Stage.{Stage, StageMove, IsQuiet, Low, Row, events_le, stage_move, stage_15}
 use Rattle.snap_runs_of_m.proofs.Count.{Count, CountMove, count_move, moves}
-use Rattle.snap_runs_of_m.proofs.Invariant.{HasWritten, ProcessInvariant, Invariant, Books, BooksAt, BooksMove, Rest, StageAt, CountAt, Untouched, untouched_same, books_move, books_scan, own_kept, inv_later, put_inv}
-use Rattle.snap_runs_of_m.proofs.Writes.{acts_15, now_15, untouched_15, asks_there, asks_here, acts_52, now_52, untouched_52, acts_55, now_55, untouched_55, acts_57, now_57, untouched_57, raised_here, raised_at_here, raised_at_elsewhere, with_at_here, with_at_elsewhere}
+use Rattle.snap_runs_of_m.proofs.Invariant.{HasWritten, ProcessInvariant, Invariant, Books, BooksAt, BooksMove, Rest}
+use Rattle.snap_runs_of_m.proofs.Invariant.{StageAt, CountAt, Untouched, untouched_same, books_move, books_scan}
+use Rattle.snap_runs_of_m.proofs.Invariant.{own_kept, inv_later, put_inv}
+use Rattle.snap_runs_of_m.proofs.Writes.{acts_15, now_15, untouched_15, asks_there, asks_here, acts_52, now_52}
+use Rattle.snap_runs_of_m.proofs.Writes.{untouched_52, acts_55, now_55, untouched_55, acts_57, now_57, untouched_57}
+use Rattle.snap_runs_of_m.proofs.Writes.{raised_here, raised_at_here, raised_at_elsewhere}
+use Rattle.snap_runs_of_m.proofs.Writes.{with_at_here, with_at_elsewhere}
 
 abbrev pub KeepsMemory : Registers → Move → Type 0
 KeepsMemory m v = memory_after m v ≡ m
@@ -49,7 +64,8 @@ kept_first d m p None = refl
 kept_first d m p (Some k) = refl
 
 -- a quiet line keeps the registers
-pub kept : (n w me : ℕ) (d : Mode) (m : Registers) (p : Variables) (k : ProgramCounter) → IsQuiet k → KeepsMemory m (move n w me d m p k)
+pub kept : (n w me : ℕ) (d : Mode) (m : Registers) (p : Variables) (k : ProgramCounter) → IsQuiet k →
+    KeepsMemory m (move n w me d m p k)
 kept n w me d m p L15 q = absurd q
 kept n w me d m p L16 q = either (KeepsMemory m) (nat_lt p.j n) _ _ (λ t. refl) (λ t. refl)
 kept n w me d m p L18 q = either (KeepsMemory m) (nat_lt p.k w) _ _ (λ t. refl) (λ t. refl)
@@ -82,8 +98,8 @@ round_to true round t h = omega arith
 round_to false round t h = h
 
 -- No process sees itself move.
-unmoved : (n w i : ℕ) (history : ℕ → Registers) (t since round : ℕ) (p : Variables) → IsOneOf n i → Since n w history round t →
-    Low n i history since round p.moved → BelowLimit n p →
+unmoved : (n w i : ℕ) (history : ℕ → Registers) (t since round : ℕ) (p : Variables) → IsOneOf n i →
+    Since n w history round t → Low n i history since round p.moved → BelowLimit n p →
     events (history since) i i ≡ events (history t) i i → moves n p + 2 ≤ 2 * n
 unmoved n w i history t since round p one s low small self =
     let less : moves n p + 2 ≤ n * 2 =
@@ -93,34 +109,36 @@ unmoved n w i history t since round p one s low small self =
     let z : place p.moved i ≡ 0 = omega arith in z)
     (λ k e. let below : place p.moved k < limit = small k e in omega arith) in omega arith
 
-pub sharp_at : (n w i : ℕ) (history : ℕ → Registers) (t since round : ℕ) (d : Mode) (p : Variables) (k : ProgramCounter) → IsOneOf n i →
-    Since n w history round t → IsLineOf w d k → Keeps n w d p k →
-    Books n w i (history since) (history t) d p k → Stage n w i history t since round p k → k ≡ L30 → moves n p + 2 ≤ 2 * n
+pub sharp_at : (n w i : ℕ) (history : ℕ → Registers) (t since round : ℕ) (d : Mode) (p : Variables)
+    (k : ProgramCounter) → IsOneOf n i → Since n w history round t → IsLineOf w d k → Keeps n w d p k →
+    Books n w i (history since) (history t) d p k → Stage n w i history t since round p k →
+    k ≡ L30 → moves n p + 2 ≤ 2 * n
 sharp_at n w i history t since round d p k one s line keeps books stage e =
     let keeps30 : Keeps n w d p L30 = subst (Keeps n w d p) e keeps in
     unmoved n w i history t since round p one s (subst (Stage n w i history t since round p) e stage).0 keeps30.2
     (books.self (scan_inside (IsOneOf w) d (subst (IsLineOf w d) e line)))
 
-pub bits_at : (n w i : ℕ) (history : ℕ → Registers) (t since round : ℕ) (p : Variables) (k : ProgramCounter) → Stage n w i history t since round p k →
-    k ≡ L31 →
-    (c : ℕ) → IsOneOf n c → place p.d c ≤ 1
+pub bits_at : (n w i : ℕ) (history : ℕ → Registers) (t since round : ℕ) (p : Variables) (k : ProgramCounter) →
+    Stage n w i history t since round p k → k ≡ L31 → (c : ℕ) → IsOneOf n c → place p.d c ≤ 1
 bits_at n w i history t since round p k stage e =
     let at31 : Stage n w i history t since round p L31 = subst (Stage n w i history t since round p) e stage in
     let row : Row n w i history round t p.g p.h p.d p.a p.b (w + 1) = at31.2 in row.bits
 
 -- what the move v of process i at line k owes; t is the item's number
-record Owes (n w t : ℕ) (history : ℕ → Registers) (q : Process) (i : ℕ) (d : Mode) (k : ProgramCounter) (v : Move) : Type 0 where
+record Owes (n w t : ℕ) (history : ℕ → Registers) (q : Process) (i : ℕ) (d : Mode)
+    (k : ProgramCounter) (v : Move) : Type 0 where
   pub well : MoveWell (op_of d) n w v
   pub long : LongMove n w v
   pub stage : StageMove n w i history t q.auxiliary.since (if restarts k then t else q.auxiliary.round) v
-  pub counts_are : CountMove n w (suc q.auxiliary.own) (q.auxiliary.collects + tests k) (if restarts k then 0 else q.auxiliary.tested + tests k) v
+  pub counts_are : CountMove n w (suc q.auxiliary.own) (q.auxiliary.collects + tests k)
+      (if restarts k then 0 else q.auxiliary.tested + tests k) v
   pub wrote : flow.CountsWrites lines (q.auxiliary.wrote + writes k) v
   pub books : BooksMove n w i (history q.auxiliary.since) (history t) q.variables.tog v
 
 -- the process whose operation has ended
-idle_own : (n w t : ℕ) (history : ℕ → Registers) (i : ℕ) (q : Process) (k : ProgramCounter) → ProcessInvariant n w t history i q →
-    Rest n w i (history t) q.variables.tog →
-    ProcessInvariant n w t history i (record { control = Idle; variables = q.variables; auxiliary = stepped_auxiliary (algorithm n w) k t q.auxiliary })
+idle_own : (n w t : ℕ) (history : ℕ → Registers) (i : ℕ) (q : Process) (k : ProgramCounter) →
+    ProcessInvariant n w t history i q → Rest n w i (history t) q.variables.tog → ProcessInvariant n w t history i
+    (record { control = Idle; variables = q.variables; auxiliary = stepped_auxiliary (algorithm n w) k t q.auxiliary })
 idle_own n w t history i q k own rest = record {
   well = tt;
   long = own.long;
@@ -133,13 +151,18 @@ idle_own n w t history i q k own rest = record {
 }
 
 -- a line that writes no register; `own` is what held of the process when time had passed
-quiet_put : (n w t : ℕ) (history : ℕ → Registers) (x : State) (i : ℕ) (d : Mode) (k : ProgramCounter) (v : Move) → length x.processes ≡ n →
-    IsOneOf n i →
-    ((u : ℕ) → u ≤ suc t → Laws n w history u) → history (suc t) ≡ history t → Invariant n w t history x → ProcessInvariant n w (suc t) history i (at n w x i) →
-    Owes n w (suc t) history (at n w x i) i d k v → Invariant n w (suc t) history (changed x i (by_move (algorithm n w) (suc t) x.memory (at n w x i) k v))
+quiet_put : (n w t : ℕ) (history : ℕ → Registers) (x : State) (i : ℕ) (d : Mode) (k : ProgramCounter) (v : Move) →
+    length x.processes ≡ n → IsOneOf n i → ((u : ℕ) → u ≤ suc t → Laws n w history u) → history (suc t) ≡ history t →
+    Invariant n w t history x → ProcessInvariant n w (suc t) history i (at n w x i) →
+    Owes n w (suc t) history (at n w x i) i d k v →
+    Invariant n w (suc t) history (changed x i (by_move (algorithm n w) (suc t) x.memory (at n w x i) k v))
 quiet_put n w t history x i d k (To d' m' p k') count one laws same h own owes =
     let q = at n w x i in
-    put_inv n w t history x i m' (record { control = At d' k'; variables = p; auxiliary = stepped_auxiliary (algorithm n w) k (suc t) q.auxiliary }) Stepped count one laws
+    put_inv n w t history x i m' (record {
+      control = At d' k';
+      variables = p;
+      auxiliary = stepped_auxiliary (algorithm n w) k (suc t) q.auxiliary;
+    }) Stepped count one laws
     (λ j o other. untouched_same n w j (history t) (history (suc t)) same) h
     (record {
       well = (owes.well.0, owes.well.1);
@@ -153,7 +176,11 @@ quiet_put n w t history x i d k (To d' m' p k') count one laws same h own owes =
     })
 quiet_put n w t history x i d k (Begin d' p k') count one laws same h own owes =
     let q = at n w x i in
-    put_inv n w t history x i x.memory (record { control = At d' k'; variables = p; auxiliary = begun_auxiliary (algorithm n w) k (suc t) q.auxiliary }) Stepped count one laws
+    put_inv n w t history x i x.memory (record {
+      control = At d' k';
+      variables = p;
+      auxiliary = begun_auxiliary (algorithm n w) k (suc t) q.auxiliary;
+    }) Stepped count one laws
     (λ j o other. untouched_same n w j (history t) (history (suc t)) same) h
     (record {
       well = (owes.well.0, owes.well.1);
@@ -167,22 +194,32 @@ quiet_put n w t history x i d k (Begin d' p k') count one laws same h own owes =
     })
 quiet_put n w t history x i d k (Answer v) count one laws same h own owes =
     let q = at n w x i in
-    put_inv n w t history x i x.memory (record { control = Idle; variables = q.variables; auxiliary = stepped_auxiliary (algorithm n w) k (suc t) q.auxiliary }) (Answered v) count one laws
-    (λ j o other. untouched_same n w j (history t) (history (suc t)) same) h (idle_own n w (suc t) history i q k own owes.books)
+    put_inv n w t history x i x.memory (record {
+      control = Idle;
+      variables = q.variables;
+      auxiliary = stepped_auxiliary (algorithm n w) k (suc t) q.auxiliary;
+    }) (Answered v) count one laws
+    (λ j o other. untouched_same n w j (history t) (history (suc t)) same) h
+    (idle_own n w (suc t) history i q k own owes.books)
 quiet_put n w t history x i d k Finish count one laws same h own owes =
     let q = at n w x i in
-    put_inv n w t history x i x.memory (record { control = Idle; variables = q.variables; auxiliary = stepped_auxiliary (algorithm n w) k (suc t) q.auxiliary }) Finished count one laws
-    (λ j o other. untouched_same n w j (history t) (history (suc t)) same) h (idle_own n w (suc t) history i q k own owes.books)
+    put_inv n w t history x i x.memory (record {
+      control = Idle;
+      variables = q.variables;
+      auxiliary = stepped_auxiliary (algorithm n w) k (suc t) q.auxiliary;
+    }) Finished count one laws
+    (λ j o other. untouched_same n w j (history t) (history (suc t)) same) h
+    (idle_own n w (suc t) history i q k own owes.books)
 
 -- the laws when nothing was written
-laws_same : (n w t : ℕ) (history : ℕ → Registers) → history (suc t) ≡ history t → ((u : ℕ) → u ≤ t → Laws n w history u) → (u : ℕ) → u ≤ suc t →
-    Laws n w history u
+laws_same : (n w t : ℕ) (history : ℕ → Registers) → history (suc t) ≡ history t →
+    ((u : ℕ) → u ≤ t → Laws n w history u) → (u : ℕ) → u ≤ suc t → Laws n w history u
 laws_same n w t history same laws =
     laws_up_to n w history t laws
     (laws_next n w history t (history t) same (acts_nothing n w history t (history t)) laws (laws t (omega arith)).now)
 
-ground : (n w t : ℕ) (history : ℕ → Registers) (i : ℕ) (m : Registers) (q : Process) → IsOneOf n i → 0 < w → Now n w (history t) → history t ≡ m →
-    ProcessInvariant n w t history i q → Ground n w i m q.variables
+ground : (n w t : ℕ) (history : ℕ → Registers) (i : ℕ) (m : Registers) (q : Process) → IsOneOf n i → 0 < w →
+    Now n w (history t) → history t ≡ m → ProcessInvariant n w t history i q → Ground n w i m q.variables
 ground n w t history i m q one some now is own = record {
   one = one;
   some = some;
@@ -190,8 +227,8 @@ ground n w t history i m q one some now is own = record {
   long = own.long;
 }
 
-quiet_inv : (n w t : ℕ) (history : ℕ → Registers) (x : State) (i : ℕ) (d : Mode) (k : ProgramCounter) → IsQuiet k → 0 < w → length x.processes ≡ n →
-    IsOneOf n i → history t ≡ x.memory →
+quiet_inv : (n w t : ℕ) (history : ℕ → Registers) (x : State) (i : ℕ) (d : Mode) (k : ProgramCounter) →
+    IsQuiet k → 0 < w → length x.processes ≡ n → IsOneOf n i → history t ≡ x.memory →
     Invariant n w t history x → (at n w x i).control ≡ At d k →
     history (suc t) ≡ (changed x i (by_step (algorithm n w) (suc t) x.memory i (at n w x i) (At d k))).memory →
     Invariant n w (suc t) history (changed x i (by_step (algorithm n w) (suc t) x.memory i (at n w x i) (At d k)))
@@ -199,15 +236,19 @@ quiet_inv n w t history x i d k quiet some count one now h is next =
     let q = at n w x i in
     let p = q.variables in
     let m = x.memory in
-    let stays : history (suc t) ≡ m = next ∙ embed.move_memory (algorithm n w) (suc t) x i k (move n w i d m p k) ∙ kept n w i d m p k quiet in
+    let stays : history (suc t) ≡ m =
+    next ∙ embed.move_memory (algorithm n w) (suc t) x i k (move n w i d m p k) ∙ kept n w i d m p k quiet in
     let same : history (suc t) ≡ history t = stays ∙ sym now in
     let laws : (u : ℕ) → u ≤ suc t → Laws n w history u = laws_same n w t history same h.laws in
     let here : Laws n w history (suc t) = laws (suc t) (omega arith) in
     let own : ProcessInvariant n w (suc t) history i q =
-    own_kept n w t history i q one (here.since t (omega arith)) (untouched_same n w i (history t) (history (suc t)) same) (h.each i one) in
+    own_kept n w t history i q one (here.since t (omega arith))
+    (untouched_same n w i (history t) (history (suc t)) same) (h.each i one) in
     let well : ControlWell n w p (At d k) = subst (ControlWell n w p) is own.well in
-    let stage : Stage n w i history (suc t) q.auxiliary.since q.auxiliary.round p k = subst (StageAt n w i history (suc t) q.auxiliary.since q.auxiliary.round p) is own.stage in
-    let books : Books n w i (history q.auxiliary.since) (history (suc t)) d p k = subst (BooksAt n w i (history q.auxiliary.since) (history (suc t)) p) is own.books in
+    let stage : Stage n w i history (suc t) q.auxiliary.since q.auxiliary.round p k =
+    subst (StageAt n w i history (suc t) q.auxiliary.since q.auxiliary.round p) is own.stage in
+    let books : Books n w i (history q.auxiliary.since) (history (suc t)) d p k =
+    subst (BooksAt n w i (history q.auxiliary.since) (history (suc t)) p) is own.books in
     quiet_put n w t history x i d k (move n w i d m p k) count one laws same h own
     (record {
       well = move_well n w i d m p k (ground n w (suc t) history i m q one some here.now stays own) well.0 well.1;
@@ -226,27 +267,36 @@ quiet_inv n w t history x i d k quiet some count one now h is next =
             quiet = quiet;
           })
           stage;
-      counts_are = count_move n w i d m p k q.auxiliary.own q.auxiliary.collects (q.auxiliary.collects + tests k) q.auxiliary.tested
+      counts_are =
+          count_move n w i d m p k q.auxiliary.own q.auxiliary.collects
+          (q.auxiliary.collects + tests k) q.auxiliary.tested
           (if restarts k then 0 else q.auxiliary.tested + tests k) (omega arith) refl refl well.1
-          (sharp_at n w i history (suc t) q.auxiliary.since q.auxiliary.round d p k one (here.since q.auxiliary.round own.round_le) well.0 well.1 books stage)
+          (sharp_at n w i history (suc t) q.auxiliary.since q.auxiliary.round d p k one
+          (here.since q.auxiliary.round own.round_le) well.0 well.1 books stage)
           (bits_at n w i history (suc t) q.auxiliary.since q.auxiliary.round p k stage)
           (subst (CountAt n w p q.auxiliary.own q.auxiliary.collects q.auxiliary.tested) is own.counts);
-      wrote = flow.counts_writes lines (algorithm n w) d m p k (move n w i d m p k) q.auxiliary.wrote (flows n w i d m p k well.0)
+      wrote =
+          flow.counts_writes lines (algorithm n w) d m p k
+          (move n w i d m p k) q.auxiliary.wrote (flows n w i d m p k well.0)
           (subst (λ (y : Control). HasWritten y q.auxiliary.wrote) is own.wrote);
       books = books_move n w i (history q.auxiliary.since) (history (suc t)) m d p k well.0 quiet own.long books;
     })
 
 -- a line that writes registers and goes on
-written_put : (n w t : ℕ) (history : ℕ → Registers) (x : State) (i : ℕ) (d : Mode) (k k' : ProgramCounter) (m' : Registers) → length x.processes ≡ n →
-    IsOneOf n i → restarts k ≡ false →
-    ((u : ℕ) → u ≤ suc t → Laws n w history u) → ((j : ℕ) → IsOneOf n j → j ≢ i → Untouched n w j (history t) (history (suc t))) →
-    Invariant n w t history x →
-    IsLineOf w d k' → Keeps n w d (at n w x i).variables k' →
+written_put : (n w t : ℕ) (history : ℕ → Registers) (x : State) (i : ℕ) (d : Mode)
+    (k k' : ProgramCounter) (m' : Registers) → length x.processes ≡ n →
+    IsOneOf n i → restarts k ≡ false → ((u : ℕ) → u ≤ suc t → Laws n w history u) →
+    ((j : ℕ) → IsOneOf n j → j ≢ i → Untouched n w j (history t) (history (suc t))) →
+    Invariant n w t history x → IsLineOf w d k' → Keeps n w d (at n w x i).variables k' →
     Stage n w i history (suc t) (at n w x i).auxiliary.since (at n w x i).auxiliary.round (at n w x i).variables k' →
-    Count n w (at n w x i).variables (suc (at n w x i).auxiliary.own) ((at n w x i).auxiliary.collects + tests k) ((at n w x i).auxiliary.tested + tests k) k' →
-    HasWritten (At d k') ((at n w x i).auxiliary.wrote + writes k) →
+    Count n w (at n w x i).variables (suc (at n w x i).auxiliary.own) ((at n w x i).auxiliary.collects + tests k)
+    ((at n w x i).auxiliary.tested + tests k) k' → HasWritten (At d k') ((at n w x i).auxiliary.wrote + writes k) →
     Books n w i (history (at n w x i).auxiliary.since) (history (suc t)) d (at n w x i).variables k' →
-    Invariant n w (suc t) history (changed x i (New m' (record { control = At d k'; variables = (at n w x i).variables; auxiliary = stepped_auxiliary (algorithm n w) k (suc t) (at n w x i).auxiliary }) Stepped))
+    Invariant n w (suc t) history (changed x i (New m' (record {
+      control = At d k';
+      variables = (at n w x i).variables;
+      auxiliary = stepped_auxiliary (algorithm n w) k (suc t) (at n w x i).auxiliary;
+    }) Stepped))
 written_put n w t history x i d k k' m' count one again laws untouched h line keeps stage counts_are wrote books =
     let q = at n w x i in
     let own : ProcessInvariant n w t history i q = h.each i one in
@@ -287,9 +337,9 @@ books_15 n w i base m d p s h =
       self = next.self;
     }
 
-line15_inv : (n w t : ℕ) (history : ℕ → Registers) (x : State) (i : ℕ) (d : Mode) → 0 < w → length x.processes ≡ n → IsOneOf n i →
-    history t ≡ x.memory →
-    Invariant n w t history x → (at n w x i).control ≡ At d L15 → history (suc t) ≡ after_15 i x.memory (at n w x i).variables →
+line15_inv : (n w t : ℕ) (history : ℕ → Registers) (x : State) (i : ℕ) (d : Mode) → 0 < w →
+    length x.processes ≡ n → IsOneOf n i → history t ≡ x.memory → Invariant n w t history x →
+    (at n w x i).control ≡ At d L15 → history (suc t) ≡ after_15 i x.memory (at n w x i).variables →
     Invariant n w (suc t) history (changed x i (by_step (algorithm n w) (suc t) x.memory i (at n w x i) (At d L15)))
 line15_inv n w t history x i d some count one now h is next =
     let q = at n w x i in
@@ -297,23 +347,31 @@ line15_inv n w t history x i d some count one now h is next =
     let own : ProcessInvariant n w t history i q = h.each i one in
     let well : ControlWell n w p (At d L15) = subst (ControlWell n w p) is own.well in
     let inside : IsOneOf n p.j = well.1.0 in
-    let stage : Stage n w i history t q.auxiliary.since q.auxiliary.round p L15 = subst (StageAt n w i history t q.auxiliary.since q.auxiliary.round p) is own.stage in
-    let books : Books n w i (history q.auxiliary.since) (history t) d p L15 = subst (BooksAt n w i (history q.auxiliary.since) (history t) p) is own.books in
+    let stage : Stage n w i history t q.auxiliary.since q.auxiliary.round p L15 =
+    subst (StageAt n w i history t q.auxiliary.since q.auxiliary.round p) is own.stage in
+    let books : Books n w i (history q.auxiliary.since) (history t) d p L15 =
+    subst (BooksAt n w i (history q.auxiliary.since) (history t) p) is own.books in
     let becomes : history (suc t) ≡ after_15 i (history t) p = next ∙ ap (λ m. after_15 i m p) (sym now) in
     let back : after_15 i (history t) p ≡ history (suc t) = sym becomes in
     let old : Now n w (history t) = (h.laws t (omega arith)).now in
-    let laws = laws_up_to n w history t h.laws (laws_next n w history t (after_15 i (history t) p) becomes (acts_15 n w i history t (history t) p) h.laws (now_15 n w i (history t) p one old)) in
+    let laws =
+    laws_up_to n w history t h.laws (laws_next n w history t (after_15 i (history t) p) becomes
+    (acts_15 n w i history t (history t) p) h.laws (now_15 n w i (history t) p one old)) in
     written_put n w t history x i d L15 L16 (after_15 i x.memory p) count one refl laws
     (λ j o other. subst (Untouched n w j (history t)) back (untouched_15 n w i j (history t) p one o other)) h well.0
     (inside, well.1.1, well.1.2)
     (stage_15 n w i history t q.auxiliary.since q.auxiliary.round p inside
     (λ c o other. ap (λ (m : Registers). bit m.q i c) becomes ∙ asks_there n w i c (history t) p one inside old o other)
     (ap (λ (m : Registers). bit m.q i p.j) becomes ∙ asks_here n w i (history t) p one inside old) stage)
-    (count_move n w i d x.memory p L15 q.auxiliary.own q.auxiliary.collects (q.auxiliary.collects + 0) q.auxiliary.tested (q.auxiliary.tested + 0) (omega arith) refl refl well.1
-    (λ e. absurd (cc)) (λ e. absurd (cc)) (subst (CountAt n w p q.auxiliary.own q.auxiliary.collects q.auxiliary.tested) is own.counts))
-    (flow.counts_writes lines (algorithm n w) d x.memory p L15 (move n w i d x.memory p L15) q.auxiliary.wrote (flows n w i d x.memory p L15 well.0)
+    (count_move n w i d x.memory p L15 q.auxiliary.own q.auxiliary.collects
+    (q.auxiliary.collects + 0) q.auxiliary.tested (q.auxiliary.tested + 0) (omega arith) refl refl well.1
+    (λ e. absurd (cc)) (λ e. absurd (cc))
+    (subst (CountAt n w p q.auxiliary.own q.auxiliary.collects q.auxiliary.tested) is own.counts))
+    (flow.counts_writes lines (algorithm n w) d x.memory p L15 (move n w i d x.memory p L15) q.auxiliary.wrote
+    (flows n w i d x.memory p L15 well.0)
     (subst (λ (y : Control). HasWritten y q.auxiliary.wrote) is own.wrote))
-    (subst (λ m. Books n w i (history q.auxiliary.since) m d p L16) back (books_15 n w i (history q.auxiliary.since) (history t) d p well.0 books))
+    (subst (λ m. Books n w i (history q.auxiliary.since) m d p L16) back
+    (books_15 n w i (history q.auxiliary.since) (history t) d p well.0 books))
 
 -- line 52 answers one more process
 more_or_same : (c j : ℕ) → c ≢ j → nat_lt c (j + 1) ≡ nat_lt c j
@@ -329,24 +387,29 @@ not_self : (x : ℕ) → nat_lt x x ≡ false
 not_self x = grind (arith, common_steps)
 
 -- before line 52 the process has not yet answered process j
-not_yet : (n w i y z : ℕ) (base m : Registers) (p : Variables) → IsOneOf n p.j → Books n w i base m (Updating y z) p L52 →
-    m.answers i p.j ≡ m.writes i
+not_yet : (n w i y z : ℕ) (base m : Registers) (p : Variables) → IsOneOf n p.j →
+    Books n w i base m (Updating y z) p L52 → m.answers i p.j ≡ m.writes i
 not_yet n w i y z base m p inside h =
     let old = h.settled in
     let e : m.answers i p.j ≡ m.writes i + (if nat_lt p.j p.j then 1 else 0) = old.answers_are p.j inside in
-    let f : m.writes i + (if nat_lt p.j p.j then 1 else 0) ≡ m.writes i + 0 = ap (λ b. m.writes i + (if b then 1 else 0)) (not_self p.j) in omega arith
+    let f : m.writes i + (if nat_lt p.j p.j then 1 else 0) ≡ m.writes i + 0 =
+    ap (λ b. m.writes i + (if b then 1 else 0)) (not_self p.j) in
+    omega arith
 
-books_52 : (n w i y z : ℕ) (base m : Registers) (p : Variables) → IsOneOf n p.j → Books n w i base m (Updating y z) p L52 →
-    Books n w i base (after_52 i m p) (Updating y z) p L53
+books_52 : (n w i y z : ℕ) (base m : Registers) (p : Variables) → IsOneOf n p.j →
+    Books n w i base m (Updating y z) p L52 → Books n w i base (after_52 i m p) (Updating y z) p L53
 books_52 n w i y z base m p inside h =
     let old = h.settled in
     record {
       settled = record {
         answers_are = λ c o. elim (cases_eq c p.j) [
-          | inl same ↦ subst (λ v. (after_52 i m p).answers i v ≡ m.writes i + (if nat_lt v (p.j + 1) then 1 else 0)) (sym same)
+          | inl same ↦
+              subst (λ v. (after_52 i m p).answers i v ≡ m.writes i + (if nat_lt v (p.j + 1) then 1 else 0)) (sym same)
               (raised_at_here m.answers i p.j ∙ ap (λ v. v + 1) (not_yet n w i y z base m p inside h)
               ∙ ap (λ b. m.writes i + (if b then 1 else 0)) (sym (lt_true p.j (p.j + 1) (omega arith))))
-          | inr other ↦ raised_at_elsewhere m.answers i p.j i c other ∙ old.answers_are c o ∙ ap (λ b. m.writes i + (if b then 1 else 0)) (sym (more_or_same c p.j other))
+          | inr other ↦
+              raised_at_elsewhere m.answers i p.j i c other ∙ old.answers_are c o
+              ∙ ap (λ b. m.writes i + (if b then 1 else 0)) (sym (more_or_same c p.j other))
         ];
         puts_are = old.puts_are;
         toggles_are = old.toggles_are;
@@ -355,26 +418,33 @@ books_52 n w i y z base m p inside h =
       self = λ inside. absurd inside;
     }
 
-line52_inv : (n w t : ℕ) (history : ℕ → Registers) (x : State) (i y z : ℕ) → 0 < w → length x.processes ≡ n → IsOneOf n i → history t ≡ x.memory →
-    Invariant n w t history x → (at n w x i).control ≡ At (Updating y z) L52 → history (suc t) ≡ after_52 i x.memory (at n w x i).variables →
-    Invariant n w (suc t) history (changed x i (by_step (algorithm n w) (suc t) x.memory i (at n w x i) (At (Updating y z) L52)))
+line52_inv : (n w t : ℕ) (history : ℕ → Registers) (x : State) (i y z : ℕ) → 0 < w → length x.processes ≡ n →
+    IsOneOf n i → history t ≡ x.memory → Invariant n w t history x → (at n w x i).control ≡ At (Updating y z) L52 →
+    history (suc t) ≡ after_52 i x.memory (at n w x i).variables → Invariant n w (suc t) history
+    (changed x i (by_step (algorithm n w) (suc t) x.memory i (at n w x i) (At (Updating y z) L52)))
 line52_inv n w t history x i y z some count one now h is next =
     let q = at n w x i in
     let p = q.variables in
     let own : ProcessInvariant n w t history i q = h.each i one in
     let well : ControlWell n w p (At (Updating y z) L52) = subst (ControlWell n w p) is own.well in
     let inside : IsOneOf n p.j = well.1 in
-    let stage : Stage n w i history t q.auxiliary.since q.auxiliary.round p L52 = subst (StageAt n w i history t q.auxiliary.since q.auxiliary.round p) is own.stage in
-    let books : Books n w i (history q.auxiliary.since) (history t) (Updating y z) p L52 = subst (BooksAt n w i (history q.auxiliary.since) (history t) p) is own.books in
+    let stage : Stage n w i history t q.auxiliary.since q.auxiliary.round p L52 =
+    subst (StageAt n w i history t q.auxiliary.since q.auxiliary.round p) is own.stage in
+    let books : Books n w i (history q.auxiliary.since) (history t) (Updating y z) p L52 =
+    subst (BooksAt n w i (history q.auxiliary.since) (history t) p) is own.books in
     let becomes : history (suc t) ≡ after_52 i (history t) p = next ∙ ap (λ m. after_52 i m p) (sym now) in
     let back : after_52 i (history t) p ≡ history (suc t) = sym becomes in
     let old : Now n w (history t) = (h.laws t (omega arith)).now in
-    let first : (history t).answers i p.j ≡ (history t).writes i = not_yet n w i y z (history q.auxiliary.since) (history t) p inside books in
+    let first : (history t).answers i p.j ≡ (history t).writes i =
+    not_yet n w i y z (history q.auxiliary.since) (history t) p inside books in
     let laws = laws_up_to n w history t h.laws (laws_next n w history t (after_52 i (history t) p) becomes
-    (acts_52 n w i history t p one inside old stage first) h.laws (now_52 n w i history t p one inside old stage first)) in
+    (acts_52 n w i history t p one inside old stage first) h.laws
+    (now_52 n w i history t p one inside old stage first)) in
     written_put n w t history x i (Updating y z) L52 L53 (after_52 i x.memory p) count one refl laws
-    (λ j o other. subst (Untouched n w j (history t)) back (untouched_52 n w i j (history t) p other)) h well.0 well.1 tt tt
-    (flow.counts_writes lines (algorithm n w) (Updating y z) x.memory p L52 (move n w i (Updating y z) x.memory p L52) q.auxiliary.wrote (flows n w i (Updating y z) x.memory p L52 well.0)
+    (λ j o other. subst (Untouched n w j (history t)) back (untouched_52 n w i j (history t) p other)) h
+    well.0 well.1 tt tt
+    (flow.counts_writes lines (algorithm n w) (Updating y z) x.memory p L52
+    (move n w i (Updating y z) x.memory p L52) q.auxiliary.wrote (flows n w i (Updating y z) x.memory p L52 well.0)
     (subst (λ (y : Control). HasWritten y q.auxiliary.wrote) is own.wrote))
     (subst (λ m. Books n w i (history q.auxiliary.since) m (Updating y z) p L53) back
     (books_52 n w i y z (history q.auxiliary.since) (history t) p inside books))
@@ -387,34 +457,44 @@ books_55 n w i y z base m p h =
     record {
       settled = record {
         answers_are = old.answers_are;
-        puts_are = (let e : m.puts i ≡ m.writes i + 0 = old.puts_are in raised_here m.puts i ∙ (let f : m.puts i + 1 ≡ m.writes i + 1 = omega arith in f));
+        puts_are =
+            (let e : m.puts i ≡ m.writes i + 0 = old.puts_are in
+            raised_here m.puts i ∙ (let f : m.puts i + 1 ≡ m.writes i + 1 = omega arith in f));
         toggles_are = old.toggles_are;
       };
       made = λ making. absurd making;
       self = λ inside. absurd inside;
     }
 
-line55_inv : (n w t : ℕ) (history : ℕ → Registers) (x : State) (i y z : ℕ) → 0 < w → length x.processes ≡ n → IsOneOf n i → history t ≡ x.memory →
-    Invariant n w t history x → (at n w x i).control ≡ At (Updating y z) L55 → history (suc t) ≡ after_55 i x.memory (at n w x i).variables →
-    Invariant n w (suc t) history (changed x i (by_step (algorithm n w) (suc t) x.memory i (at n w x i) (At (Updating y z) L55)))
+line55_inv : (n w t : ℕ) (history : ℕ → Registers) (x : State) (i y z : ℕ) → 0 < w → length x.processes ≡ n →
+    IsOneOf n i → history t ≡ x.memory → Invariant n w t history x → (at n w x i).control ≡ At (Updating y z) L55 →
+    history (suc t) ≡ after_55 i x.memory (at n w x i).variables → Invariant n w (suc t) history
+    (changed x i (by_step (algorithm n w) (suc t) x.memory i (at n w x i) (At (Updating y z) L55)))
 line55_inv n w t history x i y z some count one now h is next =
     let q = at n w x i in
     let p = q.variables in
     let own : ProcessInvariant n w t history i q = h.each i one in
     let well : ControlWell n w p (At (Updating y z) L55) = subst (ControlWell n w p) is own.well in
-    let stage : Held (words_of history) t q.auxiliary.since p.s = subst (StageAt n w i history t q.auxiliary.since q.auxiliary.round p) is own.stage in
-    let books : Books n w i (history q.auxiliary.since) (history t) (Updating y z) p L55 = subst (BooksAt n w i (history q.auxiliary.since) (history t) p) is own.books in
+    let stage : Held (words_of history) t q.auxiliary.since p.s =
+    subst (StageAt n w i history t q.auxiliary.since q.auxiliary.round p) is own.stage in
+    let books : Books n w i (history q.auxiliary.since) (history t) (Updating y z) p L55 =
+    subst (BooksAt n w i (history q.auxiliary.since) (history t) p) is own.books in
     let becomes : history (suc t) ≡ after_55 i (history t) p = next ∙ ap (λ m. after_55 i m p) (sym now) in
     let back : after_55 i (history t) p ≡ history (suc t) = sym becomes in
     let settled = books.settled in
-    let before : q.auxiliary.since ≤ t = (let a : q.auxiliary.since ≤ q.auxiliary.round = own.opened in let b : q.auxiliary.round ≤ t = own.round_le in omega arith) in
-    let puts : (history t).puts i ≡ (history t).writes i = (let e : (history t).puts i ≡ (history t).writes i + 0 = settled.puts_are in omega arith) in
+    let before : q.auxiliary.since ≤ t =
+    (let a : q.auxiliary.since ≤ q.auxiliary.round =
+    own.opened in let b : q.auxiliary.round ≤ t = own.round_le in omega arith) in
+    let puts : (history t).puts i ≡ (history t).writes i =
+    (let e : (history t).puts i ≡ (history t).writes i + 0 = settled.puts_are in omega arith) in
     let laws = laws_up_to n w history t h.laws (laws_next n w history t (after_55 i (history t) p) becomes
-    (acts_55 n w i history t q.auxiliary.since p one h.laws stage settled.answers_are puts (books.made tt) before) h.laws
+    (acts_55 n w i history t q.auxiliary.since p one h.laws stage settled.answers_are puts (books.made tt) before)
+    h.laws
     (now_55 n w i history t q.auxiliary.since p one h.laws stage settled.answers_are puts (books.made tt) before)) in
     written_put n w t history x i (Updating y z) L55 L56 (after_55 i x.memory p) count one refl laws
     (λ j o other. subst (Untouched n w j (history t)) back (untouched_55 n w i j (history t) p other)) h well.0 tt tt tt
-    (flow.counts_writes lines (algorithm n w) (Updating y z) x.memory p L55 (move n w i (Updating y z) x.memory p L55) q.auxiliary.wrote (flows n w i (Updating y z) x.memory p L55 well.0)
+    (flow.counts_writes lines (algorithm n w) (Updating y z) x.memory p L55
+    (move n w i (Updating y z) x.memory p L55) q.auxiliary.wrote (flows n w i (Updating y z) x.memory p L55 well.0)
     (subst (λ (y : Control). HasWritten y q.auxiliary.wrote) is own.wrote))
     (subst (λ m. Books n w i (history q.auxiliary.since) m (Updating y z) p L56) back
     (books_55 n w i y z (history q.auxiliary.since) (history t) p books))
@@ -431,8 +511,10 @@ books_57 n w i y z base m p h =
         answers_are = λ c o. (let e : m.answers i c ≡ m.writes i + 1 = old.answers_are c o in omega arith);
         puts_are = (let e : m.puts i ≡ m.writes i + 1 = old.puts_are in omega arith);
         toggles_are = λ v o. elim (cases_eq v y) [
-          | inl same ↦ subst (λ u. place p.tog u ≡ m'.toggles i u) (sym same) (sym (with_at_here m.toggles i y (place p.tog y)))
-          | inr other ↦ old.toggles_are v o ∙ ap (λ b. if b then flip (m.toggles i v) else m.toggles i v) (other_number v y other)
+          | inl same ↦
+              subst (λ u. place p.tog u ≡ m'.toggles i u) (sym same) (sym (with_at_here m.toggles i y (place p.tog y)))
+          | inr other ↦
+              old.toggles_are v o ∙ ap (λ b. if b then flip (m.toggles i v) else m.toggles i v) (other_number v y other)
               ∙ sym (with_at_elsewhere m.toggles i y (place p.tog y) i v other)
         ];
       };
@@ -440,84 +522,128 @@ books_57 n w i y z base m p h =
       self = λ inside. absurd inside;
     }
 
-line57_inv : (n w t : ℕ) (history : ℕ → Registers) (x : State) (i y z : ℕ) → 0 < w → length x.processes ≡ n → IsOneOf n i → history t ≡ x.memory →
-    Invariant n w t history x → (at n w x i).control ≡ At (Updating y z) L57 → history (suc t) ≡ after_57 i (Updating y z) x.memory (at n w x i).variables →
-    Invariant n w (suc t) history (changed x i (by_step (algorithm n w) (suc t) x.memory i (at n w x i) (At (Updating y z) L57)))
+line57_inv : (n w t : ℕ) (history : ℕ → Registers) (x : State) (i y z : ℕ) → 0 < w → length x.processes ≡ n →
+    IsOneOf n i → history t ≡ x.memory → Invariant n w t history x → (at n w x i).control ≡ At (Updating y z) L57 →
+    history (suc t) ≡ after_57 i (Updating y z) x.memory (at n w x i).variables → Invariant n w (suc t) history
+    (changed x i (by_step (algorithm n w) (suc t) x.memory i (at n w x i) (At (Updating y z) L57)))
 line57_inv n w t history x i y z some count one now h is next =
     let q = at n w x i in
     let p = q.variables in
     let own : ProcessInvariant n w t history i q = h.each i one in
     let well : ControlWell n w p (At (Updating y z) L57) = subst (ControlWell n w p) is own.well in
     let there : IsOneOf w y = well.0 in
-    let books : Books n w i (history q.auxiliary.since) (history t) (Updating y z) p L57 = subst (BooksAt n w i (history q.auxiliary.since) (history t) p) is own.books in
-    let becomes : history (suc t) ≡ after_57 i (Updating y z) (history t) p = next ∙ ap (λ m. after_57 i (Updating y z) m p) (sym now) in
+    let books : Books n w i (history q.auxiliary.since) (history t) (Updating y z) p L57 =
+    subst (BooksAt n w i (history q.auxiliary.since) (history t) p) is own.books in
+    let becomes : history (suc t) ≡ after_57 i (Updating y z) (history t) p =
+    next ∙ ap (λ m. after_57 i (Updating y z) m p) (sym now) in
     let back : after_57 i (Updating y z) (history t) p ≡ history (suc t) = sym becomes in
     let settled = books.settled in
     let old : Now n w (history t) = (h.laws t (omega arith)).now in
     let turned : place p.tog y ≡ flip ((history t).toggles i y) =
-    settled.toggles_are y there ∙ ap (λ b. if b then flip ((history t).toggles i y) else (history t).toggles i y) (same_number y) in
-    let laws = laws_up_to n w history t h.laws (laws_next n w history t (after_57 i (Updating y z) (history t) p) becomes
+    settled.toggles_are y there
+    ∙ ap (λ b. if b then flip ((history t).toggles i y) else (history t).toggles i y) (same_number y) in
+    let laws =
+    laws_up_to n w history t h.laws (laws_next n w history t (after_57 i (Updating y z) (history t) p) becomes
     (acts_57 n w i y z history t p one there old settled.answers_are settled.puts_are turned) h.laws
     (now_57 n w i y z history t p one there old settled.answers_are settled.puts_are turned)) in
     written_put n w t history x i (Updating y z) L57 L58 (after_57 i (Updating y z) x.memory p) count one refl laws
-    (λ j o other. subst (Untouched n w j (history t)) back (untouched_57 n w i j (Updating y z) (history t) p other)) h well.0 tt tt tt
-    (flow.counts_writes lines (algorithm n w) (Updating y z) x.memory p L57 (move n w i (Updating y z) x.memory p L57) q.auxiliary.wrote (flows n w i (Updating y z) x.memory p L57 well.0)
+    (λ j o other. subst (Untouched n w j (history t)) back (untouched_57 n w i j (Updating y z) (history t) p other)) h
+    well.0 tt tt tt
+    (flow.counts_writes lines (algorithm n w) (Updating y z) x.memory p L57
+    (move n w i (Updating y z) x.memory p L57) q.auxiliary.wrote (flows n w i (Updating y z) x.memory p L57 well.0)
     (subst (λ (y : Control). HasWritten y q.auxiliary.wrote) is own.wrote))
     (subst (λ m. Books n w i (history q.auxiliary.since) m (Updating y z) p L58) back
     (books_57 n w i y z (history q.auxiliary.since) (history t) p books))
 
 -- each line
-line_inv : (n w t : ℕ) (history : ℕ → Registers) (x : State) (i : ℕ) (d : Mode) (k : ProgramCounter) → IsLineOf w d k → 0 < w →
-    length x.processes ≡ n → IsOneOf n i → history t ≡ x.memory →
+line_inv : (n w t : ℕ) (history : ℕ → Registers) (x : State) (i : ℕ) (d : Mode) (k : ProgramCounter) →
+    IsLineOf w d k → 0 < w → length x.processes ≡ n → IsOneOf n i → history t ≡ x.memory →
     Invariant n w t history x → (at n w x i).control ≡ At d k →
     history (suc t) ≡ (changed x i (by_step (algorithm n w) (suc t) x.memory i (at n w x i) (At d k))).memory →
     Invariant n w (suc t) history (changed x i (by_step (algorithm n w) (suc t) x.memory i (at n w x i) (At d k)))
-line_inv n w t history x i d L10 s some count one now h is next = quiet_inv n w t history x i d L10 tt some count one now h is next
-line_inv n w t history x i d L11 s some count one now h is next = quiet_inv n w t history x i d L11 tt some count one now h is next
-line_inv n w t history x i d L12 s some count one now h is next = quiet_inv n w t history x i d L12 tt some count one now h is next
-line_inv n w t history x i d L13 s some count one now h is next = quiet_inv n w t history x i d L13 tt some count one now h is next
-line_inv n w t history x i d L14 s some count one now h is next = quiet_inv n w t history x i d L14 tt some count one now h is next
-line_inv n w t history x i d L15 s some count one now h is next = line15_inv n w t history x i d some count one now h is next
-line_inv n w t history x i d L16 s some count one now h is next = quiet_inv n w t history x i d L16 tt some count one now h is next
-line_inv n w t history x i d L17 s some count one now h is next = quiet_inv n w t history x i d L17 tt some count one now h is next
-line_inv n w t history x i d L18 s some count one now h is next = quiet_inv n w t history x i d L18 tt some count one now h is next
-line_inv n w t history x i d L19 s some count one now h is next = quiet_inv n w t history x i d L19 tt some count one now h is next
-line_inv n w t history x i d L20 s some count one now h is next = quiet_inv n w t history x i d L20 tt some count one now h is next
-line_inv n w t history x i d L21 s some count one now h is next = quiet_inv n w t history x i d L21 tt some count one now h is next
-line_inv n w t history x i d L22 s some count one now h is next = quiet_inv n w t history x i d L22 tt some count one now h is next
-line_inv n w t history x i d L23 s some count one now h is next = quiet_inv n w t history x i d L23 tt some count one now h is next
-line_inv n w t history x i d L24 s some count one now h is next = quiet_inv n w t history x i d L24 tt some count one now h is next
-line_inv n w t history x i d L25 s some count one now h is next = quiet_inv n w t history x i d L25 tt some count one now h is next
-line_inv n w t history x i d L26 s some count one now h is next = quiet_inv n w t history x i d L26 tt some count one now h is next
-line_inv n w t history x i d L27 s some count one now h is next = quiet_inv n w t history x i d L27 tt some count one now h is next
-line_inv n w t history x i d L28 s some count one now h is next = quiet_inv n w t history x i d L28 tt some count one now h is next
-line_inv n w t history x i d L29 s some count one now h is next = quiet_inv n w t history x i d L29 tt some count one now h is next
-line_inv n w t history x i d L30 s some count one now h is next = quiet_inv n w t history x i d L30 tt some count one now h is next
-line_inv n w t history x i d L31 s some count one now h is next = quiet_inv n w t history x i d L31 tt some count one now h is next
-line_inv n w t history x i d L32 s some count one now h is next = quiet_inv n w t history x i d L32 tt some count one now h is next
-line_inv n w t history x i d L33 s some count one now h is next = quiet_inv n w t history x i d L33 tt some count one now h is next
-line_inv n w t history x i d L34 s some count one now h is next = quiet_inv n w t history x i d L34 tt some count one now h is next
-line_inv n w t history x i d L35 s some count one now h is next = quiet_inv n w t history x i d L35 tt some count one now h is next
-line_inv n w t history x i d L36 s some count one now h is next = quiet_inv n w t history x i d L36 tt some count one now h is next
-line_inv n w t history x i d L37 s some count one now h is next = quiet_inv n w t history x i d L37 tt some count one now h is next
-line_inv n w t history x i d L50 s some count one now h is next = quiet_inv n w t history x i d L50 tt some count one now h is next
-line_inv n w t history x i d L51 s some count one now h is next = quiet_inv n w t history x i d L51 tt some count one now h is next
+line_inv n w t history x i d L10 s some count one now h is next =
+    quiet_inv n w t history x i d L10 tt some count one now h is next
+line_inv n w t history x i d L11 s some count one now h is next =
+    quiet_inv n w t history x i d L11 tt some count one now h is next
+line_inv n w t history x i d L12 s some count one now h is next =
+    quiet_inv n w t history x i d L12 tt some count one now h is next
+line_inv n w t history x i d L13 s some count one now h is next =
+    quiet_inv n w t history x i d L13 tt some count one now h is next
+line_inv n w t history x i d L14 s some count one now h is next =
+    quiet_inv n w t history x i d L14 tt some count one now h is next
+line_inv n w t history x i d L15 s some count one now h is next =
+    line15_inv n w t history x i d some count one now h is next
+line_inv n w t history x i d L16 s some count one now h is next =
+    quiet_inv n w t history x i d L16 tt some count one now h is next
+line_inv n w t history x i d L17 s some count one now h is next =
+    quiet_inv n w t history x i d L17 tt some count one now h is next
+line_inv n w t history x i d L18 s some count one now h is next =
+    quiet_inv n w t history x i d L18 tt some count one now h is next
+line_inv n w t history x i d L19 s some count one now h is next =
+    quiet_inv n w t history x i d L19 tt some count one now h is next
+line_inv n w t history x i d L20 s some count one now h is next =
+    quiet_inv n w t history x i d L20 tt some count one now h is next
+line_inv n w t history x i d L21 s some count one now h is next =
+    quiet_inv n w t history x i d L21 tt some count one now h is next
+line_inv n w t history x i d L22 s some count one now h is next =
+    quiet_inv n w t history x i d L22 tt some count one now h is next
+line_inv n w t history x i d L23 s some count one now h is next =
+    quiet_inv n w t history x i d L23 tt some count one now h is next
+line_inv n w t history x i d L24 s some count one now h is next =
+    quiet_inv n w t history x i d L24 tt some count one now h is next
+line_inv n w t history x i d L25 s some count one now h is next =
+    quiet_inv n w t history x i d L25 tt some count one now h is next
+line_inv n w t history x i d L26 s some count one now h is next =
+    quiet_inv n w t history x i d L26 tt some count one now h is next
+line_inv n w t history x i d L27 s some count one now h is next =
+    quiet_inv n w t history x i d L27 tt some count one now h is next
+line_inv n w t history x i d L28 s some count one now h is next =
+    quiet_inv n w t history x i d L28 tt some count one now h is next
+line_inv n w t history x i d L29 s some count one now h is next =
+    quiet_inv n w t history x i d L29 tt some count one now h is next
+line_inv n w t history x i d L30 s some count one now h is next =
+    quiet_inv n w t history x i d L30 tt some count one now h is next
+line_inv n w t history x i d L31 s some count one now h is next =
+    quiet_inv n w t history x i d L31 tt some count one now h is next
+line_inv n w t history x i d L32 s some count one now h is next =
+    quiet_inv n w t history x i d L32 tt some count one now h is next
+line_inv n w t history x i d L33 s some count one now h is next =
+    quiet_inv n w t history x i d L33 tt some count one now h is next
+line_inv n w t history x i d L34 s some count one now h is next =
+    quiet_inv n w t history x i d L34 tt some count one now h is next
+line_inv n w t history x i d L35 s some count one now h is next =
+    quiet_inv n w t history x i d L35 tt some count one now h is next
+line_inv n w t history x i d L36 s some count one now h is next =
+    quiet_inv n w t history x i d L36 tt some count one now h is next
+line_inv n w t history x i d L37 s some count one now h is next =
+    quiet_inv n w t history x i d L37 tt some count one now h is next
+line_inv n w t history x i d L50 s some count one now h is next =
+    quiet_inv n w t history x i d L50 tt some count one now h is next
+line_inv n w t history x i d L51 s some count one now h is next =
+    quiet_inv n w t history x i d L51 tt some count one now h is next
 line_inv n w t history x i Scanning L52 s some count one now h is next = absurd s
 line_inv n w t history x i (Embedded y z) L52 s some count one now h is next = absurd s
-line_inv n w t history x i (Updating y z) L52 s some count one now h is next = line52_inv n w t history x i y z some count one now h is next
-line_inv n w t history x i d L53 s some count one now h is next = quiet_inv n w t history x i d L53 tt some count one now h is next
-line_inv n w t history x i d L54 s some count one now h is next = quiet_inv n w t history x i d L54 tt some count one now h is next
+line_inv n w t history x i (Updating y z) L52 s some count one now h is next =
+    line52_inv n w t history x i y z some count one now h is next
+line_inv n w t history x i d L53 s some count one now h is next =
+    quiet_inv n w t history x i d L53 tt some count one now h is next
+line_inv n w t history x i d L54 s some count one now h is next =
+    quiet_inv n w t history x i d L54 tt some count one now h is next
 line_inv n w t history x i Scanning L55 s some count one now h is next = absurd s
 line_inv n w t history x i (Embedded y z) L55 s some count one now h is next = absurd s
-line_inv n w t history x i (Updating y z) L55 s some count one now h is next = line55_inv n w t history x i y z some count one now h is next
-line_inv n w t history x i d L56 s some count one now h is next = quiet_inv n w t history x i d L56 tt some count one now h is next
+line_inv n w t history x i (Updating y z) L55 s some count one now h is next =
+    line55_inv n w t history x i y z some count one now h is next
+line_inv n w t history x i d L56 s some count one now h is next =
+    quiet_inv n w t history x i d L56 tt some count one now h is next
 line_inv n w t history x i Scanning L57 s some count one now h is next = absurd s
 line_inv n w t history x i (Embedded y z) L57 s some count one now h is next = absurd s
-line_inv n w t history x i (Updating y z) L57 s some count one now h is next = line57_inv n w t history x i y z some count one now h is next
-line_inv n w t history x i d L58 s some count one now h is next = quiet_inv n w t history x i d L58 tt some count one now h is next
+line_inv n w t history x i (Updating y z) L57 s some count one now h is next =
+    line57_inv n w t history x i y z some count one now h is next
+line_inv n w t history x i d L58 s some count one now h is next =
+    quiet_inv n w t history x i d L58 tt some count one now h is next
 
-step_inv : (n w t : ℕ) (history : ℕ → Registers) (x : State) (i : ℕ) (control : Control) → 0 < w → length x.processes ≡ n → IsOneOf n i →
-    history t ≡ x.memory →
+step_inv : (n w t : ℕ) (history : ℕ → Registers) (x : State) (i : ℕ) (control : Control) →
+    0 < w → length x.processes ≡ n → IsOneOf n i → history t ≡ x.memory →
     Invariant n w t history x → (at n w x i).control ≡ control →
     history (suc t) ≡ (changed x i (by_step (algorithm n w) (suc t) x.memory i (at n w x i) control)).memory →
     Invariant n w (suc t) history (changed x i (by_step (algorithm n w) (suc t) x.memory i (at n w x i) control))
@@ -526,21 +652,29 @@ step_inv n w t history x i Idle some count one now h is next =
     let laws : (u : ℕ) → u ≤ suc t → Laws n w history u = laws_same n w t history same h.laws in
     inv_later n w t history x (laws (suc t) (omega arith)) same laws h
 step_inv n w t history x i (At d k) some count one now h is next =
-    let well : ControlWell n w (at n w x i).variables (At d k) = subst (ControlWell n w (at n w x i).variables) is (h.each i one).well in
+    let well : ControlWell n w (at n w x i).variables (At d k) =
+    subst (ControlWell n w (at n w x i).variables) is (h.each i one).well in
     line_inv n w t history x i d k well.0 some count one now h is next
 
 -- a call
-admit_inv : (n w t : ℕ) (history : ℕ → Registers) (x : State) (i : ℕ) (op : Op) (o : Option Reason) → call_skip kind.Multi (counts n w) i op ≡ o →
-    length x.processes ≡ n → IsOneOf n i → history (suc t) ≡ history t → ((u : ℕ) → u ≤ suc t → Laws n w history u) → Invariant n w t history x →
-    (at n w x i).control ≡ Idle →
+admit_inv : (n w t : ℕ) (history : ℕ → Registers) (x : State) (i : ℕ) (op : Op) (o : Option Reason) →
+    call_skip kind.Multi (counts n w) i op ≡ o → length x.processes ≡ n → IsOneOf n i → history (suc t) ≡ history t →
+    ((u : ℕ) → u ≤ suc t → Laws n w history u) → Invariant n w t history x → (at n w x i).control ≡ Idle →
     Invariant n w (suc t) history (changed x i (by_admission (algorithm n w) (suc t) x.memory (at n w x i) op o))
-admit_inv n w t history x i op (Some why) e count one same laws h is = inv_later n w t history x (laws (suc t) (omega arith)) same laws h
+admit_inv n w t history x i op (Some why) e count one same laws h is =
+    inv_later n w t history x (laws (suc t) (omega arith)) same laws h
 admit_inv n w t history x i Scan None e count one same laws h is =
     let q = at n w x i in
     let own : ProcessInvariant n w (suc t) history i q =
-    own_kept n w t history i q one ((laws (suc t) (omega arith)).since t (omega arith)) (untouched_same n w i (history t) (history (suc t)) same) (h.each i one) in
-    let rest : Rest n w i (history (suc t)) q.variables.tog = subst (BooksAt n w i (history q.auxiliary.since) (history (suc t)) q.variables) is own.books in
-    put_inv n w t history x i x.memory (record { control = At Scanning L10; variables = q.variables; auxiliary = called_auxiliary (suc t) Scan q.auxiliary }) Called count one laws
+    own_kept n w t history i q one ((laws (suc t) (omega arith)).since t (omega arith))
+    (untouched_same n w i (history t) (history (suc t)) same) (h.each i one) in
+    let rest : Rest n w i (history (suc t)) q.variables.tog =
+    subst (BooksAt n w i (history q.auxiliary.since) (history (suc t)) q.variables) is own.books in
+    put_inv n w t history x i x.memory (record {
+      control = At Scanning L10;
+      variables = q.variables;
+      auxiliary = called_auxiliary (suc t) Scan q.auxiliary;
+    }) Called count one laws
     (λ j o other. untouched_same n w j (history t) (history (suc t)) same) h
     (record {
       well = called_well n w i q.variables Scan e;
@@ -559,9 +693,15 @@ admit_inv n w t history x i Scan None e count one same laws h is =
 admit_inv n w t history x i (Update word value) None e count one same laws h is =
     let q = at n w x i in
     let own : ProcessInvariant n w (suc t) history i q =
-    own_kept n w t history i q one ((laws (suc t) (omega arith)).since t (omega arith)) (untouched_same n w i (history t) (history (suc t)) same) (h.each i one) in
-    let rest : Rest n w i (history (suc t)) q.variables.tog = subst (BooksAt n w i (history q.auxiliary.since) (history (suc t)) q.variables) is own.books in
-    put_inv n w t history x i x.memory (record { control = At (Updating word value) (counter (Update word value)); variables = q.variables; auxiliary = called_auxiliary (suc t) (Update word value) q.auxiliary }) Called count one laws
+    own_kept n w t history i q one ((laws (suc t) (omega arith)).since t (omega arith))
+    (untouched_same n w i (history t) (history (suc t)) same) (h.each i one) in
+    let rest : Rest n w i (history (suc t)) q.variables.tog =
+    subst (BooksAt n w i (history q.auxiliary.since) (history (suc t)) q.variables) is own.books in
+    put_inv n w t history x i x.memory (record {
+      control = At (Updating word value) (counter (Update word value));
+      variables = q.variables;
+      auxiliary = called_auxiliary (suc t) (Update word value) q.auxiliary;
+    }) Called count one laws
     (λ j o other. untouched_same n w j (history t) (history (suc t)) same) h
     (record {
       well = called_well n w i q.variables (Update word value) e;
@@ -578,19 +718,24 @@ admit_inv n w t history x i (Update word value) None e count one same laws h is 
       };
     })
 
-asked_inv : (n w t : ℕ) (history : ℕ → Registers) (x : State) (i : ℕ) (op : Op) (control : Control) → length x.processes ≡ n → IsOneOf n i →
-    history (suc t) ≡ history t → ((u : ℕ) → u ≤ suc t → Laws n w history u) → Invariant n w t history x → (at n w x i).control ≡ control →
+asked_inv : (n w t : ℕ) (history : ℕ → Registers) (x : State) (i : ℕ) (op : Op) (control : Control) →
+    length x.processes ≡ n → IsOneOf n i → history (suc t) ≡ history t →
+    ((u : ℕ) → u ≤ suc t → Laws n w history u) → Invariant n w t history x → (at n w x i).control ≡ control →
     Invariant n w (suc t) history (changed x i (by_call (algorithm n w) (suc t) x.memory i op (at n w x i) control))
-asked_inv n w t history x i op Idle count one same laws h is = admit_inv n w t history x i op (call_skip kind.Multi (counts n w) i op) refl count one same laws h is
-asked_inv n w t history x i op (At d k) count one same laws h is = inv_later n w t history x (laws (suc t) (omega arith)) same laws h
+asked_inv n w t history x i op Idle count one same laws h is =
+    admit_inv n w t history x i op (call_skip kind.Multi (counts n w) i op) refl count one same laws h is
+asked_inv n w t history x i op (At d k) count one same laws h is =
+    inv_later n w t history x (laws (suc t) (omega arith)) same laws h
 
-pub happens_inv : (n w t : ℕ) (history : ℕ → Registers) (x : State) (y : Item) → 0 < w → length x.processes ≡ n → IsOneOf n (who y) →
-    history t ≡ x.memory →
+pub happens_inv : (n w t : ℕ) (history : ℕ → Registers) (x : State) (y : Item) →
+    0 < w → length x.processes ≡ n → IsOneOf n (who y) → history t ≡ x.memory →
     Invariant n w t history x → history (suc t) ≡ (happens (algorithm n w) (suc t) x y).memory →
     Invariant n w (suc t) history (happens (algorithm n w) (suc t) x y)
-happens_inv n w t history x (Step i) some count one now h next = step_inv n w t history x i (at n w x i).control some count one now h refl next
+happens_inv n w t history x (Step i) some count one now h next =
+    step_inv n w t history x i (at n w x i).control some count one now h refl next
 happens_inv n w t history x (Call i op) some count one now h next =
-    let same : history (suc t) ≡ history t = next ∙ embed.call_memory (algorithm n w) (suc t) x i op (at n w x i).control ∙ sym now in
+    let same : history (suc t) ≡ history t =
+    next ∙ embed.call_memory (algorithm n w) (suc t) x i op (at n w x i).control ∙ sym now in
     asked_inv n w t history x i op (at n w x i).control count one same (laws_same n w t history same h.laws) h refl
 happens_inv n w t history x (Crash i) some count one now h next =
     let same : history (suc t) ≡ history t = next ∙ sym now in

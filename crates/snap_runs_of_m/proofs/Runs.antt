@@ -5,12 +5,14 @@ use Rattle.std.proofs.lemmas.List.{get_or-replicate, length-replicate}
 use Rattle.snap_words.specs.Shape.{IsOneOf}
 use Rattle.snap_words.specs.Word.{Word, no_word}
 use Rattle.snap_semantics.specs.declared.process.Item.{Item}
-use Rattle.snap_runs.proofs.Algorithm.{Mode, Idle, At, when_busy, first_process, first_state, typed_at, item_at, typed_state}
+use Rattle.snap_runs.proofs.Algorithm.{Mode, Idle, At, when_busy, first_process}
+use Rattle.snap_runs.proofs.Algorithm.{first_state, typed_at, item_at, typed_state}
 use Rattle.snap_runs.proofs.Embedding as embed
 use Rattle.snap_runs.proofs.Held.{word_at, seq_at}
 use Rattle.snap_runs.proofs.Scans as scans
 use Rattle.snap_runs_of_m.specs.Promises.{run_of}
-use Rattle.snap_runs_of_m.proofs.Algorithm.{lines, Registers, Process, first_word, first_memory, Control, State, Variables, ProgramCounter, L28, bit, IsLineOf, algorithm}
+use Rattle.snap_runs_of_m.proofs.Algorithm.{lines, Registers, Process, first_word, first_memory, Control, State}
+use Rattle.snap_runs_of_m.proofs.Algorithm.{Variables, ProgramCounter, L28, bit, IsLineOf, algorithm}
 use Rattle.snap_runs_of_m.proofs.Basics.{Square}
 use Rattle.snap_runs_of_m.proofs.Control.{ControlWell, Keeps, NamedAt28, does}
 use Rattle.snap_runs_of_m.proofs.Count.{Count}
@@ -49,8 +51,12 @@ now0 n w = record {
   square_q = first_square n;
   square_p = first_square n;
   views = length-replicate n (replicate w 0);
-  named = λ k h pos. absurd (let e : seq_at (replicate w first_word) k ≡ 0 = ap (λ (x : Word). x.seq) (first_word_at w k h) in omega arith);
-  toggle = λ k h named. absurd (let e : (word_at (replicate w first_word) k).id ≡ 0 = ap (λ (x : Word). x.id) (first_word_at w k h) in omega arith);
+  named =
+      λ k h pos. absurd (let e : seq_at (replicate w first_word) k ≡ 0 =
+      ap (λ (x : Word). x.seq) (first_word_at w k h) in omega arith);
+  toggle =
+      λ k h named. absurd (let e : (word_at (replicate w first_word) k).id ≡ 0 =
+      ap (λ (x : Word). x.id) (first_word_at w k h) in omega arith);
   bits = λ c i h j. (let e : bit (replicate n (replicate n 0)) c i ≡ 0 = first_bit n c i h j in omega arith);
   answers_from = λ c i h j. omega arith;
   answers_to = λ c i h j. omega arith;
@@ -61,11 +67,14 @@ now0 n w = record {
 laws0 : (n w : ℕ) (items : List Item) → Laws n w (registers_at n w items) 0
 laws0 n w items = record {
   now = now0 n w;
-  since = λ u le. subst (λ y. (Since n w (registers_at n w items) y 0)) (let e : 0 ≡ u = omega arith in e) (since_itself n w (registers_at n w items) 0 (now0 n w));
+  since =
+      λ u le. subst (λ y. (Since n w (registers_at n w items) y 0)) (let e : 0 ≡ u = omega arith in e)
+      (since_itself n w (registers_at n w items) 0 (now0 n w));
   answered = λ c i low value h j asks more. absurd (omega arith);
 }
 
-own0 : (n w : ℕ) (items : List Item) (i : ℕ) → ProcessInvariant n w 0 (registers_at n w items) i (first_process (algorithm n w))
+own0 : (n w : ℕ) (items : List Item) (i : ℕ) →
+    ProcessInvariant n w 0 (registers_at n w items) i (first_process (algorithm n w))
 own0 n w items i = record {
   well = tt;
   long = record {
@@ -91,17 +100,21 @@ own0 n w items i = record {
 inv0 : (n w : ℕ) (items : List Item) → Invariant n w 0 (registers_at n w items) (first_state (algorithm n w))
 inv0 n w items = record {
   laws = λ u le. subst (Laws n w (registers_at n w items)) (let e : 0 ≡ u = omega arith in e) (laws0 n w items);
-  each = λ i h. subst (λ (q : Process). ProcessInvariant n w 0 (registers_at n w items) i q) (sym (embed.first_process_is (algorithm n w) i h)) (own0 n w items i);
+  each =
+      λ i h. subst (λ (q : Process). ProcessInvariant n w 0 (registers_at n w items) i q)
+      (sym (embed.first_process_is (algorithm n w) i h)) (own0 n w items i);
 }
 
 pub inv : (n w : ℕ) (items : List Item) → 0 < w → Steady (run_of n w items) → (t : ℕ) → t ≤ length items →
     Invariant n w t (registers_at n w items) (state_at n w items t)
 inv n w items some fits zero h = inv0 n w items
 inv n w items some fits (suc t) h =
-    happens_inv n w t (registers_at n w items) (state_at n w items t) (item_at items t) some (embed.count (algorithm n w) items t)
+    happens_inv n w t (registers_at n w items) (state_at n w items t) (item_at items t) some
+    (embed.count (algorithm n w) items t)
     (embed.one_at (algorithm n w) items fits t (omega arith)) refl (inv n w items some fits t (omega arith)) refl
 
-pub own : (n w : ℕ) (items : List Item) → 0 < w → Steady (run_of n w items) → (t i : ℕ) → t ≤ length items → IsOneOf n i →
+pub own : (n w : ℕ) (items : List Item) → 0 < w → Steady (run_of n w items) →
+    (t i : ℕ) → t ≤ length items → IsOneOf n i →
     ProcessInvariant n w t (registers_at n w items) i (typed_at (algorithm n w) (state_at n w items t) i)
 own n w items some fits t i h one = (inv n w items some fits t h).each i one
 
@@ -113,7 +126,8 @@ named_28 n w i history t since round p Idle one laws well h = tt
 named_28 n w i history t since round p (At d k) one laws well h = λ e.
     let at28 : Stage n w i history t since round p L28 = subst (Stage n w i history t since round p) e h in
     let keeps = (subst (λ y. ControlWell n w p (At d y)) e well).1 in
-    subst (IsOneOf n) (sym at28.4) (seen_by_words n w i history round t p.g p.a p.b p.h one laws at28.1 p.k keeps.1 at28.3).0
+    subst (IsOneOf n) (sym at28.4)
+    (seen_by_words n w i history round t p.g p.a p.b p.h one laws at28.1 p.k keeps.1 at28.3).0
 
 pub all_do : (n w : ℕ) (items : List Item) → 0 < w → Steady (run_of n w items) → embed.AllDo (algorithm n w) items
 all_do n w items some fits t i h one =
@@ -122,42 +136,53 @@ all_do n w items some fits t i h one =
     let q = typed_at (algorithm n w) (state_at n w items t) i in
     does n w i (registers_at n w items t) q.variables q.control
     (record { one = one; some = some; bits = λ c k. (v.laws t (omega arith)).now.bits c i k one; long = o.long }) o.well
-    (named_28 n w i (registers_at n w items) t q.auxiliary.since q.auxiliary.round q.variables q.control one v.laws o.well o.stage)
+    (named_28 n w i (registers_at n w items) t q.auxiliary.since q.auxiliary.round q.variables
+    q.control one v.laws o.well o.stage)
 
 -- the run, with what is known of its lines
-abbrev pub execution : (n w : ℕ) (items : List Item) → 0 < w → Steady (run_of n w items) → scans.Execution (algorithm n w) lines
+abbrev pub execution : (n w : ℕ) (items : List Item) → 0 < w → Steady (run_of n w items) →
+    scans.Execution (algorithm n w) lines
 execution n w items some fits = record {
   items = items;
   fits = fits;
   does = all_do n w items some fits;
   flows = λ t i h one.
       let q = typed_at (algorithm n w) (state_at n w items t) i in
-      when_busy _ _ (λ d k well. flows n w i d (registers_at n w items t) q.variables k well.0) q.control (own n w items some fits t i (omega arith) one).well;
+      when_busy _ _ (λ d k well. flows n w i d (registers_at n w items t) q.variables k well.0) q.control
+      (own n w items some fits t i (omega arith) one).well;
   wrote = λ t i h one. (own n w items some fits t i h one).wrote;
 }
 
 -- what a process at a line keeps there
-pub well_of : (n w : ℕ) (items : List Item) → 0 < w → Steady (run_of n w items) → (t i : ℕ) (d : Mode) (k : ProgramCounter) → t ≤ length items →
-    IsOneOf n i →
+pub well_of : (n w : ℕ) (items : List Item) → 0 < w → Steady (run_of n w items) →
+    (t i : ℕ) (d : Mode) (k : ProgramCounter) → t ≤ length items → IsOneOf n i →
     (typed_at (algorithm n w) (state_at n w items t) i).control ≡ At d k →
     IsLineOf w d k × Keeps n w d (typed_at (algorithm n w) (state_at n w items t) i).variables k
 well_of n w items some fits t i d k le one e =
-    let q = typed_at (algorithm n w) (state_at n w items t) i in subst (ControlWell n w q.variables) e (own n w items some fits t i le one).well
+    let q = typed_at (algorithm n w) (state_at n w items t) i in
+    subst (ControlWell n w q.variables) e (own n w items some fits t i le one).well
 
 -- a busy process is at the stage of its line
-pub stage_of : (n w : ℕ) (items : List Item) → 0 < w → Steady (run_of n w items) → (t i : ℕ) (d : Mode) (k : ProgramCounter) → t ≤ length items →
-    IsOneOf n i →
+pub stage_of : (n w : ℕ) (items : List Item) → 0 < w → Steady (run_of n w items) →
+    (t i : ℕ) (d : Mode) (k : ProgramCounter) → t ≤ length items → IsOneOf n i →
     (typed_at (algorithm n w) (state_at n w items t) i).control ≡ At d k →
-    Stage n w i (registers_at n w items) t (typed_at (algorithm n w) (state_at n w items t) i).auxiliary.since (typed_at (algorithm n w) (state_at n w items t) i).auxiliary.round (typed_at (algorithm n w) (state_at n w items t) i).variables k
+    Stage n w i (registers_at n w items) t (typed_at (algorithm n w) (state_at n w items t) i).auxiliary.since
+    (typed_at (algorithm n w) (state_at n w items t) i).auxiliary.round
+    (typed_at (algorithm n w) (state_at n w items t) i).variables k
 stage_of n w items some fits t i d k le one e =
     let q = typed_at (algorithm n w) (state_at n w items t) i in
-    subst (StageAt n w i (registers_at n w items) t q.auxiliary.since q.auxiliary.round q.variables) e (own n w items some fits t i le one).stage
+    subst (StageAt n w i (registers_at n w items) t q.auxiliary.since q.auxiliary.round q.variables) e
+    (own n w items some fits t i le one).stage
 
 -- and its counts are those of its line
-pub counts_of : (n w : ℕ) (items : List Item) → 0 < w → Steady (run_of n w items) → (t i : ℕ) (d : Mode) (k : ProgramCounter) → t ≤ length items →
-    IsOneOf n i →
+pub counts_of : (n w : ℕ) (items : List Item) → 0 < w → Steady (run_of n w items) →
+    (t i : ℕ) (d : Mode) (k : ProgramCounter) → t ≤ length items → IsOneOf n i →
     (typed_at (algorithm n w) (state_at n w items t) i).control ≡ At d k →
-    Count n w (typed_at (algorithm n w) (state_at n w items t) i).variables (typed_at (algorithm n w) (state_at n w items t) i).auxiliary.own (typed_at (algorithm n w) (state_at n w items t) i).auxiliary.collects (typed_at (algorithm n w) (state_at n w items t) i).auxiliary.tested k
+    Count n w (typed_at (algorithm n w) (state_at n w items t) i).variables
+    (typed_at (algorithm n w) (state_at n w items t) i).auxiliary.own
+    (typed_at (algorithm n w) (state_at n w items t) i).auxiliary.collects
+    (typed_at (algorithm n w) (state_at n w items t) i).auxiliary.tested k
 counts_of n w items some fits t i d k le one e =
     let q = typed_at (algorithm n w) (state_at n w items t) i in
-    subst (CountAt n w q.variables q.auxiliary.own q.auxiliary.collects q.auxiliary.tested) e (own n w items some fits t i le one).counts
+    subst (CountAt n w q.variables q.auxiliary.own q.auxiliary.collects q.auxiliary.tested) e
+    (own n w items some fits t i le one).counts

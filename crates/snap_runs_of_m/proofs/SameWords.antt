@@ -1,4 +1,4 @@
--- Words that a test takes for the same.
+-- Words that a test of M takes for the same have the same id and the same toggle.
 use Rattle.std.specs.Prelude.{◌≡◌, true}
 use Rattle.snap_words.specs.Word.{Word}
 use Rattle.snap_runs.proofs.Computing.{both, same_from}

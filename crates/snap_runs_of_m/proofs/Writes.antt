@@ -1,7 +1,9 @@
--- The four lines of M that write registers: what each does to the laws, and that it leaves what other processes own.
+-- The four lines of M that write registers: each keeps what `History.antt`
+-- says of the registers, and leaves what other processes own.
 use Rattle.snap_runs.proofs.Computing.{same_number, other_number}
 use Rattle.snap_runs.proofs.Algorithm.{Mode, Updating}
-use Rattle.std.specs.Prelude.{◌≡◌, ◌≢◌, ℕ, ◌+◌, ◌-◌, ◌<◌, ◌≤◌, ◌⊎◌, Bool, true, false, ◌&&◌, [], length, nat_eq, if◌then◌else◌, slice_index, slice_index_or, refl}
+use Rattle.std.specs.Prelude.{◌≡◌, ◌≢◌, ℕ, ◌+◌, ◌-◌, ◌<◌, ◌≤◌, ◌⊎◌, Bool, true, false, ◌&&◌, [], length, nat_eq}
+use Rattle.std.specs.Prelude.{if◌then◌else◌, slice_index, slice_index_or, refl}
 use Rattle.std.proofs.Common.{sym, ◌∙◌, ap, subst, arith, inl, inr}
 use Rattle.std.proofs.lemmas.Bool.{cases_eq}
 use Rattle.std.proofs.lemmas.Grind.{get_or-set_at}
@@ -9,8 +11,10 @@ use Rattle.std.proofs.lemmas.List.{length-set, get_or-set_other}
 use Rattle.snap_words.specs.Shape.{IsOneOf}
 use Rattle.snap_words.specs.Word.{Word, no_word}
 use Rattle.snap_runs.proofs.Held.{word_at, seq_at, Held, held_wider}
-use Rattle.snap_runs_of_m.proofs.Algorithm.{Registers, Variables, place, word_of, bit, view_at, flip, raised, raised_at, with_at, written, after_15, after_52, after_55, after_57}
-use Rattle.snap_runs_of_m.proofs.Basics.{flip_bit, flip_other, less_or_not, bit_here, bit_elsewhere, row_elsewhere, square_kept}
+use Rattle.snap_runs_of_m.proofs.Algorithm.{Registers, Variables, place, word_of, bit, view_at, flip, raised}
+use Rattle.snap_runs_of_m.proofs.Algorithm.{raised_at, with_at, written, after_15, after_52, after_55, after_57}
+use Rattle.snap_runs_of_m.proofs.Basics.{flip_bit, flip_other, less_or_not, bit_here}
+use Rattle.snap_runs_of_m.proofs.Basics.{bit_elsewhere, row_elsewhere, square_kept}
 use Rattle.snap_runs_of_m.proofs.History.{words_of, id_at, toggle_at, Now, Laws, Rewritten, Answer, Put, Acts}
 use Rattle.snap_runs_of_m.proofs.Stage.{Seen}
 use Rattle.snap_runs_of_m.proofs.Invariant.{Untouched}
@@ -31,27 +35,33 @@ and_false true = refl
 and_false false = refl
 
 pub raised_at_here : (f : ℕ → ℕ → ℕ) (i j : ℕ) → raised_at f i j i j ≡ f i j + 1
-raised_at_here f i j = ap (λ b. if b && nat_eq j j then f i j + 1 else f i j) (same_number i) ∙ ap (λ b. if b then f i j + 1 else f i j) (same_number j)
+raised_at_here f i j =
+    ap (λ b. if b && nat_eq j j then f i j + 1 else f i j) (same_number i)
+    ∙ ap (λ b. if b then f i j + 1 else f i j) (same_number j)
 
 pub raised_at_there : (f : ℕ → ℕ → ℕ) (i j y z : ℕ) → y ≢ i → raised_at f i j y z ≡ f y z
 raised_at_there f i j y z other = ap (λ b. if b && nat_eq z j then f y z + 1 else f y z) (other_number y i other)
 
 pub raised_at_elsewhere : (f : ℕ → ℕ → ℕ) (i j y z : ℕ) → z ≢ j → raised_at f i j y z ≡ f y z
 raised_at_elsewhere f i j y z other =
-    ap (λ b. if nat_eq y i && b then f y z + 1 else f y z) (other_number z j other) ∙ ap (λ b. if b then f y z + 1 else f y z) (and_false (nat_eq y i))
+    ap (λ b. if nat_eq y i && b then f y z + 1 else f y z) (other_number z j other)
+    ∙ ap (λ b. if b then f y z + 1 else f y z) (and_false (nat_eq y i))
 
 pub with_at_here : (f : ℕ → ℕ → ℕ) (i k x : ℕ) → with_at f i k x i k ≡ x
-with_at_here f i k x = ap (λ b. if b && nat_eq k k then x else f i k) (same_number i) ∙ ap (λ b. if b then x else f i k) (same_number k)
+with_at_here f i k x =
+    ap (λ b. if b && nat_eq k k then x else f i k) (same_number i) ∙ ap (λ b. if b then x else f i k) (same_number k)
 
 with_at_there : (f : ℕ → ℕ → ℕ) (i k x y z : ℕ) → y ≢ i → with_at f i k x y z ≡ f y z
 with_at_there f i k x y z other = ap (λ b. if b && nat_eq z k then x else f y z) (other_number y i other)
 
 pub with_at_elsewhere : (f : ℕ → ℕ → ℕ) (i k x y z : ℕ) → z ≢ k → with_at f i k x y z ≡ f y z
 with_at_elsewhere f i k x y z other =
-    ap (λ b. if nat_eq y i && b then x else f y z) (other_number z k other) ∙ ap (λ b. if b then x else f y z) (and_false (nat_eq y i))
+    ap (λ b. if nat_eq y i && b then x else f y z) (other_number z k other)
+    ∙ ap (λ b. if b then x else f y z) (and_false (nat_eq y i))
 
 -- line 15: the process asks process j
-pub acts_15 : (n w me : ℕ) (history : ℕ → Registers) (t : ℕ) (m : Registers) (p : Variables) → Acts n w history t m (after_15 me m p)
+pub acts_15 : (n w me : ℕ) (history : ℕ → Registers) (t : ℕ) (m : Registers) (p : Variables) →
+    Acts n w history t m (after_15 me m p)
 acts_15 n w me history t m p = record {
   words = λ k h. inl refl;
   writes = λ c h. omega arith;
@@ -75,7 +85,8 @@ now_15 n w me m p one h = record {
   puts_to = h.puts_to;
 }
 
-pub untouched_15 : (n w me k : ℕ) (m : Registers) (p : Variables) → IsOneOf n me → IsOneOf n k → k ≢ me → Untouched n w k m (after_15 me m p)
+pub untouched_15 : (n w me k : ℕ) (m : Registers) (p : Variables) → IsOneOf n me → IsOneOf n k → k ≢ me →
+    Untouched n w k m (after_15 me m p)
 untouched_15 n w me k m p one his other = record {
   asks = λ c o. ap (λ row. slice_index row (c - 1)) (row_elsewhere m.q me p.j p.x k one.0 his.0 other);
   writes = refl;
@@ -85,27 +96,31 @@ untouched_15 n w me k m p one his other = record {
 }
 
 -- its row of q after line 15
-pub asks_there : (n w me c : ℕ) (m : Registers) (p : Variables) → IsOneOf n me → IsOneOf n p.j → Now n w m → IsOneOf n c → c ≢ p.j →
-    bit (after_15 me m p).q me c ≡ bit m.q me c
+pub asks_there : (n w me c : ℕ) (m : Registers) (p : Variables) → IsOneOf n me → IsOneOf n p.j → Now n w m →
+    IsOneOf n c → c ≢ p.j → bit (after_15 me m p).q me c ≡ bit m.q me c
 asks_there n w me c m p one inside now o other =
     let len : length m.q ≡ n = now.square_q.0 in
     bit_elsewhere m.q me p.j p.x c one.0 inside.0 o.0 other (omega arith)
 
-pub asks_here : (n w me : ℕ) (m : Registers) (p : Variables) → IsOneOf n me → IsOneOf n p.j → Now n w m → bit (after_15 me m p).q me p.j ≡ p.x
+pub asks_here : (n w me : ℕ) (m : Registers) (p : Variables) → IsOneOf n me → IsOneOf n p.j → Now n w m →
+    bit (after_15 me m p).q me p.j ≡ p.x
 asks_here n w me m p one inside now =
     let len : length m.q ≡ n = now.square_q.0 in
     let row : length (slice_index_or m.q (me - 1) []) ≡ n = now.square_q.1 me one in
     bit_here m.q me p.j p.x one.0 inside.0 (omega arith) (omega arith)
 
 -- line 52: the process answers process j
-module _ (n w me : ℕ) (history : ℕ → Registers) (t : ℕ) (p : Variables) (one : IsOneOf n me) (inside : IsOneOf n p.j) (now : Now n w (history t))
+module _ (n w me : ℕ) (history : ℕ → Registers) (t : ℕ) (p : Variables) (one : IsOneOf n me)
+    (inside : IsOneOf n p.j) (now : Now n w (history t))
     (seen : Seen history t me p) (first : (history t).answers me p.j ≡ (history t).writes me) where
   abbrev m' : Registers
   m' = after_52 me (history t) p
 
   -- the bits and their counters
   abbrev Signs : ℕ → ℕ → Type 0
-  Signs c i = ((bit (history t).p c i ≡ bit m'.p c i) × ((history t).answers c i ≡ m'.answers c i)) ⊎ Answer history t (history t) m' c i
+  Signs c i =
+      ((bit (history t).p c i ≡ bit m'.p c i) × ((history t).answers c i ≡ m'.answers c i))
+      ⊎ Answer history t (history t) m' c i
 
   signs_here : Signs me p.j
   signs_here =
@@ -127,7 +142,10 @@ module _ (n w me : ℕ) (history : ℕ → Registers) (t : ℕ) (p : Variables) 
       elim (cases_eq c me) [
         | inl same ↦ subst (λ y. Signs y i) (sym same) (elim (cases_eq i p.j) [
           | inl his ↦ subst (λ y. Signs me y) (sym his) signs_here
-          | inr other ↦ inl (sym (bit_elsewhere (history t).p me p.j (flip p.x) i one.0 inside.0 j.0 other (omega arith)), sym (raised_at_elsewhere (history t).answers me p.j me i other))
+          | inr other ↦ inl (
+            sym (bit_elsewhere (history t).p me p.j (flip p.x) i one.0 inside.0 j.0 other (omega arith)),
+            sym (raised_at_elsewhere (history t).answers me p.j me i other),
+          )
         ])
         | inr other ↦ inl (
           sym (ap (λ row. slice_index row (i - 1)) (row_elsewhere (history t).p me p.j (flip p.x) c one.0 h.0 other)),
@@ -159,17 +177,30 @@ module _ (n w me : ℕ) (history : ℕ → Registers) (t : ℕ) (p : Variables) 
       | inl same ↦ subst (λ v. v ≤ 1) same.0 (now.bits c i h j)
       | inr r ↦ subst (λ v. v ≤ 1) (sym r.is) (flip_bit (bit (history r.read).q i c))
     ];
-    answers_from = λ c i h j. let a : (history t).writes c ≤ (history t).answers c i = now.answers_from c i h j in let b : (history t).answers c i ≤ m'.answers c i = answers_more c i in omega arith;
+    answers_from =
+        λ c i h j. let a : (history t).writes c ≤ (history t).answers c i = now.answers_from c i h j in
+        let b : (history t).answers c i ≤ m'.answers c i = answers_more c i in
+        omega arith;
     answers_to = λ c i h j. elim (cases_eq c me) [
       | inl same ↦ elim (cases_eq i p.j) [
-        | inl his ↦ subst (λ y. m'.answers y i ≤ (history t).writes y + 1) (sym same) (subst (λ z. m'.answers me z ≤ (history t).writes me + 1) (sym his)
-            (let more : m'.answers me p.j ≡ (history t).answers me p.j + 1 = raised_at_here (history t).answers me p.j in omega arith))
-        | inr other ↦ subst (λ v. v ≤ (history t).writes c + 1) (sym (raised_at_elsewhere (history t).answers me p.j c i other)) (now.answers_to c i h j)
+        | inl his ↦
+            subst (λ y. m'.answers y i ≤ (history t).writes y + 1) (sym same)
+            (subst (λ z. m'.answers me z ≤ (history t).writes me + 1) (sym his)
+            (let more : m'.answers me p.j ≡ (history t).answers me p.j + 1 =
+            raised_at_here (history t).answers me p.j in omega arith))
+        | inr other ↦
+            subst (λ v. v ≤ (history t).writes c + 1)
+            (sym (raised_at_elsewhere (history t).answers me p.j c i other)) (now.answers_to c i h j)
       ]
-      | inr other ↦ subst (λ v. v ≤ (history t).writes c + 1) (sym (raised_at_there (history t).answers me p.j c i other)) (now.answers_to c i h j)
+      | inr other ↦
+          subst (λ v. v ≤ (history t).writes c + 1)
+          (sym (raised_at_there (history t).answers me p.j c i other)) (now.answers_to c i h j)
     ];
     puts_from = now.puts_from;
-    puts_to = λ c i h j. let a : (history t).puts c ≤ (history t).answers c i = now.puts_to c i h j in let b : (history t).answers c i ≤ m'.answers c i = answers_more c i in omega arith;
+    puts_to =
+        λ c i h j. let a : (history t).puts c ≤ (history t).answers c i = now.puts_to c i h j in
+        let b : (history t).answers c i ≤ m'.answers c i = answers_more c i in
+        omega arith;
   }
 
 pub untouched_52 : (n w me k : ℕ) (m : Registers) (p : Variables) → k ≢ me → Untouched n w k m (after_52 me m p)
@@ -182,9 +213,12 @@ untouched_52 n w me k m p other = record {
 }
 
 -- line 55: the process puts its view
-module _ (n w me : ℕ) (history : ℕ → Registers) (t since : ℕ) (p : Variables) (one : IsOneOf n me) (laws : (u : ℕ) → u ≤ t → Laws n w history u)
-    (held : Held (words_of history) t since p.s) (answers_are : (c : ℕ) → IsOneOf n c → (history t).answers me c ≡ (history t).writes me + 1)
-    (puts_are : (history t).puts me ≡ (history t).writes me) (made : (c : ℕ) → IsOneOf n c → (history t).writes me + 1 ≤ (history since).answers me c) (before : since ≤ t) where
+module _ (n w me : ℕ) (history : ℕ → Registers) (t since : ℕ) (p : Variables) (one : IsOneOf n me)
+    (laws : (u : ℕ) → u ≤ t → Laws n w history u)
+    (held : Held (words_of history) t since p.s)
+    (answers_are : (c : ℕ) → IsOneOf n c → (history t).answers me c ≡ (history t).writes me + 1)
+    (puts_are : (history t).puts me ≡ (history t).writes me)
+    (made : (c : ℕ) → IsOneOf n c → (history t).writes me + 1 ≤ (history since).answers me c) (before : since ≤ t) where
   abbrev m5 : Registers
   m5 = after_55 me (history t) p
 
@@ -195,7 +229,9 @@ module _ (n w me : ℕ) (history : ℕ → Registers) (t since : ℕ) (p : Varia
   here_55 = raised_here (history t).puts me
 
   view_55 : view_at m5.views me ≡ p.s
-  view_55 = let len : length (history t).views ≡ n = now5.views in get_or-set_at (history t).views (me - 1) (me - 1) p.s [] refl (omega arith)
+  view_55 =
+      let len : length (history t).views ≡ n = now5.views in
+      get_or-set_at (history t).views (me - 1) (me - 1) p.s [] refl (omega arith)
 
   put_55 : Put n history t m5 me
   put_55 u i le h lt =
@@ -203,7 +239,8 @@ module _ (n w me : ℕ) (history : ℕ → Registers) (t since : ℕ) (p : Varia
       (held_wider (words_of history) t t since u p.s (omega arith)
       (elim (less_or_not since u) [
         | inl later ↦ absurd (
-            let grows : (history since).answers me i ≤ (history u).answers me i = ((laws u le).since since (omega arith)).answers me i one h in
+            let grows : (history since).answers me i ≤ (history u).answers me i =
+            ((laws u le).since since (omega arith)).answers me i one h in
             let from : (history t).writes me + 1 ≤ (history since).answers me i = made i h in
             let puts : m5.puts me ≡ (history t).puts me + 1 = here_55 in omega arith)
         | inr ge ↦ ge
@@ -217,7 +254,10 @@ module _ (n w me : ℕ) (history : ℕ → Registers) (t since : ℕ) (p : Varia
     bits = λ c i h j. inl (refl, refl);
     views = λ c h. elim (cases_eq c me) [
       | inl same ↦ inr (subst (λ y. Put n history t m5 y) (sym same) put_55)
-      | inr other ↦ inl (sym (raised_there (history t).puts me c other), sym (get_or-set_other (history t).views (me - 1) (c - 1) p.s [] (λ same. other (omega arith))))
+      | inr other ↦ inl (
+        sym (raised_there (history t).puts me c other),
+        sym (get_or-set_other (history t).views (me - 1) (c - 1) p.s [] (λ same. other (omega arith))),
+      )
     ];
   }
 
@@ -232,11 +272,17 @@ module _ (n w me : ℕ) (history : ℕ → Registers) (t since : ℕ) (p : Varia
     bits = now5.bits;
     answers_from = now5.answers_from;
     answers_to = now5.answers_to;
-    puts_from = λ c h. let a : (history t).writes c ≤ (history t).puts c = now5.puts_from c h in let b : (history t).puts c ≤ m5.puts c = more_or_same (nat_eq c me) ((history t).puts c) in omega arith;
+    puts_from =
+        λ c h. let a : (history t).writes c ≤ (history t).puts c = now5.puts_from c h in
+        let b : (history t).puts c ≤ m5.puts c = more_or_same (nat_eq c me) ((history t).puts c) in
+        omega arith;
     puts_to = λ c i h j. elim (cases_eq c me) [
       | inl same ↦ subst (λ y. m5.puts y ≤ (history t).answers y i) (sym same)
-          (let puts : m5.puts me ≡ (history t).puts me + 1 = here_55 in let e : (history t).answers me i ≡ (history t).writes me + 1 = answers_are i j in omega arith)
-      | inr other ↦ subst (λ v. v ≤ (history t).answers c i) (sym (raised_there (history t).puts me c other)) (now5.puts_to c i h j)
+          (let puts : m5.puts me ≡ (history t).puts me + 1 =
+          here_55 in let e : (history t).answers me i ≡ (history t).writes me + 1 = answers_are i j in omega arith)
+      | inr other ↦
+          subst (λ v. v ≤ (history t).answers c i)
+          (sym (raised_there (history t).puts me c other)) (now5.puts_to c i h j)
     ];
   }
 
@@ -250,8 +296,10 @@ untouched_55 n w me k m p other = record {
 }
 
 -- line 57: the process writes its word
-module _ (n w me word arg : ℕ) (history : ℕ → Registers) (t : ℕ) (p : Variables) (one : IsOneOf n me) (there : IsOneOf w word) (now : Now n w (history t))
-    (answers_are : (c : ℕ) → IsOneOf n c → (history t).answers me c ≡ (history t).writes me + 1) (puts_are : (history t).puts me ≡ (history t).writes me + 1)
+module _ (n w me word arg : ℕ) (history : ℕ → Registers) (t : ℕ) (p : Variables) (one : IsOneOf n me)
+    (there : IsOneOf w word) (now : Now n w (history t))
+    (answers_are : (c : ℕ) → IsOneOf n c → (history t).answers me c ≡ (history t).writes me + 1)
+    (puts_are : (history t).puts me ≡ (history t).writes me + 1)
     (turned : place p.tog word ≡ flip ((history t).toggles me word)) where
   abbrev m7 : Registers
   m7 = after_57 me (Updating word arg) (history t) p
@@ -260,10 +308,13 @@ module _ (n w me word arg : ℕ) (history : ℕ → Registers) (t : ℕ) (p : Va
   new_word = written me (Updating word arg) (history t) p
 
   word_here : word_at m7.words word ≡ new_word
-  word_here = let len : length (history t).words ≡ w = now.size in get_or-set_at (history t).words (word - 1) (word - 1) new_word no_word refl (omega arith)
+  word_here =
+      let len : length (history t).words ≡ w = now.size in
+      get_or-set_at (history t).words (word - 1) (word - 1) new_word no_word refl (omega arith)
 
   word_there : (k : ℕ) → IsOneOf w k → k ≢ word → word_at m7.words k ≡ word_at (history t).words k
-  word_there k h other = get_or-set_other (history t).words (word - 1) (k - 1) new_word no_word (λ same. other (omega arith))
+  word_there k h other =
+      get_or-set_other (history t).words (word - 1) (k - 1) new_word no_word (λ same. other (omega arith))
 
   wrote_here : m7.writes me ≡ (history t).writes me + 1
   wrote_here = raised_here (history t).writes me
@@ -274,7 +325,9 @@ module _ (n w me word arg : ℕ) (history : ℕ → Registers) (t : ℕ) (p : Va
       record {
         later = subst (λ (x : Word). seq_at (history t).words word < x.seq) (sym word_here) (omega arith);
         writer = subst (IsOneOf n) (sym id) one;
-        wrote = subst (λ y. (history t).writes y < m7.writes y) (sym id) (let e : m7.writes me ≡ (history t).writes me + 1 = wrote_here in omega arith);
+        wrote =
+            subst (λ y. (history t).writes y < m7.writes y) (sym id)
+            (let e : m7.writes me ≡ (history t).writes me + 1 = wrote_here in omega arith);
         turned = λ e. flip_other ((history t).toggles me word)
             (sym turned ∙ ap (λ (x : Word). x.toggle) (sym word_here) ∙ e ∙ ap (λ y. (history t).toggles y word) id);
       }
@@ -287,7 +340,9 @@ module _ (n w me word arg : ℕ) (history : ℕ → Registers) (t : ℕ) (p : Va
     ];
     writes = λ c h. more_or_same (nat_eq c me) ((history t).writes c);
     toggles = λ c k h i. elim (cases_eq c me) [
-      | inl same ↦ inr (subst (λ y. (history t).writes y < m7.writes y) (sym same) (let e : m7.writes me ≡ (history t).writes me + 1 = wrote_here in omega arith))
+      | inl same ↦
+          inr (subst (λ y. (history t).writes y < m7.writes y) (sym same)
+          (let e : m7.writes me ≡ (history t).writes me + 1 = wrote_here in omega arith))
       | inr other ↦ inl (sym (with_at_there (history t).toggles me word (place p.tog word) c k other))
     ];
     bits = λ c i h j. inl (refl, refl);
@@ -298,10 +353,12 @@ module _ (n w me word arg : ℕ) (history : ℕ → Registers) (t : ℕ) (p : Va
   toggle_57 k h named =
       elim (cases_eq k word) [
         | inl same ↦ subst (λ y. toggle_at m7 y ≡ m7.toggles (id_at m7 y) y) (sym same)
-            (ap (λ (x : Word). x.toggle) word_here ∙ sym (ap (λ y. m7.toggles y word) (ap (λ (x : Word). x.id) word_here) ∙ with_at_here (history t).toggles me word (place p.tog word)))
+            (ap (λ (x : Word). x.toggle) word_here ∙ sym (ap (λ y. m7.toggles y word)
+            (ap (λ (x : Word). x.id) word_here) ∙ with_at_here (history t).toggles me word (place p.tog word)))
         | inr other ↦ (let same : word_at m7.words k ≡ word_at (history t).words k = word_there k h other in
             ap (λ (x : Word). x.toggle) same ∙ now.toggle k h (subst (λ (x : Word). IsOneOf n x.id) same named)
-            ∙ ap (λ (x : Word). (history t).toggles x.id k) (sym same) ∙ sym (with_at_elsewhere (history t).toggles me word (place p.tog word) (id_at m7 k) k other))
+            ∙ ap (λ (x : Word). (history t).toggles x.id k) (sym same)
+            ∙ sym (with_at_elsewhere (history t).toggles me word (place p.tog word) (id_at m7 k) k other))
       ]
 
   pub now_57 : Now n w m7
@@ -312,25 +369,34 @@ module _ (n w me word arg : ℕ) (history : ℕ → Registers) (t : ℕ) (p : Va
     views = now.views;
     named = λ k h pos. elim (cases_eq k word) [
       | inl same ↦ subst (λ y. IsOneOf n (id_at m7 y)) (sym same) (rewritten.writer)
-      | inr other ↦ subst (λ (x : Word). IsOneOf n x.id) (sym (word_there k h other)) (now.named k h (subst (λ (x : Word). 0 < x.seq) (word_there k h other) pos))
+      | inr other ↦
+          subst (λ (x : Word). IsOneOf n x.id) (sym (word_there k h other))
+          (now.named k h (subst (λ (x : Word). 0 < x.seq) (word_there k h other) pos))
     ];
     toggle = toggle_57;
     bits = now.bits;
     answers_from = λ c i h j. elim (cases_eq c me) [
       | inl same ↦ subst (λ y. m7.writes y ≤ (history t).answers y i) (sym same)
-          (let e : m7.writes me ≡ (history t).writes me + 1 = wrote_here in let f : (history t).answers me i ≡ (history t).writes me + 1 = answers_are i j in omega arith)
-      | inr other ↦ subst (λ v. v ≤ (history t).answers c i) (sym (raised_there (history t).writes me c other)) (now.answers_from c i h j)
+          (let e : m7.writes me ≡ (history t).writes me + 1 =
+          wrote_here in let f : (history t).answers me i ≡ (history t).writes me + 1 = answers_are i j in omega arith)
+      | inr other ↦
+          subst (λ v. v ≤ (history t).answers c i)
+          (sym (raised_there (history t).writes me c other)) (now.answers_from c i h j)
     ];
     answers_to = λ c i h j. let a : (history t).answers c i ≤ (history t).writes c + 1 = now.answers_to c i h j in
         let b : (history t).writes c ≤ m7.writes c = more_or_same (nat_eq c me) ((history t).writes c) in omega arith;
     puts_from = λ c h. elim (cases_eq c me) [
-      | inl same ↦ subst (λ y. m7.writes y ≤ (history t).puts y) (sym same) (let e : m7.writes me ≡ (history t).writes me + 1 = wrote_here in omega arith)
-      | inr other ↦ subst (λ v. v ≤ (history t).puts c) (sym (raised_there (history t).writes me c other)) (now.puts_from c h)
+      | inl same ↦
+          subst (λ y. m7.writes y ≤ (history t).puts y) (sym same)
+          (let e : m7.writes me ≡ (history t).writes me + 1 = wrote_here in omega arith)
+      | inr other ↦
+          subst (λ v. v ≤ (history t).puts c) (sym (raised_there (history t).writes me c other)) (now.puts_from c h)
     ];
     puts_to = now.puts_to;
   }
 
-pub untouched_57 : (n w me k : ℕ) (d : Mode) (m : Registers) (p : Variables) → k ≢ me → Untouched n w k m (after_57 me d m p)
+pub untouched_57 : (n w me k : ℕ) (d : Mode) (m : Registers) (p : Variables) → k ≢ me →
+    Untouched n w k m (after_57 me d m p)
 untouched_57 n w me k d m p other = record {
   asks = λ c o. refl;
   writes = raised_there m.writes me k other;

@@ -6,8 +6,8 @@ use Rattle.snap_runs_of_m.specs.ListingM.{j, k, x, moved, g, h, d, tog}
 use Rattle.snap_runs_of_m.specs.Promises.{run_of}
 
 -- M has no sequence numbers, and a word has the number of its writer. Local j is a process, k a word, and x a bit or a
--- process; a scan borrows the view of a process that it has seen move three times, and so sees no fourth move; the other
--- rows are bits.
+-- process; a scan borrows the view of a process that it has seen move three times, and so sees no fourth move; the
+-- other rows are bits.
 abbrev pub limits : ℕ → ℕ → Limits
 limits n w = record {
   seq = 0;

@@ -1,4 +1,5 @@
--- Listing M: words that every process writes, with ids and toggles, handshake bits and views of their own.
+-- Listing M as a `Source`: words that every process writes, with ids
+-- and toggles; handshake bits and views in registers of their own.
 use Rattle.std.specs.Prelude.{ℕ, [], ◌∷◌, Some, None}
 use Rattle.snap_words.specs.declared.kind.Field.TheVariants as field
 use Rattle.snap_words.specs.declared.kind.KindTag.TheVariants as kind
@@ -7,7 +8,9 @@ use Rattle.snap_semantics.specs.declared.instr.Condition.TheVariants.{One, Two}
 use Rattle.snap_semantics.specs.declared.instr.Expr.TheVariants.{Term, Sum, Not}
 use Rattle.snap_semantics.specs.declared.instr.Index.TheVariants.{Number, Me, Word, Place, Scalar}
 use Rattle.snap_semantics.specs.declared.instr.Instr.{Instr}
-use Rattle.snap_semantics.specs.declared.instr.Instr.TheVariants.{Let, LetPlace, Get, Bit, Look, Put, PutBit, PutView, ViewData, Each, First, Next, If, IfAll, Goto, Call, Return, Finish}
+use Rattle.snap_semantics.specs.declared.instr.Instr.TheVariants.{Let, LetPlace, Get, Bit, Look, Put, PutBit, PutView}
+use Rattle.snap_semantics.specs.declared.instr.Instr.TheVariants.{ViewData, Each, First, Next, If, IfAll}
+use Rattle.snap_semantics.specs.declared.instr.Instr.TheVariants.{Goto, Call, Return, Finish}
 use Rattle.snap_semantics.specs.declared.instr.Join.TheVariants.{And}
 use Rattle.snap_semantics.specs.declared.instr.Line.{Line}
 use Rattle.snap_semantics.specs.declared.instr.Range.TheVariants.{Processes, Words}
@@ -89,13 +92,16 @@ listing_m = record {
       ∷ at 22 (LetPlace h (Scalar j) (Term (Index (Scalar x))))
       ∷ at 23 (Next j Processes 21)
       ∷ at 24 (Each Processes d (Term (number 0)) None)
-      ∷ at 25 (Each Processes d (Term (number 1)) (Some (One (record { left = Row h Place; relation = Different; right = Row g Place }))))
-      ∷ at 26 (If (Two And (record { left = id_of a; relation = Equal; right = id_of b }) (record { left = toggle_of a; relation = Equal; right = toggle_of b })) 29)
+      ∷ at 25 (Each Processes d (Term (number 1))
+      (Some (One (record { left = Row h Place; relation = Different; right = Row g Place }))))
+      ∷ at 26 (If (Two And (record { left = id_of a; relation = Equal; right = id_of b })
+      (record { left = toggle_of a; relation = Equal; right = toggle_of b })) 29)
       ∷ at 27 (Let x (Term (id_of b)))
       ∷ at 28 (LetPlace d (Scalar x) (Term (number 1)))
       ∷ at 29 (Next k Words 26)
       ∷ at 30 (IfAll Processes (One (record { left = Row d Place; relation = Equal; right = number 0 })) 34)
-      ∷ at 31 (Each Processes moved (Sum (Row moved Place) (number 1)) (Some (One (record { left = Row d Place; relation = Equal; right = number 1 }))))
+      ∷ at 31 (Each Processes moved (Sum (Row moved Place) (number 1))
+      (Some (One (record { left = Row d Place; relation = Equal; right = number 1 }))))
       ∷ at 32 (First j Processes (One (record { left = Row moved Place; relation = Equal; right = number 3 })) 36)
       ∷ at 33 (Goto 13)
       ∷ at 34 (ViewData s b)

@@ -1,5 +1,5 @@
--- What every run of listing M keeps, for every number of processes and of words, however long it is. There is at least one
--- word: with none line 17 would have nothing to read.
+-- What every run of listing M keeps, for every number of processes and of words, however long it is. There is at
+-- least one word: with none line 17 would have nothing to read.
 use Rattle.std.specs.Prelude.{◌≡◌, ℕ, ◌+◌, ◌-◌, ◌*◌, ◌<◌, ◌≤◌, ◌⊎◌, true, List, Option, None}
 use Rattle.snap_words.specs.Kind.{fits}
 use Rattle.snap_words.specs.Shape.{Counts, IsShape}
@@ -61,7 +61,8 @@ SharpCollects = (n w : ℕ) (items : List Item) → 0 < w → promises.CollectsA
 -- An event of process j that process i can see: j writes a word, or answers the handshake in the bit that i reads.
 abbrev pub IsEvent : Run → ℕ → ℕ → ℕ → Type 0
 IsEvent r i j t =
-    (executes r j 57 t ≡ true) ⊎ ((executes r j 52 t ≡ true) × (value_at counter (process_at (before r t) j).locals.scalars 0 ≡ i))
+    (executes r j 57 t ≡ true)
+    ⊎ ((executes r j 52 t ≡ true) × (value_at counter (process_at (before r t) j).locals.scalars 0 ≡ i))
 
 -- Between items c and t process j has such an event, and process i has at most one double collect from there to item t.
 pub record RecentEvent (r : Run) (i j c t : ℕ) : Type 0 where
@@ -71,7 +72,8 @@ pub record RecentEvent (r : Run) (i j c t : ℕ) : Type 0 where
   pub event : IsEvent r i j item
   pub recent : double_collects r i item t ≤ 1
 
--- A move that a scan sees at line 31 is an event since its previous double collect, or since its start where there is none.
+-- A move that a scan sees at line 31 is an event since its previous double collect, or since
+-- its start where there is none.
 abbrev pub MovesAreEvents : Type 0
 MovesAreEvents = (n w : ℕ) (items : List Item) → 0 < w → IsValidRun (run_of n w items) →
     (i j : ℕ) (link : Option ℕ) (c t : ℕ) → PendingScan (run_of n w items) i link c t → c < t →
@@ -83,7 +85,8 @@ double_collect = record { first = 17; second = 19; scalar = k; test = 30; passed
 
 -- A test that passes is clean: no word is written between its two reads.
 abbrev pub PassedTestsAreClean : Type 0
-PassedTestsAreClean = (n w : ℕ) (items : List Item) → 0 < w → promises.PassedTestsAreClean double_collect 57 (run_of n w items)
+PassedTestsAreClean =
+    (n w : ℕ) (items : List Item) → 0 < w → promises.PassedTestsAreClean double_collect 57 (run_of n w items)
 
 -- Every run is linearizable: its operations are as if each took place at one moment between its call and its end.
 abbrev pub Linearizable : Type 0
@@ -97,11 +100,12 @@ OperationsHavePlaces = (n w : ℕ) (items : List Item) → 0 < w → placement.O
 abbrev pub WriteStronglyLinearizable : Type 0
 WriteStronglyLinearizable = (n w : ℕ) → 0 < w → IsWriteStronglyLinearizable listing_m (counts n w) None
 
--- Every call is over after so many turns of its process, whatever the others do: a scan after the steps above, and an update after
--- 14 n n + 16 n w + 22 n + 8 w + 16.
+-- Every call is over after so many turns of its process, whatever the others do: a scan after the steps above, and an
+-- update after 14 n n + 16 n w + 22 n + 8 w + 16.
 abbrev pub WaitFree : Type 0
 WaitFree = (n w : ℕ) (items : List Item) → 0 < w →
-    IsWaitFree (14 * (n * n) + 16 * (n * w) + 19 * n + 8 * w + 10) (14 * (n * n) + 16 * (n * w) + 22 * n + 8 * w + 16) (run_of n w items)
+    IsWaitFree (14 * (n * n) + 16 * (n * w) + 19 * n + 8 * w + 10)
+    (14 * (n * n) + 16 * (n * w) + 22 * n + 8 * w + 16) (run_of n w items)
 
 -- A scan that returns at line 37 has the view of an embedded scan of another process, all within it.
 abbrev pub BorrowedViewsAreLent : Type 0
@@ -109,7 +113,12 @@ BorrowedViewsAreLent = (n w : ℕ) (items : List Item) → 0 < w → promises.Bo
 
 -- the line at which an update writes, and the bounds of scans
 abbrev pub bounds : Counts → Bounds
-bounds s = record { writes = 57; collects = 2 * s.n + 1; sharp = 2 * s.n - 1; steps = 14 * (s.n * s.n) + 16 * (s.n * s.w) + 19 * s.n + 8 * s.w + 10 }
+bounds s = record {
+  writes = 57;
+  collects = 2 * s.n + 1;
+  sharp = 2 * s.n - 1;
+  steps = 14 * (s.n * s.n) + 16 * (s.n * s.w) + 19 * s.n + 8 * s.w + 10;
+}
 
 -- Every run of M, of whatever shape fits, is a run of a snapshot.
 abbrev pub RunsAreSnapshots : Type 0

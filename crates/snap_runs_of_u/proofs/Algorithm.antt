@@ -1,5 +1,6 @@
 -- Listing U in its own words: its lines, its variables, and what each line does.
-use Rattle.std.specs.Prelude.{◌≡◌, ◌⊎◌, ℕ, ◌+◌, ◌-◌, max, Bool, true, false, not, List, [], ◌∷◌, take, map, Option, Some, None, nat_eq, nat_lt, if◌then◌else◌, slice_index, slice_set, replicate, refl}
+use Rattle.std.specs.Prelude.{◌≡◌, ◌⊎◌, ℕ, ◌+◌, ◌-◌, max, Bool, true, false, not, List, [], ◌∷◌, take, map, Option}
+use Rattle.std.specs.Prelude.{Some, None, nat_eq, nat_lt, if◌then◌else◌, slice_index, slice_set, replicate, refl}
 use Rattle.snap_words.specs.Kind.{initial_word}
 use Rattle.snap_words.specs.Word.{Word}
 use Rattle.snap_words.specs.declared.kind.KindTag.TheVariants as kind
@@ -8,7 +9,8 @@ use Rattle.snap_semantics.specs.Table.{places_to, all_true, first_true, entry}
 use Rattle.snap_semantics.specs.declared.process.Op.{Op}
 use Rattle.snap_semantics.specs.declared.process.Op.TheVariants.{Scan, Update}
 use Rattle.snap_runs.proofs.Algorithm as typed
-use Rattle.snap_runs.proofs.Algorithm.{Mode, Scanning, Embedded, Updating, value_of, To, Begin, Answer, Finish, Algorithm, returning, embedding}
+use Rattle.snap_runs.proofs.Algorithm.{Mode, Scanning, Embedded, Updating, value_of, To, Begin, Answer, Finish}
+use Rattle.snap_runs.proofs.Algorithm.{Algorithm, returning, embedding}
 use Rattle.snap_runs.proofs.Flow.{Lines, IsScanOf, IsUpdateOf, IsLine}
 use Rattle.snap_runs.proofs.Held.{word_at}
 use Rattle.snap_runs.proofs.Places.{for_each}
@@ -120,7 +122,8 @@ at_limit p k = nat_eq (moved_at p k) limit
 
 -- lines 13 and 15
 abbrev pub next_to : ℕ → Mode → Words → Variables → ProgramCounter → ProgramCounter → Move
-next_to n d m p back on = if nat_lt p.j n then To d m (record p { j = p.j + 1 }) back else To d m (record p { j = 1 }) on
+next_to n d m p back on =
+    if nat_lt p.j n then To d m (record p { j = p.j + 1 }) back else To d m (record p { j = 1 }) on
 
 -- the line that borrows a view
 abbrev pub borrows : ProgramCounter

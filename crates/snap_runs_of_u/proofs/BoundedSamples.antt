@@ -99,7 +99,10 @@ after_crash_within = record {
         locals = record {
           scalars = (omega arith, (omega arith, tt));
           rows = ((omega arith, (omega arith, (omega arith, tt))), tt);
-          words = ((omega arith, (unwritten_within, (written_within, tt))), ((omega arith, (unwritten_within, (written_within, tt))), tt));
+          words = (
+            (omega arith, (unwritten_within, (written_within, tt))),
+            ((omega arith, (unwritten_within, (written_within, tt))), tt),
+          );
           views = ((omega arith, (inl refl, (five_asked, tt))), tt);
         };
       },
@@ -109,7 +112,10 @@ after_crash_within = record {
           locals = record {
             scalars = (omega arith, (omega arith, tt));
             rows = ((omega arith, (omega arith, (omega arith, tt))), tt);
-            words = ((omega arith, (unwritten_within, (unwritten_within, tt))), ((omega arith, (unwritten_within, (unwritten_within, tt))), tt));
+            words = (
+              (omega arith, (unwritten_within, (unwritten_within, tt))),
+              ((omega arith, (unwritten_within, (unwritten_within, tt))), tt),
+            );
             views = ((omega arith, (inl refl, (inl refl, tt))), tt);
           };
         },
@@ -120,14 +126,16 @@ after_crash_within = record {
 }
 
 -- Item 17 is the write, and the one by which a sequence number grows.
-number_grows : (executes (run_of 2 crash_and_scan) 2 32 17 ≡ true) × (sequence_numbers (state (run_of 2 crash_and_scan) 16) ≡ 0 ∷ 0 ∷ [])
+number_grows : (executes (run_of 2 crash_and_scan) 2 32 17 ≡ true)
+    × (sequence_numbers (state (run_of 2 crash_and_scan) 16) ≡ 0 ∷ 0 ∷ [])
     × (sequence_numbers (state (run_of 2 crash_and_scan) 17) ≡ 0 ∷ 1 ∷ [])
 number_grows = (refl, refl, refl)
 
 -- Process 2 updates twice while process 1 scans: the scan sees two moves, which is the limit of row `moved`.
 abbrev scan_borrows : List Item
 scan_borrows =
-    Call 1 Scan ∷ (replicate 6 (Step 1) ++ (Call 2 (Update 2 5) ∷ (replicate 17 (Step 2) ++ (replicate 12 (Step 1) ++ (Call 2 (Update 2 6) ∷ (replicate 17 (Step 2) ++ replicate 9 (Step 1)))))))
+    Call 1 Scan ∷ (replicate 6 (Step 1) ++ (Call 2 (Update 2 5) ∷ (replicate 17 (Step 2)
+    ++ (replicate 12 (Step 1) ++ (Call 2 (Update 2 6) ∷ (replicate 17 (Step 2) ++ replicate 9 (Step 1)))))))
 
 moves_reach_limit : row_place (process_at (state (run_of 2 scan_borrows) 61) 1).locals moved 2 ≡ 2
 moves_reach_limit = refl

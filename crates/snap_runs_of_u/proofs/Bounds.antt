@@ -1,4 +1,4 @@
--- The double collects and the steps of every scan of U.
+-- Every scan of U keeps the limits of its promises: on its double collects, with the sharp one, and on its own steps.
 use Rattle.std.specs.Prelude.{◌+◌}
 use Rattle.std.proofs.Common.{arith}
 use Rattle.snap_runs_frame.proofs.Every as every
@@ -9,7 +9,8 @@ pub sharp_collects_lem : SharpCollects
 sharp_collects_lem n items suffice = every.few_collects (frame n) items (calm_kept n items suffice)
 
 pub few_collects_lem : FewCollects
-few_collects_lem n items suffice = every.fewer_collects (frame n) items (calm_kept n items suffice) (n + 1) (omega arith)
+few_collects_lem n items suffice =
+    every.fewer_collects (frame n) items (calm_kept n items suffice) (n + 1) (omega arith)
 
 pub few_steps_lem : FewSteps
 few_steps_lem n items suffice = every.few_steps (frame n) items (calm_kept n items suffice)

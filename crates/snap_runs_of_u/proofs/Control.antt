@@ -1,5 +1,6 @@
 -- Which variables a process of U has at each line, and that no line traps.
-use Rattle.std.specs.Prelude.{◌≡◌, ℕ, ◌+◌, ◌^◌, ◌<◌, ◌≤◌, not, ◌&&◌, map, Some, None, nat_eq, nat_lt, nat_le, if◌then◌else◌, refl}
+use Rattle.std.specs.Prelude.{◌≡◌, ℕ, ◌+◌, ◌^◌, ◌<◌, ◌≤◌, not, ◌&&◌, map, Some, None}
+use Rattle.std.specs.Prelude.{nat_eq, nat_lt, nat_le, if◌then◌else◌, refl}
 use Rattle.std.proofs.Common.{arith}
 use Rattle.snap_words.specs.Shape.{IsOneOf}
 use Rattle.snap_words.specs.declared.kind.KindTag.TheVariants as kind
@@ -7,12 +8,16 @@ use Rattle.snap_semantics.specs.Table.{places_to, all_true, first_true, call_ski
 use Rattle.snap_semantics.specs.declared.process.Op.{Op}
 use Rattle.snap_semantics.specs.declared.process.Op.TheVariants.{Scan, Update}
 use Rattle.snap_semantics.specs.declared.process.Reason.TheVariants.{NoSuchWord, NotOwner}
-use Rattle.snap_runs.proofs.Algorithm.{Mode, Scanning, Embedded, Updating, mode_of, op_of, Idle, At, WhenBusy, LeadsTo, leads_to}
+use Rattle.snap_runs.proofs.Algorithm.{Mode, Scanning, Embedded, Updating, mode_of, op_of}
+use Rattle.snap_runs.proofs.Algorithm.{Idle, At, WhenBusy, LeadsTo, leads_to}
 use Rattle.snap_runs.proofs.Computing.{lt_from, same_from, either, whether, differs, raised_most, none_then}
 use Rattle.snap_runs.proofs.Embedding as embed
 use Rattle.snap_runs.proofs.Places.{for_each_at, first_found, first_none}
 use Rattle.snap_runs_of_u.specs.Promises.{square}
-use Rattle.snap_runs_of_u.proofs.Algorithm.{Words, Move, Control, Variables, ProgramCounter, L10, L11, L12, L13, L14, L15, L16, L17, L18, L19, L21, L22, L23, L24, L30, L31, L32, L33, agree, limit, moved_at, counted, at_limit, move, first_to, counter, algorithm, IsLineOf}
+use Rattle.snap_runs_of_u.proofs.Algorithm.{Words, Move, Control, Variables, ProgramCounter, L10, L11, L12, L13, L14}
+use Rattle.snap_runs_of_u.proofs.Algorithm.{L15, L16, L17, L18, L19, L21, L22, L23, L24, L30, L31, L32, L33, agree}
+use Rattle.snap_runs_of_u.proofs.Algorithm.{limit, moved_at, counted, at_limit, move}
+use Rattle.snap_runs_of_u.proofs.Algorithm.{first_to, counter, algorithm, IsLineOf}
 use Rattle.snap_runs_of_u.proofs.Lines.{Needs, each_line}
 
 -- no process has been seen to move up to the limit, or none beyond it
@@ -40,25 +45,42 @@ VariablesAt n p _ = Unit {0}
 abbrev pub MoveWell : Op → ℕ → ℕ → Move → Type 0
 MoveWell op n me v = LeadsTo (λ d p k. IsLineOf me d k × VariablesAt n p k × (op_of d ≡ op)) v
 
-pub move_well : (n me : ℕ) (d : Mode) (m : Words) (p : Variables) (k : ProgramCounter) → IsOneOf n me → IsLineOf me d k → VariablesAt n p k →
-    MoveWell (op_of d) n me (move n me d m p k)
+pub move_well : (n me : ℕ) (d : Mode) (m : Words) (p : Variables) (k : ProgramCounter) → IsOneOf n me →
+    IsLineOf me d k → VariablesAt n p k → MoveWell (op_of d) n me (move n me d m p k)
 move_well n me d m p L10 i s h = (s, λ k e. rw (for_each_at n (λ k. 0) p.moved k e) (omega arith), refl)
 move_well n me d m p L11 i s h = (s, ((omega arith, omega arith), h), refl)
 move_well n me d m p L12 i s h = (s, h, refl)
 move_well n me d m p L13 i s h =
-    either (MoveWell (op_of d) n me) (nat_lt p.j n) _ _ (λ b. let j : p.j < n = lt_from p.j n b in (s, ((omega arith, omega arith), h.1), refl))
+    either (MoveWell (op_of d) n me) (nat_lt p.j n) _ _ (λ b.
+    let j : p.j < n = lt_from p.j n b in (s, ((omega arith, omega arith), h.1), refl))
     (λ b. (s, ((omega arith, omega arith), h.1), refl))
 move_well n me d m p L14 i s h = (s, h, refl)
 move_well n me d m p L15 i s h =
-    either (MoveWell (op_of d) n me) (nat_lt p.j n) _ _ (λ b. let j : p.j < n = lt_from p.j n b in (s, ((omega arith, omega arith), h.1), refl))
+    either (MoveWell (op_of d) n me) (nat_lt p.j n) _ _ (λ b.
+    let j : p.j < n = lt_from p.j n b in (s, ((omega arith, omega arith), h.1), refl))
     (λ b. (s, (refl, h.1), refl))
 move_well n me d m p L16 i s h =
-    either (MoveWell (op_of d) n me) (all_true (map (agree p) (places_to n))) _ _ (λ b. (s, tt, refl)) (λ b. (s, h, refl))
-move_well n me d m p L17 i s h =
-    (s, (h.0, λ k e. rw (for_each_at n (counted p) p.moved k e) (raised_most (not (agree p k)) (moved_at p k) limit (h.1 k e))), refl)
+    either (MoveWell (op_of d) n me) (all_true (map (agree p) (places_to n))) _ _
+    (λ b. (s, tt, refl)) (λ b. (s, h, refl))
+move_well n me d m p L17 i s h = (
+  s,
+  (
+    h.0,
+    λ k e.
+        rw (for_each_at n (counted p) p.moved k e) (raised_most (not (agree p k)) (moved_at p k) limit (h.1 k e)),
+  ),
+  refl,
+)
 move_well n me d m p L18 i s h =
     whether (MoveWell (op_of d) n me) (first_to d m p) (first_true 1 (map (at_limit p) (places_to n)))
-    (λ e. (s, (h.0, λ k o. differs (moved_at p k) limit (first_none 1 n (at_limit p) e k (omega arith) (omega arith)) (h.1 k o)), refl))
+    (λ e. (
+      s,
+      (
+        h.0,
+        λ k o. differs (moved_at p k) limit (first_none 1 n (at_limit p) e k (omega arith) (omega arith)) (h.1 k o),
+      ),
+      refl,
+    ))
     (λ k e. let r = first_found 1 n (at_limit p) k e in (s, (omega arith, omega arith), refl))
 move_well n me d m p L19 i s h = (s, ((omega arith, omega arith), h.1), refl)
 move_well n me d m p L21 i s h = (s, tt, refl)
@@ -77,7 +99,8 @@ move_well n me d m p L32 i s h = (s, tt, refl)
 move_well n me d m p L33 i s h = tt
 
 -- what a line needs is kept; the number that line 31 raises is at most the number of items
-needs : (n time me : ℕ) (p : Variables) (k : ProgramCounter) → IsOneOf n me → p.c ≤ time → time + 1 < 2 ^ 64 → VariablesAt n p k → Needs n me p k
+needs : (n time me : ℕ) (p : Variables) (k : ProgramCounter) → IsOneOf n me → p.c ≤ time → time + 1 < 2 ^ 64 →
+    VariablesAt n p k → Needs n me p k
 needs n time me p L12 i c b h = h.0
 needs n time me p L14 i c b h = h.0
 needs n time me p L17 i c b h = h.1
@@ -88,7 +111,9 @@ needs n time me p k i c b h = tt
 
 -- an update that is not skipped is of the caller's own word
 own_word : (n i word value : ℕ) → call_skip kind.Seq (square n) i (Update word value) ≡ None → word ≡ i
-own_word n i word value h = same_from word i (none_then (nat_eq word i) None NotOwner (none_then (nat_lt 0 word && nat_le word n) (if nat_eq word i then None else Some NotOwner) NoSuchWord h).1).0
+own_word n i word value h =
+    same_from word i (none_then (nat_eq word i) None NotOwner
+    (none_then (nat_lt 0 word && nat_le word n) (if nat_eq word i then None else Some NotOwner) NoSuchWord h).1).0
 
 -- A busy process is at a line of its mode, with the variables that the line asks for.
 abbrev pub ControlWell : ℕ → ℕ → Variables → Control → Type 0
@@ -100,8 +125,10 @@ called_well n me p Scan e = (tt, tt)
 called_well n me p (Update word value) e = (own_word n me word value e, tt)
 
 -- no line traps: each does its move
-pub does : (n time me : ℕ) (m : Words) (p : Variables) (control : Control) → IsOneOf n me → p.c ≤ time → time + 1 < 2 ^ 64 → ControlWell n me p control →
-    embed.Does (algorithm n) me m p control
+pub does : (n time me : ℕ) (m : Words) (p : Variables) (control : Control) → IsOneOf n me → p.c ≤ time →
+    time + 1 < 2 ^ 64 → ControlWell n me p control → embed.Does (algorithm n) me m p control
 does n time me m p Idle i c b h = tt
-does n time me m p (At d k) i c b h =
-    (each_line n me d m p k h.0 (needs n time me p k i c b h.1), leads_to _ _ (λ d p k well. well.2) (move n me d m p k) (move_well n me d m p k i h.0 h.1))
+does n time me m p (At d k) i c b h = (
+  each_line n me d m p k h.0 (needs n time me p k i c b h.1),
+  leads_to _ _ (λ d p k well. well.2) (move n me d m p k) (move_well n me d m p k i h.0 h.1),
+)

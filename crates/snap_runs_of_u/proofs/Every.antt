@@ -1,4 +1,5 @@
--- What every run of U promises.
+-- Every run of U keeps its promises, by the frame that U, B and M share: no
+-- traps, one write for each update, a point for each scan, linearizable.
 use Rattle.std.specs.Prelude.{ℕ, ◌+◌, ◌^◌, Some}
 use Rattle.std.proofs.Common.{subst, sym, arith}
 use Rattle.std.proofs.lemmas.Bool.{eqb-true}
@@ -7,7 +8,9 @@ use Rattle.snap_runs.proofs.Prefixes.{write_strongly_linearizable_by_points}
 use Rattle.snap_runs_frame.proofs.Every as every
 use Rattle.snap_runs_frame.proofs.Single as single
 use Rattle.snap_runs_of_u.specs.ListingU.{listing_u}
-use Rattle.snap_runs_of_u.specs.Promises.{NeverTraps, ChangesOnlyAt32, WritesItsUpdate, WritesOnce, HavePoints, Linearizable, OperationsHavePlaces, WriteStronglyLinearizable, WaitFree, OwnUpdatesAreSeen, RunsAreSnapshots, bounds, square}
+use Rattle.snap_runs_of_u.specs.Promises.{NeverTraps, ChangesOnlyAt32, WritesItsUpdate, WritesOnce, HavePoints}
+use Rattle.snap_runs_of_u.specs.Promises.{Linearizable, OperationsHavePlaces, WriteStronglyLinearizable, WaitFree}
+use Rattle.snap_runs_of_u.specs.Promises.{OwnUpdatesAreSeen, RunsAreSnapshots, bounds, square}
 use Rattle.snap_runs_of_u.proofs.Kept.{frame, calm_kept}
 use Rattle.snap_runs_of_u.proofs.Ready.{ready}
 use Rattle.snap_runs_of_u.proofs.Runs.{invariant}
@@ -49,5 +52,7 @@ own_updates_are_seen_lem n items suffice =
 -- of a shape that fits, as it has a word for each process
 pub runs_are_snapshots_lem : RunsAreSnapshots
 runs_are_snapshots_lem s items shape fit suffice =
-    subst (λ (w : ℕ). IsSnapshotRun (bounds s) (record { source = listing_u; shape = record { n = s.n; w = w }; items = items }))
-    (sym (eqb-true s.w s.n fit)) (every.snapshot (frame s.n) items (calm_kept s.n items suffice) (s.n + 1) (omega arith))
+    subst (λ (w : ℕ).
+    IsSnapshotRun (bounds s) (record { source = listing_u; shape = record { n = s.n; w = w }; items = items }))
+    (sym (eqb-true s.w s.n fit))
+    (every.snapshot (frame s.n) items (calm_kept s.n items suffice) (s.n + 1) (omega arith))

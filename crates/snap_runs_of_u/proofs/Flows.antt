@@ -18,7 +18,10 @@ use Rattle.snap_runs.proofs.Scans as scans
 use Rattle.snap_runs.proofs.WordWrites as word_writes
 use Rattle.snap_runs.proofs.WritesOnce as writes_once
 use Rattle.snap_runs_of_u.specs.ListingU.{listing_u}
-use Rattle.snap_runs_of_u.proofs.Algorithm.{Words, Move, Control, Variables, ProgramCounter, L10, L11, L12, L13, L14, L15, L16, L17, L18, L19, L21, L22, L23, L24, L30, L31, L32, L33, number, locals_of, agree, at_limit, move, first_to, algorithm, IsScan, IsLineOf, writes, written, word_put, lines}
+use Rattle.snap_runs_of_u.proofs.Algorithm.{Words, Move, Control, Variables, ProgramCounter, L10, L11, L12, L13, L14}
+use Rattle.snap_runs_of_u.proofs.Algorithm.{L15, L16, L17, L18, L19, L21, L22, L23, L24, L30, L31, L32, L33, number}
+use Rattle.snap_runs_of_u.proofs.Algorithm.{locals_of, agree, at_limit, move, first_to, algorithm, IsScan, IsLineOf}
+use Rattle.snap_runs_of_u.proofs.Algorithm.{writes, written, word_put, lines}
 
 abbrev pub Making : Control → Type 0
 Making = flow.Making lines
@@ -30,18 +33,26 @@ abbrev pub Flows : ℕ → Mode → Words → Variables → ProgramCounter → M
 Flows n = flow.Flows lines (algorithm n)
 
 -- a line of a scan that goes on
-on : (n me : ℕ) (d : Mode) (m : Words) (p p' : Variables) (k k' : ProgramCounter) → IsScan me d → writes k ≡ 0 → Flows n d m p k (To d m p' k')
-on n me d m p p' k k' s quiet = flow.within lines (algorithm n) d m m p p' k k' (scan_inside (λ word. word ≡ me) d s) quiet refl
+on : (n me : ℕ) (d : Mode) (m : Words) (p p' : Variables) (k k' : ProgramCounter) → IsScan me d → writes k ≡ 0 →
+    Flows n d m p k (To d m p' k')
+on n me d m p p' k k' s quiet =
+    flow.within lines (algorithm n) d m m p p' k k' (scan_inside (λ word. word ≡ me) d s) quiet refl
 
-pub flows : (n me : ℕ) (d : Mode) (m : Words) (p : Variables) (k : ProgramCounter) → IsLineOf me d k → Flows n d m p k (move n me d m p k)
+pub flows : (n me : ℕ) (d : Mode) (m : Words) (p : Variables) (k : ProgramCounter) → IsLineOf me d k →
+    Flows n d m p k (move n me d m p k)
 flows n me d m p L10 s = on n me d m p _ L10 _ s refl
 flows n me d m p L11 s = on n me d m p _ L11 _ s refl
 flows n me d m p L12 s = on n me d m p _ L12 _ s refl
-flows n me d m p L13 s = either (Flows n d m p L13) (nat_lt p.j n) _ _ (λ b. on n me d m p _ L13 _ s refl) (λ b. on n me d m p _ L13 _ s refl)
+flows n me d m p L13 s =
+    either (Flows n d m p L13) (nat_lt p.j n) _ _ (λ b. on n me d m p _ L13 _ s refl)
+    (λ b. on n me d m p _ L13 _ s refl)
 flows n me d m p L14 s = on n me d m p _ L14 _ s refl
-flows n me d m p L15 s = either (Flows n d m p L15) (nat_lt p.j n) _ _ (λ b. on n me d m p _ L15 _ s refl) (λ b. on n me d m p _ L15 _ s refl)
+flows n me d m p L15 s =
+    either (Flows n d m p L15) (nat_lt p.j n) _ _ (λ b. on n me d m p _ L15 _ s refl)
+    (λ b. on n me d m p _ L15 _ s refl)
 flows n me d m p L16 s =
-    either (Flows n d m p L16) (all_true (map (agree p) (places_to n))) _ _ (λ b. on n me d m p _ L16 _ s refl) (λ b. on n me d m p _ L16 _ s refl)
+    either (Flows n d m p L16) (all_true (map (agree p) (places_to n))) _ _ (λ b. on n me d m p _ L16 _ s refl)
+    (λ b. on n me d m p _ L16 _ s refl)
 flows n me d m p L17 s = on n me d m p _ L17 _ s refl
 flows n me d m p L18 s =
     whether (Flows n d m p L18) (first_to d m p) (first_true 1 (map (at_limit p) (places_to n)))
@@ -92,13 +103,42 @@ counter_with k =
     else None
 
 pub line_listed : (n : ℕ) (k : ProgramCounter) → LineListed (algorithm n) lines 32 counter_with k
-line_listed n L22 = record { alone = refl; tested = refl; wrote = refl; calls = λ h. absurd h; returns = λ p v h. (inl refl, h); once = omega arith }
-line_listed n L24 = record { alone = refl; tested = refl; wrote = refl; calls = λ h. absurd h; returns = λ p v h. (inr refl, h); once = omega arith }
-line_listed n L30 = record { alone = refl; tested = refl; wrote = refl; calls = λ h me d m p. span.embeds (algorithm n) L10 d p; returns = λ p v h. absurd h; once = omega arith }
-line_listed n k = record { alone = refl; tested = refl; wrote = refl; calls = λ h. absurd h; returns = λ p v h. absurd h; once = omega arith }
+line_listed n L22 = record {
+  alone = refl;
+  tested = refl;
+  wrote = refl;
+  calls = λ h. absurd h;
+  returns = λ p v h. (inl refl, h);
+  once = omega arith;
+}
+line_listed n L24 = record {
+  alone = refl;
+  tested = refl;
+  wrote = refl;
+  calls = λ h. absurd h;
+  returns = λ p v h. (inr refl, h);
+  once = omega arith;
+}
+line_listed n L30 = record {
+  alone = refl;
+  tested = refl;
+  wrote = refl;
+  calls = λ h me d m p. span.embeds (algorithm n) L10 d p;
+  returns = λ p v h. absurd h;
+  once = omega arith;
+}
+line_listed n k = record {
+  alone = refl;
+  tested = refl;
+  wrote = refl;
+  calls = λ h. absurd h;
+  returns = λ p v h. absurd h;
+  once = omega arith;
+}
 
 -- lines 22 and 24 return s
-answers : (p : Variables) (k : ProgramCounter) → lines.IsReturn k → ReturnsView (instr_at listing_u.lines (number k)) (locals_of p) p.s
+answers : (p : Variables) (k : ProgramCounter) → lines.IsReturn k →
+    ReturnsView (instr_at listing_u.lines (number k)) (locals_of p) p.s
 answers p k (inl is) = subst (λ y. ReturnsView (instr_at listing_u.lines (number y)) (locals_of p) p.s) (sym is) refl
 answers p k (inr is) = subst (λ y. ReturnsView (instr_at listing_u.lines (number y)) (locals_of p) p.s) (sym is) refl
 
@@ -107,20 +147,27 @@ abbrev pub Embeds : ℕ → Mode → Variables → ProgramCounter → Move → T
 Embeds n = embedded.Embeds (algorithm n) lines
 
 -- a line of a scan that goes on
-stay : (n me : ℕ) (d : Mode) (m : Words) (p p' : Variables) (k k' : ProgramCounter) → IsScan me d → (lines.IsReturn k → ⊥) → Embeds n d p k (To d m p' k')
+stay : (n me : ℕ) (d : Mode) (m : Words) (p p' : Variables) (k k' : ProgramCounter) → IsScan me d →
+    (lines.IsReturn k → ⊥) → Embeds n d p k (To d m p' k')
 stay n me Scanning m p p' k k' s none = refl
 stay n me (Embedded word value) m p p' k k' s none = inl (refl, none)
 stay n me (Updating word value) m p p' k k' s none = absurd s
 
-pub embeds : (n me : ℕ) (d : Mode) (m : Words) (p : Variables) (k : ProgramCounter) → IsLineOf me d k → Embeds n d p k (move n me d m p k)
+pub embeds : (n me : ℕ) (d : Mode) (m : Words) (p : Variables) (k : ProgramCounter) → IsLineOf me d k →
+    Embeds n d p k (move n me d m p k)
 embeds n me d m p L10 s = stay n me d m p _ L10 _ s (answers p L10)
 embeds n me d m p L11 s = stay n me d m p _ L11 _ s (answers p L11)
 embeds n me d m p L12 s = stay n me d m p _ L12 _ s (answers p L12)
-embeds n me d m p L13 s = either (Embeds n d p L13) (nat_lt p.j n) _ _ (λ b. stay n me d m p _ L13 _ s (answers p L13)) (λ b. stay n me d m p _ L13 _ s (answers p L13))
+embeds n me d m p L13 s =
+    either (Embeds n d p L13) (nat_lt p.j n) _ _ (λ b. stay n me d m p _ L13 _ s (answers p L13))
+    (λ b. stay n me d m p _ L13 _ s (answers p L13))
 embeds n me d m p L14 s = stay n me d m p _ L14 _ s (answers p L14)
-embeds n me d m p L15 s = either (Embeds n d p L15) (nat_lt p.j n) _ _ (λ b. stay n me d m p _ L15 _ s (answers p L15)) (λ b. stay n me d m p _ L15 _ s (answers p L15))
+embeds n me d m p L15 s =
+    either (Embeds n d p L15) (nat_lt p.j n) _ _ (λ b. stay n me d m p _ L15 _ s (answers p L15))
+    (λ b. stay n me d m p _ L15 _ s (answers p L15))
 embeds n me d m p L16 s =
-    either (Embeds n d p L16) (all_true (map (agree p) (places_to n))) _ _ (λ b. stay n me d m p _ L16 _ s (answers p L16)) (λ b. stay n me d m p _ L16 _ s (answers p L16))
+    either (Embeds n d p L16) (all_true (map (agree p) (places_to n))) _ _
+    (λ b. stay n me d m p _ L16 _ s (answers p L16)) (λ b. stay n me d m p _ L16 _ s (answers p L16))
 embeds n me d m p L17 s = stay n me d m p _ L17 _ s (answers p L17)
 embeds n me d m p L18 s =
     whether (Embeds n d p L18) (first_to d m p) (first_true 1 (map (at_limit p) (places_to n)))

@@ -55,22 +55,24 @@ pub record ProcessInvariant (n t : ℕ) (history : ℕ → Words) (words : Words
   -- an update has written once at line 33, and not before
   pub wrote : HasWritten q.control q.auxiliary.wrote
 
--- A view that process v makes after its word, b, was written since u's last scan started, is made by a scan that started no
--- earlier than u's.
+-- A view that process v makes after its word, b, was written since u's last scan started, is made by a scan that
+-- started no earlier than u's.
 abbrev pub PairInvariant : (ℕ → Words) → Words → Process → Process → ℕ → Type 0
-PairInvariant history words u v b = Making v.control → seq_at (history u.auxiliary.since) b < seq_at words b → u.auxiliary.since ≤ v.auxiliary.since
+PairInvariant history words u v b =
+    Making v.control → seq_at (history u.auxiliary.since) b < seq_at words b → u.auxiliary.since ≤ v.auxiliary.since
 
 -- What holds in every state of a run: the words, each process, and each pair of processes.
 pub record Invariant (n t : ℕ) (history : ℕ → Words) (x : State) : Type 0 where
   -- there is a word for each process
   pub size : length x.memory ≡ n
   pub each : (i : ℕ) → IsOneOf n i → ProcessInvariant n t history x.memory i (typed_at (algorithm n) x i)
-  pub start : (i k : ℕ) → IsOneOf n i → IsOneOf n k → PairInvariant history x.memory (typed_at (algorithm n) x i) (typed_at (algorithm n) x k) k
+  pub start : (i k : ℕ) → IsOneOf n i → IsOneOf n k →
+      PairInvariant history x.memory (typed_at (algorithm n) x i) (typed_at (algorithm n) x k) k
 
 -- other processes act
-pub others_act : (n t t' : ℕ) (history : ℕ → Words) (words words' : Words) (i : ℕ) (q : Process) → t ≤ t' → Grows n words words' →
-    seq_at words' i ≡ seq_at words i →
-    Viewed n history t' q.auxiliary.since words' → ProcessInvariant n t history words i q → ProcessInvariant n t' history words' i q
+pub others_act : (n t t' : ℕ) (history : ℕ → Words) (words words' : Words) (i : ℕ) (q : Process) → t ≤ t' →
+    Grows n words words' → seq_at words' i ≡ seq_at words i → Viewed n history t' q.auxiliary.since words' →
+    ProcessInvariant n t history words i q → ProcessInvariant n t' history words' i q
 others_act n t t' history words words' i q le g same v h = record {
   well = h.well;
   length_a = h.length_a;
@@ -83,7 +85,10 @@ others_act n t t' history words words' i q le g same v h = record {
   opened = λ k i. let l : seq_at (history q.auxiliary.round) k ≤ seq_at words k = h.opened k i in
       let s : seq_at words k ≤ seq_at words' k = before_seq (word_at words k) (word_at words' k) (g k i) in omega arith;
   views = v;
-  stage = when_busy _ _ (λ d k. stage_kept n history t t' q.auxiliary.since q.auxiliary.round words words' q.variables k le g) q.control h.stage;
+  stage =
+      when_busy _ _
+      (λ d k. stage_kept n history t t' q.auxiliary.since q.auxiliary.round words words' q.variables k le g)
+      q.control h.stage;
   self = λ scan. h.self scan ∙ sym same;
   counts = h.counts;
   wrote = h.wrote;
@@ -93,13 +98,17 @@ others_act n t t' history words words' i q le g same v h = record {
 pub time_passes : (n t : ℕ) (history : ℕ → Words) (x : State) → Invariant n t history x → Invariant n (suc t) history x
 time_passes n t history x h = record {
   size = h.size;
-  each = λ i e. others_act n t (suc t) history x.memory x.memory i (typed_at (algorithm n) x i) (omega arith) (λ k j. inr refl) refl
-      (λ k j more. held_wider history t (suc t) _ _ _ (omega arith) (omega arith) ((h.each i e).views k j more)) (h.each i e);
+  each =
+      λ i e. others_act n t (suc t) history x.memory x.memory i (typed_at (algorithm n) x i)
+      (omega arith) (λ k j. inr refl) refl
+      (λ k j more. held_wider history t (suc t) _ _ _ (omega arith) (omega arith) ((h.each i e).views k j more))
+      (h.each i e);
   start = h.start;
 }
 
 -- one process changes and the words stay: its scan goes on, or it starts one at item t
-pub process_changes : (n t : ℕ) (history : ℕ → Words) (x : State) (i : ℕ) (q' : Process) (o : Outcome) → length x.processes ≡ n → IsOneOf n i →
+pub process_changes : (n t : ℕ) (history : ℕ → Words) (x : State) (i : ℕ) (q' : Process) (o : Outcome) →
+    length x.processes ≡ n → IsOneOf n i →
     history t ≡ x.memory → Invariant n t history x → ProcessInvariant n t history x.memory i q' →
     (Making q'.control → (q'.auxiliary.since ≡ t) ⊎ Making (typed_at (algorithm n) x i).control) →
     ((q'.auxiliary.since ≡ t) ⊎ (q'.auxiliary.since ≡ (typed_at (algorithm n) x i).auxiliary.since)) →
@@ -109,12 +118,17 @@ process_changes n t history x i q' o count one now h own made scan =
     let words = x.memory in
     record {
       size = h.size;
-      each = frame.each_next a x i words q' o count one (ProcessInvariant n t history words) own (λ k j other. h.each k j);
+      each =
+          frame.each_next a x i words q' o count one (ProcessInvariant n t history words) own (λ k j other. h.each k j);
       start = frame.pairs_next a x i words q' o count one (PairInvariant history words) (record {
         own = λ making more. omega arith;
         first = λ k j other making more. elim scan [
-          | inl fresh ↦ absurd (let e : seq_at (history q'.auxiliary.since) k ≡ seq_at words k = ap (λ s. seq_at (history s) k) fresh ∙ ap (λ w. seq_at w k) now in omega arith)
-          | inr same ↦ subst (λ s. s ≤ (typed_at a x k).auxiliary.since) (sym same) (h.start i k one j making (subst (λ s. seq_at (history s) k < seq_at words k) same more))
+          | inl fresh ↦
+              absurd (let e : seq_at (history q'.auxiliary.since) k ≡ seq_at words k =
+              ap (λ s. seq_at (history s) k) fresh ∙ ap (λ w. seq_at w k) now in omega arith)
+          | inr same ↦
+              subst (λ s. s ≤ (typed_at a x k).auxiliary.since) (sym same)
+              (h.start i k one j making (subst (λ s. seq_at (history s) k < seq_at words k) same more))
         ];
         second = λ k j other making more.
             let started : (typed_at a x k).auxiliary.since ≤ t = (h.each k j).since_le in
@@ -122,7 +136,8 @@ process_changes n t history x i q' o count one now h own made scan =
               | inl fresh ↦ omega arith
               | inr same ↦ elim (made making) [
                 | inl fresh ↦ omega arith
-                | inr before ↦ subst (λ s. (typed_at a x k).auxiliary.since ≤ s) (sym same) (h.start k i j one before more)
+                | inr before ↦
+                    subst (λ s. (typed_at a x k).auxiliary.since ≤ s) (sym same) (h.start k i j one before more)
               ]
             ];
         others = λ k l jk jl other away. h.start k l jk jl;

@@ -11,7 +11,8 @@ use Rattle.snap_runs.proofs.Steady.{Steady}
 use Rattle.snap_runs.proofs.UpdateSteps.{Ahead, Nearer, Resumes}
 use Rattle.snap_runs_frame.proofs.Frame as frames
 use Rattle.snap_runs_of_u.specs.Promises.{run_of, SequenceNumbersSuffice}
-use Rattle.snap_runs_of_u.proofs.Algorithm.{Words, Variables, ProgramCounter, L30, L31, L32, L33, IsUpdate, IsLineOf, in_update, tests, move, lines, algorithm}
+use Rattle.snap_runs_of_u.proofs.Algorithm.{Words, Variables, ProgramCounter, L30, L31, L32, L33, IsUpdate, IsLineOf}
+use Rattle.snap_runs_of_u.proofs.Algorithm.{in_update, tests, move, lines, algorithm}
 use Rattle.snap_runs_of_u.proofs.Count.{collects_le, own_le}
 use Rattle.snap_runs_of_u.proofs.Flows.{numbered, listed, once, writer}
 use Rattle.snap_runs_of_u.proofs.Preserve.{few_moves}
@@ -26,8 +27,8 @@ pub updates : (n : ℕ) (items : List Item) → Ready n items → (t i : ℕ) (d
 updates n items fits t i d h one e = (well_of n items fits t i d L32 (omega arith) one e).0
 
 -- at a line that returns s, the values were s at some state since the scan's start
-pub return_held : (n : ℕ) (history : ℕ → Words) (t since round : ℕ) (m : Words) (p : Variables) (k : ProgramCounter) → lines.IsReturn k →
-    Stage n history t since round m p k → Held history t since p.s
+pub return_held : (n : ℕ) (history : ℕ → Words) (t since round : ℕ) (m : Words) (p : Variables) (k : ProgramCounter) →
+    lines.IsReturn k → Stage n history t since round m p k → Held history t since p.s
 return_held n history t since round m p k (inl is) h = subst (Stage n history t since round m p) is h
 return_held n history t since round m p k (inr is) h = (subst (Stage n history t since round m p) is h).0
 
@@ -36,9 +37,10 @@ abbrev pub most_steps : ℕ → ℕ
 most_steps n = 4 * (n * n) + 8 * n + 7
 
 -- the bounds at each line
-pub within : (n : ℕ) (items : List Item) → Ready n items → (t i : ℕ) (d : Mode) (k : ProgramCounter) → t ≤ length items → IsOneOf n i →
-    (process_after n items t i).control ≡ At d k → IsInScan d →
-    ((process_after n items t i).auxiliary.collects + tests k ≤ n) × ((process_after n items t i).auxiliary.own + 1 ≤ most_steps n)
+pub within : (n : ℕ) (items : List Item) → Ready n items → (t i : ℕ) (d : Mode) (k : ProgramCounter) →
+    t ≤ length items → IsOneOf n i → (process_after n items t i).control ≡ At d k → IsInScan d →
+    ((process_after n items t i).auxiliary.collects + tests k ≤ n)
+    × ((process_after n items t i).auxiliary.own + 1 ≤ most_steps n)
 within n items fits t i d k le one at scan =
     let q = process_after n items t i in
     let g = q.auxiliary in
@@ -69,7 +71,8 @@ scanned _ = true
 abbrev its : (n : ℕ) → Ahead (algorithm n) lines
 its n = record { ahead = λ p k. ahead k; scanned = scanned; rest = 3; total = 4 }
 
-pub nearer : (n me word value : ℕ) (m : Words) (p : Variables) (k : ProgramCounter) → IsLineOf me (Updating word value) k →
+pub nearer : (n me word value : ℕ) (m : Words) (p : Variables) (k : ProgramCounter) →
+    IsLineOf me (Updating word value) k →
     Nearer (algorithm n) lines (its n) p k (move n me (Updating word value) m p k)
 nearer n me word value m p L30 s = (omega arith, refl)
 nearer n me word value m p L31 s = (omega arith, refl)
@@ -80,9 +83,11 @@ nearer n me word value m p k s = absurd s
 pub resumes : (n me word value : ℕ) (m : Words) (p : Variables) (k : ProgramCounter) → lines.IsReturn k →
     Resumes (algorithm n) lines (its n) (move n me (Embedded word value) m p k)
 resumes n me word value m p k (inl is) =
-    subst (λ y. Resumes (algorithm n) lines (its n) (move n me (Embedded word value) m p y)) (sym is) (omega arith, refl)
+    subst (λ y. Resumes (algorithm n) lines (its n) (move n me (Embedded word value) m p y)) (sym is)
+    (omega arith, refl)
 resumes n me word value m p k (inr is) =
-    subst (λ y. Resumes (algorithm n) lines (its n) (move n me (Embedded word value) m p y)) (sym is) (omega arith, refl)
+    subst (λ y. Resumes (algorithm n) lines (its n) (move n me (Embedded word value) m p y)) (sym is)
+    (omega arith, refl)
 
 abbrev pub frame : (n : ℕ) → frames.Frame (algorithm n) lines 32
 frame n = record {

@@ -19,18 +19,21 @@ not_late : (op : Op) → IsLate (counter op) → ⊥
 not_late Scan late = late
 not_late (Update word value) late = late
 
-lends : (n : ℕ) (items : List Item) (fits : Ready n items) → single.Lends (frame n) (λ i word is. is) items (kept n items fits)
+lends : (n : ℕ) (items : List Item) (fits : Ready n items) →
+    single.Lends (frame n) (λ i word is. is) items (kept n items fits)
 lends n items fits = record {
   sizes = λ t short. (invariant n items fits t short).size;
   pairs = λ t i k short one kone making more. (invariant n items fits t short).start i k one kone making more;
   counts = λ t k word value short one is.
-      (invariant_of n items fits t k (omega arith) one).seq ∙ ap (λ (y : Control). seq_at (words_at n items t) k + pending y) is;
+      (invariant_of n items fits t k (omega arith) one).seq
+      ∙ ap (λ (y : Control). seq_at (words_at n items t) k + pending y) is;
   views = λ t k word value. refl;
   late = tt;
   not_late = not_late;
   embeds = λ t i short one.
       let q = process_after n items t i in
-      when_busy _ _ (λ d k well. embeds n i d (words_at n items t) q.variables k well.0) q.control (invariant_of n items fits t i (omega arith) one).well;
+      when_busy _ _ (λ d k well. embeds n i d (words_at n items t) q.variables k well.0) q.control
+      (invariant_of n items fits t i (omega arith) one).well;
 }
 
 pub borrowed_views_are_lent_lem : BorrowedViewsAreLent

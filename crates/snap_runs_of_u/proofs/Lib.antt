@@ -1,3 +1,4 @@
+-- The proofs of snap_runs_of_u, by their modules.
 pub mod Algorithm
 pub mod Lines
 pub mod Control

@@ -1,4 +1,5 @@
--- Runs of U without crashes that have enough sequence numbers, and the one through which a run with crashes is looked at.
+-- Runs of U without crashes that have enough sequence numbers, and the one through which a run with crashes is looked
+-- at.
 use Rattle.std.specs.Prelude.{ℕ, ◌<◌, ◌^◌, List}
 use Rattle.std.proofs.Common.{subst, sym}
 use Rattle.snap_semantics.specs.declared.process.Item.{Item}
@@ -11,6 +12,7 @@ pub record Ready (n : ℕ) (items : List Item) : Type 0 where
   pub suffice : SequenceNumbersSuffice items
 
 -- it has as many items
-pub ready : (n : ℕ) (items : List Item) → SequenceNumbersSuffice items → Steady (calm (run_of n items)) → Ready n (calm_list (run_of n items))
+pub ready : (n : ℕ) (items : List Item) → SequenceNumbersSuffice items → Steady (calm (run_of n items)) →
+    Ready n (calm_list (run_of n items))
 ready n items suffice steady =
     record { steady = steady; suffice = subst (λ k. k < 2 ^ 64) (sym (same_length (run_of n items))) suffice }

@@ -10,7 +10,8 @@ use Rattle.snap_runs.proofs.Embedding as embed
 use Rattle.snap_runs.proofs.Held.{word_at, seq_at, at_most_now}
 use Rattle.snap_runs.proofs.Scans as scans
 use Rattle.snap_runs.proofs.States.{at_each}
-use Rattle.snap_runs_of_u.proofs.Algorithm.{Words, Control, Process, State, ProgramCounter, first_word, IsLineOf, lines, algorithm}
+use Rattle.snap_runs_of_u.proofs.Algorithm.{Words, Control, Process, State, ProgramCounter}
+use Rattle.snap_runs_of_u.proofs.Algorithm.{first_word, IsLineOf, lines, algorithm}
 use Rattle.snap_runs_of_u.proofs.Control.{ControlWell, VariablesAt, does}
 use Rattle.snap_runs_of_u.proofs.Count.{Count}
 use Rattle.snap_runs_of_u.proofs.Flows.{flows}
@@ -37,7 +38,8 @@ zero_at n k h = get_or-replicate n (k - 1) (first_word n) no_word (omega arith)
 process_at_the_start : (n : ℕ) (history : ℕ → Words) (i : ℕ) → IsOneOf n i → history 0 ≡ replicate n (first_word n) →
     ProcessInvariant n 0 history (replicate n (first_word n)) i (first_process (algorithm n))
 process_at_the_start n history i h now =
-    let z : (k : ℕ) → IsOneOf n k → seq_at (replicate n (first_word n)) k ≡ 0 = λ k j. ap (λ (y : Word). y.seq) (zero_at n k j) in
+    let z : (k : ℕ) → IsOneOf n k → seq_at (replicate n (first_word n)) k ≡ 0 =
+    λ k j. ap (λ (y : Word). y.seq) (zero_at n k j) in
     record {
       well = tt;
       length_a = length-replicate (max n n) (first_word n);
@@ -54,13 +56,19 @@ process_at_the_start n history i h now =
       wrote = tt;
     }
 
-at_the_start : (n : ℕ) (history : ℕ → Words) → history 0 ≡ replicate n (first_word n) → Invariant n 0 history (first_state (algorithm n))
+at_the_start : (n : ℕ) (history : ℕ → Words) → history 0 ≡ replicate n (first_word n) →
+    Invariant n 0 history (first_state (algorithm n))
 at_the_start n history now =
     let at = embed.first_process_is (algorithm n) in
     record {
       size = length-replicate n (first_word n);
-      each = λ i h. subst (λ (q : Process). ProcessInvariant n 0 history (replicate n (first_word n)) i q) (sym (at i h)) (process_at_the_start n history i h now);
-      start = λ i k h j. subst (λ (q : Process). PairInvariant history (replicate n (first_word n)) (typed_at (algorithm n) (first_state (algorithm n)) i) q k) (sym (at k j)) (λ making lt. absurd making);
+      each =
+          λ i h. subst (λ (q : Process). ProcessInvariant n 0 history (replicate n (first_word n)) i q) (sym (at i h))
+          (process_at_the_start n history i h now);
+      start =
+          λ i k h j. subst (λ (q : Process).
+          PairInvariant history (replicate n (first_word n)) (typed_at (algorithm n) (first_state (algorithm n)) i) q k)
+          (sym (at k j)) (λ making lt. absurd making);
     }
 
 -- the invariant at state t, where each state up to there has had as many words
@@ -68,9 +76,11 @@ pub invariant : (n : ℕ) (items : List Item) → Ready n items → (t : ℕ) �
     Invariant n t (words_at n items) (state_at n items t)
 invariant n items fits =
     let a = algorithm n in
-    at_each (λ t. Invariant n t (words_at n items) (state_at n items t)) (λ t. length (words_at n items t) ≡ n) (length items)
+    at_each (λ t. Invariant n t (words_at n items) (state_at n items t))
+    (λ t. length (words_at n items t) ≡ n) (length items)
     (at_the_start n (words_at n items) refl) (λ t h. h.size)
-    (λ t lt sizes h. item_keeps n t (words_at n items) (state_at n items t) (item_at items t) sizes (embed.count a items t) (embed.one_at a items fits.steady t lt) h refl)
+    (λ t lt sizes h. item_keeps n t (words_at n items) (state_at n items t) (item_at items t) sizes
+    (embed.count a items t) (embed.one_at a items fits.steady t lt) h refl)
 
 pub invariant_of : (n : ℕ) (items : List Item) → Ready n items → (t i : ℕ) → t ≤ length items → IsOneOf n i →
     ProcessInvariant n t (words_at n items) (words_at n items t) i (process_after n items t i)
@@ -80,7 +90,8 @@ pub all_do : (n : ℕ) (items : List Item) → Ready n items → embed.AllDo (al
 all_do n items fits t i h one =
     let o = invariant_of n items fits t i (omega arith) one in
     let few : length items < 2 ^ 64 = fits.suffice in
-    does n t i (words_at n items t) (process_after n items t i).variables (process_after n items t i).control one o.fresh (omega arith) o.well
+    does n t i (words_at n items t) (process_after n items t i).variables
+    (process_after n items t i).control one o.fresh (omega arith) o.well
 
 -- the run, with what is known of its lines
 abbrev pub execution : (n : ℕ) (items : List Item) → Ready n items → scans.Execution (algorithm n) lines
@@ -90,28 +101,35 @@ execution n items fits = record {
   does = all_do n items fits;
   flows = λ t i h one.
       let q = process_after n items t i in
-      when_busy _ _ (λ d k well. flows n i d (words_at n items t) q.variables k well.0) q.control (invariant_of n items fits t i (omega arith) one).well;
+      when_busy _ _ (λ d k well. flows n i d (words_at n items t) q.variables k well.0) q.control
+      (invariant_of n items fits t i (omega arith) one).well;
   wrote = λ t i h one. (invariant_of n items fits t i h one).wrote;
 }
 
 -- what a process at a line keeps there
-pub well_of : (n : ℕ) (items : List Item) → Ready n items → (t i : ℕ) (d : Mode) (k : ProgramCounter) → t ≤ length items → IsOneOf n i →
-    (process_after n items t i).control ≡ At d k →
+pub well_of : (n : ℕ) (items : List Item) → Ready n items → (t i : ℕ) (d : Mode) (k : ProgramCounter) →
+    t ≤ length items → IsOneOf n i → (process_after n items t i).control ≡ At d k →
     IsLineOf i d k × VariablesAt n (process_after n items t i).variables k
-well_of n items fits t i d k le one e = subst (ControlWell n i (process_after n items t i).variables) e (invariant_of n items fits t i le one).well
+well_of n items fits t i d k le one e =
+    subst (ControlWell n i (process_after n items t i).variables) e (invariant_of n items fits t i le one).well
 
 -- a busy process is at the stage of its line
-pub stage_of : (n : ℕ) (items : List Item) → Ready n items → (t i : ℕ) (d : Mode) (k : ProgramCounter) → t ≤ length items → IsOneOf n i →
-    (process_after n items t i).control ≡ At d k →
-    Stage n (words_at n items) t (process_after n items t i).auxiliary.since (process_after n items t i).auxiliary.round (words_at n items t) (process_after n items t i).variables k
+pub stage_of : (n : ℕ) (items : List Item) → Ready n items → (t i : ℕ) (d : Mode) (k : ProgramCounter) →
+    t ≤ length items → IsOneOf n i → (process_after n items t i).control ≡ At d k →
+    Stage n (words_at n items) t (process_after n items t i).auxiliary.since
+    (process_after n items t i).auxiliary.round (words_at n items t) (process_after n items t i).variables k
 stage_of n items fits t i d k le one e =
     let q = process_after n items t i in
-    subst (λ (p : Control). StageAt n (words_at n items) t q.auxiliary.since q.auxiliary.round (words_at n items t) q.variables p) e (invariant_of n items fits t i le one).stage
+    subst (λ (p : Control).
+    StageAt n (words_at n items) t q.auxiliary.since q.auxiliary.round (words_at n items t) q.variables p)
+    e (invariant_of n items fits t i le one).stage
 
 -- and its counts are those of its line
-pub counts_of : (n : ℕ) (items : List Item) → Ready n items → (t i : ℕ) (d : Mode) (k : ProgramCounter) → t ≤ length items → IsOneOf n i →
-    (process_after n items t i).control ≡ At d k →
-    Count n (process_after n items t i).variables (process_after n items t i).auxiliary.own (process_after n items t i).auxiliary.collects (process_after n items t i).auxiliary.tested k
+pub counts_of : (n : ℕ) (items : List Item) → Ready n items → (t i : ℕ) (d : Mode) (k : ProgramCounter) →
+    t ≤ length items → IsOneOf n i → (process_after n items t i).control ≡ At d k →
+    Count n (process_after n items t i).variables (process_after n items t i).auxiliary.own
+    (process_after n items t i).auxiliary.collects (process_after n items t i).auxiliary.tested k
 counts_of n items fits t i d k le one e =
     let q = process_after n items t i in
-    subst (CountAt n q.variables q.auxiliary.own q.auxiliary.collects q.auxiliary.tested) e (invariant_of n items fits t i le one).counts
+    subst (CountAt n q.variables q.auxiliary.own q.auxiliary.collects q.auxiliary.tested) e
+    (invariant_of n items fits t i le one).counts

@@ -1,4 +1,4 @@
--- Line 32, the only line of U that other processes see.
+-- Line 32 of U, which writes a word and is the only line that other processes see, keeps the invariant.
 use Rattle.std.specs.Prelude.{◌≡◌, ◌≢◌, ℕ, suc, ◌+◌, ◌-◌, ◌<◌, ◌≤◌, length, slice_set, refl}
 use Rattle.std.proofs.Common.{sym, ◌∙◌, ap, subst, arith, inl, inr}
 use Rattle.std.proofs.lemmas.Bool.{cases_eq}
@@ -12,12 +12,14 @@ use Rattle.snap_runs.proofs.Flow.{IsInScan, not_update}
 use Rattle.snap_runs.proofs.Frame as frame
 use Rattle.snap_runs.proofs.Held.{word_at, Held, held_wider, seq_at, WordBefore, before_seq, Grows}
 use Rattle.snap_runs.proofs.Flow as flow
-use Rattle.snap_runs_of_u.proofs.Algorithm.{Words, Control, Process, State, L32, L33, IsUpdate, word_put, algorithm, lines}
+use Rattle.snap_runs_of_u.proofs.Algorithm.{Words, Control, Process, State, L32, L33}
+use Rattle.snap_runs_of_u.proofs.Algorithm.{IsUpdate, word_put, algorithm, lines}
 use Rattle.snap_runs_of_u.proofs.Collect.{Viewed}
 use Rattle.snap_runs_of_u.proofs.Flows.{Making, HasWritten}
 use Rattle.snap_runs_of_u.proofs.Invariant.{ProcessInvariant, PairInvariant, Invariant, StageAt, pending, others_act}
 
-module _ (n t : ℕ) (history : ℕ → Words) (x : State) (i : ℕ) (d : Mode) (one : IsOneOf n i) (h : Invariant n t history x)
+module _ (n t : ℕ) (history : ℕ → Words) (x : State) (i : ℕ) (d : Mode)
+    (one : IsOneOf n i) (h : Invariant n t history x)
     (at_32 : (typed_at (algorithm n) x i).control ≡ At d L32) (up : IsUpdate i d) where
   -- process k before the write, the new word, and the words and the writer after it
   abbrev pub at : ℕ → Process
@@ -30,7 +32,11 @@ module _ (n t : ℕ) (history : ℕ → Words) (x : State) (i : ℕ) (d : Mode) 
   after = slice_set x.memory (i - 1) word
 
   abbrev pub writer : Process
-  writer = record { control = At d L33; variables = (at i).variables; auxiliary = stepped_auxiliary (algorithm n) L32 (suc t) (at i).auxiliary }
+  writer = record {
+    control = At d L33;
+    variables = (at i).variables;
+    auxiliary = stepped_auxiliary (algorithm n) L32 (suc t) (at i).auxiliary;
+  }
 
   new_word : (k : ℕ) → k ≡ i → word_at after k ≡ word
   new_word k e =
@@ -48,17 +54,23 @@ module _ (n t : ℕ) (history : ℕ → Words) (x : State) (i : ℕ) (d : Mode) 
   grows k j =
       let more : (at i).variables.c ≡ seq_at x.memory i + 1 = one_ahead in
       elim (cases_eq k i) [
-        | inl same ↦ subst (λ (y : Word). WordBefore (word_at x.memory k) y) (sym (new_word k same)) (inl (subst (λ y. seq_at x.memory y < (at i).variables.c) (sym same) (omega arith)))
+        | inl same ↦
+            subst (λ (y : Word). WordBefore (word_at x.memory k) y) (sym (new_word k same))
+            (inl (subst (λ y. seq_at x.memory y < (at i).variables.c) (sym same) (omega arith)))
         | inr other ↦ inr (sym (old_word k j other))
       ]
 
   not_older : (old : Words) (k : ℕ) → IsOneOf n k → seq_at old k ≤ seq_at x.memory k → seq_at old k ≤ seq_at after k
-  not_older old k j le = let more : seq_at x.memory k ≤ seq_at after k = before_seq (word_at x.memory k) (word_at after k) (grows k j) in omega arith
+  not_older old k j le =
+      let more : seq_at x.memory k ≤ seq_at after k = before_seq (word_at x.memory k) (word_at after k) (grows k j) in
+      omega arith
 
   -- the view that is written was held since the writer's embedded scan started
   held : Held history t (at i).auxiliary.since (at i).variables.s
   held =
-      subst (λ (p : Control). StageAt n history t (at i).auxiliary.since (at i).auxiliary.round x.memory (at i).variables p) at_32 (h.each i one).stage
+      subst
+      (λ (p : Control). StageAt n history t (at i).auxiliary.since (at i).auxiliary.round x.memory (at i).variables p)
+      at_32 (h.each i one).stage
 
   making : Making (at i).control
   making = subst Making (sym at_32) (flow.late_makes lines (λ word. word ≡ i) d L32 up tt)
@@ -69,12 +81,17 @@ module _ (n t : ℕ) (history : ℕ → Words) (x : State) (i : ℕ) (d : Mode) 
       let base = history (at u).auxiliary.since in
       let ahead : (at i).variables.c ≡ seq_at x.memory i + 1 = one_ahead in
       elim (cases_eq k i) [
-        | inl same ↦ subst (λ (y : Word). seq_at base k + 2 ≤ y.seq → Held history (suc t) (at u).auxiliary.since y.view) (sym (new_word k same))
+        | inl same ↦
+            subst (λ (y : Word). seq_at base k + 2 ≤ y.seq → Held history (suc t) (at u).auxiliary.since y.view)
+            (sym (new_word k same))
             (λ second.
             let there : seq_at base k ≡ seq_at base i = ap (seq_at base) same in
             let enough : seq_at base k + 2 ≤ (at i).variables.c = second in
-            held_wider history t (suc t) (at i).auxiliary.since (at u).auxiliary.since (at i).variables.s (omega arith) (h.start u i ju one making (omega arith)) held)
-        | inr other ↦ subst (λ (y : Word). seq_at base k + 2 ≤ y.seq → Held history (suc t) (at u).auxiliary.since y.view) (sym (old_word k jk other))
+            held_wider history t (suc t) (at i).auxiliary.since (at u).auxiliary.since (at i).variables.s
+            (omega arith) (h.start u i ju one making (omega arith)) held)
+        | inr other ↦
+            subst (λ (y : Word). seq_at base k + 2 ≤ y.seq → Held history (suc t) (at u).auxiliary.since y.view)
+            (sym (old_word k jk other))
             (λ second. held_wider history t (suc t) _ _ _ (omega arith) (omega arith) ((h.each u ju).views k jk second))
       ]
 
@@ -94,22 +111,29 @@ module _ (n t : ℕ) (history : ℕ → Words) (x : State) (i : ℕ) (d : Mode) 
         stage = tt;
         self = λ scan. absurd (not_update (λ word. word ≡ i) d scan up);
         counts = tt;
-        wrote = flow.writes_more lines (λ word. word ≡ i) d L32 L33 (at i).auxiliary.wrote up refl (subst (λ (p : Control). HasWritten p (at i).auxiliary.wrote) at_32 own.wrote);
+        wrote =
+            flow.writes_more lines (λ word. word ≡ i) d L32 L33 (at i).auxiliary.wrote up refl
+            (subst (λ (p : Control). HasWritten p (at i).auxiliary.wrote) at_32 own.wrote);
       }
 
   others_keep : (k : ℕ) → IsOneOf n k → k ≢ i → ProcessInvariant n (suc t) history after k (at k)
   others_keep k j other =
-      others_act n t (suc t) history x.memory after k (at k) (omega arith) grows (ap (λ (y : Word). y.seq) (old_word k j other)) (viewed k j) (h.each k j)
+      others_act n t (suc t) history x.memory after k (at k) (omega arith) grows
+      (ap (λ (y : Word). y.seq) (old_word k j other)) (viewed k j) (h.each k j)
 
   -- a process that goes on making a view has not written
   pair_keeps : (u k : ℕ) → IsOneOf n u → IsOneOf n k → k ≢ i → PairInvariant history after (at u) (at k) k
   pair_keeps u k ju jk other made more =
-      h.start u k ju jk made (subst (λ (y : Word). seq_at (history (at u).auxiliary.since) k < y.seq) (old_word k jk other) more)
+      h.start u k ju jk made
+      (subst (λ (y : Word). seq_at (history (at u).auxiliary.since) k < y.seq) (old_word k jk other) more)
 
-  pub line_32_writes : (o : Outcome) → length x.processes ≡ n → Invariant n (suc t) history (changed x i (New after writer o))
+  pub line_32_writes : (o : Outcome) → length x.processes ≡ n →
+      Invariant n (suc t) history (changed x i (New after writer o))
   line_32_writes o count = record {
     size = length-set x.memory (i - 1) word ∙ h.size;
-    each = frame.each_next (algorithm n) x i after writer o count one (ProcessInvariant n (suc t) history after) writer_keeps others_keep;
+    each =
+        frame.each_next (algorithm n) x i after writer o count one
+        (ProcessInvariant n (suc t) history after) writer_keeps others_keep;
     start = frame.pairs_next (algorithm n) x i after writer o count one (PairInvariant history after) (record {
       own = λ made more. absurd (flow.makes_late lines (λ word. word ≡ i) d L33 up made);
       first = λ k j other. pair_keeps i k one j other;

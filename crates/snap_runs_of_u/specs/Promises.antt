@@ -32,11 +32,13 @@ NeverTraps = (n : ℕ) (items : List Item) → SequenceNumbersSuffice items → 
 
 -- The values change at line 32 alone.
 abbrev pub ChangesOnlyAt32 : Type 0
-ChangesOnlyAt32 = (n : ℕ) (items : List Item) → SequenceNumbersSuffice items → promises.ChangesOnlyAt 32 (run_of n items)
+ChangesOnlyAt32 =
+    (n : ℕ) (items : List Item) → SequenceNumbersSuffice items → promises.ChangesOnlyAt 32 (run_of n items)
 
 -- Line 32 is executed in an update, after its call, and writes its value.
 abbrev pub WritesItsUpdate : Type 0
-WritesItsUpdate = (n : ℕ) (items : List Item) → SequenceNumbersSuffice items → promises.WritesItsUpdate 32 (run_of n items)
+WritesItsUpdate =
+    (n : ℕ) (items : List Item) → SequenceNumbersSuffice items → promises.WritesItsUpdate 32 (run_of n items)
 
 -- An update executes line 32 at most once, and exactly once if it is done.
 abbrev pub WritesOnce : Type 0
@@ -48,15 +50,20 @@ HavePoints = (n : ℕ) (items : List Item) → SequenceNumbersSuffice items → 
 
 -- Every scan has at most n + 1 double collects.
 abbrev pub FewCollects : Type 0
-FewCollects = (n : ℕ) (items : List Item) → SequenceNumbersSuffice items → promises.CollectsAtMost (n + 1) (run_of n items)
+FewCollects =
+    (n : ℕ) (items : List Item) → SequenceNumbersSuffice items → promises.CollectsAtMost (n + 1) (run_of n items)
 
 -- Every scan takes at most 4 n n + 8 n + 7 steps.
 abbrev pub FewSteps : Type 0
-FewSteps = (n : ℕ) (items : List Item) → SequenceNumbersSuffice items → promises.StepsAtMost (4 * (n * n) + 8 * n + 7) (run_of n items)
+FewSteps =
+    (n : ℕ) (items : List Item) → SequenceNumbersSuffice items →
+    promises.StepsAtMost (4 * (n * n) + 8 * n + 7) (run_of n items)
 
--- A move that a scan sees at line 17 is a write since its previous double collect, or since its start where there is none.
+-- A move that a scan sees at line 17 is a write since its previous double collect, or since
+-- its start where there is none.
 abbrev pub MovesAreWrites : Type 0
-MovesAreWrites = (n : ℕ) (items : List Item) → SequenceNumbersSuffice items → promises.MovesAreWrites 17 moved 32 (run_of n items)
+MovesAreWrites =
+    (n : ℕ) (items : List Item) → SequenceNumbersSuffice items → promises.MovesAreWrites 17 moved 32 (run_of n items)
 
 -- The sharp bound: no process sees itself move, so that every scan has at most n double collects.
 abbrev pub SharpCollects : Type 0
@@ -64,11 +71,13 @@ SharpCollects = (n : ℕ) (items : List Item) → SequenceNumbersSuffice items �
 
 -- A scan that returns at line 24 has the view of an embedded scan of another process, all within it.
 abbrev pub BorrowedViewsAreLent : Type 0
-BorrowedViewsAreLent = (n : ℕ) (items : List Item) → SequenceNumbersSuffice items → promises.BorrowedViewsAreLent 24 (run_of n items)
+BorrowedViewsAreLent =
+    (n : ℕ) (items : List Item) → SequenceNumbersSuffice items → promises.BorrowedViewsAreLent 24 (run_of n items)
 
 -- A scan shows the value of its process's last update.
 abbrev pub OwnUpdatesAreSeen : Type 0
-OwnUpdatesAreSeen = (n : ℕ) (items : List Item) → SequenceNumbersSuffice items → promises.OwnUpdatesAreSeen (run_of n items)
+OwnUpdatesAreSeen =
+    (n : ℕ) (items : List Item) → SequenceNumbersSuffice items → promises.OwnUpdatesAreSeen (run_of n items)
 
 -- line 12 reads word j into a, and line 14 into b; line 16 compares them, and goes to line 21 where they agree
 abbrev pub double_collect : CollectLines
@@ -76,7 +85,9 @@ double_collect = record { first = 12; second = 14; scalar = j; test = 16; passed
 
 -- A test that passes is clean: no word is written between its two reads.
 abbrev pub PassedTestsAreClean : Type 0
-PassedTestsAreClean = (n : ℕ) (items : List Item) → SequenceNumbersSuffice items → promises.PassedTestsAreClean double_collect 32 (run_of n items)
+PassedTestsAreClean =
+    (n : ℕ) (items : List Item) → SequenceNumbersSuffice items →
+    promises.PassedTestsAreClean double_collect 32 (run_of n items)
 
 -- Every run is linearizable: its operations are as if each took place at one moment between its call and its end.
 abbrev pub Linearizable : Type 0
@@ -84,16 +95,19 @@ Linearizable = (n : ℕ) (items : List Item) → SequenceNumbersSuffice items �
 
 -- And each operation has its place: an update an item at which its process executes line 32.
 abbrev pub OperationsHavePlaces : Type 0
-OperationsHavePlaces = (n : ℕ) (items : List Item) → SequenceNumbersSuffice items → placement.OperationsHavePlaces 32 (run_of n items)
+OperationsHavePlaces =
+    (n : ℕ) (items : List Item) → SequenceNumbersSuffice items → placement.OperationsHavePlaces 32 (run_of n items)
 
 -- As a run goes on, the updates that its linearization lists keep their order, and more come behind them.
 abbrev pub WriteStronglyLinearizable : Type 0
 WriteStronglyLinearizable = (n : ℕ) → IsWriteStronglyLinearizable listing_u (square n) (Some (2 ^ 64))
 
--- Every call is over after so many turns of its process, whatever the others do: a scan after the steps above, and an update after
--- 4 n n + 8 n + 11.
+-- Every call is over after so many turns of its process, whatever the others do: a scan after the steps above, and an
+-- update after 4 n n + 8 n + 11.
 abbrev pub WaitFree : Type 0
-WaitFree = (n : ℕ) (items : List Item) → SequenceNumbersSuffice items → IsWaitFree (4 * (n * n) + 8 * n + 7) (4 * (n * n) + 8 * n + 11) (run_of n items)
+WaitFree =
+    (n : ℕ) (items : List Item) → SequenceNumbersSuffice items →
+    IsWaitFree (4 * (n * n) + 8 * n + 7) (4 * (n * n) + 8 * n + 11) (run_of n items)
 
 -- the line at which an update writes, and the bounds of scans
 abbrev pub bounds : Counts → Bounds
@@ -101,5 +115,6 @@ bounds s = record { writes = 32; collects = s.n + 1; sharp = s.n; steps = 4 * (s
 
 -- Every run of U, of whatever shape fits, is a run of a snapshot.
 abbrev pub RunsAreSnapshots : Type 0
-RunsAreSnapshots = (s : Counts) (items : List Item) → IsShape s.n s.w → fits Seq s ≡ true → SequenceNumbersSuffice items →
+RunsAreSnapshots =
+    (s : Counts) (items : List Item) → IsShape s.n s.w → fits Seq s ≡ true → SequenceNumbersSuffice items →
     IsSnapshotRun (bounds s) (record { source = listing_u; shape = s; items = items })

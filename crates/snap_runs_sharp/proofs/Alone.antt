@@ -1,4 +1,5 @@
--- A process that steps alone: what becomes of the memory and of what the process is at.
+-- `Alone`: a process of any algorithm that steps alone, with the
+-- memory and its count of double collects; what its steps lead to.
 use Rattle.std.specs.Prelude.{◌≡◌, ◌≢◌, ℕ, zero, suc, ◌+◌, List, [], ◌∷◌, length, Option, None, replicate, refl}
 use Rattle.std.proofs.Common.{◌∙◌, ap, arith}
 use Rattle.snap_words.specs.Shape.{IsOneOf}
@@ -10,7 +11,10 @@ use Rattle.snap_semantics.specs.declared.process.Op.TheVariants.{Scan, Update}
 use Rattle.snap_semantics.specs.declared.process.Outcome.{Outcome}
 use Rattle.snap_semantics.specs.declared.process.Outcome.TheVariants.{Called, Stepped, Answered, Finished}
 use Rattle.snap_semantics.specs.declared.process.Reason.{Reason}
-use Rattle.snap_runs.proofs.Algorithm.{Mode, Auxiliary, Scanning, Updating, Control, Idle, At, Move, To, Begin, Answer, Finish, TypedProcess, TypedState, Algorithm, Change, New, by_move, by_step, by_admission, by_call, typed_at, changed, happens, stepped_auxiliary, begun_auxiliary, called_auxiliary}
+use Rattle.snap_runs.proofs.Algorithm.{Mode, Auxiliary, Scanning, Updating, Control, Idle, At, Move, To, Begin}
+use Rattle.snap_runs.proofs.Algorithm.{Answer, Finish, TypedProcess, TypedState, Algorithm, Change, New, by_move}
+use Rattle.snap_runs.proofs.Algorithm.{by_step, by_admission, by_call, typed_at, changed, happens, stepped_auxiliary}
+use Rattle.snap_runs.proofs.Algorithm.{begun_auxiliary, called_auxiliary}
 use Rattle.snap_runs.proofs.Embedding as embed
 
 -- what a process is at, and how many double collects its scan has made
@@ -66,7 +70,8 @@ module _ {V P M : Type 0} (a : Algorithm V P M) where
   -- a call that is admitted
   abbrev pub after_call : Op → Alone V P M → Alone V P M
   after_call Scan y = standing Scanning y.memory y.seat.variables (a.counter Scan) 0
-  after_call (Update word value) y = standing (Updating word value) y.memory y.seat.variables (a.counter (Update word value)) y.seat.collects
+  after_call (Update word value) y =
+      standing (Updating word value) y.memory y.seat.variables (a.counter (Update word value)) y.seat.collects
 
   walk_on : (i s t : ℕ) (x : Alone V P M) → walk i (s + t) x ≡ walk i t (walk i s x)
   walk_on i zero t x = ap (λ u. walk i u x) (let e : zero + t ≡ t = omega arith in e)
@@ -121,14 +126,17 @@ module _ {V P M : Type 0} (a : Algorithm V P M) where
         let q = typed_at a x i in
         let g = q.auxiliary in
         let c = more g.collects (a.tests k) in
-        seat_set x x.memory Idle q.variables (stepped_auxiliary a k time g) c (Answered view) count (more_is g.collects (a.tests k))
+        seat_set x x.memory Idle q.variables (stepped_auxiliary a k time g) c (Answered view) count
+        (more_is g.collects (a.tests k))
     move_seat time x k Finish count =
         let q = typed_at a x i in
         let g = q.auxiliary in
         let c = more g.collects (a.tests k) in
-        seat_set x x.memory Idle q.variables (stepped_auxiliary a k time g) c Finished count (more_is g.collects (a.tests k))
+        seat_set x x.memory Idle q.variables (stepped_auxiliary a k time g) c Finished count
+        (more_is g.collects (a.tests k))
 
-    step_seat : (time : ℕ) (x : State) (control : Control P) → length x.processes ≡ a.shape.n → (typed_at a x i).control ≡ control →
+    step_seat : (time : ℕ) (x : State) (control : Control P) →
+        length x.processes ≡ a.shape.n → (typed_at a x i).control ≡ control →
         alone_of (changed x i (by_step a time x.memory i (typed_at a x i) control)) i
         ≡ after_step i x.memory (typed_at a x i).variables (typed_at a x i).auxiliary.collects control
     step_seat time x Idle count is =
@@ -137,11 +145,15 @@ module _ {V P M : Type 0} (a : Algorithm V P M) where
     step_seat time x (At d k) count is = move_seat time x k (a.move i d x.memory (typed_at a x i).variables k) count
 
     changes : (x : State) (c : Change V P M) → length x.processes ≡ a.shape.n → Turns i x (changed x i c)
-    changes x c count = record { count = embed.changed_count a x i c ∙ count; others = λ k at other. embed.other_process a x i k c one.0 at.0 other }
+    changes x c count = record {
+      count = embed.changed_count a x i c ∙ count;
+      others = λ k at other. embed.other_process a x i k c one.0 at.0 other;
+    }
 
     -- so many steps of the process, and nothing else
     pub steps_alone : (time s : ℕ) (x : State) → length x.processes ≡ a.shape.n →
-        Turns i x (run_from time x (replicate s (Step i))) × (alone_of (run_from time x (replicate s (Step i))) i ≡ walk i s (alone_of x i))
+        Turns i x (run_from time x (replicate s (Step i)))
+        × (alone_of (run_from time x (replicate s (Step i))) i ≡ walk i s (alone_of x i))
     steps_alone time zero x count = (record { count = count; others = λ k at other. refl }, refl)
     steps_alone time (suc s) x count =
         let y = happens a (suc time) x (Step i) in
@@ -153,16 +165,19 @@ module _ {V P M : Type 0} (a : Algorithm V P M) where
         alone_of (changed x i (by_admission a time x.memory (typed_at a x i) op None)) i ≡ after_call op (alone_of x i)
     admitted time x Scan count =
         let q = typed_at a x i in
-        seat_set x x.memory (At Scanning (a.counter Scan)) q.variables (called_auxiliary time Scan q.auxiliary) 0 Called count refl
+        seat_set x x.memory (At Scanning (a.counter Scan)) q.variables
+        (called_auxiliary time Scan q.auxiliary) 0 Called count refl
     admitted time x (Update word value) count =
         let q = typed_at a x i in
         let g = q.auxiliary in
         let op : Op = Update word value in
-        seat_set x x.memory (At (Updating word value) (a.counter op)) q.variables (called_auxiliary time op g) g.collects Called count refl
+        seat_set x x.memory (At (Updating word value) (a.counter op)) q.variables
+        (called_auxiliary time op g) g.collects Called count refl
 
-    pub call_alone : (time : ℕ) (x : State) (op : Op) → length x.processes ≡ a.shape.n → (typed_at a x i).control ≡ Idle →
-        call_skip a.source.kind a.shape i op ≡ None →
-        Turns i x (run_from time x (Call i op ∷ [])) × (alone_of (run_from time x (Call i op ∷ [])) i ≡ after_call op (alone_of x i))
+    pub call_alone : (time : ℕ) (x : State) (op : Op) → length x.processes ≡ a.shape.n →
+        (typed_at a x i).control ≡ Idle → call_skip a.source.kind a.shape i op ≡ None →
+        Turns i x (run_from time x (Call i op ∷ []))
+        × (alone_of (run_from time x (Call i op ∷ [])) i ≡ after_call op (alone_of x i))
     call_alone time x op count idle admit =
         let q = typed_at a x i in
         let becomes : happens a (suc time) x (Call i op) ≡ changed x i (by_admission a (suc time) x.memory q op None) =

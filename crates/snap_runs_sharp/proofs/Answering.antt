@@ -1,5 +1,7 @@
--- A schedule whose last item answers a scan: what its run has reached.
-use Rattle.std.specs.Prelude.{◌≡◌, ℕ, zero, suc, ◌+◌, ◌<◌, Bool, true, false, ◌&&◌, List, [], ◌∷◌, ◌++◌, length, None, refl}
+-- A schedule whose last item answers a scan: its run reaches as
+-- many double collects of the scan as were counted (`Reaches`).
+use Rattle.std.specs.Prelude.{◌≡◌, ℕ, zero, suc, ◌+◌, ◌<◌, Bool, true, false, ◌&&◌}
+use Rattle.std.specs.Prelude.{List, [], ◌∷◌, ◌++◌, length, None, refl}
 use Rattle.std.proofs.Common.{sym, ◌∙◌, ap, subst, arith}
 use Rattle.std.proofs.Math.Seq.{get_or-append_seam}
 use Rattle.std.proofs.lemmas.List.{length-append, get_or_append_left}
@@ -12,7 +14,8 @@ use Rattle.snap_semantics.specs.declared.process.Outcome.{Outcome}
 use Rattle.snap_semantics.specs.declared.process.Outcome.TheVariants.{Answered}
 use Rattle.snap_runs.specs.Run.{Run, before, item, outcome}
 use Rattle.snap_runs.specs.Scan.{FinishedScan, steps, is_if_all, line_in, is_stepped, ends_double_collect}
-use Rattle.snap_runs.proofs.Algorithm.{Mode, Control, At, Move, Answer, Algorithm, by_move, by_step, by_item, outcome_of, happens, item_at, typed_at, typed_state, first_state}
+use Rattle.snap_runs.proofs.Algorithm.{Mode, Control, At, Move, Answer, Algorithm, by_move, by_step, by_item}
+use Rattle.snap_runs.proofs.Algorithm.{outcome_of, happens, item_at, typed_at, typed_state, first_state}
 use Rattle.snap_runs.proofs.Calls.{answer_ends}
 use Rattle.snap_runs.proofs.Counting.{count_not}
 use Rattle.snap_runs.proofs.Embedding as embed
@@ -33,9 +36,11 @@ module _ {V P M : Type 0} (a : Algorithm V P M) where
       run_from a t (typed_state a items t) xs ≡ typed_state a items (t + length xs)
   run_is items [] t h = ap (typed_state a items) (let e : t ≡ t + zero = omega arith in e)
   run_is items (y ∷ xs) t h =
-      let here : item_at items t ≡ y = ap (item_at items) (let e : t ≡ t + zero = omega arith in e) ∙ h zero (omega arith) in
+      let here : item_at items t ≡ y =
+      ap (item_at items) (let e : t ≡ t + zero = omega arith in e) ∙ h zero (omega arith) in
       ap (λ z. run_from a (suc t) (happens a (suc t) (typed_state a items t) z) xs) (sym here)
-      ∙ run_is items xs (suc t) (λ u lt. ap (item_at items) (let e : suc t + u ≡ t + suc u = omega arith in e) ∙ h (suc u) (omega arith))
+      ∙ run_is items xs (suc t)
+      (λ u lt. ap (item_at items) (let e : suc t + u ≡ t + suc u = omega arith in e) ∙ h (suc u) (omega arith))
       ∙ ap (typed_state a items) (let e : suc t + length xs ≡ t + suc (length xs) = omega arith in e)
 
   pub state_after : (xs ys : List Item) → typed_state a (xs ++ ys) (length xs) ≡ run_from a 0 (first_state a) xs
@@ -67,11 +72,13 @@ module _ {V P M : Type 0} (a : Algorithm V P M) where
         ∙ ap (λ (v : Move V P M). outcome_of (by_move a (suc t) x.memory (typed_at a x i) k v)) moves in
         let ends = answer_ends r (fits_of r run.fits) t view short out in
         let call = ends.0 in
-        let finished : FinishedScan r i None call (suc t) view = subst (λ y. FinishedScan r y None call (suc t) view) (ap who is) ends.1 in
+        let finished : FinishedScan r i None call (suc t) view =
+        subst (λ y. FinishedScan r y None call (suc t) view) (ap who is) ends.1 in
         let order : call < suc t = finished.order in
         let goes = scans.goes a lines listed run i one None call (suc t) t finished.scan (omega arith) (omega arith) in
         let none : ends_double_collect r i (suc t) ≡ false =
-        ap (λ (o : Outcome). steps i (item r (suc t)) && (is_if_all (line_in r.source (process_at (before r (suc t)) i).status) && is_stepped o)) out
+        ap (λ (o : Outcome). steps i (item r (suc t))
+        && (is_if_all (line_in r.source (process_at (before r (suc t)) i).status) && is_stepped o)) out
         ∙ no_more (steps i (item r (suc t))) (is_if_all (line_in r.source (process_at (before r (suc t)) i).status)) in
         record {
           fits = fits_of r run.fits;
@@ -87,10 +94,13 @@ module _ {V P M : Type 0} (a : Algorithm V P M) where
     -- the same of a schedule that ends with the step that answers
     pub reaches : (start : List Item) (i : ℕ) (d : Mode) (k : P) (m : M) (p : V) (c : ℕ) (view : List ℕ) →
         items ≡ start ++ Step i ∷ [] → IsOneOf a.shape.n i →
-        alone_of a (run_from a 0 (first_state a) start) i ≡ standing d m p k c → a.move i d m p k ≡ Answer view → Reaches c r
+        alone_of a (run_from a 0 (first_state a) start) i ≡ standing d m p k c →
+        a.move i d m p k ≡ Answer view → Reaches c r
     reaches start i d k m p c view is one stands answers =
         let t = length start in
         let size : length items ≡ length start + 1 = ap length is ∙ length-append start (Step i ∷ []) in
-        let last : item_at items t ≡ Step i = ap (λ xs. item_at xs t) is ∙ get_or-append_seam start (Step i) [] (Step 0) in
-        let there : typed_state a items t ≡ run_from a 0 (first_state a) start = ap (λ xs. typed_state a xs t) is ∙ state_after start (Step i ∷ []) in
+        let last : item_at items t ≡ Step i =
+        ap (λ xs. item_at xs t) is ∙ get_or-append_seam start (Step i) [] (Step 0) in
+        let there : typed_state a items t ≡ run_from a 0 (first_state a) start =
+        ap (λ xs. typed_state a xs t) is ∙ state_after start (Step i ∷ []) in
         answered t i d k m p c view (omega arith) one last (ap (λ (x : State a). alone_of a x i) there ∙ stands) answers

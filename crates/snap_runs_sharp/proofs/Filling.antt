@@ -1,5 +1,7 @@
--- Lists that are filled place by place, and tests of all places.
-use Rattle.std.specs.Prelude.{◌≡◌, ℕ, ◌+◌, ◌-◌, ◌<◌, ◌≤◌, Bool, true, false, List, length, map, Some, None, slice_index_or, slice_set, refl}
+-- Lists that a process which steps alone fills place by place
+-- (`Filled`), and tests that all places pass or one fails.
+use Rattle.std.specs.Prelude.{◌≡◌, ℕ, ◌+◌, ◌-◌, ◌<◌, ◌≤◌, Bool, true, false, List, length, map, Some, None}
+use Rattle.std.specs.Prelude.{slice_index_or, slice_set, refl}
 use Rattle.std.proofs.Common.{sym, ◌∙◌, ap, arith, inl, inr}
 use Rattle.std.proofs.Math.Nat.{eq-or-lt_of_le}
 use Rattle.std.proofs.lemmas.Grind.{get_or-set_at}
@@ -15,8 +17,8 @@ Filled f d j xs = (k : ℕ) → 0 < k → k < j → slice_index_or xs (k - 1) d 
 pub filled_none : {A : Type 0} (f : ℕ → A) (d : A) (j : ℕ) (xs : List A) → j ≤ 1 → Filled f d j xs
 filled_none f d j xs le k pos lt = absurd (omega arith)
 
-pub filled_more : {A : Type 0} (f : ℕ → A) (d : A) (j i : ℕ) (xs : List A) (y : A) → 0 < j → j ≤ length xs → i ≡ j + 1 → y ≡ f j → Filled f d j xs →
-    Filled f d i (slice_set xs (j - 1) y)
+pub filled_more : {A : Type 0} (f : ℕ → A) (d : A) (j i : ℕ) (xs : List A) (y : A) → 0 < j → j ≤ length xs →
+    i ≡ j + 1 → y ≡ f j → Filled f d j xs → Filled f d i (slice_set xs (j - 1) y)
 filled_more f d j i xs y pos le next is h k low high =
     let at_most : k ≤ j = omega arith in
     elim (eq-or-lt_of_le at_most) [
@@ -43,7 +45,8 @@ one_fails f n k one h =
     ] refl
 
 -- and no first place where no place passes
-pub none_first : (f : ℕ → Bool) (n : ℕ) → ((k : ℕ) → IsOneOf n k → f k ≡ false) → first_true 1 (map f (places_to n)) ≡ None
+pub none_first : (f : ℕ → Bool) (n : ℕ) → ((k : ℕ) → IsOneOf n k → f k ≡ false) →
+    first_true 1 (map f (places_to n)) ≡ None
 none_first f n h =
     elim (first_true 1 (map f (places_to n))) as (λ o. first_true 1 (map f (places_to n)) ≡ o → o ≡ None) [
       | Some k ↦ λ is.

@@ -1,3 +1,4 @@
+-- The proofs of snap_runs_sharp, by their modules.
 pub mod Alone
 pub mod Items
 pub mod Scenes

@@ -1,4 +1,4 @@
--- A process that goes through the places alone, and fills a list.
+-- `fill`: a process that steps alone through a loop over the places 1 to n, and fills a list, as a collect does.
 use Rattle.std.specs.Prelude.{◌≡◌, ℕ, zero, suc, ◌+◌, ◌*◌, ◌-◌, ◌<◌, ◌≤◌, List, length, slice_set, refl}
 use Rattle.std.proofs.Common.{sym, ◌∙◌, ap, arith}
 use Rattle.std.proofs.lemmas.List.{length-set}
@@ -6,25 +6,32 @@ use Rattle.snap_runs.proofs.Algorithm.{Algorithm}
 use Rattle.snap_runs_sharp.proofs.Alone.{Alone, walk, walks}
 use Rattle.snap_runs_sharp.proofs.Filling.{Filled, filled_none, filled_more}
 
--- A process with number `me` goes through the places 1 to n, by so many lines each: at place j it stands `at r j xs`, with what
--- else the loop changes in r; it puts `value j` there, and after place n it stands `beyond r xs`.
-module _ {V P M R X : Type 0} (a : Algorithm V P M) (me lines n : ℕ) (at : R → ℕ → List X → Alone V P M) (beyond : R → List X → Alone V P M)
+-- A process with number `me` goes through the places 1 to n, by so many lines each: at place j it stands `at r j xs`,
+-- with what else the loop changes in r; it puts `value j` there, and after place n it stands `beyond r xs`.
+module _ {V P M R X : Type 0} (a : Algorithm V P M) (me lines n : ℕ) (at : R → ℕ → List X → Alone V P M)
+    (beyond : R → List X → Alone V P M)
     (value : ℕ → X) (other : X)
     (next : (r : R) (j : ℕ) (xs : List X) → 0 < j → j < n → n ≤ length xs →
     (r' : R) × (walk a me lines (at r j xs) ≡ at r' (j + 1) (slice_set xs (j - 1) (value j))))
-    (last : (r : R) (xs : List X) → n ≤ length xs → (r' : R) × (walk a me lines (at r n xs) ≡ beyond r' (slice_set xs (n - 1) (value n)))) where
+    (last : (r : R) (xs : List X) → n ≤ length xs →
+    (r' : R) × (walk a me lines (at r n xs) ≡ beyond r' (slice_set xs (n - 1) (value n)))) where
   -- what so many places leave
   abbrev Leaves : ℕ → R → ℕ → List X → Type 0
   Leaves count r j xs =
-      (r' : R) × (ys : List X) × (walk a me (lines * count) (at r j xs) ≡ beyond r' ys) × (length ys ≡ length xs) × Filled value other (n + 1) ys
+      (r' : R) × (ys : List X) × (walk a me (lines * count) (at r j xs) ≡ beyond r' ys) × (length ys ≡ length xs)
+      × Filled value other (n + 1) ys
 
   last_at : (r : R) (j : ℕ) (xs : List X) → j ≡ n → n ≤ length xs →
       (r' : R) × (walk a me lines (at r j xs) ≡ beyond r' (slice_set xs (j - 1) (value j)))
   last_at r j xs is size =
-      let end = last r xs size in
-      (end.0, ap (λ i. walk a me lines (at r i xs)) is ∙ end.1 ∙ ap (λ i. beyond end.0 (slice_set xs (i - 1) (value i))) (sym is))
+      let end = last r xs size in (
+        end.0,
+        ap (λ i. walk a me lines (at r i xs)) is ∙ end.1
+            ∙ ap (λ i. beyond end.0 (slice_set xs (i - 1) (value i))) (sym is),
+      )
 
-  fill_from : (s : ℕ) (r : R) (j : ℕ) (xs : List X) → j + s ≡ n → 0 < j → n ≤ length xs → Filled value other j xs → Leaves (suc s) r j xs
+  fill_from : (s : ℕ) (r : R) (j : ℕ) (xs : List X) → j + s ≡ n → 0 < j → n ≤ length xs →
+      Filled value other j xs → Leaves (suc s) r j xs
   fill_from zero r j xs to pos size filled =
       let end = last_at r j xs (omega arith) size in
       let one : lines * suc zero ≡ lines = omega arith in (
@@ -43,7 +50,8 @@ module _ {V P M R X : Type 0} (a : Algorithm V P M) (me lines n : ℕ) (at : R �
       let more : lines * suc (suc s) ≡ lines + lines * suc s = omega arith in (
         rest.0,
         rest.1,
-        walks a me lines (lines * suc s) (lines * suc (suc s)) (at r j xs) (at step.0 (j + 1) ys) (beyond rest.0 rest.1) step.1 rest.2 more,
+        walks a me lines (lines * suc s) (lines * suc (suc s)) (at r j xs) (at step.0 (j + 1) ys)
+            (beyond rest.0 rest.1) step.1 rest.2 more,
         rest.3 ∙ long,
         rest.4,
       )
@@ -51,6 +59,7 @@ module _ {V P M R X : Type 0} (a : Algorithm V P M) (me lines n : ℕ) (at : R �
   -- all the places
   pub fill : (r : R) (xs : List X) → 1 ≤ n → n ≤ length xs → Leaves n r 1 xs
   fill r xs some size =
-      let all = fill_from (n - 1) r 1 xs (omega arith) (omega arith) size (filled_none value other 1 xs (omega arith)) in
+      let all =
+      fill_from (n - 1) r 1 xs (omega arith) (omega arith) size (filled_none value other 1 xs (omega arith)) in
       let count : lines * n ≡ lines * suc (n - 1) = ap (λ k. lines * k) (omega arith) in
       (all.0, all.1, ap (λ k. walk a me k (at r 1 xs)) count ∙ all.2, all.3, all.4)

@@ -1,5 +1,7 @@
--- What is not reached: more than the bounds, and two double collects by a scan alone.
-use Rattle.std.specs.Prelude.{◌≡◌, ℕ, zero, suc, ◌+◌, ◌*◌, ◌-◌, ◌<◌, ◌≤◌, List, ◌∷◌, ◌++◌, length, None, slice_index_or, refl}
+-- No finished scan makes more double collects than the bounds,
+-- and a scan of U that steps alone makes one and not two.
+use Rattle.std.specs.Prelude.{◌≡◌, ℕ, zero, suc, ◌+◌, ◌*◌, ◌-◌, ◌<◌, ◌≤◌, List, ◌∷◌}
+use Rattle.std.specs.Prelude.{◌++◌, length, None, slice_index_or, refl}
 use Rattle.std.proofs.Common.{sym, ◌∙◌, ap, subst, arith, inl, inr}
 use Rattle.std.proofs.lemmas.Bool.{cases_eq, cases_lt}
 use Rattle.std.specs.List.{AllByRecursion}
@@ -24,15 +26,20 @@ use Rattle.snap_runs_sharp.proofs.ReachedByU.{scan_alone_reaches}
 -- a run reaches no more than a bound that it keeps
 within : (most more : ℕ) (r : Run) → CollectsAtMost most r → most < more → Reaches more r → ⊥
 within most more r at_most less h =
-    let few : double_collects r h.process h.call h.answer ≤ most = at_most h.fits h.process None h.call h.answer h.finished.scan in
+    let few : double_collects r h.process h.call h.answer ≤ most =
+    at_most h.fits h.process None h.call h.answer h.finished.scan in
     let is : double_collects r h.process h.call h.answer ≡ more = h.collects in
     omega arith
 
 pub no_more_is_reached_lem : NoMoreIsReached
 no_more_is_reached_lem = record {
-  by_u = λ n more items less suffice h. within n more (u.run_of n items) (bounds_of_u.sharp_collects_lem n items suffice) less h;
+  by_u =
+      λ n more items less suffice h.
+      within n more (u.run_of n items) (bounds_of_u.sharp_collects_lem n items suffice) less h;
   by_b = λ n more less h. within n more (b.run_of n h.0) (bounds_of_b.sharp_collects_lem n h.0) less h.1;
-  by_m = λ n w more some less h. within (2 * n - 1) more (m.run_of n w h.0) (bounds_of_m.sharp_collects_lem n w h.0 some) less h.1;
+  by_m =
+      λ n w more some less h.
+      within (2 * n - 1) more (m.run_of n w h.0) (bounds_of_m.sharp_collects_lem n w h.0 some) less h.1;
 }
 
 -- a step
@@ -41,7 +48,8 @@ IsStep (Step i) = Unit {0}
 IsStep _ = ⊥
 
 -- After a first item there are steps alone, so that its call is the only one.
-module _ (r : Run) (first : Item) (rest : List Item) (items_are : r.items ≡ first ∷ rest) (steps : AllByRecursion IsStep rest) where
+module _ (r : Run) (first : Item) (rest : List Item) (items_are : r.items ≡ first ∷ rest)
+    (steps : AllByRecursion IsStep rest) where
   no_call : (i t : ℕ) → t < length rest → slice_index_or rest t (Step 0) ≡ Call i Scan → ⊥
   no_call i t short is = subst IsStep is (all_index IsStep rest t (Step 0) steps short)
 
@@ -53,7 +61,8 @@ module _ (r : Run) (first : Item) (rest : List Item) (items_are : r.items ≡ fi
       absurd (no_call i t (omega arith) (sym (ap (λ xs. slice_index_or xs (suc t) (Step 0)) items_are) ∙ is))
 
   -- so it has one finished scan at most
-  one_end : (i c e e' : ℕ) (view view' : List ℕ) → FinishedScan r i None c e view → FinishedScan r i None c e' view' → e ≡ e'
+  one_end : (i c e e' : ℕ) (view view' : List ℕ) → FinishedScan r i None c e view →
+      FinishedScan r i None c e' view' → e ≡ e'
   one_end i c e e' view view' h g = elim (cases_eq e e') [
     | inl same ↦ same
     | inr other ↦ elim (cases_lt e e') [
@@ -73,7 +82,8 @@ module _ (r : Run) (first : Item) (rest : List Item) (items_are : r.items ≡ fi
       let process : g.process ≡ h.process = let e : Call g.process Scan ≡ Call h.process Scan = sym b.1 ∙ a.1 in cc in
       let call : g.call ≡ h.call = b.0 ∙ sym a.0 in
       let same : FinishedScan r h.process None h.call g.answer g.view =
-      subst (λ c. FinishedScan r h.process None c g.answer g.view) call (subst (λ k. FinishedScan r k None g.call g.answer g.view) process yours) in
+      subst (λ c. FinishedScan r h.process None c g.answer g.view) call
+      (subst (λ k. FinishedScan r k None g.call g.answer g.view) process yours) in
       let answer : h.answer ≡ g.answer = one_end h.process h.call h.answer g.answer h.view g.view mine same in
       sym h.collects
       ∙ ap (double_collects r h.process h.call) answer
@@ -89,7 +99,8 @@ tail_steps : (n : ℕ) → AllByRecursion IsStep (tail_of n)
 unfolding tail_of
 tail_steps n =
     all_join IsStep (steps_of 1 2 ++ steps_of 1 (4 * n + 2)) (steps_of 1 1)
-    (all_join IsStep (steps_of 1 2) (steps_of 1 (4 * n + 2)) (all_steps IsStep 1 2 tt) (all_steps IsStep 1 (4 * n + 2) tt)) (all_steps IsStep 1 1 tt)
+    (all_join IsStep (steps_of 1 2) (steps_of 1 (4 * n + 2)) (all_steps IsStep 1 2 tt)
+    (all_steps IsStep 1 (4 * n + 2) tt)) (all_steps IsStep 1 1 tt)
 
 tail_is : (n : ℕ) → scan_alone_of_u n ≡ Call 1 Scan ∷ tail_of n
 unfolding tail_of

@@ -1,5 +1,7 @@
--- The schedule of B: round after round one process more has moved, and then the scan passes its test.
-use Rattle.std.specs.Prelude.{◌≡◌, ◌≢◌, ℕ, suc, ◌+◌, ◌*◌, ◌-◌, ◌<◌, ◌≤◌, max, ◌∷◌, length, None, replicate, slice_set, refl}
+-- The schedule of B by which a scan makes n double collects: round after
+-- round one process more has moved, and then the scan passes its test.
+use Rattle.std.specs.Prelude.{◌≡◌, ◌≢◌, ℕ, suc, ◌+◌, ◌*◌, ◌-◌, ◌<◌, ◌≤◌, max, ◌∷◌}
+use Rattle.std.specs.Prelude.{length, None, replicate, slice_set, refl}
 use Rattle.std.proofs.Common.{sym, ◌∙◌, ap, subst, arith}
 use Rattle.std.proofs.lemmas.Grind.{get_or-set_at}
 use Rattle.std.proofs.lemmas.List.{length-set, length-replicate, get_or-set_other, get_or-replicate}
@@ -16,7 +18,8 @@ use Rattle.snap_runs.proofs.Held.{word_at}
 use Rattle.snap_runs.proofs.Places.{for_each, for_each_at}
 use Rattle.snap_runs.proofs.Steady.{Steady}
 use Rattle.snap_runs_of_b.specs.Promises.{square, run_of}
-use Rattle.snap_runs_of_b.proofs.Algorithm.{Registers, Variables, L10, L12, L18, L26, first_word, first_variables, first_registers, moved_at, lines, algorithm}
+use Rattle.snap_runs_of_b.proofs.Algorithm.{Registers, Variables, L10, L12, L18, L26, first_word, first_variables}
+use Rattle.snap_runs_of_b.proofs.Algorithm.{first_registers, moved_at, lines, algorithm}
 use Rattle.snap_runs_of_b.proofs.Flows.{listed}
 use Rattle.snap_runs_of_b.proofs.Runs.{execution}
 use Rattle.snap_runs_sharp.specs.Reached.{IsReachedByB, ScheduleOfBReaches}
@@ -24,7 +27,8 @@ use Rattle.snap_runs_sharp.specs.Schedules.{others, steps_of, before_answer, rou
 use Rattle.snap_runs_sharp.proofs.Alone.{State, standing, walk, alone_of, run_from}
 use Rattle.snap_runs_sharp.proofs.Answering.{reaches}
 use Rattle.snap_runs_sharp.proofs.Items.{turns_round, turns_schedule, round_length, schedule_length, steady}
-use Rattle.snap_runs_sharp.proofs.Scenes.{Leads, schedule_leads, first_seat, Scene, beside_fresh, lead_walks, round_leads, opening_leads}
+use Rattle.snap_runs_sharp.proofs.Scenes.{Leads, schedule_leads, first_seat, Scene, beside_fresh, lead_walks}
+use Rattle.snap_runs_sharp.proofs.Scenes.{round_leads, opening_leads}
 use Rattle.snap_runs_sharp.proofs.WalksOfB.{first_collect, clean, whole_update, fails}
 
 -- an update of a process's own word is admitted
@@ -61,11 +65,13 @@ one_round n r le time x h =
     let ws = slice_set m.words (i - 1) update.0 in
     let m2 : Registers = record { words = ws; q = update.1 } in
     let none_i = h.none i at (omega arith) in
-    let written : word_at ws i ≡ update.0 = get_or-set_at m.words (i - 1) (i - 1) update.0 no_word refl (let e = h.words in omega arith) in
+    let written : word_at ws i ≡ update.0 =
+    get_or-set_at m.words (i - 1) (i - 1) update.0 no_word refl (let e = h.words in omega arith) in
     let toggle : (word_at ws i).toggle ≡ 1 = ap (λ (w : Word). w.toggle) written ∙ update.4 in
     let kept : (k : ℕ) → IsOneOf n k → k ≢ i → word_at ws k ≡ word_at m.words k =
     λ k k_one other. get_or-set_other m.words (i - 1) (k - 1) update.0 no_word (λ same. other (omega arith)) in
-    let failed = fails n i m.words m2 p r some refl h.size_b collect.copies collect.bits at (λ same. absurd (omega arith)) kept h.few none_i.0 in
+    let failed = fails n i m.words m2 p r some refl h.size_b collect.copies collect.bits at
+    (λ same. absurd (omega arith)) kept h.few none_i.0 in
     let q = failed.0 in
     let before = standing Scanning m h.variables L12 r in
     let between = standing Scanning m1 p L18 r in
@@ -90,7 +96,8 @@ one_round n r le time x h =
     }
 
 -- after the call and the first two lines
-opening : (n : ℕ) → 1 ≤ n → Leads (algorithm n) (λ x. x ≡ first_state (algorithm n)) (Call 1 Scan ∷ steps_of 1 2) (Round n 0)
+opening : (n : ℕ) → 1 ≤ n →
+    Leads (algorithm n) (λ x. x ≡ first_state (algorithm n)) (Call 1 Scan ∷ steps_of 1 2) (Round n 0)
 opening n some time x is =
     let a = algorithm n in
     let m = first_registers n in
@@ -111,7 +118,9 @@ opening n some time x is =
       size_g = omega arith;
       words = length-replicate n (first_word n);
       few = λ k at. let e = zeros k at in omega arith;
-      none = λ k at more. (zeros k at, ap (λ (w : Word). w.toggle) (get_or-replicate n (k - 1) (first_word n) no_word (omega arith)));
+      none =
+          λ k at more.
+          (zeros k at, ap (λ (w : Word). w.toggle) (get_or-replicate n (k - 1) (first_word n) no_word (omega arith)));
     }
 
 -- process 1 is about to answer, after n double collects
@@ -139,7 +148,8 @@ fits n some most =
     let each : (r : ℕ) → length (round_of_b n r) ≡ 19 * n + 15 = λ r. let e = round_length (r + 2) (r + 2) (6 * n)
     (11 * n + 10) (2 * n + 4) in omega arith in
     let size = schedule_length (19 * n + 15) (round_of_b n) (others n) 2 (8 * n + 2) each in
-    let product : (others n) * (19 * n + 15) ≤ 64 * 1231 = mul-le (others n) (19 * n + 15) 64 1231 (omega arith) (omega arith) in
+    let product : (others n) * (19 * n + 15) ≤ 64 * 1231 =
+    mul-le (others n) (19 * n + 15) 64 1231 (omega arith) (omega arith) in
     steady (run_of n (schedule_of_b n))
     (turns_schedule n (round_of_b n) (others n) 2 (8 * n + 2) one
     (λ r le. turns_round n (r + 2) (r + 2) (6 * n) (11 * n + 10) (2 * n + 4) one (omega arith, omega arith)))

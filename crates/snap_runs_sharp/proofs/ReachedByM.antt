@@ -1,5 +1,7 @@
--- The schedule of M: each of the other processes moves twice, and then the scan passes its test.
-use Rattle.std.specs.Prelude.{◌≡◌, ◌≢◌, ℕ, suc, ◌+◌, ◌*◌, ◌-◌, ◌<◌, ◌≤◌, max, Bool, true, false, ◌&&◌, ◌∷◌, length, None, nat_eq, refl}
+-- The schedule of M by which a scan makes 2 n - 1 double collects: each
+-- of the other processes moves twice, and then the scan passes its test.
+use Rattle.std.specs.Prelude.{◌≡◌, ◌≢◌, ℕ, suc, ◌+◌, ◌*◌, ◌-◌, ◌<◌, ◌≤◌, max, Bool, true}
+use Rattle.std.specs.Prelude.{false, ◌&&◌, ◌∷◌, length, None, nat_eq, refl}
 use Rattle.std.proofs.Common.{sym, ◌∙◌, ap, subst, arith, inl, inr}
 use Rattle.std.proofs.lemmas.Bool.{cases_eq}
 use Rattle.std.proofs.lemmas.Grind.{get_or-set_at}
@@ -17,16 +19,21 @@ use Rattle.snap_runs.proofs.Held.{word_at}
 use Rattle.snap_runs.proofs.Places.{for_each, for_each_at}
 use Rattle.snap_runs.proofs.Steady.{Steady}
 use Rattle.snap_runs_of_m.specs.Promises.{counts, run_of}
-use Rattle.snap_runs_of_m.proofs.Algorithm.{Words, Registers, Variables, ProgramCounter, L10, L13, L19, L35, first_word, first_variables, first_memory, place, flip, same_words, lines, algorithm}
+use Rattle.snap_runs_of_m.proofs.Algorithm.{Words, Registers, Variables, ProgramCounter, L10, L13, L19, L35}
+use Rattle.snap_runs_of_m.proofs.Algorithm.{first_word, first_variables, first_memory, place}
+use Rattle.snap_runs_of_m.proofs.Algorithm.{flip, same_words, lines, algorithm}
 use Rattle.snap_runs_of_m.proofs.Basics.{flip_other}
 use Rattle.snap_runs_of_m.proofs.Flows.{listed}
 use Rattle.snap_runs_of_m.proofs.Runs.{execution}
 use Rattle.snap_runs_sharp.specs.Reached.{IsReachedByM, ScheduleOfMReaches}
-use Rattle.snap_runs_sharp.specs.Schedules.{others, steps_of, round_with, before_answer, turn_of_m, round_of_m, schedule_of_m}
+use Rattle.snap_runs_sharp.specs.Schedules.{others, steps_of, round_with, before_answer}
+use Rattle.snap_runs_sharp.specs.Schedules.{turn_of_m, round_of_m, schedule_of_m}
 use Rattle.snap_runs_sharp.proofs.Alone.{Seat, seated, State, standing, walk, alone_of, run_from}
 use Rattle.snap_runs_sharp.proofs.Answering.{reaches}
-use Rattle.snap_runs_sharp.proofs.Items.{AreTurns, turns_join, turns_round, turns_schedule, round_length, schedule_length, steady}
-use Rattle.snap_runs_sharp.proofs.Scenes.{Leads, leads_on, schedule_leads, Scene, Beside, beside_fresh, lead_walks, round_leads, opening_leads}
+use Rattle.snap_runs_sharp.proofs.Items.{AreTurns, turns_join, turns_round, turns_schedule}
+use Rattle.snap_runs_sharp.proofs.Items.{round_length, schedule_length, steady}
+use Rattle.snap_runs_sharp.proofs.Scenes.{Leads, leads_on, schedule_leads, Scene, Beside, beside_fresh, lead_walks}
+use Rattle.snap_runs_sharp.proofs.Scenes.{round_leads, opening_leads}
 use Rattle.snap_runs_sharp.proofs.WalksOfM.{Sized, first_collect, clean, fails, whole_update}
 
 -- an update of word 1 is admitted
@@ -60,7 +67,8 @@ record Turned (n w i c e : ℕ) (m : Registers) (p v : Variables) : Type 0 where
   moved : place variables.moved i ≡ place p.moved i + 1
   unmoved : (k : ℕ) → IsOneOf n k → k ≢ i → place variables.moved k ≡ place p.moved k
 
-turns : (n w i c e : ℕ) (m : Registers) (p v : Variables) → IsOneOf n i → 1 < i → 1 ≤ w → Scanner n w m p → Sized n w v →
+turns : (n w i c e : ℕ) (m : Registers) (p v : Variables) →
+    IsOneOf n i → 1 < i → 1 ≤ w → Scanner n w m p → Sized n w v →
     ((x : Word) → x.id ≡ i → x.toggle ≡ flip (place v.tog 1) → same_words (word_at m.words 1) x ≡ false) →
     ((k : ℕ) → IsOneOf n k → place p.moved k ≤ 2) → place p.moved i ≤ 1 → Turned n w i c e m p v
 turns n w i c e m p v at other some h sized differ few_all few =
@@ -81,12 +89,14 @@ turns n w i c e m p v at other some h sized differ few_all few =
     let m2 = update.memory in
     let count : length m.words ≡ w = h.words in
     let put_is : word_at m2.words 1 ≡ update.put =
-    ap (λ (ws : Words). word_at ws 1) update.words_are ∙ get_or-set_at m.words (1 - 1) (1 - 1) update.put no_word refl (omega arith) in
+    ap (λ (ws : Words). word_at ws 1) update.words_are
+    ∙ get_or-set_at m.words (1 - 1) (1 - 1) update.put no_word refl (omega arith) in
     let same : (k : ℕ) → 1 < k → k ≤ w → word_at m2.words k ≡ word_at m.words k =
     λ k lt le. ap (λ (ws : Words). word_at ws k) update.words_are ∙ get_or-set_other m.words (1 - 1) (k - 1) update.put
     no_word (λ is. absurd (omega arith)) in
     let id : (word_at m2.words 1).id ≡ i = ap (λ (x : Word). x.id) put_is ∙ update.id in
-    let toggle : (word_at m2.words 1).toggle ≡ flip (place v.tog 1) = ap (λ (x : Word). x.toggle) put_is ∙ update.toggle in
+    let toggle : (word_at m2.words 1).toggle ≡ flip (place v.tog 1) =
+    ap (λ (x : Word). x.toggle) put_is ∙ update.toggle in
     let failed = fails n w i m m2 p1 c (omega arith) some refl refl sized1 collect.copies collect.bits at id
     (differ (word_at m2.words 1) id toggle) same
     (λ k k_one k_other. update.bits k 1 k_one.0 k_other) few_all few in
@@ -128,7 +138,8 @@ and_false : (b : Bool) → (b && false) ≡ false
 and_false true = refl
 and_false false = refl
 
-one_round : (n w r : ℕ) → 1 ≤ w → suc r ≤ others n → Leads (algorithm n w) (Round n w r) (round_of_m n w r) (Round n w (suc r))
+one_round : (n w r : ℕ) → 1 ≤ w → suc r ≤ others n →
+    Leads (algorithm n w) (Round n w r) (round_of_m n w r) (Round n w (suc r))
 one_round n w r some le time x h =
     let a = algorithm n w in
     let i = r + 2 in
@@ -138,7 +149,8 @@ one_round n w r some le time x h =
     let p = h.variables in
     let copies : length v.a ≡ max n w = length-replicate (max n w) first_word in
     let rows : length v.g ≡ max n w = length-replicate (max n w) 0 in
-    let start : Sized n w v = record { a = omega arith; b = omega arith; g = omega arith; h = omega arith; tog = omega arith } in
+    let start : Sized n w v =
+    record { a = omega arith; b = omega arith; g = omega arith; h = omega arith; tog = omega arith } in
     let none_i : place p.moved i ≡ 0 = h.none i at (omega arith) in
     let old_id : (word_at m.words 1).id ≤ suc r = h.id in
     let first = turns n w i (2 * r) 0 m p v at (omega arith) some h.keeps start
@@ -147,14 +159,20 @@ one_round n w r some le time x h =
     let m1 = first.memory in
     let few1 : (k : ℕ) → IsOneOf n k → place first.variables.moved k ≤ 2 =
     λ k k_one. elim (cases_eq k i) [
-      | inl is ↦ (let e : place first.variables.moved k ≡ place p.moved i + 1 = ap (place first.variables.moved) is ∙ first.moved in omega arith)
-      | inr other ↦ (let e : place first.variables.moved k ≡ place p.moved k = first.unmoved k k_one other in let f : place p.moved k ≤ 2 = h.few k k_one in omega arith)
+      | inl is ↦
+          (let e : place first.variables.moved k ≡ place p.moved i + 1 =
+          ap (place first.variables.moved) is ∙ first.moved in omega arith)
+      | inr other ↦
+          (let e : place first.variables.moved k ≡ place p.moved k =
+          first.unmoved k k_one other in let f : place p.moved k ≤ 2 = h.few k k_one in omega arith)
     ] in
     let once : place first.variables.moved i ≤ 1 = (let e = first.moved in omega arith) in
-    let second = turns n w i (suc (2 * r)) 1 m1 first.variables first.others at (omega arith) some first.keeps first.sized
+    let second =
+    turns n w i (suc (2 * r)) 1 m1 first.variables first.others at (omega arith) some first.keeps first.sized
     (λ y id toggle.
     let flips : y.toggle ≡ flip (word_at m1.words 1).toggle = toggle ∙ ap flip (first.tog ∙ sym first.toggle) in
-    let differ : (word_at m1.words 1).toggle ≢ y.toggle = λ is. flip_other (word_at m1.words 1).toggle (sym flips ∙ sym is) in
+    let differ : (word_at m1.words 1).toggle ≢ y.toggle =
+    λ is. flip_other (word_at m1.words 1).toggle (sym flips ∙ sym is) in
     ap (λ b. nat_eq (word_at m1.words 1).id y.id && b) (other_number (word_at m1.words 1).toggle y.toggle differ)
     ∙ and_false (nat_eq (word_at m1.words 1).id y.id)) few1 once in
     let turn = turn_of_m n w r in
@@ -175,8 +193,11 @@ one_round n w r some le time x h =
       keeps = second.keeps;
       id = (let e = second.id in omega arith);
       few = λ k k_one. elim (cases_eq k i) [
-        | inl is ↦ (let e : place second.variables.moved k ≡ 2 = ap (place second.variables.moved) is ∙ twice in omega arith)
-        | inr other ↦ (let e : place second.variables.moved k ≡ place first.variables.moved k = second.unmoved k k_one other in let f : place first.variables.moved k ≤ 2 = few1 k k_one in omega arith)
+        | inl is ↦
+            (let e : place second.variables.moved k ≡ 2 = ap (place second.variables.moved) is ∙ twice in omega arith)
+        | inr other ↦
+            (let e : place second.variables.moved k ≡ place first.variables.moved k =
+            second.unmoved k k_one other in let f : place first.variables.moved k ≤ 2 = few1 k k_one in omega arith)
       ];
       none = λ k k_one more.
           let other : k ≢ i = λ is. absurd (omega arith) in
@@ -184,7 +205,8 @@ one_round n w r some le time x h =
     }
 
 -- after the call and the first three lines
-opening : (n w : ℕ) → 1 ≤ n → 1 ≤ w → Leads (algorithm n w) (λ x. x ≡ first_state (algorithm n w)) (Call 1 Scan ∷ steps_of 1 3) (Round n w 0)
+opening : (n w : ℕ) → 1 ≤ n → 1 ≤ w →
+    Leads (algorithm n w) (λ x. x ≡ first_state (algorithm n w)) (Call 1 Scan ∷ steps_of 1 3) (Round n w 0)
 opening n w some words time x is =
     let a = algorithm n w in
     let m = first_memory n w in
@@ -218,12 +240,14 @@ record Ready (n w : ℕ) (x : State (algorithm n w)) : Type 0 where
   lead : alone_of (algorithm n w) x 1 ≡ standing Scanning memory variables L35 (2 * n - 1)
 
 -- the last double collect passes
-closing : (n w r : ℕ) → 1 ≤ w → n ≡ suc r → Leads (algorithm n w) (Round n w r) (steps_of 1 (7 * n + 6 * w + 4)) (Ready n w)
+closing : (n w r : ℕ) → 1 ≤ w → n ≡ suc r →
+    Leads (algorithm n w) (Round n w r) (steps_of 1 (7 * n + 6 * w + 4)) (Ready n w)
 closing n w r some last time x h =
     let a = algorithm n w in
     let one : IsOneOf n 1 = (omega arith, omega arith) in
     let keeps = h.keeps in
-    let end = clean n w 1 Scanning h.memory h.variables (2 * r) (omega arith) some keeps.first_j keeps.first_k keeps.sized in
+    let end =
+    clean n w 1 Scanning h.memory h.variables (2 * r) (omega arith) some keeps.first_j keeps.first_k keeps.sized in
     let m1 : Registers = record h.memory { q = end.0 } in
     let stands = standing Scanning h.memory h.variables L13 (2 * r) in
     let ready = standing Scanning m1 end.1 L35 (suc (2 * r)) in
@@ -241,9 +265,11 @@ fits n w some most most_words =
     let e = round_length (r + 2) 1 (4 * n + 2 * w) (10 * n + 6 * w + 14) (3 * n + 4 * w + 8) in
     omega arith in
     let all = schedule_length (34 * n + 24 * w + 46) (round_of_m n w) (others n) 3 (7 * n + 6 * w + 4) each in
-    let product : (others n) * (34 * n + 24 * w + 46) ≤ 64 * 3758 = mul-le (others n) (34 * n + 24 * w + 46) 64 3758 (omega arith) (omega arith) in
+    let product : (others n) * (34 * n + 24 * w + 46) ≤ 64 * 3758 =
+    mul-le (others n) (34 * n + 24 * w + 46) 64 3758 (omega arith) (omega arith) in
     let turn : (r : ℕ) → suc r ≤ others n → AreTurns n (turn_of_m n w r) =
-    λ r le. turns_round n (r + 2) 1 (4 * n + 2 * w) (10 * n + 6 * w + 14) (3 * n + 4 * w + 8) one (omega arith, omega arith) in
+    λ r le.
+    turns_round n (r + 2) 1 (4 * n + 2 * w) (10 * n + 6 * w + 14) (3 * n + 4 * w + 8) one (omega arith, omega arith) in
     steady (run_of n w (schedule_of_m n w))
     (turns_schedule n (round_of_m n w) (others n) 3 (7 * n + 6 * w + 4) one
     (λ r le. turns_join n (turn_of_m n w r) (turn_of_m n w r) (turn r le) (turn r le)))

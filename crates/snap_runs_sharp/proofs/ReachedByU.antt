@@ -1,5 +1,7 @@
--- The schedule of U: round after round one process more has moved, and then the scan passes its test.
-use Rattle.std.specs.Prelude.{◌≡◌, ◌≢◌, ℕ, suc, ◌+◌, ◌*◌, ◌-◌, ◌<◌, ◌≤◌, max, List, [], ◌∷◌, length, None, replicate, slice_set, refl}
+-- The schedule of U by which a scan makes n double collects: round after
+-- round one process more has moved, and then the scan passes its test.
+use Rattle.std.specs.Prelude.{◌≡◌, ◌≢◌, ℕ, suc, ◌+◌, ◌*◌, ◌-◌, ◌<◌, ◌≤◌, max, List, [], ◌∷◌}
+use Rattle.std.specs.Prelude.{length, None, replicate, slice_set, refl}
 use Rattle.std.proofs.Common.{◌∙◌, ap, subst, arith}
 use Rattle.std.proofs.lemmas.Grind.{get_or-set_at}
 use Rattle.std.proofs.lemmas.List.{length-set, length-replicate, get_or-set_other, get_or-replicate}
@@ -17,16 +19,19 @@ use Rattle.snap_runs.proofs.Held.{word_at, seq_at}
 use Rattle.snap_runs.proofs.Places.{for_each, for_each_at}
 use Rattle.snap_runs.proofs.Steady.{Steady}
 use Rattle.snap_runs_of_u.specs.Promises.{square, run_of}
-use Rattle.snap_runs_of_u.proofs.Algorithm.{Words, Variables, L10, L12, L14, L22, first_word, first_variables, moved_at, lines, algorithm}
+use Rattle.snap_runs_of_u.proofs.Algorithm.{Words, Variables, L10, L12, L14, L22, first_word, first_variables}
+use Rattle.snap_runs_of_u.proofs.Algorithm.{moved_at, lines, algorithm}
 use Rattle.snap_runs_of_u.proofs.Flows.{listed}
 use Rattle.snap_runs_of_u.proofs.Ready as suffices
 use Rattle.snap_runs_of_u.proofs.Runs.{execution}
 use Rattle.snap_runs_sharp.specs.Reached.{Reaches, IsReachedByU, ScheduleOfUReaches}
-use Rattle.snap_runs_sharp.specs.Schedules.{others, steps_of, before_answer, schedule, round_of_u, schedule_of_u, scan_alone_of_u}
+use Rattle.snap_runs_sharp.specs.Schedules.{others, steps_of, before_answer, schedule}
+use Rattle.snap_runs_sharp.specs.Schedules.{round_of_u, schedule_of_u, scan_alone_of_u}
 use Rattle.snap_runs_sharp.proofs.Alone.{State, standing, walk, alone_of, run_from}
 use Rattle.snap_runs_sharp.proofs.Answering.{reaches}
 use Rattle.snap_runs_sharp.proofs.Items.{turns_round, turns_schedule, round_length, schedule_length, steady}
-use Rattle.snap_runs_sharp.proofs.Scenes.{Leads, schedule_leads, first_seat, Scene, beside_fresh, lead_walks, round_leads, opening_leads}
+use Rattle.snap_runs_sharp.proofs.Scenes.{Leads, schedule_leads, first_seat, Scene, beside_fresh, lead_walks}
+use Rattle.snap_runs_sharp.proofs.Scenes.{round_leads, opening_leads}
 use Rattle.snap_runs_sharp.proofs.WalksOfU.{first_collect, clean, whole_update, fails}
 
 -- an update of a process's own word is admitted
@@ -55,15 +60,18 @@ one_round n r le time x h =
     let m = h.memory in
     let collect = first_collect n 1 Scanning m h.variables r some h.first h.size_a in
     let p : Variables = record h.variables { j = 1; a = collect.0 } in
-    let update = whole_update n i i i m (first_variables n) 0 some (let e = length-replicate (max n n) (first_word n) in omega arith)
+    let update =
+    whole_update n i i i m (first_variables n) 0 some (let e = length-replicate (max n n) (first_word n) in omega arith)
     (let e = length-replicate (max n n) (first_word n) in omega arith) in
     let m2 = slice_set m (i - 1) update.0 in
     let none_i = h.none i at (omega arith) in
-    let written : word_at m2 i ≡ update.0 = get_or-set_at m (i - 1) (i - 1) update.0 no_word refl (let e = h.words in omega arith) in
+    let written : word_at m2 i ≡ update.0 =
+    get_or-set_at m (i - 1) (i - 1) update.0 no_word refl (let e = h.words in omega arith) in
     let seq : seq_at m2 i ≡ 1 = ap (λ (w : Word). w.seq) written ∙ update.3 in
     let kept : (k : ℕ) → IsOneOf n k → k ≢ i → word_at m2 k ≡ word_at m k =
     λ k k_one other. get_or-set_other m (i - 1) (k - 1) update.0 no_word (λ same. other (omega arith)) in
-    let failed = fails n i m m2 p r some refl h.size_b collect.3 at (λ same. absurd (omega arith)) kept h.few none_i.0 in
+    let failed =
+    fails n i m m2 p r some refl h.size_b collect.3 at (λ same. absurd (omega arith)) kept h.few none_i.0 in
     let q = failed.0 in
     let before = standing Scanning m h.variables L12 r in
     let between = standing Scanning m p L14 r in
@@ -87,7 +95,8 @@ one_round n r le time x h =
     }
 
 -- after the call and the first two lines
-opening : (n : ℕ) → 1 ≤ n → Leads (algorithm n) (λ x. x ≡ first_state (algorithm n)) (Call 1 Scan ∷ steps_of 1 2) (Round n 0)
+opening : (n : ℕ) → 1 ≤ n →
+    Leads (algorithm n) (λ x. x ≡ first_state (algorithm n)) (Call 1 Scan ∷ steps_of 1 2) (Round n 0)
 opening n some time x is =
     let a = algorithm n in
     let m = replicate n (first_word n) in
@@ -106,7 +115,9 @@ opening n some time x is =
       size_b = omega arith;
       words = length-replicate n (first_word n);
       few = λ k at. let e = zeros k at in omega arith;
-      none = λ k at more. (zeros k at, ap (λ (w : Word). w.seq) (get_or-replicate n (k - 1) (first_word n) no_word (omega arith)));
+      none =
+          λ k at more.
+          (zeros k at, ap (λ (w : Word). w.seq) (get_or-replicate n (k - 1) (first_word n) no_word (omega arith)));
     }
 
 -- process 1 is about to answer, after so many double collects
@@ -126,12 +137,15 @@ closing n r some time x h =
     record { memory = h.memory; variables = end.0; lead = scene.lead }
 
 -- so many rounds, and a double collect that passes
-reaching : (n count : ℕ) (round : ℕ → List Item) → 1 ≤ n → ((r : ℕ) → suc r ≤ count → Leads (algorithm n) (Round n r) (round r) (Round n (suc r))) →
-    suffices.Ready n (schedule round count 2 (4 * n + 2)) → Reaches (suc count) (run_of n (schedule round count 2 (4 * n + 2)))
+reaching : (n count : ℕ) (round : ℕ → List Item) → 1 ≤ n →
+    ((r : ℕ) → suc r ≤ count → Leads (algorithm n) (Round n r) (round r) (Round n (suc r))) →
+    suffices.Ready n (schedule round count 2 (4 * n + 2)) →
+    Reaches (suc count) (run_of n (schedule round count 2 (4 * n + 2)))
 reaching n count round some each fits =
     let a = algorithm n in
     let items = schedule round count 2 (4 * n + 2) in
-    let ready = schedule_leads a (Round n) (Ready n (suc count)) round count 2 (4 * n + 2) (opening n some) each (closing n count some) in
+    let ready = schedule_leads a (Round n) (Ready n (suc count)) round count 2 (4 * n + 2)
+    (opening n some) each (closing n count some) in
     reaches a lines (listed n) (execution n items fits) (before_answer round count 2 (4 * n + 2)) 1 Scanning L22
     ready.memory ready.variables (suc count) ready.variables.s refl (omega arith, some) ready.lead refl
 
@@ -142,7 +156,8 @@ fits n some most =
     let each : (r : ℕ) → length (round_of_u n r) ≡ 8 * n + 14 = λ r. let e = round_length (r + 2) (r + 2) (2 * n)
     (4 * n + 9) (2 * n + 4) in omega arith in
     let size = schedule_length (8 * n + 14) (round_of_u n) (others n) 2 (4 * n + 2) each in
-    let product : (others n) * (8 * n + 14) ≤ 64 * 526 = mul-le (others n) (8 * n + 14) 64 526 (omega arith) (omega arith) in
+    let product : (others n) * (8 * n + 14) ≤ 64 * 526 =
+    mul-le (others n) (8 * n + 14) 64 526 (omega arith) (omega arith) in
     let few : length (schedule_of_u n) ≤ 1000000 = omega arith in
     let turns =
     turns_schedule n (round_of_u n) (others n) 2 (4 * n + 2) one
@@ -163,7 +178,9 @@ fits_alone n some most =
     let size = schedule_length 0 (λ r. []) 0 2 (4 * n + 2) (λ r. refl) in
     let few : length (scan_alone_of_u n) ≤ 1000000 = omega arith in
     record {
-      steady = steady (run_of n (scan_alone_of_u n)) (turns_schedule n (λ r. []) 0 2 (4 * n + 2) (omega arith, some) (λ r le. tt)) few;
+      steady =
+          steady (run_of n (scan_alone_of_u n))
+          (turns_schedule n (λ r. []) 0 2 (4 * n + 2) (omega arith, some) (λ r le. tt)) few;
       suffice = omega arith;
     }
 

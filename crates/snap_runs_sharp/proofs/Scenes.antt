@@ -1,4 +1,5 @@
--- Scenes of a schedule: what process 1 is at, and which processes have not been called; and how items lead from one to another.
+-- Scenes of a schedule: what process 1 is at, and which processes have not been called; and how items lead from one
+-- to another.
 use Rattle.std.specs.Prelude.{◌≡◌, ◌≢◌, ℕ, zero, suc, ◌+◌, ◌<◌, ◌≤◌, List, [], ◌∷◌, ◌++◌, length, None, refl}
 use Rattle.std.proofs.Common.{sym, ◌∙◌, ap, subst, arith}
 use Rattle.snap_words.specs.Shape.{IsOneOf}
@@ -10,20 +11,24 @@ use Rattle.snap_semantics.specs.declared.process.Op.TheVariants.{Scan, Update}
 use Rattle.snap_runs.proofs.Algorithm.{Scanning, Idle, TypedProcess, Algorithm, first_state, typed_at, happens}
 use Rattle.snap_runs.proofs.Embedding as embed
 use Rattle.snap_runs_sharp.specs.Schedules.{steps_of, update_by, round_with, rounds, before_answer}
-use Rattle.snap_runs_sharp.proofs.Alone.{Seat, Alone, State, seated, placed, seat_of, standing, idling, walk, after_call, alone_of, run_from, steps_alone, call_alone}
+use Rattle.snap_runs_sharp.proofs.Alone.{Seat, Alone, State, seated, placed, seat_of, standing, idling, walk}
+use Rattle.snap_runs_sharp.proofs.Alone.{after_call, alone_of, run_from, steps_alone, call_alone}
 
 module _ {V P M : Type 0} (a : Algorithm V P M) where
   -- from a state of which this holds the items lead to one of which that holds
   abbrev pub Leads : (State a → Type 0) → List Item → (State a → Type 0) → Type 0
   Leads From items To = (time : ℕ) (x : State a) → From x → To (run_from a time x items)
 
-  run_append : (time : ℕ) (x : State a) (xs ys : List Item) → run_from a time x (xs ++ ys) ≡ run_from a (time + length xs) (run_from a time x xs) ys
+  run_append : (time : ℕ) (x : State a) (xs ys : List Item) →
+      run_from a time x (xs ++ ys) ≡ run_from a (time + length xs) (run_from a time x xs) ys
   run_append time x [] ys = ap (λ t. run_from a t x ys) (let e : time ≡ time + zero = omega arith in e)
   run_append time x (y ∷ xs) ys =
       run_append (suc time) (happens a (suc time) x y) xs ys
-      ∙ ap (λ t. run_from a t (run_from a time x (y ∷ xs)) ys) (let e : suc time + length xs ≡ time + suc (length xs) = omega arith in e)
+      ∙ ap (λ t. run_from a t (run_from a time x (y ∷ xs)) ys)
+      (let e : suc time + length xs ≡ time + suc (length xs) = omega arith in e)
 
-  pub leads_on : (From Between To : State a → Type 0) (xs ys : List Item) → Leads From xs Between → Leads Between ys To → Leads From (xs ++ ys) To
+  pub leads_on : (From Between To : State a → Type 0) (xs ys : List Item) → Leads From xs Between →
+      Leads Between ys To → Leads From (xs ++ ys) To
   leads_on From Between To xs ys first second time x h =
       subst To (sym (run_append time x xs ys)) (second (time + length xs) (run_from a time x xs) (first time x h))
 
@@ -36,14 +41,15 @@ module _ {V P M : Type 0} (a : Algorithm V P M) where
       (leads_rounds At round count (λ r le. each r (omega arith))) (each count (omega arith)) time x h
 
   -- a whole schedule, up to its answer
-  pub schedule_leads : (At : ℕ → State a → Type 0) (Ready : State a → Type 0) (round : ℕ → List Item) (count opening closing : ℕ) →
-      Leads (λ x. x ≡ first_state a) (Call 1 Scan ∷ steps_of 1 opening) (At 0) →
-      ((r : ℕ) → suc r ≤ count → Leads (At r) (round r) (At (suc r))) →
-      Leads (At count) (steps_of 1 closing) Ready →
+  pub schedule_leads : (At : ℕ → State a → Type 0) (Ready : State a → Type 0) (round : ℕ → List Item)
+      (count opening closing : ℕ) → Leads (λ x. x ≡ first_state a) (Call 1 Scan ∷ steps_of 1 opening) (At 0) →
+      ((r : ℕ) → suc r ≤ count → Leads (At r) (round r) (At (suc r))) → Leads (At count) (steps_of 1 closing) Ready →
       Ready (run_from a 0 (first_state a) (before_answer round count opening closing))
   schedule_leads At Ready round count opening closing opens each closes =
-      leads_on (λ x. x ≡ first_state a) (At 0) Ready (Call 1 Scan ∷ steps_of 1 opening) (rounds round count ++ steps_of 1 closing) opens
-      (leads_on (At 0) (At count) Ready (rounds round count) (steps_of 1 closing) (leads_rounds At round count each) closes)
+      leads_on (λ x. x ≡ first_state a) (At 0) Ready (Call 1 Scan ∷ steps_of 1 opening)
+      (rounds round count ++ steps_of 1 closing) opens
+      (leads_on (At 0) (At count) Ready (rounds round count) (steps_of 1 closing)
+      (leads_rounds At round count each) closes)
       0 (first_state a) refl
 
   -- a process that has not been called
@@ -61,7 +67,8 @@ module _ {V P M : Type 0} (a : Algorithm V P M) where
     pub scene : Scene r y x
     pub seat : seat_of (typed_at a x i) ≡ q
 
-  pub beside_fresh : (r i : ℕ) (y : Alone V P M) (x : State a) → IsOneOf a.shape.n i → i ≡ suc r → Scene r y x → Beside i i y first_seat x
+  pub beside_fresh : (r i : ℕ) (y : Alone V P M) (x : State a) → IsOneOf a.shape.n i → i ≡ suc r →
+      Scene r y x → Beside i i y first_seat x
   beside_fresh r i y x one next h =
       record {
         scene = record { count = h.count; lead = h.lead; fresh = λ k at more. h.fresh k at (omega arith) };
@@ -77,7 +84,8 @@ module _ {V P M : Type 0} (a : Algorithm V P M) where
     }
 
     -- process 1 takes steps
-    pub lead_walks : (r s : ℕ) (y z : Alone V P M) → 1 ≤ r → walk a 1 s y ≡ z → Leads (Scene r y) (steps_of 1 s) (Scene r z)
+    pub lead_walks : (r s : ℕ) (y z : Alone V P M) → 1 ≤ r → walk a 1 s y ≡ z →
+        Leads (Scene r y) (steps_of 1 s) (Scene r z)
     lead_walks r s y z le goes time x h =
         let after = steps_alone a 1 one time s x h.count in
         record {
@@ -87,8 +95,8 @@ module _ {V P M : Type 0} (a : Algorithm V P M) where
         }
 
     -- process 1 takes steps, and process i does not
-    beside_walks : (r i s : ℕ) (y z : Alone V P M) (q : Seat V P) → IsOneOf a.shape.n i → 1 < i → i ≤ r → walk a 1 s y ≡ z →
-        Leads (Beside r i y q) (steps_of 1 s) (Beside r i z q)
+    beside_walks : (r i s : ℕ) (y z : Alone V P M) (q : Seat V P) → IsOneOf a.shape.n i → 1 < i → i ≤ r →
+        walk a 1 s y ≡ z → Leads (Beside r i y q) (steps_of 1 s) (Beside r i z q)
     beside_walks r i s y z q at other le goes time x h =
         let after = steps_alone a 1 one time s x h.scene.count in
         record {
@@ -109,8 +117,8 @@ module _ {V P M : Type 0} (a : Algorithm V P M) where
         }
 
     -- another process makes an update
-    update_walks : (r i word s : ℕ) (y : Alone V P M) (q q' : Seat V P) (m' : M) → IsOneOf a.shape.n i → 1 < i → i ≤ r → q.control ≡ Idle →
-        call_skip a.source.kind a.shape i (Update word i) ≡ None →
+    update_walks : (r i word s : ℕ) (y : Alone V P M) (q q' : Seat V P) (m' : M) → IsOneOf a.shape.n i →
+        1 < i → i ≤ r → q.control ≡ Idle → call_skip a.source.kind a.shape i (Update word i) ≡ None →
         walk a i s (after_call a (Update word i) (placed y.memory q)) ≡ placed m' q' →
         Leads (Beside r i y q) (update_by i word s) (Beside r i (placed m' y.seat) q')
     update_walks r i word s y q q' m' at other le idle admit goes time x h =
@@ -122,7 +130,8 @@ module _ {V P M : Type 0} (a : Algorithm V P M) where
         ap (λ m. placed m (seat_of (typed_at a x i))) (ap (λ (z : Alone V P M). z.memory) h.scene.lead)
         ∙ ap (placed y.memory) h.seat in
         let next = run_from a time x (update_by i word s) in
-        let becomes : alone_of a next i ≡ placed m' q' = after.1 ∙ ap (walk a i s) (called.1 ∙ ap (after_call a op) before) ∙ goes in
+        let becomes : alone_of a next i ≡ placed m' q' =
+        after.1 ∙ ap (walk a i s) (called.1 ∙ ap (after_call a op) before) ∙ goes in
         let same : (k : ℕ) → IsOneOf a.shape.n k → k ≢ i → seat_of (typed_at a next k) ≡ seat_of (typed_at a x k) =
         λ k one_k differ. ap seat_of (after.0.others k one_k differ ∙ called.0.others k one_k differ) in
         let lead_seat : seat_of (typed_at a next 1) ≡ y.seat =
@@ -130,33 +139,40 @@ module _ {V P M : Type 0} (a : Algorithm V P M) where
         record {
           scene = record {
             count = after.0.count;
-            lead = ap (λ m. placed m (seat_of (typed_at a next 1))) (ap (λ (z : Alone V P M). z.memory) becomes) ∙ ap (placed m') lead_seat;
+            lead =
+                ap (λ m. placed m (seat_of (typed_at a next 1))) (ap (λ (z : Alone V P M). z.memory) becomes)
+                ∙ ap (placed m') lead_seat;
             fresh = λ k one_k more. same k one_k (λ e. absurd (omega arith)) ∙ h.scene.fresh k one_k more;
           };
           seat = ap (λ (z : Alone V P M). z.seat) becomes;
         }
 
     -- a round: process 1 takes steps, process i makes an update, and process 1 takes steps again
-    pub round_leads : (r i word first update second : ℕ) (before between after : Alone V P M) (q q' : Seat V P) (m' : M) →
-        IsOneOf a.shape.n i → 1 < i → i ≤ r → q.control ≡ Idle → call_skip a.source.kind a.shape i (Update word i) ≡ None →
-        walk a 1 first before ≡ between →
+    pub round_leads : (r i word first update second : ℕ) (before between after : Alone V P M)
+        (q q' : Seat V P) (m' : M) → IsOneOf a.shape.n i → 1 < i → i ≤ r → q.control ≡ Idle →
+        call_skip a.source.kind a.shape i (Update word i) ≡ None → walk a 1 first before ≡ between →
         walk a i update (after_call a (Update word i) (placed between.memory q)) ≡ placed m' q' →
         walk a 1 second (placed m' between.seat) ≡ after →
         Leads (Beside r i before q) (round_with i word first update second) (Beside r i after q')
-    round_leads r i word first update second before between after q q' m' at other le idle admit one_walks other_walks one_goes_on =
+    round_leads r i word first update second before between after q q' m' at other le idle admit
+        one_walks other_walks one_goes_on =
         let beyond : Alone V P M = placed m' between.seat in
-        leads_on (Beside r i before q) (Beside r i between q) (Beside r i after q') (steps_of 1 first) (update_by i word update ++ steps_of 1 second)
+        leads_on (Beside r i before q) (Beside r i between q) (Beside r i after q') (steps_of 1 first)
+        (update_by i word update ++ steps_of 1 second)
         (beside_walks r i first before between q at other le one_walks)
-        (leads_on (Beside r i between q) (Beside r i beyond q') (Beside r i after q') (update_by i word update) (steps_of 1 second)
+        (leads_on (Beside r i between q) (Beside r i beyond q') (Beside r i after q')
+        (update_by i word update) (steps_of 1 second)
         (update_walks r i word update between q q' m' at other le idle admit other_walks)
         (beside_walks r i second beyond after q' at other le one_goes_on))
 
     -- the call of process 1, and its first steps
-    pub opening_leads : (s : ℕ) (y : Alone V P M) → walk a 1 s (standing Scanning a.first_memory a.first_variables (a.counter Scan) 0) ≡ y →
+    pub opening_leads : (s : ℕ) (y : Alone V P M) →
+        walk a 1 s (standing Scanning a.first_memory a.first_variables (a.counter Scan) 0) ≡ y →
         Leads (λ x. x ≡ first_state a) (Call 1 Scan ∷ steps_of 1 s) (Scene 1 y)
     opening_leads s y goes time x is =
         let m = a.first_memory in
         let p = a.first_variables in
         let called = standing Scanning m p (a.counter Scan) 0 in
-        leads_on (Scene 1 (idling m p 0)) (Scene 1 called) (Scene 1 y) (Call 1 Scan ∷ []) (steps_of 1 s) (lead_calls 1 m p 0 (omega arith))
+        leads_on (Scene 1 (idling m p 0)) (Scene 1 called) (Scene 1 y) (Call 1 Scan ∷ []) (steps_of 1 s)
+        (lead_calls 1 m p 0 (omega arith))
         (lead_walks 1 s called y (omega arith) goes) time x (subst (Scene 1 (idling m p 0)) (sym is) first_scene)

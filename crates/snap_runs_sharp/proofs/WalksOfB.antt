@@ -1,5 +1,6 @@
 -- Processes of B that step alone: the handshakes and the collects of a scan, its tests, and a whole update.
-use Rattle.std.specs.Prelude.{◌≡◌, ◌≢◌, ℕ, zero, suc, ◌+◌, ◌*◌, ◌-◌, ◌<◌, ◌≤◌, Bool, true, false, not, ◌&&◌, List, length, map, take, None, nat_eq, if◌then◌else◌, slice_set, refl}
+use Rattle.std.specs.Prelude.{◌≡◌, ◌≢◌, ℕ, zero, suc, ◌+◌, ◌*◌, ◌-◌, ◌<◌, ◌≤◌, Bool, true, false, not, ◌&&◌, List}
+use Rattle.std.specs.Prelude.{length, map, take, None, nat_eq, if◌then◌else◌, slice_set, refl}
 use Rattle.std.proofs.Common.{◌∙◌, ap, arith, inl, inr}
 use Rattle.std.proofs.lemmas.Bool.{cases_eq}
 use Rattle.std.proofs.lemmas.Grind.{get_or-set_at}
@@ -11,7 +12,9 @@ use Rattle.snap_runs.proofs.Algorithm.{Mode, Scanning, Embedded, Updating}
 use Rattle.snap_runs.proofs.Computing.{lt_true, lt_false, other_number, same_number}
 use Rattle.snap_runs.proofs.Held.{word_at, seq_at}
 use Rattle.snap_runs.proofs.Places.{for_each, for_each_at}
-use Rattle.snap_runs_of_b.proofs.Algorithm.{Words, Registers, Variables, ProgramCounter, L12, L16, L18, L20, L26, L40, L41, L44, place, handshake_at, bit_for, answer, flipped, agree, moved_at, counted, at_limit, word_put, algorithm}
+use Rattle.snap_runs_of_b.proofs.Algorithm.{Words, Registers, Variables, ProgramCounter, L12, L16, L18, L20, L26, L40}
+use Rattle.snap_runs_of_b.proofs.Algorithm.{L41, L44, place, handshake_at, bit_for, answer, flipped, agree, moved_at}
+use Rattle.snap_runs_of_b.proofs.Algorithm.{counted, at_limit, word_put, algorithm}
 use Rattle.snap_runs_sharp.proofs.Alone.{Seat, Alone, placed, standing, idling, walk, walks}
 use Rattle.snap_runs_sharp.proofs.Filling.{Filled, all_hold, one_fails, none_first}
 use Rattle.snap_runs_sharp.proofs.Loops.{fill}
@@ -50,7 +53,8 @@ drawn_is : (size me : ℕ) (m : Registers) (r : Shaken size) (j : ℕ) (g : List
     drawn me m r j g ≡ slice_set g (j - 1) (handshakes m.words me j)
 drawn_is size me m r j g pos le =
     let long : length r.a ≡ size = r.size_a in
-    ap (λ (x : Word). slice_set g (j - 1) (handshake_at x me)) (get_or-set_at r.a (j - 1) (j - 1) (word_at m.words j) no_word refl (omega arith))
+    ap (λ (x : Word). slice_set g (j - 1) (handshake_at x me))
+    (get_or-set_at r.a (j - 1) (j - 1) (word_at m.words j) no_word refl (omega arith))
 
 -- a process that shakes hands with process j
 abbrev shaking : {size : ℕ} → Mode → Registers → Variables → ℕ → Shaken size → ℕ → List ℕ → Standing
@@ -59,19 +63,22 @@ shaking d m p c r j g = standing d (record m { q = r.q }) (record p { j = j; a =
 abbrev shook : {size : ℕ} → Mode → Registers → Variables → ℕ → Shaken size → List ℕ → Standing
 shook d m p c r g = standing d (record m { q = r.q }) (record p { j = 1; a = r.a; g = g; marks = r.marks }) L16 c
 
-shakes : (size n me : ℕ) (d : Mode) (m : Registers) (p : Variables) (c : ℕ) (r : Shaken size) (j : ℕ) (g : List ℕ) → 0 < j → j < n → n ≤ size →
-    walk (algorithm n) me 4 (shaking d m p c r j g) ≡ shaking d m p c (shaken me m r j g) (j + 1) (slice_set g (j - 1) (handshakes m.words me j))
+shakes : (size n me : ℕ) (d : Mode) (m : Registers) (p : Variables) (c : ℕ) (r : Shaken size) (j : ℕ) (g : List ℕ) →
+    0 < j → j < n → n ≤ size → walk (algorithm n) me 4 (shaking d m p c r j g)
+    ≡ shaking d m p c (shaken me m r j g) (j + 1) (slice_set g (j - 1) (handshakes m.words me j))
 unfolding shaken
 shakes size n me d m p c r j g pos lt le = rw (← drawn_is size me m r j g pos (omega arith), lt_true j n lt) refl
 
-shakes_last : (size n me : ℕ) (d : Mode) (m : Registers) (p : Variables) (c : ℕ) (r : Shaken size) (g : List ℕ) → 1 ≤ n → n ≤ size →
-    walk (algorithm n) me 4 (shaking d m p c r n g) ≡ shook d m p c (shaken me m r n g) (slice_set g (n - 1) (handshakes m.words me n))
+shakes_last : (size n me : ℕ) (d : Mode) (m : Registers) (p : Variables) (c : ℕ) (r : Shaken size) (g : List ℕ) →
+    1 ≤ n → n ≤ size → walk (algorithm n) me 4 (shaking d m p c r n g)
+    ≡ shook d m p c (shaken me m r n g) (slice_set g (n - 1) (handshakes m.words me n))
 unfolding shaken
 shakes_last size n me d m p c r g some le = rw (← drawn_is size me m r n g some le, lt_false n n (omega arith)) refl
 
 -- the handshake with all processes: the bits that their words say are drawn, and put
-handshake : (n me : ℕ) (d : Mode) (m : Registers) (p : Variables) (c : ℕ) → 1 ≤ n → p.j ≡ 1 → n ≤ length p.a → n ≤ length p.g →
-    (r : Shaken (length p.a)) × (g : List ℕ) × (walk (algorithm n) me (4 * n) (standing d m p L12 c) ≡ shook d m p c r g)
+handshake : (n me : ℕ) (d : Mode) (m : Registers) (p : Variables) (c : ℕ) → 1 ≤ n → p.j ≡ 1 →
+    n ≤ length p.a → n ≤ length p.g → (r : Shaken (length p.a)) × (g : List ℕ)
+    × (walk (algorithm n) me (4 * n) (standing d m p L12 c) ≡ shook d m p c r g)
     × (length g ≡ length p.g) × Filled (handshakes m.words me) 0 (n + 1) g
 handshake n me d m p c some first size_a size_g =
     let size = length p.a in
@@ -85,7 +92,8 @@ handshake n me d m p c some first size_a size_g =
 
 -- the first collect: the copies are filled with the words
 copies_first : (n me : ℕ) (d : Mode) (m : Registers) (p : Variables) (c : ℕ) → 1 ≤ n → p.j ≡ 1 → n ≤ length p.a →
-    (a : Words) × (walk (algorithm n) me (2 * n) (standing d m p L16 c) ≡ standing d m (record p { j = 1; a = a }) L18 c)
+    (a : Words)
+    × (walk (algorithm n) me (2 * n) (standing d m p L16 c) ≡ standing d m (record p { j = 1; a = a }) L18 c)
     × (length a ≡ length p.a) × Filled (word_at m.words) no_word (n + 1) a
 copies_first n me d m p c some first size =
     let at = λ (r : Unit {0}) (j : ℕ) (xs : Words). standing d m (record p { j = j; a = xs }) L16 c in
@@ -97,7 +105,8 @@ copies_first n me d m p c some first size =
 
 -- the second collect
 pub second_collect : (n me : ℕ) (d : Mode) (m : Registers) (p : Variables) (c : ℕ) → 1 ≤ n → p.j ≡ 1 → n ≤ length p.b →
-    (b : Words) × (walk (algorithm n) me (2 * n) (standing d m p L18 c) ≡ standing d m (record p { j = 1; b = b }) L20 c)
+    (b : Words)
+    × (walk (algorithm n) me (2 * n) (standing d m p L18 c) ≡ standing d m (record p { j = 1; b = b }) L20 c)
     × (length b ≡ length p.b) × Filled (word_at m.words) no_word (n + 1) b
 second_collect n me d m p c some first size =
     let at = λ (r : Unit {0}) (j : ℕ) (xs : Words). standing d m (record p { j = j; b = xs }) L18 c in
@@ -113,7 +122,8 @@ pub record Collected (n me : ℕ) (d : Mode) (m : Registers) (p : Variables) (c 
   pub a : Words
   pub g : List ℕ
   pub marks : List ℕ
-  pub walked : walk (algorithm n) me (6 * n) (standing d m p L12 c) ≡ standing d (record m { q = q }) (record p { j = 1; a = a; g = g; marks = marks }) L18 c
+  pub walked : walk (algorithm n) me (6 * n) (standing d m p L12 c)
+      ≡ standing d (record m { q = q }) (record p { j = 1; a = a; g = g; marks = marks }) L18 c
   pub size_a : length a ≡ length p.a
   pub size_g : length g ≡ length p.g
   pub copies : Filled (word_at m.words) no_word (n + 1) a
@@ -153,7 +163,8 @@ alike_same me x =
 -- words whose toggles differ are not alike
 pub alike_not : (me : ℕ) (x y : Word) (bit : ℕ) → x.toggle ≢ y.toggle → alike me x y bit ≡ false
 alike_not me x y bit differ =
-    ap (λ b. nat_eq (handshake_at x me) bit && (nat_eq (handshake_at y me) bit && b)) (other_number x.toggle y.toggle differ)
+    ap (λ b. nat_eq (handshake_at x me) bit && (nat_eq (handshake_at y me) bit && b))
+    (other_number x.toggle y.toggle differ)
     ∙ neither (nat_eq (handshake_at x me) bit) (nat_eq (handshake_at y me) bit)
   where
     neither : (u v : Bool) → (u && (v && false)) ≡ false
@@ -171,7 +182,8 @@ compares n me k m m' p one a b g =
     ∙ ap (alike me (word_at m k) (word_at m' k)) (g k (omega arith) (omega arith))
 
 -- a double collect alone passes its test, and its view is made
-pub clean : (n me : ℕ) (d : Mode) (m : Registers) (p : Variables) (c : ℕ) → 1 ≤ n → p.j ≡ 1 → n ≤ length p.a → n ≤ length p.b → n ≤ length p.g →
+pub clean : (n me : ℕ) (d : Mode) (m : Registers) (p : Variables) (c : ℕ) → 1 ≤ n → p.j ≡ 1 → n ≤ length p.a →
+    n ≤ length p.b → n ≤ length p.g →
     (q : List (List ℕ)) × (v : Variables) × (walk (algorithm n) me (8 * n + 2) (standing d m p L12 c) ≡ standing d
     (record m { q = q }) v L26 (suc c)) × (v.t ≡ p.t)
 clean n me d m p c some first size_a size_b size_g =
@@ -188,13 +200,15 @@ clean n me d m p c some first size_a size_b size_g =
     (standing d m1 p2 L20 c) one.walked two.1 (omega arith) in (
       one.q,
       v,
-      walks (algorithm n) me (8 * n) 2 (8 * n + 2) (standing d m p L12 c) (standing d m1 p2 L20 c) (standing d m1 v L26 (suc c)) both test refl,
+      walks (algorithm n) me (8 * n) 2 (8 * n + 2) (standing d m p L12 c) (standing d m1 p2 L20 c)
+          (standing d m1 v L26 (suc c)) both test refl,
       refl,
     )
 
 -- an update answers the bits of the processes from j on
 answers_from : (n me : ℕ) (d : Mode) (m : Registers) (s : ℕ) (p : Variables) (c : ℕ) → p.j + s ≡ n → 0 < p.j →
-    (x : ℕ) × (f : List ℕ) × (walk (algorithm n) me (3 * suc s) (standing d m p L41 c) ≡ standing d m (record p { j = 1; x = x; f = f }) L44 c)
+    (x : ℕ) × (f : List ℕ)
+    × (walk (algorithm n) me (3 * suc s) (standing d m p L41 c) ≡ standing d m (record p { j = 1; x = x; f = f }) L44 c)
 answers_from n me d m zero p c last pos =
     let x = bit_for m.q p.j me in
     (x, slice_set p.f (p.j - 1) (answer x), rw (lt_false p.j n (omega arith)) refl)
@@ -202,7 +216,8 @@ answers_from n me d m (suc s) p c last pos =
     let x = bit_for m.q p.j me in
     let next : Variables = record p { j = p.j + 1; x = x; f = slice_set p.f (p.j - 1) (answer x) } in
     let rest = answers_from n me d m s next c (omega arith) (omega arith) in
-    let three : walk (algorithm n) me 3 (standing d m p L41 c) ≡ standing d m next L41 c = rw (lt_true p.j n (omega arith)) refl in (
+    let three : walk (algorithm n) me 3 (standing d m p L41 c) ≡ standing d m next L41 c =
+    rw (lt_true p.j n (omega arith)) refl in (
       rest.0,
       rest.1,
       walks (algorithm n) me 3 (3 * suc s) (3 * suc (suc s)) (standing d m p L41 c) (standing d m next L41 c)
@@ -210,8 +225,8 @@ answers_from n me d m (suc s) p c last pos =
     )
 
 -- a whole update alone writes a word with the other toggle
-pub whole_update : (n me word value : ℕ) (m : Registers) (p : Variables) (c : ℕ) → 1 ≤ n → n ≤ length p.a → n ≤ length p.b → n ≤ length p.g →
-    (x : Word) × (q : List (List ℕ)) × (z : Seat Variables ProgramCounter)
+pub whole_update : (n me word value : ℕ) (m : Registers) (p : Variables) (c : ℕ) → 1 ≤ n → n ≤ length p.a →
+    n ≤ length p.b → n ≤ length p.g → (x : Word) × (q : List (List ℕ)) × (z : Seat Variables ProgramCounter)
     × (walk (algorithm n) me (11 * n + 10) (standing (Updating word value) m p L40 c)
     ≡ placed (record { words = slice_set m.words (me - 1) x; q = q }) z)
     × (x.toggle ≡ flipped p.t)
@@ -234,9 +249,11 @@ whole_update n me word value m p c some size_a size_b size_g =
     let enters : walk (algorithm n) me 1 start ≡ standing u m p0 L41 c = refl in
     let begins : walk (algorithm n) me 3 asked ≡ begun = refl in
     let ends : walk (algorithm n) me 4 viewed ≡ done = refl in
-    let shaken = walks (algorithm n) me 1 (3 * suc (n - 1)) (3 * n + 1) start (standing u m p0 L41 c) asked enters answers.2 (omega arith) in
+    let shaken = walks (algorithm n) me 1 (3 * suc (n - 1)) (3 * n + 1) start
+    (standing u m p0 L41 c) asked enters answers.2 (omega arith) in
     let called = walks (algorithm n) me (3 * n + 1) 3 (3 * n + 4) start asked begun shaken begins (omega arith) in
-    let scanned = walks (algorithm n) me (3 * n + 4) (8 * n + 2) (11 * n + 6) start begun viewed called view.2 (omega arith) in (
+    let scanned =
+    walks (algorithm n) me (3 * n + 4) (8 * n + 2) (11 * n + 6) start begun viewed called view.2 (omega arith) in (
       x,
       view.0,
       done.seat,
@@ -248,8 +265,9 @@ whole_update n me word value m p c some size_a size_b size_g =
 pub fails : (n i : ℕ) (m : Words) (m' : Registers) (p : Variables) (c : ℕ) → 1 ≤ n → p.j ≡ 1 → n ≤ length p.b →
     Filled (word_at m) no_word (n + 1) p.a →
     Filled (handshakes m 1) 0 (n + 1) p.g → IsOneOf n i → (word_at m i).toggle ≢ (word_at m'.words i).toggle →
-    ((k : ℕ) → IsOneOf n k → k ≢ i → word_at m'.words k ≡ word_at m k) → ((k : ℕ) → IsOneOf n k → moved_at p k ≤ 1) → moved_at p i ≡ 0 →
-    (v : Variables) × (walk (algorithm n) 1 (2 * n + 4) (standing Scanning m' p L18 c) ≡ standing Scanning m' v L12 (suc c))
+    ((k : ℕ) → IsOneOf n k → k ≢ i → word_at m'.words k ≡ word_at m k) →
+    ((k : ℕ) → IsOneOf n k → moved_at p k ≤ 1) → moved_at p i ≡ 0 → (v : Variables)
+    × (walk (algorithm n) 1 (2 * n + 4) (standing Scanning m' p L18 c) ≡ standing Scanning m' v L12 (suc c))
     × (v.j ≡ 1) × (length v.a ≡ length p.a) × (length v.b ≡ length p.b) × (length v.g ≡ length p.g)
     × ((k : ℕ) → IsOneOf n k → moved_at v k ≤ 1) × ((k : ℕ) → IsOneOf n k → k ≢ i → moved_at v k ≡ moved_at p k)
 fails n i m m' p c some first size a g one changed same few none =
@@ -265,14 +283,18 @@ fails n i m m' p c some first size a g one changed same few none =
     (same k at other) ∙ alike_same 1 (word_at m k) in
     for_each_at n (counted 1 p1) p1.moved k at ∙ ap (λ b. if not b then moved_at p1 k + 1 else moved_at p1 k) agrees in
     let moves : moved_at v i ≡ 1 =
-    for_each_at n (counted 1 p1) p1.moved i one ∙ ap (λ b. if not b then moved_at p1 i + 1 else moved_at p1 i) differ ∙ ap (λ y. y + 1) none in
+    for_each_at n (counted 1 p1) p1.moved i one
+    ∙ ap (λ b. if not b then moved_at p1 i + 1 else moved_at p1 i) differ ∙ ap (λ y. y + 1) none in
     let at_most : (k : ℕ) → IsOneOf n k → moved_at v k ≤ 1 =
     λ k at. elim (cases_eq k i) [
       | inl is ↦ (let e : moved_at v k ≡ 1 = ap (moved_at v) is ∙ moves in omega arith)
-      | inr other ↦ (let e : moved_at v k ≡ moved_at p k = others k at other in let f : moved_at p k ≤ 1 = few k at in omega arith)
+      | inr other ↦
+          (let e : moved_at v k ≡ moved_at p k =
+          others k at other in let f : moved_at p k ≤ 1 = few k at in omega arith)
     ] in
     let stays : first_true 1 (map (at_limit v) (places_to n)) ≡ None =
-    none_first (at_limit v) n (λ k at. let e : moved_at v k ≤ 1 = at_most k at in other_number (moved_at v k) 2 (λ is. absurd (omega arith))) in
+    none_first (at_limit v) n (λ k at.
+    let e : moved_at v k ≤ 1 = at_most k at in other_number (moved_at v k) 2 (λ is. absurd (omega arith))) in
     let test : walk (algorithm n) 1 4 (standing Scanning m' p1 L20 c) ≡ standing Scanning m' v L12 (suc c) =
     rw (one_fails (agree 1 p1) n i one differ, stays) refl in (
       v,

@@ -1,5 +1,6 @@
 -- Processes of M that step alone: the handshakes and the collects of a scan, its marks, its tests, and a whole update.
-use Rattle.std.specs.Prelude.{◌≡◌, ◌≢◌, ℕ, zero, suc, ◌+◌, ◌*◌, ◌-◌, ◌<◌, ◌≤◌, true, false, not, ◌&&◌, List, length, map, take, drop, nat_eq, if◌then◌else◌, slice_index, slice_set, refl}
+use Rattle.std.specs.Prelude.{◌≡◌, ◌≢◌, ℕ, zero, suc, ◌+◌, ◌*◌, ◌-◌, ◌<◌, ◌≤◌, true, false, not, ◌&&◌, List, length}
+use Rattle.std.specs.Prelude.{map, take, drop, nat_eq, if◌then◌else◌, slice_index, slice_set, refl}
 use Rattle.std.proofs.Common.{sym, ◌∙◌, ap, arith, inl, inr}
 use Rattle.std.proofs.lemmas.Bool.{cases_eq}
 use Rattle.std.proofs.lemmas.Grind.{get_or-set_at}
@@ -12,7 +13,10 @@ use Rattle.snap_runs.proofs.Algorithm.{Mode, Scanning, Embedded, Updating}
 use Rattle.snap_runs.proofs.Computing.{lt_true, lt_false, other_number, same_number}
 use Rattle.snap_runs.proofs.Held.{word_at}
 use Rattle.snap_runs.proofs.Places.{for_each, for_each_at}
-use Rattle.snap_runs_of_m.proofs.Algorithm.{Words, Bits, Registers, Variables, ProgramCounter, L13, L17, L19, L21, L24, L26, L29, L30, L35, L50, L51, L54, plain, place, bit, with_bit, flip, same_words, same_at, marked, counted, at_limit, written, after_52, after_55, after_57, algorithm}
+use Rattle.snap_runs_of_m.proofs.Algorithm.{Words, Bits, Registers, Variables, ProgramCounter, L13, L17, L19, L21}
+use Rattle.snap_runs_of_m.proofs.Algorithm.{L24, L26, L29, L30, L35, L50, L51, L54, plain, place, bit, with_bit, flip}
+use Rattle.snap_runs_of_m.proofs.Algorithm.{same_words, same_at, marked, counted, at_limit, written, after_52}
+use Rattle.snap_runs_of_m.proofs.Algorithm.{after_55, after_57, algorithm}
 use Rattle.snap_runs_of_m.proofs.Basics.{row_elsewhere, set_here}
 use Rattle.snap_runs_sharp.proofs.Alone.{Alone, standing, idling, walk, walks}
 use Rattle.snap_runs_sharp.proofs.Filling.{Filled, all_hold, one_fails, none_first}
@@ -36,20 +40,29 @@ bits_for rows me c = bit rows c me
 -- the handshake with all processes: their bits are read, and put
 handshake : (n w me : ℕ) (d : Mode) (m : Registers) (p : Variables) (c : ℕ) → 1 ≤ n → p.j ≡ 1 → n ≤ length p.g →
     (r : Bits × ℕ) × (g : List ℕ)
-    × (walk (algorithm n w) me (4 * n) (standing d m p L13 c) ≡ standing d (record m { q = r.0 }) (record p { j = 1; x = r.1; g = g }) L17 c)
+    × (walk (algorithm n w) me (4 * n) (standing d m p L13 c)
+    ≡ standing d (record m { q = r.0 }) (record p { j = 1; x = r.1; g = g }) L17 c)
     × (length g ≡ length p.g) × Filled (bits_for m.p me) 0 (n + 1) g
 handshake n w me d m p c some first size =
-    let at = λ (r : Bits × ℕ) (j : ℕ) (xs : List ℕ). standing d (record m { q = r.0 }) (record p { j = j; x = r.1; g = xs }) L13 c in
-    let beyond = λ (r : Bits × ℕ) (xs : List ℕ). standing d (record m { q = r.0 }) (record p { j = 1; x = r.1; g = xs }) L17 c in
+    let at = λ (r : Bits × ℕ) (j : ℕ) (xs : List ℕ).
+    standing d (record m { q = r.0 }) (record p { j = j; x = r.1; g = xs }) L13 c in
+    let beyond =
+    λ (r : Bits × ℕ) (xs : List ℕ). standing d (record m { q = r.0 }) (record p { j = 1; x = r.1; g = xs }) L17 c in
     let rest : Bits × ℕ → ℕ → Bits × ℕ = λ r j. (with_bit r.0 me j (bit m.p j me), bit m.p j me) in
     let h = fill (algorithm n w) me 4 n at beyond (bits_for m.p me) 0
     (λ r j xs pos lt long. (rest r j, rw (lt_true j n lt) refl))
-    (λ r xs long. (rest r n, rw (lt_false n n (omega arith)) refl)) (m.q, p.x) p.g some size in
-    (h.0, h.1, ap (λ j. walk (algorithm n w) me (4 * n) (standing d m (record p { j = j }) L13 c)) first ∙ h.2, h.3, h.4)
+    (λ r xs long. (rest r n, rw (lt_false n n (omega arith)) refl)) (m.q, p.x) p.g some size in (
+      h.0,
+      h.1,
+      ap (λ j. walk (algorithm n w) me (4 * n) (standing d m (record p { j = j }) L13 c)) first ∙ h.2,
+      h.3,
+      h.4,
+    )
 
 -- the first collect: the copies are filled with the words
 copies_first : (n w me : ℕ) (d : Mode) (m : Registers) (p : Variables) (c : ℕ) → 1 ≤ w → p.k ≡ 1 → w ≤ length p.a →
-    (a : Words) × (walk (algorithm n w) me (2 * w) (standing d m p L17 c) ≡ standing d m (record p { k = 1; a = a }) L19 c)
+    (a : Words)
+    × (walk (algorithm n w) me (2 * w) (standing d m p L17 c) ≡ standing d m (record p { k = 1; a = a }) L19 c)
     × (length a ≡ length p.a) × Filled (word_at m.words) no_word (w + 1) a
 copies_first n w me d m p c some first size =
     let at = λ (r : Unit {0}) (k : ℕ) (xs : Words). standing d m (record p { k = k; a = xs }) L17 c in
@@ -61,7 +74,8 @@ copies_first n w me d m p c some first size =
 
 -- the second collect
 copies_second : (n w me : ℕ) (d : Mode) (m : Registers) (p : Variables) (c : ℕ) → 1 ≤ w → p.k ≡ 1 → w ≤ length p.b →
-    (b : Words) × (walk (algorithm n w) me (2 * w) (standing d m p L19 c) ≡ standing d m (record p { k = 1; b = b }) L21 c)
+    (b : Words)
+    × (walk (algorithm n w) me (2 * w) (standing d m p L19 c) ≡ standing d m (record p { k = 1; b = b }) L21 c)
     × (length b ≡ length p.b) × Filled (word_at m.words) no_word (w + 1) b
 copies_second n w me d m p c some first size =
     let at = λ (r : Unit {0}) (k : ℕ) (xs : Words). standing d m (record p { k = k; b = xs }) L19 c in
@@ -73,15 +87,21 @@ copies_second n w me d m p c some first size =
 
 -- the bits of all processes are read late
 late_bits : (n w me : ℕ) (d : Mode) (m : Registers) (p : Variables) (c : ℕ) → 1 ≤ n → p.j ≡ 1 → n ≤ length p.h →
-    (x : ℕ) × (h : List ℕ) × (walk (algorithm n w) me (3 * n) (standing d m p L21 c) ≡ standing d m (record p { j = 1; x = x; h = h }) L24 c)
+    (x : ℕ) × (h : List ℕ)
+    × (walk (algorithm n w) me (3 * n) (standing d m p L21 c) ≡ standing d m (record p { j = 1; x = x; h = h }) L24 c)
     × (length h ≡ length p.h) × Filled (bits_for m.p me) 0 (n + 1) h
 late_bits n w me d m p c some first size =
     let at = λ (r j : ℕ) (xs : List ℕ). standing d m (record p { j = j; x = r; h = xs }) L21 c in
     let beyond = λ (r : ℕ) (xs : List ℕ). standing d m (record p { j = 1; x = r; h = xs }) L24 c in
     let h = fill (algorithm n w) me 3 n at beyond (bits_for m.p me) 0
     (λ r j xs pos lt long. (bit m.p j me, rw (lt_true j n lt) refl))
-    (λ r xs long. (bit m.p n me, rw (lt_false n n (omega arith)) refl)) p.x p.h some size in
-    (h.0, h.1, ap (λ j. walk (algorithm n w) me (3 * n) (standing d m (record p { j = j }) L21 c)) first ∙ h.2, h.3, h.4)
+    (λ r xs long. (bit m.p n me, rw (lt_false n n (omega arith)) refl)) p.x p.h some size in (
+      h.0,
+      h.1,
+      ap (λ j. walk (algorithm n w) me (3 * n) (standing d m (record p { j = j }) L21 c)) first ∙ h.2,
+      h.3,
+      h.4,
+    )
 
 -- the copies of the words after word k are found to be the same
 rest_from : (n w me : ℕ) (d : Mode) (m : Registers) (s : ℕ) (p : Variables) (c : ℕ) → p.k + s ≡ w →
@@ -96,13 +116,15 @@ rest_from n w me d m (suc s) p c last same =
     walks (algorithm n w) me 2 (2 * s + 1) (2 * suc s + 1) (standing d m p L29 c) (standing d m next L29 c)
     (standing d m (record p { k = 1 }) L30 c) two rest (omega arith)
 
--- How the handshake and the first collect leave a process: its bits are those of the others, and its copies those of the words.
+-- How the handshake and the first collect leave a process: its bits are those of the others, and
+-- its copies those of the words.
 pub record Collected (n w me : ℕ) (d : Mode) (m : Registers) (p : Variables) (c : ℕ) : Type 0 where
   pub q : Bits
   pub x : ℕ
   pub g : List ℕ
   pub a : Words
-  pub walked : walk (algorithm n w) me (4 * n + 2 * w) (standing d m p L13 c) ≡ standing d (record m { q = q }) (record p { j = 1; k = 1; x = x; g = g; a = a }) L19 c
+  pub walked : walk (algorithm n w) me (4 * n + 2 * w) (standing d m p L13 c)
+      ≡ standing d (record m { q = q }) (record p { j = 1; k = 1; x = x; g = g; a = a }) L19 c
   pub size_g : length g ≡ length p.g
   pub size_a : length a ≡ length p.a
   pub bits : Filled (bits_for m.p me) 0 (n + 1) g
@@ -139,7 +161,8 @@ pub record Compared (n w me : ℕ) (d : Mode) (m : Registers) (p : Variables) (c
   pub h : List ℕ
   pub b : Words
   pub marks : List ℕ
-  pub walked : walk (algorithm n w) me (3 * n + 2 * w + 2) (standing d m p L19 c) ≡ standing d m (record p { j = 1; k = 1; x = x; h = h; b = b; d = marks }) L26 c
+  pub walked : walk (algorithm n w) me (3 * n + 2 * w + 2) (standing d m p L19 c)
+      ≡ standing d m (record p { j = 1; k = 1; x = x; h = h; b = b; d = marks }) L26 c
   pub size_h : length h ≡ length p.h
   pub size_b : length b ≡ length p.b
   pub size_marks : n ≤ length marks
@@ -191,14 +214,15 @@ pub same_itself : (x : Word) → same_words x x ≡ true
 same_itself x = ap (λ b. b && nat_eq x.toggle x.toggle) (same_number x.id) ∙ same_number x.toggle
 
 -- how the copies of word k compare, by the words that they are of
-copies_of : (w k : ℕ) (m m' : Words) (a b : Words) → IsOneOf w k → Filled (word_at m) no_word (w + 1) a → Filled (word_at m') no_word (w + 1) b →
-    same_at a b k ≡ same_words (word_at m k) (word_at m' k)
+copies_of : (w k : ℕ) (m m' : Words) (a b : Words) → IsOneOf w k → Filled (word_at m) no_word (w + 1) a →
+    Filled (word_at m') no_word (w + 1) b → same_at a b k ≡ same_words (word_at m k) (word_at m' k)
 copies_of w k m m' a b one filled_a filled_b =
     ap (λ (x : Word). same_words x (word_at b k)) (filled_a k (omega arith) (omega arith))
     ∙ ap (λ (x : Word). same_words (word_at m k) x) (filled_b k (omega arith) (omega arith))
 
 -- a double collect alone passes its test, and its view is made
-pub clean : (n w me : ℕ) (d : Mode) (m : Registers) (p : Variables) (c : ℕ) → 1 ≤ n → 1 ≤ w → p.j ≡ 1 → p.k ≡ 1 → Sized n w p →
+pub clean : (n w me : ℕ) (d : Mode) (m : Registers) (p : Variables) (c : ℕ) → 1 ≤ n → 1 ≤ w →
+    p.j ≡ 1 → p.k ≡ 1 → Sized n w p →
     (q : Bits) × (v : Variables) × (walk (algorithm n w) me (7 * n + 6 * w + 4) (standing d m p L13 c) ≡ standing d
     (record m { q = q }) v L35 (suc c))
     × (v.tog ≡ p.tog) × Sized n w v
@@ -217,10 +241,13 @@ clean n w me d m p c some words first_j first_k sized =
     let p2 : Variables = record p1 { x = two.x; h = two.h; b = two.b; d = two.marks } in
     let v : Variables = record p2 { s = map (λ (r : Word). r.datum) (take w (map plain two.b)) } in
     let same : (k : ℕ) → 0 < k → k ≤ w → same_at one.a two.b k ≡ true =
-    λ k pos le. copies_of w k m.words m.words one.a two.b (pos, le) one.copies two.copies ∙ same_itself (word_at m.words k) in
+    λ k pos le. copies_of w k m.words m.words one.a two.b (pos, le) one.copies two.copies
+    ∙ same_itself (word_at m.words k) in
     let still : (e : ℕ) → IsOneOf n e → nat_eq (place two.marks e) 0 ≡ true =
-    λ e at. ap (λ y. nat_eq y 0) (two.marked_if e at ∙ unmarked (bit m.p e me) (place one.g e) (sym (one.bits e (omega arith) (omega arith)))) in
-    let test : walk (algorithm n w) me 1 (standing d m1 p2 L26 c) ≡ standing d m1 p2 L29 c = rw (same 1 (omega arith) words) refl in
+    λ e at. ap (λ y. nat_eq y 0)
+    (two.marked_if e at ∙ unmarked (bit m.p e me) (place one.g e) (sym (one.bits e (omega arith) (omega arith)))) in
+    let test : walk (algorithm n w) me 1 (standing d m1 p2 L26 c) ≡ standing d m1 p2 L29 c =
+    rw (same 1 (omega arith) words) refl in
     let rest = rest_from n w me d m1 (w - 1) p2 c (omega arith) (λ k lt le. same k (omega arith) le) in
     let end : walk (algorithm n w) me 2 (standing d m1 p2 L30 c) ≡ standing d m1 v L35 (suc c) = rw
     (all_hold (λ e. nat_eq (place two.marks e) 0) n still) refl in
@@ -230,11 +257,14 @@ clean n w me d m p c some words first_j first_k sized =
     let tested : Standing = standing d m1 p2 L30 c in
     let half = walks (algorithm n w) me (4 * n + 2 * w) (3 * n + 2 * w + 2) (7 * n + 4 * w + 2) start middle compared
     one.walked two.walked (omega arith) in
-    let words_same = walks (algorithm n w) me 1 (2 * (w - 1) + 1) (2 * w) compared (standing d m1 p2 L29 c) tested test rest (omega arith) in
-    let all = walks (algorithm n w) me (7 * n + 4 * w + 2) (2 * w) (7 * n + 6 * w + 2) start compared tested half words_same (omega arith) in (
+    let words_same = walks (algorithm n w) me 1 (2 * (w - 1) + 1) (2 * w) compared
+    (standing d m1 p2 L29 c) tested test rest (omega arith) in
+    let all = walks (algorithm n w) me (7 * n + 4 * w + 2) (2 * w)
+    (7 * n + 6 * w + 2) start compared tested half words_same (omega arith) in (
       one.q,
       v,
-      walks (algorithm n w) me (7 * n + 6 * w + 2) 2 (7 * n + 6 * w + 4) start tested (standing d m1 v L35 (suc c)) all end (omega arith),
+      walks (algorithm n w) me (7 * n + 6 * w + 2) 2 (7 * n + 6 * w + 4) start tested
+          (standing d m1 v L35 (suc c)) all end (omega arith),
       refl,
       record {
         a = sized1.a;
@@ -249,9 +279,10 @@ clean n w me d m p c some words first_j first_k sized =
 pub fails : (n w i : ℕ) (m m' : Registers) (p : Variables) (c : ℕ) → 1 ≤ n → 1 ≤ w → p.j ≡ 1 → p.k ≡ 1 → Sized n w p →
     Filled (word_at m.words) no_word (w + 1) p.a → Filled (bits_for m.p 1) 0 (n + 1) p.g → IsOneOf n i →
     (word_at m'.words 1).id ≡ i → same_words (word_at m.words 1) (word_at m'.words 1) ≡ false →
-    ((k : ℕ) → 1 < k → k ≤ w → word_at m'.words k ≡ word_at m.words k) → ((e : ℕ) → IsOneOf n e → e ≢ i → bit m'.p e 1 ≡ bit m.p e 1) →
-    ((e : ℕ) → IsOneOf n e → place p.moved e ≤ 2) → place p.moved i ≤ 1 →
-    (v : Variables) × (walk (algorithm n w) 1 (3 * n + 4 * w + 8) (standing Scanning m' p L19 c) ≡ standing Scanning m' v L13 (suc c))
+    ((k : ℕ) → 1 < k → k ≤ w → word_at m'.words k ≡ word_at m.words k) →
+    ((e : ℕ) → IsOneOf n e → e ≢ i → bit m'.p e 1 ≡ bit m.p e 1) →
+    ((e : ℕ) → IsOneOf n e → place p.moved e ≤ 2) → place p.moved i ≤ 1 → (v : Variables)
+    × (walk (algorithm n w) 1 (3 * n + 4 * w + 8) (standing Scanning m' p L19 c) ≡ standing Scanning m' v L13 (suc c))
     × (v.j ≡ 1) × (v.k ≡ 1) × Sized n w v × (place v.moved i ≡ place p.moved i + 1) × ((e : ℕ) → IsOneOf n e → e ≢ i →
     place v.moved e ≡ place p.moved e)
 fails n w i m m' p c some words first_j first_k sized copies bits one id changed same put few_all few =
@@ -262,7 +293,8 @@ fails n w i m m' p c some words first_j first_k sized copies bits one id changed
     let marks = slice_set two.marks (x - 1) 1 in
     let p2 : Variables = record p1 { x = x; d = marks } in
     let v : Variables = record p2 { moved = for_each n (counted p2) p2.moved } in
-    let differ : same_at p.a two.b 1 ≡ false = copies_of w 1 m.words m'.words p.a two.b (omega arith, words) copies two.copies ∙ changed in
+    let differ : same_at p.a two.b 1 ≡ false =
+    copies_of w 1 m.words m'.words p.a two.b (omega arith, words) copies two.copies ∙ changed in
     let alike : (k : ℕ) → 1 < k → k ≤ w → same_at p.a two.b k ≡ true =
     λ k lt le.
     copies_of w k m.words m'.words p.a two.b (omega arith, le) copies two.copies
@@ -276,19 +308,23 @@ fails n w i m m' p c some words first_j first_k sized copies bits one id changed
     ∙ two.marked_if e at
     ∙ unmarked (bit m'.p e 1) (place p.g e) (put e at other ∙ sym (bits e (omega arith) (omega arith))) in
     let moved_i : place v.moved i ≡ place p.moved i + 1 =
-    for_each_at n (counted p2) p2.moved i one ∙ ap (λ y. if nat_eq y 1 then place p.moved i + 1 else place p.moved i) mark_i in
+    for_each_at n (counted p2) p2.moved i one
+    ∙ ap (λ y. if nat_eq y 1 then place p.moved i + 1 else place p.moved i) mark_i in
     let moved_other : (e : ℕ) → IsOneOf n e → e ≢ i → place v.moved e ≡ place p.moved e =
     λ e at other. for_each_at n (counted p2) p2.moved e at ∙ ap
     (λ y. if nat_eq y 1 then place p.moved e + 1 else place p.moved e) (mark_other e at other) in
     let fails_i : nat_eq (place marks i) 0 ≡ false = ap (λ y. nat_eq y 0) mark_i in
     let below : (e : ℕ) → IsOneOf n e → nat_eq (place v.moved e) 3 ≡ false =
     λ e at. elim (cases_eq e i) [
-      | inl is ↦ (let f : place v.moved e ≡ place p.moved i + 1 = ap (place v.moved) is ∙ moved_i in other_number (place v.moved e) 3 (λ at_limit. absurd (omega arith)))
+      | inl is ↦
+          (let f : place v.moved e ≡ place p.moved i + 1 = ap (place v.moved) is ∙ moved_i in
+          other_number (place v.moved e) 3 (λ at_limit. absurd (omega arith)))
       | inr other ↦ (let f : place v.moved e ≡ place p.moved e = moved_other e at other in
           let g : place p.moved e ≤ 2 = few_all e at in
           other_number (place v.moved e) 3 (λ at_limit. absurd (omega arith)))
     ] in
-    let test : walk (algorithm n w) 1 3 (standing Scanning m' p1 L26 c) ≡ standing Scanning m' p2 L29 c = rw differ refl in
+    let test : walk (algorithm n w) 1 3 (standing Scanning m' p1 L26 c) ≡ standing Scanning m' p2 L29 c =
+    rw differ refl in
     let rest = rest_from n w 1 Scanning m' (w - 1) p2 c (omega arith) (λ k lt le. alike k lt le) in
     let back : walk (algorithm n w) 1 4 (standing Scanning m' p2 L30 c) ≡ standing Scanning m' v L13 (suc c) =
     rw (one_fails (λ e. nat_eq (place marks e) 0) n i one fails_i, none_first (at_limit v) n below) refl in
@@ -296,10 +332,13 @@ fails n w i m m' p c some words first_j first_k sized copies bits one id changed
     let compared : Standing = standing Scanning m' p1 L26 c in
     let unlike : Standing = standing Scanning m' p2 L29 c in
     let tested : Standing = standing Scanning m' p2 L30 c in
-    let half = walks (algorithm n w) 1 (3 * n + 2 * w + 2) 3 (3 * n + 2 * w + 5) start compared unlike two.walked test (omega arith) in
-    let all = walks (algorithm n w) 1 (3 * n + 2 * w + 5) (2 * (w - 1) + 1) (3 * n + 4 * w + 4) start unlike tested half rest (omega arith) in (
+    let half = walks (algorithm n w) 1 (3 * n + 2 * w + 2) 3
+    (3 * n + 2 * w + 5) start compared unlike two.walked test (omega arith) in
+    let all = walks (algorithm n w) 1 (3 * n + 2 * w + 5) (2 * (w - 1) + 1)
+    (3 * n + 4 * w + 4) start unlike tested half rest (omega arith) in (
       v,
-      walks (algorithm n w) 1 (3 * n + 4 * w + 4) 4 (3 * n + 4 * w + 8) start tested (standing Scanning m' v L13 (suc c)) all back (omega arith),
+      walks (algorithm n w) 1 (3 * n + 4 * w + 4) 4 (3 * n + 4 * w + 8) start tested
+          (standing Scanning m' v L13 (suc c)) all back (omega arith),
       refl,
       refl,
       record {
@@ -314,8 +353,9 @@ fails n w i m m' p c some words first_j first_k sized copies bits one id changed
     )
 
 -- an update answers the bits of the processes from j on
-answers_from : (n w me : ℕ) (d : Mode) (s : ℕ) (m : Registers) (p : Variables) (c : ℕ) → p.j + s ≡ n → 0 < p.j → 0 < me →
-    (m' : Registers) × (x : ℕ) × (walk (algorithm n w) me (3 * suc s) (standing d m p L51 c) ≡ standing d m' (record p { j = 1; x = x }) L54 c)
+answers_from : (n w me : ℕ) (d : Mode) (s : ℕ) (m : Registers) (p : Variables) (c : ℕ) →
+    p.j + s ≡ n → 0 < p.j → 0 < me → (m' : Registers) × (x : ℕ)
+    × (walk (algorithm n w) me (3 * suc s) (standing d m p L51 c) ≡ standing d m' (record p { j = 1; x = x }) L54 c)
     × (m'.words ≡ m.words) × ((e k : ℕ) → 0 < e → e ≢ me → bit m'.p e k ≡ bit m.p e k)
 answers_from n w me d zero m p c last pos mine =
     let x = bit m.q p.j me in
@@ -324,28 +364,32 @@ answers_from n w me d zero m p c last pos mine =
       x,
       rw (lt_false p.j n (omega arith)) refl,
       refl,
-      λ e k at other. ap (λ (row : List ℕ). slice_index row (k - 1)) (row_elsewhere m.p me p.j (flip x) e mine at other),
+      λ e k at other.
+          ap (λ (row : List ℕ). slice_index row (k - 1)) (row_elsewhere m.p me p.j (flip x) e mine at other),
     )
 answers_from n w me d (suc s) m p c last pos mine =
     let x = bit m.q p.j me in
     let m1 = after_52 me m (record p { x = x }) in
     let next : Variables = record p { j = p.j + 1; x = x } in
     let rest = answers_from n w me d s m1 next c (omega arith) (omega arith) mine in
-    let three : walk (algorithm n w) me 3 (standing d m p L51 c) ≡ standing d m1 next L51 c = rw (lt_true p.j n (omega arith)) refl in (
+    let three : walk (algorithm n w) me 3 (standing d m p L51 c) ≡ standing d m1 next L51 c =
+    rw (lt_true p.j n (omega arith)) refl in (
       rest.0,
       rest.1,
       walks (algorithm n w) me 3 (3 * suc s) (3 * suc (suc s)) (standing d m p L51 c) (standing d m1 next L51 c)
           (standing d rest.0 (record p { j = 1; x = rest.1 }) L54 c) three rest.2 (omega arith),
       rest.3,
-      λ e k at other. rest.4 e k at other ∙ ap (λ (row : List ℕ). slice_index row (k - 1)) (row_elsewhere m.p me p.j (flip x) e mine at other),
+      λ e k at other. rest.4 e k at other
+          ∙ ap (λ (row : List ℕ). slice_index row (k - 1)) (row_elsewhere m.p me p.j (flip x) e mine at other),
     )
 
--- How a whole update alone leaves the memory and its process: its word has the process's number and the other toggle, and no bit
--- of another process has changed.
+-- How a whole update alone leaves the memory and its process: its word has the process's number and the other toggle,
+-- and no bit of another process has changed.
 pub record Updated (n w me word value : ℕ) (m : Registers) (p : Variables) (c : ℕ) : Type 0 where
   pub memory : Registers
   pub variables : Variables
-  pub walked : walk (algorithm n w) me (10 * n + 6 * w + 14) (standing (Updating word value) m p L50 c) ≡ idling memory variables 1
+  pub walked : walk (algorithm n w) me (10 * n + 6 * w + 14) (standing (Updating word value) m p L50 c)
+      ≡ idling memory variables 1
   pub put : Word
   pub words_are : memory.words ≡ slice_set m.words (word - 1) put
   pub id : put.id ≡ me
@@ -354,8 +398,8 @@ pub record Updated (n w me word value : ℕ) (m : Registers) (p : Variables) (c 
   pub sized : Sized n w variables
   pub bits : (e k : ℕ) → 0 < e → e ≢ me → bit memory.p e k ≡ bit m.p e k
 
-pub whole_update : (n w me word value : ℕ) (m : Registers) (p : Variables) (c : ℕ) → 1 ≤ n → 1 ≤ w → 0 < me → IsOneOf w word → Sized n w p →
-    Updated n w me word value m p c
+pub whole_update : (n w me word value : ℕ) (m : Registers) (p : Variables) (c : ℕ) → 1 ≤ n → 1 ≤ w → 0 < me →
+    IsOneOf w word → Sized n w p → Updated n w me word value m p c
 whole_update n w me word value m p c some words mine of_word sized =
     let d : Mode = Embedded word value in
     let u : Mode = Updating word value in
@@ -364,7 +408,8 @@ whole_update n w me word value m p c some words mine of_word sized =
     let m1 = answers.0 in
     let p1 : Variables = record p0 { x = answers.1 } in
     let p2 : Variables = record p1 { moved = for_each n (λ e. 0) p1.moved; j = 1; k = 1 } in
-    let view = clean n w me d m1 p2 0 some words refl refl (record { a = sized.a; b = sized.b; g = sized.g; h = sized.h; tog = sized.tog }) in
+    let view = clean n w me d m1 p2 0 some words refl refl
+    (record { a = sized.a; b = sized.b; g = sized.g; h = sized.h; tog = sized.tog }) in
     let m2 : Registers = record m1 { q = view.0 } in
     let v = view.1 in
     let toggles = slice_set v.tog (word - 1) (flip (place v.tog word)) in
@@ -379,9 +424,11 @@ whole_update n w me word value m p c some words mine of_word sized =
     let enters : walk (algorithm n w) me 1 start ≡ standing u m p0 L51 c = refl in
     let begins : walk (algorithm n w) me 4 asked ≡ begun = refl in
     let ends : walk (algorithm n w) me 5 viewed ≡ done = refl in
-    let shaken = walks (algorithm n w) me 1 (3 * suc (n - 1)) (3 * n + 1) start (standing u m p0 L51 c) asked enters answers.2 (omega arith) in
+    let shaken = walks (algorithm n w) me 1 (3 * suc (n - 1)) (3 * n + 1) start
+    (standing u m p0 L51 c) asked enters answers.2 (omega arith) in
     let called = walks (algorithm n w) me (3 * n + 1) 4 (3 * n + 5) start asked begun shaken begins (omega arith) in
-    let scanned = walks (algorithm n w) me (3 * n + 5) (7 * n + 6 * w + 4) (10 * n + 6 * w + 9) start begun viewed called view.2 (omega arith) in
+    let scanned = walks (algorithm n w) me (3 * n + 5) (7 * n + 6 * w + 4)
+    (10 * n + 6 * w + 9) start begun viewed called view.2 (omega arith) in
     let same_tog : place v.tog word ≡ place p.tog word = ap (λ row. place row word) view.3 in
     let size_v : w ≤ length v.tog = view.4.tog in
     let size_tog : length toggles ≡ length v.tog = length-set v.tog (word - 1) (flip (place v.tog word)) in
@@ -390,7 +437,9 @@ whole_update n w me word value m p c some words mine of_word sized =
     record {
       memory = after_57 me u m3 v2;
       variables = v2;
-      walked = walks (algorithm n w) me (10 * n + 6 * w + 9) 5 (10 * n + 6 * w + 14) start viewed done scanned ends (omega arith);
+      walked =
+          walks (algorithm n w) me (10 * n + 6 * w + 9) 5
+          (10 * n + 6 * w + 14) start viewed done scanned ends (omega arith);
       put = x;
       words_are = ap (λ (ws : Words). slice_set ws (word - 1) x) answers.3;
       id = refl;

@@ -1,5 +1,6 @@
 -- Processes of U that step alone: the collects of a scan, its tests, and a whole update.
-use Rattle.std.specs.Prelude.{◌≡◌, ◌≢◌, ℕ, suc, ◌+◌, ◌*◌, ◌-◌, ◌≤◌, true, false, not, length, map, take, None, nat_eq, if◌then◌else◌, slice_set, refl}
+use Rattle.std.specs.Prelude.{◌≡◌, ◌≢◌, ℕ, suc, ◌+◌, ◌*◌, ◌-◌, ◌≤◌, true, false, not, length, map, take, None, nat_eq}
+use Rattle.std.specs.Prelude.{if◌then◌else◌, slice_set, refl}
 use Rattle.std.proofs.Common.{◌∙◌, ap, arith, inl, inr}
 use Rattle.std.proofs.lemmas.Bool.{cases_eq}
 use Rattle.snap_words.specs.Shape.{IsOneOf}
@@ -9,7 +10,8 @@ use Rattle.snap_runs.proofs.Algorithm.{Mode, Scanning, Embedded, Updating}
 use Rattle.snap_runs.proofs.Computing.{lt_true, lt_false, other_number, same_number}
 use Rattle.snap_runs.proofs.Held.{word_at, seq_at}
 use Rattle.snap_runs.proofs.Places.{for_each, for_each_at}
-use Rattle.snap_runs_of_u.proofs.Algorithm.{Words, Variables, ProgramCounter, L12, L14, L16, L22, L30, compared, agree, moved_at, counted, at_limit, word_put, algorithm}
+use Rattle.snap_runs_of_u.proofs.Algorithm.{Words, Variables, ProgramCounter, L12, L14, L16, L22, L30, compared}
+use Rattle.snap_runs_of_u.proofs.Algorithm.{agree, moved_at, counted, at_limit, word_put, algorithm}
 use Rattle.snap_runs_sharp.proofs.Alone.{Seat, Alone, placed, standing, idling, walk, walks}
 use Rattle.snap_runs_sharp.proofs.Filling.{Filled, all_hold, one_fails, none_first}
 use Rattle.snap_runs_sharp.proofs.Loops.{fill}
@@ -19,7 +21,8 @@ Standing = Alone Variables ProgramCounter Words
 
 -- the first collect: the copies are filled with the words
 pub first_collect : (n me : ℕ) (d : Mode) (m : Words) (p : Variables) (c : ℕ) → 1 ≤ n → p.j ≡ 1 → n ≤ length p.a →
-    (a : Words) × (walk (algorithm n) me (2 * n) (standing d m p L12 c) ≡ standing d m (record p { j = 1; a = a }) L14 c)
+    (a : Words)
+    × (walk (algorithm n) me (2 * n) (standing d m p L12 c) ≡ standing d m (record p { j = 1; a = a }) L14 c)
     × (length a ≡ length p.a) × Filled (word_at m) no_word (n + 1) a
 first_collect n me d m p c some first size =
     let at = λ (r : Unit {0}) (j : ℕ) (xs : Words). standing d m (record p { j = j; a = xs }) L12 c in
@@ -31,7 +34,8 @@ first_collect n me d m p c some first size =
 
 -- the second collect
 pub second_collect : (n me : ℕ) (d : Mode) (m : Words) (p : Variables) (c : ℕ) → 1 ≤ n → p.j ≡ 1 → n ≤ length p.b →
-    (b : Words) × (walk (algorithm n) me (2 * n) (standing d m p L14 c) ≡ standing d m (record p { j = 1; b = b }) L16 c)
+    (b : Words)
+    × (walk (algorithm n) me (2 * n) (standing d m p L14 c) ≡ standing d m (record p { j = 1; b = b }) L16 c)
     × (length b ≡ length p.b) × Filled (word_at m) no_word (n + 1) b
 second_collect n me d m p c some first size =
     let at = λ (r : Unit {0}) (j : ℕ) (xs : Words). standing d m (record p { j = j; b = xs }) L14 c in
@@ -51,8 +55,9 @@ copies_agree n m p a b k one =
     ∙ same_number (compared (word_at m k))
 
 -- a double collect alone passes its test, and its view is made
-pub clean : (n me : ℕ) (d : Mode) (m : Words) (p : Variables) (c : ℕ) → 1 ≤ n → p.j ≡ 1 → n ≤ length p.a → n ≤ length p.b →
-    (q : Variables) × (walk (algorithm n) me (4 * n + 2) (standing d m p L12 c) ≡ standing d m q L22 (suc c)) × (q.c ≡ p.c)
+pub clean : (n me : ℕ) (d : Mode) (m : Words) (p : Variables) (c : ℕ) → 1 ≤ n →
+    p.j ≡ 1 → n ≤ length p.a → n ≤ length p.b → (q : Variables)
+    × (walk (algorithm n) me (4 * n + 2) (standing d m p L12 c) ≡ standing d m q L22 (suc c)) × (q.c ≡ p.c)
 clean n me d m p c some first size_a size_b =
     let one = first_collect n me d m p c some first size_a in
     let p1 : Variables = record p { j = 1; a = one.0 } in
@@ -64,7 +69,8 @@ clean n me d m p c some first size_a size_b =
     let both = walks (algorithm n) me (2 * n) (2 * n) (4 * n) (standing d m p L12 c) (standing d m p1 L14 c)
     (standing d m p2 L16 c) one.1 two.1 (omega arith) in (
       q,
-      walks (algorithm n) me (4 * n) 2 (4 * n + 2) (standing d m p L12 c) (standing d m p2 L16 c) (standing d m q L22 (suc c)) both test refl,
+      walks (algorithm n) me (4 * n) 2 (4 * n + 2) (standing d m p L12 c) (standing d m p2 L16 c)
+          (standing d m q L22 (suc c)) both test refl,
       refl,
     )
 
@@ -87,7 +93,8 @@ whole_update n me word value m p c some size_a size_b =
     (standing d m view.0 L22 1) begins view.1 (omega arith) in (
       x,
       done.seat,
-      walks (algorithm n) me (4 * n + 5) 4 (4 * n + 9) (standing u m p L30 c) (standing d m view.0 L22 1) done both ends (omega arith),
+      walks (algorithm n) me (4 * n + 5) 4 (4 * n + 9) (standing u m p L30 c)
+          (standing d m view.0 L22 1) done both ends (omega arith),
       ap (λ y. y + 1) view.2,
     )
 
@@ -96,7 +103,8 @@ pub fails : (n i : ℕ) (m m' : Words) (p : Variables) (c : ℕ) → 1 ≤ n →
     Filled (word_at m) no_word (n + 1) p.a → IsOneOf n i →
     seq_at m i ≢ seq_at m' i → ((k : ℕ) → IsOneOf n k → k ≢ i → word_at m' k ≡ word_at m k) →
     ((k : ℕ) → IsOneOf n k → moved_at p k ≤ 1) → moved_at p i ≡ 0 →
-    (q : Variables) × (walk (algorithm n) 1 (2 * n + 4) (standing Scanning m' p L14 c) ≡ standing Scanning m' q L12 (suc c))
+    (q : Variables)
+    × (walk (algorithm n) 1 (2 * n + 4) (standing Scanning m' p L14 c) ≡ standing Scanning m' q L12 (suc c))
     × (q.j ≡ 1) × (length q.a ≡ length p.a) × (length q.b ≡ length p.b)
     × ((k : ℕ) → IsOneOf n k → moved_at q k ≤ 1) × ((k : ℕ) → IsOneOf n k → k ≢ i → moved_at q k ≡ moved_at p k)
 fails n i m m' p c some first size a one changed same few none =
@@ -111,18 +119,23 @@ fails n i m m' p c some first size a one changed same few none =
     λ k at other.
     let alike : agree p1 k ≡ true =
     ap (λ (x : Word). nat_eq (compared x) (compared (word_at two.0 k))) (a k (omega arith) (omega arith))
-    ∙ ap (λ (x : Word). nat_eq (compared (word_at m k)) (compared x)) (two.3 k (omega arith) (omega arith) ∙ same k at other)
+    ∙ ap (λ (x : Word). nat_eq (compared (word_at m k)) (compared x))
+    (two.3 k (omega arith) (omega arith) ∙ same k at other)
     ∙ same_number (seq_at m k) in
     for_each_at n (counted p1) p1.moved k at ∙ ap (λ b. if not b then moved_at p1 k + 1 else moved_at p1 k) alike in
     let moves : moved_at q i ≡ 1 =
-    for_each_at n (counted p1) p1.moved i one ∙ ap (λ b. if not b then moved_at p1 i + 1 else moved_at p1 i) differ ∙ ap (λ y. y + 1) none in
+    for_each_at n (counted p1) p1.moved i one
+    ∙ ap (λ b. if not b then moved_at p1 i + 1 else moved_at p1 i) differ ∙ ap (λ y. y + 1) none in
     let at_most : (k : ℕ) → IsOneOf n k → moved_at q k ≤ 1 =
     λ k at. elim (cases_eq k i) [
       | inl is ↦ (let e : moved_at q k ≡ 1 = ap (moved_at q) is ∙ moves in omega arith)
-      | inr other ↦ (let e : moved_at q k ≡ moved_at p k = others k at other in let f : moved_at p k ≤ 1 = few k at in omega arith)
+      | inr other ↦
+          (let e : moved_at q k ≡ moved_at p k =
+          others k at other in let f : moved_at p k ≤ 1 = few k at in omega arith)
     ] in
     let stays : first_true 1 (map (at_limit q) (places_to n)) ≡ None =
-    none_first (at_limit q) n (λ k at. let e : moved_at q k ≤ 1 = at_most k at in other_number (moved_at q k) 2 (λ is. absurd (omega arith))) in
+    none_first (at_limit q) n (λ k at.
+    let e : moved_at q k ≤ 1 = at_most k at in other_number (moved_at q k) 2 (λ is. absurd (omega arith))) in
     let test : walk (algorithm n) 1 4 (standing Scanning m' p1 L16 c) ≡ standing Scanning m' q L12 (suc c) =
     rw (one_fails (agree p1) n i one differ, stays) refl in (
       q,

@@ -1,4 +1,5 @@
--- The bounds on double collects are reached.
+-- `Reaches`: in a run a finished scan makes exactly this many double collects.
+-- The bounds n of U and B and 2 n - 1 of M are reached, and no more.
 use Rattle.std.specs.Prelude.{◌≡◌, ℕ, ◌*◌, ◌-◌, ◌<◌, List, None}
 use Rattle.snap_words.specs.Shape.{IsOneOf, IsShape, max_count}
 use Rattle.snap_semantics.specs.declared.process.Item.{Item}
@@ -47,7 +48,8 @@ ScheduleOfMReaches = (n w : ℕ) → IsShape n w → Reaches (2 * n - 1) (m.run_
 
 -- No more are reached: n double collects are the most of U and of B, and 2 n - 1 those of M.
 pub record NoMoreIsReached : Type 0 where
-  pub by_u : (n more : ℕ) (items : List Item) → n < more → u.SequenceNumbersSuffice items → Reaches more (u.run_of n items) → ⊥
+  pub by_u : (n more : ℕ) (items : List Item) → n < more → u.SequenceNumbersSuffice items →
+      Reaches more (u.run_of n items) → ⊥
   pub by_b : (n more : ℕ) → n < more → IsReached more (b.run_of n) → ⊥
   pub by_m : (n w more : ℕ) → 0 < w → 2 * n - 1 < more → IsReached more (m.run_of n w) → ⊥
 

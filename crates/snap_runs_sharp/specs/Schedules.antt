@@ -1,5 +1,5 @@
--- Schedules in which the scan of process 1 makes as many double collects as a scan can make: in each round another process makes
--- a whole update between the two collects, and in the last double collect nobody does.
+-- Schedules of U, B and M in which the scan of process 1 makes as many double collects as a scan can make: in each
+-- round another process makes a whole update between the two collects, and in the last double collect nobody does.
 use Rattle.std.specs.Prelude.{ℕ, zero, suc, ◌+◌, ◌*◌, ◌-◌, List, [], ◌∷◌, ◌++◌, replicate}
 use Rattle.snap_semantics.specs.declared.process.Item.{Item}
 use Rattle.snap_semantics.specs.declared.process.Item.TheVariants.{Step, Call}
@@ -13,8 +13,8 @@ steps_of i count = replicate count (Step i)
 abbrev pub update_by : ℕ → ℕ → ℕ → List Item
 update_by i word count = Call i (Update word i) ∷ steps_of i count
 
--- process 1 takes the steps up to its second collect, process i updates this word, and process 1 takes the steps up to its next
--- double collect
+-- process 1 takes the steps up to its second collect, process i updates this word, and process 1 takes the steps up
+-- to its next double collect
 abbrev pub round_with : (i word first update second : ℕ) → List Item
 round_with i word first update second = steps_of 1 first ++ (update_by i word update ++ steps_of 1 second)
 
@@ -27,10 +27,11 @@ abbrev pub rounds : (ℕ → List Item) → ℕ → List Item
 rounds round zero = []
 rounds round (suc count) = rounds round count ++ round count
 
--- Process 1 is called for a scan, and takes so many steps up to its first double collect; after the rounds it takes so many up to
--- its answer.
+-- Process 1 is called for a scan, and takes so many steps up to its first double collect; after the rounds it takes
+-- so many up to its answer.
 abbrev pub before_answer : (ℕ → List Item) → (count opening closing : ℕ) → List Item
-before_answer round count opening closing = (Call 1 Scan ∷ steps_of 1 opening) ++ (rounds round count ++ steps_of 1 closing)
+before_answer round count opening closing =
+    (Call 1 Scan ∷ steps_of 1 opening) ++ (rounds round count ++ steps_of 1 closing)
 
 abbrev pub schedule : (ℕ → List Item) → (count opening closing : ℕ) → List Item
 schedule round count opening closing = before_answer round count opening closing ++ steps_of 1 1

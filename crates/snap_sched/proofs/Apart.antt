@@ -1,5 +1,8 @@
--- Forms of which none takes in the next one: these are the forms of their items.
-use Rattle.std.proofs.Common.{◌≡◌, ℕ, zero, suc, ◌+◌, ◌<◌, ◌≤◌, Bool, true, false, not, List, [], ◌∷◌, ◌++◌, length, replicate, set, Option, Some, None, nat_eq, if◌then◌else◌, refl, sym, ap, ◌∙◌, arith, append_assoc, append-nil}
+-- Line forms of a schedule of which none is empty and no two neighbours are steps of one process (`AreApart`): they
+-- are the forms of their items.
+use Rattle.std.proofs.Common.{◌≡◌, ℕ, zero, suc, ◌+◌, ◌<◌, ◌≤◌, Bool, true, false, not, List, [], ◌∷◌, ◌++◌, length}
+use Rattle.std.proofs.Common.{replicate, set, Option, Some, None, nat_eq, if◌then◌else◌, refl, sym, ap, ◌∙◌, arith}
+use Rattle.std.proofs.Common.{append_assoc, append-nil}
 use Rattle.std.proofs.lemmas.Bool.{eq-eqb, eqb-true}
 use Rattle.std.proofs.lemmas.List.{replicate-append-replicate, length-replicate, length-append}
 use Rattle.std.specs.List.{flat_map}
@@ -92,7 +95,8 @@ steps_forms (suc count) i b xs fs e s = ap (step_onto i) (steps_forms count i b 
 pub apart_forms : (fs : List ItemForm) → AreApart fs → forms_of (flat_map form_items fs) ≡ fs
 apart_forms [] h = refl
 apart_forms (Steps i zero ∷ fs) h = absurd (omega (arith, h.0))
-apart_forms (Steps i (suc count) ∷ fs) h = steps_forms count i (suc count) (flat_map form_items fs) fs (apart_forms fs h.2) h.1
+apart_forms (Steps i (suc count) ∷ fs) h =
+    steps_forms count i (suc count) (flat_map form_items fs) fs (apart_forms fs h.2) h.1
 apart_forms (Calls i op ∷ fs) h = ap (λ (gs : List ItemForm). Calls i op ∷ gs) (apart_forms fs h.2)
 apart_forms (Crashes i ∷ fs) h = ap (λ (gs : List ItemForm). Crashes i ∷ gs) (apart_forms fs h.2)
 
@@ -109,7 +113,8 @@ not_joins (Calls i op) p c e = refl
 not_joins (Crashes i) p c e = refl
 
 -- steps may be added behind a form that is not of their process
-pub steps_added : (fs : List ItemForm) (p c : ℕ) → AreApart fs → 0 < c → last_count p fs ≡ None → AreApart (fs ++ Steps p c ∷ [])
+pub steps_added : (fs : List ItemForm) (p c : ℕ) → AreApart fs → 0 < c → last_count p fs ≡ None →
+    AreApart (fs ++ Steps p c ∷ [])
 steps_added [] p c h some e = (some, refl, tt)
 steps_added (f ∷ []) p c h some e = (h.0, not_joins f p c e, (some, refl, tt))
 steps_added (f ∷ g ∷ fs) p c h some e = (h.0, h.1, steps_added (g ∷ fs) p c h.2 some e)
@@ -152,15 +157,18 @@ stands_with (Calls i op) g p a b is e = refl
 stands_with (Crashes i) g p a b is e = refl
 
 -- the last steps may become more
-pub steps_grown : (fs : List ItemForm) (k p a b : ℕ) → suc k ≡ length fs → AreApart fs → last_count p fs ≡ Some a → 0 < b → AreApart (set fs k (Steps p b))
+pub steps_grown : (fs : List ItemForm) (k p a b : ℕ) → suc k ≡ length fs → AreApart fs → last_count p fs ≡ Some a →
+    0 < b → AreApart (set fs k (Steps p b))
 steps_grown [] k p a b is h e some = absurd (omega arith)
 steps_grown (f ∷ []) zero p a b is h e some = (some, refl, tt)
 steps_grown (f ∷ []) (suc k) p a b is h e some = absurd (omega arith)
 steps_grown (f ∷ g ∷ fs) zero p a b is h e some = absurd (omega arith)
-steps_grown (f ∷ g ∷ []) (suc zero) p a b is h e some = (h.0, stands_with f g p a b (found_steps g p a e) h.1, (some, refl, tt))
+steps_grown (f ∷ g ∷ []) (suc zero) p a b is h e some =
+    (h.0, stands_with f g p a b (found_steps g p a e) h.1, (some, refl, tt))
 steps_grown (f ∷ g ∷ []) (suc (suc k)) p a b is h e some = absurd (omega arith)
 steps_grown (f ∷ g ∷ j ∷ fs) (suc zero) p a b is h e some = absurd (omega arith)
-steps_grown (f ∷ g ∷ j ∷ fs) (suc (suc k)) p a b is h e some = (h.0, h.1, steps_grown (g ∷ j ∷ fs) (suc k) p a b (omega arith) h.2 e some)
+steps_grown (f ∷ g ∷ j ∷ fs) (suc (suc k)) p a b is h e some =
+    (h.0, h.1, steps_grown (g ∷ j ∷ fs) (suc k) p a b (omega arith) h.2 e some)
 
 -- their items are then so many steps more
 pub items_grown : (fs : List ItemForm) (k p a c : ℕ) → suc k ≡ length fs → last_count p fs ≡ Some a →
@@ -180,10 +188,12 @@ items_grown (f ∷ g ∷ fs) (suc k) p a c is e =
 pub last_within : (fs : List ItemForm) (p a : ℕ) → last_count p fs ≡ Some a → a ≤ length (flat_map form_items fs)
 last_within [] p a e = absurd cc
 last_within (f ∷ []) p a e =
-    let is : length (form_items f) ≡ a = ap (λ (g : ItemForm). length (form_items g)) (found_steps f p a e) ∙ length-replicate a (item.Step p) in
+    let is : length (form_items f) ≡ a =
+    ap (λ (g : ItemForm). length (form_items g)) (found_steps f p a e) ∙ length-replicate a (item.Step p) in
     let all : length (form_items f ++ []) ≡ length (form_items f) = ap length (append-nil (form_items f)) in
     omega (arith, is, all)
 last_within (f ∷ g ∷ fs) p a e =
     let rest = last_within (g ∷ fs) p a e in
-    let all : length (form_items f ++ flat_map form_items (g ∷ fs)) ≡ length (form_items f) + length (flat_map form_items (g ∷ fs)) = length-append (form_items f) (flat_map form_items (g ∷ fs)) in
+    let all : length (form_items f ++ flat_map form_items (g ∷ fs)) ≡ length (form_items f)
+    + length (flat_map form_items (g ∷ fs)) = length-append (form_items f) (flat_map form_items (g ∷ fs)) in
     omega (arith, rest, all)

@@ -1,5 +1,6 @@
--- What is read is spelled so.
-use Rattle.std.proofs.Common.{◌≡◌, ℕ, ◌<◌, Bool, true, false, ◌&&◌, List, [], ◌∷◌, Option, Some, None, nat_le, nat_lt, bytes_eq, codes, if◌then◌else◌, refl, sym, ap, ◌∙◌, arith, subst, ◌⊎◌, inl, inr}
+-- A line that is read as a form of a schedule, or as its shape, spells it (`IsSpelling`).
+use Rattle.std.proofs.Common.{◌≡◌, ℕ, ◌<◌, Bool, true, false, ◌&&◌, List, [], ◌∷◌, Option, Some, None, nat_le, nat_lt}
+use Rattle.std.proofs.Common.{bytes_eq, codes, if◌then◌else◌, refl, sym, ap, ◌∙◌, arith, subst, ◌⊎◌, inl, inr}
 use Rattle.std.proofs.lemmas.Bool.{leb-true, ltb-true, and_parts}
 use Rattle.std.specs.Cmp.Lexicographic.{same_text}
 use Rattle.snap_words.specs.Shape.{Counts, IsOneOf, IsShape, max_count}
@@ -7,12 +8,14 @@ use Rattle.snap_semantics.specs.declared.process.Op.TheVariants as op
 use Rattle.snap_semantics.specs.declared.text.Symbol.{Symbol}
 use Rattle.snap_semantics.specs.declared.text.Symbol.TheVariants as symbol
 use Rattle.snap_semantics.specs.Rules.{◌>>=◌, or_else, Found, number_at, keyword_at, symbol_at, end_at}
-use Rattle.snap_semantics.specs.ScheduleForms.{ItemForm, Steps, Calls, Crashes, spelled_shape, is_count, shape_form, step_form, steps_form, scan_form, update_form, crash_form, item_form}
+use Rattle.snap_semantics.specs.ScheduleForms.{ItemForm, Steps, Calls, Crashes, spelled_shape, is_count, shape_form}
+use Rattle.snap_semantics.specs.ScheduleForms.{step_form, steps_form, scan_form, update_form, crash_form, item_form}
 use Rattle.snap_semantics.specs.Token.{Token, Identifier, Number, Sign, same_symbol}
 use Rattle.snap_sched.specs.Spelling.{IsSpelling}
 
 -- what was found first, and what was found behind it
-pub bind_found : {A B : Type 0} (o : Option A) (f : A → Option B) (y : B) → (o >>= f) ≡ Some y → (x : A) × (o ≡ Some x) × (f x ≡ Some y)
+pub bind_found : {A B : Type 0} (o : Option A) (f : A → Option B) (y : B) → (o >>= f) ≡ Some y →
+    (x : A) × (o ≡ Some x) × (f x ≡ Some y)
 bind_found (Some x) f y e = (x, refl, e)
 bind_found None f y e = absurd cc
 
@@ -31,7 +34,8 @@ pub end_found : (ts : List Token) (x : Unit {0}) → end_at ts ≡ Some x → ts
 end_found [] x e = refl
 end_found (t ∷ ts) x e = absurd cc
 
-keyword_by : (w x : List ℕ) (ts us : List Token) (b : Bool) → bytes_eq w x ≡ b → (let r : Option (List Token) = if b then Some ts else None in r) ≡ Some us → Identifier w ∷ ts ≡ Identifier x ∷ us
+keyword_by : (w x : List ℕ) (ts us : List Token) (b : Bool) → bytes_eq w x ≡ b →
+    (let r : Option (List Token) = if b then Some ts else None in r) ≡ Some us → Identifier w ∷ ts ≡ Identifier x ∷ us
 keyword_by w x ts us true s e = let p : w ≡ x = same_text w x (sym s) in let q : ts ≡ us = cc in cc
 keyword_by w x ts us false s e = absurd cc
 
@@ -41,7 +45,9 @@ keyword_found x (Number k ∷ ts) us e = absurd cc
 keyword_found x (Identifier w ∷ ts) us e = keyword_by w x ts us (bytes_eq w x) refl e
 keyword_found x (Sign m ∷ ts) us e = absurd cc
 
-star_by : (m : Symbol) (ts us : List Token) → (let r : Option (List Token) = if same_symbol m symbol.Star then Some ts else None in r) ≡ Some us → Sign m ∷ ts ≡ Sign symbol.Star ∷ us
+star_by : (m : Symbol) (ts us : List Token) →
+    (let r : Option (List Token) = if same_symbol m symbol.Star then Some ts else None in r) ≡ Some us →
+    Sign m ∷ ts ≡ Sign symbol.Star ∷ us
 star_by symbol.Colon ts us e = absurd cc
 star_by symbol.Equal ts us e = absurd cc
 star_by symbol.Different ts us e = absurd cc
@@ -62,10 +68,15 @@ star_found (Identifier w ∷ ts) us e = absurd cc
 star_found (Sign m ∷ ts) us e = star_by m ts us e
 
 count_is : (k : ℕ) → is_count k ≡ true → IsOneOf max_count k
-count_is k e = let p = and_parts (nat_le 1 k) (nat_le k max_count) e in let low = leb-true 1 k p.0 in let high = leb-true k max_count p.1 in (omega (arith, low), high)
+count_is k e =
+    let p = and_parts (nat_le 1 k) (nat_le k max_count) e in
+    let low = leb-true 1 k p.0 in
+    let high = leb-true k max_count p.1 in
+    (omega (arith, low), high)
 
 shape_if : (n w : ℕ) (s : Counts) (b : Bool) → (is_count n && is_count w) ≡ b →
-    (let r : Option Counts = if b then Some (record { n = n; w = w }) else None in r) ≡ Some s → (s ≡ record { n = n; w = w }) × IsShape n w
+    (let r : Option Counts = if b then Some (record { n = n; w = w }) else None in r) ≡ Some s →
+    (s ≡ record { n = n; w = w }) × IsShape n w
 shape_if n w s true b e = let p = and_parts (is_count n) (is_count w) b in (cc, (count_is n p.0, count_is w p.1))
 shape_if n w s false b e = absurd cc
 
@@ -80,7 +91,8 @@ shape_found ts s e =
       keyword_found (codes "shape") ts a.0 a.1
           ∙ ap (λ (t : List Token). Identifier (codes "shape") ∷ t) (number_found a.0 n.0 n.1)
           ∙ ap (λ (t : List Token). Identifier (codes "shape") ∷ Number n.0.0 ∷ t) (number_found n.0.1 w.0 w.1)
-          ∙ ap (λ (t : List Token). Identifier (codes "shape") ∷ Number n.0.0 ∷ Number w.0.0 ∷ t) (end_found w.0.1 z.0 z.1)
+          ∙ ap (λ (t : List Token). Identifier (codes "shape") ∷ Number n.0.0 ∷ Number w.0.0 ∷ t)
+          (end_found w.0.1 z.0 z.1)
           ∙ ap spelled_shape (sym h.0),
       subst (λ (c : Counts). IsShape c.n c.w) (sym h.0) h.1,
     )
@@ -100,7 +112,9 @@ step_found ts f e =
     (omega arith, inl (number_found ts i.0 i.1 ∙ ap (λ (t : List Token). Number i.0.0 ∷ t) (end_found i.0.1 z.0 z.1)))
     (some_is (Steps i.0.0 1) f z.2)
 
-steps_if : (i count : ℕ) (f : ItemForm) (b : Bool) → nat_lt 0 count ≡ b → (let r : Option ItemForm = if b then Some (Steps i count) else None in r) ≡ Some f → (Steps i count ≡ f) × (0 < count)
+steps_if : (i count : ℕ) (f : ItemForm) (b : Bool) → nat_lt 0 count ≡ b →
+    (let r : Option ItemForm = if b then Some (Steps i count) else None in r) ≡ Some f →
+    (Steps i count ≡ f) × (0 < count)
 steps_if i count f true b e = (some_is (Steps i count) f e, ltb-true 0 count b)
 steps_if i count f false b e = absurd cc
 
@@ -145,8 +159,10 @@ update_found ts f e =
     (number_found ts i.0 i.1
     ∙ ap (λ (t : List Token). Number i.0.0 ∷ t) (keyword_found (codes "update") i.0.1 a.0 a.1)
     ∙ ap (λ (t : List Token). Number i.0.0 ∷ Identifier (codes "update") ∷ t) (number_found a.0 k.0 k.1)
-    ∙ ap (λ (t : List Token). Number i.0.0 ∷ Identifier (codes "update") ∷ Number k.0.0 ∷ t) (number_found k.0.1 x.0 x.1)
-    ∙ ap (λ (t : List Token). Number i.0.0 ∷ Identifier (codes "update") ∷ Number k.0.0 ∷ Number x.0.0 ∷ t) (end_found x.0.1 z.0 z.1))
+    ∙ ap (λ (t : List Token). Number i.0.0 ∷ Identifier (codes "update") ∷ Number k.0.0 ∷ t)
+    (number_found k.0.1 x.0 x.1)
+    ∙ ap (λ (t : List Token). Number i.0.0 ∷ Identifier (codes "update") ∷ Number k.0.0 ∷ Number x.0.0 ∷ t)
+    (end_found x.0.1 z.0 z.1))
     (some_is (Calls i.0.0 (op.Update k.0.0 x.0.0)) f z.2)
 
 crash_found : (ts : List Token) (f : ItemForm) → crash_form ts ≡ Some f → IsSpelling f ts
@@ -169,21 +185,26 @@ item_by4 : (ts : List Token) (f : ItemForm) → (update_form ts ≡ Some f) ⊎ 
 item_by4 ts f (inl e) = update_found ts f e
 item_by4 ts f (inr e) = crash_found ts f e
 
-item_by3 : (ts : List Token) (f : ItemForm) → (scan_form ts ≡ Some f) ⊎ (or_else (update_form ts) (crash_form ts) ≡ Some f) → IsSpelling f ts
+item_by3 : (ts : List Token) (f : ItemForm) →
+    (scan_form ts ≡ Some f) ⊎ (or_else (update_form ts) (crash_form ts) ≡ Some f) → IsSpelling f ts
 item_by3 ts f (inl e) = scan_found ts f e
 item_by3 ts f (inr e) = item_by4 ts f (first_found (update_form ts) (crash_form ts) f e)
 
-item_by2 : (ts : List Token) (f : ItemForm) → (steps_form ts ≡ Some f) ⊎ (or_else (scan_form ts) (or_else (update_form ts) (crash_form ts)) ≡ Some f) →
-    IsSpelling f ts
+item_by2 : (ts : List Token) (f : ItemForm) → (steps_form ts ≡ Some f)
+    ⊎ (or_else (scan_form ts) (or_else (update_form ts) (crash_form ts)) ≡ Some f) → IsSpelling f ts
 item_by2 ts f (inl e) = steps_found ts f e
 item_by2 ts f (inr e) = item_by3 ts f (first_found (scan_form ts) (or_else (update_form ts) (crash_form ts)) f e)
 
 item_by1 : (ts : List Token) (f : ItemForm) →
-    (step_form ts ≡ Some f) ⊎ (or_else (steps_form ts) (or_else (scan_form ts) (or_else (update_form ts) (crash_form ts))) ≡ Some f) → IsSpelling f ts
+    (step_form ts ≡ Some f)
+    ⊎ (or_else (steps_form ts) (or_else (scan_form ts) (or_else (update_form ts) (crash_form ts))) ≡ Some f) →
+    IsSpelling f ts
 item_by1 ts f (inl e) = step_found ts f e
-item_by1 ts f (inr e) = item_by2 ts f (first_found (steps_form ts) (or_else (scan_form ts) (or_else (update_form ts) (crash_form ts))) f e)
+item_by1 ts f (inr e) =
+    item_by2 ts f (first_found (steps_form ts) (or_else (scan_form ts) (or_else (update_form ts) (crash_form ts))) f e)
 
 pub item_found : (ts : List Token) (f : ItemForm) → item_form ts ≡ Some f → IsSpelling f ts
 unfolding item_form
 item_found ts f e =
-    item_by1 ts f (first_found (step_form ts) (or_else (steps_form ts) (or_else (scan_form ts) (or_else (update_form ts) (crash_form ts)))) f e)
+    item_by1 ts f (first_found (step_form ts)
+    (or_else (steps_form ts) (or_else (scan_form ts) (or_else (update_form ts) (crash_form ts)))) f e)

@@ -1,11 +1,12 @@
--- Items whose numbers have 64 bits.
+-- Schedule items whose numbers have 64 bits (`FitsItem`): lists of them joined, and steps added to them.
 use Rattle.std.proofs.Common.{◌≡◌, ℕ, zero, suc, List, [], ◌∷◌, ◌++◌, replicate, sym, subst}
 use Rattle.std.specs.List.{AllByRecursion}
 use Rattle.snap_semantics.specs.declared.process.Item.{Item}
 use Rattle.snap_semantics.specs.declared.process.Item.TheVariants as item
 use Rattle.snap_semantics.specs.ScheduleText.{FitsItem}
 
-pub joined_fit : (xs ys : List Item) → AllByRecursion FitsItem xs → AllByRecursion FitsItem ys → AllByRecursion FitsItem (xs ++ ys)
+pub joined_fit : (xs ys : List Item) → AllByRecursion FitsItem xs → AllByRecursion FitsItem ys →
+    AllByRecursion FitsItem (xs ++ ys)
 joined_fit [] ys h g = g
 joined_fit (x ∷ xs) ys h g = (h.0, joined_fit xs ys h.1 g)
 
@@ -14,5 +15,7 @@ steps_fit zero i = tt
 steps_fit (suc count) i = (tt, steps_fit count i)
 
 -- steps that were added
-pub steps_join_fit : (old new : List Item) (count i : ℕ) → new ≡ old ++ replicate count (item.Step i) → AllByRecursion FitsItem old → AllByRecursion FitsItem new
-steps_join_fit old new count i is h = subst (AllByRecursion FitsItem) (sym is) (joined_fit old (replicate count (item.Step i)) h (steps_fit count i))
+pub steps_join_fit : (old new : List Item) (count i : ℕ) → new ≡ old ++ replicate count (item.Step i) →
+    AllByRecursion FitsItem old → AllByRecursion FitsItem new
+steps_join_fit old new count i is h =
+    subst (AllByRecursion FitsItem) (sym is) (joined_fit old (replicate count (item.Step i)) h (steps_fit count i))

@@ -1,3 +1,4 @@
+-- The proofs of snap_sched, by their modules.
 pub mod Apart
 pub mod Greatest
 pub mod Lines

@@ -1,4 +1,4 @@
--- The items that a cursor has before it.
+-- The segments over which an `ItemIter` of a schedule starts have at least one item each (`IsSome`).
 use Rattle.std.proofs.Common.{◌≡◌, List, ap, sym, ◌∙◌, map}
 use Rattle.std.specs.List.{AllByRecursion}
 use Rattle.snap_semantics.specs.declared.process.Item.{Item}
@@ -9,5 +9,6 @@ use Rattle.snap_sched.specs.declared.segments.Segment.{Segment}
 use Rattle.snap_sched.proofs.Keeping.{greatest_some}
 
 -- at the start of greatest segments
-pub started : (rs : List Segment) (xs : List Item) → items_of_segments rs ≡ xs → map segment_form rs ≡ forms_of xs → AllByRecursion IsSome rs
+pub started : (rs : List Segment) (xs : List Item) → items_of_segments rs ≡ xs →
+    map segment_form rs ≡ forms_of xs → AllByRecursion IsSome rs
 started rs xs items greatest = greatest_some rs (ap forms_of items ∙ sym greatest)

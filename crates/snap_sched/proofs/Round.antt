@@ -1,5 +1,6 @@
 -- What is printed of a schedule is read as that schedule.
-use Rattle.std.proofs.Common.{◌≡◌, ℕ, zero, suc, ◌+◌, ◌<◌, ◌≤◌, ◌^◌, Bool, true, false, List, [], ◌∷◌, ◌++◌, length, map, Ok, nat_eq, if◌then◌else◌, refl, sym, ap, ◌∙◌, arith, subst, inl}
+use Rattle.std.proofs.Common.{◌≡◌, ℕ, zero, suc, ◌+◌, ◌<◌, ◌≤◌, ◌^◌, Bool, true, false, List, [], ◌∷◌, ◌++◌, length}
+use Rattle.std.proofs.Common.{map, Ok, nat_eq, if◌then◌else◌, refl, sym, ap, ◌∙◌, arith, subst, inl}
 use Rattle.std.proofs.lemmas.Bool.{eqb-true}
 use Rattle.std.proofs.lemmas.List.{length-append}
 use Rattle.std.specs.List.{AllByRecursion, flat_map}
@@ -10,7 +11,8 @@ use Rattle.snap_semantics.specs.declared.process.Op.TheVariants as op
 use Rattle.snap_semantics.specs.declared.text.Symbol.TheVariants as symbol
 use Rattle.snap_semantics.specs.Schedule.{Schedule, schedule_of, form_count, form_items}
 use Rattle.snap_semantics.specs.ScheduleForms.{ItemForm, Steps, Calls, Crashes, spelled_shape, spelled_form}
-use Rattle.snap_semantics.specs.ScheduleText.{IsSchedule, step_onto, item_onto, forms_of, schedule_text, FitsWords, FitsItem}
+use Rattle.snap_semantics.specs.ScheduleText.{IsSchedule, step_onto, item_onto, forms_of}
+use Rattle.snap_semantics.specs.ScheduleText.{schedule_text, FitsWords, FitsItem}
 use Rattle.snap_semantics.specs.Table.{who}
 use Rattle.snap_semantics.specs.Token.{Token, Number, Sign, text_lines}
 use Rattle.snap_text.specs.Laws.{IsSoundLine}
@@ -27,7 +29,8 @@ FitsForm (Steps i count) = (i < 2 ^ 64) × (count < 2 ^ 64)
 FitsForm (Calls i o) = (i < 2 ^ 64) × FitsWords o
 FitsForm (Crashes i) = i < 2 ^ 64
 
-steps_stand : (i count : ℕ) (v : Bool) → i < 2 ^ 64 → count < 2 ^ 64 → IsSoundLine (if v then Number i ∷ [] else Number i ∷ Sign symbol.Star ∷ Number count ∷ [])
+steps_stand : (i count : ℕ) (v : Bool) → i < 2 ^ 64 → count < 2 ^ 64 →
+    IsSoundLine (if v then Number i ∷ [] else Number i ∷ Sign symbol.Star ∷ Number count ∷ [])
 steps_stand i count true h g = (refl, (h, tt))
 steps_stand i count false h g = (refl, (h, (tt, (g, tt))))
 
@@ -51,8 +54,10 @@ forms_spelled [] h = tt
 forms_spelled (f ∷ fs) h = (form_spelled f h.0, forms_spelled fs h.2)
 
 step_items_by : (i k a : ℕ) (fs : List ItemForm) (v : Bool) → nat_eq i k ≡ v →
-    flat_map form_items (if v then Steps k (suc a) ∷ fs else Steps i 1 ∷ Steps k a ∷ fs) ≡ item.Step i ∷ flat_map form_items (Steps k a ∷ fs)
-step_items_by i k a fs true e = ap (λ (p : ℕ). item.Step p ∷ flat_map form_items (Steps k a ∷ fs)) (sym (eqb-true i k e))
+    flat_map form_items (if v then Steps k (suc a) ∷ fs else Steps i 1 ∷ Steps k a ∷ fs)
+    ≡ item.Step i ∷ flat_map form_items (Steps k a ∷ fs)
+step_items_by i k a fs true e =
+    ap (λ (p : ℕ). item.Step p ∷ flat_map form_items (Steps k a ∷ fs)) (sym (eqb-true i k e))
 step_items_by i k a fs false e = refl
 
 step_items : (i : ℕ) (fs : List ItemForm) → flat_map form_items (step_onto i fs) ≡ item.Step i ∷ flat_map form_items fs
@@ -79,40 +84,55 @@ all_behind : (xs ys : List Item) → AllByRecursion FitsLong (xs ++ ys) → AllB
 all_behind [] ys h = h
 all_behind (x ∷ xs) ys h = all_behind xs ys h.1
 
-form_fits : (f : ItemForm) (xs : List Item) → 0 < form_count f → form_count f ≤ 1000000 → AllByRecursion FitsLong (form_items f ++ xs) → FitsForm f
+form_fits : (f : ItemForm) (xs : List Item) → 0 < form_count f → form_count f ≤ 1000000 →
+    AllByRecursion FitsLong (form_items f ++ xs) → FitsForm f
 form_fits (Steps i zero) xs some few h = absurd (omega arith)
 form_fits (Steps i (suc count)) xs some few h = (h.0.0, omega arith)
 form_fits (Calls i o) xs some few h = h.0
 form_fits (Crashes i) xs some few h = h.0.0
 
-forms_fit : (fs : List ItemForm) → AreApart fs → AllByRecursion FitsLong (flat_map form_items fs) → length (flat_map form_items fs) ≤ 1000000 → AllByRecursion FitsForm fs
+forms_fit : (fs : List ItemForm) → AreApart fs → AllByRecursion FitsLong (flat_map form_items fs) →
+    length (flat_map form_items fs) ≤ 1000000 → AllByRecursion FitsForm fs
 forms_fit [] apart h few = tt
 forms_fit (f ∷ fs) apart h few =
-    let all : length (form_items f ++ flat_map form_items fs) ≡ form_count f + length (flat_map form_items fs) = length-append (form_items f) (flat_map form_items fs) ∙ ap (λ (k : ℕ). k + length (flat_map form_items fs)) (length_items f) in (
+    let all : length (form_items f ++ flat_map form_items fs) ≡ form_count f + length (flat_map form_items fs) =
+    length-append (form_items f) (flat_map form_items fs)
+    ∙ ap (λ (k : ℕ). k + length (flat_map form_items fs)) (length_items f) in (
       form_fits f (flat_map form_items fs) apart.0 (omega (arith, all, few)) h,
       forms_fit fs apart.2 (all_behind (form_items f) (flat_map form_items fs) h) (omega (arith, all, few)),
     )
 
-items_fit : (n : ℕ) (xs : List Item) → n ≤ max_count → AllByRecursion (λ x. IsOneOf n (who x)) xs → AllByRecursion FitsItem xs → AllByRecursion FitsLong xs
+items_fit : (n : ℕ) (xs : List Item) → n ≤ max_count → AllByRecursion (λ x. IsOneOf n (who x)) xs →
+    AllByRecursion FitsItem xs → AllByRecursion FitsLong xs
 items_fit n [] small h g = tt
-items_fit n (x ∷ xs) small h g = let within = h.0.1 in ((omega (arith, within, small), g.0), items_fit n xs small h.1 g.1)
+items_fit n (x ∷ xs) small h g =
+    let within = h.0.1 in
+    ((omega (arith, within, small), g.0), items_fit n xs small h.1 g.1)
 
 shape_stands : (s : Counts) → IsShape s.n s.w → IsSoundLine (spelled_shape s)
-shape_stands s h = let n = h.0.1 in let w = h.1.1 in (refl, ((omega arith, refl), (omega (arith, n), (omega (arith, w), tt))))
+shape_stands s h =
+    let n = h.0.1 in
+    let w = h.1.1 in
+    (refl, ((omega arith, refl), (omega (arith, n), (omega (arith, w), tt))))
 
 -- the lines of a schedule
 abbrev spelled_lines : Schedule → List (List Token)
 spelled_lines s = spelled_shape s.shape ∷ map spelled_form (forms_of s.items)
 
 -- are those of its text
-printed_lines : (s : Schedule) → IsSchedule s → line_tokens (text_lines (schedule_text s)) ≡ found_lines (spelled_lines s)
+printed_lines : (s : Schedule) → IsSchedule s →
+    line_tokens (text_lines (schedule_text s)) ≡ found_lines (spelled_lines s)
 printed_lines s h =
     let same = forms_items s.items in
     let all = items_fit s.shape.n s.items h.shape.0.1 h.processes h.fits in
-    let forms = forms_fit (forms_of s.items) (forms_apart s.items) (subst (AllByRecursion FitsLong) (sym same) all) (subst (λ (xs : List Item). length xs ≤ 1000000) (sym same) h.few) in
+    let forms =
+    forms_fit (forms_of s.items) (forms_apart s.items) (subst (AllByRecursion FitsLong) (sym same) all)
+    (subst (λ (xs : List Item). length xs ≤ 1000000) (sym same) h.few) in
     laid_read (spelled_lines s) (shape_stands s.shape h.shape, forms_stand (forms_of s.items) forms)
 
-pub printed_again : (s : Schedule) → IsSchedule s → length (schedule_text s) ≤ 4194304 → schedule_of (schedule_text s) ≡ Ok s
+pub printed_again : (s : Schedule) → IsSchedule s → length (schedule_text s) ≤ 4194304 →
+    schedule_of (schedule_text s) ≡ Ok s
 printed_again s h few =
     spelled_is_read (schedule_text s) s few h
-    (subst (IsSpelled s) (sym (printed_lines s h)) (refl, (forms_of s.items, forms_spelled (forms_of s.items) (forms_apart s.items), forms_items s.items)))
+    (subst (IsSpelled s) (sym (printed_lines s h))
+    (refl, (forms_of s.items, forms_spelled (forms_of s.items) (forms_apart s.items), forms_items s.items)))

@@ -1,4 +1,5 @@
--- The items that are still to come.
+-- `items_left`: the items that an `ItemIter` over a schedule has still to give: steps left of a segment, and the
+-- segments after it.
 use Rattle.std.specs.Prelude.{ℕ, ◌<◌, List, ◌++◌, replicate, ⊤}
 use Rattle.snap_semantics.specs.declared.process.Item.{Item}
 use Rattle.snap_semantics.specs.declared.process.Item.TheVariants as item

@@ -1,4 +1,5 @@
--- How segments are kept: where each begins and whose it is, and apart from them which are calls and crashes.
+-- `Keeps`: how `Items` stores segments: where each begins and whose it is, and in a list of their own those that are
+-- calls and crashes.
 use Rattle.std.specs.Prelude.{◌≡◌, ℕ, ◌+◌, ◌-◌, List, [], ◌∷◌, length, Option, Some, None, nat_eq, if◌then◌else◌}
 use Rattle.std.specs.List.{AllByRecursion}
 use Rattle.snap_semantics.specs.Schedule.{form_process, form_count}
@@ -61,7 +62,8 @@ last_process (x ∷ []) = steps_process x
 last_process (x ∷ y ∷ xs) = last_process (y ∷ xs)
 
 -- segments that are the greatest ones of their items, kept so
-pub record Keeps (rs : List SegmentStart) (ss : List Single) (len : ℕ) (stepping : Option ℕ) (xs : List Segment) : Type 0 where
+pub record Keeps (rs : List SegmentStart) (ss : List Single) (len : ℕ) (stepping : Option ℕ)
+    (xs : List Segment) : Type 0 where
   pub starts : rs ≡ starts_from 0 xs
   pub singles : ss ≡ singles_from 0 xs
   pub all : len ≡ length (items_of_segments xs)

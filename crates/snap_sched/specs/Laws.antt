@@ -13,7 +13,9 @@ ReadsOnlySpelled = (text : List ℕ) (s : Schedule) → schedule_of text ≡ Ok 
 
 -- every schedule is read from every text that spells it
 abbrev pub ReadsAllSpelled : Type 0
-ReadsAllSpelled = (text : List ℕ) (s : Schedule) → length text ≤ 4194304 → IsSchedule s → IsSpelled s (line_tokens (text_lines text)) → schedule_of text ≡ Ok s
+ReadsAllSpelled =
+    (text : List ℕ) (s : Schedule) → length text ≤ 4194304 → IsSchedule s →
+    IsSpelled s (line_tokens (text_lines text)) → schedule_of text ≡ Ok s
 
 -- what is printed of a schedule is read as that schedule
 abbrev pub PrintsAgain : Type 0

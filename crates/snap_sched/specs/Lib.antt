@@ -1,3 +1,4 @@
+-- The definitions of snap_sched, by their modules.
 pub mod Segments
 pub mod Kept
 pub mod ReaderSteps

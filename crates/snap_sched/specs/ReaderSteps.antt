@@ -1,4 +1,5 @@
--- What is read, line by line.
+-- What the reader of schedules makes of the next line: the shape (`first_shape`), or the form of some items
+-- (`next_form`).
 use Rattle.std.specs.Prelude.{ℕ, ◌&&◌, List, [], ◌∷◌, Option, Some, None, Result, Ok, Err, if◌then◌else◌}
 use Rattle.snap_words.specs.Shape.{Counts}
 use Rattle.snap_semantics.specs.declared.refusal.ScheduleRefusal.{ScheduleRefusal}
@@ -22,9 +23,11 @@ shape_of n w = if is_count n && is_count w then Some (record { n = n; w = w }) e
 
 -- the form of a line, of which so many items may still come
 abbrev pub line_form : ℕ → ℕ → TextLine → Result ItemForm ScheduleRefusal
-line_form n left line = form_or (refusal.BadItem line.number) item_form line.tokens >>= λ form. admitted n left line.number form
+line_form n left line =
+    form_or (refusal.BadItem line.number) item_form line.tokens >>= λ form. admitted n left line.number form
 
--- the form of the first line, of which so many items may still come, and the lines behind it; none where there is no line
+-- the form of the first line, of which so many items may still come, and the lines behind
+-- it; none where there is no line
 abbrev pub next_form : ℕ → ℕ → List TextLine → Result (Option (ItemForm × List TextLine)) ScheduleRefusal
 next_form n left [] = Ok None
 next_form n left (line ∷ lines) = line_form n left line >>= λ form. Ok (Some (form, lines))

@@ -1,4 +1,5 @@
--- The forms of the lines of scripts.
+-- The forms of the lines of live runs' scripts (`I scan`, `I update K X`, `I crash K`), and what they ask of each
+-- process.
 use Rattle.std.specs.Prelude.{ℕ, Bool, ◌&&◌, List, [], ◌∷◌, Option, Some, None, nat_eq, nat_le, codes, if◌then◌else◌}
 use Rattle.snap_words.specs.Shape.{max_items}
 use Rattle.snap_semantics.specs.declared.process.Op.{Op}

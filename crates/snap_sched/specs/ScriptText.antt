@@ -1,6 +1,7 @@
--- The grammar of scripts: a shape, and then lines, each of which is a call or tells at which turn a process crashes; and why a
--- text is refused, the first reason first. Processes and lines are counted from 1.
-use Rattle.std.specs.Prelude.{◌≡◌, ℕ, zero, suc, ◌+◌, Bool, true, false, ◌&&◌, List, [], ◌∷◌, ◌++◌, length, Option, Some, None, Result, Ok, Err, nat_lt, nat_le, if◌then◌else◌}
+-- The grammar of scripts: a shape, and then lines, each of which is a call or tells at which turn a process crashes;
+-- and why a text is refused, the first reason first. Processes and lines are counted from 1.
+use Rattle.std.specs.Prelude.{◌≡◌, ℕ, zero, suc, ◌+◌, Bool, true, false, ◌&&◌, List, [], ◌∷◌, ◌++◌, length, Option}
+use Rattle.std.specs.Prelude.{Some, None, Result, Ok, Err, nat_lt, nat_le, if◌then◌else◌}
 use Rattle.snap_words.specs.Shape.{Counts, IsShape}
 use Rattle.snap_semantics.specs.declared.process.Op.{Op}
 use Rattle.snap_semantics.specs.declared.refusal.ScheduleRefusal.{ScheduleRefusal}
@@ -36,11 +37,14 @@ crashes_again before (script.Crash i turn) = is_found (crash_of i before)
 abbrev pub admitted_script : ℕ → List ScriptForm → ℕ → ScriptForm → Result ScriptForm ScheduleRefusal
 admitted_script n before line form =
     if crashes_again before form then Err (refusal.BadItem line) else
-    if nat_le 1 (script_process form) && nat_le (script_process form) n then Ok form else Err (refusal.NoSuchProcess line)
+    if nat_le 1 (script_process form) && nat_le (script_process form) n then Ok form
+    else Err (refusal.NoSuchProcess line)
 
 -- the form of a line behind others
 abbrev pub script_line : ℕ → List ScriptForm → TextLine → Result ScriptForm ScheduleRefusal
-script_line n before line = form_or (refusal.BadItem line.number) script_form line.tokens >>= λ form. admitted_script n before line.number form
+script_line n before line =
+    form_or (refusal.BadItem line.number) script_form line.tokens >>= λ form.
+    admitted_script n before line.number form
 
 -- the forms of the lines, behind those before them
 abbrev pub script_lines : ℕ → List ScriptForm → List TextLine → Result (List ScriptForm) ScheduleRefusal

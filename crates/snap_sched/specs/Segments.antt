@@ -1,4 +1,5 @@
--- The segments that items are kept as.
+-- The segments of a schedule's items: steps of one process side by side, a call, or a crash; and when they are the
+-- greatest ones (`AreGreatest`).
 use Rattle.std.specs.Prelude.{◌≡◌, ℕ, List, [], ◌∷◌, map, Option, Some, None, nat_eq, if◌then◌else◌}
 use Rattle.std.specs.List.{flat_map}
 use Rattle.snap_semantics.specs.declared.process.Item.{Item}

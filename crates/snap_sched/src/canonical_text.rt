@@ -1,6 +1,7 @@
 //! Schedules in their canonical text.
 ghost use Rattle.std.specs.Prelude.{◌≡◌, ◌++◌, map, OnOk, IfOk};
-ghost use Rattle.snap_semantics.specs.ScheduleForms.{Crashes, spelled_shape, spelled_steps, spelled_call, spelled_form};
+ghost use Rattle.snap_semantics.specs.ScheduleForms.{Crashes, spelled_shape, spelled_steps};
+ghost use Rattle.snap_semantics.specs.ScheduleForms.{spelled_call, spelled_form};
 ghost use Rattle.snap_semantics.specs.Layout.{line_text};
 ghost use Rattle.snap_semantics.specs.ScheduleText.{forms_text, schedule_text};
 ghost use Rattle.snap_sched.specs.Segments.{segment_form};

@@ -1,6 +1,8 @@
-//! The forms of the lines of a schedule.
+//! `ItemForm`: the forms of the lines of a schedule: the shape, steps of a process, a call, or a
+//! crash.
 ghost use Rattle.std.specs.Prelude.{◌≡◌};
-ghost use Rattle.snap_semantics.specs.ScheduleForms.{shape_form, step_form, steps_form, scan_form, update_form, crash_form, item_form};
+ghost use Rattle.snap_semantics.specs.ScheduleForms.{shape_form, step_form, steps_form, scan_form};
+ghost use Rattle.snap_semantics.specs.ScheduleForms.{update_form, crash_form, item_form};
 ghost use Rattle.snap_text.specs.Tokens.{Finds, view_tokens};
 ghost use Rattle.snap_sched.specs.ReaderSteps.{view_form, shape_of};
 

@@ -1,4 +1,4 @@
-//! Goes through items, one by one.
+//! `ItemIter`: goes through the items of a schedule, one by one.
 ghost use Rattle.std.specs.Prelude.{◌≡◌};
 
 use crate::items::Items;

@@ -1,5 +1,7 @@
-//! The items of a schedule or of a history, kept as segments.
-ghost use Rattle.std.specs.Prelude.{◌≡◌, ◌+◌, ◌<◌, ◌^◌, ◌↔◌, [], ◌∷◌, ◌++◌, length, map, replicate, IsTrue, IfOk, OnOk, OnErr};
+//! `Items`: the items of a schedule or of a history, stored as segments: steps of one process side
+//! by side take 8 bytes.
+ghost use Rattle.std.specs.Prelude.{◌≡◌, ◌+◌, ◌<◌, ◌^◌, ◌↔◌, [], ◌∷◌, ◌++◌};
+ghost use Rattle.std.specs.Prelude.{length, map, replicate, IsTrue, IfOk, OnOk, OnErr};
 ghost use Rattle.std.specs.List.{AllByRecursion, flat_map};
 ghost use Rattle.snap_semantics.specs.declared.process.Item.TheVariants.{Step, Call, Crash};
 ghost use Rattle.snap_semantics.specs.ScheduleText.{forms_of, FitsItem, FitsWords};

@@ -1,4 +1,5 @@
-//! Laws of the definitions, which hold of every text and every schedule.
+//! Laws of reading and printing schedules: a text that is read spells its schedule, each text that
+//! spells one is read as it, and what is printed is read back.
 ghost use Rattle.snap_sched.specs.Laws.{ReadsOnlySpelled, ReadsAllSpelled, PrintsAgain};
 
 /// What is read is a schedule, and its text spells it.

@@ -1,14 +1,16 @@
 //! Schedules read from texts.
-ghost use Rattle.std.specs.Prelude.{◌≡◌, ◌≤◌, ◌<◌, ◌+◌, ◌^◌, ◌++◌, length, option_map, Some, Err, IfOk, OnOk};
+ghost use Rattle.std.specs.Prelude.{◌≡◌, ◌≤◌, ◌<◌, ◌+◌, ◌^◌, ◌++◌};
+ghost use Rattle.std.specs.Prelude.{length, option_map, Some, Err, IfOk, OnOk};
 ghost use Rattle.std.specs.List.{AllByRecursion};
 ghost use Rattle.snap_words.specs.Shape.{IsOneOf, max_count, max_items};
 ghost use Rattle.snap_semantics.specs.Answers.{Answers, Gives};
-ghost use Rattle.snap_semantics.specs.Schedule.{admitted, items_of, schedule_of, form_process, form_count, form_items};
+ghost use Rattle.snap_semantics.specs.Schedule.{admitted, items_of, schedule_of};
+ghost use Rattle.snap_semantics.specs.Schedule.{form_process, form_count, form_items};
 ghost use Rattle.snap_semantics.specs.ScheduleText.{FitsItem};
 ghost use Rattle.snap_semantics.specs.Table.{who};
 ghost use Rattle.snap_semantics.specs.declared.fault.Fault.TheVariants.{Refused};
 ghost use Rattle.snap_semantics.specs.declared.refusal.ScheduleRefusal.TheVariants.{TooLong};
-ghost use Rattle.snap_semantics.specs.ScheduleForms.{item_form};
+ghost use Rattle.snap_semantics.specs.ScheduleForms.{item_form, spelled_call};
 ghost use Rattle.snap_text.specs.Lines.{view_line};
 ghost use Rattle.snap_text.specs.Numbers.{number_tokens};
 ghost use Rattle.snap_text.specs.Tokens.{Finds};
@@ -19,7 +21,7 @@ use crate::forms::{ItemForm, item_form, shape_form};
 use crate::items::Items;
 use crate::schedule::{MAX_BYTES, Schedule};
 use snap_semantics::ScheduleRefusal;
-use snap_text::{NumberLine, TextLines, TokenLine};
+use snap_text::{CallLine, NumberLine, TextLines, TokenLine};
 use snap_words::{MAX_ITEMS, Shape};
 use std::alloc::{AllocError, Global};
 
@@ -104,8 +106,36 @@ fn numbers_form(line: &NumberLine) -> Option<ItemForm>
     }
 }
 
-/// The form of the next line, of which `left` items may come. It takes memory only where the line
-/// is not `I` or `I*K` alone.
+/// The form that a call is.
+fn call_form(line: &CallLine) -> ItemForm
+    ensures { item_form (spelled_call line.now.process line.now.op) ≡ Some (view_form result) }
+{
+    ItemForm::Call {
+        process: line.process,
+        op: line.op,
+    }
+}
+
+/// The form of the next line, of which `left` items may come, by its tokens. Out of line, so that
+/// the lines that are read without tokens are read in one loop.
+#[inline(never)]
+fn next_line_form(
+    alloc: Global,
+    n: u64,
+    left: u64,
+    lines: &mut TextLines<'_>,
+) -> Result<Option<ItemForm>, ScheduleFault>
+    ensures { Answers (option_map (λ f. (view_form f, lines.new))) result
+        (next_form n left lines.old) }
+{
+    match lines.next_line(alloc)? {
+        Some(line) => Ok(Some(line_form(n, left, &line)?)),
+        None => Ok(None),
+    }
+}
+
+/// The form of the next line, of which `left` items may come. Where the line is `I`, `I*K` or a
+/// call, with no more space than it needs and no comment, it takes no memory.
 fn next_form(
     alloc: Global,
     n: u64,
@@ -121,10 +151,10 @@ fn next_form(
             None => Err(ScheduleFault::Refused(ScheduleRefusal::BadItem(line.number))),
         };
     }
-    match lines.next_line(alloc)? {
-        Some(line) => Ok(Some(line_form(n, left, &line)?)),
-        None => Ok(None),
+    if let Some(line) = lines.next_call() {
+        return Ok(Some(admitted(n, left, line.number, call_form(&line))?));
     }
+    next_line_form(alloc, n, left, lines)
 }
 
 /// The items of the lines.

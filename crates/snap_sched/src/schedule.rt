@@ -1,4 +1,5 @@
-//! Schedules.
+//! `Schedule`: a shape (the numbers of processes and words), and the items of one interleaving in
+//! order.
 ghost use Rattle.std.specs.Prelude.{◌≡◌, IfOk};
 ghost use Rattle.snap_semantics.specs.ScheduleText.{IsSchedule};
 

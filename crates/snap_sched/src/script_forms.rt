@@ -1,7 +1,9 @@
-//! The forms of the lines of scripts.
+//! `ScriptForm`: the forms of the lines of live runs' scripts: a call of a process, or the turn at
+//! which it crashes.
 ghost use Rattle.std.specs.Prelude.{◌≡◌, IfOk};
 ghost use Rattle.snap_text.specs.Tokens.{Finds, view_tokens};
-ghost use Rattle.snap_sched.specs.ScriptForms.{call_form, crash_at_form, script_form, ops_of, crash_of};
+ghost use Rattle.snap_sched.specs.ScriptForms.{call_form, crash_at_form};
+ghost use Rattle.snap_sched.specs.ScriptForms.{script_form, ops_of, crash_of};
 
 use crate::forms::{ItemForm, item_form};
 use snap_semantics::Op;

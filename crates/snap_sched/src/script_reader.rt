@@ -1,11 +1,12 @@
-//! Scripts read from texts.
+//! `read_scripts`: the scripts of a live run, one for each process, read from a text.
 ghost use Rattle.std.specs.Prelude.{◌≡◌, ◌≤◌, ◌<◌, [], length, Err, IfOk};
 ghost use Rattle.snap_words.specs.Shape.{max_count};
 ghost use Rattle.snap_semantics.specs.Answers.{Answers, Gives};
 ghost use Rattle.snap_semantics.specs.declared.fault.Fault.TheVariants.{Refused};
 ghost use Rattle.snap_semantics.specs.declared.refusal.ScheduleRefusal.TheVariants.{TooLong};
 ghost use Rattle.snap_text.specs.Lines.{view_line};
-ghost use Rattle.snap_sched.specs.ScriptText.{admitted_script, crashes_again, script_line, script_lines, script_of, scripts_from, scripts_of};
+ghost use Rattle.snap_sched.specs.ScriptText.{admitted_script, crashes_again, script_line};
+ghost use Rattle.snap_sched.specs.ScriptText.{script_lines, script_of, scripts_from, scripts_of};
 
 use crate::fault::ScheduleFault;
 use crate::reader::first_shape;

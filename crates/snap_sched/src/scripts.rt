@@ -1,4 +1,5 @@
-//! Scripts of live runs: what each process asks for.
+//! `Script` and `Scripts`: the operations that each process of a live run asks for, and the turn at
+//! which it crashes.
 ghost use Rattle.std.specs.Prelude.{◌≡◌, length};
 ghost use Rattle.snap_sched.specs.ScriptText.{AreScripts};
 

@@ -1,4 +1,5 @@
-//! How items are kept: where each segment begins, and the calls and crashes apart from the steps.
+//! `Segment` and `Segments`: the segments of a schedule's items as they are stored: where each
+//! begins, and the calls and crashes apart from the steps.
 ghost use Rattle.std.specs.Prelude.{◌≡◌};
 ghost use Rattle.snap_sched.specs.Kept.{single_segment, segments_of};
 

@@ -1,9 +1,10 @@
--- The front of a list.
+-- Laws of `take` for the first items of a schedule that is cut.
 use Rattle.std.proofs.Common.{◌≡◌, ◌≤◌, ℕ, zero, suc, List, [], ◌∷◌, ◌++◌, length, take, refl, arith}
 use Rattle.std.proofs.lemmas.Grind.{common_steps}
 use Rattle.std.specs.List.{AllByRecursion}
 
-pub taken : {A : Type 0} (front rest xs : List A) (k : ℕ) → front ++ rest ≡ xs → k ≤ length front → length front ≤ k → front ≡ take k xs
+pub taken : {A : Type 0} (front rest xs : List A) (k : ℕ) → front ++ rest ≡ xs → k ≤ length front →
+    length front ≤ k → front ≡ take k xs
 taken front rest xs k e low high = grind (arith, common_steps, e, low, high)
 
 pub first_all : {A : Type 0} (P : A → Type 0) (t : ℕ) (xs : List A) → AllByRecursion P xs → AllByRecursion P (take t xs)

@@ -1,4 +1,5 @@
--- Schedules that are cut, and to which items are added.
+-- `edited`: the first t items of a schedule with the items of a line added after them, or why the addition is
+-- refused.
 use Rattle.std.specs.Prelude.{ℕ, ◌-◌, ◌++◌, length, take, Result, Ok, Err}
 use Rattle.snap_words.specs.Shape.{max_items}
 use Rattle.snap_semantics.specs.Answers.{◌>>=◌}
@@ -22,7 +23,7 @@ cut_at t s = record { shape = s.shape; items = take t s.items }
 abbrev pub with_form : ItemForm → Schedule → Schedule
 with_form form s = record { shape = s.shape; items = s.items ++ form_items form }
 
--- The first t items of a schedule, and behind them those of a form: one of its processes, and no more than 1,000,000 items in
--- all. A refusal names this line.
+-- The first t items of a schedule, and behind them those of a form: one of its processes, and no more than 1,000,000
+-- items in all. A refusal names this line.
 unfoldable pub edited : (line t : ℕ) → ItemForm → Schedule → Result Schedule ScheduleRefusal
 edited line t form s = admitted s.shape.n (max_items - t) line form >>= λ f. Ok (with_form f (cut_at t s))

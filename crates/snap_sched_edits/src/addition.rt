@@ -1,4 +1,4 @@
-//! What can be added to a schedule.
+//! `Addition`: what can be added to a schedule: steps of a process, a call or a crash.
 use snap_semantics::Op;
 
 /// What is added to a schedule, whether or not its process is there.

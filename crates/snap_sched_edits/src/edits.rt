@@ -1,5 +1,6 @@
-//! Schedules, edited.
-ghost use Rattle.std.specs.Prelude.{◌≡◌, ◌≤◌, ◌<◌, ◌+◌, ◌^◌, ◌++◌, ◌∷◌, [], IfOk, OnOk, length, take};
+//! `edited`: cuts a schedule after its first items, and adds items there.
+ghost use Rattle.std.specs.Prelude.{◌≡◌, ◌≤◌, ◌<◌, ◌+◌, ◌^◌, ◌++◌, ◌∷◌, []};
+ghost use Rattle.std.specs.Prelude.{IfOk, OnOk, length, take};
 ghost use Rattle.std.specs.List.{AllByRecursion};
 ghost use Rattle.snap_words.specs.Shape.{max_items};
 ghost use Rattle.snap_semantics.specs.Answers.{Answers, Gives};
@@ -73,7 +74,8 @@ fn first_items(alloc: Global, items: &Items, count: u64) -> Result<Items, AllocE
     Ok(first)
 }
 
-/// The first items of a schedule, so many of them, and what is added behind these. A refusal names the line.
+/// The first items of a schedule, so many of them, and what is added behind these.
+/// A refusal names the line.
 #[tactic(auto, unfolding(crate::specs::Edits::edited))]
 pub fn edited(
     alloc: Global,

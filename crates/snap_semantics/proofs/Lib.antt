@@ -1,1 +1,2 @@
+-- The proofs of snap_semantics, by their modules.
 pub mod Samples

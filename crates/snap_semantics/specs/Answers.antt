@@ -1,4 +1,4 @@
--- What a call that allocates answers: what a definition gives, or a want of memory in its place.
+-- `Answers`: a call that allocates answers what its definition gives, or that memory ran out.
 use Rattle.std.specs.Prelude.{◌≡◌, Result, Ok, Err, ⊤}
 use Rattle.snap_semantics.specs.declared.fault.Fault.{Fault}
 use Rattle.snap_semantics.specs.declared.fault.Fault.TheVariants as fault

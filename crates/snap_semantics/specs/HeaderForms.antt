@@ -1,4 +1,4 @@
--- The forms of the header lines of a listing.
+-- The grammar of the header lines of a listing: its kind, the names of a sort of locals, and the line of an entry.
 use Rattle.std.specs.Prelude.{ℕ, List, [], ◌∷◌, Option, Some, None, codes, if◌then◌else◌, bytes_eq}
 use Rattle.snap_words.specs.declared.kind.KindTag.{KindTag}
 use Rattle.snap_words.specs.declared.kind.KindTag.TheVariants as kind

@@ -1,7 +1,9 @@
--- The canonical text of tokens: how a line is laid out. A space stands between two tokens, but for these places: none before a
--- closing bracket, a comma, a colon or a star, none behind an opening bracket or a star, and none between an identifier and an opening
--- bracket. Behind a comma stands a space only where it parts the elements of a tuple, whose bracket stands behind `=`.
-use Rattle.std.specs.Prelude.{ℕ, zero, suc, Bool, true, false, List, [], ◌∷◌, ◌++◌, nat_eq, codes, decimal, if◌then◌else◌}
+-- The canonical text of tokens: how a line is laid out. A space stands between two tokens, but for these places: none
+-- before a closing bracket, a comma, a colon or a star, none behind an opening bracket or a star, and none between an
+-- identifier and an opening bracket. Behind a comma stands a space only where it parts the elements of a tuple, whose
+-- bracket stands behind `=`.
+use Rattle.std.specs.Prelude.{ℕ, zero, suc, Bool, true, false, List, [], ◌∷◌, ◌++◌}
+use Rattle.std.specs.Prelude.{nat_eq, codes, decimal, if◌then◌else◌}
 use Rattle.snap_semantics.specs.declared.text.Symbol.{Symbol}
 use Rattle.snap_semantics.specs.declared.text.Symbol.TheVariants as symbol
 use Rattle.snap_semantics.specs.Token.{Token, Identifier, Number, Sign}

@@ -1,3 +1,4 @@
+-- The definitions of snap_semantics, by their modules.
 pub mod Name
 pub mod Answers
 pub mod Source

@@ -1,8 +1,12 @@
--- The grammar of listings: seven header lines and then numbered lines; and why a text is refused, the first reason first.
-use Rattle.std.specs.Prelude.{ℕ, ◌+◌, Bool, ◌||◌, List, [], ◌∷◌, ◌++◌, length, Option, Result, Ok, Err, nat_eq, nat_lt, nat_le, codes, if◌then◌else◌}
+-- The grammar of listings: seven header lines and then numbered lines; and why a text is refused, the first reason
+-- first.
+use Rattle.std.specs.Prelude.{ℕ, ◌+◌, Bool, ◌||◌, List, [], ◌∷◌, ◌++◌, length, Option, Result, Ok, Err, nat_eq}
+use Rattle.std.specs.Prelude.{nat_lt, nat_le, codes, if◌then◌else◌}
 use Rattle.std.specs.List.{list_any}
 use Rattle.snap_semantics.specs.declared.instr.Instr.{Instr}
-use Rattle.snap_semantics.specs.declared.instr.Instr.TheVariants.{Let, LetPlace, Get, Bit, Look, Put, PutBit, PutView, ViewData, ViewOf, Each, First, Next, If, IfAll, Goto, Call, Return, Finish}
+use Rattle.snap_semantics.specs.declared.instr.Instr.TheVariants.{Let, LetPlace, Get, Bit, Look, Put, PutBit, PutView}
+use Rattle.snap_semantics.specs.declared.instr.Instr.TheVariants.{ViewData, ViewOf, Each, First, Next, If, IfAll}
+use Rattle.snap_semantics.specs.declared.instr.Instr.TheVariants.{Goto, Call, Return, Finish}
 use Rattle.snap_semantics.specs.declared.instr.Line.{Line}
 use Rattle.snap_semantics.specs.declared.refusal.ListingRefusal.{ListingRefusal}
 use Rattle.snap_semantics.specs.declared.refusal.ListingRefusal.TheVariants as refusal
@@ -14,8 +18,10 @@ use Rattle.snap_semantics.specs.Source.{Name, Source}
 use Rattle.snap_semantics.specs.Token.{Token, TextLine, text_lines, lines_of}
 use Rattle.snap_semantics.specs.Uses.{instr_uses, checked_uses, is_among}
 
--- What a header line says, and the lines behind it. Where the lines are used up, the line that is missing is line `after`.
-abbrev pub header_line : {A : Type 0} → ℕ → (List Token → Option A) → List TextLine → Result (A × ℕ × List TextLine) ListingRefusal
+-- What a header line says, and the lines behind it. Where the lines are used up, the line
+-- that is missing is line `after`.
+abbrev pub header_line : {A : Type 0} → ℕ → (List Token → Option A) → List TextLine →
+    Result (A × ℕ × List TextLine) ListingRefusal
 header_line after rule [] = Err (refusal.BadHeader after)
 header_line after rule (line ∷ lines) =
     form_or (refusal.BadHeader line.number) rule line.tokens >>= λ x. Ok (x, line.number, lines)
@@ -49,7 +55,8 @@ checked_line s at last count line =
 abbrev pub numbered_lines : Source → ℕ → ℕ → List TextLine → Result (List Line) ListingRefusal
 numbered_lines s last count [] = Ok []
 numbered_lines s last count (text ∷ texts) =
-    form_or (refusal.BadLine text.number) (line_form s.kind) text.tokens >>= λ form. checked_line s text.number last count form >>= λ line.
+    form_or (refusal.BadLine text.number) (line_form s.kind) text.tokens >>= λ form.
+    checked_line s text.number last count form >>= λ line.
     numbered_lines s line.number (count + 1) texts >>= λ lines. Ok (line ∷ lines)
 
 abbrev pub instr_targets : Instr → List ℕ
@@ -99,10 +106,31 @@ header_of after lines = do
   views ← names_line after (codes "view") (scalars.0 ++ (rows.0 ++ words.0)) words.1
   scan ← header_line after (entry_form (codes "scan")) views.1
   update ← header_line after (entry_form (codes "update")) scan.2
-  Ok (record { kind = k.0; scalars = scalars.0; rows = rows.0; words = words.0; views = views.0; scan = scan.0; update = update.0; lines = [] }, update.2)
+  Ok (
+    record {
+      kind = k.0;
+      scalars = scalars.0;
+      rows = rows.0;
+      words = words.0;
+      views = views.0;
+      scan = scan.0;
+      update = update.0;
+      lines = [];
+    },
+    update.2,
+  )
 
 abbrev pub with_lines : List Line → Source → Source
-with_lines lines s = record { kind = s.kind; scalars = s.scalars; rows = s.rows; words = s.words; views = s.views; scan = s.scan; update = s.update; lines = lines }
+with_lines lines s = record {
+  kind = s.kind;
+  scalars = s.scalars;
+  rows = s.rows;
+  words = s.words;
+  views = s.views;
+  scan = s.scan;
+  update = s.update;
+  lines = lines;
+}
 
 -- the listing that the lines are, where the line behind them is line `after`
 unfoldable pub listing_of_lines : ℕ → List TextLine → Result Source ListingRefusal
@@ -115,4 +143,5 @@ listing_of_lines after texts = do
 -- the listing that a text is, or the first reason why it is none
 unfoldable pub listing_of : List ℕ → Result Source ListingRefusal
 listing_of text =
-    if nat_lt 65536 (length text) then Err refusal.TooLong else listing_of_lines (length (lines_of text) + 1) (text_lines text)
+    if nat_lt 65536 (length text) then Err refusal.TooLong
+    else listing_of_lines (length (lines_of text) + 1) (text_lines text)

@@ -1,6 +1,7 @@
--- The forms of the lines of a listing. Names are any identifiers that are not reserved; one of more than eight letters is kept
--- by its first nine.
-use Rattle.std.specs.Prelude.{ℕ, Bool, true, false, ◌&&◌, List, [], ◌∷◌, take, Option, Some, None, nat_le, bytes_eq, codes, if◌then◌else◌}
+-- The grammar of the numbered lines of a listing: terms, conditions, tuples and instructions. Names
+-- are any identifiers that are not reserved; one of more than eight letters is kept by its first nine.
+use Rattle.std.specs.Prelude.{ℕ, Bool, true, false, ◌&&◌, List, [], ◌∷◌, take, Option, Some}
+use Rattle.std.specs.Prelude.{None, nat_le, bytes_eq, codes, if◌then◌else◌}
 use Rattle.std.specs.List.{list_any}
 use Rattle.snap_words.specs.declared.kind.KindTag.{KindTag}
 use Rattle.snap_words.specs.declared.kind.KindTag.TheVariants as kind
@@ -36,10 +37,14 @@ use Rattle.snap_semantics.specs.Token.{Token}
 -- the reserved words, which are no names
 abbrev pub reserved_words : List (List ℕ)
 reserved_words =
-    codes "kind" ∷ codes "seq" ∷ codes "bit" ∷ codes "multi" ∷ codes "scalar" ∷ codes "row" ∷ codes "words" ∷ codes "view"
-    ∷ codes "scan" ∷ codes "update" ∷ codes "let" ∷ codes "get" ∷ codes "look" ∷ codes "put" ∷ codes "each" ∷ codes "first"
-    ∷ codes "next" ∷ codes "if" ∷ codes "all" ∷ codes "goto" ∷ codes "call" ∷ codes "return" ∷ codes "finish" ∷ codes "where"
-    ∷ codes "and" ∷ codes "or" ∷ codes "not" ∷ codes "n" ∷ codes "w" ∷ codes "me" ∷ codes "word" ∷ codes "arg" ∷ codes "r"
+    codes "kind" ∷ codes "seq" ∷ codes "bit" ∷ codes "multi" ∷ codes "scalar" ∷ codes "row"
+    ∷ codes "words" ∷ codes "view"
+    ∷ codes "scan" ∷ codes "update" ∷ codes "let" ∷ codes "get" ∷ codes "look" ∷ codes "put"
+    ∷ codes "each" ∷ codes "first"
+    ∷ codes "next" ∷ codes "if" ∷ codes "all" ∷ codes "goto" ∷ codes "call" ∷ codes "return"
+    ∷ codes "finish" ∷ codes "where"
+    ∷ codes "and" ∷ codes "or" ∷ codes "not" ∷ codes "n" ∷ codes "w" ∷ codes "me"
+    ∷ codes "word" ∷ codes "arg" ∷ codes "r"
     ∷ codes "q" ∷ codes "p" ∷ codes "v" ∷ codes "data" ∷ codes "hand" ∷ codes "toggle" ∷ codes "id" ∷ []
 
 abbrev pub is_reserved : List ℕ → Bool
@@ -145,7 +150,8 @@ index_term q ts = do
 
 unfoldable pub term_at : Bool → List Token → Found Term
 term_at q ts =
-    or_else (arg_term ts) (or_else (row_term q ts) (or_else (field_term q ts) (or_else (handshake_term q ts) (index_term q ts))))
+    or_else (arg_term ts)
+    (or_else (row_term q ts) (or_else (field_term q ts) (or_else (handshake_term q ts) (index_term q ts))))
 
 -- An expression: `not` term, term `+` term, or a term.
 unfoldable pub not_expr : Bool → List Token → Found Expr

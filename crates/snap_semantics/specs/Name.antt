@@ -1,4 +1,4 @@
--- A name as the list of its letters.
+-- The name of a local as the list of its letters; the code keeps it in nine places, the rest of them 0.
 use Rattle.std.specs.Prelude.{◌≡◌, ℕ, ◌≤◌, ◌-◌, List, ◌++◌, take, drop, length, replicate}
 use Rattle.std.proofs.Common.{sym, ◌∙◌, ap, arith}
 use Rattle.std.proofs.lemmas.List.{take-append-drop, length-take-le}

@@ -1,4 +1,5 @@
--- The printed texts. Every line ends with a line feed; numbers are decimal.
+-- `report_text`: the printed report of a state of a run, with its registers, its processes
+-- and the events up to it. Every line ends with a line feed; numbers are decimal.
 use Rattle.std.specs.Prelude.{ℕ, ◌+◌, List, [], ◌∷◌, ◌++◌, Option, Some, None, codes, decimal}
 use Rattle.snap_words.specs.Word.{Word}
 use Rattle.snap_words.specs.declared.kind.KindTag.{KindTag}
@@ -31,7 +32,8 @@ values_line xs = codes "values" ++ numbers_text xs ++ codes "\n"
 abbrev pub word_text : KindTag → Word → List ℕ
 word_text kind.Seq x = decimal x.datum ++ codes " seq " ++ decimal x.seq ++ codes " view" ++ numbers_text x.view
 word_text kind.Bits x =
-    decimal x.datum ++ codes " hands" ++ numbers_text x.handshakes ++ codes " toggle " ++ decimal x.toggle ++ codes " view" ++ numbers_text x.view
+    decimal x.datum ++ codes " hands" ++ numbers_text x.handshakes ++ codes " toggle " ++ decimal x.toggle
+    ++ codes " view" ++ numbers_text x.view
 word_text kind.Multi x = decimal x.datum ++ codes " id " ++ decimal x.id ++ codes " toggle " ++ decimal x.toggle
 
 -- the line of register r[k]
@@ -67,7 +69,8 @@ view_lines i (view ∷ views) = view_line i view ++ view_lines (i + 1) views
 
 -- the lines of the registers: words, bits and views
 abbrev pub register_lines : KindTag → Memory → List ℕ
-register_lines g m = word_lines g 1 m.words ++ bank_lines (codes "q") 1 m.q ++ bank_lines (codes "p") 1 m.p ++ view_lines 1 m.views
+register_lines g m =
+    word_lines g 1 m.words ++ bank_lines (codes "q") 1 m.q ++ bank_lines (codes "p") 1 m.p ++ view_lines 1 m.views
 
 abbrev pub cause_text : Cause → List ℕ
 cause_text cause.Index = codes "Index"
@@ -145,7 +148,8 @@ happening_text Crash = codes "crash"
 
 abbrev pub event_line : Event → List ℕ
 event_line e =
-    codes "event " ++ decimal e.item ++ codes " " ++ decimal e.process ++ codes " " ++ happening_text e.what ++ codes "\n"
+    codes "event " ++ decimal e.item ++ codes " " ++ decimal e.process ++ codes " "
+    ++ happening_text e.what ++ codes "\n"
 
 abbrev pub event_lines : List Event → List ℕ
 event_lines [] = []

@@ -1,4 +1,5 @@
--- What rules of a grammar find at the front of the tokens of a line. A rule that does not fit finds nothing.
+-- How the rules of the grammars of listings and schedules are built: a rule finds
+-- a value at the front of the tokens of a line, or nothing where it does not fit.
 use Rattle.std.specs.Prelude.{ℕ, List, [], ◌∷◌, Option, Some, None, Result, Ok, Err, bytes_eq, if◌then◌else◌}
 use Rattle.snap_semantics.specs.declared.text.Symbol.{Symbol}
 use Rattle.snap_semantics.specs.Token.{Token, Identifier, Number, Sign, same_symbol}

@@ -1,4 +1,4 @@
--- Runs: the states and events of a list of items.
+-- `after` and `events`: the state after a list of items, and the events of these items.
 use Rattle.std.specs.Prelude.{ℕ, ◌+◌, List, [], ◌∷◌, ◌++◌}
 use Rattle.snap_words.specs.Shape.{Counts}
 use Rattle.snap_semantics.specs.declared.event.Event.{Event}

@@ -1,5 +1,7 @@
--- The grammar of schedules: a shape, and then items, one form a line; and why a text is refused, the first reason first.
-use Rattle.std.specs.Prelude.{ℕ, ◌-◌, ◌&&◌, not, List, [], ◌∷◌, ◌++◌, length, replicate, Result, Ok, Err, nat_lt, nat_le, if◌then◌else◌}
+-- The grammar of schedules: a shape, and then items, one form a line; and why a text is refused, the first reason
+-- first.
+use Rattle.std.specs.Prelude.{ℕ, ◌-◌, ◌&&◌, not, List, [], ◌∷◌, ◌++◌, length, replicate}
+use Rattle.std.specs.Prelude.{Result, Ok, Err, nat_lt, nat_le, if◌then◌else◌}
 use Rattle.snap_words.specs.Shape.{Counts, max_items}
 use Rattle.snap_semantics.specs.declared.process.Item.{Item}
 use Rattle.snap_semantics.specs.declared.process.Item.TheVariants as item

@@ -1,5 +1,7 @@
--- The forms of the lines of a schedule.
-use Rattle.std.specs.Prelude.{ℕ, Bool, ◌&&◌, List, [], ◌∷◌, Option, Some, None, nat_eq, nat_lt, nat_le, codes, if◌then◌else◌}
+-- `ItemForm`: the forms of a line of a schedule (steps of a process,
+-- a call or a crash), how each is spelled, and how it is read.
+use Rattle.std.specs.Prelude.{ℕ, Bool, ◌&&◌, List, [], ◌∷◌, Option, Some, None, nat_eq}
+use Rattle.std.specs.Prelude.{nat_lt, nat_le, codes, if◌then◌else◌}
 use Rattle.snap_words.specs.Shape.{Counts, max_count}
 use Rattle.snap_semantics.specs.declared.process.Op.{Op}
 use Rattle.snap_semantics.specs.declared.process.Op.TheVariants as op
@@ -86,4 +88,5 @@ crash_form ts = do
 
 -- the form that a line is, where it is one
 unfoldable pub item_form : List Token → Option ItemForm
-item_form ts = or_else (step_form ts) (or_else (steps_form ts) (or_else (scan_form ts) (or_else (update_form ts) (crash_form ts))))
+item_form ts =
+    or_else (step_form ts) (or_else (steps_form ts) (or_else (scan_form ts) (or_else (update_form ts) (crash_form ts))))

@@ -1,5 +1,5 @@
--- The canonical text of a schedule: its shape, and then each greatest run of steps of one process, each call and each crash on
--- a line.
+-- The canonical text of a schedule: its shape, and then each greatest run of steps of one process, each call and each
+-- crash on a line.
 use Rattle.std.specs.Prelude.{ℕ, suc, ◌≤◌, ◌<◌, ◌^◌, ⊤, List, [], ◌∷◌, ◌++◌, length, map, nat_eq, if◌then◌else◌}
 use Rattle.std.specs.List.{AllByRecursion}
 use Rattle.snap_words.specs.Shape.{IsOneOf, IsShape, max_items}
@@ -15,7 +15,8 @@ use Rattle.snap_semantics.specs.Table.{who}
 -- a step goes into the run of its process where that comes next
 abbrev pub step_onto : ℕ → List ItemForm → List ItemForm
 step_onto i [] = Steps i 1 ∷ []
-step_onto i (Steps k count ∷ forms) = if nat_eq i k then Steps k (suc count) ∷ forms else Steps i 1 ∷ Steps k count ∷ forms
+step_onto i (Steps k count ∷ forms) =
+    if nat_eq i k then Steps k (suc count) ∷ forms else Steps i 1 ∷ Steps k count ∷ forms
 step_onto i (Calls k op ∷ forms) = Steps i 1 ∷ Calls k op ∷ forms
 step_onto i (Crashes k ∷ forms) = Steps i 1 ∷ Crashes k ∷ forms
 

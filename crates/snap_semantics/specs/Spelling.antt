@@ -1,5 +1,5 @@
--- How a listing is spelled, token by token: one spelling for each form. A text stands for the listing whose spelling its
--- lines with tokens have.
+-- How a listing is spelled, token by token: one spelling for each form. A
+-- text is read as the listing whose spelling its lines with tokens have.
 use Rattle.std.specs.Prelude.{ℕ, List, [], ◌∷◌, ◌++◌, Option, Some, None, map, codes}
 use Rattle.snap_words.specs.declared.kind.KindTag.{KindTag}
 use Rattle.snap_words.specs.declared.kind.KindTag.TheVariants as kind
@@ -15,7 +15,9 @@ use Rattle.snap_semantics.specs.declared.instr.Expr.TheVariants as expr
 use Rattle.snap_semantics.specs.declared.instr.Index.{Index}
 use Rattle.snap_semantics.specs.declared.instr.Index.TheVariants as index
 use Rattle.snap_semantics.specs.declared.instr.Instr.{Instr}
-use Rattle.snap_semantics.specs.declared.instr.Instr.TheVariants.{Let, LetPlace, Get, Bit, Look, Put, PutBit, PutView, ViewData, ViewOf, Each, First, Next, If, IfAll, Goto, Call, Return, Finish}
+use Rattle.snap_semantics.specs.declared.instr.Instr.TheVariants.{Let, LetPlace, Get, Bit, Look, Put, PutBit, PutView}
+use Rattle.snap_semantics.specs.declared.instr.Instr.TheVariants.{ViewData, ViewOf, Each, First, Next, If, IfAll}
+use Rattle.snap_semantics.specs.declared.instr.Instr.TheVariants.{Goto, Call, Return, Finish}
 use Rattle.snap_semantics.specs.declared.instr.Line.{Line}
 use Rattle.snap_semantics.specs.declared.instr.Range.{Range}
 use Rattle.snap_semantics.specs.declared.instr.Range.TheVariants as range
@@ -61,7 +63,8 @@ spelled_term (term.Index i) = spelled_index i
 spelled_term term.Arg = Identifier (codes "arg") ∷ []
 spelled_term (term.Row x i) = spelled_place x i
 spelled_term (term.Field f x i) = Identifier (field_keyword f) ∷ in_parentheses (spelled_place x i)
-spelled_term (term.Handshake x i j) = Identifier (codes "hand") ∷ in_parentheses (spelled_place x i ++ Sign symbol.Comma ∷ spelled_index j)
+spelled_term (term.Handshake x i j) =
+    Identifier (codes "hand") ∷ in_parentheses (spelled_place x i ++ Sign symbol.Comma ∷ spelled_index j)
 
 abbrev pub spelled_expr : Expr → List Token
 spelled_expr (expr.Term t) = spelled_term t
@@ -80,9 +83,11 @@ abbrev pub spelled_condition : Condition → List Token
 spelled_condition (One k) = spelled_comparison k
 spelled_condition (Two j k l) = spelled_comparison k ++ Identifier (join_keyword j) ∷ spelled_comparison l
 spelled_condition (Three j k l m) =
-    spelled_comparison k ++ Identifier (join_keyword j) ∷ (spelled_comparison l ++ Identifier (join_keyword j) ∷ spelled_comparison m)
+    spelled_comparison k
+    ++ Identifier (join_keyword j) ∷ (spelled_comparison l ++ Identifier (join_keyword j) ∷ spelled_comparison m)
 spelled_condition (Four j k l m o) =
-    spelled_comparison k ++ Identifier (join_keyword j) ∷ (spelled_comparison l ++ Identifier (join_keyword j) ∷ (spelled_comparison m ++ Identifier (join_keyword j) ∷ spelled_comparison o))
+    spelled_comparison k ++ Identifier (join_keyword j) ∷ (spelled_comparison l
+    ++ Identifier (join_keyword j) ∷ (spelled_comparison m ++ Identifier (join_keyword j) ∷ spelled_comparison o))
 
 abbrev pub spelled_where : Option Condition → List Token
 spelled_where None = []
@@ -99,7 +104,8 @@ abbrev pub spelled_tuple : Tuple → List Token
 spelled_tuple (tuple.Seq d q s) =
     in_parentheses (spelled_expr d ++ Sign symbol.Comma ∷ (spelled_expr q ++ Sign symbol.Comma ∷ Identifier s ∷ []))
 spelled_tuple (tuple.Bits d h t s) =
-    in_parentheses (spelled_expr d ++ Sign symbol.Comma ∷ Identifier h ∷ Sign symbol.Comma ∷ (spelled_expr t ++ Sign symbol.Comma ∷ Identifier s ∷ []))
+    in_parentheses (spelled_expr d ++ Sign symbol.Comma ∷ Identifier h ∷ Sign symbol.Comma
+    ∷ (spelled_expr t ++ Sign symbol.Comma ∷ Identifier s ∷ []))
 spelled_tuple (tuple.Multi d i t) =
     in_parentheses (spelled_expr d ++ Sign symbol.Comma ∷ (spelled_expr i ++ Sign symbol.Comma ∷ spelled_expr t))
 
@@ -115,27 +121,39 @@ abbrev pub spelled_instr : Instr → List Token
 spelled_instr (Let x e) = Identifier (codes "let") ∷ Identifier x ∷ Sign symbol.Equal ∷ spelled_expr e
 spelled_instr (LetPlace x i e) = Identifier (codes "let") ∷ (spelled_place x i ++ Sign symbol.Equal ∷ spelled_expr e)
 spelled_instr (Get x i j) =
-    Identifier (codes "get") ∷ (spelled_place x i ++ Sign symbol.Equal ∷ Identifier (codes "r") ∷ in_brackets (spelled_index j))
-spelled_instr (Bit x b i j) = Identifier (codes "bit") ∷ Identifier x ∷ Sign symbol.Equal ∷ Identifier (bank_keyword b) ∷ spelled_pair i j
-spelled_instr (Look x i) = Identifier (codes "look") ∷ Identifier x ∷ Sign symbol.Equal ∷ Identifier (codes "v") ∷ in_brackets (spelled_index i)
+    Identifier (codes "get")
+    ∷ (spelled_place x i ++ Sign symbol.Equal ∷ Identifier (codes "r") ∷ in_brackets (spelled_index j))
+spelled_instr (Bit x b i j) =
+    Identifier (codes "bit") ∷ Identifier x ∷ Sign symbol.Equal ∷ Identifier (bank_keyword b) ∷ spelled_pair i j
+spelled_instr (Look x i) =
+    Identifier (codes "look") ∷ Identifier x ∷ Sign symbol.Equal ∷ Identifier (codes "v")
+    ∷ in_brackets (spelled_index i)
 spelled_instr (Put i t) =
-    Identifier (codes "put") ∷ Identifier (codes "r") ∷ (in_brackets (spelled_index i) ++ Sign symbol.Equal ∷ spelled_tuple t)
-spelled_instr (PutBit b i j e) = Identifier (codes "put") ∷ Identifier (bank_keyword b) ∷ (spelled_pair i j ++ Sign symbol.Equal ∷ spelled_expr e)
+    Identifier (codes "put") ∷ Identifier (codes "r")
+    ∷ (in_brackets (spelled_index i) ++ Sign symbol.Equal ∷ spelled_tuple t)
+spelled_instr (PutBit b i j e) =
+    Identifier (codes "put") ∷ Identifier (bank_keyword b) ∷ (spelled_pair i j ++ Sign symbol.Equal ∷ spelled_expr e)
 spelled_instr (PutView i x) =
-    Identifier (codes "put") ∷ Identifier (codes "v") ∷ (in_brackets (spelled_index i) ++ Sign symbol.Equal ∷ Identifier x ∷ [])
+    Identifier (codes "put") ∷ Identifier (codes "v")
+    ∷ (in_brackets (spelled_index i) ++ Sign symbol.Equal ∷ Identifier x ∷ [])
 spelled_instr (ViewData x y) =
-    Identifier (codes "view") ∷ Identifier x ∷ Sign symbol.Equal ∷ Identifier (codes "data") ∷ in_parentheses (Identifier y ∷ [])
+    Identifier (codes "view") ∷ Identifier x ∷ Sign symbol.Equal ∷ Identifier (codes "data")
+    ∷ in_parentheses (Identifier y ∷ [])
 spelled_instr (ViewOf x y i) =
-    Identifier (codes "view") ∷ Identifier x ∷ Sign symbol.Equal ∷ Identifier (codes "view") ∷ in_parentheses (spelled_place y i)
+    Identifier (codes "view") ∷ Identifier x ∷ Sign symbol.Equal ∷ Identifier (codes "view")
+    ∷ in_parentheses (spelled_place y i)
 spelled_instr (Each g x e k) =
-    Identifier (codes "each") ∷ spelled_range g ∷ Sign symbol.Colon ∷ Identifier x ∷ Sign symbol.OpenBracket ∷ Sign symbol.At ∷ Sign symbol.CloseBracket ∷ Sign symbol.Equal
+    Identifier (codes "each") ∷ spelled_range g ∷ Sign symbol.Colon ∷ Identifier x ∷ Sign symbol.OpenBracket
+    ∷ Sign symbol.At ∷ Sign symbol.CloseBracket ∷ Sign symbol.Equal
     ∷ (spelled_expr e ++ spelled_where k)
 spelled_instr (First x g k target) =
-    Identifier (codes "first") ∷ Identifier x ∷ spelled_range g ∷ Sign symbol.Colon ∷ (spelled_condition k ++ spelled_target target)
+    Identifier (codes "first") ∷ Identifier x ∷ spelled_range g ∷ Sign symbol.Colon
+    ∷ (spelled_condition k ++ spelled_target target)
 spelled_instr (Next x g target) = Identifier (codes "next") ∷ Identifier x ∷ spelled_range g ∷ spelled_target target
 spelled_instr (If k target) = Identifier (codes "if") ∷ (spelled_condition k ++ spelled_target target)
 spelled_instr (IfAll g k target) =
-    Identifier (codes "if") ∷ Identifier (codes "all") ∷ spelled_range g ∷ Sign symbol.Colon ∷ (spelled_condition k ++ spelled_target target)
+    Identifier (codes "if") ∷ Identifier (codes "all") ∷ spelled_range g ∷ Sign symbol.Colon
+    ∷ (spelled_condition k ++ spelled_target target)
 spelled_instr (Goto target) = Identifier (codes "goto") ∷ Number target ∷ []
 spelled_instr (Call target) = Identifier (codes "call") ∷ Number target ∷ []
 spelled_instr (Return x) = Identifier (codes "return") ∷ Identifier x ∷ []

@@ -1,6 +1,8 @@
--- The tokens of a line of text: identifiers, numbers and symbols. Spaces may stand between any two tokens; an identifier and a number, or
--- two of one sort, have one between them. `#` begins a comment, which runs to the end of the line.
-use Rattle.std.specs.Prelude.{◌≡◌, ℕ, ◌+◌, ◌-◌, ◌*◌, ◌/◌, ◌^◌, ◌<◌, Bool, true, false, ◌&&◌, ◌||◌, List, [], ◌∷◌, length, Option, Some, None, nat_eq, nat_lt, nat_le, if◌then◌else◌}
+-- The tokens of a line of text: identifiers, numbers and symbols. Spaces may stand between any two tokens; an
+-- identifier and a number, or two of one sort, have one between them. `#` begins a comment, which runs to the end of
+-- the line.
+use Rattle.std.specs.Prelude.{◌≡◌, ℕ, ◌+◌, ◌-◌, ◌*◌, ◌/◌, ◌^◌, ◌<◌, Bool, true, false, ◌&&◌, ◌||◌, List, [], ◌∷◌}
+use Rattle.std.specs.Prelude.{length, Option, Some, None, nat_eq, nat_lt, nat_le, if◌then◌else◌}
 use Rattle.std.specs.List.{list_all}
 use Rattle.snap_semantics.specs.declared.text.Symbol.{Symbol}
 use Rattle.snap_semantics.specs.declared.text.Symbol.TheVariants as symbol
@@ -72,7 +74,8 @@ with_token None ts = None
 with_token (Some t) None = None
 with_token (Some t) (Some ts) = Some (t ∷ ts)
 
--- What a front of a line is: the lexeme at its front, letters and digits side by side, which may be empty, and the tokens behind it.
+-- What a front of a line is: the lexeme at its front, letters and digits side by side, which may be empty, and the
+-- tokens behind it.
 abbrev pub Front : Type 0
 Front = Option (List ℕ × List Token)
 
@@ -117,7 +120,8 @@ front_of (b ∷ bs) =
     if is_lexeme_byte b then longer_lexeme b (front_of bs) else
     if is_space b then no_lexeme (front_tokens (front_of bs)) else
     if nat_eq b 35 then Some ([], []) else
-    if nat_eq b 33 then (if begins_with 61 bs then no_lexeme (with_different (front_tokens (front_of bs))) else None) else
+    if nat_eq b 33
+    then (if begins_with 61 bs then no_lexeme (with_different (front_tokens (front_of bs))) else None) else
     no_lexeme (with_token (symbol_token (symbol_of b)) (front_tokens (front_of bs)))
 
 -- the tokens of a line, or none where a byte begins no token

@@ -1,4 +1,4 @@
--- The registers with other contents of one of them.
+-- `with_contents`: the memory in which one register has other contents, and all others are as they were.
 use Rattle.std.specs.Prelude.{◌≡◌, ℕ, ◌-◌, List, [], Some, nat_eq, nat_lt, if◌then◌else◌, slice_index_or, slice_set, ⊤}
 use Rattle.snap_words.specs.declared.address.Bank.{Bank}
 use Rattle.snap_words.specs.declared.address.Bank.TheVariants as bank
@@ -15,8 +15,8 @@ with_nth k x xs = if nat_lt 0 k then slice_set xs (k - 1) x else xs
 abbrev pub with_bit_in : ℕ → ℕ → ℕ → List (List ℕ) → List (List ℕ)
 with_bit_in i j x rows = with_nth i (with_nth j x (slice_index_or rows (i - 1) [])) rows
 
--- The memory where the register of this bank and these indices has these contents. All others are as they were, and so is
--- the memory where there is no such register, or where it does not have contents of this sort.
+-- The memory where the register of this bank and these indices has these contents. All others are as they were, and
+-- so is the memory where there is no such register, or where it does not have contents of this sort.
 abbrev pub with_contents : Memory → Bank → ℕ → ℕ → Contents → Memory
 with_contents m bank.R i j (WordContents x) = if nat_eq j 0 then with_memory_words (with_nth i x m.words) m else m
 with_contents m bank.R i j (BitContents x) = m

@@ -1,4 +1,5 @@
-//! What the callers of operations see, and the crashes of processes.
+//! `Event`: a call, the answer of a scan, the end of an
+//! update or a crash, with its item and its process.
 use crate::process::Op;
 use snap_words::View;
 

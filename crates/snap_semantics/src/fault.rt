@@ -1,4 +1,5 @@
-//! Why a call that allocates gave no answer.
+//! `Fault`: why a call that allocates gave no answer:
+//! memory ran out, or what it was given is refused.
 ghost use Rattle.std.specs.Prelude.{◌≡◌};
 ghost use Rattle.snap_semantics.specs.Answers.{fault_as};
 ghost use Rattle.snap_semantics.specs.declared.fault.Fault.TheVariants.{Memory, Refused};

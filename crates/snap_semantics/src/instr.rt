@@ -1,4 +1,5 @@
-//! The lines of a listing.
+//! `Line` and `Instr`: the numbered lines of a listing and their
+//! instructions, with all their operands, conditions and tuples.
 ghost use Rattle.std.specs.Prelude.{◌≡◌};
 ghost use Rattle.snap_semantics.specs.Table.{bank_of};
 

@@ -1,4 +1,4 @@
-//! Whose an item is.
+//! `who`: the process of an item of a schedule.
 ghost use Rattle.std.specs.Prelude.{◌≡◌};
 ghost use Rattle.snap_semantics.specs.Table.{who};
 

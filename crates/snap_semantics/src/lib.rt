@@ -1,4 +1,5 @@
-//! What listings, schedules and runs are: the types that all crates speak of, and, in `specs/`, the definitions.
+//! What listings, schedules and runs are: the types that all crates speak of, and, in `specs/`,
+//! the definitions.
 #![tactic(auto)]
 
 mod event;

@@ -1,10 +1,11 @@
-//! Names of locals.
+//! `Name`: the name of a local of a listing, at most eight letters;
+//! an identifier that is too long is kept by its first nine.
 ghost use Rattle.std.specs.Prelude.{◌≡◌, ◌≤◌, ◌<◌, List, ℕ, length, bytes_eq};
 
 use std::marker::Model;
 
-/// A name, seen as the list of its letters. Names that are declared have 1 to 8 letters; a longer identifier in a name's
-/// place is kept by its first nine, which no declared name has.
+/// A name, seen as the list of its letters. Names that are declared have 1 to 8 letters; a longer
+/// identifier in a name's place is kept by its first nine, which no declared name has.
 #[derive(Clone, Copy, Debug, PartialEq, Eq, Hash)]
 pub struct Name {
     letters: [u8; 9],
@@ -12,7 +13,7 @@ pub struct Name {
 }
 
 impl Model for Name {
-    ghost use Rattle.std.specs.Prelude.{◌≡◌, List, ℕ, ◌≤◌, ◌-◌, ◌++◌, take, drop, length, replicate, refl};
+    ghost use Rattle.std.specs.Prelude.{◌≡◌, List, ℕ, ◌≤◌, ◌-◌, ◌++◌, length};
     ghost use Rattle.std.specs.Coded.{coded_list, coded_ℕ};
 
     ghost Value = { List ℕ };

@@ -1,4 +1,5 @@
-//! What processes are asked, where they stand, and what comes of it.
+//! `Op`, `Item`, `Status` and `Outcome`: operations, the items of
+//! a schedule, the status of a process, and what came of an item.
 use snap_words::View;
 
 /// An operation on the snapshot object.

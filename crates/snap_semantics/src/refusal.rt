@@ -1,8 +1,10 @@
-//! Why texts are refused. Each refusal is shown by its code, its name and its number.
+//! Why a listing, a schedule, a command, an image or the program's input is refused:
+//! an enum for each. A refusal is shown by its code, its name and its number.
 use snap_words::WordFault;
 use thiserror::Error;
 
-/// Why a listing is refused. The number is that of a text line, from 1; of `NoSuchLine` it is the target.
+/// Why a listing is refused. The number is that of a text line, from 1;
+/// of `NoSuchLine` it is the target.
 #[derive(Clone, Copy, Debug, PartialEq, Eq, Error)]
 pub enum ListingRefusal {
     /// More than 65,536 bytes.
@@ -98,8 +100,8 @@ pub enum ImageRefusal {
     /// A byte that is no code in its place; places count from 0.
     #[error("I4 BadCode {0}")]
     BadCode(u64),
-    /// A rule of listings that is broken. The number is the line's place among the lines, from 1, and 0 before the first
-    /// line; of `NoSuchLine` it is the target.
+    /// A rule of listings that is broken. The number is the line's place among the lines, from 1,
+    /// and 0 before the first line; of `NoSuchLine` it is the target.
     #[error("I5 Invalid {0}")]
     Invalid(ListingRefusal),
     /// Bytes behind the last line.

@@ -1,4 +1,5 @@
-//! What texts are made of.
+//! `Symbol`, a token of a listing or a schedule that is no
+//! identifier and no number; and `Sort`, a sort of locals.
 
 /// A symbol: a token that is no identifier and no number.
 #[derive(Clone, Copy, Debug, PartialEq, Eq)]

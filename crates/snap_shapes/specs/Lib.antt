@@ -1,1 +1,2 @@
+-- The definitions of snap_shapes, by their modules.
 pub mod Shapes

@@ -43,7 +43,8 @@ end_of (Some s) = end_by s.act
 
 -- the operation that a step called, where this one ended it
 abbrev pub bar_to : ℕ → Step → Op → Option Step → Bar
-bar_to last s op found = record { process = s.process; op = op; from = s.item; to = item_or last found; end = end_of found }
+bar_to last s op found =
+    record { process = s.process; op = op; from = s.item; to = item_or last found; end = end_of found }
 
 -- the operation that a step called, where these follow
 abbrev pub bar_of : ℕ → Step → Op → List Step → Bar
@@ -51,11 +52,13 @@ bar_of last s op rest = bar_to last s op (first_meeting (wanted.End s.process) r
 
 -- the scan of an update that a step began, where these follow
 abbrev pub embedded_of : ℕ → Step → List Step → Span
-embedded_of last s rest = record { process = s.process; from = s.item; to = item_or last (first_meeting (wanted.Closing s.process) rest) }
+embedded_of last s rest =
+    record { process = s.process; from = s.item; to = item_or last (first_meeting (wanted.Closing s.process) rest) }
 
 -- the values from an item on, up to the next write
 abbrev pub period_of : ℕ → ℕ → List ℕ → List Step → Shape
-period_of last t values rest = shape.Values (record { from = t; to = item_or last (first_meeting wanted.Write rest); values = values })
+period_of last t values rest =
+    shape.Values (record { from = t; to = item_or last (first_meeting wanted.Write rest); values = values })
 
 abbrev pub written_by : Step → Written
 written_by s = record { process = s.process; item = s.item }
@@ -79,9 +82,11 @@ abbrev pub shapes_of : List Step → ℕ → Step → Act → List Shape
 shapes_of ss k s (act.Call op) = shape.Operation (bar_of (length ss) s op (drop (k + 1) ss)) ∷ []
 shapes_of ss k s act.Enter = shape.Embedded (embedded_of (length ss) s (drop (k + 1) ss)) ∷ []
 shapes_of ss k s (act.Write word values) =
-    period_of (length ss) s.item values (drop (k + 1) ss) ∷ shape.Write (record { spot = spot_of s; word = word; values = values }) ∷ []
+    period_of (length ss) s.item values (drop (k + 1) ss)
+    ∷ shape.Write (record { spot = spot_of s; word = word; values = values }) ∷ []
 shapes_of ss k s (act.Read word) =
-    shape.Read (record { spot = spot_of s; word = word; written = written_at ss (last_before (wanted.WriteOf word) ss k) }) ∷ []
+    shape.Read
+    (record { spot = spot_of s; word = word; written = written_at ss (last_before (wanted.WriteOf word) ss k) }) ∷ []
 shapes_of ss k s (act.Test passed) = shape.Test (spot_of s) passed ∷ []
 shapes_of ss k s act.Trap = shape.Trap (spot_of s) ∷ []
 shapes_of ss k s act.Crash = shape.Crash (spot_of s) ∷ []
@@ -108,7 +113,9 @@ scan_of v = record { process = v.process; from = v.call; to = v.answer }
 -- a point with the state that it stands for, or that there is none
 abbrev pub point_of : Run → Verdict → Option ℕ → Shape
 point_of r v None = shape.NoPoint (scan_of v)
-point_of r v (Some t) = shape.Point (record { scan = scan_of v; item = t; collects = v.collects; values = values_or_none (values_after r t) })
+point_of r v (Some t) =
+    shape.Point
+    (record { scan = scan_of v; item = t; collects = v.collects; values = values_or_none (values_after r t) })
 
 unfoldable pub verdict_shape : Run → Verdict → Shape
 verdict_shape r v = point_of r v v.point

@@ -1,4 +1,5 @@
-//! What is drawn of a run.
+//! `shapes`: what a picture draws of a run, from its record and what each item did. A later shape
+//! lies above.
 ghost use Rattle.std.specs.Prelude.{◌≡◌, IfOk};
 ghost use Rattle.snap_shapes.specs.Shapes.{first_period, shapes_by};
 

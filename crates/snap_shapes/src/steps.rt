@@ -1,5 +1,7 @@
-//! What is drawn of a step.
-ghost use Rattle.std.specs.Prelude.{◌≡◌, ◌≤◌, ◌<◌, ◌+◌, ◌++◌, ◌∷◌, [], IfOk, IfSome, OnOk, drop, length, option_map};
+//! What a picture draws of the single steps of a run: operations, scans of updates, values, reads,
+//! writes, borrowed views and more.
+ghost use Rattle.std.specs.Prelude.{◌≡◌, ◌≤◌, ◌<◌, ◌+◌, ◌++◌, ◌∷◌, []};
+ghost use Rattle.std.specs.Prelude.{IfOk, IfSome, OnOk, drop, length, option_map};
 ghost use Rattle.snap_loans.specs.Searches.{last_before};
 ghost use Rattle.snap_loans.specs.declared.wanted.Wanted.TheVariants as wanted;
 ghost use Rattle.snap_svg.specs.declared.shape.Shape.TheVariants as shape;
@@ -133,7 +135,8 @@ fn push_loan(
     place: Option<usize>,
 ) -> Result<(), AllocError>
     requires { IfSome place (λ k. k < length steps.now) }
-    ensures { OnOk result (shapes.new.items ≡ shapes.old.items ++ loan_from steps.now step.now place) }
+    ensures { OnOk result (shapes.new.items ≡ shapes.old.items
+        ++ loan_from steps.now step.now place) }
 {
     let Some(k) = place else {
         return Ok(());
@@ -270,7 +273,8 @@ pub(crate) fn push_steps(
     shapes: &mut Vec<Shape>,
     steps: &[Step],
 ) -> Result<(), AllocError>
-    ensures { OnOk result (shapes.new.items ≡ shapes.old.items ++ shapes_to steps.now (length steps.now)) }
+    ensures { OnOk result (shapes.new.items ≡ shapes.old.items
+        ++ shapes_to steps.now (length steps.now)) }
 {
     for k in 0..steps.len() {
         push_shapes_at(alloc, shapes, steps, k)?;

@@ -1,4 +1,5 @@
-//! What is drawn of verdicts.
+//! What a picture draws of an audit's verdicts: the point of a scan with the values at it, or that
+//! it has none.
 ghost use Rattle.std.specs.Prelude.{◌≡◌, ◌++◌, IfOk, OnOk};
 ghost use Rattle.snap_record.specs.Record.{values_after};
 ghost use Rattle.snap_shapes.specs.Shapes.{scan_of, values_or_none, verdict_shape, verdict_shapes};

@@ -1,1 +1,2 @@
+-- The definitions of snap_shipped, by their modules.
 pub mod Shipped

@@ -1,4 +1,5 @@
--- The listings that come with the program, by their kinds of registers.
+-- `shipped` and `shipped_bounds`: the shipped listing of each kind of registers (U, B or M), and the bounds of its
+-- runs.
 use Rattle.snap_words.specs.Shape.{Counts}
 use Rattle.snap_words.specs.declared.kind.KindTag.{KindTag}
 use Rattle.snap_words.specs.declared.kind.KindTag.TheVariants as kind

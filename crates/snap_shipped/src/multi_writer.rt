@@ -1,4 +1,5 @@
-//! Listing M as the program has it.
+//! The shipped text of listing M, the bounded multi-writer snapshot, and the `Listing` that is read
+//! from it.
 ghost use Rattle.std.specs.Prelude.{◌≡◌, IfOk, Ok};
 ghost use Rattle.snap_semantics.specs.Listing.{listing_of};
 ghost use Rattle.snap_runs_of_m.specs.ListingM.{listing_m};

@@ -1,4 +1,5 @@
-//! Listing U as the program has it.
+//! The shipped text of listing U, the unbounded single-writer snapshot, and the `Listing` that is
+//! read from it.
 ghost use Rattle.std.specs.Prelude.{◌≡◌, IfOk, Ok};
 ghost use Rattle.snap_semantics.specs.Listing.{listing_of};
 ghost use Rattle.snap_runs_of_u.specs.ListingU.{listing_u};

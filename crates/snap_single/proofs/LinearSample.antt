@@ -1,5 +1,7 @@
--- A worked linearization: process 2 updates twice while process 1 scans, and the scan borrows the view of the second update.
-use Rattle.std.specs.Prelude.{◌≡◌, ◌⊎◌, ℕ, ◌<◌, ◌≤◌, Bool, true, false, List, [], ◌∷◌, ◌++◌, Option, Some, None, replicate, refl}
+-- A worked linearization of a run of listing U: process 2 updates twice while process 1 scans, and the scan borrows
+-- the view of the second update.
+use Rattle.std.specs.Prelude.{◌≡◌, ◌⊎◌, ℕ, ◌<◌, ◌≤◌, Bool, true, false, List, [], ◌∷◌}
+use Rattle.std.specs.Prelude.{◌++◌, Option, Some, None, replicate, refl}
 use Rattle.std.specs.List.{Contains}
 use Rattle.std.proofs.lemmas.Bool.{cases_eq, cases_lt}
 use Rattle.std.proofs.lemmas.List.Elements.{All-from_recursion}
@@ -23,7 +25,8 @@ times count i = replicate count (Step i)
 
 abbrev pub run : Run
 run =
-    run_of 2 (Call 1 Scan ∷ (times 6 1 ++ (Call 2 (Update 2 5) ∷ (times 17 2 ++ (times 8 1 ++ (times 4 1 ++ (Call 2 (Update 2 6) ∷ (times 17 2 ++ times 9 1))))))))
+    run_of 2 (Call 1 Scan ∷ (times 6 1 ++ (Call 2 (Update 2 5)
+    ∷ (times 17 2 ++ (times 8 1 ++ (times 4 1 ++ (Call 2 (Update 2 6) ∷ (times 17 2 ++ times 9 1))))))))
 
 -- its operations, with their items
 abbrev pub scan : Operation
@@ -61,7 +64,8 @@ scan_took_place = record {
     first = omega arith;
     order = omega arith;
     last = omega arith;
-    goes_on = λ t view lt less ends. none_in (λ u. answers (outcome run u)) 1 63 t refl lt (omega arith) (ap answers ends.1);
+    goes_on =
+        λ t view lt less ends. none_in (λ u. answers (outcome run u)) 1 63 t refl lt (omega arith) (ap answers ends.1);
   };
   order = omega arith;
   ends = (refl, refl);
@@ -76,7 +80,8 @@ first_update_took_place = (
     first = omega arith;
     order = omega arith;
     last = omega arith;
-    goes_on = λ t lt less done. none_in (λ u. finishes (outcome run u)) 8 24 t refl lt (omega arith) (ap finishes done.1);
+    goes_on =
+        λ t lt less done. none_in (λ u. finishes (outcome run u)) 8 24 t refl lt (omega arith) (ap finishes done.1);
   },
   omega arith,
   (refl, refl),
@@ -91,7 +96,8 @@ second_update_took_place = (
     first = omega arith;
     order = omega arith;
     last = omega arith;
-    goes_on = λ t lt less done. none_in (λ u. finishes (outcome run u)) 38 54 t refl lt (omega arith) (ap finishes done.1);
+    goes_on =
+        λ t lt less done. none_in (λ u. finishes (outcome run u)) 38 54 t refl lt (omega arith) (ap finishes done.1);
   },
   omega arith,
   (refl, refl),
@@ -104,29 +110,44 @@ linearized = first_update ∷ scan ∷ second_update ∷ []
 linearized_runs : RunsFrom (0 ∷ 0 ∷ []) linearized
 linearized_runs = ((omega arith, omega arith), (refl, ((omega arith, omega arith), tt)))
 
-pub not_before : (c e : ℕ) (first second : Operation) → first.end ≡ Some e → second.call ≡ c → c ≤ e → EndedBefore first second → ⊥
+pub not_before : (c e : ℕ) (first second : Operation) → first.end ≡ Some e → second.call ≡ c →
+    c ≤ e → EndedBefore first second → ⊥
 not_before c e first second ends calls le ended =
     let same : e ≡ ended.0 = (let both : ◌≡◌ {A = Option ℕ} (Some e) (Some ended.0) = cc in cc) in
     let lt : ended.0 < second.call = ended.2 in omega arith
 
 apart : Pairs Apart linearized
 apart = (
-  ((λ same. omega arith, not_before 8 64 scan first_update refl refl (omega arith)), ((λ same. omega arith, not_before 8 55 second_update first_update refl refl (omega arith)), tt)),
+  (
+    (λ same. omega arith, not_before 8 64 scan first_update refl refl (omega arith)),
+    ((λ same. omega arith, not_before 8 55 second_update first_update refl refl (omega arith)), tt),
+  ),
   (((λ same. omega arith, not_before 1 55 second_update scan refl refl (omega arith)), tt), (tt, tt)),
 )
 
 linearized_in_order : KeepsOrder linearized
 linearized_in_order =
-    keeps_order linearized
-    (not_before 8 25 first_update first_update refl refl (omega arith), (not_before 1 64 scan scan refl refl (omega arith), (not_before 38 55 second_update second_update refl refl (omega arith), tt)))
+    keeps_order linearized (
+      not_before 8 25 first_update first_update refl refl (omega arith),
+      (
+        not_before 1 64 scan scan refl refl (omega arith),
+        (not_before 38 55 second_update second_update refl refl (omega arith), tt),
+      ),
+    )
     apart
 
 -- The object answers otherwise where the scan stands after both updates, or before them.
 after_both : RunsFrom (0 ∷ 0 ∷ []) (first_update ∷ second_update ∷ scan ∷ []) → ⊥
-after_both h = let view : ◌≡◌ {A = List ℕ} (0 ∷ 5 ∷ []) (0 ∷ 6 ∷ []) = h.1.1.0 in let same : ◌≡◌ {A = ℕ} 5 6 = cc in omega arith
+after_both h =
+    let view : ◌≡◌ {A = List ℕ} (0 ∷ 5 ∷ []) (0 ∷ 6 ∷ []) = h.1.1.0 in
+    let same : ◌≡◌ {A = ℕ} 5 6 = cc in
+    omega arith
 
 before_both : RunsFrom (0 ∷ 0 ∷ []) (scan ∷ first_update ∷ second_update ∷ []) → ⊥
-before_both h = let view : ◌≡◌ {A = List ℕ} (0 ∷ 5 ∷ []) (0 ∷ 0 ∷ []) = h.0 in let same : ◌≡◌ {A = ℕ} 5 0 = cc in omega arith
+before_both h =
+    let view : ◌≡◌ {A = List ℕ} (0 ∷ 5 ∷ []) (0 ∷ 0 ∷ []) = h.0 in
+    let same : ◌≡◌ {A = ℕ} 5 0 = cc in
+    omega arith
 
 -- The run has no other calls, so no other operations.
 call_at : (c : ℕ) → 0 < c → c ≤ 64 → is_call (item run c) ≡ true → (c ≡ 1) ⊎ ((c ≡ 8) ⊎ (c ≡ 38))
@@ -163,15 +184,22 @@ contains o took =
     elim (call_at o.call called.first called.last (ap is_call called.is)) [
       | inl is ↦ subst (Contains linearized) (sym (one_operation run o scan took scan_took_place is)) contains_scan
       | inr rest ↦ elim rest [
-        | inl is ↦ subst (Contains linearized) (sym (one_operation run o first_update took first_update_took_place is)) contains_first
-        | inr is ↦ subst (Contains linearized) (sym (one_operation run o second_update took second_update_took_place is)) contains_second
+        | inl is ↦
+            subst (Contains linearized)
+            (sym (one_operation run o first_update took first_update_took_place is)) contains_first
+        | inr is ↦
+            subst (Contains linearized)
+            (sym (one_operation run o second_update took second_update_took_place is)) contains_second
       ]
     ]
 
 -- The list is a linearization of the run.
 pub is_linearization : IsLinearization run linearized
 is_linearization = record {
-  took_place = All-from_recursion (IsOperation run) linearized (first_update_took_place, (scan_took_place, (second_update_took_place, tt)));
+  took_place = All-from_recursion (IsOperation run) linearized (
+    first_update_took_place,
+    (scan_took_place, (second_update_took_place, tt)),
+  );
   once = λ i j d lt short. (all_pairs Apart linearized apart i j d lt short).0;
   complete = λ o took ended. contains o took;
   order = linearized_in_order;
@@ -184,7 +212,8 @@ not_empty h =
     let there = h.complete scan scan_took_place (64, refl) in
     let lt : there.0 < 0 = there.1 in omega arith
 
--- Another answer is none of the run's, and no update was called at item 9; there the embedded scan starts, which is no operation.
+-- Another answer is none of the run's, and no update was called at item 9; there the embedded scan
+-- starts, which is no operation.
 wrong_answer : IsOperation run (record { process = 1; call = 1; end = Some 64; action = Sees (0 ∷ 6 ∷ []) }) → ⊥
 wrong_answer took =
     let out : Answered (0 ∷ 5 ∷ []) ≡ Answered (0 ∷ 6 ∷ []) = took.ends.1 in
@@ -193,5 +222,6 @@ wrong_answer took =
 never_called : IsOperation run (record { process = 2; call = 9; end = Some 25; action = Sets 2 5 }) → ⊥
 never_called took = let call : Step 2 ≡ Call 2 (Update 2 5) = took.0.call in cc
 
-embedded : (e : ℕ) (view : List ℕ) → IsOperation run (record { process = 2; call = 9; end = Some e; action = Sees view }) → ⊥
+embedded : (e : ℕ) (view : List ℕ) →
+    IsOperation run (record { process = 2; call = 9; end = Some e; action = Sees view }) → ⊥
 embedded e view took = let call : Step 2 ≡ Call 2 Scan = took.scan.starts.0 in cc

@@ -1,4 +1,5 @@
--- The places of the worked linearization, and places that are none.
+-- In the worked run of listing U: the items at which its operations take place (`TakesPlaceAt`), and items at which
+-- they do not.
 use Rattle.std.specs.Prelude.{◌≡◌, ℕ, ◌<◌, ◌≤◌, true, false, List, [], ◌∷◌, ◌++◌, Some, None, refl}
 use Rattle.std.specs.List.{AllZip}
 use Rattle.std.specs.List.Sorted.{IsNonDecreasing}
@@ -15,9 +16,11 @@ use Rattle.snap_runs.specs.Operation.{Action, Sets, Sees, Operation, TookPlace, 
 use Rattle.snap_runs.specs.Placement.{TakesPlaceAt, IsPlacedLinearization}
 use Rattle.snap_runs.proofs.Placing.{non_decreasing}
 use Rattle.snap_runs_of_u.specs.Promises.{run_of}
-use Rattle.snap_single.proofs.LinearSample.{times, run, scan, first_update, second_update, linearized, finishes, answers, none_in, contains, is_linearization}
+use Rattle.snap_single.proofs.LinearSample.{times, run, scan, first_update, second_update, linearized, finishes}
+use Rattle.snap_single.proofs.LinearSample.{answers, none_in, contains, is_linearization}
 
--- The updates take place at their writes, items 24 and 54; the scan may at each item from 24 to 53, where the values are 0 5.
+-- The updates take place at their writes, items 24 and 54; the scan may at each item from 24
+-- to 53, where the values are 0 5.
 abbrev places : List ℕ
 places = 24 ∷ 24 ∷ 54 ∷ []
 
@@ -62,7 +65,8 @@ rising a b c ab bc =
     non_decreasing (a ∷ b ∷ c ∷ [])
     (AllPairs-cons (λ x y. x ≤ y) a (b ∷ c ∷ []) (All-from_recursion (λ y. a ≤ y) (b ∷ c ∷ []) (ab, (omega arith, tt)))
     (AllPairs-cons (λ x y. x ≤ y) b (c ∷ []) (All-from_recursion (λ y. b ≤ y) (c ∷ []) (bc, tt))
-    (AllPairs-cons (λ x y. x ≤ y) c [] (All-from_recursion (λ y. c ≤ y) [] tt) (λ i j d lt short. absurd (omega arith)))))
+    (AllPairs-cons (λ x y. x ≤ y) c [] (All-from_recursion (λ y. c ≤ y) [] tt)
+    (λ i j d lt short. absurd (omega arith)))))
 
 -- These are the places of the linearization.
 is_placed : IsPlacedLinearization 32 run linearized places
@@ -84,7 +88,8 @@ after_its_end at = let le : 26 ≤ 25 = at.not_ended 25 refl in omega arith
 not_yet_written : TakesPlaceAt 32 run first_update 23 → ⊥
 not_yet_written at = let same : false ≡ true = at.happens.1 in cc
 
--- A scan takes place where its view is what the values are: not before the first update's write, and not after the second one's.
+-- A scan takes place where its view is what the values are: not before the first update's write,
+-- and not after the second one's.
 not_yet_seen : TakesPlaceAt 32 run scan 23 → ⊥
 not_yet_seen at =
     let view : ◌≡◌ {A = List ℕ} (0 ∷ 0 ∷ []) (0 ∷ 5 ∷ []) = at.happens in let same : ◌≡◌ {A = ℕ} 0 5 = cc in omega arith
@@ -103,15 +108,19 @@ written = run_of 2 (Call 1 Scan ∷ (times 6 1 ++ (Call 2 (Update 2 5) ∷ times
 
 none_ended : (i c e : ℕ) (a : Action) → TookPlace written i c (Some e) a → ⊥
 none_ended i c e (Sets word value) took =
-    none_in (λ t. finishes (outcome written t)) 0 24 e refl (let lt : c < e = took.1 in omega arith) took.0.last (ap finishes took.2.1)
+    none_in (λ t. finishes (outcome written t)) 0 24 e refl
+    (let lt : c < e = took.1 in omega arith) took.0.last (ap finishes took.2.1)
 none_ended i c e (Sees view) took =
-    none_in (λ t. answers (outcome written t)) 0 24 e refl (let lt : c < e = took.order in omega arith) took.scan.last (ap answers took.ends.1)
+    none_in (λ t. answers (outcome written t)) 0 24 e refl
+    (let lt : c < e = took.order in omega arith) took.scan.last (ap answers took.ends.1)
 
 empty_linearizes : IsLinearization written []
 empty_linearizes = record {
   took_place = λ j d lt. absurd (omega arith);
   once = λ i j d lt short. absurd (omega arith);
-  complete = λ o took ended. absurd (none_ended o.process o.call ended.0 o.action (subst (λ y. TookPlace written o.process o.call y o.action) ended.1 took));
+  complete =
+      λ o took ended. absurd (none_ended o.process o.call ended.0 o.action
+      (subst (λ y. TookPlace written o.process o.call y o.action) ended.1 took));
   order = λ j k d lj lk ended. absurd (omega arith);
   runs = tt;
 }
@@ -129,16 +138,25 @@ open_update_took_place = (
     first = omega arith;
     order = omega arith;
     last = omega arith;
-    goes_on = λ t lt less done. none_in (λ u. finishes (outcome written u)) 8 24 t refl lt (omega arith) (ap finishes done.1);
+    goes_on =
+        λ t lt less done. none_in (λ u. finishes (outcome written u)) 8 24 t refl lt (omega arith) (ap finishes done.1);
   },
   λ done. let same : ◌≡◌ {A = Outcome} Stepped Finished = done.1 in cc,
 )
 
 open_place : TakesPlaceAt 32 written open_update 24
-open_place = record { called = omega arith; within = omega arith; not_ended = λ e is. absurd (cc); happens = (omega arith, refl) }
+open_place = record {
+  called = omega arith;
+  within = omega arith;
+  not_ended = λ e is. absurd (cc);
+  happens = (omega arith, refl);
+}
 
 missing : (places : List ℕ) → IsPlacedLinearization 32 written [] places → ⊥
-missing places h = let there = h.complete open_update 24 open_update_took_place open_place in let lt : there.0 < 0 = there.1 in omega arith
+missing places h =
+    let there = h.complete open_update 24 open_update_took_place open_place in
+    let lt : there.0 < 0 = there.1 in
+    omega arith
 
 -- Two scans that overlap and see the same: each takes place at each item from 2 to 15.
 abbrev two_scans : Run
@@ -152,8 +170,21 @@ other = record { process = 2; call = 2; end = Some 28; action = Sees (0 ∷ 0 �
 
 each_falling : AllZip (TakesPlaceAt 32 two_scans) (one ∷ other ∷ []) (5 ∷ 4 ∷ [])
 each_falling = (
-  record { called = omega arith; within = omega arith; not_ended = λ e is. let same : 15 ≡ e = cc in omega arith; happens = refl },
-  (record { called = omega arith; within = omega arith; not_ended = λ e is. let same : 28 ≡ e = cc in omega arith; happens = refl }, tt),
+  record {
+    called = omega arith;
+    within = omega arith;
+    not_ended = λ e is. let same : 15 ≡ e = cc in omega arith;
+    happens = refl;
+  },
+  (
+    record {
+      called = omega arith;
+      within = omega arith;
+      not_ended = λ e is. let same : 28 ≡ e = cc in omega arith;
+      happens = refl;
+    },
+    tt,
+  ),
 )
 
 -- But in a list they stand in the order of their places.

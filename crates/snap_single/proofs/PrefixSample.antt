@@ -1,5 +1,7 @@
--- Runs that go on: updates that keep their order, and a linearization of a prefix that no longer run can keep.
-use Rattle.std.specs.Prelude.{◌≡◌, ◌⊎◌, ℕ, ◌<◌, ◌≤◌, ◌^◌, true, length, ◌&&◌, nat_eq, zero, suc, List, [], ◌∷◌, ◌++◌, Option, Some, None, refl}
+-- Samples of runs of listing U that go on: updates keep their order, and one linearization of a run that the longer
+-- run cannot keep.
+use Rattle.std.specs.Prelude.{◌≡◌, ◌⊎◌, ℕ, ◌<◌, ◌≤◌, ◌^◌, true, length, ◌&&◌, nat_eq, zero, suc, List, [], ◌∷◌, ◌++◌}
+use Rattle.std.specs.Prelude.{Option, Some, None, refl}
 use Rattle.std.specs.List.{AllByRecursion, AllZip, Contains}
 use Rattle.std.proofs.Common.{sym, ◌∙◌, ap, subst, arith, inl, inr}
 use Rattle.std.proofs.lemmas.Bool.{cases_eq, cases_lt}
@@ -89,8 +91,13 @@ listed_both = record {
     ),
   );
   once = λ i j d lt less. (all_pairs Apart (open_first ∷ open_second ∷ []) both_apart i j d lt less).0;
-  complete = λ o took ended. absurd (none_ended o.process o.call ended.0 o.action (subst (λ y. TookPlace short o.process o.call y o.action) ended.1 took));
-  order = keeps_order (open_first ∷ open_second ∷ []) (not_ended open_first open_first refl, (not_ended open_second open_second refl, tt)) both_apart;
+  complete =
+      λ o took ended. absurd (none_ended o.process o.call ended.0 o.action
+      (subst (λ y. TookPlace short o.process o.call y o.action) ended.1 took));
+  order = keeps_order (open_first ∷ open_second ∷ []) (
+    not_ended open_first open_first refl,
+    (not_ended open_second open_second refl, tt),
+  ) both_apart;
   runs = ((omega arith, omega arith), ((omega arith, omega arith), tt));
 }
   where
@@ -102,9 +109,11 @@ listed_both = record {
 
     none_ended : (i c e : ℕ) (a : Action) → TookPlace short i c (Some e) a → ⊥
     none_ended i c e (Sets word value) took =
-        none_in (λ t. finishes (outcome short t)) 0 2 e refl (let lt : c < e = took.1 in omega arith) took.0.last (ap finishes took.2.1)
+        none_in (λ t. finishes (outcome short t)) 0 2 e refl
+        (let lt : c < e = took.1 in omega arith) took.0.last (ap finishes took.2.1)
     none_ended i c e (Sees view) took =
-        none_in (λ t. answers (outcome short t)) 0 2 e refl (let lt : c < e = took.order in omega arith) took.scan.last (ap answers took.ends.1)
+        none_in (λ t. answers (outcome short t)) 0 2 e refl
+        (let lt : c < e = took.order in omega arith) took.scan.last (ap answers took.ends.1)
 
 -- the operations of the longer run
 first_took_place : IsOperation long first
@@ -116,7 +125,9 @@ first_took_place = (
     first = omega arith;
     order = omega arith;
     last = omega arith;
-    goes_on = λ t lt less done. none_in (λ u. nat_eq (who (item long u)) 1 && finishes (outcome long u)) 1 49 t refl lt (omega arith)
+    goes_on =
+        λ t lt less done.
+        none_in (λ u. nat_eq (who (item long u)) 1 && finishes (outcome long u)) 1 49 t refl lt (omega arith)
         (ap (λ y. nat_eq y 1 && finishes (outcome long t)) done.0 ∙ ap finishes done.1);
   },
   omega arith,
@@ -132,7 +143,8 @@ second_took_place = (
     first = omega arith;
     order = omega arith;
     last = omega arith;
-    goes_on = λ t lt less done. none_in (λ u. finishes (outcome long u)) 2 18 t refl lt (omega arith) (ap finishes done.1);
+    goes_on =
+        λ t lt less done. none_in (λ u. finishes (outcome long u)) 2 18 t refl lt (omega arith) (ap finishes done.1);
   },
   omega arith,
   (refl, refl),
@@ -146,7 +158,9 @@ scan_took_place = record {
     first = omega arith;
     order = omega arith;
     last = omega arith;
-    goes_on = λ t view lt less ends. none_in (λ u. answers (outcome long u)) 20 32 t refl lt (omega arith) (ap answers ends.1);
+    goes_on =
+        λ t view lt less ends.
+        none_in (λ u. answers (outcome long u)) 20 32 t refl lt (omega arith) (ap answers ends.1);
   };
   order = omega arith;
   ends = (refl, refl);
@@ -189,7 +203,10 @@ linear = second ∷ scan ∷ first ∷ []
 
 linear_apart : Pairs Apart linear
 linear_apart = (
-  ((λ same. omega arith, not_before 2 33 scan second refl refl (omega arith)), ((λ same. omega arith, not_before 2 50 first second refl refl (omega arith)), tt)),
+  (
+    (λ same. omega arith, not_before 2 33 scan second refl refl (omega arith)),
+    ((λ same. omega arith, not_before 2 50 first second refl refl (omega arith)), tt),
+  ),
   (((λ same. omega arith, not_before 20 50 first scan refl refl (omega arith)), tt), (tt, tt)),
 )
 
@@ -200,11 +217,14 @@ contains o (inr (inr is)) = subst (Contains linear) (sym is) (1, omega arith, re
 
 linearizes : IsLinearization long linear
 linearizes = record {
-  took_place = All-from_recursion (IsOperation long) linear (second_took_place, (scan_took_place, (first_took_place, tt)));
+  took_place =
+      All-from_recursion (IsOperation long) linear (second_took_place, (scan_took_place, (first_took_place, tt)));
   once = λ i j d lt less. (all_pairs Apart linear linear_apart i j d lt less).0;
   complete = λ o took ended. contains o (one_of_them o took);
-  order = keeps_order linear
-      (not_before 2 19 second second refl refl (omega arith), (not_before 20 33 scan scan refl refl (omega arith), (not_before 1 50 first first refl refl (omega arith), tt)))
+  order = keeps_order linear (
+    not_before 2 19 second second refl refl (omega arith),
+    (not_before 20 33 scan scan refl refl (omega arith), (not_before 1 50 first first refl refl (omega arith), tt)),
+  )
       linear_apart;
   runs = ((omega arith, omega arith), (refl, ((omega arith, omega arith), tt)));
 }
@@ -212,10 +232,28 @@ linearizes = record {
 -- Each at its place: the second update writes at item 18, and the first one at item 49.
 linear_places : AllZip (TakesPlaceAt 32 long) linear (18 ∷ 20 ∷ 49 ∷ [])
 linear_places = (
-  record { called = omega arith; within = omega arith; not_ended = λ e is. let same : 19 ≡ e = cc in omega arith; happens = (omega arith, refl) },
+  record {
+    called = omega arith;
+    within = omega arith;
+    not_ended = λ e is. let same : 19 ≡ e = cc in omega arith;
+    happens = (omega arith, refl);
+  },
   (
-    record { called = omega arith; within = omega arith; not_ended = λ e is. let same : 33 ≡ e = cc in omega arith; happens = refl },
-    (record { called = omega arith; within = omega arith; not_ended = λ e is. let same : 50 ≡ e = cc in omega arith; happens = (omega arith, refl) }, tt),
+    record {
+      called = omega arith;
+      within = omega arith;
+      not_ended = λ e is. let same : 33 ≡ e = cc in omega arith;
+      happens = refl;
+    },
+    (
+      record {
+        called = omega arith;
+        within = omega arith;
+        not_ended = λ e is. let same : 50 ≡ e = cc in omega arith;
+        happens = (omega arith, refl);
+      },
+      tt,
+    ),
   ),
 )
 
@@ -248,7 +286,8 @@ next_not_seen x o os (inr (inr is)) runs then =
     let view : ◌≡◌ {A = List ℕ} (0 ∷ 8 ∷ []) (7 ∷ x ∷ []) = subst (λ p. Allows (7 ∷ x ∷ []) p.action) is runs.0 in
     absurd (let same : ◌≡◌ {A = ℕ} 0 7 = cc in omega arith)
 
-not_seen : (x : ℕ) (os : List Operation) → AllByRecursion IsOneOfThem os → RunsFrom (7 ∷ x ∷ []) os → AllByRecursion (IsNot scan) os
+not_seen : (x : ℕ) (os : List Operation) → AllByRecursion IsOneOfThem os → RunsFrom (7 ∷ x ∷ []) os →
+    AllByRecursion (IsNot scan) os
 not_seen x [] them runs = tt
 not_seen x (o ∷ os) them runs = next_not_seen x o os them.0 runs (λ y more. not_seen y os them.1 more)
 
@@ -258,7 +297,8 @@ who_first [] = 0
 who_first (u ∷ us) = u.process
 
 -- a list that begins with the first update, or not
-begins : (o : Operation) (os : List Operation) → IsOneOfThem o → AllByRecursion IsOneOfThem os → RunsFrom (0 ∷ 0 ∷ []) (o ∷ os) →
+begins : (o : Operation) (os : List Operation) → IsOneOfThem o →
+    AllByRecursion IsOneOfThem os → RunsFrom (0 ∷ 0 ∷ []) (o ∷ os) →
     IsPrefix (updates (open_first ∷ open_second ∷ [])) (updates (o ∷ os)) → AllByRecursion (IsNot scan) (o ∷ os)
 begins o os (inl is) them runs prefix = (
   another o first scan is (λ same. omega arith),
@@ -272,21 +312,24 @@ begins o os (inr (inr is)) them runs prefix =
     absurd (let same : ◌≡◌ {A = ℕ} 8 0 = cc in omega arith)
 
 -- So no linearization of the longer run has the updates in the order in which they were called.
-too_soon : (os : List Operation) → IsLinearization long os → IsPrefix (updates (open_first ∷ open_second ∷ [])) (updates os) → ⊥
+too_soon : (os : List Operation) → IsLinearization long os →
+    IsPrefix (updates (open_first ∷ open_second ∷ [])) (updates os) → ⊥
 too_soon [] h prefix =
     let there = h.complete scan scan_took_place (33, refl) in let lt : there.0 < 0 = there.1 in omega arith
 too_soon (o ∷ os) h prefix =
-    let them = all_weaker (IsOperation long) IsOneOfThem (o ∷ os) one_of_them (recursion_from_All (IsOperation long) (o ∷ os) h.took_place) in
+    let them = all_weaker (IsOperation long) IsOneOfThem (o ∷ os) one_of_them
+    (recursion_from_All (IsOperation long) (o ∷ os) h.took_place) in
     let none = begins o os them.0 them.1 h.runs prefix in
-    All-contains (IsNot scan) (o ∷ os) scan (All-from_recursion (IsNot scan) (o ∷ os) none) (h.complete scan scan_took_place (33, refl)) refl
+    All-contains (IsNot scan) (o ∷ os) scan (All-from_recursion (IsNot scan) (o ∷ os) none)
+    (h.complete scan scan_took_place (33, refl)) refl
 
 -- the items are of the two processes
 each_times : (n i : ℕ) → IsOneOf 2 i → AllByRecursion (λ x. IsOneOf 2 (who x)) (times n i)
 each_times zero i one = tt
 each_times (suc n) i one = (one, each_times n i one)
 
-each_append : (xs ys : List Item) → AllByRecursion (λ x. IsOneOf 2 (who x)) xs → AllByRecursion (λ x. IsOneOf 2 (who x)) ys →
-    AllByRecursion (λ x. IsOneOf 2 (who x)) (xs ++ ys)
+each_append : (xs ys : List Item) → AllByRecursion (λ x. IsOneOf 2 (who x)) xs →
+    AllByRecursion (λ x. IsOneOf 2 (who x)) ys → AllByRecursion (λ x. IsOneOf 2 (who x)) (xs ++ ys)
 each_append [] ys h k = k
 each_append (x ∷ xs) ys h k = (h.0, each_append xs ys h.1 k)
 
@@ -298,16 +341,19 @@ long_fits = record {
       (omega arith, omega arith),
       each_append (times 17 2) (Call 2 Scan ∷ (times 13 2 ++ times 17 1)) (each_times 17 2 (omega arith, omega arith)) (
         (omega arith, omega arith),
-        each_append (times 13 2) (times 17 1) (each_times 13 2 (omega arith, omega arith)) (each_times 17 1 (omega arith, omega arith)),
+        each_append (times 13 2) (times 17 1) (each_times 13 2 (omega arith, omega arith))
+            (each_times 17 1 (omega arith, omega arith)),
       ),
     ),
   );
 }
 
--- A choice that lists both as soon as they are called is not write strong. This is why an update is listed only once it has written.
+-- A choice that lists both as soon as they are called is not write strong. This is why an update is
+-- listed only once it has written.
 not_a_choice : (choose : List Item → List Operation) → choose asked ≡ open_first ∷ open_second ∷ [] →
     IsWriteStrongChoice listing_u (square 2) (Some (2 ^ 64)) choose → ⊥
 not_a_choice choose is c =
     let short : length (asked ++ rest) < 2 ^ 64 = omega arith in
     too_soon (choose (asked ++ rest)) (c.linearizes (asked ++ rest) short long_fits)
-    (subst (λ os. IsPrefix (updates os) (updates (choose (asked ++ rest)))) is (c.keeps_updates asked rest short long_fits))
+    (subst (λ os. IsPrefix (updates os) (updates (choose (asked ++ rest)))) is
+    (c.keeps_updates asked rest short long_fits))

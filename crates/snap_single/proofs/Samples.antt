@@ -48,7 +48,8 @@ embedded_starts = (refl, tt, refl, refl)
 embedded_ends : Ends (run_of 1 update_alone) 1 11 (Some 31) (0 ∷ [])
 embedded_ends = (refl, refl, refl)
 
-update_writes : (executes (run_of 1 update_alone) 1 32 13 ≡ true) × (values (state (run_of 1 update_alone) 12) ≡ 0 ∷ []) × (values (state (run_of 1 update_alone) 13) ≡ 7 ∷ [])
+update_writes : (executes (run_of 1 update_alone) 1 32 13 ≡ true)
+    × (values (state (run_of 1 update_alone) 12) ≡ 0 ∷ []) × (values (state (run_of 1 update_alone) 13) ≡ 7 ∷ [])
 update_writes = (refl, refl, refl)
 
 update_done : outcome (run_of 1 update_alone) 14 ≡ Finished
@@ -64,20 +65,24 @@ undisturbed_ends = ((refl, refl), (refl, refl))
 undisturbed_point : HasPoint (run_of 2 scan_undisturbed) 1 14 (0 ∷ 0 ∷ [])
 undisturbed_point = (1, omega arith, omega arith, refl)
 
--- Process 2 updates twice while process 1 scans: both double collects fail, and the scan borrows the view that the second
--- update has put beside its value.
+-- Process 2 updates twice while process 1 scans: both double collects fail, and the scan borrows the view that the
+-- second update has put beside its value.
 abbrev pub scan_borrows : List Item
 scan_borrows =
-    Call 1 Scan ∷ (times 6 1 ++ (Call 2 (Update 2 5) ∷ (times 17 2 ++ (times 8 1 ++ (times 4 1 ++ (Call 2 (Update 2 6) ∷ (times 17 2 ++ times 9 1)))))))
+    Call 1 Scan ∷ (times 6 1 ++ (Call 2 (Update 2 5)
+    ∷ (times 17 2 ++ (times 8 1 ++ (times 4 1 ++ (Call 2 (Update 2 6) ∷ (times 17 2 ++ times 9 1)))))))
 
-borrows_values : (values (state (run_of 2 scan_borrows) 23) ≡ 0 ∷ 0 ∷ []) × (values (state (run_of 2 scan_borrows) 24) ≡ 0 ∷ 5 ∷ [])
-    × (values (state (run_of 2 scan_borrows) 53) ≡ 0 ∷ 5 ∷ []) × (values (state (run_of 2 scan_borrows) 54) ≡ 0 ∷ 6 ∷ [])
+borrows_values : (values (state (run_of 2 scan_borrows) 23) ≡ 0 ∷ 0 ∷ [])
+    × (values (state (run_of 2 scan_borrows) 24) ≡ 0 ∷ 5 ∷ [])
+    × (values (state (run_of 2 scan_borrows) 53) ≡ 0 ∷ 5 ∷ [])
+    × (values (state (run_of 2 scan_borrows) 54) ≡ 0 ∷ 6 ∷ [])
 borrows_values = (refl, refl, refl, refl)
 
 borrows_ends : Starts (run_of 2 scan_borrows) 1 1 None × Ends (run_of 2 scan_borrows) 1 64 None (0 ∷ 5 ∷ [])
 borrows_ends = ((refl, refl), (refl, refl))
 
-borrows_from_2 : (executes (run_of 2 scan_borrows) 1 23 63 ≡ true) × (value_at u.j (process_at (before (run_of 2 scan_borrows) 63) 1).locals.scalars 0 ≡ 2)
+borrows_from_2 : (executes (run_of 2 scan_borrows) 1 23 63 ≡ true)
+    × (value_at u.j (process_at (before (run_of 2 scan_borrows) 63) 1).locals.scalars 0 ≡ 2)
 borrows_from_2 = (refl, refl)
 
 borrows_counts : (double_collects (run_of 2 scan_borrows) 1 1 64 ≡ 2) × (own_steps (run_of 2 scan_borrows) 1 1 64 ≡ 27)
@@ -87,7 +92,8 @@ borrows_point : HasPoint (run_of 2 scan_borrows) 1 64 (0 ∷ 5 ∷ [])
 borrows_point = (24, omega arith, omega arith, refl)
 
 -- The second move that it sees, at item 61, is the write at item 54; one double collect ends between them, at item 60.
-second_move : (executes (run_of 2 scan_borrows) 1 17 61 ≡ true) × (row_place (process_at (before (run_of 2 scan_borrows) 61) 1).locals u.moved 2 ≡ 1)
+second_move : (executes (run_of 2 scan_borrows) 1 17 61 ≡ true)
+    × (row_place (process_at (before (run_of 2 scan_borrows) 61) 1).locals u.moved 2 ≡ 1)
     × (row_place (process_at (state (run_of 2 scan_borrows) 61) 1).locals u.moved 2 ≡ 2)
 second_move = (refl, refl, refl)
 
@@ -98,29 +104,36 @@ its_write = (refl, refl)
 abbrev pub crash_after_write : List Item
 crash_after_write = Call 2 (Update 2 5) ∷ (times 16 2 ++ (Crash 2 ∷ Step 2 ∷ Call 1 Scan ∷ times 13 1))
 
-after_write_outcomes : (executes (run_of 2 crash_after_write) 2 32 17 ≡ true) × (outcome (run_of 2 crash_after_write) 18 ≡ Crashed)
+after_write_outcomes : (executes (run_of 2 crash_after_write) 2 32 17 ≡ true)
+    × (outcome (run_of 2 crash_after_write) 18 ≡ Crashed)
     × (outcome (run_of 2 crash_after_write) 19 ≡ Skipped reason.Crashed)
 after_write_outcomes = (refl, refl, refl)
 
-after_write_ends : Starts (run_of 2 crash_after_write) 1 20 None × Ends (run_of 2 crash_after_write) 1 33 None (0 ∷ 5 ∷ [])
+after_write_ends : Starts (run_of 2 crash_after_write) 1 20 None
+    × Ends (run_of 2 crash_after_write) 1 33 None (0 ∷ 5 ∷ [])
 after_write_ends = ((refl, refl), (refl, refl))
 
-after_write_point : HasPoint (run_of 2 crash_after_write) 20 33 (0 ∷ 5 ∷ []) × (double_collects (run_of 2 crash_after_write) 1 20 33 ≡ 1)
+after_write_point : HasPoint (run_of 2 crash_after_write) 20 33 (0 ∷ 5 ∷ [])
+    × (double_collects (run_of 2 crash_after_write) 1 20 33 ≡ 1)
 after_write_point = ((20, omega arith, omega arith, refl), refl)
 
-after_write_stands : (process_at (state (run_of 2 crash_after_write) 33) 2).status ≡ status.Crashed (Some (record { op = Update 2 5; line = 33; link = None }))
+after_write_stands : (process_at (state (run_of 2 crash_after_write) 33) 2).status
+    ≡ status.Crashed (Some (record { op = Update 2 5; line = 33; link = None }))
 after_write_stands = refl
 
 after_write_events : events listing_u (square 2) (initial listing_u (square 2)) 1 crash_after_write
-    ≡ record { item = 1; process = 2; what = what.Call (Update 2 5) } ∷ record { item = 18; process = 2; what = what.Crash }
-    ∷ record { item = 20; process = 1; what = what.Call Scan } ∷ record { item = 33; process = 1; what = what.Answer (0 ∷ 5 ∷ []) } ∷ []
+    ≡ record { item = 1; process = 2; what = what.Call (Update 2 5) }
+    ∷ record { item = 18; process = 2; what = what.Crash }
+    ∷ record { item = 20; process = 1; what = what.Call Scan }
+    ∷ record { item = 33; process = 1; what = what.Answer (0 ∷ 5 ∷ []) } ∷ []
 after_write_events = refl
 
 -- It crashes one step earlier, between its scan and its write: the scan sees nothing of it.
 abbrev pub crash_before_write : List Item
 crash_before_write = Call 2 (Update 2 5) ∷ (times 15 2 ++ (Crash 2 ∷ Step 2 ∷ Call 1 Scan ∷ times 13 1))
 
-before_write_ends : Starts (run_of 2 crash_before_write) 1 19 None × Ends (run_of 2 crash_before_write) 1 32 None (0 ∷ 0 ∷ [])
+before_write_ends : Starts (run_of 2 crash_before_write) 1 19 None
+    × Ends (run_of 2 crash_before_write) 1 32 None (0 ∷ 0 ∷ [])
 before_write_ends = ((refl, refl), (refl, refl))
 
 before_write_point : HasPoint (run_of 2 crash_before_write) 19 32 (0 ∷ 0 ∷ [])

@@ -1,4 +1,4 @@
-//! Runs of U over schedules.
+//! `run`: the record of listing U over any schedule, a run that keeps all that is promised of U.
 ghost use Rattle.std.specs.Prelude.{◌≡◌, IfOk, true};
 ghost use Rattle.snap_words.specs.Kind.{fits};
 ghost use Rattle.snap_words.specs.declared.kind.KindTag.TheVariants as kind;

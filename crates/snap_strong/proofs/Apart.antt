@@ -1,5 +1,7 @@
--- The futures part: where the scan stands before the update it has answered, and where it does not it comes too late.
-use Rattle.std.specs.Prelude.{◌≡◌, ℕ, zero, suc, ◌-◌, ◌<◌, ◌≤◌, ◌≢◌, Bool, true, false, not, ◌&&◌, List, [], ◌∷◌, ◌++◌, length, Option, Some, None, nat_eq, slice_index, slice_index_or, slice_set, refl}
+-- No order of the operations so far goes on in both futures of U's run: if the scan is in it,
+-- its answer is wrong in one of them, and if not, it comes after an update that it does not see.
+use Rattle.std.specs.Prelude.{◌≡◌, ℕ, zero, suc, ◌-◌, ◌<◌, ◌≤◌, ◌≢◌, Bool, true, false, not, ◌&&◌, List, [], ◌∷◌}
+use Rattle.std.specs.Prelude.{◌++◌, length, Option, Some, None, nat_eq, slice_index, slice_index_or, slice_set, refl}
 use Rattle.std.specs.List.{AllByRecursion}
 use Rattle.std.proofs.Common.{sym, ◌∙◌, ap, subst, arith, inl, inr}
 use Rattle.std.proofs.lemmas.Bool.{cases_eq, cases_lt}
@@ -36,7 +38,8 @@ stays_five values (Sets word value) five allows two is =
       omega arith,
       elim (cases_eq word 2) [
         | inl same ↦ (let at : word - 1 ≡ 1 = omega arith in
-            subst (λ y. slice_index (slice_set values y value) 1 ≡ 5) (sym at) (get_or-set_same values 1 value 0 two ∙ five same))
+            subst (λ y. slice_index (slice_set values y value) 1 ≡ 5) (sym at)
+            (get_or-set_same values 1 value 0 two ∙ five same))
         | inr other ↦ get_or-set_other values (word - 1) 1 value 0 (omega arith) ∙ is
       ],
     )
@@ -58,7 +61,8 @@ sees_five_on values (o ∷ os) fives two is runs (suc k) d view lt sees =
 -- A scan that stands behind the update sees 5.
 sees_five : (values : List ℕ) (os : List Operation) → AllByRecursion (λ o. SetsFive o.action) os → RunsFrom values os →
     (j k : ℕ) (d e : Operation) (view : List ℕ) →
-    j < k → k < length os → (slice_index_or os j d).action ≡ Sets 2 5 → (slice_index_or os k e).action ≡ Sees view → slice_index view 1 ≡ 5
+    j < k → k < length os → (slice_index_or os j d).action ≡ Sets 2 5 →
+    (slice_index_or os k e).action ≡ Sees view → slice_index view 1 ≡ 5
 sees_five values [] fives runs j k d e view before lt sets sees = absurd (omega arith)
 sees_five values (o ∷ os) fives runs j zero d e view before lt sets sees = absurd (omega arith)
 sees_five values (o ∷ os) fives runs zero (suc k) d e view before lt sets sees =
@@ -66,7 +70,8 @@ sees_five values (o ∷ os) fives runs zero (suc k) d e view before lt sets sees
     let two : 1 < length values = here.1 in
     let long : length (slice_set values 1 5) ≡ length values = length-set values 1 5 in
     let rest : RunsFrom (slice_set values 1 5) os = subst (λ y. RunsFrom (after values y) os) sets runs.1 in
-    sees_five_on (slice_set values 1 5) os fives.1 (omega arith) (get_or-set_same values 1 5 0 two) rest k e view (omega arith) sees
+    sees_five_on (slice_set values 1 5) os fives.1 (omega arith)
+    (get_or-set_same values 1 5 0 two) rest k e view (omega arith) sees
 sees_five values (o ∷ os) fives runs (suc j) (suc k) d e view before lt sets sees =
     sees_five (after values o.action) os fives.1 runs.1 j k d e view (omega arith) (omega arith) sets sees
 
@@ -90,7 +95,8 @@ updates_set_five i word value c e up same =
       | inr other ↦ (let pos : 0 < c = up.first in
           let le : c ≤ e = up.order in
           let last : e ≤ 60 = up.last in
-          absurd (none_in (λ t. sets_other (item run_alone t)) 0 60 c refl pos (omega arith) (ap sets_other up.call ∙ is_other word value same other)))
+          absurd (none_in (λ t. sets_other (item run_alone t)) 0 60 c refl pos (omega arith)
+          (ap sets_other up.call ∙ is_other word value same other)))
     ]
 
 completed_sets_five : (i c : ℕ) (end : Option ℕ) (a : Action) → TookPlace run_alone i c end a → SetsFive a
@@ -127,10 +133,12 @@ no_such_scan : (o : Operation) → IsCompleted run_overtaken o → o.process ≡
     o.action ≡ Sees (0 ∷ 0 ∷ 0 ∷ []) → ⊥
 no_such_scan o (inl took) process call action =
     answers_otherwise o.end (subst (TookPlace run_overtaken 1 21 o.end) action
-    (subst (λ y. TookPlace run_overtaken 1 y o.end o.action) call (subst (λ y. TookPlace run_overtaken y o.call o.end o.action) process took)))
+    (subst (λ y. TookPlace run_overtaken 1 y o.end o.action) call
+    (subst (λ y. TookPlace run_overtaken y o.call o.end o.action) process took)))
 no_such_scan o (inr h) process call action =
     not_open o.end (subst (IsOpenScan run_overtaken 1 21 o.end) action
-    (subst (λ y. IsOpenScan run_overtaken 1 y o.end o.action) call (subst (λ y. IsOpenScan run_overtaken y o.call o.end o.action) process h)))
+    (subst (λ y. IsOpenScan run_overtaken 1 y o.end o.action) call
+    (subst (λ y. IsOpenScan run_overtaken y o.call o.end o.action) process h)))
 
 pub none_serves_both_lem : NoneServesBoth
 none_serves_both_lem now one other is_now is_one is_other_one begins_one begins_other =

@@ -1,4 +1,5 @@
--- A list of operations that begins with another one has the same operation at each of its places.
+-- A list of operations that begins with another one (`BeginsWith`)
+-- has the same process, call and action at each of its places.
 use Rattle.std.specs.Prelude.{◌≡◌, ℕ, zero, suc, ◌<◌, List, [], ◌∷◌, ◌++◌, map, length, slice_index_or}
 use Rattle.std.proofs.Common.{ap, arith}
 use Rattle.snap_runs.specs.Operation.{Operation}
@@ -18,7 +19,8 @@ same_at longer [] rest same k d lt = absurd (omega arith)
 same_at [] (x ∷ xs) rest same k d lt =
     let none : ◌≡◌ {A = List Operation} [] (without_end x ∷ (map without_end xs ++ rest)) = same in absurd (cc)
 same_at (y ∷ ys) (x ∷ xs) rest same zero d lt =
-    let both : ◌≡◌ {A = List Operation} (without_end y ∷ map without_end ys) (without_end x ∷ (map without_end xs ++ rest)) = same in
+    let both : ◌≡◌ {A = List Operation} (without_end y ∷ map without_end ys)
+    (without_end x ∷ (map without_end xs ++ rest)) = same in
     let heads : without_end y ≡ without_end x = cc in
     record {
       there = omega arith;
@@ -27,10 +29,16 @@ same_at (y ∷ ys) (x ∷ xs) rest same zero d lt =
       action = ap (λ (o : Operation). o.action) heads;
     }
 same_at (y ∷ ys) (x ∷ xs) rest same (suc k) d lt =
-    let both : ◌≡◌ {A = List Operation} (without_end y ∷ map without_end ys) (without_end x ∷ (map without_end xs ++ rest)) = same in
+    let both : ◌≡◌ {A = List Operation} (without_end y ∷ map without_end ys)
+    (without_end x ∷ (map without_end xs ++ rest)) = same in
     let tails : map without_end ys ≡ map without_end xs ++ rest = cc in
     let past = same_at ys xs rest tails k d (omega arith) in
-    record { there = (let lt' : k < length ys = past.there in omega arith); process = past.process; call = past.call; action = past.action }
+    record {
+      there = (let lt' : k < length ys = past.there in omega arith);
+      process = past.process;
+      call = past.call;
+      action = past.action;
+    }
 
 pub begins_at : (longer shorter : List Operation) → BeginsWith longer shorter → (k : ℕ) (d : Operation) →
     k < length shorter → SameAt longer shorter k d

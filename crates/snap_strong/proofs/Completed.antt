@@ -1,5 +1,7 @@
--- A linearization in which scans are completed is one without them.
-use Rattle.std.specs.Prelude.{◌≡◌, ℕ, zero, suc, ◌<◌, Bool, true, false, List, [], ◌∷◌, length, Option, Some, None, cond, filter, slice_index_or, replicate, refl}
+-- A linearization in which open scans are completed is a linearization
+-- without these scans; so what is strongly linearizable is linearizable.
+use Rattle.std.specs.Prelude.{◌≡◌, ℕ, zero, suc, ◌<◌, Bool, true, false, List, [], ◌∷◌, length, Option, Some, None}
+use Rattle.std.specs.Prelude.{cond, filter, slice_index_or, replicate, refl}
 use Rattle.std.specs.List.{AllByRecursion, AllPairs, Contains}
 use Rattle.std.proofs.Common.{sym, ◌∙◌, ap, subst, arith, inl, inr}
 use Rattle.std.proofs.lemmas.List.Elements.{All-from_recursion, recursion_from_All}
@@ -7,7 +9,8 @@ use Rattle.snap_runs.specs.Run.{Run, run_of_items}
 use Rattle.snap_runs.specs.Operation.{Action, Sets, Sees, Operation, IsOperation, EndedBefore}
 use Rattle.snap_runs.specs.Linearization.{after, Allows, RunsFrom, IsLinearization}
 use Rattle.snap_runs.proofs.Order.{Pairs, Apart, all_pairs, keeps_order}
-use Rattle.snap_strong.specs.StrongLinearization.{IsOpenScan, IsCompleted, IsCompletedLinearization, StrongIsLinearizable}
+use Rattle.snap_strong.specs.StrongLinearization.{IsOpenScan, IsCompleted, IsCompletedLinearization}
+use Rattle.snap_strong.specs.StrongLinearization.{StrongIsLinearizable}
 
 -- all but a scan that has not ended
 abbrev is_told : Option ℕ → Action → Bool
@@ -38,7 +41,8 @@ pairs_if R false o os h rest = rest
 
 pairs_told : (R : Operation → Operation → Type 0) (os : List Operation) → Pairs R os → Pairs R (told os)
 pairs_told R [] h = tt
-pairs_told R (o ∷ os) h = pairs_if R (tells o) o (told os) (all_told (R o) (R o) os (λ x r is. r) h.0) (pairs_told R os h.1)
+pairs_told R (o ∷ os) h =
+    pairs_if R (tells o) o (told os) (all_told (R o) (R o) os (λ x r is. r) h.0) (pairs_told R os h.1)
 
 later : (x : Operation) (xs : List Operation) (o : Operation) → Contains xs o → Contains (x ∷ xs) o
 later x xs o there = (let lt : there.0 < length xs = there.1 in (suc there.0, omega arith, there.2))
@@ -57,19 +61,22 @@ contains_told : (os : List Operation) (o : Operation) (k : ℕ) → k < length o
     tells o ≡ true → Contains (told os) o
 contains_told [] o k lt at is = absurd (omega arith)
 contains_told (x ∷ xs) o zero lt at is = contains_first (tells x) x (told xs) o (ap tells at ∙ is) at
-contains_told (x ∷ xs) o (suc k) lt at is = contains_if (tells x) x (told xs) o (contains_told xs o k (omega arith) at is)
+contains_told (x ∷ xs) o (suc k) lt at is =
+    contains_if (tells x) x (told xs) o (contains_told xs o k (omega arith) at is)
 
 -- A scan that is left out changes nothing.
 runs_if : (values : List ℕ) (end : Option ℕ) (b : Action) (o : Operation) (os : List Operation) → o.action ≡ b →
     Allows values o.action → RunsFrom (after values b) os →
     RunsFrom values (cond (is_told end b) (o ∷ os) os)
 runs_if values (Some e) b o os is allows rest = (allows, subst (λ y. RunsFrom (after values y) os) (sym is) rest)
-runs_if values None (Sets word value) o os is allows rest = (allows, subst (λ y. RunsFrom (after values y) os) (sym is) rest)
+runs_if values None (Sets word value) o os is allows rest =
+    (allows, subst (λ y. RunsFrom (after values y) os) (sym is) rest)
 runs_if values None (Sees view) o os is allows rest = rest
 
 runs_told : (values : List ℕ) (os : List Operation) → RunsFrom values os → RunsFrom values (told os)
 runs_told values [] h = tt
-runs_told values (o ∷ os) h = runs_if values o.end o.action o (told os) refl h.0 (runs_told (after values o.action) os h.1)
+runs_told values (o ∷ os) h =
+    runs_if values o.end o.action o (told os) refl h.0 (runs_told (after values o.action) os h.1)
 
 -- what holds of each place and each later one
 pairs_from : (R : Operation → Operation → Type 0) (os : List Operation) → AllPairs R os → Pairs R os
@@ -104,14 +111,19 @@ module _ (r : Run) where
       let kept = pairs_told Apart os apart in
       record {
         took_place = All-from_recursion (IsOperation r) (told os)
-            (all_told (IsCompleted r) (IsOperation r) os told_takes_place (recursion_from_All (IsCompleted r) os h.took_place));
+            (all_told (IsCompleted r) (IsOperation r) os told_takes_place
+            (recursion_from_All (IsCompleted r) os h.took_place));
         once = λ j k d lt short. (all_pairs Apart (told os) kept j k d lt short).0;
         complete = λ o took some. let there = h.complete o took some in
             contains_told os o there.0 there.1 there.2 (ended_is_told o.end some.0 o.action some.1);
-        order = keeps_order (told os) (all_told (λ o. EndedBefore o o → ⊥) (λ o. EndedBefore o o → ⊥) os (λ o none is. none) alone) kept;
+        order =
+            keeps_order (told os)
+            (all_told (λ o. EndedBefore o o → ⊥) (λ o. EndedBefore o o → ⊥) os (λ o none is. none) alone) kept;
         runs = runs_told (replicate r.shape.w 0) os h.runs;
       }
 
 pub strong_is_linearizable_lem : StrongIsLinearizable
-strong_is_linearizable_lem source shape strong items fits =
-    (told (strong.0 items), told_is_linearization (run_of_items source shape items) (strong.0 items) (strong.1.linearizes items fits))
+strong_is_linearizable_lem source shape strong items fits = (
+  told (strong.0 items),
+  told_is_linearization (run_of_items source shape items) (strong.0 items) (strong.1.linearizes items fits),
+)

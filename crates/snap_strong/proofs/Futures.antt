@@ -1,4 +1,5 @@
--- The two futures, computed: what the scan answers in each, and that the update has ended before they part.
+-- The two futures of a run of U, computed: what the scan answers
+-- in each, and that the update has ended before they part.
 use Rattle.std.specs.Prelude.{◌≡◌, ℕ, ◌<◌, ◌≤◌, Bool, true, false, [], ◌∷◌, ◌++◌, None, refl}
 use Rattle.std.proofs.Common.{ap, arith}
 use Rattle.snap_semantics.specs.declared.process.Outcome.{Outcome}
@@ -32,7 +33,9 @@ update_took_place = (
     first = omega arith;
     order = omega arith;
     last = omega arith;
-    goes_on = λ t lt less done. none_in (λ u. finishes (outcome (run_of 3 so_far) u)) 34 54 t refl lt (omega arith) (ap finishes done.1);
+    goes_on =
+        λ t lt less done.
+        none_in (λ u. finishes (outcome (run_of 3 so_far) u)) 34 54 t refl lt (omega arith) (ap finishes done.1);
   },
   omega arith,
   (refl, refl),
@@ -47,7 +50,9 @@ alone_answers = record {
     first = omega arith;
     order = omega arith;
     last = omega arith;
-    goes_on = λ t view lt less ends. none_in (λ u. answers (outcome (run_of 3 (so_far ++ alone)) u)) 21 59 t refl lt (omega arith) (ap answers ends.1);
+    goes_on =
+        λ t view lt less ends. none_in (λ u. answers (outcome (run_of 3 (so_far ++ alone)) u)) 21 59 t refl lt
+        (omega arith) (ap answers ends.1);
   };
   order = omega arith;
   ends = (refl, refl);
@@ -62,7 +67,9 @@ overtaken_answers = record {
     first = omega arith;
     order = omega arith;
     last = omega arith;
-    goes_on = λ t view lt less ends. none_in (λ u. answers (outcome (run_of 3 (so_far ++ overtaken)) u)) 21 76 t refl lt (omega arith) (ap answers ends.1);
+    goes_on =
+        λ t view lt less ends. none_in (λ u. answers (outcome (run_of 3 (so_far ++ overtaken)) u)) 21 76 t refl lt
+        (omega arith) (ap answers ends.1);
   };
   order = omega arith;
   ends = (refl, refl);

@@ -1,4 +1,4 @@
--- The call under which a process is, is its last one.
+-- `last_call` of a process is the call of the operation that it is at, in a run of any listing.
 use Rattle.std.specs.Prelude.{◌≡◌, ℕ, zero, suc, ◌<◌, ◌≤◌, Bool, true, false, ◌&&◌, length, nat_eq, if◌then◌else◌, refl}
 use Rattle.std.proofs.Common.{sym, ◌∙◌, ap, subst, arith, inl, inr}
 use Rattle.std.proofs.Math.Nat.{eq-or-lt_of_le}
@@ -34,7 +34,8 @@ IsAway Idle = ⊥
 IsAway _ = Unit {0}
 
 -- an item that is called finds its process idle, and sends it away
-is_call : {s s' : Status} {x : Item} {out : Outcome} → Transition s x out s' → out ≡ outcome.Called → (s ≡ Idle) × IsAway s'
+is_call : {s s' : Status} {x : Item} {out : Outcome} → Transition s x out s' →
+    out ≡ outcome.Called → (s ≡ Idle) × IsAway s'
 is_call (skipped s x why may) h = absurd (cc)
 is_call (calls i op line) h = (refl, tt)
 is_call (goes i b line link) h = absurd (cc)
@@ -77,9 +78,12 @@ module _ (r : Run) (fits : IsValidRun r) (i : ℕ) (one : IsOneOf r.shape.n i) w
       elim (eq-or-lt_of_le le) [
         | inl same ↦ (let own : who (item r (suc t)) ≡ i = subst (λ y. who (item r y) ≡ i) same his in
             (is_call (turn r fits t i (omega arith) one own) (subst (λ y. outcome_at r y ≡ outcome.Called) same out)).1)
-        | inr less ↦ (let past = away c t pos (omega arith) (omega arith) his out (λ u lt more. none u lt (omega arith)) in
+        | inr less ↦ (let past =
+            away c t pos (omega arith) (omega arith) his out (λ u lt more. none u lt (omega arith)) in
             elim (cases_eq (who (item r (suc t))) i) [
-              | inl own ↦ stays_away (turn r fits t i (omega arith) one own) (λ ends. none (suc t) (omega arith) (omega arith) own ends) past
+              | inl own ↦
+                  stays_away (turn r fits t i (omega arith) one own)
+                  (λ ends. none (suc t) (omega arith) (omega arith) own ends) past
               | inr other ↦ subst IsAway (sym (other_turn r fits t i (omega arith) one other)) past
             ])
       ]
@@ -105,7 +109,8 @@ module _ (r : Run) (fits : IsValidRun r) (i : ℕ) (one : IsOneOf r.shape.n i) w
       elim (cases_eq u.call (suc t)) [
         | inl here ↦
             let his : who (item r (suc t)) ≡ i = ap who (subst (λ y. item r y ≡ Call i op) here u.is.0) in
-            let out : outcome_at r (suc t) ≡ outcome.Called = subst (λ y. outcome_at r y ≡ outcome.Called) here u.is.1 in
+            let out : outcome_at r (suc t) ≡ outcome.Called =
+            subst (λ y. outcome_at r y ≡ outcome.Called) here u.is.1 in
             ap (λ k. if nat_eq k i && is_called (outcome_at r (suc t)) then suc t else last_call r i t) his
             ∙ ap (λ o. if nat_eq i i && is_called o then suc t else last_call r i t) out
             ∙ ap (λ b. if b && true then suc t else last_call r i t) (same_number i)

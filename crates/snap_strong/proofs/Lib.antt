@@ -1,3 +1,4 @@
+-- The proofs of snap_strong, by their modules.
 mod Futures
 mod Begins
 mod Apart

@@ -1,4 +1,4 @@
--- A strong choice would serve both futures.
+-- Listing U is not strongly linearizable: a strong choice of linearizations would serve both futures of a run.
 use Rattle.std.specs.Prelude.{◌≡◌, ℕ, ◌≤◌, true, ◌++◌, length, slice_index_or, refl}
 use Rattle.std.specs.List.{list_all, AllPass}
 use Rattle.std.proofs.Common.{arith}
@@ -15,19 +15,25 @@ use Rattle.snap_strong.proofs.Apart.{none_serves_both_lem}
 is_one_of : (n i : ℕ) → is_place n i ≡ true → IsOneOf n i
 is_one_of n i h = grind arith
 
-fits_by_test : (r : Run) → list_all (λ x. is_place r.shape.n (who x)) r.items ≡ true → length r.items ≤ 1000000 → IsValidRun r
+fits_by_test : (r : Run) → list_all (λ x. is_place r.shape.n (who x)) r.items ≡ true →
+    length r.items ≤ 1000000 → IsValidRun r
 fits_by_test r each few =
-    let pass : AllPass (λ x. is_place r.shape.n (who x)) r.items = AllPass-from_list_all (λ x. is_place r.shape.n (who x)) r.items each in
+    let pass : AllPass (λ x. is_place r.shape.n (who x)) r.items =
+    AllPass-from_list_all (λ x. is_place r.shape.n (who x)) r.items each in
     record {
-      all = recursion_from_All (λ x. IsOneOf r.shape.n (who x)) r.items (λ k d lt. is_one_of r.shape.n (who (slice_index_or r.items k d)) (pass k d lt));
+      all =
+          recursion_from_All (λ x. IsOneOf r.shape.n (who x)) r.items
+          (λ k d lt. is_one_of r.shape.n (who (slice_index_or r.items k d)) (pass k d lt));
     }
 
 pub u_is_not_strongly_linearizable_lem : UIsNotStronglyLinearizable
 u_is_not_strongly_linearizable_lem strong =
     let choose = strong.0 in
     let so_far_fits : IsValidRun (run_of 3 so_far) = fits_by_test (run_of 3 so_far) refl (omega arith) in
-    let alone_fits : IsValidRun (run_of 3 (so_far ++ alone)) = fits_by_test (run_of 3 (so_far ++ alone)) refl (omega arith) in
-    let overtaken_fits : IsValidRun (run_of 3 (so_far ++ overtaken)) = fits_by_test (run_of 3 (so_far ++ overtaken)) refl (omega arith) in
+    let alone_fits : IsValidRun (run_of 3 (so_far ++ alone)) =
+    fits_by_test (run_of 3 (so_far ++ alone)) refl (omega arith) in
+    let overtaken_fits : IsValidRun (run_of 3 (so_far ++ overtaken)) =
+    fits_by_test (run_of 3 (so_far ++ overtaken)) refl (omega arith) in
     none_serves_both_lem (choose so_far) (choose (so_far ++ alone)) (choose (so_far ++ overtaken))
     (strong.1.linearizes so_far so_far_fits)
     (strong.1.linearizes (so_far ++ alone) alone_fits)

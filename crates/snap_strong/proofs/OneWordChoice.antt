@@ -1,5 +1,6 @@
 -- The operations of the listing of one word in the order of their first steps are a linearization of each of its runs.
-use Rattle.std.specs.Prelude.{◌≡◌, ◌≢◌, ℕ, zero, suc, ◌-◌, ◌<◌, ◌≤◌, max, Bool, true, false, List, [], ◌∷◌, ◌++◌, map, length, Option, Some, None, nat_eq, replicate, refl}
+use Rattle.std.specs.Prelude.{◌≡◌, ◌≢◌, ℕ, zero, suc, ◌-◌, ◌<◌, ◌≤◌, max, Bool, true, false, List, [], ◌∷◌, ◌++◌, map}
+use Rattle.std.specs.Prelude.{length, Option, Some, None, nat_eq, replicate, refl}
 use Rattle.std.specs.List.{AllByRecursion, Contains}
 use Rattle.std.proofs.Common.{sym, ◌∙◌, ap, subst, arith, inl, inr}
 use Rattle.std.proofs.Math.Nat.{eq-or-lt_of_le}
@@ -32,13 +33,19 @@ use Rattle.snap_runs.proofs.Order.{Pairs, Apart, all_pairs, all_push, all_weaker
 use Rattle.snap_strong.specs.StrongLinearization.{IsCompleted, IsCompletedLinearization}
 use Rattle.snap_strong.specs.OneWord.{one_word, shared_by}
 use Rattle.snap_strong.proofs.LastCall.{last_call_is}
-use Rattle.snap_strong.proofs.OneWordItems.{booked, process, Stage, idle, stage_map, stage_begun, stage_closed, Leaves, Quiet, Begins, Closes, item_does}
-use Rattle.snap_strong.proofs.Placed.{op_of, outcome_of, ends_so, ends_is_end, same_action, end_at, ended, not_ended_before, ended_now, EndUpTo, Placed, placed_longer, placed_closed, ended_at, placed_shorter, not_before_itself, completed, placed, all_map, all_both, contained, Contains-map, pairs_ended, RunsTo, starts_from, runs_ended, segments_more}
+use Rattle.snap_strong.proofs.OneWordItems.{booked, process, Stage, idle, stage_map, stage_begun, stage_closed}
+use Rattle.snap_strong.proofs.OneWordItems.{Leaves, Quiet, Begins, Closes, item_does}
+use Rattle.snap_strong.proofs.Placed.{op_of, outcome_of, ends_so, ends_is_end, same_action, end_at, ended}
+use Rattle.snap_strong.proofs.Placed.{not_ended_before, ended_now, EndUpTo, Placed, placed_longer, placed_closed}
+use Rattle.snap_strong.proofs.Placed.{ended_at, placed_shorter, not_before_itself, completed, placed, all_map}
+use Rattle.snap_strong.proofs.Placed.{all_both, contained, Contains-map, pairs_ended, RunsTo}
+use Rattle.snap_strong.proofs.Placed.{starts_from, runs_ended, segments_more}
 
 -- the operations that have taken place up to item t + 1, where these have up to item t
 abbrev pub booked_at : Run → ℕ → List Operation → List Operation
 booked_at r t os =
-    booked (who (item r (suc t))) (last_call r (who (item r (suc t))) t) (suc t) (values (state r t)) (outcome_at r (suc t))
+    booked (who (item r (suc t))) (last_call r (who (item r (suc t))) t) (suc t)
+    (values (state r t)) (outcome_at r (suc t))
     (process_at (state r t) (who (item r (suc t)))).status os
 
 -- the operations that have taken place up to item t
@@ -68,13 +75,16 @@ free_now i e os h =
     (λ o u his still. ended_now (nat_eq o.process i) e o.end (ap (λ y. nat_eq y i) his ∙ same_number i) still) h
 
 its_kept : (i k e c : ℕ) (b : Action) → i ≢ k → ended k e (its i c b) ≡ its i c b
-its_kept i k e c b other = ap (λ y. let o : Operation = record { process = i; call = c; end = end_at y e None; action = b } in o) (other_number i k other)
+its_kept i k e c b other =
+    ap (λ y. let o : Operation = record { process = i; call = c; end = end_at y e None; action = b } in o)
+    (other_number i k other)
 
 took_ended : (i k e : ℕ) (os : List Operation) (b : Action) → i ≢ k → Took i os b → Took i (map (ended k e) os) b
 took_ended i k e os b other h = (
   h.0,
   subst (Contains (map (ended k e) os)) (its_kept i k e h.0 b other) (Contains-map (ended k e) os (its i h.0 b) h.1),
-  all_map (λ o. o.process ≡ i → o.end ≡ None → o.action ≡ b) (λ o. o.process ≡ i → o.end ≡ None → o.action ≡ b) (ended k e) os
+  all_map (λ o. o.process ≡ i → o.end ≡ None → o.action ≡ b)
+      (λ o. o.process ≡ i → o.end ≡ None → o.action ≡ b) (ended k e) os
       (λ o only his still. only his (not_ended_before (nat_eq o.process k) e o.end still)) h.2,
 )
 
@@ -126,7 +136,10 @@ module _ (n : ℕ) (items : List Item) (fits : IsValidRun (run_of_items one_word
   others_words = replicate (max n 1 - 1) first_word
 
   abbrev with_words : List Word → Process
-  with_words ws = record { status = Idle; locals = record { scalars = []; rows = []; words = (a, ws) ∷ []; views = (s, 0 ∷ []) ∷ [] } }
+  with_words ws = record {
+    status = Idle;
+    locals = record { scalars = []; rows = []; words = (a, ws) ∷ []; views = (s, 0 ∷ []) ∷ [] };
+  }
 
   first_process : (i : ℕ) → IsOneOf n i → process_at (state r 0) i ≡ process Idle first_word others_words (0 ∷ [])
   first_process i one =
@@ -141,7 +154,9 @@ module _ (n : ℕ) (items : List Item) (fits : IsValidRun (run_of_items one_word
     word = first_word;
     word_is = refl;
     count = length-replicate n (initial_process one_word (shared_by n));
-    stages = λ i one. subst (Stage (Free i []) (Took i [])) (sym (first_process i one)) (idle first_word others_words (0 ∷ []) tt);
+    stages =
+        λ i one.
+        subst (Stage (Free i []) (Took i [])) (sym (first_process i one)) (idle first_word others_words (0 ∷ []) tt);
     placed = tt;
     apart = tt;
     complete = λ o p some. absurd (let pos : 0 < o.call = p.first in let le : o.call ≤ 0 = p.order in omega arith);
@@ -257,7 +272,8 @@ module _ (n : ℕ) (items : List Item) (fits : IsValidRun (run_of_items one_word
         let more : List Operation = os ++ o ∷ [] in
         let leaves = left q.word q.process q.leaves in
         let u : UnderCall r fits i (op_of q.action) t =
-        called_so (op_of q.action) (process_at S i).status q.activity q.busy q.op_is (under r fits t i (omega arith) one) in
+        called_so (op_of q.action) (process_at S i).status q.activity q.busy q.op_is
+        (under r fits t i (omega arith) one) in
         let now = now_placed q.action u q.stepped in
         let no_end : IsEnd does.1 → ⊥ = λ ends. subst IsEnd q.stepped ends in
         record {
@@ -266,9 +282,11 @@ module _ (n : ℕ) (items : List Item) (fits : IsValidRun (run_of_items one_word
           count = leaves.count ∙ b.count;
           stages = λ j his. elim (cases_eq j i) [
             | inl same ↦ own_stage more q.process j same leaves.own
-                (stage_begun (Free i more) (Took i more) q.action q.process (took_now i (last_call r i t) os q.action q.free) q.stage)
+                (stage_begun (Free i more) (Took i more) q.action q.process
+                (took_now i (last_call r i t) os q.action q.free) q.stage)
             | inr other ↦ subst (Stage (Free j more) (Took j more)) (sym (leaves.others j his.0 other))
-                (stage_map (free_more j os o (λ same. other (sym same))) (λ g. took_more j os o g (λ same. other (sym same)))
+                (stage_map (free_more j os o (λ same. other (sym same)))
+                (λ g. took_more j os o g (λ same. other (sym same)))
                 (b.stages j his))
           ];
           placed = all_push (Placed r (suc t)) os o (all_longer os no_end b.placed) now;
@@ -282,7 +300,9 @@ module _ (n : ℕ) (items : List Item) (fits : IsValidRun (run_of_items one_word
             | inl sooner ↦ Contains-append_left os (o ∷ []) x (b.complete x sooner some)
             | inr last ↦ absurd (ends_nothing x no_end h last)
           ];
-          runs = subst (RunsTo (0 ∷ []) more) (sym q.after_is) (segments_more (0 ∷ []) os (b.word.datum ∷ []) o b.runs q.allows);
+          runs =
+              subst (RunsTo (0 ∷ []) more) (sym q.after_is)
+              (segments_more (0 ∷ []) os (b.word.datum ∷ []) o b.runs q.allows);
         }
 
     -- an item that ends one
@@ -312,7 +332,8 @@ module _ (n : ℕ) (items : List Item) (fits : IsValidRun (run_of_items one_word
               (λ x h. let le : x.call ≤ t = h.order in let less : x.call < suc t = omega arith in less) b.placed)
               b.apart;
           complete = λ x h some. elim (placed_shorter r t x some h) [
-            | inl sooner ↦ subst (Contains next) (kept x.end some.0 (nat_eq x.process i) some.1 x.process x.call x.action)
+            | inl sooner ↦
+                subst (Contains next) (kept x.end some.0 (nat_eq x.process i) some.1 x.process x.call x.action)
                 (Contains-map (ended i (suc t)) os x (b.complete x sooner some))
             | inr last ↦ subst (Contains next) (same_one x h last q.action q.ends q.took.0 its_place)
                 (Contains-map (ended i (suc t)) os mine q.took.1)
@@ -338,12 +359,15 @@ module _ (n : ℕ) (items : List Item) (fits : IsValidRun (run_of_items one_word
             let calls : Calls r fits i (op_of x.action) x.call =
             (subst (λ k. item r x.call ≡ Call k (op_of x.action)) (sym his) h.call_is, h.called) in
             let same : c ≡ x.call =
-            one_call r fits i (op_of g) (op_of x.action) c x.call (suc t) one its_place.first h.first (omega arith) sooner (omega arith)
+            one_call r fits i (op_of g) (op_of x.action) c x.call (suc t) one its_place.first h.first
+            (omega arith) sooner (omega arith)
             (its_place.call_is, its_place.called) calls
             (λ v more less ends. its_place.end v more less ends.0 ends.1)
             (λ v more less ends. end.4 v more less (ends.0 ∙ his) ends.1) in
-            let call : Call i (op_of g) ≡ Call i (op_of x.action) = sym its_place.call_is ∙ ap (item r) same ∙ calls.0 in
-            let action : g ≡ x.action = same_action g x.action (let both : op_of g ≡ op_of x.action = cc in both) (sym out ∙ end.3) in
+            let call : Call i (op_of g) ≡ Call i (op_of x.action) =
+            sym its_place.call_is ∙ ap (item r) same ∙ calls.0 in
+            let action : g ≡ x.action =
+            same_action g x.action (let both : op_of g ≡ op_of x.action = cc in both) (sym out ∙ end.3) in
             same_parts i x.process c x.call (end_at (nat_eq i i) (suc t) None) x.end g x.action his same
             (ap (λ y. end_at y (suc t) None) (same_number i) ∙ sym last) action
 
@@ -356,7 +380,8 @@ module _ (n : ℕ) (items : List Item) (fits : IsValidRun (run_of_items one_word
           | inl q ↦ subst (Book (suc t)) (sym (q.booked_is (last_call r i t) (suc t) (values S) os)) (quiet os b q)
           | inr more ↦ elim more [
             | inl q ↦ subst (Book (suc t))
-                (sym (ap (λ now. booked i (last_call r i t) (suc t) now (outcome_at r (suc t)) (process_at S i).status os) S_values
+                (sym (ap (λ now.
+                booked i (last_call r i t) (suc t) now (outcome_at r (suc t)) (process_at S i).status os) S_values
                 ∙ q.booked_is (last_call r i t) (suc t) os))
                 (begins os b q)
             | inr q ↦ subst (Book (suc t)) (sym (q.booked_is (last_call r i t) (suc t) (values S) os)) (closes os b q)
@@ -377,7 +402,8 @@ module _ (n : ℕ) (items : List Item) (fits : IsValidRun (run_of_items one_word
         once = λ j k d lt short. (all_pairs Apart os b.apart j k d lt short).0;
         complete = λ o took some. b.complete o (placed r o took some) some;
         order = keeps_order os
-            (all_weaker (Placed r (length items)) (λ o. EndedBefore o o → ⊥) os (not_before_itself r (length items)) b.placed)
+            (all_weaker (Placed r (length items)) (λ o. EndedBefore o o → ⊥) os
+            (not_before_itself r (length items)) b.placed)
             b.apart;
         runs = starts_from (0 ∷ []) os (b.word.datum ∷ []) b.runs;
       }

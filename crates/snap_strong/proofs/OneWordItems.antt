@@ -1,5 +1,8 @@
--- What one item does to the listing of one word: to the word, to its process, and to the operations that have taken place.
-use Rattle.std.specs.Prelude.{◌≡◌, ◌≢◌, ℕ, ◌-◌, ◌<◌, ◌≤◌, ◌⊎◌, max, Bool, true, false, ◌||◌, ◌&&◌, List, [], ◌∷◌, ◌++◌, map, length, Option, Some, None, Ok, nat_eq, nat_lt, nat_le, if◌then◌else◌, slice_index_or, slice_set, refl}
+-- What one item does to the listing of one word: to the word, to its process, and to the operations that have taken
+-- place.
+use Rattle.std.specs.Prelude.{◌≡◌, ◌≢◌, ℕ, ◌-◌, ◌<◌, ◌≤◌, ◌⊎◌, max, Bool, true, false, ◌||◌, ◌&&◌, List, [], ◌∷◌}
+use Rattle.std.specs.Prelude.{◌++◌, map, length, Option, Some, None, Ok, nat_eq, nat_lt, nat_le, if◌then◌else◌}
+use Rattle.std.specs.Prelude.{slice_index_or, slice_set, refl}
 use Rattle.std.proofs.Common.{sym, ap, subst, arith, inl, inr}
 use Rattle.std.proofs.lemmas.List.{length-set, get_or-set_same, get_or-set_other}
 use Rattle.snap_words.specs.Shape.{IsOneOf}
@@ -40,8 +43,8 @@ abbrev pub started : ℕ → ℕ → List ℕ → Bool → Op → List Operation
 started i c now true op os = os ++ record { process = i; call = c; end = None; action = action_of op now } ∷ []
 started i c now false op os = os
 
--- The operations after item e of process i, which is at its call of item c: one more where the item is the first step of that, and
--- ended where it ends it.
+-- The operations after item e of process i, which is at its call of item c: one more where the item is the first step
+-- of that, and ended where it ends it.
 abbrev pub booked : (i c e : ℕ) → List ℕ → Outcome → Status → List Operation → List Operation
 booked i c e now (outcome.Answered view) status os = map (ended i e) os
 booked i c e now outcome.Finished status os = map (ended i e) os
@@ -50,7 +53,10 @@ booked i c e now out status os = os
 
 -- a process of this listing, with the word that it has read last and the view
 abbrev pub process : Status → Word → List Word → List ℕ → Process
-process status x xs v = record { status = status; locals = record { scalars = []; rows = []; words = (a, x ∷ xs) ∷ []; views = (s, v) ∷ [] } }
+process status x xs v = record {
+  status = status;
+  locals = record { scalars = []; rows = []; words = (a, x ∷ xs) ∷ []; views = (s, v) ∷ [] };
+}
 
 abbrev pub at_line : Op → ℕ → Status
 at_line op line = Busy (record { op = op; line = line; link = None })
@@ -82,7 +88,8 @@ stage_map f t (crashed was l) = crashed was l
 -- it has just taken place, or ended
 pub stage_begun : (F : Type 0) (T : Action → Type 0) (g : Action) (p : Process) → T g → Stage ⊥ (λ b. b ≡ g) p →
     Stage F T p
-stage_begun F T g p took h = stage_map {F = ⊥} {G = F} {T = λ b. b ≡ g} {U = T} (λ none. absurd none) (λ b is. subst T (sym is) took) h
+stage_begun F T g p took h =
+    stage_map {F = ⊥} {G = F} {T = λ b. b ≡ g} {U = T} (λ none. absurd none) (λ b is. subst T (sym is) took) h
 
 pub stage_closed : (F : Type 0) (T : Action → Type 0) (p : Process) → F → Stage Unit (λ b. ⊥) p → Stage F T p
 stage_closed F T p free h = stage_map {F = Unit} {G = F} {T = λ b. ⊥} {U = T} (λ u. free) (λ b none. absurd none) h
@@ -103,12 +110,17 @@ module _ (S : State) (i : ℕ) (y : Word) (word : S.memory.words ≡ y ∷ []) (
   leaves_put m z p is = record {
     word = is;
     count = length-set S.processes (i - 1) p;
-    own = get_or-set_same S.processes (i - 1) p nobody (let pos : 0 < i = one.0 in let le : i ≤ length S.processes = one.1 in omega arith);
-    others = λ j pos other. get_or-set_other S.processes (i - 1) (j - 1) p nobody (λ same. other (let positive : 0 < i = one.0 in omega arith));
+    own =
+        get_or-set_same S.processes (i - 1) p nobody
+        (let pos : 0 < i = one.0 in let le : i ≤ length S.processes = one.1 in omega arith);
+    others =
+        λ j pos other. get_or-set_other S.processes (i - 1) (j - 1) p nobody
+        (λ same. other (let positive : 0 < i = one.0 in omega arith));
   }
 
 -- An item that no operation begins or ends with.
-pub record Quiet (F : Type 0) (T : Action → Type 0) (S : State) (i : ℕ) (y : Word) (status : Status) (d : State × Outcome) : Type 0 where
+pub record Quiet (F : Type 0) (T : Action → Type 0) (S : State) (i : ℕ) (y : Word) (status : Status)
+    (d : State × Outcome) : Type 0 where
   pub process : Process
   pub stage : Stage F T process
   pub leaves : Leaves S d.0 i y process
@@ -128,12 +140,14 @@ pub record Begins (F : Type 0) (S : State) (i : ℕ) (y : Word) (status : Status
   pub op_is : activity.op ≡ op_of action
   pub stepped : d.1 ≡ outcome.Stepped
   pub booked_is : (c e : ℕ) (os : List Operation) →
-      booked i c e (y.datum ∷ []) d.1 status os ≡ os ++ record { process = i; call = c; end = None; action = action } ∷ []
+      booked i c e (y.datum ∷ []) d.1 status os
+      ≡ os ++ record { process = i; call = c; end = None; action = action } ∷ []
   pub allows : Allows (y.datum ∷ []) action
   pub after_is : word.datum ∷ [] ≡ after (y.datum ∷ []) action
 
 -- An item that ends an operation.
-pub record Closes (T : Action → Type 0) (S : State) (i : ℕ) (y : Word) (status : Status) (d : State × Outcome) : Type 0 where
+pub record Closes (T : Action → Type 0) (S : State) (i : ℕ) (y : Word) (status : Status)
+    (d : State × Outcome) : Type 0 where
   pub action : Action
   pub took : T action
   pub process : Process
@@ -142,7 +156,8 @@ pub record Closes (T : Action → Type 0) (S : State) (i : ℕ) (y : Word) (stat
   pub ends : d.1 ≡ outcome_of action
   pub booked_is : (c e : ℕ) (now : List ℕ) (os : List Operation) → booked i c e now d.1 status os ≡ map (ended i e) os
 
-abbrev pub Case : (F : Type 0) (T : Action → Type 0) (S : State) (i : ℕ) (y : Word) (status : Status) → State × Outcome → Type 0
+abbrev pub Case : (F : Type 0) (T : Action → Type 0) (S : State) (i : ℕ) (y : Word)
+    (status : Status) → State × Outcome → Type 0
 Case F T S i y status d = Quiet F T S i y status d ⊎ (Begins F S i y status d ⊎ Closes T S i y status d)
 
 module _ (n : ℕ) (F : Type 0) (T : Action → Type 0) (S : State) (i : ℕ) (y : Word) (word : S.memory.words ≡ y ∷ [])
@@ -229,7 +244,9 @@ module _ (n : ℕ) (F : Type 0) (T : Action → Type 0) (S : State) (i : ℕ) (y
     process = process (at_line (Update 1 value) 21) x xs v;
     stage = finishes value x xs v refl;
     word = written value;
-    leaves = leaves_put S i y word one (with_memory_words (slice_set S.memory.words 0 (written value)) S.memory) (written value)
+    leaves =
+        leaves_put S i y word one (with_memory_words (slice_set S.memory.words 0 (written value)) S.memory)
+        (written value)
         (process (at_line (Update 1 value) 21) x xs v) (ap (λ ws. slice_set ws 0 (written value)) word);
     activity = record { op = Update 1 value; line = 20; link = None };
     busy = refl;
@@ -268,11 +285,13 @@ module _ (n : ℕ) (F : Type 0) (T : Action → Type 0) (S : State) (i : ℕ) (y
   is_called p (Update w value) is (idle x xs v f) = by_word (nat_lt 0 w && nat_le w 1) refl
     where
       by_word : (b : Bool) → (nat_lt 0 w && nat_le w 1) ≡ b →
-          Case F T S i y Idle (called one_word S i (process Idle x xs v) (Update w value) (if b then None else Some reason.NoSuchWord))
+          Case F T S i y Idle
+          (called one_word S i (process Idle x xs v) (Update w value) (if b then None else Some reason.NoSuchWord))
       by_word true there =
           let only : w ≡ 1 = grind arith in
           starts (process Idle x xs v) (at_line (Update w value) 20)
-          (subst (λ z. Stage F T (process (at_line (Update z value) 20) x xs v)) (sym only) (writes value x xs v f)) Idle
+          (subst (λ z. Stage F T (process (at_line (Update z value) 20) x xs v)) (sym only) (writes value x xs v f))
+          Idle
       by_word false there = skips (process Idle x xs v) reason.NoSuchWord is (idle x xs v f)
   is_called p op is (reads x xs v f) = skips p reason.Busy is (reads x xs v f)
   is_called p op is (views x xs v t) = skips p reason.Busy is (views x xs v t)
@@ -297,15 +316,20 @@ module _ (n : ℕ) (F : Type 0) (T : Action → Type 0) (S : State) (i : ℕ) (y
   crashes p is (reads x xs v f) = stops p (Some (record { op = Scan; line = 10; link = None })) (at_line Scan 10)
   crashes p is (views x xs v t) = stops p (Some (record { op = Scan; line = 11; link = None })) (at_line Scan 11)
   crashes p is (returns x xs v t) = stops p (Some (record { op = Scan; line = 12; link = None })) (at_line Scan 12)
-  crashes p is (writes value x xs v f) = stops p (Some (record { op = Update 1 value; line = 20; link = None })) (at_line (Update 1 value) 20)
-  crashes p is (finishes value x xs v t) = stops p (Some (record { op = Update 1 value; line = 21; link = None })) (at_line (Update 1 value) 21)
+  crashes p is (writes value x xs v f) =
+      stops p (Some (record { op = Update 1 value; line = 20; link = None })) (at_line (Update 1 value) 20)
+  crashes p is (finishes value x xs v t) =
+      stops p (Some (record { op = Update 1 value; line = 21; link = None })) (at_line (Update 1 value) 21)
   crashes p is (crashed was l) = skips p reason.Crashed is (crashed was l)
 
   pub item_does : (x : Item) → who x ≡ i → Stage F T (process_at S i) →
       Case F T S i y (process_at S i).status (done one_word (shared_by n) S x)
   item_does (Step k) his stage =
-      subst (λ j. Case F T S i y (process_at S i).status (done one_word (shared_by n) S (Step j))) (sym his) (steps (process_at S i) refl stage)
+      subst (λ j. Case F T S i y (process_at S i).status (done one_word (shared_by n) S (Step j))) (sym his)
+      (steps (process_at S i) refl stage)
   item_does (Call k op) his stage =
-      subst (λ j. Case F T S i y (process_at S i).status (done one_word (shared_by n) S (Call j op))) (sym his) (is_called (process_at S i) op refl stage)
+      subst (λ j. Case F T S i y (process_at S i).status (done one_word (shared_by n) S (Call j op))) (sym his)
+      (is_called (process_at S i) op refl stage)
   item_does (Crash k) his stage =
-      subst (λ j. Case F T S i y (process_at S i).status (done one_word (shared_by n) S (Crash j))) (sym his) (crashes (process_at S i) refl stage)
+      subst (λ j. Case F T S i y (process_at S i).status (done one_word (shared_by n) S (Crash j))) (sym his)
+      (crashes (process_at S i) refl stage)

@@ -1,5 +1,6 @@
 -- The operations of the listing of one word stay in their order however a run goes on.
-use Rattle.std.specs.Prelude.{◌≡◌, ℕ, zero, suc, ◌<◌, ◌≤◌, Bool, true, false, ◌&&◌, List, [], ◌∷◌, ◌++◌, map, length, nat_eq, if◌then◌else◌, refl}
+use Rattle.std.specs.Prelude.{◌≡◌, ℕ, zero, suc, ◌<◌, ◌≤◌, Bool, true, false, ◌&&◌, List, [], ◌∷◌, ◌++◌, map, length}
+use Rattle.std.specs.Prelude.{nat_eq, if◌then◌else◌, refl}
 use Rattle.std.proofs.Common.{sym, ◌∙◌, ap, subst, arith, inl, inr, append_assoc}
 use Rattle.std.proofs.Math.Nat.{eq-or-lt_of_le}
 use Rattle.std.proofs.lemmas.List.{append-nil, map-append, take-append-le, get_or_append_left, length-append}
@@ -65,7 +66,8 @@ begins_later r t (suc u) le =
     elim (eq-or-lt_of_le le) [
       | inl same ↦ subst (λ k. BeginsWith (taken r (suc u)) (taken r k)) (sym same) (begins_same (taken r (suc u)))
       | inr less ↦ begins_on (taken r t) (taken r u) (taken r (suc u)) (begins_later r t u (omega arith))
-          (begins_booked (who (item r (suc u))) (last_call r (who (item r (suc u))) u) (suc u) (values (state r u)) (outcome_at r (suc u))
+          (begins_booked (who (item r (suc u))) (last_call r (who (item r (suc u))) u) (suc u)
+          (values (state r u)) (outcome_at r (suc u))
           (process_at (state r u) (who (item r (suc u)))).status (taken r u))
     ]
 
@@ -91,19 +93,24 @@ module _ (source : Source) (shape : Counts) (xs ys : List Item) where
   same_call : (i t : ℕ) → t ≤ length xs → last_call long i t ≡ last_call short i t
   same_call i zero le = refl
   same_call i (suc t) le =
-      ap (λ x. if nat_eq (who x) i && is_called (outcome_at long (suc t)) then suc t else last_call long i t) (same_item t le)
-      ∙ ap (λ o. if nat_eq (who (item short (suc t))) i && is_called o then suc t else last_call long i t) (same_outcome t le)
-      ∙ ap (λ c. if nat_eq (who (item short (suc t))) i && is_called (outcome_at short (suc t)) then suc t else c) (same_call i t (omega arith))
+      ap (λ x. if nat_eq (who x) i && is_called (outcome_at long (suc t)) then suc t else last_call long i t)
+      (same_item t le)
+      ∙ ap (λ o. if nat_eq (who (item short (suc t))) i && is_called o then suc t else last_call long i t)
+      (same_outcome t le)
+      ∙ ap (λ c. if nat_eq (who (item short (suc t))) i && is_called (outcome_at short (suc t)) then suc t else c)
+      (same_call i t (omega arith))
 
   pub same_taken : (t : ℕ) → t ≤ length xs → taken long t ≡ taken short t
   same_taken zero le = refl
   same_taken (suc t) le =
       let i = who (item short (suc t)) in
-      ap (λ x. next (who x) (last_call long (who x) t) (state long t) (outcome_at long (suc t)) (taken long t)) (same_item t le)
+      ap (λ x. next (who x) (last_call long (who x) t) (state long t) (outcome_at long (suc t)) (taken long t))
+      (same_item t le)
       ∙ ap (λ c. next i c (state long t) (outcome_at long (suc t)) (taken long t)) (same_call i t (omega arith))
       ∙ ap (λ S. next i (last_call short i t) S (outcome_at long (suc t)) (taken long t)) (same_state t (omega arith))
       ∙ ap (λ o. next i (last_call short i t) (state short t) o (taken long t)) (same_outcome t le)
-      ∙ ap (λ os. next i (last_call short i t) (state short t) (outcome_at short (suc t)) os) (same_taken t (omega arith))
+      ∙ ap (λ os. next i (last_call short i t) (state short t) (outcome_at short (suc t)) os)
+      (same_taken t (omega arith))
     where
       next : (i c : ℕ) → State → Outcome → List Operation → List Operation
       next i c S out os = booked i c (suc t) (values S) out (process_at S i).status os
@@ -116,5 +123,8 @@ module _ (source : Source) (shape : Counts) (xs ys : List Item) where
 pub one_word_is_strongly_linearizable_lem : OneWordIsStronglyLinearizable
 one_word_is_strongly_linearizable_lem n = (
   λ items. taken (run_of_items one_word (shared_by n) items) (length items),
-  record { linearizes = λ items fits. linearizes n items fits; stays = λ items more fits. stays one_word (shared_by n) items more },
+  record {
+    linearizes = λ items fits. linearizes n items fits;
+    stays = λ items more fits. stays one_word (shared_by n) items more;
+  },
 )

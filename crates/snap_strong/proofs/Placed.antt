@@ -1,5 +1,6 @@
 -- Operations that have taken place among the first items of a run of any listing, ended or not.
-use Rattle.std.specs.Prelude.{◌≡◌, ℕ, suc, ◌<◌, ◌≤◌, ◌⊎◌, Bool, true, false, List, [], ◌∷◌, ◌++◌, map, length, Option, Some, None, nat_eq, refl}
+use Rattle.std.specs.Prelude.{◌≡◌, ℕ, suc, ◌<◌, ◌≤◌, ◌⊎◌, Bool, true, false, List, [], ◌∷◌, ◌++◌, map, length, Option}
+use Rattle.std.specs.Prelude.{Some, None, nat_eq, refl}
 use Rattle.std.specs.List.{AllByRecursion, Contains}
 use Rattle.std.proofs.Common.{sym, ◌∙◌, ap, subst, arith, inl, inr}
 use Rattle.std.proofs.Math.Nat.{eq-or-lt_of_le}
@@ -50,7 +51,8 @@ end_at true e (Some d) = Some d
 end_at false e end = end
 
 abbrev pub ended : ℕ → ℕ → Operation → Operation
-ended i e o = record { process = o.process; call = o.call; end = end_at (nat_eq o.process i) e o.end; action = o.action }
+ended i e o =
+    record { process = o.process; call = o.call; end = end_at (nat_eq o.process i) e o.end; action = o.action }
 
 pub not_ended_before : (b : Bool) (e : ℕ) (end : Option ℕ) → end_at b e end ≡ None → end ≡ None
 not_ended_before true e None h = refl
@@ -75,7 +77,8 @@ module _ (r : Run) where
   -- its end, where it has ended up to item t
   abbrev pub EndUpTo : ℕ → ℕ → Action → ℕ → Option ℕ → Type 0
   EndUpTo i c b t None = GoesOn i c (op_of b) (suc t)
-  EndUpTo i c b t (Some e) = (c < e) × (e ≤ t) × (who (item r e) ≡ i) × (outcome_at r e ≡ outcome_of b) × GoesOn i c (op_of b) e
+  EndUpTo i c b t (Some e) =
+      (c < e) × (e ≤ t) × (who (item r e) ≡ i) × (outcome_at r e ≡ outcome_of b) × GoesOn i c (op_of b) e
 
   -- It was called, and has ended so, among the first t items.
   pub record Placed (t : ℕ) (o : Operation) : Type 0 where
@@ -93,13 +96,16 @@ module _ (r : Run) where
   end_longer i c t b None none h = λ u lt less his ends.
       let le : u ≤ suc t = omega arith in
       elim (eq-or-lt_of_le le) [
-        | inl same ↦ none refl (subst (λ y. who (item r y) ≡ i) same his) (subst (λ y. EndsWith (op_of b) (outcome_at r y)) same ends)
+        | inl same ↦
+            none refl (subst (λ y. who (item r y) ≡ i) same his)
+            (subst (λ y. EndsWith (op_of b) (outcome_at r y)) same ends)
         | inr sooner ↦ h u lt sooner his ends
       ]
   end_longer i c t b (Some e) none h = (h.0, (let le : e ≤ t = h.1 in omega arith), h.2, h.3, h.4)
 
   pub placed_longer : (t : ℕ) (o : Operation) →
-      (o.end ≡ None → who (item r (suc t)) ≡ o.process → EndsWith (op_of o.action) (outcome_at r (suc t)) → ⊥) → Placed t o → Placed (suc t) o
+      (o.end ≡ None → who (item r (suc t)) ≡ o.process → EndsWith (op_of o.action) (outcome_at r (suc t)) → ⊥) →
+      Placed t o → Placed (suc t) o
   placed_longer t o none h = record {
     one = h.one;
     call_is = h.call_is;
@@ -112,14 +118,16 @@ module _ (r : Run) where
   -- where it does
   end_closed : (i c t k : ℕ) (b : Action) (end : Option ℕ) (his : Bool) → nat_eq i k ≡ his → who (item r (suc t)) ≡ k →
       c ≤ t →
-      (i ≡ k → end ≡ None → outcome_at r (suc t) ≡ outcome_of b) → EndUpTo i c b t end → EndUpTo i c b (suc t) (end_at his (suc t) end)
+      (i ≡ k → end ≡ None → outcome_at r (suc t) ≡ outcome_of b) → EndUpTo i c b t end →
+      EndUpTo i c b (suc t) (end_at his (suc t) end)
   end_closed i c t k b None true is at le ends h =
       let same : i ≡ k = grind arith in
       (omega arith, omega arith, at ∙ sym same, ends same refl, h)
   end_closed i c t k b (Some e) true is at le ends h = end_longer i c t b (Some e) (λ some. absurd (cc)) h
   end_closed i c t k b end false is at le ends h =
       end_longer i c t b end
-      (λ none his. absurd (let same : i ≡ k = sym his ∙ at in let yes : nat_eq i k ≡ true = grind arith in let q : ⊥ = cc in q)) h
+      (λ none his.
+      absurd (let same : i ≡ k = sym his ∙ at in let yes : nat_eq i k ≡ true = grind arith in let q : ⊥ = cc in q)) h
 
   pub placed_closed : (t k : ℕ) (o : Operation) → who (item r (suc t)) ≡ k →
       (o.process ≡ k → o.end ≡ None → outcome_at r (suc t) ≡ outcome_of o.action) → Placed t o →
@@ -158,7 +166,14 @@ module _ (r : Run) where
       elim (end_shorter o.process o.call t some.0 o.action o.end some.1 h.end) [
         | inl sooner ↦ (let there = end_is o.process o.call t some.0 o.action o.end some.1 sooner in
             let le : some.0 ≤ t = there.1 in
-            inl (record { one = h.one; call_is = h.call_is; called = h.called; first = h.first; order = omega arith; end = sooner }))
+            inl (record {
+              one = h.one;
+              call_is = h.call_is;
+              called = h.called;
+              first = h.first;
+              order = omega arith;
+              end = sooner;
+            }))
         | inr now ↦ inr (some.1 ∙ ap (λ y. Some y) now)
       ]
 
@@ -209,7 +224,9 @@ module _ (r : Run) where
       goes_on = λ u lt less done. h u lt (omega arith) done.0 (subst (EndsWith (Update word value)) (sym done.1) tt);
     },
     λ done. elim (eq-or-lt_of_le order) [
-      | inl same ↦ (let out : outcome.Called ≡ outcome.Finished = sym called ∙ ap (outcome_at r) same ∙ done.1 in let q : ⊥ = cc in q)
+      | inl same ↦
+          (let out : outcome.Called ≡ outcome.Finished =
+          sym called ∙ ap (outcome_at r) same ∙ done.1 in let q : ⊥ = cc in q)
       | inr lt ↦ h (length r.items) lt (omega arith) done.0 (subst (EndsWith (Update word value)) (sym done.1) tt)
     ],
   )
@@ -223,7 +240,9 @@ module _ (r : Run) where
       goes_on = λ u seen lt less ends. h u lt (omega arith) ends.0 (subst (EndsWith Scan) (sym ends.1) tt);
     },
     λ seen ends. elim (eq-or-lt_of_le order) [
-      | inl same ↦ (let out : outcome.Called ≡ outcome.Answered seen = sym called ∙ ap (outcome_at r) same ∙ ends.1 in let q : ⊥ = cc in q)
+      | inl same ↦
+          (let out : outcome.Called ≡ outcome.Answered seen =
+          sym called ∙ ap (outcome_at r) same ∙ ends.1 in let q : ⊥ = cc in q)
       | inr lt ↦ h (length r.items) lt (omega arith) ends.0 (subst (EndsWith Scan) (sym ends.1) tt)
     ],
   )
@@ -243,7 +262,13 @@ module _ (r : Run) where
         called = took.0.called;
         first = took.0.first;
         order = omega arith;
-        end = (lt, last, took.2.0, took.2.1, (λ u more less his ends. took.0.goes_on u more less (his, ends_done word value (outcome_at r u) ends)));
+        end = (
+          lt,
+          last,
+          took.2.0,
+          took.2.1,
+          (λ u more less his ends. took.0.goes_on u more less (his, ends_done word value (outcome_at r u) ends)),
+        );
       }
   placed_by i c e (Sees view) took =
       let last : e ≤ length r.items = took.scan.last in
@@ -259,13 +284,15 @@ module _ (r : Run) where
           last,
           took.ends.0,
           took.ends.1,
-          (λ u more less his ends. let x = ends_answer (outcome_at r u) ends in took.scan.goes_on u x.0 more less (his, x.1)),
+          (λ u more less his ends.
+              let x = ends_answer (outcome_at r u) ends in took.scan.goes_on u x.0 more less (his, x.1)),
         );
       }
 
   pub placed : (o : Operation) → IsOperation r o → HasEnded o → Placed (length r.items) o
   placed o took some =
-      subst (λ y. Placed (length r.items) (record { process = o.process; call = o.call; end = y; action = o.action })) (sym some.1)
+      subst (λ y. Placed (length r.items) (record { process = o.process; call = o.call; end = y; action = o.action }))
+      (sym some.1)
       (placed_by o.process o.call some.0 o.action (subst (λ y. TookPlace r o.process o.call y o.action) some.1 took))
 
 -- Lists of operations, where some of them end.
@@ -303,8 +330,10 @@ apart_ended k e x y early h = (
 pub pairs_ended : (k e : ℕ) (os : List Operation) → AllByRecursion (λ o. o.call < e) os → Pairs Apart os →
     Pairs Apart (map (ended k e) os)
 pairs_ended k e [] early h = tt
-pairs_ended k e (o ∷ os) early h =
-    (all_map (Apart o) (Apart (ended k e o)) (ended k e) os (λ y apart. apart_ended k e o y early.0 apart) h.0, pairs_ended k e os early.1 h.1)
+pairs_ended k e (o ∷ os) early h = (
+  all_map (Apart o) (Apart (ended k e o)) (ended k e) os (λ y apart. apart_ended k e o y early.0 apart) h.0,
+  pairs_ended k e os early.1 h.1,
+)
 
 -- The object runs them from these values to those.
 abbrev pub RunsTo : List ℕ → List Operation → List ℕ → Type 0

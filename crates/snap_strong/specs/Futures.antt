@@ -12,8 +12,8 @@ use Rattle.snap_strong.specs.StrongLinearization.{IsCompletedLinearization, Begi
 abbrev pub times : ℕ → ℕ → List Item
 times count i = replicate count (Step i)
 
--- Process 3 stands before its write. Process 1 has read all words, and words 1 and 2 again. Then process 2 updates its word, and
--- that has ended.
+-- Process 3 stands before its write. Process 1 has read all words, and words 1 and 2 again. Then process 2 updates
+-- its word, and that has ended.
 abbrev pub so_far : List Item
 so_far = Call 3 (Update 3 7) ∷ (times 19 3 ++ (Call 1 Scan ∷ (times 12 1 ++ (Call 2 (Update 2 5) ∷ times 21 2))))
 

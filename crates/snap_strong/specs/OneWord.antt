@@ -1,5 +1,5 @@
--- A listing that is strongly linearizable: one word, which every process may set and see. Each operation takes place at its
--- first step.
+-- A listing that is strongly linearizable: one word, which every process may set and see. Each operation takes place
+-- at its first step.
 use Rattle.std.specs.Prelude.{ℕ, [], ◌∷◌}
 use Rattle.snap_words.specs.Shape.{Counts}
 use Rattle.snap_words.specs.declared.kind.KindTag.TheVariants.{Multi}

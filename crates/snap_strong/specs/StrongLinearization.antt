@@ -16,13 +16,13 @@ IsOpenScan r i c None (Sees view) =
 IsOpenScan r i c None (Sets word value) = ⊥
 IsOpenScan r i c (Some e) a = ⊥
 
--- An operation of this run, completed: an update, ended or not, a scan with what it answered, or one that is open, with any
--- view.
+-- An operation of this run, completed: an update, ended or not, a scan with what it answered, or
+-- one that is open, with any view.
 abbrev pub IsCompleted : Run → Operation → Type 0
 IsCompleted r o = IsOperation r o ⊎ IsOpenScan r o.process o.call o.end o.action
 
--- A linearization as `IsLinearization` has it, in which scans that are open may stand too, each with the view that it is to
--- answer.
+-- A linearization as `IsLinearization` has it, in which scans that are open may stand too, each with
+-- the view that it is to answer.
 pub record IsCompletedLinearization (r : Run) (os : List Operation) : Type 0 where
   -- each is an operation of the run, completed
   pub took_place : All (IsCompleted r) os

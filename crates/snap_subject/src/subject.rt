@@ -1,7 +1,9 @@
-//! The listing of an input, or a shipped one.
+//! `Subject`: which listing a task runs, the first part of the input or the one shipped for a kind
+//! of registers. The program of it is made elsewhere.
 use snap_words::KindTag;
 
-/// The listing that a task runs: the first part of the input, or the one that is shipped for a kind of registers.
+/// The listing that a task runs: the first part of the input,
+/// or the one that is shipped for a kind of registers.
 #[derive(Clone, Copy, Debug, PartialEq, Eq)]
 pub enum Subject {
     FirstPart,

@@ -1,3 +1,4 @@
+-- The proofs of snap_survey, by their modules.
 pub mod Summaries
 pub mod Tallies
 pub mod Surveying

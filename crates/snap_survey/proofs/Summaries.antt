@@ -1,5 +1,6 @@
--- A summary, survey by survey.
-use Rattle.std.proofs.Common.{◌≡◌, ℕ, suc, ◌+◌, ◌<◌, Bool, true, false, List, [], ◌∷◌, length, max, nat_lt, if◌then◌else◌, refl, sym, ap, ◌∙◌, arith}
+-- A `Summary` of many runs, counted survey by survey: with what is left to count it makes the summary of all.
+use Rattle.std.proofs.Common.{◌≡◌, ℕ, suc, ◌+◌, ◌<◌, Bool, true, false, List, [], ◌∷◌, length, max, nat_lt}
+use Rattle.std.proofs.Common.{if◌then◌else◌, refl, sym, ap, ◌∙◌, arith}
 use Rattle.snap_survey.specs.Summary.{AreFewer, how_many, most_of, no_runs, summary_of, with_survey}
 use Rattle.snap_survey.specs.declared.summary.Summary.{Summary}
 use Rattle.snap_survey.specs.declared.findings.Survey.{Survey}
@@ -26,7 +27,17 @@ pub record Counting (all : List Survey) (m : Summary) (k : ℕ) (left : List Sur
 
 -- no run is beside them
 none_beside : (m : Summary) → together no_runs m ≡ m
-none_beside m = rw (beside m.schedules, beside m.answering, beside m.without_point, beside_most m.most_collects, beside m.updating, beside m.unfinished, beside m.trapping, beside m.crashing, beside m.skipping) refl where
+none_beside m = rw (
+  beside m.schedules,
+  beside m.answering,
+  beside m.without_point,
+  beside_most m.most_collects,
+  beside m.updating,
+  beside m.unfinished,
+  beside m.trapping,
+  beside m.crashing,
+  beside m.skipping,
+) refl where
   beside : (x : ℕ) → 0 + x ≡ x
   beside x = omega arith
 
@@ -38,7 +49,15 @@ pub all_left : (all : List Survey) → Counting all no_runs 0 all
 all_left all = record {
   total = none_beside (summary_of all);
   number = refl;
-  fewer = record { answering = omega arith; without_point = omega arith; updating = omega arith; unfinished = omega arith; trapping = omega arith; crashing = omega arith; skipping = omega arith };
+  fewer = record {
+    answering = omega arith;
+    without_point = omega arith;
+    updating = omega arith;
+    unfinished = omega arith;
+    trapping = omega arith;
+    crashing = omega arith;
+    skipping = omega arith;
+  };
 }
 
 -- one that is counted is no longer left
@@ -55,11 +74,13 @@ most_moved : (a b c : ℕ) → max (max b a) c ≡ max a (max b c)
 most_moved a b c = omega arith
 
 -- the same sum, with one survey counted
-same_total : (m : Summary) (s : Survey) (left : List Survey) → together (with_survey m s) (summary_of left) ≡ together m (summary_of (s ∷ left))
+same_total : (m : Summary) (s : Survey) (left : List Survey) →
+    together (with_survey m s) (summary_of left) ≡ together m (summary_of (s ∷ left))
 same_total m s left =
     rw (
       moved (nat_lt 0 s.scans_answered) m.answering (how_many (λ (x : Survey). nat_lt 0 x.scans_answered) left),
-      moved (nat_lt 0 s.scans_without_point) m.without_point (how_many (λ (x : Survey). nat_lt 0 x.scans_without_point) left),
+      moved (nat_lt 0 s.scans_without_point) m.without_point
+          (how_many (λ (x : Survey). nat_lt 0 x.scans_without_point) left),
       most_moved m.most_collects s.most_collects (most_of left),
       moved (nat_lt 0 s.updates_done) m.updating (how_many (λ (x : Survey). nat_lt 0 x.updates_done) left),
       moved (nat_lt 0 s.open_operations) m.unfinished (how_many (λ (x : Survey). nat_lt 0 x.open_operations) left),
@@ -70,8 +91,8 @@ same_total m s left =
     ) refl
 
 -- with one more counted, the others are left
-pub one_counted : (all : List Survey) (m : Summary) (k : ℕ) (s : Survey) (left rest : List Survey) → left ≡ s ∷ rest → Counting all m k left →
-    Counting all (with_survey m s) (k + 1) rest
+pub one_counted : (all : List Survey) (m : Summary) (k : ℕ) (s : Survey) (left rest : List Survey) → left ≡ s ∷ rest →
+    Counting all m k left → Counting all (with_survey m s) (k + 1) rest
 one_counted all m k s left rest is h =
     let f = h.fewer in
     let n = h.number in
@@ -91,7 +112,17 @@ one_counted all m k s left rest is h =
 
 -- nothing is beside no run
 alone : (m : Summary) → together m no_runs ≡ m
-alone m = rw (beside m.schedules, beside m.answering, beside m.without_point, beside_most m.most_collects, beside m.updating, beside m.unfinished, beside m.trapping, beside m.crashing, beside m.skipping) refl where
+alone m = rw (
+  beside m.schedules,
+  beside m.answering,
+  beside m.without_point,
+  beside_most m.most_collects,
+  beside m.updating,
+  beside m.unfinished,
+  beside m.trapping,
+  beside m.crashing,
+  beside m.skipping,
+) refl where
   beside : (x : ℕ) → x + 0 ≡ x
   beside x = omega arith
 
@@ -99,5 +130,6 @@ alone m = rw (beside m.schedules, beside m.answering, beside m.without_point, be
   beside_most x = omega arith
 
 -- at the end all are counted
-pub all_counted : (all : List Survey) (m : Summary) (k : ℕ) (left : List Survey) → left ≡ [] → Counting all m k left → m ≡ summary_of all
+pub all_counted : (all : List Survey) (m : Summary) (k : ℕ) (left : List Survey) → left ≡ [] →
+    Counting all m k left → m ≡ summary_of all
 all_counted all m k left none h = sym (alone m) ∙ ap (λ l. together m (summary_of l)) (sym none) ∙ h.total

@@ -1,3 +1,4 @@
+-- The definitions of snap_survey, by their modules.
 pub mod Survey
 pub mod Tally
 pub mod Summary

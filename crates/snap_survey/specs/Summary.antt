@@ -1,4 +1,5 @@
--- In how many of many runs there is what the fields of a survey count.
+-- `summary_of`: in how many of many surveyed runs a scan was answered, a scan has no point, a process trapped, and so
+-- on.
 use Rattle.std.specs.Prelude.{ℕ, suc, ◌+◌, ◌<◌, Bool, List, [], ◌∷◌, length, max, nat_lt, if◌then◌else◌}
 use Rattle.snap_survey.specs.declared.findings.Survey.{Survey}
 use Rattle.snap_survey.specs.declared.summary.Summary.{Summary}

@@ -1,5 +1,6 @@
 -- What a run came to: which operations were called, which have ended, and what kept the others from it.
-use Rattle.std.specs.Prelude.{ℕ, zero, suc, Bool, true, false, ◌&&◌, List, [], ◌∷◌, length, Option, Some, None, is_none, is_some, max, if◌then◌else◌}
+use Rattle.std.specs.Prelude.{ℕ, zero, suc, Bool, true, false, ◌&&◌, List, [], ◌∷◌, length, Option, Some, None}
+use Rattle.std.specs.Prelude.{is_none, is_some, max, if◌then◌else◌}
 use Rattle.snap_semantics.specs.declared.process.Item.{Item}
 use Rattle.snap_semantics.specs.declared.process.Item.TheVariants.{Call}
 use Rattle.snap_semantics.specs.declared.process.Op.TheVariants as op

@@ -15,17 +15,21 @@ field_text name x = name ++ decimal x
 -- scans that were answered, and those that were called; those without a point; the most double collects of one
 unfoldable pub scans_text : Survey → List ℕ
 scans_text s =
-    field_text (codes " scans ") s.scans_answered ++ field_text (codes " of ") s.scans_called ++ field_text (codes " without point ") s.scans_without_point
+    field_text (codes " scans ") s.scans_answered ++ field_text (codes " of ") s.scans_called
+    ++ field_text (codes " without point ") s.scans_without_point
     ++ field_text (codes " collects ") s.most_collects
 
 -- updates that are done, and those that were called; operations that have not ended
 unfoldable pub updates_text : Survey → List ℕ
 updates_text s =
-    field_text (codes " updates ") s.updates_done ++ field_text (codes " of ") s.updates_called ++ field_text (codes " open ") s.open_operations
+    field_text (codes " updates ") s.updates_done ++ field_text (codes " of ") s.updates_called
+    ++ field_text (codes " open ") s.open_operations
 
 -- items that trapped or crashed their process, or were skipped
 unfoldable pub halts_text : Survey → List ℕ
-halts_text s = field_text (codes " traps ") s.traps ++ field_text (codes " crashes ") s.crashes ++ field_text (codes " skips ") s.skips
+halts_text s =
+    field_text (codes " traps ") s.traps ++ field_text (codes " crashes ") s.crashes
+    ++ field_text (codes " skips ") s.skips
 
 -- an item and its process
 unfoldable pub first_text : ℕ → ℕ → List ℕ
@@ -34,7 +38,9 @@ first_text t i = codes " first" ++ field_text (codes " item ") t ++ field_text (
 -- the first trap, where there is one
 unfoldable pub trap_text : Option Trap → List ℕ
 trap_text None = []
-trap_text (Some x) = first_text x.item x.process ++ codes " " ++ outcome_text (outcome.Trapped x.cause) ++ field_text (codes " at ") x.line
+trap_text (Some x) =
+    first_text x.item x.process ++ codes " " ++ outcome_text (outcome.Trapped x.cause)
+    ++ field_text (codes " at ") x.line
 
 -- the first skipped item, where there is one
 unfoldable pub skip_text : Option Skip → List ℕ
@@ -44,7 +50,8 @@ skip_text (Some x) = first_text x.item x.process ++ codes " " ++ outcome_text (o
 -- what the run over schedule k came to
 unfoldable pub survey_line : ℕ → Survey → List ℕ
 survey_line k s =
-    field_text (codes "schedule ") k ++ scans_text s ++ updates_text s ++ halts_text s ++ trap_text s.first_trap ++ skip_text s.first_skip ++ codes "\n"
+    field_text (codes "schedule ") k ++ scans_text s ++ updates_text s ++ halts_text s ++ trap_text s.first_trap
+    ++ skip_text s.first_skip ++ codes "\n"
 
 -- the lines of surveys, the first of which is of schedule k
 abbrev pub survey_lines : ℕ → List Survey → List ℕ
@@ -63,11 +70,14 @@ summary_updates m = field_text (codes " updates ") m.updating ++ field_text (cod
 
 -- the runs with traps, crashes and skipped items
 unfoldable pub summary_halts : Summary → List ℕ
-summary_halts m = field_text (codes " traps ") m.trapping ++ field_text (codes " crashes ") m.crashing ++ field_text (codes " skips ") m.skipping
+summary_halts m =
+    field_text (codes " traps ") m.trapping ++ field_text (codes " crashes ") m.crashing
+    ++ field_text (codes " skips ") m.skipping
 
 -- in how many of the runs there is what the fields of a survey count
 unfoldable pub summary_line : Summary → List ℕ
-summary_line m = field_text (codes "schedules ") m.schedules ++ summary_scans m ++ summary_updates m ++ summary_halts m ++ codes "\n"
+summary_line m =
+    field_text (codes "schedules ") m.schedules ++ summary_scans m ++ summary_updates m ++ summary_halts m ++ codes "\n"
 
 -- a line for each survey, and one for all of them
 abbrev pub surveys_text : List Survey → List ℕ

@@ -1,4 +1,5 @@
--- What the first items of a run came to, and one item more.
+-- `tally_of`: what the first items of a run came to, in counts of calls, ends, traps, crashes and skips; and with one
+-- item more.
 use Rattle.std.specs.Prelude.{ℕ, suc, ◌<◌, ◌&&◌, None, if◌then◌else◌}
 use Rattle.snap_semantics.specs.declared.process.Item.{Item}
 use Rattle.snap_semantics.specs.declared.process.Outcome.{Outcome}
@@ -8,7 +9,9 @@ use Rattle.snap_semantics.specs.Table.{who}
 use Rattle.snap_runs.specs.Audit.{is_called}
 use Rattle.snap_runs.specs.Run.{Run}
 use Rattle.snap_runs.specs.Scan.{count}
-use Rattle.snap_survey.specs.Survey.{asks_scan, asks_update, is_done, is_trap, is_crash, is_skip, calls_scan, calls_update, ends_update, traps, crashes, is_skipped, trap_by, trap_at, skip_by, skip_at, first_found}
+use Rattle.snap_survey.specs.Survey.{asks_scan, asks_update, is_done, is_trap, is_crash, is_skip, calls_scan}
+use Rattle.snap_survey.specs.Survey.{calls_update, ends_update, traps, crashes, is_skipped}
+use Rattle.snap_survey.specs.Survey.{trap_by, trap_at, skip_by, skip_at, first_found}
 use Rattle.snap_survey.specs.declared.tally.Tally.{Tally}
 
 -- what the first t items came to
@@ -26,7 +29,16 @@ tally_of r t = record {
 
 -- before the first item
 abbrev pub none_noted : Tally
-none_noted = record { scans_called = 0; updates_called = 0; updates_done = 0; traps = 0; first_trap = None; crashes = 0; skips = 0; first_skip = None }
+none_noted = record {
+  scans_called = 0;
+  updates_called = 0;
+  updates_done = 0;
+  traps = 0;
+  first_trap = None;
+  crashes = 0;
+  skips = 0;
+  first_skip = None;
+}
 
 -- with item t, of this outcome, after which its process stands so
 abbrev pub noted : Tally → ℕ → Item → Outcome → Status → Tally

@@ -1,4 +1,5 @@
-//! What a survey of a run says.
+//! `Survey`: what a run came to: counts of operations called and ended, of scans without a point,
+//! and of traps, crashes and skips.
 use snap_semantics::{Cause, Reason};
 
 /// An item that trapped its process. Items count from 1.

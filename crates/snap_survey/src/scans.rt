@@ -1,4 +1,5 @@
-//! What the verdicts of a run say in numbers.
+//! From an audit's verdicts, for a `Survey`: how many scans have no point, and the most double
+//! collects of a scan.
 ghost use Rattle.std.specs.Prelude.{◌≡◌};
 ghost use Rattle.snap_survey.specs.Survey.{most_collects, without_point};
 

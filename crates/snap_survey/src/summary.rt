@@ -1,4 +1,4 @@
-//! What many runs came to together.
+//! `Summary`: in how many of many surveyed runs a scan was answered, a process trapped, and so on.
 ghost use Rattle.std.specs.Prelude.{◌≡◌, ◌+◌, ◌<◌, ◌^◌};
 ghost use Rattle.snap_survey.specs.Summary.{AreFewer, no_runs, summary_of, with_survey};
 

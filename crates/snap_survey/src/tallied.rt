@@ -1,4 +1,5 @@
-//! A record, and what its items came to.
+//! `survey`: a record does the items of a schedule and keeps a `Tally` of them, from which the
+//! `Survey` of the run is made.
 ghost use Rattle.std.specs.Prelude.{◌≡◌, ◌<◌, [], IfOk, OnOk, length};
 ghost use Rattle.snap_words.specs.Shape.{IsOneOf, max_items};
 ghost use Rattle.snap_semantics.specs.Table.{who};

@@ -1,4 +1,4 @@
-//! What the items of a run came to.
+//! `Tally`: counts, for a survey, of the calls, ends, traps, crashes and skips of a run so far.
 ghost use Rattle.std.specs.Prelude.{◌≡◌};
 ghost use Rattle.snap_survey.specs.Survey.{trap_of};
 ghost use Rattle.snap_survey.specs.Tally.{IsWithin, noted, none_noted};

@@ -1,4 +1,5 @@
--- What the runs of one listing over many schedules came to.
+-- `survey_text`: what the runs of one listing over many schedules came to, a line for each and one for all; and
+-- whether they are all clean.
 use Rattle.std.specs.Prelude.{ℕ, Bool, ◌==◌, ◌&&◌, List, [], ◌∷◌, map, Result, Ok, Err}
 use Rattle.std.specs.List.{list_all}
 use Rattle.snap_semantics.specs.declared.refusal.Refusal.{Refusal}

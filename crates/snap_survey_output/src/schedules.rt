@@ -1,4 +1,5 @@
-//! Many schedules for one listing.
+//! `schedules_for`: reads the many schedules of a survey, whose shapes are to fit the kind of the
+//! listing.
 ghost use Rattle.std.specs.Prelude.{◌≡◌, map};
 ghost use Rattle.snap_semantics.specs.Answers.{Answers};
 ghost use Rattle.snap_survey_output.specs.Surveys.{schedules_for};

@@ -1,4 +1,5 @@
-//! What many runs came to, a line for each, and one for all of them.
+//! `survey_runs`: what the runs of one listing over many schedules came to, a line for each and one
+//! for all of them.
 ghost use Rattle.std.specs.Prelude.{◌≡◌, ◌++◌, IfOk, OnOk, map};
 ghost use Rattle.std.specs.List.{list_all};
 ghost use Rattle.snap_semantics.specs.Answers.{Answers};

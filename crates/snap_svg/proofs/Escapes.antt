@@ -1,9 +1,12 @@
--- What is escaped begins no tag, and comes back.
-use Rattle.std.proofs.Common.{◌≡◌, ◌≢◌, ◌+◌, ◌-◌, ◌*◌, ◌/◌, ◌%◌, ◌<◌, ◌≤◌, ℕ, List, [], ◌∷◌, ◌++◌, Bool, true, false, not, ◌&&◌, ◌||◌, nat_eq, nat_lt, if◌then◌else◌, codes, All, refl, sym, subst, ap, ◌∙◌, arith}
+-- Text that is escaped for an SVG picture begins no tag, and is read back as it was.
+use Rattle.std.proofs.Common.{◌≡◌, ◌≢◌, ◌+◌, ◌-◌, ◌*◌, ◌/◌, ◌%◌, ◌<◌, ◌≤◌, ℕ, List, [], ◌∷◌, ◌++◌, Bool, true, false}
+use Rattle.std.proofs.Common.{not, ◌&&◌, ◌||◌, nat_eq, nat_lt, if◌then◌else◌, codes}
+use Rattle.std.proofs.Common.{All, refl, sym, subst, ap, ◌∙◌, arith}
 use Rattle.std.specs.List.{AllByRecursion}
 use Rattle.std.proofs.lemmas.Bool.{ltb-true, ltb-false, lt-ltb, le-ltb}
 use Rattle.std.proofs.lemmas.List.Elements.{All-append, All-from_recursion, recursion_from_All}
-use Rattle.snap_svg.specs.Escape.{digit_value, escaped, escaped_byte, hex_digit, is_markup, is_printed, plane, reference, unescaped, unescaped_from}
+use Rattle.snap_svg.specs.Escape.{digit_value, escaped, escaped_byte, hex_digit, is_markup, is_printed, plane}
+use Rattle.snap_svg.specs.Escape.{reference, unescaped, unescaped_from}
 
 -- a byte that stands for itself is no `<`
 not_less : (b : ℕ) → (is_printed b && not (is_markup b)) ≡ true → b ≢ 60
@@ -21,21 +24,54 @@ reference_no_tag : (b : ℕ) → AllByRecursion (λ x. x ≢ 60) (reference b)
 unfolding reference
 reference_no_tag b = by_plane (is_markup b)
   where
-    by_plane : (t : Bool) → AllByRecursion (λ x. x ≢ 60) (codes "&#x" ++ (if t then codes "00" else codes "E0") ++ hex_digit (b / 16) ∷ hex_digit (b % 16) ∷ 59 ∷ [])
-    by_plane true = ((λ e. omega (arith, e)), ((λ e. omega (arith, e)), ((λ e. omega (arith, e)), ((λ e. omega (arith, e)), ((λ e. omega (arith, e)), (digit_not_less (b / 16), (digit_not_less (b % 16), ((λ e. omega (arith, e)), tt))))))))
-    by_plane false = ((λ e. omega (arith, e)), ((λ e. omega (arith, e)), ((λ e. omega (arith, e)), ((λ e. omega (arith, e)), ((λ e. omega (arith, e)), (digit_not_less (b / 16), (digit_not_less (b % 16), ((λ e. omega (arith, e)), tt))))))))
+    by_plane : (t : Bool) → AllByRecursion (λ x. x ≢ 60)
+        (codes "&#x" ++ (if t then codes "00" else codes "E0") ++ hex_digit (b / 16) ∷ hex_digit (b % 16) ∷ 59 ∷ [])
+    by_plane true = (
+      (λ e. omega (arith, e)),
+      (
+        (λ e. omega (arith, e)),
+        (
+          (λ e. omega (arith, e)),
+          (
+            (λ e. omega (arith, e)),
+            (
+              (λ e. omega (arith, e)),
+              (digit_not_less (b / 16), (digit_not_less (b % 16), ((λ e. omega (arith, e)), tt))),
+            ),
+          ),
+        ),
+      ),
+    )
+    by_plane false = (
+      (λ e. omega (arith, e)),
+      (
+        (λ e. omega (arith, e)),
+        (
+          (λ e. omega (arith, e)),
+          (
+            (λ e. omega (arith, e)),
+            (
+              (λ e. omega (arith, e)),
+              (digit_not_less (b / 16), (digit_not_less (b % 16), ((λ e. omega (arith, e)), tt))),
+            ),
+          ),
+        ),
+      ),
+    )
 
 no_tag_byte : (b : ℕ) → AllByRecursion (λ x. x ≢ 60) (escaped_byte b)
 unfolding escaped_byte
 no_tag_byte b = by_form (is_printed b && not (is_markup b)) refl
   where
-    by_form : (t : Bool) → (is_printed b && not (is_markup b)) ≡ t → AllByRecursion (λ x. x ≢ 60) (if t then b ∷ [] else reference b)
+    by_form : (t : Bool) → (is_printed b && not (is_markup b)) ≡ t →
+        AllByRecursion (λ x. x ≢ 60) (if t then b ∷ [] else reference b)
     by_form true e = (not_less b e, tt)
     by_form false e = reference_no_tag b
 
 pub begins_no_tag : (text : List ℕ) → All (λ b. b ≢ 60) (escaped text)
 begins_no_tag [] = All-from_recursion (λ b. b ≢ 60) [] tt
-begins_no_tag (b ∷ text) = All-append (λ b. b ≢ 60) _ _ (All-from_recursion (λ b. b ≢ 60) _ (no_tag_byte b)) (begins_no_tag text)
+begins_no_tag (b ∷ text) =
+    All-append (λ b. b ≢ 60) _ _ (All-from_recursion (λ b. b ≢ 60) _ (no_tag_byte b)) (begins_no_tag text)
 
 -- a digit is read back
 digit_back : (d : ℕ) → d < 16 → digit_value (hex_digit d) ≡ d
@@ -74,15 +110,19 @@ digits_back b few =
     let low : b % 16 < 16 = omega arith in
     rw (digit_back (b / 16) high, digit_back (b % 16) low) (omega arith)
 
-byte_back : (b : ℕ) (rest : List ℕ) → b < 256 → unescaped_from 0 0 (escaped_byte b ++ rest) ≡ b ∷ unescaped_from 0 0 rest
+byte_back : (b : ℕ) (rest : List ℕ) → b < 256 →
+    unescaped_from 0 0 (escaped_byte b ++ rest) ≡ b ∷ unescaped_from 0 0 rest
 unfolding escaped_byte reference
 byte_back b rest few = by_form (is_printed b && not (is_markup b)) refl
   where
     by_form : (t : Bool) → (is_printed b && not (is_markup b)) ≡ t →
-        unescaped_from 0 0 ((if t then b ∷ [] else (codes "&#x" ++ plane b ++ hex_digit (b / 16) ∷ hex_digit (b % 16) ∷ 59 ∷ [])) ++ rest) ≡ b ∷ unescaped_from 0 0 rest
+        unescaped_from 0 0
+        ((if t then b ∷ [] else (codes "&#x" ++ plane b ++ hex_digit (b / 16) ∷ hex_digit (b % 16) ∷ 59 ∷ [])) ++ rest)
+        ≡ b ∷ unescaped_from 0 0 rest
     by_form true e = plain_back b rest (not_amp (is_printed b) (nat_eq b 38) _ e)
     by_form false e =
-        reference_back (is_markup b) (hex_digit (b / 16)) (hex_digit (b % 16)) rest ∙ ap (λ x. x ∷ unescaped_from 0 0 rest) (digits_back b few)
+        reference_back (is_markup b) (hex_digit (b / 16)) (hex_digit (b % 16)) rest
+        ∙ ap (λ x. x ∷ unescaped_from 0 0 rest) (digits_back b few)
 
 text_back : (text : List ℕ) → AllByRecursion (λ b. b < 256) text → unescaped_from 0 0 (escaped text) ≡ text
 unfolding unescaped_from

@@ -1,2 +1,3 @@
+-- The proofs of snap_svg, by their modules.
 pub mod Escapes
 pub mod Places

@@ -1,4 +1,4 @@
--- Places in a picture.
+-- For places in an SVG picture: a quotient is at most the number that is divided.
 use Rattle.std.proofs.Common.{ℕ, ◌/◌, ◌≤◌}
 use Rattle.std.proofs.Math.Nat.{div-le_self}
 

@@ -1,5 +1,6 @@
--- Text of others inside of an element: bytes that are no markup, and read back as they were.
-use Rattle.std.specs.Prelude.{◌≡◌, ℕ, ◌+◌, ◌-◌, ◌*◌, ◌/◌, ◌%◌, ◌<◌, ◌≢◌, Bool, not, ◌&&◌, ◌||◌, List, [], ◌∷◌, ◌++◌, All, nat_eq, nat_le, nat_lt, if◌then◌else◌, codes, flat_map}
+-- `escaped`: any text, put into an SVG element as bytes that are no markup, which are read back as it was.
+use Rattle.std.specs.Prelude.{◌≡◌, ℕ, ◌+◌, ◌-◌, ◌*◌, ◌/◌, ◌%◌, ◌<◌, ◌≢◌, Bool, not, ◌&&◌, ◌||◌, List, [], ◌∷◌, ◌++◌}
+use Rattle.std.specs.Prelude.{All, nat_eq, nat_le, nat_lt, if◌then◌else◌, codes, flat_map}
 
 -- & < > " '
 abbrev pub is_markup : ℕ → Bool
@@ -13,7 +14,8 @@ is_printed b = nat_eq b 9 || (nat_eq b 10 || (nat_le 32 b && nat_le b 126))
 abbrev pub hex_digit : ℕ → ℕ
 hex_digit d = if nat_lt d 10 then 48 + d else 55 + d
 
--- the first two of the four digits of a reference: a character that no text of XML may have is named by one for private use
+-- the first two of the four digits of a reference: a character that no text of XML may have
+-- is named by one for private use
 abbrev pub plane : ℕ → List ℕ
 plane b = if is_markup b then codes "00" else codes "E0"
 

@@ -1,5 +1,6 @@
--- The text around what is drawn: title, lanes, numbers of items, legend.
-use Rattle.std.specs.Prelude.{ℕ, zero, suc, ◌+◌, ◌-◌, ◌*◌, ◌/◌, ◌%◌, List, [], ◌∷◌, ◌++◌, Option, Some, None, codes, decimal, nat_le, if◌then◌else◌}
+-- The SVG around what is drawn of a run: title, lanes, numbers of items, legend.
+use Rattle.std.specs.Prelude.{ℕ, zero, suc, ◌+◌, ◌-◌, ◌*◌, ◌/◌, ◌%◌, List, [], ◌∷◌, ◌++◌, Option, Some, None, codes}
+use Rattle.std.specs.Prelude.{decimal, nat_le, if◌then◌else◌}
 use Rattle.snap_words.specs.declared.kind.KindTag.{KindTag}
 use Rattle.snap_words.specs.declared.kind.KindTag.TheVariants as kind
 use Rattle.snap_svg.specs.Elements.{line_text, words_head, edges_text}
@@ -13,7 +14,9 @@ kind_name kind.Bits = codes "bit"
 kind_name kind.Multi = codes "multi"
 
 unfoldable pub opening_of : ℕ → List ℕ
-opening_of height = codes "<svg xmlns=\"http://www.w3.org/2000/svg\" role=\"img\" viewBox=\"0 0 1600 " ++ decimal height ++ codes "\">\n"
+opening_of height =
+    codes "<svg xmlns=\"http://www.w3.org/2000/svg\" role=\"img\" viewBox=\"0 0 1600 "
+    ++ decimal height ++ codes "\">\n"
 
 unfoldable pub opening : Part → List ℕ
 opening p = opening_of (height p)
@@ -21,7 +24,8 @@ opening p = opening_of (height p)
 -- a listing of this kind and shape, and which of its items
 unfoldable pub items_words : List ℕ → (processes words first last total : ℕ) → List ℕ
 items_words kind processes words first last total =
-    codes "A listing of kind " ++ kind ++ codes ", shape " ++ decimal processes ++ codes " " ++ decimal words ++ codes ": items " ++ decimal first
+    codes "A listing of kind " ++ kind ++ codes ", shape " ++ decimal processes ++ codes " " ++ decimal words
+    ++ codes ": items " ++ decimal first
     ++ codes " to " ++ decimal last ++ codes " of " ++ decimal total
 
 -- which listing, and which items of its run
@@ -34,7 +38,8 @@ thin_words p = if is_thin p then codes ". Thinned: reads, tests and scans of upd
 
 unfoldable pub counts_words : Part → Counts → List ℕ
 counts_words p c =
-    codes "In the whole run: scans answered " ++ decimal c.scans ++ codes ", of these without a point " ++ decimal c.without_point
+    codes "In the whole run: scans answered " ++ decimal c.scans
+    ++ codes ", of these without a point " ++ decimal c.without_point
     ++ codes ", updates called " ++ decimal c.updates ++ thin_words p
 
 -- the name of the picture
@@ -58,7 +63,8 @@ input_text listing schedule = codes "<metadata>" ++ listing_part listing ++ esca
 -- the lane of a process, with its name at a height
 unfoldable pub lane_box : (i y name_y : ℕ) → List ℕ
 lane_box i y name_y =
-    codes "<rect class=\"lane\"" ++ edges_text 110 y 1460 56 ++ codes "/>" ++ words_head (codes "who") 12 name_y ++ codes "process " ++ decimal i
+    codes "<rect class=\"lane\"" ++ edges_text 110 y 1460 56 ++ codes "/>" ++ words_head (codes "who") 12 name_y
+    ++ codes "process " ++ decimal i
     ++ codes "</text>\n"
 
 unfoldable pub lane_text : ℕ → List ℕ
@@ -79,7 +85,8 @@ step_of n =
 -- the number of an item, below the lanes
 unfoldable pub tick_text : Part → ℕ → List ℕ
 tick_text p t =
-    line_text (codes "tick") (x_of p t) (y_end p) (x_of p t) (y_end p + 6) ++ words_head (codes "number") (x_of p t) (y_end p + 22) ++ decimal t
+    line_text (codes "tick") (x_of p t) (y_end p) (x_of p t) (y_end p + 6)
+    ++ words_head (codes "number") (x_of p t) (y_end p + 22) ++ decimal t
     ++ codes "</text>\n"
 
 -- the number of an item that is drawn
@@ -102,8 +109,11 @@ all_lanes p = lanes_text p.processes ++ all_ticks p (step_of (p.to - p.from))
 -- what stands before the shapes; the style and the definitions of arrow and hatch are given
 unfoldable pub head_text : Part → Counts → List ℕ → List ℕ
 head_text p c style =
-    opening p ++ name_text p c ++ style ++ titles p c ++ words_head (codes "who") 12 106 ++ codes "values</text>\n" ++ all_lanes p
+    opening p ++ name_text p c ++ style ++ titles p c ++ words_head (codes "who") 12 106
+    ++ codes "values</text>\n" ++ all_lanes p
 
 -- what stands behind them; the legend is given
 unfoldable pub foot_text : Part → List ℕ → List ℕ
-foot_text p legend = codes "<g class=\"legend\" transform=\"translate(12 " ++ decimal (y_end p + 50) ++ codes ")\">" ++ legend ++ codes "</g>\n</svg>\n"
+foot_text p legend =
+    codes "<g class=\"legend\" transform=\"translate(12 " ++ decimal (y_end p + 50) ++ codes ")\">"
+    ++ legend ++ codes "</g>\n</svg>\n"

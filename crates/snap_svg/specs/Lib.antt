@@ -1,3 +1,4 @@
+-- The definitions of snap_svg, by their modules.
 pub mod Escape
 pub mod Window
 pub mod Elements

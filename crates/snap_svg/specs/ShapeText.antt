@@ -1,9 +1,11 @@
--- The text of what is drawn.
-use Rattle.std.specs.Prelude.{ℕ, ◌+◌, Bool, true, false, not, ◌&&◌, List, [], ◌∷◌, ◌++◌, Option, Some, None, codes, decimal, nat_le, if◌then◌else◌}
+-- The SVG of what is drawn of a run: values, operations, scans with their points, and the marks of single items.
+use Rattle.std.specs.Prelude.{ℕ, ◌+◌, Bool, true, false, not, ◌&&◌, List, [], ◌∷◌, ◌++◌, Option, Some, None, codes}
+use Rattle.std.specs.Prelude.{decimal, nat_le, if◌then◌else◌}
 use Rattle.snap_semantics.specs.Report.{numbers_text, op_text}
 use Rattle.snap_semantics.specs.declared.process.Op.{Op}
 use Rattle.snap_semantics.specs.declared.process.Op.TheVariants as op
-use Rattle.snap_svg.specs.Elements.{box_body, box_head, dot_text, edges_text, group_head, line_text, path_head, words_head}
+use Rattle.snap_svg.specs.Elements.{box_body, box_head, dot_text, edges_text}
+use Rattle.snap_svg.specs.Elements.{group_head, line_text, path_head, words_head}
 use Rattle.snap_svg.specs.Window.{Part, is_here, is_near, is_thin, width_of, x_before, x_of, y_of}
 use Rattle.snap_svg.specs.declared.shape.Bar.{Bar}
 use Rattle.snap_svg.specs.declared.shape.End.{End}
@@ -25,24 +27,32 @@ least_words = 22
 
 -- `process I, items A to B: `
 unfoldable pub span_text : Span → List ℕ
-span_text s = codes "process " ++ decimal s.process ++ codes ", items " ++ decimal s.from ++ codes " to " ++ decimal s.to ++ codes ": "
+span_text s =
+    codes "process " ++ decimal s.process ++ codes ", items " ++ decimal s.from
+    ++ codes " to " ++ decimal s.to ++ codes ": "
 
 -- `item T, process I, line L: `
 unfoldable pub spot_text : Spot → List ℕ
-spot_text m = codes "item " ++ decimal m.item ++ codes ", process " ++ decimal m.process ++ codes ", line " ++ decimal m.line ++ codes ": "
+spot_text m =
+    codes "item " ++ decimal m.item ++ codes ", process " ++ decimal m.process ++ codes ", line "
+    ++ decimal m.line ++ codes ": "
 
 -- what is said of values
 unfoldable pub period_title : Period → List ℕ
-period_title s = codes "values" ++ numbers_text s.values ++ codes " from item " ++ decimal s.from ++ codes " to item " ++ decimal s.to
+period_title s =
+    codes "values" ++ numbers_text s.values ++ codes " from item " ++ decimal s.from
+    ++ codes " to item " ++ decimal s.to
 
 -- values, where there is room for them
 unfoldable pub values_words : ℕ → List ℕ → List ℕ
-values_words width values = if nat_le least_words width then words_head (codes "state") 5 22 ++ numbers_text values ++ codes "</text>" else []
+values_words width values =
+    if nat_le least_words width then words_head (codes "state") 5 22 ++ numbers_text values ++ codes "</text>" else []
 
 -- the values from an item on
 unfoldable pub period_box : Period → (x width : ℕ) → List ℕ
 period_box s x width =
-    box_head (codes "values") x 84 width 34 ++ period_title s ++ box_body ++ values_words width s.values ++ codes "</svg>\n"
+    box_head (codes "values") x 84 width 34 ++ period_title s ++ box_body
+    ++ values_words width s.values ++ codes "</svg>\n"
 
 unfoldable pub period_text : Part → Period → List ℕ
 period_text p s = period_box s (x_of p s.from) (width_of (x_of p s.from) (x_of p s.to))
@@ -61,7 +71,8 @@ bar_words b = op_text b.op ++ end_text b.end
 
 -- the same, where there is room for it
 unfoldable pub bar_label : ℕ → Bar → List ℕ
-bar_label width b = if nat_le least_words width then words_head (codes "words") 5 17 ++ bar_words b ++ codes "</text>" else []
+bar_label width b =
+    if nat_le least_words width then words_head (codes "words") 5 17 ++ bar_words b ++ codes "</text>" else []
 
 abbrev pub bar_class : Op → List ℕ
 bar_class op.Scan = codes "scan"
@@ -73,7 +84,8 @@ bar_span b = record { process = b.process; from = b.from; to = b.to }
 
 unfoldable pub bar_box : Bar → (x width : ℕ) → List ℕ
 bar_box b x width =
-    box_head (bar_class b.op) x (y_of b.process + 6) width 44 ++ span_text (bar_span b) ++ bar_words b ++ box_body ++ bar_label width b
+    box_head (bar_class b.op) x (y_of b.process + 6) width 44 ++ span_text (bar_span b) ++ bar_words b
+    ++ box_body ++ bar_label width b
     ++ codes "</svg>\n"
 
 unfoldable pub bar_text : Part → Bar → List ℕ
@@ -82,28 +94,35 @@ bar_text p b = bar_box b (x_before p b.from) (width_of (x_before p b.from) (x_of
 -- a scan within an update
 unfoldable pub embedded_box : Span → (x y width : ℕ) → List ℕ
 embedded_box s x y width =
-    box_head (codes "inner") x y width 18 ++ span_text s ++ codes "the scan of an update" ++ box_body ++ codes "</svg>\n"
+    box_head (codes "inner") x y width 18 ++ span_text s ++ codes "the scan of an update"
+    ++ box_body ++ codes "</svg>\n"
 
 unfoldable pub embedded_text : Part → Span → List ℕ
-embedded_text p s = embedded_box s (x_before p s.from) (y_of s.process + 30) (width_of (x_before p s.from) (x_of p s.to))
+embedded_text p s =
+    embedded_box s (x_before p s.from) (y_of s.process + 30) (width_of (x_before p s.from) (x_of p s.to))
 
 -- from the last write of a word to its read
 unfoldable pub trail_text : Part → Spot → Option Written → List ℕ
 trail_text p m None = []
 trail_text p m (Some w) =
-    if p.reads then line_text (codes "trail") (x_of p w.item) (y_of w.process + 39) (x_of p m.item) (y_of m.process + 39) else []
+    if p.reads
+    then line_text (codes "trail") (x_of p w.item) (y_of w.process + 39) (x_of p m.item) (y_of m.process + 39) else []
 
 unfoldable pub read_path : Spot → (word x y : ℕ) → List ℕ
 read_path m word x y =
-    path_head (codes "read") x y (codes "v10") ++ spot_text m ++ codes "reads r[" ++ decimal word ++ codes "]</title></path>"
+    path_head (codes "read") x y (codes "v10") ++ spot_text m ++ codes "reads r["
+    ++ decimal word ++ codes "]</title></path>"
 
 unfoldable pub read_text : Part → Read → List ℕ
 read_text p r =
-    read_path r.spot r.word (x_of p r.spot.item) (y_of r.spot.process + 34) ++ trail_text p r.spot r.written ++ codes "\n"
+    read_path r.spot r.word (x_of p r.spot.item) (y_of r.spot.process + 34)
+    ++ trail_text p r.spot r.written ++ codes "\n"
 
 -- what is said of a write
 unfoldable pub write_title : Write → List ℕ
-write_title w = spot_text w.spot ++ codes "writes r[" ++ decimal w.word ++ codes "], values" ++ numbers_text w.values ++ codes "</title>"
+write_title w =
+    spot_text w.spot ++ codes "writes r[" ++ decimal w.word ++ codes "], values"
+    ++ numbers_text w.values ++ codes "</title>"
 
 unfoldable pub write_text : Part → Write → List ℕ
 write_text p w =
@@ -130,7 +149,8 @@ unfoldable pub trap_text : Part → Spot → List ℕ
 trap_text p m = trap_path m (x_of p m.item) (y_of m.process + 8)
 
 unfoldable pub crash_path : Spot → (x y : ℕ) → List ℕ
-crash_path m x y = path_head (codes "crash") x y (codes "m-11-11l22 22m0-22l-22 22") ++ spot_text m ++ codes "a crash</title></path>\n"
+crash_path m x y =
+    path_head (codes "crash") x y (codes "m-11-11l22 22m0-22l-22 22") ++ spot_text m ++ codes "a crash</title></path>\n"
 
 unfoldable pub crash_text : Part → Spot → List ℕ
 crash_text p m = crash_path m (x_of p m.item) (y_of m.process + 28)
@@ -138,7 +158,8 @@ crash_text p m = crash_path m (x_of p m.item) (y_of m.process + 28)
 -- what is said of a loan
 unfoldable pub loan_words : Spot → (lender ended : ℕ) → List ℕ
 loan_words m lender ended =
-    codes "<g class=\"loan\"><title>" ++ spot_text m ++ codes "borrows the view of the scan that process " ++ decimal lender
+    codes "<g class=\"loan\"><title>" ++ spot_text m
+    ++ codes "borrows the view of the scan that process " ++ decimal lender
     ++ codes " ended at item " ++ decimal ended ++ codes "</title>"
 
 unfoldable pub loan_title : Loan → List ℕ
@@ -147,7 +168,8 @@ loan_title l = loan_words l.taken l.lender l.ended
 -- the arrow goes from the lender to the borrower
 unfoldable pub loan_text : Part → Loan → List ℕ
 loan_text p l =
-    loan_title l ++ line_text (codes "arrow") (x_of p l.ended) (y_of l.lender + 39) (x_of p l.taken.item) (y_of l.taken.process + 39) ++ codes "</g>\n"
+    loan_title l ++ line_text (codes "arrow") (x_of p l.ended) (y_of l.lender + 39) (x_of p l.taken.item)
+    (y_of l.taken.process + 39) ++ codes "</g>\n"
 
 -- what is said of a point
 unfoldable pub found_words : Span → ℕ → List ℕ → ℕ → List ℕ
@@ -160,11 +182,13 @@ point_title q = found_words q.scan q.item q.values q.collects
 
 -- the state of a point, where there is room for it
 unfoldable pub point_words : Part → Point → List ℕ
-point_words p q = if is_thin p then [] else words_head (codes "seen") (x_of p q.item) 78 ++ numbers_text q.values ++ codes "</text>"
+point_words p q =
+    if is_thin p then [] else words_head (codes "seen") (x_of p q.item) 78 ++ numbers_text q.values ++ codes "</text>"
 
 unfoldable pub point_path : Part → Point → (x y : ℕ) → List ℕ
 point_path p q x y =
-    group_head (codes "point") ++ point_title q ++ line_text (codes "drop") x 118 x y ++ path_head (codes "diamond") x 106 (codes "l9 12-9 12-9-12z")
+    group_head (codes "point") ++ point_title q ++ line_text (codes "drop") x 118 x y
+    ++ path_head (codes "diamond") x 106 (codes "l9 12-9 12-9-12z")
     ++ codes "</title></path>" ++ point_words p q ++ codes "</g>\n"
 
 unfoldable pub point_text : Part → Point → List ℕ
@@ -173,11 +197,14 @@ point_text p q = point_path p q (x_of p q.item) (y_of q.scan.process + 6)
 -- a scan without a point is crossed out
 unfoldable pub none_box : Span → (x right y width : ℕ) → List ℕ
 none_box s x right y width =
-    group_head (codes "none") ++ span_text s ++ codes "a scan without a point</title><rect" ++ edges_text x y width 44 ++ codes "/>"
-    ++ line_text (codes "bar") x y right (y + 44) ++ line_text (codes "bar") x (y + 44) right y ++ words_head (codes "no") x (y + 40) ++ codes "point none</text></g>\n"
+    group_head (codes "none") ++ span_text s ++ codes "a scan without a point</title><rect"
+    ++ edges_text x y width 44 ++ codes "/>"
+    ++ line_text (codes "bar") x y right (y + 44) ++ line_text (codes "bar") x (y + 44) right y
+    ++ words_head (codes "no") x (y + 40) ++ codes "point none</text></g>\n"
 
 unfoldable pub none_text : Part → Span → List ℕ
-none_text p s = none_box s (x_before p s.from) (x_of p s.to) (y_of s.process + 6) (width_of (x_before p s.from) (x_of p s.to))
+none_text p s =
+    none_box s (x_before p s.from) (x_of p s.to) (y_of s.process + 6) (width_of (x_before p s.from) (x_of p s.to))
 
 abbrev pub shape_text : Part → Shape → List ℕ
 shape_text p (shape.Values s) = period_text p s

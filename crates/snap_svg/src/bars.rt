@@ -1,4 +1,4 @@
-//! The texts of what lasts: values, operations, and scans with their points.
+//! The SVG of what lasts longer than an item: values, operations, and scans with their points.
 ghost use Rattle.std.specs.Prelude.{◌≡◌, ◌++◌, ◌≤◌, OnOk};
 ghost use Rattle.snap_svg.specs.ShapeText.{
   bar_box,
@@ -199,7 +199,8 @@ fn found_words(
     values: &[u64],
     collects: u64,
 ) -> Result<(), AllocError>
-    ensures { OnOk result (out.new.items ≡ out.old.items ++ found_words scan item values.now collects) }
+    ensures { OnOk result (out.new.items ≡ out.old.items
+        ++ found_words scan item values.now collects) }
 {
     span_text(out, scan)?;
     push_text(out, b"a scan with its point after item ")?;

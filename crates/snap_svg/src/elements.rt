@@ -1,4 +1,5 @@
-//! The elements of a picture.
+//! The SVG elements of a picture as text: boxes, paths, lines, dots and words, with their
+//! attributes.
 ghost use Rattle.std.specs.Prelude.{◌≡◌, ◌++◌, OnOk};
 ghost use Rattle.snap_svg.specs.Elements.{
   attribute,

@@ -1,4 +1,4 @@
-//! Text of others inside of an element.
+//! `push_escaped`: any text, put into an SVG element with markup and unprinted bytes replaced.
 ghost use Rattle.std.specs.Prelude.{◌≡◌, ◌++◌, ◌<◌, OnOk};
 ghost use Rattle.snap_svg.specs.Escape.{
   BeginsNoTag,

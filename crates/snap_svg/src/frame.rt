@@ -1,4 +1,4 @@
-//! The text around what is drawn: title, lanes, numbers of items, legend.
+//! The SVG around what is drawn of a run: title, lanes, numbers of items, legend.
 ghost use Rattle.std.specs.Prelude.{◌≡◌, ◌++◌, ◌+◌, ◌<◌, ◌≤◌, OnOk, option_map};
 ghost use Rattle.snap_svg.specs.FrameText.{
   all_lanes,
@@ -88,7 +88,8 @@ fn items_words(
     last: u64,
     total: u64,
 ) -> Result<(), AllocError>
-    ensures { OnOk result (out.new.items ≡ out.old.items ++ items_words kind.now processes words first last total) }
+    ensures { OnOk result (out.new.items ≡ out.old.items
+        ++ items_words kind.now processes words first last total) }
 {
     push_text(out, b"A listing of kind ")?;
     push_text(out, kind)?;
@@ -173,7 +174,8 @@ fn titles(out: &mut Vec<u8>, window: &Window, counts: &Counts) -> Result<(), All
 /// A listing, where one is given.
 #[tactic(auto, using(snap_text::proofs::Texts::joined), unfolding(crate::specs::FrameText::listing_part))]
 fn listing_part(out: &mut Vec<u8>, listing: Option<&[u8]>) -> Result<(), AllocError>
-    ensures { OnOk result (out.new.items ≡ out.old.items ++ listing_part (option_map (λ t. t.now) listing.entry)) }
+    ensures { OnOk result (out.new.items ≡ out.old.items
+        ++ listing_part (option_map (λ t. t.now) listing.entry)) }
 {
     let Some(text) = listing else {
         return Ok(());
@@ -325,7 +327,8 @@ pub fn push_head(
     counts: &Counts,
     style: &[u8],
 ) -> Result<(), AllocError>
-    ensures { OnOk result (out.new.items ≡ out.old.items ++ head_text window.now counts.now style.now) }
+    ensures { OnOk result (out.new.items ≡ out.old.items
+        ++ head_text window.now counts.now style.now) }
 {
     opening(out, window)?;
     name_text(out, window, counts)?;

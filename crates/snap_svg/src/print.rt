@@ -1,4 +1,4 @@
-//! The text of what is drawn.
+//! `push_shapes`: the SVG of the shapes of a run, as far as they are in the picture's `Window`.
 ghost use Rattle.std.specs.Prelude.{◌≡◌, ◌++◌, OnOk};
 ghost use Rattle.snap_svg.specs.ShapeText.{is_drawn, shape_text, shapes_text};
 

@@ -1,4 +1,5 @@
-//! What is drawn of a run, in items and lanes. Items count from 1.
+//! `Shape`: what a picture shows of a run, by items and processes: values, operations, points,
+//! reads, writes, tests, borrowed views and more. Items count from 1.
 use snap_semantics::Op;
 use snap_words::View;
 

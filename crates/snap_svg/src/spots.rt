@@ -1,4 +1,4 @@
-//! The texts of spots: what one item of a process does.
+//! The SVG of spots: a spot is the mark in a process's lane that shows what one item did there.
 ghost use Rattle.std.specs.Prelude.{◌≡◌, ◌++◌, OnOk};
 ghost use Rattle.snap_svg.specs.ShapeText.{
   crash_path,

@@ -1,4 +1,4 @@
-//! Which items are drawn, and where.
+//! `Window`: which items of a run an SVG picture shows, and where in its width.
 ghost use Rattle.std.specs.Prelude.{◌≡◌, ◌≤◌, ◌<◌, ◌+◌, ◌-◌, MatchOption};
 ghost use Rattle.snap_words.specs.Shape.{Counts};
 ghost use Rattle.snap_svg.specs.Window.{
@@ -35,11 +35,26 @@ impl Model for Window {
 
     ghost Value = { Part };
 
-    ghost view = { λ w. record { from = w.from; to = w.to; processes = w.processes; reads = w.reads } };
+    ghost view = { λ w. record {
+      from = w.from;
+      to = w.to;
+      processes = w.processes;
+      reads = w.reads;
+    } };
 
-    ghost invariant = { λ w. IsPart (record { from = w.from; to = w.to; processes = w.processes; reads = w.reads }) };
+    ghost invariant = { λ w. IsPart (record {
+      from = w.from;
+      to = w.to;
+      processes = w.processes;
+      reads = w.reads;
+    }) };
 
-    ghost inverse = { λ p. record { from = p.from; to = p.to; processes = p.processes; reads = p.reads } };
+    ghost inverse = { λ p. record {
+      from = p.from;
+      to = p.to;
+      processes = p.processes;
+      reads = p.reads;
+    } };
 }
 
 /// How far it is from one place to another; what is drawn is seen.
@@ -52,8 +67,8 @@ pub(crate) fn width_of(left: u64, right: u64) -> u64
 impl Window {
     /// The items after `from` and up to `to`, where there is one and they are not too many.
     pub fn new(from: u64, to: u64, shape: Shape, reads: bool) -> Option<Window>
-        ensures { let p : Part = record { from = from; to = to; processes = shape.n; reads = reads } in
-            MatchOption result (IsPart p → ⊥) (λ w. (w ≡ p) × IsPart p) }
+        ensures { let p : Part = record { from = from; to = to; processes = shape.n; reads = reads }
+            in MatchOption result (IsPart p → ⊥) (λ w. (w ≡ p) × IsPart p) }
     {
         if from < to && to - from <= MOST_ITEMS && to <= MAX_ITEMS {
             Some(Window {

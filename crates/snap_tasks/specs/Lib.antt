@@ -1,1 +1,2 @@
+-- The definitions of snap_tasks, by their modules.
 pub mod Request

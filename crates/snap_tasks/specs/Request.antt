@@ -1,4 +1,5 @@
--- What the arguments of a command line ask for.
+-- `request_of`: what the name of a subcommand asks the program for; `kind_of`: the kind of registers that a name
+-- means.
 use Rattle.std.specs.Prelude.{ℕ, ◌≤◌, List, Option, Some, None, ⊤, bytes_eq, codes, if◌then◌else◌}
 use Rattle.snap_words.specs.Shape.{max_items}
 use Rattle.snap_words.specs.declared.kind.KindTag.{KindTag}
@@ -15,7 +16,8 @@ kind_of name =
     if bytes_eq name (codes "bit") then Some kind.Bits else
     if bytes_eq name (codes "multi") then Some kind.Multi else None
 
--- what the subcommand of this name asks for, of this listing where it runs one and with this limit where it plays scripts
+-- what the subcommand of this name asks for, of this listing where it runs one and with
+-- this limit where it plays scripts
 abbrev pub request_of : List ℕ → Subject → ℕ → Option Request
 request_of name s limit =
     if bytes_eq name (codes "check") then Some (Do task.Check) else

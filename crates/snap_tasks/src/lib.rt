@@ -1,4 +1,5 @@
-//! What the program can be asked for.
+//! What the program can be asked for: a `Task`, such as `run`, `debug` or `audit`, and the
+//! `Request` of a subcommand.
 #![tactic(auto)]
 
 mod request;

@@ -1,4 +1,5 @@
-//! What the arguments of a command line ask for.
+//! `Request`: what a subcommand asks the program for, a `Task` or a live run; `request_of` finds it
+//! by the subcommand's name.
 ghost use Rattle.std.specs.Prelude.{◌≡◌, IfSome};
 ghost use Rattle.snap_tasks.specs.Request.{HasLimit, IsLimit, request_of, kind_of};
 

@@ -1,4 +1,5 @@
-//! What the program is asked.
+//! `Task`: what the program is to do with its input, as check, assemble, run, trace, debug or
+//! audit.
 use snap_subject::Subject;
 
 /// What the program is to do with its input.

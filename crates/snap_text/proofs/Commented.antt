@@ -1,11 +1,14 @@
 -- A comment at the end of a line: the line's tokens are those before it, and it is what is found as the line's comment.
-use Rattle.std.proofs.Common.{◌≡◌, ℕ, Bool, true, not, List, [], ◌∷◌, ◌++◌, Some, None, nat_eq, codes, if◌then◌else◌, refl, sym, ap, ◌∙◌, append-nil, append_assoc}
+use Rattle.std.proofs.Common.{◌≡◌, ℕ, Bool, true, not, List, [], ◌∷◌, ◌++◌, Some, None, nat_eq, codes, if◌then◌else◌}
+use Rattle.std.proofs.Common.{refl, sym, ap, ◌∙◌, append-nil, append_assoc}
 use Rattle.std.proofs.lemmas.Bool.{and_parts, and_from, cond-false, not-true}
 use Rattle.std.specs.List.{AllByRecursion, list_all}
 use Rattle.snap_semantics.specs.CanonicalText.{comment_end}
 use Rattle.snap_semantics.specs.Comments.{Comment, IsCommentByte, IsComment, comment_of}
 use Rattle.snap_semantics.specs.Layout.{line_to}
-use Rattle.snap_semantics.specs.Token.{Token, Front, is_lexeme_byte, is_space, symbol_of, symbol_token, with_token, with_different, begins_with, longer_lexeme, no_lexeme, front_of, front_tokens, tokens_of}
+use Rattle.snap_semantics.specs.Token.{Token, Front, is_lexeme_byte, is_space, symbol_of, symbol_token, with_token}
+use Rattle.snap_semantics.specs.Token.{with_different, begins_with, longer_lexeme}
+use Rattle.snap_semantics.specs.Token.{no_lexeme, front_of, front_tokens, tokens_of}
 use Rattle.snap_text.proofs.Before.{is_plain, is_bare}
 use Rattle.snap_text.proofs.Ends.{line_ends}
 
@@ -19,10 +22,12 @@ end_is None = refl
 end_is (Some bytes) = refl
 
 -- a line with its comment, and what stands behind it
-pub commented_line : (c : Comment) (ts : List Token) (rest : List ℕ) → line_to (comment_end c) ts ++ rest ≡ (line_to [] ts ++ comment_text c) ++ 10 ∷ rest
+pub commented_line : (c : Comment) (ts : List Token) (rest : List ℕ) →
+    line_to (comment_end c) ts ++ rest ≡ (line_to [] ts ++ comment_text c) ++ 10 ∷ rest
 commented_line c ts rest =
     let line = line_to [] ts in
-    ap (λ (z : List ℕ). z ++ rest) (line_ends (comment_end c) ts ∙ ap (λ (z : List ℕ). line ++ z) (end_is c) ∙ sym (append_assoc line (comment_text c) (codes "\n")))
+    ap (λ (z : List ℕ). z ++ rest) (line_ends (comment_end c) ts ∙ ap (λ (z : List ℕ). line ++ z) (end_is c)
+    ∙ sym (append_assoc line (comment_text c) (codes "\n")))
     ∙ append_assoc (line ++ comment_text c) (codes "\n") rest
 
 -- a byte before what stands behind it, which begins with `=` or doesn't
@@ -41,7 +46,8 @@ equal_same (x ∷ xs) bytes = refl
 front_same : (xs bytes : List ℕ) → front_of (xs ++ 32 ∷ 35 ∷ bytes) ≡ front_of xs
 front_same [] bytes = refl
 front_same (b ∷ xs) bytes =
-    ap (λ (w : Bool). front_before b w (front_of (xs ++ 32 ∷ 35 ∷ bytes))) (equal_same xs bytes) ∙ ap (front_before b (begins_with 61 xs)) (front_same xs bytes)
+    ap (λ (w : Bool). front_before b w (front_of (xs ++ 32 ∷ 35 ∷ bytes))) (equal_same xs bytes)
+    ∙ ap (front_before b (begins_with 61 xs)) (front_same xs bytes)
 
 -- the tokens of a line are those before its comment
 pub tokens_same : (xs : List ℕ) (c : Comment) → tokens_of (xs ++ comment_text c) ≡ tokens_of xs
@@ -55,7 +61,8 @@ comment_found [] (Some bytes) h = refl
 comment_found (b ∷ xs) c h =
     let parts = and_parts (is_bare b) (list_all is_bare xs) h in
     let other = not-true (nat_eq b 35) (and_parts (is_plain b) (not (nat_eq b 35)) parts.0).1 in
-    cond-false (nat_eq b 35) (Some (xs ++ comment_text c)) (comment_of (xs ++ comment_text c)) other ∙ comment_found xs c parts.1
+    cond-false (nat_eq b 35) (Some (xs ++ comment_text c)) (comment_of (xs ++ comment_text c)) other
+    ∙ comment_found xs c parts.1
 
 bytes_plain : (bytes : List ℕ) → AllByRecursion IsCommentByte bytes → list_all is_plain bytes ≡ true
 bytes_plain [] h = refl

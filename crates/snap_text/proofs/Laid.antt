@@ -1,18 +1,22 @@
 -- Lines that are laid out are read as the tokens that were laid out, and with their comments.
-use Rattle.std.proofs.Common.{◌≡◌, ℕ, ◌+◌, Bool, true, false, ◌&&◌, List, [], ◌∷◌, ◌++◌, length, Option, Some, codes, if◌then◌else◌, refl, sym, ap, ◌∙◌, subst, arith}
+use Rattle.std.proofs.Common.{◌≡◌, ℕ, ◌+◌, Bool, true, false, ◌&&◌, List, [], ◌∷◌, ◌++◌, length, Option, Some, codes}
+use Rattle.std.proofs.Common.{if◌then◌else◌, refl, sym, ap, ◌∙◌, subst, arith}
 use Rattle.std.proofs.lemmas.Bool.{and_from}
 use Rattle.std.proofs.lemmas.List.Folds.{list_all-append}
 use Rattle.std.specs.List.{AllByRecursion, list_all}
 use Rattle.snap_semantics.specs.CanonicalText.{comment_end, commented_text}
-use Rattle.snap_semantics.specs.Comments.{Comment, IsComment, first_comment, other_comments, comment_of, with_comment, line_comments}
-use Rattle.snap_semantics.specs.Layout.{token_text, depth_behind, parts_behind, parts_before, gap, layout, line_to, line_text, lines_text}
+use Rattle.snap_semantics.specs.Comments.{Comment, IsComment, first_comment, other_comments}
+use Rattle.snap_semantics.specs.Comments.{comment_of, with_comment, line_comments}
+use Rattle.snap_semantics.specs.Layout.{token_text, depth_behind, parts_behind, parts_before, gap}
+use Rattle.snap_semantics.specs.Layout.{layout, line_to, line_text, lines_text}
 use Rattle.snap_semantics.specs.Token.{Token, Identifier, Number, Sign, tokens_of, lines_of, numbered}
 use Rattle.snap_text.specs.Laws.{IsSoundLine, ReadsCommented, ReadsLaidOut}
 use Rattle.snap_text.specs.Lines.{line_tokens, found_lines}
 use Rattle.snap_text.specs.Tokens.{IsSound}
 use Rattle.snap_text.proofs.Before.{is_plain, is_bare, bare_plain, line_before, numbered_before}
 use Rattle.snap_text.proofs.Commented.{comment_text, commented_line, tokens_same, comment_found, comment_plain}
-use Rattle.snap_text.proofs.Printed.{is_sign, Reads, space, reads_end, reads_first, reads_more, token_bare, space_bare, joined_bare}
+use Rattle.snap_text.proofs.Printed.{is_sign, Reads, space, reads_end, reads_first}
+use Rattle.snap_text.proofs.Printed.{reads_more, token_bare, space_bare, joined_bare}
 
 -- the tokens behind one, laid out without an end
 abbrev laid : ℕ → Token → List Token → List ℕ
@@ -45,9 +49,11 @@ laid_reads depth t [] h = reads_end t
 laid_reads depth t (u ∷ us) h =
     let behind = laid (depth_behind depth t u) u us in
     subst (λ (g : List ℕ). Reads t (g ++ (token_text u ++ behind)) (u ∷ us)) (sym (gap_is depth t u))
-    (reads_more t u (are_parted depth t u) behind us (both_parted depth t u) h.0 (laid_reads (depth_behind depth t u) u us h.1))
+    (reads_more t u (are_parted depth t u) behind us (both_parted depth t u) h.0
+    (laid_reads (depth_behind depth t u) u us h.1))
 
-laid_bare : (depth : ℕ) (t : Token) (us : List Token) → AllByRecursion IsSound us → list_all is_bare (laid depth t us) ≡ true
+laid_bare : (depth : ℕ) (t : Token) (us : List Token) → AllByRecursion IsSound us →
+    list_all is_bare (laid depth t us) ≡ true
 laid_bare depth t [] h = refl
 laid_bare depth t (u ∷ us) h =
     let behind = laid (depth_behind depth t u) u us in
@@ -68,12 +74,14 @@ line_laid t ts h hs =
     }
 
 -- the first of the lines, and the others
-lines_laid : (c : Comment) (t : Token) (ts : List Token) (rest : List ℕ) → IsComment c → IsSound t → AllByRecursion IsSound ts →
+lines_laid : (c : Comment) (t : Token) (ts : List Token) (rest : List ℕ) →
+    IsComment c → IsSound t → AllByRecursion IsSound ts →
     lines_of (line_to (comment_end c) (t ∷ ts) ++ rest) ≡ (line_to [] (t ∷ ts) ++ comment_text c) ∷ lines_of rest
 lines_laid c t ts rest good h hs =
     let line = line_to [] (t ∷ ts) in
     let plain = bare_plain line (line_laid t ts h hs).bare in
-    let all = list_all-append is_plain line (comment_text c) ∙ and_from (list_all is_plain line) (list_all is_plain (comment_text c)) plain (comment_plain c good) in
+    let all = list_all-append is_plain line (comment_text c)
+    ∙ and_from (list_all is_plain line) (list_all is_plain (comment_text c)) plain (comment_plain c good) in
     ap lines_of (commented_line c (t ∷ ts) rest) ∙ line_before (line ++ comment_text c) rest all
 
 first_good : (cs : List Comment) → AllByRecursion IsComment cs → IsComment (first_comment cs)
@@ -85,7 +93,8 @@ others_good [] h = tt
 others_good (c ∷ cs) h = h.1
 
 -- the tokens of lines with comments
-tokens_laid : (k : ℕ) (cs : List Comment) (lines : List (List Token)) → AllByRecursion IsComment cs → AllByRecursion IsSoundLine lines →
+tokens_laid : (k : ℕ) (cs : List Comment) (lines : List (List Token)) →
+    AllByRecursion IsComment cs → AllByRecursion IsSoundLine lines →
     line_tokens (numbered k (lines_of (commented_text cs lines))) ≡ found_lines lines
 tokens_laid k cs [] good h = refl
 tokens_laid k cs ([] ∷ lines) good h = absurd (let no = h.0.0 in cc)
@@ -94,12 +103,15 @@ tokens_laid k cs ((t ∷ ts) ∷ lines) good h =
     let line = line_to [] (t ∷ ts) in
     let rest = commented_text (other_comments cs) lines in
     let tokens = tokens_same line c ∙ (line_laid t ts h.0.1.0 h.0.1.1).tokens in
-    ap (λ (ls : List (List ℕ)). line_tokens (numbered k ls)) (lines_laid c t ts rest (first_good cs good) h.0.1.0 h.0.1.1)
+    ap (λ (ls : List (List ℕ)). line_tokens (numbered k ls))
+    (lines_laid c t ts rest (first_good cs good) h.0.1.0 h.0.1.1)
     ∙ ap line_tokens (numbered_before k (line ++ comment_text c) (lines_of rest) t ts tokens)
-    ∙ ap (λ (ls : List (Option (List Token))). Some (t ∷ ts) ∷ ls) (tokens_laid (k + 1) (other_comments cs) lines (others_good cs good) h.1)
+    ∙ ap (λ (ls : List (Option (List Token))). Some (t ∷ ts) ∷ ls)
+    (tokens_laid (k + 1) (other_comments cs) lines (others_good cs good) h.1)
 
 -- and their comments
-comments_laid : (cs : List Comment) (lines : List (List Token)) → length cs ≡ length lines → AllByRecursion IsComment cs → AllByRecursion IsSoundLine lines →
+comments_laid : (cs : List Comment) (lines : List (List Token)) → length cs ≡ length lines →
+    AllByRecursion IsComment cs → AllByRecursion IsSoundLine lines →
     line_comments (lines_of (commented_text cs lines)) ≡ cs
 comments_laid [] [] e good h = refl
 comments_laid [] (ts ∷ lines) e good h = absurd (omega (arith, e))
@@ -111,7 +123,8 @@ comments_laid (c ∷ cs) ((t ∷ ts) ∷ lines) e good h =
     let rest = commented_text cs lines in
     let others = line_comments (lines_of rest) in
     ap line_comments (lines_laid c t ts rest good.0 h.0.1.0 h.0.1.1)
-    ∙ ap (λ (o : Option (List Token)). with_comment o (comment_of (line ++ comment_text c)) others) (tokens_same line c ∙ is_laid.tokens)
+    ∙ ap (λ (o : Option (List Token)). with_comment o (comment_of (line ++ comment_text c)) others)
+    (tokens_same line c ∙ is_laid.tokens)
     ∙ ap (λ (d : Comment). d ∷ others) (comment_found line c is_laid.bare)
     ∙ ap (λ (ds : List Comment). c ∷ ds) (comments_laid cs lines (omega (arith, e)) good.1 h.1)
 
@@ -126,4 +139,6 @@ uncommented_text (ts ∷ lines) = ap (λ (z : List ℕ). line_text ts ++ z) (unc
 
 -- the lines of a text that was laid out without comments
 pub laid_read : ReadsLaidOut
-laid_read lines h = ap (λ (z : List ℕ). line_tokens (numbered 1 (lines_of z))) (sym (uncommented_text lines)) ∙ tokens_laid 1 [] lines tt h
+laid_read lines h =
+    ap (λ (z : List ℕ). line_tokens (numbered 1 (lines_of z))) (sym (uncommented_text lines))
+    ∙ tokens_laid 1 [] lines tt h

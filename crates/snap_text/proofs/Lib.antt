@@ -1,4 +1,6 @@
+-- The proofs of snap_text, by their modules.
 pub mod Before
+pub mod CallLines
 pub mod Commented
 pub mod Decimals
 pub mod Digits

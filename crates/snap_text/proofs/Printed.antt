@@ -1,12 +1,14 @@
--- Tokens that are printed, one behind the other, are read as those tokens.
-use Rattle.std.proofs.Common.{◌≡◌, ℕ, ◌<◌, Bool, true, false, not, List, [], ◌∷◌, ◌++◌, Some, decimal, nat_eq, nat_le, if◌then◌else◌, refl, ap, ◌∙◌, arith}
+-- The tokens of a line that is laid out, token after token, are read as those tokens.
+use Rattle.std.proofs.Common.{◌≡◌, ℕ, ◌<◌, Bool, true, false, not, List, [], ◌∷◌, ◌++◌, Some, decimal, nat_eq, nat_le}
+use Rattle.std.proofs.Common.{if◌then◌else◌, refl, ap, ◌∙◌, arith}
 use Rattle.std.proofs.lemmas.Bool.{and_parts, and_from, ne_eqb, leb-true}
 use Rattle.std.proofs.lemmas.List.Folds.{list_all-append}
 use Rattle.std.specs.List.{list_all}
 use Rattle.snap_semantics.specs.declared.text.Symbol.{Symbol}
 use Rattle.snap_semantics.specs.declared.text.Symbol.TheVariants as symbol
 use Rattle.snap_semantics.specs.Layout.{symbol_text, token_text}
-use Rattle.snap_semantics.specs.Token.{Token, Identifier, Number, Sign, is_letter, is_digit, front_of, front_tokens, tokens_of}
+use Rattle.snap_semantics.specs.Token.{Token, Identifier, Number, Sign, is_letter, is_digit}
+use Rattle.snap_semantics.specs.Token.{front_of, front_tokens, tokens_of}
 use Rattle.snap_text.specs.Tokens.{IsSound}
 use Rattle.snap_text.proofs.Before.{number_before, word_before, space_before, sign_before, is_plain, is_bare}
 use Rattle.snap_text.proofs.Decimals.{decimal_digits}
@@ -29,7 +31,8 @@ pub reads_end : (t : Token) → Reads t [] []
 reads_end t = record { tokens = refl; apart = λ e. refl }
 
 -- a token before what is read behind it
-pub reads_first : (t : Token) (bs : List ℕ) (ts : List Token) → IsSound t → Reads t bs ts → tokens_of (token_text t ++ bs) ≡ Some (t ∷ ts)
+pub reads_first : (t : Token) (bs : List ℕ) (ts : List Token) → IsSound t → Reads t bs ts →
+    tokens_of (token_text t ++ bs) ≡ Some (t ∷ ts)
 reads_first (Identifier w) bs ts h rest = word_before w bs ts h.0 h.1 (rest.apart refl)
 reads_first (Number k) bs ts h rest = number_before k bs ts h (rest.apart refl)
 reads_first (Sign m) bs ts h rest = ap front_tokens (sign_before m bs ts rest.tokens)
@@ -64,7 +67,8 @@ reads_more t u b bs us parted h rest =
 -- a byte above `#`
 above_bare : (b : ℕ) → 35 < b → is_bare b ≡ true
 above_bare b above =
-    and_from (is_plain b) (not (nat_eq b 35)) (ap not (ne_eqb b 10 (λ e. omega (arith, above, e)))) (ap not (ne_eqb b 35 (λ e. omega (arith, above, e))))
+    and_from (is_plain b) (not (nat_eq b 35)) (ap not (ne_eqb b 10 (λ e. omega (arith, above, e))))
+    (ap not (ne_eqb b 35 (λ e. omega (arith, above, e))))
 
 pub digits_bare : (ds : List ℕ) → list_all is_digit ds ≡ true → list_all is_bare ds ≡ true
 digits_bare [] h = refl
@@ -104,5 +108,6 @@ pub space_bare : (b : Bool) → list_all is_bare (space b) ≡ true
 space_bare true = refl
 space_bare false = refl
 
-pub joined_bare : (xs ys : List ℕ) → list_all is_bare xs ≡ true → list_all is_bare ys ≡ true → list_all is_bare (xs ++ ys) ≡ true
+pub joined_bare : (xs ys : List ℕ) → list_all is_bare xs ≡ true → list_all is_bare ys ≡ true →
+    list_all is_bare (xs ++ ys) ≡ true
 joined_bare xs ys h g = list_all-append is_bare xs ys ∙ and_from (list_all is_bare xs) (list_all is_bare ys) h g

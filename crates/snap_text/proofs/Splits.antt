@@ -1,5 +1,7 @@
--- The lines of a text, its first line first.
-use Rattle.std.proofs.Common.{◌≡◌, ℕ, zero, suc, ◌+◌, ◌-◌, ◌<◌, add-one, Bool, true, false, List, [], ◌∷◌, length, take, drop, get_or, take_all, ◌≢◌, refl, sym, ◌∙◌, ap, arith, nat_eq, if◌then◌else◌}
+-- How a text is split into lines: its first line ends at its first
+-- line feed, and the other lines are those of the bytes after it.
+use Rattle.std.proofs.Common.{◌≡◌, ℕ, zero, suc, ◌+◌, ◌-◌, ◌<◌, add-one, Bool, true, false, List, [], ◌∷◌, length}
+use Rattle.std.proofs.Common.{take, drop, get_or, take_all, ◌≢◌, refl, sym, ◌∙◌, ap, arith, nat_eq, if◌then◌else◌}
 use Rattle.std.proofs.lemmas.Bool.{eq-eqb, ne_eqb}
 use Rattle.std.proofs.lemmas.List.{length-drop, drop_all}
 use Rattle.snap_semantics.specs.Token.{onto_line, lines_of}
@@ -44,17 +46,22 @@ whole (b ∷ bytes) some = whole_by b bytes
 
 -- the bytes behind a place
 pub behind : (bytes : List ℕ) (k : ℕ) → take (length bytes - k) (drop k bytes) ≡ drop k bytes
-behind bytes k = take_all (length bytes - k) (drop k bytes) (let e : length (drop k bytes) ≡ length bytes - k = length-drop k bytes in omega (arith, e))
+behind bytes k =
+    take_all (length bytes - k) (drop k bytes)
+    (let e : length (drop k bytes) ≡ length bytes - k = length-drop k bytes in omega (arith, e))
 
 pub ends_at : (bytes : List ℕ) (k d : ℕ) → k < length bytes → get_or bytes k d ≡ 10 →
     onto_text (take k bytes) (lines_of (drop k bytes)) ≡ lines_of bytes →
     lines_of bytes ≡ take k bytes ∷ lines_of (take (length bytes - (k + 1)) (drop (k + 1) bytes))
 ends_at bytes k d h e so_far =
-    let rest : drop (suc k) bytes ≡ take (length bytes - (k + 1)) (drop (k + 1) bytes) = rw add-one (sym (behind bytes (suc k))) in
-    sym so_far ∙ ends bytes k d h (eq-eqb (get_or bytes k d) 10 e) ∙ ap (λ (xs : List ℕ). take k bytes ∷ lines_of xs) rest
+    let rest : drop (suc k) bytes ≡ take (length bytes - (k + 1)) (drop (k + 1) bytes) =
+    rw add-one (sym (behind bytes (suc k))) in
+    sym so_far ∙ ends bytes k d h (eq-eqb (get_or bytes k d) 10 e)
+    ∙ ap (λ (xs : List ℕ). take k bytes ∷ lines_of xs) rest
 
 pub goes_on_at : (bytes : List ℕ) (k d : ℕ) → k < length bytes → get_or bytes k d ≢ 10 →
-    onto_text (take k bytes) (lines_of (drop k bytes)) ≡ lines_of bytes → onto_text (take (k + 1) bytes) (lines_of (drop (k + 1) bytes)) ≡ lines_of bytes
+    onto_text (take k bytes) (lines_of (drop k bytes)) ≡ lines_of bytes →
+    onto_text (take (k + 1) bytes) (lines_of (drop (k + 1) bytes)) ≡ lines_of bytes
 goes_on_at bytes k d h e so_far = rw add-one (goes_on bytes k d h (ne_eqb (get_or bytes k d) 10 e) ∙ so_far)
 
 pub whole_at : (bytes : List ℕ) (k : ℕ) → 0 < length bytes → k ≡ length bytes →
@@ -63,6 +70,8 @@ pub whole_at : (bytes : List ℕ) (k : ℕ) → 0 < length bytes → k ≡ lengt
 whole_at bytes k some is so_far =
     let all : take k bytes ≡ bytes = take_all k bytes (omega arith) in
     let none : drop k bytes ≡ [] = drop_all k bytes (omega arith) in
-    sym so_far ∙ ap (λ (xs : List ℕ). onto_text xs (lines_of (drop k bytes))) all ∙ ap (λ (xs : List ℕ). onto_text bytes (lines_of xs)) none
+    sym so_far ∙ ap (λ (xs : List ℕ). onto_text xs (lines_of (drop k bytes))) all
+    ∙ ap (λ (xs : List ℕ). onto_text bytes (lines_of xs)) none
     ∙ whole bytes some
-    ∙ ap (λ (rest : List ℕ). bytes ∷ lines_of rest) (sym (behind bytes (length bytes) ∙ drop_all (length bytes) bytes (omega arith)))
+    ∙ ap (λ (rest : List ℕ). bytes ∷ lines_of rest)
+    (sym (behind bytes (length bytes) ∙ drop_all (length bytes) bytes (omega arith)))

@@ -1,4 +1,5 @@
--- The laws of the layout.
+-- The laws of the layout of tokens: what is laid out in lines, with
+-- comments or without, is read as the same tokens and comments.
 use Rattle.std.specs.Prelude.{◌≡◌, List, length, true}
 use Rattle.std.specs.List.{AllByRecursion}
 use Rattle.snap_semantics.specs.CanonicalText.{commented_text}
@@ -14,9 +15,13 @@ IsSoundLine ts = (is_some_token ts ≡ true) × AllByRecursion IsSound ts
 
 -- what is laid out in lines is read as these tokens, line by line
 abbrev pub ReadsLaidOut : Type 0
-ReadsLaidOut = (lines : List (List Token)) → AllByRecursion IsSoundLine lines → line_tokens (text_lines (lines_text lines)) ≡ found_lines lines
+ReadsLaidOut =
+    (lines : List (List Token)) → AllByRecursion IsSoundLine lines →
+    line_tokens (text_lines (lines_text lines)) ≡ found_lines lines
 
 -- what is laid out in lines with comments is read as these tokens, line by line, and with these comments
 abbrev pub ReadsCommented : Type 0
-ReadsCommented = (cs : List Comment) (lines : List (List Token)) → length cs ≡ length lines → AllByRecursion IsComment cs → AllByRecursion IsSoundLine lines →
-    (line_tokens (text_lines (commented_text cs lines)) ≡ found_lines lines) × (line_comments (lines_of (commented_text cs lines)) ≡ cs)
+ReadsCommented =
+    (cs : List Comment) (lines : List (List Token)) → length cs ≡ length lines → AllByRecursion IsComment cs →
+    AllByRecursion IsSoundLine lines → (line_tokens (text_lines (commented_text cs lines)) ≡ found_lines lines)
+    × (line_comments (lines_of (commented_text cs lines)) ≡ cs)

@@ -1,4 +1,6 @@
+-- The definitions of snap_text, by their modules.
 pub mod Tokens
 pub mod Lines
 pub mod Numbers
+pub mod Calls
 pub mod Laws

@@ -1,4 +1,4 @@
--- The lines of a text as they are seen.
+-- The code's `TokenLine` as a line of the definitions, and the tokens of lines.
 use Rattle.std.specs.Prelude.{◌≡◌, List, [], ◌∷◌, map, Option, Some, None, option_map}
 use Rattle.snap_semantics.specs.Token.{Token, TextLine}
 use Rattle.snap_text.specs.declared.lines.TokenLine.{TokenLine}

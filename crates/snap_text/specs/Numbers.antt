@@ -1,4 +1,5 @@
--- Lines that are a number, or a number, `*` and a number.
+-- `BeginsWithNumbers`: a text whose first line is a number, or a number, `*`
+-- and a number; and the code's `NumberLine` as a line of the definitions.
 use Rattle.std.specs.Prelude.{◌≡◌, ℕ, ◌<◌, true, List, [], ◌∷◌, ◌++◌, length, Option, Some, None}
 use Rattle.std.specs.List.{list_all}
 use Rattle.snap_semantics.specs.declared.text.Symbol.TheVariants as symbol
@@ -18,11 +19,11 @@ abbrev pub number_tokens : ℕ → Option ℕ → List Token
 number_tokens i None = Number i ∷ []
 number_tokens i (Some k) = Number i ∷ Sign symbol.Star ∷ Number k ∷ []
 
--- the first line has these numbers for its tokens, and the rest are the bytes of the lines behind it
-pub record BeginsWithNumbers (bytes : List ℕ) (first : ℕ) (second : Option ℕ) (rest : List ℕ) : Type 0 where
+-- the first line has these tokens, and the rest are the bytes of the lines behind it
+pub record BeginsWithLine (bytes : List ℕ) (ts : List Token) (rest : List ℕ) : Type 0 where
   pub line : List ℕ
   pub lines : lines_of bytes ≡ line ∷ lines_of rest
-  pub tokens : tokens_of line ≡ Some (number_tokens first second)
+  pub tokens : tokens_of line ≡ Some ts
   pub shorter : length rest < length bytes
 
 abbrev pub view_numbers : NumberLine → TextLine

@@ -1,4 +1,5 @@
-//! The comments of the lines of a text.
+//! `line_comments`: for each line of a text that has
+//! tokens, the bytes after its first `#`, if it has one.
 ghost use Rattle.std.specs.Prelude.{◌≡◌, IfOk, map, option_map, vec_items};
 ghost use Rattle.snap_semantics.specs.Comments.{comment_of, line_comments};
 ghost use Rattle.snap_semantics.specs.Token.{lines_of, tokens_of};

@@ -1,4 +1,5 @@
-//! The laws of the layout.
+//! The laws of the layout of tokens, proved: lines that are laid out,
+//! with comments or without, are read as the same tokens and comments.
 ghost use Rattle.snap_text.specs.Laws.{ReadsCommented, ReadsLaidOut};
 
 /// What is laid out in lines is read as these tokens, line by line.

@@ -1,6 +1,8 @@
 //! Lines of tokens laid out: where a space stands between two of them.
 ghost use Rattle.std.specs.Prelude.{◌≡◌, ◌<◌, ◌≤◌, [], ◌++◌, ◌+◌, ◌^◌, OnOk};
-ghost use Rattle.snap_semantics.specs.Layout.{symbol_text, token_text, depth_behind, parts_behind, parts_before, gap, layout, line_to, line_text, opened, closed};
+ghost use Rattle.snap_semantics.specs.Layout.{symbol_text, token_text, depth_behind};
+ghost use Rattle.snap_semantics.specs.Layout.{parts_behind, parts_before, gap, layout};
+ghost use Rattle.snap_semantics.specs.Layout.{line_to, line_text, opened, closed};
 ghost use Rattle.snap_text.specs.Tokens.{view_token, view_tokens};
 
 use crate::lexer::Token;

@@ -1,7 +1,10 @@
-//! The tokens of a line.
+//! `Token`: an identifier, a number or a symbol; and
+//! `tokens`, which reads the tokens of a line from its bytes.
 ghost use Rattle.std.specs.Prelude.{◌≡◌, ◌≤◌, ◌<◌, length, IfOk, option_map};
 ghost use Rattle.std.specs.List.{list_all};
-ghost use Rattle.snap_semantics.specs.Token.{is_letter, is_digit, is_lexeme_byte, is_space, symbol_of, number_of, has_leading_zero, lexeme_token, tokens_of};
+ghost use Rattle.snap_semantics.specs.Token.{is_letter, is_digit, is_lexeme_byte};
+ghost use Rattle.snap_semantics.specs.Token.{is_space, symbol_of, number_of};
+ghost use Rattle.snap_semantics.specs.Token.{has_leading_zero, lexeme_token, tokens_of};
 ghost use Rattle.snap_text.specs.Tokens.{Finds, view_token, view_tokens, lexeme_len, front_symbol};
 
 use snap_semantics::Symbol;
@@ -58,7 +61,7 @@ fn all_letters(lexeme: &[u8]) -> bool
     lexeme.iter().all(|b| is_letter(*b))
 }
 
-pub(crate) fn has_leading_zero(lexeme: &[u8]) -> bool
+fn has_leading_zero(lexeme: &[u8]) -> bool
     ensures { result ≡ has_leading_zero lexeme.now }
 {
     match lexeme {

@@ -1,12 +1,16 @@
-//! The lines of a text.
+//! `TextLines`: goes through the lines of a text that have tokens,
+//! each with its number and its tokens or its one or two numbers.
 ghost use Rattle.std.specs.Prelude.{◌≡◌, ◌<◌, ℕ, length, IfOk, OnErr, option_map, IsTrue, ◌↔◌, ◌∷◌};
 ghost use Rattle.snap_semantics.specs.Token.{TextLine, lines_of, numbered, text_lines};
 ghost use Rattle.snap_text.specs.Tokens.{view_tokens, has_tokens};
 ghost use Rattle.snap_text.specs.Lines.{IsNext};
 ghost use Rattle.snap_text.specs.Numbers.{IsNextNumbers};
+ghost use Rattle.snap_text.specs.Calls.{IsNextCall};
 
+use crate::calls::call_front;
 use crate::lexer::{Token, tokens};
 use crate::numbers::numbers_front;
+use snap_semantics::Op;
 use std::alloc::{AllocError, Global};
 use std::marker::Model;
 
@@ -23,6 +27,14 @@ pub struct NumberLine {
     pub number: u64,
     pub first: u64,
     pub second: Option<u64>,
+}
+
+/// A line that is a call: the line's own number, the process, and what it asks for.
+#[derive(Clone, Copy, Debug)]
+pub struct CallLine {
+    pub number: u64,
+    pub process: u64,
+    pub op: Op,
 }
 
 /// Goes through the lines of a text that have tokens; seen as the list of those that are left.
@@ -93,6 +105,23 @@ impl<'a> TextLines<'a> {
             number,
             first,
             second,
+        })
+    }
+
+    /// Takes the next line, where it is `I scan` or `I update K X` and its line feed, with one
+    /// space between any two, no comment, and numbers of nine digits at most; else leaves all
+    /// lines.
+    pub fn next_call(&mut self) -> Option<CallLine>
+        ensures { IsNextCall result self.old self.new }
+    {
+        let (process, op, after) = call_front(self.rest)?;
+        let number = self.number;
+        self.rest = after;
+        self.number = number + 1;
+        Some(CallLine {
+            number,
+            process,
+            op,
         })
     }
 

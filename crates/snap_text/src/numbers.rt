@@ -1,39 +1,60 @@
 //! Lines that are a number, or a number, `*` and a number, with nothing between them: most lines of
 //! a schedule.
-ghost use Rattle.std.specs.Prelude.{◌≡◌, IfSome};
-ghost use Rattle.snap_text.specs.Numbers.{BeginsWithNumber, BeginsWithNumbers};
+ghost use Rattle.std.specs.Prelude.{◌≡◌, None, IfSome};
+ghost use Rattle.snap_text.specs.Numbers.{BeginsWithNumber, BeginsWithLine, number_tokens};
 
-use crate::lexer::{has_leading_zero, is_digit};
+use crate::lexer::is_digit;
 
 /// The most that a number may be before one digit more, so that it has nine digits at most.
 const MOST_BEFORE_DIGIT: u64 = 99_999_999;
 
 /// The number that the digits at the front spell, and what stands behind them. None where there are
 /// none or more than nine of them, or zero before others.
-fn number_front(bytes: &[u8]) -> Option<(u64, &[u8])>
+pub(crate) fn number_front(bytes: &[u8]) -> Option<(u64, &[u8])>
     ensures { IfSome result (λ x. BeginsWithNumber bytes.now x.0 x.1.now) }
 {
-    let mut value = 0u64;
-    let mut len = 0;
+    let (digit, _) = bytes.split_first()?;
+    if !is_digit(*digit) {
+        return None;
+    }
+    let mut value = u64::from(*digit - b'0');
+    let mut len = 1;
     while len < bytes.len() && is_digit(bytes[len]) {
-        if value > MOST_BEFORE_DIGIT {
+        if value == 0 || value > MOST_BEFORE_DIGIT {
             return None;
         }
         value = value * 10 + u64::from(bytes[len] - b'0');
         len += 1;
     }
-    let (digits, behind) = bytes.split_at(len);
-    if len == 0 || has_leading_zero(digits) {
+    let (_, behind) = bytes.split_at(len);
+    Some((value, behind))
+}
+
+/// The number that the first line is, where it is one digit and its line feed, and the lines behind
+/// it.
+fn digit_line(bytes: &[u8]) -> Option<(u64, &[u8])>
+    ensures { IfSome result (λ x. BeginsWithLine bytes.now (number_tokens x.0 None) x.1.now) }
+{
+    let (digit, behind) = bytes.split_first()?;
+    let (end, rest) = behind.split_first()?;
+    if *end != b'\n' {
         return None;
     }
-    Some((value, behind))
+    if is_digit(*digit) {
+        return Some((u64::from(*digit - b'0'), rest));
+    }
+    None
 }
 
 /// The numbers that the first line spells as `I` or `I*K`, where it has its line feed, and the
 /// lines behind it.
 pub fn numbers_front(bytes: &[u8]) -> Option<(u64, Option<u64>, &[u8])>
-    ensures { IfSome result (λ x. BeginsWithNumbers bytes.now x.0 x.1 x.2.now) }
+    ensures { IfSome result (λ x. BeginsWithLine bytes.now (number_tokens x.0 x.1) x.2.now) }
 {
+    // Most lines by far.
+    if let Some((digit, rest)) = digit_line(bytes) {
+        return Some((digit, None, rest));
+    }
     let (first, behind) = number_front(bytes)?;
     let (symbol, rest) = behind.split_first()?;
     if *symbol == b'\n' {

@@ -1,4 +1,5 @@
-//! Texts put together.
+//! `push_text`, `push_number` and `push_numbers`: texts
+//! that are put together from bytes and decimal numbers.
 ghost use Rattle.std.specs.Prelude.{◌≡◌, ◌++◌, OnOk, decimal};
 ghost use Rattle.snap_semantics.specs.Report.{numbers_text};
 

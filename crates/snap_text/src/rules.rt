@@ -1,7 +1,8 @@
-//! What rules of a grammar find at the front of the tokens of a line. A rule that does not fit
-//! finds nothing.
+//! The rules that find a number, an identifier, a keyword or a symbol at
+//! the front of the tokens of a line, or nothing where they do not fit.
 ghost use Rattle.std.specs.Prelude.{◌≡◌};
-ghost use Rattle.snap_semantics.specs.Rules.{number_at, identifier_at, keyword_at, symbol_at, end_at};
+ghost use Rattle.snap_semantics.specs.Rules.{number_at, identifier_at};
+ghost use Rattle.snap_semantics.specs.Rules.{keyword_at, symbol_at, end_at};
 ghost use Rattle.snap_text.specs.Tokens.{Finds, view_tokens};
 
 use crate::lexer::Token;

@@ -1,5 +1,6 @@
 -- The seats of a closed desk were told the turns of its record.
-use Rattle.std.proofs.Common.{◌≡◌, ◌≢◌, ℕ, ◌⊎◌, inl, inr, Bool, true, false, List, [], ◌∷◌, nat_eq, eq-eqb, eqb-true, if◌then◌else◌, refl, sym, ap, ◌∙◌, subst, arith}
+use Rattle.std.proofs.Common.{◌≡◌, ◌≢◌, ℕ, ◌⊎◌, inl, inr, Bool, true, false, List, [], ◌∷◌, nat_eq, eq-eqb, eqb-true}
+use Rattle.std.proofs.Common.{if◌then◌else◌, refl, sym, ap, ◌∙◌, subst, arith}
 use Rattle.std.proofs.lemmas.Bool.{cases_lt}
 use Rattle.std.proofs.lemmas.List.Elements.{All-head, All-tail}
 use Rattle.std.specs.List.{All, Contains}
@@ -31,17 +32,20 @@ no_turns r fits p not = empty (told_in r p) (λ u has.
 abbrev HasSeatOrNone : Setting → List Item → ℕ → List SeatView → Type 0
 HasSeatOrNone base items p ss = HasSeat p ss ⊎ (turns_of base p items ≡ [])
 
-of_seat : (base : Setting) (items : List Item) (p : ℕ) (s : SeatView) (us : List OwnTurn) (mine : Bool) → nat_eq p s.process ≡ mine → Keeps base items s →
+of_seat : (base : Setting) (items : List Item) (p : ℕ) (s : SeatView) (us : List OwnTurn) (mine : Bool) →
+    nat_eq p s.process ≡ mine → Keeps base items s →
     (p ≢ s.process → us ≡ turns_of base p items) → (if mine then s.own else us) ≡ turns_of base p items
-of_seat base items p s us true is kept others = sym kept.1 ∙ ap (λ q. turns_of base q items) (sym (eqb-true p s.process is))
+of_seat base items p s us true is kept others =
+    sym kept.1 ∙ ap (λ q. turns_of base q items) (sym (eqb-true p s.process is))
 of_seat base items p s us false is kept others = others (λ same. let yes = eq-eqb p s.process same in absurd (cc))
 
-of_seats : (base : Setting) (items : List Item) (p : ℕ) (ss : List SeatView) → All (Keeps base items) ss → HasSeatOrNone base items p ss →
-    told_at ss p ≡ turns_of base p items
+of_seats : (base : Setting) (items : List Item) (p : ℕ) (ss : List SeatView) → All (Keeps base items) ss →
+    HasSeatOrNone base items p ss → told_at ss p ≡ turns_of base p items
 of_seats base items p [] kept (inl has) = absurd has
 of_seats base items p [] kept (inr none) = sym none
 of_seats base items p (s ∷ ss) kept (inl has) =
-    of_seat base items p s (told_at ss p) (nat_eq p s.process) refl (All-head (Keeps base items) s ss kept) (λ other. elim has [
+    of_seat base items p s (told_at ss p) (nat_eq p s.process) refl
+    (All-head (Keeps base items) s ss kept) (λ other. elim has [
       | inl same ↦ absurd (other same)
       | inr more ↦ of_seats base items p ss (All-tail (Keeps base items) s ss kept) (inl more)
     ])
@@ -61,5 +65,6 @@ module _ (seats : List SeatView) (kept : Run) (h : IsClosed (setting_of kept) se
 
 pub seats_are_told : SeatsAreToldTheRecord
 seats_are_told base seats kept h =
-    let own : IsClosed (setting_of kept) seats kept = subst (λ (b : Setting). IsClosed b seats kept) (sym h.of_base) h in
+    let own : IsClosed (setting_of kept) seats kept =
+    subst (λ (b : Setting). IsClosed b seats kept) (sym h.of_base) h in
     of_process seats kept own

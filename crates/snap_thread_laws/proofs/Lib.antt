@@ -1,3 +1,4 @@
+-- The proofs of snap_thread_laws, by their modules.
 pub mod Turning
 mod Operations
 mod Linear

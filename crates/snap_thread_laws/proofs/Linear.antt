@@ -11,7 +11,9 @@ use Rattle.snap_thread_laws.proofs.Operations.{operations_are_told}
 module _ (r : Run) (fits : IsValidRun r) (os : List Operation) where
   is_told : IsLinearization r os → IsToldLinearization r.shape.w (told_in r) os
   is_told h = record {
-    took_place = All-weaker (IsOperation r) (IsToldOperation (told_in r)) (λ o k. (operations_are_told r fits o).0 k) os h.took_place;
+    took_place =
+        All-weaker (IsOperation r) (IsToldOperation (told_in r))
+        (λ o k. (operations_are_told r fits o).0 k) os h.took_place;
     once = h.once;
     complete = λ o k ended. h.complete o ((operations_are_told r fits o).1 k) ended;
     order = h.order;
@@ -20,7 +22,9 @@ module _ (r : Run) (fits : IsValidRun r) (os : List Operation) where
 
   was_told : IsToldLinearization r.shape.w (told_in r) os → IsLinearization r os
   was_told h = record {
-    took_place = All-weaker (IsToldOperation (told_in r)) (IsOperation r) (λ o k. (operations_are_told r fits o).1 k) os h.took_place;
+    took_place =
+        All-weaker (IsToldOperation (told_in r)) (IsOperation r)
+        (λ o k. (operations_are_told r fits o).1 k) os h.took_place;
     once = h.once;
     complete = λ o k ended. h.complete o ((operations_are_told r fits o).0 k) ended;
     order = h.order;

@@ -16,7 +16,8 @@ use Rattle.snap_live.specs.Play.{IsPlay}
 use Rattle.snap_live.specs.Script.{script_at}
 use Rattle.snap_live.specs.Worker.{shown}
 use Rattle.snap_thread_laws.specs.DeskLaws.{DesksTellLinearizations, told_at}
-use Rattle.snap_thread_laws.specs.ShippedLaws.{ClosedDesksAreLinearizable, IsShapeFor, IsToldLive, LiveRunsAreLinearizable, shipped_over}
+use Rattle.snap_thread_laws.specs.ShippedLaws.{ClosedDesksAreLinearizable, IsShapeFor, IsToldLive}
+use Rattle.snap_thread_laws.specs.ShippedLaws.{LiveRunsAreLinearizable, shipped_over}
 use Rattle.snap_thread_laws.specs.Told.{IsLinearizableAsTold, Told, told_in}
 use Rattle.snap_thread_laws.proofs.Closing.{seats_are_told}
 use Rattle.snap_thread_laws.proofs.Linear.{linearizations_are_told}
@@ -40,20 +41,24 @@ desks_tell base seats kept h linear =
     (subst (λ (w : ℕ). IsLinearizableAsTold w (told_in kept)) words (told_of kept h.fits linear))
 
 -- a run of a shipped listing is linearizable
-shipped_run : ((g : KindTag) → RunsKeepPromises g) → (g : KindTag) (shape : Counts) (r : Run) → IsShapeFor g shape → setting_of r ≡ shipped_over g shape →
-    length r.items ≤ 1000000 → IsLinearizable r
+shipped_run : ((g : KindTag) → RunsKeepPromises g) → (g : KindTag) (shape : Counts) (r : Run) → IsShapeFor g shape →
+    setting_of r ≡ shipped_over g shape → length r.items ≤ 1000000 → IsLinearizable r
 shipped_run kept g shape r fit is short =
     let same : r ≡ run_of (shipped_over g shape) r.items = ap (λ (b : Setting). run_of b r.items) is in
     subst IsLinearizable (sym same) (kept g shape r.items fit.0 fit.1 (suffices g r.items short)).snapshot.linearizable
 
 pub closed_desks : ((g : KindTag) → RunsKeepPromises g) → ClosedDesksAreLinearizable
-closed_desks kept g shape seats r fit h = desks_tell (shipped_over g shape) seats r h (shipped_run kept g shape r fit h.of_base h.short)
+closed_desks kept g shape seats r fit h =
+    desks_tell (shipped_over g shape) seats r h (shipped_run kept g shape r fit h.of_base h.short)
 
 -- the threads of a live run are told the turns of its record
-told_live : (may : ℕ → ℕ → Bool → Type 0) (base : Setting) (scripts : List Script) (limit : ℕ) (r : Run) (turns : List (List Turn)) → IsLive may base scripts limit r turns → IsToldLive base scripts turns (told_in r)
+told_live : (may : ℕ → ℕ → Bool → Type 0) (base : Setting) (scripts : List Script) (limit : ℕ) (r : Run)
+    (turns : List (List Turn)) → IsLive may base scripts limit r turns → IsToldLive base scripts turns (told_in r)
 told_live may base scripts limit r turns h = record {
   handed = λ k lt. (h.played k lt).told ∙ ap (λ (b : Setting). map shown (turns_of b (k + 1) r.items)) (sym h.of_base);
-  plays = λ k lt. subst (λ (b : Setting). IsPlay (script_at scripts k) (turns_of b (k + 1) r.items)) (sym h.of_base) (h.played k lt).plays;
+  plays =
+      λ k lt. subst (λ (b : Setting). IsPlay (script_at scripts k) (turns_of b (k + 1) r.items))
+      (sym h.of_base) (h.played k lt).plays;
 }
 
 pub live_runs : (may : ℕ → ℕ → Bool → Type 0) → ((g : KindTag) → RunsKeepPromises g) → LiveRunsAreLinearizable may
@@ -61,5 +66,6 @@ live_runs may kept g shape scripts limit r turns fit h fits short =
     let words : r.shape.w ≡ shape.w = ap (λ (b : Setting). b.shape.w) h.of_base in (
       told_in r,
       told_live may (shipped_over g shape) scripts limit r turns h,
-      subst (λ (w : ℕ). IsLinearizableAsTold w (told_in r)) words (told_of r fits (shipped_run kept g shape r fit h.of_base short)),
+      subst (λ (w : ℕ). IsLinearizableAsTold w (told_in r)) words
+          (told_of r fits (shipped_run kept g shape r fit h.of_base short)),
     )

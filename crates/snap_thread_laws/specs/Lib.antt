@@ -1,3 +1,4 @@
+-- The definitions of snap_thread_laws, by their modules.
 pub mod Told
 pub mod RunLaws
 pub mod DeskLaws

@@ -1,4 +1,5 @@
--- Runs, and what threads are told of them.
+-- The operations and the linearizations of a run are those of which its threads are told: `OperationsAreTold`,
+-- `LinearizationsAreTold`.
 use Rattle.std.specs.Prelude.{◌↔◌, List}
 use Rattle.snap_runs.specs.Linearization.{IsLinearization}
 use Rattle.snap_runs.specs.Operation.{IsOperation, Operation}

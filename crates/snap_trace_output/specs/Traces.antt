@@ -1,4 +1,5 @@
--- What is written for a listing and a schedule whose run is told item by item, or why it is refused.
+-- `trace_listing`: what the task `trace` writes for a listing and a schedule, which is what each item of the run did,
+-- or why it is refused.
 use Rattle.std.specs.Prelude.{ℕ, List, Result, Ok}
 use Rattle.snap_semantics.specs.Answers.{◌>>=◌}
 use Rattle.snap_semantics.specs.Source.{Source}

@@ -1,4 +1,5 @@
-//! A listing under a schedule, told item by item.
+//! What the task `trace` writes: what each item of a listing's run under a schedule did and
+//! changed.
 #![tactic(auto)]
 
 mod program;

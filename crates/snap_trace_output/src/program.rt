@@ -1,4 +1,5 @@
-//! What is written for a listing and a schedule whose run is told item by item.
+//! `trace_program`: what the task `trace` writes for a listing and a schedule, item by item of the
+//! run.
 ghost use Rattle.std.specs.Prelude.{◌≡◌};
 ghost use Rattle.snap_semantics.specs.Answers.{Answers};
 ghost use Rattle.snap_trace_output.specs.Traces.{trace_listing};

@@ -1,1 +1,2 @@
+-- The proofs of snap_troubles, by their modules.
 pub mod Places

@@ -1,2 +1,3 @@
+-- The definitions of snap_troubles, by their modules.
 pub mod Troubles
 pub mod TroubleText

@@ -1,4 +1,4 @@
--- What is said of an operand at which a line traps.
+-- The printed text of a `Trouble`, the operand at which a line traps.
 use Rattle.std.specs.Prelude.{ℕ, List, ◌++◌, codes, decimal, nat_eq, if◌then◌else◌}
 use Rattle.snap_words.specs.declared.address.Bank.{Bank}
 use Rattle.snap_words.specs.declared.address.Bank.TheVariants as bank
@@ -38,7 +38,8 @@ register_text b i j = codes "the register " ++ bank_text b ++ codes " " ++ decim
 abbrev pub trouble_text : Trouble → List ℕ
 trouble_text (NoPlace i value count) =
     valued_index i value ++ codes ", and its places are 1 to " ++ decimal count ++ codes "\n"
-trouble_text (LargeSum x y) = codes "the sum " ++ decimal x ++ codes " + " ++ decimal y ++ codes " is above 18446744073709551615\n"
+trouble_text (LargeSum x y) =
+    codes "the sum " ++ decimal x ++ codes " + " ++ decimal y ++ codes " is above 18446744073709551615\n"
 trouble_text (NoBit x) = codes "the value to be written is " ++ decimal x ++ codes ", which is no bit\n"
 trouble_text (NotOwn b i j) =
     register_text b i j ++ codes " is written by process " ++ decimal i ++ codes " alone\n"

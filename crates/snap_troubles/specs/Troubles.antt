@@ -1,6 +1,7 @@
--- The operand at which a line traps: the first, in the order in which the table of lines takes them, that is no place, no number
--- of 64 bits, no bit, or no register of the process.
-use Rattle.std.specs.Prelude.{ℕ, zero, suc, ◌+◌, ◌-◌, ◌^◌, Bool, List, [], ◌∷◌, take, min, Option, Some, None, nat_eq, nat_lt, if◌then◌else◌, slice_index, slice_index_or}
+-- The operand at which a line traps: the first, in the order in which the table of lines takes them, that is no
+-- place, no number of 64 bits, no bit, or no register of the process.
+use Rattle.std.specs.Prelude.{ℕ, zero, suc, ◌+◌, ◌-◌, ◌^◌, Bool, List, [], ◌∷◌, take, min, Option, Some, None, nat_eq}
+use Rattle.std.specs.Prelude.{nat_lt, if◌then◌else◌, slice_index, slice_index_or}
 use Rattle.snap_words.specs.Kind.{field_of, is_bit, may_write}
 use Rattle.snap_words.specs.Shape.{Counts, is_place, places}
 use Rattle.snap_words.specs.Word.{Word, no_word}
@@ -32,7 +33,8 @@ use Rattle.snap_troubles.specs.declared.trouble.Trouble.TheVariants.{NoPlace, La
 
 -- who takes values, in a state
 abbrev pub context_of : Counts → State → Taker → Context
-context_of shape S t = record { shape = shape; me = t.process; op = t.op; locals = (process_at S t.process).locals; place = t.place }
+context_of shape S t =
+    record { shape = shape; me = t.process; op = t.op; locals = (process_at S t.process).locals; place = t.place }
 
 abbrev pub row_in : Option LocalValue → List ℕ
 row_in (Some (RowValue row)) = row
@@ -55,7 +57,8 @@ term_number c (term.Index i) = index_value c i
 term_number c term.Arg = arg_of c.op
 term_number c (term.Row x i) = row_number c.locals x (index_value c i)
 term_number c (term.Field f x i) = field_of f (word_of c.locals x (index_value c i))
-term_number c (term.Handshake x i j) = slice_index (word_of c.locals x (index_value c i)).handshakes (index_value c j - 1)
+term_number c (term.Handshake x i j) =
+    slice_index (word_of c.locals x (index_value c i)).handshakes (index_value c j - 1)
 
 abbrev pub negated : ℕ → ℕ
 negated x = if nat_eq x 0 then 1 else 0
@@ -83,7 +86,8 @@ sum_trouble x y = if nat_lt (x + y) (2 ^ 64) then None else Some (LargeSum x y)
 
 abbrev pub expr_trouble : Context → Expr → Option Trouble
 expr_trouble c (expr.Term t) = term_trouble c t
-expr_trouble c (expr.Sum t u) = or_else (term_trouble c t) (or_else (term_trouble c u) (sum_trouble (term_number c t) (term_number c u)))
+expr_trouble c (expr.Sum t u) =
+    or_else (term_trouble c t) (or_else (term_trouble c u) (sum_trouble (term_number c t) (term_number c u)))
 expr_trouble c (expr.Not t) = term_trouble c t
 
 abbrev pub comparison_trouble : Context → Comparison → Option Trouble
@@ -92,9 +96,11 @@ comparison_trouble c k = or_else (term_trouble c k.left) (term_trouble c k.right
 abbrev pub condition_trouble : Context → Condition → Option Trouble
 condition_trouble c (One k) = comparison_trouble c k
 condition_trouble c (Two j k l) = or_else (comparison_trouble c k) (comparison_trouble c l)
-condition_trouble c (Three j k l m) = or_else (comparison_trouble c k) (or_else (comparison_trouble c l) (comparison_trouble c m))
+condition_trouble c (Three j k l m) =
+    or_else (comparison_trouble c k) (or_else (comparison_trouble c l) (comparison_trouble c m))
 condition_trouble c (Four j k l m o) =
-    or_else (comparison_trouble c k) (or_else (comparison_trouble c l) (or_else (comparison_trouble c m) (comparison_trouble c o)))
+    or_else (comparison_trouble c k)
+    (or_else (comparison_trouble c l) (or_else (comparison_trouble c m) (comparison_trouble c o)))
 
 abbrev pub where_trouble : Context → Option Condition → Option Trouble
 where_trouble c None = None
@@ -114,7 +120,8 @@ conditions_trouble shape S t k p (suc more) =
 abbrev pub values_trouble : Counts → State → Taker → Expr → Option Condition → (p : ℕ) → ℕ → Option Trouble
 values_trouble shape S t e k p zero = None
 values_trouble shape S t e k p (suc more) =
-    or_else (or_else (expr_trouble (context_of shape S (taker_at t p)) e) (where_trouble (context_of shape S (taker_at t p)) k))
+    or_else (or_else (expr_trouble (context_of shape S (taker_at t p)) e)
+    (where_trouble (context_of shape S (taker_at t p)) k))
     (values_trouble shape S t e k (p + 1) more)
 
 -- a number that is no bit
@@ -148,16 +155,20 @@ put_bit_trouble kind c b i j e =
 -- a line of process t, in a state
 abbrev pub line_trouble : KindTag → Counts → State → Taker → Instr → Option Trouble
 line_trouble kind shape S t (instr.Let x e) = expr_trouble (context_of shape S t) e
-line_trouble kind shape S t (instr.LetPlace x i e) = or_else (place_trouble (context_of shape S t) i (places shape)) (expr_trouble (context_of shape S t) e)
-line_trouble kind shape S t (instr.Get x i j) = or_else (place_trouble (context_of shape S t) i (places shape)) (place_trouble (context_of shape S t) j shape.w)
-line_trouble kind shape S t (instr.Bit x b i j) = or_else (place_trouble (context_of shape S t) i shape.n) (place_trouble (context_of shape S t) j shape.n)
+line_trouble kind shape S t (instr.LetPlace x i e) =
+    or_else (place_trouble (context_of shape S t) i (places shape)) (expr_trouble (context_of shape S t) e)
+line_trouble kind shape S t (instr.Get x i j) =
+    or_else (place_trouble (context_of shape S t) i (places shape)) (place_trouble (context_of shape S t) j shape.w)
+line_trouble kind shape S t (instr.Bit x b i j) =
+    or_else (place_trouble (context_of shape S t) i shape.n) (place_trouble (context_of shape S t) j shape.n)
 line_trouble kind shape S t (instr.Look x i) = place_trouble (context_of shape S t) i shape.n
 line_trouble kind shape S t (instr.Put i parts) =
     or_else (place_trouble (context_of shape S t) i shape.w) (or_else (tuple_trouble (context_of shape S t) parts)
     (owner_trouble kind (context_of shape S t) bank.R (index_value (context_of shape S t) i) 0))
 line_trouble kind shape S t (instr.PutBit b i j e) = put_bit_trouble kind (context_of shape S t) b i j e
 line_trouble kind shape S t (instr.PutView i x) =
-    or_else (place_trouble (context_of shape S t) i shape.n) (owner_trouble kind (context_of shape S t) bank.V (index_value (context_of shape S t) i) 0)
+    or_else (place_trouble (context_of shape S t) i shape.n)
+    (owner_trouble kind (context_of shape S t) bank.V (index_value (context_of shape S t) i) 0)
 line_trouble kind shape S t (instr.ViewOf x y i) = place_trouble (context_of shape S t) i (places shape)
 line_trouble kind shape S t (instr.Each g x e k) = values_trouble shape S t e k 1 (range_end shape g)
 line_trouble kind shape S t (instr.First x g k target) = conditions_trouble shape S t k 1 (range_end shape g)

@@ -2,7 +2,9 @@
 ghost use Rattle.std.specs.Prelude.{◌≡◌, ◌≤◌, Some};
 ghost use Rattle.snap_words.specs.Shape.{IsOneOf};
 ghost use Rattle.snap_semantics.specs.Rules.{or_else};
-ghost use Rattle.snap_troubles.specs.Troubles.{comparison_trouble, condition_trouble, conditions_trouble, context_of, expr_trouble, taker_at, values_trouble, where_trouble};
+ghost use Rattle.snap_troubles.specs.Troubles.{comparison_trouble, condition_trouble};
+ghost use Rattle.snap_troubles.specs.Troubles.{conditions_trouble, context_of};
+ghost use Rattle.snap_troubles.specs.Troubles.{expr_trouble, values_trouble, where_trouble};
 
 use crate::operands::{expr_trouble, first_of, term_trouble};
 use crate::taker::Taker;

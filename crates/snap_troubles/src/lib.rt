@@ -1,4 +1,4 @@
-//! The operand at which a line traps, and what is said of it.
+//! The operand at which a line traps (`Trouble`), and its printed text.
 #![tactic(auto)]
 
 mod conditions;

@@ -1,11 +1,13 @@
-//! The numbers of operands.
+//! The numbers that the operands of a line have in a machine, to find the operand at which the line
+//! traps.
 ghost use Rattle.std.specs.Prelude.{◌≡◌, ◌-◌, map, slice_index};
 ghost use Rattle.snap_words.specs.Shape.{IsOneOf};
 ghost use Rattle.snap_words.specs.Kind.{field_of};
 ghost use Rattle.snap_semantics.specs.Readers.{local_value};
 ghost use Rattle.snap_semantics.specs.State.{process_at};
 ghost use Rattle.snap_semantics.specs.Value.{arg_of, index_value};
-ghost use Rattle.snap_troubles.specs.Troubles.{context_of, negated, row_in, row_number, term_number, word_of, words_in};
+ghost use Rattle.snap_troubles.specs.Troubles.{context_of, negated, row_in, row_number};
+ghost use Rattle.snap_troubles.specs.Troubles.{term_number, word_of, words_in};
 
 use crate::taker::Taker;
 use snap_acts::index_value;
@@ -49,7 +51,8 @@ pub(crate) fn row_of<K: Kind>(machine: &Machine<K>, i: u32, name: Name) -> &[u64
 /// What a `words` local of a process has.
 fn words_of<K: Kind>(machine: &Machine<K>, i: u32, name: Name) -> &[K::Word]
     requires { IsOneOf machine.now.shape.n i }
-    ensures { map K.as_word result.now ≡ words_in (local_value (process_at machine.now.state i).locals name) }
+    ensures { map K.as_word result.now
+        ≡ words_in (local_value (process_at machine.now.state i).locals name) }
 {
     match machine.local(i, name) {
         Some(Local::Words(words)) => words,

@@ -1,9 +1,12 @@
-//! The operand at which a line traps.
+//! `line_trouble`: the operand at which a line traps, the first in the order in which the line
+//! takes them.
 ghost use Rattle.std.specs.Prelude.{◌≡◌, ◌<◌, ◌+◌, ◌^◌};
 ghost use Rattle.snap_words.specs.Shape.{IsOneOf, places};
 ghost use Rattle.snap_semantics.specs.Rules.{or_else};
 ghost use Rattle.snap_semantics.specs.Table.{range_end};
-ghost use Rattle.snap_troubles.specs.Troubles.{context_of, expr_trouble, line_trouble, place_trouble, sum_trouble, term_number, term_trouble};
+ghost use Rattle.snap_troubles.specs.Troubles.{context_of, expr_trouble, line_trouble};
+ghost use Rattle.snap_troubles.specs.Troubles.{place_trouble, sum_trouble};
+ghost use Rattle.snap_troubles.specs.Troubles.{term_number, term_trouble};
 
 use crate::conditions::{condition_trouble, conditions_trouble, values_trouble};
 use crate::numbers::{index_number, term_number};
@@ -39,8 +42,8 @@ pub(crate) fn place_trouble<K: Kind>(
     count: u64,
 ) -> Option<Trouble>
     requires { IsOneOf machine.now.shape.n taker.process }
-    ensures { result ≡ place_trouble (context_of machine.now.shape machine.now.state taker) index.now
-        count }
+    ensures { result ≡ place_trouble
+        (context_of machine.now.shape machine.now.state taker) index.now count }
 {
     let value = index_number(machine, taker, index);
     if 0 < value && value <= count {
@@ -67,7 +70,8 @@ pub(crate) fn term_trouble<K: Kind>(
     term: &Term,
 ) -> Option<Trouble>
     requires { IsOneOf machine.now.shape.n taker.process }
-    ensures { result ≡ term_trouble (context_of machine.now.shape machine.now.state taker) term.now }
+    ensures { result
+        ≡ term_trouble (context_of machine.now.shape machine.now.state taker) term.now }
 {
     let shape = machine.shape();
     match term {
@@ -112,7 +116,8 @@ pub(crate) fn expr_trouble<K: Kind>(
     expr: &Expr,
 ) -> Option<Trouble>
     requires { IsOneOf machine.now.shape.n taker.process }
-    ensures { result ≡ expr_trouble (context_of machine.now.shape machine.now.state taker) expr.now }
+    ensures { result
+        ≡ expr_trouble (context_of machine.now.shape machine.now.state taker) expr.now }
 {
     match expr {
         Expr::Term(term) => term_trouble(machine, taker, term),
@@ -121,12 +126,12 @@ pub(crate) fn expr_trouble<K: Kind>(
     }
 }
 
-/// The operand at which the line of a process traps: the first that is no place, no number of 64 bits, no bit, or no register
-/// of the process.
+/// The operand at which the line of a process traps: the first that is no place, no number of 64
+/// bits, no bit, or no register of the process.
 pub fn line_trouble<K: Kind>(machine: &Machine<K>, taker: Taker, instr: &Instr) -> Option<Trouble>
     requires { IsOneOf machine.now.shape.n taker.process }
-    ensures { result ≡ line_trouble machine.now.source.kind machine.now.shape machine.now.state taker
-        instr.now }
+    ensures { result
+        ≡ line_trouble machine.now.source.kind machine.now.shape machine.now.state taker instr.now }
 {
     let shape = machine.shape();
     match instr {

@@ -5,7 +5,9 @@ ghost use Rattle.snap_words.specs.declared.address.Bank.TheVariants as bank;
 ghost use Rattle.snap_semantics.specs.Readers.{local_value};
 ghost use Rattle.snap_semantics.specs.Rules.{or_else};
 ghost use Rattle.snap_semantics.specs.Value.{index_value};
-ghost use Rattle.snap_troubles.specs.Troubles.{bit_trouble, bits_trouble, context_of, expr_number, owner_trouble, place_trouble, put_bit_trouble, row_in, tuple_trouble};
+ghost use Rattle.snap_troubles.specs.Troubles.{bit_trouble, bits_trouble, context_of};
+ghost use Rattle.snap_troubles.specs.Troubles.{expr_number, owner_trouble, place_trouble};
+ghost use Rattle.snap_troubles.specs.Troubles.{put_bit_trouble, row_in, tuple_trouble};
 
 use crate::numbers::{index_number, negated, row_of, term_number};
 use crate::operands::{expr_trouble, first_of, place_trouble};
@@ -42,8 +44,8 @@ fn bits_trouble(numbers: &[u64]) -> Option<Trouble>
 /// An expression whose number is no bit.
 fn expr_bit_trouble<K: Kind>(machine: &Machine<K>, taker: Taker, expr: &Expr) -> Option<Trouble>
     requires { IsOneOf machine.now.shape.n taker.process }
-    ensures { result ≡ bit_trouble (expr_number (context_of machine.now.shape machine.now.state taker)
-        expr.now) }
+    ensures { result ≡ bit_trouble
+        (expr_number (context_of machine.now.shape machine.now.state taker) expr.now) }
 {
     match expr {
         Expr::Term(term) => bit_trouble(term_number(machine, taker, term)),
@@ -128,7 +130,8 @@ pub(crate) fn put_trouble<K: Kind>(
 ) -> Option<Trouble>
     requires { IsOneOf machine.now.shape.n taker.process }
     ensures { let c = context_of machine.now.shape machine.now.state taker in result
-        ≡ or_else (place_trouble c index.now machine.now.shape.w) (or_else (tuple_trouble c tuple.now)
+        ≡ or_else (place_trouble c index.now machine.now.shape.w)
+        (or_else (tuple_trouble c tuple.now)
         (owner_trouble machine.now.source.kind c bank.R (index_value c index.now) 0)) }
 {
     let place = place_trouble(machine, taker, index, machine.shape().w());

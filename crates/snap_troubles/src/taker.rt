@@ -1,4 +1,5 @@
-//! Who takes the values of a line.
+//! `Taker`: who takes the operands of a line that traps: a process, its operation, and the place of
+//! a quantifier.
 ghost use Rattle.std.specs.Prelude.{◌≡◌};
 ghost use Rattle.snap_troubles.specs.Troubles.{taker_at};
 

@@ -1,7 +1,9 @@
-//! What is said of an operand at which a line traps.
+//! The printed text of a `Trouble`, the operand at which a line traps.
 ghost use Rattle.std.specs.Prelude.{◌≡◌, ◌++◌, OnOk};
-ghost use Rattle.snap_troubles.specs.declared.trouble.Trouble.TheVariants.{LargeSum, NoBit, NoPlace, NotOwn};
-ghost use Rattle.snap_troubles.specs.TroubleText.{bank_text, index_text, register_text, second_text, trouble_text, valued_index};
+ghost use Rattle.snap_troubles.specs.declared.trouble.Trouble.TheVariants.{LargeSum, NoBit};
+ghost use Rattle.snap_troubles.specs.declared.trouble.Trouble.TheVariants.{NoPlace, NotOwn};
+ghost use Rattle.snap_troubles.specs.TroubleText.{bank_text, index_text, register_text};
+ghost use Rattle.snap_troubles.specs.TroubleText.{second_text, trouble_text, valued_index};
 
 use crate::trouble::Trouble;
 use snap_semantics::Index;

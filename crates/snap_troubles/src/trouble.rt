@@ -1,4 +1,5 @@
-//! What a line can run into.
+//! `Trouble`: the operand at which a line traps: an index out of range, a sum too large, a number
+//! that is no bit, or another process's register.
 use snap_semantics::Index;
 use snap_words::Bank;
 

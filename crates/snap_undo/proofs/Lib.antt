@@ -1,3 +1,4 @@
+-- The proofs of snap_undo, by their modules.
 pub mod Fitting
 pub mod Owners
 pub mod PutBack

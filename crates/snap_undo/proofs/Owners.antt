@@ -1,4 +1,5 @@
--- The process that has the number of a register may write it, whatever the kind.
+-- For undoing writes: process i may write the registers of any bank whose first index is i, whatever the kind
+-- (`may_write`).
 use Rattle.std.proofs.Common.{rules, ◌≡◌, ℕ, true, nat_eq, refl}
 use Rattle.snap_words.specs.Kind.{may_write}
 use Rattle.snap_words.specs.declared.address.Bank.{Bank}

@@ -1,3 +1,4 @@
+-- The definitions of snap_undo, by their modules.
 pub mod Undo
 pub mod Written
 pub mod Seen

@@ -1,4 +1,5 @@
-//! What a place has before an item writes it.
+//! What the register or local that a line is about to write has before: the `SlotPlace` of an
+//! `Undo`.
 ghost use Rattle.std.specs.Prelude.{◌≡◌, [], false, IfOk, map, slice_get, slice_index};
 ghost use Rattle.snap_words.specs.Shape.{is_place};
 ghost use Rattle.snap_semantics.specs.State.{value_at};

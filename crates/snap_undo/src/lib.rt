@@ -1,4 +1,4 @@
-//! What an item overwrites, and how that is put back.
+//! Undoing items: what an item overwrites (`Undo`), and how that is put back.
 #![tactic(auto)]
 
 mod before;

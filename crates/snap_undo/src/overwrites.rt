@@ -1,4 +1,4 @@
-//! What an item overwrites.
+//! `overwritten`: what an item is about to overwrite, as an `Undo`.
 ghost use Rattle.std.specs.Prelude.{◌≡◌, IfOk, length, map};
 ghost use Rattle.snap_words.specs.Shape.{IsOneOf};
 ghost use Rattle.snap_semantics.specs.Table.{done, who};

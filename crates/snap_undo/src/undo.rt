@@ -1,4 +1,5 @@
-//! What an item overwrote.
+//! `Undo`: what an item overwrote: the status of its process, and the register or local that it
+//! wrote with what that had.
 use snap_semantics::{BitBank, Status};
 use snap_words::{Kind, View};
 use std::marker::Model;
@@ -32,5 +33,9 @@ impl<K: Kind> Model for Undo<K> {
 
     ghost Value = { Overwritten };
 
-    ghost view = { λ u. record { process = u.process; status = u.status; place = seen_place K.as_word u.place } };
+    ghost view = { λ u. record {
+      process = u.process;
+      status = u.status;
+      place = seen_place K.as_word u.place;
+    } };
 }

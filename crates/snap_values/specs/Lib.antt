@@ -1,3 +1,4 @@
+-- The definitions of snap_values, by their modules.
 pub mod Quantifiers
 pub mod Seen
 pub mod Sizes

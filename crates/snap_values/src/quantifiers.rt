@@ -3,7 +3,8 @@
 ghost use Rattle.std.specs.Prelude.{◌≡◌, if◌then◌else◌};
 ghost use Rattle.snap_semantics.specs.Rules.{or_else};
 ghost use Rattle.snap_semantics.specs.Table.{each_value, range_end};
-ghost use Rattle.snap_asm_program.specs.NamedLines.{name_at, named_condition, named_expr, named_where};
+ghost use Rattle.snap_asm_program.specs.NamedLines.{name_at, named_condition, named_expr};
+ghost use Rattle.snap_asm_program.specs.NamedLines.{named_where};
 ghost use Rattle.snap_values.specs.Quantifiers.{first_place, holds_at_all, checked_values};
 ghost use Rattle.snap_values.specs.Seen.{seen_context};
 

@@ -1,4 +1,5 @@
-//! What a process runs a line in.
+//! `StepContext`: in what a process evaluates a line: the shape, its own number, its operation and
+//! line, and the place of a quantifier.
 use snap_semantics::Activity;
 use snap_words::Shape;
 

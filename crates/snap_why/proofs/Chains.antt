@@ -1,5 +1,6 @@
--- A scan of a chain of lenders, and those behind it.
-use Rattle.std.proofs.Common.{◌≡◌, ◌<◌, ◌≤◌, ◌-◌, ◌++◌, ◌∙◌, ℕ, zero, suc, List, Option, Some, None, IfSome, sym, subst, append_assoc, arith}
+-- What `why` prints of a chain of borrowed views: after a scan comes the lender, whose view it took, and so on.
+use Rattle.std.proofs.Common.{◌≡◌, ◌<◌, ◌≤◌, ◌-◌, ◌++◌, ◌∙◌, ℕ, zero, suc, List, Option, Some, None, IfSome, sym}
+use Rattle.std.proofs.Common.{subst, append_assoc, arith}
 use Rattle.snap_acts.specs.declared.act.Step.{Step}
 use Rattle.snap_loans.specs.Loans.{view_taken}
 use Rattle.snap_loans.specs.declared.loans.Borrowed.{Borrowed}
@@ -7,7 +8,8 @@ use Rattle.snap_loans.specs.declared.loans.ScanPlaces.{ScanPlaces}
 use Rattle.snap_why.specs.Answer.{chain_lines, lender_of, view_lines}
 
 -- once the view of a scan is told, its lender's is next
-pub goes_on : (ss : List Step) (next : Option ScanPlaces) (s : ScanPlaces) (left : ℕ) (out out' all : List ℕ) (v : Option Borrowed) (l : Option ScanPlaces) →
+pub goes_on : (ss : List Step) (next : Option ScanPlaces) (s : ScanPlaces) (left : ℕ)
+    (out out' all : List ℕ) (v : Option Borrowed) (l : Option ScanPlaces) →
     0 < left → next ≡ Some s → v ≡ view_taken ss s → l ≡ lender_of v → out' ≡ out ++ view_lines ss s.process v →
     out ++ chain_lines ss next left ≡ all → out' ++ chain_lines ss l (left - 1) ≡ all
 goes_on ss next s zero out out' all v l some is taken lends told so_far = absurd (omega (arith, some))
@@ -16,10 +18,13 @@ goes_on ss next s (suc left) out out' all v l some is taken lends told so_far =
     let all_of : out ++ chain_lines ss (Some s) (suc left) ≡ all =
     subst (λ (x : Option ScanPlaces). out ++ chain_lines ss x (suc left) ≡ all) is so_far in
     rw (m, lends, told, taken)
-    (append_assoc out (view_lines ss s.process (view_taken ss s)) (chain_lines ss (lender_of (view_taken ss s)) left) ∙ all_of)
+    (append_assoc out (view_lines ss s.process (view_taken ss s)) (chain_lines ss (lender_of (view_taken ss s)) left)
+    ∙ all_of)
 
 -- and lies in the trace
 pub lender_within : (v : Option Borrowed) (l : Option ScanPlaces) (n : ℕ) → l ≡ lender_of v →
-    IfSome v (λ (b : Borrowed). IfSome b.lender (λ (s : ScanPlaces). s.to ≤ n)) → IfSome l (λ (s : ScanPlaces). s.to ≤ n)
+    IfSome v (λ (b : Borrowed). IfSome b.lender (λ (s : ScanPlaces). s.to ≤ n)) →
+    IfSome l (λ (s : ScanPlaces). s.to ≤ n)
 lender_within None l n e within = subst (λ (x : Option ScanPlaces). IfSome x (λ (s : ScanPlaces). s.to ≤ n)) (sym e) tt
-lender_within (Some b) l n e within = subst (λ (x : Option ScanPlaces). IfSome x (λ (s : ScanPlaces). s.to ≤ n)) (sym e) within
+lender_within (Some b) l n e within =
+    subst (λ (x : Option ScanPlaces). IfSome x (λ (s : ScanPlaces). s.to ≤ n)) (sym e) within

@@ -1,2 +1,3 @@
+-- The proofs of snap_why, by their modules.
 pub mod Chains
 pub mod Traces

@@ -1,5 +1,6 @@
 -- The trace of a run has a step for each item, and each is of one of the processes.
-use Rattle.std.proofs.Common.{◌≡◌, ◌+◌, ◌<◌, ◌≤◌, ℕ, zero, suc, List, [], ◌∷◌, length, Option, Some, None, IfSome, refl, sym, ap, ◌∙◌, subst, get_or, take, arith}
+use Rattle.std.proofs.Common.{◌≡◌, ◌+◌, ◌<◌, ◌≤◌, ℕ, zero, suc, List, [], ◌∷◌, length, Option, Some, None, IfSome}
+use Rattle.std.proofs.Common.{refl, sym, ap, ◌∙◌, subst, get_or, take, arith}
 use Rattle.std.specs.List.{AllByRecursion}
 use Rattle.snap_words.specs.Shape.{Counts, IsOneOf}
 use Rattle.snap_semantics.specs.declared.process.Item.{Item}
@@ -29,12 +30,15 @@ pub as_many : (s : Source) (d : Schedule) → length (trace_of (run_over s d)) �
 as_many s d = many s d.shape (initial s d.shape) 1 d.items
 
 -- the process of a step that is there is one
-each : (s : Source) (n : Counts) (S : State) (t : ℕ) (xs : List Item) (k : ℕ) → AllByRecursion (λ (x : Item). IsOneOf n.n (who x)) xs → k < length xs →
+each : (s : Source) (n : Counts) (S : State) (t : ℕ) (xs : List Item) (k : ℕ) →
+    AllByRecursion (λ (x : Item). IsOneOf n.n (who x)) xs → k < length xs →
     IsOneOf n.n (step_at (steps_of s n S t xs) k).process
 unfolding step_of
 each s n S t [] k all less = absurd (omega (arith, less))
 each s n S t (x ∷ xs) zero all less = all.0
-each s n S t (x ∷ xs) (suc k) all less = let fewer : k < length xs = omega (arith, less) in each s n (done s n S x).0 (t + 1) xs k all.1 fewer
+each s n S t (x ∷ xs) (suc k) all less =
+    let fewer : k < length xs = omega (arith, less) in
+    each s n (done s n S x).0 (t + 1) xs k all.1 fewer
 
 by_act : (i j : ℕ) (a : Act) → trapped_by i a ≡ Some j → i ≡ j
 by_act i j act.Trap e = cc
@@ -59,16 +63,20 @@ pub one_of : (s : Source) (d : Schedule) (t i : ℕ) → IsSchedule d → t ≤ 
 one_of s d zero i right within e = absurd cc
 one_of s d (suc k) i right within e =
     let less : k < length d.items = omega (arith, within) in
-    subst (λ (j : ℕ). IsOneOf d.shape.n j) (by_act _ i _ e) (each s d.shape (initial s d.shape) 1 d.items k right.processes less)
+    subst (λ (j : ℕ). IsOneOf d.shape.n j) (by_act _ i _ e)
+    (each s d.shape (initial s d.shape) 1 d.items k right.processes less)
 
 -- so is one that is found in the trace
-pub all_of : (s : Source) (d : Schedule) (ss : List Step) (t : ℕ) (r : Option ℕ) → IsSchedule d → ss ≡ trace_of (run_over s d) → t ≤ length d.items →
+pub all_of : (s : Source) (d : Schedule) (ss : List Step) (t : ℕ) (r : Option ℕ) →
+    IsSchedule d → ss ≡ trace_of (run_over s d) → t ≤ length d.items →
     r ≡ trapped_at ss t → IfSome r (λ (i : ℕ). IsOneOf d.shape.n i)
 all_of s d ss t None right is within e = tt
 all_of s d ss t (Some i) right is within e =
     one_of s d t i right within (subst (λ (xs : List Step). trapped_at xs t ≡ Some i) is (sym e))
 
 -- the run of the first items ends as that of all is after them
-pub first_items : (r : Run) (s : Source) (d : Schedule) (c : ℕ) → r ≡ with_items (record { source = s; shape = d.shape; items = [] }) (take c d.items) →
+pub first_items : (r : Run) (s : Source) (d : Schedule) (c : ℕ) →
+    r ≡ with_items (record { source = s; shape = d.shape; items = [] }) (take c d.items) →
     state r (length r.items) ≡ state (run_over s d) c
-first_items r s d c e = rw e (ap (λ (xs : List Item). after s d.shape (initial s d.shape) xs) (take-length (take c d.items)))
+first_items r s d c e =
+    rw e (ap (λ (xs : List Item). after s d.shape (initial s d.shape) xs) (take-length (take c d.items)))

@@ -1,6 +1,7 @@
--- Why a scan answered what it answered: its point, how many double collects it took, and, where it took the view of another
--- process, who wrote that view, and which scan saw it. Each is followed by the command that goes there.
-use Rattle.std.specs.Prelude.{ℕ, zero, suc, ◌-◌, List, [], ◌∷◌, ◌++◌, Option, Some, None, codes, decimal, nat_eq, if◌then◌else◌}
+-- Why a scan answered what it answered: its point, how many double collects it took, and, where it took the view of
+-- another process, who wrote that view, and which scan saw it. Each is followed by the command that goes there.
+use Rattle.std.specs.Prelude.{ℕ, zero, suc, ◌-◌, List, [], ◌∷◌, ◌++◌, Option, Some, None}
+use Rattle.std.specs.Prelude.{codes, decimal, nat_eq, if◌then◌else◌}
 use Rattle.snap_runs.specs.declared.verdict.Verdict.{Verdict}
 use Rattle.snap_audit.specs.VerdictText.{verdict_line}
 use Rattle.snap_acts.specs.declared.act.Step.{Step}
@@ -27,7 +28,9 @@ point_line (Some t) = goto_line (codes "point") t
 
 -- a scan of an update
 abbrev pub scan_lines : List Step → ScanPlaces → List ℕ
-scan_lines ss s = goto_line (codes "its scan began") (step_at ss s.from).item ++ goto_line (codes "its scan ended") (step_at ss s.to).item
+scan_lines ss s =
+    goto_line (codes "its scan began") (step_at ss s.from).item
+    ++ goto_line (codes "its scan ended") (step_at ss s.to).item
 
 -- the scan that saw a view, where one is there
 abbrev pub lender_lines : List Step → Option ScanPlaces → List ℕ
@@ -65,7 +68,8 @@ lender_of (Some b) = b.lender
 abbrev pub chain_lines : List Step → Option ScanPlaces → ℕ → List ℕ
 chain_lines ss s zero = []
 chain_lines ss None (suc more) = []
-chain_lines ss (Some s) (suc more) = view_lines ss s.process (view_taken ss s) ++ chain_lines ss (lender_of (view_taken ss s)) more
+chain_lines ss (Some s) (suc more) =
+    view_lines ss s.process (view_taken ss s) ++ chain_lines ss (lender_of (view_taken ss s)) more
 
 -- the places of the scan of a verdict that item t answers
 abbrev pub scan_places : Verdict → ℕ → ScanPlaces

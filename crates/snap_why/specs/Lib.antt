@@ -1,3 +1,4 @@
+-- The definitions of snap_why, by their modules.
 pub mod Answer
 pub mod Trap
 pub mod Why

@@ -27,7 +27,9 @@ text_or_number number (Some text) = text
 
 -- `process I trapped CAUSE at LINE`
 abbrev pub trap_line : List NumberedText → ℕ → Cause → Activity → List ℕ
-trap_line texts i e a = process_text i ++ codes " " ++ outcome_text (outcome.Trapped e) ++ codes " at " ++ text_or_number a.line (text_with texts a.line) ++ codes "\n"
+trap_line texts i e a =
+    process_text i ++ codes " " ++ outcome_text (outcome.Trapped e) ++ codes " at "
+    ++ text_or_number a.line (text_with texts a.line) ++ codes "\n"
 
 -- the operand of a line, where one is wrong
 abbrev pub operand_line : Option Trouble → List ℕ
@@ -54,7 +56,8 @@ abbrev pub cause_line : Source → Counts → State → ℕ → Cause → Activi
 cause_line s shape S i cause.Nested a = nested_line a.link
 cause_line s shape S i cause.BadEnd a = end_line a.op a.link
 cause_line s shape S i cause.OffEnd a = codes "no line follows\n"
-cause_line s shape S i _ a = operand_line (trouble_of s shape S (record { process = i; op = a.op; place = 0 }) (instr_at s.lines a.line))
+cause_line s shape S i _ a =
+    operand_line (trouble_of s shape S (record { process = i; op = a.op; place = 0 }) (instr_at s.lines a.line))
 
 -- process i, which stands so in a state
 abbrev pub trap_lines : Source → Counts → State → ℕ → Status → List ℕ

@@ -1,5 +1,5 @@
--- What is said to `why` of an item of a run: why a scan answered what it answered, or why a process trapped; and where there is
--- neither, which answer or trap is next.
+-- What the debugger's `why` prints of an item: why a scan answered what it answered, or why a process trapped; where
+-- there is neither, which answer or trap is next.
 use Rattle.std.specs.Prelude.{ℕ, zero, suc, List, ◌++◌, length, drop, Option, Some, None, codes}
 use Rattle.snap_semantics.specs.State.{process_at}
 use Rattle.snap_runs.specs.Audit.{audit}
@@ -34,16 +34,19 @@ abbrev pub item_there : List Step → Option ℕ → Option ℕ
 item_there ss None = None
 item_there ss (Some k) = Some (step_at ss k).item
 
--- where neither a scan is answered nor a process traps: the next item at which one is or does, or else the last one before
+-- where neither a scan is answered nor a process traps: the next item at which one is or
+-- does, or else the last one before
 abbrev pub nothing_line : (next last : Option ℕ) → List ℕ
 nothing_line (Some t) last = goto_line (codes "nothing to explain here; the next answer or trap") t
 nothing_line None (Some t) = goto_line (codes "nothing to explain here; the last answer or trap") t
-nothing_line None None = codes "nothing to explain here, nor at another item: no scan is answered, and no process traps\n"
+nothing_line None None =
+    codes "nothing to explain here, nor at another item: no scan is answered, and no process traps\n"
 
 -- of item t
 unfoldable pub nothing_lines : List Step → ℕ → List ℕ
 nothing_lines ss t =
-    nothing_line (item_of (first_meeting wanted.AnswerOrTrap (drop t ss))) (item_there ss (last_before wanted.AnswerOrTrap ss t))
+    nothing_line (item_of (first_meeting wanted.AnswerOrTrap (drop t ss)))
+    (item_there ss (last_before wanted.AnswerOrTrap ss t))
 
 abbrev pub trap_or_nothing : Run → List Step → ℕ → Option ℕ → List ℕ
 trap_or_nothing r ss t (Some i) = trap_lines r.source r.shape (state r t) i (process_at (state r t) i).status

@@ -1,7 +1,11 @@
-//! Why a scan answered what it answered.
+//! What `why` prints of an answered scan: its point, its double collects, and from whom it borrowed
+//! its view, if it did.
 ghost use Rattle.std.specs.Prelude.{◌≡◌, ◌≤◌, ◌<◌, ◌++◌, ◌-◌, IfSome, OnOk, Some, get_or, length};
 ghost use Rattle.snap_loans.specs.Loans.{step_at};
-ghost use Rattle.snap_why.specs.Answer.{answer_lines, call_lines, chain_lines, goto_line, goto_text, lender_lines, lender_of, point_line, process_text, scan_lines, scan_places, taken_lines, taken_or_own, verdict_with, view_lines, writer_lines, written_lines};
+ghost use Rattle.snap_why.specs.Answer.{answer_lines, call_lines, chain_lines, goto_line};
+ghost use Rattle.snap_why.specs.Answer.{goto_text, lender_lines, lender_of, point_line};
+ghost use Rattle.snap_why.specs.Answer.{process_text, scan_lines, taken_lines, taken_or_own};
+ghost use Rattle.snap_why.specs.Answer.{verdict_with, view_lines, writer_lines, written_lines};
 
 use snap_acts::Step;
 use snap_audit::{Verdict, verdict_line};
@@ -118,7 +122,8 @@ fn push_written(
     written: Option<usize>,
     lender: Option<ScanPlaces>,
 ) -> Result<(), AllocError>
-    ensures { OnOk result (out.new.items ≡ out.old.items ++ written_lines steps.now written lender) }
+    ensures { OnOk result (out.new.items ≡ out.old.items
+        ++ written_lines steps.now written lender) }
 {
     match written {
         Some(place) => push_writer(out, steps, place, lender),

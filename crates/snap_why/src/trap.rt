@@ -1,10 +1,12 @@
-//! Why a process trapped.
+//! What `why` prints of a trapped process: the line, and the operand at which it trapped, or why
+//! its operation cannot go on.
 ghost use Rattle.std.specs.Prelude.{◌≡◌, ◌++◌, OnOk, map, option_map};
 ghost use Rattle.snap_words.specs.Shape.{IsOneOf};
 ghost use Rattle.snap_semantics.specs.Source.{instr_at};
 ghost use Rattle.snap_semantics.specs.State.{process_at};
 ghost use Rattle.snap_listing_lines.specs.LineTexts.{text_with, written};
-ghost use Rattle.snap_why.specs.Trap.{cause_line, end_line, nested_line, operand_line, text_or_number, trap_line, trap_lines, trouble_of};
+ghost use Rattle.snap_why.specs.Trap.{cause_line, end_line, nested_line, operand_line};
+ghost use Rattle.snap_why.specs.Trap.{text_or_number, trap_line, trap_lines, trouble_of};
 
 use crate::answer::push_process;
 use snap_listing_lines::LineTexts;
@@ -36,7 +38,8 @@ fn push_trap_line(
     cause: Cause,
     activity: Activity,
 ) -> Result<(), AllocError>
-    ensures { OnOk result (out.new.items ≡ out.old.items ++ trap_line texts.now process cause activity) }
+    ensures { OnOk result (out.new.items ≡ out.old.items
+        ++ trap_line texts.now process cause activity) }
 {
     push_process(out, process)?;
     push_text(out, b" ")?;
@@ -108,7 +111,8 @@ fn push_cause<K: Kind>(
 ) -> Result<(), AllocError>
     requires { IsOneOf machine.now.shape.n process }
     ensures { OnOk result (out.new.items ≡ out.old.items
-        ++ cause_line machine.now.source machine.now.shape machine.now.state process cause activity) }
+        ++ cause_line machine.now.source machine.now.shape machine.now.state
+        process cause activity) }
 {
     match cause {
         Cause::Nested => push_nested(out, activity.link),

@@ -1,5 +1,7 @@
-//! What is said of an item of a run.
-ghost use Rattle.std.specs.Prelude.{◌≡◌, ◌≤◌, ◌<◌, ◌++◌, IfOk, IfSome, OnOk, None, length, map, option_map};
+//! `push_why`: what `why` prints of an item of a run, be it the answer of a scan, a trap, or
+//! neither.
+ghost use Rattle.std.specs.Prelude.{◌≡◌, ◌≤◌, ◌<◌, ◌++◌};
+ghost use Rattle.std.specs.Prelude.{IfOk, IfSome, OnOk, None, length, map, option_map};
 ghost use Rattle.snap_words.specs.Shape.{IsOneOf};
 ghost use Rattle.snap_semantics.specs.State.{process_at};
 ghost use Rattle.snap_runs.specs.Audit.{audit};
@@ -7,7 +9,8 @@ ghost use Rattle.snap_runs.specs.Run.{run_over, state};
 ghost use Rattle.snap_listing_lines.specs.LineTexts.{written};
 ghost use Rattle.snap_acts.specs.Trace.{trace_of};
 ghost use Rattle.snap_why.specs.Trap.{trap_lines};
-ghost use Rattle.snap_why.specs.Why.{item_of, item_there, nothing_line, nothing_lines, trapped_at, trapped_by, why_text};
+ghost use Rattle.snap_why.specs.Why.{item_of, item_there, nothing_line};
+ghost use Rattle.snap_why.specs.Why.{nothing_lines, trapped_at, trapped_by, why_text};
 
 use crate::answer::{item_at, push_answer, push_goto_line, verdict_with};
 use crate::trap::push_trap;
@@ -101,7 +104,8 @@ fn push_last(out: &mut Vec<u8>, last: Option<u64>) -> Result<(), AllocError>
         ),
         None => push_text(
             out,
-            b"nothing to explain here, nor at another item: no scan is answered, and no process traps\n",
+            b"nothing to explain here, nor at another item: no scan is answered, \
+and no process traps\n",
         ),
     }
 }
@@ -173,8 +177,8 @@ fn push_trap_at<K: Kind>(
     push_trap(out, texts, record.machine(), process)
 }
 
-/// Adds why the scan that an item answered had this answer, or why the process of the item trapped; or that it did neither, and
-/// which item does.
+/// Adds why the scan that an item answered had this answer, or why the process of the item trapped;
+/// or that it did neither, and which item does.
 #[tactic(auto, using(crate::proofs::Traces::as_many), unfolding(crate::specs::Why::why_text))]
 pub fn push_why<K: Kind>(
     alloc: Global,

@@ -1,4 +1,5 @@
--- What holds of new words of any kind by their definitions: they are sized, and their handshake bits are bits.
+-- The initial word of each kind of registers: its view and its handshake
+-- bits have the lengths that `is_sized` asks, and zeros are bits.
 use Rattle.std.proofs.Common.{◌≡◌, ◌∙◌, ℕ, Bool, true, ◌&&◌, length, replicate, refl, ap, eq-eqb}
 use Rattle.std.proofs.lemmas.List.{length-replicate}
 use Rattle.std.specs.Prelude.{zero, suc, nat_eq}
@@ -18,5 +19,6 @@ same_length n = eq-eqb (length {A = ℕ} (replicate n 0)) n (length-replicate {A
 
 pub is_sized-initial_word : (k : KindTag) (s : Counts) → is_sized k s (initial_word k s) ≡ true
 is_sized-initial_word Seq s = same_length s.w
-is_sized-initial_word Bits s = ap (λ (b : Bool). b && nat_eq (length {A = ℕ} (replicate s.w 0)) s.w) (same_length s.n) ∙ same_length s.w
+is_sized-initial_word Bits s =
+    ap (λ (b : Bool). b && nat_eq (length {A = ℕ} (replicate s.w 0)) s.w) (same_length s.n) ∙ same_length s.w
 is_sized-initial_word Multi s = refl

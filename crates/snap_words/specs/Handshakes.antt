@@ -1,4 +1,4 @@
--- The handshake bits of a word, kept as the bits of one number.
+-- The handshake bits of a word, kept as the bits of one number: `mask_bits`, the lowest bit first.
 use Rattle.std.specs.Prelude.{ℕ, zero, suc, ◌/◌, ◌%◌, List, [], ◌∷◌}
 
 -- how many bits a mask has

@@ -1,5 +1,6 @@
 -- The kinds of registers: which shapes fit, how a word begins, and who may write what.
-use Rattle.std.specs.Prelude.{ℕ, ◌-◌, Bool, true, false, ◌&&◌, List, [], length, Option, Some, None, nat_eq, nat_lt, nat_le, replicate, slice_get, if◌then◌else◌}
+use Rattle.std.specs.Prelude.{ℕ, ◌-◌, Bool, true, false, ◌&&◌, List, [], length, Option, Some, None, nat_eq, nat_lt}
+use Rattle.std.specs.Prelude.{nat_le, replicate, slice_get, if◌then◌else◌}
 use Rattle.std.specs.List.{list_all}
 use Rattle.snap_words.specs.Shape.{Counts}
 use Rattle.snap_words.specs.Word.{Word}
@@ -19,7 +20,8 @@ fits Multi s = true
 -- a word that nobody has written
 abbrev pub initial_word : KindTag → Counts → Word
 initial_word Seq s = record { datum = 0; seq = 0; id = 0; toggle = 0; handshakes = []; view = replicate s.w 0 }
-initial_word Bits s = record { datum = 0; seq = 0; id = 0; toggle = 0; handshakes = replicate s.n 0; view = replicate s.w 0 }
+initial_word Bits s =
+    record { datum = 0; seq = 0; id = 0; toggle = 0; handshakes = replicate s.n 0; view = replicate s.w 0 }
 initial_word Multi s = record { datum = 0; seq = 0; id = 0; toggle = 0; handshakes = []; view = [] }
 
 -- whether a process may write the register of this bank whose first index is i

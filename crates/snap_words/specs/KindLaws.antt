@@ -1,4 +1,5 @@
--- The laws of the kinds: a word is what it has, and its bits are bits.
+-- Laws of the kinds of registers: two words of one kind are equal if they
+-- are the same `Word`, and the toggle of a word of kind multi is a bit.
 use Rattle.std.specs.Prelude.{◌≡◌, Bool, true, ◌&&◌}
 use Rattle.std.specs.List.{list_all}
 use Rattle.std.proofs.Common.{ap}
@@ -26,7 +27,8 @@ abbrev bits_checked : Word → Bool
 bits_checked p = is_bit p.toggle && list_all is_bit p.handshakes
 
 bits_word : Checked bits_checked → BitsWord
-bits_word c = record { datum = c.0.datum; toggle = c.0.toggle; handshakes = c.0.handshakes; view = c.0.view; bits = c.1 }
+bits_word c =
+    record { datum = c.0.datum; toggle = c.0.toggle; handshakes = c.0.handshakes; view = c.0.view; bits = c.1 }
 
 pub bits_equal : (x y : BitsWord) → bits_as_word x ≡ bits_as_word y → x ≡ y
 unfolding bits_word

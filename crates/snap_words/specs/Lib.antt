@@ -1,3 +1,4 @@
+-- The definitions of snap_words, by their modules.
 pub mod Shape
 pub mod Word
 pub mod Kind

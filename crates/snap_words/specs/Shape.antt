@@ -1,4 +1,5 @@
--- How many processes and words there are.
+-- The shape of the registers: how many processes and how many
+-- words there are, 1 to 64 each; and places, counted from 1.
 use Rattle.std.specs.Prelude.{ℕ, ◌<◌, ◌≤◌, ◌-◌, max, Bool, ◌&&◌, Result, Ok, Err, nat_lt, nat_le, if◌then◌else◌}
 
 -- the numbers of processes and of words

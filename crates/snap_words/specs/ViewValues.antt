@@ -1,4 +1,4 @@
--- Where the values of a view stand.
+-- The values of a view as a list, whether the view has them on its own or shares them with its copies.
 use Rattle.std.specs.Prelude.{ℕ, List}
 use Rattle.std.specs.Arc.{arc_value}
 use Rattle.snap_words.specs.declared.view.ViewValues.{ViewValues}

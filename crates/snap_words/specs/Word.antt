@@ -1,4 +1,5 @@
--- The contents of registers.
+-- `Word`: what register r[k] contains, for every kind of registers:
+-- datum, sequence number, id, toggle, handshake bits and view.
 use Rattle.std.specs.Prelude.{ℕ, List, []}
 
 -- a word of any kind; what a kind lacks is 0 or empty

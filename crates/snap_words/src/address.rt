@@ -1,4 +1,4 @@
-//! Where a register stands.
+//! `Address`: a register, by its bank (`R`, `Q`, `P` or `V`) and its indices, which count from 1.
 
 /// A bank of registers.
 #[derive(Clone, Copy, Debug, PartialEq, Eq)]

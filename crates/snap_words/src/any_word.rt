@@ -1,4 +1,5 @@
-//! Words of any kind.
+//! `AnyWord`: the fields of a word of any kind of
+//! registers, from which a word of one kind is built.
 use crate::view::View;
 
 /// A word of any kind, to build one of a kind from. A kind keeps those that it has.

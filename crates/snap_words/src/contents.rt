@@ -1,4 +1,5 @@
-//! The parts of words of any kind. What a kind lacks is 0 or empty.
+//! The fields, the handshake bits and the view of a word,
+//! whatever its kind: what the kind lacks is 0 or empty.
 ghost use Rattle.std.specs.Prelude.{◌≡◌, bytes_eq, slice_index};
 ghost use Rattle.snap_words.specs.Kind.{field_of};
 

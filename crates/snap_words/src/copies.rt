@@ -1,4 +1,4 @@
-//! Equal words and views.
+//! Copies of lists of words and of lists of views: `copy_words` and `copy_views`.
 ghost use Rattle.std.specs.Prelude.{◌≡◌, IfOk};
 
 use crate::kinds::Kind;

@@ -1,4 +1,4 @@
-//! The handshake bits of a word.
+//! `Handshakes`: the handshake bits of one word, at most 64, kept as the bits of one number.
 ghost use Rattle.std.specs.Prelude.{◌≡◌, ◌≤◌, true, length, replicate};
 ghost use Rattle.std.specs.List.{list_all, slice_get};
 ghost use Rattle.snap_words.specs.Handshakes.{mask_bits, mask_width};
@@ -6,7 +6,8 @@ ghost use Rattle.snap_words.specs.Kind.{is_bit};
 
 use std::marker::Model;
 
-/// The handshake bits of a word, seen as the list of them: bit `k` of the mask is handshake bit `k + 1`. There are at most 64.
+/// The handshake bits of a word, seen as the list of them: bit `k` of the mask is handshake bit
+/// `k + 1`. There are at most 64.
 #[derive(Debug, Drop)]
 pub(crate) struct Handshakes {
     mask: u64,

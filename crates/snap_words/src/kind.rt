@@ -1,4 +1,5 @@
-//! The kinds of registers, and the fields of their words.
+//! `KindTag`: the kinds of registers, seq, bits and multi; and
+//! `Field`: the fields of their words that are one number.
 
 /// A kind of registers: what its words have, and who may write them.
 #[derive(Clone, Copy, Debug, PartialEq, Eq)]

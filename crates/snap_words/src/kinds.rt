@@ -1,6 +1,9 @@
-//! What a kind of registers has to offer, and the three kinds.
+//! The trait `Kind` of the kinds of registers `Seq`, `Bits`
+//! and `Multi`: what their words have, and who may write them.
 ghost use Rattle.std.specs.Prelude.{◌≡◌, true, false, IfOk, MatchResult, length, option_map};
-ghost use Rattle.snap_words.specs.Kind.{fits, initial_word, may_write, has_bank, field_in, handshake_in, has_handshakes, view_in, kept, has_bits, is_sized};
+ghost use Rattle.snap_words.specs.Kind.{fits, initial_word, may_write, has_bank};
+ghost use Rattle.snap_words.specs.Kind.{field_in, handshake_in, has_handshakes};
+ghost use Rattle.snap_words.specs.Kind.{view_in, kept, has_bits, is_sized};
 ghost use Rattle.snap_words.specs.AnyWord.{word_of_any};
 ghost use Rattle.snap_words.specs.Word.{Word};
 ghost use Rattle.snap_words.specs.declared.kind.KindTag.{KindTag};
@@ -56,11 +59,13 @@ pub trait Kind: Send + Sync {
     fn view(word: &Self::Word) -> Option<&View>
         ensures { option_map (λ v. v.now) result ≡ view_in TAG (as_word word.now) };
 
-    /// The word of the kind, or `NotABit` where its toggle or one of its handshake bits is not 0 or 1. Takes no memory.
+    /// The word of the kind, or `NotABit` where its toggle or one of its handshake bits is not
+    /// 0 or 1. Takes no memory.
     fn build(shape: Shape, given: AnyWord) -> Result<Self::Word, WordFault>
         requires { is_sized TAG shape (word_of_any given) ≡ true }
         ensures { MatchResult result
-            (λ w. (as_word w ≡ kept TAG (word_of_any given)) × (has_bits TAG (word_of_any given) ≡ true))
+            (λ w. (as_word w ≡ kept TAG (word_of_any given))
+            × (has_bits TAG (word_of_any given) ≡ true))
             (λ e. (e ≡ NotABit) × (has_bits TAG (word_of_any given) ≡ false)) };
 
     /// An equal word.

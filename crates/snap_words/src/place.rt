@@ -1,4 +1,4 @@
-//! Places, counted from 1.
+//! `place_in`: a place that counts from 1 as one that counts from 0, where there is one.
 ghost use Rattle.std.specs.Prelude.{◌≡◌, ◌<◌, ◌-◌, true, false, MatchResult};
 ghost use Rattle.snap_words.specs.Shape.{is_place, place_in};
 

@@ -1,4 +1,5 @@
-//! How many processes and words there are.
+//! `Shape`: the numbers of processes and of words, 1
+//! to 64 each; and why a shape or a word is refused.
 ghost use Rattle.std.specs.Prelude.{◌≡◌, MatchResult};
 ghost use Rattle.snap_words.specs.Shape.{IsOneOf, IsShape, max_count};
 ghost use Rattle.snap_words.specs.declared.shape.WordFault.TheVariants.{BadShape};
@@ -45,7 +46,8 @@ impl Model for Shape {
 impl Shape {
     /// The shape of `n` processes and `w` words, or `BadShape` unless both are 1 to `MAX_COUNT`.
     pub fn new(n: u64, w: u64) -> Result<Shape, WordFault>
-        ensures { MatchResult result (λ s. (s ≡ record { n = n; w = w }) × IsShape n w) (λ e. (e ≡ BadShape) × (IsShape n w → ⊥)) }
+        ensures { MatchResult result (λ s. (s ≡ record { n = n; w = w }) × IsShape n w)
+            (λ e. (e ≡ BadShape) × (IsShape n w → ⊥)) }
     {
         if 1 <= n && n <= MAX_COUNT && 1 <= w && w <= MAX_COUNT {
             Ok(Shape { n, w })

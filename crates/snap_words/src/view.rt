@@ -1,4 +1,5 @@
-//! Views, and other rows of numbers.
+//! `View`: a list of numbers, as the view of a word has
+//! or its handshake bits; copies of it may share them.
 ghost use Rattle.std.specs.Prelude.{◌≡◌, IfOk, replicate};
 ghost use Rattle.std.specs.List.{list_all};
 ghost use Rattle.snap_words.specs.Kind.{is_bit};
@@ -15,7 +16,8 @@ enum ViewValues {
     Shared(Arc<Vec<u64>>),
 }
 
-/// A list of numbers: a view has a value for each word, and handshake bits are one for each process.
+/// A list of numbers: a view has a value for each word,
+/// and handshake bits are one for each process.
 #[derive(Debug, Drop)]
 pub struct View {
     places: ViewValues,

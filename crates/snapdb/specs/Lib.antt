@@ -1,1 +1,2 @@
+-- The definitions of snapdb, by their modules.
 pub mod Start

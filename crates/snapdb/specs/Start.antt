@@ -1,4 +1,5 @@
--- How the program ends.
+-- `status_of`: the status that snapdb, the debugger with a prompt, ends with: 1 where something is refused, 3 where a
+-- device failed.
 use Rattle.std.specs.Prelude.{ℕ}
 use Rattle.snap_dialog.specs.declared.fault.DialogFault.{DialogFault}
 use Rattle.snap_dialog.specs.declared.fault.DialogFault.TheVariants as dialog

@@ -1,4 +1,4 @@
-//! A dialog about a listing under a schedule.
+//! `talk_about`: the dialog of snapdb at a console about a program under the schedule of a file.
 ghost use Rattle.std.specs.Prelude.{◌≡◌, Err, IfSome, OnOk, Ok};
 ghost use Rattle.std.specs.Io.KnownBytes.{Appends};
 ghost use Rattle.snap_dialog.specs.Dialog.{transcript};
@@ -31,8 +31,8 @@ fn schedule_for(alloc: Global, program: &Program, text: &[u8]) -> Result<Schedul
     }
 }
 
-/// Talks at a console about a program under a schedule. What is shown is the transcript of what is typed; where the schedule is
-/// refused, nothing is.
+/// Talks at a console about a program under a schedule. What is shown is the transcript of what is
+/// typed; where the schedule is refused, nothing is.
 pub fn talk_about<C: Console>(
     alloc: Global,
     program: &Program,
@@ -40,10 +40,13 @@ pub fn talk_about<C: Console>(
     shows: bool,
     console: &mut C,
 ) -> Result<(), StartFault>
-    ensures shown { OnOk result ((s : Schedule) × (schedule_for program.now schedule.now ≡ Ok s) × IfSome (C.left console.old) (λ input.
+    ensures shown { OnOk result ((s : Schedule) × (schedule_for program.now schedule.now ≡ Ok s)
+        × IfSome (C.left console.old) (λ input.
         Appends (C.shown console.old) (C.shown console.new)
-        (transcript prompt_text answer_line (opened_prompt (run_over program.now s) shows) (typed_lines input)))) }
-    ensures refused { (r : Refusal) → result ≡ Err (Refused r) → (schedule_for program.now schedule.now ≡ Err r) × (console.new ≡ console.old) }
+        (transcript prompt_text answer_line
+        (opened_prompt (run_over program.now s) shows) (typed_lines input)))) }
+    ensures refused { (r : Refusal) → result ≡ Err (Refused r) →
+        (schedule_for program.now schedule.now ≡ Err r) × (console.new ≡ console.old) }
 {
     let schedule = schedule_for(alloc, program, schedule)?;
     converse(alloc, program, schedule, shows, console)?;

@@ -1,4 +1,5 @@
-//! Why there was no dialog, or no whole one.
+//! `StartFault`: why snapdb, the debugger with a prompt, held no dialog, or no whole one; and the
+//! status that it ends with.
 ghost use Rattle.std.specs.Prelude.{◌≡◌};
 ghost use Rattle.snapdb.specs.Start.{of_dialog_fault, of_fault, status_of};
 ghost use Rattle.snapdb.specs.declared.fault.StartFault.TheVariants.{Memory};

@@ -1,4 +1,5 @@
--- What the words of a command line ask for.
+-- `asked_of`: what the arguments of snapdb, the debugger with a prompt, ask for: a listing or the name of a shipped
+-- one, and a schedule.
 use Rattle.std.specs.Prelude.{ℕ, List, [], ◌∷◌, Bool, false, Option, Some, None, bytes_eq, codes, nat_eq, if◌then◌else◌}
 use Rattle.snap_words.specs.declared.kind.KindTag.{KindTag}
 use Rattle.snap_tasks.specs.Request.{kind_of}
@@ -26,7 +27,8 @@ shipped_or_wrong None schedule = Wrong
 shipped_or_wrong (Some kind) schedule = Shipped kind schedule
 
 abbrev pub three_words : List ℕ → List ℕ → List ℕ → AskedFor
-three_words option kind schedule = if bytes_eq option (codes "--shipped") then shipped_or_wrong (kind_of kind) schedule else Wrong
+three_words option kind schedule =
+    if bytes_eq option (codes "--shipped") then shipped_or_wrong (kind_of kind) schedule else Wrong
 
 -- what words ask for, behind the program's own name
 abbrev pub asked_of : List (List ℕ) → AskedFor

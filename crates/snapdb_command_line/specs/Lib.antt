@@ -1,2 +1,3 @@
+-- The definitions of snapdb_command_line, by their modules.
 pub mod Asked
 pub mod Views

@@ -1,4 +1,4 @@
--- What was found in a command line, as it is seen.
+-- What the arguments of snapdb ask for, `Asked` of the code, viewed as `AskedFor` of the definitions.
 use Rattle.snapdb_command_line.specs.Asked.{AskedFor, Files, Shipped, Help, Wrong}
 use Rattle.snapdb_command_line.specs.declared.asked.Asked.{Asked}
 use Rattle.snapdb_command_line.specs.declared.asked.Asked.TheVariants as given

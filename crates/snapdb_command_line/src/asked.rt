@@ -1,6 +1,8 @@
-//! What the words of a command line ask for.
+//! `asked_of`: what the arguments of snapdb, the debugger with a prompt, ask for: a listing or a
+//! shipped one, and a schedule; help; or nothing that it does.
 ghost use Rattle.std.specs.Prelude.{◌≡◌, map, string_bytes};
-ghost use Rattle.snapdb_command_line.specs.Asked.{asked_of, is_option, one_word, three_words, two_words};
+ghost use Rattle.snapdb_command_line.specs.Asked.{asked_of, is_option, one_word};
+ghost use Rattle.snapdb_command_line.specs.Asked.{three_words, two_words};
 ghost use Rattle.snapdb_command_line.specs.Views.{view_asked};
 
 use snap_tasks::kind_of;

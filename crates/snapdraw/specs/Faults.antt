@@ -1,4 +1,4 @@
--- Why nothing, or not all, was drawn.
+-- `status_of`: the status that snapdraw ends with for a `DrawFault`, why nothing, or not all, was drawn.
 use Rattle.std.specs.Prelude.{ℕ}
 use Rattle.snap_semantics.specs.declared.fault.Fault.{Fault}
 use Rattle.snap_semantics.specs.declared.fault.Fault.TheVariants as found

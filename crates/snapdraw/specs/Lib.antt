@@ -1,1 +1,2 @@
+-- The definitions of snapdraw, by their modules.
 pub mod Faults

@@ -1,4 +1,4 @@
-//! Why nothing, or not all, was drawn.
+//! `DrawFault`: why snapdraw drew nothing, or not all; and the status that it ends with.
 ghost use Rattle.std.specs.Prelude.{◌≡◌};
 ghost use Rattle.snapdraw.specs.Faults.{of_file, of_listing, of_picture, status_of};
 ghost use Rattle.snapdraw.specs.declared.fault.DrawFault.TheVariants.{Memory};

@@ -1,4 +1,5 @@
--- Which files a command line names.
+-- `drawn_of`: what snapdraw is to draw, by the names of files: a listing and a schedule, or a schedule for a shipped
+-- listing.
 use Rattle.std.specs.Prelude.{ℕ, List, [], ◌∷◌, Option, Some, None}
 use Rattle.snap_words.specs.declared.kind.KindTag.{KindTag}
 use Rattle.snapdraw_command_line.specs.declared.files.Drawn.{Drawn}

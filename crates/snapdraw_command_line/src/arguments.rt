@@ -1,4 +1,4 @@
-//! The arguments that the program takes, and what they ask for.
+//! `Drawing`: the options and file names that snapdraw takes, and the picture that they ask for.
 use crate::files::{Drawn, drawn_of};
 use clap::builder::ValueParser;
 use clap::error::ErrorKind;

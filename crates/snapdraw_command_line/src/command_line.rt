@@ -1,4 +1,5 @@
-//! What a command line comes to.
+//! `CommandLine`: what the arguments of snapdraw come to, a picture that is asked for or a text
+//! such as the help.
 use crate::arguments::{Drawing, drawing_of};
 use clap::Error;
 use clap::error::ErrorKind;

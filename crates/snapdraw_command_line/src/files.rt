@@ -1,4 +1,5 @@
-//! Which files a command line names.
+//! `Drawn`: what snapdraw is to draw, by the names of files: a listing and a schedule, or a
+//! schedule for a shipped listing.
 ghost use Rattle.std.specs.Prelude.{◌≡◌, map, option_map};
 ghost use Rattle.snapdraw_command_line.specs.Files.{drawn_of, view_drawn};
 

@@ -1,4 +1,4 @@
-//! How far a hunt is, on standard error.
+//! `Progress`: tells on standard error, once a second, how far snaphunt is with its runs.
 
 use snap_hunt::Watcher;
 use std::io::IsTerminal;

@@ -1,4 +1,4 @@
--- What a command line may ask for.
+-- `IsSearch`: a command line of snaphunt asks for a number of runs that can be counted.
 use Rattle.std.specs.Prelude.{◌<◌, ◌^◌, ⊤}
 use Rattle.snaphunt_command_line.specs.declared.arguments.Search.{Search}
 use Rattle.snaphunt_command_line.specs.declared.command_line.CommandLine.{CommandLine}

@@ -1,4 +1,5 @@
-//! The arguments that a hunt takes, and what they ask for.
+//! `Search`: the arguments that snaphunt takes, and what they ask for: a listing, a plan of
+//! schedules, and the failures to hunt.
 ghost use Rattle.std.specs.Prelude.{IfOk, IfSome};
 ghost use Rattle.snaphunt_command_line.specs.Search.{IsSearch};
 

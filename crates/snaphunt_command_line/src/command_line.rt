@@ -1,4 +1,5 @@
-//! What a command line comes to.
+//! `CommandLine`: what the arguments of snaphunt come to, a hunt that is asked for or a text such
+//! as the help.
 ghost use Rattle.std.specs.Prelude.{IfOk};
 ghost use Rattle.snaphunt_command_line.specs.Search.{IsLine};
 

@@ -1,1 +1,2 @@
+-- The proofs of snaplab, by their modules.
 pub mod Said

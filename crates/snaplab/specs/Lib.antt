@@ -1,1 +1,2 @@
+-- The definitions of snaplab, by their modules.
 pub mod Answer

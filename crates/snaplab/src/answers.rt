@@ -1,10 +1,13 @@
-//! What the program does about its command line, over any devices.
+//! `answer`: what snaplab does about its command line, over any source, sink and device for
+//! messages, and the status of it.
 ghost use Rattle.std.specs.Prelude.{◌≡◌, ◌++◌, false, codes, IfOk, OnOk, OnErr};
 ghost use Rattle.snap_command_line.specs.Limits.{HasLimits};
 ghost use Rattle.snap_program.specs.FaultText.{fault_text};
 ghost use Rattle.snap_tasks.specs.Request.{HasLimit};
-ghost use Rattle.snaplab.specs.Answer.{AnswersInvocation, AnswersLine, AnswersStrictly, CarriesOut};
-ghost use Rattle.snaplab.specs.Answer.{Says, SaysFault, SaysTerminal, explained, exit_status, strict_subject};
+ghost use Rattle.snap_tasks.specs.declared.request.Request.TheVariants.{Live};
+ghost use Rattle.snaplab.specs.Answer.{AnswersLine, AnswersLively, AnswersRequest, AnswersStrictly};
+ghost use Rattle.snaplab.specs.Answer.{AnswersTask, Says, SaysFault, SaysTerminal, explained};
+ghost use Rattle.snaplab.specs.Answer.{exit_status, strict_subject};
 
 use snap_command_line::{CommandLine, Invocation};
 use snap_explanation::{explanation, layout_of};
@@ -115,33 +118,71 @@ fn explain<E: ByteSink>(
     }
 }
 
-/// Does what is asked for: reads a source, and writes what comes of it to a sink. The input is
-/// kept.
-fn carry_out<R: ByteSource, W: ByteSink>(
-    rt: &(impl Threads + Wait + Sync),
+/// Does a task, says why where it is not done, and answers the status of it.
+fn do_task<R: ByteSource, W: ByteSink, E: ByteSink>(
+    rt: &(impl Threads + Sync),
     alloc: Global,
-    asked: &Request,
+    asked: &Invocation,
+    task: &Task,
     source: &mut R,
     sink: &mut W,
-    kept: &mut Vec<u8>,
-) -> Result<(), ConductFault>
-    requires limit { HasLimit asked.now }
+    errors: &mut E,
+) -> u8
     requires source { R.has_failed source.old ≡ false }
     requires sink { W.has_failed sink.old ≡ false }
     requires goes_on { W.is_stalled sink.old ≡ false }
-    ensures { CarriesOut asked.now kept.new.items result (R.left source.old) (R.left source.new)
-        (W.taken sink.old) (W.taken sink.new) (R.has_failed source.new) (W.has_failed sink.new)
+    requires errors { E.has_failed errors.old ≡ false }
+    ensures { AnswersTask task.now asked.now result (R.left source.old) (R.left source.new)
+        (W.taken sink.old) (W.taken sink.new)
+        (E.taken errors.old) (E.taken errors.new) (R.has_failed source.new) (W.has_failed sink.new)
         (W.is_stalled sink.new) }
 {
-    match *asked {
-        Request::Do(task) => conduct_keeping(rt, alloc, &task, source, sink, kept),
-        Request::Live(subject, limit) => {
-            conduct_live_keeping(rt, alloc, subject, limit, &NoGate, source, sink, kept)
+    let mut input = Vec::new(alloc);
+    match conduct_keeping(rt, alloc, task, source, sink, &mut input) {
+        Ok(()) => 0,
+        Err(fault) => {
+            explain(alloc, asked, input.as_slice(), &fault, errors);
+            fault_status(&fault)
         }
     }
 }
 
-/// Does what is asked for, says why where it is not done, and answers the status of it.
+/// Plays live, says why where that is not done, and which operations call nothing where it is, and
+/// answers the status of it.
+fn play_live<R: ByteSource, W: ByteSink, E: ByteSink>(
+    rt: &(impl Threads + Wait + Sync),
+    alloc: Global,
+    asked: &Invocation,
+    subject: Subject,
+    limit: u64,
+    source: &mut R,
+    sink: &mut W,
+    errors: &mut E,
+) -> u8
+    requires limit { HasLimit (Live subject limit) }
+    requires source { R.has_failed source.old ≡ false }
+    requires sink { W.has_failed sink.old ≡ false }
+    requires goes_on { W.is_stalled sink.old ≡ false }
+    requires errors { E.has_failed errors.old ≡ false }
+    ensures { AnswersLively subject limit asked.now result (R.left source.old) (R.left source.new)
+        (W.taken sink.old) (W.taken sink.new)
+        (E.taken errors.old) (E.taken errors.new) (R.has_failed source.new) (W.has_failed sink.new)
+        (W.is_stalled sink.new) }
+{
+    let mut input = Vec::new(alloc);
+    match conduct_live_keeping(rt, alloc, subject, limit, &NoGate, source, sink, &mut input) {
+        Ok(uncalled) => {
+            say(uncalled.as_slice(), errors);
+            0
+        }
+        Err(fault) => {
+            explain(alloc, asked, input.as_slice(), &fault, errors);
+            fault_status(&fault)
+        }
+    }
+}
+
+/// Does what is asked for, and answers the status of it.
 fn do_asked<R: ByteSource, W: ByteSink, E: ByteSink>(
     rt: &(impl Threads + Wait + Sync),
     alloc: Global,
@@ -155,17 +196,15 @@ fn do_asked<R: ByteSource, W: ByteSink, E: ByteSink>(
     requires sink { W.has_failed sink.old ≡ false }
     requires goes_on { W.is_stalled sink.old ≡ false }
     requires errors { E.has_failed errors.old ≡ false }
-    ensures { AnswersInvocation asked.now result (R.left source.old) (R.left source.new)
-        (W.taken sink.old) (W.taken sink.new)
+    ensures { AnswersRequest asked.now.request asked.now result (R.left source.old)
+        (R.left source.new) (W.taken sink.old) (W.taken sink.new)
         (E.taken errors.old) (E.taken errors.new) (R.has_failed source.new) (W.has_failed sink.new)
         (W.is_stalled sink.new) }
 {
-    let mut input = Vec::new(alloc);
-    match carry_out(rt, alloc, &asked.request, source, sink, &mut input) {
-        Ok(()) => 0,
-        Err(fault) => {
-            explain(alloc, asked, input.as_slice(), &fault, errors);
-            fault_status(&fault)
+    match asked.request {
+        Request::Do(task) => do_task(rt, alloc, asked, &task, source, sink, errors),
+        Request::Live(subject, limit) => {
+            play_live(rt, alloc, asked, subject, limit, source, sink, errors)
         }
     }
 }

@@ -1,4 +1,4 @@
-//! What is read and written of debugger commands, and what sessions answer.
+//! Tests of debugger commands, what is read and written of them, and of what sessions answer.
 #![tactic(auto)]
 
 #[cfg(test)]

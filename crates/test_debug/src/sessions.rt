@@ -1,4 +1,4 @@
-//! Sessions over runs of a snapshot listing; more of them are among the examples.
+//! Tests of debugger sessions over runs of a snapshot listing; more of them are among the examples.
 use snap_asm_program::Program;
 use snap_debug::{Session, push_refusal_line, read_commands};
 use snap_sched::{Schedule, read};

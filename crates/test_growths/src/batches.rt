@@ -1,4 +1,4 @@
-//! Many schedules of one program.
+//! A scene of calls that may want memory: a batch of many schedules of one program.
 use crate::inputs::{SCAN, UPDATE, single};
 use crate::trials::{tell, tried};
 use crate::trouble::Trouble;

@@ -1,4 +1,4 @@
-//! A listing under a schedule, with debugger commands.
+//! A scene of calls that may want memory: a listing under a schedule, with debugger commands.
 use crate::inputs::{BORROWED, COMMANDS, Inputs};
 use crate::trials::{tell, tried};
 use crate::trouble::Trouble;

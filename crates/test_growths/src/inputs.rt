@@ -1,4 +1,5 @@
-//! What the scenes are played on.
+//! The inputs of the scenes of calls that may want memory: listings, schedules, commands and
+//! scripts.
 ghost use Rattle.std.specs.Prelude.{◌≡◌, IfOk};
 ghost use Rattle.snap_words.specs.declared.kind.KindTag.TheVariants.{Seq};
 
@@ -17,8 +18,8 @@ pub const BORROWED: &[u8] =
 pub const COMMANDS: &[u8] = b"watch r 2\nrun\nrun\nrun\nrrun\nback 1\ngoto 0\ngoto 65\n";
 
 /// Two quick updates, of B, that leave the handshake bits as they were.
-pub const QUICK: &[u8] =
-    b"shape 3 3\n2 update 2 1\n2*43\n3 update 3 1\n3*43\n2 update 2 2\n2*41\n3 update 3 2\n3*41\n1 scan\n1*24\n2\n3\n1*33\n";
+pub const QUICK: &[u8] = b"shape 3 3\n2 update 2 1\n2*43\n3 update 3 1\n3*43\n\
+2 update 2 2\n2*41\n3 update 3 2\n3*41\n1 scan\n1*24\n2\n3\n1*33\n";
 
 /// A scan of U by its one process, and an update.
 pub const SCAN: &[u8] = b"shape 1 1\n1 scan\n1*9\n";

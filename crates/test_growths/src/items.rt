@@ -1,4 +1,5 @@
-//! A machine, item by item.
+//! A scene of calls that may want memory: a machine does the items of a schedule, and takes them
+//! back.
 ghost use Rattle.std.specs.Prelude.{◌≡◌, IfOk, IsTrue};
 ghost use Rattle.snap_words.specs.Shape.{IsOneOf};
 ghost use Rattle.snap_semantics.specs.Table.{who};

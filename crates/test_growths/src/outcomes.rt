@@ -1,4 +1,5 @@
-//! What comes of items.
+//! Writes what comes of the calls in a scene: the line of an item's outcome, and the report of a
+//! record.
 use crate::trials::{tell, tried};
 use crate::trouble::Trouble;
 use snap_record::Record;

@@ -1,4 +1,4 @@
-//! Scripts that are played live.
+//! A scene of calls that may want memory: the scripts of one process are played live.
 use crate::inputs::{SCRIPTS, single};
 use crate::outcomes::record_report;
 use crate::trials::{tell, tried};

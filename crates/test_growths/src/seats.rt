@@ -1,4 +1,5 @@
-//! The one seat of a desk, turn by turn.
+//! A scene of calls that may want memory: the one seat of a desk takes its turns, and the desk is
+//! closed.
 ghost use Rattle.std.specs.Prelude.{◌≡◌, All};
 ghost use Rattle.snap_words.specs.declared.kind.KindTag.TheVariants as kind;
 

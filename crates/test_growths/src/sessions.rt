@@ -1,4 +1,5 @@
-//! A debugger's session, command by command.
+//! A scene of calls that may want memory: a debugger session, command by command, which stays as it
+//! was where memory is refused.
 use crate::inputs::{BORROWED, COMMANDS, single};
 use crate::trials::{tell, tried, wants_memory};
 use crate::trouble::Trouble;

@@ -1,4 +1,5 @@
-//! Texts, images and programs.
+//! A scene of calls that may want memory: an image is assembled, loaded as a program, and listed
+//! back.
 use crate::inputs::Inputs;
 use crate::trials::{tell, tried};
 use crate::trouble::Trouble;

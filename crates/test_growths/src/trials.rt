@@ -1,4 +1,4 @@
-//! Calls that are made once more where they wanted memory.
+//! Makes a call once more where it wanted memory, and says so on standard error.
 use crate::trouble::Trouble;
 use std::io::Write;
 

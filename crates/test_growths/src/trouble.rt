@@ -1,4 +1,4 @@
-//! Why a scene is not played to its end.
+//! `Trouble`: why a scene of calls that may want memory is not played to its end.
 use snap_semantics::Fault;
 use snap_words::WordFault;
 use std::alloc::{AllocError, AllocFailed};

@@ -1,4 +1,4 @@
-//! Desks with seats.
+//! `Bench`: a desk with its seats, at which the tests take turns.
 ghost use Rattle.std.specs.Prelude.{◌≡◌, All};
 
 use crate::programs::program;

@@ -1,4 +1,4 @@
-//! Whole live runs, from scripts to the text of a history.
+//! Tests of whole live runs of the program, from scripts to the text of a history.
 use crate::live_runs::TWO;
 use crate::meeting::Meeting;
 use snap_program::{ConductFault, Gate, Std, Subject, conduct_live};

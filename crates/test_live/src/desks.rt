@@ -1,4 +1,4 @@
-//! Turns that are taken one after another.
+//! Tests of turns that the seats of one desk take one after another, until it is closed or full.
 ghost use Rattle.std.specs.Prelude.{◌≡◌, All};
 
 use crate::benches::{Bench, new_bench};

@@ -1,4 +1,4 @@
-//! Gates that refuse a turn.
+//! Tests of live runs with a gate that refuses a turn: the script stops there.
 ghost use Rattle.std.specs.Prelude.{◌≡◌, MatchBool};
 
 use crate::programs::program;
@@ -25,7 +25,8 @@ struct Shut {
 }
 
 impl Gate for Shut {
-    ghost may_answer = { λ gate _ turn answer. MatchBool answer (¬ (turn ≡ gate.turn)) (turn ≡ gate.turn) };
+    ghost may_answer = { λ gate _ turn answer.
+        MatchBool answer (¬ (turn ≡ gate.turn)) (turn ≡ gate.turn) };
 
     fn enter(&self, _process: u32, turn: u64) -> bool {
         turn != self.turn

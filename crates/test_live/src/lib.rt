@@ -1,4 +1,5 @@
-//! Turns at a desk, also of seats in threads, and scripts that are played there at once.
+//! Tests of turns at a desk, also of seats in threads, and of scripts that are played there at
+//! once.
 #![tactic(auto)]
 
 #[cfg(test)]

@@ -1,4 +1,5 @@
-//! Scripts that are played at once.
+//! Tests of live runs, in which the scripts of processes are played at once: each turn is kept
+//! once, and a crash or a limit ends a script.
 use crate::meeting::Meeting;
 use crate::numbers::has_each_turn_once;
 use crate::programs::program;

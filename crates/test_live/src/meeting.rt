@@ -1,4 +1,5 @@
-//! A gate at which two processes meet.
+//! `Meeting`: a gate for the tests of live runs, at which two processes meet before their first
+//! turns.
 ghost use Rattle.std.specs.Prelude.{◌≡◌, false};
 
 use snap_live::Gate;

@@ -1,4 +1,5 @@
-//! The numbers of turns.
+//! `has_each_turn_once`: whether each item that a live run kept is one turn, by the numbers of the
+//! turns.
 use snap_live::{LiveRun, Turn};
 use snap_words::Seq;
 use std::alloc::Global;

@@ -1,4 +1,4 @@
-//! The program of the tests.
+//! The program that the tests of desks and live runs play: that of listing U.
 ghost use Rattle.std.specs.Prelude.{◌≡◌, IfOk};
 ghost use Rattle.snap_words.specs.declared.kind.KindTag.TheVariants.{Seq};
 

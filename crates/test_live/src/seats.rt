@@ -1,4 +1,4 @@
-//! Two seats, each in a thread of its own, take turns at one desk.
+//! Tests of two seats, each in a thread of its own, that take turns at one desk.
 ghost use Rattle.std.specs.Prelude.{◌≡◌, ◌↔◌, IsTrue, IfOk};
 ghost use Rattle.snap_words.specs.Shape.{IsOneOf};
 

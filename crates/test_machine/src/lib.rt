@@ -1,4 +1,4 @@
-//! Tests of machines.
+//! Tests of `Machine`, which runs listings item by item: lines that trap, and small runs.
 #![tactic(auto)]
 
 #[cfg(test)]

@@ -1,4 +1,5 @@
-//! Lines that trap, and small runs.
+//! Tests of `Machine`: lines of each kind that trap, with their causes, and small runs, each item
+//! of which is also taken back.
 ghost use Rattle.std.specs.Prelude.{◌≡◌, IsTrue, ◌↔◌};
 ghost use Rattle.snap_words.specs.Shape.{IsOneOf};
 ghost use Rattle.snap_semantics.specs.Table.{who};

@@ -1,3 +1,4 @@
+-- The proofs of test_program, by their modules.
 pub mod RunSamples
 pub mod KindSamples
 pub mod OutputSamples

@@ -1,4 +1,5 @@
-//! Batches: a listing under many schedules.
+//! Tests of batches: the report of each of many schedules of a listing, and the first refusal of a
+//! batch.
 use crate::images::written;
 use crate::runs::LISTING;
 use snap_batch::batch;
@@ -20,11 +21,13 @@ const SCAN: &[u8; 21] = b"shape 1 1\n1 scan\n1*9\n";
 const UPDATE: &[u8; 28] = b"shape 1 1\n1 update 1 7\n1*13\n";
 
 /// The reports of their ends.
-const SCANNED: &[u8; 181] =
-    b"report at 10 of 10\nvalues 0\nr 1 = 0 seq 0 view 0\nprocess 1 idle\n  j = 1\n  c = 0\n  moved = 0\n  a 1 = 0 seq 0 view 0\n  b 1 = 0 seq 0 view 0\n  s = 0\nevent 1 1 scan\nevent 10 1 answer 0\n";
+const SCANNED: &[u8; 181] = b"report at 10 of 10\nvalues 0\nr 1 = 0 seq 0 view 0\n\
+process 1 idle\n  j = 1\n  c = 0\n  moved = 0\n  a 1 = 0 seq 0 view 0\n  \
+b 1 = 0 seq 0 view 0\n  s = 0\nevent 1 1 scan\nevent 10 1 answer 0\n";
 
-const UPDATED: &[u8; 183] =
-    b"report at 14 of 14\nvalues 7\nr 1 = 7 seq 1 view 0\nprocess 1 idle\n  j = 1\n  c = 1\n  moved = 0\n  a 1 = 0 seq 0 view 0\n  b 1 = 0 seq 0 view 0\n  s = 0\nevent 1 1 update 1 7\nevent 14 1 done\n";
+const UPDATED: &[u8; 183] = b"report at 14 of 14\nvalues 7\nr 1 = 7 seq 1 view 0\n\
+process 1 idle\n  j = 1\n  c = 1\n  moved = 0\n  a 1 = 0 seq 0 view 0\n  \
+b 1 = 0 seq 0 view 0\n  s = 0\nevent 1 1 update 1 7\nevent 14 1 done\n";
 
 /// So many schedules, scans and updates by turns.
 fn by_turns(alloc: Global, count: usize) -> Result<Vec<Schedule>, ScheduleFault> {
@@ -90,7 +93,18 @@ fn numbers_reports(rt: HostRuntime) -> Result<(), Fail> {
     )?;
     assert_eq!(rt;
         out.as_slice(),
-        b"schedule 1\nreport at 0 of 0\nvalues 0\nr 1 = 0 seq 0 view 0\nprocess 1 idle\n  j = 0\n  c = 0\n  moved = 0\n  a 1 = 0 seq 0 view 0\n  b 1 = 0 seq 0 view 0\n  s = 0\nschedule 2\nreport at 1 of 1\nvalues 0 0\nr 1 = 0 seq 0 view 0 0\nr 2 = 0 seq 0 view 0 0\nprocess 1 idle\n  j = 0\n  c = 0\n  moved = 0 0\n  a 1 = 0 seq 0 view 0 0\n  a 2 = 0 seq 0 view 0 0\n  b 1 = 0 seq 0 view 0 0\n  b 2 = 0 seq 0 view 0 0\n  s = 0 0\nprocess 2 idle\n  j = 0\n  c = 0\n  moved = 0 0\n  a 1 = 0 seq 0 view 0 0\n  a 2 = 0 seq 0 view 0 0\n  b 1 = 0 seq 0 view 0 0\n  b 2 = 0 seq 0 view 0 0\n  s = 0 0\nschedule 3\nreport at 0 of 0\nvalues 0\nr 1 = 0 seq 0 view 0\nprocess 1 idle\n  j = 0\n  c = 0\n  moved = 0\n  a 1 = 0 seq 0 view 0\n  b 1 = 0 seq 0 view 0\n  s = 0\n".as_slice()
+        b"schedule 1\nreport at 0 of 0\nvalues 0\nr 1 = 0 seq 0 view 0\n\
+process 1 idle\n  j = 0\n  c = 0\n  moved = 0\n  \
+a 1 = 0 seq 0 view 0\n  b 1 = 0 seq 0 view 0\n  s = 0\n\
+schedule 2\nreport at 1 of 1\nvalues 0 0\nr 1 = 0 seq 0 view 0 0\nr 2 = 0 seq 0 view 0 0\n\
+process 1 idle\n  j = 0\n  c = 0\n  moved = 0 0\n  a 1 = 0 seq 0 view 0 0\n  \
+a 2 = 0 seq 0 view 0 0\n  b 1 = 0 seq 0 view 0 0\n  b 2 = 0 seq 0 view 0 0\n  s = 0 0\n\
+process 2 idle\n  j = 0\n  c = 0\n  moved = 0 0\n  a 1 = 0 seq 0 view 0 0\n  \
+a 2 = 0 seq 0 view 0 0\n  b 1 = 0 seq 0 view 0 0\n  b 2 = 0 seq 0 view 0 0\n  s = 0 0\n\
+schedule 3\nreport at 0 of 0\nvalues 0\nr 1 = 0 seq 0 view 0\n\
+process 1 idle\n  j = 0\n  c = 0\n  moved = 0\n  \
+a 1 = 0 seq 0 view 0\n  b 1 = 0 seq 0 view 0\n  s = 0\n"
+            .as_slice()
     );
     Ok(())
 }

@@ -1,4 +1,5 @@
-//! Devices that lie in memory, and fail when they are told to.
+//! `Trickle` and `Narrow`: a byte source and a byte sink in memory, by which whole runs of the
+//! program are tested; they fail when they are told to.
 
 ghost use Rattle.std.specs.Prelude.{◌≡◌, [], false, true, Some, ◌==◌};
 

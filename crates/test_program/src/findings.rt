@@ -1,4 +1,5 @@
-//! What is found of listings and of runs: warnings, certifications, surveys and traces.
+//! Tests of what the program finds of listings and of runs: warnings, certifications, surveys and
+//! traces.
 use crate::images::written;
 use crate::shipped::{BORROWED, U};
 use snap_program::{ConductFault, Subject, Task};
@@ -24,7 +25,9 @@ fn certifies_a_borrowed_view(rt: HostRuntime) -> Result<(), Fail> {
     let found = written(&rt, Task::Certify(U), BORROWED.as_slice())?;
     assert_eq!(rt;
         found.as_slice(),
-        b"linearizable by these points\nupdate 2 call 8 place 24 word 2 value 5\nscan 1 call 1 place 24 answer 64\nupdate 2 call 38 place 54 word 2 value 6\n".as_slice()
+        b"linearizable by these points\nupdate 2 call 8 place 24 word 2 value 5\n\
+scan 1 call 1 place 24 answer 64\nupdate 2 call 38 place 54 word 2 value 6\n"
+            .as_slice()
     );
     Ok(())
 }
@@ -34,7 +37,10 @@ fn surveys_a_schedule(rt: HostRuntime) -> Result<(), Fail> {
     let found = written(&rt, Task::Survey(U), b"shape 1 1\n1 scan\n1*9\n".as_slice())?;
     assert_eq!(rt;
         found.as_slice(),
-        b"schedule 1 scans 1 of 1 without point 0 collects 1 updates 0 of 0 open 0 traps 0 crashes 0 skips 0\nschedules 1 scans 1 without point 0 collects 1 updates 0 open 0 traps 0 crashes 0 skips 0\n".as_slice()
+        b"schedule 1 scans 1 of 1 without point 0 collects 1 updates 0 of 0 \
+open 0 traps 0 crashes 0 skips 0\n\
+schedules 1 scans 1 without point 0 collects 1 updates 0 open 0 traps 0 crashes 0 skips 0\n"
+            .as_slice()
     );
     Ok(())
 }
@@ -48,7 +54,11 @@ fn traces_a_schedule(rt: HostRuntime) -> Result<(), Fail> {
     )?;
     assert_eq!(rt;
         found.as_slice(),
-        b"item 1 1 called\n- process 1 idle\n+ process 1 scan at 10\n+ event 1 1 scan\nitem 2 1 stepped at 10: each n: moved[@] = 0\n- process 1 scan at 10\n+ process 1 scan at 11\nitem 3 1 crashed\n- process 1 scan at 11\n+ process 1 crashed at 11\n+ event 3 1 crash\nitem 4 1 skipped Crashed\n".as_slice()
+        b"item 1 1 called\n- process 1 idle\n+ process 1 scan at 10\n+ event 1 1 scan\n\
+item 2 1 stepped at 10: each n: moved[@] = 0\n- process 1 scan at 10\n+ process 1 scan at 11\n\
+item 3 1 crashed\n- process 1 scan at 11\n+ process 1 crashed at 11\n+ event 3 1 crash\n\
+item 4 1 skipped Crashed\n"
+            .as_slice()
     );
     Ok(())
 }

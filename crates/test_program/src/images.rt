@@ -1,4 +1,4 @@
-//! Listings checked, assembled and listed.
+//! Tests of the program's tasks on listings and images: checked, assembled and listed, or refused.
 use crate::runs::{INPUT, LISTING};
 use snap_program::{ConductFault, Std, Task, conduct, fault_line};
 use snap_semantics::{ImageRefusal, ListingRefusal, Refusal};

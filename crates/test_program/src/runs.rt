@@ -1,4 +1,5 @@
-//! Whole runs on devices that lie in memory.
+//! Tests of whole runs of the program on devices in memory, which give or take a few bytes a call,
+//! or fail.
 use crate::devices_of_memory::{Narrow, Trickle};
 use snap_program::{ConductFault, Std, Subject, Task, conduct, fault_line, perform};
 use snap_semantics::{CommandRefusal, Fault, ListingRefusal, Refusal, ScheduleRefusal};
@@ -6,17 +7,22 @@ use snap_words::WordFault;
 use std::test::Fail;
 
 /// The listing of the first run.
-pub const LISTING: &[u8; 169] =
-    b"kind seq\nscalar j c\nrow\nwords a\nview s\nscan 10\nupdate 10\n10: let j = 1\n11: get a[j] = r[j]\n12: next j n goto 11\n13: let c = c + 1\n14: put r[me] = (arg, c, s)\n15: finish\n";
+pub const LISTING: &[u8; 169] = b"kind seq\nscalar j c\nrow\nwords a\nview s\nscan 10\nupdate 10\n\
+10: let j = 1\n11: get a[j] = r[j]\n12: next j n goto 11\n\
+13: let c = c + 1\n14: put r[me] = (arg, c, s)\n15: finish\n";
 
 const SCHEDULE: &[u8; 27] = b"shape 2 2\n1 update 1 7\n1*8\n";
 
 /// The listing and the schedule of the first run.
-pub const INPUT: &[u8; 198] =
-    b"kind seq\nscalar j c\nrow\nwords a\nview s\nscan 10\nupdate 10\n10: let j = 1\n11: get a[j] = r[j]\n12: next j n goto 11\n13: let c = c + 1\n14: put r[me] = (arg, c, s)\n15: finish\n%\nshape 2 2\n1 update 1 7\n1*8\n";
+pub const INPUT: &[u8; 198] = b"kind seq\nscalar j c\nrow\nwords a\nview s\nscan 10\nupdate 10\n\
+10: let j = 1\n11: get a[j] = r[j]\n12: next j n goto 11\n13: let c = c + 1\n\
+14: put r[me] = (arg, c, s)\n15: finish\n%\nshape 2 2\n1 update 1 7\n1*8\n";
 
-const OUTPUT: &[u8; 314] =
-    b"> run\nposition 9 of 9\nreport at 9 of 9\nvalues 7 0\nr 1 = 7 seq 1 view 0 0\nr 2 = 0 seq 0 view 0 0\nprocess 1 idle\n  j = 1\n  c = 1\n  a 1 = 0 seq 0 view 0 0\n  a 2 = 0 seq 0 view 0 0\n  s = 0 0\nprocess 2 idle\n  j = 0\n  c = 0\n  a 1 = 0 seq 0 view 0 0\n  a 2 = 0 seq 0 view 0 0\n  s = 0 0\nevent 1 1 update 1 7\nevent 9 1 done\n";
+const OUTPUT: &[u8; 314] = b"> run\nposition 9 of 9\nreport at 9 of 9\n\
+values 7 0\nr 1 = 7 seq 1 view 0 0\nr 2 = 0 seq 0 view 0 0\n\
+process 1 idle\n  j = 1\n  c = 1\n  a 1 = 0 seq 0 view 0 0\n  a 2 = 0 seq 0 view 0 0\n  s = 0 0\n\
+process 2 idle\n  j = 0\n  c = 0\n  a 1 = 0 seq 0 view 0 0\n  a 2 = 0 seq 0 view 0 0\n  s = 0 0\n\
+event 1 1 update 1 7\nevent 9 1 done\n";
 
 pub const RUN: Task = Task::Run(Subject::FirstPart);
 
@@ -111,7 +117,11 @@ fn performs_at_the_position_reached(rt: HostRuntime) -> Result<(), Fail> {
     let at_start = perform(alloc, listing, SCHEDULE.as_slice(), b"# none\n")?;
     assert_eq!(rt;
         at_start.as_slice(),
-        b"report at 0 of 9\nvalues 0 0\nr 1 = 0 seq 0 view 0 0\nr 2 = 0 seq 0 view 0 0\nprocess 1 idle\n  j = 0\n  c = 0\n  a 1 = 0 seq 0 view 0 0\n  a 2 = 0 seq 0 view 0 0\n  s = 0 0\nprocess 2 idle\n  j = 0\n  c = 0\n  a 1 = 0 seq 0 view 0 0\n  a 2 = 0 seq 0 view 0 0\n  s = 0 0\n".as_slice()
+        b"report at 0 of 9\nvalues 0 0\nr 1 = 0 seq 0 view 0 0\nr 2 = 0 seq 0 view 0 0\n\
+process 1 idle\n  j = 0\n  c = 0\n  a 1 = 0 seq 0 view 0 0\n  a 2 = 0 seq 0 view 0 0\n  s = 0 0\n\
+process 2 idle\n  j = 0\n  c = 0\n  a 1 = 0 seq 0 view 0 0\n  \
+a 2 = 0 seq 0 view 0 0\n  s = 0 0\n"
+            .as_slice()
     );
     Ok(())
 }
@@ -119,8 +129,8 @@ fn performs_at_the_position_reached(rt: HostRuntime) -> Result<(), Fail> {
 #[test]
 fn performs_a_million_items(rt: HostRuntime) -> Result<(), Fail> {
     let alloc = rt.alloc();
-    let listing =
-        b"kind seq\nscalar c\nrow\nwords\nview s\nscan 10\nupdate 10\n10: let c = c + 1\n11: goto 10\n";
+    let listing = b"kind seq\nscalar c\nrow\nwords\nview s\nscan 10\nupdate 10\n\
+10: let c = c + 1\n11: goto 10\n";
     let out = perform(
         alloc,
         listing.as_slice(),
@@ -129,7 +139,10 @@ fn performs_a_million_items(rt: HostRuntime) -> Result<(), Fail> {
     )?;
     assert_eq!(rt;
         out.as_slice(),
-        b"> run\nposition 1000000 of 1000000\nreport at 1000000 of 1000000\nvalues 0\nr 1 = 0 seq 0 view 0\nprocess 1 idle\n  c = 0\n  s = 0\n".as_slice()
+        b"> run\nposition 1000000 of 1000000\n\
+report at 1000000 of 1000000\nvalues 0\nr 1 = 0 seq 0 view 0\n\
+process 1 idle\n  c = 0\n  s = 0\n"
+            .as_slice()
     );
     let out = perform(
         alloc,
@@ -139,7 +152,10 @@ fn performs_a_million_items(rt: HostRuntime) -> Result<(), Fail> {
     )?;
     assert_eq!(rt;
         out.as_slice(),
-        b"> run\nposition 1000000 of 1000000\nreport at 1000000 of 1000000\nvalues 0\nr 1 = 0 seq 0 view 0\nprocess 1 scan at 11\n  c = 500000\n  s = 0\nevent 1 1 scan\n".as_slice()
+        b"> run\nposition 1000000 of 1000000\n\
+report at 1000000 of 1000000\nvalues 0\nr 1 = 0 seq 0 view 0\n\
+process 1 scan at 11\n  c = 500000\n  s = 0\nevent 1 1 scan\n"
+            .as_slice()
     );
     Ok(())
 }

@@ -1,4 +1,4 @@
-//! What a record keeps of runs of a snapshot listing, and what an audit of it finds.
+//! Tests of what a record keeps of runs of a snapshot listing, and of what an audit of it finds.
 #![tactic(auto)]
 
 #[cfg(test)]

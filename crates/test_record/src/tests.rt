@@ -1,4 +1,5 @@
-//! Runs of listing U.
+//! Tests of records of runs of listing U: their audits, values and double collects, and a million
+//! items.
 ghost use Rattle.std.specs.Prelude.{◌≡◌, IsTrue, ◌↔◌};
 ghost use Rattle.snap_words.specs.Shape.{IsOneOf};
 ghost use Rattle.snap_semantics.specs.Table.{who};

@@ -1,4 +1,5 @@
-//! Registers of each kind.
+//! Tests of the registers of each kind: what is put is there, and what a process may not put is
+//! refused.
 ghost use Rattle.std.specs.Prelude.{◌≡◌, length};
 
 use crate::any_words::parts;

@@ -1,4 +1,4 @@
-//! Shapes, views and names.
+//! Tests of shapes, views and names: the bounds of shapes, copies of views, and equal names.
 use snap_semantics::Name;
 use snap_words::{Shape, View, WordFault};
 use std::alloc::{AllocError, Global};

@@ -1,4 +1,5 @@
-//! Each method of a kind, through its trait, and the fields of words.
+//! Tests of each method of the trait `Kind`, for kinds seq, bit and multi, and of the fields of
+//! their words.
 ghost use Rattle.std.specs.Prelude.{◌≡◌, true};
 ghost use Rattle.snap_words.specs.Kind.{is_sized};
 ghost use Rattle.snap_words.specs.AnyWord.{word_of_any};

@@ -1,3 +1,4 @@
+//! Tests of listings U, B and M: their runs under schedules, reported and audited.
 use snap_audit::audit_text;
 use snap_record::Record;
 use snap_report::report;
@@ -62,7 +63,8 @@ fn single_runs(rt: HostRuntime) -> Result<(), Fail> {
 const UPDATED: &[u8] = b"report at 14 of 14\n\
 values 7\n\
 r 1 = 7 seq 1 view 0\n\
-process 1 idle\n  j = 1\n  c = 1\n  moved = 0\n  a 1 = 0 seq 0 view 0\n  b 1 = 0 seq 0 view 0\n  s = 0\n\
+process 1 idle\n  j = 1\n  c = 1\n  moved = 0\n  a 1 = 0 seq 0 view 0\n  \
+b 1 = 0 seq 0 view 0\n  s = 0\n\
 event 1 1 update 1 7\n\
 event 14 1 done\n";
 
@@ -107,7 +109,8 @@ const BOUNDED: [(&[u8], &[u8]); 2] = [
         b"scan 1 call 1 answer 14 point 1 collects 1\n",
     ),
     (
-        b"shape 3 3\n2 update 2 1\n2*43\n3 update 3 1\n3*43\n2 update 2 2\n2*41\n3 update 3 2\n3*41\n1 scan\n1*24\n2\n3\n1*33\n",
+        b"shape 3 3\n2 update 2 1\n2*43\n3 update 3 1\n3*43\n\
+2 update 2 2\n2*41\n3 update 3 2\n3*41\n1 scan\n1*24\n2\n3\n1*33\n",
         b"scan 1 call 173 answer 232 point 199 collects 2\n",
     ),
 ];
@@ -134,15 +137,18 @@ const MULTI: [(&[u8], &[u8]); 5] = [
         b"scan 1 call 160 answer 200 point 160 collects 1\n",
     ),
     (
-        b"shape 3 2\n3 update 2 1\n3*56\n1 scan\n1*21\n2 update 1 5\n2*56\n3 update 2 8\n3*56\n3 update 2 9\n3*56\n1*59\n",
+        b"shape 3 2\n3 update 2 1\n3*56\n1 scan\n1*21\n\
+2 update 1 5\n2*56\n3 update 2 8\n3*56\n3 update 2 9\n3*56\n1*59\n",
         b"scan 1 call 58 answer 309 point 249 collects 2\n",
     ),
     (
-        b"shape 2 1\n2 update 1 5\n2*38\n1 update 1 3\n1*40\n1 scan\n1*13\n2\n1*26\n2\n2 update 1 6\n2*3\n1*43\n",
+        b"shape 2 1\n2 update 1 5\n2*38\n1 update 1 3\n1*40\n\
+1 scan\n1*13\n2\n1*26\n2\n2 update 1 6\n2*3\n1*43\n",
         b"scan 1 call 81 answer 169 point 95 collects 3\n",
     ),
     (
-        b"shape 2 1\n2 update 1 5\n2*38\n1 update 1 3\n1*40\n1 scan\n1*13\n2\n1*26\n2\n2 update 1 6\n2*3\n1*28\n2*36\n1*19\n",
+        b"shape 2 1\n2 update 1 5\n2*38\n1 update 1 3\n1*40\n\
+1 scan\n1*13\n2\n1*26\n2\n2 update 1 6\n2*3\n1*28\n2*36\n1*19\n",
         b"scan 1 call 81 answer 209 point 95 collects 3\n",
     ),
 ];

@@ -1,4 +1,5 @@
-//! Texts, their images, and the programs that are loaded.
+//! Tests of texts of listings that are assembled as images, listed back, upgraded, and loaded as
+//! programs.
 use snap_asm::{Program, assemble, list, load, upgrade};
 use snap_image::ImageFault;
 use snap_listing::ListingFault;

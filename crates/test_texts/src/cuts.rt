@@ -1,4 +1,5 @@
-//! Texts that are cut at every byte: what is left is read, or is refused by name at its end.
+//! Tests of listings and schedules that are cut at every byte: what is left is read, or is refused
+//! by name at its end.
 use snap_listing::ListingFault;
 use snap_sched::ScheduleFault;
 use snap_semantics::{ListingRefusal, ScheduleRefusal};

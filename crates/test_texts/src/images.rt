@@ -1,4 +1,4 @@
-//! Images that are encoded and decoded.
+//! Tests of images that are encoded and decoded, and of images that are cut or changed.
 use snap_image::{ImageFault, decode, encode};
 use snap_listing::read_commented;
 use snap_semantics::{ImageRefusal, ListingRefusal};

@@ -1,4 +1,4 @@
-//! Listings: which texts are read, why the others are refused, and what is printed.
+//! Tests of listings: which texts are read, why the others are refused, and what is printed.
 use snap_listing::{Listing, ListingFault, print, read, read_commented};
 use snap_semantics::{BitBank, Expr, Index, Instr, ListingRefusal, Name, Term, Tuple};
 use snap_shipped::{text_b, text_m, text_u};
@@ -95,7 +95,9 @@ const HEADERS: [Case; 16] = [
         Some(ListingRefusal::NameTwice(3)),
     ),
     (
-        b"kind seq\nscalar aa ab ac ad ae af ag ah ai aj ak al am an ao ap aq ar as at au av aw ax ay az\nrow ba bb bc bd be bf\nwords bg",
+        b"kind seq\n\
+scalar aa ab ac ad ae af ag ah ai aj ak al am an ao ap aq ar as at au av aw ax ay az\n\
+row ba bb bc bd be bf\nwords bg",
         Some(ListingRefusal::TooMany(4)),
     ),
     (

@@ -1,4 +1,4 @@
-//! Schedules that are read and printed.
+//! Tests of schedules: which texts are read, why the others are refused, and what is printed.
 use snap_sched::{Schedule, ScheduleFault, print, read};
 use snap_semantics::ScheduleRefusal;
 use std::alloc::{AllocError, Global};
@@ -105,7 +105,9 @@ fn prints_greatest_runs(rt: HostRuntime) -> Result<(), Fail> {
             b"shape 2 2\n2*2\n2 crash\n2\n1 crash\n".as_slice(),
         ),
         (
-            b"\r\n\tshape 16 3\r\n1\n2\n1*1\n\n16 update 3 18446744073709551615\n16 scan\n16".as_slice(),
+            b"\r\n\tshape 16 3\r\n1\n2\n1*1\n\n\
+16 update 3 18446744073709551615\n16 scan\n16"
+                .as_slice(),
             6,
             b"shape 16 3\n1\n2\n1\n16 update 3 18446744073709551615\n16 scan\n16\n".as_slice(),
         ),

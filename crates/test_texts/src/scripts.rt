@@ -1,4 +1,4 @@
-//! Scripts that are read.
+//! Tests of scripts: which texts are read, and why the others are refused.
 use snap_sched::{ScheduleFault, Script, Scripts, read_scripts};
 use snap_semantics::{Op, ScheduleRefusal};
 use std::alloc::{AllocError, Global};

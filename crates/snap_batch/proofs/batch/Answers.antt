@@ -1,3 +1,4 @@
+-- `batch` of snap_batch (src/lib.rt): the proof of what its contract says.
 use Rattle.std.proofs.Common.{◌∙◌, ap}
 use Rattle.rayon.specs.Lists.{min_len_base}
 use Rattle.snap_runner.specs.End.{end_report}
@@ -8,5 +9,6 @@ pub returns : goal.returns
 returns g c =
     let h = c.in_ok-reports.ensures in
     let base = ap min_len_base c.map.ensures.base ∙ c.with_min_len.ensures.base in
-    side_by_side end_report c.map.result.f.1.now c.args.program.now (ap (λ f. f.1.now) c.map.ensures.f) h.1.0 c.args.schedules.now
+    side_by_side end_report c.map.result.f.1.now c.args.program.now
+    (ap (λ f. f.1.now) c.map.ensures.f) h.1.0 c.args.schedules.now
     (h.1.1 ∙ (ap (λ it. it.slice.now) base ∙ c.par_iter.ensures)) h.0 c.in_ok-reports.reports h.1.2 h.2

@@ -1,3 +1,4 @@
+-- `certified_is_linearizable` of snap_certificate (src/lib.rt): the proof of what its contract says.
 use Rattle.snap_certificate.proofs.Certifying.{is_linearizable}
 use Rattle.snap_certificate.proofs.certified_is_linearizable.Goals as goal
 

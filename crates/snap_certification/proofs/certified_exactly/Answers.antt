@@ -1,3 +1,4 @@
+-- `certified_exactly` of snap_certification (src/lib.rt): the proof of what its contract says.
 use Rattle.std.specs.Prelude.{◌≡◌, Ok, Err, IsOk, Result, refl}
 use Rattle.snap_runs.specs.Run.{Run, IsValidRun}
 use Rattle.snap_certificate.specs.Certificate.{Certificate, IsCertificate}

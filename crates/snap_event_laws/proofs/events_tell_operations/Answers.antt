@@ -1,3 +1,4 @@
+-- `events_tell_operations` of snap_event_laws (src/lib.rt): the proof of what its contract says.
 use Rattle.snap_event_laws.proofs.Telling.{tells_operations}
 use Rattle.snap_event_laws.proofs.events_tell_operations.Goals as goal
 

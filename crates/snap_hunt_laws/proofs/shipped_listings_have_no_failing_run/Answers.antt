@@ -1,3 +1,4 @@
+-- `shipped_listings_have_no_failing_run` of snap_hunt_laws (src/lib.rt): the proof of what its contract says.
 use Rattle.snap_hunt_laws.proofs.Nothing.{finds_nothing}
 use Rattle.snap_hunt_laws.proofs.shipped_listings_have_no_failing_run.Goals as goal
 

@@ -1,3 +1,4 @@
+-- `m_is_silent` of snap_lint_shipped (src/lib.rt): the proof of what its contract says.
 use Rattle.std.proofs.Common.{refl}
 use Rattle.snap_lint.specs.Marks.{reached}
 use Rattle.snap_lint.specs.Warnings.{warnings}

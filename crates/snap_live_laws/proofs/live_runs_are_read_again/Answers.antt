@@ -1,3 +1,4 @@
+-- `live_runs_are_read_again` of snap_live_laws (src/lib.rt): the proof of what its contract says.
 use Rattle.snap_live_laws.proofs.Again.{live_runs_are_read_again}
 use Rattle.snap_live_laws.proofs.live_runs_are_read_again.Goals as goal
 

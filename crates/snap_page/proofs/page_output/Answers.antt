@@ -1,3 +1,4 @@
+-- `page_output` of snap_page (src/lib.rt): the proof of what its contract says.
 use Rattle.std.proofs.Common.{◌≡◌, Some, subst, sym}
 use Rattle.snap_output.specs.AtOnce.{found_at_once}
 use Rattle.snap_tasks.specs.declared.task.Task.{Task}

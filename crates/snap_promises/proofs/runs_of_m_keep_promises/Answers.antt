@@ -1,7 +1,9 @@
+-- `runs_of_m_keep_promises` of snap_promises (src/lib.rt): the proof of what its contract says.
 use Rattle.snap_promises.proofs.Kept.{of_m}
 use Rattle.snap_promises.proofs.runs_of_m_keep_promises.Goals as goal
 
 pub returns : goal.returns
 returns c =
-    of_m c.runs_are_snapshots.ensures c.operations_have_places.ensures c.wait_free.ensures c.passed_tests_are_clean.ensures
+    of_m c.runs_are_snapshots.ensures c.operations_have_places.ensures c.wait_free.ensures
+    c.passed_tests_are_clean.ensures
     c.moves_are_events.ensures c.borrowed_views_are_lent.ensures

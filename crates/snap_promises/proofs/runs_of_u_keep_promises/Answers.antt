@@ -1,7 +1,9 @@
+-- `runs_of_u_keep_promises` of snap_promises (src/lib.rt): the proof of what its contract says.
 use Rattle.snap_promises.proofs.Kept.{of_u}
 use Rattle.snap_promises.proofs.runs_of_u_keep_promises.Goals as goal
 
 pub returns : goal.returns
 returns c =
-    of_u c.runs_are_snapshots.ensures c.operations_have_places.ensures c.wait_free.ensures c.passed_tests_are_clean.ensures
+    of_u c.runs_are_snapshots.ensures c.operations_have_places.ensures c.wait_free.ensures
+    c.passed_tests_are_clean.ensures
     c.moves_are_writes.ensures c.borrowed_views_are_lent.ensures c.own_updates_are_seen.ensures

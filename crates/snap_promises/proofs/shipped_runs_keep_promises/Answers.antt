@@ -1,3 +1,4 @@
+-- `shipped_runs_keep_promises` of snap_promises (src/lib.rt): the proof of what its contract says.
 use Rattle.snap_promises.proofs.Kept.{of_each}
 use Rattle.snap_promises.proofs.shipped_runs_keep_promises.Goals as goal
 

@@ -1,3 +1,4 @@
+-- `live_runs_are_run_again` of snap_rerun_laws (src/lib.rt): the proof of what its contract says.
 use Rattle.snap_rerun_laws.proofs.Rerun.{run_again}
 use Rattle.snap_rerun_laws.proofs.live_runs_are_run_again.Goals as goal
 

@@ -1,3 +1,4 @@
+-- `few_steps` of snap_runs_of_b (src/lib.rt): the proof of what its contract says.
 use Rattle.snap_runs_of_b.proofs.Bounds.{few_steps_lem}
 use Rattle.snap_runs_of_b.proofs.few_steps.Goals as goal
 

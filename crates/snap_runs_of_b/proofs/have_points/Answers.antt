@@ -1,3 +1,4 @@
+-- `have_points` of snap_runs_of_b (src/lib.rt): the proof of what its contract says.
 use Rattle.snap_runs_of_b.proofs.Every.{have_points_lem}
 use Rattle.snap_runs_of_b.proofs.have_points.Goals as goal
 

@@ -1,3 +1,4 @@
+-- `moves_are_writes` of snap_runs_of_b (src/lib.rt): the proof of what its contract says.
 use Rattle.snap_runs_of_b.proofs.Moves.{moves_are_writes_lem}
 use Rattle.snap_runs_of_b.proofs.moves_are_writes.Goals as goal
 

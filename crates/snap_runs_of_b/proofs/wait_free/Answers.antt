@@ -1,3 +1,4 @@
+-- `wait_free` of snap_runs_of_b (src/lib.rt): the proof of what its contract says.
 use Rattle.snap_runs_of_b.proofs.Every.{wait_free_lem}
 use Rattle.snap_runs_of_b.proofs.wait_free.Goals as goal
 

@@ -1,3 +1,4 @@
+-- `writes_its_update` of snap_runs_of_b (src/lib.rt): the proof of what its contract says.
 use Rattle.snap_runs_of_b.proofs.Every.{writes_its_update_lem}
 use Rattle.snap_runs_of_b.proofs.writes_its_update.Goals as goal
 

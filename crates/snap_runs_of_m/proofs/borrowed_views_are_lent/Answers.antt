@@ -1,3 +1,4 @@
+-- `borrowed_views_are_lent` of snap_runs_of_m (src/lib.rt): the proof of what its contract says.
 use Rattle.snap_runs_of_m.proofs.Lenders.{borrowed_views_are_lent_lem}
 use Rattle.snap_runs_of_m.proofs.borrowed_views_are_lent.Goals as goal
 

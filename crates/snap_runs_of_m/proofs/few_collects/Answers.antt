@@ -1,3 +1,4 @@
+-- `few_collects` of snap_runs_of_m (src/lib.rt): the proof of what its contract says.
 use Rattle.snap_runs_of_m.proofs.Bounds.{few_collects_lem}
 use Rattle.snap_runs_of_m.proofs.few_collects.Goals as goal
 

@@ -1,3 +1,4 @@
+-- `moves_are_events` of snap_runs_of_m (src/lib.rt): the proof of what its contract says.
 use Rattle.snap_runs_of_m.proofs.Moves.{moves_are_events_lem}
 use Rattle.snap_runs_of_m.proofs.moves_are_events.Goals as goal
 

@@ -1,3 +1,4 @@
+-- `write_strongly_linearizable` of snap_runs_of_m (src/lib.rt): the proof of what its contract says.
 use Rattle.snap_runs_of_m.proofs.Every.{write_strongly_linearizable_lem}
 use Rattle.snap_runs_of_m.proofs.write_strongly_linearizable.Goals as goal
 

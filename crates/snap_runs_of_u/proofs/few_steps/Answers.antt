@@ -1,3 +1,4 @@
+-- `few_steps` of snap_runs_of_u (src/lib.rt): the proof of what its contract says.
 use Rattle.snap_runs_of_u.proofs.Bounds.{few_steps_lem}
 use Rattle.snap_runs_of_u.proofs.few_steps.Goals as goal
 

@@ -1,3 +1,4 @@
+-- `have_points` of snap_runs_of_u (src/lib.rt): the proof of what its contract says.
 use Rattle.snap_runs_of_u.proofs.Every.{have_points_lem}
 use Rattle.snap_runs_of_u.proofs.have_points.Goals as goal
 

@@ -1,3 +1,4 @@
+-- `linearizable` of snap_runs_of_u (src/lib.rt): the proof of what its contract says.
 use Rattle.snap_runs_of_u.proofs.Every.{linearizable_lem}
 use Rattle.snap_runs_of_u.proofs.linearizable.Goals as goal
 

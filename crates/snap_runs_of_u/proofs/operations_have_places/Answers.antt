@@ -1,3 +1,4 @@
+-- `operations_have_places` of snap_runs_of_u (src/lib.rt): the proof of what its contract says.
 use Rattle.snap_runs_of_u.proofs.Every.{operations_have_places_lem}
 use Rattle.snap_runs_of_u.proofs.operations_have_places.Goals as goal
 

@@ -1,3 +1,4 @@
+-- `passed_tests_are_clean` of snap_runs_of_u (src/lib.rt): the proof of what its contract says.
 use Rattle.snap_runs_of_u.proofs.CleanTests.{passed_tests_are_clean_lem}
 use Rattle.snap_runs_of_u.proofs.passed_tests_are_clean.Goals as goal
 

@@ -1,3 +1,4 @@
+-- `wait_free` of snap_runs_of_u (src/lib.rt): the proof of what its contract says.
 use Rattle.snap_runs_of_u.proofs.Every.{wait_free_lem}
 use Rattle.snap_runs_of_u.proofs.wait_free.Goals as goal
 

@@ -1,3 +1,4 @@
+-- `closed_desks_are_linearizable` of snap_thread_laws (src/lib.rt): the proof of what its contract says.
 use Rattle.snap_thread_laws.proofs.Shipped.{closed_desks}
 use Rattle.snap_thread_laws.proofs.closed_desks_are_linearizable.Goals as goal
 

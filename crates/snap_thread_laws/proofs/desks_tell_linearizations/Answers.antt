@@ -1,3 +1,4 @@
+-- `desks_tell_linearizations` of snap_thread_laws (src/lib.rt): the proof of what its contract says.
 use Rattle.snap_thread_laws.proofs.Shipped.{desks_tell}
 use Rattle.snap_thread_laws.proofs.desks_tell_linearizations.Goals as goal
 

@@ -1,3 +1,4 @@
+-- `live_runs_are_linearizable` of snap_thread_laws (src/lib.rt): the proof of what its contract says.
 use Rattle.snap_thread_laws.proofs.Shipped.{live_runs}
 use Rattle.snap_thread_laws.proofs.live_runs_are_linearizable.Goals as goal
 

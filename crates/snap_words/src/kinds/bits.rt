@@ -1,4 +1,5 @@
-//! Single-writer words with handshake bits and a toggle.
+//! The kind of registers `Bits`, with its words:
+//! single-writer words with handshake bits and a toggle.
 ghost use Rattle.std.specs.Prelude.{◌≡◌, ◌&&◌, true};
 ghost use Rattle.std.specs.List.{list_all};
 ghost use Rattle.snap_words.specs.Kind.{is_bit};

@@ -1,4 +1,5 @@
-//! Multi-writer words with a writer and a toggle.
+//! The kind of registers `Multi`, with its words:
+//! multi-writer words with a writer's id and a toggle.
 ghost use Rattle.std.specs.Prelude.{◌≡◌, true};
 ghost use Rattle.snap_words.specs.Kind.{is_bit};
 

@@ -1,4 +1,4 @@
-//! Single-writer words with a sequence number.
+//! The kind of registers `Seq`, with its words: single-writer words with a sequence number.
 use crate::address::{Address, Bank};
 use crate::any_word::AnyWord;
 use crate::kind::{Field, KindTag};

@@ -1,4 +1,5 @@
-//! A kind of registers of its own: as kind multi, with the toggle kept as a truth.
+//! `Marked`: a kind of registers that the tests of machines have of their own, as kind multi, with
+//! the toggle kept as a `bool`.
 ghost use Rattle.std.specs.Prelude.{◌≡◌};
 
 use snap_words::{Address, AnyWord, Bank, Field, Kind, KindTag, Shape, View, WordFault};
@@ -123,7 +124,11 @@ impl Kind for Marked {
           handshakes = [];
           view = [];
         }) ≡ w = λ w.
-        elim w.mark as (λ b. (let v : MarkedWord = record { datum = w.datum; id = w.id; mark = nat_eq (if b then 1 else 0) 1 } in v) ≡ record { datum = w.datum; id = w.id; mark = b }) [
+        elim w.mark as (λ b. (let v : MarkedWord = record {
+          datum = w.datum;
+          id = w.id;
+          mark = nat_eq (if b then 1 else 0) 1;
+        } in v) ≡ record { datum = w.datum; id = w.id; mark = b }) [
           | true ↦ refl
           | false ↦ refl
         ] in

@@ -1,3 +1,4 @@
+-- `trace` of snap_acts (src/tracer.rt): what holds at the head of each of its loops.
 use Rattle.snap_acts.proofs.Traces.{Going}
 use Rattle.snap_acts.proofs.tracer.trace.Given as goal
 

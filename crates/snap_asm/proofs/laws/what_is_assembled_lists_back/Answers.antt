@@ -1,3 +1,4 @@
+-- `what_is_assembled_lists_back` of snap_asm (src/laws.rt): the proof of what its contract says.
 use Rattle.snap_asm.proofs.Back.{lists_back}
 use Rattle.snap_asm.proofs.laws.what_is_assembled_lists_back.Goals as goal
 

@@ -1,3 +1,4 @@
+-- `what_is_canonical_is_kept` of snap_asm (src/laws.rt): the proof of what its contract says.
 use Rattle.snap_asm.proofs.Back.{keeps_canonical}
 use Rattle.snap_asm.proofs.laws.what_is_canonical_is_kept.Goals as goal
 

@@ -1,3 +1,4 @@
+-- `audit` of snap_audit (src/sweep.rt): what holds at the head of each of its loops.
 use Rattle.std.proofs.Common.{length, drop, ◌-◌}
 use Rattle.snap_audit.specs.Sweep.{Sweeps}
 use Rattle.snap_audit.proofs.sweep.audit.Given as goal

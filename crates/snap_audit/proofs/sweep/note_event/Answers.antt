@@ -1,3 +1,4 @@
+-- `note_event` of snap_audit (src/sweep.rt): the proof of what its contract says.
 use Rattle.std.proofs.Common.{◌≡◌, ℕ, List, ◌-◌, suc, drop, get_or, sym, ap, subst, ◌∙◌}
 use Rattle.snap_record.specs.History.{values_by}
 use Rattle.snap_runs.specs.declared.verdict.Verdict.{Verdict}
@@ -12,9 +13,11 @@ returns-in-Call c = λ r left counted h.
     let cs = c.args.callers.now.items in
     let e = c.args.event.now in
     let d = c.index_mut.result.now in
-    call_swept r xs cs c.args.verdicts.now.items e left h c.in-Call.field-0 c.go_on.new.self c.args.collects d c.in-Call.is counted
+    call_swept r xs cs c.args.verdicts.now.items e left h c.in-Call.field-0 c.go_on.new.self
+    c.args.collects d c.in-Call.is counted
     c.go_on.ensures.call c.go_on.ensures.collects
-    (λ u le. c.go_on.ensures.values u le ∙ ap (λ (x : Caller). values_by x.values (drop x.next xs) u) c.index_mut.ensures.value)
+    (λ u le. c.go_on.ensures.values u le
+    ∙ ap (λ (x : Caller). values_by x.values (drop x.next xs) u) c.index_mut.ensures.value)
 
 pub returns-in_ok-push-in-Answer : goal.returns-in_ok-push-in-Answer
 returns-in_ok-push-in-Answer c = λ r left counted h.
@@ -31,6 +34,8 @@ returns-in_ok-push-in-Answer c = λ r left counted h.
       collects = c.args.collects - x.collects;
     } in
     let given : v ≡ of (get_or cs (e.process - 1) d) c.in-Answer.view =
-    c.in_ok-verdict-in-Answer.ensures ∙ ap (of d) c.as_slice.ensures ∙ ap (λ x. of x c.in-Answer.view) c.index-caller.ensures in
+    c.in_ok-verdict-in-Answer.ensures ∙ ap (of d) c.as_slice.ensures
+    ∙ ap (λ x. of x c.in-Answer.view) c.index-caller.ensures in
     subst (λ l. Sweeps r xs cs l left) (sym c.in_ok-push-in-Answer.ensures.items)
-    (answer_swept r xs cs c.args.verdicts.now.items e left h c.in-Answer.view v c.args.collects d c.in-Answer.is counted given)
+    (answer_swept r xs cs c.args.verdicts.now.items e left h c.in-Answer.view v c.args.collects
+    d c.in-Answer.is counted given)

@@ -1,3 +1,4 @@
+-- `keeps_promises` of snap_bounded (src/runs.rt): the proof of what its contract says.
 use Rattle.snap_words.specs.declared.kind.KindTag.TheVariants as kind
 use Rattle.snap_record.proofs.Within.{run_fits}
 use Rattle.snap_runs_of_b.specs.ListingB.{listing_b}
@@ -8,4 +9,5 @@ returns-clause-fits c = run_fits listing_b c.args.schedule.now c.shape-shape.ens
 
 pub returns-clause-promises : goal.returns-clause-promises
 returns-clause-promises c =
-    c.shipped_runs_keep_promises.ensures kind.Bits c.args.schedule.now.shape c.args.schedule.now.items c.shape-shape.ensures.schedule.shape c.requires tt
+    c.shipped_runs_keep_promises.ensures kind.Bits c.args.schedule.now.shape c.args.schedule.now.items
+    c.shape-shape.ensures.schedule.shape c.requires tt

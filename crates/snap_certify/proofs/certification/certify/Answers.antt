@@ -1,8 +1,10 @@
+-- `certify` of snap_certify (src/certification.rt): the proof of what its contract says.
 use Rattle.std.proofs.Common.{◌≡◌}
 use Rattle.std.specs.Prelude.{IsOk, Ok}
 use Rattle.snap_runs.specs.Linearization.{IsLinearizable}
 use Rattle.snap_certificate.specs.Certificate.{IsCertificate}
-use Rattle.snap_certification.specs.Certification.{Evidence, certificate_of, certification_of, seen_certification, write_line}
+use Rattle.snap_certification.specs.Certification.{Evidence, certificate_of, certification_of}
+use Rattle.snap_certification.specs.Certification.{seen_certification, write_line}
 use Rattle.snap_certify.proofs.Replaying.{has_certificate, has_order, ok_then}
 use Rattle.snap_certify.proofs.certification.certify.Goals as goal
 
@@ -11,10 +13,13 @@ returns-clause-certificate g c =
     let r = c.args.history.now in
     ok_then c.conclude.result (λ x. seen_certification x ≡ certification_of r)
     (λ x. (e : Evidence) → seen_certification x ≡ Ok e → IsCertificate (write_line r) r (certificate_of r e))
-    (λ x is. has_certificate c.certified_has_certificate.ensures r c.items-items.ensures.fits (seen_certification x) is) c.conclude.ensures
+    (λ x is. has_certificate c.certified_has_certificate.ensures r c.items-items.ensures.fits (seen_certification x) is)
+    c.conclude.ensures
 
 pub returns-clause-linearizable : goal.returns-clause-linearizable
 returns-clause-linearizable g c =
     let r = c.args.history.now in
-    ok_then c.conclude.result (λ x. seen_certification x ≡ certification_of r) (λ x. IsOk (seen_certification x) → IsLinearizable r)
-    (λ x is. has_order c.certified_has_certificate.ensures r c.items-items.ensures.fits (seen_certification x) is) c.conclude.ensures
+    ok_then c.conclude.result (λ x. seen_certification x ≡ certification_of r)
+    (λ x. IsOk (seen_certification x) → IsLinearizable r)
+    (λ x is. has_order c.certified_has_certificate.ensures r c.items-items.ensures.fits (seen_certification x) is)
+    c.conclude.ensures

@@ -1,3 +1,4 @@
+-- `changing_line` of snap_certify (src/line.rt): the proof of what its contract says.
 use Rattle.std.proofs.Common.{◌≡◌, ◌<◌, ◌≤◌, length, sym, ap, ◌∙◌, arith}
 use Rattle.snap_certify.proofs.Replaying.{changing_end, changing_here, changing_later}
 use Rattle.snap_certify.proofs.line.changing_line.Goals as goal
@@ -9,7 +10,8 @@ returns-then-changes g c =
     let test = c.loop-t-test.true in
     let below : c.loop-t.t < length r.items = omega (arith, count, test) in
     c.executed_line.ensures
-    ∙ changing_here r c.loop-t.t (length r.items) below c.in_ok-item.item c.in_ok-item.ensures.seen (sym c.changes.ensures ∙ c.if-changes.true)
+    ∙ changing_here r c.loop-t.t (length r.items) below c.in_ok-item.item c.in_ok-item.ensures.seen
+    (sym c.changes.ensures ∙ c.if-changes.true)
     ∙ c.loop-t.invariant.still
 
 pub loop-t-preserved : goal.loop-t-preserved
@@ -21,7 +23,8 @@ loop-t-preserved g c =
     record {
       there = c.in_ok-item.ensures.done;
       still =
-          changing_later r c.loop-t.t (length r.items) below c.in_ok-item.item c.in_ok-item.ensures.seen (sym c.changes.ensures ∙ c.if-changes.false)
+          changing_later r c.loop-t.t (length r.items) below c.in_ok-item.item c.in_ok-item.ensures.seen
+          (sym c.changes.ensures ∙ c.if-changes.false)
           ∙ c.loop-t.invariant.still;
     }
 

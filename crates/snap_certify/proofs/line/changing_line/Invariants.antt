@@ -1,3 +1,4 @@
+-- `changing_line` of snap_certify (src/line.rt): what holds at the head of each of its loops.
 use Rattle.std.proofs.Common.{◌≡◌, ◌-◌, length}
 use Rattle.snap_certification.specs.Certification.{changing_line}
 use Rattle.snap_certify.specs.Replay.{machine_at}
@@ -8,5 +9,6 @@ abbrev pub invariant-loop-t : goal.invariant-loop-t
 invariant-loop-t g l =
     record {
       there : l.machine ≡ machine_at l.history l.t;
-      still : changing_line l.history l.t (length l.history.items - l.t) ≡ changing_line l.history 0 (length l.history.items);
+      still : changing_line l.history l.t (length l.history.items - l.t)
+          ≡ changing_line l.history 0 (length l.history.items);
     }

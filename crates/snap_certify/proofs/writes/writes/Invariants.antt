@@ -1,3 +1,4 @@
+-- `writes` of snap_certify (src/writes.rt): what holds at the head of each of its loops.
 use Rattle.std.proofs.Common.{◌≡◌, Ok}
 use Rattle.snap_certification.specs.Certification.{writes}
 use Rattle.snap_certify.specs.Replay.{AreProgress, machine_at}

@@ -1,6 +1,9 @@
+-- `places_text` of snap_certify_output (src/text.rt): what holds at the head of each of its loops.
 use Rattle.std.proofs.Common.{◌≡◌, ◌++◌, drop}
 use Rattle.snap_certify_output.specs.CertificationText.{places_text}
 use Rattle.snap_certify_output.proofs.text.places_text.Given as goal
 
 abbrev pub invariant-loop-scan : goal.invariant-loop-scan
-invariant-loop-scan l = l.out.items ++ places_text (drop l.next l.writes) (drop l.scan-index l.scans) ≡ l.fn.out.items ++ places_text l.writes l.scans
+invariant-loop-scan l =
+    l.out.items ++ places_text (drop l.next l.writes) (drop l.scan-index l.scans)
+    ≡ l.fn.out.items ++ places_text l.writes l.scans

@@ -1,10 +1,12 @@
+-- `writes_until` of snap_certify_output (src/text.rt): what holds at the head of each of its loops.
 use Rattle.std.proofs.Common.{◌≡◌, ◌++◌, ◌-◌, drop, length}
 use Rattle.snap_certify_output.specs.CertificationText.{update_lines, writes_after, writes_until}
 use Rattle.snap_certify_output.proofs.text.writes_until.Given as goal
 
 abbrev pub invariant-loop-k : goal.invariant-loop-k
 invariant-loop-k l =
-    (l.out.items ++ update_lines (writes_until l.item (drop l.k l.writes)) ≡ l.fn.out.items ++ update_lines (writes_until l.item (drop l.next l.writes)))
+    (l.out.items ++ update_lines (writes_until l.item (drop l.k l.writes))
+    ≡ l.fn.out.items ++ update_lines (writes_until l.item (drop l.next l.writes)))
     × (writes_after l.item (drop l.k l.writes) ≡ writes_after l.item (drop l.next l.writes))
 
 abbrev pub decreases-loop-k : goal.decreases-loop-k

@@ -1,3 +1,4 @@
+-- `moves_of` of snap_chance (src/moves.rt): what holds at the head of each of its loops.
 use Rattle.std.proofs.Common.{◌≡◌, ◌+◌, ◌-◌, ◌*◌, ◌≤◌, ◌++◌, length}
 use Rattle.std.specs.List.{AllByRecursion}
 use Rattle.snap_words.specs.Shape.{IsOneOf}
@@ -10,7 +11,8 @@ use Rattle.snap_chance.proofs.moves.moves_of.Given as goal
 -- the turns so far, and those that are left
 abbrev pub invariant-loop-turn : goal.invariant-loop-turn
 invariant-loop-turn g l = record {
-  so_far : l.items ++ moves_from l.plan l.run (l.turn + 1) (l.plan.turns - l.turn) l.changes l.order.items (g.R.Rng.stream l.rng)
+  so_far : l.items
+      ++ moves_from l.plan l.run (l.turn + 1) (l.plan.turns - l.turn) l.changes l.order.items (g.R.Rng.stream l.rng)
       ≡ moves_from l.plan l.run 1 l.plan.turns l.changes l.fn.first.items (g.R.Rng.stream l.fn.rng);
   movers : AreThere l.plan.shape.n l.order.items;
   few : length l.items ≤ l.turn * 129;

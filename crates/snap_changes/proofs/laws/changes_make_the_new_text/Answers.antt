@@ -1,3 +1,4 @@
+-- `changes_make_the_new_text` of snap_changes (src/laws.rt): the proof of what its contract says.
 use Rattle.std.proofs.Common.{refl, []}
 use Rattle.snap_changes.proofs.Putting.{put_from, real_from}
 use Rattle.snap_changes.proofs.laws.changes_make_the_new_text.Goals as goal

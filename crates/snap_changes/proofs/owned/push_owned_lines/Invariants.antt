@@ -1,3 +1,4 @@
+-- `push_owned_lines` of snap_changes (src/owned.rt): what holds at the head of each of its loops.
 use Rattle.std.proofs.Common.{◌≡◌, ◌++◌, [], length}
 use Rattle.snap_semantics.specs.Token.{lines_of}
 use Rattle.snap_changes.specs.Owned.{owned_text}
@@ -5,7 +6,8 @@ use Rattle.snap_changes.proofs.owned.push_owned_lines.Given as goal
 
 -- the text so far, and that of the lines that are left
 abbrev pub invariant-loop-rest : goal.invariant-loop-rest
-invariant-loop-rest l = l.out.items ++ owned_text l.owner (lines_of l.rest) ≡ l.fn.out.items ++ owned_text [] (lines_of l.text)
+invariant-loop-rest l =
+    l.out.items ++ owned_text l.owner (lines_of l.rest) ≡ l.fn.out.items ++ owned_text [] (lines_of l.text)
 
 abbrev pub decreases-loop-rest : goal.decreases-loop-rest
 decreases-loop-rest l = length l.rest

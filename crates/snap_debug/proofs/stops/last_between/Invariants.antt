@@ -1,3 +1,4 @@
+-- `last_between` of snap_debug (src/stops.rt): what holds at the head of each of its loops.
 use Rattle.std.proofs.Common.{◌≡◌, ◌<◌, ◌+◌, ◌-◌}
 use Rattle.snap_debug.specs.Marks.{last_stop}
 use Rattle.snap_debug.specs.Stops.{AreAt, or_before}
@@ -10,7 +11,8 @@ invariant-loop-walk g l =
     record {
       walk : AreAt r l.walk;
       before : l.walk.before.position < l.position;
-      found : last_stop r l.marks (l.walk.before.position + 1) ≡ or_before l.last (last_stop r l.marks (l.start.position + 1));
+      found : last_stop r l.marks (l.walk.before.position + 1)
+          ≡ or_before l.last (last_stop r l.marks (l.start.position + 1));
     }
 
 abbrev pub decreases-loop-walk : goal.decreases-loop-walk

@@ -1,3 +1,4 @@
+-- `next_stop` of snap_debug (src/stops.rt): the proof of what its contract says.
 use Rattle.std.proofs.Common.{◌≡◌, ◌≤◌, ◌<◌, ◌+◌, ◌-◌, length, refl, ap, subst, sym, ◌∙◌, arith}
 use Rattle.std.specs.List.{list_any}
 use Rattle.snap_debug.specs.Marks.{next_stop}
@@ -27,7 +28,9 @@ loop-current-init g c =
       grows = omega arith;
       stands = subst (λ s. IsCheckpoint r s) (sym same) c.requires.stands;
       reached = subst (λ s. s.position ≤ c.args.recording.now.reached) (sym same) c.requires.reached;
-      unchanged = ap (λ s. list_any (differs here.machine.state s.machine.state) m.watches) same ∙ none_differs here.machine.state m.watches;
+      unchanged =
+          ap (λ s. list_any (differs here.machine.state s.machine.state) m.watches) same
+          ∙ none_differs here.machine.state m.watches;
       passed = ap (λ s. next_stop r m s.position (length r.items - s.position)) same;
     }
 
@@ -39,8 +42,11 @@ returns-then-stops_between-clause-stop g c =
     let size = c.total-total.ensures in
     let below = c.loop-current-test.true in
     let lt : c.loop-current.current.position < length c.args.recording.now.run.items = omega (arith, size, below) in
-    let w = walked c.args.recording.now.run c.reach.new.self.run c.args.marks.now c.args.here.now c.loop-current.current c.advance.new.current c.in_ok-process.process c.stops_between.result
-    (more.run ∙ before.run) before.stands lt before.unchanged did.stands did.position did.process.0 c.stops_between.ensures in
+    let w =
+    walked c.args.recording.now.run c.reach.new.self.run c.args.marks.now c.args.here.now c.loop-current.current
+    c.advance.new.current c.in_ok-process.process c.stops_between.result
+    (more.run ∙ before.run) before.stands lt before.unchanged did.stands did.position
+    did.process.0 c.stops_between.ensures in
     w.here c.if-stops_between.true ∙ before.passed
 
 pub loop-current-preserved-else-stops_between : goal.loop-current-preserved-else-stops_between
@@ -51,8 +57,11 @@ loop-current-preserved-else-stops_between g c =
     let size = c.total-total.ensures in
     let below = c.loop-current-test.true in
     let lt : c.loop-current.current.position < length c.args.recording.now.run.items = omega (arith, size, below) in
-    let w = walked c.args.recording.now.run c.reach.new.self.run c.args.marks.now c.args.here.now c.loop-current.current c.advance.new.current c.in_ok-process.process c.stops_between.result
-    (more.run ∙ before.run) before.stands lt before.unchanged did.stands did.position did.process.0 c.stops_between.ensures in
+    let w =
+    walked c.args.recording.now.run c.reach.new.self.run c.args.marks.now c.args.here.now c.loop-current.current
+    c.advance.new.current c.in_ok-process.process c.stops_between.result
+    (more.run ∙ before.run) before.stands lt before.unchanged did.stands did.position
+    did.process.0 c.stops_between.ensures in
     let at = did.position in
     let far = more.reached in
     let start = before.grows in
@@ -74,8 +83,11 @@ loop-current-preserved-else-stops_between-2 g c =
     let size = c.total-total.ensures in
     let below = c.loop-current-test.true in
     let lt : c.loop-current.current.position < length c.args.recording.now.run.items = omega (arith, size, below) in
-    let w = walked c.args.recording.now.run c.reach.new.self.run c.args.marks.now c.args.here.now c.loop-current.current c.advance.new.current c.in_ok-process.process c.stops_between.result
-    (more.run ∙ before.run) before.stands lt before.unchanged did.stands did.position did.process.0 c.stops_between.ensures in
+    let w =
+    walked c.args.recording.now.run c.reach.new.self.run c.args.marks.now c.args.here.now c.loop-current.current
+    c.advance.new.current c.in_ok-process.process c.stops_between.result
+    (more.run ∙ before.run) before.stands lt before.unchanged did.stands did.position
+    did.process.0 c.stops_between.ensures in
     let at = did.position in
     let far = more.reached in
     let start = before.grows in
@@ -97,8 +109,11 @@ loop-current-preserved g c =
     let size = c.total-total.ensures in
     let below = c.loop-current-test.true in
     let lt : c.loop-current.current.position < length c.args.recording.now.run.items = omega (arith, size, below) in
-    let w = walked c.args.recording.now.run c.reach.new.self.run c.args.marks.now c.args.here.now c.loop-current.current c.advance.new.current c.in_ok-process.process c.stops_between.result
-    (more.run ∙ before.run) before.stands lt before.unchanged did.stands did.position did.process.0 c.stops_between.ensures in
+    let w =
+    walked c.args.recording.now.run c.reach.new.self.run c.args.marks.now c.args.here.now c.loop-current.current
+    c.advance.new.current c.in_ok-process.process c.stops_between.result
+    (more.run ∙ before.run) before.stands lt before.unchanged did.stands did.position
+    did.process.0 c.stops_between.ensures in
     let at = did.position in
     let far = more.reached in
     let start = before.grows in

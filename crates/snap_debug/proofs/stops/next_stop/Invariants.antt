@@ -1,3 +1,4 @@
+-- `next_stop` of snap_debug (src/stops.rt): what holds at the head of each of its loops.
 use Rattle.std.proofs.Common.{◌≡◌, ◌≤◌, ◌-◌, false, length}
 use Rattle.std.specs.List.{list_any}
 use Rattle.snap_debug.specs.Marks.{next_stop}
@@ -15,7 +16,8 @@ invariant-loop-current g l =
       stands : IsCheckpoint r l.current;
       reached : l.current.position ≤ l.recording.reached;
       unchanged : list_any (differs l.here.machine.state l.current.machine.state) l.marks.watches ≡ false;
-      passed : next_stop r l.marks l.current.position (length r.items - l.current.position) ≡ next_stop r l.marks l.here.position (length r.items - l.here.position);
+      passed : next_stop r l.marks l.current.position (length r.items - l.current.position)
+          ≡ next_stop r l.marks l.here.position (length r.items - l.here.position);
     }
 
 abbrev pub decreases-loop-current : goal.decreases-loop-current

@@ -1,16 +1,23 @@
+-- `talk` of snap_dialog (src/turns.rt): the proof of what its contract says.
 use Rattle.snap_dialog.proofs.Dialogs.{passed_all, passed_more, shown_all, shown_more}
 use Rattle.snap_dialog.proofs.turns.talk.Goals as goal
 
 pub returns-then-not-branch-clause-passes : goal.returns-then-not-branch-clause-passes
 returns-then-not-branch-clause-passes g c =
-    passed_all g.P.Respondent.prompt_of g.P.Respondent.answer_of _ _ _ _ _ _ _ c.loop-count.invariant.passed c.in_ok-take_turn.ensures.passes c.if-not-branch.true
+    passed_all g.P.Respondent.prompt_of g.P.Respondent.answer_of _ _ _ _ _ _ _ c.loop-count.invariant.passed
+    c.in_ok-take_turn.ensures.passes c.if-not-branch.true
 
 pub returns-then-not-branch-clause-shown : goal.returns-then-not-branch-clause-shown
 returns-then-not-branch-clause-shown g c =
-    shown_all g.P.Respondent.prompt_of g.P.Respondent.answer_of _ _ _ _ _ _ _ _ _ c.loop-count.invariant.shown c.in_ok-take_turn.ensures.shown c.if-not-branch.true
+    shown_all g.P.Respondent.prompt_of g.P.Respondent.answer_of _ _ _ _ _ _ _ _ _ c.loop-count.invariant.shown
+    c.in_ok-take_turn.ensures.shown c.if-not-branch.true
 
 pub loop-count-preserved : goal.loop-count-preserved
 loop-count-preserved g c = record {
-  passed = passed_more g.P.Respondent.prompt_of g.P.Respondent.answer_of _ _ _ _ _ _ _ c.loop-count.invariant.passed c.in_ok-take_turn.ensures.passes c.if-not-branch.false;
-  shown = shown_more g.P.Respondent.prompt_of g.P.Respondent.answer_of _ _ _ _ _ _ _ _ _ _ c.loop-count.invariant.shown c.in_ok-take_turn.ensures.rest c.in_ok-take_turn.ensures.shown c.if-not-branch.false;
+  passed =
+      passed_more g.P.Respondent.prompt_of g.P.Respondent.answer_of _ _ _ _ _ _ _ c.loop-count.invariant.passed
+      c.in_ok-take_turn.ensures.passes c.if-not-branch.false;
+  shown =
+      shown_more g.P.Respondent.prompt_of g.P.Respondent.answer_of _ _ _ _ _ _ _ _ _ _ c.loop-count.invariant.shown
+      c.in_ok-take_turn.ensures.rest c.in_ok-take_turn.ensures.shown c.if-not-branch.false;
 }

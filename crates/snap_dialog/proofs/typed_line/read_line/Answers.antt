@@ -1,3 +1,4 @@
+-- `read_line` of snap_dialog (src/typed_line.rt): the proof of what its contract says.
 use Rattle.std.proofs.Common.{subst}
 use Rattle.snap_dialog.specs.TypedLines.{GivesNext}
 use Rattle.snap_dialog.proofs.Lines.{kept_on, line_at_end}
@@ -6,11 +7,13 @@ use Rattle.snap_dialog.proofs.typed_line.read_line.Goals as goal
 pub returns-then-byte-eq10-clause-line : goal.returns-then-byte-eq10-clause-line
 returns-then-byte-eq10-clause-line g c =
     line_at_end _ _ _ _ _ _ c.loop-count.invariant
-    (subst (λ o. GivesNext o (g.R.Read.remaining c.loop-count.reader) (g.R.Read.remaining c.next_byte.new.reader)) c.in-Some.is c.in_ok-byte.ensures)
+    (subst (λ o. GivesNext o (g.R.Read.remaining c.loop-count.reader) (g.R.Read.remaining c.next_byte.new.reader))
+    c.in-Some.is c.in_ok-byte.ensures)
     c.in_ok-keep_byte.ensures c.if-byte-eq10.true
 
 pub loop-count-preserved : goal.loop-count-preserved
 loop-count-preserved g c =
     kept_on _ _ _ _ _ _ c.loop-count.invariant
-    (subst (λ o. GivesNext o (g.R.Read.remaining c.loop-count.reader) (g.R.Read.remaining c.next_byte.new.reader)) c.in-Some.is c.in_ok-byte.ensures)
+    (subst (λ o. GivesNext o (g.R.Read.remaining c.loop-count.reader) (g.R.Read.remaining c.next_byte.new.reader))
+    c.in-Some.is c.in_ok-byte.ensures)
     c.in_ok-keep_byte.ensures c.if-byte-eq10.false

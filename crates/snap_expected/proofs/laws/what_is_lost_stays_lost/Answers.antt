@@ -1,3 +1,4 @@
+-- `what_is_lost_stays_lost` of snap_expected (src/laws.rt): the proof of what its contract says.
 use Rattle.std.proofs.Common.{arith}
 use Rattle.snap_expected.specs.Lost.{wanted_of}
 use Rattle.snap_expected.proofs.Stays.{stays}

@@ -1,3 +1,4 @@
+-- `lost` of snap_expected (src/lost.rt): what holds at the head of each of its loops.
 use Rattle.std.proofs.Common.{◌≡◌, ◌≤◌, ◌-◌, length, drop}
 use Rattle.snap_expected.specs.Lost.{lost}
 use Rattle.snap_expected.specs.Steps.{placed_tokens}
@@ -6,7 +7,8 @@ use Rattle.snap_expected.proofs.lost.lost.Given as goal
 -- the line goes on with the tokens so far
 abbrev pub invariant-loop-before : goal.invariant-loop-before
 invariant-loop-before l =
-    (l.before ≤ length l.tokens) × (lost l.before l.wanted.items (placed_tokens (drop l.before l.tokens)) ≡ lost 0 l.fn.wanted.items (placed_tokens l.tokens))
+    (l.before ≤ length l.tokens) × (lost l.before l.wanted.items (placed_tokens (drop l.before l.tokens))
+    ≡ lost 0 l.fn.wanted.items (placed_tokens l.tokens))
 
 abbrev pub decreases-loop-before : goal.decreases-loop-before
 decreases-loop-before l = length l.tokens - l.before

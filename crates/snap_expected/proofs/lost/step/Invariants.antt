@@ -1,3 +1,4 @@
+-- `step` of snap_expected (src/lost.rt): what holds at the head of each of its loops.
 use Rattle.std.proofs.Common.{◌≡◌, length}
 use Rattle.snap_text.specs.Tokens.{view_token}
 use Rattle.snap_expected.specs.Lost.{step}

@@ -1,3 +1,4 @@
+-- `lines_with_forms_are_not_lost` of snap_expected_laws (src/laws.rt): the proof of what its contract says.
 use Rattle.snap_expected_laws.proofs.NotLost.{not_lost}
 use Rattle.snap_expected_laws.proofs.laws.lines_with_forms_are_not_lost.Goals as goal
 

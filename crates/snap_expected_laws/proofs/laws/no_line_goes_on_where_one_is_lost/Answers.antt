@@ -1,3 +1,4 @@
+-- `no_line_goes_on_where_one_is_lost` of snap_expected_laws (src/laws.rt): the proof of what its contract says.
 use Rattle.snap_expected_laws.proofs.NotLost.{none_goes_on}
 use Rattle.snap_expected_laws.proofs.laws.no_line_goes_on_where_one_is_lost.Goals as goal
 

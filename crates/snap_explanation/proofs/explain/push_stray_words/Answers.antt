@@ -1,5 +1,5 @@
-use Rattle.std.proofs.Common.{codes, take}
-use Rattle.std.specs.Prelude.{decimal}
+-- `push_stray_words` of snap_explanation (src/explain.rt): the proof of what its contract says.
+use Rattle.std.proofs.Common.{codes}
 use Rattle.snap_explanation.specs.Spot.{shown}
 use Rattle.snap_explanation.specs.Explanation.{stray_words}
 use Rattle.snap_explanation.proofs.Joined.{three_ok}
@@ -7,4 +7,6 @@ use Rattle.snap_explanation.proofs.explain.push_stray_words.Goals as goal
 
 pub returns : goal.returns
 unfolding stray_words
-returns c = three_ok c.push_text-2.result c.args.out.now.items (codes "`") (shown c.args.piece.now) (codes "` is no token\n") _ _ _ c.in_ok-push_text.ensures c.in_ok-push_shown.ensures c.push_text-2.ensures
+returns c =
+    three_ok c.push_text-2.result c.args.out.now.items (codes "`") (shown c.args.piece.now)
+    (codes "` is no token\n") _ _ _ c.in_ok-push_text.ensures c.in_ok-push_shown.ensures c.push_text-2.ensures

@@ -1,10 +1,13 @@
+-- `first_again` of snap_explanation (src/names.rt): what holds at the head of each of its loops.
 use Rattle.std.proofs.Common.{◌≡◌, map, length}
 use Rattle.snap_explanation.specs.Names.{first_again}
 use Rattle.snap_expected.specs.Steps.{view_placed_token}
 use Rattle.snap_explanation.proofs.names.first_again.Given as goal
 
 abbrev pub invariant-loop-rest : goal.invariant-loop-rest
-invariant-loop-rest l = first_again (map (λ w. w.now) l.known.items) (map view_placed_token l.rest) ≡ first_again (map (λ w. w.now) l.fn.known.items) (map view_placed_token l.tokens)
+invariant-loop-rest l =
+    first_again (map (λ w. w.now) l.known.items) (map view_placed_token l.rest)
+    ≡ first_again (map (λ w. w.now) l.fn.known.items) (map view_placed_token l.tokens)
 
 abbrev pub decreases-loop-rest : goal.decreases-loop-rest
 decreases-loop-rest l = length l.rest

@@ -1,3 +1,4 @@
+-- `leading_line` of snap_explanation (src/names.rt): what holds at the head of each of its loops.
 use Rattle.std.proofs.Common.{◌≡◌, length}
 use Rattle.snap_explanation.specs.Names.{leading_line}
 use Rattle.snap_semantics.specs.Token.{text_lines}

@@ -1,3 +1,4 @@
+-- `many_collects` of snap_failure (src/failing.rt): what holds at the head of each of its loops.
 use Rattle.std.proofs.Common.{◌≡◌, drop}
 use Rattle.snap_failure.specs.Failing.{many_collects}
 use Rattle.snap_failure.proofs.failing.many_collects.Given as goal

@@ -1,3 +1,4 @@
+-- `watched_over` of snap_failure (src/watched.rt): what holds at the head of each of its loops.
 use Rattle.std.proofs.Common.{length}
 use Rattle.snap_runs.specs.Run.{run_over}
 use Rattle.snap_survey.proofs.Surveying.{Going}

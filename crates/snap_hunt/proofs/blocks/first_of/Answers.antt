@@ -1,3 +1,4 @@
+-- `first_of` of snap_hunt (src/blocks.rt): the proof of what its contract says.
 use Rattle.std.proofs.Common.{arith}
 use Rattle.std.proofs.lemmas.Grind.{common_steps}
 use Rattle.snap_hunt.proofs.Numbers.{passed_at}

@@ -1,3 +1,4 @@
+-- `may_have_all` of snap_hunt (src/draft.rt): what holds at the head of each of its loops.
 use Rattle.std.proofs.Common.{take}
 use Rattle.std.specs.List.{AllByRecursion}
 use Rattle.snap_words.specs.Shape.{IsOneOf}

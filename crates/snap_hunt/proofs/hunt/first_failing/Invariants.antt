@@ -1,3 +1,4 @@
+-- `first_failing` of snap_hunt (src/hunt.rt): what holds at the head of each of its loops.
 use Rattle.std.proofs.Common.{◌≡◌, ◌≤◌, ◌-◌, None}
 use Rattle.std.specs.List.{find, range_with_len}
 use Rattle.snap_hunt.specs.Hunt.{fails}

@@ -1,3 +1,4 @@
+-- `shrunk` of snap_hunt (src/shrink.rt): what holds at the head of each of its loops.
 use Rattle.std.proofs.Common.{◌+◌}
 use Rattle.snap_hunt.specs.Shrinking.{IsShrunk, drawn}
 use Rattle.snap_hunt.proofs.shrink.shrunk.Given as goal

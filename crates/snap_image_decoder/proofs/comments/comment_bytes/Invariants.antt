@@ -1,3 +1,4 @@
+-- `comment_bytes` of snap_image_decoder (src/comments.rt): what holds at the head of each of its loops.
 use Rattle.std.proofs.Common.{◌≡◌, ◌-◌}
 use Rattle.snap_image_format.specs.ImageListing.{comment_bytes_in}
 use Rattle.snap_image_decoder.specs.DecoderSteps.{onto}
@@ -5,4 +6,5 @@ use Rattle.snap_image_decoder.proofs.comments.comment_bytes.Given as goal
 
 -- the bytes that are left follow those that were read
 abbrev pub invariant-loop-place : goal.invariant-loop-place
-invariant-loop-place l = onto l.bytes.items (comment_bytes_in (l.count - l.place) l.cursor) ≡ comment_bytes_in l.count l.fn.cursor
+invariant-loop-place l =
+    onto l.bytes.items (comment_bytes_in (l.count - l.place) l.cursor) ≡ comment_bytes_in l.count l.fn.cursor

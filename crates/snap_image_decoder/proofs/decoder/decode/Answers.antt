@@ -1,3 +1,4 @@
+-- `decode` of snap_image_decoder (src/decoder.rt): the proof of what its contract says.
 use Rattle.snap_semantics.specs.declared.refusal.ImageRefusal.TheVariants.{NotAnImage, Version}
 use Rattle.snap_image_decoder.proofs.Exact.{only_images, every_image}
 use Rattle.snap_image_decoder.proofs.Opened.{unsigned, of_another_version}

@@ -1,3 +1,4 @@
+-- `letters` of snap_image_decoder (src/head.rt): what holds at the head of each of its loops.
 use Rattle.std.proofs.Common.{◌≡◌, ◌-◌, length, take}
 use Rattle.snap_image_format.specs.ImageListing.{letters_in}
 use Rattle.snap_image_decoder.specs.DecoderSteps.{onto}

@@ -1,3 +1,4 @@
+-- `lines` of snap_image_decoder (src/lines.rt): what holds at the head of each of its loops.
 use Rattle.std.proofs.Common.{◌≡◌, ◌+◌, ◌-◌}
 use Rattle.snap_image_format.specs.ImageListing.{lines_in}
 use Rattle.snap_listing_core.specs.Fields.{header_source}
@@ -7,5 +8,6 @@ use Rattle.snap_image_decoder.proofs.lines.lines.Given as goal
 -- the lines that are left follow those that were read
 abbrev pub invariant-loop-place : goal.invariant-loop-place
 invariant-loop-place l =
-    onto_lines (listed l.read) (lines_in (header_source l.header) l.version (l.count - l.place) (l.place + 1) l.last l.cursor)
+    onto_lines (listed l.read)
+    (lines_in (header_source l.header) l.version (l.count - l.place) (l.place + 1) l.last l.cursor)
     ≡ lines_in (header_source l.header) l.version l.count 1 0 l.fn.cursor

@@ -1,3 +1,4 @@
+-- `what_is_decoded_is_an_image` of snap_image_laws (src/laws.rt): the proof of what its contract says.
 use Rattle.snap_image_laws.proofs.SaidListing.{decodes_only}
 use Rattle.snap_image_laws.proofs.laws.what_is_decoded_is_an_image.Goals as goal
 

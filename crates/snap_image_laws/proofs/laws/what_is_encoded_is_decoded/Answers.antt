@@ -1,3 +1,4 @@
+-- `what_is_encoded_is_decoded` of snap_image_laws (src/laws.rt): the proof of what its contract says.
 use Rattle.snap_image_laws.proofs.AgainListing.{decodes_all}
 use Rattle.snap_image_laws.proofs.laws.what_is_encoded_is_decoded.Goals as goal
 

@@ -1,3 +1,4 @@
+-- `may_part` of snap_input (src/parts.rt): the proof of what its contract says.
 use Rattle.snap_input.proofs.Without.{none_found}
 use Rattle.snap_input.proofs.parts.may_part.Goals as goal
 

@@ -1,3 +1,4 @@
+-- `pass_header` of snap_listing_lines (src/line_texts.rt): what holds at the head of each of its loops.
 use Rattle.std.proofs.Common.{◌≡◌, drop}
 use Rattle.snap_listing_lines.proofs.line_texts.pass_header.Given as goal
 

@@ -1,4 +1,5 @@
--- The end of the line stands behind its tokens.
+-- `push_numbered_line` adds the tokens of a line of a listing,
+-- laid out, and then the end of the line with its comment.
 use Rattle.std.proofs.Common.{rules, ◌≡◌, List, ◌++◌, [], ap, ◌∙◌}
 use Rattle.snap_semantics.specs.CanonicalText.{comment_end}
 use Rattle.snap_semantics.specs.Layout.{line_to}
@@ -12,6 +13,8 @@ use Rattle.snap_listing_printer.proofs.printer.push_numbered_line.Goals as goal
 pub returns : goal.returns
 returns c =
     let tokens : view_tokens c.tokens.result.now ≡ spelled_line c.args.numbered.now = search rules in
-    line_pushed c.push_comment_end.result (comment_end (seen_comment c.args.comment.now)) c.args.out.now.items c.push_tokens.new.out.items
+    line_pushed c.push_comment_end.result
+    (comment_end (seen_comment c.args.comment.now)) c.args.out.now.items c.push_tokens.new.out.items
     c.push_comment_end.new.out.items (spelled_line c.args.numbered.now)
-    (c.in_ok-push_tokens.ensures ∙ ap (λ (ts : List Token). c.args.out.now.items ++ line_to [] ts) tokens) c.push_comment_end.ensures
+    (c.in_ok-push_tokens.ensures ∙ ap (λ (ts : List Token). c.args.out.now.items ++ line_to [] ts) tokens)
+    c.push_comment_end.ensures

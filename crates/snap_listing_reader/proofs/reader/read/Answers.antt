@@ -1,4 +1,4 @@
--- The lines that were read are those of a listing.
+-- `read`: the header and the lines that were read from a text make up a listing.
 use Rattle.snap_listing_grammar.proofs.SpelledLines.{lines_are_listing}
 use Rattle.snap_listing_reader.proofs.reader.read.Goals as goal
 

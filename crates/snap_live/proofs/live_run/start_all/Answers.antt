@@ -1,3 +1,4 @@
+-- `start_all` of snap_live (src/live_run.rt): the proof of what its contract says.
 use Rattle.std.proofs.Common.{◌≡◌, ◌+◌, ◌-◌, ◌∙◌, ap, length, rules}
 use Rattle.snap_words.specs.Shape.{IsOneOf}
 use Rattle.snap_live_desk.specs.Shown.{SeatView, seat_of}
@@ -14,12 +15,17 @@ loop-seat-preserved g c =
     let new = c.push.new.self.items in
     let h = c.in_ok-start.field-0 in
     let seat = c.in-Some.seat in
-    let one : (seat ≡ seat_of c.args.desk.now seat.process) × IsOneOf (length c.args.scripts.now.scripts) seat.process = let r = i.rest 0 seat in grind rules in
+    let one : (seat ≡ seat_of c.args.desk.now seat.process) × IsOneOf (length c.args.scripts.now.scripts) seat.process =
+    let r = i.rest 0 seat in grind rules in
     let b = one.1 in
     let same : c.process.result - 1 ≡ seat.process - 1 = ap (λ n. n - 1) c.process.ensures in
-    let script = s.script ∙ c.script_of-script.ensures ∙ ap (λ n. script_at c.args.scripts.now.scripts n) same in record {
+    let script = s.script ∙ c.script_of-script.ensures ∙ ap (λ n. script_at c.args.scripts.now.scripts n) same in
+    record {
       seats = grows_as (λ h. h.promise.seat.value) old new h c.loop-seat.yielded seat e i.seats s.seat;
-      scripts = maps_more (λ h. h.promise.script.value) (λ (v : SeatView). script_at c.args.scripts.now.scripts (v.process - 1)) old new h c.loop-seat.yielded seat e i.scripts script;
+      scripts =
+          maps_more (λ h. h.promise.script.value)
+          (λ (v : SeatView). script_at c.args.scripts.now.scripts (v.process - 1)) old new h
+          c.loop-seat.yielded seat e i.scripts script;
       gate = all_more (λ h. h.promise.gate.value ≡ c.args.gate.now) old new h e i.gate s.gate;
       limit = all_more (λ h. h.promise.limit ≡ c.args.limit) old new h e i.limit s.limit;
       rest = λ k d below. let r = i.rest (k + 1) d in grind rules;

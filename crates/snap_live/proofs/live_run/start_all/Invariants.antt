@@ -1,3 +1,4 @@
+-- `start_all` of snap_live (src/live_run.rt): what holds at the head of each of its loops.
 use Rattle.std.proofs.Common.{◌≡◌, ◌-◌, length, map}
 use Rattle.std.specs.Prelude.{All}
 use Rattle.std.specs.Vec.Iter.{into_iter_items}
@@ -9,8 +10,10 @@ use Rattle.snap_live.proofs.live_run.start_all.Given as goal
 abbrev pub invariant-loop-seat : goal.invariant-loop-seat
 invariant-loop-seat g l = record {
   seats : map (λ h. h.promise.seat.value) l.handles.items ≡ l.yielded;
-  scripts : map (λ h. h.promise.script.value) l.handles.items ≡ map (λ s. script_at l.scripts.scripts (s.process - 1)) l.yielded;
+  scripts : map (λ h. h.promise.script.value) l.handles.items
+      ≡ map (λ s. script_at l.scripts.scripts (s.process - 1)) l.yielded;
   gate : All (λ h. h.promise.gate.value ≡ l.gate) l.handles.items;
   limit : All (λ h. h.promise.limit ≡ l.limit) l.handles.items;
-  rest : All (λ s. (s ≡ seat_of l.desk s.process) × IsOneOf (length l.scripts.scripts) s.process) (into_iter_items l.seat-iterator);
+  rest : All (λ s. (s ≡ seat_of l.desk s.process) × IsOneOf (length l.scripts.scripts) s.process)
+      (into_iter_items l.seat-iterator);
 }

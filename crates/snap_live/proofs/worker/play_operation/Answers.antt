@@ -1,3 +1,4 @@
+-- `play_operation` of snap_live (src/worker.rt): the proof of what its contract says.
 use Rattle.std.proofs.Common.{◌≡◌, arith, inl, true, false, rules}
 use Rattle.snap_live.specs.Script.{crashes_behind}
 use Rattle.snap_live.proofs.Plays.{calls_at, call_goes, call_passes, begun_left}
@@ -17,11 +18,13 @@ pub play_steps-requires-clause-plays : goal.play_steps-requires-clause-plays
 play_steps-requires-clause-plays g c κs within =
     let p = c.requires.plays in
     let quiet : crashes_behind c.args.script.now.crash c.args.seat.now.asked ≡ false = search rules in
-    call_goes _ _ _ _ c.in_default.not-Skipped (calls_at _ _ _ _ _ _ _ _ c.operations.ensures p.0 c.in_ok-play_turn.ensures.made c.requires.room.0 quiet p.1).1
+    call_goes _ _ _ _ c.in_default.not-Skipped
+    (calls_at _ _ _ _ _ _ _ _ c.operations.ensures p.0 c.in_ok-play_turn.ensures.made c.requires.room.0 quiet p.1).1
 
 pub returns-in-Skipped-clause-played : goal.returns-in-Skipped-clause-played
 returns-in-Skipped-clause-played g c =
     let p = c.requires.plays in
     let quiet : crashes_behind c.args.script.now.crash c.args.seat.now.asked ≡ false = search rules in
-    let on = calls_at _ _ _ _ _ _ _ _ c.operations.ensures p.0 c.in_ok-play_turn.ensures.made c.requires.room.0 quiet p.1 in
+    let on =
+    calls_at _ _ _ _ _ _ _ _ c.operations.ensures p.0 c.in_ok-play_turn.ensures.made c.requires.room.0 quiet p.1 in
     (on.0, call_passes _ _ _ _ c.in-Skipped.is on.1)

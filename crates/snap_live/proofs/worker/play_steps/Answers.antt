@@ -1,3 +1,4 @@
+-- `play_steps` of snap_live (src/worker.rt): the proof of what its contract says.
 use Rattle.std.proofs.Common.{◌≡◌, ◌+◌, ◌∙◌, length, drop, sym, ap, false, rules}
 use Rattle.snap_live.specs.Play.{Leaves, busy}
 use Rattle.snap_live.specs.Script.{crashes_behind}
@@ -22,7 +23,8 @@ loop-turn-preserved g c =
     let i = c.loop-turn.invariant in
     let quiet : crashes_behind c.args.script.now.crash c.loop-turn.seat.asked ≡ false = search rules in
     let m = c.in_ok-play_turn.ensures.made in
-    let on : (c.play_turn.new.seat.asked ≡ length c.play_turn.new.seat.own) × Leaves c.args.script.now c.play_turn.new.seat.own (busy (drop (c.args.at + 1) c.args.script.now.operations)) =
+    let on : (c.play_turn.new.seat.asked ≡ length c.play_turn.new.seat.own)
+    × Leaves c.args.script.now c.play_turn.new.seat.own (busy (drop (c.args.at + 1) c.args.script.now.operations)) =
     elim c.match-branch-3.branch [
       | in-Goes w ↦ steps_on _ _ _ _ _ _ _ m w.in-Goes.is i.asked quiet i.plays
       | in-Skipped w ↦ steps_on _ _ _ _ _ _ _ m w.in-Skipped.is i.asked quiet i.plays

@@ -1,3 +1,4 @@
+-- `first_missing` of snap_live_desk (src/closed_desk.rt): the proof of what its contract says.
 use Rattle.std.proofs.Common.{ℕ, arith}
 use Rattle.snap_live_desk.specs.Closed.{HasSeat}
 use Rattle.snap_live_desk.proofs.Gathered.{up_to}
@@ -11,7 +12,9 @@ returns-then-not-has_seat g c = record {
 }
 
 pub loop-process-preserved : goal.loop-process-preserved
-loop-process-preserved g c = up_to c.loop-process.process (λ (p : ℕ). HasSeat p c.args.seats.now) c.loop-process.invariant c.if-not-has_seat.ensures
+loop-process-preserved g c =
+    up_to c.loop-process.process
+    (λ (p : ℕ). HasSeat p c.args.seats.now) c.loop-process.invariant c.if-not-has_seat.ensures
 
 pub returns : goal.returns
 returns g c = λ p one. c.loop-process.invariant p one.0 (omega (arith, one.1))

@@ -1,3 +1,4 @@
+-- `gather` of snap_live_desk (src/closed_desk.rt): what holds at the head of each of its loops.
 use Rattle.std.proofs.Common.{◌≡◌}
 use Rattle.std.specs.Prelude.{All}
 use Rattle.std.specs.Vec.Iter.{into_iter_items}

@@ -1,3 +1,4 @@
+-- `has_seat` of snap_live_desk (src/closed_desk.rt): the proof of what its contract says.
 use Rattle.std.proofs.Common.{ap, sym, ◌∙◌}
 use Rattle.snap_live_desk.specs.Shown.{SeatView}
 use Rattle.snap_live_desk.proofs.Gathered.{has_at}
@@ -5,4 +6,5 @@ use Rattle.snap_live_desk.proofs.closed_desk.has_seat.Goals as goal
 
 pub returns-then-process : goal.returns-then-process
 returns-then-process g c =
-    has_at _ _ _ c.seat-item.result c.loop-seat-test.true (sym (ap (λ (s : SeatView). s.process) c.seat-item.is) ∙ sym c.process.ensures ∙ c.if-process.true)
+    has_at _ _ _ c.seat-item.result c.loop-seat-test.true
+    (sym (ap (λ (s : SeatView). s.process) c.seat-item.is) ∙ sym c.process.ensures ∙ c.if-process.true)

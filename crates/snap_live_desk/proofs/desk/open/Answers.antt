@@ -1,4 +1,6 @@
-use Rattle.std.proofs.Common.{rules, ◌≡◌, ℕ, ◌+◌, ◌++◌, ◌∷◌, [], ap, sym, ◌∙◌, add-one, suc, Option, Some, List, subst, ◌≤◌, ◌^◌, arith}
+-- `open` of snap_live_desk (src/desk.rt): the proof of what its contract says.
+use Rattle.std.proofs.Common.{rules, ◌≡◌, ℕ, ◌+◌, ◌++◌, ◌∷◌, [], ap, sym, ◌∙◌, add-one, suc}
+use Rattle.std.proofs.Common.{Option, Some, List, subst, ◌≤◌, ◌^◌, arith}
 use Rattle.atomic_table.specs.Table.{opening}
 use Rattle.snap_words.specs.Shape.{max_count}
 use Rattle.snap_runs.specs.Run.{Run}
@@ -17,7 +19,8 @@ loop-i-preserved g c =
     let n = c.loop-i.i in
     let base : Setting = record { source = c.args.program.now; shape = c.args.shape } in
     let same : c.loop-i.opener.me.0.base ≡ base = λ k. (inv.opener k).0.base in
-    let made : c.seat_next-seat.result.0 ≡ seat_of (record { id = c.in-Ok.made.0.shared.table_id; base = base }) (suc n) =
+    let made : c.seat_next-seat.result.0
+    ≡ seat_of (record { id = c.in-Ok.made.0.shared.table_id; base = base }) (suc n) =
     s.seat ∙ (λ k. seat_of (record { id = inv.seat k; base = same k }) (add-one n k)) in
     record {
       table = inv.table;
@@ -37,7 +40,10 @@ new-requires-2 g c =
     let fits : base.shape.n ≤ 2 ^ 16 = omega (arith, few) in
     let empty = c.in_ok-slots.ensures.items in
     let made = c.in_ok-first.ensures in
-    let slots : c.push_reserved.new.self.items ≡ Some (run_of base []) ∷ [] = c.push_reserved.ensures.items ∙ (λ k. empty k ++ Some (made k) ∷ []) in
+    let slots : c.push_reserved.new.self.items ≡ Some (run_of base []) ∷ [] =
+    c.push_reserved.ensures.items ∙ (λ k. empty k ++ Some (made k) ∷ []) in
     let key : setting_of c.of-about.result.value ≡ base = ap setting_of (c.of-about.ensures ∙ made) in
-    subst (λ (b : Setting). TableInvariant b (opening (0 ∷ 0 ∷ 0 ∷ 0 ∷ []) c.push_reserved.new.self.items (newcomer b))) (sym key)
-    (subst (λ (xs : List (Option Run)). TableInvariant base (opening (0 ∷ 0 ∷ 0 ∷ 0 ∷ []) xs (newcomer base))) (sym slots) (opens base fits))
+    subst (λ (b : Setting). TableInvariant b (opening (0 ∷ 0 ∷ 0 ∷ 0 ∷ []) c.push_reserved.new.self.items (newcomer b)))
+    (sym key)
+    (subst (λ (xs : List (Option Run)). TableInvariant base (opening (0 ∷ 0 ∷ 0 ∷ 0 ∷ []) xs (newcomer base)))
+    (sym slots) (opens base fits))

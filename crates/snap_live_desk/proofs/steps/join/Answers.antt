@@ -1,3 +1,4 @@
+-- `join` of snap_live_desk (src/steps.rt): the proof of what its contract says.
 use Rattle.std.proofs.Common.{rules, ap, ◌∙◌}
 use Rattle.snap_live_desk.specs.Rule.{Mine}
 use Rattle.snap_live_desk.proofs.Moves.{tells_it}
@@ -5,7 +6,8 @@ use Rattle.snap_live_desk.proofs.Joins.{joins}
 use Rattle.snap_live_desk.proofs.steps.join.Goals as goal
 
 pub join_seat-requires : goal.join_seat-requires
-join_seat-requires g c = (search rules, search rules, search rules, search rules, let i = c.requires.idle in joins _ _ _ _ _ i.0.1 i.1.1)
+join_seat-requires g c =
+    (search rules, search rules, search rules, search rules, let i = c.requires.idle in joins _ _ _ _ _ i.0.1 i.1.1)
 
 pub load-requires : goal.load-requires
 load-requires g c =

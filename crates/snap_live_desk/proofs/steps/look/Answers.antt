@@ -1,7 +1,9 @@
+-- `look` of snap_live_desk (src/steps.rt): the proof of what its contract says.
 use Rattle.std.proofs.Common.{rules}
 use mathlib.Core.Option.{none}
 use Rattle.atomic_table.specs.Table.{step}
-use Rattle.snap_live_desk.proofs.Moves.{looks_as, told}
+use Rattle.snap_live_desk.proofs.Held.{told}
+use Rattle.snap_live_desk.proofs.Moves.{looks_as}
 use Rattle.snap_live_desk.proofs.steps.look.Goals as goal
 
 pub load-requires : goal.load-requires

@@ -1,3 +1,4 @@
+-- `publish` of snap_live_desk (src/steps.rt): what holds at the head of each of its loops.
 use Rattle.snap_live_desk.proofs.steps.publish.Given as goal
 
 abbrev pub ghosts-publish_as : goal.ghosts-publish_as

@@ -1,5 +1,6 @@
+-- `take` of snap_live_desk (src/steps.rt): the proof of what its contract says.
 use Rattle.std.proofs.Common.{rules}
-use Rattle.snap_live_desk.proofs.Moves.{front}
+use Rattle.snap_live_desk.proofs.Held.{front}
 use Rattle.snap_live_desk.proofs.steps.take.Goals as goal
 
 pub exchange-requires : goal.exchange-requires

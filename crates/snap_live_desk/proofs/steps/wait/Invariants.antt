@@ -1,3 +1,4 @@
+-- `wait` of snap_live_desk (src/steps.rt): what holds at the head of each of its loops.
 use Rattle.std.proofs.Common.{◌≡◌}
 use Rattle.snap_live_desk.proofs.steps.wait.Given as goal
 

@@ -1,3 +1,4 @@
+-- `push_next` of snap_live_output (src/written.rt): the proof of what its contract says.
 use Rattle.std.proofs.Common.{List, [], ◌∷◌, ◌++◌, ◌∙◌, ap, sym}
 use Rattle.snap_semantics.specs.declared.process.Item.{Item}
 use Rattle.snap_live_output.proofs.Histories.{one_more}
@@ -5,5 +6,6 @@ use Rattle.snap_live_output.proofs.written.push_next.Goals as goal
 
 pub returns : goal.returns
 returns c =
-    one_more c.args.history.now.items c.push_item.new.items c.args.t c.in-Some.item c.requires.there (sym c.item.ensures ∙ c.in-Some.is)
+    one_more c.args.history.now.items c.push_item.new.items c.args.t c.in-Some.item c.requires.there
+    (sym c.item.ensures ∙ c.in-Some.is)
     (c.in_ok-push_item.ensures ∙ ap (λ (xs : List Item). xs ++ c.in-Some.item ∷ []) c.requires.first)

@@ -1,3 +1,4 @@
+-- `last_before` of snap_loans (src/wanted.rt): what holds at the head of each of its loops.
 use Rattle.std.proofs.Common.{◌≡◌, ◌≤◌}
 use Rattle.snap_loans.specs.Searches.{last_before}
 use Rattle.snap_loans.proofs.wanted.last_before.Given as goal

@@ -1,3 +1,4 @@
+-- `crash` of snap_machine (src/call.rt): the proof of what its contract says.
 use Rattle.std.proofs.Common.{arith, slice_index_or, ◌-◌, Some, None, refl}
 use Rattle.std.proofs.lemmas.List.{get_or_default}
 use Rattle.snap_semantics.specs.declared.process.Status.TheVariants.{Idle, Busy}
@@ -13,7 +14,8 @@ returns-in-Busy-clause-done g c =
     let a = c.in-Busy.activity in
     let p = slice_index_or ps (c.args.i - 1) c.index-processes-k.result in
     crashed_is g.K.Kind.as_word s r.memory ps c.args.i p (Busy a) (Some a)
-    (omega arith) (get_or_default ps (c.args.i - 1) c.index-processes-k.result p (omega arith)) c.in-Busy.is (λ S q. refl)
+    (omega arith) (get_or_default ps (c.args.i - 1) c.index-processes-k.result p (omega arith))
+    c.in-Busy.is (λ S q. refl)
 
 pub returns-in-Idle-clause-done : goal.returns-in-Idle-clause-done
 returns-in-Idle-clause-done g c =
@@ -22,7 +24,8 @@ returns-in-Idle-clause-done g c =
     let ps = c.args.processes.now in
     let p = slice_index_or ps (c.args.i - 1) c.index-processes-k.result in
     crashed_is g.K.Kind.as_word s r.memory ps c.args.i p Idle None
-    (omega arith) (get_or_default ps (c.args.i - 1) c.index-processes-k.result p (omega arith)) c.in-Idle.is (λ S q. refl)
+    (omega arith) (get_or_default ps (c.args.i - 1) c.index-processes-k.result p (omega arith))
+    c.in-Idle.is (λ S q. refl)
 
 pub returns-in-Busy-clause-sized : goal.returns-in-Busy-clause-sized
 returns-in-Busy-clause-sized g c =
@@ -31,7 +34,8 @@ returns-in-Busy-clause-sized g c =
     let ps = c.args.processes.now in
     let p = slice_index_or ps (c.args.i - 1) c.index-processes-k.result in
     sized_set g.K.Kind.as_word s shape ps (c.args.i - 1) _ c.requires.sized
-    (sized_at g.K.Kind.as_word s shape ps c.args.i p (omega arith) (get_or_default ps (c.args.i - 1) c.index-processes-k.result p (omega arith)) c.requires.sized)
+    (sized_at g.K.Kind.as_word s shape ps c.args.i p (omega arith)
+    (get_or_default ps (c.args.i - 1) c.index-processes-k.result p (omega arith)) c.requires.sized)
 
 pub returns-in-Idle-clause-sized : goal.returns-in-Idle-clause-sized
 returns-in-Idle-clause-sized g c =
@@ -40,4 +44,5 @@ returns-in-Idle-clause-sized g c =
     let ps = c.args.processes.now in
     let p = slice_index_or ps (c.args.i - 1) c.index-processes-k.result in
     sized_set g.K.Kind.as_word s shape ps (c.args.i - 1) _ c.requires.sized
-    (sized_at g.K.Kind.as_word s shape ps c.args.i p (omega arith) (get_or_default ps (c.args.i - 1) c.index-processes-k.result p (omega arith)) c.requires.sized)
+    (sized_at g.K.Kind.as_word s shape ps c.args.i p (omega arith)
+    (get_or_default ps (c.args.i - 1) c.index-processes-k.result p (omega arith)) c.requires.sized)

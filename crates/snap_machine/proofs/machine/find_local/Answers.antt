@@ -1,3 +1,4 @@
+-- `find_local` of snap_machine (src/machine.rt): the proof of what its contract says.
 use Rattle.std.proofs.Common.{◌∙◌}
 use Rattle.snap_machine.proofs.Found.{value_found, value_missing}
 use Rattle.snap_machine.proofs.machine.find_local.Goals as goal

@@ -1,3 +1,4 @@
+-- `headline` of snap_output (src/headlines.rt): the proof of what its contract says.
 use Rattle.snap_output.proofs.Shipping.{prints_the_run, lists_back, runs_what_is_asked, writes_the_run, snapshots}
 use Rattle.snap_output.proofs.headlines.headline.Goals as goal
 

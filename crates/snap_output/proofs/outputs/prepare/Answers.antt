@@ -1,3 +1,4 @@
+-- `prepare` of snap_output (src/outputs.rt): the proof of what its contract says.
 use Rattle.std.proofs.Common.{rules, ◌≡◌, ◌≤◌, Err, length}
 use Rattle.snap_semantics.specs.declared.fault.Fault.TheVariants.{Refused}
 use Rattle.snap_semantics.specs.declared.refusal.Refusal.{Refusal}

@@ -1,3 +1,4 @@
+-- `run_program` of snap_perform (src/run_output.rt): the proof of what its contract says.
 use Rattle.std.proofs.Common.{ℕ, List, Result, sym, subst}
 use Rattle.snap_semantics.specs.Answers.{Answers}
 use Rattle.snap_semantics.specs.declared.refusal.Refusal.{Refusal}

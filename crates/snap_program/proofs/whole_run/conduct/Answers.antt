@@ -1,3 +1,4 @@
+-- `conduct` of snap_program (src/whole_run.rt): the proof of what its contract says.
 use Rattle.snap_program.proofs.whole_run.conduct.Goals as goal
 
 pub returns : goal.returns

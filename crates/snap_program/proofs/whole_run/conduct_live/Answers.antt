@@ -1,4 +1,28 @@
+-- `conduct_live` of snap_program (src/whole_run.rt): the proof of what its contract says.
+use Rattle.std.specs.Prelude.{Ok, Err}
+use Rattle.snap_live_output.specs.LiveOutput.{MayWrite}
+use Rattle.snap_program.specs.WholeRun.{IsLiveOf, RefusesLive}
+use Rattle.snap_program.proofs.Runs.{also, passed_whole}
 use Rattle.snap_program.proofs.whole_run.conduct_live.Goals as goal
 
 pub returns : goal.returns
-returns g c = let h = c.conduct_live_keeping.ensures in (h.0, h.2)
+returns g c =
+    let may = g.G.Gate.may_answer c.args.gate.now in let h = c.in_ok-conduct_live_keeping.ensures in (
+      h.0,
+      also (IsLiveOf (Ok c.in_ok-conduct_live_keeping.field-0) may c.args.subject c.args.limit)
+          (MayWrite may c.args.subject c.args.limit) (RefusesLive may c.args.subject c.args.limit)
+          (λ input text live. live.0) (Ok tt) h.0 _ _ _ _ (g.R.ByteSource.has_failed c.conduct_live_keeping.new.source)
+          (g.W.ByteSink.has_failed c.conduct_live_keeping.new.sink)
+          (g.W.ByteSink.is_stalled c.conduct_live_keeping.new.sink) h.2,
+    )
+
+pub returns-in_err-conduct_live_keeping : goal.returns-in_err-conduct_live_keeping
+returns-in_err-conduct_live_keeping g c =
+    let may = g.G.Gate.may_answer c.args.gate.now in let h = c.in_err-conduct_live_keeping.ensures in
+    let fault = c.in_err-conduct_live_keeping.field-0.0 in (
+      h.0,
+      passed_whole (MayWrite may c.args.subject c.args.limit) (RefusesLive may c.args.subject c.args.limit)
+          c.from_residual.result fault h.0 _ _ _ _ _ _ _ c.from_residual.ensures
+          (also (IsLiveOf (Err fault) may c.args.subject c.args.limit) (MayWrite may c.args.subject c.args.limit)
+          (RefusesLive may c.args.subject c.args.limit) (λ input text live. live.0) (Err fault) h.0 _ _ _ _ _ _ _ h.2),
+    )

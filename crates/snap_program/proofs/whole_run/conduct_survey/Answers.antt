@@ -1,3 +1,4 @@
+-- `conduct_survey` of snap_program (src/whole_run.rt): the proof of what its contract says.
 use Rattle.std.specs.Prelude.{◌≡◌, Ok}
 use Rattle.snap_output.specs.Output.{clean_of}
 use Rattle.snap_tasks.specs.declared.task.Task.TheVariants.{Survey}
@@ -8,31 +9,45 @@ use Rattle.snap_program.proofs.whole_run.conduct_survey.Goals as goal
 pub returns-in_err-input : goal.returns-in_err-input
 returns-in_err-input g c =
     let answer = c.from_residual.result in let fault = c.in_err-input.field-0.0 in
-    not_read (IsSurveyOf answer c.args.subject) (RefusesTask (Survey c.args.subject)) (done_of answer) fault c.args.kept.now.items
-    (g.R.ByteSource.left c.args.source.now) (g.R.ByteSource.left c.read_all.new.source) (g.W.ByteSink.taken c.args.sink.now) _ _ _
+    not_read (IsSurveyOf answer c.args.subject) (RefusesTask (Survey c.args.subject))
+    (done_of answer) fault c.args.kept.now.items
+    (g.R.ByteSource.left c.args.source.now) (g.R.ByteSource.left c.read_all.new.source)
+    (g.W.ByteSink.taken c.args.sink.now) _ _ _
     (passed_on answer fault c.from_residual.ensures) c.in_err-input.ensures
 
 pub returns-in_err-found : goal.returns-in_err-found
 returns-in_err-found g c =
-    let read = c.in_ok-input.ensures in let answer = c.from_residual-in_err-found.result in let why = c.in_err-found.field-0.0 in (
+    let read = c.in_ok-input.ensures in
+    let answer = c.from_residual-in_err-found.result in
+    let why = c.in_err-found.field-0.0 in (
       c.in_ok-input.input.items,
       is_kept (done_of answer) c.in_ok-input.input.items,
-      refused (IsSurveyOf answer c.args.subject) (RefusesTask (Survey c.args.subject)) (done_of answer) (of_fault why) c.in_ok-input.input.items c.as_slice.result.now
-          (g.R.ByteSource.left c.args.source.now) (g.R.ByteSource.left c.read_all.new.source) (g.W.ByteSink.taken c.args.sink.now) _ _ _
+      refused (IsSurveyOf answer c.args.subject) (RefusesTask (Survey c.args.subject)) (done_of answer)
+          (of_fault why) c.in_ok-input.input.items c.as_slice.result.now
+          (g.R.ByteSource.left c.args.source.now) (g.R.ByteSource.left c.read_all.new.source)
+          (g.W.ByteSink.taken c.args.sink.now) _ _ _
           (passed_on answer (of_fault why) c.from_residual-in_err-found.ensures) c.as_slice.ensures.value read.0 read.1
           (why_task why (Survey c.args.subject) c.as_slice.result.now c.in_err-found.ensures.output),
     )
 
 pub returns-in_err-write_all : goal.returns-in_err-write_all
 returns-in_err-write_all g c =
-    let read = c.in_ok-input.ensures in let answer = c.from_residual-in_err-write_all.result in let fault = c.in_err-write_all.field-0.0 in (
+    let read = c.in_ok-input.ensures in
+    let answer = c.from_residual-in_err-write_all.result in
+    let fault = c.in_err-write_all.field-0.0 in (
       c.in_ok-input.input.items,
       is_kept (done_of answer) c.in_ok-input.input.items,
-      sends (IsSurveyOf answer c.args.subject) (RefusesTask (Survey c.args.subject)) (done_of answer) c.in_ok-input.input.items c.as_slice.result.now c.in_ok-found.found.text.items c.as_slice-2.result.now
-          (g.R.ByteSource.left c.args.source.now) (g.R.ByteSource.left c.read_all.new.source) (g.W.ByteSink.taken c.args.sink.now) (g.W.ByteSink.taken c.write_all.new.sink) _ _ _
-          c.as_slice.ensures.value c.as_slice-2.ensures.value read.0 read.1
-          (c.in_ok-found.ensures.output, nothing_found (λ clean. clean_of c.args.subject c.as_slice.result.now ≡ Ok clean) answer fault c.from_residual-in_err-write_all.ensures)
-          (stops answer fault c.as_slice-2.result.now (g.W.ByteSink.taken c.args.sink.now) (g.W.ByteSink.taken c.write_all.new.sink) _ _
+      sends (IsSurveyOf answer c.args.subject) (RefusesTask (Survey c.args.subject)) (done_of answer)
+          c.in_ok-input.input.items c.as_slice.result.now c.in_ok-found.found.text.items c.as_slice-2.result.now
+          (g.R.ByteSource.left c.args.source.now) (g.R.ByteSource.left c.read_all.new.source)
+          (g.W.ByteSink.taken c.args.sink.now) (g.W.ByteSink.taken c.write_all.new.sink) _ _ _
+          c.as_slice.ensures.value c.as_slice-2.ensures.value read.0 read.1 (
+            c.in_ok-found.ensures.output,
+            nothing_found (λ clean. clean_of c.args.subject c.as_slice.result.now ≡ Ok clean) answer fault
+                c.from_residual-in_err-write_all.ensures,
+          )
+          (stops answer fault c.as_slice-2.result.now (g.W.ByteSink.taken c.args.sink.now)
+          (g.W.ByteSink.taken c.write_all.new.sink) _ _
           c.from_residual-in_err-write_all.ensures c.in_err-write_all.ensures),
     )
 
@@ -41,9 +56,12 @@ returns g c =
     let read = c.in_ok-input.ensures in let found = c.in_ok-found.found in (
       c.in_ok-input.input.items,
       is_kept (Ok tt) c.in_ok-input.input.items,
-      sends (IsSurveyOf (Ok found.clean) c.args.subject) (RefusesTask (Survey c.args.subject)) (Ok tt) c.in_ok-input.input.items c.as_slice.result.now found.text.items c.as_slice-2.result.now
-          (g.R.ByteSource.left c.args.source.now) (g.R.ByteSource.left c.read_all.new.source) (g.W.ByteSink.taken c.args.sink.now) (g.W.ByteSink.taken c.write_all.new.sink)
-          (g.R.ByteSource.has_failed c.read_all.new.source) (g.W.ByteSink.has_failed c.write_all.new.sink) (g.W.ByteSink.is_stalled c.write_all.new.sink)
+      sends (IsSurveyOf (Ok found.clean) c.args.subject) (RefusesTask (Survey c.args.subject))
+          (Ok tt) c.in_ok-input.input.items c.as_slice.result.now found.text.items c.as_slice-2.result.now
+          (g.R.ByteSource.left c.args.source.now) (g.R.ByteSource.left c.read_all.new.source)
+          (g.W.ByteSink.taken c.args.sink.now) (g.W.ByteSink.taken c.write_all.new.sink)
+          (g.R.ByteSource.has_failed c.read_all.new.source) (g.W.ByteSink.has_failed c.write_all.new.sink)
+          (g.W.ByteSink.is_stalled c.write_all.new.sink)
           c.as_slice.ensures.value c.as_slice-2.ensures.value read.0 read.1
           (c.in_ok-found.ensures.output, c.in_ok-found.ensures.clean) c.in_ok-write_all.ensures,
     )

@@ -1,10 +1,13 @@
+-- `read_all` of snap_program (src/whole_run.rt): what holds at the head of each of its loops.
 use Rattle.std.proofs.Common.{◌-◌, ◌≡◌, ◌≤◌, false, vec_len}
 use Rattle.std.specs.Io.KnownBytes.{Consumes}
 use Rattle.snap_program.proofs.whole_run.read_all.Given as goal
 
 -- the input so far is what was taken
 abbrev pub invariant-loop-buffer : goal.invariant-loop-buffer
-invariant-loop-buffer g l = (vec_len l.input ≤ 16777217) × (g.R.ByteSource.has_failed l.source ≡ false) × Consumes (g.R.ByteSource.left l.initial.source) (g.R.ByteSource.left l.source) l.input.items
+invariant-loop-buffer g l =
+    (vec_len l.input ≤ 16777217) × (g.R.ByteSource.has_failed l.source ≡ false)
+    × Consumes (g.R.ByteSource.left l.initial.source) (g.R.ByteSource.left l.source) l.input.items
 
 abbrev pub decreases-loop-buffer : goal.decreases-loop-buffer
 decreases-loop-buffer g l = 16777217 - vec_len l.input

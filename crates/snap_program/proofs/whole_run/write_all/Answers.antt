@@ -1,3 +1,4 @@
+-- `write_all` of snap_program (src/whole_run.rt): the proof of what its contract says.
 use Rattle.std.proofs.Common.{take, drop, arith}
 use Rattle.std.proofs.lemmas.List.{length-drop, take_rest}
 use Rattle.std.proofs.Math.Seq.{take-add}
@@ -15,5 +16,7 @@ loop-sent-preserved g c =
     let bytes = rw (take_rest text sent) at c.in-Ok.ensures.bytes in (
       omega (arith, rest, bound, h.0),
       c.in-Ok.ensures.fails,
-      rw (take-add sent count text) (Appends-trans (g.W.ByteSink.taken c.args.sink.now) (g.W.ByteSink.taken c.loop-sent.sink) (g.W.ByteSink.taken c.write.new.self) (take sent text) (take count (drop sent text)) h.2 bytes),
+      rw (take-add sent count text)
+          (Appends-trans (g.W.ByteSink.taken c.args.sink.now) (g.W.ByteSink.taken c.loop-sent.sink)
+          (g.W.ByteSink.taken c.write.new.self) (take sent text) (take count (drop sent text)) h.2 bytes),
     )

@@ -1,10 +1,13 @@
+-- `write_all` of snap_program (src/whole_run.rt): what holds at the head of each of its loops.
 use Rattle.std.proofs.Common.{length, ◌-◌, ◌≡◌, ◌≤◌, false, take}
 use Rattle.std.specs.Io.KnownBytes.{Appends}
 use Rattle.snap_program.proofs.whole_run.write_all.Given as goal
 
 -- the first bytes are sent
 abbrev pub invariant-loop-sent : goal.invariant-loop-sent
-invariant-loop-sent g l = (l.sent ≤ length l.text) × (g.W.ByteSink.has_failed l.sink ≡ false) × Appends (g.W.ByteSink.taken l.initial.sink) (g.W.ByteSink.taken l.sink) (take l.sent l.text)
+invariant-loop-sent g l =
+    (l.sent ≤ length l.text) × (g.W.ByteSink.has_failed l.sink ≡ false)
+    × Appends (g.W.ByteSink.taken l.initial.sink) (g.W.ByteSink.taken l.sink) (take l.sent l.text)
 
 abbrev pub decreases-loop-sent : goal.decreases-loop-sent
 decreases-loop-sent g l = length l.text - l.sent

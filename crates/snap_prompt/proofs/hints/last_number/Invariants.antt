@@ -1,3 +1,4 @@
+-- `last_number` of snap_prompt (src/hints.rt): what holds at the head of each of its loops.
 use Rattle.std.proofs.Common.{◌≡◌, drop}
 use Rattle.snap_prompt.specs.Hints.{last_number}
 use Rattle.snap_prompt.proofs.hints.last_number.Given as goal

@@ -1,3 +1,4 @@
+-- `count_steps` of snap_reach (src/steps.rt): what holds at the head of each of its loops.
 use Rattle.std.proofs.Common.{◌≡◌, ◌-◌}
 use Rattle.snap_reach.specs.Reach.{steps_from}
 use Rattle.snap_reach.proofs.steps.count_steps.Given as goal

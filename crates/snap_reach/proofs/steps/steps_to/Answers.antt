@@ -1,3 +1,4 @@
+-- `steps_to` of snap_reach (src/steps.rt): the proof of what its contract says.
 use Rattle.std.proofs.Common.{rules, ◌≡◌, sym, subst}
 use Rattle.snap_reach.specs.Reach.{IsRightOf, steps_to}
 use Rattle.snap_reach.proofs.Fewest.{right}

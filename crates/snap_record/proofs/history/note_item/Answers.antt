@@ -1,3 +1,4 @@
+-- `note_item` of snap_record (src/history.rt): the proof of what its contract says.
 use Rattle.std.proofs.Common.{append-nil, sym, ◌∙◌, ap, ◌++◌}
 use Rattle.snap_record.specs.History.{changes_to}
 use Rattle.snap_record.proofs.Recording.{none_changed}
@@ -9,6 +10,8 @@ returns-else-is_write g c =
     let old = c.args.now.now in
     record {
       now = sym same;
-      changes = sym (append-nil c.args.changes.now.items) ∙ ap (λ l. c.args.changes.now.items ++ l) (sym (none_changed c.args.item 0 old) ∙ ap (changes_to c.args.item 0 old) (sym same));
+      changes =
+          sym (append-nil c.args.changes.now.items) ∙ ap (λ l. c.args.changes.now.items ++ l)
+          (sym (none_changed c.args.item 0 old) ∙ ap (changes_to c.args.item 0 old) (sym same));
       count = c.requires.count;
     }

@@ -1,3 +1,4 @@
+-- `new_roles` of snap_record (src/roles.rt): the proof of what its contract says.
 use Rattle.std.proofs.Common.{[], ◌∷◌, ◌∙◌, length, ap, arith}
 use Rattle.std.proofs.lemmas.List.{length-append}
 use Rattle.snap_semantics.specs.Source.{Source, instr_at}
@@ -13,7 +14,8 @@ loop-number-preserved c =
     let h = c.loop-number.invariant in
     let same = h.0 in
     let longer = ap length c.in_ok-push.ensures.items ∙ length-append ms (m ∷ []) in
-    let right = c.role_of.ensures ∙ ap role_of (c.instr.ensures.instr ∙ ap (λ (s : Source). instr_at s.lines n) c.listing-listing.ensures) in (
+    let right = c.role_of.ensures
+    ∙ ap role_of (c.instr.ensures.instr ∙ ap (λ (s : Source). instr_at s.lines n) c.listing-listing.ensures) in (
       omega (arith, same, longer),
       roles_more c.args.program.now ms c.push.new.self.items m n h.1 h.0 c.in_ok-push.ensures.items right,
     )

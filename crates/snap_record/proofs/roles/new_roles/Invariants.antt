@@ -1,3 +1,4 @@
+-- `new_roles` of snap_record (src/roles.rt): what holds at the head of each of its loops.
 use Rattle.std.proofs.Common.{◌≡◌, length}
 use Rattle.snap_record.specs.Roles.{AreRoles}
 use Rattle.snap_record.proofs.roles.new_roles.Given as goal

@@ -1,3 +1,4 @@
+-- `sort_lines` of snap_report (src/process_text.rt): the proof of what its contract says.
 use Rattle.std.proofs.Common.{◌++◌, ◌∙◌, ap}
 use Rattle.snap_words.specs.declared.kind.KindTag.{KindTag}
 use Rattle.snap_semantics.specs.Source.{Source}
@@ -12,9 +13,11 @@ loop-local-preserved g c =
     let m = c.args.machine.now in
     let e = seen_named {K = g.row.K.Denot} g.K.Kind.as_word c.in-Some.local in
     let kind = c.kind-kind.ensures ∙ ap (λ (s : Source). s.kind) c.program.ensures.value in
-    local_pushed m.source.kind c.args.sort (process_at m.state c.args.i).locals c.loop-local.k e.0 e.1 c.args.out.now.items
+    local_pushed m.source.kind c.args.sort
+    (process_at m.state c.args.i).locals c.loop-local.k e.0 e.1 c.args.out.now.items
     c.loop-local.out.items c.local_lines.new.out.items c.in-Some.ensures.value
-    (c.in_ok-local_lines.ensures ∙ ap (λ (t : KindTag). c.loop-local.out.items ++ local_lines t e.0 e.1) kind) c.loop-local.invariant
+    (c.in_ok-local_lines.ensures ∙ ap (λ (t : KindTag). c.loop-local.out.items ++ local_lines t e.0 e.1) kind)
+    c.loop-local.invariant
 
 pub returns : goal.returns
 returns g c =

@@ -1,3 +1,4 @@
+-- `bank_lines` of snap_report (src/register_text.rt): the proof of what its contract says.
 use Rattle.std.proofs.Common.{◌≤◌, ◌∙◌, length, refl, ap, arith}
 use Rattle.snap_words.specs.Shape.{Counts}
 use Rattle.snap_semantics.specs.Report.{bank_lines, row_lines}
@@ -8,8 +9,10 @@ use Rattle.snap_report.proofs.register_text.bank_lines.Goals as goal
 pub loop-i-preserved : goal.loop-i-preserved
 loop-i-preserved g c =
     let m = c.args.machine.now in
-    line_pushed (λ n row. row_lines (bank_text c.args.bank) n 1 row) (bank_lines (bank_text c.args.bank)) (λ n. refl) (λ n x xs. refl) (rows_of c.args.bank m.state.memory) c.loop-i.i c.args.out.now.items
-    c.loop-i.out.items c.row_lines.new.out.items _ (row_there c.args.bank m.state.memory c.loop-i.i) c.in_ok-row_lines.ensures c.loop-i.invariant
+    line_pushed (λ n row. row_lines (bank_text c.args.bank) n 1 row) (bank_lines (bank_text c.args.bank)) (λ n. refl)
+    (λ n x xs. refl) (rows_of c.args.bank m.state.memory) c.loop-i.i c.args.out.now.items
+    c.loop-i.out.items c.row_lines.new.out.items _
+    (row_there c.args.bank m.state.memory c.loop-i.i) c.in_ok-row_lines.ensures c.loop-i.invariant
 
 pub returns : goal.returns
 returns g c =
@@ -17,5 +20,6 @@ returns g c =
     let few = few_rows g.K.Kind.TAG m.shape m.state.memory c.args.bank c.shape.ensures.registers in
     let count = c.n-count.ensures ∙ ap (λ (s : Counts). s.n) c.shape.ensures.shape in
     let within : length (rows_of c.args.bank m.state.memory) ≤ c.loop-i.i = omega (arith, few, count) in
-    no_line_left (λ n row. row_lines (bank_text c.args.bank) n 1 row) (bank_lines (bank_text c.args.bank)) (λ n. refl) (λ n x xs. refl) (rows_of c.args.bank m.state.memory) c.loop-i.i c.args.out.now.items
+    no_line_left (λ n row. row_lines (bank_text c.args.bank) n 1 row) (bank_lines (bank_text c.args.bank)) (λ n. refl)
+    (λ n x xs. refl) (rows_of c.args.bank m.state.memory) c.loop-i.i c.args.out.now.items
     c.loop-i.out.items within c.loop-i.invariant

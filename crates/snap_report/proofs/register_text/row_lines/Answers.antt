@@ -1,3 +1,4 @@
+-- `row_lines` of snap_report (src/register_text.rt): the proof of what its contract says.
 use Rattle.std.proofs.Common.{◌≤◌, ◌∙◌, length, refl, ap, arith}
 use Rattle.snap_words.specs.Shape.{Counts}
 use Rattle.snap_semantics.specs.Report.{bit_line, row_lines}
@@ -8,8 +9,11 @@ use Rattle.snap_report.proofs.register_text.row_lines.Goals as goal
 pub loop-j-preserved : goal.loop-j-preserved
 loop-j-preserved g c =
     let m = c.args.machine.now in
-    line_pushed (bit_line (bank_text c.args.bank) c.args.i) (row_lines (bank_text c.args.bank) c.args.i) (λ n. refl) (λ n x xs. refl) (row_at c.args.bank c.args.i m.state.memory) c.loop-j.j c.args.out.now.items
-    c.loop-j.out.items c.register_line.new.out.items _ (bit_there m.source.kind m.state.memory c.args.bank c.args.i c.loop-j.j) c.in_ok-register_line.ensures c.loop-j.invariant
+    line_pushed (bit_line (bank_text c.args.bank) c.args.i) (row_lines (bank_text c.args.bank) c.args.i) (λ n. refl)
+    (λ n x xs. refl) (row_at c.args.bank c.args.i m.state.memory) c.loop-j.j c.args.out.now.items
+    c.loop-j.out.items c.register_line.new.out.items _
+    (bit_there m.source.kind m.state.memory c.args.bank c.args.i c.loop-j.j)
+    c.in_ok-register_line.ensures c.loop-j.invariant
 
 pub returns : goal.returns
 returns g c =
@@ -17,5 +21,6 @@ returns g c =
     let few = few_bits g.K.Kind.TAG m.shape m.state.memory c.args.bank c.args.i c.shape.ensures.registers in
     let count = c.n-count.ensures ∙ ap (λ (s : Counts). s.n) c.shape.ensures.shape in
     let within : length (row_at c.args.bank c.args.i m.state.memory) ≤ c.loop-j.j = omega (arith, few, count) in
-    no_line_left (bit_line (bank_text c.args.bank) c.args.i) (row_lines (bank_text c.args.bank) c.args.i) (λ n. refl) (λ n x xs. refl) (row_at c.args.bank c.args.i m.state.memory) c.loop-j.j c.args.out.now.items
+    no_line_left (bit_line (bank_text c.args.bank) c.args.i) (row_lines (bank_text c.args.bank) c.args.i) (λ n. refl)
+    (λ n x xs. refl) (row_at c.args.bank c.args.i m.state.memory) c.loop-j.j c.args.out.now.items
     c.loop-j.out.items within c.loop-j.invariant

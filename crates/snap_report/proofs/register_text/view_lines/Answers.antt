@@ -1,3 +1,4 @@
+-- `view_lines` of snap_report (src/register_text.rt): the proof of what its contract says.
 use Rattle.std.proofs.Common.{◌≤◌, ◌∙◌, length, refl, ap, arith}
 use Rattle.snap_words.specs.Shape.{Counts}
 use Rattle.snap_semantics.specs.Report.{view_line, view_lines}
@@ -7,8 +8,10 @@ use Rattle.snap_report.proofs.register_text.view_lines.Goals as goal
 pub loop-i-preserved : goal.loop-i-preserved
 loop-i-preserved g c =
     let m = c.args.machine.now in
-    line_pushed (view_line) (view_lines) (λ n. refl) (λ n x xs. refl) m.state.memory.views c.loop-i.i c.args.out.now.items
-    c.loop-i.out.items c.register_line.new.out.items _ (view_there m.source.kind m.state.memory c.loop-i.i) c.in_ok-register_line.ensures c.loop-i.invariant
+    line_pushed (view_line) (view_lines) (λ n. refl)
+    (λ n x xs. refl) m.state.memory.views c.loop-i.i c.args.out.now.items
+    c.loop-i.out.items c.register_line.new.out.items _
+    (view_there m.source.kind m.state.memory c.loop-i.i) c.in_ok-register_line.ensures c.loop-i.invariant
 
 pub returns : goal.returns
 returns g c =
@@ -16,5 +19,6 @@ returns g c =
     let few = few_views g.K.Kind.TAG m.shape m.state.memory c.shape.ensures.registers in
     let count = c.n-count.ensures ∙ ap (λ (s : Counts). s.n) c.shape.ensures.shape in
     let within : length m.state.memory.views ≤ c.loop-i.i = omega (arith, few, count) in
-    no_line_left (view_line) (view_lines) (λ n. refl) (λ n x xs. refl) m.state.memory.views c.loop-i.i c.args.out.now.items
+    no_line_left (view_line) (view_lines) (λ n. refl)
+    (λ n x xs. refl) m.state.memory.views c.loop-i.i c.args.out.now.items
     c.loop-i.out.items within c.loop-i.invariant

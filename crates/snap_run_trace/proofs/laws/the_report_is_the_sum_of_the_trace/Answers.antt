@@ -1,3 +1,4 @@
+-- `the_report_is_the_sum_of_the_trace` of snap_run_trace (src/laws.rt): the proof of what its contract says.
 use Rattle.snap_run_trace.proofs.Sums.{summed}
 use Rattle.snap_run_trace.proofs.laws.the_report_is_the_sum_of_the_trace.Goals as goal
 

@@ -1,3 +1,4 @@
+-- `trace` of snap_run_trace (src/run_trace.rt): what holds at the head of each of its loops.
 use Rattle.std.proofs.Common.{map}
 use Rattle.snap_runs.specs.Run.{run_over}
 use Rattle.snap_listing_lines.specs.LineTexts.{seen_line}
@@ -7,5 +8,6 @@ use Rattle.snap_run_trace.proofs.run_trace.trace.Given as goal
 -- the first items are done and told, and the others are left
 abbrev pub invariant-loop-item : goal.invariant-loop-item
 invariant-loop-item g l =
-    Going (run_over l.program l.schedule) (map seen_line l.texts-inside.lines.items) l.machine l.number l.out.items l.left
+    Going (run_over l.program l.schedule)
+    (map seen_line l.texts-inside.lines.items) l.machine l.number l.out.items l.left
     × (goal.iterator-loop-item g).can_next l.left × (goal.iterator-loop-item g).is_finite l.left

@@ -1,3 +1,4 @@
+-- `items_of` of snap_sched (src/reader.rt): the proof of what its contract says.
 use Rattle.std.proofs.Common.{◌≡◌, ◌-◌, length, option_map, ap, sym, ◌∙◌, Ok, Some}
 use Rattle.snap_sched.specs.ReaderSteps.{view_form, next_form}
 use Rattle.snap_sched.proofs.Lines.{turn, kept, next_found}
@@ -13,9 +14,13 @@ loop-items-preserved c =
     ∙ ap (λ o. Ok (option_map (λ x. (view_form x, rest)) o)) c.in-Some.is in
     let next = next_found c.args.n (1000000 - length items) c.loop-items.lines rest f found in
     let more = c.in_ok-push_form.ensures.added in
-    let keeps = kept c.args.n next.line items c.push_form.new.items f next.form more c.loop-items.invariant.few c.loop-items.invariant.processes in
+    let keeps =
+    kept c.args.n next.line items c.push_form.new.items f next.form more c.loop-items.invariant.few
+    c.loop-items.invariant.processes in
     record {
-      reads = turn c.args.n c.loop-items.lines rest next.line items c.push_form.new.items f next.is next.form more ∙ c.loop-items.invariant.reads;
+      reads =
+          turn c.args.n c.loop-items.lines rest next.line items c.push_form.new.items f next.is next.form more
+          ∙ c.loop-items.invariant.reads;
       few = keeps.0;
       processes = keeps.1;
       fits = c.in_ok-push_form.ensures.fits;

@@ -1,3 +1,4 @@
+-- `keeps_promises` of snap_single (src/runs.rt): the proof of what its contract says.
 use Rattle.std.proofs.Common.{arith}
 use Rattle.snap_words.specs.declared.kind.KindTag.TheVariants as kind
 use Rattle.snap_record.proofs.Within.{run_fits}
@@ -10,4 +11,5 @@ returns-clause-fits c = run_fits listing_u c.args.schedule.now c.shape-shape.ens
 pub returns-clause-promises : goal.returns-clause-promises
 returns-clause-promises c =
     let few = c.shape-shape.ensures.schedule.few in
-    c.shipped_runs_keep_promises.ensures kind.Seq c.args.schedule.now.shape c.args.schedule.now.items c.shape-shape.ensures.schedule.shape c.requires (omega (arith, few))
+    c.shipped_runs_keep_promises.ensures kind.Seq c.args.schedule.now.shape c.args.schedule.now.items
+    c.shape-shape.ensures.schedule.shape c.requires (omega (arith, few))

@@ -1,3 +1,4 @@
+-- `survey` of snap_survey (src/tallied.rt): the proof of what its contract says.
 use Rattle.std.proofs.Common.{◌≡◌, IfOk, subst}
 use Rattle.snap_runs.specs.Run.{Run}
 use Rattle.snap_survey.specs.declared.findings.Survey.{Survey}
@@ -8,5 +9,7 @@ use Rattle.snap_survey.proofs.tallied.survey.Goals as goal
 pub returns : goal.returns
 returns g c =
     let p = c.args.schedule.now in
-    let whole = at_end c.args.program.now p.shape p.items c.loop-item.left c.loop-item.tallied.record c.loop-item.invariant.0 c.in_default.ensures.steps.0 in
+    let whole =
+    at_end c.args.program.now p.shape p.items c.loop-item.left c.loop-item.tallied.record c.loop-item.invariant.0
+    c.in_default.ensures.steps.0 in
     subst (λ (r : Run). IfOk c.survey.result (λ (s : Survey). s ≡ survey_of r)) whole c.survey.ensures

@@ -1,3 +1,4 @@
+-- `survey` of snap_survey (src/tallied.rt): what holds at the head of each of its loops.
 use Rattle.std.proofs.Common.{◌≡◌, length}
 use Rattle.snap_survey.specs.Tally.{tally_of}
 use Rattle.snap_survey.proofs.Surveying.{Going}

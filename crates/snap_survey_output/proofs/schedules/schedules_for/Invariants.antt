@@ -1,3 +1,4 @@
+-- `schedules_for` of snap_survey_output (src/schedules.rt): what holds at the head of each of its loops.
 use Rattle.std.proofs.Common.{◌≡◌, List, ◌++◌, drop, map, Result, Ok}
 use Rattle.snap_semantics.specs.Answers.{◌>>=◌}
 use Rattle.snap_semantics.specs.Schedule.{Schedule}

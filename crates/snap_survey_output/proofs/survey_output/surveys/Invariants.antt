@@ -1,7 +1,10 @@
+-- `surveys` of snap_survey_output (src/survey_output.rt): what holds at the head of each of its loops.
 use Rattle.std.proofs.Common.{◌≡◌, ◌++◌, drop, map}
 use Rattle.snap_survey_output.specs.Surveys.{survey_over}
 use Rattle.snap_survey_output.proofs.survey_output.surveys.Given as goal
 
 -- the surveys so far, and those of the schedules that are left
 abbrev pub invariant-loop-schedule : goal.invariant-loop-schedule
-invariant-loop-schedule g l = l.surveys.items ++ map (survey_over l.program) (drop l.schedule-index l.schedules) ≡ map (survey_over l.program) l.schedules
+invariant-loop-schedule g l =
+    l.surveys.items ++ map (survey_over l.program) (drop l.schedule-index l.schedules)
+    ≡ map (survey_over l.program) l.schedules

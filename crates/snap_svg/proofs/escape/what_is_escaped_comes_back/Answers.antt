@@ -1,3 +1,4 @@
+-- `what_is_escaped_comes_back` of snap_svg (src/escape.rt): the proof of what its contract says.
 use Rattle.snap_svg.proofs.Escapes.{comes_back}
 use Rattle.snap_svg.proofs.escape.what_is_escaped_comes_back.Goals as goal
 

@@ -1,6 +1,8 @@
+-- `push_shapes` of snap_svg (src/print.rt): what holds at the head of each of its loops.
 use Rattle.std.proofs.Common.{◌≡◌, ◌++◌, drop}
 use Rattle.snap_svg.specs.ShapeText.{shapes_text}
 use Rattle.snap_svg.proofs.print.push_shapes.Given as goal
 
 abbrev pub invariant-loop-shape : goal.invariant-loop-shape
-invariant-loop-shape l = l.out.items ++ shapes_text l.window (drop l.shape-index l.shapes) ≡ l.fn.out.items ++ shapes_text l.window l.shapes
+invariant-loop-shape l =
+    l.out.items ++ shapes_text l.window (drop l.shape-index l.shapes) ≡ l.fn.out.items ++ shapes_text l.window l.shapes

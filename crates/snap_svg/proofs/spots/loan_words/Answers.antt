@@ -1,4 +1,4 @@
--- The pieces, one after another.
+-- `loan_words` writes what the SVG of a borrowed view says, piece after piece, as its definition has it.
 use Rattle.std.proofs.Common.{◌≡◌, ◌++◌, append_assoc, codes, decimal}
 use Rattle.std.proofs.lemmas.Result.{on_ok_weaker}
 use Rattle.snap_svg.specs.ShapeText.{loan_words}
@@ -8,6 +8,15 @@ pub returns : goal.returns
 unfolding loan_words
 returns c =
     on_ok_weaker {P = c.push_text-4.new.out.items ≡ c.push_number-2.new.out.items ++ codes "</title>"}
-    {Q = c.push_text-4.new.out.items ≡ c.args.out.now.items ++ loan_words c.args.taken c.args.lender c.args.ended} c.push_text-4.result
-    (λ e. rw (e, c.in_ok-push_number-2.ensures, c.in_ok-push_text-3.ensures, c.in_ok-push_number.ensures, c.in_ok-push_text-2.ensures, c.in_ok-spot_text.ensures, c.in_ok-push_text.ensures) (simp append_assoc))
+    {Q = c.push_text-4.new.out.items ≡ c.args.out.now.items ++ loan_words c.args.taken c.args.lender c.args.ended}
+    c.push_text-4.result
+    (λ e. rw (
+      e,
+      c.in_ok-push_number-2.ensures,
+      c.in_ok-push_text-3.ensures,
+      c.in_ok-push_number.ensures,
+      c.in_ok-push_text-2.ensures,
+      c.in_ok-spot_text.ensures,
+      c.in_ok-push_text.ensures,
+    ) (simp append_assoc))
     c.push_text-4.ensures

@@ -1,4 +1,4 @@
--- The pieces, one after another.
+-- `trap_path` writes the SVG of a trap, piece after piece, as its definition has it.
 use Rattle.std.proofs.Common.{◌≡◌, ◌++◌, append_assoc, codes, decimal}
 use Rattle.std.proofs.lemmas.Result.{on_ok_weaker}
 use Rattle.snap_svg.specs.ShapeText.{trap_path}

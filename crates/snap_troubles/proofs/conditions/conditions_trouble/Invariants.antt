@@ -1,3 +1,4 @@
+-- `conditions_trouble` of snap_troubles (src/conditions.rt): what holds at the head of each of its loops.
 use Rattle.std.proofs.Common.{◌≡◌, ◌+◌}
 use Rattle.snap_troubles.specs.Troubles.{conditions_trouble}
 use Rattle.snap_troubles.proofs.conditions.conditions_trouble.Given as goal

@@ -1,3 +1,4 @@
+-- `values_trouble` of snap_troubles (src/conditions.rt): the proof of what its contract says.
 use Rattle.std.proofs.Common.{◌≡◌, ◌∙◌, arith}
 use Rattle.snap_troubles.proofs.Places.{value_found}
 use Rattle.snap_troubles.proofs.conditions.values_trouble.Goals as goal
@@ -5,6 +6,8 @@ use Rattle.snap_troubles.proofs.conditions.values_trouble.Goals as goal
 pub returns-in-Some : goal.returns-in-Some
 returns-in-Some g c =
     let m = c.args.machine.now in
-    value_found m.shape m.state c.args.taker c.at.result c.args.expr.now c.args.condition.now c.loop-left.place c.loop-left.left c.in-Some.trouble
-    c.value_trouble-found.result (let t = c.loop-left-test.true in omega (arith, t)) c.at.ensures c.value_trouble-found.ensures c.in-Some.is
+    value_found m.shape m.state c.args.taker c.at.result c.args.expr.now c.args.condition.now c.loop-left.place
+    c.loop-left.left c.in-Some.trouble
+    c.value_trouble-found.result (let t = c.loop-left-test.true in omega (arith, t)) c.at.ensures
+    c.value_trouble-found.ensures c.in-Some.is
     ∙ c.loop-left.invariant.0

@@ -1,3 +1,4 @@
+-- `values_trouble` of snap_troubles (src/conditions.rt): what holds at the head of each of its loops.
 use Rattle.std.proofs.Common.{◌≡◌, ◌+◌}
 use Rattle.snap_troubles.specs.Troubles.{values_trouble}
 use Rattle.snap_troubles.proofs.conditions.values_trouble.Given as goal

@@ -1,3 +1,4 @@
+-- `current_place` of snap_undo (src/overwrites.rt): the proof of what its contract says.
 use Rattle.std.proofs.Common.{Option, sym, subst}
 use Rattle.snap_words.specs.declared.kind.KindTag.{KindTag}
 use Rattle.snap_semantics.specs.declared.instr.Instr.{Instr}
@@ -20,8 +21,12 @@ returns-in-Some-clause-back g c =
     let a = c.args.context.now.activity in
     let here = seen_context as_word s c.args.context.now c.args.process.now in
     let instr = c.in-Some.line.now.instr in
-    let run = subst (λ (o : Option Instr). PutsBack s here m (written s here m instr) (effect_at s here m a o)) (sym c.in-Some.ensures.line.0) (puts_back s here m a instr c.in-Some.ensures.right) in
-    when_ok c.place_before.result (λ p is. subst (λ (q : Place). PutsBack s here m q (effect_at s here m a (instr_at s.lines a.line))) (sym is) run) c.place_before.ensures
+    let run =
+    subst (λ (o : Option Instr). PutsBack s here m (written s here m instr) (effect_at s here m a o))
+    (sym c.in-Some.ensures.line.0) (puts_back s here m a instr c.in-Some.ensures.right) in
+    when_ok c.place_before.result
+    (λ p is. subst (λ (q : Place). PutsBack s here m q (effect_at s here m a (instr_at s.lines a.line))) (sym is) run)
+    c.place_before.ensures
 
 pub returns-in-Some-clause-fits : goal.returns-in-Some-clause-fits
 returns-in-Some-clause-fits g c =
@@ -32,4 +37,5 @@ returns-in-Some-clause-fits g c =
     let instr = c.in-Some.line.now.instr in
     let of = subst (λ (k : KindTag). IsOfShape k c.args.context.now.shape m) (sym c.requires.kind) c.requires.memory in
     let fits = written_fits s here m instr c.in-Some.ensures.right c.requires.locals of in
-    when_ok c.place_before.result (λ p is. subst (FitsPlace s c.args.context.now.shape) (sym is) fits) c.place_before.ensures
+    when_ok c.place_before.result
+    (λ p is. subst (FitsPlace s c.args.context.now.shape) (sym is) fits) c.place_before.ensures

@@ -1,3 +1,4 @@
+-- `overwritten` of snap_undo (src/overwrites.rt): the proof of what its contract says.
 use Rattle.std.proofs.Common.{arith, refl}
 use Rattle.snap_undo.specs.Seen.{seen_place}
 use Rattle.snap_undo.proofs.States.{sized_at, undone}
@@ -11,11 +12,15 @@ item_place-requires-after_bounds g c κs within =
       kind = c.requires.kind;
       shape_is = refl;
       memory = c.shape-shape.ensures.of_shape;
-      locals = sized_at as_word s c.args.registers.now.shape c.args.processes.now c.who-i.result c.index-processes-i.result (omega arith) c.index-processes-i.is c.requires.sized;
+      locals =
+          sized_at as_word s c.args.registers.now.shape c.args.processes.now c.who-i.result c.index-processes-i.result
+          (omega arith) c.index-processes-i.is c.requires.sized;
     }
 
 pub returns-clause-back : goal.returns-clause-back
 returns-clause-back g c =
     let as_word = g.K.Kind.as_word in
-    undone as_word c.args.program.now c.args.registers.now.shape c.args.registers.now.memory c.args.processes.now c.args.item c.who-i.result c.index-processes-i.result
-    (seen_place as_word c.in_ok-place.place) c.who-i.ensures (omega arith) c.index-processes-i.is c.in_ok-place.ensures.back
+    undone as_word c.args.program.now c.args.registers.now.shape c.args.registers.now.memory c.args.processes.now
+    c.args.item c.who-i.result c.index-processes-i.result
+    (seen_place as_word c.in_ok-place.place) c.who-i.ensures
+    (omega arith) c.index-processes-i.is c.in_ok-place.ensures.back

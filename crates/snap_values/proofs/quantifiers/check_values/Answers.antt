@@ -1,3 +1,4 @@
+-- `check_values` of snap_values (src/quantifiers.rt): the proof of what its contract says.
 use Rattle.std.proofs.Common.{◌≡◌, ℕ, ◌+◌, List, Ok, Err, refl, sym, ap, ◌∙◌, arith}
 use Rattle.std.proofs.lemmas.Result.{err_from_is_err_and}
 use Rattle.snap_asm_program.specs.NamedLines.{name_at, named_expr, named_where}
@@ -21,9 +22,11 @@ returns-in_err-row_value g c =
     let passed = c.loop-passed.passed in
     let context : Context = seen_context g.K.Kind.as_word s c.args.context.now p in
     let is : each_value (at_place context (passed + 1)) x v k ≡ Err c.in_err-row_value.field-0.0 =
-    ap (λ (t : StepContext). each_value (seen_context g.K.Kind.as_word s (record t { place = passed + 1 }) p) x v k) (sym c.loop-passed.invariant.1) ∙ sym c.row_value.ensures ∙ c.in_err-row_value.was in
+    ap (λ (t : StepContext). each_value (seen_context g.K.Kind.as_word s (record t { place = passed + 1 }) p) x v k)
+    (sym c.loop-passed.invariant.1) ∙ sym c.row_value.ensures ∙ c.in_err-row_value.was in
     let e = err_from_is_err_and c.from_residual.result c.from_residual.ensures.1 in
-    rw (e.1, e.2) (sym (trap_place (λ q. each_value (at_place context q) x v k) nothing passed c.args.count c.in_err-row_value.field-0.0 (omega arith) is) ∙ c.loop-passed.invariant.0)
+    rw (e.1, e.2) (sym (trap_place (λ q. each_value (at_place context q) x v k) nothing passed c.args.count
+    c.in_err-row_value.field-0.0 (omega arith) is) ∙ c.loop-passed.invariant.0)
 
 pub loop-passed-preserved : goal.loop-passed-preserved
 loop-passed-preserved g c =
@@ -35,8 +38,10 @@ loop-passed-preserved g c =
     let passed = c.loop-passed.passed in
     let context : Context = seen_context g.K.Kind.as_word s c.args.context.now p in
     let is : each_value (at_place context (passed + 1)) x v k ≡ Ok c.in_ok-row_value.field-0 =
-    ap (λ (t : StepContext). each_value (seen_context g.K.Kind.as_word s (record t { place = passed + 1 }) p) x v k) (sym c.loop-passed.invariant.1) ∙ sym c.row_value.ensures ∙ c.in_ok-row_value.was in (
-      sym (next_place (λ q. each_value (at_place context q) x v k) nothing nothing passed c.args.count c.in_ok-row_value.field-0 (omega arith) is (λ vs. refl))
+    ap (λ (t : StepContext). each_value (seen_context g.K.Kind.as_word s (record t { place = passed + 1 }) p) x v k)
+    (sym c.loop-passed.invariant.1) ∙ sym c.row_value.ensures ∙ c.in_ok-row_value.was in (
+      sym (next_place (λ q. each_value (at_place context q) x v k) nothing nothing passed c.args.count
+          c.in_ok-row_value.field-0 (omega arith) is (λ vs. refl))
           ∙ c.loop-passed.invariant.0,
       c.loop-passed.invariant.1,
     )

@@ -1,3 +1,4 @@
+-- `first_place` of snap_values (src/quantifiers.rt): what holds at the head of each of its loops.
 use Rattle.std.proofs.Common.{◌≡◌, ◌+◌, Ok}
 use Rattle.snap_asm_program.specs.NamedLines.{named_condition}
 use Rattle.snap_semantics.specs.Answers.{◌>>=◌}
@@ -11,6 +12,9 @@ use Rattle.snap_values.proofs.quantifiers.first_place.Given as goal
 
 abbrev pub invariant-loop-passed : goal.invariant-loop-passed
 invariant-loop-passed g l =
-    ((left_of (λ p. condition_holds (at_place (seen_context g.K.Kind.as_word l.program l.context l.process) p) (named_condition l.program l.condition)) l.passed l.count >>= λ bs. Ok (or_else l.found (first_true (l.passed + 1) bs)))
-    ≡ first_place (seen_context g.K.Kind.as_word l.program l.context l.process) l.count (named_condition l.program l.condition))
+    ((left_of (λ p. condition_holds (at_place (seen_context g.K.Kind.as_word l.program l.context l.process) p)
+    (named_condition l.program l.condition)) l.passed l.count
+    >>= λ bs. Ok (or_else l.found (first_true (l.passed + 1) bs)))
+    ≡ first_place (seen_context g.K.Kind.as_word l.program l.context l.process) l.count
+    (named_condition l.program l.condition))
     × (record l.there { place = 0 } ≡ record l.context { place = 0 })

@@ -1,3 +1,4 @@
+-- `holds_at_all` of snap_values (src/quantifiers.rt): what holds at the head of each of its loops.
 use Rattle.std.proofs.Common.{◌≡◌, ◌&&◌, Ok}
 use Rattle.snap_asm_program.specs.NamedLines.{named_condition}
 use Rattle.snap_semantics.specs.Answers.{◌>>=◌}
@@ -10,6 +11,8 @@ use Rattle.snap_values.proofs.quantifiers.holds_at_all.Given as goal
 
 abbrev pub invariant-loop-passed : goal.invariant-loop-passed
 invariant-loop-passed g l =
-    ((left_of (λ p. condition_holds (at_place (seen_context g.K.Kind.as_word l.program l.context l.process) p) (named_condition l.program l.condition)) l.passed l.count >>= λ bs. Ok (l.all && all_true bs))
-    ≡ holds_at_all (seen_context g.K.Kind.as_word l.program l.context l.process) l.count (named_condition l.program l.condition))
+    ((left_of (λ p. condition_holds (at_place (seen_context g.K.Kind.as_word l.program l.context l.process) p)
+    (named_condition l.program l.condition)) l.passed l.count >>= λ bs. Ok (l.all && all_true bs))
+    ≡ holds_at_all (seen_context g.K.Kind.as_word l.program l.context l.process) l.count
+    (named_condition l.program l.condition))
     × (record l.there { place = 0 } ≡ record l.context { place = 0 })

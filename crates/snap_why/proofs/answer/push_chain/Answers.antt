@@ -1,11 +1,15 @@
+-- `push_chain` of snap_why (src/answer.rt): the proof of what its contract says.
 use Rattle.std.proofs.Common.{◌<◌, arith}
 use Rattle.snap_why.proofs.Chains.{goes_on, lender_within}
 use Rattle.snap_why.proofs.answer.push_chain.Goals as goal
 
 pub loop-left-preserved : goal.loop-left-preserved
 loop-left-preserved c = (
-  goes_on c.args.steps.now c.loop-left.next c.in-Some.scan c.loop-left.left c.loop-left.out.items c.push_view.new.out.items _ c.view_taken-view.result
-      c.lender_of-next.result (let t = c.loop-left-test.true in omega (arith, t)) c.in-Some.is c.view_taken-view.ensures.view c.lender_of-next.ensures
+  goes_on c.args.steps.now c.loop-left.next c.in-Some.scan c.loop-left.left c.loop-left.out.items
+      c.push_view.new.out.items _ c.view_taken-view.result
+      c.lender_of-next.result (let t = c.loop-left-test.true in omega (arith, t)) c.in-Some.is
+      c.view_taken-view.ensures.view c.lender_of-next.ensures
       c.in_ok-push_view.ensures c.loop-left.invariant.0,
-  lender_within c.view_taken-view.result c.lender_of-next.result _ c.lender_of-next.ensures c.view_taken-view.ensures.within,
+  lender_within c.view_taken-view.result c.lender_of-next.result _ c.lender_of-next.ensures
+      c.view_taken-view.ensures.within,
 )

@@ -1,3 +1,4 @@
+-- `push_chain` of snap_why (src/answer.rt): what holds at the head of each of its loops.
 use Rattle.std.proofs.Common.{◌≡◌, ◌++◌, ◌≤◌, IfSome, Some, length}
 use Rattle.snap_loans.specs.declared.loans.ScanPlaces.{ScanPlaces}
 use Rattle.snap_why.specs.Answer.{chain_lines}
@@ -6,7 +7,8 @@ use Rattle.snap_why.proofs.answer.push_chain.Given as goal
 -- what has been added, and what is left to add
 abbrev pub invariant-loop-left : goal.invariant-loop-left
 invariant-loop-left l =
-    (l.out.items ++ chain_lines l.steps l.next l.left ≡ l.fn.out.items ++ chain_lines l.steps (Some l.fn.first) (length l.steps))
+    (l.out.items ++ chain_lines l.steps l.next l.left
+    ≡ l.fn.out.items ++ chain_lines l.steps (Some l.fn.first) (length l.steps))
     × IfSome l.next (λ (s : ScanPlaces). s.to ≤ length l.steps)
 
 abbrev pub decreases-loop-left : goal.decreases-loop-left

@@ -1,3 +1,4 @@
+-- `new_bench` of test_live (src/benches.rt): the proof of what its contract says.
 use Rattle.std.proofs.Common.{◌≡◌, ℕ, zero, suc, List, arith, refl, sym, subst}
 use Rattle.std.specs.Prelude.{All}
 use Rattle.std.proofs.lemmas.List.Elements.{All-push}
@@ -12,4 +13,7 @@ at_desk d (suc n) = All-push (λ (s : SeatView). s.desk ≡ d) (seats_of d n) (s
 pub invariant_of-result : goal.invariant_of-result
 invariant_of-result g c =
     let d : DeskView = c.in_ok-desk.desk in
-    record { same = subst (λ (ss : List SeatView). All (λ (s : SeatView). s.desk ≡ d) ss) (sym c.in_ok-desk.ensures.seats) (at_desk d c.in_ok-new.field-0.n) }
+    record {
+      same = subst (λ (ss : List SeatView). All (λ (s : SeatView). s.desk ≡ d) ss)
+          (sym c.in_ok-desk.ensures.seats) (at_desk d c.in_ok-new.field-0.n);
+    }

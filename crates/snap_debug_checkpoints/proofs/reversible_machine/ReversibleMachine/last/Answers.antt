@@ -1,3 +1,5 @@
+-- `ReversibleMachine::last` of snap_debug_checkpoints (src/reversible_machine.rt): the proof of what its contract
+-- says.
 use Rattle.std.proofs.Common.{◌≡◌, subst}
 use Rattle.std.specs.Prelude.{IfOk}
 use Rattle.snap_debug_checkpoints.proofs.ReversibleMachines.{last_came}
@@ -6,4 +8,5 @@ use Rattle.snap_debug_checkpoints.proofs.reversible_machine.ReversibleMachine.la
 pub returns : goal.returns
 returns g c = λ r h.
     subst (λ out. IfOk c.copy_outcome.result (λ o. o ≡ out))
-    (last_came r c.args.self.now c.as_slice-done.result.now c.index-done-done.result h c.requires c.as_slice-done.ensures.value) c.copy_outcome.ensures
+    (last_came r c.args.self.now c.as_slice-done.result.now c.index-done-done.result h c.requires
+    c.as_slice-done.ensures.value) c.copy_outcome.ensures

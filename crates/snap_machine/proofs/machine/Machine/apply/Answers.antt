@@ -1,3 +1,4 @@
+-- `Machine::apply` of snap_machine (src/machine.rt): the proof of what its contract says.
 use Rattle.std.proofs.Common.{rules, ◌≡◌, length, map, refl, ap, subst, ◌∙◌}
 use Rattle.snap_values.specs.Seen.{seen_process}
 use Rattle.snap_line_effects.specs.Sizes.{AllSized}
@@ -8,18 +9,24 @@ pub invariant_of-self-in-Call : goal.invariant_of-self-in-Call
 invariant_of-self-in-Call g c =
     let inside = c.self.inside in
     let len_is : inside.processes.len ≡ length inside.processes.items = search rules in
-    let same : length c.call.new.processes ≡ length inside.processes.items = c.call.auto.processes ∙ ap length c.as_mut_slice-in-Call.ensures.value in
+    let same : length c.call.new.processes ≡ length inside.processes.items =
+    c.call.auto.processes ∙ ap length c.as_mut_slice-in-Call.ensures.value in
     let sized =
-    subst (λ s. AllSized s inside.registers.shape (map (seen_process g.K.Kind.as_word s) c.call.new.processes)) c.listing.ensures
+    subst (λ s. AllSized s inside.registers.shape (map (seen_process g.K.Kind.as_word s) c.call.new.processes))
+    c.listing.ensures
     c.call.ensures.sized in
-    stands_after g.K.Kind.TAG g.K.Kind.as_word inside.program inside.registers.shape inside.registers.shape inside.processes.items c.call.new.processes inside.processes.len c.self.invariant len_is same refl sized
+    stands_after g.K.Kind.TAG g.K.Kind.as_word inside.program inside.registers.shape inside.registers.shape
+    inside.processes.items c.call.new.processes inside.processes.len c.self.invariant len_is same refl sized
 
 pub invariant_of-self-in-Crash : goal.invariant_of-self-in-Crash
 invariant_of-self-in-Crash g c =
     let inside = c.self.inside in
     let len_is : inside.processes.len ≡ length inside.processes.items = search rules in
-    let same : length c.crash.new.processes ≡ length inside.processes.items = c.crash.auto.processes ∙ ap length c.as_mut_slice-in-Crash.ensures.value in
+    let same : length c.crash.new.processes ≡ length inside.processes.items =
+    c.crash.auto.processes ∙ ap length c.as_mut_slice-in-Crash.ensures.value in
     let sized =
-    subst (λ s. AllSized s inside.registers.shape (map (seen_process g.K.Kind.as_word s) c.crash.new.processes)) c.listing-in-Crash.ensures
+    subst (λ s. AllSized s inside.registers.shape (map (seen_process g.K.Kind.as_word s) c.crash.new.processes))
+    c.listing-in-Crash.ensures
     c.crash.ensures.sized in
-    stands_after g.K.Kind.TAG g.K.Kind.as_word inside.program inside.registers.shape inside.registers.shape inside.processes.items c.crash.new.processes inside.processes.len c.self.invariant len_is same refl sized
+    stands_after g.K.Kind.TAG g.K.Kind.as_word inside.program inside.registers.shape inside.registers.shape
+    inside.processes.items c.crash.new.processes inside.processes.len c.self.invariant len_is same refl sized

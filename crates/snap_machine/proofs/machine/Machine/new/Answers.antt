@@ -1,3 +1,4 @@
+-- `Machine::new` of snap_machine (src/machine.rt): the proof of what its contract says.
 use Rattle.std.proofs.Common.{◌≡◌, map, replicate, sym, subst}
 use Rattle.std.proofs.lemmas.List.Elements.{All-replicate}
 use Rattle.snap_semantics.specs.State.{Process, initial_process}
@@ -18,6 +19,11 @@ invariant_of-result g c =
     c.in_ok-processes.ensures in
     let sized : AllSized s shape (map (seen_process as_word s) processes) =
     subst (AllSized s shape) (sym initial)
-    (All-replicate (λ (p : Process). AreSized s shape p.locals) shape.n (initial_process s shape) (AreSized-initial s shape)) in
+    (All-replicate (λ (p : Process). AreSized s shape p.locals) shape.n (initial_process s shape)
+    (AreSized-initial s shape)) in
     rw (c.in_ok-program.ensures, c.in_ok-registers.ensures.0)
-    (record { kind = c.requires; process_count = length_of_map (seen_process as_word s) processes shape.n (initial_process s shape) initial; sized = sized })
+    (record {
+      kind = c.requires;
+      process_count = length_of_map (seen_process as_word s) processes shape.n (initial_process s shape) initial;
+      sized = sized;
+    })

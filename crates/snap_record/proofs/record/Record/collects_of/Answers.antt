@@ -1,3 +1,4 @@
+-- `Record::collects_of` of snap_record (src/record.rt): the proof of what its contract says.
 use Rattle.std.proofs.Common.{◌+◌, List, drop, get_or, sym, ap, ◌∙◌, arith}
 use Rattle.std.proofs.lemmas.Bool.{eq-eqb}
 use Rattle.snap_semantics.specs.declared.event.Event.{Event}
@@ -14,7 +15,8 @@ returns-then-events-k g c =
     c.scan_collects.ensures e
     ∙ ap (λ (l : List Event). scan_collects r (get_or l k e) (drop (k + 1) l)) (sym c.events-events.ensures)
     ∙ ap (λ (x : Event). scan_collects r x (drop (k + 1) es)) (sym c.index-events-k.is)
-    ∙ that_item r es k e c.loop-k-test.true c.index-events-k.is c.args.call (eq-eqb e.item c.args.call (ap (λ (x : Event). x.item) c.index-events-k.is ∙ c.if-events-k.true))
+    ∙ that_item r es k e c.loop-k-test.true c.index-events-k.is c.args.call
+    (eq-eqb e.item c.args.call (ap (λ (x : Event). x.item) c.index-events-k.is ∙ c.if-events-k.true))
     ∙ c.loop-k.invariant
     ∙ found r c.items-items.ensures.fits c.args.call es c.events-events.ensures
 
@@ -23,4 +25,5 @@ returns g c =
     let r = c.args.self.now in
     let es = c.events-events.result.now in
     let past = c.loop-k-test.false in
-    none_there r c.args.call es c.loop-k.k (omega (arith, past)) ∙ c.loop-k.invariant ∙ found r c.items-items.ensures.fits c.args.call es c.events-events.ensures
+    none_there r c.args.call es c.loop-k.k (omega (arith, past)) ∙ c.loop-k.invariant
+    ∙ found r c.items-items.ensures.fits c.args.call es c.events-events.ensures

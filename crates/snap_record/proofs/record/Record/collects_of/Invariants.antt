@@ -1,3 +1,4 @@
+-- `Record::collects_of` of snap_record (src/record.rt): what holds at the head of each of its loops.
 use Rattle.std.proofs.Common.{◌≡◌, ◌-◌, drop, length}
 use Rattle.snap_record.specs.Searches.{found_collects}
 use Rattle.snap_record.proofs.record.Record.collects_of.Given as goal

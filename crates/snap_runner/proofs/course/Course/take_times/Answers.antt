@@ -1,3 +1,4 @@
+-- `Course::take_times` of snap_runner (src/course.rt): the proof of what its contract says.
 use Rattle.std.proofs.Common.{rules, ◌≡◌, ◌+◌, ◌-◌, arith, refl}
 use Rattle.snap_runner.proofs.Courses.{takes_idle, takes_once_more}
 use Rattle.snap_runner.proofs.course.Course.take_times.Goals as goal
@@ -10,8 +11,11 @@ loop-self-preserved-then-is_idle_step g c =
     let begun = c.loop-self.invariant.begun in
     let within = c.loop-self.invariant.within in
     record {
-      taken = takes_idle from here (record { machine = here.machine; events = here.events; done = end }) (here.done - from.done) (end - here.done) (end - from.done) c.args.item
-          (omega (arith, begun, within)) c.loop-self.invariant.taken (c.is_idle_step.ensures c.if-is_idle_step.true) refl refl (omega (arith, within));
+      taken =
+          takes_idle from here (record { machine = here.machine; events = here.events; done = end })
+          (here.done - from.done) (end - here.done) (end - from.done) c.args.item
+          (omega (arith, begun, within)) c.loop-self.invariant.taken
+          (c.is_idle_step.ensures c.if-is_idle_step.true) refl refl (omega (arith, within));
       begun = omega arith;
       within = omega arith;
     }
@@ -25,7 +29,9 @@ loop-self-preserved g c =
     let took = c.in_ok-take.ensures in
     let number : there.done ≡ here.done + 1 = took.number in
     record {
-      taken = takes_once_more from here there (here.done - from.done) (there.done - from.done) c.args.item (omega (arith, begun, number)) c.loop-self.invariant.taken took;
+      taken =
+          takes_once_more from here there (here.done - from.done) (there.done - from.done) c.args.item
+          (omega (arith, begun, number)) c.loop-self.invariant.taken took;
       begun = omega (arith, begun, number);
       within = search rules;
     }

@@ -1,3 +1,4 @@
+-- `Course::take_times` of snap_runner (src/course.rt): what holds at the head of each of its loops.
 use Rattle.std.proofs.Common.{◌-◌, ◌≤◌, replicate}
 use Rattle.snap_runner.specs.Courses.{Takes}
 use Rattle.snap_runner.proofs.course.Course.take_times.Given as goal

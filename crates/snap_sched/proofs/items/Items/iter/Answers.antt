@@ -1,3 +1,4 @@
+-- `Items::iter` of snap_sched (src/items.rt): the proof of what its contract says.
 use Rattle.snap_sched.proofs.NextItem.{started}
 use Rattle.snap_sched.proofs.items.Items.iter.Goals as goal
 

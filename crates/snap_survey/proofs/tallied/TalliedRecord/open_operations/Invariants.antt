@@ -1,3 +1,4 @@
+-- `TalliedRecord::open_operations` of snap_survey (src/tallied.rt): what holds at the head of each of its loops.
 use Rattle.std.proofs.Common.{◌≡◌, ◌≤◌}
 use Rattle.snap_runs.specs.Scan.{count}
 use Rattle.snap_survey.specs.Survey.{is_open}

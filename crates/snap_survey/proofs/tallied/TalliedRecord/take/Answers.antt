@@ -1,3 +1,4 @@
+-- `TalliedRecord::take` of snap_survey (src/tallied.rt): the proof of what its contract says.
 use Rattle.std.proofs.Common.{length, sym, ap, ◌∙◌}
 use Rattle.snap_semantics.specs.declared.process.Outcome.{Outcome}
 use Rattle.snap_semantics.specs.declared.process.Status.{Status}
@@ -11,7 +12,8 @@ use Rattle.snap_survey.proofs.tallied.TalliedRecord.take.Goals as goal
 
 pub note-requires : goal.note-requires
 note-requires g c =
-    within c.args.self.now.record c.apply.new.self c.args.item c.len-number.result c.args.self.now.tally c.in-Ok.ensures.done.0
+    within c.args.self.now.record c.apply.new.self c.args.item c.len-number.result
+    c.args.self.now.tally c.in-Ok.ensures.done.0
     (c.len-number.ensures ∙ ap length c.items.ensures.items) c.requires.tally
 
 pub returns-clause-tally : goal.returns-clause-tally

@@ -1,3 +1,4 @@
+-- `fn::run_all::scope` of snap_live (src/live_run.rt): the proof of what its contract says.
 use Rattle.std.proofs.Common.{◌≡◌, ◌-◌, ◌∙◌, List, ap, arith, length, map, rules, sym, vec_len}
 use Rattle.std.specs.Prelude.{All}
 use Rattle.snap_live_desk.specs.Shown.{SeatView}
@@ -15,7 +16,8 @@ joined-all-requires-after_bounds g c κs within =
     let seats : map (λ h. h.promise.seat.value) w.handles.items ≡ a.seats.items = search rules in
     let same : vec_len w.handles ≡ length w.handles.items = search rules in
     let many : length w.handles.items ≡ length a.scripts.now.scripts =
-    sym (map_length (λ h. h.promise.seat.value) w.handles.items) ∙ ap (λ (l : List SeatView). length l) (seats ∙ c.requires.seats)
+    sym (map_length (λ h. h.promise.seat.value) w.handles.items)
+    ∙ ap (λ (l : List SeatView). length l) (seats ∙ c.requires.seats)
     ∙ seats_length a.desk.now (length a.scripts.now.scripts) in
     let room = c.requires.worked.1 in
     (c.requires.worked.0, omega arith)
@@ -24,9 +26,12 @@ pub returns : goal.returns
 returns g c =
     let a = c.captures in let w = c.in_ok-handles in let j = c.joined-all in
     let seats : map (λ h. h.promise.seat.value) w.handles.items ≡ a.seats.items = search rules in
-    let scripts : map (λ h. h.promise.script.value) w.handles.items ≡ map (λ s. script_at a.scripts.now.scripts (s.process - 1)) a.seats.items = search rules in
+    let scripts : map (λ h. h.promise.script.value) w.handles.items
+    ≡ map (λ s. script_at a.scripts.now.scripts (s.process - 1)) a.seats.items = search rules in
     let gates : All (λ h. h.promise.gate.value ≡ a.start_gate.now) w.handles.items = search rules in
     let limits : All (λ h. h.promise.limit ≡ a.limit) w.handles.items = search rules in
-    workers_of (λ h. h.promise.seat.value) (λ h. h.promise.script.value) (λ h. h.promise.gate.value) (λ h. h.promise.limit)
-    (λ start. g.G.Gate.may_answer start.gate.now) a.desk.now a.scripts.now.scripts a.limit a.start_gate.now a.seats.items w.handles.items j.result.items
+    workers_of (λ h. h.promise.seat.value) (λ h. h.promise.script.value)
+    (λ h. h.promise.gate.value) (λ h. h.promise.limit)
+    (λ start. g.G.Gate.may_answer start.gate.now) a.desk.now a.scripts.now.scripts a.limit a.start_gate.now
+    a.seats.items w.handles.items j.result.items
     c.requires.seats seats scripts gates limits j.ensures.len j.ensures.each

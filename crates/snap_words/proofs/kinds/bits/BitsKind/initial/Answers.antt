@@ -1,4 +1,4 @@
--- The handshake bits of a new word are zeros.
+-- The invariant of a new word of kind bits: its handshake bits are zeros, and so they are bits.
 use Rattle.snap_words.proofs.Words.{list_all_bits-replicate}
 use Rattle.snap_words.proofs.kinds.bits.BitsKind.initial.Goals as goal
 

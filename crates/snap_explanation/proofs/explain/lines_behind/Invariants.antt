@@ -1,6 +1,0 @@
-use Rattle.std.proofs.Common.{◌≡◌, ◌++◌, map, drop}
-use Rattle.snap_explanation.specs.Explanation.{lines_behind}
-use Rattle.snap_explanation.proofs.explain.lines_behind.Given as goal
-
-abbrev pub invariant-loop-part : goal.invariant-loop-part
-invariant-loop-part l = l.lines.items ++ lines_behind l.before (map (λ p. p.now) (drop l.part-index l.parts)) ≡ lines_behind 0 (map (λ p. p.now) l.parts)

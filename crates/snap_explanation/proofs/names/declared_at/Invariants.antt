@@ -1,0 +1,11 @@
+-- `declared_at` of snap_explanation (src/names.rt): what holds at the head of each of its loops.
+use Rattle.std.proofs.Common.{◌≡◌, length}
+use Rattle.snap_semantics.specs.Token.{text_lines}
+use Rattle.snap_explanation.specs.Names.{declared_at}
+use Rattle.snap_explanation.proofs.names.declared_at.Given as goal
+
+abbrev pub invariant-loop-line : goal.invariant-loop-line
+invariant-loop-line l = declared_at l.name l.lines ≡ declared_at l.name (text_lines l.text)
+
+abbrev pub decreases-loop-line : goal.decreases-loop-line
+decreases-loop-line l = length l.lines

@@ -1,0 +1,12 @@
+-- `names_of` of snap_explanation (src/sorts.rt): what holds at the head of each of its loops.
+use Rattle.std.proofs.Common.{◌≡◌, ◌++◌, None, map, length}
+use Rattle.snap_explanation.specs.Sorts.{names_of}
+use Rattle.snap_explanation.proofs.sorts.names_of.Given as goal
+
+abbrev pub invariant-loop-rest : goal.invariant-loop-rest
+invariant-loop-rest l =
+    map (λ w. w.now) l.names.items ++ names_of l.wanted l.now (map (λ w. w.now) l.rest)
+    ≡ names_of l.wanted None (map (λ w. w.now) l.words)
+
+abbrev pub decreases-loop-rest : goal.decreases-loop-rest
+decreases-loop-rest l = length l.rest

@@ -1,0 +1,140 @@
+-- The first token of a numbered line that is not as the kind and the declared names of the listing have it, and what is
+-- said of it.
+use Rattle.std.specs.Prelude.{ℕ, Bool, List, [], ◌∷◌, ◌++◌, Option, Some, None, Result, Ok, Err, codes, if◌then◌else◌}
+use Rattle.snap_words.specs.declared.kind.KindTag.{KindTag}
+use Rattle.snap_words.specs.declared.kind.KindTag.TheVariants as kind
+use Rattle.snap_semantics.specs.declared.instr.Instr.{Instr}
+use Rattle.snap_semantics.specs.declared.instr.Line.{Line}
+use Rattle.snap_semantics.specs.declared.text.Sort.{Sort}
+use Rattle.snap_semantics.specs.declared.text.Sort.TheVariants as sort
+use Rattle.snap_semantics.specs.ListingForms.{line_form}
+use Rattle.snap_semantics.specs.Rules.{or_else}
+use Rattle.snap_semantics.specs.Source.{Source}
+use Rattle.snap_semantics.specs.Spelling.{kind_keyword}
+use Rattle.snap_semantics.specs.Token.{Token, Identifier, Number, Sign}
+use Rattle.snap_semantics.specs.Uses.{Use, Named, BankUse, TupleUse, kind_has, sort_of}
+use Rattle.snap_expected.specs.Pieces.{PlacedToken}
+use Rattle.snap_explanation.specs.Advice.{advice_line}
+use Rattle.snap_explanation.specs.Names.{nearest, tokens_of_placed}
+use Rattle.snap_explanation.specs.Said.{said}
+use Rattle.snap_explanation.specs.Sorts.{is_sort, of_sort}
+use Rattle.snap_explanation.specs.TokenUses.{use_at, slot_after}
+use Rattle.snap_explanation.specs.declared.token_uses.Slot.{Slot}
+use Rattle.snap_explanation.specs.declared.token_uses.Slot.TheVariants as slot
+
+-- a name that is declared and of its sort; a bank, a field or a tuple that the kind has
+abbrev pub is_right : Source → Use → Bool
+is_right s (Named wanted x) = is_sort wanted (sort_of s x)
+is_right s u = kind_has s.kind u
+
+-- a token, and what it speaks of
+pub record Misuse : Type 0 where
+  pub token : PlacedToken
+  pub spoken : Use
+
+-- what the next name is, or a token that speaks of what is not right
+abbrev pub right_or : Source → PlacedToken → Slot → Option Use → Result Slot Misuse
+right_or s t next None = Ok next
+right_or s t next (Some u) = if is_right s u then Ok next else Err (record { token = t; spoken = u })
+
+-- the same at a token with these behind it
+unfoldable pub step_at : Source → Instr → Slot → PlacedToken → List PlacedToken → Result Slot Misuse
+step_at s i here t ts = right_or s t (slot_after here t.token) (use_at i here t.token (tokens_of_placed ts))
+
+abbrev pub goes_on : (Slot → Option Misuse) → Result Slot Misuse → Option Misuse
+goes_on later (Ok next) = later next
+goes_on later (Err m) = Some m
+
+-- the first token of a line with this instruction that speaks of what is not right
+abbrev pub first_wrong : Source → Instr → Slot → List PlacedToken → Option Misuse
+first_wrong s i here [] = None
+first_wrong s i here (t ∷ ts) = goes_on (λ next. first_wrong s i next ts) (step_at s i here t ts)
+
+abbrev pub wrong_in_form : Source → List PlacedToken → Option Line → Option Misuse
+wrong_in_form s ts None = None
+wrong_in_form s ts (Some line) = first_wrong s line.instr slot.Value ts
+
+-- the first token of a line that is not right in a listing
+abbrev pub wrong_in_line : Source → List PlacedToken → Option Misuse
+wrong_in_line s ts = wrong_in_form s ts (line_form s.kind (tokens_of_placed ts))
+
+abbrev pub letters_of : Token → List ℕ
+letters_of (Identifier w) = w
+letters_of (Number k) = []
+letters_of (Sign m) = []
+
+abbrev pub sort_words : Sort → List ℕ
+sort_words sort.Scalar = codes "a scalar"
+sort_words sort.Row = codes "a row"
+sort_words sort.Words = codes "a list of words"
+sort_words sort.View = codes "a view"
+
+abbrev pub declared_words : Option Sort → List ℕ
+declared_words None = codes "not declared"
+declared_words (Some found) = sort_words found
+
+-- how names of a sort are used; nothing of a number
+abbrev pub usage : Option Sort → List ℕ
+usage (Some sort.Row) = codes "a number of a row is `R[I]`"
+usage (Some sort.Words) = codes "a field of a word is `data(W[I])`; `get W[I] = r[J]` reads a word"
+usage (Some sort.View) = codes "a view is set by `view S = ..` or `look S = ..`"
+usage _ = []
+
+abbrev pub first_name : List (List ℕ) → Option (List ℕ)
+first_name [] = None
+first_name (w ∷ ws) = Some w
+
+-- a name that is near, or else any
+abbrev pub some_name : List ℕ → List (List ℕ) → Option (List ℕ)
+some_name w names = or_else (nearest w names) (first_name names)
+
+abbrev pub some_words : Option (List ℕ) → List ℕ
+some_words None = codes " belongs here: none is declared\n"
+some_words (Some x) = said (codes " belongs here: `") x (codes "` is one\n")
+
+-- a name that is of another sort, or of none
+unfoldable pub name_text : Source → List ℕ → Sort → Option Sort → List ℕ
+name_text s w wanted found =
+    said (codes "`") w (codes "` is ") ++ said (declared_words found) (codes "; ") (sort_words wanted)
+    ++ some_words (some_name w (of_sort s wanted)) ++ advice_line (usage found)
+
+-- the registers of a kind, and that there is no other
+abbrev pub banks_words : KindTag → List ℕ
+banks_words kind.Seq = codes "`r[I]`, written as in `put r[I] = (value, number, view)`; there is no `"
+banks_words kind.Bits = codes "`r[I]` and `q[I,J]`; there is no `"
+banks_words kind.Multi = codes "`r[I]`, `q[I,J]`, `p[I,J]` and `v[I]`; there is no `"
+
+-- the fields of the words of a kind, and that they have no other
+abbrev pub fields_words : KindTag → List ℕ
+fields_words kind.Seq = codes "`data`, `seq` and `view`, and no `"
+fields_words kind.Bits = codes "`data`, `hand`, `toggle` and `view`, and no `"
+fields_words kind.Multi = codes "`data`, `id` and `toggle`, and no `"
+
+abbrev pub tuple_words : KindTag → List ℕ
+tuple_words kind.Seq = codes "`(value, number, view)`, where the view is a name alone\n"
+tuple_words kind.Bits = codes "`(value, row, toggle, view)`, where the row and the view are names alone\n"
+tuple_words kind.Multi = codes "`(value, id, toggle)`\n"
+
+-- what registers or words of a kind are or have, and that they have not what a word says
+unfoldable pub lack_text : (front name middle have w : List ℕ) → List ℕ
+lack_text front name middle have w = said front name middle ++ said have w (codes "`\n")
+
+abbrev pub bank_text : KindTag → List ℕ → List ℕ
+bank_text k w = lack_text (codes "registers of kind ") (kind_keyword k) (codes " are ") (banks_words k) w
+
+abbrev pub field_text : KindTag → List ℕ → List ℕ
+field_text k w = lack_text (codes "words of kind ") (kind_keyword k) (codes " have ") (fields_words k) w
+
+-- the tuple of a kind
+unfoldable pub tuple_text : KindTag → List ℕ
+tuple_text k = said (codes "a tuple of kind ") (kind_keyword k) (codes " is ") ++ tuple_words k
+
+-- what is said of a word that speaks of what is not right
+abbrev pub use_text : Source → List ℕ → Use → List ℕ
+use_text s w (Named wanted x) = name_text s w wanted (sort_of s x)
+use_text s w (BankUse b) = bank_text s.kind w
+use_text s w (TupleUse k) = tuple_text s.kind
+use_text s w _ = field_text s.kind w
+
+abbrev pub misuse_text : Source → Misuse → List ℕ
+misuse_text s m = use_text s (letters_of m.token.token) m.spoken

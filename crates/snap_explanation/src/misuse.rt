@@ -1,0 +1,321 @@
+//! The first token of a numbered line that is not as the kind and the declared names of the listing
+//! have it, and what is said of it.
+ghost use Rattle.std.specs.Prelude.{◌≡◌, ◌++◌, Ok, Err, IfOk, IfErr, OnOk, map, option_map};
+ghost use Rattle.snap_semantics.specs.Spelling.{kind_keyword};
+ghost use Rattle.snap_text.specs.Tokens.{view_token};
+ghost use Rattle.snap_expected.specs.Steps.{view_placed_token};
+ghost use Rattle.snap_explanation.specs.Misuse.{is_right, step_at, first_wrong, wrong_in_line};
+ghost use Rattle.snap_explanation.specs.Misuse.{letters_of, sort_words, declared_words, usage};
+ghost use Rattle.snap_explanation.specs.Misuse.{some_name, some_words, name_text};
+ghost use Rattle.snap_explanation.specs.Misuse.{banks_words, fields_words, tuple_words, lack_text};
+ghost use Rattle.snap_explanation.specs.Misuse.{bank_text, field_text, tuple_text, misuse_text};
+ghost use Rattle.snap_explanation.specs.Names.{tokens_of_placed};
+ghost use Rattle.snap_explanation.specs.Views.{view_names, view_use, view_misuse};
+ghost use Rattle.snap_explanation.specs.declared.token_uses.Slot.TheVariants.{Value};
+
+use crate::advice::push_advice;
+use crate::names::nearest;
+use crate::said::push_said;
+use crate::sorts::{Names, is_sort, of_sort, sort_of};
+use crate::token_uses::{Slot, Use, slot_after, use_at};
+use snap_expected::PlacedToken;
+use snap_listing_core::{has_bank, has_field, has_handshakes, has_view, same_kind};
+use snap_listing_forms::line_form;
+use snap_semantics::{Instr, Sort};
+use snap_text::{Token, push_text};
+use snap_words::KindTag;
+use std::alloc::{AllocError, Global};
+
+/// A token that is not right, and what it speaks of.
+#[derive(Clone, Copy, Debug)]
+pub struct Misuse<'a> {
+    pub token: PlacedToken<'a>,
+    pub spoken: Use<'a>,
+}
+
+/// Whether what a token speaks of is right in a listing.
+fn is_right(names: &Names<'_>, spoken: Use<'_>) -> bool
+    ensures { result ≡ is_right (view_names names.now) (view_use spoken.entry) }
+{
+    match spoken {
+        Use::Named(wanted, word) => is_sort(wanted, sort_of(names, word)),
+        Use::Bank(bank) => has_bank(names.kind, bank),
+        Use::Field(field) => has_field(names.kind, field),
+        Use::Handshake => has_handshakes(names.kind),
+        Use::View => has_view(names.kind),
+        Use::Tuple(kind) => same_kind(names.kind, kind),
+    }
+}
+
+/// What the next name is behind a token with these behind it, or that token where it is not right.
+#[tactic(auto, using(crate::proofs::Counts::same_tokens), unfolding(crate::specs::Misuse::step_at))]
+fn step_at<'a>(
+    names: &Names<'_>,
+    instr: &Instr,
+    slot: Slot,
+    token: PlacedToken<'a>,
+    behind: &[PlacedToken<'_>],
+) -> Result<Slot, Misuse<'a>>
+    ensures right { IfOk result (λ next. step_at (view_names names.now) instr.now slot
+        (view_placed_token token.entry) (map view_placed_token behind.now) ≡ Ok next) }
+    ensures wrong { IfErr result (λ found. step_at (view_names names.now) instr.now slot
+        (view_placed_token token.entry) (map view_placed_token behind.now)
+        ≡ Err (view_misuse found)) }
+{
+    let next = slot_after(slot, &token.token);
+    match use_at(instr, slot, &token.token, behind) {
+        None => Ok(next),
+        Some(spoken) => {
+            if is_right(names, spoken) {
+                Ok(next)
+            } else {
+                Err(Misuse { token, spoken })
+            }
+        }
+    }
+}
+
+/// The first token of a line with this instruction that is not right.
+fn first_wrong<'a>(
+    names: &Names<'_>,
+    instr: &Instr,
+    tokens: &[PlacedToken<'a>],
+) -> Option<Misuse<'a>>
+    ensures { option_map view_misuse result
+        ≡ first_wrong (view_names names.now) instr.now Value (map view_placed_token tokens.now) }
+{
+    let mut slot = Slot::Value;
+    let mut rest = tokens;
+    while let [first, behind @ ..] = rest {
+        match step_at(names, instr, slot, *first, behind) {
+            Ok(next) => slot = next,
+            Err(found) => return Some(found),
+        }
+        rest = behind;
+    }
+    None
+}
+
+/// Tokens without their columns.
+fn plain_tokens<'a>(alloc: Global, tokens: &[PlacedToken<'a>]) -> Result<Vec<Token<'a>>, AllocError>
+    ensures { IfOk result (λ plain. map view_token plain.items
+        ≡ tokens_of_placed (map view_placed_token tokens.now)) }
+{
+    let mut plain = Vec::new(alloc);
+    for token in tokens {
+        plain.push(token.token)?;
+    }
+    Ok(plain)
+}
+
+/// The first token of a line that is not right in a listing.
+pub fn wrong_in_line<'a>(
+    alloc: Global,
+    names: &Names<'_>,
+    tokens: &[PlacedToken<'a>],
+) -> Result<Option<Misuse<'a>>, AllocError>
+    ensures { IfOk result (λ found. option_map view_misuse found
+        ≡ wrong_in_line (view_names names.now) (map view_placed_token tokens.now)) }
+{
+    let plain = plain_tokens(alloc, tokens)?;
+    match line_form(names.kind, plain.as_slice()) {
+        Some(line) => Ok(first_wrong(names, &line.instr, tokens)),
+        None => Ok(None),
+    }
+}
+
+/// The letters of a word.
+pub fn letters_of<'a>(token: &Token<'a>) -> &'a [u8]
+    ensures { result.now ≡ letters_of (view_token token.now) }
+{
+    match *token {
+        Token::Identifier(word) => word,
+        _ => b"",
+    }
+}
+
+/// What a name of a sort is.
+fn sort_words(sort: Sort) -> &'static [u8]
+    ensures { result.now ≡ sort_words sort }
+{
+    match sort {
+        Sort::Scalar => b"a scalar",
+        Sort::Row => b"a row",
+        Sort::Words => b"a list of words",
+        Sort::View => b"a view",
+    }
+}
+
+/// What a name is.
+fn declared_words(found: Option<Sort>) -> &'static [u8]
+    ensures { result.now ≡ declared_words found }
+{
+    match found {
+        Some(sort) => sort_words(sort),
+        None => b"not declared",
+    }
+}
+
+/// How names of a sort are used; nothing of a number.
+fn usage(found: Option<Sort>) -> &'static [u8]
+    ensures { result.now ≡ usage found }
+{
+    match found {
+        Some(Sort::Row) => b"a number of a row is `R[I]`",
+        Some(Sort::Words) => {
+            b"a field of a word is `data(W[I])`; `get W[I] = r[J]` reads a word"
+        }
+        Some(Sort::View) => b"a view is set by `view S = ..` or `look S = ..`",
+        _ => b"",
+    }
+}
+
+/// A name that is near, or else any.
+fn some_name<'a>(word: &[u8], names: &[&'a [u8]]) -> Option<&'a [u8]>
+    ensures { option_map (λ w. w.now) result ≡ some_name word.now (map (λ w. w.now) names.now) }
+{
+    match (nearest(word, names), names) {
+        (Some(name), _) => Some(name),
+        (None, [first, ..]) => Some(*first),
+        (None, []) => None,
+    }
+}
+
+/// Adds that the sort belongs here, and a name of it, where there is one.
+fn push_some(out: &mut Vec<u8>, name: Option<&[u8]>) -> Result<(), AllocError>
+    ensures { OnOk result (out.new.items ≡ out.old.items
+        ++ some_words (option_map (λ w. w.now) name.entry)) }
+{
+    match name {
+        Some(name) => push_said(out, b" belongs here: `", name, b"` is one\n"),
+        None => push_text(out, b" belongs here: none is declared\n"),
+    }
+}
+
+/// Adds what is said of a name that is of another sort, or of none.
+#[tactic(auto, using(snap_text::proofs::Texts::joined), unfolding(crate::specs::Misuse::name_text))]
+fn push_name_text(
+    out: &mut Vec<u8>,
+    names: &Names<'_>,
+    word: &[u8],
+    wanted: Sort,
+    found: Option<Sort>,
+) -> Result<(), AllocError>
+    ensures { OnOk result (out.new.items ≡ out.old.items
+        ++ name_text (view_names names.now) word.now wanted found) }
+{
+    push_said(out, b"`", word, b"` is ")?;
+    push_said(out, declared_words(found), b"; ", sort_words(wanted))?;
+    push_some(out, some_name(word, of_sort(names, wanted)))?;
+    push_advice(out, usage(found))
+}
+
+/// The name of a kind.
+fn kind_keyword(kind: KindTag) -> &'static [u8]
+    ensures { result.now ≡ kind_keyword kind }
+{
+    match kind {
+        KindTag::Seq => b"seq",
+        KindTag::Bits => b"bit",
+        KindTag::Multi => b"multi",
+    }
+}
+
+/// The registers of a kind, and that there is no other.
+fn banks_words(kind: KindTag) -> &'static [u8]
+    ensures { result.now ≡ banks_words kind }
+{
+    match kind {
+        KindTag::Seq => b"`r[I]`, written as in `put r[I] = (value, number, view)`; there is no `",
+        KindTag::Bits => b"`r[I]` and `q[I,J]`; there is no `",
+        KindTag::Multi => b"`r[I]`, `q[I,J]`, `p[I,J]` and `v[I]`; there is no `",
+    }
+}
+
+/// The fields of the words of a kind, and that they have no other.
+fn fields_words(kind: KindTag) -> &'static [u8]
+    ensures { result.now ≡ fields_words kind }
+{
+    match kind {
+        KindTag::Seq => b"`data`, `seq` and `view`, and no `",
+        KindTag::Bits => b"`data`, `hand`, `toggle` and `view`, and no `",
+        KindTag::Multi => b"`data`, `id` and `toggle`, and no `",
+    }
+}
+
+/// The parts of a tuple of a kind.
+fn tuple_words(kind: KindTag) -> &'static [u8]
+    ensures { result.now ≡ tuple_words kind }
+{
+    match kind {
+        KindTag::Seq => b"`(value, number, view)`, where the view is a name alone\n",
+        KindTag::Bits => {
+            b"`(value, row, toggle, view)`, where the row and the view are names alone\n"
+        }
+        KindTag::Multi => b"`(value, id, toggle)`\n",
+    }
+}
+
+/// Adds what registers or words of a kind are or have, and that they have not what a word says.
+#[tactic(auto, using(snap_text::proofs::Texts::joined), unfolding(crate::specs::Misuse::lack_text))]
+fn push_lack(
+    out: &mut Vec<u8>,
+    front: &[u8],
+    name: &[u8],
+    middle: &[u8],
+    have: &[u8],
+    word: &[u8],
+) -> Result<(), AllocError>
+    ensures { OnOk result (out.new.items ≡ out.old.items
+        ++ lack_text front.now name.now middle.now have.now word.now) }
+{
+    push_said(out, front, name, middle)?;
+    push_said(out, have, word, b"`\n")
+}
+
+/// Adds that registers of a kind have no such bank.
+fn push_bank_text(out: &mut Vec<u8>, kind: KindTag, word: &[u8]) -> Result<(), AllocError>
+    ensures { OnOk result (out.new.items ≡ out.old.items ++ bank_text kind word.now) }
+{
+    let name = kind_keyword(kind);
+    let have = banks_words(kind);
+    push_lack(out, b"registers of kind ", name, b" are ", have, word)
+}
+
+/// Adds that words of a kind have no such field.
+fn push_field_text(out: &mut Vec<u8>, kind: KindTag, word: &[u8]) -> Result<(), AllocError>
+    ensures { OnOk result (out.new.items ≡ out.old.items ++ field_text kind word.now) }
+{
+    let name = kind_keyword(kind);
+    let have = fields_words(kind);
+    push_lack(out, b"words of kind ", name, b" have ", have, word)
+}
+
+/// Adds what the tuple of a kind is.
+#[tactic(auto, using(snap_text::proofs::Texts::joined), unfolding(crate::specs::Misuse::tuple_text))]
+fn push_tuple_text(out: &mut Vec<u8>, kind: KindTag) -> Result<(), AllocError>
+    ensures { OnOk result (out.new.items ≡ out.old.items ++ tuple_text kind) }
+{
+    push_said(out, b"a tuple of kind ", kind_keyword(kind), b" is ")?;
+    push_text(out, tuple_words(kind))
+}
+
+/// Adds what is said of a token that is not right.
+pub fn push_misuse(
+    out: &mut Vec<u8>,
+    names: &Names<'_>,
+    misuse: &Misuse<'_>,
+) -> Result<(), AllocError>
+    ensures { OnOk result (out.new.items ≡ out.old.items
+        ++ misuse_text (view_names names.now) (view_misuse misuse.now)) }
+{
+    let word = letters_of(&misuse.token.token);
+    match misuse.spoken {
+        Use::Named(wanted, name) => {
+            push_name_text(out, names, word, wanted, sort_of(names, name))
+        }
+        Use::Bank(_) => push_bank_text(out, names.kind, word),
+        Use::Tuple(_) => push_tuple_text(out, names.kind),
+        Use::Field(_) | Use::Handshake | Use::View => push_field_text(out, names.kind, word),
+    }
+}

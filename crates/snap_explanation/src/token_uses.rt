@@ -1,0 +1,272 @@
+//! What each token of a numbered line speaks of, as the tokens beside it decide.
+ghost use Rattle.std.specs.Prelude.{◌≡◌, option_map, length};
+ghost use Rattle.snap_semantics.specs.ListingForms.{field_of_keyword};
+ghost use Rattle.snap_text.specs.Tokens.{view_token};
+ghost use Rattle.snap_expected.specs.Steps.{placed_tokens};
+ghost use Rattle.snap_explanation.specs.TokenUses.{opens_with, ends_with_view, has_row, lone_sort};
+ghost use Rattle.snap_explanation.specs.TokenUses.{sort_at, field_use, word_use, tuple_kind};
+ghost use Rattle.snap_explanation.specs.TokenUses.{tuple_use, use_at, is_view_word, is_words_word};
+ghost use Rattle.snap_explanation.specs.TokenUses.{slot_of_word, slot_inside, slot_after};
+ghost use Rattle.snap_explanation.specs.Views.{view_use};
+
+use crate::spot::front;
+use snap_expected::{PlacedToken, is_symbol};
+use snap_listing_core::is_reserved;
+use snap_semantics::{Instr, Sort, Symbol, Tuple};
+use snap_text::Token;
+use snap_words::{Bank, Field, KindTag};
+
+/// The most letters of a name, and one more.
+const NAME_LETTERS: usize = 9;
+
+/// What the next name of a line is.
+#[derive(Clone, Copy, Debug, PartialEq, Eq)]
+pub enum Slot {
+    /// A row before `[`, else a scalar, or the view at the end.
+    Value,
+    /// The same behind a comma, where a tuple may have its row.
+    Part,
+    /// A `words` local.
+    Words,
+    /// A view.
+    View,
+}
+
+/// What a token speaks of that has to be of the listing.
+#[derive(Clone, Copy, Debug)]
+pub enum Use<'a> {
+    /// A name in the place of a local of this sort.
+    Named(Sort, &'a [u8]),
+    Bank(Bank),
+    Field(Field),
+    Handshake,
+    /// The view of a word.
+    View,
+    Tuple(KindTag),
+}
+
+/// Whether the first token is this symbol.
+fn opens_with(symbol: Symbol, tokens: &[PlacedToken<'_>]) -> bool
+    ensures { result ≡ opens_with symbol (placed_tokens tokens.now) }
+{
+    match tokens {
+        [] => false,
+        [first, ..] => is_symbol(symbol, &first.token),
+    }
+}
+
+/// Whether so many tokens stand behind the view that ends an instruction.
+fn ends_with_view(instr: &Instr, behind: usize) -> bool
+    ensures { result ≡ ends_with_view instr.now behind }
+{
+    match instr {
+        Instr::Put(_, Tuple::Seq(..) | Tuple::Bits(..)) => behind == 1,
+        Instr::PutView(..) => behind == 0,
+        _ => false,
+    }
+}
+
+/// Whether so many tokens may stand behind the row of a tuple: more than a comma, the view and the
+/// bracket.
+fn has_row(instr: &Instr, behind: usize) -> bool
+    ensures { result ≡ has_row instr.now behind }
+{
+    match instr {
+        Instr::Put(_, Tuple::Bits(..)) => 3 < behind,
+        _ => false,
+    }
+}
+
+/// The sort of a name alone.
+fn lone_sort(instr: &Instr, behind: usize) -> Sort
+    ensures { result ≡ lone_sort instr.now behind }
+{
+    if ends_with_view(instr, behind) {
+        Sort::View
+    } else {
+        Sort::Scalar
+    }
+}
+
+/// The sort that a name has to have, with these tokens behind it.
+#[tactic(auto, using(crate::proofs::Counts::placed_length))]
+fn sort_at(instr: &Instr, slot: Slot, behind: &[PlacedToken<'_>]) -> Sort
+    ensures { result ≡ sort_at instr.now slot (placed_tokens behind.now) }
+{
+    match slot {
+        Slot::Words => Sort::Words,
+        Slot::View => Sort::View,
+        Slot::Value => {
+            if opens_with(Symbol::OpenBracket, behind) {
+                Sort::Row
+            } else {
+                lone_sort(instr, behind.len())
+            }
+        }
+        Slot::Part => {
+            let count = behind.len();
+            if opens_with(Symbol::OpenBracket, behind)
+                || (opens_with(Symbol::Comma, behind) && has_row(instr, count))
+            {
+                Sort::Row
+            } else {
+                lone_sort(instr, count)
+            }
+        }
+    }
+}
+
+/// The field of one number that a word is.
+fn field_of_keyword(word: &[u8]) -> Option<Field>
+    ensures { result ≡ field_of_keyword word.now }
+{
+    if word == b"seq".as_slice() {
+        Some(Field::Seq)
+    } else if word == b"data".as_slice() {
+        Some(Field::Datum)
+    } else if word == b"toggle".as_slice() {
+        Some(Field::Toggle)
+    } else if word == b"id".as_slice() {
+        Some(Field::Id)
+    } else {
+        None
+    }
+}
+
+/// A field, but for the `data` of a view.
+fn field_use(field: Option<Field>, instr: &Instr) -> Option<Use<'static>>
+    ensures { option_map view_use result ≡ field_use field instr.now }
+{
+    match (field, instr) {
+        (None, _) | (_, Instr::ViewData(..)) => None,
+        (Some(field), _) => Some(Use::Field(field)),
+    }
+}
+
+/// What a reserved word speaks of.
+fn word_use(instr: &Instr, word: &[u8], behind: &[PlacedToken<'_>]) -> Option<Use<'static>>
+    ensures { option_map view_use result
+        ≡ word_use instr.now word.now (placed_tokens behind.now) }
+{
+    if word == b"q".as_slice() {
+        Some(Use::Bank(Bank::Q))
+    } else if word == b"p".as_slice() {
+        Some(Use::Bank(Bank::P))
+    } else if word == b"v".as_slice() {
+        Some(Use::Bank(Bank::V))
+    } else if word == b"hand".as_slice() {
+        Some(Use::Handshake)
+    } else if word == b"view".as_slice() {
+        if opens_with(Symbol::OpenParenthesis, behind) {
+            Some(Use::View)
+        } else {
+            None
+        }
+    } else {
+        field_use(field_of_keyword(word), instr)
+    }
+}
+
+/// The kind that has this tuple.
+fn tuple_kind(tuple: &Tuple) -> KindTag
+    ensures { result ≡ tuple_kind tuple.now }
+{
+    match tuple {
+        Tuple::Seq(..) => KindTag::Seq,
+        Tuple::Bits(..) => KindTag::Bits,
+        Tuple::Multi(..) => KindTag::Multi,
+    }
+}
+
+/// What a round bracket speaks of that opens a tuple.
+fn tuple_use(slot: Slot, instr: &Instr) -> Option<Use<'static>>
+    ensures { option_map view_use result ≡ tuple_use slot instr.now }
+{
+    match (slot, instr) {
+        (Slot::Value, Instr::Put(_, tuple)) => Some(Use::Tuple(tuple_kind(tuple))),
+        _ => None,
+    }
+}
+
+/// What a token speaks of, with these behind it.
+pub fn use_at<'a>(
+    instr: &Instr,
+    slot: Slot,
+    token: &Token<'a>,
+    behind: &[PlacedToken<'_>],
+) -> Option<Use<'a>>
+    ensures { option_map view_use result
+        ≡ use_at instr.now slot (view_token token.now) (placed_tokens behind.now) }
+{
+    match *token {
+        Token::Identifier(word) => {
+            if is_reserved(word) {
+                word_use(instr, word, behind)
+            } else {
+                Some(Use::Named(sort_at(instr, slot, behind), front(word, NAME_LETTERS)))
+            }
+        }
+        Token::Sign(Symbol::OpenParenthesis) => tuple_use(slot, instr),
+        _ => None,
+    }
+}
+
+/// Whether a view stands behind a word.
+fn is_view_word(word: &[u8]) -> bool
+    ensures { result ≡ is_view_word word.now }
+{
+    word == b"look".as_slice() || word == b"return".as_slice() || word == b"view".as_slice()
+}
+
+/// Whether a `words` local stands behind a word.
+fn is_words_word(word: &[u8]) -> bool
+    ensures { result ≡ is_words_word word.now }
+{
+    word == b"get".as_slice()
+        || word == b"data".as_slice()
+        || word == b"seq".as_slice()
+        || word == b"toggle".as_slice()
+        || word == b"id".as_slice()
+        || word == b"hand".as_slice()
+}
+
+/// What stands behind a reserved word.
+fn slot_of_word(word: &[u8]) -> Slot
+    ensures { result ≡ slot_of_word word.now }
+{
+    if is_view_word(word) {
+        Slot::View
+    } else if is_words_word(word) {
+        Slot::Words
+    } else {
+        Slot::Value
+    }
+}
+
+/// What stands behind a round bracket.
+fn slot_inside(slot: Slot) -> Slot
+    ensures { result ≡ slot_inside slot }
+{
+    match slot {
+        Slot::Value | Slot::Part => Slot::Value,
+        Slot::Words | Slot::View => Slot::Words,
+    }
+}
+
+/// What the next name is, behind a token.
+pub fn slot_after(slot: Slot, token: &Token<'_>) -> Slot
+    ensures { result ≡ slot_after slot (view_token token.now) }
+{
+    match *token {
+        Token::Identifier(word) => {
+            if is_reserved(word) {
+                slot_of_word(word)
+            } else {
+                Slot::Value
+            }
+        }
+        Token::Sign(Symbol::OpenParenthesis) => slot_inside(slot),
+        Token::Sign(Symbol::Comma) => Slot::Part,
+        _ => Slot::Value,
+    }
+}

@@ -1,0 +1,7 @@
+-- `Shrinker::join_once` of snap_hunt (src/trials.rt): what holds at the head of each of its loops.
+use Rattle.snap_hunt.specs.Shrinking.{Shrinks, drawn}
+use Rattle.snap_hunt.proofs.trials.Shrinker.join_once.Given as goal
+
+-- what is kept still fails
+abbrev pub invariant-loop-at : goal.invariant-loop-at
+invariant-loop-at l = Shrinks l.self.program.now l.self.wanted.now (drawn l.fn.draft) (drawn l.kept)

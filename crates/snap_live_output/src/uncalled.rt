@@ -1,0 +1,169 @@
+//! The operations of scripts that call nothing, and what is said of them: an update whose word is
+//! not there, or is another process's.
+ghost use Rattle.std.specs.Prelude.{◌≡◌, ◌++◌, IfOk, OnOk, length};
+ghost use Rattle.snap_live_output.specs.Uncalled.{line_front, others_line, others_text};
+ghost use Rattle.snap_live_output.specs.Uncalled.{uncalled, uncalled_among};
+ghost use Rattle.snap_live_output.specs.Uncalled.{uncalled_from, uncalled_line, uncalled_lines};
+ghost use Rattle.snap_live_output.specs.Uncalled.{uncalled_text, uncalled_calls};
+
+use crate::setup::Setup;
+use snap_machine::call_skip;
+use snap_report::{op_text, reason_text};
+use snap_sched::Script;
+use snap_semantics::{Op, Reason};
+use snap_text::{push_number, push_text};
+use snap_words::{KindTag, Shape};
+use std::alloc::{AllocError, Global};
+
+/// The most calls that have a line of their own.
+const LINES: usize = 8;
+
+/// An operation in a process's script that calls nothing, and the reason for which it is skipped.
+#[derive(Clone, Copy, Debug, PartialEq, Eq)]
+pub struct UncalledCall {
+    pub process: u64,
+    pub op: Op,
+    pub reason: Reason,
+}
+
+/// An operation of a process, where it calls nothing.
+fn uncalled(kind: KindTag, shape: Shape, process: u64, op: Op) -> Option<UncalledCall>
+    ensures { result ≡ uncalled kind shape process op }
+{
+    let reason = call_skip(kind, shape, process, op)?;
+    Some(UncalledCall {
+        process,
+        op,
+        reason,
+    })
+}
+
+/// Adds those among the operations of a process.
+fn push_uncalled(
+    calls: &mut Vec<UncalledCall>,
+    kind: KindTag,
+    shape: Shape,
+    process: u64,
+    operations: &[Op],
+) -> Result<(), AllocError>
+    ensures { OnOk result (calls.new.items
+        ≡ calls.old.items ++ uncalled_among kind shape process operations.now) }
+{
+    for operation in operations {
+        if let Some(call) = uncalled(kind, shape, process, *operation) {
+            calls.push(call)?;
+        }
+    }
+    Ok(())
+}
+
+/// Those of some scripts, that of process 1 first.
+fn uncalled_of_scripts(
+    alloc: Global,
+    kind: KindTag,
+    shape: Shape,
+    scripts: &[Script],
+) -> Result<Vec<UncalledCall>, AllocError>
+    ensures { IfOk result (λ calls. calls.items ≡ uncalled_from kind shape 1 scripts.now) }
+{
+    let mut calls = Vec::new(alloc);
+    for k in 0..scripts.len() {
+        push_uncalled(
+            &mut calls,
+            kind,
+            shape,
+            k as u64 + 1,
+            scripts[k].operations(),
+        )?;
+    }
+    Ok(calls)
+}
+
+/// Those of all scripts that are played.
+fn uncalled_calls(alloc: Global, setup: &Setup) -> Result<Vec<UncalledCall>, AllocError>
+    ensures { IfOk result (λ calls. calls.items ≡ uncalled_calls setup.now) }
+{
+    let scripts = setup.scripts();
+    uncalled_of_scripts(
+        alloc,
+        setup.program().kind(),
+        scripts.shape(),
+        scripts.scripts(),
+    )
+}
+
+/// Adds the front of a line.
+#[tactic(auto, unfolding(crate::specs::Uncalled::line_front))]
+fn push_front(out: &mut Vec<u8>) -> Result<(), AllocError>
+    ensures { OnOk result (out.new.items ≡ out.old.items ++ line_front) }
+{
+    push_text(out, b"not called: ")
+}
+
+/// Adds a line for an operation that calls nothing.
+#[tactic(auto, using(snap_text::proofs::Texts::joined), unfolding(crate::specs::Uncalled::uncalled_line))]
+fn push_line(out: &mut Vec<u8>, call: &UncalledCall) -> Result<(), AllocError>
+    ensures { OnOk result (out.new.items ≡ out.old.items ++ uncalled_line call.now) }
+{
+    push_front(out)?;
+    push_text(out, b"process ")?;
+    push_number(out, call.process)?;
+    push_text(out, b" ")?;
+    op_text(out, call.op)?;
+    push_text(out, b" ")?;
+    reason_text(out, call.reason)?;
+    push_text(out, b"\n")
+}
+
+/// Adds a line for each of these operations.
+#[tactic(auto, using(snap_text::proofs::Texts::joined))]
+fn push_lines(out: &mut Vec<u8>, calls: &[UncalledCall]) -> Result<(), AllocError>
+    ensures { OnOk result (out.new.items ≡ out.old.items ++ uncalled_lines calls.now) }
+{
+    for call in calls {
+        push_line(out, call)?;
+    }
+    Ok(())
+}
+
+/// Adds a line for `count` other operations.
+#[tactic(auto, using(snap_text::proofs::Texts::joined), unfolding(crate::specs::Uncalled::others_text))]
+fn push_others_text(out: &mut Vec<u8>, count: u64) -> Result<(), AllocError>
+    ensures { OnOk result (out.new.items ≡ out.old.items ++ others_text count) }
+{
+    push_front(out)?;
+    push_number(out, count)?;
+    push_text(out, b" more\n")
+}
+
+/// Adds a line for `count` other operations, where there are any.
+#[tactic(auto, using(snap_text::proofs::Texts::joined))]
+fn push_others(out: &mut Vec<u8>, count: u64) -> Result<(), AllocError>
+    ensures { OnOk result (out.new.items ≡ out.old.items ++ others_line count) }
+{
+    if count == 0 {
+        return Ok(());
+    }
+    push_others_text(out, count)
+}
+
+/// Adds a line for each of the first eight of these operations, and one for the others.
+#[tactic(auto, using(snap_text::proofs::Texts::joined), unfolding(crate::specs::Uncalled::uncalled_text))]
+fn push_calls(out: &mut Vec<u8>, calls: &[UncalledCall]) -> Result<(), AllocError>
+    ensures { OnOk result (out.new.items ≡ out.old.items ++ uncalled_text calls.now) }
+{
+    let listed = LINES.min(calls.len());
+    push_lines(out, &calls[..listed])?;
+    push_others(out, (calls.len() - listed) as u64)
+}
+
+/// What is said of the operations that call nothing: nothing where there is none.
+#[tactic(auto, using(snap_text::proofs::Texts::joined))]
+pub fn uncalled_text(alloc: Global, setup: &Setup) -> Result<Vec<u8>, AllocError>
+    ensures { IfOk result (λ out. out.items ≡ uncalled_text (uncalled_calls setup.now)) }
+{
+    let calls = uncalled_calls(alloc, setup)?;
+    let mut out = Vec::new(alloc);
+    push_calls(&mut out, calls.as_slice())?;
+    Ok(out)
+}

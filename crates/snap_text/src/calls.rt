@@ -1,0 +1,34 @@
+//! Lines that are calls, `I scan` and `I update K X`, with one space between any two: most lines of
+//! a schedule that are no steps.
+ghost use Rattle.std.specs.Prelude.{◌≡◌, IfSome};
+ghost use Rattle.snap_semantics.specs.ScheduleForms.{spelled_call};
+ghost use Rattle.snap_text.specs.Calls.{BeginsWithOp};
+ghost use Rattle.snap_text.specs.Numbers.{BeginsWithLine};
+
+use crate::numbers::number_front;
+use snap_semantics::Op;
+
+/// The operation at the front, as it stands behind its process, and what stands behind it.
+fn op_front(bytes: &[u8]) -> Option<(Op, &[u8])>
+    ensures { IfSome result (λ x. BeginsWithOp bytes.now x.0 x.1.now) }
+{
+    if let Some(rest) = bytes.strip_prefix(b" scan") {
+        return Some((Op::Scan, rest));
+    }
+    let words = bytes.strip_prefix(b" update ")?;
+    let (word, behind) = number_front(words)?;
+    let values = behind.strip_prefix(b" ")?;
+    let (value, rest) = number_front(values)?;
+    Some((Op::Update { word, value }, rest))
+}
+
+/// The process and the operation of the call that the first line is, where it has its line feed,
+/// and the lines behind it.
+pub(crate) fn call_front(bytes: &[u8]) -> Option<(u64, Op, &[u8])>
+    ensures { IfSome result (λ x. BeginsWithLine bytes.now (spelled_call x.0 x.1) x.2.now) }
+{
+    let (process, behind) = number_front(bytes)?;
+    let (op, after) = op_front(behind)?;
+    let rest = after.strip_prefix(b"\n")?;
+    Some((process, op, rest))
+}

@@ -1,4 +1,4 @@
--- Debugger commands at the prompt leave the run of the session as it is.
+-- A debugger command typed at snapdb's prompt leaves the session's run as it is.
 use Rattle.std.proofs.Common.{◌≡◌, ℕ, List, Bool, true, false, if◌then◌else◌, Result, Ok, Err, refl, sym, ap}
 use Rattle.std.specs.Prelude.{nat_le}
 use Rattle.snap_semantics.specs.Answers.{◌>>=◌}

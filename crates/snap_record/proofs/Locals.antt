@@ -1,5 +1,5 @@
--- A view of a process, looked up by its name (`local_value`), is the value of that name among the views, if no other
--- local has it.
+-- The locals that a record answers at a position: a view of a process, looked up by its name (`local_value`), is the
+-- value of that name among the views, if no other local has it.
 use Rattle.std.specs.Prelude.{◌≡◌, ℕ, Bool, true, false, List, [], ◌∷◌, Option, Some, None}
 use Rattle.std.specs.Prelude.{option_map, bytes_eq, if◌then◌else◌, refl}
 use Rattle.std.proofs.Common.{◌∙◌}

@@ -1,5 +1,5 @@
--- Lists that a process which steps alone fills place by place
--- (`Filled`), and tests that all places pass or one fails.
+-- For runs that reach the bounds: lists that a process which steps alone fills place by place (`Filled`), and tests
+-- that all places pass or one fails.
 use Rattle.std.specs.Prelude.{◌≡◌, ℕ, ◌+◌, ◌-◌, ◌<◌, ◌≤◌, Bool, true, false, List, length, map, Some, None}
 use Rattle.std.specs.Prelude.{slice_index_or, slice_set, refl}
 use Rattle.std.proofs.Common.{sym, ◌∙◌, ap, arith, inl, inr}

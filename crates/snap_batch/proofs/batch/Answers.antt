@@ -1,4 +1,5 @@
 -- `batch` of snap_batch (src/lib.rt): the proof of what its contract says.
+-- The report of each schedule's end, in the order of the schedules, whichever thread made it and when.
 use Rattle.std.proofs.Common.{◌∙◌, ap}
 use Rattle.rayon.specs.Lists.{min_len_base}
 use Rattle.snap_runner.specs.End.{end_report}

@@ -1,4 +1,5 @@
 -- `runs_of_b_keep_promises` of snap_promises (src/lib.rt): the proof of what its contract says.
+-- Every run of B keeps all promises.
 use Rattle.snap_promises.proofs.Kept.{of_b}
 use Rattle.snap_promises.proofs.runs_of_b_keep_promises.Goals as goal
 

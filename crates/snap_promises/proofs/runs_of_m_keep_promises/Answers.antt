@@ -1,4 +1,5 @@
 -- `runs_of_m_keep_promises` of snap_promises (src/lib.rt): the proof of what its contract says.
+-- Every run of M keeps all promises.
 use Rattle.snap_promises.proofs.Kept.{of_m}
 use Rattle.snap_promises.proofs.runs_of_m_keep_promises.Goals as goal
 

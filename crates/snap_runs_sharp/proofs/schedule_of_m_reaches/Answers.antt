@@ -1,4 +1,5 @@
 -- `schedule_of_m_reaches` of snap_runs_sharp (src/lib.rt): the proof of what its contract says.
+-- The schedule of M makes such a run.
 use Rattle.snap_runs_sharp.proofs.ReachedByM.{schedule_of_m_reaches_lem}
 use Rattle.snap_runs_sharp.proofs.schedule_of_m_reaches.Goals as goal
 

@@ -1,4 +1,5 @@
 -- `live_runs_are_linearizable` of snap_thread_laws (src/lib.rt): the proof of what its contract says.
+-- What the threads of a live run of U, B or M were told is linearizable, whatever its gate answered.
 use Rattle.snap_thread_laws.proofs.Shipped.{live_runs}
 use Rattle.snap_thread_laws.proofs.live_runs_are_linearizable.Goals as goal
 

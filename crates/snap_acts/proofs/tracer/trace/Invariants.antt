@@ -1,4 +1,5 @@
 -- `trace` of snap_acts (src/tracer.rt): what holds at the head of each of its loops.
+-- What each item of a program's run over a schedule did.
 use Rattle.snap_acts.proofs.Traces.{Going}
 use Rattle.snap_acts.proofs.tracer.trace.Given as goal
 

@@ -1,4 +1,6 @@
 -- `audit` of snap_audit (src/sweep.rt): the proof of what its contract says.
+-- Of each scan that was called and has been answered, in the order of the answers: the least item from its call to
+-- its answer after which the values were what it answered, if there is one, and how many double collects it took.
 use Rattle.std.proofs.Common.{◌+◌, List, map, drop, get_or, replicate, sym, ap, subst, ◌∙◌}
 use Rattle.snap_words.specs.Shape.{Counts}
 use Rattle.snap_semantics.specs.declared.event.Event.{Event}

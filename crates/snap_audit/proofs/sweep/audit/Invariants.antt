@@ -1,4 +1,6 @@
 -- `audit` of snap_audit (src/sweep.rt): what holds at the head of each of its loops.
+-- Of each scan that was called and has been answered, in the order of the answers: the least item from its call to
+-- its answer after which the values were what it answered, if there is one, and how many double collects it took.
 use Rattle.std.proofs.Common.{length, drop, ◌-◌}
 use Rattle.snap_audit.specs.Sweep.{Sweeps}
 use Rattle.snap_audit.proofs.sweep.audit.Given as goal

@@ -1,4 +1,5 @@
 -- `changing_line` of snap_certify (src/line.rt): the proof of what its contract says.
+-- The line of the first item that changes the values.
 use Rattle.std.proofs.Common.{◌≡◌, ◌<◌, ◌≤◌, length, sym, ap, ◌∙◌, arith}
 use Rattle.snap_certify.proofs.Replaying.{changing_end, changing_here, changing_later}
 use Rattle.snap_certify.proofs.line.changing_line.Goals as goal

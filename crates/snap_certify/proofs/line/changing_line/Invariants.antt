@@ -1,4 +1,5 @@
 -- `changing_line` of snap_certify (src/line.rt): what holds at the head of each of its loops.
+-- The line of the first item that changes the values.
 use Rattle.std.proofs.Common.{◌≡◌, ◌-◌, length}
 use Rattle.snap_certification.specs.Certification.{changing_line}
 use Rattle.snap_certify.specs.Replay.{machine_at}

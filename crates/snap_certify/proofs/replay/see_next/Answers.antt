@@ -1,4 +1,5 @@
 -- `see_next` of snap_certify (src/replay.rt): the proof of what its contract says.
+-- Does the item after the first `t` of a history, and sees it.
 use Rattle.std.proofs.Common.{◌≡◌, ◌+◌, ap, ◌∙◌}
 use Rattle.snap_certification.specs.Certification.{seen_item}
 use Rattle.snap_certify.specs.Replay.{machine_after, machine_at, seen_by}

@@ -1,4 +1,5 @@
 -- `writes` of snap_certify (src/writes.rt): the proof of what its contract says.
+-- The writes of a run in which updates write at a line, or the first thing that is missing there.
 use Rattle.std.proofs.Common.{◌≡◌, Err, ◌+◌, ◌-◌, ◌<◌, length, ap, ◌∙◌, arith}
 use Rattle.snap_certification.specs.Certification.{with_finding, writes}
 use Rattle.snap_certify.proofs.Replaying.{missing_stays, none_of, one_of_them, progress_more, some_of, writes_next}

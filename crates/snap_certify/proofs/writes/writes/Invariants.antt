@@ -1,4 +1,5 @@
 -- `writes` of snap_certify (src/writes.rt): what holds at the head of each of its loops.
+-- The writes of a run in which updates write at a line, or the first thing that is missing there.
 use Rattle.std.proofs.Common.{◌≡◌, Ok}
 use Rattle.snap_certification.specs.Certification.{writes}
 use Rattle.snap_certify.specs.Replay.{AreProgress, machine_at}

@@ -1,4 +1,5 @@
 -- `places_text` of snap_certify_output (src/text.rt): what holds at the head of each of its loops.
+-- The lines of writes and scans, in the order of their places.
 use Rattle.std.proofs.Common.{◌≡◌, ◌++◌, drop}
 use Rattle.snap_certify_output.specs.CertificationText.{places_text}
 use Rattle.snap_certify_output.proofs.text.places_text.Given as goal

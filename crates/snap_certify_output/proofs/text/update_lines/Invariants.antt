@@ -1,4 +1,5 @@
 -- `update_lines` of snap_certify_output (src/text.rt): what holds at the head of each of its loops.
+-- The lines of the writes from a place on.
 use Rattle.std.proofs.Common.{◌≡◌, ◌++◌, ◌-◌, drop, length}
 use Rattle.snap_certify_output.specs.CertificationText.{update_lines}
 use Rattle.snap_certify_output.proofs.text.update_lines.Given as goal

@@ -1,4 +1,5 @@
 -- `writes_until` of snap_certify_output (src/text.rt): what holds at the head of each of its loops.
+-- The lines of the next writes up to an item, and which write comes then.
 use Rattle.std.proofs.Common.{◌≡◌, ◌++◌, ◌-◌, drop, length}
 use Rattle.snap_certify_output.specs.CertificationText.{update_lines, writes_after, writes_until}
 use Rattle.snap_certify_output.proofs.text.writes_until.Given as goal

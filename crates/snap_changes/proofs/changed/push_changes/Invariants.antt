@@ -1,4 +1,5 @@
 -- `push_changes` of snap_changes (src/changed.rt): what holds at the head of each of its loops.
+-- Adds what changed from one text to another: each line that went behind `- `, and each that came behind `+ `.
 use Rattle.std.proofs.Common.{length, ◌+◌, ◌++◌, ◌≡◌}
 use Rattle.snap_semantics.specs.Token.{lines_of}
 use Rattle.snap_changes.specs.Changes.{text_between}

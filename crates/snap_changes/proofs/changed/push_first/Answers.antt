@@ -1,4 +1,5 @@
 -- `push_first` of snap_changes (src/changed.rt): the proof of what its contract says.
+-- Adds what changed in the first line, and gives the lines behind it.
 use Rattle.std.proofs.Common.{◌≡◌, ℕ, List, [], ◌∷◌, length, refl, sym, ap, ◌∙◌, arith}
 use Rattle.std.proofs.lemmas.Bool.Decides.{Decides-eqb}
 use Rattle.std.specs.Prelude.{codes, true, ◌==◌}

@@ -1,4 +1,6 @@
 -- `changes_make_the_new_text` of snap_changes (src/laws.rt): the proof of what its contract says.
+-- Put into the old lines, the changes make the new ones; and each of them says what stood there, and what stands
+-- there now.
 use Rattle.std.proofs.Common.{refl, []}
 use Rattle.snap_changes.proofs.Putting.{put_from, real_from}
 use Rattle.snap_changes.proofs.laws.changes_make_the_new_text.Goals as goal

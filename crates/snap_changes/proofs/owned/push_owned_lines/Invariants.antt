@@ -1,4 +1,6 @@
 -- `push_owned_lines` of snap_changes (src/owned.rt): what holds at the head of each of its loops.
+-- Adds the lines of a text, each indented one with its owner: the first two words of the line above that is not
+-- indented.
 use Rattle.std.proofs.Common.{◌≡◌, ◌++◌, [], length}
 use Rattle.snap_semantics.specs.Token.{lines_of}
 use Rattle.snap_changes.specs.Owned.{owned_text}

@@ -1,4 +1,5 @@
 -- `word_len` of snap_changes (src/owned.rt): what holds at the head of each of its loops.
+-- How many bytes stand before the first space.
 use Rattle.std.proofs.Common.{◌≡◌, ◌≤◌, ◌-◌, ◌+◌, drop, length}
 use Rattle.snap_changes.specs.Owned.{word_len}
 use Rattle.snap_changes.proofs.owned.word_len.Given as goal

@@ -1,4 +1,5 @@
 -- `last_between` of snap_debug (src/stops.rt): what holds at the head of each of its loops.
+-- The last stop between a checkpoint and a position, where there is one.
 use Rattle.std.proofs.Common.{◌≡◌, ◌<◌, ◌+◌, ◌-◌}
 use Rattle.snap_debug.specs.Marks.{last_stop}
 use Rattle.snap_debug.specs.Stops.{AreAt, or_before}

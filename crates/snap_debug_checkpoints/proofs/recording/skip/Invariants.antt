@@ -1,4 +1,5 @@
 -- `skip` of snap_debug_checkpoints (src/recording.rt): what holds at the head of each of its loops.
+-- Leaves so many items behind.
 use Rattle.std.proofs.Common.{◌≡◌, drop}
 use Rattle.snap_debug_checkpoints.proofs.recording.skip.Given as goal
 

@@ -1,4 +1,5 @@
 -- `take_turn` of snap_dialog (src/turns.rt): the proof of what its contract says.
+-- One turn: the prompt, a line, and its answer, in that order.
 use Rattle.std.proofs.Common.{◌∙◌}
 use Rattle.snap_dialog.proofs.Dialogs.{turn_shown}
 use Rattle.snap_dialog.proofs.turns.take_turn.Goals as goal

@@ -1,4 +1,5 @@
 -- `talk` of snap_dialog (src/turns.rt): the proof of what its contract says.
+-- Talks to the last line.
 use Rattle.snap_dialog.proofs.Dialogs.{passed_all, passed_more, shown_all, shown_more}
 use Rattle.snap_dialog.proofs.turns.talk.Goals as goal
 

@@ -1,4 +1,5 @@
 -- `talk` of snap_dialog (src/turns.rt): what holds at the head of each of its loops.
+-- Talks to the last line.
 use Rattle.snap_dialog.specs.Talks.{HasPassed, HasShown}
 use Rattle.snap_dialog.proofs.turns.talk.Given as goal
 

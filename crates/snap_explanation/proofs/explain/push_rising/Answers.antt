@@ -1,4 +1,5 @@
 -- `push_rising` of snap_explanation (src/explain.rt): the proof of what its contract says.
+-- Adds that a number is not above the one before.
 use Rattle.std.proofs.Common.{codes}
 use Rattle.snap_explanation.specs.Said.{said_number}
 use Rattle.snap_explanation.specs.Explanation.{rising_text}

@@ -1,4 +1,5 @@
 -- `push_stray_words` of snap_explanation (src/explain.rt): the proof of what its contract says.
+-- Adds what is no token.
 use Rattle.std.proofs.Common.{codes}
 use Rattle.snap_explanation.specs.Spot.{shown}
 use Rattle.snap_explanation.specs.Explanation.{stray_words}

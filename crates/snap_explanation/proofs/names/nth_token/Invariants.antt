@@ -1,4 +1,5 @@
 -- `nth_token` of snap_explanation (src/names.rt): what holds at the head of each of its loops.
+-- Token `index`, from 0.
 use Rattle.std.proofs.Common.{◌≡◌, map, length}
 use Rattle.snap_explanation.specs.Names.{nth_token}
 use Rattle.snap_expected.specs.Steps.{view_placed_token}

@@ -1,4 +1,5 @@
 -- `line_of` of snap_explanation (src/spot.rt): what holds at the head of each of its loops.
+-- The line of this number, from 1; empty where there is none.
 use Rattle.std.proofs.Common.{◌≡◌, length}
 use Rattle.snap_explanation.specs.Spot.{nth_line}
 use Rattle.snap_semantics.specs.Token.{lines_of}

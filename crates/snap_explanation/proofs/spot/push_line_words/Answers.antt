@@ -1,4 +1,5 @@
 -- `push_line_words` of snap_explanation (src/spot.rt): the proof of what its contract says.
+-- Adds the line of a part.
 use Rattle.std.proofs.Common.{codes}
 use Rattle.std.specs.Prelude.{decimal}
 use Rattle.snap_explanation.specs.Spot.{line_words}

@@ -1,4 +1,5 @@
 -- `push_shown` of snap_explanation (src/spot.rt): what holds at the head of each of its loops.
+-- Adds bytes as they are shown.
 use Rattle.std.proofs.Common.{◌≡◌, ◌++◌, drop}
 use Rattle.snap_explanation.specs.Spot.{shown}
 use Rattle.snap_explanation.proofs.spot.push_shown.Given as goal

@@ -1,4 +1,5 @@
 -- `push_spaces` of snap_explanation (src/spot.rt): what holds at the head of each of its loops.
+-- Adds spaces.
 use Rattle.std.proofs.Common.{◌≡◌, ◌++◌, replicate}
 use Rattle.snap_explanation.proofs.spot.push_spaces.Given as goal
 

@@ -1,4 +1,5 @@
 -- `push_expected` of snap_explanation (src/texts.rt): what holds at the head of each of its loops.
+-- Adds all that may stand next.
 use Rattle.std.proofs.Common.{◌≡◌, ◌++◌, length}
 use Rattle.snap_explanation.specs.Texts.{expected_words}
 use Rattle.snap_explanation.proofs.texts.push_expected.Given as goal

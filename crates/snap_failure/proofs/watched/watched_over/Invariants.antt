@@ -1,4 +1,5 @@
 -- `watched_over` of snap_failure (src/watched.rt): what holds at the head of each of its loops.
+-- The record of a program over a whole schedule, and the first operation that takes more than so many steps.
 use Rattle.std.proofs.Common.{length}
 use Rattle.snap_runs.specs.Run.{run_over}
 use Rattle.snap_survey.proofs.Surveying.{Going}

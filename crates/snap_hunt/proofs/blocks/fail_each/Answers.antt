@@ -1,4 +1,5 @@
 -- `fail_each` of snap_hunt (src/blocks.rt): the proof of what its contract says.
+-- Whether the runs of these numbers fail, whichever thread made each and when.
 use Rattle.std.proofs.Common.{ℕ, Bool, ◌∙◌, ap}
 use Rattle.rayon.specs.Lists.{min_len_base}
 use Rattle.snap_batch.proofs.Orders.{side_by_side}

@@ -1,4 +1,5 @@
 -- `first_of` of snap_hunt (src/blocks.rt): the proof of what its contract says.
+-- The first of these numbers for which the answer is yes.
 use Rattle.std.proofs.Common.{arith}
 use Rattle.std.proofs.lemmas.Grind.{common_steps}
 use Rattle.snap_hunt.proofs.Numbers.{passed_at}

@@ -1,4 +1,5 @@
 -- `numbers` of snap_hunt (src/blocks.rt): the proof of what its contract says.
+-- So many numbers, the first of which is this one.
 use Rattle.snap_hunt.proofs.Numbers.{one_more}
 use Rattle.snap_hunt.proofs.blocks.numbers.Goals as goal
 

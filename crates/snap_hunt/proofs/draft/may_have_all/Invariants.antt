@@ -1,4 +1,5 @@
 -- `may_have_all` of snap_hunt (src/draft.rt): what holds at the head of each of its loops.
+-- Whether a schedule of a shape may have each of these items.
 use Rattle.std.proofs.Common.{take}
 use Rattle.std.specs.List.{AllByRecursion}
 use Rattle.snap_words.specs.Shape.{IsOneOf}

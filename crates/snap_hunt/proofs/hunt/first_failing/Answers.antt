@@ -1,4 +1,5 @@
 -- `first_failing` of snap_hunt (src/hunt.rt): the proof of what its contract says.
+-- The first run that fails, of so many that the seed gives; none where none of them does.
 use Rattle.std.proofs.Common.{◌+◌, ◌≤◌, sym, ◌∙◌, arith}
 use Rattle.snap_hunt.specs.Hunt.{fails}
 use Rattle.snap_hunt.proofs.Ranges.{found_here, none_here}

@@ -1,4 +1,5 @@
 -- `first_failing` of snap_hunt (src/hunt.rt): what holds at the head of each of its loops.
+-- The first run that fails, of so many that the seed gives; none where none of them does.
 use Rattle.std.proofs.Common.{◌≡◌, ◌≤◌, ◌-◌, None}
 use Rattle.std.specs.List.{find, range_with_len}
 use Rattle.snap_hunt.specs.Hunt.{fails}

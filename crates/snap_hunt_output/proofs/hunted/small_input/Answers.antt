@@ -1,4 +1,5 @@
 -- `small_input` of snap_hunt_output (src/hunted.rt): the proof of what its contract says.
+-- The input of a small run that fails so, where the run of this number does.
 use Rattle.snap_hunt_output.proofs.Finding.{fails_alike, fails_over}
 use Rattle.snap_hunt_output.proofs.hunted.small_input.Goals as goal
 

@@ -1,4 +1,5 @@
 -- `find` of snap_image_codes (src/codes.rt): what holds at the head of each of its loops.
+-- The first of these values with this code.
 use Rattle.std.proofs.Common.{◌≡◌, drop}
 use Rattle.snap_image_format.specs.ImageCodes.{coded}
 use Rattle.snap_image_codes.proofs.codes.find.Given as goal

@@ -1,4 +1,5 @@
 -- `comment_bytes` of snap_image_decoder (src/comments.rt): what holds at the head of each of its loops.
+-- So many bytes of a comment.
 use Rattle.std.proofs.Common.{◌≡◌, ◌-◌}
 use Rattle.snap_image_format.specs.ImageListing.{comment_bytes_in}
 use Rattle.snap_image_decoder.specs.DecoderSteps.{onto}

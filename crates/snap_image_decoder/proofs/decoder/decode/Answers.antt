@@ -1,4 +1,6 @@
 -- `decode` of snap_image_decoder (src/decoder.rt): the proof of what its contract says.
+-- The listing whose image these bytes are, with its comments, or the first reason why they are none: it is refused
+-- exactly where no listing has this image in either version.
 use Rattle.snap_semantics.specs.declared.refusal.ImageRefusal.TheVariants.{NotAnImage, Version}
 use Rattle.snap_image_decoder.proofs.Exact.{only_images, every_image}
 use Rattle.snap_image_decoder.proofs.Opened.{unsigned, of_another_version}

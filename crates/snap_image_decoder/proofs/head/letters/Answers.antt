@@ -1,4 +1,5 @@
 -- `letters` of snap_image_decoder (src/head.rt): the proof of what its contract says.
+-- So many letters.
 use Rattle.std.proofs.Common.{◌≡◌, ◌-◌, ◌+◌, ◌<◌, length, take, Ok, Err, sym, ap, ◌∙◌, ℕ, List, arith}
 use Rattle.std.proofs.lemmas.Grind.{common_steps}
 use Rattle.std.proofs.lemmas.List.{take_more_set}

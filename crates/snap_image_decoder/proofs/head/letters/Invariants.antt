@@ -1,4 +1,5 @@
 -- `letters` of snap_image_decoder (src/head.rt): what holds at the head of each of its loops.
+-- So many letters.
 use Rattle.std.proofs.Common.{◌≡◌, ◌-◌, length, take}
 use Rattle.snap_image_format.specs.ImageListing.{letters_in}
 use Rattle.snap_image_decoder.specs.DecoderSteps.{onto}

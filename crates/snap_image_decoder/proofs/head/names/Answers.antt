@@ -1,4 +1,5 @@
 -- `names` of snap_image_decoder (src/head.rt): the proof of what its contract says.
+-- So many names.
 use Rattle.std.proofs.Common.{◌≡◌, ◌≤◌, ◌<◌, ◌-◌, ◌++◌, length, Err, sym, ap, ◌∙◌, List, arith}
 use Rattle.std.proofs.lemmas.Grind.{common_steps}
 use Rattle.snap_image_format.specs.ImageListing.{names_in}

@@ -1,4 +1,5 @@
 -- `names` of snap_image_decoder (src/head.rt): what holds at the head of each of its loops.
+-- So many names.
 use Rattle.std.proofs.Common.{◌≡◌, ◌-◌, ◌++◌, length}
 use Rattle.snap_image_format.specs.ImageListing.{names_in}
 use Rattle.snap_image_decoder.specs.Head.{known_names}

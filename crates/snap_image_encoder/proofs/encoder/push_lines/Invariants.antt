@@ -1,4 +1,5 @@
 -- `push_lines` of snap_image_encoder (src/encoder.rt): what holds at the head of each of its loops.
+-- Adds lines, each with its comment behind it.
 use Rattle.std.proofs.Common.{◌≡◌, ◌++◌, drop, length, map}
 use Rattle.std.specs.List.{AllByRecursion}
 use Rattle.snap_semantics.specs.Comments.{IsComment}

@@ -1,4 +1,5 @@
 -- `count_separators` of snap_input (src/parts.rt): the proof of what its contract says.
+-- How many lines of an input end a part: one less than it has parts.
 use Rattle.std.proofs.Common.{length, sym, ◌∙◌, ap, arith}
 use Rattle.snap_input.proofs.Splits.{some_left, one_part_more, no_part_more}
 use Rattle.snap_input.proofs.parts.count_separators.Goals as goal

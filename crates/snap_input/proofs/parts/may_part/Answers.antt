@@ -1,4 +1,5 @@
 -- `may_part` of snap_input (src/parts.rt): the proof of what its contract says.
+-- Whether a line of these bytes may end a part.
 use Rattle.snap_input.proofs.Without.{none_found}
 use Rattle.snap_input.proofs.parts.may_part.Goals as goal
 

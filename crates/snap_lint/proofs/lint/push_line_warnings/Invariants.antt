@@ -1,4 +1,5 @@
 -- `push_line_warnings` of snap_lint (src/lint.rt): what holds at the head of each of its loops.
+-- Adds the warnings of a line for these concerns.
 use Rattle.std.proofs.Common.{◌≡◌, ◌++◌, drop}
 use Rattle.std.specs.List.{flat_map}
 use Rattle.snap_lint.specs.Warnings.{warning_of}

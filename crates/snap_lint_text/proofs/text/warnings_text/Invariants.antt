@@ -1,4 +1,5 @@
 -- `warnings_text` of snap_lint_text (src/text.rt): what holds at the head of each of its loops.
+-- The lines of warnings.
 use Rattle.std.proofs.Common.{◌≡◌, ◌++◌, drop}
 use Rattle.snap_lint_text.specs.Lint.{warnings_text}
 use Rattle.snap_lint_text.proofs.text.warnings_text.Given as goal

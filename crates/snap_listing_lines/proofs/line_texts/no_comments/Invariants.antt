@@ -1,4 +1,5 @@
 -- `no_comments` of snap_listing_lines (src/line_texts.rt): what holds at the head of each of its loops.
+-- No comment for each of these lines.
 use Rattle.std.proofs.Common.{◌≡◌, ◌++◌, drop, map}
 use Rattle.snap_semantics.specs.Comments.{no_comment}
 use Rattle.snap_listing_core.specs.Fields.{seen_comment}

@@ -1,4 +1,5 @@
 -- `numbered_texts` of snap_listing_lines (src/line_texts.rt): what holds at the head of each of its loops.
+-- The numbers of these lines, with what stands for them in a text.
 use Rattle.std.proofs.Common.{◌≡◌, ◌++◌, drop, map}
 use Rattle.snap_listing_lines.specs.LineTexts.{seen_line, texts_from}
 use Rattle.snap_listing_lines.proofs.line_texts.numbered_texts.Given as goal

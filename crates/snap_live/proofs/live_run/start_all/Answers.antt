@@ -1,4 +1,5 @@
 -- `start_all` of snap_live (src/live_run.rt): the proof of what its contract says.
+-- Starts all workers.
 use Rattle.std.proofs.Common.{◌≡◌, ◌+◌, ◌-◌, ◌∙◌, ap, length, rules}
 use Rattle.snap_words.specs.Shape.{IsOneOf}
 use Rattle.snap_live_desk.specs.Shown.{SeatView, seat_of}

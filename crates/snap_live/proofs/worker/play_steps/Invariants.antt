@@ -1,4 +1,5 @@
 -- `play_steps` of snap_live (src/worker.rt): what holds at the head of each of its loops.
+-- Steps up to the end of the operation that was called last.
 use Rattle.std.proofs.Common.{◌≡◌, ◌+◌, length, drop}
 use Rattle.snap_semantics.specs.declared.process.Item.TheVariants.{Step}
 use Rattle.snap_live.specs.Play.{Leaves, busy}

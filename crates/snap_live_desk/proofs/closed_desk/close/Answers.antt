@@ -1,4 +1,5 @@
 -- `close` of snap_live_desk (src/closed_desk.rt): the proof of what its contract says.
+-- The record of all turns, where each process has a seat among these.
 use Rattle.std.proofs.Common.{◌≡◌, ℕ, ◌≤◌, List, sym, ap, ◌∙◌, subst}
 use Rattle.snap_live_desk.specs.declared.seat_state.Setting.{Setting}
 use Rattle.snap_live_desk.specs.Rule.{OwnTurns}

@@ -1,4 +1,5 @@
 -- `finish` of snap_live_desk (src/closed_desk.rt): the proof of what its contract says.
+-- The record, at the end.
 use Rattle.std.proofs.Common.{subst, sym, refl, Option}
 use Rattle.std.specs.Prelude.{IsSome}
 use Rattle.snap_runs.specs.Run.{Run}

@@ -1,4 +1,5 @@
 -- `draw` of snap_live_desk (src/steps.rt): the proof of what its contract says.
+-- The ticket that a seat draws.
 use Rattle.std.proofs.Common.{rules}
 use Rattle.snap_live_desk.proofs.Moves.{draws_as}
 use Rattle.snap_live_desk.proofs.steps.draw.Goals as goal

@@ -1,4 +1,5 @@
 -- `publish_as` of snap_live_desk (src/steps.rt): the proof of what its contract says.
+-- The history goes on by the item, which the entry names.
 use Rattle.std.proofs.Common.{rules}
 use Rattle.snap_live_desk.proofs.Moves.{publishes_as}
 use Rattle.snap_live_desk.proofs.steps.publish_as.Goals as goal

@@ -1,4 +1,5 @@
 -- `wait` of snap_live_desk (src/steps.rt): what holds at the head of each of its loops.
+-- Looks until the ticket is served.
 use Rattle.std.proofs.Common.{◌≡◌}
 use Rattle.snap_live_desk.proofs.steps.wait.Given as goal
 

@@ -1,4 +1,5 @@
 -- `push_next` of snap_live_output (src/written.rt): the proof of what its contract says.
+-- Adds the item of a history behind its first `t`.
 use Rattle.std.proofs.Common.{List, [], ◌∷◌, ◌++◌, ◌∙◌, ap, sym}
 use Rattle.snap_semantics.specs.declared.process.Item.{Item}
 use Rattle.snap_live_output.proofs.Histories.{one_more}

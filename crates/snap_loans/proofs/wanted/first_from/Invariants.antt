@@ -1,4 +1,5 @@
 -- `first_from` of snap_loans (src/wanted.rt): what holds at the head of each of its loops.
+-- The first step from a place on that is what is wanted.
 use Rattle.std.proofs.Common.{◌≡◌, ◌-◌, drop, length}
 use Rattle.snap_loans.specs.Searches.{first_meeting}
 use Rattle.snap_loans.proofs.wanted.first_from.Given as goal

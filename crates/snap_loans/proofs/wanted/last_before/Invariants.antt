@@ -1,4 +1,5 @@
 -- `last_before` of snap_loans (src/wanted.rt): what holds at the head of each of its loops.
+-- The last of the first places at which there is what is wanted.
 use Rattle.std.proofs.Common.{◌≡◌, ◌≤◌}
 use Rattle.snap_loans.specs.Searches.{last_before}
 use Rattle.snap_loans.proofs.wanted.last_before.Given as goal

@@ -1,4 +1,5 @@
 -- `call` of snap_machine (src/call.rt): the proof of what its contract says.
+-- A call of process i.
 use Rattle.std.proofs.Common.{◌≡◌, arith, slice_index_or, ◌-◌, None}
 use Rattle.std.proofs.lemmas.List.{get_or_default}
 use Rattle.snap_semantics.specs.Table.{call_skip}

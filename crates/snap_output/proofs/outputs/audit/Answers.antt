@@ -1,4 +1,5 @@
 -- `audit` of snap_output (src/outputs.rt): the proof of what its contract says.
+-- The verdicts of a listing under a schedule.
 use Rattle.std.proofs.Common.{map, sym}
 use Rattle.snap_output.specs.Output.{verdicts_text}
 use Rattle.snap_input.specs.Parts.{parts_of}

@@ -1,4 +1,5 @@
 -- `batch` of snap_output (src/outputs.rt): the proof of what its contract says.
+-- A listing and many schedules.
 use Rattle.std.proofs.Common.{map, sym}
 use Rattle.snap_input.specs.Parts.{parts_of}
 use Rattle.snap_output.specs.Prepared.{batch_reports}

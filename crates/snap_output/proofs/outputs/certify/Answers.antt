@@ -1,4 +1,5 @@
 -- `certify` of snap_output (src/outputs.rt): the proof of what its contract says.
+-- The certification of a listing under a schedule.
 use Rattle.std.proofs.Common.{map, sym}
 use Rattle.snap_certify_output.specs.Output.{certificates_text}
 use Rattle.snap_input.specs.Parts.{parts_of}

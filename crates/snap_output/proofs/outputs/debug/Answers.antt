@@ -1,4 +1,5 @@
 -- `debug` of snap_output (src/outputs.rt): the proof of what its contract says.
+-- A listing under a schedule, as commands ask for it.
 use Rattle.std.proofs.Common.{map, sym}
 use Rattle.snap_output.specs.Output.{debug_text}
 use Rattle.snap_input.specs.Parts.{parts_of}

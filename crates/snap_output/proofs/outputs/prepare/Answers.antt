@@ -1,4 +1,5 @@
 -- `prepare` of snap_output (src/outputs.rt): the proof of what its contract says.
+-- What is found of an input in one thread, or why there is no output.
 use Rattle.std.proofs.Common.{rules, ◌≡◌, ◌≤◌, Err, length}
 use Rattle.snap_semantics.specs.declared.fault.Fault.TheVariants.{Refused}
 use Rattle.snap_semantics.specs.declared.refusal.Refusal.{Refusal}

@@ -1,4 +1,5 @@
 -- `survey` of snap_output (src/outputs.rt): the proof of what its contract says.
+-- What the runs of a listing under many schedules came to, and whether each of them is clean.
 use Rattle.std.proofs.Common.{map, sym}
 use Rattle.snap_input.specs.Parts.{parts_of}
 use Rattle.snap_survey_output.specs.Surveys.{are_clean, survey_text}

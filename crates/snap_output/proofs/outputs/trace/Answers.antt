@@ -1,4 +1,5 @@
 -- `trace` of snap_output (src/outputs.rt): the proof of what its contract says.
+-- What each item of a listing's run under a schedule did.
 use Rattle.std.proofs.Common.{map, sym}
 use Rattle.snap_trace_output.specs.Traces.{traces_text}
 use Rattle.snap_input.specs.Parts.{parts_of}

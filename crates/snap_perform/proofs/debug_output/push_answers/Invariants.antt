@@ -1,4 +1,5 @@
 -- `push_answers` of snap_perform (src/debug_output.rt): what holds at the head of each of its loops.
+-- Commands, each with what a session answers to it.
 use Rattle.std.proofs.Common.{◌≡◌, ◌++◌, drop}
 use Rattle.snap_debug.specs.Session.{after_commands, replies_text}
 use Rattle.snap_perform.proofs.debug_output.push_answers.Given as goal

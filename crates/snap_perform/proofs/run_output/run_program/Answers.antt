@@ -1,4 +1,5 @@
 -- `run_program` of snap_perform (src/run_output.rt): the proof of what its contract says.
+-- What the one command `run` is answered on a program under a schedule, and the report of the end.
 use Rattle.std.proofs.Common.{ℕ, List, Result, sym, subst}
 use Rattle.snap_semantics.specs.Answers.{Answers}
 use Rattle.snap_semantics.specs.declared.refusal.Refusal.{Refusal}

@@ -1,4 +1,5 @@
 -- `count` of snap_picture (src/sought.rt): what holds at the head of each of its loops.
+-- How many shapes are what is counted.
 use Rattle.std.proofs.Common.{◌≡◌, ◌+◌, ◌≤◌, drop}
 use Rattle.snap_picture.specs.Picture.{counted}
 use Rattle.snap_picture.proofs.sought.count.Given as goal

@@ -1,4 +1,5 @@
 -- `conduct` of snap_program (src/whole_run.rt): the proof of what its contract says.
+-- Reads the input, and then writes its whole output and nothing else.
 use Rattle.snap_program.proofs.whole_run.conduct.Goals as goal
 
 pub returns : goal.returns

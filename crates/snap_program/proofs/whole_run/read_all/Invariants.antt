@@ -1,4 +1,5 @@
 -- `read_all` of snap_program (src/whole_run.rt): what holds at the head of each of its loops.
+-- Reads all there is, or one byte more than is allowed.
 use Rattle.std.proofs.Common.{◌-◌, ◌≡◌, ◌≤◌, false, vec_len}
 use Rattle.std.specs.Io.KnownBytes.{Consumes}
 use Rattle.snap_program.proofs.whole_run.read_all.Given as goal

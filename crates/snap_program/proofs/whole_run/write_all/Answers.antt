@@ -1,4 +1,5 @@
 -- `write_all` of snap_program (src/whole_run.rt): the proof of what its contract says.
+-- Writes all of a text.
 use Rattle.std.proofs.Common.{take, drop, arith}
 use Rattle.std.proofs.lemmas.List.{length-drop, take_rest}
 use Rattle.std.proofs.Math.Seq.{take-add}

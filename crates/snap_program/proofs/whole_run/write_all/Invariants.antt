@@ -1,4 +1,5 @@
 -- `write_all` of snap_program (src/whole_run.rt): what holds at the head of each of its loops.
+-- Writes all of a text.
 use Rattle.std.proofs.Common.{length, ◌-◌, ◌≡◌, ◌≤◌, false, take}
 use Rattle.std.specs.Io.KnownBytes.{Appends}
 use Rattle.snap_program.proofs.whole_run.write_all.Given as goal

@@ -1,4 +1,5 @@
 -- `push_hint` of snap_prompt (src/hints.rt): the proof of what its contract says.
+-- Adds what would have been right.
 use Rattle.std.proofs.Common.{◌≡◌, ◌++◌, OnOk, codes, ℕ, List, refl, subst}
 use Rattle.snap_semantics.specs.declared.instr.Line.{Line}
 use Rattle.snap_semantics.specs.declared.refusal.CommandRefusal.{CommandRefusal}

@@ -1,4 +1,5 @@
 -- `count_steps` of snap_reach (src/steps.rt): the proof of what its contract says.
+-- Lets a process step to a goal, and tells how many steps it took, at most this many.
 use Rattle.std.proofs.Common.{◌∙◌, true, false, arith}
 use Rattle.snap_semantics.specs.State.{process_at}
 use Rattle.snap_reach.specs.Reach.{steps_from}

@@ -1,4 +1,5 @@
 -- `count_steps` of snap_reach (src/steps.rt): what holds at the head of each of its loops.
+-- Lets a process step to a goal, and tells how many steps it took, at most this many.
 use Rattle.std.proofs.Common.{◌≡◌, ◌-◌}
 use Rattle.snap_reach.specs.Reach.{steps_from}
 use Rattle.snap_reach.proofs.steps.count_steps.Given as goal

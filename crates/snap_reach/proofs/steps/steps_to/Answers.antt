@@ -1,4 +1,5 @@
 -- `steps_to` of snap_reach (src/steps.rt): the proof of what its contract says.
+-- How many steps a process takes to a goal from where a session stands, or why it takes none.
 use Rattle.std.proofs.Common.{rules, ◌≡◌, sym, subst}
 use Rattle.snap_reach.specs.Reach.{IsRightOf, steps_to}
 use Rattle.snap_reach.proofs.Fewest.{right}

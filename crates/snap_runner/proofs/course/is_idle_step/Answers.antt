@@ -1,4 +1,5 @@
 -- `is_idle_step` of snap_runner (src/course.rt): the proof of what its contract says.
+-- Whether an item is a step of a process that is not busy: it does nothing, however often it comes.
 use Rattle.std.proofs.Common.{sym, ◌∙◌}
 use Rattle.snap_runner.proofs.Courses.{idle_does_nothing, trapped_does_nothing, crashed_does_nothing}
 use Rattle.snap_runner.proofs.course.is_idle_step.Goals as goal

@@ -1,4 +1,5 @@
 -- `run_to_end` of snap_runner (src/course.rt): the proof of what its contract says.
+-- A program over a whole schedule.
 use Rattle.snap_runner.proofs.Courses.{next_fits, some_more}
 use Rattle.snap_runner.proofs.course.run_to_end.Goals as goal
 

@@ -1,4 +1,5 @@
 -- `run_to_end` of snap_runner (src/course.rt): what holds at the head of each of its loops.
+-- A program over a whole schedule.
 use Rattle.std.specs.List.{flat_map}
 use Rattle.snap_sched.specs.Segments.{segment_items}
 use Rattle.snap_runner.proofs.Courses.{Going}

@@ -1,4 +1,5 @@
 -- `call_form` of snap_sched (src/reader.rt): the proof of what its contract says.
+-- The form that a call is.
 use Rattle.snap_sched.proofs.Again.{call_again}
 use Rattle.snap_sched.proofs.reader.call_form.Goals as goal
 

@@ -1,4 +1,5 @@
 -- `items_of` of snap_sched (src/reader.rt): the proof of what its contract says.
+-- The items of the lines.
 use Rattle.std.proofs.Common.{◌≡◌, ◌-◌, length, option_map, ap, sym, ◌∙◌, Ok, Some}
 use Rattle.snap_sched.specs.ReaderSteps.{view_form, next_form}
 use Rattle.snap_sched.proofs.Lines.{turn, kept, next_found}

@@ -1,4 +1,5 @@
 -- `items_of` of snap_sched (src/reader.rt): what holds at the head of each of its loops.
+-- The items of the lines.
 use Rattle.std.proofs.Common.{◌≡◌, ◌-◌, ◌≤◌, length}
 use Rattle.std.specs.List.{AllByRecursion}
 use Rattle.snap_words.specs.Shape.{IsOneOf}

@@ -1,4 +1,5 @@
 -- `first_items` of snap_sched_edits (src/edits.rt): what holds at the head of each of its loops.
+-- The first of these items, so many of them.
 use Rattle.std.proofs.Common.{◌≡◌, ◌≤◌, ◌-◌, ◌++◌, length}
 use Rattle.snap_sched_edits.proofs.edits.first_items.Given as goal
 

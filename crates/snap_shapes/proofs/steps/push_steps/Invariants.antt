@@ -1,4 +1,5 @@
 -- `push_steps` of snap_shapes (src/steps.rt): what holds at the head of each of its loops.
+-- Adds what is drawn of all steps.
 use Rattle.std.proofs.Common.{◌≡◌, ◌++◌}
 use Rattle.snap_shapes.specs.Shapes.{shapes_to}
 use Rattle.snap_shapes.proofs.steps.push_steps.Given as goal

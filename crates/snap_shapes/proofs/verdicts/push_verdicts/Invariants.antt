@@ -1,4 +1,5 @@
 -- `push_verdicts` of snap_shapes (src/verdicts.rt): what holds at the head of each of its loops.
+-- Adds what is drawn of verdicts.
 use Rattle.std.proofs.Common.{◌≡◌, ◌++◌, drop}
 use Rattle.snap_shapes.specs.Shapes.{verdict_shapes}
 use Rattle.snap_shapes.proofs.verdicts.push_verdicts.Given as goal

@@ -1,4 +1,5 @@
 -- `text_u` of snap_shipped (src/unbounded.rt): the proof of what its contract says.
+-- The text of listing U, which is read as listing U.
 use Rattle.snap_shipped.proofs.TextOfU.{text_is_u}
 use Rattle.snap_shipped.proofs.unbounded.text_u.Goals as goal
 

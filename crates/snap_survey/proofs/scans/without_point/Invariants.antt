@@ -1,4 +1,5 @@
 -- `without_point` of snap_survey (src/scans.rt): what holds at the head of each of its loops.
+-- How many scans have no point.
 use Rattle.std.proofs.Common.{◌≡◌, ◌+◌, ◌≤◌, drop}
 use Rattle.snap_survey.specs.Survey.{without_point}
 use Rattle.snap_survey.proofs.scans.without_point.Given as goal

@@ -1,4 +1,5 @@
 -- `surveys` of snap_survey_output (src/survey_output.rt): what holds at the head of each of its loops.
+-- What the run over each of these schedules came to, in the order of the schedules.
 use Rattle.std.proofs.Common.{◌≡◌, ◌++◌, drop, map}
 use Rattle.snap_survey_output.specs.Surveys.{survey_over}
 use Rattle.snap_survey_output.proofs.survey_output.surveys.Given as goal

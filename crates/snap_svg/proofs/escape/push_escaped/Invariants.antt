@@ -1,4 +1,5 @@
 -- `push_escaped` of snap_svg (src/escape.rt): what holds at the head of each of its loops.
+-- Adds what stands for a text.
 use Rattle.std.proofs.Common.{◌≡◌, ◌++◌, take}
 use Rattle.snap_svg.specs.Escape.{escaped}
 use Rattle.snap_svg.proofs.escape.push_escaped.Given as goal

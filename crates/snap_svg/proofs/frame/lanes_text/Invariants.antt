@@ -1,4 +1,5 @@
 -- `lanes_text` of snap_svg (src/frame.rt): what holds at the head of each of its loops.
+-- The lanes of so many processes.
 use Rattle.std.proofs.Common.{◌≡◌, ◌++◌}
 use Rattle.snap_svg.specs.FrameText.{lanes_text}
 use Rattle.snap_svg.proofs.frame.lanes_text.Given as goal

@@ -1,4 +1,6 @@
 -- `call_front` of snap_text (src/calls.rt): the proof of what its contract says.
+-- The process and the operation of the call that the first line is, where it has its line feed, and the lines behind
+-- it.
 use Rattle.std.proofs.Common.{codes}
 use Rattle.snap_text.proofs.CallLines.{stripped, call_begins}
 use Rattle.snap_text.proofs.calls.call_front.Goals as goal

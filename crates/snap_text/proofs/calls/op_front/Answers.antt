@@ -1,4 +1,5 @@
 -- `op_front` of snap_text (src/calls.rt): the proof of what its contract says.
+-- The operation at the front, as it stands behind its process, and what stands behind it.
 use Rattle.std.proofs.Common.{codes}
 use Rattle.snap_text.proofs.CallLines.{stripped, scan_begins, update_begins}
 use Rattle.snap_text.proofs.calls.op_front.Goals as goal

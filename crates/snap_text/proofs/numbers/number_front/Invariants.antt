@@ -1,4 +1,5 @@
 -- `number_front` of snap_text (src/numbers.rt): what holds at the head of each of its loops.
+-- The number that the digits at the front spell, and what stands behind them.
 use Rattle.std.proofs.Common.{◌-◌, length}
 use Rattle.snap_text.proofs.Digits.{AreDigits}
 use Rattle.snap_text.proofs.numbers.number_front.Given as goal

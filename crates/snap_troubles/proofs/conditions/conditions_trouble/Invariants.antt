@@ -1,4 +1,5 @@
 -- `conditions_trouble` of snap_troubles (src/conditions.rt): what holds at the head of each of its loops.
+-- The first of so many places at which a condition traps.
 use Rattle.std.proofs.Common.{◌≡◌, ◌+◌}
 use Rattle.snap_troubles.specs.Troubles.{conditions_trouble}
 use Rattle.snap_troubles.proofs.conditions.conditions_trouble.Given as goal

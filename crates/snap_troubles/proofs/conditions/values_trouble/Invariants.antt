@@ -1,4 +1,5 @@
 -- `values_trouble` of snap_troubles (src/conditions.rt): what holds at the head of each of its loops.
+-- The first of so many places whose new value traps.
 use Rattle.std.proofs.Common.{◌≡◌, ◌+◌}
 use Rattle.snap_troubles.specs.Troubles.{values_trouble}
 use Rattle.snap_troubles.proofs.conditions.values_trouble.Given as goal

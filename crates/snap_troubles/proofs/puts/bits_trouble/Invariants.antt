@@ -1,4 +1,5 @@
 -- `bits_trouble` of snap_troubles (src/puts.rt): what holds at the head of each of its loops.
+-- The first of the numbers that is no bit.
 use Rattle.std.proofs.Common.{◌≡◌, drop}
 use Rattle.snap_troubles.specs.Troubles.{bits_trouble}
 use Rattle.snap_troubles.proofs.puts.bits_trouble.Given as goal

@@ -1,4 +1,5 @@
 -- `first_place` of snap_values (src/quantifiers.rt): what holds at the head of each of its loops.
+-- The least place at which a condition holds.
 use Rattle.std.proofs.Common.{◌≡◌, ◌+◌, Ok}
 use Rattle.snap_asm_program.specs.NamedLines.{named_condition}
 use Rattle.snap_semantics.specs.Answers.{◌>>=◌}

@@ -1,4 +1,5 @@
 -- `copy_views` of snap_words (src/copies.rt): what holds at the head of each of its loops.
+-- Equal views.
 use Rattle.std.proofs.Common.{◌≡◌, take}
 use Rattle.snap_words.proofs.copies.copy_views.Given as goal
 

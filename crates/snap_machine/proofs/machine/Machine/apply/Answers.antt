@@ -1,4 +1,5 @@
 -- `Machine::apply` of snap_machine (src/machine.rt): the proof of what its contract says.
+-- One item of a schedule.
 use Rattle.std.proofs.Common.{rules, ◌≡◌, length, map, refl, ap, subst, ◌∙◌}
 use Rattle.snap_values.specs.Seen.{seen_process}
 use Rattle.snap_line_effects.specs.Sizes.{AllSized}

@@ -1,4 +1,5 @@
 -- `Machine::copy` of snap_machine (src/machine.rt): the proof of what its contract says.
+-- An equal machine.
 use Rattle.std.proofs.Common.{map, ap, ◌∙◌}
 use Rattle.snap_regs.specs.Store.{Store}
 use Rattle.snap_values.specs.Seen.{seen_process}

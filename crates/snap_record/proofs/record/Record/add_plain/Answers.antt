@@ -1,4 +1,6 @@
 -- `Record::add_plain` of snap_record (src/record.rt): the proof of what its contract says.
+-- Does one step that writes no word, tests nothing for all and answers nothing: nothing is noted of it but how an
+-- operation ends.
 use Rattle.std.proofs.Common.{◌≡◌, suc, ◌<◌, ◌-◌, ℕ, ◌∷◌, [], ◌++◌, length, map, refl, sym, ◌∙◌, ap, subst, slice_index}
 use Rattle.snap_words.specs.Shape.{IsOneOf}
 use Rattle.snap_semantics.specs.Run.{event_of}

@@ -1,4 +1,5 @@
 -- `Record::scan_collects` of snap_record (src/record.rt): the proof of what its contract says.
+-- How many double collects the scan takes that the event at a place calls, where it calls one.
 use Rattle.std.proofs.Common.{◌<◌, ◌≤◌, ◌+◌, ◌-◌, List, length, drop, get_or, map, sym, ap, subst, ◌∙◌, arith}
 use Rattle.std.proofs.lemmas.Grind.{get_or_default_zero}
 use Rattle.std.proofs.lemmas.List.{get_or_default}

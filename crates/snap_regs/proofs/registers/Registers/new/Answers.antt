@@ -1,4 +1,5 @@
 -- `Registers::new` of snap_regs (src/registers.rt): the proof of what its contract says.
+-- The registers of this shape, nobody having written any.
 use Rattle.std.proofs.Common.{◌≡◌, ◌∙◌, map, replicate}
 use Rattle.snap_words.specs.declared.address.Bank.TheVariants as bank
 use Rattle.snap_regs.specs.Store.{rows_in}

@@ -1,4 +1,5 @@
 -- `Course::take_times` of snap_runner (src/course.rt): the proof of what its contract says.
+-- Does an item more, so many times.
 use Rattle.std.proofs.Common.{rules, ◌≡◌, ◌+◌, ◌-◌, arith, refl}
 use Rattle.snap_runner.proofs.Courses.{takes_idle, takes_once_more}
 use Rattle.snap_runner.proofs.course.Course.take_times.Goals as goal

@@ -1,4 +1,5 @@
 -- `Course::take_times` of snap_runner (src/course.rt): what holds at the head of each of its loops.
+-- Does an item more, so many times.
 use Rattle.std.proofs.Common.{◌-◌, ◌≤◌, replicate}
 use Rattle.snap_runner.specs.Courses.{Takes}
 use Rattle.snap_runner.proofs.course.Course.take_times.Given as goal

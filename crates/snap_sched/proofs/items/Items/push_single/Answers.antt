@@ -1,4 +1,5 @@
 -- `Items::push_single` of snap_sched (src/items.rt): the proof of what its contract says.
+-- Adds a call or a crash.
 use Rattle.snap_sched.specs.Kept.{segments_of}
 use Rattle.snap_sched.proofs.Keeping.{single_added}
 use Rattle.snap_sched.proofs.items.Items.push_single.Goals as goal

@@ -1,4 +1,5 @@
 -- `TalliedRecord::open_operations` of snap_survey (src/tallied.rt): what holds at the head of each of its loops.
+-- How many processes are at an operation, or were at one when they trapped or crashed.
 use Rattle.std.proofs.Common.{◌≡◌, ◌≤◌}
 use Rattle.snap_runs.specs.Scan.{count}
 use Rattle.snap_survey.specs.Survey.{is_open}

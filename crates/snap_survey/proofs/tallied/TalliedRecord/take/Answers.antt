@@ -1,4 +1,5 @@
 -- `TalliedRecord::take` of snap_survey (src/tallied.rt): the proof of what its contract says.
+-- Does one item more, and notes what it came to.
 use Rattle.std.proofs.Common.{length, sym, ap, ◌∙◌}
 use Rattle.snap_semantics.specs.declared.process.Outcome.{Outcome}
 use Rattle.snap_semantics.specs.declared.process.Status.{Status}

@@ -1,5 +1,5 @@
 //! How the debugger goes back and forth in a run: checkpoints, which are copies of the machine
-//! along it, and what the items since the last checkpoint overwrote.
+//! along it, and what the last items overwrote.
 #![tactic(auto)]
 
 mod checkpoint;

@@ -20,7 +20,10 @@ use std::marker::Model;
 
 /// How many items lie between checkpoints, for each process: the larger a machine is, the fewer
 /// copies are kept.
-const FAR: u64 = 256;
+const FAR: u64 = 64;
+
+/// How many items lie between checkpoints at least.
+const LEAST: u64 = 512;
 
 /// The record of a schedule's first items, as many as were asked for yet, with checkpoints: copies
 /// of the machine at the beginning and at even distances from it. No item is recorded twice.
@@ -219,6 +222,13 @@ impl<K: Kind> Recording<K> {
         self.schedule.shape().process_count()
     }
 
+    /// How many items lie between checkpoints.
+    fn spacing(&self) -> u64
+        ensures { 0 < result }
+    {
+        (u64::from(self.processes()) * FAR).max(LEAST)
+    }
+
     /// Goes on until so many items are recorded, or more.
     pub fn reach(&mut self, position: u64) -> Result<(), AllocError>
         requires { position ≤ length self.old.run.items }
@@ -231,7 +241,7 @@ impl<K: Kind> Recording<K> {
             return Ok(());
         }
         let count = further(reached, position, self.total()) - reached;
-        let spacing = u64::from(self.processes()) * FAR;
+        let spacing = self.spacing();
         let mut items = self.schedule.items().iter();
         skip(&mut items, reached);
         record_more(
@@ -275,13 +285,26 @@ impl<K: Kind> Recording<K> {
         Ok((who(item), outcome))
     }
 
+    /// Does the items up to a position.
+    pub fn run_to(&self, current: &mut Checkpoint<K>, position: u64) -> Result<(), AllocError>
+        requires stands { IsCheckpoint self.now.run current.old }
+        requires before { current.old.position ≤ position }
+        requires reached { position ≤ self.now.reached }
+        ensures stands { OnOk result (IsCheckpoint self.now.run current.new) }
+        ensures position { OnOk result (current.new.position ≡ position) }
+    {
+        while current.position < position {
+            let _done = self.advance(current)?;
+        }
+        Ok(())
+    }
+
     /// The last checkpoint that is not behind a position.
     pub fn checkpoint(&self, position: u64) -> &Checkpoint<K>
         ensures stands { IsCheckpoint self.now.run result.now }
         ensures before { result.now.position ≤ position }
     {
-        let spacing = u64::from(self.processes()) * FAR;
-        let k = (position / spacing).min(self.later.len() as u64);
+        let k = (position / self.spacing()).min(self.later.len() as u64);
         if k > 0 {
             let current = &self.later[(k - 1) as usize];
             if current.position <= position {

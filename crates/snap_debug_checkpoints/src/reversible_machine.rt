@@ -12,6 +12,9 @@ use snap_semantics::Outcome;
 use snap_words::Kind;
 use std::alloc::{AllocError, Global};
 
+/// How many items a machine that comes from a checkpoint can go back, if so many lie between.
+const NEAR: u64 = 256;
+
 /// An item that was done: what came of it, and what it overwrote.
 #[derive(Drop)]
 pub struct DoneItem<K: Kind> {
@@ -135,7 +138,8 @@ impl<K: Kind> ReversibleMachine<K> {
         Ok(())
     }
 
-    /// From the last checkpoint before a position to that position.
+    /// From the last checkpoint before a position to that position. It can go back the last items
+    /// alone: to keep what an item overwrote costs more than to do it.
     pub fn to(
         alloc: Global,
         recording: &Recording<K>,
@@ -146,8 +150,10 @@ impl<K: Kind> ReversibleMachine<K> {
         ensures position { IfOk result (λ p. p.current.position ≡ position) }
         ensures last { IfOk result (λ p. 0 < position → start p < position) }
     {
-        let checkpoint = recording.checkpoint(position.saturating_sub(1));
-        let mut reversible = ReversibleMachine::new(alloc, checkpoint.copy()?);
+        let mut current = recording.checkpoint(position.saturating_sub(1)).copy()?;
+        let begin = position.saturating_sub(NEAR).max(current.position);
+        recording.run_to(&mut current, begin)?;
+        let mut reversible = ReversibleMachine::new(alloc, current);
         reversible.go_on(recording, position)?;
         Ok(reversible)
     }

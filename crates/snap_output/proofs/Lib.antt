@@ -3,3 +3,4 @@ pub mod Shipping
 pub mod Schedules
 pub mod AtOnce
 pub mod Alike
+pub mod SideBySide

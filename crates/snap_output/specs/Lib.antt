@@ -1,6 +1,5 @@
 -- The definitions of snap_output, by their modules.
 pub mod Output
-pub mod Prepared
 pub mod AtOnce
 pub mod Headline
 pub mod Refusals

@@ -1,14 +1,16 @@
-//! `Batch`: what the task `batch` writes, the report of the end of each of many schedules of one
-//! listing.
-ghost use Rattle.std.specs.Prelude.{◌≡◌, ◌++◌, ◌<◌, ◌^◌, IfOk, OnOk, length, map};
+//! `batch_program`: what the task `batch` writes, the report of the end of each of many schedules of
+//! one listing. The schedules are read and run one after another or side by side.
+ghost use Rattle.std.specs.Prelude.{◌≡◌, ◌++◌, ◌<◌, ◌^◌, Ok, IfOk, OnOk, length, map};
 ghost use Rattle.snap_semantics.specs.Answers.{Answers};
 ghost use Rattle.snap_batch.specs.Reports.{numbered_report, reports_text};
+ghost use Rattle.snap_input.specs.Schedules.{schedule_for};
 ghost use Rattle.snap_survey_output.specs.Surveys.{schedules_for};
 ghost use Rattle.snap_output.specs.Output.{batch_text};
-ghost use Rattle.snap_output.specs.Prepared.{batch_reports};
 
+use rayon::prelude::*;
 use snap_asm_program::Program;
 use snap_batch::{batch, batch_alone};
+use snap_input::schedule_for;
 use snap_report::Report;
 use snap_sched::Schedule;
 use snap_semantics::{Fault, Refusal};
@@ -66,38 +68,69 @@ fn reports_text(alloc: Global, reports: &[Report]) -> Result<Vec<u8>, AllocError
     Ok(out)
 }
 
-/// A batch that has yet to run: a program and its schedules.
-#[derive(Drop)]
-pub struct Batch {
-    program: Program,
-    schedules: Vec<Schedule>,
+/// The report of the end of each of a program's schedules that texts are, behind the line of its
+/// number.
+#[tactic(auto, unfolding(crate::specs::Output::batch_text))]
+pub fn batch_program(
+    alloc: Global,
+    program: &Program,
+    texts: &[&[u8]],
+) -> Result<Vec<u8>, Fault<Refusal>>
+    ensures { Answers (λ out. out.items) result
+        (batch_text program.now (map (λ text. text.now) texts.now)) }
+{
+    let schedules = schedules_of(alloc, program, texts)?;
+    let reports = batch_alone(alloc, program, schedules.as_slice())?;
+    Ok(reports_text(alloc, reports.as_slice())?)
 }
 
-impl Batch {
-    /// The batch of a program and the schedules that texts are.
-    #[tactic(auto, unfolding(crate::specs::Output::batch_text))]
-    pub fn of(alloc: Global, program: Program, texts: &[&[u8]]) -> Result<Batch, Fault<Refusal>>
-        ensures { Answers batch_reports result
-            (batch_text program (map (λ text. text.now) texts.now)) }
-    {
-        let schedules = schedules_of(alloc, &program, texts)?;
-        Ok(Batch { program, schedules })
+/// Reads a schedule whose shape fits a program.
+fn schedule_of(alloc: Global, program: &Program, text: &[u8]) -> Result<Schedule, Fault<Refusal>>
+    ensures { Answers (λ s. s) result (schedule_for program.now text.now) }
+{
+    match program.kind() {
+        KindTag::Seq => schedule_for::<Seq>(alloc, program, text),
+        KindTag::Bits => schedule_for::<Bits>(alloc, program, text),
+        KindTag::Multi => schedule_for::<Multi>(alloc, program, text),
     }
+}
 
-    /// The report of the end of each schedule, each behind the line of its number. The schedules
-    /// run side by side.
-    pub fn reports(&self, rt: &(impl Threads + Sync), alloc: Global) -> Result<Vec<u8>, AllocError>
-        ensures { IfOk result (λ out. out.items ≡ batch_reports self.now) }
-    {
-        let reports = batch(rt, alloc, &self.program, self.schedules.as_slice())?;
-        reports_text(alloc, reports.as_slice())
-    }
+/// Reads schedules whose shapes fit a program, side by side. A fault that is answered need not be
+/// that of the first text.
+fn schedules_side_by_side(
+    rt: &(impl Threads + Sync),
+    alloc: Global,
+    program: &Program,
+    texts: &[&[u8]],
+) -> Result<Vec<Schedule>, Fault<Refusal>>
+    ensures { IfOk result (λ ss.
+        schedules_for program.now (map (λ text. text.now) texts.now) ≡ Ok ss.items) }
+{
+    let schedules: Result<Vec<Schedule>, Fault<Refusal>> = texts
+        .par_iter()
+        .with_min_len(1)
+        .map(
+            |text: &&[u8]| -> Result<Schedule, Fault<Refusal>>
+                ensures { Answers (λ s. s) result (schedule_for program.entry.now text.now.now) }
+            { schedule_of(alloc, program, text) },
+        )
+        .collect(rt, alloc)?;
+    schedules
+}
 
-    /// The same in one thread.
-    pub fn reports_alone(&self, alloc: Global) -> Result<Vec<u8>, AllocError>
-        ensures { IfOk result (λ out. out.items ≡ batch_reports self.now) }
-    {
-        let reports = batch_alone(alloc, &self.program, self.schedules.as_slice())?;
-        reports_text(alloc, reports.as_slice())
-    }
+/// What `batch_program` answers, if the schedules can be read and run side by side. A fault that is
+/// answered need not be that of the first text.
+#[tactic(auto, unfolding(crate::specs::Output::batch_text))]
+pub fn batch_side_by_side(
+    rt: &(impl Threads + Sync),
+    alloc: Global,
+    program: &Program,
+    texts: &[&[u8]],
+) -> Result<Vec<u8>, Fault<Refusal>>
+    ensures { IfOk result (λ out.
+        batch_text program.now (map (λ text. text.now) texts.now) ≡ Ok out.items) }
+{
+    let schedules = schedules_side_by_side(rt, alloc, program, texts)?;
+    let reports = batch(rt, alloc, program, schedules.as_slice())?;
+    Ok(reports_text(alloc, reports.as_slice())?)
 }

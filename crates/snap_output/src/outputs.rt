@@ -1,5 +1,5 @@
 //! `output`: what the program writes for an input, for each task, or why there is no output.
-ghost use Rattle.std.specs.Prelude.{◌≡◌, ◌≤◌, ◌<◌, Err, Ok, Some, length, map};
+ghost use Rattle.std.specs.Prelude.{◌≡◌, ◌≤◌, ◌<◌, Err, IfOk, Ok, Some, length, map};
 ghost use Rattle.snap_semantics.specs.Answers.{Answers};
 ghost use Rattle.snap_semantics.specs.declared.fault.Fault.TheVariants.{Refused};
 ghost use Rattle.snap_semantics.specs.declared.refusal.Refusal.{Refusal};
@@ -10,12 +10,11 @@ ghost use Rattle.snap_certify_output.specs.Output.{certificates_text};
 ghost use Rattle.snap_output.specs.Output.{batched, checked_schedules, clean_of, clean_runs};
 ghost use Rattle.snap_output.specs.Output.{debug_text, surveyed};
 ghost use Rattle.snap_output.specs.Output.{of_task, output_of, run_text, verdicts_text};
-ghost use Rattle.snap_output.specs.Prepared.{batch_reports, prepared_text};
 ghost use Rattle.snap_tasks.specs.declared.task.Task.TheVariants.{Survey};
 ghost use Rattle.snap_trace_output.specs.Traces.{traces_text};
 
 use crate::audit_output::audit_program;
-use crate::batch_output::Batch;
+use crate::batch_output::{batch_program, batch_side_by_side};
 use crate::check_output::check_of;
 use snap_asm_program::Program;
 use snap_certify_output::certify_program;
@@ -174,11 +173,12 @@ fn certify(alloc: Global, subject: Subject, input: &[u8]) -> Result<Vec<u8>, Fau
     certify_texts(alloc, &program, texts)
 }
 
-/// A listing and many schedules. Another number of parts is found before they are collected.
+/// The reports of a listing under many schedules. Another number of parts is found before they are
+/// collected.
 #[tactic(auto, unfolding(crate::specs::Output::batched))]
-fn batch(alloc: Global, subject: Subject, input: &[u8]) -> Result<Batch, Fault<Refusal>>
+fn batch(alloc: Global, subject: Subject, input: &[u8]) -> Result<Vec<u8>, Fault<Refusal>>
     requires { length input.now ≤ max_input }
-    ensures output { Answers batch_reports result (batched subject (parts_of input.now)) }
+    ensures output { Answers (λ out. out.items) result (batched subject (parts_of input.now)) }
     ensures counted { (r : Refusal) → checked_schedules subject (parts_of input.now) ≡ Err r →
         result ≡ Err (Refused r) }
 {
@@ -186,7 +186,28 @@ fn batch(alloc: Global, subject: Subject, input: &[u8]) -> Result<Batch, Fault<R
     let parts = split_parts(alloc, input)?;
     let program = program_for(alloc, subject, parts.as_slice())?;
     let texts = texts_for(subject, parts.as_slice());
-    Batch::of(alloc, program, texts)
+    batch_program(alloc, &program, texts)
+}
+
+/// The same, if the schedules can be read and run side by side. A fault that is answered need not be
+/// the first.
+#[tactic(auto, unfolding(crate::specs::Output::batched))]
+fn batch_in_threads(
+    rt: &(impl Threads + Sync),
+    alloc: Global,
+    subject: Subject,
+    input: &[u8],
+) -> Result<Vec<u8>, Fault<Refusal>>
+    requires { length input.now ≤ max_input }
+    ensures output { IfOk result (λ out. batched subject (parts_of input.now) ≡ Ok out.items) }
+    ensures counted { (r : Refusal) → checked_schedules subject (parts_of input.now) ≡ Err r →
+        result ≡ Err (Refused r) }
+{
+    check_schedules(subject, input)?;
+    let parts = split_parts(alloc, input)?;
+    let program = program_for(alloc, subject, parts.as_slice())?;
+    let texts = texts_for(subject, parts.as_slice());
+    batch_side_by_side(rt, alloc, &program, texts)
 }
 
 /// What the runs of a listing under many schedules came to, and whether each of them is clean.
@@ -226,19 +247,10 @@ pub fn survey_output(
     survey(alloc, subject, input)
 }
 
-/// What is found of an input in one thread.
-#[derive(Drop)]
-enum Prepared {
-    /// The whole output.
-    Text(Vec<u8>),
-    /// A batch whose reports are the output.
-    Batch(Batch),
-}
-
-/// What is found of an input in one thread, or why there is no output.
+/// The whole output for an input, or why there is none, in one thread.
 #[tactic(auto, using(crate::proofs::AtOnce::of_text, crate::proofs::AtOnce::of_why), unfolding(crate::specs::Output::output_of))]
-fn prepare(alloc: Global, task: &Task, input: &[u8]) -> Result<Prepared, Fault<Refusal>>
-    ensures output { Answers prepared_text result (output_of task.now input.now) }
+pub fn output_alone(alloc: Global, task: &Task, input: &[u8]) -> Result<Vec<u8>, Fault<Refusal>>
+    ensures output { Answers (λ out. out.items) result (output_of task.now input.now) }
     ensures at_once { (r : Refusal) → found_at_once task.now input.now ≡ Some r →
         result ≡ Err (Refused r) }
 {
@@ -246,22 +258,24 @@ fn prepare(alloc: Global, task: &Task, input: &[u8]) -> Result<Prepared, Fault<R
         return Err(Fault::Refused(Refusal::InputTooLong));
     }
     match *task {
-        Task::Check => Ok(Prepared::Text(check_of(alloc, input)?)),
-        Task::Lint => Ok(Prepared::Text(lint_of(alloc, input)?)),
-        Task::Assemble => Ok(Prepared::Text(assemble(alloc, input)?)),
-        Task::List => Ok(Prepared::Text(list(alloc, input)?)),
-        Task::Upgrade => Ok(Prepared::Text(upgrade(alloc, input)?)),
-        Task::Run(subject) => Ok(Prepared::Text(run(alloc, subject, input)?)),
-        Task::Trace(subject) => Ok(Prepared::Text(trace(alloc, subject, input)?)),
-        Task::Debug(subject) => Ok(Prepared::Text(debug(alloc, subject, input)?)),
-        Task::Audit(subject) => Ok(Prepared::Text(audit(alloc, subject, input)?)),
-        Task::Certify(subject) => Ok(Prepared::Text(certify(alloc, subject, input)?)),
-        Task::Batch(subject) => Ok(Prepared::Batch(batch(alloc, subject, input)?)),
-        Task::Survey(subject) => Ok(Prepared::Text(survey(alloc, subject, input)?.text)),
+        Task::Check => check_of(alloc, input),
+        Task::Lint => lint_of(alloc, input),
+        Task::Assemble => assemble(alloc, input),
+        Task::List => list(alloc, input),
+        Task::Upgrade => upgrade(alloc, input),
+        Task::Run(subject) => run(alloc, subject, input),
+        Task::Trace(subject) => trace(alloc, subject, input),
+        Task::Debug(subject) => debug(alloc, subject, input),
+        Task::Audit(subject) => audit(alloc, subject, input),
+        Task::Certify(subject) => certify(alloc, subject, input),
+        Task::Batch(subject) => batch(alloc, subject, input),
+        Task::Survey(subject) => Ok(survey(alloc, subject, input)?.text),
     }
 }
 
-/// The whole output for an input, or why there is none. The schedules of a batch run side by side.
+/// The same, with the schedules of a batch read and run side by side. What is a fault there is made
+/// once more in one thread: it finds the first fault, and takes less memory.
+#[tactic(auto, using(crate::proofs::AtOnce::of_why), unfolding(crate::specs::Output::output_of))]
 pub fn output(
     rt: &(impl Threads + Sync),
     alloc: Global,
@@ -272,20 +286,13 @@ pub fn output(
     ensures at_once { (r : Refusal) → found_at_once task.now input.now ≡ Some r →
         result ≡ Err (Refused r) }
 {
-    match prepare(alloc, task, input)? {
-        Prepared::Text(text) => Ok(text),
-        Prepared::Batch(batch) => Ok(batch.reports(rt, alloc)?),
-    }
-}
-
-/// The same in one thread.
-pub fn output_alone(alloc: Global, task: &Task, input: &[u8]) -> Result<Vec<u8>, Fault<Refusal>>
-    ensures output { Answers (λ out. out.items) result (output_of task.now input.now) }
-    ensures at_once { (r : Refusal) → found_at_once task.now input.now ≡ Some r →
-        result ≡ Err (Refused r) }
-{
-    match prepare(alloc, task, input)? {
-        Prepared::Text(text) => Ok(text),
-        Prepared::Batch(batch) => Ok(batch.reports_alone(alloc)?),
+    match *task {
+        Task::Batch(subject) if input.len() <= MAX_INPUT => {
+            match batch_in_threads(rt, alloc, subject, input) {
+                Ok(text) => Ok(text),
+                Err(_) => output_alone(alloc, task, input),
+            }
+        }
+        _ => output_alone(alloc, task, input),
     }
 }

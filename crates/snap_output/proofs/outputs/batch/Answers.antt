@@ -1,8 +1,7 @@
 -- `batch` of snap_output (src/outputs.rt): the proof of what its contract says.
--- A listing and many schedules.
+-- The reports of a listing under many schedules.
 use Rattle.std.proofs.Common.{map, sym}
 use Rattle.snap_input.specs.Parts.{parts_of}
-use Rattle.snap_output.specs.Prepared.{batch_reports}
 use Rattle.snap_output.specs.Output.{batch_text, batched}
 use Rattle.snap_output.proofs.Schedules.{of_schedules}
 use Rattle.snap_output.proofs.outputs.batch.Goals as goal
@@ -10,9 +9,9 @@ use Rattle.snap_output.proofs.outputs.batch.Goals as goal
 pub returns-clause-output : goal.returns-clause-output
 unfolding batched
 returns-clause-output c =
-    of_schedules batch_reports c.of.result batch_text c.args.subject (parts_of c.args.input.now)
+    of_schedules (λ out. out.items) c.batch_program.result batch_text c.args.subject (parts_of c.args.input.now)
     (map (λ part. part.now) c.in_ok-parts.parts.items)
     (map (λ text. text.now) c.texts_for-texts.result.now) c.in_ok-program.program
     (sym c.in_ok-check_schedules.ensures) c.in_ok-parts.ensures
     (rw (sym c.as_slice.ensures.value) c.in_ok-program.ensures)
-    (rw (sym c.as_slice-2.ensures.value) c.texts_for-texts.ensures) c.of.ensures
+    (rw (sym c.as_slice-2.ensures.value) c.texts_for-texts.ensures) c.batch_program.ensures

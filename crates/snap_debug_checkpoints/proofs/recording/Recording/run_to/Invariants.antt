@@ -1,6 +1,6 @@
 -- `Recording::run_to` of snap_debug_checkpoints (src/recording.rt): what holds at the head of each of its loops.
 -- Does the items up to a position.
-use Rattle.std.proofs.Common.{◌≡◌, ◌≤◌, ◌-◌}
+use Rattle.std.proofs.Common.{◌≤◌, ◌-◌}
 use Rattle.snap_debug_checkpoints.specs.Recording.{IsCheckpoint}
 use Rattle.snap_debug_checkpoints.proofs.recording.Recording.run_to.Given as goal
 

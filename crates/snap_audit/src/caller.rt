@@ -1,6 +1,7 @@
 //! `Caller`: what an audit keeps of each process: its last call, with the values and the double
 //! collects at it.
-ghost use Rattle.std.specs.Prelude.{◌≡◌, ◌≤◌, ◌<◌, ◌+◌, ◌-◌, ◌^◌, ℕ, IfOk, drop, suc, replicate};
+ghost use Rattle.std.specs.Prelude.{◌≡◌, ◌≤◌, ◌<◌, ◌+◌, ◌-◌, ◌^◌, ℕ, List, IfOk, drop, suc};
+ghost use Rattle.std.specs.Prelude.{replicate};
 ghost use Rattle.snap_record.specs.History.{values_by};
 ghost use Rattle.snap_audit.specs.Sweep.{fresh, least_by};
 ghost use Rattle.snap_runs.specs.declared.verdict.Verdict.{Verdict};
@@ -19,6 +20,22 @@ pub(crate) struct Caller {
     pub(crate) collects: u64,
 }
 
+/// The first item behind this one before which the values may change, or the end if none is before
+/// it.
+fn next_change(changes: &[Change], next: usize, item: u64, end: u64) -> u64
+    requires { item < end }
+    ensures later { item < result }
+    ensures within { result ≤ end }
+    ensures quiet { (vs : List ℕ) → values_by vs (drop next changes.now) item ≡ vs → (u : ℕ) →
+        item ≤ u → u < result → values_by vs (drop next changes.now) u ≡ vs }
+{
+    if next < changes.len() {
+        changes[next].item.max(item + 1).min(end)
+    } else {
+        end
+    }
+}
+
 /// The least of so many items, the first of which is this one, after which the values are a view.
 /// The values are those before that item, with the next change to come.
 fn find_point(
@@ -32,12 +49,15 @@ fn find_point(
     requires { item + count < 2 ^ 64 }
     ensures { result ≡ least_by values.old (drop next changes.now) view.now item count }
 {
+    let end = item + count;
     let mut k = next;
-    for t in item..item + count {
+    let mut t = item;
+    while t < end {
         k = advance(values, changes, k, t);
         if values.as_slice() == view {
             return Some(t);
         }
+        t = next_change(changes, k, t, end);
     }
     None
 }

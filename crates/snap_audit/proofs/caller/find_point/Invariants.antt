@@ -7,7 +7,13 @@ use Rattle.snap_audit.proofs.caller.find_point.Given as goal
 
 -- the point is still to come, and the values are those before
 abbrev pub invariant-loop-t : goal.invariant-loop-t
-invariant-loop-t l =
-    (least_by l.fn.values (drop l.next l.changes) l.view l.t (l.item + l.count - l.t)
-    ≡ least_by l.fn.values (drop l.next l.changes) l.view l.item l.count)
-    × ((u : ℕ) → l.t ≤ u → values_by l.values (drop l.k l.changes) u ≡ values_by l.fn.values (drop l.next l.changes) u)
+invariant-loop-t l = record {
+  left : least_by l.fn.values (drop l.next l.changes) l.view l.t (l.item + l.count - l.t)
+      ≡ least_by l.fn.values (drop l.next l.changes) l.view l.item l.count;
+  later : (u : ℕ) → l.t ≤ u →
+      values_by l.values (drop l.k l.changes) u ≡ values_by l.fn.values (drop l.next l.changes) u;
+  within : l.t ≤ l.item + l.count;
+}
+
+abbrev pub decreases-loop-t : goal.decreases-loop-t
+decreases-loop-t l = l.item + l.count - l.t

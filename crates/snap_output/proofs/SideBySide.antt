@@ -13,7 +13,7 @@ use Rattle.snap_input.specs.Schedules.{schedule_for}
 use Rattle.snap_survey_output.specs.Surveys.{schedules_for}
 
 -- a text was read, or there was a fault
-IsRead : Source → Bor (List ℕ) → Result Schedule (Fault Refusal) → Type 0
+abbrev IsRead : Source → Bor (List ℕ) → Result Schedule (Fault Refusal) → Type 0
 IsRead l text answer = Answers (λ s. s) answer (schedule_for l text.now)
 
 -- each text was read, and the schedule at its place is the one that it is
@@ -22,7 +22,10 @@ in_order : (l : Source) (texts : List (Bor (List ℕ))) (read : List Schedule) �
 in_order l [] [] h = refl
 in_order l [] (s ∷ read) h = absurd h
 in_order l (text ∷ texts) [] h = absurd h
-in_order l (text ∷ texts) (s ∷ read) h = rw (h.0, in_order l texts read h.1) refl
+in_order l (text ∷ texts) (s ∷ read) h =
+    let first : schedule_for l text.now ≡ Ok s = h.0 in
+    let rest : schedules_for l (map (λ text. text.now) texts) ≡ Ok read = in_order l texts read h.1 in
+    rw (first, rest) refl
 
 -- what is collected, if no text had a fault
 gathered : (l : Source) (texts : List (Bor (List ℕ))) (answers : List (Result Schedule (Fault Refusal)))

@@ -11,7 +11,6 @@ use Rattle.snap_image_format.specs.ImageCodes.{of_code, versions}
 use Rattle.snap_image_format.specs.declared.image.ImageVersion.{ImageVersion}
 use Rattle.snap_semantics.specs.declared.fault.Fault.{Fault}
 use Rattle.snap_semantics.specs.declared.fault.Fault.TheVariants.{Refused}
-use Rattle.snap_semantics.specs.declared.refusal.ImageRefusal.{ImageRefusal}
 use Rattle.snap_semantics.specs.declared.refusal.ImageRefusal.TheVariants.{NotAnImage, Version}
 use Rattle.snap_semantics.specs.declared.refusal.ListingRefusal.TheVariants.{TooLong}
 use Rattle.snap_semantics.specs.declared.refusal.Refusal.{Refusal}

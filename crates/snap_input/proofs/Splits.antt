@@ -46,35 +46,39 @@ first_and_rest bytes line rest some is_line is_rest =
     first_line_first bytes some ∙ ap (λ l. l ∷ full_lines (drop_through 10 bytes)) (sym is_line)
     ∙ ap (λ r. line ∷ full_lines r) (sym is_rest)
 
-pub first_ends : (bytes line rest : List ℕ) → 0 < length bytes → line ≡ take_through 10 bytes →
-    rest ≡ drop_through 10 bytes → ends_part line ≡ true → parts_of bytes ≡ [] ∷ parts_of rest
-first_ends bytes line rest some is_line is_rest ends =
-    ap parts_of_lines (first_and_rest bytes line rest some is_line is_rest)
+-- a first line that ends a part, and one that goes on with it
+pub first_ends : (bytes line rest : List ℕ) → line ≡ take_through 10 bytes → rest ≡ drop_through 10 bytes →
+    ends_part line ≡ true → parts_of bytes ≡ [] ∷ parts_of rest
+first_ends [] line rest is_line is_rest ends =
+    let none : ends_part [] ≡ true = sym (ap ends_part is_line) ∙ ends in absurd cc
+first_ends (b ∷ bytes) line rest is_line is_rest ends =
+    ap parts_of_lines (first_and_rest (b ∷ bytes) line rest (omega arith) is_line is_rest)
     ∙ ap (λ v. cond v ([] ∷ parts_of rest) (onto_part line (parts_of rest))) ends
 
-pub first_goes_on : (bytes line rest : List ℕ) → 0 < length bytes → line ≡ take_through 10 bytes →
-    rest ≡ drop_through 10 bytes → ends_part line ≡ false → parts_of bytes ≡ onto_part line (parts_of rest)
-first_goes_on bytes line rest some is_line is_rest ends =
-    ap parts_of_lines (first_and_rest bytes line rest some is_line is_rest)
+pub first_goes_on : (bytes line rest : List ℕ) → line ≡ take_through 10 bytes → rest ≡ drop_through 10 bytes →
+    ends_part line ≡ false → parts_of bytes ≡ onto_part line (parts_of rest)
+first_goes_on [] line rest is_line is_rest ends =
+    sym (ap (λ l. onto_part l (parts_of rest)) is_line ∙ ap (λ r. onto_part [] (parts_of r)) is_rest)
+first_goes_on (b ∷ bytes) line rest is_line is_rest ends =
+    ap parts_of_lines (first_and_rest (b ∷ bytes) line rest (omega arith) is_line is_rest)
     ∙ ap (λ v. cond v ([] ∷ parts_of rest) (onto_part line (parts_of rest))) ends
 
-pub part_ends : (before whole : List (List ℕ)) (front bytes line rest : List ℕ) → 0 < length bytes →
-    line ≡ take_through 10 bytes → rest ≡ drop_through 10 bytes → ends_part line ≡ true
-    → before ++ onto_part front (parts_of bytes) ≡ whole →
+-- a piece that ends a part, and one that goes on with it
+pub part_ends : (before whole : List (List ℕ)) (front bytes rest : List ℕ) →
+    parts_of bytes ≡ [] ∷ parts_of rest → before ++ onto_part front (parts_of bytes) ≡ whole →
     (before ++ front ∷ []) ++ onto_part [] (parts_of rest) ≡ whole
-part_ends before whole front bytes line rest some is_line is_rest ends so_far =
+part_ends before whole front bytes rest ends so_far =
     append_assoc before (front ∷ []) (onto_part [] (parts_of rest))
     ∙ ap (λ ps. before ++ front ∷ ps) (onto_none (full_lines rest))
     ∙ ap (λ f. before ++ f ∷ parts_of rest) (sym (append-nil front))
-    ∙ ap (λ ps. before ++ onto_part front ps) (sym (first_ends bytes line rest some is_line is_rest ends))
+    ∙ ap (λ ps. before ++ onto_part front ps) (sym ends)
     ∙ so_far
 
-pub part_goes_on : (before whole : List (List ℕ)) (front bytes line rest : List ℕ) → 0 < length bytes →
-    line ≡ take_through 10 bytes → rest ≡ drop_through 10 bytes → ends_part line ≡ false
-    → before ++ onto_part front (parts_of bytes) ≡ whole → before ++ onto_part (front ++ line) (parts_of rest) ≡ whole
-part_goes_on before whole front bytes line rest some is_line is_rest ends so_far =
-    ap (λ ps. before ++ ps) (sym (onto_again front line (parts_of rest))
-    ∙ ap (onto_part front) (sym (first_goes_on bytes line rest some is_line is_rest ends)))
+pub part_goes_on : (before whole : List (List ℕ)) (front bytes piece rest : List ℕ) →
+    parts_of bytes ≡ onto_part piece (parts_of rest) → before ++ onto_part front (parts_of bytes) ≡ whole →
+    before ++ onto_part (front ++ piece) (parts_of rest) ≡ whole
+part_goes_on before whole front bytes piece rest goes_on so_far =
+    ap (λ ps. before ++ ps) (sym (onto_again front piece (parts_of rest)) ∙ ap (onto_part front) (sym goes_on))
     ∙ so_far
 
 -- a part that has a front has no more parts
@@ -91,17 +95,15 @@ length_onto front (line ∷ lines) =
           ∙ sym (length_onto line lines)
     ]
 
--- a line that ends a part is one part more
-pub one_part_more : (bytes line rest : List ℕ) → 0 < length bytes → line ≡ take_through 10 bytes →
-    rest ≡ drop_through 10 bytes → ends_part line ≡ true → length (parts_of bytes) ≡ length (parts_of rest) + 1
-one_part_more bytes line rest some is_line is_rest ends =
-    let e = ap length (first_ends bytes line rest some is_line is_rest ends) in omega (arith, e)
+-- a piece that ends a part is one part more
+pub one_part_more : (bytes rest : List ℕ) → parts_of bytes ≡ [] ∷ parts_of rest →
+    length (parts_of bytes) ≡ length (parts_of rest) + 1
+one_part_more bytes rest ends = (let e = ap length ends in omega (arith, e))
 
--- another line is none
-pub no_part_more : (bytes line rest : List ℕ) → 0 < length bytes → line ≡ take_through 10 bytes →
-    rest ≡ drop_through 10 bytes → ends_part line ≡ false → length (parts_of bytes) ≡ length (parts_of rest)
-no_part_more bytes line rest some is_line is_rest ends =
-    ap length (first_goes_on bytes line rest some is_line is_rest ends) ∙ length_onto line (full_lines rest)
+-- another one is none
+pub no_part_more : (bytes piece rest : List ℕ) → parts_of bytes ≡ onto_part piece (parts_of rest) →
+    length (parts_of bytes) ≡ length (parts_of rest)
+no_part_more bytes piece rest goes_on = ap length goes_on ∙ length_onto piece (full_lines rest)
 
 pub some_left : (n : ℕ) (b : Bool) → b ≡ (n == 0) → b ≡ false → 0 < n
 some_left n b is not_empty =

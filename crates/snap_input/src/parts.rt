@@ -1,10 +1,10 @@
 //! `split_parts`: the parts of an input, split at the lines that are `%` alone.
 ghost use Rattle.std.specs.Prelude.{◌≡◌, ◌+◌, ◌≤◌, ◌<◌, ℕ, IfOk, map, length, take, drop, [], ◌∷◌};
-ghost use Rattle.std.specs.Prelude.{false};
+ghost use Rattle.std.specs.Prelude.{false, true};
 ghost use Rattle.std.specs.Io.BufRead.{take_through, drop_through};
-ghost use Rattle.snap_input.specs.Parts.{ends_part, parts_of};
+ghost use Rattle.snap_input.specs.Parts.{ends_part, onto_part, parts_of};
 
-use memchr::memchr;
+use memchr::{memchr, memrchr};
 use std::alloc::{AllocError, Global};
 
 /// The length of the first line, with its line feed.
@@ -24,22 +24,48 @@ fn first_line_len(bytes: &[u8]) -> usize
     len
 }
 
-/// Whether the line is `%` alone.
-fn is_separator(line: &[u8]) -> bool
-    ensures { result ≡ ends_part line.now }
+/// The length of the whole lines at the front before the first `%`, or of all bytes where there is
+/// none: no line of these ends a part. Most of an input is a schedule, which has none.
+fn plain_len(bytes: &[u8]) -> usize
+    ensures within { result ≤ length bytes.now }
+    ensures plain { ends_part (take result bytes.now) ≡ false }
+    ensures parts { parts_of bytes.now
+        ≡ onto_part (take result bytes.now) (parts_of (drop result bytes.now)) }
 {
-    line == b"%\n".as_slice()
-        || line == b"%\r\n".as_slice()
-        || line == b"%".as_slice()
-        || line == b"%\r".as_slice()
+    let Some(sign) = memchr(b'%', bytes) else {
+        return bytes.len();
+    };
+    match memrchr(b'\n', &bytes[..sign]) {
+        Some(feed) => feed + 1,
+        None => 0,
+    }
 }
 
-/// Whether a line of these bytes may end a part. A schedule is most of an input, and no line of it
-/// does.
-fn may_part(bytes: &[u8]) -> bool
-    ensures { result ≡ false → parts_of bytes.now ≡ bytes.now ∷ [] }
+/// The length of the first piece: of the lines before the first `%`, or of the line that has it.
+fn first_piece_len(bytes: &[u8]) -> usize
+    ensures within { result ≤ length bytes.now }
+    ensures some { 0 < length bytes.now → 0 < result }
+    ensures ends { ends_part (take result bytes.now) ≡ true →
+        parts_of bytes.now ≡ [] ∷ parts_of (drop result bytes.now) }
+    ensures goes_on { ends_part (take result bytes.now) ≡ false → parts_of bytes.now
+        ≡ onto_part (take result bytes.now) (parts_of (drop result bytes.now)) }
 {
-    memchr(b'%', bytes).is_some()
+    let plain = plain_len(bytes);
+    if plain > 0 {
+        plain
+    } else {
+        first_line_len(bytes)
+    }
+}
+
+/// Whether the piece is the line `%` alone.
+fn is_separator(piece: &[u8]) -> bool
+    ensures { result ≡ ends_part piece.now }
+{
+    piece == b"%\n".as_slice()
+        || piece == b"%\r\n".as_slice()
+        || piece == b"%".as_slice()
+        || piece == b"%\r".as_slice()
 }
 
 /// How many lines of an input end a part: one less than it has parts. It takes no memory.
@@ -47,18 +73,12 @@ pub fn count_separators(input: &[u8]) -> usize
     ensures parts { result + 1 ≡ length (parts_of input.now) }
     ensures few { result ≤ length input.now }
 {
-    if !may_part(input) {
-        return 0;
-    }
     let mut count = 0;
     let mut rest = input;
     while !rest.is_empty() {
-        let (line, after) = rest.split_at(first_line_len(rest));
-        if is_separator(line) {
+        let (piece, after) = rest.split_at(first_piece_len(rest));
+        if is_separator(piece) {
             count += 1;
-            if !may_part(after) {
-                return count;
-            }
         }
         rest = after;
     }
@@ -70,23 +90,15 @@ pub fn split_parts(alloc: Global, input: &[u8]) -> Result<Vec<&[u8]>, AllocError
     ensures { IfOk result (λ parts. map (λ part. part.now) parts.items ≡ parts_of input.now) }
 {
     let mut parts = Vec::new(alloc);
-    if !may_part(input) {
-        parts.push(input)?;
-        return Ok(parts);
-    }
     let mut part = input;
     let mut len = 0;
     let mut rest = input;
     while !rest.is_empty() {
-        let (line, after) = rest.split_at(first_line_len(rest));
-        if is_separator(line) {
+        let (piece, after) = rest.split_at(first_piece_len(rest));
+        if is_separator(piece) {
             parts.push(&part[..len])?;
             part = after;
             len = 0;
-            if !may_part(after) {
-                parts.push(part)?;
-                return Ok(parts);
-            }
         } else {
             len = part.len() - after.len();
         }

@@ -20,8 +20,7 @@ pub(crate) struct Caller {
     pub(crate) collects: u64,
 }
 
-/// The first item behind this one before which the values may change, or the end if none is before
-/// it.
+/// The next item after this one by which a value may change, or the end if that comes first.
 fn next_change(changes: &[Change], next: usize, item: u64, end: u64) -> u64
     requires { item < end }
     ensures later { item < result }

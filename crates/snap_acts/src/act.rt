@@ -4,7 +4,7 @@ use snap_semantics::Op;
 use snap_words::View;
 
 /// What an item did. Words and processes count from 1.
-#[derive(Debug, Drop)]
+#[derive(Drop)]
 pub enum Act {
     /// It called an operation.
     Call(Op),
@@ -36,7 +36,7 @@ pub enum Act {
 }
 
 /// An item of a process, the line at which the process stood, 0 where it had none, and what it did.
-#[derive(Debug, Drop)]
+#[derive(Drop)]
 pub struct Step {
     pub process: u32,
     pub item: u64,

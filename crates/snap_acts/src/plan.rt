@@ -13,7 +13,7 @@ use snap_semantics::{Activity, Index, Instr, Item, Name, Op, Status};
 use snap_words::Kind;
 
 /// What a line is about to do, with its indices taken.
-#[derive(Clone, Copy, Debug)]
+#[derive(Clone, Copy)]
 pub(crate) enum Plan {
     Write(u64),
     Publish(u64),

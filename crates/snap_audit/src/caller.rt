@@ -12,7 +12,7 @@ use std::alloc::{AllocError, Global};
 
 /// The last call of a process, with the values then, the next change, and how many double collects
 /// the process had had.
-#[derive(Debug, Drop)]
+#[derive(Drop)]
 pub(crate) struct Caller {
     pub(crate) values: Row,
     pub(crate) next: usize,

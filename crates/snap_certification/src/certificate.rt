@@ -4,7 +4,7 @@ use snap_runs::Verdict;
 
 /// What a run is certified by: the line at which updates write, the writes in the order of their
 /// items, and the verdicts of the answered scans, each with its point, in the order of the answers.
-#[derive(Debug, Drop)]
+#[derive(Drop)]
 pub struct Certified {
     pub line: u64,
     pub writes: Vec<UpdateWrite>,
@@ -12,7 +12,7 @@ pub struct Certified {
 }
 
 /// The run is certified, or something is missing.
-#[derive(Debug, Drop)]
+#[derive(Drop)]
 pub enum Certification {
     Certified(Certified),
     Missing(Missing),

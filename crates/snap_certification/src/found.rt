@@ -4,7 +4,7 @@ use snap_semantics::{Activity, Outcome};
 use snap_words::View;
 
 /// An item as a certification sees it.
-#[derive(Debug, Drop)]
+#[derive(Drop)]
 pub struct SeenItem {
     pub process: u32,
     /// What the process is at before the item, where it is busy and the item is a step.
@@ -17,7 +17,7 @@ pub struct SeenItem {
 }
 
 /// How far a process is with its last call.
-#[derive(Clone, Copy, Debug, PartialEq, Eq)]
+#[derive(Clone, Copy, PartialEq, Eq)]
 pub struct Progress {
     /// The item of its last call, and 0 before the first one.
     pub call: u64,
@@ -26,7 +26,7 @@ pub struct Progress {
 }
 
 /// The write of an update. Items and words count from 1.
-#[derive(Clone, Copy, Debug, PartialEq, Eq)]
+#[derive(Clone, Copy, PartialEq, Eq)]
 pub struct UpdateWrite {
     pub process: u32,
     pub word: u64,
@@ -38,7 +38,7 @@ pub struct UpdateWrite {
 }
 
 /// What is missing at an item.
-#[derive(Clone, Copy, Debug, PartialEq, Eq)]
+#[derive(Clone, Copy, PartialEq, Eq)]
 pub enum Lack {
     /// The item changes the values, and does not execute the line at which updates write.
     Line,
@@ -55,7 +55,7 @@ pub enum Lack {
 }
 
 /// The first thing that is missing: what, of which process, at which call of it, and at which item.
-#[derive(Clone, Copy, Debug, PartialEq, Eq)]
+#[derive(Clone, Copy, PartialEq, Eq)]
 pub struct Missing {
     pub lack: Lack,
     pub process: u32,
@@ -64,7 +64,7 @@ pub struct Missing {
 }
 
 /// What is found at an item.
-#[derive(Clone, Copy, Debug, PartialEq, Eq)]
+#[derive(Clone, Copy, PartialEq, Eq)]
 pub enum Finding {
     Nothing,
     Write(UpdateWrite),

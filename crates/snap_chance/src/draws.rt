@@ -5,7 +5,7 @@ ghost use Rattle.snap_chance.specs.Draws.{draws};
 use rand_core::Rng;
 
 /// What is drawn for a turn: a number for each of its choices.
-#[derive(Clone, Copy, Debug)]
+#[derive(Clone, Copy)]
 pub(crate) struct Draws {
     pub(crate) process: u64,
     pub(crate) crash: u64,

@@ -11,7 +11,7 @@ use std::marker::Model;
 pub const MAX_TURNS: u64 = 7_500;
 
 /// How processes take turns.
-#[derive(Clone, Copy, Debug, PartialEq, Eq)]
+#[derive(Clone, Copy, PartialEq, Eq)]
 pub enum Pace {
     /// A step at a time, of a process that is drawn for each.
     Coins,
@@ -29,7 +29,7 @@ pub enum Pace {
 
 /// How schedules are made. There are processes and words, and so few turns that a schedule has room
 /// for them.
-#[derive(Clone, Copy, Debug)]
+#[derive(Clone, Copy)]
 pub struct Plan {
     shape: Shape,
     owns: bool,

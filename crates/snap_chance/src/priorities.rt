@@ -10,7 +10,7 @@ use rand_core::Rng;
 use std::alloc::{AllocError, Global};
 
 /// A process that has turns left, and how many.
-#[derive(Clone, Copy, Debug)]
+#[derive(Clone, Copy)]
 pub(crate) struct Mover {
     pub(crate) process: u32,
     pub(crate) left: u64,

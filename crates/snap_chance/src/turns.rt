@@ -37,7 +37,7 @@ use snap_semantics::Op;
 use std::alloc::AllocError;
 
 /// A turn of a process: what it is asked for, if anything, and how many steps it takes then.
-#[derive(Clone, Copy, Debug)]
+#[derive(Clone, Copy)]
 pub(crate) struct Turn {
     pub(crate) process: u32,
     pub(crate) call: Option<Op>,

@@ -11,7 +11,7 @@ use std::alloc::{AllocError, Global};
 
 /// What the arguments of a command line ask for, whether a refusal is to be explained, and whether
 /// a survey is strict: ends with a status of its own where a run is not clean.
-#[derive(Clone, Copy, Debug, PartialEq, Eq)]
+#[derive(Clone, Copy, PartialEq, Eq)]
 pub struct Invocation {
     pub request: Request,
     pub explains: bool,
@@ -19,7 +19,7 @@ pub struct Invocation {
 }
 
 /// What the arguments of a command line come to.
-#[derive(Debug, Drop)]
+#[derive(Drop)]
 pub enum CommandLine {
     /// They ask for this.
     Asks(Invocation),

@@ -30,7 +30,7 @@ use std::marker::Model;
 pub const MAX_MARKS: usize = 64;
 
 /// Breakpoints and watched registers, each in the order in which they were set.
-#[derive(Debug, Drop)]
+#[derive(Drop)]
 pub struct Marks {
     breaks: Vec<Breakpoint>,
     watches: Vec<Address>,

@@ -21,7 +21,7 @@ use std::alloc::{AllocError, Global};
 use std::marker::Model;
 
 /// The text of a reply, each of whose lines ends with a line feed.
-#[derive(Debug, Drop)]
+#[derive(Drop)]
 pub struct Reply {
     text: Vec<u8>,
 }

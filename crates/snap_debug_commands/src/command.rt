@@ -3,14 +3,14 @@
 use snap_words::Address;
 
 /// A line at which a process is to stop. Both are as they were written: neither need be there.
-#[derive(Clone, Copy, Debug, PartialEq, Eq)]
+#[derive(Clone, Copy, PartialEq, Eq)]
 pub struct Breakpoint {
     pub process: u64,
     pub line: u64,
 }
 
 /// A command of the debugger.
-#[derive(Clone, Copy, Debug, PartialEq, Eq)]
+#[derive(Clone, Copy, PartialEq, Eq)]
 pub enum Command {
     /// So many items on.
     Step(u64),

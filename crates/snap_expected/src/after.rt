@@ -44,7 +44,7 @@ const COLON: Wanted = Wanted::Symbol(Symbol::Colon);
 const GOTO: Wanted = Wanted::Keyword(Keyword::Goto);
 
 /// What a token is where something is wanted.
-#[derive(Debug, Drop)]
+#[derive(Drop)]
 pub enum Step {
     /// The front of it; the rest is wanted next.
     Takes(Vec<Wanted>),

@@ -15,7 +15,7 @@ use snap_text::Token;
 use std::alloc::{AllocError, Global};
 
 /// A place in a line: so many tokens stand before it, and these were wanted there.
-#[derive(Debug, Drop)]
+#[derive(Drop)]
 pub struct LostPlace {
     pub before: usize,
     pub wanted: Vec<Wanted>,

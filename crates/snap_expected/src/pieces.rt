@@ -10,7 +10,7 @@ use snap_text::{Token, tokens};
 use std::alloc::{AllocError, Global};
 
 /// A token, and the column of its first byte.
-#[derive(Clone, Copy, Debug)]
+#[derive(Clone, Copy)]
 pub struct PlacedToken<'a> {
     pub column: usize,
     pub token: Token<'a>,
@@ -18,7 +18,7 @@ pub struct PlacedToken<'a> {
 
 /// The tokens of a line before the first byte that begins none, and the column of that byte, where
 /// there is one. Columns count bytes, from 1.
-#[derive(Debug, Drop)]
+#[derive(Drop)]
 pub struct PlacedTokens<'a> {
     pub tokens: Vec<PlacedToken<'a>>,
     pub stray: Option<usize>,

@@ -7,7 +7,7 @@ use snap_subject::Subject;
 use snap_tasks::{Request, Task};
 
 /// The texts behind the listing.
-#[derive(Clone, Copy, Debug, PartialEq, Eq)]
+#[derive(Clone, Copy, PartialEq, Eq)]
 pub enum Texts {
     Schedule,
     ScheduleAndCommands,
@@ -17,7 +17,7 @@ pub enum Texts {
 }
 
 /// What an input consists of.
-#[derive(Clone, Copy, Debug, PartialEq, Eq)]
+#[derive(Clone, Copy, PartialEq, Eq)]
 pub enum Layout {
     /// The text of a listing.
     Listing,

@@ -27,7 +27,7 @@ use snap_words::KindTag;
 use std::alloc::{AllocError, Global};
 
 /// A token that is not right, and what it speaks of.
-#[derive(Clone, Copy, Debug)]
+#[derive(Clone, Copy)]
 pub struct Misuse<'a> {
     pub token: PlacedToken<'a>,
     pub spoken: Use<'a>,

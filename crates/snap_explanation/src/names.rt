@@ -140,7 +140,7 @@ pub fn first_again<'a>(
 }
 
 /// A line with a name, and the word that begins the line.
-#[derive(Clone, Copy, Debug)]
+#[derive(Clone, Copy)]
 pub struct Declared<'a> {
     pub line: u64,
     pub keyword: &'a [u8],
@@ -195,7 +195,7 @@ pub fn declared_at<'a>(
 }
 
 /// A text line, and the number at its front.
-#[derive(Clone, Copy, Debug)]
+#[derive(Clone, Copy)]
 pub struct Numbered {
     pub line: u64,
     pub number: u64,

@@ -18,7 +18,7 @@ use snap_text::line_count;
 use std::alloc::{AllocError, Global};
 
 /// What a part of an input is.
-#[derive(Clone, Copy, Debug, PartialEq, Eq)]
+#[derive(Clone, Copy, PartialEq, Eq)]
 pub enum PartName {
     Listing,
     Schedule,
@@ -29,7 +29,7 @@ pub enum PartName {
 }
 
 /// A part of an input, and how many lines of the input stand before it.
-#[derive(Clone, Copy, Debug)]
+#[derive(Clone, Copy)]
 pub struct Part<'a> {
     pub name: PartName,
     pub before: u64,

@@ -20,7 +20,7 @@ use snap_words::{Bank, Field, KindTag};
 const NAME_LETTERS: usize = 9;
 
 /// What the next name of a line is.
-#[derive(Clone, Copy, Debug, PartialEq, Eq)]
+#[derive(Clone, Copy, PartialEq, Eq)]
 pub enum Slot {
     /// A row before `[`, else a scalar, or the view at the end.
     Value,
@@ -33,7 +33,7 @@ pub enum Slot {
 }
 
 /// What a token speaks of that has to be of the listing.
-#[derive(Clone, Copy, Debug)]
+#[derive(Clone, Copy)]
 pub enum Use<'a> {
     /// A name in the place of a local of this sort.
     Named(Sort, &'a [u8]),

@@ -7,7 +7,7 @@ use snap_runs::Verdict;
 use snap_semantics::Cause;
 
 /// The steps of its own that a process has taken since it called an operation.
-#[derive(Clone, Copy, Debug, PartialEq, Eq)]
+#[derive(Clone, Copy, PartialEq, Eq)]
 pub struct OwnSteps {
     /// Whether the operation is an update. It is a scan where not.
     pub update: bool,
@@ -17,7 +17,7 @@ pub struct OwnSteps {
 }
 
 /// What fails in a run.
-#[derive(Clone, Copy, Debug, PartialEq, Eq)]
+#[derive(Clone, Copy, PartialEq, Eq)]
 pub enum Failure {
     /// A finished scan has no point.
     NoPoint(Verdict),
@@ -38,7 +38,7 @@ pub enum Failure {
 }
 
 /// The kinds of failures.
-#[derive(Clone, Copy, Debug, PartialEq, Eq)]
+#[derive(Clone, Copy, PartialEq, Eq)]
 pub enum FailureKind {
     Point,
     Trap,
@@ -47,7 +47,7 @@ pub enum FailureKind {
 }
 
 /// The most steps of its own that an operation may take.
-#[derive(Clone, Copy, Debug, PartialEq, Eq)]
+#[derive(Clone, Copy, PartialEq, Eq)]
 pub enum StepBound {
     /// Those within which each operation of the listing that is shipped for the kind is over, in
     /// the shape at hand.
@@ -56,7 +56,7 @@ pub enum StepBound {
 }
 
 /// Which failures are asked for.
-#[derive(Clone, Copy, Debug, PartialEq, Eq)]
+#[derive(Clone, Copy, PartialEq, Eq)]
 pub struct Wanted {
     pub point: bool,
     pub trap: bool,

@@ -2,7 +2,7 @@
 use std::io::ErrorKind;
 
 /// Why a file was not read.
-#[derive(Clone, Copy, Debug)]
+#[derive(Clone, Copy)]
 pub enum FileFault {
     Memory,
     /// It has as many bytes as are too many, or more.

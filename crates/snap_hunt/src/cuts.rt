@@ -11,7 +11,7 @@ use snap_words::Shape;
 use std::alloc::{AllocError, Global};
 
 /// Some of the items of a draft.
-#[derive(Clone, Copy, Debug)]
+#[derive(Clone, Copy)]
 pub(crate) enum Cut {
     /// So many items, from a place on.
     Segment {

@@ -13,7 +13,7 @@ use snap_words::{MAX_ITEMS, Shape};
 use std::alloc::{AllocError, Global};
 
 /// A shape and items. Whether they are a schedule is seen when they are tried.
-#[derive(Debug, Drop)]
+#[derive(Drop)]
 pub(crate) struct Draft {
     pub(crate) shape: Shape,
     pub(crate) items: Vec<Item>,

@@ -7,7 +7,7 @@ use std::alloc::{AllocError, Global};
 
 /// What stands between items of a process and its next ones: the first of its places, and the one
 /// behind the last.
-#[derive(Clone, Copy, Debug)]
+#[derive(Clone, Copy)]
 struct Gap {
     from: usize,
     to: usize,

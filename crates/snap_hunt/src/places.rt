@@ -8,14 +8,14 @@ use std::alloc::{AllocError, Global};
 
 /// A process or a word that is left out. What is done by it, or to it, is left out too, or falls to
 /// another one.
-#[derive(Clone, Copy, Debug)]
+#[derive(Clone, Copy)]
 pub(crate) struct Place {
     pub(crate) number: u64,
     pub(crate) heir: Option<u64>,
 }
 
 /// A process that is left out, a word, or a process with the word that it owns.
-#[derive(Clone, Copy, Debug)]
+#[derive(Clone, Copy)]
 pub(crate) struct Gone {
     pub(crate) process: Option<Place>,
     pub(crate) word: Option<Place>,

@@ -7,7 +7,7 @@ use snap_failure::Wanted;
 use snap_words::{KindTag, Shape};
 
 /// What a hunt is asked for.
-#[derive(Clone, Copy, Debug)]
+#[derive(Clone, Copy)]
 pub struct Asked {
     pub plan: Plan,
     pub wanted: Wanted,

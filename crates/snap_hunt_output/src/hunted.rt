@@ -20,7 +20,7 @@ use std::alloc::{AllocError, Global};
 use std::thread::Threads;
 
 /// What a hunt comes to.
-#[derive(Debug, Drop)]
+#[derive(Drop)]
 pub enum Hunted {
     /// None of the runs fails.
     NoneFails,
@@ -33,7 +33,7 @@ pub enum Hunted {
 }
 
 /// Why a hunt comes to nothing.
-#[derive(Clone, Copy, Debug, PartialEq, Eq)]
+#[derive(Clone, Copy, PartialEq, Eq)]
 pub enum HuntFault {
     Memory,
     Refused(Refusal),

@@ -14,7 +14,7 @@ use std::marker::Model;
 const SIGNATURE: &[u8] = b"SNAP";
 
 /// What is left of an image, seen with the number of bytes before it.
-#[derive(Debug, Drop)]
+#[derive(Drop)]
 pub struct Cursor<'a> {
     passed: usize,
     rest: &'a [u8],

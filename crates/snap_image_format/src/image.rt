@@ -2,7 +2,7 @@
 //! (`TermTag`, `ExprTag`, `InstrTag`): what codes of an image are codes of.
 
 /// The version of an image.
-#[derive(Clone, Copy, Debug, PartialEq, Eq)]
+#[derive(Clone, Copy, PartialEq, Eq)]
 pub enum ImageVersion {
     /// Without comments, and with line numbers up to 999.
     First,
@@ -11,7 +11,7 @@ pub enum ImageVersion {
 }
 
 /// The tag of a term.
-#[derive(Clone, Copy, Debug, PartialEq, Eq)]
+#[derive(Clone, Copy, PartialEq, Eq)]
 pub enum TermTag {
     Number,
     /// `n`.
@@ -33,7 +33,7 @@ pub enum TermTag {
 }
 
 /// The tag of an expression.
-#[derive(Clone, Copy, Debug, PartialEq, Eq)]
+#[derive(Clone, Copy, PartialEq, Eq)]
 pub enum ExprTag {
     Term,
     Sum,
@@ -41,7 +41,7 @@ pub enum ExprTag {
 }
 
 /// The tag of an instruction.
-#[derive(Clone, Copy, Debug, PartialEq, Eq)]
+#[derive(Clone, Copy, PartialEq, Eq)]
 pub enum InstrTag {
     Let,
     LetPlace,

@@ -2,7 +2,7 @@
 //! a call or a write of another process's register.
 
 /// What a line may run into.
-#[derive(Clone, Copy, Debug, PartialEq, Eq)]
+#[derive(Clone, Copy, PartialEq, Eq)]
 pub enum Concern {
     /// No line follows.
     OffEnd,
@@ -21,7 +21,7 @@ pub enum Concern {
 }
 
 /// A line, and what it may run into.
-#[derive(Clone, Copy, Debug, PartialEq, Eq)]
+#[derive(Clone, Copy, PartialEq, Eq)]
 pub struct Warning {
     pub line: u64,
     pub concern: Concern,

@@ -17,7 +17,7 @@ use snap_semantics::{Instr, Line};
 use std::alloc::{AllocError, Global};
 
 /// One line leads to another.
-#[derive(Clone, Copy, Debug, PartialEq, Eq)]
+#[derive(Clone, Copy, PartialEq, Eq)]
 pub struct Edge {
     pub from: u64,
     pub to: u64,

@@ -4,7 +4,7 @@ ghost use Rattle.std.specs.Prelude.{◌≡◌};
 ghost use Rattle.snap_lint.specs.Flow.{way_of};
 
 /// What a process is at, as far as control goes.
-#[derive(Clone, Copy, Debug, PartialEq, Eq)]
+#[derive(Clone, Copy, PartialEq, Eq)]
 pub enum Mode {
     /// A scan, outside its calls.
     Scan,
@@ -18,7 +18,7 @@ pub enum Mode {
 
 /// Where control goes: outside calls, within one, or outside calls and only as far as the first
 /// write of a word.
-#[derive(Clone, Copy, Debug, PartialEq, Eq)]
+#[derive(Clone, Copy, PartialEq, Eq)]
 pub enum Way {
     Outside,
     Within,

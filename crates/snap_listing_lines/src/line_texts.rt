@@ -19,14 +19,14 @@ use std::marker::Model;
 const HEADER_LINES: u64 = 7;
 
 /// A line as it stands in the canonical text of its listing, without its comment.
-#[derive(Debug, Drop)]
+#[derive(Drop)]
 struct LineText {
     number: u64,
     text: Vec<u8>,
 }
 
 /// The lines of a listing as text, in their order.
-#[derive(Debug, Drop)]
+#[derive(Drop)]
 pub struct LineTexts {
     lines: Vec<LineText>,
 }

@@ -16,7 +16,7 @@ use std::thread::Threads;
 
 /// What a live run writes: the history of the run, and what is said of the operations in its
 /// scripts that call nothing, which is nothing where there is none.
-#[derive(Debug, Drop)]
+#[derive(Drop)]
 pub struct LiveOutput {
     pub text: Vec<u8>,
     pub uncalled: Vec<u8>,

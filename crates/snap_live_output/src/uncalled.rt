@@ -19,7 +19,7 @@ use std::alloc::{AllocError, Global};
 const LINES: usize = 8;
 
 /// An operation in a process's script that calls nothing, and the reason for which it is skipped.
-#[derive(Clone, Copy, Debug, PartialEq, Eq)]
+#[derive(Clone, Copy, PartialEq, Eq)]
 pub struct UncalledCall {
     pub process: u64,
     pub op: Op,

@@ -7,7 +7,7 @@ use crate::wanted::{Wanted, last_before};
 use snap_acts::{Act, Step};
 
 /// A scan: its process, and the places of the trace at which it began and ended, counted from 0.
-#[derive(Clone, Copy, Debug)]
+#[derive(Clone, Copy)]
 pub struct ScanPlaces {
     pub process: u32,
     pub from: usize,
@@ -16,7 +16,7 @@ pub struct ScanPlaces {
 
 /// A view that a scan took: the place at which it did, and, where they are there, the place at
 /// which it was written and the scan that saw it.
-#[derive(Clone, Copy, Debug)]
+#[derive(Clone, Copy)]
 pub struct Borrowed {
     pub taken: usize,
     pub written: Option<usize>,

@@ -19,7 +19,7 @@ ghost use Rattle.snap_loans.specs.Searches.{
 use snap_acts::{Act, Step};
 
 /// A step that is searched for.
-#[derive(Clone, Copy, Debug)]
+#[derive(Clone, Copy)]
 pub enum Wanted {
     /// The end of an operation of a process.
     End(u32),

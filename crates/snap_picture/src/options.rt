@@ -1,7 +1,7 @@
 //! `Options`: which items of a run a picture shows; `Look`: its style and its legend.
 
 /// Which items are drawn, where not all are, and whether reads lead to what they read.
-#[derive(Clone, Copy, Debug)]
+#[derive(Clone, Copy)]
 pub struct Options {
     pub from: Option<u64>,
     pub to: Option<u64>,
@@ -9,7 +9,7 @@ pub struct Options {
 }
 
 /// How a picture looks: its style with the definitions of arrow and hatch, and its legend, as SVG.
-#[derive(Clone, Copy, Debug)]
+#[derive(Clone, Copy)]
 pub struct Look<'a> {
     pub style: &'a [u8],
     pub legend: &'a [u8],

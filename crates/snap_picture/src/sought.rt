@@ -7,7 +7,7 @@ use snap_semantics::Op;
 use snap_svg::Shape;
 
 /// What is counted among shapes.
-#[derive(Clone, Copy, Debug)]
+#[derive(Clone, Copy)]
 pub(crate) enum Sought {
     /// A scan that has been answered.
     Scan,

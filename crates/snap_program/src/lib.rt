@@ -22,5 +22,5 @@ pub use whole_run::{
 };
 
 /// The device failed.
-#[derive(Clone, Copy, Debug)]
+#[derive(Clone, Copy)]
 pub struct Failed;

@@ -20,7 +20,7 @@ use std::alloc::{AllocError, Global};
 const MAX_LINE: usize = 1_048_576;
 
 /// What a line asks for.
-#[derive(Clone, Copy, Debug, PartialEq, Eq)]
+#[derive(Clone, Copy, PartialEq, Eq)]
 pub enum Ask {
     /// Nothing: it has no more than a comment.
     Nothing,

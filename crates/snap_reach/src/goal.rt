@@ -2,7 +2,7 @@
 //! steps lead it there.
 
 /// To where a process steps. It stops earlier where it is no longer busy.
-#[derive(Clone, Copy, Debug, PartialEq, Eq)]
+#[derive(Clone, Copy, PartialEq, Eq)]
 pub enum Goal {
     /// To the line of this number.
     Line(u64),
@@ -11,7 +11,7 @@ pub enum Goal {
 }
 
 /// Why a process takes no steps to a goal.
-#[derive(Clone, Copy, Debug, PartialEq, Eq)]
+#[derive(Clone, Copy, PartialEq, Eq)]
 pub enum NoSteps {
     NoSuchProcess,
     NoSuchLine,

@@ -23,7 +23,7 @@ use snap_words::{Address, Bank, Field, Kind, field_of};
 use std::alloc::{AllocError, Global};
 
 /// A change of a value by an item. Items count from 1, places of values from 0.
-#[derive(Clone, Copy, Debug)]
+#[derive(Clone, Copy)]
 pub struct Change {
     pub item: u64,
     pub place: u64,

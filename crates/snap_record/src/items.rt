@@ -9,14 +9,14 @@ use std::alloc::{AllocError, Global};
 use std::marker::Model;
 
 /// A call of an operation.
-#[derive(Clone, Copy, Debug)]
+#[derive(Clone, Copy)]
 pub(crate) struct Called {
     process: u32,
     op: Op,
 }
 
 /// An item as it is kept: a step or a crash of a process, or the call at a place among the calls.
-#[derive(Clone, Copy, Debug)]
+#[derive(Clone, Copy)]
 pub(crate) enum StoredItem {
     Step(u32),
     Call(u32),
@@ -25,7 +25,7 @@ pub(crate) enum StoredItem {
 
 /// Items in order, seen as their list and as whether there is room for one more. Operations are
 /// kept for calls alone.
-#[derive(Debug, Drop)]
+#[derive(Drop)]
 pub struct History {
     items: Vec<StoredItem>,
     calls: Vec<Called>,

@@ -14,7 +14,7 @@ use snap_semantics::{Instr, Line};
 use std::alloc::{AllocError, Global};
 
 /// A line that writes a word, one that tests for all, one that may answer a scan, or another.
-#[derive(Clone, Copy, Debug)]
+#[derive(Clone, Copy)]
 pub enum LineRole {
     Write,
     Test,

@@ -21,7 +21,7 @@ use std::alloc::{AllocError, Global};
 
 /// A line that writes a word, one that tests for all, one that answers a scan with a view, or
 /// another.
-#[derive(Debug, Drop)]
+#[derive(Drop)]
 pub enum StepRole {
     Write,
     Test,

@@ -4,7 +4,7 @@ ghost use Rattle.std.specs.Prelude.{◌≡◌};
 use std::marker::Model;
 
 /// The text of a report.
-#[derive(Debug, Drop)]
+#[derive(Drop)]
 pub struct Report {
     text: Vec<u8>,
 }

@@ -11,7 +11,7 @@ use snap_text::{Token, end_at, keyword_at, number_at, symbol_at};
 use snap_words::Shape;
 
 /// What a line asks for, whether or not its process is there.
-#[derive(Clone, Copy, Debug)]
+#[derive(Clone, Copy)]
 pub enum ItemForm {
     Steps { process: u64, count: u64 },
     Call { process: u64, op: Op },

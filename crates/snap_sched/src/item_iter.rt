@@ -7,7 +7,7 @@ use snap_semantics::Item;
 use std::marker::Model;
 
 /// Goes through items in order; seen as the list of those that are still to come.
-#[derive(Debug, Drop)]
+#[derive(Drop)]
 pub struct ItemIter<'a> {
     /// The process whose segment was begun last.
     process: u32,

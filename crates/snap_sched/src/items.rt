@@ -15,7 +15,7 @@ use std::marker::Model;
 
 /// A list of fewer than 2^32 items, kept as its greatest segments: steps of one process side by
 /// side take 8 bytes, however many they are.
-#[derive(Debug, Drop)]
+#[derive(Drop)]
 pub struct Items {
     segments: Vec<SegmentStart>,
     /// The segments that are calls and crashes.

@@ -13,7 +13,7 @@ pub const MAX_BYTES: usize = 4_194_304;
 
 /// A shape, and the items in order. Its processes are there, and there are at most `MAX_ITEMS`
 /// items.
-#[derive(Debug, Drop)]
+#[derive(Drop)]
 pub struct Schedule {
     shape: Shape,
     items: Items,

@@ -12,7 +12,7 @@ use snap_words::MAX_ITEMS;
 use std::alloc::{AllocError, Global};
 
 /// What a line of scripts says, whether or not its process is there.
-#[derive(Clone, Copy, Debug)]
+#[derive(Clone, Copy)]
 pub enum ScriptForm {
     Call { process: u64, op: Op },
     /// The process crashes at a turn, counted from 1.

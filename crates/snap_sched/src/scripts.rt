@@ -9,7 +9,7 @@ use std::marker::Model;
 
 /// What a process asks for, in order, and the turn at which it crashes, counted from 1, where it
 /// does.
-#[derive(Debug, Drop)]
+#[derive(Drop)]
 pub struct Script {
     operations: Vec<Op>,
     crash: Option<u64>,
@@ -24,7 +24,7 @@ impl Model for Script {
 }
 
 /// A shape, and a script for each of its processes.
-#[derive(Debug, Drop)]
+#[derive(Drop)]
 pub struct Scripts {
     shape: Shape,
     scripts: Vec<Script>,

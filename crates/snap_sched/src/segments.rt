@@ -7,7 +7,7 @@ use snap_semantics::Op;
 use std::marker::Model;
 
 /// A segment of a list of items: steps of one process side by side, or one call or crash.
-#[derive(Clone, Copy, Debug, PartialEq, Eq)]
+#[derive(Clone, Copy, PartialEq, Eq)]
 pub enum Segment {
     Steps { process: u32, count: u64 },
     Call { process: u32, op: Op },
@@ -16,14 +16,14 @@ pub enum Segment {
 
 /// A segment as it is kept: how many items stand before it, and its process. It ends where the next
 /// one begins.
-#[derive(Clone, Copy, Debug, PartialEq, Eq)]
+#[derive(Clone, Copy, PartialEq, Eq)]
 pub struct SegmentStart {
     pub start: u32,
     pub process: u32,
 }
 
 /// A segment that is no steps.
-#[derive(Clone, Copy, Debug, PartialEq, Eq)]
+#[derive(Clone, Copy, PartialEq, Eq)]
 pub enum CallOrCrash {
     Call(Op),
     Crash,
@@ -31,7 +31,7 @@ pub enum CallOrCrash {
 
 /// A call or a crash as it is kept, beside its segment: how many items stand before it, and what it
 /// is.
-#[derive(Clone, Copy, Debug, PartialEq, Eq)]
+#[derive(Clone, Copy, PartialEq, Eq)]
 pub struct Single {
     pub start: u32,
     pub what: CallOrCrash,
@@ -48,7 +48,7 @@ fn single_segment(process: u32, what: CallOrCrash) -> Segment
 }
 
 /// Goes through segments in order; seen as the list of those that are still to come.
-#[derive(Debug, Drop)]
+#[derive(Drop)]
 pub struct Segments<'a> {
     segments: &'a [SegmentStart],
     singles: &'a [Single],

@@ -2,7 +2,7 @@
 use snap_semantics::Op;
 
 /// What is added to a schedule, whether or not its process is there.
-#[derive(Clone, Copy, Debug, PartialEq, Eq)]
+#[derive(Clone, Copy, PartialEq, Eq)]
 pub enum Addition {
     Steps { process: u64, count: u64 },
     Call { process: u64, op: Op },

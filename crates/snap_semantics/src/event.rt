@@ -4,7 +4,7 @@ use crate::process::Op;
 use snap_words::View;
 
 /// A call, how it ended, or a crash.
-#[derive(Debug, Drop)]
+#[derive(Drop)]
 pub enum Happening {
     Call(Op),
     /// The answer of a scan.
@@ -16,7 +16,7 @@ pub enum Happening {
 }
 
 /// An event of a process at an item, counted from 1.
-#[derive(Debug, Drop)]
+#[derive(Drop)]
 pub struct Event {
     pub item: u64,
     pub process: u32,

@@ -7,7 +7,7 @@ use crate::name::Name;
 use snap_words::{Bank, Field};
 
 /// A number that can stand for a place.
-#[derive(Clone, Copy, Debug)]
+#[derive(Clone, Copy)]
 pub enum Index {
     Number(u64),
     /// `n`, the number of processes.
@@ -24,7 +24,7 @@ pub enum Index {
 }
 
 /// An operand.
-#[derive(Clone, Copy, Debug)]
+#[derive(Clone, Copy)]
 pub enum Term {
     Index(Index),
     /// `arg`, the value of the update; 0 in a scan.
@@ -38,7 +38,7 @@ pub enum Term {
 }
 
 /// What is computed from operands.
-#[derive(Clone, Copy, Debug)]
+#[derive(Clone, Copy)]
 pub enum Expr {
     Term(Term),
     Sum(Term, Term),
@@ -47,7 +47,7 @@ pub enum Expr {
 }
 
 /// How two operands are compared.
-#[derive(Clone, Copy, Debug, PartialEq, Eq)]
+#[derive(Clone, Copy, PartialEq, Eq)]
 pub enum Relation {
     Equal,
     Different,
@@ -55,7 +55,7 @@ pub enum Relation {
 }
 
 /// Two operands compared.
-#[derive(Clone, Copy, Debug)]
+#[derive(Clone, Copy)]
 pub struct Comparison {
     pub left: Term,
     pub relation: Relation,
@@ -63,14 +63,14 @@ pub struct Comparison {
 }
 
 /// How comparisons are joined.
-#[derive(Clone, Copy, Debug, PartialEq, Eq)]
+#[derive(Clone, Copy, PartialEq, Eq)]
 pub enum Join {
     And,
     Or,
 }
 
 /// One to four comparisons, all joined alike.
-#[derive(Clone, Copy, Debug)]
+#[derive(Clone, Copy)]
 pub enum Condition {
     One(Comparison),
     Two(Join, Comparison, Comparison),
@@ -79,14 +79,14 @@ pub enum Condition {
 }
 
 /// The places that a quantifier goes over: 1 to `n`, or 1 to `w`.
-#[derive(Clone, Copy, Debug, PartialEq, Eq)]
+#[derive(Clone, Copy, PartialEq, Eq)]
 pub enum Range {
     Processes,
     Words,
 }
 
 /// A bank of bits.
-#[derive(Clone, Copy, Debug, PartialEq, Eq)]
+#[derive(Clone, Copy, PartialEq, Eq)]
 pub enum BitBank {
     Q,
     P,
@@ -105,7 +105,7 @@ impl BitBank {
 }
 
 /// The fields of a word to be written, as the word's kind has them.
-#[derive(Clone, Copy, Debug)]
+#[derive(Clone, Copy)]
 pub enum Tuple {
     /// `(data, seq, S)`.
     Seq(Expr, Expr, Name),
@@ -116,7 +116,7 @@ pub enum Tuple {
 }
 
 /// What a line does. Names stand for locals: X a scalar, R a row, W a `words` local, S a view.
-#[derive(Clone, Copy, Debug)]
+#[derive(Clone, Copy)]
 pub enum Instr {
     /// `let X = E`.
     Let(Name, Expr),
@@ -158,7 +158,7 @@ pub enum Instr {
 }
 
 /// A numbered line.
-#[derive(Clone, Copy, Debug)]
+#[derive(Clone, Copy)]
 pub struct Line {
     pub number: u64,
     pub instr: Instr,

@@ -11,7 +11,7 @@ pub enum Op {
 }
 
 /// An item of a schedule: one atomic event of one process.
-#[derive(Clone, Copy, Debug, PartialEq, Eq)]
+#[derive(Clone, Copy, PartialEq, Eq)]
 pub enum Item {
     /// The process runs its line.
     Step(u32),
@@ -41,7 +41,7 @@ pub enum Cause {
 }
 
 /// What a busy process is at.
-#[derive(Clone, Copy, Debug, PartialEq, Eq)]
+#[derive(Clone, Copy, PartialEq, Eq)]
 pub struct Activity {
     pub op: Op,
     /// The number of the line that it runs next.
@@ -51,7 +51,7 @@ pub struct Activity {
 }
 
 /// How a process stands.
-#[derive(Clone, Copy, Debug, PartialEq, Eq)]
+#[derive(Clone, Copy, PartialEq, Eq)]
 pub enum Status {
     Idle,
     Busy(Activity),

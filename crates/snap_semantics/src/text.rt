@@ -2,7 +2,7 @@
 //! identifier and no number; and `Sort`, a sort of locals.
 
 /// A symbol: a token that is no identifier and no number.
-#[derive(Clone, Copy, Debug, PartialEq, Eq)]
+#[derive(Clone, Copy, PartialEq, Eq)]
 pub enum Symbol {
     Colon,
     Equal,
@@ -20,7 +20,7 @@ pub enum Symbol {
 }
 
 /// A sort of locals.
-#[derive(Clone, Copy, Debug, PartialEq, Eq)]
+#[derive(Clone, Copy, PartialEq, Eq)]
 pub enum Sort {
     Scalar,
     Row,

@@ -3,7 +3,7 @@
 use snap_semantics::{Cause, Reason};
 
 /// An item that trapped its process. Items count from 1.
-#[derive(Clone, Copy, Debug, PartialEq, Eq)]
+#[derive(Clone, Copy, PartialEq, Eq)]
 pub struct Trap {
     pub item: u64,
     pub process: u32,
@@ -13,7 +13,7 @@ pub struct Trap {
 }
 
 /// An item that was skipped. Items count from 1.
-#[derive(Clone, Copy, Debug, PartialEq, Eq)]
+#[derive(Clone, Copy, PartialEq, Eq)]
 pub struct Skip {
     pub item: u64,
     pub process: u32,
@@ -21,7 +21,7 @@ pub struct Skip {
 }
 
 /// What a run came to.
-#[derive(Clone, Copy, Debug, PartialEq, Eq)]
+#[derive(Clone, Copy, PartialEq, Eq)]
 pub struct Survey {
     /// Scans that were called.
     pub scans_called: u64,

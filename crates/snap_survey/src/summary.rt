@@ -5,7 +5,7 @@ ghost use Rattle.snap_survey.specs.Summary.{AreFewer, no_runs, summary_of, with_
 use crate::findings::Survey;
 
 /// In how many of many runs there is what the fields of a survey count.
-#[derive(Clone, Copy, Debug, PartialEq, Eq)]
+#[derive(Clone, Copy, PartialEq, Eq)]
 pub struct Summary {
     pub schedules: u64,
     /// Runs in which a scan was answered.

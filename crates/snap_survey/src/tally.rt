@@ -7,7 +7,7 @@ use crate::findings::{Skip, Trap};
 use snap_semantics::{Item, Op, Outcome, Status, who};
 
 /// What the items of a run came to so far.
-#[derive(Clone, Copy, Debug)]
+#[derive(Clone, Copy)]
 pub(crate) struct Tally {
     pub(crate) scans_called: u64,
     pub(crate) updates_called: u64,

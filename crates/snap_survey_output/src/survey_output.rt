@@ -66,7 +66,7 @@ fn are_clean(surveys: &[Survey]) -> bool
 }
 
 /// What is written of many runs, and whether each of them is clean.
-#[derive(Debug, Drop)]
+#[derive(Drop)]
 pub struct SurveyOutput {
     pub text: Vec<u8>,
     pub clean: bool,

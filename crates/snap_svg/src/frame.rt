@@ -33,7 +33,7 @@ use snap_words::KindTag;
 use std::alloc::AllocError;
 
 /// What a title says of a run.
-#[derive(Clone, Copy, Debug)]
+#[derive(Clone, Copy)]
 pub struct Counts {
     pub kind: KindTag,
     pub words: u64,

@@ -4,7 +4,7 @@ use snap_semantics::Op;
 use snap_words::View;
 
 /// The values from an item on, up to another one.
-#[derive(Debug, Drop)]
+#[derive(Drop)]
 pub struct Period {
     pub from: u64,
     pub to: u64,
@@ -12,7 +12,7 @@ pub struct Period {
 }
 
 /// How an operation ended.
-#[derive(Debug, Drop)]
+#[derive(Drop)]
 pub enum End {
     Answer(View),
     Done,
@@ -23,7 +23,7 @@ pub enum End {
 }
 
 /// An operation of a process, from the item that called it to the one that ended it.
-#[derive(Debug, Drop)]
+#[derive(Drop)]
 pub struct Bar {
     pub process: u32,
     pub op: Op,
@@ -33,7 +33,7 @@ pub struct Bar {
 }
 
 /// Items of a process.
-#[derive(Clone, Copy, Debug)]
+#[derive(Clone, Copy)]
 pub struct Span {
     pub process: u32,
     pub from: u64,
@@ -41,7 +41,7 @@ pub struct Span {
 }
 
 /// An item of a process, at a line.
-#[derive(Clone, Copy, Debug)]
+#[derive(Clone, Copy)]
 pub struct Spot {
     pub process: u32,
     pub item: u64,
@@ -49,14 +49,14 @@ pub struct Spot {
 }
 
 /// The item of a process that wrote a word.
-#[derive(Clone, Copy, Debug)]
+#[derive(Clone, Copy)]
 pub struct Written {
     pub process: u32,
     pub item: u64,
 }
 
 /// The read of a word, and who wrote it last.
-#[derive(Clone, Copy, Debug)]
+#[derive(Clone, Copy)]
 pub struct Read {
     pub spot: Spot,
     pub word: u64,
@@ -64,7 +64,7 @@ pub struct Read {
 }
 
 /// The write of a word, with the values after it.
-#[derive(Debug, Drop)]
+#[derive(Drop)]
 pub struct Write {
     pub spot: Spot,
     pub word: u64,
@@ -72,7 +72,7 @@ pub struct Write {
 }
 
 /// A scan that takes a view at an item, from the scan of a lender that ended at another one.
-#[derive(Clone, Copy, Debug)]
+#[derive(Clone, Copy)]
 pub struct Loan {
     pub lender: u32,
     pub ended: u64,
@@ -81,7 +81,7 @@ pub struct Loan {
 
 /// The point of a scan, the item after which the values are its answer, and how many double
 /// collects it took.
-#[derive(Debug, Drop)]
+#[derive(Drop)]
 pub struct Point {
     pub scan: Span,
     pub item: u64,
@@ -90,7 +90,7 @@ pub struct Point {
 }
 
 /// What is drawn.
-#[derive(Debug, Drop)]
+#[derive(Drop)]
 pub enum Shape {
     Values(Period),
     Operation(Bar),

@@ -22,7 +22,7 @@ use std::marker::Model;
 const MOST_ITEMS: u64 = 20_000;
 
 /// The items that are drawn, in the lanes of so many processes.
-#[derive(Clone, Copy, Debug)]
+#[derive(Clone, Copy)]
 pub struct Window {
     from: u64,
     to: u64,

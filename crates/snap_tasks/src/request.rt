@@ -8,7 +8,7 @@ use snap_subject::Subject;
 use snap_words::KindTag;
 
 /// What a command line asks for.
-#[derive(Clone, Copy, Debug, PartialEq, Eq)]
+#[derive(Clone, Copy, PartialEq, Eq)]
 pub enum Request {
     Do(Task),
     /// A live run, in which each process makes at most so many turns.

@@ -3,7 +3,7 @@
 use snap_subject::Subject;
 
 /// What the program is to do with its input.
-#[derive(Clone, Copy, Debug, PartialEq, Eq)]
+#[derive(Clone, Copy, PartialEq, Eq)]
 pub enum Task {
     /// Whether a text is a listing.
     Check,

@@ -11,7 +11,7 @@ use snap_semantics::Symbol;
 use std::alloc::{AllocError, Global};
 
 /// An identifier, a number or a symbol.
-#[derive(Clone, Copy, Debug)]
+#[derive(Clone, Copy)]
 pub enum Token<'a> {
     Identifier(&'a [u8]),
     Number(u64),

@@ -15,14 +15,14 @@ use std::alloc::{AllocError, Global};
 use std::marker::Model;
 
 /// A line that has tokens: its number, and its tokens, or none where a byte begins no token.
-#[derive(Debug, Drop)]
+#[derive(Drop)]
 pub struct TokenLine<'a> {
     pub number: u64,
     pub tokens: Option<Vec<Token<'a>>>,
 }
 
 /// A line that is a number, or a number, `*` and a second one: the line's own number, and those.
-#[derive(Clone, Copy, Debug)]
+#[derive(Clone, Copy)]
 pub struct NumberLine {
     pub number: u64,
     pub first: u64,
@@ -30,7 +30,7 @@ pub struct NumberLine {
 }
 
 /// A line that is a call: the line's own number, the process, and what it asks for.
-#[derive(Clone, Copy, Debug)]
+#[derive(Clone, Copy)]
 pub struct CallLine {
     pub number: u64,
     pub process: u64,
@@ -38,7 +38,7 @@ pub struct CallLine {
 }
 
 /// Goes through the lines of a text that have tokens; seen as the list of those that are left.
-#[derive(Debug, Drop)]
+#[derive(Drop)]
 pub struct TextLines<'a> {
     number: u64,
     rest: &'a [u8],

@@ -6,7 +6,7 @@ ghost use Rattle.snap_troubles.specs.Troubles.{taker_at};
 use snap_semantics::Op;
 
 /// A process, its operation, and the place of a quantifier.
-#[derive(Clone, Copy, Debug)]
+#[derive(Clone, Copy)]
 pub struct Taker {
     pub process: u32,
     pub op: Op,

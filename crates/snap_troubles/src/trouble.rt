@@ -4,7 +4,7 @@ use snap_semantics::Index;
 use snap_words::Bank;
 
 /// An operand at which a line traps.
-#[derive(Clone, Copy, Debug)]
+#[derive(Clone, Copy)]
 pub enum Trouble {
     /// An index with this value, where places count from 1 to so many.
     NoPlace(Index, u64, u64),

@@ -1,7 +1,7 @@
 //! `Address`: a register, by its bank (`R`, `Q`, `P` or `V`) and its indices, which count from 1.
 
 /// A bank of registers.
-#[derive(Clone, Copy, Debug, PartialEq, Eq)]
+#[derive(Clone, Copy, PartialEq, Eq)]
 pub enum Bank {
     /// The words.
     R,
@@ -14,7 +14,7 @@ pub enum Bank {
 }
 
 /// A register by its bank and its indices, which count from 1. In banks R and V `j` is 0.
-#[derive(Clone, Copy, Debug, PartialEq, Eq)]
+#[derive(Clone, Copy, PartialEq, Eq)]
 pub struct Address {
     pub bank: Bank,
     pub i: u64,

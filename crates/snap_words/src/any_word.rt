@@ -3,7 +3,7 @@
 use crate::view::View;
 
 /// A word of any kind, to build one of a kind from. A kind keeps those that it has.
-#[derive(Debug, Drop)]
+#[derive(Drop)]
 pub struct AnyWord {
     pub datum: u64,
     pub seq: u64,

@@ -8,7 +8,7 @@ use std::marker::Model;
 
 /// The handshake bits of a word, seen as the list of them: bit `k` of the mask is handshake bit
 /// `k + 1`. There are at most 64.
-#[derive(Debug, Drop)]
+#[derive(Drop)]
 pub(crate) struct Handshakes {
     mask: u64,
     count: u32,

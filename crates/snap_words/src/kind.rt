@@ -2,7 +2,7 @@
 //! `Field`: the fields of their words that are one number.
 
 /// A kind of registers: what its words have, and who may write them.
-#[derive(Clone, Copy, Debug, PartialEq, Eq)]
+#[derive(Clone, Copy, PartialEq, Eq)]
 pub enum KindTag {
     /// Single-writer words with a sequence number.
     Seq,
@@ -13,7 +13,7 @@ pub enum KindTag {
 }
 
 /// A field of a word that is one number.
-#[derive(Clone, Copy, Debug, PartialEq, Eq)]
+#[derive(Clone, Copy, PartialEq, Eq)]
 pub enum Field {
     Datum,
     Seq,

@@ -25,7 +25,7 @@ pub enum WordFault {
 }
 
 /// The numbers of processes and of words, each 1 to `MAX_COUNT`.
-#[derive(Clone, Copy, Debug)]
+#[derive(Clone, Copy)]
 pub struct Shape {
     n: u64,
     w: u64,

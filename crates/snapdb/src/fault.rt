@@ -9,7 +9,7 @@ use snap_semantics::{Fault, Refusal};
 use std::alloc::AllocError;
 
 /// Why there was no dialog, or no whole one.
-#[derive(Clone, Copy, Debug)]
+#[derive(Clone, Copy)]
 pub enum StartFault {
     Memory,
     /// A listing or a schedule is refused.

@@ -9,7 +9,7 @@ use snap_tasks::kind_of;
 use snap_words::KindTag;
 
 /// What a command line asks for.
-#[derive(Clone, Copy, Debug)]
+#[derive(Clone, Copy)]
 pub enum Asked<'a> {
     /// The listing in a file under the schedule in another.
     Files(&'a str, &'a str),

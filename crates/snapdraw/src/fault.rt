@@ -9,7 +9,7 @@ use snap_semantics::{Fault, Refusal};
 use std::alloc::AllocError;
 
 /// Why nothing, or not all, was drawn.
-#[derive(Clone, Copy, Debug)]
+#[derive(Clone, Copy)]
 pub enum DrawFault {
     Memory,
     /// A listing, a schedule or a choice of items is refused.

@@ -14,7 +14,7 @@ const VERSION: &str = "0.1.0";
 const KINDS: &[&str] = &["seq", "bit", "multi"];
 
 /// A picture that is asked for.
-#[derive(Clone, Copy, Debug)]
+#[derive(Clone, Copy)]
 pub struct Drawing<'a> {
     pub drawn: Drawn<'a>,
     pub from: Option<u64>,

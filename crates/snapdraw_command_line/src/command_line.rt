@@ -6,7 +6,7 @@ use clap::error::ErrorKind;
 use std::alloc::{AllocError, Global};
 
 /// What the arguments of a command line come to.
-#[derive(Debug, Drop)]
+#[derive(Drop)]
 pub enum CommandLine<'a> {
     /// They ask for this picture.
     Asks(Drawing<'a>),

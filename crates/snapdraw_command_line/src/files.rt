@@ -6,7 +6,7 @@ ghost use Rattle.snapdraw_command_line.specs.Files.{drawn_of, view_drawn};
 use snap_words::KindTag;
 
 /// What is drawn, by the names of files.
-#[derive(Clone, Copy, Debug)]
+#[derive(Clone, Copy)]
 pub enum Drawn<'a> {
     /// A listing under a schedule.
     Files(&'a str, &'a str),

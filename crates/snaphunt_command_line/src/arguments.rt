@@ -32,7 +32,7 @@ const MAX_RUNS: u64 = 1_000_000_000_000;
 const MAX_DEPTH: u64 = 100;
 
 /// What a command line asks for: where the listing is, and what is hunted in its runs.
-#[derive(Clone, Copy, Debug)]
+#[derive(Clone, Copy)]
 pub struct Search<'a> {
     /// The file of the listing.
     pub file: Option<&'a str>,

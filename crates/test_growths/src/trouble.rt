@@ -6,7 +6,7 @@ use std::fmt::Display;
 use std::io;
 
 /// Why a scene is not played to its end.
-#[derive(Clone, Copy, Debug, PartialEq, Eq)]
+#[derive(Clone, Copy, PartialEq, Eq)]
 pub enum Trouble {
     /// There was no memory for what comes before the calls that are tried.
     Memory,

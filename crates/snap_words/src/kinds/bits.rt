@@ -17,7 +17,7 @@ use std::alloc::{AllocError, Global};
 pub struct Bits;
 
 /// A word of kind bits.
-#[derive(Debug, Drop)]
+#[derive(Drop)]
 pub struct BitsWord {
     datum: u64,
     toggle: u64,

@@ -15,7 +15,7 @@ use std::alloc::{AllocError, Global};
 pub struct Multi;
 
 /// A word of kind multi.
-#[derive(Debug, Drop)]
+#[derive(Drop)]
 pub struct MultiWord {
     datum: u64,
     id: u64,

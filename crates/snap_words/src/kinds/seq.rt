@@ -11,7 +11,7 @@ use std::alloc::{AllocError, Global};
 pub struct Seq;
 
 /// A word of kind seq.
-#[derive(Debug, Drop)]
+#[derive(Drop)]
 pub struct SeqWord {
     datum: u64,
     seq: u64,

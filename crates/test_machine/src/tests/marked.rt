@@ -9,7 +9,7 @@ use std::alloc::{AllocError, Global};
 pub struct Marked;
 
 /// A word of the kind.
-#[derive(Debug, Drop)]
+#[derive(Drop)]
 pub struct MarkedWord {
     datum: u64,
     id: u64,

@@ -141,6 +141,7 @@ pub fn note_values<K: Kind>(
 }
 
 /// Whether a line writes a word.
+#[inline(always)]
 fn is_write(step_role: &StepRole) -> bool
     ensures { result ≡ is_write (seen_step_role step_role.now) }
 {
@@ -227,6 +228,7 @@ pub fn note_event(
 }
 
 /// Whether a test for all goes on.
+#[inline(always)]
 pub fn ends_collect(step_role: &StepRole, outcome: &Outcome) -> bool
     ensures { result ≡ (is_test (seen_step_role step_role.now) && is_stepped outcome.now) }
 {

@@ -1,8 +1,8 @@
 //! What a record keeps of its run besides the items: changes of values (`Change`), events, and
 //! counts of double collects.
-ghost use Rattle.std.specs.Prelude.{◌≡◌, ◌+◌, ◌-◌, ◌<◌, ◌≤◌, ◌++◌, ◌∷◌, [], ◌&&◌, ◌^◌};
+ghost use Rattle.std.specs.Prelude.{◌≡◌, ◌+◌, ◌-◌, ◌<◌, ◌≤◌, ◌++◌, [], ◌&&◌, ◌^◌};
 ghost use Rattle.std.specs.Prelude.{IsTrue, get_or, length, map, vec_capacity};
-ghost use Rattle.std.specs.Prelude.{vec_len, slice_index, slice_set, ℕ, List, false};
+ghost use Rattle.std.specs.Prelude.{vec_len, slice_index, slice_set, ℕ, List, OnOk, true, false};
 ghost use Rattle.snap_words.specs.Shape.{IsOneOf};
 ghost use Rattle.snap_semantics.specs.Run.{call_event, event_of};
 ghost use Rattle.snap_semantics.specs.State.{values};
@@ -141,6 +141,7 @@ pub fn note_values<K: Kind>(
 }
 
 /// Whether a line writes a word.
+#[inline(always)]
 fn is_write(step_role: &StepRole) -> bool
     ensures { result ≡ is_write (seen_step_role step_role.now) }
 {
@@ -150,6 +151,23 @@ fn is_write(step_role: &StepRole) -> bool
         StepRole::Answer(_) => false,
         StepRole::Nothing => false,
     }
+}
+
+/// Makes room for the changes of so many values, where a line writes a word.
+#[inline(always)]
+pub fn reserve_changes(
+    changes: &mut Vec<Change>,
+    step_role: &StepRole,
+    count: usize,
+) -> Result<(), AllocError>
+    ensures kept { changes.new.items ≡ changes.old.items }
+    ensures room { OnOk result (is_write (seen_step_role step_role.now) ≡ true
+        → vec_len changes.new + count ≤ vec_capacity changes.new) }
+{
+    if is_write(step_role) {
+        changes.reserve(count)?;
+    }
+    Ok(())
 }
 
 /// Notes the values after an item that leaves this machine. They stay where it writes no word.
@@ -162,7 +180,8 @@ pub fn note_item<K: Kind>(
     machine: &Machine<K>,
 )
     requires count { length now.old ≡ machine.now.shape.w }
-    requires room { vec_len changes.old + machine.now.shape.w ≤ vec_capacity changes.old }
+    requires room { is_write (seen_step_role step_role.now) ≡ true → vec_len changes.old
+        + machine.now.shape.w ≤ vec_capacity changes.old }
     requires stay { is_write (seen_step_role step_role.now) ≡ false → values machine.now.state
         ≡ now.old }
     ensures now { now.new ≡ values machine.now.state }
@@ -209,6 +228,7 @@ pub fn note_event(
 }
 
 /// Whether a test for all goes on.
+#[inline(always)]
 pub fn ends_collect(step_role: &StepRole, outcome: &Outcome) -> bool
     ensures { result ≡ (is_test (seen_step_role step_role.now) && is_stepped outcome.now) }
 {

@@ -5,10 +5,7 @@ ghost use Rattle.std.specs.Prelude.{ℕ, drop, get_or, length, map};
 ghost use Rattle.std.specs.Prelude.{replicate, take, Err, IfOk, OnOk, OnErr};
 ghost use Rattle.std.specs.List.{AllByRecursion};
 ghost use Rattle.snap_words.specs.Shape.{IsOneOf, max_items};
-ghost use Rattle.snap_semantics.specs.State.{initial};
 ghost use Rattle.snap_semantics.specs.Table.{who};
-ghost use Rattle.snap_semantics.specs.declared.process.Item.TheVariants.{Step};
-ghost use Rattle.snap_runs.specs.StepRoles.{Nothing, step_role_of};
 ghost use Rattle.snap_runs.specs.Run.{outcome, state, IsValidRun, events_of};
 ghost use Rattle.snap_record.specs.Record.{collects_of, with_item, with_items, values_after};
 ghost use Rattle.snap_record.specs.Searches.{scan_collects};
@@ -17,12 +14,12 @@ ghost use Rattle.snap_record.specs.History.{LeadsAlong, collects_at};
 ghost use Rattle.snap_record.specs.declared.fault.RecordFault.TheVariants.{Full};
 
 use crate::fault::RecordFault;
-use crate::history::{Change, note_collect, note_item, note_outcome};
+use crate::history::{Change, note_collect, note_item, note_outcome, reserve_changes};
 use crate::items::History;
 use crate::roles::{LineRole, new_roles};
 use crate::row::Row;
 use crate::search::{collects_until, scans};
-use crate::step_role::{StepRole, is_plain_step, step_role_of};
+use crate::step_role::step_role_of;
 use crate::walk::advance;
 use snap_asm_program::Program;
 use snap_machine::Machine;
@@ -116,38 +113,9 @@ impl<K: Kind> Record<K> {
         })
     }
 
-    /// Does one step that writes no word, tests nothing for all and answers nothing: nothing is
-    /// noted of it but how an operation ends.
+    /// Does one item, for which there is a number.
     #[inline(always)]
-    fn add_plain(&mut self, i: u32) -> Result<Outcome, AllocError>
-        requires process { IsOneOf self.old.shape.n i }
-        requires few { length self.old.items < max_items }
-        requires plain { step_role_of self.old.source (state self.old (length self.old.items))
-            (Step i) ≡ Nothing }
-        ensures done { IfOk result (λ o. (self.new ≡ with_item self.old (Step i)) ×
-            (o ≡ outcome self.new (length self.new.items))) }
-        ensures unchanged { OnErr result (self.new ≡ self.old) }
-    {
-        self.items.reserve()?;
-        self.events.reserve(1)?;
-        self.at_events.reserve(1)?;
-        let item = Item::Step(i);
-        let came = self.machine.apply(item)?;
-        self.items.push_reserved(item);
-        note_outcome(
-            &mut self.events,
-            &mut self.at_events,
-            self.collects.as_slice(),
-            self.items.len() as u64,
-            item,
-            &came,
-            StepRole::Nothing,
-        );
-        Ok(came)
-    }
-
-    /// Does one item, and notes all that it does.
-    fn add_noted(&mut self, item: Item) -> Result<Outcome, AllocError>
+    fn add(&mut self, item: Item) -> Result<Outcome, AllocError>
         requires process { IsOneOf self.old.shape.n (who item) }
         requires few { length self.old.items < max_items }
         ensures done { IfOk result (λ o. (self.new ≡ with_item self.old item) ×
@@ -156,7 +124,7 @@ impl<K: Kind> Record<K> {
     {
         let step_role = step_role_of(self.alloc, &self.machine, self.roles.as_slice(), item)?;
         self.items.reserve()?;
-        self.changes.reserve(self.values.as_slice().len())?;
+        reserve_changes(&mut self.changes, &step_role, self.values.as_slice().len())?;
         self.events.reserve(1)?;
         self.at_events.reserve(1)?;
         let outcome = self.machine.apply(item)?;
@@ -180,23 +148,6 @@ impl<K: Kind> Record<K> {
             step_role,
         );
         Ok(outcome)
-    }
-
-    /// Does one item, for which there is a number.
-    #[inline(always)]
-    fn add(&mut self, item: Item) -> Result<Outcome, AllocError>
-        requires process { IsOneOf self.old.shape.n (who item) }
-        requires few { length self.old.items < max_items }
-        ensures done { IfOk result (λ o. (self.new ≡ with_item self.old item) ×
-            (o ≡ outcome self.new (length self.new.items))) }
-        ensures unchanged { OnErr result (self.new ≡ self.old) }
-    {
-        if let Item::Step(i) = item {
-            if is_plain_step(&self.machine, self.roles.as_slice(), i) {
-                return self.add_plain(i);
-            }
-        }
-        self.add_noted(item)
     }
 
     /// Does one item, where fewer than 1,000,000 are kept.

@@ -98,8 +98,8 @@ fn found_step_role<K: Kind>(
     }
 }
 
-/// What an item is to do. Of most lines that is known by their roles.
-pub fn step_role_of<K: Kind>(
+/// What an item is to do, looked up. Of most lines that is known by their roles.
+fn looked_up_step_role<K: Kind>(
     alloc: Global,
     machine: &Machine<K>,
     roles: &[LineRole],
@@ -127,7 +127,7 @@ pub fn step_role_of<K: Kind>(
 /// answer nothing: most steps are.
 #[inline(always)]
 #[tactic(auto, using(crate::proofs::PlainSteps::plain_at))]
-pub fn is_plain_step<K: Kind>(machine: &Machine<K>, roles: &[LineRole], i: u32) -> bool
+fn is_plain_step<K: Kind>(machine: &Machine<K>, roles: &[LineRole], i: u32) -> bool
     requires process { IsOneOf machine.now.shape.n i }
     requires roles { AreRoles machine.now.source roles.now }
     ensures { IsTrue result → step_role_of machine.now.source machine.now.state (Step i) ≡ Nothing }
@@ -136,4 +136,26 @@ pub fn is_plain_step<K: Kind>(machine: &Machine<K>, roles: &[LineRole], i: u32) 
         Some(line) => is_plain(roles, line),
         None => false,
     }
+}
+
+/// What an item is to do. Of most steps that is nothing, which is seen at once.
+#[inline(always)]
+pub fn step_role_of<K: Kind>(
+    alloc: Global,
+    machine: &Machine<K>,
+    roles: &[LineRole],
+    item: Item,
+) -> Result<StepRole, AllocError>
+    requires process { IsOneOf machine.now.shape.n (who item) }
+    requires alone { ViewsAlone machine.now.source machine.now.state }
+    requires roles { AreRoles machine.now.source roles.now }
+    ensures { IfOk result (λ d. seen_step_role d ≡ step_role_of machine.now.source machine.now.state
+        item) }
+{
+    if let Item::Step(i) = item {
+        if is_plain_step(machine, roles, i) {
+            return Ok(StepRole::Nothing);
+        }
+    }
+    looked_up_step_role(alloc, machine, roles, item)
 }

@@ -10,6 +10,7 @@ use snap_asm_program::Program;
 use snap_audit::audit_text;
 use snap_input::schedule_for;
 use snap_record::record_over;
+use snap_runner::OwnCode;
 use snap_sched::Schedule;
 use snap_semantics::{Fault, Refusal};
 use snap_words::{Bits, Kind, KindTag, Multi, Seq};
@@ -50,9 +51,10 @@ pub fn audit_program(
 ) -> Result<Vec<u8>, Fault<Refusal>>
     ensures { Answers (λ out. out.items) result (audit_listing program.now schedule.now) }
 {
+    // Steps of an audit have code of their own, as those of `run` have, under a name more.
     match program.kind() {
-        KindTag::Seq => audit_kind::<Seq>(alloc, program, schedule),
-        KindTag::Bits => audit_kind::<Bits>(alloc, program, schedule),
-        KindTag::Multi => audit_kind::<Multi>(alloc, program, schedule),
+        KindTag::Seq => audit_kind::<OwnCode<OwnCode<Seq>>>(alloc, program, schedule),
+        KindTag::Bits => audit_kind::<OwnCode<OwnCode<Bits>>>(alloc, program, schedule),
+        KindTag::Multi => audit_kind::<OwnCode<OwnCode<Multi>>>(alloc, program, schedule),
     }
 }

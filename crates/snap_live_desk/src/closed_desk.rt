@@ -11,6 +11,7 @@ ghost use Rattle.snap_live_desk.specs.Turns.{setting_of};
 
 use crate::desk::Desk;
 use crate::desk_rule::{DeskRule, InitialRecord};
+use crate::held_record::HeldRecord;
 use crate::refusal::{LiveFault, LiveRefusal};
 use crate::seat::Seat;
 use crate::seat_state::SeatState;
@@ -23,7 +24,7 @@ use std::alloc::Global;
 
 /// The record, at the end. The table's seat has been joined with all others that have a process.
 fn finish<K: Kind>(
-    table: Table<Option<Record<K>>, SeatState, InitialRecord<K>, DeskRule, Global>,
+    table: Table<Option<HeldRecord<K>>, SeatState, InitialRecord<K>, DeskRule, Global>,
     table_seat: TableSeat<K>,
 ) -> Record<K>
     requires table { IsSeatOf table.shared.table_id table_seat.table_id }
@@ -36,7 +37,7 @@ fn finish<K: Kind>(
     let mut closed = table.close_with(table_seat);
     let kept = closed.take(0).unwrap();
     closed.free();
-    kept
+    kept.into_record()
 }
 
 /// Whether one of the seats is of this process.

@@ -6,6 +6,7 @@ ghost use Rattle.snap_live_desk.specs.SeatStates.{opener};
 ghost use Rattle.snap_live_desk.specs.Shown.{seat_of, seats_of};
 
 use crate::desk_rule::{DeskRule, InitialRecord};
+use crate::held_record::HeldRecord;
 use crate::seat::Seat;
 use crate::seat_state::SeatState;
 use crate::steps::{SharedTable, TableSeat, name, split};
@@ -21,7 +22,7 @@ use std::snapshot::Snapshot;
 /// order of their tickets.
 #[derive(Drop)]
 pub struct Desk<K: Kind> {
-    pub(crate) table: Table<Option<Record<K>>, SeatState, InitialRecord<K>, DeskRule, Global>,
+    pub(crate) table: Table<Option<HeldRecord<K>>, SeatState, InitialRecord<K>, DeskRule, Global>,
     pub(crate) count: u32,
 }
 
@@ -55,7 +56,8 @@ pub fn open<K: Kind>(
     let mut slots = Vec::with_capacity(alloc, 1)?;
     let first = Record::new(alloc, program, shape)?;
     let about = Snapshot::of(&first);
-    slots.push_reserved(Some(first));
+    let held = HeldRecord::new(alloc, first)?;
+    slots.push_reserved(Some(held));
     let count = shape.n() as u32;
     let mut seats = Vec::with_capacity(alloc, count as usize)?;
     let (table, mut opener) = match Table::new(alloc, &[0, 0, 0, 0], slots, &about) {

@@ -5,6 +5,7 @@ ghost use Rattle.snap_live_desk.specs.Rule.{Published, CaughtUp, ServedOut, Told
 ghost use Rattle.snap_live_desk.specs.SeatStates.{newcomer, stays, comes, both, nobody};
 ghost use Rattle.snap_live_desk.specs.Turns.{setting_of};
 
+use crate::held_record::HeldRecord;
 use crate::seat_state::SeatState;
 use atomic_table::{Join, Play, Split, TableRule};
 use snap_record::Record;
@@ -18,7 +19,7 @@ pub(crate) type InitialRecord<K> = Snapshot<Record<K>>;
 /// The rule.
 pub struct DeskRule;
 
-impl<K: Kind> TableRule<Option<Record<K>>, SeatState, InitialRecord<K>> for DeskRule {
+impl<K: Kind> TableRule<Option<HeldRecord<K>>, SeatState, InitialRecord<K>> for DeskRule {
     ghost holds = { λ k. TableInvariant (setting_of k.value) };
 
     ghost first = { λ k. newcomer (setting_of k.value) };
@@ -27,21 +28,21 @@ impl<K: Kind> TableRule<Option<Record<K>>, SeatState, InitialRecord<K>> for Desk
 /// A seat takes the next process.
 pub(crate) struct NameProcess;
 
-impl<K: Kind> Play<Option<Record<K>>, SeatState> for NameProcess {
+impl<K: Kind> Play<Option<HeldRecord<K>>, SeatState> for NameProcess {
     ghost then = { NamedProcess };
 }
 
 /// A seat draws a ticket.
 pub(crate) struct Draw;
 
-impl<K: Kind> Play<Option<Record<K>>, SeatState> for Draw {
+impl<K: Kind> Play<Option<HeldRecord<K>>, SeatState> for Draw {
     ghost then = { Drew };
 }
 
 /// A seat looks whose ticket is served. If it is its own, it has the record.
 pub(crate) struct Look;
 
-impl<K: Kind> Play<Option<Record<K>>, SeatState> for Look {
+impl<K: Kind> Play<Option<HeldRecord<K>>, SeatState> for Look {
     ghost then = { Looked };
 }
 
@@ -69,28 +70,28 @@ pub(crate) struct Publish<J> {
     entry: PhantomData<J>,
 }
 
-impl<K: Kind, J: Entry> Play<Option<Record<K>>, SeatState> for Publish<J> {
+impl<K: Kind, J: Entry> Play<Option<HeldRecord<K>>, SeatState> for Publish<J> {
     ghost then = { Published J.item J.outcome };
 }
 
 /// The served seat adds nothing, and has seen the history.
 pub(crate) struct CatchUp;
 
-impl<K: Kind> Play<Option<Record<K>>, SeatState> for CatchUp {
+impl<K: Kind> Play<Option<HeldRecord<K>>, SeatState> for CatchUp {
     ghost then = { CaughtUp };
 }
 
 /// The served seat gives the record back, and the next ticket is served.
 pub(crate) struct Serve;
 
-impl<K: Kind> Play<Option<Record<K>>, SeatState> for Serve {
+impl<K: Kind> Play<Option<HeldRecord<K>>, SeatState> for Serve {
     ghost then = { ServedOut };
 }
 
 /// A seat is told of what it was joined with.
 pub(crate) struct Tell;
 
-impl<K: Kind> Play<Option<Record<K>>, SeatState> for Tell {
+impl<K: Kind> Play<Option<HeldRecord<K>>, SeatState> for Tell {
     ghost then = { Told };
 }
 

@@ -4,6 +4,7 @@
 mod closed_desk;
 mod desk;
 mod desk_rule;
+mod held_record;
 mod refusal;
 mod seat;
 mod seat_state;

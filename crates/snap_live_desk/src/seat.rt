@@ -106,21 +106,21 @@ fn one_turn<K: Kind, R: Wait>(
     let mut history = take(shared, table_seat);
     match history.apply(item) {
         Ok(outcome) => {
-            let number = history.items().len() as u64;
+            let number = history.record().items().len() as u64;
             publish(shared, table_seat, ticket, item, &outcome, number);
             give(shared, table_seat, history);
             serve(shared, table_seat, ticket);
             Ok(Turn { number, outcome })
         }
         Err(RecordFault::Full) => {
-            let number = history.items().len() as u64;
+            let number = history.record().items().len() as u64;
             catch_up(shared, table_seat, ticket, number);
             give(shared, table_seat, history);
             serve(shared, table_seat, ticket);
             Err(RecordFault::Full)
         }
         Err(RecordFault::Memory) => {
-            let _items = history.items();
+            let _items = history.record().items();
             give(shared, table_seat, history);
             serve(shared, table_seat, ticket);
             Err(RecordFault::Memory)

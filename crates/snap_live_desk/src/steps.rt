@@ -14,9 +14,9 @@ use crate::desk_rule::{
     Both, CatchUp, Cut, DeskRule, Draw, Entry, InitialRecord, Look, NameProcess, Publish, Serve,
     Tell,
 };
+use crate::held_record::HeldRecord;
 use crate::seat_state::SeatState;
 use atomic_table::{Seat, Shared};
-use snap_record::Record;
 use snap_semantics::{Item, Outcome};
 use snap_words::Kind;
 use std::marker::Brand;
@@ -24,10 +24,15 @@ use std::sync::Wait;
 use std::thread::yield_now;
 
 /// What all seats share.
-pub(crate) type SharedTable<K> = Shared<Option<Record<K>>, SeatState, InitialRecord<K>, DeskRule>;
+pub(crate) type SharedTable<K> = Shared<
+    Option<HeldRecord<K>>,
+    SeatState,
+    InitialRecord<K>,
+    DeskRule,
+>;
 
 /// What a seat steps with.
-pub(crate) type TableSeat<K> = Seat<Option<Record<K>>, SeatState>;
+pub(crate) type TableSeat<K> = Seat<Option<HeldRecord<K>>, SeatState>;
 
 /// The word that has the length of the history.
 const LENGTH: usize = 0;
@@ -124,7 +129,7 @@ pub(crate) fn wait<K: Kind, R: Wait>(
 }
 
 /// The record, which leaves the slot empty.
-pub(crate) fn take<K: Kind>(shared: &SharedTable<K>, seat: &mut TableSeat<K>) -> Record<K>
+pub(crate) fn take<K: Kind>(shared: &SharedTable<K>, seat: &mut TableSeat<K>) -> HeldRecord<K>
     requires shared { IsSeatOf shared.now.table_id seat.old.table_id }
     requires has { HasAll seat.old.me }
     ensures given { result ≡ run_of seat.old.me.0.base (grip_of seat.old.me.0.stage) }
@@ -200,7 +205,7 @@ pub(crate) fn catch_up<K: Kind>(
 }
 
 /// The record goes into the slot.
-pub(crate) fn give<K: Kind>(shared: &SharedTable<K>, seat: &mut TableSeat<K>, given: Record<K>)
+pub(crate) fn give<K: Kind>(shared: &SharedTable<K>, seat: &mut TableSeat<K>, given: HeldRecord<K>)
     requires shared { IsSeatOf shared.now.table_id seat.old.table_id }
     requires empty { seat.old.me.1 ≡ (0, None) ∷ [] }
     requires given { given ≡ run_of seat.old.me.0.base (grip_of seat.old.me.0.stage) }

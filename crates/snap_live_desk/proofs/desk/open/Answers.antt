@@ -34,15 +34,16 @@ loop-i-preserved g c =
           ∙ ap (λ (m : ℕ). seats_of (record { id = c.in-Ok.made.0.shared.table_id; base = base }) m) (sym (add-one n));
     }
 
-pub new-requires-2 : goal.new-requires-2
-new-requires-2 g c =
+pub new-requires-3 : goal.new-requires-3
+new-requires-3 g c =
     let base : Setting = record { source = c.args.program.now; shape = c.args.shape } in
     let few : c.args.shape.n ≤ max_count = search rules in
     let fits : base.shape.n ≤ 2 ^ 16 = omega (arith, few) in
     let empty = c.in_ok-slots.ensures.items in
     let made = c.in_ok-first.ensures in
+    let held = c.in_ok-held.ensures ∙ made in
     let slots : c.push_reserved.new.self.items ≡ Some (run_of base []) ∷ [] =
-    c.push_reserved.ensures.items ∙ (λ k. empty k ++ Some (made k) ∷ []) in
+    c.push_reserved.ensures.items ∙ (λ k. empty k ++ Some (held k) ∷ []) in
     let key : setting_of c.of-about.result.value ≡ base = ap setting_of (c.of-about.ensures ∙ made) in
     subst (λ (b : Setting). TableInvariant b (opening (0 ∷ 0 ∷ 0 ∷ 0 ∷ []) c.push_reserved.new.self.items (newcomer b)))
     (sym key)

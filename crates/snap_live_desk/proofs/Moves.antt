@@ -1,6 +1,6 @@
 -- Each step on the desk's table (draw, look, publish, catch up, serve, name, split, tell) keeps the `TableInvariant`.
 use Rattle.std.proofs.Common.{◌≡◌, ◌≢◌, ℕ, ◌+◌, ◌*◌, ◌<◌, ◌≤◌, ◌%◌, ◌^◌, List, [], ◌∷◌, ◌++◌, length, set, refl, sym}
-use Rattle.std.proofs.Common.{ap, ◌∙◌, subst, ⊎_elim, inl, inr, arith, Bool, true, false, Option, Some, None}
+use Rattle.std.proofs.Common.{ap, ◌∙◌, subst, ⊎_elim, inl, inr, arith, true, false, Option, Some, None}
 use Rattle.std.proofs.Common.{mod-eq_of_lt}
 use mathlib.Core.Option.{Option as Maybe, some, none}
 use mathlib.Core.Logic.{dite}

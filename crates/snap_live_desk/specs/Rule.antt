@@ -1,7 +1,7 @@
 -- The rule of the desk's table, `TableInvariant`: tickets, processes, the slot of the record, what seats have seen;
 -- and what each step tells its seat.
-use Rattle.std.specs.Prelude.{◌≡◌, ℕ, ◌+◌, ◌*◌, ◌^◌, ◌<◌, ◌≤◌, ◌++◌, List, [], ◌∷◌, length}
-use Rattle.std.specs.Prelude.{Bool, true, false, Option, Some, None, ◌⊎◌}
+use Rattle.std.specs.Prelude.{◌≡◌, ℕ, ◌+◌, ◌*◌, ◌^◌, ◌<◌, ◌≤◌, List, [], ◌∷◌, length}
+use Rattle.std.specs.Prelude.{true, false, Option, Some, ◌⊎◌}
 use mathlib.Core.Option.{Option as Maybe, some}
 use mathlib.Core.List.{IsPrefix}
 use lib.ListN.{get_elem?}
@@ -11,11 +11,10 @@ use Rattle.snap_live_desk.specs.declared.seat_state.Setting.{Setting}
 use Rattle.snap_semantics.specs.declared.process.Outcome.{Outcome}
 use Rattle.snap_live_desk.specs.declared.seat_state.SeatState.{SeatState}
 use Rattle.snap_live_desk.specs.declared.seat_state.Own.{Own}
-use Rattle.snap_live_desk.specs.declared.seat_state.Stage.TheVariants.{Idle, Waits, Served}
 use Rattle.snap_runs.specs.Run.{Run}
 use Rattle.snap_live_desk.specs.Turns.{run_of, turns_of}
 use Rattle.snap_live_desk.specs.SeatStates.{ticket_of, tickets_of, is_served, grip_of, waits, serves, rests, names}
-use Rattle.snap_live_desk.specs.SeatStates.{publishes, catches_up, tells, turns_in}
+use Rattle.snap_live_desk.specs.SeatStates.{publishes, catches_up, tells}
 
 -- f of each view, added up
 abbrev pub total : (SeatState → ℕ) → List SeatState → ℕ

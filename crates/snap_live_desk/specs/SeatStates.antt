@@ -1,5 +1,5 @@
 -- `SeatState`s, which are what a seat of a desk knows: one for a new seat, and how each step changes it.
-use Rattle.std.specs.Prelude.{◌≡◌, ℕ, ◌+◌, ◌≤◌, List, [], ◌∷◌, ◌++◌, length, nat_lt}
+use Rattle.std.specs.Prelude.{ℕ, ◌+◌, List, [], ◌∷◌, ◌++◌, length, nat_lt}
 use Rattle.std.specs.Prelude.{if◌then◌else◌, Bool, true, false, Option, Some, None}
 use Rattle.snap_semantics.specs.declared.process.Item.{Item}
 use Rattle.snap_words.specs.declared.kind.KindTag.TheVariants.{Seq}
@@ -10,7 +10,7 @@ use Rattle.snap_live_desk.specs.declared.seat_state.Own.{Own}
 use Rattle.snap_live_desk.specs.declared.seat_state.OwnTurn.{OwnTurn}
 use Rattle.snap_live_desk.specs.declared.seat_state.Stage.{Stage}
 use Rattle.snap_live_desk.specs.declared.seat_state.Stage.TheVariants.{Idle, Waits, Served}
-use Rattle.snap_live_desk.specs.Turns.{own_turn, last_outcome}
+use Rattle.snap_live_desk.specs.Turns.{own_turn}
 
 -- the ticket that a seat has
 abbrev pub ticket_of : Stage → Option ℕ

@@ -8,7 +8,7 @@ ghost use Rattle.snap_values.specs.Seen.{seen_context};
 
 use crate::lines::Halt;
 use snap_asm_program::{Program, SlotCondition, SlotExpr};
-use snap_values::{SlotProcess, StepContext, placed_where, row, row_value};
+use snap_values::{SlotProcess, StepContext, row, row_value};
 use snap_words::Kind;
 use std::alloc::{AllocError, Global};
 
@@ -31,10 +31,9 @@ pub fn new_row<K: Kind>(
     let old = row(program.rows(), process.rows.as_slice(), slot);
     let mut values = room(alloc, old.len())?;
     let mut there = *context;
-    let placed = placed_where(program, context, process, condition);
     for passed in 0..count {
         there.place = passed + 1;
-        let value = row_value(program, &there, process, slot, expr, &placed)?;
+        let value = row_value(program, &there, process, slot, expr, condition)?;
         push(&mut values, value)?;
     }
     push_rest(&mut values, old, count)?;

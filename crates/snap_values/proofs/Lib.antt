@@ -1,5 +1,4 @@
 -- The proofs of snap_values, by their modules.
-pub mod Joins
 pub mod PlacesLeft
 pub mod Slots
 pub mod Sizes

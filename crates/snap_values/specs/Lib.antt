@@ -1,6 +1,5 @@
 -- The definitions of snap_values, by their modules.
 pub mod Quantifiers
-pub mod Placed
 pub mod Seen
 pub mod Sizes
 pub mod Current

@@ -3,7 +3,6 @@
 #![tactic(auto)]
 
 mod locals;
-mod placed;
 mod quantifiers;
 mod slot_process;
 mod step_context;
@@ -12,7 +11,6 @@ mod value;
 pub use locals::{
     copy_of, row, scalar, set_number, set_row, set_scalar, set_view, set_word, view, words,
 };
-pub use placed::{PlacedCondition, placed_where};
 pub use quantifiers::{check_values, first_place, holds_at_all, range_end, row_value};
 pub use slot_process::SlotProcess;
 pub use step_context::StepContext;

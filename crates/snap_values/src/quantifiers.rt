@@ -2,18 +2,16 @@
 //! place are all taken before those of the next.
 ghost use Rattle.std.specs.Prelude.{◌≡◌, if◌then◌else◌};
 ghost use Rattle.snap_semantics.specs.Rules.{or_else};
-ghost use Rattle.snap_semantics.specs.Table.{range_end};
+ghost use Rattle.snap_semantics.specs.Table.{each_value, range_end};
 ghost use Rattle.snap_asm_program.specs.NamedLines.{name_at, named_condition, named_expr};
 ghost use Rattle.snap_asm_program.specs.NamedLines.{named_where};
-ghost use Rattle.snap_values.specs.Placed.{placed_each_value};
 ghost use Rattle.snap_values.specs.Quantifiers.{first_place, holds_at_all, checked_values};
 ghost use Rattle.snap_values.specs.Seen.{seen_context};
 
 use crate::locals::row;
-use crate::placed::{PlacedCondition, placed_condition, placed_condition_holds, placed_where};
 use crate::slot_process::SlotProcess;
 use crate::step_context::StepContext;
-use crate::value::{expr_value, joined, number_at};
+use crate::value::{condition_holds, expr_value, joined, number_at};
 use snap_asm_program::{Program, SlotCondition, SlotExpr};
 use snap_semantics::{Cause, Join, Range};
 use snap_words::{Kind, Shape};
@@ -41,10 +39,9 @@ pub fn first_place<K: Kind>(
 {
     let mut found = None;
     let mut there = *context;
-    let placed = placed_condition(program, context, process, condition);
     for passed in 0..count {
         there.place = passed + 1;
-        let holds = placed_condition_holds(program, &there, process, &placed)?;
+        let holds = condition_holds(program, &there, process, condition)?;
         found = first_of(found, holds, passed + 1);
     }
     Ok(found)
@@ -73,10 +70,9 @@ pub fn holds_at_all<K: Kind>(
 {
     let mut all = true;
     let mut there = *context;
-    let placed = placed_condition(program, context, process, condition);
     for passed in 0..count {
         there.place = passed + 1;
-        let holds = placed_condition_holds(program, &there, process, &placed)?;
+        let holds = condition_holds(program, &there, process, condition)?;
         all = joined(Join::And, all, holds);
     }
     Ok(all)
@@ -89,17 +85,17 @@ pub fn row_value<K: Kind>(
     process: &SlotProcess<K>,
     slot: usize,
     expr: &SlotExpr,
-    condition: &Option<PlacedCondition<K::Word>>,
+    condition: &Option<SlotCondition>,
 ) -> Result<u64, Cause>
-    ensures { result ≡ placed_each_value K.as_word program.now
-        (seen_context K.as_word program.now context.now process.now)
-        (name_at program.now.rows slot) (named_expr program.now expr.now) condition.now }
+    ensures { result ≡ each_value (seen_context K.as_word program.now context.now process.now)
+        (name_at program.now.rows slot) (named_expr program.now expr.now)
+        (named_where program.now condition.now) }
 {
     match condition {
         None => expr_value(program, context, process, expr),
         Some(condition) => {
             let value = expr_value(program, context, process, expr)?;
-            let holds = placed_condition_holds(program, context, process, condition)?;
+            let holds = condition_holds(program, context, process, condition)?;
             if holds {
                 Ok(value)
             } else {
@@ -125,10 +121,9 @@ pub fn check_values<K: Kind>(
         (named_where program.now condition.now) }
 {
     let mut there = *context;
-    let placed = placed_where(program, context, process, condition);
     for passed in 0..count {
         there.place = passed + 1;
-        row_value(program, &there, process, slot, expr, &placed)?;
+        row_value(program, &there, process, slot, expr, condition)?;
     }
     Ok(())
 }

@@ -7,7 +7,6 @@ use Rattle.snap_semantics.specs.Table.{each_value}
 use Rattle.snap_semantics.specs.State.{value_at}
 use Rattle.snap_semantics.specs.Value.{Context, at_place}
 use Rattle.snap_values.specs.declared.step_context.StepContext.{StepContext}
-use Rattle.snap_values.specs.Placed.{placed_each_value}
 use Rattle.snap_values.specs.Seen.{seen_context}
 use Rattle.snap_values.proofs.PlacesLeft.{all_places, next_place, trap_place}
 use Rattle.snap_line_effects.proofs.rows.new_row.Goals as goal
@@ -24,9 +23,7 @@ returns-in_err-value g c =
     let rest : List ℕ = drop c.args.count c.row-old.result.now in
     let whole : List ℕ → List ℕ = λ vs. c.loop-passed.values.items ++ (vs ++ rest) in
     let is : each_value (at_place context (passed + 1)) x v k ≡ Err c.in_err-value.field-0.0 =
-    sym (c.placed_where-placed.ensures (passed + 1) x v)
-    ∙ ap (λ (t : StepContext). placed_each_value g.K.Kind.as_word s
-    (seen_context g.K.Kind.as_word s (record t { place = passed + 1 }) p) x v c.placed_where-placed.result)
+    ap (λ (t : StepContext). each_value (seen_context g.K.Kind.as_word s (record t { place = passed + 1 }) p) x v k)
     (sym c.loop-passed.invariant.1) ∙ sym c.row_value.ensures ∙ c.in_err-value.was in
     let e = err_from_is_err_and c.from_residual-in_err-value.result c.from_residual-in_err-value.ensures.1 in
     rw (e.1, e.2) (sym (trap_place (λ q. each_value (at_place context q) x v k) whole passed c.args.count
@@ -48,9 +45,7 @@ loop-passed-preserved g c =
     let whole' : List ℕ → List ℕ = λ vs. after ++ (vs ++ rest) in
     let y = c.in_ok-value.value in
     let is : each_value (at_place context (passed + 1)) x v k ≡ Ok y =
-    sym (c.placed_where-placed.ensures (passed + 1) x v)
-    ∙ ap (λ (t : StepContext). placed_each_value g.K.Kind.as_word s
-    (seen_context g.K.Kind.as_word s (record t { place = passed + 1 }) p) x v c.placed_where-placed.result)
+    ap (λ (t : StepContext). each_value (seen_context g.K.Kind.as_word s (record t { place = passed + 1 }) p) x v k)
     (sym c.loop-passed.invariant.1) ∙ sym c.row_value.ensures ∙ c.in_ok-value.was in
     let pushed : after ≡ before ++ y ∷ [] = c.in_ok-push.ensures in (
       sym (next_place (λ q. each_value (at_place context q) x v k) whole whole' passed c.args.count y (omega arith) is

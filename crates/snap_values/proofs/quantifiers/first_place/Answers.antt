@@ -1,14 +1,13 @@
 -- `first_place` of snap_values (src/quantifiers.rt): the proof of what its contract says.
 -- The least place at which a condition holds.
-use Rattle.std.proofs.Common.{◌≡◌, ℕ, ◌+◌, Bool, List, Option, Ok, Err, None, refl, sym, ap, ◌∙◌, arith}
+use Rattle.std.proofs.Common.{◌≡◌, ℕ, ◌+◌, Bool, List, Option, Ok, Err, sym, ap, ◌∙◌, arith}
 use Rattle.snap_asm_program.specs.NamedLines.{named_condition}
 use Rattle.snap_semantics.specs.Rules.{or_else}
 use Rattle.snap_semantics.specs.Table.{first_true}
 use Rattle.snap_semantics.specs.Value.{Context, at_place, condition_holds}
 use Rattle.snap_values.specs.declared.step_context.StepContext.{StepContext}
-use Rattle.snap_values.specs.Placed.{placed_condition_holds}
 use Rattle.snap_values.specs.Seen.{seen_context}
-use Rattle.snap_values.proofs.PlacesLeft.{all_places, more_found, next_place, trap_place}
+use Rattle.snap_values.proofs.PlacesLeft.{more_found, next_place, trap_place}
 use Rattle.std.proofs.lemmas.Result.{err_from_is_err_and}
 use Rattle.snap_values.proofs.quantifiers.first_place.Goals as goal
 
@@ -20,10 +19,8 @@ returns-in_err-holds g c =
     let passed = c.loop-passed.passed in
     let context : Context = seen_context g.K.Kind.as_word s c.args.context.now p in
     let is : condition_holds (at_place context (passed + 1)) k ≡ Err c.in_err-holds.field-0.0 =
-    sym (c.placed_condition-placed.ensures (passed + 1))
-    ∙ ap (λ (t : StepContext). placed_condition_holds g.K.Kind.as_word s
-    (seen_context g.K.Kind.as_word s (record t { place = passed + 1 }) p) c.placed_condition-placed.result)
-    (sym c.loop-passed.invariant.1) ∙ sym c.placed_condition_holds.ensures ∙ c.in_err-holds.was in
+    ap (λ (t : StepContext). condition_holds (seen_context g.K.Kind.as_word s (record t { place = passed + 1 }) p) k)
+    (sym c.loop-passed.invariant.1) ∙ sym c.condition_holds.ensures ∙ c.in_err-holds.was in
     let left : List Bool → Option ℕ = λ bs. or_else c.loop-passed.found (first_true (passed + 1) bs) in
     let e = err_from_is_err_and c.from_residual.result c.from_residual.ensures.1 in
     rw (e.1, e.2) (sym (trap_place (λ q. condition_holds (at_place context q) k) left passed c.args.count
@@ -37,10 +34,8 @@ loop-passed-preserved g c =
     let passed = c.loop-passed.passed in
     let context : Context = seen_context g.K.Kind.as_word s c.args.context.now p in
     let is : condition_holds (at_place context (passed + 1)) k ≡ Ok c.in_ok-holds.holds =
-    sym (c.placed_condition-placed.ensures (passed + 1))
-    ∙ ap (λ (t : StepContext). placed_condition_holds g.K.Kind.as_word s
-    (seen_context g.K.Kind.as_word s (record t { place = passed + 1 }) p) c.placed_condition-placed.result)
-    (sym c.loop-passed.invariant.1) ∙ sym c.placed_condition_holds.ensures ∙ c.in_ok-holds.was in
+    ap (λ (t : StepContext). condition_holds (seen_context g.K.Kind.as_word s (record t { place = passed + 1 }) p) k)
+    (sym c.loop-passed.invariant.1) ∙ sym c.condition_holds.ensures ∙ c.in_ok-holds.was in
     let found : Option ℕ = c.first_of-found.result in
     let left : List Bool → Option ℕ = λ bs. or_else c.loop-passed.found (first_true (passed + 1) bs) in
     let left' : List Bool → Option ℕ = λ bs. or_else found (first_true (passed + 1 + 1) bs) in
@@ -50,14 +45,4 @@ loop-passed-preserved g c =
           ∙ ap (λ (o : Option ℕ). or_else o (first_true (passed + 1 + 1) bs)) (sym c.first_of-found.ensures)))
           ∙ c.loop-passed.invariant.0,
       c.loop-passed.invariant.1,
-    )
-
-pub loop-passed-init : goal.loop-passed-init
-loop-passed-init g c =
-    let s = c.args.program.now in
-    let k = named_condition s c.args.condition.now in
-    let context : Context = seen_context g.K.Kind.as_word s c.args.context.now c.args.process.now in (
-      all_places (λ q. condition_holds (at_place context q) k) (λ bs. or_else None (first_true 1 bs)) (λ bs. first_true 1 bs)
-          c.args.count (λ bs. refl),
-      refl,
     )

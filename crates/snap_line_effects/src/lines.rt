@@ -56,6 +56,7 @@ impl From<RegisterFault> for Halt {
 }
 
 /// The line after this one.
+#[inline(always)]
 pub(crate) fn next_line(program: &Program, context: &StepContext) -> Result<Continuation, Cause>
     ensures { result ≡ next_line context.now.activity
         (following program.now.lines context.now.activity.line) }

@@ -211,8 +211,8 @@ impl<K: Kind> Registers<K> {
     }
 
     /// Process `who` puts bit `j` of row `i`: `Index` where there is no such bit, `NotABit` where
-    /// it is not 0 or 1,
-    /// `Owner` where the process may not write it.
+    /// it is not 0 or 1, `Owner` where the process may not write it.
+    #[inline(always)]
     pub fn put_bit(
         &mut self,
         who: u32,

@@ -116,9 +116,8 @@ fn call_form(line: &CallLine) -> ItemForm
     }
 }
 
-/// The form of the next line, of which `left` items may come, by its tokens. Out of line, so that
-/// the lines that are read without tokens are read in one loop.
-#[inline(never)]
+/// The form of the next line, of which `left` items may come, by its tokens.
+#[inline(always)]
 fn next_line_form(
     alloc: Global,
     n: u64,

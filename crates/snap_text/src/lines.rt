@@ -126,6 +126,7 @@ impl<'a> TextLines<'a> {
     }
 
     /// Takes the next line that has tokens.
+    #[inline(always)]
     pub fn next_line(&mut self, alloc: Global) -> Result<Option<TokenLine<'a>>, AllocError>
         ensures next { IfOk result (λ line. IsNext line self.old self.new) }
         ensures unchanged { OnErr result (self.new ≡ self.old) }

@@ -79,6 +79,7 @@ pub fn holds_at_all<K: Kind>(
 }
 
 /// A place's new value: the expression's where the condition holds, else the old one.
+#[inline(always)]
 pub fn row_value<K: Kind>(
     program: &Program,
     context: &StepContext,

@@ -2,3 +2,4 @@
 pub mod Points
 pub mod Events
 pub mod Sweeping
+pub mod Watches

@@ -3,16 +3,16 @@
 use Rattle.std.specs.Prelude.{◌≡◌, ℕ, zero, suc, ◌-◌, ◌≤◌, List, [], ◌∷◌, ◌++◌, length, map, drop, Option, Some, None}
 use Rattle.std.specs.Prelude.{bytes_eq, get_or, replicate, if◌then◌else◌, slice_index, slice_set}
 use Rattle.std.specs.List.{AllByRecursion}
-use Rattle.snap_words.specs.Shape.{IsOneOf}
+use Rattle.snap_words.specs.Shape.{Counts, IsOneOf, max_items}
 use Rattle.snap_semantics.specs.State.{values}
 use Rattle.snap_semantics.specs.declared.event.Event.{Event}
 use Rattle.snap_semantics.specs.declared.event.Happening.{Happening}
 use Rattle.snap_semantics.specs.declared.event.Happening.TheVariants.{Call, Answer}
 use Rattle.snap_runs.specs.Audit.{audit, verdict_of}
-use Rattle.snap_runs.specs.Run.{Run, state}
+use Rattle.snap_runs.specs.Run.{Run, IsValidRun, events_of, state}
 use Rattle.snap_runs.specs.Scan.{double_collects}
 use Rattle.snap_runs.specs.declared.verdict.Verdict.{Verdict}
-use Rattle.snap_record.specs.History.{IsRising, IsWithin, values_by}
+use Rattle.snap_record.specs.History.{IsRising, IsWithin, LeadsAlong, collects_at, values_by}
 use Rattle.snap_record.specs.declared.history.Change.{Change}
 use Rattle.snap_audit.specs.declared.caller.Caller.{Caller}
 
@@ -63,3 +63,13 @@ pub record Sweeps (r : Run) (xs : List Change) (callers : List Caller) (found : 
   pub each : (i : ℕ) → IsOneOf r.shape.n i → (d : Caller) → IsCaller r xs left i (get_or callers (i - 1) d)
   pub within : AllByRecursion (IsWithin r.shape.n (length r.items)) left
   pub rises : IsRising left
+
+-- what an audit has to know of a run: its shape, the changes of its values, its events, and the double collects at
+-- each of them
+pub record IsToldBy (r : Run) (n : Counts) (xs : List Change) (es : List Event) (ks : List ℕ) : Type 0 where
+  pub fits : IsValidRun r
+  pub few : length r.items ≤ max_items
+  pub shape : n ≡ r.shape
+  pub leads : LeadsAlong r xs
+  pub events : es ≡ events_of r (length r.items)
+  pub collects : ks ≡ map (collects_at r) es

@@ -4,14 +4,17 @@ ghost use Rattle.std.specs.Prelude.{List, IfOk, OnOk, get_or, length, replicate}
 ghost use Rattle.snap_words.specs.Shape.{IsOneOf};
 ghost use Rattle.snap_semantics.specs.declared.event.Event.{Event};
 ghost use Rattle.snap_runs.specs.Audit.{audit};
-ghost use Rattle.snap_runs.specs.Run.{Run};
+ghost use Rattle.snap_runs.specs.Run.{Run, run_over};
 ghost use Rattle.snap_record.specs.History.{collects_at};
-ghost use Rattle.snap_audit.specs.Sweep.{Sweeps, fresh};
+ghost use Rattle.snap_audit.specs.Sweep.{IsToldBy, Sweeps, fresh};
 ghost use Rattle.snap_audit.specs.declared.caller.Caller.{Caller};
 
 use crate::caller::Caller;
+use crate::watch::Watch;
+use snap_asm_program::Program;
 use snap_record::{Change, Record};
 use snap_runs::Verdict;
+use snap_sched::Schedule;
 use snap_semantics::{Event, Happening};
 use snap_words::{Kind, Shape};
 use std::alloc::{AllocError, Global};
@@ -71,17 +74,19 @@ fn note_event(
     }
 }
 
-/// Of each scan that was called and has been answered, in the order of the answers: the least item
-/// from its call to its answer after which the values were what it answered, if there is one, and
-/// how many double collects it took.
-pub fn audit<K: Kind>(alloc: Global, history: &Record<K>) -> Result<Vec<Verdict>, AllocError>
-    ensures { IfOk result (λ v. v.items ≡ audit history.now) }
+/// The verdicts on the answered scans of a run, by what is told of it.
+pub(crate) fn sweep(
+    alloc: Global,
+    shape: Shape,
+    changes: &[Change],
+    events: &[Event],
+    collects: &[u64],
+) -> Result<Vec<Verdict>, AllocError>
+    requires { (r : Run) × IsToldBy r shape changes.now events.now collects.now }
+    ensures { IfOk result (λ v. (r : Run) → IsToldBy r shape changes.now events.now collects.now →
+        v.items ≡ audit r) }
 {
-    let _items = history.items();
-    let changes = history.changes();
-    let events = history.events();
-    let collects = history.event_collects();
-    let mut callers = new_callers(alloc, history.machine().shape())?;
+    let mut callers = new_callers(alloc, shape)?;
     let mut verdicts = Vec::new(alloc);
     let mut k = 0;
     while k < events.len() {
@@ -96,4 +101,33 @@ pub fn audit<K: Kind>(alloc: Global, history: &Record<K>) -> Result<Vec<Verdict>
         k += 1;
     }
     Ok(verdicts)
+}
+
+/// Of each scan that was called and has been answered, in the order of the answers: the least item
+/// from its call to its answer after which the values were what it answered, if there is one, and
+/// how many double collects it took.
+pub fn audit<K: Kind>(alloc: Global, history: &Record<K>) -> Result<Vec<Verdict>, AllocError>
+    ensures { IfOk result (λ v. v.items ≡ audit history.now) }
+{
+    let _items = history.items();
+    sweep(
+        alloc,
+        history.machine().shape(),
+        history.changes(),
+        history.events(),
+        history.event_collects(),
+    )
+}
+
+/// The same of a program's run over a whole schedule, of which no record is kept.
+pub fn audit_over<K: Kind>(
+    alloc: Global,
+    program: &Program,
+    schedule: &Schedule,
+) -> Result<Vec<Verdict>, AllocError>
+    requires { program.now.kind ≡ K.TAG }
+    ensures { IfOk result (λ v. v.items ≡ audit (run_over program.now schedule.now)) }
+{
+    let watch = Watch::<K>::over(alloc, program, schedule)?;
+    watch.verdicts(alloc)
 }

@@ -1,10 +1,13 @@
 //! The printed text of an audit: a line for the verdict on each answered scan.
 ghost use Rattle.std.specs.Prelude.{◌≡◌, ◌++◌, IfOk, OnOk};
+ghost use Rattle.snap_runs.specs.Run.{run_over};
 ghost use Rattle.snap_audit.specs.VerdictText.{audit_text, point_text, verdict_line, verdict_lines};
 
-use crate::sweep::audit;
+use crate::sweep::{audit, audit_over};
+use snap_asm_program::Program;
 use snap_record::Record;
 use snap_runs::Verdict;
+use snap_sched::Schedule;
 use snap_text::{push_number, push_text};
 use snap_words::Kind;
 use std::alloc::{AllocError, Global};
@@ -47,12 +50,32 @@ fn verdict_lines(out: &mut Vec<u8>, verdicts: &[Verdict]) -> Result<(), AllocErr
     Ok(())
 }
 
+/// The text of verdicts, a line for each.
+fn text_of(alloc: Global, verdicts: &[Verdict]) -> Result<Vec<u8>, AllocError>
+    ensures { IfOk result (λ out. out.items ≡ verdict_lines verdicts.now) }
+{
+    let mut out = Vec::new(alloc);
+    verdict_lines(&mut out, verdicts)?;
+    Ok(out)
+}
+
 /// The audit of a record, a line for each verdict.
 pub fn audit_text<K: Kind>(alloc: Global, history: &Record<K>) -> Result<Vec<u8>, AllocError>
     ensures { IfOk result (λ out. out.items ≡ audit_text history.now) }
 {
     let verdicts = audit(alloc, history)?;
-    let mut out = Vec::new(alloc);
-    verdict_lines(&mut out, verdicts.as_slice())?;
-    Ok(out)
+    text_of(alloc, verdicts.as_slice())
+}
+
+/// The audit of a program's run over a whole schedule, a line for each verdict.
+pub fn audit_text_over<K: Kind>(
+    alloc: Global,
+    program: &Program,
+    schedule: &Schedule,
+) -> Result<Vec<u8>, AllocError>
+    requires { program.now.kind ≡ K.TAG }
+    ensures { IfOk result (λ out. out.items ≡ audit_text (run_over program.now schedule.now)) }
+{
+    let verdicts = audit_over::<K>(alloc, program, schedule)?;
+    text_of(alloc, verdicts.as_slice())
 }

@@ -1,33 +1,16 @@
 //! `audit_program`: what the task `audit` writes, the verdict of each finished scan of a listing's
 //! run under a schedule.
-ghost use Rattle.std.specs.Prelude.{◌≡◌, IfOk};
-ghost use Rattle.snap_runs.specs.Run.{run_over};
+ghost use Rattle.std.specs.Prelude.{◌≡◌};
 ghost use Rattle.snap_semantics.specs.Answers.{Answers};
-ghost use Rattle.snap_audit.specs.VerdictText.{audit_text};
 ghost use Rattle.snap_output.specs.Output.{audit_listing};
 
 use snap_asm_program::Program;
-use snap_audit::audit_text;
+use snap_audit::audit_text_over;
 use snap_input::schedule_for;
-use snap_record::record_over;
 use snap_runner::OwnCode;
-use snap_sched::Schedule;
 use snap_semantics::{Fault, Refusal};
 use snap_words::{Bits, Kind, KindTag, Multi, Seq};
-use std::alloc::{AllocError, Global};
-
-/// What each finished scan of a program under a schedule stands for.
-fn audit_run<K: Kind>(
-    alloc: Global,
-    program: &Program,
-    schedule: &Schedule,
-) -> Result<Vec<u8>, AllocError>
-    requires { program.now.kind ≡ K.TAG }
-    ensures { IfOk result (λ out. out.items ≡ audit_text (run_over program.now schedule.now)) }
-{
-    let record = record_over::<K>(alloc, program, schedule)?;
-    audit_text(alloc, &record)
-}
+use std::alloc::Global;
 
 /// What each finished scan of a program of a kind stands for.
 #[tactic(auto, unfolding(crate::specs::Output::audit_listing))]
@@ -40,7 +23,7 @@ fn audit_kind<K: Kind>(
     ensures { Answers (λ out. out.items) result (audit_listing program.now schedule.now) }
 {
     let schedule = schedule_for::<K>(alloc, program, schedule)?;
-    Ok(audit_run::<K>(alloc, program, &schedule)?)
+    Ok(audit_text_over::<K>(alloc, program, &schedule)?)
 }
 
 /// The verdicts of the finished scans of a program under a schedule, a line each.

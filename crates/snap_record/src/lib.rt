@@ -14,9 +14,10 @@ mod step_role;
 mod walk;
 
 pub use fault::RecordFault;
-pub use history::Change;
+pub use history::{Change, note_values};
 pub use items::History;
 pub use over::record_over;
 pub use record::{MAX_ITEMS, Record};
+pub use roles::{LineRole, new_roles, role_of};
 pub use row::Row;
 pub use walk::advance;

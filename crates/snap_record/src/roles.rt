@@ -23,7 +23,7 @@ pub enum LineRole {
 }
 
 /// What an instruction is.
-fn role_of(instr: Option<&Instr>) -> LineRole
+pub fn role_of(instr: Option<&Instr>) -> LineRole
     ensures { result ≡ role_of (option_map (λ i. i.now) instr.entry) }
 {
     match instr {

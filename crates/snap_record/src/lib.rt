@@ -4,7 +4,6 @@
 
 mod fault;
 mod history;
-mod items;
 mod over;
 mod record;
 mod roles;
@@ -15,8 +14,8 @@ mod walk;
 
 pub use fault::RecordFault;
 pub use history::Change;
-pub use items::History;
 pub use over::record_over;
 pub use record::{MAX_ITEMS, Record};
 pub use row::Row;
+pub use snap_history::History;
 pub use walk::advance;

@@ -29,7 +29,7 @@ use Rattle.snap_runs.specs.Scan.{is_stepped}
 use Rattle.snap_runs.specs.StepRoles.{is_test, is_write, line_step_role, returned, step_role_at, step_role_in}
 use Rattle.snap_runs.specs.StepRoles.{step_role_of}
 use Rattle.snap_record.specs.History.{changes_to, counted}
-use Rattle.snap_record.specs.Record.{with_item, with_items}
+use Rattle.snap_history.specs.Longer.{with_item, with_items}
 use Rattle.snap_record.specs.Roles.{AreRoles, instr_role, role_of}
 use Rattle.snap_record.specs.declared.roles.LineRole.{LineRole}
 use Rattle.snap_record.proofs.Recording.{none_changed, recorded, stay_when}

@@ -3,7 +3,6 @@
 ghost use Rattle.std.specs.Prelude.{◌≡◌, ◌≤◌, ◌<◌, ◌+◌, ◌++◌, ◌∷◌, [], ℕ, IfOk, IsTrue, OnOk};
 ghost use Rattle.std.specs.Prelude.{◌-◌, false, length, map, option_to_list, replicate, slice_index, ◌^◌};
 ghost use Rattle.snap_words.specs.Shape.{IsOneOf, max_items};
-ghost use Rattle.snap_semantics.specs.Run.{event_of};
 ghost use Rattle.snap_semantics.specs.Source.{instr_at};
 ghost use Rattle.snap_semantics.specs.State.{values};
 ghost use Rattle.snap_semantics.specs.Table.{who};
@@ -13,18 +12,19 @@ ghost use Rattle.snap_runs.specs.Audit.{audit};
 ghost use Rattle.snap_runs.specs.Run.{Run, run_over};
 ghost use Rattle.snap_runs.specs.StepRoles.{StepRole, is_test, is_write, step_role_of};
 ghost use Rattle.snap_record.specs.History.{changes_to, counted};
-ghost use Rattle.snap_record.specs.Record.{with_item, with_items};
+ghost use Rattle.snap_history.specs.Longer.{with_item, with_items};
 ghost use Rattle.snap_record.specs.Roles.{AreRoles, role_of};
 ghost use Rattle.snap_sched.specs.Segments.{segment_items};
 ghost use Rattle.snap_audit.specs.Watch.{Watches, is_test_line, is_write_line};
 
 use crate::sweep::sweep;
 use snap_asm_program::Program;
+use snap_history::event_of;
 use snap_machine::Machine;
 use snap_record::{Change, LineRole, Row, new_roles, note_values, role_of};
 use snap_runs::Verdict;
 use snap_sched::{Schedule, Segment};
-use snap_semantics::{Event, Happening, Item, Outcome, Status, who};
+use snap_semantics::{Event, Item, Outcome, Status, who};
 use snap_words::{Kind, Shape};
 use std::alloc::{AllocError, Global};
 
@@ -174,24 +174,6 @@ fn note_event(
         at_events.push(collects[(i - 1) as usize])?;
     }
     Ok(())
-}
-
-/// What callers see of an item of this number, where they see anything.
-fn event_of(number: u64, item: Item, outcome: Outcome) -> Option<Event>
-    ensures { option_to_list result ≡ event_of number item outcome }
-{
-    let what = match (outcome, item) {
-        (Outcome::Called, Item::Call(_, op)) => Happening::Call(op),
-        (Outcome::Answered(view), _) => Happening::Answer(view),
-        (Outcome::Finished, _) => Happening::Done,
-        (Outcome::Crashed, _) => Happening::Crash,
-        _ => return None,
-    };
-    Some(Event {
-        item: number,
-        process: who(item),
-        what,
-    })
 }
 
 /// An item, and how often a segment has it.

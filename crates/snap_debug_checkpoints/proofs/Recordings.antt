@@ -22,8 +22,8 @@ use Rattle.snap_semantics.specs.declared.event.Happening.TheVariants as what
 use Rattle.snap_machine.specs.Configuration.{Configuration}
 use Rattle.snap_runs.specs.Run.{Run, state, item, outcome, events_of}
 use Rattle.snap_runs.proofs.Embedding.{all_index, next_state}
-use Rattle.snap_record.specs.Record.{with_item}
-use Rattle.snap_record.proofs.Events.{events_after}
+use Rattle.snap_history.specs.Longer.{with_item}
+use Rattle.snap_history.proofs.Later.{events_after}
 use Rattle.snap_debug_checkpoints.specs.Recording.{ContinuesWith, IsRecorded, IsCheckpoint, configuration}
 use Rattle.snap_debug_checkpoints.specs.declared.checkpoint.Checkpoint.{Checkpoint}
 

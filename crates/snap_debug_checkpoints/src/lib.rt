@@ -3,6 +3,7 @@
 #![tactic(auto)]
 
 mod checkpoint;
+mod followed;
 mod recording;
 mod reversible_machine;
 

@@ -1,5 +1,5 @@
-//! `Recording`: the record of a schedule's first items, as far as the debugger has followed its
-//! run, with checkpoints of the machine at some of the positions.
+//! `Recording`: a schedule's first items with what callers saw of them, as far as the debugger has
+//! followed its run, with checkpoints of the machine at some of the positions.
 ghost use Rattle.std.specs.Prelude.{◌≡◌, ◌<◌, ◌≤◌, ◌+◌, ◌∷◌, List, drop, length, IfOk, OnErr, OnOk};
 ghost use Rattle.std.specs.List.{AllByRecursion};
 ghost use Rattle.snap_words.specs.Shape.{IsOneOf, max_items};
@@ -9,9 +9,9 @@ ghost use Rattle.snap_runs.specs.Run.{Run, item, outcome, events_of, run_over};
 ghost use Rattle.snap_debug_checkpoints.specs.Recording.{ContinuesWith, IsRecorded, IsCheckpoint};
 
 use crate::checkpoint::Checkpoint;
+use crate::followed::Followed;
 use snap_asm_program::Program;
 use snap_machine::Machine;
-use snap_record::{Record, RecordFault};
 use snap_sched::{ItemIter, Schedule};
 use snap_semantics::{Event, Item, Outcome, who};
 use snap_words::Kind;
@@ -25,11 +25,12 @@ const FAR: u64 = 64;
 /// How many items lie between checkpoints at least.
 const LEAST: u64 = 512;
 
-/// The record of a schedule's first items, as many as were asked for yet, with checkpoints: copies
-/// of the machine at the beginning and at even distances from it. No item is recorded twice.
+/// A schedule's first items with what callers saw of them, as many as were asked for yet, and
+/// checkpoints: copies of the machine at the beginning and at even distances from it. No item is
+/// recorded twice.
 pub struct Recording<K: Kind> {
     schedule: Schedule,
-    history: Record<K>,
+    history: Followed<K>,
     first: Checkpoint<K>,
     later: Vec<Checkpoint<K>>,
 }
@@ -89,7 +90,7 @@ fn skip(items: &mut ItemIter<'_>, count: u64)
 /// Keeps a copy of the machine, where a checkpoint is due.
 fn keep_checkpoint<K: Kind>(
     later: &mut Vec<Checkpoint<K>>,
-    history: &Record<K>,
+    history: &Followed<K>,
     spacing: u64,
 ) -> Result<(), AllocError>
     ensures { (r : Run) (xs : List Item) → ContinuesWith r history.now xs →
@@ -107,7 +108,10 @@ fn keep_checkpoint<K: Kind>(
 }
 
 /// Records the next of the items to come.
-fn record_next<K: Kind>(history: &mut Record<K>, items: &mut ItemIter<'_>) -> Result<(), AllocError>
+fn record_next<K: Kind>(
+    history: &mut Followed<K>,
+    items: &mut ItemIter<'_>,
+) -> Result<(), AllocError>
     requires { (r : Run) × ContinuesWith r history.old items.old ×
         (length history.old.items < length r.items) }
     ensures done { (r : Run) → ContinuesWith r history.old items.old →
@@ -116,17 +120,13 @@ fn record_next<K: Kind>(history: &mut Record<K>, items: &mut ItemIter<'_>) -> Re
     ensures unchanged { OnErr result (history.new ≡ history.old) }
 {
     let item = next_item(items);
-    match history.apply(item) {
-        Ok(_) => Ok(()),
-        Err(RecordFault::Memory) => Err(AllocError),
-        Err(RecordFault::Full) => unreachable!(),
-    }
+    history.apply(item)
 }
 
 /// Records so many items more, with the checkpoints on the way. Where there is no memory for one,
 /// those before it stay recorded.
 fn record_more<K: Kind>(
-    history: &mut Record<K>,
+    history: &mut Followed<K>,
     later: &mut Vec<Checkpoint<K>>,
     items: &mut ItemIter<'_>,
     count: u64,
@@ -189,7 +189,7 @@ impl<K: Kind> Recording<K> {
         let shape = schedule.shape();
         Ok(Recording {
             schedule,
-            history: Record::new(alloc, program, shape)?,
+            history: Followed::new(alloc, program, shape)?,
             first: Checkpoint {
                 machine: Machine::new(alloc, program, shape)?,
                 position: 0,

@@ -17,7 +17,8 @@ use Rattle.snap_semantics.specs.declared.process.Outcome.TheVariants as outcomes
 use Rattle.snap_runs.specs.Run.{Run, IsValidRun, state, item, outcome, events_of}
 use Rattle.snap_runs.proofs.Embedding.{next_state}
 use Rattle.snap_record.specs.History.{IsRising, IsWithin}
-use Rattle.snap_record.proofs.Histories.{join_all}
+use Rattle.snap_history.proofs.Later.{events_after}
+use Rattle.snap_history.proofs.Longer.{join_all}
 
 -- the events of the items after item t
 abbrev pub events_from : Run → ℕ → List Event
@@ -87,27 +88,6 @@ events_within s n S t u (x ∷ xs) all le =
 -- so is each event of a run
 pub all_within_run : (r : Run) → IsValidRun r → AllByRecursion (IsWithin r.shape.n (length r.items)) (events_from r 0)
 all_within_run r fits = events_within r.source r.shape (state r 0) 1 (length r.items) r.items fits.all (omega arith)
-
--- an event of item t is not before it
-event_after : (t u : ℕ) (x : Item) (o : Outcome) → t ≤ u → AllByRecursion (λ (e : Event). t ≤ e.item) (event_of u x o)
-event_after t u (Step i) outcomes.Called le = tt
-event_after t u (Call i op) outcomes.Called le = (le, tt)
-event_after t u (Crash i) outcomes.Called le = tt
-event_after t u x outcomes.Stepped le = tt
-event_after t u x (outcomes.Answered v) le = (le, tt)
-event_after t u x outcomes.Finished le = (le, tt)
-event_after t u x (outcomes.Trapped c) le = tt
-event_after t u x outcomes.Crashed le = (le, tt)
-event_after t u x (outcomes.Skipped c) le = tt
-
--- nor are the events of later items
-pub events_after : (s : Source) (n : Counts) (S : State) (t u : ℕ) (xs : List Item) → t ≤ u →
-    AllByRecursion (λ (e : Event). t ≤ e.item) (events s n S u xs)
-events_after s n S t u [] le = tt
-events_after s n S t u (x ∷ xs) le =
-    join_all (λ (e : Event). t ≤ e.item) (event_of u x (done s n S x).1) (events s n (done s n S x).0 (u + 1) xs)
-    (event_after t u x (done s n S x).1 le)
-    (events_after s n (done s n S x).0 t (u + 1) xs (omega (arith, le)))
 
 -- one event at most, and then later ones
 event_rises : (t : ℕ) (x : Item) (o : Outcome) (es : List Event) → AllByRecursion (λ (e : Event). t ≤ e.item) es →

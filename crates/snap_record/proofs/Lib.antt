@@ -8,7 +8,6 @@ pub mod Walks
 pub mod Counts
 pub mod Events
 pub mod Searches
-pub mod Kept
 pub mod Doing
 pub mod Within
 pub mod LineRoles

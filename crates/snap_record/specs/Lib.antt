@@ -1,6 +1,5 @@
 -- The definitions of snap_record, by their modules.
 pub mod Record
-pub mod Items
 pub mod History
 pub mod SeenRoles
 pub mod Roles

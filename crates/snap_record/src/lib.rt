@@ -4,7 +4,6 @@
 
 mod fault;
 mod history;
-mod items;
 mod over;
 mod record;
 mod roles;
@@ -15,9 +14,9 @@ mod walk;
 
 pub use fault::RecordFault;
 pub use history::{Change, note_values};
-pub use items::History;
 pub use over::record_over;
 pub use record::{MAX_ITEMS, Record};
 pub use roles::{LineRole, new_roles, role_of};
 pub use row::Row;
+pub use snap_history::History;
 pub use walk::advance;

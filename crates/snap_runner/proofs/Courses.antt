@@ -20,26 +20,9 @@ use Rattle.snap_semantics.specs.State.{State, initial, process_at}
 use Rattle.snap_semantics.specs.Table.{done, step, who}
 use Rattle.snap_sched.specs.Segments.{segment_items}
 use Rattle.snap_sched.specs.declared.segments.Segment.{Segment}
+use Rattle.snap_history.proofs.Longer.{after_append, events_append}
 use Rattle.snap_runner.specs.Courses.{DoesNothing, Takes}
 use Rattle.snap_runner.specs.declared.course.Course.{Course}
-
--- the state after some items and some more
-after_more : (s : Source) (n : Counts) (S : State) (xs ys : List Item) →
-    after s n S (xs ++ ys) ≡ after s n (after s n S xs) ys
-after_more s n S [] ys = refl
-after_more s n S (x ∷ xs) ys = after_more s n (done s n S x).0 xs ys
-
--- and their events
-events_more : (s : Source) (n : Counts) (S : State) (t : ℕ) (xs ys : List Item) →
-    events s n S t (xs ++ ys) ≡ events s n S t xs ++ events s n (after s n S xs) (t + length xs) ys
-events_more s n S t [] ys = ap (λ k. events s n S k ys) (let e : t ≡ t + 0 = omega arith in e)
-events_more s n S t (x ∷ xs) ys =
-    let S' = (done s n S x).0 in
-    let first = event_of t x (done s n S x).1 in
-    ap (λ es. first ++ es) (events_more s n S' (t + 1) xs ys)
-    ∙ sym (append_assoc first (events s n S' (t + 1) xs) (events s n (after s n S' xs) (t + 1 + length xs) ys))
-    ∙ ap (λ k. (first ++ events s n S' (t + 1) xs) ++ events s n (after s n S' xs) k ys)
-    (let e : t + 1 + length xs ≡ t + suc (length xs) = omega arith in e)
 
 -- no items
 pub takes_none : {K W : Type 0} (c : Course K W) (k : ℕ) (x : Item) → k ≡ 0 → Takes c (replicate k x) c
@@ -62,11 +45,11 @@ takes_more c d e xs ys h more =
     record {
       source = more.source ∙ h.source;
       shape = more.shape ∙ h.shape;
-      state = more.state ∙ rw (h.source, h.shape, h.state) (sym (after_more s n S xs ys));
+      state = more.state ∙ rw (h.source, h.shape, h.state) (sym (after_append s n S xs ys));
       events = more.events ∙ rw (h.events, h.source, h.shape, h.state, number)
           (append_assoc c.events.items (events s n S (c.done + 1) xs)
           (events s n (after s n S xs) (c.done + 1 + length xs) ys)
-          ∙ ap (λ es. c.events.items ++ es) (sym (events_more s n S (c.done + 1) xs ys)));
+          ∙ ap (λ es. c.events.items ++ es) (sym (events_append s n S (c.done + 1) xs ys)));
       number = (let a = h.number in let b = more.number in let l = length-append xs ys in omega (arith, a, b, l));
     }
 
@@ -188,8 +171,8 @@ some_more s n all left left' r c c' x k h next is took =
       fits = all_right (λ x. IsOneOf n.n (who x)) xs ys g.fits;
       source = took.source ∙ g.source;
       shape = took.shape ∙ g.shape;
-      state = g.state ∙ after_more s n c.machine.state xs ys ∙ rw (took.state, g.source, g.shape) refl;
-      events = g.events ∙ ap (λ es. c.events.items ++ es) (events_more s n c.machine.state (c.done + 1) xs ys)
+      state = g.state ∙ after_append s n c.machine.state xs ys ∙ rw (took.state, g.source, g.shape) refl;
+      events = g.events ∙ ap (λ es. c.events.items ++ es) (events_append s n c.machine.state (c.done + 1) xs ys)
           ∙ sym (append_assoc c.events.items (events s n c.machine.state (c.done + 1) xs)
           (events s n (after s n c.machine.state xs) (c.done + 1 + length xs) ys))
           ∙ rw (took.events, took.state, number, g.source, g.shape) refl;

@@ -1,7 +1,7 @@
 //! `Course`: a machine with the events that callers saw; `run_to_end` takes it through a whole
 //! schedule.
 ghost use Rattle.std.specs.Prelude.{◌≡◌, ◌<◌, ◌+◌, [], ◌∷◌, ◌++◌, ◌^◌};
-ghost use Rattle.std.specs.Prelude.{true, IfOk, OnOk, option_to_list, replicate};
+ghost use Rattle.std.specs.Prelude.{true, IfOk, OnOk, replicate};
 ghost use Rattle.std.specs.List.{AllByRecursion};
 ghost use Rattle.snap_words.specs.Shape.{IsOneOf};
 ghost use Rattle.snap_semantics.specs.Run.{event_of};
@@ -15,10 +15,11 @@ ghost use Rattle.snap_runner.specs.End.{IsEnd, end_report};
 
 use crate::own_code::OwnCode;
 use snap_asm_program::Program;
+use snap_history::event_of;
 use snap_machine::Machine;
 use snap_report::report;
 use snap_sched::{Schedule, Segment};
-use snap_semantics::{Event, Happening, Item, Outcome, Status, who};
+use snap_semantics::{Event, Item, Outcome, Status, who};
 use snap_words::Kind;
 use std::alloc::{AllocError, Global};
 
@@ -29,24 +30,6 @@ pub struct Course<K: Kind> {
     pub events: Vec<Event>,
     /// How many items it has done.
     pub done: u64,
-}
-
-/// What callers see of an item of this number, where they see anything.
-fn event_of(number: u64, item: Item, outcome: Outcome) -> Option<Event>
-    ensures { option_to_list result ≡ event_of number item outcome }
-{
-    let what = match (outcome, item) {
-        (Outcome::Called, Item::Call(_, op)) => Happening::Call(op),
-        (Outcome::Answered(view), _) => Happening::Answer(view),
-        (Outcome::Finished, _) => Happening::Done,
-        (Outcome::Crashed, _) => Happening::Crash,
-        _ => return None,
-    };
-    Some(Event {
-        item: number,
-        process: who(item),
-        what,
-    })
 }
 
 /// An item, and how often a segment has it.

@@ -3,7 +3,7 @@
 use Rattle.snap_debug_checkpoints.proofs.Recordings.{next_one}
 use Rattle.snap_debug_checkpoints.proofs.recording.record_next.Goals as goal
 
-pub apply-requires-after_bounds : goal.apply-requires-after_bounds
-apply-requires-after_bounds g c κs within =
+pub apply-requires-clause-process : goal.apply-requires-clause-process
+apply-requires-clause-process g c κs within =
     next_one c.requires.0 c.args.history.now c.next_item-item.result c.next_item-item.new.items c.args.items.now
     c.requires.1 c.next_item-item.ensures

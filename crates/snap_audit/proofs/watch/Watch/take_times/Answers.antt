@@ -1,7 +1,7 @@
 -- `Watch::take_times` of snap_audit (src/watch.rt): the proof of what its contract says.
 -- Does an item more, so many times.
 use Rattle.std.proofs.Common.{rules, ◌≡◌, ◌+◌, ◌-◌, replicate, arith}
-use Rattle.snap_record.specs.Record.{with_items}
+use Rattle.snap_history.specs.Longer.{with_items}
 use Rattle.snap_audit.proofs.Watches.{once_more}
 use Rattle.snap_audit.proofs.watch.Watch.take_times.Goals as goal
 

@@ -2,7 +2,7 @@
 -- Does an item more, so many times.
 use Rattle.std.proofs.Common.{◌≡◌, ◌-◌, ◌≤◌, replicate}
 use Rattle.snap_runs.specs.Run.{Run}
-use Rattle.snap_record.specs.Record.{with_items}
+use Rattle.snap_history.specs.Longer.{with_items}
 use Rattle.snap_audit.specs.Watch.{Watches}
 use Rattle.snap_audit.proofs.watch.Watch.take_times.Given as goal
 

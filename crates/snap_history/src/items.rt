@@ -1,8 +1,8 @@
-//! `History`: the items that a record has done, stored compactly: operations are stored for calls
+//! `History`: the items that a run has done, stored compactly: operations are stored for calls
 //! alone.
 ghost use Rattle.std.specs.Prelude.{◌≡◌, ◌<◌, ◌++◌, ◌∷◌, ◌^◌, [], true, length, OnOk};
 ghost use Rattle.snap_semantics.specs.Readers.{nth};
-ghost use Rattle.snap_record.specs.Items.{IsThere, kept_item};
+ghost use Rattle.snap_history.specs.Items.{IsThere, kept_item};
 
 use snap_semantics::{Item, Op};
 use std::alloc::{AllocError, Global};
@@ -33,7 +33,7 @@ pub struct History {
 
 impl Model for History {
     ghost use Rattle.std.specs.Prelude.{◌&&◌, nat_lt, vec_len, vec_capacity};
-    ghost use Rattle.snap_record.specs.Items.{AreKept, HistoryView, kept_items};
+    ghost use Rattle.snap_history.specs.Items.{AreKept, HistoryView, kept_items};
 
     ghost Value = { HistoryView };
 
@@ -63,7 +63,7 @@ fn kept_item(calls: &[Called], kept: StoredItem) -> Item
 
 impl History {
     /// No items.
-    pub(crate) fn new(alloc: Global) -> History
+    pub fn new(alloc: Global) -> History
         ensures items { result.items ≡ [] }
     {
         History {
@@ -91,7 +91,7 @@ impl History {
     }
 
     /// Makes room for one more.
-    pub(crate) fn reserve(&mut self) -> Result<(), AllocError>
+    pub fn reserve(&mut self) -> Result<(), AllocError>
         ensures items { self.new.items ≡ self.old.items }
         ensures ready { OnOk result (self.new.ready ≡ true) }
     {
@@ -101,7 +101,7 @@ impl History {
     }
 
     /// Adds an item, for which there is room.
-    pub(crate) fn push_reserved(&mut self, item: Item)
+    pub fn push_reserved(&mut self, item: Item)
         requires room { self.old.ready ≡ true }
         requires few { length self.old.items < 2 ^ 32 }
         ensures items { self.new.items ≡ self.old.items ++ item ∷ [] }

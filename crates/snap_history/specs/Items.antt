@@ -1,13 +1,13 @@
--- The items of a record as they are stored (`StoredItem`): steps, crashes, and calls by their place in a list of
+-- The items of a run as they are stored (`StoredItem`): steps, crashes, and calls by their place in a list of
 -- calls.
 use Rattle.std.specs.Prelude.{ℕ, ◌<◌, ◌≤◌, Bool, List, length, map, get_or, ⊤}
 use Rattle.std.specs.List.{AllByRecursion}
 use Rattle.snap_semantics.specs.declared.process.Item.{Item}
 use Rattle.snap_semantics.specs.declared.process.Item.TheVariants as item
 use Rattle.snap_semantics.specs.declared.process.Op.TheVariants.{Scan}
-use Rattle.snap_record.specs.declared.items.Called.{Called}
-use Rattle.snap_record.specs.declared.items.StoredItem.{StoredItem}
-use Rattle.snap_record.specs.declared.items.StoredItem.TheVariants as kept
+use Rattle.snap_history.specs.declared.items.Called.{Called}
+use Rattle.snap_history.specs.declared.items.StoredItem.{StoredItem}
+use Rattle.snap_history.specs.declared.items.StoredItem.TheVariants as kept
 
 -- what is seen of a history: its items, and whether there is room for one more
 pub record HistoryView : Type 0 where

@@ -1,10 +1,10 @@
--- `History::push_reserved` of snap_record (src/items.rt): the proof of what its contract says.
+-- `History::push_reserved` of snap_history (src/items.rt): the proof of what its contract says.
 -- Adds an item, for which there is room.
 use Rattle.std.proofs.Common.{[], ◌∷◌, ◌++◌, sym, ap, ◌∙◌}
 use Rattle.snap_semantics.specs.declared.process.Item.{Item}
-use Rattle.snap_record.specs.Items.{HistoryView, kept_items}
-use Rattle.snap_record.proofs.Kept.{call_kept}
-use Rattle.snap_record.proofs.items.History.push_reserved.Goals as goal
+use Rattle.snap_history.specs.Items.{HistoryView, kept_items}
+use Rattle.snap_history.proofs.Kept.{call_kept}
+use Rattle.snap_history.proofs.items.History.push_reserved.Goals as goal
 
 pub returns-in-Call : goal.returns-in-Call
 returns-in-Call c =

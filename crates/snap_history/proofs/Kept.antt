@@ -1,14 +1,14 @@
--- The items that a record has stored (`AreKept`) are the same after one more call is stored.
+-- The items that are stored (`AreKept`) are the same after one more call is stored.
 use Rattle.std.proofs.Common.{◌≡◌, ℕ, List, [], ◌∷◌, ◌++◌, length, get_or, refl, ap, ◌∙◌}
 use Rattle.std.proofs.Math.ListN.{get_or-append}
 use Rattle.std.proofs.Math.Seq.{get_or-append_seam}
 use Rattle.std.proofs.lemmas.List.{map-append}
 use Rattle.std.specs.List.{AllByRecursion}
 use Rattle.snap_semantics.specs.declared.process.Item.TheVariants as item
-use Rattle.snap_record.specs.Items.{AreKept, IsThere, call_item, kept_item, kept_items, nobody}
-use Rattle.snap_record.specs.declared.items.Called.{Called}
-use Rattle.snap_record.specs.declared.items.StoredItem.{StoredItem}
-use Rattle.snap_record.specs.declared.items.StoredItem.TheVariants as kept
+use Rattle.snap_history.specs.Items.{AreKept, IsThere, call_item, kept_item, kept_items, nobody}
+use Rattle.snap_history.specs.declared.items.Called.{Called}
+use Rattle.snap_history.specs.declared.items.StoredItem.{StoredItem}
+use Rattle.snap_history.specs.declared.items.StoredItem.TheVariants as kept
 
 -- with one call more the items are the same
 same_items : (calls : List Called) (c : Called) (xs : List StoredItem) → AllByRecursion (IsThere (length calls)) xs →

@@ -1,0 +1,8 @@
+//! The items that a run has done, stored compactly, and what callers saw of one.
+#![tactic(auto)]
+
+mod event;
+mod items;
+
+pub use event::event_of;
+pub use items::History;

@@ -101,7 +101,7 @@ pub noted : {K W : Type 0} (k : KindTag) (r : Run) (x y : Watch K W) (i : Item) 
     y.events.items ≡ x.events.items ++ event_of y.done i o →
     y.collects.items ≡ counted (step_role_of x.machine.source x.machine.state i) o (who i) x.collects.items →
     y.at_events.items ≡ x.at_events.items
-        ++ map (λ (e : Event). slice_index y.collects.items (who i - 1)) (event_of y.done i o) →
+    ++ map (λ (e : Event). slice_index y.collects.items (who i - 1)) (event_of y.done i o) →
     Watches k (with_item r i) y
 noted k r x y i o h one few did source shape roles number now count changes events collects at =
     let one' = subst (λ (n : Counts). IsOneOf n.n (who i)) h.shape one in

@@ -14,7 +14,6 @@ ghost use Rattle.snap_runs.specs.StepRoles.{StepRole, is_test, is_write, step_ro
 ghost use Rattle.snap_record.specs.History.{changes_to, counted};
 ghost use Rattle.snap_history.specs.Longer.{with_item, with_items};
 ghost use Rattle.snap_record.specs.Roles.{AreRoles, role_of};
-ghost use Rattle.snap_sched.specs.Segments.{segment_items};
 ghost use Rattle.snap_audit.specs.Watch.{Watches, is_test_line, is_write_line};
 
 use crate::sweep::sweep;
@@ -23,7 +22,7 @@ use snap_history::event_of;
 use snap_machine::Machine;
 use snap_record::{Change, LineRole, Row, new_roles, note_values, role_of};
 use snap_runs::Verdict;
-use snap_sched::{Schedule, Segment};
+use snap_sched::Schedule;
 use snap_semantics::{Event, Item, Outcome, Status, who};
 use snap_words::{Kind, Shape};
 use std::alloc::{AllocError, Global};
@@ -176,17 +175,6 @@ fn note_event(
     Ok(())
 }
 
-/// An item, and how often a segment has it.
-fn repeated(segment: Segment) -> (Item, u64)
-    ensures { replicate result.1 result.0 ≡ segment_items segment }
-{
-    match segment {
-        Segment::Steps { process, count } => (Item::Step(process), count),
-        Segment::Call { process, op } => (Item::Call(process, op), 1),
-        Segment::Crash { process } => (Item::Crash(process), 1),
-    }
-}
-
 /// So many zeros.
 fn zeros(alloc: Global, count: u64) -> Result<Vec<u64>, AllocError>
     ensures { IfOk result (λ v. v.items ≡ replicate count 0) }
@@ -277,7 +265,7 @@ impl<K: Kind> Watch<K> {
         let mut watch = Watch::new(alloc, program, schedule.shape())?;
         let mut left = schedule.items().segments();
         while let Some(segment) = left.next() {
-            let (item, count) = repeated(segment);
+            let (item, count) = segment.repeated();
             watch.take_times(item, count)?;
         }
         Ok(watch)

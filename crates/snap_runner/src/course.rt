@@ -9,7 +9,6 @@ ghost use Rattle.snap_semantics.specs.Schedule.{Schedule};
 ghost use Rattle.snap_semantics.specs.Source.{Source};
 ghost use Rattle.snap_semantics.specs.Table.{who};
 ghost use Rattle.snap_semantics.specs.declared.process.Item.TheVariants.{Step};
-ghost use Rattle.snap_sched.specs.Segments.{segment_items};
 ghost use Rattle.snap_runner.specs.Courses.{DoesNothing, Takes};
 ghost use Rattle.snap_runner.specs.End.{IsEnd, end_report};
 
@@ -18,7 +17,7 @@ use snap_asm_program::Program;
 use snap_history::event_of;
 use snap_machine::Machine;
 use snap_report::report;
-use snap_sched::{Schedule, Segment};
+use snap_sched::Schedule;
 use snap_semantics::{Event, Item, Outcome, Status, who};
 use snap_words::Kind;
 use std::alloc::{AllocError, Global};
@@ -30,17 +29,6 @@ pub struct Course<K: Kind> {
     pub events: Vec<Event>,
     /// How many items it has done.
     pub done: u64,
-}
-
-/// An item, and how often a segment has it.
-fn repeated(segment: Segment) -> (Item, u64)
-    ensures { replicate result.1 result.0 ≡ segment_items segment }
-{
-    match segment {
-        Segment::Steps { process, count } => (Item::Step(process), count),
-        Segment::Call { process, op } => (Item::Call(process, op), 1),
-        Segment::Crash { process } => (Item::Crash(process), 1),
-    }
 }
 
 /// Whether an item is a step of a process that is not busy: it does nothing, however often it
@@ -141,7 +129,7 @@ pub fn run_to_end<K: Kind>(
     };
     let mut left = schedule.items().segments();
     while let Some(segment) = left.next() {
-        let (item, count) = repeated(segment);
+        let (item, count) = segment.repeated();
         course.take_times(item, count)?;
     }
     Ok(course)

@@ -99,6 +99,7 @@ impl Items {
     }
 
     /// Adds so many steps of a process.
+    #[inline(always)]
     pub fn push_steps(&mut self, process: u32, count: u64) -> Result<(), AllocError>
         requires { length self.old + count < 2 ^ 32 }
         ensures added { OnOk result (self.new ≡ self.old ++ replicate count (Step process)) }

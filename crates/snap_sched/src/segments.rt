@@ -1,9 +1,10 @@
 //! `Segment` and `Segments`: the segments of a schedule's items as they are stored: where each
 //! begins, and the calls and crashes apart from the steps.
-ghost use Rattle.std.specs.Prelude.{◌≡◌};
+ghost use Rattle.std.specs.Prelude.{◌≡◌, replicate};
 ghost use Rattle.snap_sched.specs.Kept.{single_segment, segments_of};
+ghost use Rattle.snap_sched.specs.Segments.{segment_items};
 
-use snap_semantics::Op;
+use snap_semantics::{Item, Op};
 use std::marker::Model;
 
 /// A segment of a list of items: steps of one process side by side, or one call or crash.
@@ -12,6 +13,19 @@ pub enum Segment {
     Steps { process: u32, count: u64 },
     Call { process: u32, op: Op },
     Crash { process: u32 },
+}
+
+impl Segment {
+    /// The item that it has, and how often.
+    pub fn repeated(self) -> (Item, u64)
+        ensures { replicate result.1 result.0 ≡ segment_items self }
+    {
+        match self {
+            Segment::Steps { process, count } => (Item::Step(process), count),
+            Segment::Call { process, op } => (Item::Call(process, op), 1),
+            Segment::Crash { process } => (Item::Crash(process), 1),
+        }
+    }
 }
 
 /// A segment as it is kept: how many items stand before it, and its process. It ends where the next

@@ -9,7 +9,7 @@ use Rattle.snap_audit.proofs.sweep.sweep.Given as goal
 abbrev pub invariant-loop-k : goal.invariant-loop-k
 invariant-loop-k l =
     (r : Run) → IsToldBy r l.fn.shape l.changes l.events l.collects →
-        Sweeps r l.changes l.callers.items l.verdicts.items (drop l.k l.events)
+    Sweeps r l.changes l.callers.items l.verdicts.items (drop l.k l.events)
 
 abbrev pub decreases-loop-k : goal.decreases-loop-k
 decreases-loop-k l = length l.events - l.k

@@ -33,10 +33,10 @@ started s n k m items es kind is none e =
     } in whole)))
 
 -- one item more
-pub followed_on : (r : Run) (k : KindTag) (S S' : State) (x : Item) (o : Outcome) (es es' : List Event) (t : ℕ) →
+pub followed_on : (r : Run) (k : KindTag) (S S' : State) (x : Item) (o : Outcome) (es es0 es' : List Event) (t : ℕ) →
     IsFollowed r k S es → IsOneOf r.shape.n (who x) → size r < max_items → t ≡ suc (size r) →
-    done r.source r.shape S x ≡ (S', o) → es' ≡ es ++ event_of t x o → IsFollowed (with_item r x) k S' es'
-followed_on r k S S' x o es es' t h one few number is_done more =
+    done r.source r.shape S x ≡ (S', o) → es0 ≡ es → es' ≡ es0 ++ event_of t x o → IsFollowed (with_item r x) k S' es'
+followed_on r k S S' x o es es0 es' t h one few number is_done same more =
     let S0 = state r (size r) in
     let done0 : done r.source r.shape S0 x ≡ (S', o) =
     ap (λ (T : State). done r.source r.shape T x) (sym h.state_is) ∙ is_done in
@@ -49,7 +49,7 @@ followed_on r k S S' x o es es' t h one few number is_done more =
       fits = record { all = join_all (λ (y : Item). IsOneOf r.shape.n (who y)) r.items (x ∷ []) h.fits.all (one, tt) };
       few = omega (arith, items, few);
       events_are =
-          more ∙ ap (λ m. es ++ event_of m x o) number
+          more ∙ ap (λ l. l ++ event_of t x o) same ∙ ap (λ m. es ++ event_of m x o) number
           ∙ ap (λ (p : Outcome). es ++ event_of (suc (size r)) x p) (sym (ap (λ (p : State × Outcome). p.1) done0))
           ∙ ap (λ l. l ++ event_of (suc (size r)) x (done r.source r.shape S0 x).1) h.events_are
           ∙ sym (events_last r x) ∙ ap (events_of (with_item r x)) (sym items);

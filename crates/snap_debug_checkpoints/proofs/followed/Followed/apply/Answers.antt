@@ -2,7 +2,6 @@
 -- Does one item, for which there is a number.
 use Rattle.std.proofs.Common.{◌≡◌, suc, ◌<◌, ◌∷◌, [], ◌++◌, length, refl, sym, ◌∙◌, ap, subst}
 use Rattle.snap_words.specs.Shape.{IsOneOf, max_items}
-use Rattle.snap_semantics.specs.Run.{event_of}
 use Rattle.snap_semantics.specs.Table.{who}
 use Rattle.snap_runs.specs.Run.{Run}
 use Rattle.snap_history.proofs.Longer.{longer, same_run}
@@ -25,13 +24,12 @@ invariant_of-self-2 g c =
     let more : c.push_reserved.new.self.items ≡ i.items.items ++ x ∷ [] =
     c.push_reserved.ensures.items ∙ ap (λ l. l ++ x ∷ []) c.in_ok-reserve.ensures.items in
     let number : t ≡ suc (length i.items.items) = c.len.ensures ∙ ap length more ∙ longer r x in
-    let told : c.note_event.new.events.items ≡ i.events.items ++ event_of t x o =
-    c.note_event.ensures ∙ ap (λ l. l ++ event_of t x o) c.in_ok-reserve-2.ensures.items in
     subst (λ (y : Run). IsFollowed y g.K.Kind.TAG c.apply.new.self.state c.note_event.new.events.items)
     (sym (same_run r r x c.apply.new.self.source c.apply.new.self.shape c.push_reserved.new.self.items refl
     c.in_ok-outcome.ensures.source c.in_ok-outcome.ensures.shape more))
-    (followed_on r g.K.Kind.TAG m.state c.apply.new.self.state x o i.events.items c.note_event.new.events.items t
-    c.self.invariant one few number c.in_ok-outcome.ensures.done told)
+    (followed_on r g.K.Kind.TAG m.state c.apply.new.self.state x o i.events.items c.reserve-2.new.self.items
+    c.note_event.new.events.items t
+    c.self.invariant one few number c.in_ok-outcome.ensures.done c.in_ok-reserve-2.ensures.items c.note_event.ensures)
 
 pub returns-clause-done : goal.returns-clause-done
 returns-clause-done g c =

@@ -1,13 +1,10 @@
 -- `Watches`: a `Watch`, which is a machine with what an audit has to know of the items that it has done, has gone
 -- through a run.
-use Rattle.std.specs.Prelude.{◌≡◌, ℕ, Bool, true, false, List, length, map}
+use Rattle.std.specs.Prelude.{◌≡◌, Bool, true, false, length}
 use Rattle.snap_words.specs.declared.kind.KindTag.{KindTag}
-use Rattle.snap_words.specs.Shape.{Counts}
-use Rattle.snap_semantics.specs.declared.event.Event.{Event}
-use Rattle.snap_runs.specs.Run.{Run, IsValidRun, events_of}
-use Rattle.snap_record.specs.History.{IsRecord, LeadsAlong, collects_at}
+use Rattle.snap_runs.specs.Run.{Run}
+use Rattle.snap_record.specs.History.{IsRecord}
 use Rattle.snap_record.specs.Roles.{AreRoles}
-use Rattle.snap_record.specs.declared.history.Change.{Change}
 use Rattle.snap_record.specs.declared.roles.LineRole.{LineRole}
 use Rattle.snap_record.specs.declared.roles.LineRole.TheVariants as role
 use Rattle.snap_audit.specs.declared.watch.Watch.{Watch}

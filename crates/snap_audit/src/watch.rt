@@ -114,8 +114,14 @@ fn is_quiet(role: LineRole, outcome: &Outcome) -> bool
     ensures test { IsTrue result → is_test_line role ≡ false }
     ensures unseen { IsTrue result → outcome.now ≡ Stepped }
 {
-    match (role, outcome) {
-        (LineRole::Nothing, Outcome::Stepped) => true,
+    // The outcome is asked first: the compiler knows it where a line ends.
+    match outcome {
+        Outcome::Stepped => match role {
+            LineRole::Write => false,
+            LineRole::Test => false,
+            LineRole::Return => true,
+            LineRole::Nothing => true,
+        },
         _ => false,
     }
 }

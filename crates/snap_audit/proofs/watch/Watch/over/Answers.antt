@@ -6,7 +6,7 @@ use Rattle.snap_words.specs.Shape.{Counts, IsOneOf}
 use Rattle.snap_semantics.specs.Table.{who}
 use Rattle.snap_semantics.specs.declared.process.Item.{Item}
 use Rattle.snap_audit.specs.Watch.{Watches}
-use Rattle.snap_audit.proofs.Watches.{all_gone, goes_on, next_few, next_fits}
+use Rattle.snap_audit.proofs.Watches.{goes_on, next_few, next_fits}
 use Rattle.snap_audit.proofs.watch.Watch.over.Goals as goal
 
 pub loop-segment-init : goal.loop-segment-init

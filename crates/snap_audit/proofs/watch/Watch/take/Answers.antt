@@ -1,6 +1,6 @@
 -- `Watch::take` of snap_audit (src/watch.rt): the proof of what its contract says.
 -- Does one item more.
-use Rattle.std.proofs.Common.{◌≡◌, ◌++◌, ◌+◌, ◌-◌, map, refl, sym, ap, subst, ◌∙◌, slice_index}
+use Rattle.std.proofs.Common.{◌++◌, ◌+◌, ◌-◌, map, refl, sym, ap, subst, ◌∙◌, slice_index}
 use Rattle.snap_words.specs.Shape.{Counts, IsOneOf}
 use Rattle.snap_semantics.specs.Run.{event_of}
 use Rattle.snap_semantics.specs.State.{State, values}

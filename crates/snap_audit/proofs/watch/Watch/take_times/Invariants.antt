@@ -1,6 +1,6 @@
 -- `Watch::take_times` of snap_audit (src/watch.rt): what holds at the head of each of its loops.
 -- Does an item more, so many times.
-use Rattle.std.proofs.Common.{◌≡◌, ◌-◌, ◌≤◌, replicate}
+use Rattle.std.proofs.Common.{◌-◌, ◌≤◌, replicate}
 use Rattle.snap_runs.specs.Run.{Run}
 use Rattle.snap_history.specs.Longer.{with_items}
 use Rattle.snap_audit.specs.Watch.{Watches}

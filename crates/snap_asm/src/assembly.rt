@@ -78,6 +78,6 @@ pub fn load(alloc: Global, image: &[u8]) -> Result<Program, ImageFault>
         of_code versions b ≡ None → result ≡ Err (Refused Version) }
 {
     let listing = decode(alloc, image)?;
-    let program = Program::of(alloc, listing.into_listing())?;
+    let program = snap_loader::load(alloc, listing.into_listing())?;
     Ok(program)
 }

@@ -6,7 +6,7 @@ ghost use Rattle.snap_runs.specs.Run.{IsValidRun, run_over};
 ghost use Rattle.snap_runs_of_b.specs.ListingB.{listing_b};
 ghost use Rattle.snap_promises.specs.Kept.{KeepsPromises};
 
-use snap_asm_program::Program;
+use snap_loader::load;
 use snap_promises::shipped_runs_keep_promises;
 use snap_record::{Record, record_over};
 use snap_sched::Schedule;
@@ -33,6 +33,6 @@ pub fn run(alloc: Global, schedule: &Schedule) -> Result<Record<Bits>, AllocErro
     ensures promises { KeepsPromises kind.Bits (run_over listing_b schedule.now) }
 {
     keeps_promises(schedule);
-    let program = Program::of(alloc, listing_b(alloc)?)?;
+    let program = load(alloc, listing_b(alloc)?)?;
     record_over(alloc, &program, schedule)
 }

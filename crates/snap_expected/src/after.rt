@@ -21,7 +21,7 @@ use crate::tests::{
     is_number, is_positive, is_range, is_relation, is_symbol, is_within, is_word, keyword_text,
 };
 use crate::wanted::{Keyword, Wanted};
-use snap_listing_core::join_keyword;
+use snap_listing_rules::join_keyword;
 use snap_semantics::{Join, Symbol};
 use snap_text::Token;
 use snap_words::{MAX_COUNT, MAX_ITEMS};

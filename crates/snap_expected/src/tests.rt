@@ -8,7 +8,7 @@ ghost use Rattle.snap_expected.specs.Tests.{is_range, is_relation, is_fixed_inde
 ghost use Rattle.snap_expected.specs.Tests.{is_field, is_kind, is_bit_bank};
 
 use crate::wanted::Keyword;
-use snap_listing_core::{is_line_number, is_reserved};
+use snap_listing_rules::{is_line_number, is_reserved};
 use snap_semantics::Symbol;
 use snap_text::Token;
 

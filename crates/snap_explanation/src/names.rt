@@ -14,7 +14,7 @@ ghost use Rattle.snap_explanation.specs.Names.{leading_line};
 ghost use Rattle.snap_explanation.specs.Views.{view_declared};
 
 use snap_expected::{PlacedToken, is_word};
-use snap_listing_core::is_reserved;
+use snap_listing_rules::is_reserved;
 use snap_text::{TextLines, Token};
 use std::alloc::{AllocError, Global};
 

@@ -11,7 +11,7 @@ ghost use Rattle.snap_explanation.specs.Views.{view_use};
 
 use crate::spot::front;
 use snap_expected::{PlacedToken, is_symbol};
-use snap_listing_core::is_reserved;
+use snap_listing_rules::is_reserved;
 use snap_semantics::{Instr, Sort, Symbol, Tuple};
 use snap_text::Token;
 use snap_words::{Bank, Field, KindTag};

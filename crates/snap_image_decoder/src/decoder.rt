@@ -17,7 +17,8 @@ ghost use Rattle.snap_image_decoder.specs.Head.{opened};
 use crate::fault::ImageFault;
 use crate::head::head;
 use crate::lines::lines;
-use snap_listing_core::{CommentedListing, Header, Listing, checked_target, checked_targets};
+use snap_listing_core::{CommentedListing, Header, Listing};
+use snap_listing_rules::{checked_target, checked_targets};
 use snap_semantics::{ImageRefusal, Line, ListingRefusal};
 use std::alloc::Global;
 

@@ -12,7 +12,8 @@ use crate::fault::ImageFault;
 use snap_image_codes::Cursor;
 use snap_image_format::ImageVersion;
 use snap_image_operands::instr;
-use snap_listing_core::{Header, is_line_number, push_line_copy};
+use snap_listing_core::Header;
+use snap_listing_rules::{is_line_number, push_line_copy};
 use snap_semantics::{ImageRefusal, Line, ListingRefusal};
 use std::alloc::Global;
 

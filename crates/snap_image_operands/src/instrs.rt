@@ -15,7 +15,8 @@ use crate::conditions::{condition, optional_condition};
 use crate::terms::{expr, index};
 use snap_image_codes::Cursor;
 use snap_image_format::InstrTag;
-use snap_listing_core::{Header, has_bank, has_view, same_kind};
+use snap_listing_core::Header;
+use snap_listing_rules::{has_bank, has_view, same_kind};
 use snap_semantics::{BitBank, ImageRefusal, Instr, ListingRefusal, Range, Tuple};
 use snap_words::{Bank, KindTag};
 

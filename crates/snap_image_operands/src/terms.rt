@@ -11,7 +11,8 @@ ghost use Rattle.snap_image_codes.specs.Reads.{Reads};
 
 use snap_image_codes::Cursor;
 use snap_image_format::{ExprTag, TermTag};
-use snap_listing_core::{Header, has_field, has_handshakes};
+use snap_listing_core::Header;
+use snap_listing_rules::{has_field, has_handshakes};
 use snap_semantics::{Expr, ImageRefusal, Index, ListingRefusal, Term};
 use snap_words::Field;
 

@@ -8,6 +8,7 @@ ghost use Rattle.snap_subject.specs.declared.subject.Subject.TheVariants.{FirstP
 
 use crate::images::program_of;
 use snap_asm_program::Program;
+use snap_loader::load;
 use snap_semantics::{Fault, Refusal};
 use snap_shipped::{listing_b, listing_m, listing_u};
 use snap_subject::Subject;
@@ -23,7 +24,7 @@ pub fn shipped(alloc: Global, kind: KindTag) -> Result<Program, AllocError>
         KindTag::Bits => listing_b(alloc)?,
         KindTag::Multi => listing_m(alloc)?,
     };
-    Program::of(alloc, listing)
+    load(alloc, listing)
 }
 
 /// The program that a task runs.

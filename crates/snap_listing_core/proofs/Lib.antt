@@ -1,3 +1,2 @@
 -- The proofs of snap_listing_core, by their modules.
-pub mod Checks
 pub mod RightLines

@@ -12,7 +12,7 @@ ghost use Rattle.snap_text.specs.Tokens.{Finds, view_tokens};
 
 use crate::behind::{every_place, expr_behind, index_behind, name_behind};
 use crate::tuples::tuple_at;
-use snap_listing_core::is_line_number;
+use snap_listing_rules::is_line_number;
 use snap_listing_terms::{
     condition_at, name_at, named_place_at, place_at, range_at, target_at, where_at,
 };

@@ -11,7 +11,7 @@ ghost use Rattle.snap_semantics.specs.Spelling.{spelled_pair, in_brackets, in_pa
 ghost use Rattle.snap_semantics.specs.Token.{Identifier, Number, Sign};
 ghost use Rattle.snap_text.specs.Tokens.{view_token, view_tokens};
 
-use snap_listing_core::join_keyword;
+use snap_listing_rules::join_keyword;
 use snap_semantics::{
     Comparison, Condition, Expr, Index, Join, Name, Range, Relation, Symbol, Term,
 };

@@ -9,7 +9,7 @@ ghost use Rattle.snap_listing_terms.specs.Rules.{plus_term, sum_on};
 ghost use Rattle.snap_text.specs.Tokens.{Finds, view_tokens};
 
 use crate::terms::term_at;
-use snap_listing_core::join_keyword;
+use snap_listing_rules::join_keyword;
 use snap_semantics::{Comparison, Condition, Expr, Join, Range, Relation, Symbol, Term};
 use snap_text::{Token, keyword_at, number_at, symbol_at};
 

@@ -6,7 +6,7 @@ ghost use Rattle.snap_runs.specs.Run.{IsValidRun, run_over};
 ghost use Rattle.snap_runs_of_u.specs.ListingU.{listing_u};
 ghost use Rattle.snap_promises.specs.Kept.{KeepsPromises};
 
-use snap_asm_program::Program;
+use snap_loader::load;
 use snap_promises::shipped_runs_keep_promises;
 use snap_record::{Record, record_over};
 use snap_sched::Schedule;
@@ -33,6 +33,6 @@ pub fn run(alloc: Global, schedule: &Schedule) -> Result<Record<Seq>, AllocError
     ensures promises { KeepsPromises kind.Seq (run_over listing_u schedule.now) }
 {
     keeps_promises(schedule);
-    let program = Program::of(alloc, listing_u(alloc)?)?;
+    let program = load(alloc, listing_u(alloc)?)?;
     record_over(alloc, &program, schedule)
 }

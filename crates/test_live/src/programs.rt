@@ -3,6 +3,7 @@ ghost use Rattle.std.specs.Prelude.{◌≡◌, IfOk};
 ghost use Rattle.snap_words.specs.declared.kind.KindTag.TheVariants.{Seq};
 
 use snap_asm_program::Program;
+use snap_loader::load;
 use snap_words::KindTag;
 use std::alloc::Global;
 use std::process::Abort;
@@ -12,7 +13,7 @@ use std::test::Fail;
 pub(crate) fn program(rt: &impl Abort, alloc: Global) -> Result<Program, Fail>
     ensures { IfOk result (λ p. p.kind ≡ Seq) }
 {
-    let program = Program::of(alloc, snap_single::listing(alloc)?)?;
+    let program = load(alloc, snap_single::listing(alloc)?)?;
     assert!(rt; program.kind() == KindTag::Seq);
     Ok(program)
 }

@@ -1,0 +1,3 @@
+-- The definitions of snap_listing_rules, by their modules.
+pub mod Checks
+pub mod Targets

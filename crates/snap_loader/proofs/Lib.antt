@@ -1,0 +1,4 @@
+-- The proofs of snap_loader, by their modules.
+pub mod Adding
+pub mod DeclaredLines
+pub mod Places

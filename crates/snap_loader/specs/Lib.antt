@@ -1,0 +1,3 @@
+-- The definitions of snap_loader, by their modules.
+pub mod Declares
+pub mod LineSorts

@@ -68,44 +68,65 @@ fn explain<'a>(alloc: Global) -> Arg<'a> {
         .help("Explains on standard error where and why an input is refused")
 }
 
+/// The subcommands that read a text or an image and take no option, each with what it does.
+const OF_TEXTS: [(&str, &str); 5] = [
+    ("check", "Says whether a text is a listing"),
+    ("lint", "Says what the runs of a listing may run into"),
+    ("assemble", "Writes the image of a listing"),
+    ("list", "Writes the text of an image"),
+    ("upgrade", "Writes an image in the second version"),
+];
+
+/// The subcommands that run a listing and take no other option, each with what it does.
+const OF_RUNS: [(&str, &str); 6] = [
+    ("run", "Runs a listing under a schedule"),
+    (
+        "trace",
+        "Says what each item of a schedule did, and what it changed",
+    ),
+    (
+        "debug",
+        "Runs a listing under a schedule, by debugger commands",
+    ),
+    (
+        "audit",
+        "Says of each finished scan which state it stands for",
+    ),
+    (
+        "certify",
+        "Says where each operation took place, if each has a linearization point",
+    ),
+    ("batch", "Runs a listing under many schedules"),
+];
+
+/// A command with the subcommands that read a text or an image.
+fn with_texts<'a>(alloc: Global, command: Command<'a>) -> Result<Command<'a>, AllocError> {
+    let mut command = command;
+    for (name, about) in OF_TEXTS {
+        command = command.subcommand(Command::new(alloc, name).about(about))?;
+    }
+    Ok(command)
+}
+
+/// A command with the subcommands that run a listing.
+fn with_runs<'a>(alloc: Global, command: Command<'a>) -> Result<Command<'a>, AllocError> {
+    let mut command = command;
+    for (name, about) in OF_RUNS {
+        command = command.subcommand(running(alloc, name, about)?)?;
+    }
+    Ok(command)
+}
+
 /// The arguments that the program takes.
 fn command<'a>(alloc: Global) -> Result<Command<'a>, AllocError> {
-    Command::new(alloc, "snaplab")
+    let command = Command::new(alloc, "snaplab")
         .about("Runs listings over shared registers")
         .version(VERSION)
         .subcommand_required(true)
-        .arg(explain(alloc))?
-        .subcommand(Command::new(alloc, "check").about("Says whether a text is a listing"))?
-        .subcommand(Command::new(alloc, "lint").about(
-            "Says what the runs of a listing may run into",
-        ))?
-        .subcommand(Command::new(alloc, "assemble").about("Writes the image of a listing"))?
-        .subcommand(Command::new(alloc, "list").about("Writes the text of an image"))?
-        .subcommand(Command::new(alloc, "upgrade").about("Writes an image in the second version"))?
-        .subcommand(running(alloc, "run", "Runs a listing under a schedule")?)?
-        .subcommand(running(
-            alloc,
-            "trace",
-            "Says what each item of a schedule did, and what it changed",
-        )?)?
-        .subcommand(running(
-            alloc,
-            "debug",
-            "Runs a listing under a schedule, by debugger commands",
-        )?)?
-        .subcommand(running(
-            alloc,
-            "audit",
-            "Says of each finished scan which state it stands for",
-        )?)?
-        .subcommand(running(
-            alloc,
-            "certify",
-            "Says where each operation took place, if each has a linearization point",
-        )?)?
-        .subcommand(running(alloc, "batch", "Runs a listing under many schedules")?)?
-        .subcommand(survey(alloc)?)?
-        .subcommand(live(alloc)?)
+        .arg(explain(alloc))?;
+    let command = with_texts(alloc, command)?;
+    let command = with_runs(alloc, command)?;
+    command.subcommand(survey(alloc)?)?.subcommand(live(alloc)?)
 }
 
 /// The limit that a subcommand's arguments ask for, where it takes one. It takes no other than

@@ -1,10 +1,9 @@
 -- Lines that are calls.
-use Rattle.std.proofs.Common.{◌≡◌, ℕ, suc, ◌+◌, true, List, [], ◌∷◌, ◌++◌, length, take, drop, Option, Some, codes}
-use Rattle.std.proofs.Common.{bytes_eq, refl, sym, ap, ◌∙◌, arith, append_assoc}
+use Rattle.std.proofs.Common.{◌≡◌, ℕ, suc, ◌+◌, true, List, [], ◌∷◌, ◌++◌, length, Option, Some, codes}
+use Rattle.std.proofs.Common.{refl, sym, ap, ◌∙◌, arith, append_assoc}
 use Rattle.std.proofs.lemmas.Bool.{and_from}
-use Rattle.std.proofs.lemmas.List.{length-append, take-append-drop}
+use Rattle.std.proofs.lemmas.List.{length-append}
 use Rattle.std.proofs.lemmas.List.Folds.{list_all-append}
-use Rattle.std.proofs.lemmas.Slice.Eq.{bytes_eq-Decides}
 use Rattle.std.specs.List.{list_all}
 use Rattle.snap_semantics.specs.declared.process.Op.{Op}
 use Rattle.snap_semantics.specs.declared.process.Op.TheVariants as op
@@ -17,14 +16,7 @@ use Rattle.snap_text.proofs.Printed.{digits_bare, joined_bare}
 use Rattle.snap_text.specs.Calls.{BeginsWithOp}
 use Rattle.snap_text.specs.Numbers.{BeginsWithNumber, BeginsWithLine}
 
--- what stands behind a word
-pub stripped : (bytes word rest : List ℕ) → (bytes_eq (take (length word) bytes) word ≡ true)
-    × (rest ≡ drop (length word) bytes) × (length rest + length word ≡ length bytes) → bytes ≡ word ++ rest
-stripped bytes word rest h =
-    let front : take (length word) bytes ≡ word = (bytes_eq-Decides (take (length word) bytes) word).0 h.0 in
-    sym (take-append-drop (length word) bytes) ∙ ap (λ (xs : List ℕ). xs ++ drop (length word) bytes) front
-    ∙ ap (λ (xs : List ℕ). word ++ xs) (sym h.1)
-
+-- ` scan`
 pub scan_begins : (bytes rest : List ℕ) → bytes ≡ codes " scan" ++ rest → BeginsWithOp bytes op.Scan rest
 scan_begins bytes rest is = record {
   text = codes " scan";

@@ -1,8 +1,7 @@
 -- `call_front` of snap_text (src/calls.rt): the proof of what its contract says.
 -- The process and the operation of the call that the first line is, where it has its line feed, and the lines behind
 -- it.
-use Rattle.std.proofs.Common.{codes}
-use Rattle.snap_text.proofs.CallLines.{stripped, call_begins}
+use Rattle.snap_text.proofs.CallLines.{call_begins}
 use Rattle.snap_text.proofs.calls.call_front.Goals as goal
 
 pub returns : goal.returns
@@ -11,4 +10,4 @@ returns c =
     let rest = c.in_ok-rest.rest.now in
     call_begins c.args.bytes.now c.in_ok-process.behind.now after rest c.in_ok-process.process c.in_ok-op.op
     c.in_ok-process.ensures c.in_ok-op.ensures
-    (stripped after (codes "\n") rest c.in_ok-rest.ensures.cases)
+    c.in_ok-rest.ensures

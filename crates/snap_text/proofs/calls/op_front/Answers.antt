@@ -1,14 +1,13 @@
 -- `op_front` of snap_text (src/calls.rt): the proof of what its contract says.
 -- The operation at the front, as it stands behind its process, and what stands behind it.
-use Rattle.std.proofs.Common.{codes}
-use Rattle.snap_text.proofs.CallLines.{stripped, scan_begins, update_begins}
+use Rattle.snap_text.proofs.CallLines.{scan_begins, update_begins}
 use Rattle.snap_text.proofs.calls.op_front.Goals as goal
 
 pub returns-in-Some : goal.returns-in-Some
 returns-in-Some c =
     let bytes = c.args.bytes.now in
     let rest = c.in-Some.rest.now in
-    scan_begins bytes rest (stripped bytes (codes " scan") rest c.in-Some.ensures.cases)
+    scan_begins bytes rest c.in-Some.ensures
 
 pub returns : goal.returns
 returns c =
@@ -17,5 +16,5 @@ returns c =
     let behind = c.in_ok-word.behind.now in
     let values = c.in_ok-values.values.now in
     update_begins bytes words behind values c.in_ok-value.rest.now c.in_ok-word.word c.in_ok-value.value
-    (stripped bytes (codes " update ") words c.in_ok-words.ensures.cases) c.in_ok-word.ensures
-    (stripped behind (codes " ") values c.in_ok-values.ensures.cases) c.in_ok-value.ensures
+    c.in_ok-words.ensures c.in_ok-word.ensures
+    c.in_ok-values.ensures c.in_ok-value.ensures

@@ -5,8 +5,8 @@ use Rattle.std.proofs.lemmas.List.{take_all, take-append-le}
 use Rattle.std.proofs.lemmas.Bool.{cases_lt}
 use Rattle.std.specs.Prelude.{Bool, Option, Some, None, Result, Ok, Err, OnOk, OnErr}
 use Rattle.std.specs.Io.KnownBytes.{Appends}
-use Rattle.snap_program.specs.WholeRun.{Sends}
-use Rattle.snap_program.specs.declared.fault.ConductFault.{ConductFault}
+use Rattle.snap_devices.specs.WholeRun.{Sends}
+use Rattle.snap_devices.specs.declared.fault.ConductFault.{ConductFault}
 use Rattle.snaplab.specs.Answer.{Says}
 
 -- what was sent, or as much as was taken

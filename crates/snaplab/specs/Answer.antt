@@ -12,14 +12,14 @@ use Rattle.snap_tasks.specs.declared.request.Request.TheVariants as request
 use Rattle.snap_tasks.specs.declared.task.Task.{Task}
 use Rattle.snap_tasks.specs.declared.task.Task.TheVariants as task
 use Rattle.snap_subject.specs.declared.subject.Subject.{Subject}
-use Rattle.snap_program.specs.WholeRun.{ConductsKeeping, ConductsLiveKeeping, ConductsSurvey}
-use Rattle.snap_program.specs.WholeRun.{IsOutputOf, RefusesTask, Sends, done_of}
+use Rattle.snap_devices.specs.WholeRun.{ConductsKeeping, ConductsLiveKeeping, Sends, done_of}
+use Rattle.snap_program.specs.TaskRun.{ConductsSurvey, IsOutputOf, RefusesTask}
 use Rattle.snap_explanation.specs.Explanation.{explanation}
 use Rattle.snap_explanation.specs.Part.{layout_of}
-use Rattle.snap_program.specs.FaultText.{fault_text}
-use Rattle.snap_program.specs.ExitStatus.{fault_status}
-use Rattle.snap_program.specs.declared.fault.ConductFault.{ConductFault}
-use Rattle.snap_program.specs.declared.fault.ConductFault.TheVariants.{Memory, Refused, Live, Read, Write}
+use Rattle.snap_devices.specs.FaultText.{fault_text}
+use Rattle.snap_devices.specs.ExitStatus.{fault_status}
+use Rattle.snap_devices.specs.declared.fault.ConductFault.{ConductFault}
+use Rattle.snap_devices.specs.declared.fault.ConductFault.TheVariants.{Memory, Refused, Live, Read, Write}
 
 -- the status of a whole run: 0 where all of its output was written, and nowhere else
 abbrev pub exit_status : Result (Unit {0}) ConductFault → ℕ

@@ -2,7 +2,7 @@
 //! messages, and the status of it.
 ghost use Rattle.std.specs.Prelude.{◌≡◌, ◌++◌, false, codes, IfOk, OnOk, OnErr};
 ghost use Rattle.snap_command_line.specs.Limits.{HasLimits};
-ghost use Rattle.snap_program.specs.FaultText.{fault_text};
+ghost use Rattle.snap_devices.specs.FaultText.{fault_text};
 ghost use Rattle.snap_tasks.specs.Request.{HasLimit};
 ghost use Rattle.snap_tasks.specs.declared.request.Request.TheVariants.{Live};
 ghost use Rattle.snaplab.specs.Answer.{AnswersLine, AnswersLively, AnswersRequest, AnswersStrictly};
@@ -10,11 +10,11 @@ ghost use Rattle.snaplab.specs.Answer.{AnswersTask, Says, SaysFault, SaysTermina
 ghost use Rattle.snaplab.specs.Answer.{exit_status, strict_subject};
 
 use snap_command_line::{CommandLine, Invocation};
-use snap_explanation::{explanation, layout_of};
-use snap_program::{
-    ByteSink, ByteSource, ConductFault, NoGate, conduct_keeping, conduct_live_keeping,
-    conduct_survey, fault_line, fault_status, write_all,
+use snap_devices::{
+    ByteSink, ByteSource, ConductFault, conduct_live_keeping, fault_line, fault_status, write_all,
 };
+use snap_explanation::{explanation, layout_of};
+use snap_program::{NoGate, conduct_keeping, conduct_survey};
 use snap_tasks::{Request, Subject, Task};
 use std::alloc::{AllocError, Global};
 use std::sync::Wait;

@@ -8,7 +8,7 @@ mod answers;
 
 use answers::{answer, say_terminal};
 use snap_command_line::{CommandLine, read_arguments};
-use snap_program::Std;
+use snap_devices::Std;
 use std::alloc::AllocError;
 use std::io::{self, IsTerminal};
 use std::process::ExitCode;

@@ -1,7 +1,9 @@
 -- `conduct_keeping` of snap_program (src/whole_run.rt): the proof of what its contract says.
 -- Does the same, and keeps the input: where it is refused, it was kept.
-use Rattle.snap_program.specs.WholeRun.{IsOutputOf, RefusesTask, of_fault}
-use Rattle.snap_program.proofs.Runs.{is_kept, not_read, refused, sends, why_task}
+use Rattle.snap_devices.specs.WholeRun.{of_fault}
+use Rattle.snap_program.specs.TaskRun.{IsOutputOf, RefusesTask}
+use Rattle.snap_devices.proofs.Runs.{is_kept, not_read, refused, sends}
+use Rattle.snap_program.proofs.Refused.{why_task}
 use Rattle.snap_program.proofs.whole_run.conduct_keeping.Goals as goal
 
 pub returns-in_err-text : goal.returns-in_err-text

@@ -1,10 +1,10 @@
--- `write_all` of snap_program (src/whole_run.rt): the proof of what its contract says.
+-- `write_all` of snap_devices (src/whole_texts.rt): the proof of what its contract says.
 -- Writes all of a text.
 use Rattle.std.proofs.Common.{take, drop, arith}
 use Rattle.std.proofs.lemmas.List.{length-drop, take_rest}
 use Rattle.std.proofs.Math.Seq.{take-add}
 use Rattle.std.proofs.KnownBytes.{Appends-trans}
-use Rattle.snap_program.proofs.whole_run.write_all.Goals as goal
+use Rattle.snap_devices.proofs.whole_texts.write_all.Goals as goal
 
 pub loop-sent-preserved : goal.loop-sent-preserved
 loop-sent-preserved g c =

@@ -6,20 +6,14 @@ use Rattle.std.specs.Prelude.{⊤, IfOk, IsErr, IsErrAnd}
 use Rattle.std.specs.Global.{Global}
 use Rattle.std.specs.Io.KnownBytes.{Appends}
 use Rattle.std.proofs.KnownBytes.{Appends-nil}
-use Rattle.snap_semantics.specs.Answers.{Answers}
-use Rattle.snap_semantics.specs.declared.fault.Fault.{Fault}
-use Rattle.snap_semantics.specs.declared.fault.Fault.TheVariants as inner
-use Rattle.snap_semantics.specs.declared.refusal.Refusal.{Refusal}
-use Rattle.snap_output.specs.Output.{output_of}
 use Rattle.snap_live_output.specs.declared.fault.LiveRunFault.{LiveRunFault}
 use Rattle.snap_live_output.specs.declared.fault.LiveRunFault.TheVariants as run
 use Rattle.snap_live_output.specs.LiveAnswer.{AnswersLive}
 use Rattle.snap_subject.specs.declared.subject.Subject.{Subject}
-use Rattle.snap_program.specs.WholeRun.{of_fault, of_live_fault, IsWhole, RefusesLive, RefusesTask, Takes, Reads}
-use Rattle.snap_program.specs.WholeRun.{Sends, ConductsOn, ConductsKeeping, IsKept, done_of}
-use Rattle.snap_program.specs.declared.fault.ConductFault.{ConductFault}
-use Rattle.snap_program.specs.declared.fault.ConductFault.TheVariants as fault
-use Rattle.snap_tasks.specs.declared.task.Task.{Task}
+use Rattle.snap_devices.specs.WholeRun.{of_fault, of_live_fault, IsWhole, RefusesLive, Takes, Reads}
+use Rattle.snap_devices.specs.WholeRun.{Sends, ConductsOn, ConductsKeeping, IsKept, done_of}
+use Rattle.snap_devices.specs.declared.fault.ConductFault.{ConductFault}
+use Rattle.snap_devices.specs.declared.fault.ConductFault.TheVariants as fault
 
 -- no memory for what was read
 pub no_room : (answer : Result (Vec ℕ Global) ConductFault) (input : List ℕ)
@@ -46,14 +40,7 @@ is_kept (Err (fault.Live f)) input = tt
 is_kept (Err fault.Read) input = tt
 is_kept (Err (fault.Write count)) input = tt
 
--- a task is refused as its output says
-pub why_task : (e : Fault Refusal) (task : Task) (input : List ℕ) →
-    Answers {X = Vec ℕ Global} (λ v. v.items) (Err e) (output_of task input) →
-    Why (RefusesTask task input) (of_fault e)
-why_task inner.Memory task input h = tt
-why_task (inner.Refused f) task input h = h
-
--- and a live run as its own
+-- a live run is refused or given up as its output says
 pub why_live : (e : LiveRunFault) (may : ℕ → ℕ → Bool → Type 0) (subject : Subject) (limit : ℕ) (input : List ℕ) →
     AnswersLive may subject limit input (Err e) → Why (RefusesLive may subject limit input) (of_live_fault e)
 why_live run.Memory may subject limit input h = tt

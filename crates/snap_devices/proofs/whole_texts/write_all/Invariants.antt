@@ -1,8 +1,8 @@
--- `write_all` of snap_program (src/whole_run.rt): what holds at the head of each of its loops.
+-- `write_all` of snap_devices (src/whole_texts.rt): what holds at the head of each of its loops.
 -- Writes all of a text.
 use Rattle.std.proofs.Common.{length, ◌-◌, ◌≡◌, ◌≤◌, false, take}
 use Rattle.std.specs.Io.KnownBytes.{Appends}
-use Rattle.snap_program.proofs.whole_run.write_all.Given as goal
+use Rattle.snap_devices.proofs.whole_texts.write_all.Given as goal
 
 -- the first bytes are sent
 abbrev pub invariant-loop-sent : goal.invariant-loop-sent

@@ -1,10 +1,10 @@
--- `read_all` of snap_program (src/whole_run.rt): the proof of what its contract says.
+-- `read_all` of snap_devices (src/whole_texts.rt): the proof of what its contract says.
 -- Reads all there is, or one byte more than is allowed.
 use Rattle.std.proofs.Common.{◌++◌, length-append, take, arith}
 use Rattle.std.proofs.KnownBytes.{Consumes-trans}
 use Rattle.std.proofs.lemmas.List.{length-take}
-use Rattle.snap_program.proofs.Runs.{no_room}
-use Rattle.snap_program.proofs.whole_run.read_all.Goals as goal
+use Rattle.snap_devices.proofs.Runs.{no_room}
+use Rattle.snap_devices.proofs.whole_texts.read_all.Goals as goal
 
 pub returns-in_err-extend_from_slice-in-Ok : goal.returns-in_err-extend_from_slice-in-Ok
 returns-in_err-extend_from_slice-in-Ok g c =

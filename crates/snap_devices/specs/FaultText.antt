@@ -3,8 +3,8 @@ use Rattle.std.specs.Prelude.{ℕ, List, ◌++◌, codes}
 use Rattle.snap_refusals.specs.RefusalText.{numbered, refused_text}
 use Rattle.snap_live_desk.specs.declared.refusal.LiveRefusal.{LiveRefusal}
 use Rattle.snap_live_desk.specs.declared.refusal.LiveRefusal.TheVariants as live
-use Rattle.snap_program.specs.declared.fault.ConductFault.{ConductFault}
-use Rattle.snap_program.specs.declared.fault.ConductFault.TheVariants as fault
+use Rattle.snap_devices.specs.declared.fault.ConductFault.{ConductFault}
+use Rattle.snap_devices.specs.declared.fault.ConductFault.TheVariants as fault
 
 abbrev pub live_refusal_text : LiveRefusal → List ℕ
 live_refusal_text (live.Full count) = numbered (codes "V1 Full") count

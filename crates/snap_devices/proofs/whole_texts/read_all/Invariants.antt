@@ -1,8 +1,8 @@
--- `read_all` of snap_program (src/whole_run.rt): what holds at the head of each of its loops.
+-- `read_all` of snap_devices (src/whole_texts.rt): what holds at the head of each of its loops.
 -- Reads all there is, or one byte more than is allowed.
 use Rattle.std.proofs.Common.{◌-◌, ◌≡◌, ◌≤◌, false, vec_len}
 use Rattle.std.specs.Io.KnownBytes.{Consumes}
-use Rattle.snap_program.proofs.whole_run.read_all.Given as goal
+use Rattle.snap_devices.proofs.whole_texts.read_all.Given as goal
 
 -- the input so far is what was taken
 abbrev pub invariant-loop-buffer : goal.invariant-loop-buffer

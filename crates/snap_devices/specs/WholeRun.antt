@@ -3,10 +3,7 @@ use Rattle.std.specs.Prelude.{◌≡◌, ℕ, ◌<◌, ◌≤◌, Vec, Bool, tru
 use Rattle.std.specs.Prelude.{Option, Result, Ok, Err, IfOk, length, ⊤, ◌⊎◌}
 use Rattle.std.specs.Global.{Global}
 use Rattle.std.specs.Io.KnownBytes.{Consumes, Appends, IsAtEnd}
-use Rattle.snap_output.specs.Output.{clean_of, output_of}
 use Rattle.snap_semantics.specs.declared.refusal.Refusal.{Refusal}
-use Rattle.snap_tasks.specs.declared.task.Task.{Task}
-use Rattle.snap_tasks.specs.declared.task.Task.TheVariants as task
 use Rattle.snap_semantics.specs.declared.fault.Fault.{Fault}
 use Rattle.snap_semantics.specs.declared.fault.Fault.TheVariants as inner
 use Rattle.snap_live_output.specs.declared.fault.LiveRunFault.{LiveRunFault}
@@ -14,8 +11,8 @@ use Rattle.snap_live_output.specs.declared.fault.LiveRunFault.TheVariants as run
 use Rattle.snap_live_output.specs.LiveOutput.{MayGiveUp, MayWrite, setup_of}
 use Rattle.snap_live_output.specs.Uncalled.{uncalled_of}
 use Rattle.snap_subject.specs.declared.subject.Subject.{Subject}
-use Rattle.snap_program.specs.declared.fault.ConductFault.{ConductFault}
-use Rattle.snap_program.specs.declared.fault.ConductFault.TheVariants as fault
+use Rattle.snap_devices.specs.declared.fault.ConductFault.{ConductFault}
+use Rattle.snap_devices.specs.declared.fault.ConductFault.TheVariants as fault
 
 -- why there is no output, as a fault of a whole run
 abbrev pub of_fault : Fault Refusal → ConductFault
@@ -102,21 +99,6 @@ ConductsKeeping IsOutput Refuses kept answer left left_after taken taken_after r
     (input : List ℕ) × IsKept answer kept input
     × ConductsOn IsOutput Refuses input answer left left_after taken taken_after r w s
 
--- the output of a task
-abbrev pub IsOutputOf : Task → (input text : List ℕ) → Type 0
-IsOutputOf task input text = output_of task input ≡ Ok text
-
--- why there is none
-abbrev pub RefusesTask : Task → (input : List ℕ) → ConductFault → Type 0
-RefusesTask task input (fault.Refused f) = output_of task input ≡ Err f
-RefusesTask task input _ = ⊥
-
--- A whole run of a task: each input has one output, or one refusal.
-abbrev pub Conducts : (answer : Result (Unit {0}) ConductFault) (task : Task)
-    (left left_after taken taken_after : Option (List ℕ)) (reader_failed writer_failed writer_stalled : Bool) → Type 0
-Conducts answer task left left_after taken taken_after r w s =
-    ConductsBy (IsOutputOf task) (RefusesTask task) answer left left_after taken taken_after r w s
-
 -- why a live run writes nothing: the input is refused, or the run is given up
 abbrev pub RefusesLive : (may : ℕ → ℕ → Bool → Type 0) → Subject → (limit : ℕ) →
     (input : List ℕ) → ConductFault → Type 0
@@ -151,15 +133,3 @@ abbrev pub ConductsLive : (may : ℕ → ℕ → Bool → Type 0) (subject : Sub
 ConductsLive may subject limit answer left left_after taken taken_after r w s =
     ConductsBy (MayWrite may subject limit)
     (RefusesLive may subject limit) answer left left_after taken taken_after r w s
-
--- the output of a survey, and whether all of its runs are clean, where that is answered
-abbrev pub IsSurveyOf : Result Bool ConductFault → Subject → (input text : List ℕ) → Type 0
-IsSurveyOf answer subject input text =
-    IsOutputOf (task.Survey subject) input text × IfOk answer (λ clean. clean_of subject input ≡ Ok clean)
-
--- A whole run of a survey, which keeps its input: what it writes and when it is refused are the task's.
-abbrev pub ConductsSurvey : (answer : Result Bool ConductFault) (subject : Subject) (kept : List ℕ)
-    (left left_after taken taken_after : Option (List ℕ)) (reader_failed writer_failed writer_stalled : Bool) → Type 0
-ConductsSurvey answer subject kept left left_after taken taken_after r w s =
-    ConductsKeeping (IsSurveyOf answer subject) (RefusesTask (task.Survey subject)) kept
-    (done_of answer) left left_after taken taken_after r w s

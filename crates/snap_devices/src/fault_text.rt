@@ -1,7 +1,7 @@
 //! `fault_line`: the line that says why a whole run of the program did not write its output, for a
 //! `ConductFault`.
 ghost use Rattle.std.specs.Prelude.{◌≡◌, ◌++◌, codes, OnOk, IfOk};
-ghost use Rattle.snap_program.specs.FaultText.{fault_text, live_refusal_text};
+ghost use Rattle.snap_devices.specs.FaultText.{fault_text, live_refusal_text};
 
 use crate::fault::ConductFault;
 use snap_live::LiveRefusal;

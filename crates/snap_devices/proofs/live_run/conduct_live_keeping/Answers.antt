@@ -1,9 +1,9 @@
--- What `conduct_live_keeping` (src/whole_run.rt) answers, wherever it ends.
+-- What `conduct_live_keeping` (src/live_run.rt) answers, wherever it ends.
 use Rattle.std.specs.Prelude.{◌≡◌, Ok}
 use Rattle.snap_live_output.specs.Uncalled.{uncalled_of}
-use Rattle.snap_program.specs.WholeRun.{IsLiveOf, RefusesLive, done_of, of_live_fault}
-use Rattle.snap_program.proofs.Runs.{is_kept, not_read, nothing_found, passed_on, refused, sends, stops, why_live}
-use Rattle.snap_program.proofs.whole_run.conduct_live_keeping.Goals as goal
+use Rattle.snap_devices.specs.WholeRun.{IsLiveOf, RefusesLive, done_of, of_live_fault}
+use Rattle.snap_devices.proofs.Runs.{is_kept, not_read, nothing_found, passed_on, refused, sends, stops, why_live}
+use Rattle.snap_devices.proofs.live_run.conduct_live_keeping.Goals as goal
 
 pub returns-in_err-input : goal.returns-in_err-input
 returns-in_err-input g c =

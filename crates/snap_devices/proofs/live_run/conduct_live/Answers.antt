@@ -1,11 +1,11 @@
--- `conduct_live` of snap_program (src/whole_run.rt): the proof of what its contract says.
+-- `conduct_live` of snap_devices (src/live_run.rt): the proof of what its contract says.
 -- Reads the input, plays its scripts live, each process with at most `limit` turns for each of which the gate is
 -- asked, and then writes the history of that run and nothing else.
 use Rattle.std.specs.Prelude.{Ok, Err}
 use Rattle.snap_live_output.specs.LiveOutput.{MayWrite}
-use Rattle.snap_program.specs.WholeRun.{IsLiveOf, RefusesLive}
-use Rattle.snap_program.proofs.Runs.{also, passed_whole}
-use Rattle.snap_program.proofs.whole_run.conduct_live.Goals as goal
+use Rattle.snap_devices.specs.WholeRun.{IsLiveOf, RefusesLive}
+use Rattle.snap_devices.proofs.Runs.{also, passed_whole}
+use Rattle.snap_devices.proofs.live_run.conduct_live.Goals as goal
 
 pub returns : goal.returns
 returns g c =

@@ -1,9 +1,9 @@
 //! `ConductFault`: why a whole run of the program did not write its output; `fault_status` is the
 //! status that it ends with.
 ghost use Rattle.std.specs.Prelude.{◌≡◌};
-ghost use Rattle.snap_program.specs.WholeRun.{of_fault, of_live_fault};
-ghost use Rattle.snap_program.specs.ExitStatus.{fault_status};
-ghost use Rattle.snap_program.specs.declared.fault.ConductFault.TheVariants.{Memory};
+ghost use Rattle.snap_devices.specs.WholeRun.{of_fault, of_live_fault};
+ghost use Rattle.snap_devices.specs.ExitStatus.{fault_status};
+ghost use Rattle.snap_devices.specs.declared.fault.ConductFault.TheVariants.{Memory};
 
 use snap_live::LiveRefusal;
 use snap_live_output::LiveRunFault;

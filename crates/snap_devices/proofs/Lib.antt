@@ -1,0 +1,2 @@
+-- The proofs of snap_devices, by their modules.
+pub mod Runs

@@ -1,0 +1,67 @@
+//! `conduct_live` and `conduct_live_keeping`: a whole live run, which reads an input from a byte
+//! source and writes its history, and nothing else, to a byte sink.
+ghost use Rattle.std.specs.Prelude.{◌≡◌, ◌≤◌, false};
+ghost use Rattle.snap_words.specs.Shape.{max_items};
+ghost use Rattle.snap_devices.specs.WholeRun.{ConductsLive, ConductsLiveKeeping};
+
+use crate::byte_sink::ByteSink;
+use crate::byte_source::ByteSource;
+use crate::fault::ConductFault;
+use crate::whole_texts::{read_all, write_all};
+use snap_live::Gate;
+use snap_live_output::live_output;
+use snap_subject::Subject;
+use std::alloc::Global;
+use std::sync::Wait;
+use std::thread::Threads;
+
+/// Reads the input, plays its scripts live, each process with at most `limit` turns for each of
+/// which the gate is asked, and then writes the history of that run and nothing else.
+pub fn conduct_live<G: Gate, R: ByteSource, W: ByteSink>(
+    rt: &(impl Threads + Wait + Sync),
+    alloc: Global,
+    subject: Subject,
+    limit: u64,
+    gate: &G,
+    source: &mut R,
+    sink: &mut W,
+) -> Result<(), ConductFault>
+    requires limit { (1 ≤ limit) × (limit ≤ max_items) }
+    requires source { R.has_failed source.old ≡ false }
+    requires sink { W.has_failed sink.old ≡ false }
+    requires goes_on { W.is_stalled sink.old ≡ false }
+    ensures { ConductsLive (G.may_answer gate.now) subject limit result (R.left source.old)
+        (R.left source.new) (W.taken sink.old) (W.taken sink.new)
+        (R.has_failed source.new) (W.has_failed sink.new) (W.is_stalled sink.new) }
+{
+    let mut kept = Vec::new(alloc);
+    conduct_live_keeping(rt, alloc, subject, limit, gate, source, sink, &mut kept)?;
+    Ok(())
+}
+
+/// Does the same, and answers what is said of the operations in the scripts that call nothing. The
+/// input is kept: where it is refused, it was kept.
+pub fn conduct_live_keeping<G: Gate, R: ByteSource, W: ByteSink>(
+    rt: &(impl Threads + Wait + Sync),
+    alloc: Global,
+    subject: Subject,
+    limit: u64,
+    gate: &G,
+    source: &mut R,
+    sink: &mut W,
+    kept: &mut Vec<u8>,
+) -> Result<Vec<u8>, ConductFault>
+    requires limit { (1 ≤ limit) × (limit ≤ max_items) }
+    requires source { R.has_failed source.old ≡ false }
+    requires sink { W.has_failed sink.old ≡ false }
+    requires goes_on { W.is_stalled sink.old ≡ false }
+    ensures { ConductsLiveKeeping (G.may_answer gate.now) subject limit kept.new.items result
+        (R.left source.old) (R.left source.new) (W.taken sink.old) (W.taken sink.new)
+        (R.has_failed source.new) (W.has_failed sink.new) (W.is_stalled sink.new) }
+{
+    let input = read_all(alloc, source)?;
+    *kept = input;
+    let found = live_output(rt, alloc, subject, limit, gate, kept.as_slice())?;
+    write_all(sink, found.text.as_slice())?;
+    Ok(found.uncalled)
+}

@@ -11,7 +11,10 @@ use Rattle.snap_semantics.specs.declared.process.Item.{Item}
 use Rattle.snap_semantics.specs.declared.process.Item.TheVariants as item
 use Rattle.snap_semantics.specs.declared.refusal.ScheduleRefusal.{ScheduleRefusal}
 use Rattle.snap_semantics.specs.declared.refusal.ScheduleRefusal.TheVariants as refusal
-use Rattle.snap_semantics.specs.Answers.{◌>>=◌}
+use Rattle.std.specs.Prelude.{IsErr, IsErrAnd, option_map}
+use Rattle.snap_semantics.specs.Answers.{◌>>=◌, Answers}
+use Rattle.snap_semantics.specs.declared.fault.Fault.{Fault}
+use Rattle.snap_semantics.specs.declared.fault.Fault.TheVariants.{Memory, Refused}
 use Rattle.snap_semantics.specs.Rules.{form_or}
 use Rattle.snap_semantics.specs.Schedule.{admitted, items_of, form_process, form_count, form_items}
 use Rattle.snap_semantics.specs.declared.text.Symbol.TheVariants as symbol
@@ -19,12 +22,8 @@ use Rattle.snap_semantics.specs.ScheduleForms.{ItemForm, Steps, Calls, Crashes, 
 use Rattle.snap_semantics.specs.ScheduleForms.{update_form, crash_form, item_form}
 use Rattle.snap_semantics.specs.Table.{who}
 use Rattle.snap_semantics.specs.Token.{TextLine, Number, Sign}
-use Rattle.snap_sched.specs.ReaderSteps.{line_form, next_form}
-
--- items before those that were read
-abbrev pub prefixed : List Item → Result (List Item) ScheduleRefusal → Result (List Item) ScheduleRefusal
-prefixed xs (Ok ys) = Ok (xs ++ ys)
-prefixed xs (Err e) = Err e
+use Rattle.snap_sched.specs.declared.forms.ItemForm as code
+use Rattle.snap_sched.specs.ReaderSteps.{items_with, line_form, next_form, prefixed, view_form}
 
 -- the rule for the rest, once the first line is read
 abbrev pub rest_of : ℕ → ℕ → List TextLine → ItemForm → Result (List Item) ScheduleRefusal
@@ -216,3 +215,29 @@ next_refused n (line ∷ lines) items d e =
 pub no_steps : (i : ℕ) → item_form (Number i ∷ Sign symbol.Star ∷ Number 0 ∷ []) ≡ None
 unfolding item_form step_form steps_form scan_form update_form crash_form
 no_steps i = refl
+
+-- the line of a form is read: what is read and what is left come to the same, and the items are still of processes that
+-- are there, and few
+pub taken : (n k : ℕ) (lines rest : List TextLine) (items more : List Item) (found : Option code.ItemForm)
+    (form : code.ItemForm) → k ≡ length items →
+    next_form n (1000000 - k) lines ≡ Ok (option_map (λ f. (view_form f, rest)) found) → found ≡ Some form →
+    more ≡ items ++ form_items (view_form form) → length items ≤ 1000000 →
+    AllByRecursion (λ x. IsOneOf n (who x)) items →
+    (items_with n more rest ≡ items_with n items lines)
+    × (length more ≤ 1000000) × AllByRecursion (λ x. IsOneOf n (who x)) more
+taken n k lines rest items more found form all next is added few h =
+    let f = view_form form in
+    let read : next_form n (1000000 - length items) lines ≡ Ok (Some (f, rest)) =
+    ap (λ m. next_form n (1000000 - m) lines) (sym all) ∙ next
+    ∙ ap (λ o. Ok (option_map (λ x. (view_form x, rest)) o)) is in
+    let first = next_found n (1000000 - length items) lines rest f read in
+    let keeps = kept n first.line items more f first.form added few h in
+    (turn n lines rest first.line items more f first.is first.form added, keeps.0, keeps.1)
+
+-- a refusal that `?` passes on
+pub passed_on : {X Y : Type 0} (view : X → Y) (answer : Result X (Fault ScheduleRefusal)) (why : Fault ScheduleRefusal)
+    (r : Result Y ScheduleRefusal) → IsErr answer × IsErrAnd answer (λ e. e ≡ why) →
+    ((e : ScheduleRefusal) → why ≡ Refused e → r ≡ Err e) → Answers view answer r
+passed_on view (Ok x) why r from refused = absurd from.1
+passed_on view (Err Memory) why r from refused = tt
+passed_on view (Err (Refused e)) why r from refused = refused e (sym from.1)

@@ -1,12 +1,13 @@
 -- What the reader of schedules makes of the next line: the shape (`first_shape`), or the form of some items
 -- (`next_form`).
-use Rattle.std.specs.Prelude.{ℕ, ◌&&◌, List, [], ◌∷◌, Option, Some, None, Result, Ok, Err, if◌then◌else◌}
-use Rattle.snap_words.specs.Shape.{Counts}
+use Rattle.std.specs.Prelude.{ℕ, ◌-◌, ◌&&◌, List, [], ◌∷◌, ◌++◌, length, Option, Some, None, Result, Ok, Err, if◌then◌else◌}
+use Rattle.snap_words.specs.Shape.{Counts, max_items}
+use Rattle.snap_semantics.specs.declared.process.Item.{Item}
 use Rattle.snap_semantics.specs.declared.refusal.ScheduleRefusal.{ScheduleRefusal}
 use Rattle.snap_semantics.specs.declared.refusal.ScheduleRefusal.TheVariants as refusal
 use Rattle.snap_semantics.specs.Answers.{◌>>=◌}
 use Rattle.snap_semantics.specs.Rules.{form_or}
-use Rattle.snap_semantics.specs.Schedule.{admitted}
+use Rattle.snap_semantics.specs.Schedule.{admitted, items_of}
 use Rattle.snap_semantics.specs.ScheduleForms.{ItemForm, Steps, Calls, Crashes, is_count, shape_form, item_form}
 use Rattle.snap_semantics.specs.Token.{TextLine}
 use Rattle.snap_sched.specs.declared.forms.ItemForm as code
@@ -40,3 +41,12 @@ shape_then lines (Err e) = Err e
 abbrev pub first_shape : List TextLine → Result (Counts × List TextLine) ScheduleRefusal
 first_shape [] = Err refusal.BadShape
 first_shape (line ∷ lines) = shape_then lines (form_or refusal.BadShape shape_form line.tokens)
+
+-- items before those that were read
+abbrev pub prefixed : List Item → Result (List Item) ScheduleRefusal → Result (List Item) ScheduleRefusal
+prefixed xs (Ok ys) = Ok (xs ++ ys)
+prefixed xs (Err e) = Err e
+
+-- the items of a text, of which these are read and the others are those of the lines that are left
+abbrev pub items_with : ℕ → List Item → List TextLine → Result (List Item) ScheduleRefusal
+items_with n items lines = prefixed items (items_of n (max_items - length items) lines)

@@ -9,12 +9,14 @@ ghost use Rattle.snap_semantics.specs.Schedule.{form_process, form_count, form_i
 ghost use Rattle.snap_semantics.specs.ScheduleText.{FitsItem};
 ghost use Rattle.snap_semantics.specs.Table.{who};
 ghost use Rattle.snap_semantics.specs.declared.fault.Fault.TheVariants.{Refused};
+ghost use Rattle.snap_semantics.specs.declared.refusal.ScheduleRefusal.{ScheduleRefusal};
 ghost use Rattle.snap_semantics.specs.declared.refusal.ScheduleRefusal.TheVariants.{TooLong};
 ghost use Rattle.snap_semantics.specs.ScheduleForms.{item_form, spelled_call};
 ghost use Rattle.snap_text.specs.Lines.{view_line};
-ghost use Rattle.snap_text.specs.Numbers.{number_tokens};
+ghost use Rattle.snap_text.specs.Numbers.{number_tokens, view_numbers};
 ghost use Rattle.snap_text.specs.Tokens.{Finds};
 ghost use Rattle.snap_sched.specs.ReaderSteps.{view_form, line_form, next_form, first_shape};
+ghost use Rattle.snap_sched.specs.ReaderSteps.{items_with};
 
 use crate::fault::ScheduleFault;
 use crate::forms::{ItemForm, item_form, shape_form};
@@ -106,6 +108,18 @@ fn numbers_form(line: &NumberLine) -> Option<ItemForm>
     }
 }
 
+/// The form that a line of one or two numbers is, where its process is one of `n` and no more than
+/// `left` items come of it.
+#[inline(always)]
+fn numbers_line_form(n: u64, left: u64, line: &NumberLine) -> Result<ItemForm, ScheduleRefusal>
+    ensures { Gives view_form result (line_form n left (view_numbers line.now)) }
+{
+    match numbers_form(line) {
+        Some(form) => admitted(n, left, line.number, form),
+        None => Err(ScheduleRefusal::BadItem(line.number)),
+    }
+}
+
 /// The form that a call is.
 fn call_form(line: &CallLine) -> ItemForm
     ensures { item_form (spelled_call line.now.process line.now.op) ≡ Some (view_form result) }
@@ -145,15 +159,40 @@ fn next_form(
         (next_form n left lines.old) }
 {
     if let Some(line) = lines.next_numbers() {
-        return match numbers_form(&line) {
-            Some(form) => Ok(Some(admitted(n, left, line.number, form)?)),
-            None => Err(ScheduleFault::Refused(ScheduleRefusal::BadItem(line.number))),
-        };
+        return Ok(Some(numbers_line_form(n, left, &line)?));
     }
     if let Some(line) = lines.next_call() {
         return Ok(Some(admitted(n, left, line.number, call_form(&line))?));
     }
     next_line_form(alloc, n, left, lines)
+}
+
+/// Adds the items of the next lines, as long as each is `I` or `I*K` with no space or comment: most
+/// lines by far.
+#[inline(always)]
+fn push_step_lines(
+    n: u64,
+    lines: &mut TextLines<'_>,
+    items: &mut Items,
+) -> Result<(), ScheduleFault>
+    requires n { n ≤ max_count }
+    requires few { length items.old ≤ max_items }
+    requires processes { AllByRecursion (λ x. IsOneOf n (who x)) items.old }
+    requires fits { AllByRecursion FitsItem items.old }
+    ensures same { OnOk result (items_with n items.new lines.new
+        ≡ items_with n items.old lines.old) }
+    ensures few { OnOk result (length items.new ≤ max_items) }
+    ensures processes { OnOk result (AllByRecursion (λ x. IsOneOf n (who x)) items.new) }
+    ensures fits { OnOk result (AllByRecursion FitsItem items.new) }
+    ensures left { OnOk result (length lines.new ≤ length lines.old) }
+    ensures refused { (e : ScheduleRefusal) → result ≡ Err (Refused e) →
+        items_with n items.old lines.old ≡ Err e }
+{
+    while let Some(line) = lines.next_numbers() {
+        let form = numbers_line_form(n, MAX_ITEMS - items.len(), &line)?;
+        push_form(items, form)?;
+    }
+    Ok(())
 }
 
 /// The items of the lines.
@@ -167,6 +206,7 @@ fn items_of(alloc: Global, n: u64, lines: &mut TextLines<'_>) -> Result<Items, S
     let mut items = Items::new(alloc);
     while let Some(form) = next_form(alloc, n, MAX_ITEMS - items.len(), lines)? {
         push_form(&mut items, form)?;
+        push_step_lines(n, lines, &mut items)?;
     }
     Ok(items)
 }

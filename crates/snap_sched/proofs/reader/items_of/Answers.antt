@@ -1,29 +1,38 @@
 -- `items_of` of snap_sched (src/reader.rt): the proof of what its contract says.
 -- The items of the lines.
-use Rattle.std.proofs.Common.{◌≡◌, ◌-◌, length, option_map, ap, sym, ◌∙◌, Ok, Some}
-use Rattle.snap_sched.specs.ReaderSteps.{view_form, next_form}
-use Rattle.snap_sched.proofs.Lines.{turn, kept, next_found}
+use Rattle.std.proofs.Common.{ap, sym, ◌∙◌, Err}
+use Rattle.snap_words.specs.Shape.{max_items}
+use Rattle.snap_semantics.specs.Schedule.{items_of}
+use Rattle.snap_sched.proofs.Lines.{passed_on, taken}
 use Rattle.snap_sched.proofs.reader.items_of.Goals as goal
+
+pub push_step_lines-requires-clause-processes : goal.push_step_lines-requires-clause-processes
+push_step_lines-requires-clause-processes c =
+    (taken c.args.n c.len.result c.loop-items.lines c.next_form.new.lines c.loop-items.items c.push_form.new.items
+    c.in_ok-form.field-0 c.in-Some.form c.len.ensures.len c.in_ok-form.ensures c.in-Some.is
+    c.in_ok-push_form.ensures.added c.loop-items.invariant.few c.loop-items.invariant.processes).2
 
 pub loop-items-preserved : goal.loop-items-preserved
 loop-items-preserved c =
-    let items = c.loop-items.items in
-    let f = view_form c.in-Some.form in
-    let rest = c.next_form.new.lines in
-    let found : next_form c.args.n (1000000 - length items) c.loop-items.lines ≡ Ok (Some (f, rest)) =
-    ap (λ k. next_form c.args.n (1000000 - k) c.loop-items.lines) (sym c.len.ensures.len) ∙ c.in_ok-form.ensures
-    ∙ ap (λ o. Ok (option_map (λ x. (view_form x, rest)) o)) c.in-Some.is in
-    let next = next_found c.args.n (1000000 - length items) c.loop-items.lines rest f found in
-    let more = c.in_ok-push_form.ensures.added in
-    let keeps =
-    kept c.args.n next.line items c.push_form.new.items f next.form more c.loop-items.invariant.few
-    c.loop-items.invariant.processes in
+    let read =
+    taken c.args.n c.len.result c.loop-items.lines c.next_form.new.lines c.loop-items.items c.push_form.new.items
+    c.in_ok-form.field-0 c.in-Some.form c.len.ensures.len c.in_ok-form.ensures c.in-Some.is
+    c.in_ok-push_form.ensures.added c.loop-items.invariant.few c.loop-items.invariant.processes in
+    let steps = c.in_ok-push_step_lines.ensures in
     record {
-      reads =
-          turn c.args.n c.loop-items.lines rest next.line items c.push_form.new.items f next.is next.form more
-          ∙ c.loop-items.invariant.reads;
-      few = keeps.0;
-      processes = keeps.1;
-      fits = c.in_ok-push_form.ensures.fits;
+      reads = steps.same ∙ read.0 ∙ c.loop-items.invariant.reads;
+      few = steps.few;
+      processes = steps.processes;
+      fits = steps.fits;
       same = c.loop-items.invariant.same;
     }
+
+pub returns-in_err-push_step_lines-clause-items : goal.returns-in_err-push_step_lines-clause-items
+returns-in_err-push_step_lines-clause-items c =
+    let read =
+    taken c.args.n c.len.result c.loop-items.lines c.next_form.new.lines c.loop-items.items c.push_form.new.items
+    c.in_ok-form.field-0 c.in-Some.form c.len.ensures.len c.in_ok-form.ensures c.in-Some.is
+    c.in_ok-push_form.ensures.added c.loop-items.invariant.few c.loop-items.invariant.processes in
+    passed_on (λ xs. xs) c.from_residual-in_err-push_step_lines.result c.in_err-push_step_lines.field-0.0
+    (items_of c.args.n max_items c.args.lines.now) c.from_residual-in_err-push_step_lines.ensures
+    (λ e why. sym (read.0 ∙ c.loop-items.invariant.reads) ∙ c.in_err-push_step_lines.ensures.refused e (ap Err why))

@@ -1,14 +1,18 @@
 //! `conduct` and its variants: a whole run of the program, which reads an input from a byte source
 //! and writes its output, and nothing else, to a byte sink.
 ghost use Rattle.std.specs.Prelude.{◌≡◌, ◌≤◌, ◌<◌, ◌++◌, ◌⊎◌, ℕ, List, [], true, false, length};
-ghost use Rattle.std.specs.Prelude.{take, IfOk, IfErr, OnOk, OnErr, MatchResult};
+ghost use Rattle.std.specs.Prelude.{take, Err, IfOk, IfErr, OnOk, OnErr, MatchResult};
 ghost use Rattle.std.specs.Io.KnownBytes.{Consumes, Appends, IsAtEnd};
 ghost use Rattle.snap_words.specs.Shape.{max_items};
+ghost use Rattle.snap_semantics.specs.Answers.{Answers};
+ghost use Rattle.snap_semantics.specs.declared.fault.Fault.TheVariants.{Refused};
+ghost use Rattle.snap_semantics.specs.declared.refusal.Refusal.{Refusal};
 ghost use Rattle.snap_output.specs.Output.{output_of};
 ghost use Rattle.snap_program.specs.WholeRun.{Reads, Sends, Conducts, ConductsKeeping};
 ghost use Rattle.snap_program.specs.WholeRun.{ConductsLive};
 ghost use Rattle.snap_program.specs.WholeRun.{ConductsLiveKeeping, ConductsSurvey, IsOutputOf};
 ghost use Rattle.snap_program.specs.WholeRun.{RefusesTask};
+ghost use Rattle.snap_tasks.specs.declared.task.Task.TheVariants.{Run};
 
 use crate::byte_sink::ByteSink;
 use crate::byte_source::ByteSource;
@@ -16,7 +20,8 @@ use crate::fault::ConductFault;
 use snap_input::MAX_INPUT;
 use snap_live::Gate;
 use snap_live_output::live_output;
-use snap_output::{output, survey_output};
+use snap_output::{output, planned_run, run_planned, survey_output};
+use snap_semantics::{Fault, Refusal};
 use snap_tasks::{Subject, Task};
 use std::alloc::Global;
 use std::sync::Wait;
@@ -60,6 +65,34 @@ pub fn write_all<W: ByteSink>(sink: &mut W, text: &[u8]) -> Result<(), ConductFa
     Ok(())
 }
 
+/// What is written for the input that is kept, if it is run. Once its program and its schedule are
+/// read, it is let go of.
+fn run_kept(alloc: Global, subject: Subject, kept: &mut Vec<u8>) -> Result<Vec<u8>, Fault<Refusal>>
+    ensures output { Answers (λ out. out.items) result (output_of (Run subject) kept.old.items) }
+    ensures kept { (r : Refusal) → result ≡ Err (Refused r) → kept.new.items ≡ kept.old.items }
+{
+    let run = planned_run(alloc, subject, kept.as_slice())?;
+    // A run needs no text, and no text need be kept of an input that is not refused.
+    *kept = Vec::new(alloc);
+    Ok(run_planned(alloc, run)?)
+}
+
+/// The whole output for the input that is kept. Where it is refused, it is still kept.
+fn kept_output(
+    rt: &(impl Threads + Sync),
+    alloc: Global,
+    task: &Task,
+    kept: &mut Vec<u8>,
+) -> Result<Vec<u8>, Fault<Refusal>>
+    ensures output { Answers (λ out. out.items) result (output_of task.now kept.old.items) }
+    ensures kept { (r : Refusal) → result ≡ Err (Refused r) → kept.new.items ≡ kept.old.items }
+{
+    match *task {
+        Task::Run(subject) => run_kept(alloc, subject, kept),
+        _ => output(rt, alloc, task, kept.as_slice()),
+    }
+}
+
 /// Reads the input, and then writes its whole output and nothing else.
 pub fn conduct<R: ByteSource, W: ByteSink>(
     rt: &(impl Threads + Sync),
@@ -97,7 +130,7 @@ pub fn conduct_keeping<R: ByteSource, W: ByteSink>(
 {
     let input = read_all(alloc, source)?;
     *kept = input;
-    let text = output(rt, alloc, task, kept.as_slice())?;
+    let text = kept_output(rt, alloc, task, kept)?;
     write_all(sink, text.as_slice())
 }
 

@@ -40,6 +40,25 @@ is_kept (Err (fault.Live f)) input = tt
 is_kept (Err fault.Read) input = tt
 is_kept (Err (fault.Write count)) input = tt
 
+-- where a fault of the output is passed on, what the output has kept of a refused input is all of it
+pub still_kept : (answer : Result (Unit {0}) ConductFault) (e : Fault Refusal) (kept input : List ℕ)
+    → IsErr answer × IsErrAnd answer (λ f. f ≡ of_fault e) → ((r : Refusal) → e ≡ inner.Refused r → kept ≡ input)
+    → IsKept answer kept input
+still_kept (Ok done) e kept input from h = tt
+still_kept (Err f) e kept input from h = subst (λ (x : ConductFault). IsKept (Err x) kept input) (sym from.1) (of e h) where
+  of : (e : Fault Refusal) → ((r : Refusal) → e ≡ inner.Refused r → kept ≡ input) →
+      IsKept (Err (of_fault e)) kept input
+  of inner.Memory h = tt
+  of (inner.Refused r) h = h r refl
+
+-- and where there is an output, nothing need be kept
+pub need_not_keep : (answer : Result (Unit {0}) ConductFault) (text kept input : List ℕ)
+    (taken taken_after : Option (List ℕ)) (w s : Bool)
+    → Sends answer text taken taken_after w s → IsKept answer kept input
+need_not_keep (Ok done) text kept input taken taken_after w s sent = tt
+need_not_keep (Err e) text kept input taken taken_after w s sent =
+    subst (λ (x : ConductFault). IsKept (Err x) kept input) (sym sent.1) tt
+
 -- a live run is refused or given up as its output says
 pub why_live : (e : LiveRunFault) (may : ℕ → ℕ → Bool → Type 0) (subject : Subject) (limit : ℕ) (input : List ℕ) →
     AnswersLive may subject limit input (Err e) → Why (RefusesLive may subject limit input) (of_live_fault e)

@@ -1,13 +1,14 @@
-//! The text of the warnings of a listing.
+//! `lint_of`: what the task `lint` writes of a text, the warnings of the listing, or why it is no
+//! listing.
 ghost use Rattle.std.specs.Prelude.{◌≡◌, ◌<◌, ◌++◌, Err, IfOk, OnOk, length};
 ghost use Rattle.snap_semantics.specs.declared.fault.Fault.TheVariants.{Refused};
 ghost use Rattle.snap_semantics.specs.declared.refusal.ListingRefusal.TheVariants.{TooLong};
 ghost use Rattle.snap_semantics.specs.declared.refusal.Refusal.TheVariants as refusal;
-ghost use Rattle.snap_semantics.specs.Answers.{Answers, refused_as};
-ghost use Rattle.snap_semantics.specs.Listing.{listing_of};
+ghost use Rattle.snap_semantics.specs.Answers.{Answers};
 ghost use Rattle.snap_lint.specs.Warnings.{warnings};
 ghost use Rattle.snap_lint_text.specs.Lint.{concern_text, lint_of, warning_line, warnings_text};
 
+use crate::listing::read_listing;
 use snap_lint::{Concern, Warning, warnings};
 use snap_listing::Listing;
 use snap_semantics::{Fault, Refusal};
@@ -58,14 +59,6 @@ pub fn lint(alloc: Global, listing: &Listing) -> Result<Vec<u8>, AllocError>
 {
     let warnings = warnings(alloc, listing)?;
     warnings_text(alloc, warnings.as_slice())
-}
-
-/// Reads a listing.
-fn read_listing(alloc: Global, text: &[u8]) -> Result<Listing, Fault<Refusal>>
-    ensures listing { Answers (λ l. l) result (refused_as refusal.Listing (listing_of text.now)) }
-    ensures too_long { 65536 < length text.now → result ≡ Err (Refused (refusal.Listing TooLong)) }
-{
-    Ok(snap_listing::read(alloc, text)?)
 }
 
 /// What is warned of in a text that is a listing, or why it is none.

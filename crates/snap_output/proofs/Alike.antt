@@ -8,13 +8,13 @@ use Rattle.snap_semantics.specs.declared.refusal.Refusal.TheVariants as refusal
 use Rattle.snap_runs.specs.Run.{run_over}
 use Rattle.snap_input.specs.Input.{checked_parts, listing_for, parted, texts_for}
 use Rattle.snap_input.specs.Parts.{part, parts_of}
-use Rattle.snap_perform.proofs.ToTheEnd.{to_the_end}
 use Rattle.snap_input.specs.Schedules.{schedule_for}
-use Rattle.snap_perform.specs.Perform.{end_text, run_listing}
+use Rattle.snap_run_output.specs.RunOutput.{end_text, run_listing}
 use Rattle.snap_run_trace.specs.Trace.{trace_text}
 use Rattle.snap_trace_output.specs.Traces.{trace_listing, traces_text}
 use Rattle.snap_output.specs.Output.{output_of, run_text}
 use Rattle.snap_output.specs.Refusals.{AreRefusedAlike, RefusesTracesAsRuns}
+use Rattle.snap_output.proofs.Ended.{of_listing}
 
 neither : (x y : List ℕ) → AreRefusedAlike (Ok x) (Ok y)
 neither x y r = (λ e. absurd cc, λ e. absurd cc)
@@ -33,7 +33,7 @@ either false e x y h = h
 texts_alike : (l : Source) (texts : List (List ℕ)) → AreRefusedAlike (traces_text l texts) (run_text l texts)
 unfolding trace_listing run_listing
 texts_alike l texts =
-    subst (AreRefusedAlike (trace_listing l (part 0 texts))) (sym (to_the_end l (part 0 texts)))
+    subst (AreRefusedAlike (trace_listing l (part 0 texts))) (sym (of_listing l texts))
     (behind (schedule_for l (part 0 texts)) (λ s. Ok (trace_text (run_over l s))) (λ s. Ok (end_text l s))
     (λ s. neither (trace_text (run_over l s)) (end_text l s)))
 

@@ -1,6 +1,5 @@
 -- The proofs of snap_output, by their modules.
 pub mod Shipping
-pub mod Schedules
 pub mod AtOnce
 pub mod Alike
-pub mod SideBySide
+pub mod Ended

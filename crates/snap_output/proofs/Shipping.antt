@@ -33,9 +33,9 @@ use Rattle.snap_output.specs.Headline.{PrintsTheRun, ListsBackAsSource, AsksFor,
 use Rattle.snap_output.specs.Headline.{RunsWhatIsAsked, WritesTheRun, SnapshotListingsAreSnapshots, texts_in}
 use Rattle.snap_shipped.specs.Shipped.{shipped}
 use Rattle.snap_input.specs.Input.{checked_parts, listing_for, parted, texts_for}
-use Rattle.snap_output.specs.Output.{audit_listing, batch_text, batched, checked_schedules, debug_text, of_task}
-use Rattle.snap_output.specs.Output.{output_of, run_text, verdicts_text}
-use Rattle.snap_survey_output.specs.Surveys.{schedules_for}
+use Rattle.snap_output.specs.Output.{debug_text, of_task, output_of, run_text}
+use Rattle.snap_run_output.specs.ScheduleOutput.{audit_listing, batch_text, batched, verdicts_text}
+use Rattle.snap_schedules.specs.Schedules.{checked_schedules, schedules_for}
 use Rattle.snap_input.specs.Parts.{part, parts_of, max_input}
 use Rattle.snap_perform.proofs.ToTheEnd.{is_run}
 use Rattle.snap_input.specs.Schedules.{fitting, schedule_for}

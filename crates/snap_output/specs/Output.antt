@@ -1,25 +1,20 @@
 -- `output_of`: what the program writes for an input, for each task (`run`, `debug`, `audit`, `batch`, `survey`, ..),
 -- or why it refuses.
-use Rattle.std.specs.Prelude.{ℕ, Bool, ◌&&◌, nat_le, nat_lt, List, ◌++◌, length, map}
-use Rattle.std.specs.Prelude.{Result, Ok, Err, codes, decimal, if◌then◌else◌}
+use Rattle.std.specs.Prelude.{ℕ, Bool, nat_lt, List, length, Result, Err, codes, if◌then◌else◌}
 use Rattle.snap_semantics.specs.declared.refusal.Refusal.{Refusal}
 use Rattle.snap_semantics.specs.declared.refusal.Refusal.TheVariants as refusal
-use Rattle.snap_semantics.specs.Answers.{◌>>=◌, refused_as}
+use Rattle.snap_semantics.specs.Answers.{refused_as}
 use Rattle.snap_image_format.specs.Assembly.{assembled, listed, upgraded}
-use Rattle.snap_semantics.specs.Listing.{listing_of}
 use Rattle.snap_semantics.specs.Source.{Source}
-use Rattle.snap_semantics.specs.Spelling.{kind_keyword}
-use Rattle.snap_runs.specs.Run.{run_over}
-use Rattle.snap_audit.specs.VerdictText.{audit_text}
-use Rattle.snap_runner.specs.End.{end_report}
-use Rattle.snap_batch.specs.Reports.{reports_text}
 use Rattle.snap_certify_output.specs.Output.{certificates_text}
+use Rattle.snap_lint_text.specs.Check.{check_of}
 use Rattle.snap_lint_text.specs.Lint.{lint_of}
-use Rattle.snap_survey_output.specs.Surveys.{are_clean, schedules_for, survey_text}
+use Rattle.snap_survey_output.specs.Surveys.{are_clean, survey_text}
 use Rattle.snap_trace_output.specs.Traces.{traces_text}
-use Rattle.snap_input.specs.Input.{listing_for, parted, texts_for}
+use Rattle.snap_input.specs.Input.{parted}
 use Rattle.snap_input.specs.Parts.{part, parts_of, max_input}
-use Rattle.snap_input.specs.Schedules.{schedule_for}
+use Rattle.snap_schedules.specs.Schedules.{over_schedules}
+use Rattle.snap_run_output.specs.ScheduleOutput.{batched, verdicts_text}
 use Rattle.snap_perform.specs.Perform.{perform_listing}
 use Rattle.snap_subject.specs.declared.subject.Subject.{Subject}
 use Rattle.snap_tasks.specs.declared.task.Task.{Task}
@@ -33,37 +28,6 @@ run_text l texts = perform_listing l (part 0 texts) (codes "run\n")
 abbrev pub debug_text : Source → List (List ℕ) → Result (List ℕ) Refusal
 debug_text l texts = perform_listing l (part 0 texts) (part 1 texts)
 
--- a schedule: the verdicts of its run
-unfoldable pub audit_listing : Source → List ℕ → Result (List ℕ) Refusal
-audit_listing l schedule = do
-  s ← schedule_for l schedule
-  Ok (audit_text (run_over l s))
-
-abbrev pub verdicts_text : Source → List (List ℕ) → Result (List ℕ) Refusal
-verdicts_text l texts = audit_listing l (part 0 texts)
-
--- schedules: the report of the end of each
-unfoldable pub batch_text : Source → List (List ℕ) → Result (List ℕ) Refusal
-batch_text l texts = do
-  ss ← schedules_for l texts
-  Ok (reports_text 1 (map (end_report l) ss))
-
--- 1 to 4,096 schedules behind the listing
-abbrev pub checked_schedules : Subject → List (List ℕ) → Result (Unit {0}) Refusal
-checked_schedules s parts =
-    if nat_lt 0 (length (texts_for s parts)) && nat_le (length (texts_for s parts)) 4096 then Ok tt
-    else Err (refusal.WrongParts (length parts))
-
--- what is said of a listing and its 1 to 4,096 schedules
-abbrev pub over_schedules : {A : Type 0} → Subject → List (List ℕ) →
-    (Source → List (List ℕ) → Result A Refusal) → Result A Refusal
-over_schedules s parts text =
-    checked_schedules s parts >>= λ there. listing_for s parts >>= λ l. text l (texts_for s parts)
-
--- the report of the end of each schedule
-unfoldable pub batched : Subject → List (List ℕ) → Result (List ℕ) Refusal
-batched s parts = over_schedules s parts batch_text
-
 -- what the run of each schedule came to
 unfoldable pub surveyed : Subject → List (List ℕ) → Result (List ℕ) Refusal
 surveyed s parts = over_schedules s parts survey_text
@@ -71,16 +35,6 @@ surveyed s parts = over_schedules s parts survey_text
 -- whether the run of each schedule is clean
 unfoldable pub clean_runs : Subject → List (List ℕ) → Result Bool Refusal
 clean_runs s parts = over_schedules s parts are_clean
-
--- `ok: KIND, K lines`
-abbrev pub check_line : Source → List ℕ
-check_line l = codes "ok: " ++ kind_keyword l.kind ++ codes ", " ++ decimal (length l.lines) ++ codes " lines\n"
-
--- what is said of a text that is a listing; the whole input is the text
-unfoldable pub check_of : List ℕ → Result (List ℕ) Refusal
-check_of input = do
-  l ← refused_as refusal.Listing (listing_of input)
-  Ok (check_line l)
 
 abbrev pub of_task : Task → List ℕ → Result (List ℕ) Refusal
 of_task task.Check input = check_of input

@@ -2,14 +2,12 @@
 //! why there is none.
 #![tactic(auto)]
 
-mod audit_output;
-mod batch_output;
-mod check_output;
 mod headlines;
 mod outputs;
 
 pub use headlines::{headline, traces_are_refused_as_runs};
-pub use outputs::{output, output_alone, survey_output};
+pub use outputs::{output, output_alone, planned_run, survey_output};
 pub use snap_perform::perform;
+pub use snap_run_output::{PlannedRun, run_planned};
 pub use snap_survey_output::SurveyOutput;
 pub use snap_tasks::Task;

@@ -1,29 +1,28 @@
 //! `output`: what the program writes for an input, for each task, or why there is no output.
-ghost use Rattle.std.specs.Prelude.{◌≡◌, ◌≤◌, ◌<◌, Err, IfOk, Ok, Some, length, map};
+ghost use Rattle.std.specs.Prelude.{◌≡◌, ◌≤◌, ◌<◌, Err, Some, length, map};
 ghost use Rattle.snap_semantics.specs.Answers.{Answers};
 ghost use Rattle.snap_semantics.specs.declared.fault.Fault.TheVariants.{Refused};
 ghost use Rattle.snap_semantics.specs.declared.refusal.Refusal.{Refusal};
 ghost use Rattle.snap_input.specs.Input.{checked_parts, parted, texts_for};
 ghost use Rattle.snap_input.specs.Parts.{max_input, parts_of};
+ghost use Rattle.snap_schedules.specs.Schedules.{checked_schedules};
+ghost use Rattle.snap_run_output.specs.RunOutput.{end_text};
 ghost use Rattle.snap_output.specs.AtOnce.{found_at_once};
 ghost use Rattle.snap_certify_output.specs.Output.{certificates_text};
-ghost use Rattle.snap_output.specs.Output.{batched, checked_schedules, clean_of, clean_runs};
-ghost use Rattle.snap_output.specs.Output.{debug_text, surveyed};
-ghost use Rattle.snap_output.specs.Output.{of_task, output_of, run_text, verdicts_text};
-ghost use Rattle.snap_tasks.specs.declared.task.Task.TheVariants.{Survey};
+ghost use Rattle.snap_output.specs.Output.{clean_of, clean_runs, debug_text, surveyed};
+ghost use Rattle.snap_output.specs.Output.{output_of, run_text};
+ghost use Rattle.snap_tasks.specs.declared.task.Task.TheVariants.{Run, Survey};
 ghost use Rattle.snap_trace_output.specs.Traces.{traces_text};
 
-use crate::audit_output::audit_program;
-use crate::batch_output::{batch_program, batch_side_by_side};
-use crate::check_output::check_of;
 use snap_asm_program::Program;
 use snap_certify_output::certify_program;
 use snap_input::{
-    MAX_INPUT, assemble, count_separators, count_texts, list, parts_for, program_for, split_parts,
-    texts_for, upgrade,
+    MAX_INPUT, assemble, list, parts_for, program_for, split_parts, texts_for, upgrade,
 };
-use snap_lint_text::lint_of;
-use snap_perform::{perform_program, run_program};
+use snap_lint_text::{check_of, lint_of};
+use snap_perform::perform_program;
+use snap_run_output::{PlannedRun, audit, batch, batch_in_threads};
+use snap_schedules::check_schedules;
 use snap_semantics::{Fault, Refusal};
 use snap_survey_output::{SurveyOutput, survey_runs};
 use snap_tasks::{Subject, Task};
@@ -31,34 +30,7 @@ use snap_trace_output::trace_program;
 use std::alloc::Global;
 use std::thread::Threads;
 
-/// The most schedules of a batch.
-const MAX_SCHEDULES: usize = 4096;
-
-/// Whether 1 to 4,096 texts stand behind the listing.
-fn check_schedules(subject: Subject, input: &[u8]) -> Result<(), Refusal>
-    requires { length input.now ≤ max_input }
-    ensures { result ≡ checked_schedules subject (parts_of input.now) }
-{
-    let found = count_separators(input) + 1;
-    let texts = count_texts(subject, found);
-    if 0 < texts && texts <= MAX_SCHEDULES {
-        Ok(())
-    } else {
-        Err(Refusal::WrongParts(found as u64))
-    }
-}
-
-/// A program under the schedule that a text is, to its end.
-fn run_texts(alloc: Global, program: &Program, texts: &[&[u8]]) -> Result<Vec<u8>, Fault<Refusal>>
-    requires { 0 < length texts.now }
-    ensures { Answers (λ out. out.items) result
-        (run_text program.now (map (λ text. text.now) texts.now)) }
-{
-    run_program(alloc, program, texts[0])
-}
-
-/// A listing under a schedule.
-#[tactic(auto, unfolding(snap_input::specs::Input::parted))]
+/// A listing under a schedule, to its end: what a session answers to the one command `run`.
 fn run(alloc: Global, subject: Subject, input: &[u8]) -> Result<Vec<u8>, Fault<Refusal>>
     requires { length input.now ≤ max_input }
     ensures output { Answers (λ out. out.items) result
@@ -66,10 +38,18 @@ fn run(alloc: Global, subject: Subject, input: &[u8]) -> Result<Vec<u8>, Fault<R
     ensures counted { (r : Refusal) → checked_parts subject 1 (parts_of input.now) ≡ Err r →
         result ≡ Err (Refused r) }
 {
-    let parts = parts_for(alloc, subject, 1, input)?;
-    let program = program_for(alloc, subject, parts.as_slice())?;
-    let texts = texts_for(subject, parts.as_slice());
-    run_texts(alloc, &program, texts)
+    snap_run_output::run(alloc, subject, input)
+}
+
+/// The program and the schedule that a listing and a text are.
+fn plan(alloc: Global, subject: Subject, input: &[u8]) -> Result<PlannedRun, Fault<Refusal>>
+    requires { length input.now ≤ max_input }
+    ensures output { Answers (λ run. end_text run.program run.schedule) result
+        (parted subject 1 (parts_of input.now) run_text) }
+    ensures counted { (r : Refusal) → checked_parts subject 1 (parts_of input.now) ≡ Err r →
+        result ≡ Err (Refused r) }
+{
+    snap_run_output::planned_run(alloc, subject, input)
 }
 
 /// What each item of a program's run did under the schedule that a text is.
@@ -120,30 +100,6 @@ fn debug(alloc: Global, subject: Subject, input: &[u8]) -> Result<Vec<u8>, Fault
     debug_texts(alloc, &program, texts)
 }
 
-/// The verdicts of a program under the schedule that a text is.
-fn audit_texts(alloc: Global, program: &Program, texts: &[&[u8]]) -> Result<Vec<u8>, Fault<Refusal>>
-    requires { 0 < length texts.now }
-    ensures { Answers (λ out. out.items) result
-        (verdicts_text program.now (map (λ text. text.now) texts.now)) }
-{
-    audit_program(alloc, program, texts[0])
-}
-
-/// The verdicts of a listing under a schedule.
-#[tactic(auto, unfolding(snap_input::specs::Input::parted))]
-fn audit(alloc: Global, subject: Subject, input: &[u8]) -> Result<Vec<u8>, Fault<Refusal>>
-    requires { length input.now ≤ max_input }
-    ensures output { Answers (λ out. out.items) result
-        (parted subject 1 (parts_of input.now) verdicts_text) }
-    ensures counted { (r : Refusal) → checked_parts subject 1 (parts_of input.now) ≡ Err r →
-        result ≡ Err (Refused r) }
-{
-    let parts = parts_for(alloc, subject, 1, input)?;
-    let program = program_for(alloc, subject, parts.as_slice())?;
-    let texts = texts_for(subject, parts.as_slice());
-    audit_texts(alloc, &program, texts)
-}
-
 /// Where the operations of a program under the schedule that a text is took place, or what is
 /// missing.
 fn certify_texts(
@@ -171,43 +127,6 @@ fn certify(alloc: Global, subject: Subject, input: &[u8]) -> Result<Vec<u8>, Fau
     let program = program_for(alloc, subject, parts.as_slice())?;
     let texts = texts_for(subject, parts.as_slice());
     certify_texts(alloc, &program, texts)
-}
-
-/// The reports of a listing under many schedules. Another number of parts is found before they are
-/// collected.
-#[tactic(auto, unfolding(crate::specs::Output::batched))]
-fn batch(alloc: Global, subject: Subject, input: &[u8]) -> Result<Vec<u8>, Fault<Refusal>>
-    requires { length input.now ≤ max_input }
-    ensures output { Answers (λ out. out.items) result (batched subject (parts_of input.now)) }
-    ensures counted { (r : Refusal) → checked_schedules subject (parts_of input.now) ≡ Err r →
-        result ≡ Err (Refused r) }
-{
-    check_schedules(subject, input)?;
-    let parts = split_parts(alloc, input)?;
-    let program = program_for(alloc, subject, parts.as_slice())?;
-    let texts = texts_for(subject, parts.as_slice());
-    batch_program(alloc, &program, texts)
-}
-
-/// The same, if the schedules can be read and run side by side. A fault that is answered need not be
-/// the first.
-#[tactic(auto, unfolding(crate::specs::Output::batched))]
-fn batch_in_threads(
-    rt: &(impl Threads + Sync),
-    alloc: Global,
-    subject: Subject,
-    input: &[u8],
-) -> Result<Vec<u8>, Fault<Refusal>>
-    requires { length input.now ≤ max_input }
-    ensures output { IfOk result (λ out. batched subject (parts_of input.now) ≡ Ok out.items) }
-    ensures counted { (r : Refusal) → checked_schedules subject (parts_of input.now) ≡ Err r →
-        result ≡ Err (Refused r) }
-{
-    check_schedules(subject, input)?;
-    let parts = split_parts(alloc, input)?;
-    let program = program_for(alloc, subject, parts.as_slice())?;
-    let texts = texts_for(subject, parts.as_slice());
-    batch_side_by_side(rt, alloc, &program, texts)
 }
 
 /// What the runs of a listing under many schedules came to, and whether each of them is clean.
@@ -245,6 +164,26 @@ pub fn survey_output(
         return Err(Fault::Refused(Refusal::InputTooLong));
     }
     survey(alloc, subject, input)
+}
+
+/// The program and the schedule that an input asks to run, or why it is refused. Of these
+/// `run_planned` writes what `output` writes for the task `run`, so a caller may let go of the
+/// input in between.
+#[tactic(auto, using(crate::proofs::AtOnce::of_why), unfolding(crate::specs::Output::output_of))]
+pub fn planned_run(
+    alloc: Global,
+    subject: Subject,
+    input: &[u8],
+) -> Result<PlannedRun, Fault<Refusal>>
+    ensures output { Answers (λ run. end_text run.program run.schedule) result
+        (output_of (Run subject) input.now) }
+    ensures at_once { (r : Refusal) → found_at_once (Run subject) input.now ≡ Some r →
+        result ≡ Err (Refused r) }
+{
+    if input.len() > MAX_INPUT {
+        return Err(Fault::Refused(Refusal::InputTooLong));
+    }
+    plan(alloc, subject, input)
 }
 
 /// The whole output for an input, or why there is none, in one thread.

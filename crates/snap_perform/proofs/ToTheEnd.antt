@@ -17,7 +17,7 @@ use Rattle.snap_debug.specs.Marks.{no_marks, next_stop}
 use Rattle.snap_debug.specs.Session.{performance}
 use Rattle.snap_debug_commands.specs.declared.command.Command.TheVariants as command
 use Rattle.snap_input.specs.Schedules.{schedule_for}
-use Rattle.snap_perform.specs.Perform.{end_text, perform_listing, run_listing}
+use Rattle.snap_perform.specs.Perform.{perform_listing}
 
 -- the one command
 pub is_run : commands_of (codes "run\n") ≡ Ok (command.Run ∷ [])
@@ -38,8 +38,12 @@ at_the_end l s =
     let e : 0 + (length s.items - 0) ≡ length s.items = omega arith in
     no_stop (run_over l s) 0 (length s.items - 0) ∙ e
 
+-- the reply to it with its line, and the report of the end
+abbrev pub ended : Source → Schedule → List ℕ
+ended l s = codes "> run\n" ++ position_line (length s.items) (length s.items) ++ end_report l s
+
 -- what it is answered
-run_performance : (l : Source) (s : Schedule) → performance (run_over l s) (command.Run ∷ []) ≡ end_text l s
+run_performance : (l : Source) (s : Schedule) → performance (run_over l s) (command.Run ∷ []) ≡ ended l s
 unfolding end_report
 run_performance l s =
     let n = length s.items in
@@ -47,10 +51,12 @@ run_performance l s =
     ap (λ t. (codes "> run\n" ++ position_line t n ++ []) ++ report_at r t) (at_the_end l s)
     ∙ ap (λ text. text ++ report_at r n) (append-nil (codes "> run\n" ++ position_line n n))
 
-pub to_the_end : (l : Source) (y : List ℕ) → perform_listing l y (codes "run\n") ≡ run_listing l y
-unfolding perform_listing run_listing
+-- no session is needed for it
+pub to_the_end : (l : Source) (y : List ℕ) →
+    perform_listing l y (codes "run\n") ≡ (schedule_for l y >>= λ s. Ok (ended l s))
+unfolding perform_listing
 to_the_end l y = rw is_run (go (schedule_for l y)) where
   go : (read : Result Schedule Refusal) →
-      (read >>= λ s. Ok (performance (run_over l s) (command.Run ∷ []))) ≡ (read >>= λ s. Ok (end_text l s))
+      (read >>= λ s. Ok (performance (run_over l s) (command.Run ∷ []))) ≡ (read >>= λ s. Ok (ended l s))
   go (Ok s) = ap Ok (run_performance l s)
   go (Err e) = refl

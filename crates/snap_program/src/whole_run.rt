@@ -1,14 +1,48 @@
 //! `conduct` and its variants: a whole run of the program, which reads an input from a byte source
 //! and writes its output, and nothing else, to a byte sink.
-ghost use Rattle.std.specs.Prelude.{◌≡◌, false};
+ghost use Rattle.std.specs.Prelude.{◌≡◌, Err, false};
+ghost use Rattle.snap_semantics.specs.Answers.{Answers};
+ghost use Rattle.snap_semantics.specs.declared.fault.Fault.TheVariants.{Refused};
+ghost use Rattle.snap_semantics.specs.declared.refusal.Refusal.{Refusal};
 ghost use Rattle.snap_devices.specs.WholeRun.{ConductsKeeping};
+ghost use Rattle.snap_output.specs.Output.{output_of};
 ghost use Rattle.snap_program.specs.TaskRun.{Conducts, ConductsSurvey, IsOutputOf, RefusesTask};
+ghost use Rattle.snap_tasks.specs.declared.task.Task.TheVariants.{Run};
 
 use snap_devices::{ByteSink, ByteSource, ConductFault, read_all, write_all};
-use snap_output::{output, survey_output};
+use snap_output::{output, planned_run, run_planned, survey_output};
+use snap_semantics::{Fault, Refusal};
 use snap_tasks::{Subject, Task};
 use std::alloc::Global;
 use std::thread::Threads;
+
+/// What is written for the input that is kept, if it is run. Once its program and its schedule are
+/// read, it is let go of.
+fn run_kept(alloc: Global, subject: Subject, kept: &mut Vec<u8>) -> Result<Vec<u8>, Fault<Refusal>>
+    ensures output { Answers (λ out. out.items) result (output_of (Run subject) kept.old.items) }
+    ensures kept { (r : Refusal) → result ≡ Err (Refused r) → kept.new.items ≡ kept.old.items }
+{
+    let run = planned_run(alloc, subject, kept.as_slice())?;
+    // A run needs no text, and no text need be kept of an input that is not refused.
+    *kept = Vec::new(alloc);
+    Ok(run_planned(alloc, run)?)
+}
+
+/// The whole output for the input that is kept. Where it is refused, it is still kept.
+fn kept_output(
+    rt: &(impl Threads + Sync),
+    alloc: Global,
+    task: &Task,
+    kept: &mut Vec<u8>,
+) -> Result<Vec<u8>, Fault<Refusal>>
+    ensures output { Answers (λ out. out.items) result (output_of task.now kept.old.items) }
+    ensures kept { (r : Refusal) → result ≡ Err (Refused r) → kept.new.items ≡ kept.old.items }
+{
+    match *task {
+        Task::Run(subject) => run_kept(alloc, subject, kept),
+        _ => output(rt, alloc, task, kept.as_slice()),
+    }
+}
 
 /// Reads the input, and then writes its whole output and nothing else.
 pub fn conduct<R: ByteSource, W: ByteSink>(
@@ -47,7 +81,7 @@ pub fn conduct_keeping<R: ByteSource, W: ByteSink>(
 {
     let input = read_all(alloc, source)?;
     *kept = input;
-    let text = output(rt, alloc, task, kept.as_slice())?;
+    let text = kept_output(rt, alloc, task, kept)?;
     write_all(sink, text.as_slice())
 }
 

@@ -2,14 +2,15 @@
 -- report again (`LiveRunsAreRunAgain`).
 use Rattle.std.proofs.Common.{◌≡◌, ℕ, ◌≤◌, true, List, [], ◌∷◌, ◌++◌, Ok, codes, length, refl, sym, ap, ◌∙◌}
 use Rattle.snap_words.specs.Kind.{fits}
+use Rattle.snap_semantics.specs.Answers.{◌>>=◌}
 use Rattle.snap_semantics.specs.Report.{position_line}
 use Rattle.snap_semantics.specs.Schedule.{Schedule, schedule_of}
 use Rattle.snap_semantics.specs.Source.{Source}
 use Rattle.snap_semantics.specs.declared.process.Item.{Item}
 use Rattle.snap_runner.specs.End.{end_report}
 use Rattle.snap_input.specs.Schedules.{schedule_for}
-use Rattle.snap_perform.specs.Perform.{end_text, perform_listing, run_listing}
-use Rattle.snap_perform.proofs.ToTheEnd.{to_the_end}
+use Rattle.snap_perform.specs.Perform.{perform_listing}
+use Rattle.snap_perform.proofs.ToTheEnd.{ended, to_the_end}
 use Rattle.snap_input.specs.Parts.{parts_of}
 use Rattle.snap_live_output.specs.LiveOutput.{Setup}
 use Rattle.snap_live_laws.specs.Printed.{before_report, report_in}
@@ -20,13 +21,13 @@ use Rattle.snap_rerun_laws.specs.Rerun.{LiveRunsAreRunAgain, printed_again}
 
 -- what is run of a text that is a schedule
 is_ended : (l : Source) (y : List ℕ) (s : Schedule) → schedule_of y ≡ Ok s → fits l.kind s.shape ≡ true →
-    run_listing l y ≡ Ok (end_text l s)
-unfolding run_listing schedule_for
+    (schedule_for l y >>= λ found. Ok (ended l found)) ≡ Ok (ended l s)
+unfolding schedule_for
 is_ended l y s is fit = rw (is, fit) refl
 
 -- its report is the one that the live run has printed
 reports : (g : Setup) (items : List Item) (text : List ℕ) → IsCut g items text →
-    end_text g.source (played g items) ≡ printed_again (length items) text
+    ended g.source (played g items) ≡ printed_again (length items) text
 unfolding end_report
 reports g items text h =
     ap (λ (report : List ℕ). codes "> run\n" ++ position_line (length items) (length items) ++ report) (sym h.report)

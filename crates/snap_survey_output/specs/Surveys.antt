@@ -1,21 +1,16 @@
 -- `survey_text`: what the runs of one listing over many schedules came to, a line for each and one for all; and
 -- whether they are all clean.
-use Rattle.std.specs.Prelude.{ℕ, Bool, ◌==◌, ◌&&◌, List, [], ◌∷◌, map, Result, Ok, Err}
+use Rattle.std.specs.Prelude.{ℕ, Bool, ◌==◌, ◌&&◌, List, map, Result, Ok}
 use Rattle.std.specs.List.{list_all}
 use Rattle.snap_semantics.specs.declared.refusal.Refusal.{Refusal}
 use Rattle.snap_semantics.specs.Answers.{◌>>=◌}
 use Rattle.snap_semantics.specs.Schedule.{Schedule}
 use Rattle.snap_semantics.specs.Source.{Source}
 use Rattle.snap_runs.specs.Run.{run_over}
-use Rattle.snap_input.specs.Schedules.{schedule_for}
+use Rattle.snap_schedules.specs.Schedules.{schedules_for}
 use Rattle.snap_survey.specs.Survey.{survey_of}
 use Rattle.snap_survey.specs.SurveyText.{surveys_text}
 use Rattle.snap_survey.specs.declared.findings.Survey.{Survey}
-
--- the schedules that texts are, for this listing, or the first reason why one is none
-abbrev pub schedules_for : Source → List (List ℕ) → Result (List Schedule) Refusal
-schedules_for l [] = Ok []
-schedules_for l (text ∷ texts) = schedule_for l text >>= λ s. schedules_for l texts >>= λ ss. Ok (s ∷ ss)
 
 -- what the run of a listing over a schedule came to
 abbrev pub survey_over : Source → Schedule → Survey

@@ -6,9 +6,9 @@ ghost use Rattle.snap_semantics.specs.Answers.{Answers};
 ghost use Rattle.snap_survey.specs.SurveyText.{survey_lines, surveys_text};
 ghost use Rattle.snap_survey_output.specs.Surveys.{are_clean, is_clean, survey_over, survey_text};
 
-use crate::schedules::schedules_for;
 use snap_asm_program::Program;
 use snap_sched::Schedule;
+use snap_schedules::schedules_for;
 use snap_semantics::{Fault, Refusal};
 use snap_survey::{Survey, summary_line, summary_of, survey, survey_line};
 use snap_words::{Bits, Kind, KindTag, Multi, Seq};

@@ -1,15 +1,13 @@
 -- `run` of snap_output (src/outputs.rt): the proof of what its contract says.
--- A listing under a schedule.
-use Rattle.std.proofs.Common.{map, sym}
-use Rattle.snap_output.specs.Output.{run_text}
+-- A listing under a schedule, to its end: what a session answers to the one command `run`.
+use Rattle.std.proofs.Common.{ℕ, List, Result, subst}
+use Rattle.snap_semantics.specs.Answers.{Answers}
+use Rattle.snap_semantics.specs.declared.refusal.Refusal.{Refusal}
 use Rattle.snap_input.specs.Parts.{parts_of}
-use Rattle.snap_input.proofs.Parting.{of_parts}
+use Rattle.snap_output.proofs.Ended.{as_performed}
 use Rattle.snap_output.proofs.outputs.run.Goals as goal
 
 pub returns-clause-output : goal.returns-clause-output
 returns-clause-output c =
-    of_parts (λ out. out.items) c.run_texts.result run_text c.args.subject 1 (parts_of c.args.input.now)
-    (map (λ part. part.now) c.in_ok-parts.parts.items)
-    (map (λ text. text.now) c.texts_for-texts.result.now) c.in_ok-program.program
-    c.in_ok-parts.ensures.parts (rw (sym c.as_slice.ensures.value) c.in_ok-program.ensures)
-    (rw (sym c.as_slice-2.ensures.value) c.texts_for-texts.ensures) c.run_texts.ensures
+    subst (λ (answer : Result (List ℕ) Refusal). Answers (λ out. out.items) c.run.result answer)
+    (as_performed c.args.subject (parts_of c.args.input.now)) c.run.ensures.output

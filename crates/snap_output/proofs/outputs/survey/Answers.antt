@@ -4,7 +4,7 @@ use Rattle.std.proofs.Common.{map, sym}
 use Rattle.snap_input.specs.Parts.{parts_of}
 use Rattle.snap_survey_output.specs.Surveys.{are_clean, survey_text}
 use Rattle.snap_output.specs.Output.{clean_runs, surveyed}
-use Rattle.snap_output.proofs.Schedules.{of_schedules}
+use Rattle.snap_schedules.proofs.Schedules.{of_schedules}
 use Rattle.snap_output.proofs.outputs.survey.Goals as goal
 
 pub returns-clause-output : goal.returns-clause-output

@@ -1,0 +1,28 @@
+-- What is written for the parts of an input whose schedule is run to its end is what a session answers to the one
+-- command `run`.
+use Rattle.std.proofs.Common.{◌≡◌, ℕ, List, Result, Ok, Err, refl, sym}
+use Rattle.snap_semantics.specs.Answers.{◌>>=◌}
+use Rattle.snap_semantics.specs.Source.{Source}
+use Rattle.snap_semantics.specs.declared.refusal.Refusal.{Refusal}
+use Rattle.snap_input.specs.Input.{checked_parts, listing_for, parted, texts_for}
+use Rattle.snap_input.specs.Parts.{part}
+use Rattle.snap_perform.proofs.ToTheEnd.{to_the_end}
+use Rattle.snap_run_output.specs.RunOutput.{ended_text, run_listing}
+use Rattle.snap_output.specs.Output.{run_text}
+use Rattle.snap_subject.specs.declared.subject.Subject.{Subject}
+
+-- over a listing and the text of a schedule
+pub of_listing : (l : Source) (texts : List (List ℕ)) → run_text l texts ≡ ended_text l texts
+unfolding run_listing
+of_listing l texts = to_the_end l (part 0 texts)
+
+-- and so over the parts
+pub as_performed : (s : Subject) (parts : List (List ℕ)) → parted s 1 parts ended_text ≡ parted s 1 parts run_text
+unfolding parted
+as_performed s parts = go (checked_parts s 1 parts) (listing_for s parts) where
+  go : (checked : Result (Unit {0}) Refusal) (found : Result Source Refusal) →
+      (checked >>= λ there. found >>= λ l. ended_text l (texts_for s parts))
+      ≡ (checked >>= λ there. found >>= λ l. run_text l (texts_for s parts))
+  go (Ok there) (Ok l) = sym (of_listing l (texts_for s parts))
+  go (Ok there) (Err e) = refl
+  go (Err e) found = refl

@@ -1,0 +1,11 @@
+//! What is written for a listing whose schedules are run to their ends: by the tasks `run`, `audit`
+//! and `batch`.
+#![tactic(auto)]
+
+mod audit_output;
+mod batch_output;
+mod inputs;
+mod run_output;
+
+pub use inputs::{audit, batch, batch_in_threads, planned_run, run};
+pub use run_output::{PlannedRun, run_planned, run_program};

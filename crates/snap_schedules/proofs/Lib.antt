@@ -1,0 +1,3 @@
+-- The proofs of snap_schedules, by their modules.
+pub mod Schedules
+pub mod SideBySide

@@ -1,0 +1,2 @@
+-- The definitions of snap_schedules, by their modules.
+pub mod Schedules

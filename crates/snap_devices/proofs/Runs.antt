@@ -6,6 +6,9 @@ use Rattle.std.specs.Prelude.{⊤, IfOk, IsErr, IsErrAnd}
 use Rattle.std.specs.Global.{Global}
 use Rattle.std.specs.Io.KnownBytes.{Appends}
 use Rattle.std.proofs.KnownBytes.{Appends-nil}
+use Rattle.snap_semantics.specs.declared.fault.Fault.{Fault}
+use Rattle.snap_semantics.specs.declared.fault.Fault.TheVariants as inner
+use Rattle.snap_semantics.specs.declared.refusal.Refusal.{Refusal}
 use Rattle.snap_live_output.specs.declared.fault.LiveRunFault.{LiveRunFault}
 use Rattle.snap_live_output.specs.declared.fault.LiveRunFault.TheVariants as run
 use Rattle.snap_live_output.specs.LiveAnswer.{AnswersLive}

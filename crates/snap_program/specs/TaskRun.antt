@@ -1,5 +1,5 @@
 -- A whole run of a task, from a byte source to a byte sink: its output, and why there is none.
-use Rattle.std.specs.Prelude.{◌≡◌, ℕ, Bool, List, Option, Result, Ok, Err, IfOk, ⊥}
+use Rattle.std.specs.Prelude.{◌≡◌, ℕ, Bool, List, Option, Result, Ok, Err, IfOk}
 use Rattle.snap_devices.specs.WholeRun.{ConductsBy, ConductsKeeping, done_of}
 use Rattle.snap_devices.specs.declared.fault.ConductFault.{ConductFault}
 use Rattle.snap_devices.specs.declared.fault.ConductFault.TheVariants as fault

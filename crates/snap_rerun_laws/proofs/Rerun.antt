@@ -1,6 +1,6 @@
 -- The schedule that is printed of a live run, given to the task `run` with the same listing, prints the live run's
 -- report again (`LiveRunsAreRunAgain`).
-use Rattle.std.proofs.Common.{◌≡◌, ℕ, ◌≤◌, true, List, [], ◌∷◌, ◌++◌, Ok, codes, length, refl, sym, ap, ◌∙◌}
+use Rattle.std.proofs.Common.{◌≡◌, ℕ, true, List, [], ◌∷◌, ◌++◌, Ok, codes, length, refl, sym, ap, ◌∙◌}
 use Rattle.snap_words.specs.Kind.{fits}
 use Rattle.snap_semantics.specs.Answers.{◌>>=◌}
 use Rattle.snap_semantics.specs.Report.{position_line}
@@ -9,11 +9,10 @@ use Rattle.snap_semantics.specs.Source.{Source}
 use Rattle.snap_semantics.specs.declared.process.Item.{Item}
 use Rattle.snap_runner.specs.End.{end_report}
 use Rattle.snap_input.specs.Schedules.{schedule_for}
-use Rattle.snap_perform.specs.Perform.{perform_listing}
 use Rattle.snap_perform.proofs.ToTheEnd.{ended, to_the_end}
 use Rattle.snap_input.specs.Parts.{parts_of}
 use Rattle.snap_live_output.specs.LiveOutput.{Setup}
-use Rattle.snap_live_laws.specs.Printed.{before_report, report_in}
+use Rattle.snap_live_laws.specs.Printed.{before_report}
 use Rattle.snap_live_laws.specs.RunAgain.{IsCut, LiveRunsAreCut, LiveRunsAreReadAgain, played}
 use Rattle.snap_live_laws.proofs.Inputs.{input_read}
 use Rattle.snap_live_laws.proofs.Schedules.{alone}

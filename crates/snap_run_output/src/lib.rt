@@ -8,4 +8,4 @@ mod inputs;
 mod run_output;
 
 pub use inputs::{audit, batch, batch_in_threads, planned_run, run};
-pub use run_output::{PlannedRun, run_planned, run_program};
+pub use run_output::{PlannedRun, run_planned};

@@ -1,4 +1,4 @@
-//! `run_program`: what is written for a listing under a schedule that is run to its end, without a
+//! `run_planned`: what is written for a listing under a schedule that is run to its end, without a
 //! session. `PlannedRun` has what such a run needs, and nothing of the texts that it was read from.
 ghost use Rattle.std.specs.Prelude.{◌≡◌, IfOk};
 ghost use Rattle.snap_semantics.specs.Answers.{Answers};
@@ -81,17 +81,4 @@ pub fn run_planned(alloc: Global, run: PlannedRun) -> Result<Vec<u8>, AllocError
 {
     let PlannedRun { program, schedule } = run;
     run_schedule(alloc, &program, schedule)
-}
-
-/// What the one command `run` is answered on a program under a schedule, and the report of the end.
-#[tactic(auto, unfolding(crate::specs::RunOutput::run_listing))]
-pub fn run_program(
-    alloc: Global,
-    program: &Program,
-    schedule: &[u8],
-) -> Result<Vec<u8>, Fault<Refusal>>
-    ensures { Answers (λ out. out.items) result (run_listing program.now schedule.now) }
-{
-    let schedule = read_schedule(alloc, program, schedule)?;
-    Ok(run_schedule(alloc, program, schedule)?)
 }

@@ -145,6 +145,30 @@ digit_alone bytes behind rest digit end value is is_end feed e is_value =
     (sym (ap (λ (xs : List ℕ). drop 1 xs) is)) in
     number_alone bytes behind rest value number (is_end ∙ ap (λ (b : ℕ). b ∷ rest) feed)
 
+-- two digits before a line feed, the first of them no zero
+two_before : (rest : List ℕ) (tens ones value : ℕ) → is_digit tens ≡ true → is_digit ones ≡ true → 48 < tens →
+    value ≡ (tens - 48) * 10 + (ones - 48) →
+    BeginsWithLine (tens ∷ ones ∷ 10 ∷ rest) (Number value ∷ []) rest
+two_before rest tens ones value e f above is =
+    let bytes = tens ∷ ones ∷ 10 ∷ rest in
+    let high = (digit_within tens e).1 in
+    let first = digit_first tens (ones ∷ 10 ∷ rest) (tens - 48) e refl in
+    let both =
+    one_more bytes 1 (tens - 48) 0 (ones - 48) first (omega arith) f (omega (arith, above)) (omega (arith, high)) refl in
+    let number =
+    number_begins bytes (10 ∷ rest) 2 value (subst (λ (k : ℕ). AreDigits bytes 2 k) (sym is) both) refl in
+    number_alone bytes (10 ∷ rest) rest value number refl
+
+pub two_alone : (bytes behind after rest : List ℕ) (tens ones end value : ℕ) → bytes ≡ tens ∷ behind →
+    behind ≡ ones ∷ after → after ≡ end ∷ rest → end ≡ 10 → is_digit tens ≡ true → is_digit ones ≡ true →
+    48 < tens → value ≡ (tens - 48) * 10 + (ones - 48) → BeginsWithLine bytes (Number value ∷ []) rest
+two_alone bytes behind after rest tens ones end value is is_behind is_after feed e f above is_value =
+    let all : bytes ≡ tens ∷ ones ∷ 10 ∷ rest =
+    is ∙ ap (λ (xs : List ℕ). tens ∷ xs) (is_behind ∙ ap (λ (xs : List ℕ). ones ∷ xs)
+    (is_after ∙ ap (λ (b : ℕ). b ∷ rest) feed)) in
+    subst (λ (xs : List ℕ). BeginsWithLine xs (Number value ∷ []) rest) (sym all)
+    (two_before rest tens ones value e f above is_value)
+
 -- digits, a star, and digits before a line feed
 pub number_starred : (bytes starred behind after rest : List ℕ) (i k : ℕ) → BeginsWithNumber bytes i starred →
     starred ≡ 42 ∷ behind → BeginsWithNumber behind k after → after ≡ 10 ∷ rest →

@@ -46,6 +46,25 @@ fn digit_line(bytes: &[u8]) -> Option<(u64, &[u8])>
     None
 }
 
+/// The number that the first line is, where it is two digits, the first of them no zero, and its
+/// line feed, and the lines behind it.
+#[inline(always)]
+fn two_digits_line(bytes: &[u8]) -> Option<(u64, &[u8])>
+    ensures { IfSome result (λ x. BeginsWithLine bytes.now (number_tokens x.0 None) x.1.now) }
+{
+    let (tens, behind) = bytes.split_first()?;
+    let (ones, behind) = behind.split_first()?;
+    let (end, rest) = behind.split_first()?;
+    if *end != b'\n' || *tens == b'0' {
+        return None;
+    }
+    if is_digit(*tens) && is_digit(*ones) {
+        let number = u64::from(*tens - b'0') * 10 + u64::from(*ones - b'0');
+        return Some((number, rest));
+    }
+    None
+}
+
 /// The numbers that the first line spells as `I` or `I*K`, where it has its line feed, and the
 /// lines behind it.
 pub fn numbers_front(bytes: &[u8]) -> Option<(u64, Option<u64>, &[u8])>
@@ -54,6 +73,9 @@ pub fn numbers_front(bytes: &[u8]) -> Option<(u64, Option<u64>, &[u8])>
     // Most lines by far.
     if let Some((digit, rest)) = digit_line(bytes) {
         return Some((digit, None, rest));
+    }
+    if let Some((number, rest)) = two_digits_line(bytes) {
+        return Some((number, None, rest));
     }
     let (first, behind) = number_front(bytes)?;
     let (symbol, rest) = behind.split_first()?;

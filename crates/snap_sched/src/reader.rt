@@ -60,6 +60,7 @@ fn line_form(n: u64, left: u64, line: &TokenLine<'_>) -> Result<ItemForm, Schedu
 }
 
 /// Adds the items of a form.
+#[inline(always)]
 fn push_form(items: &mut Items, form: ItemForm) -> Result<(), AllocError>
     requires process { form_process (view_form form) < 2 ^ 32 }
     requires few { length items.old + form_count (view_form form) < 2 ^ 32 }

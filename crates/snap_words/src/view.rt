@@ -76,7 +76,6 @@ impl View {
     }
 
     /// An equal view.
-    #[inline(always)]
     pub fn copy(&self, alloc: Global) -> Result<View, AllocError>
         ensures { IfOk result (λ v. v ≡ self.now) }
     {

@@ -191,3 +191,25 @@ number_starred bytes starred behind after rest i k h star g is =
           (digits_lexeme h.digits h.all) h.spells (sign_before symbol.Star g.digits (Number k ∷ []) second);
       shorter = omega (arith, size);
     }
+
+-- a digit, a star, and a digit before a line feed
+starred_before : (rest : List ℕ) (first second i k : ℕ) → is_digit first ≡ true → is_digit second ≡ true →
+    i ≡ first - 48 → k ≡ second - 48 →
+    BeginsWithLine (first ∷ 42 ∷ second ∷ 10 ∷ rest) (Number i ∷ Sign symbol.Star ∷ Number k ∷ []) rest
+starred_before rest first second i k e f is is_k =
+    let behind = second ∷ 10 ∷ rest in
+    let one = number_begins (first ∷ 42 ∷ behind) (42 ∷ behind) 1 i (digit_first first (42 ∷ behind) i e is) refl in
+    let other = number_begins behind (10 ∷ rest) 1 k (digit_first second (10 ∷ rest) k f is_k) refl in
+    number_starred (first ∷ 42 ∷ behind) (42 ∷ behind) behind (10 ∷ rest) rest i k one refl other refl
+
+pub starred_alone : (bytes behind after last rest : List ℕ) (first star second end i k : ℕ) → bytes ≡ first ∷ behind →
+    behind ≡ star ∷ after → after ≡ second ∷ last → last ≡ end ∷ rest → star ≡ 42 → end ≡ 10 →
+    is_digit first ≡ true → is_digit second ≡ true → i ≡ first - 48 → k ≡ second - 48 →
+    BeginsWithLine bytes (Number i ∷ Sign symbol.Star ∷ Number k ∷ []) rest
+starred_alone bytes behind after last rest first star second end i k is is_behind is_after is_last at feed e f is_i is_k =
+    let all : bytes ≡ first ∷ 42 ∷ second ∷ 10 ∷ rest =
+    is ∙ ap (λ (xs : List ℕ). first ∷ xs) (is_behind ∙ ap (λ (b : ℕ). b ∷ after) at
+    ∙ ap (λ (xs : List ℕ). 42 ∷ xs) (is_after ∙ ap (λ (xs : List ℕ). second ∷ xs)
+    (is_last ∙ ap (λ (b : ℕ). b ∷ rest) feed))) in
+    subst (λ (xs : List ℕ). BeginsWithLine xs (Number i ∷ Sign symbol.Star ∷ Number k ∷ []) rest) (sym all)
+    (starred_before rest first second i k e f is_i is_k)

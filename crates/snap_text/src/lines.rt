@@ -94,6 +94,7 @@ impl<'a> TextLines<'a> {
 
     /// Takes the next line, where it is `I` or `I*K` and its line feed, with no space or comment
     /// and numbers of nine digits at most; else leaves all lines.
+    #[inline(always)]
     pub fn next_numbers(&mut self) -> Option<NumberLine>
         ensures { IsNextNumbers result self.old self.new }
     {

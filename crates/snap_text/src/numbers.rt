@@ -1,6 +1,6 @@
 //! Lines that are a number, or a number, `*` and a number, with nothing between them: most lines of
 //! a schedule.
-ghost use Rattle.std.specs.Prelude.{◌≡◌, None, IfSome};
+ghost use Rattle.std.specs.Prelude.{◌≡◌, None, Some, IfSome};
 ghost use Rattle.snap_text.specs.Numbers.{BeginsWithNumber, BeginsWithLine, number_tokens};
 
 use crate::lexer::is_digit;
@@ -65,8 +65,28 @@ fn two_digits_line(bytes: &[u8]) -> Option<(u64, &[u8])>
     None
 }
 
+/// The numbers that the first line is, where it is a digit, `*`, a digit and its line feed, and the
+/// lines behind it.
+#[inline(always)]
+fn starred_digits_line(bytes: &[u8]) -> Option<(u64, u64, &[u8])>
+    ensures { IfSome result (λ x. BeginsWithLine bytes.now (number_tokens x.0 (Some x.1)) x.2.now) }
+{
+    let (first, behind) = bytes.split_first()?;
+    let (star, behind) = behind.split_first()?;
+    let (second, behind) = behind.split_first()?;
+    let (end, rest) = behind.split_first()?;
+    if *star != b'*' || *end != b'\n' {
+        return None;
+    }
+    if is_digit(*first) && is_digit(*second) {
+        return Some((u64::from(*first - b'0'), u64::from(*second - b'0'), rest));
+    }
+    None
+}
+
 /// The numbers that the first line spells as `I` or `I*K`, where it has its line feed, and the
 /// lines behind it.
+#[inline(always)]
 pub fn numbers_front(bytes: &[u8]) -> Option<(u64, Option<u64>, &[u8])>
     ensures { IfSome result (λ x. BeginsWithLine bytes.now (number_tokens x.0 x.1) x.2.now) }
 {
@@ -76,6 +96,9 @@ pub fn numbers_front(bytes: &[u8]) -> Option<(u64, Option<u64>, &[u8])>
     }
     if let Some((number, rest)) = two_digits_line(bytes) {
         return Some((number, None, rest));
+    }
+    if let Some((first, second, rest)) = starred_digits_line(bytes) {
+        return Some((first, Some(second), rest));
     }
     let (first, behind) = number_front(bytes)?;
     let (symbol, rest) = behind.split_first()?;

@@ -6,34 +6,17 @@ ghost use Rattle.snap_semantics.specs.declared.refusal.Refusal.TheVariants as re
 ghost use Rattle.snap_debug_commands.specs.Commands.{commands_of};
 ghost use Rattle.snap_input.specs.Input.{parted};
 ghost use Rattle.snap_input.specs.Parts.{parts_of};
-ghost use Rattle.snap_input.specs.Schedules.{schedule_for};
 ghost use Rattle.snap_subject.specs.declared.subject.Subject.TheVariants.{FirstPart};
 ghost use Rattle.snap_hunt_output.specs.Check.{failure_in_input, failure_in_texts, failure_under};
 
 use snap_asm_program::Program;
 use snap_debug_commands::{Command, read_commands};
 use snap_failure::{Failure, Wanted, failure_over};
-use snap_input::{parts_for, program_for, schedule_for, texts_for};
-use snap_sched::Schedule;
+use snap_input::{parts_for, program_for, texts_for};
+use snap_schedules::read_schedule;
 use snap_semantics::{Fault, Refusal};
 use snap_subject::Subject;
-use snap_words::{Bits, Kind, KindTag, Multi, Seq};
 use std::alloc::Global;
-
-/// Reads a schedule for a program.
-fn schedule_of_kind(
-    alloc: Global,
-    program: &Program,
-    text: &[u8],
-) -> Result<Schedule, Fault<Refusal>>
-    ensures { Answers (λ s. s) result (schedule_for program.now text.now) }
-{
-    match program.kind() {
-        KindTag::Seq => schedule_for::<Seq>(alloc, program, text),
-        KindTag::Bits => schedule_for::<Bits>(alloc, program, text),
-        KindTag::Multi => schedule_for::<Multi>(alloc, program, text),
-    }
-}
 
 /// Reads commands.
 fn commands_in(alloc: Global, text: &[u8]) -> Result<Vec<Command>, Fault<Refusal>>
@@ -56,7 +39,7 @@ fn failure_under(
     ensures { Answers (λ f. f) result
         (failure_under wanted.now program.now schedule.now commands.now) }
 {
-    let schedule = schedule_of_kind(alloc, program, schedule)?;
+    let schedule = read_schedule(alloc, program, schedule)?;
     let _commands = commands_in(alloc, commands)?;
     Ok(failure_over(alloc, program, &schedule, wanted)?)
 }

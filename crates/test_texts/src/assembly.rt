@@ -109,7 +109,7 @@ fn check_program(rt: &impl Abort, program: &Program) {
 /// Whether a name has this number among all names, and this sort and place among the names of that
 /// sort.
 fn is_name(program: &Program, index: usize, name: Name, sort: Sort, place: usize) -> bool {
-    match program.names().get_index(index) {
+    match program.names().get(index) {
         Some((found, found_sort)) => {
             *found == name && *found_sort == sort && program.place(name) == Some((sort, place))
         }

@@ -4,7 +4,9 @@
 
 mod order;
 mod program;
+mod task;
 mod text;
 
 pub use program::certify_program;
+pub use task::certify;
 pub use text::certification_text;

@@ -33,13 +33,13 @@ use Rattle.snap_output.specs.Headline.{PrintsTheRun, ListsBackAsSource, AsksFor,
 use Rattle.snap_output.specs.Headline.{RunsWhatIsAsked, WritesTheRun, SnapshotListingsAreSnapshots, texts_in}
 use Rattle.snap_shipped.specs.Shipped.{shipped}
 use Rattle.snap_input.specs.Input.{checked_parts, listing_for, parted, texts_for}
-use Rattle.snap_output.specs.Output.{debug_text, of_task, output_of, run_text}
+use Rattle.snap_output.specs.Output.{of_task, output_of, run_text}
 use Rattle.snap_run_output.specs.ScheduleOutput.{audit_listing, batch_text, batched, verdicts_text}
 use Rattle.snap_schedules.specs.Schedules.{checked_schedules, schedules_for}
 use Rattle.snap_input.specs.Parts.{part, parts_of, max_input}
 use Rattle.snap_perform.proofs.ToTheEnd.{is_run}
 use Rattle.snap_input.specs.Schedules.{fitting, schedule_for}
-use Rattle.snap_perform.specs.Perform.{perform_listing, perform_of}
+use Rattle.snap_perform.specs.Perform.{debug_text, perform_listing, perform_of}
 use Rattle.snap_subject.specs.declared.subject.Subject.{Subject}
 use Rattle.snap_tasks.specs.declared.task.Task.{Task}
 use Rattle.snap_tasks.specs.declared.task.Task.TheVariants as task

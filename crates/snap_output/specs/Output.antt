@@ -9,13 +9,12 @@ use Rattle.snap_semantics.specs.Source.{Source}
 use Rattle.snap_certify_output.specs.Output.{certificates_text}
 use Rattle.snap_lint_text.specs.Check.{check_of}
 use Rattle.snap_lint_text.specs.Lint.{lint_of}
-use Rattle.snap_survey_output.specs.Surveys.{are_clean, survey_text}
+use Rattle.snap_survey_output.specs.Surveys.{clean_runs, surveyed}
 use Rattle.snap_trace_output.specs.Traces.{traces_text}
 use Rattle.snap_input.specs.Input.{parted}
 use Rattle.snap_input.specs.Parts.{part, parts_of, max_input}
-use Rattle.snap_schedules.specs.Schedules.{over_schedules}
 use Rattle.snap_run_output.specs.ScheduleOutput.{batched, verdicts_text}
-use Rattle.snap_perform.specs.Perform.{perform_listing}
+use Rattle.snap_perform.specs.Perform.{debug_text, perform_listing}
 use Rattle.snap_subject.specs.declared.subject.Subject.{Subject}
 use Rattle.snap_tasks.specs.declared.task.Task.{Task}
 use Rattle.snap_tasks.specs.declared.task.Task.TheVariants as task
@@ -23,18 +22,6 @@ use Rattle.snap_tasks.specs.declared.task.Task.TheVariants as task
 -- a schedule, with the one command `run`
 abbrev pub run_text : Source → List (List ℕ) → Result (List ℕ) Refusal
 run_text l texts = perform_listing l (part 0 texts) (codes "run\n")
-
--- a schedule and commands
-abbrev pub debug_text : Source → List (List ℕ) → Result (List ℕ) Refusal
-debug_text l texts = perform_listing l (part 0 texts) (part 1 texts)
-
--- what the run of each schedule came to
-unfoldable pub surveyed : Subject → List (List ℕ) → Result (List ℕ) Refusal
-surveyed s parts = over_schedules s parts survey_text
-
--- whether the run of each schedule is clean
-unfoldable pub clean_runs : Subject → List (List ℕ) → Result Bool Refusal
-clean_runs s parts = over_schedules s parts are_clean
 
 abbrev pub of_task : Task → List ℕ → Result (List ℕ) Refusal
 of_task task.Check input = check_of input

@@ -1,32 +1,24 @@
 //! `output`: what the program writes for an input, for each task, or why there is no output.
-ghost use Rattle.std.specs.Prelude.{◌≡◌, ◌≤◌, ◌<◌, Err, Some, length, map};
+ghost use Rattle.std.specs.Prelude.{◌≡◌, ◌≤◌, Err, Some, length};
 ghost use Rattle.snap_semantics.specs.Answers.{Answers};
 ghost use Rattle.snap_semantics.specs.declared.fault.Fault.TheVariants.{Refused};
 ghost use Rattle.snap_semantics.specs.declared.refusal.Refusal.{Refusal};
-ghost use Rattle.snap_input.specs.Input.{checked_parts, parted, texts_for};
+ghost use Rattle.snap_input.specs.Input.{checked_parts, parted};
 ghost use Rattle.snap_input.specs.Parts.{max_input, parts_of};
-ghost use Rattle.snap_schedules.specs.Schedules.{checked_schedules};
 ghost use Rattle.snap_run_output.specs.RunOutput.{end_text};
 ghost use Rattle.snap_output.specs.AtOnce.{found_at_once};
-ghost use Rattle.snap_certify_output.specs.Output.{certificates_text};
-ghost use Rattle.snap_output.specs.Output.{clean_of, clean_runs, debug_text, surveyed};
-ghost use Rattle.snap_output.specs.Output.{output_of, run_text};
+ghost use Rattle.snap_output.specs.Output.{clean_of, output_of, run_text};
 ghost use Rattle.snap_tasks.specs.declared.task.Task.TheVariants.{Run, Survey};
-ghost use Rattle.snap_trace_output.specs.Traces.{traces_text};
 
-use snap_asm_program::Program;
-use snap_certify_output::certify_program;
-use snap_input::{
-    MAX_INPUT, assemble, list, parts_for, program_for, split_parts, texts_for, upgrade,
-};
+use snap_certify_output::certify;
+use snap_input::{MAX_INPUT, assemble, list, upgrade};
 use snap_lint_text::{check_of, lint_of};
-use snap_perform::perform_program;
+use snap_perform::debug;
 use snap_run_output::{PlannedRun, audit, batch, batch_in_threads};
-use snap_schedules::check_schedules;
 use snap_semantics::{Fault, Refusal};
-use snap_survey_output::{SurveyOutput, survey_runs};
+use snap_survey_output::{SurveyOutput, survey};
 use snap_tasks::{Subject, Task};
-use snap_trace_output::trace_program;
+use snap_trace_output::trace;
 use std::alloc::Global;
 use std::thread::Threads;
 
@@ -50,100 +42,6 @@ fn plan(alloc: Global, subject: Subject, input: &[u8]) -> Result<PlannedRun, Fau
         result ≡ Err (Refused r) }
 {
     snap_run_output::planned_run(alloc, subject, input)
-}
-
-/// What each item of a program's run did under the schedule that a text is.
-fn trace_texts(alloc: Global, program: &Program, texts: &[&[u8]]) -> Result<Vec<u8>, Fault<Refusal>>
-    requires { 0 < length texts.now }
-    ensures { Answers (λ out. out.items) result
-        (traces_text program.now (map (λ text. text.now) texts.now)) }
-{
-    trace_program(alloc, program, texts[0])
-}
-
-/// What each item of a listing's run under a schedule did.
-#[tactic(auto, unfolding(snap_input::specs::Input::parted))]
-fn trace(alloc: Global, subject: Subject, input: &[u8]) -> Result<Vec<u8>, Fault<Refusal>>
-    requires { length input.now ≤ 16777216 }
-    ensures output { Answers (λ out. out.items) result
-        (parted subject 1 (parts_of input.now) traces_text) }
-    ensures counted { (r : Refusal) → checked_parts subject 1 (parts_of input.now) ≡ Err r →
-        result ≡ Err (Refused r) }
-{
-    let parts = parts_for(alloc, subject, 1, input)?;
-    let program = program_for(alloc, subject, parts.as_slice())?;
-    let texts = texts_for(subject, parts.as_slice());
-    trace_texts(alloc, &program, texts)
-}
-
-/// A program under the schedule that a text is, as the commands of another ask for it.
-fn debug_texts(alloc: Global, program: &Program, texts: &[&[u8]]) -> Result<Vec<u8>, Fault<Refusal>>
-    requires { 1 < length texts.now }
-    ensures { Answers (λ out. out.items) result
-        (debug_text program.now (map (λ text. text.now) texts.now)) }
-{
-    perform_program(alloc, program, texts[0], texts[1])
-}
-
-/// A listing under a schedule, as commands ask for it.
-#[tactic(auto, unfolding(snap_input::specs::Input::parted))]
-fn debug(alloc: Global, subject: Subject, input: &[u8]) -> Result<Vec<u8>, Fault<Refusal>>
-    requires { length input.now ≤ max_input }
-    ensures output { Answers (λ out. out.items) result
-        (parted subject 2 (parts_of input.now) debug_text) }
-    ensures counted { (r : Refusal) → checked_parts subject 2 (parts_of input.now) ≡ Err r →
-        result ≡ Err (Refused r) }
-{
-    let parts = parts_for(alloc, subject, 2, input)?;
-    let program = program_for(alloc, subject, parts.as_slice())?;
-    let texts = texts_for(subject, parts.as_slice());
-    debug_texts(alloc, &program, texts)
-}
-
-/// Where the operations of a program under the schedule that a text is took place, or what is
-/// missing.
-fn certify_texts(
-    alloc: Global,
-    program: &Program,
-    texts: &[&[u8]],
-) -> Result<Vec<u8>, Fault<Refusal>>
-    requires { 0 < length texts.now }
-    ensures { Answers (λ out. out.items) result
-        (certificates_text program.now (map (λ text. text.now) texts.now)) }
-{
-    certify_program(alloc, program, texts[0])
-}
-
-/// The certification of a listing under a schedule.
-#[tactic(auto, unfolding(snap_input::specs::Input::parted))]
-fn certify(alloc: Global, subject: Subject, input: &[u8]) -> Result<Vec<u8>, Fault<Refusal>>
-    requires { length input.now ≤ max_input }
-    ensures output { Answers (λ out. out.items) result
-        (parted subject 1 (parts_of input.now) certificates_text) }
-    ensures counted { (r : Refusal) → checked_parts subject 1 (parts_of input.now) ≡ Err r →
-        result ≡ Err (Refused r) }
-{
-    let parts = parts_for(alloc, subject, 1, input)?;
-    let program = program_for(alloc, subject, parts.as_slice())?;
-    let texts = texts_for(subject, parts.as_slice());
-    certify_texts(alloc, &program, texts)
-}
-
-/// What the runs of a listing under many schedules came to, and whether each of them is clean.
-#[tactic(auto, unfolding(crate::specs::Output::surveyed, crate::specs::Output::clean_runs))]
-fn survey(alloc: Global, subject: Subject, input: &[u8]) -> Result<SurveyOutput, Fault<Refusal>>
-    requires { length input.now ≤ max_input }
-    ensures output { Answers (λ out. out.text.items) result
-        (surveyed subject (parts_of input.now)) }
-    ensures clean { Answers (λ out. out.clean) result (clean_runs subject (parts_of input.now)) }
-    ensures counted { (r : Refusal) → checked_schedules subject (parts_of input.now) ≡ Err r →
-        result ≡ Err (Refused r) }
-{
-    check_schedules(subject, input)?;
-    let parts = split_parts(alloc, input)?;
-    let program = program_for(alloc, subject, parts.as_slice())?;
-    let texts = texts_for(subject, parts.as_slice());
-    survey_runs(alloc, &program, texts)
 }
 
 /// What is written for an input that is surveyed, and whether each of its runs is clean; or why

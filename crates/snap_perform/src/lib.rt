@@ -2,5 +2,7 @@
 #![tactic(auto)]
 
 mod debug_output;
+mod task;
 
 pub use debug_output::{perform, perform_program};
+pub use task::debug;

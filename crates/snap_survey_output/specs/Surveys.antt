@@ -7,7 +7,8 @@ use Rattle.snap_semantics.specs.Answers.{◌>>=◌}
 use Rattle.snap_semantics.specs.Schedule.{Schedule}
 use Rattle.snap_semantics.specs.Source.{Source}
 use Rattle.snap_runs.specs.Run.{run_over}
-use Rattle.snap_schedules.specs.Schedules.{schedules_for}
+use Rattle.snap_schedules.specs.Schedules.{over_schedules, schedules_for}
+use Rattle.snap_subject.specs.declared.subject.Subject.{Subject}
 use Rattle.snap_survey.specs.Survey.{survey_of}
 use Rattle.snap_survey.specs.SurveyText.{surveys_text}
 use Rattle.snap_survey.specs.declared.findings.Survey.{Survey}
@@ -31,3 +32,11 @@ unfoldable pub are_clean : Source → List (List ℕ) → Result Bool Refusal
 are_clean l texts = do
   ss ← schedules_for l texts
   Ok (list_all is_clean (map (survey_over l) ss))
+
+-- the parts of an input: what the run of each schedule came to
+unfoldable pub surveyed : Subject → List (List ℕ) → Result (List ℕ) Refusal
+surveyed s parts = over_schedules s parts survey_text
+
+-- the same: whether the run of each schedule is clean
+unfoldable pub clean_runs : Subject → List (List ℕ) → Result Bool Refusal
+clean_runs s parts = over_schedules s parts are_clean

@@ -2,5 +2,7 @@
 #![tactic(auto)]
 
 mod survey_output;
+mod task;
 
 pub use survey_output::{SurveyOutput, survey_program, survey_runs};
+pub use task::survey;

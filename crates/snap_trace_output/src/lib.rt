@@ -3,5 +3,7 @@
 #![tactic(auto)]
 
 mod program;
+mod task;
 
 pub use program::trace_program;
+pub use task::trace;

@@ -1,11 +1,10 @@
--- `survey` of snap_output (src/outputs.rt): the proof of what its contract says.
+-- `survey` of snap_survey_output (src/task.rt): the proof of what its contract says.
 -- What the runs of a listing under many schedules came to, and whether each of them is clean.
 use Rattle.std.proofs.Common.{map, sym}
 use Rattle.snap_input.specs.Parts.{parts_of}
-use Rattle.snap_survey_output.specs.Surveys.{are_clean, survey_text}
-use Rattle.snap_output.specs.Output.{clean_runs, surveyed}
+use Rattle.snap_survey_output.specs.Surveys.{are_clean, clean_runs, survey_text, surveyed}
 use Rattle.snap_schedules.proofs.Schedules.{of_schedules}
-use Rattle.snap_output.proofs.outputs.survey.Goals as goal
+use Rattle.snap_survey_output.proofs.task.survey.Goals as goal
 
 pub returns-clause-output : goal.returns-clause-output
 unfolding surveyed

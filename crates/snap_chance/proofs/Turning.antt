@@ -18,7 +18,7 @@ use Rattle.snap_chance.specs.Chance.{turns_from}
 use Rattle.snap_chance.specs.Draws.{draws}
 use Rattle.snap_chance.specs.Plan.{IsPlan, Plan}
 use Rattle.snap_chance.specs.Turns.{asked_items, burst_of, burst_turn, call_items, coin_turn, interrupted_turn}
-use Rattle.snap_chance.specs.Turns.{process_of, round_process, round_scan, round_turn, round_update, scanned_turn}
+use Rattle.snap_chance.specs.Turns.{process_of, round_scan, round_turn, round_update, scanned_turn}
 use Rattle.snap_chance.specs.Turns.{scanning_turn, turn_at, turn_items, turn_of, updating_turn, whole_update}
 use Rattle.snap_chance.specs.declared.draws.Draws.{Draws}
 use Rattle.snap_chance.specs.declared.plan.Pace.{Pace}

@@ -1,10 +1,9 @@
 -- `StepsAreOfOperations`: a failure of too many steps is that of an operation of the run, and where an operation
 -- takes too many, one is found.
-use Rattle.std.proofs.Common.{◌≡◌, inl, inr, ℕ, zero, suc, ◌+◌, ◌-◌, ◌<◌, ◌≤◌, Bool, true, false, ◌&&◌, List, length}
+use Rattle.std.proofs.Common.{◌≡◌, inl, inr, ℕ, zero, suc, ◌<◌, ◌≤◌, Bool, true, false, ◌&&◌, length}
 use Rattle.std.proofs.Common.{Option, Some, None, nat_eq, nat_lt, if◌then◌else◌, refl, sym, ap, subst, ◌∙◌, arith}
 use Rattle.std.proofs.Math.Nat.{eq-or-lt_of_le}
 use Rattle.snap_words.specs.Shape.{IsOneOf}
-use Rattle.snap_semantics.specs.declared.process.Activity.{Activity}
 use Rattle.snap_semantics.specs.declared.process.Item.{Item}
 use Rattle.snap_semantics.specs.declared.process.Item.TheVariants.{Step, Call, Crash}
 use Rattle.snap_semantics.specs.declared.process.Op.{Op}
@@ -28,7 +27,6 @@ use Rattle.snap_runs.proofs.Transitions.{Transition, skipped, calls, goes, answe
 use Rattle.snap_survey.specs.Survey.{asks_update, first_found}
 use Rattle.snap_failure.specs.declared.failures.Failure.{Failure}
 use Rattle.snap_failure.specs.declared.failures.Failure.TheVariants as failure
-use Rattle.snap_failure.specs.declared.failures.OwnSteps.{OwnSteps}
 use Rattle.snap_failure.specs.Failing.{many_steps, overrun, overrun_at, steps_since_call}
 use Rattle.snap_failure.specs.Operations.{IsOfOperation, IsUnderWay, StepsAreOfOperations, TakesMore}
 use Rattle.snap_failure.proofs.Watching.{last_call_few}

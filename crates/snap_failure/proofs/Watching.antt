@@ -1,7 +1,7 @@
 -- `OwnSteps`: the steps that each process has taken since its last call, for failures of too many, after one item
 -- more.
 use Rattle.std.proofs.Common.{◌≡◌, ℕ, zero, suc, ◌+◌, ◌-◌, ◌^◌, ◌<◌, ◌≤◌, Bool, true, false, ◌&&◌, List, [], ◌∷◌}
-use Rattle.std.proofs.Common.{◌++◌, length, take, get_or, Option, None, if◌then◌else◌, nat_eq}
+use Rattle.std.proofs.Common.{length, get_or, Option, None, if◌then◌else◌, nat_eq}
 use Rattle.std.proofs.Common.{nat_lt, refl, sym, ap, subst, ◌∙◌, arith}
 use Rattle.std.specs.Prelude.{replicate, slice_set}
 use Rattle.std.proofs.Math.Seq.{get_or-append_seam}
@@ -25,7 +25,7 @@ use Rattle.snap_runs.proofs.Computing.{same_number}
 use Rattle.snap_runs.proofs.Counting.{count_next, count_none, count_not}
 use Rattle.snap_record.specs.Record.{with_item, with_items}
 use Rattle.snap_record.proofs.Histories.{outcome_last}
-use Rattle.snap_survey.specs.Survey.{asks_update, first_found}
+use Rattle.snap_survey.specs.Survey.{asks_update}
 use Rattle.snap_survey.proofs.Surveying.{Going, next_few, next_fits}
 use Rattle.snap_failure.specs.declared.failures.Failure.{Failure}
 use Rattle.snap_failure.specs.declared.failures.OwnSteps.{OwnSteps}

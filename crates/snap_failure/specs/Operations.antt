@@ -1,6 +1,6 @@
 -- `StepsAreOfOperations`: a failure of too many steps is that an operation of the run, not ended before, takes more
 -- than it may.
-use Rattle.std.specs.Prelude.{◌≡◌, ℕ, ◌<◌, Bool, true, false, Option, Some, None}
+use Rattle.std.specs.Prelude.{◌≡◌, ℕ, ◌<◌, Bool, true, false, Some, None}
 use Rattle.snap_runs.specs.Run.{IsValidRun, Run}
 use Rattle.snap_runs.specs.Scan.{PendingScan, own_steps, takes_step}
 use Rattle.snap_runs.specs.Update.{PendingUpdate}

@@ -1,7 +1,7 @@
 -- `OwnSteps` item by item: the steps that each process has taken since its last call, and the failure that they are
 -- too many.
-use Rattle.std.specs.Prelude.{◌≡◌, ℕ, suc, ◌-◌, Bool, true, false, ◌&&◌, List, length}
-use Rattle.std.specs.Prelude.{Option, get_or, slice_set, if◌then◌else◌}
+use Rattle.std.specs.Prelude.{◌≡◌, ℕ, suc, ◌-◌, Bool, true, false, List, length}
+use Rattle.std.specs.Prelude.{Option, get_or, slice_set}
 use Rattle.snap_words.specs.Shape.{IsOneOf}
 use Rattle.snap_semantics.specs.declared.process.Item.{Item}
 use Rattle.snap_semantics.specs.declared.process.Item.TheVariants.{Step, Call, Crash}

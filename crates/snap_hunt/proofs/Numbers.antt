@@ -1,6 +1,6 @@
 -- A search through a list of run numbers, one by one, finds the first for which a test holds: for a hunt, whose run
 -- fails.
-use Rattle.std.proofs.Common.{◌≡◌, ℕ, zero, suc, ◌+◌, ◌<◌, ◌≤◌, List, [], ◌∷◌, ◌++◌, Bool, Option, Some, None, true}
+use Rattle.std.proofs.Common.{◌≡◌, ℕ, zero, suc, ◌+◌, ◌<◌, ◌≤◌, List, [], ◌∷◌, ◌++◌, Bool, Some, None, true}
 use Rattle.std.proofs.Common.{false, cond, drop, get_or, length, map, ap, refl, sym, ◌∙◌, arith}
 use Rattle.std.specs.List.{find, range_with_len}
 use Rattle.snap_hunt.proofs.Ranges.{range_append}

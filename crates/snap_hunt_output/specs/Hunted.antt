@@ -1,6 +1,6 @@
 -- `IsHunted`: what a hunt comes to, that no run fails, or the first that does (`IsFound`) and an input of a run that
 -- fails as it does.
-use Rattle.std.specs.Prelude.{◌≡◌, ℕ, ◌<◌, List, Option, Some, None, option_map, Result, Ok}
+use Rattle.std.specs.Prelude.{◌≡◌, ℕ, List, Option, Some, None, option_map, Ok}
 use Rattle.std.specs.List.{find, range_with_len}
 use Rattle.snap_semantics.specs.Listing.{listing_of}
 use Rattle.snap_semantics.specs.Source.{Source}

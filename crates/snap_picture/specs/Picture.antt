@@ -3,7 +3,6 @@ use Rattle.std.specs.Prelude.{ℕ, suc, ◌-◌, Bool, true, false, ◌||◌, Li
 use Rattle.std.specs.Prelude.{Result, Ok, Err, nat_eq, nat_lt, if◌then◌else◌}
 use Rattle.snap_words.specs.Shape.{Counts}
 use Rattle.snap_semantics.specs.Answers.{◌>>=◌, refused_as}
-use Rattle.snap_semantics.specs.Schedule.{Schedule}
 use Rattle.snap_semantics.specs.Source.{Source}
 use Rattle.snap_semantics.specs.declared.process.Op.{Op}
 use Rattle.snap_semantics.specs.declared.process.Op.TheVariants as op

@@ -1,5 +1,5 @@
 -- The dialog at the debugger's prompt goes on after each line that adds items to the schedule, or asks to.
-use Rattle.std.proofs.Common.{◌≡◌, ℕ, Bool, true, false, if◌then◌else◌, List, Option, Some, None, Result, Ok, Err, refl}
+use Rattle.std.proofs.Common.{◌≡◌, ℕ, Bool, true, false, if◌then◌else◌, List, Some, None, Result, Ok, Err, refl}
 use Rattle.std.specs.Prelude.{nat_eq}
 use Rattle.snap_dialog.specs.Dialog.{Answer}
 use Rattle.snap_semantics.specs.Schedule.{Schedule}

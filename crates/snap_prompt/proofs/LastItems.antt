@@ -7,7 +7,7 @@ use Rattle.snap_semantics.specs.declared.process.Item.{Item}
 use Rattle.snap_semantics.specs.declared.process.Item.TheVariants.{Step}
 use Rattle.snap_semantics.specs.declared.process.Outcome.{Outcome}
 use Rattle.snap_semantics.specs.Table.{who}
-use Rattle.snap_runs.specs.Run.{Run, item, outcome}
+use Rattle.snap_runs.specs.Run.{Run, item}
 use Rattle.snap_debug.specs.Replies.{last_of}
 
 -- what holds of the process of each item holds of that of one

@@ -1,5 +1,5 @@
 -- `list_text`: what the prompt answers to `list`, the lines of the listing around the one at which a process is.
-use Rattle.std.specs.Prelude.{ℕ, zero, suc, ◌-◌, Bool, ◌&&◌, List, [], ◌∷◌, ◌++◌, Option, Some, None, codes, map}
+use Rattle.std.specs.Prelude.{ℕ, ◌-◌, Bool, ◌&&◌, List, [], ◌∷◌, ◌++◌, Option, Some, None, codes, map}
 use Rattle.std.specs.Prelude.{nat_eq, nat_le, if◌then◌else◌}
 use Rattle.snap_semantics.specs.Readers.{line_of}
 use Rattle.snap_semantics.specs.Report.{head_line}
@@ -8,7 +8,6 @@ use Rattle.snap_semantics.specs.declared.instr.Line.{Line}
 use Rattle.snap_semantics.specs.declared.process.Outcome.{Outcome}
 use Rattle.snap_semantics.specs.declared.refusal.CommandRefusal.TheVariants as refusal
 use Rattle.snap_listing_lines.specs.LineTexts.{NumberedText, text_with, written}
-use Rattle.snap_debug.specs.Replies.{last_of}
 use Rattle.snap_debug.specs.Session.{Session, has_process, state_of}
 use Rattle.snap_prompt.specs.Hints.{refused_line}
 

@@ -10,7 +10,7 @@ use Rattle.snap_semantics.specs.declared.refusal.ScheduleRefusal.{ScheduleRefusa
 use Rattle.snap_runs.specs.Run.{Run, run_over}
 use Rattle.snap_report.specs.OutcomeText.{head_lines}
 use Rattle.snap_debug.specs.Replies.{last_of}
-use Rattle.snap_debug.specs.Session.{Session, answer, at_position, commanded, opened, position_text, reopened}
+use Rattle.snap_debug.specs.Session.{Session, answer, at_position, commanded, opened, reopened}
 use Rattle.snap_debug.specs.Session.{reply_text, session_report, state_of, total}
 use Rattle.snap_debug_commands.specs.declared.command.Command.{Command}
 use Rattle.snap_debug_commands.specs.declared.command.Command.TheVariants as command

@@ -3,7 +3,7 @@
 use Rattle.std.specs.Prelude.{ℕ, List, [], ◌∷◌, ◌++◌, Bool, true, false, not, Option, Some, None, Result, Ok, Err}
 use Rattle.std.specs.Prelude.{codes, length, nat_eq, nat_lt, is_some, if◌then◌else◌, ◌==◌}
 use Rattle.std.specs.Io.BufRead.{strip_last}
-use Rattle.snap_semantics.specs.Rules.{◌>>=◌, or_else, keyword_at, number_at, end_at}
+use Rattle.snap_semantics.specs.Rules.{◌>>=◌, or_else, keyword_at, number_at}
 use Rattle.snap_semantics.specs.Token.{Token, is_lexeme_byte, tokens_of}
 use Rattle.snap_semantics.specs.declared.process.Op.{Op}
 use Rattle.snap_semantics.specs.declared.process.Op.TheVariants as op

@@ -17,7 +17,6 @@ use Rattle.snap_runs.proofs.Algorithm.{Scanning, first_state}
 use Rattle.snap_runs.proofs.Computing.{lt_true, le_true, same_number}
 use Rattle.snap_runs.proofs.Held.{word_at, seq_at}
 use Rattle.snap_runs.proofs.Places.{for_each, for_each_at}
-use Rattle.snap_runs.proofs.Steady.{Steady}
 use Rattle.snap_runs_of_u.specs.Promises.{square, run_of}
 use Rattle.snap_runs_of_u.proofs.Algorithm.{Words, Variables, L10, L12, L14, L22, first_word, first_variables}
 use Rattle.snap_runs_of_u.proofs.Algorithm.{moved_at, lines, algorithm}

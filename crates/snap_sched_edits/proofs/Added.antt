@@ -1,12 +1,12 @@
 -- The first items of a schedule, with the items of an addition after them, are a schedule again, if they are not too
 -- many.
-use Rattle.std.proofs.Common.{◌≡◌, ◌≤◌, ◌<◌, ◌+◌, ◌-◌, ◌^◌, ℕ, List, ◌++◌, length, take, Ok, ap, ◌∙◌, sym, subst, arith}
+use Rattle.std.proofs.Common.{◌≡◌, ◌≤◌, ◌+◌, ◌-◌, ℕ, List, ◌++◌, length, take, Ok, ap, ◌∙◌, sym, subst, arith}
 use Rattle.std.proofs.lemmas.List.{length-append}
 use Rattle.std.proofs.lemmas.Grind.{common_steps}
 use Rattle.std.specs.List.{AllByRecursion}
-use Rattle.snap_words.specs.Shape.{Counts, IsOneOf, IsShape, max_count}
+use Rattle.snap_words.specs.Shape.{Counts, IsOneOf}
 use Rattle.snap_semantics.specs.declared.process.Item.{Item}
-use Rattle.snap_semantics.specs.Schedule.{Schedule, admitted, form_count, form_items, form_process}
+use Rattle.snap_semantics.specs.Schedule.{Schedule, admitted, form_count, form_items}
 use Rattle.snap_semantics.specs.ScheduleForms.{ItemForm}
 use Rattle.snap_semantics.specs.ScheduleText.{FitsItem, IsSchedule}
 use Rattle.snap_semantics.specs.Table.{who}

@@ -1,6 +1,6 @@
 -- `edited`: the first t items of a schedule with the items of a line added after them, or why the addition is
 -- refused.
-use Rattle.std.specs.Prelude.{ℕ, ◌-◌, ◌++◌, length, take, Result, Ok, Err}
+use Rattle.std.specs.Prelude.{ℕ, ◌-◌, ◌++◌, take, Result, Ok}
 use Rattle.snap_words.specs.Shape.{max_items}
 use Rattle.snap_semantics.specs.Answers.{◌>>=◌}
 use Rattle.snap_semantics.specs.Schedule.{Schedule, admitted, form_items}

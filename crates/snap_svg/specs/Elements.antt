@@ -1,5 +1,5 @@
 -- The SVG elements of a picture as text: boxes, paths, dots and words, with their attributes.
-use Rattle.std.specs.Prelude.{ℕ, List, [], ◌∷◌, ◌++◌, codes, decimal, nat_le, if◌then◌else◌}
+use Rattle.std.specs.Prelude.{ℕ, List, ◌++◌, codes, decimal}
 
 -- ` NAME="X"`
 unfoldable pub attribute : List ℕ → ℕ → List ℕ

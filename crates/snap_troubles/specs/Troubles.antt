@@ -1,6 +1,6 @@
 -- The operand at which a line traps: the first, in the order in which the table of lines takes them, that is no
 -- place, no number of 64 bits, no bit, or no register of the process.
-use Rattle.std.specs.Prelude.{ℕ, zero, suc, ◌+◌, ◌-◌, ◌^◌, Bool, List, [], ◌∷◌, take, min, Option, Some, None, nat_eq}
+use Rattle.std.specs.Prelude.{ℕ, zero, suc, ◌+◌, ◌-◌, ◌^◌, List, [], ◌∷◌, take, min, Option, Some, None, nat_eq}
 use Rattle.std.specs.Prelude.{nat_lt, if◌then◌else◌, slice_index, slice_index_or}
 use Rattle.snap_words.specs.Kind.{field_of, is_bit, may_write}
 use Rattle.snap_words.specs.Shape.{Counts, is_place, places}

@@ -1,6 +1,6 @@
 -- The trace of a run has a step for each item, and each is of one of the processes.
 use Rattle.std.proofs.Common.{◌≡◌, ◌+◌, ◌<◌, ◌≤◌, ℕ, zero, suc, List, [], ◌∷◌, length, Option, Some, None, IfSome}
-use Rattle.std.proofs.Common.{refl, sym, ap, ◌∙◌, subst, get_or, take, arith}
+use Rattle.std.proofs.Common.{refl, sym, ap, subst, take, arith}
 use Rattle.std.specs.List.{AllByRecursion}
 use Rattle.snap_words.specs.Shape.{Counts, IsOneOf}
 use Rattle.snap_semantics.specs.declared.process.Item.{Item}
@@ -18,7 +18,6 @@ use Rattle.snap_acts.specs.declared.act.Act.{Act}
 use Rattle.snap_acts.specs.declared.act.Act.TheVariants as act
 use Rattle.snap_acts.specs.declared.act.Step.{Step}
 use Rattle.snap_loans.specs.Loans.{step_at}
-use Rattle.snap_loans.specs.Searches.{no_step}
 use Rattle.snap_why.specs.Why.{trapped_at, trapped_by}
 
 many : (s : Source) (n : Counts) (S : State) (t : ℕ) (xs : List Item) → length (steps_of s n S t xs) ≡ length xs

@@ -1,6 +1,6 @@
 -- What the debugger's `why` prints of an item: why a scan answered what it answered, or why a process trapped; where
 -- there is neither, which answer or trap is next.
-use Rattle.std.specs.Prelude.{ℕ, zero, suc, List, ◌++◌, length, drop, Option, Some, None, codes}
+use Rattle.std.specs.Prelude.{ℕ, zero, suc, List, length, drop, Option, Some, None, codes}
 use Rattle.snap_semantics.specs.State.{process_at}
 use Rattle.snap_runs.specs.Audit.{audit}
 use Rattle.snap_runs.specs.Run.{Run, state}

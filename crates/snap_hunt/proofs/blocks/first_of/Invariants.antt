@@ -1,6 +1,6 @@
 -- `first_of` of snap_hunt (src/blocks.rt): what holds at the head of each of its loops.
 -- The first of these numbers for which the answer is yes.
-use Rattle.std.proofs.Common.{◌≡◌, ◌≤◌, ◌-◌, ℕ, Bool, drop, length, map}
+use Rattle.std.proofs.Common.{◌≡◌, ◌-◌, ℕ, Bool, drop, length, map}
 use Rattle.std.specs.List.{find}
 use Rattle.snap_hunt.proofs.blocks.first_of.Given as goal
 

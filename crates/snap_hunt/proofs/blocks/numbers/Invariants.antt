@@ -1,6 +1,6 @@
 -- `numbers` of snap_hunt (src/blocks.rt): what holds at the head of each of its loops.
 -- So many numbers, the first of which is this one.
-use Rattle.std.proofs.Common.{◌≡◌, ◌≤◌}
+use Rattle.std.proofs.Common.{◌≡◌}
 use Rattle.std.specs.List.{range_with_len}
 use Rattle.snap_hunt.proofs.blocks.numbers.Given as goal
 

@@ -1,6 +1,6 @@
 -- `edited` of snap_sched_edits (src/edits.rt): the proof of what its contract says.
 -- The first items of a schedule, so many of them, and what is added behind these.
-use Rattle.std.proofs.Common.{ℕ, List, ◌++◌, take, ap, ◌∙◌}
+use Rattle.std.proofs.Common.{List, ◌++◌, take, ap, ◌∙◌}
 use Rattle.snap_semantics.specs.Schedule.{form_items}
 use Rattle.snap_semantics.specs.declared.process.Item.{Item}
 use Rattle.snap_sched_edits.specs.Edits.{form_of}

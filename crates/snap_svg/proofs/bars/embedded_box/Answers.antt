@@ -1,5 +1,5 @@
 -- `embedded_box` writes the SVG of a scan within an update, piece after piece, as its definition has it.
-use Rattle.std.proofs.Common.{◌≡◌, ◌++◌, append_assoc, codes, decimal}
+use Rattle.std.proofs.Common.{◌≡◌, ◌++◌, append_assoc, codes}
 use Rattle.std.proofs.lemmas.Result.{on_ok_weaker}
 use Rattle.snap_svg.specs.ShapeText.{embedded_box}
 use Rattle.snap_svg.proofs.bars.embedded_box.Goals as goal

@@ -1,5 +1,5 @@
 -- `none_box` writes the SVG of a scan without a point, piece after piece, as its definition has it.
-use Rattle.std.proofs.Common.{◌≡◌, ◌++◌, append_assoc, codes, decimal}
+use Rattle.std.proofs.Common.{◌≡◌, ◌++◌, append_assoc, codes}
 use Rattle.std.proofs.lemmas.Result.{on_ok_weaker}
 use Rattle.snap_svg.specs.ShapeText.{none_box}
 use Rattle.snap_svg.proofs.bars.none_box.Goals as goal

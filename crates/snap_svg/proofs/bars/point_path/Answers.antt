@@ -1,6 +1,6 @@
 -- `point_path` writes the SVG of a scan's point and the line down to the scan, piece after piece, as its definition
 -- has it.
-use Rattle.std.proofs.Common.{◌≡◌, ◌++◌, append_assoc, codes, decimal}
+use Rattle.std.proofs.Common.{◌≡◌, ◌++◌, append_assoc, codes}
 use Rattle.std.proofs.lemmas.Result.{on_ok_weaker}
 use Rattle.snap_svg.specs.ShapeText.{point_path}
 use Rattle.snap_svg.proofs.bars.point_path.Goals as goal

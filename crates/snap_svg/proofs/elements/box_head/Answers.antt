@@ -1,5 +1,5 @@
 -- `box_head` writes the beginning of an SVG box, piece after piece, as its definition has it.
-use Rattle.std.proofs.Common.{◌≡◌, ◌++◌, append_assoc, codes, decimal}
+use Rattle.std.proofs.Common.{◌≡◌, ◌++◌, append_assoc, codes}
 use Rattle.std.proofs.lemmas.Result.{on_ok_weaker}
 use Rattle.snap_svg.specs.Elements.{box_head}
 use Rattle.snap_svg.proofs.elements.box_head.Goals as goal

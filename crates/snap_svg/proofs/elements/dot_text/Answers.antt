@@ -1,5 +1,5 @@
 -- `dot_text` writes the SVG of a dot, piece after piece, as its definition has it.
-use Rattle.std.proofs.Common.{◌≡◌, ◌++◌, append_assoc, codes, decimal}
+use Rattle.std.proofs.Common.{◌≡◌, ◌++◌, append_assoc, codes}
 use Rattle.std.proofs.lemmas.Result.{on_ok_weaker}
 use Rattle.snap_svg.specs.Elements.{dot_text}
 use Rattle.snap_svg.proofs.elements.dot_text.Goals as goal

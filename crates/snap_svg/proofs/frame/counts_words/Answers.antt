@@ -1,6 +1,6 @@
 -- `counts_words` writes the counts of scans and updates in an SVG picture's text, piece after piece, as its
 -- definition has it.
-use Rattle.std.proofs.Common.{◌≡◌, ◌++◌, append_assoc, codes, decimal}
+use Rattle.std.proofs.Common.{◌≡◌, ◌++◌, append_assoc}
 use Rattle.std.proofs.lemmas.Result.{on_ok_weaker}
 use Rattle.snap_svg.specs.FrameText.{counts_words, thin_words}
 use Rattle.snap_svg.proofs.frame.counts_words.Goals as goal

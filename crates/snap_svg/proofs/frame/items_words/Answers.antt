@@ -1,6 +1,6 @@
 -- `items_words` writes which listing, and which items of its run, an SVG picture shows, piece after piece, as its
 -- definition has it.
-use Rattle.std.proofs.Common.{◌≡◌, ◌++◌, append_assoc, codes, decimal}
+use Rattle.std.proofs.Common.{◌≡◌, ◌++◌, append_assoc, decimal}
 use Rattle.std.proofs.lemmas.Result.{on_ok_weaker}
 use Rattle.snap_svg.specs.FrameText.{items_words}
 use Rattle.snap_svg.proofs.frame.items_words.Goals as goal

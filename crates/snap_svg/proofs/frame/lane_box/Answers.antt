@@ -1,5 +1,5 @@
 -- `lane_box` writes the SVG of a process's lane, piece after piece, as its definition has it.
-use Rattle.std.proofs.Common.{◌≡◌, ◌++◌, append_assoc, codes, decimal}
+use Rattle.std.proofs.Common.{◌≡◌, ◌++◌, append_assoc, codes}
 use Rattle.std.proofs.lemmas.Result.{on_ok_weaker}
 use Rattle.snap_svg.specs.FrameText.{lane_box}
 use Rattle.snap_svg.proofs.frame.lane_box.Goals as goal

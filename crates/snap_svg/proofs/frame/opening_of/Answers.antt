@@ -1,5 +1,5 @@
 -- `opening_of` writes the opening of an SVG picture, piece after piece, as its definition has it.
-use Rattle.std.proofs.Common.{◌≡◌, ◌++◌, append_assoc, codes, decimal}
+use Rattle.std.proofs.Common.{◌≡◌, ◌++◌, append_assoc, codes}
 use Rattle.std.proofs.lemmas.Result.{on_ok_weaker}
 use Rattle.snap_svg.specs.FrameText.{opening_of}
 use Rattle.snap_svg.proofs.frame.opening_of.Goals as goal

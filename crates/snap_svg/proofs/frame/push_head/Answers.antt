@@ -1,5 +1,5 @@
 -- `push_head` writes all that an SVG picture has before its shapes, piece after piece, as its definition has it.
-use Rattle.std.proofs.Common.{◌≡◌, ◌++◌, append_assoc, codes, decimal}
+use Rattle.std.proofs.Common.{◌≡◌, ◌++◌, append_assoc}
 use Rattle.std.proofs.lemmas.Result.{on_ok_weaker}
 use Rattle.snap_svg.specs.FrameText.{head_text, all_lanes}
 use Rattle.snap_svg.proofs.frame.push_head.Goals as goal

@@ -1,5 +1,5 @@
 -- `crash_path` writes the SVG of a crash, piece after piece, as its definition has it.
-use Rattle.std.proofs.Common.{◌≡◌, ◌++◌, append_assoc, codes, decimal}
+use Rattle.std.proofs.Common.{◌≡◌, ◌++◌, append_assoc, codes}
 use Rattle.std.proofs.lemmas.Result.{on_ok_weaker}
 use Rattle.snap_svg.specs.ShapeText.{crash_path}
 use Rattle.snap_svg.proofs.spots.crash_path.Goals as goal

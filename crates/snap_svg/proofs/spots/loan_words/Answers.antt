@@ -1,5 +1,5 @@
 -- `loan_words` writes what the SVG of a borrowed view says, piece after piece, as its definition has it.
-use Rattle.std.proofs.Common.{◌≡◌, ◌++◌, append_assoc, codes, decimal}
+use Rattle.std.proofs.Common.{◌≡◌, ◌++◌, append_assoc, codes}
 use Rattle.std.proofs.lemmas.Result.{on_ok_weaker}
 use Rattle.snap_svg.specs.ShapeText.{loan_words}
 use Rattle.snap_svg.proofs.spots.loan_words.Goals as goal

@@ -1,5 +1,5 @@
 -- `trap_path` writes the SVG of a trap, piece after piece, as its definition has it.
-use Rattle.std.proofs.Common.{◌≡◌, ◌++◌, append_assoc, codes, decimal}
+use Rattle.std.proofs.Common.{◌≡◌, ◌++◌, append_assoc, codes}
 use Rattle.std.proofs.lemmas.Result.{on_ok_weaker}
 use Rattle.snap_svg.specs.ShapeText.{trap_path}
 use Rattle.snap_svg.proofs.spots.trap_path.Goals as goal

@@ -1,6 +1,6 @@
 -- `values_trouble` of snap_troubles (src/conditions.rt): the proof of what its contract says.
 -- The first of so many places whose new value traps.
-use Rattle.std.proofs.Common.{◌≡◌, ◌∙◌, arith}
+use Rattle.std.proofs.Common.{◌∙◌, arith}
 use Rattle.snap_troubles.proofs.Places.{value_found}
 use Rattle.snap_troubles.proofs.conditions.values_trouble.Goals as goal
 

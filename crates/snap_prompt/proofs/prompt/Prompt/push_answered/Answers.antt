@@ -1,6 +1,6 @@
 -- `Prompt::push_answered` of snap_prompt (src/prompt.rt): the proof of what its contract says.
 -- Adds what is answered to a line, and tells whether the dialog goes on.
-use Rattle.std.proofs.Common.{◌≡◌, ap, sym, ◌∙◌}
+use Rattle.std.proofs.Common.{ap, sym, ◌∙◌}
 use Rattle.snap_prompt.specs.Prompt.{Prompt}
 use Rattle.snap_prompt.proofs.GoesOn.{deciding_goes_on}
 use Rattle.snap_prompt.proofs.prompt.Prompt.push_answered.Goals as goal
